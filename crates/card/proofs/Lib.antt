@@ -1,0 +1,13 @@
+pub mod Laws
+pub mod Weights
+pub mod Judging
+pub mod Packed
+pub mod GuardAt
+pub mod Storing
+pub mod Filling
+pub mod Held
+pub mod Standing
+pub mod LaidBack
+pub mod Falls
+pub mod Sized
+pub mod Examples

@@ -1,0 +1,152 @@
+-- A node and a branch come back from their number: each part is below what the part left of it is multiplied by. Assumes nothing.
+use Prim.Native.Nat.{ℕ, _-_, _≤_, _<_, _^_, min}
+use mathlib.Core.Path.{_≡_, refl}
+use native.Mathlib.Omega.{arith}
+use Rattle.card.specs.Limits.{topState, nodePlaces, numbers, unit}
+use Rattle.card.specs.Card.{Kind, everyone, others, Sign, all, any, Relation, is, isnt, Group, group, Branch}
+use Rattle.card.specs.Laid.{kindNumber, signNumber, relationNumber, either, opGroup, opOr, packNode, opOf, leftOf, rightOf, packGroup, groupNumber, kindPart, signPart, relationPart, statePart, groupOf, packBranch, unitsPart, endPart, branchNumber, branchOf}
+
+-- what a u32 holds is below this
+abbrev pub words : ℕ
+words = 2 ^ 32
+
+-- ---- a node of two children
+
+module _ (op left right : ℕ) (g : left < nodePlaces) (h : right < nodePlaces) where
+  pub op-back : opOf (packNode op left right) ≡ op
+  unfolding packNode opOf
+  op-back = omega arith
+
+  pub left-back : leftOf (packNode op left right) ≡ left
+  unfolding packNode leftOf
+  left-back = omega arith
+
+  pub right-back : rightOf (packNode op left right) ≡ right
+  unfolding packNode rightOf
+  right-back = omega arith
+
+  pub node-fits : op ≤ opOr → packNode op left right < words
+  unfolding packNode
+  node-fits k = omega arith
+
+-- ---- a group
+
+-- the state of a group
+abbrev pub stateOf : Group → ℕ
+stateOf (group kind s q d) = d
+
+module _ (kind s q d : ℕ) (hk : kind ≤ 1) (hs : s ≤ 1) (hq : q ≤ 1) where
+  pub group-op : d ≤ numbers → opOf (packGroup kind s q d) ≡ opGroup
+  unfolding packGroup packNode opOf
+  group-op h = omega arith
+
+  pub group-fits : d ≤ numbers → packGroup kind s q d < words
+  unfolding packGroup packNode
+  group-fits h = omega arith
+
+  pub kind-back : d ≤ topState → kindPart (packGroup kind s q d) ≡ kind
+  unfolding packGroup packNode kindPart
+  kind-back h = omega arith
+
+  pub sign-back : d ≤ topState → signPart (packGroup kind s q d) ≡ s
+  unfolding packGroup packNode signPart
+  sign-back h = omega arith
+
+  pub relation-back : d ≤ topState → relationPart (packGroup kind s q d) ≡ q
+  unfolding packGroup packNode relationPart
+  relation-back h = omega arith
+
+  pub state-back : d ≤ topState → statePart (packGroup kind s q d) ≡ d
+  unfolding packGroup packNode statePart
+  state-back h = omega arith
+
+kind-small : (k : Kind) → kindNumber k ≤ 1
+kind-small everyone = omega arith
+kind-small others = omega arith
+
+sign-small : (s : Sign) → signNumber s ≤ 1
+sign-small all = omega arith
+sign-small any = omega arith
+
+relation-small : (q : Relation) → relationNumber q ≤ 1
+relation-small is = omega arith
+relation-small isnt = omega arith
+
+kind-again : (k : Kind) → either everyone others (kindNumber k) ≡ k
+kind-again everyone = refl
+kind-again others = refl
+
+sign-again : (s : Sign) → either all any (signNumber s) ≡ s
+sign-again all = refl
+sign-again any = refl
+
+relation-again : (q : Relation) → either is isnt (relationNumber q) ≡ q
+relation-again is = refl
+relation-again isnt = refl
+
+pub group-number-op : (a : Group) → stateOf a ≤ numbers → opOf (groupNumber a) ≡ opGroup
+group-number-op (group k s q d) h = group-op (kindNumber k) (signNumber s) (relationNumber q) d (kind-small k) (sign-small s) (relation-small q) h
+
+pub group-number-fits : (a : Group) → stateOf a ≤ numbers → groupNumber a < words
+group-number-fits (group k s q d) h =
+    group-fits (kindNumber k) (signNumber s) (relationNumber q) d (kind-small k) (sign-small s) (relation-small q) h
+
+pub group-back : (a : Group) → stateOf a ≤ topState → groupOf (groupNumber a) ≡ a
+unfolding groupOf
+group-back (group k s q d) h =
+    let hk = kind-small k in
+    let hs = sign-small s in
+    let hq = relation-small q in
+    rw (
+      kind-back (kindNumber k) (signNumber s) (relationNumber q) d hk hs hq h,
+      sign-back (kindNumber k) (signNumber s) (relationNumber q) d hk hs hq h,
+      relation-back (kindNumber k) (signNumber s) (relationNumber q) d hk hs hq h,
+      state-back (kindNumber k) (signNumber s) (relationNumber q) d hk hs hq h,
+      kind-again k,
+      sign-again s,
+      relation-again q,
+    )
+
+-- ---- a branch
+
+module _ (units end : ℕ) where
+  pub units-back : end ≤ topState → unitsPart (packBranch units end) ≡ units
+  unfolding packBranch unitsPart
+  units-back h = omega arith
+
+  pub end-back : end ≤ topState → endPart (packBranch units end) ≡ end
+  unfolding packBranch endPart
+  end-back h = omega arith
+
+  pub branch-fits : units ≤ unit → end ≤ numbers → packBranch units end < words
+  unfolding packBranch
+  branch-fits g h = omega arith
+
+pub branch-back : (b : Branch) → b .end ≤ topState → branchOf (branchNumber b) ≡ b
+unfolding branchOf
+branch-back b h = rw (units-back (b .units) (b .end) h, end-back (b .units) (b .end) h)
+
+-- ---- in range, the packers of the code take their arguments as they are
+
+pub packed-node : (op left right : ℕ) → op ≤ opOr → left < nodePlaces → right < nodePlaces
+    → packNode (min op opOr) (min left (nodePlaces - 1)) (min right (nodePlaces - 1)) ≡ packNode op left right
+packed-node op left right f g h =
+    let a : min op opOr ≡ op = omega arith in
+    let b : min left (nodePlaces - 1) ≡ left = omega arith in
+    let c : min right (nodePlaces - 1) ≡ right = omega arith in
+    rw (a, b, c)
+
+pub packed-group : (kind s q d : ℕ) → kind ≤ 1 → s ≤ 1 → q ≤ 1 → d ≤ numbers
+    → packGroup (min kind 1) (min s 1) (min q 1) (min d numbers) ≡ packGroup kind s q d
+packed-group kind s q d e f g h =
+    let a : min kind 1 ≡ kind = omega arith in
+    let b : min s 1 ≡ s = omega arith in
+    let c : min q 1 ≡ q = omega arith in
+    let k : min d numbers ≡ d = omega arith in
+    rw (a, b, c, k)
+
+pub packed-branch : (units end : ℕ) → units ≤ unit → end ≤ numbers → packBranch (min units unit) (min end numbers) ≡ packBranch units end
+packed-branch units end g h =
+    let a : min units unit ≡ units = omega arith in
+    let b : min end numbers ≡ end = omega arith in
+    rw (a, b)

@@ -1,0 +1,50 @@
+-- A card that has been read ("Shape of a card"). Two cards are the same exactly when they are equal. Assumes nothing.
+use Prim.Native.Nat.{ℕ}
+use mathlib.Core.List.{List}
+use mathlib.Core.Option.{Option}
+
+pub data Mode : Type 0 where
+  nondeterministic probabilistic : Mode
+
+-- whose seats a group names: 1 to n, or 2 to n
+pub data Kind : Type 0 where
+  everyone others : Kind
+
+-- the sign that joins a group's literals, `&` or `|`
+pub data Sign : Type 0 where
+  all any : Sign
+
+-- the relation of all its literals, `=` or `!=`
+pub data Relation : Type 0 where
+  is isnt : Relation
+
+-- the last is d
+pub data Group : Type 0 where
+  group : Kind → Sign → Relation → ℕ → Group
+
+-- `!`, `&` and `|` over atoms
+pub data Formula (A : Type 0) : Type 0 where
+  atom : A → Formula A
+  neg : Formula A → Formula A
+  and or : Formula A → Formula A → Formula A
+
+abbrev pub Guard : Type 0
+Guard = Formula Group
+
+-- weight:(s1'=end)
+pub record Branch : Type 0 where
+  pub units : ℕ
+  pub end : ℕ
+
+-- [] s1=own & guard -> branches
+pub record Statement : Type 0 where
+  pub own : ℕ
+  pub guard : Option Guard
+  pub branches : List Branch
+
+pub record Card : Type 0 where
+  pub mode : Mode
+  pub n : ℕ
+  pub k : ℕ
+  pub l : ℕ
+  pub statements : List Statement

@@ -1,0 +1,9 @@
+pub mod Limits
+pub mod Text
+pub mod Card
+pub mod Weight
+pub mod Valid
+pub mod Laid
+pub mod Judged
+pub mod Stored
+pub mod Refusals

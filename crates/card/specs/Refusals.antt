@@ -1,0 +1,32 @@
+-- Document 01's refusal numbers by name ("Refusal numbers"); src/refusals.rt has the same numbers for the code. Assumes nothing.
+use Prim.Native.Nat.{ℕ}
+
+abbrev pub tooLong : ℕ
+tooLong = 1
+
+abbrev pub outsideRules : ℕ
+outsideRules = 2
+
+abbrev pub outOfShape : ℕ
+outOfShape = 3
+
+abbrev pub pastLimit : ℕ
+pastLimit = 4
+
+abbrev pub aboveTop : ℕ
+aboveTop = 5
+
+abbrev pub notDue : ℕ
+notDue = 6
+
+abbrev pub wrongWeight : ℕ
+wrongWeight = 7
+
+abbrev pub wrongSeats : ℕ
+wrongSeats = 8
+
+abbrev pub seatAboveTop : ℕ
+seatAboveTop = 9
+
+abbrev pub roomTooSmall : ℕ
+roomTooSmall = 10

@@ -1,0 +1,107 @@
+-- Bounds that let machine numbers hold what the panel shows: no more seats than n may take a statement, and one seat's weights are parts of
+-- the unit. For any list of valid statements, so also for those of a card seen so far. Assumes nothing.
+use Prim.Native.Nat.{ℕ, zero, suc, _*_, _≤_}
+use mathlib.Core.List.{List, [], _∷_}
+use native.Mathlib.Nat.{le-trans, mul-suc, mul-le-mul-left, mul-le-mul}
+use native.Mathlib.Omega.{arith}
+use lib.Dec.{eqb, ltb}
+use lib.ListN.{length, take}
+use Rattle.card.specs.Limits.{unit, mostSeats, mostStatements}
+use Rattle.card.specs.Valid.{Every, total, ValidStatement, ValidCard}
+use Rattle.card.specs.Card.{Mode, nondeterministic, probabilistic, Branch, Statement, Card}
+use Rattle.meaning.specs.Sums.{gate, sum}
+use Rattle.meaning.specs.Seats.{Seating, ValidSeating, counts}
+use Rattle.meaning.specs.Reduced.{noOf}
+use Rattle.meaning.specs.Panel.{Move, panel, blockTotal, due}
+use Rattle.meaning.specs.ByCounts.{heldOr, able, unitsTo, stayOf, moveOf, allAble, allStay, allMove, countEnabled, countPanel}
+use Rattle.meaning.proofs.Sums.{gate-le, sum-mono, sum-times, every-imp}
+use Rattle.meaning.proofs.Counting.{count-le, no-count}
+use Rattle.meaning.proofs.Panel.{panel-by-counts}
+use Rattle.meaning.proofs.AddUp.{adds-up}
+
+-- ---- by counts
+
+-- no counter is above n
+abbrev pub Few : ℕ → List ℕ → Type 0
+Few n v = (d : ℕ) → noOf v d ≤ n
+
+pub counts-few : (k : ℕ) (x : Seating) → Every (λ a. a ≤ k) x → Few (length x) (counts k x)
+counts-few k x w d = rw (no-count k x w d) (count-le d x)
+
+pub units-le : (t : ℕ) (l : List Branch) → unitsTo t l ≤ total l
+unfolding unitsTo
+units-le t [] = omega arith
+units-le t (b ∷ l) = omega (arith, gate-le (eqb (b .end) t) (b .units), units-le t l)
+
+pub total-take : (i : ℕ) (l : List Branch) → total (take i l) ≤ total l
+total-take zero l = omega arith
+total-take (suc i) [] = omega arith
+total-take (suc i) (b ∷ l) = omega (arith, total-take i l)
+
+pub every-take : {A : Type 0} (P : A → Type 0) (i : ℕ) (l : List A) → Every P l → Every P (take i l)
+every-take P zero l e = tt
+every-take P (suc i) [] e = tt
+every-take P (suc i) (a ∷ l) e = (e .0, every-take P i l (e .1))
+
+module _ (n k : ℕ) (s : Statement) (ok : ValidStatement n k s) where
+  pub stay-le : stayOf s ≤ unit
+  unfolding stayOf
+  stay-le = omega (arith, units-le (s .own) (s .branches), ok .sum)
+
+  pub move-le : (a b : ℕ) → moveOf s a b ≤ unit
+  unfolding moveOf
+  move-le a b = omega (arith, gate-le (eqb (s .own) a) (unitsTo b (s .branches)), units-le b (s .branches), ok .sum)
+
+module _ (n : ℕ) (v : List ℕ) (few : Few n v) where
+  pub able-le : (s : Statement) → able n v s ≤ n
+  unfolding able
+  able-le s = omega (arith, gate-le (heldOr n (s .own) v (s .guard)) (noOf v (s .own)), few (s .own))
+
+  pub all-able-le : (l : List Statement) → allAble n v l ≤ n * length l
+  unfolding allAble
+  all-able-le [] = omega arith
+  all-able-le (s ∷ l) = rw (mul-suc n (length l)) (omega (arith, able-le s, all-able-le l))
+
+  -- what each seat weighs is at most the unit
+  weights-le : (k : ℕ) (f : Statement → ℕ) → ((s : Statement) → ValidStatement n k s → f s ≤ unit) → (l : List Statement) → Every (ValidStatement n k) l
+      → sum (λ s. able n v s * f s) l ≤ allAble n v l * unit
+  unfolding allAble
+  weights-le k f h l ok = rw (← sum-times (able n v) unit l) (sum-mono _ _ l ok (λ s v₁. mul-le-mul-left (able n v s) (h s v₁)))
+
+  pub all-stay-le : (k : ℕ) (l : List Statement) → Every (ValidStatement n k) l → allStay n v l ≤ allAble n v l * unit
+  unfolding allStay
+  all-stay-le k l ok = weights-le k stayOf (stay-le n k) l ok
+
+  pub all-move-le : (k : ℕ) (l : List Statement) → Every (ValidStatement n k) l → (a b : ℕ) → allMove n v l a b ≤ allAble n v l * unit
+  unfolding allMove
+  all-move-le k l ok a b = weights-le k (λ s. moveOf s a b) (λ s v₁. move-le n k s v₁ a b) l ok
+
+  -- statements that can be taken are statements
+  some-able-le : 1 ≤ n → (l : List Statement) → sum (λ s. gate (ltb 0 (able n v s)) 1) l ≤ n * length l
+  some-able-le h [] = omega arith
+  some-able-le h (s ∷ l) = rw (mul-suc n (length l)) (omega (arith, gate-le (ltb 0 (able n v s)) 1, some-able-le h l))
+
+  pub enabled-le : 1 ≤ n → (m : Mode) (l : List Statement) → countEnabled m n v l ≤ n * length l
+  unfolding countEnabled
+  enabled-le h probabilistic l = all-able-le l
+  enabled-le h nondeterministic l = some-able-le h l
+
+-- ---- of the panel of a valid card
+
+line-le : (l : List Move) (r : ℕ) → sum (λ (m : Move). m .weight) l ≤ r → Every (λ m. m .weight ≤ r) l
+line-le [] r h = tt
+line-le (m ∷ l) r h = (omega arith, line-le l r (omega arith))
+
+module _ (c : Card) (valid : ValidCard c) (x : Seating) (ok : ValidSeating c x) where
+  pub panel-enabled-le : panel c x .enabled ≤ c .n * length (c .statements)
+  unfolding countPanel
+  panel-enabled-le = rw (panel-by-counts c x ok)
+      (enabled-le (c .n) (counts (c .k) x) (λ d. rw (← ok .seats) (counts-few (c .k) x (ok .states) d)) (valid .seats) (c .mode) (c .statements))
+
+  pub panel-enabled-most : panel c x .enabled ≤ mostSeats * mostStatements
+  panel-enabled-most = le-trans panel-enabled-le (mul-le-mul (valid .seats-most) (valid .some .1))
+
+  -- each line is a part of what its block adds up to
+  pub panel-weights-le : Every (λ b. (b .stay ≤ due (c .mode) (panel c x .enabled)) × Every (λ m. m .weight ≤ due (c .mode) (panel c x .enabled)) (b .moves)) (panel c x .blocks)
+  unfolding blockTotal
+  panel-weights-le = every-imp _ (panel c x .blocks) (adds-up c valid x ok) (λ b e. (omega arith, line-le (b .moves) _ (omega arith)))

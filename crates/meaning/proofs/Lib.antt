@@ -1,0 +1,12 @@
+pub mod Sums
+pub mod Vectors
+pub mod Counting
+pub mod Table
+pub mod Turns
+pub mod Demand
+pub mod Panel
+pub mod AddUp
+pub mod Bounds
+pub mod Reorder
+pub mod Stuck
+pub mod Examples

@@ -1,0 +1,97 @@
+-- The table is right: a group holds for a seat exactly where its counter test passes at the seating's counts. Over everyone by adding one
+-- seat at a time; "others" is everyone without one seat, which is one seat less and one count less where that seat's state is d.
+-- Assumes nothing.
+use Prim.Native.Nat.{ℕ, suc, _+_, _≤_, _<_}
+use mathlib.Core.Path.{_≡_, refl, ap, ap₂, fun-ext, _∙_}
+use mathlib.Core.Bool.{Bool, true, false, not, _&&_, _||_}
+use mathlib.Core.List.{List, [], _∷_}
+use mathlib.Core.Option.{Option, none, some}
+use native.Mathlib.Nat.{zero-add}
+use native.Mathlib.Numerals.{one-add, sub-one}
+use native.Mathlib.Omega.{arith}
+use borrow.Author.Tests.{ne-eqb, le-leb}
+use lib.Dec.{eqb, leb·zero, leb·suc-zero, leb·suc-suc, eqb·suc-suc, eqb·suc-zero, eqb·zero-suc}
+use lib.ListN.{length}
+use Rattle.card.specs.Card.{Kind, everyone, others, Sign, all, any, Relation, is, isnt, Group, group, Formula, atom, neg, and, or, Guard}
+use Rattle.meaning.specs.Sums.{gate}
+use Rattle.meaning.specs.Formulas.{value, valueOr, over}
+use Rattle.meaning.specs.Seats.{Seating, state, without, count, counts, literal, joined, holds}
+use Rattle.meaning.specs.Reduced.{table, meets, passes, counterOf, testOf}
+use Rattle.meaning.specs.ByCounts.{heldOr}
+use Rattle.meaning.proofs.Counting.{Within, count-le, count-without, length-without, no-count}
+
+-- ---- groups
+
+ruleset unary = (zero-add, one-add, sub-one, eqb·suc-suc, eqb·suc-zero, eqb·zero-suc, leb·suc-suc, leb·suc-zero, leb·zero)
+
+abbrev join : Sign → Bool → Bool → Bool
+join all a b = a && b
+join any a b = a || b
+
+-- the column "everyone" does not ask for d=j: e is either
+module _ (e : Bool) where
+  -- of n seats c are in state d
+  abbrev test : Sign → Relation → ℕ → ℕ → Bool
+  test s q n c = meets (table n everyone e s q) c
+
+  -- one more seat: b says whether its state is d
+  one-more : (s : Sign) (q : Relation) (b : Bool) (c n : ℕ) → c ≤ n → join s (literal q b) (test s q n c) ≡ test s q (suc n) (gate b 1 + c)
+  one-more all is true c n h = simp unary
+  one-more all is false c n h = simp (unary, ne-eqb c (suc n) (omega arith))
+  one-more any is true c n h = simp (unary, leb·suc-suc 0 c)
+  one-more any is false c n h = simp unary
+  one-more all isnt true c n h = simp unary
+  one-more all isnt false c n h = simp unary
+  one-more any isnt true c n h = simp unary
+  one-more any isnt false c n h = simp (unary, le-leb c n h)
+
+  none-joined : (s : Sign) (q : Relation) (d : ℕ) → joined s q d [] ≡ test s q 0 0
+  none-joined all is d = refl
+  none-joined any is d = refl
+  none-joined all isnt d = refl
+  none-joined any isnt d = refl
+
+  joined-right : (s : Sign) (q : Relation) (d : ℕ) (x : Seating) → joined s q d x ≡ test s q (length x) (count d x)
+  joined-right s q d [] = none-joined s q d
+  joined-right s q d (a ∷ x) = first s ∙ rw (joined-right s q d x) (one-more s q (eqb a d) (count d x) (length x) (count-le d x))
+    where
+      first : (s : Sign) → joined s q d (a ∷ x) ≡ join s (literal q (eqb a d)) (joined s q d x)
+      first all = refl
+      first any = refl
+
+  -- all seats but one: b says whether its state is d
+  but-one : (s : Sign) (q : Relation) (b : Bool) (c n : ℕ) → test s q n c ≡ meets (table (suc n) others b s q) (gate b 1 + c)
+  but-one all is true c n = simp unary
+  but-one any is true c n = simp (unary, leb·suc-suc 1 c)
+  but-one all isnt true c n = simp (unary, eqb·suc-suc c 0)
+  but-one any isnt true c n = simp unary
+  but-one all is false c n = simp unary
+  but-one any is false c n = simp unary
+  but-one all isnt false c n = simp unary
+  but-one any isnt false c n = simp unary
+
+-- ---- guards
+
+module _ (k : ℕ) (x : Seating) (w : Within k x) (i : ℕ) (l : i < length x) where
+  by-count : (kind : Kind) (s : Sign) (q : Relation) (d : ℕ) → holds x i (group kind s q d) ≡ meets (table (length x) kind (eqb (state x i) d) s q) (count d x)
+  by-count everyone s q d = joined-right (eqb (state x i) d) s q d x
+  by-count others s q d =
+      let b = eqb (state x i) d in
+      rw (length-without x i l, count-without d x i l) (joined-right b s q d (without x i) ∙ but-one b s q b (count d (without x i)) (length (without x i)))
+
+  pub group-right : (a : Group) → holds x i a ≡ passes (counts k x) (counterOf (length x) (state x i) a)
+  group-right (group kind s q d) = rw (no-count k x w d) (by-count kind s q d)
+
+  pub guard-right : (g : Option Guard) → valueOr (holds x i) g ≡ heldOr (length x) (state x i) (counts k x) g
+  guard-right g = ap (λ (p : Group → Bool). valueOr p g) (fun-ext group-right)
+
+-- the translated guard's value
+value-over : {A B : Type 0} (p : B → Bool) (f : A → B) (g : Formula A) → value p (over f g) ≡ value (λ a. p (f a)) g
+value-over p f (atom a) = refl
+value-over p f (neg g) = ap not (value-over p f g)
+value-over p f (and g h) = ap₂ _&&_ (value-over p f g) (value-over p f h)
+value-over p f (or g h) = ap₂ _||_ (value-over p f g) (value-over p f h)
+
+pub test-held : (n j : ℕ) (v : List ℕ) (g : Option Guard) → valueOr (passes v) (testOf n j g) ≡ heldOr n j v g
+test-held n j v none = refl
+test-held n j v (some g) = value-over (passes v) (counterOf n j) g

@@ -1,0 +1,103 @@
+-- The seats' turns by counts. A seat in a statement's local state may take it exactly where its guard is held at the counts, and its turn,
+-- read by counts, is the reduced statement's. So anything summed over the turns of the seats is how many they are times that of one.
+-- Assumes nothing.
+use Prim.Native.Nat.{ℕ, suc, _+_, _*_, _<_}
+use mathlib.Core.Path.{_≡_, refl, sym, ap, _∙_}
+use mathlib.Core.Bool.{Bool, true, false, _&&_, and-eq-true-iff}
+use mathlib.Core.List.{List, [], _∷_, _++_, map}
+use native.Mathlib.Nat.{zero-add}
+use native.Mathlib.Omega.{arith}
+use borrow.Author.Tests.{eqb-true}
+use lib.Dec.{eqb}
+use lib.ListN.{length}
+use Rattle.card.specs.Valid.{Every}
+use Rattle.card.specs.Card.{Statement}
+use Rattle.meaning.specs.Sums.{gate, sum, upto, those, flat}
+use Rattle.meaning.specs.Formulas.{valueOr}
+use Rattle.meaning.specs.Steps.{Step, Turn}
+use Rattle.meaning.specs.Seats.{Seating, state, count, counts, holds, mayTake, turn, turnsBy, Choice, choice, choicesFrom}
+use Rattle.meaning.specs.Reduced.{Outcome, updated, copy, reducedTurn}
+use Rattle.meaning.specs.Demand.{byCounts}
+use Rattle.meaning.specs.ByCounts.{heldOr, able}
+use Rattle.meaning.proofs.Sums.{gate-and, gate-out, sum-append, sum-those, sum-one, sum-map, map-map, map-cong, every-imp, every-those, every-map, every-upto, sum-upto, below-cong}
+use Rattle.meaning.proofs.Counting.{Within, no-count, over-seats, moved-counts}
+use Rattle.meaning.proofs.Table.{guard-right}
+
+-- ---- one statement
+
+-- its guard, at the counts of a seating
+abbrev pub held : ℕ → Seating → Statement → Bool
+held k x s = heldOr (length x) (s .own) (counts k x) (s .guard)
+
+module _ (k : ℕ) (x : Seating) (w : Within k x) (s : Statement) where
+  pub may-take : (i : ℕ) → i < length x → mayTake s x i ≡ (eqb (state x i) (s .own) && held k x s)
+  unfolding mayTake
+  may-take i l = go (eqb (state x i) (s .own)) refl
+    where
+      go : (b : Bool) → eqb (state x i) (s .own) ≡ b → (b && valueOr (holds x i) (s .guard)) ≡ (b && held k x s)
+      go true e = rw (← eqb-true (state x i) (s .own) e) (guard-right k x w i l (s .guard))
+      go false e = refl
+
+  -- what it says that seat i may take it
+  pub takes : (i : ℕ) → i < length x → mayTake s x i ≡ true → (state x i ≡ s .own) × (held k x s ≡ true)
+  takes i l e =
+      let b = and-eq-true-iff (eqb (state x i) (s .own)) (held k x s) .0 (sym (may-take i l) ∙ e) in
+      (eqb-true _ _ (b .0), b .1)
+
+  -- the turn of a seat in the local state, read by counts
+  pub turn-by-counts : (i : ℕ) → i < length x → state x i ≡ s .own → (m : ℕ) → byCounts k (turn s x i) ≡ reducedTurn (counts k x) (copy (length x) s m)
+  unfolding turn reducedTurn copy
+  turn-by-counts i l e m =
+      map-map (λ (b : Step Seating). record { units = b .units; next = counts k (b .next) }) _ (s .branches)
+      ∙ map-cong (s .branches) (λ b r. record { units = b .units; next = moved-counts k x w i l (s .own) (b .end) e r })
+      ∙ sym (map-map (λ (o : Outcome). record { units = o .units; next = updated (counts k x) (o .update) }) _ (s .branches))
+
+  -- a sum over the turns, where each seat's is e
+  pub turns-sum : (f : Turn Seating → ℕ) (e : ℕ) → ((i : ℕ) → i < length x → state x i ≡ s .own → f (turn s x i) ≡ e)
+      → sum f (turnsBy s x) ≡ able (length x) (counts k x) s * e
+  unfolding turnsBy able
+  turns-sum f e h =
+      sum-map f (turn s x) (those (mayTake s x) (upto (length x) (λ i. i)))
+      ∙ sum-those (λ i. f (turn s x i)) (mayTake s x) (upto (length x) (λ i. i))
+      ∙ sum-upto (λ i. gate (mayTake s x i) (f (turn s x i))) (length x) (λ i. i)
+      ∙ below-cong (length x) _ (λ i. gate (eqb (state x i) (s .own)) (gate (held k x s) e)) seat
+      ∙ over-seats (s .own) (gate (held k x s) e) x
+      ∙ gate-out (held k x s) (count (s .own) x) e
+      ∙ ap (λ (c : ℕ). gate (held k x s) c * e) (sym (no-count k x w (s .own)))
+    where
+      seat : (i : ℕ) → i < length x → gate (mayTake s x i) (f (turn s x i)) ≡ gate (eqb (state x i) (s .own)) (gate (held k x s) e)
+      seat i l = rw (may-take i l, gate-and) (go (eqb (state x i) (s .own)) refl)
+        where
+          go : (b : Bool) → eqb (state x i) (s .own) ≡ b → gate b (gate (held k x s) (f (turn s x i))) ≡ gate b (gate (held k x s) e)
+          go true p = ap (gate (held k x s)) (h i l (eqb-true _ _ p))
+          go false p = refl
+
+  -- how many
+  pub turns-length : length (turnsBy s x) ≡ able (length x) (counts k x) s
+  turns-length = sym (sum-one (turnsBy s x)) ∙ turns-sum (λ t. 1) 1 (λ i l e. refl) ∙ omega arith
+
+-- each of the turns is that of a seat that may take the statement
+abbrev pub Taker : Statement → Seating → Turn Seating → Type 0
+Taker s x t = (i : ℕ) × (i < length x) × (mayTake s x i ≡ true) × (t ≡ turn s x i)
+
+pub takers : (s : Statement) (x : Seating) → Every (Taker s x) (turnsBy s x)
+unfolding turnsBy
+takers s x =
+    every-map (Taker s x) (turn s x) (those (mayTake s x) (upto (length x) (λ i. i)))
+    (every-imp _ (those (mayTake s x) (upto (length x) (λ i. i)))
+    (every-those (λ i. i < length x) (mayTake s x) (upto (length x) (λ i. i)) (every-upto (λ i. i < length x) (length x) (λ i. i) (λ i l. l)))
+    (λ i p. (i, p .0, p .1, refl)))
+
+-- ---- all statements
+
+-- a sum over the turns of all choices
+pub choices-sum : (f : Turn Seating → ℕ) (q : ℕ) (l : List Statement) (x : Seating)
+    → sum f (flat (map (λ (c : Choice). c .turns) (choicesFrom q l x))) ≡ sum (λ s. sum f (turnsBy s x)) l
+unfolding choicesFrom
+choices-sum f q [] x = refl
+choices-sum f q (s ∷ l) x = go (turnsBy s x) (choices-sum f (suc q) l x)
+  where
+    go : (m : List (Turn Seating)) → sum f (flat (map (λ (c : Choice). c .turns) (choicesFrom (suc q) l x))) ≡ sum (λ s. sum f (turnsBy s x)) l
+        → sum f (flat (map (λ (c : Choice). c .turns) (choice q m ++ choicesFrom (suc q) l x))) ≡ sum f m + sum (λ s. sum f (turnsBy s x)) l
+    go [] h = rw zero-add h
+    go (t ∷ m) h = sum-append f (t ∷ m) _ ∙ ap (λ (r : ℕ). sum f (t ∷ m) + r) h

@@ -1,0 +1,10 @@
+pub mod Sums
+pub mod Formulas
+pub mod Steps
+pub mod Seats
+pub mod Reduced
+pub mod Demand
+pub mod Panel
+pub mod ByCounts
+pub mod Reordered
+pub mod CardA

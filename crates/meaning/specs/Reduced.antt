@@ -1,0 +1,130 @@
+-- The reduced program, and what it means, by counts ("What a card means", second part). Assumes nothing.
+use Prim.Native.Nat.{ℕ, suc, _+_, _-_, min}
+use mathlib.Core.Bool.{Bool, true, false, _&&_}
+use mathlib.Core.List.{List, [], _∷_, map}
+use mathlib.Core.Option.{Option}
+use lib.Dec.{eqb, ltb}
+use lib.ListN.{getD, set}
+use Rattle.card.specs.Text.{if_then_else_}
+use Rattle.card.specs.Card.{Mode, nondeterministic, probabilistic, Kind, everyone, others, Sign, all, any, Relation, is, isnt}
+use Rattle.card.specs.Card.{Group, group, Formula, Guard, Branch, Statement, Card}
+use Rattle.meaning.specs.Sums.{gate, upto, those, flat}
+use Rattle.meaning.specs.Formulas.{valueOr, overOr}
+use Rattle.meaning.specs.Steps.{Step, Turn}
+
+-- ---- the program
+
+-- no_d=m, no_d>m, no_d<m
+pub data Bound : Type 0 where
+  equalTo moreThan lessThan : ℕ → Bound
+
+pub data Counter : Type 0 where
+  counter : ℕ → Bound → Counter
+
+abbrev pub Test : Type 0
+Test = Formula Counter
+
+-- true; or (no_j'=no_j-1) & (no_t'=min(no_t+1,n))
+pub data Update : Type 0 where
+  keep : Update
+  shift : ℕ → ℕ → ℕ → Update
+
+pub record Outcome : Type 0 where
+  pub units : ℕ
+  pub update : Update
+
+-- [] (no_own>least) & guard -> outcomes
+pub record Reduced : Type 0 where
+  pub own : ℕ
+  pub least : ℕ
+  pub guard : Option Test
+  pub outcomes : List Outcome
+
+-- counters no_0 to no_k, each from 0 to most, with what they start at
+pub record Program : Type 0 where
+  pub mode : Mode
+  pub most : ℕ
+  pub start : List ℕ
+  pub statements : List Reduced
+
+-- ---- the translation, for n seats and a statement with local state j
+
+-- the table, a clause for each place: everyone; others where d is j; others where it is not
+abbrev pub table : ℕ → Kind → Bool → Sign → Relation → Bound
+table n everyone e all is = equalTo n
+table n everyone e any is = moreThan 0
+table n everyone e all isnt = equalTo 0
+table n everyone e any isnt = lessThan n
+table n others true all is = equalTo n
+table n others true any is = moreThan 1
+table n others true all isnt = equalTo 1
+table n others true any isnt = lessThan n
+table n others false all is = equalTo (n - 1)
+table n others false any is = moreThan 0
+table n others false all isnt = equalTo 0
+table n others false any isnt = lessThan (n - 1)
+
+abbrev pub counterOf : ℕ → ℕ → Group → Counter
+counterOf n j (group kind s q d) = counter d (table n kind (eqb j d) s q)
+
+abbrev pub testOf : ℕ → ℕ → Option Guard → Option Test
+testOf n j g = overOr (counterOf n j) g
+
+-- a branch to t
+abbrev pub updateOf : ℕ → ℕ → ℕ → Update
+updateOf n j t = if eqb j t then keep else shift j t n
+
+-- the statement with the first test no_j>m
+unfoldable pub copy : ℕ → Statement → ℕ → Reduced
+copy n s m = record {
+  own = s .own;
+  least = m;
+  guard = testOf n (s .own) (s .guard);
+  outcomes = map (λ (b : Branch). record { units = b .units; update = updateOf n (s .own) (b .end) }) (s .branches);
+}
+
+-- one on a nondeterministic card; on a probabilistic one n running, with no_j>0 to no_j>n-1
+abbrev pub copies : Mode → ℕ → Statement → List Reduced
+copies nondeterministic n s = copy n s 0 ∷ []
+copies probabilistic n s = upto n (copy n s)
+
+unfoldable pub reduce : Card → Program
+unfolding copy
+reduce c = record {
+  mode = c .mode;
+  most = c .n;
+  start = upto (suc (c .k)) (λ d. gate (eqb (c .l) d) (c .n));
+  statements = flat (map (copies (c .mode) (c .n)) (c .statements));
+}
+
+-- ---- its meaning, at counts v
+
+abbrev pub noOf : List ℕ → ℕ → ℕ
+noOf v d = getD v d 0
+
+abbrev pub meets : Bound → ℕ → Bool
+meets (equalTo m) a = eqb a m
+meets (moreThan m) a = ltb m a
+meets (lessThan m) a = ltb a m
+
+abbrev pub passes : List ℕ → Counter → Bool
+passes v (counter d b) = meets b (noOf v d)
+
+unfoldable pub canTake : List ℕ → Reduced → Bool
+canTake v r = ltb (r .least) (noOf v (r .own)) && valueOr (passes v) (r .guard)
+
+abbrev pub updated : List ℕ → Update → List ℕ
+updated v keep = v
+updated v (shift j t n) = set (set v j (noOf v j - 1)) t (min (noOf v t + 1) n)
+
+unfoldable pub reducedTurn : List ℕ → Reduced → Turn (List ℕ)
+reducedTurn v r = map (λ (o : Outcome). record { units = o .units; next = updated v (o .update) }) (r .outcomes)
+
+-- a turn for each reduced statement that can be taken
+unfoldable pub reducedTurns : Program → List ℕ → List (Turn (List ℕ))
+unfolding canTake reducedTurn
+reducedTurns p v = map (reducedTurn v) (those (canTake v) (p .statements))
+
+unfoldable pub reducedSteps : Program → List ℕ → List (Step (List ℕ))
+unfolding reducedTurns
+reducedSteps p v = flat (reducedTurns p v)

@@ -1,0 +1,20 @@
+-- The marked edges: each by computing its definition. Assumes nothing.
+use mathlib.Core.Path.{refl}
+use Rattle.card.specs.Weight.{unitsOf}
+use Rattle.meaning.specs.Panel.{panel}
+use Rattle.meaning.specs.CardA.{cardA}
+use Rattle.promises.specs.Edges.{Edges}
+
+pub edges : Edges
+unfolding panel cardA unitsOf
+edges = record {
+  at-001 = refl;
+  at-100 = refl;
+  at-012 = refl;
+  at-011 = refl;
+  at-000 = refl;
+  nondeterministic-001 = refl;
+  seventh = refl;
+  eleventh = refl;
+  further-digits = (refl, refl);
+}

@@ -1,0 +1,4 @@
+pub mod Cards
+pub mod Demands
+pub mod Panels
+pub mod Edges

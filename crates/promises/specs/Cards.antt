@@ -1,0 +1,22 @@
+-- What holds of weights and of cards in their struct ("Shape of a card", "What the box holds"). Assumes nothing.
+use Prim.Native.Nat.{ℕ, _+_, _*_, _<_}
+use mathlib.Core.Path.{_≡_}
+use mathlib.Core.Logic.{_↔_}
+use mathlib.Core.Option.{some}
+use lib.ListN.{length, getD}
+use Rattle.card.specs.Limits.{mostNodes}
+use Rattle.card.specs.Card.{Statement, Card}
+use Rattle.card.specs.Valid.{ValidCard}
+use Rattle.card.specs.Weight.{Weight, cardRule, Worth, unitsOf}
+use Rattle.card.specs.Laid.{opOf, leftOf, rightOf, opGroup, guardSize, laid, cardOf}
+
+pub record Cards : Type 0 where
+  -- a weight counts so many units exactly when it keeps its rule and is worth them
+  pub weights : (w : Weight) (u : ℕ) → (unitsOf cardRule w ≡ some u) ↔ Worth cardRule w u
+  -- a card in its struct is the card, so two cards that lie there alike are the same
+  pub comes-back : (c : Card) → ValidCard c → cardOf (laid c) ≡ c
+  pub once : (c e : Card) → ValidCard c → ValidCard e → laid c ≡ laid e → c ≡ e
+  -- the children of node j of statement i have smaller numbers than it has
+  pub falls : (c : Card) → ValidCard c → (i : ℕ) → i < length (c .statements) → (d : Statement) (j : ℕ) → j < guardSize (getD (c .statements) i d .guard)
+      → (x : ℕ) → x ≡ getD (laid c .nodes) (i * mostNodes + j) 0
+      → (opOf x ≡ opGroup → ⊥) → (leftOf x < i * mostNodes + j) × (rightOf x < i * mostNodes + j)
