@@ -1,0 +1,40 @@
+//! Document 01 as an ordinary Rust program: rule cards are read, written,
+//! reduced to counters, and shown as the panel of a seating.
+//!
+//! It was written from the document alone, so that a slip in it and a slip in
+//! the verified library are unlikely to be the same one; `compare` runs both on
+//! the same inputs. It is also meant to be fast: `bench` measures the library
+//! against it. The entries use no heap and go once through a card's bytes.
+//!
+//! ```
+//! let card = b"nondeterministic module process1 s1 : [0..1] init 0;
+//!     [] s1=0 -> 1:(s1'=1); endmodule";
+//! let mut room = [0; 100];
+//! let length = baseline::panel(card, &[0], &mut room).unwrap();
+//! assert_eq!(
+//!     &room[..length],
+//!     b"nondeterministic\nseats 1 enabled 1\ncounts 1 0\nchoice 1\nmove 0 1 25200\n"
+//! );
+//! ```
+
+#![forbid(unsafe_code)]
+
+mod card;
+mod counter;
+pub mod limits;
+mod panel;
+mod program;
+mod read;
+mod reduce;
+pub mod refusal;
+mod scan;
+mod text;
+mod write;
+
+pub use card::{Branch, Card, Group, Mode, Node, Statement};
+pub use panel::panel;
+pub use program::program;
+pub use read::judge;
+pub use reduce::reduce;
+pub use refusal::Refusal;
+pub use write::{write, write_read};

@@ -1,0 +1,30 @@
+//! Every number of document 01 that bounds something, each named once.
+
+/// Longest card, in bytes.
+pub const CARD_BYTES: usize = 16_384;
+/// Most seats at a table; the least is one.
+pub const SEATS: usize = 16;
+/// Highest top state; the lowest is zero.
+pub const TOP_STATE: usize = 7;
+/// How many states there are at most.
+pub const STATES: usize = TOP_STATE + 1;
+/// Most statements on a card; the least is one.
+pub const STATEMENTS: usize = 32;
+/// Most branches in one statement.
+pub const BRANCHES: usize = 8;
+/// Most guard nodes in one statement.
+pub const NODES: usize = 32;
+/// Most `!` and expression brackets open around a place in a guard.
+pub const DEPTH: usize = 8;
+/// Most digits of a number, and of a decimal's whole part.
+pub const NUMBER_DIGITS: usize = 5;
+/// Most digits behind a decimal's point for it to be a mark at all.
+pub const FURTHER_DIGITS: usize = 5;
+/// Most digits of a seat word or a module word.
+pub const WORD_DIGITS: usize = 5;
+/// Most digits behind the point of a decimal that is a good weight.
+pub const WEIGHT_FURTHER_DIGITS: usize = 2;
+/// A weight of one, in the units in which weights are held.
+pub const UNIT: u32 = 25_200;
+/// Bytes of its input that the panel program looks at.
+pub const INPUT_BYTES: usize = 65_536;

@@ -1,0 +1,456 @@
+//! From marks to a card: the shape, the limits, and what is judged later.
+
+use crate::card::{
+    units_of_decimal, units_of_fraction, units_of_number, Branch, Card, Group, Mode, Node,
+    Statement,
+};
+use crate::limits::{BRANCHES, CARD_BYTES, DEPTH, NODES, SEATS, STATEMENTS, TOP_STATE, UNIT};
+use crate::refusal::{Refusal, LIMIT, OUTSIDE, SHAPE, STATE, TOO_LONG, WEIGHT, WORD};
+use crate::scan::{first_outside, Fits, Scanner, Spelled, Stop};
+
+/// Reads a card.
+pub fn judge(card: &[u8]) -> Result<Card, Refusal> {
+    let mut read = Card::BLANK;
+    read_into(card, &mut read)?;
+    Ok(read)
+}
+
+/// Reads a card into a blank one, which saves the entries a copy.
+pub(crate) fn read_into(bytes: &[u8], card: &mut Card) -> Result<(), Refusal> {
+    if bytes.len() > CARD_BYTES {
+        return Err(Refusal::new(TOO_LONG, 0));
+    }
+    let mut reader = Reader {
+        scan: Scanner::new(bytes),
+        card,
+        late: Late::NONE,
+        wanted: Wanted::NONE,
+        next_node: 0,
+        next_branch: 0,
+        guard_from: 0,
+        nodes_met: 0,
+    };
+    if let Err(stop) = reader.card() {
+        // Up to here every mark was inside the rules, or it would have stopped us.
+        let place = reader.scan.place();
+        return Err(match (first_outside(bytes, place), stop) {
+            (Some(outside), _) => Refusal::new(OUTSIDE, outside),
+            (None, Stop::Shape) => Refusal::new(SHAPE, place),
+            (None, Stop::Limit) => Refusal::new(LIMIT, place),
+        });
+    }
+    match reader.late.first {
+        Some(refusal) => Err(refusal),
+        None => Ok(()),
+    }
+}
+
+/// The earliest of the refusals that count only on a card of good shape.
+struct Late {
+    first: Option<Refusal>,
+}
+
+impl Late {
+    const NONE: Late = Late { first: None };
+
+    #[cold]
+    fn note(&mut self, number: u8, place: usize) {
+        if self.first.is_none_or(|first| place < first.place) {
+            self.first = Some(Refusal::new(number, place));
+        }
+    }
+}
+
+/// How many seats the groups speak of. Whether that is right shows only when
+/// the last module has been read, and then only the first group that asks for
+/// another number of seats counts: either the very first group, or else the
+/// first one that disagrees with it.
+struct Wanted {
+    first: Option<(u32, usize)>,
+    disagrees: Option<usize>,
+}
+
+impl Wanted {
+    const NONE: Wanted = Wanted {
+        first: None,
+        disagrees: None,
+    };
+
+    #[inline(always)]
+    fn note(&mut self, seats: u32, place: usize) {
+        match self.first {
+            None => self.first = Some((seats, place)),
+            Some((first, _)) if first != seats && self.disagrees.is_none() => {
+                self.disagrees = Some(place);
+            }
+            Some(_) => {}
+        }
+    }
+
+    fn first_wrong(&self, seats: u32) -> Option<usize> {
+        match self.first {
+            Some((first, place)) if first != seats => Some(place),
+            _ => self.disagrees,
+        }
+    }
+}
+
+struct Reader<'a, 'c> {
+    scan: Scanner<'a>,
+    card: &'c mut Card,
+    late: Late,
+    wanted: Wanted,
+    /// First free places in the card's arrays.
+    next_node: usize,
+    next_branch: usize,
+    /// Where the nodes of the present statement start.
+    guard_from: usize,
+    /// Nodes whose marks have been met in the present statement. A joined node
+    /// is met at its sign but stored only behind its right operand.
+    nodes_met: usize,
+}
+
+impl Reader<'_, '_> {
+    fn card(&mut self) -> Fits<()> {
+        self.card.mode = if self.scan.takes_keyword(b"nondeterministic") {
+            Mode::Nondeterministic
+        } else {
+            self.scan.keyword(b"probabilistic")?;
+            Mode::Probabilistic
+        };
+        self.scan.keyword(b"module")?;
+        self.due_module(1)?;
+        self.range()?;
+        let mut statements = 0;
+        while self.scan.peek() == b'[' {
+            if statements == STATEMENTS {
+                return Err(Stop::Limit);
+            }
+            self.card.statements[statements] = self.statement()?;
+            statements += 1;
+        }
+        if statements == 0 {
+            return Err(Stop::Shape);
+        }
+        self.card.statement_count = statements as u8;
+        self.scan.keyword(b"endmodule")?;
+        let seats = self.copies()?;
+        self.card.seats = seats as u8;
+        if let Some(place) = self.wanted.first_wrong(seats) {
+            self.late.note(WORD, place);
+        }
+        Ok(())
+    }
+
+    /// `s1 : [0..k] init l;`
+    fn range(&mut self) -> Fits<()> {
+        self.due_seat(1)?;
+        self.scan.sign(b':')?;
+        self.scan.sign(b'[')?;
+        if self.scan.number()? != 0 {
+            self.scan.back_to(self.scan.mark());
+            return Err(Stop::Shape);
+        }
+        self.scan.long_sign(*b"..")?;
+        let top = self.scan.number()?;
+        if top > TOP_STATE as u32 {
+            self.scan.back_to(self.scan.mark());
+            return Err(Stop::Limit);
+        }
+        self.card.top = top as u8;
+        self.scan.sign(b']')?;
+        self.scan.keyword(b"init")?;
+        self.card.start = self.state()?;
+        self.scan.sign(b';')
+    }
+
+    /// The modules behind the first; gives the number of all.
+    fn copies(&mut self) -> Fits<u32> {
+        let mut seats = 1;
+        while !self.scan.at_end() {
+            self.scan.keyword(b"module")?;
+            if seats == SEATS as u32 {
+                self.scan.back_to(self.scan.mark());
+                return Err(Stop::Limit);
+            }
+            seats += 1;
+            self.due_module(seats)?;
+            self.scan.sign(b'=')?;
+            self.due_module(1)?;
+            self.scan.sign(b'[')?;
+            self.due_seat(1)?;
+            self.scan.sign(b'=')?;
+            self.due_seat(seats)?;
+            self.scan.sign(b',')?;
+            self.due_seat(seats)?;
+            self.scan.sign(b'=')?;
+            self.due_seat(1)?;
+            self.scan.sign(b']')?;
+            self.scan.keyword(b"endmodule")?;
+        }
+        Ok(seats)
+    }
+
+    #[inline(always)]
+    fn due_seat(&mut self, due: u32) -> Fits<()> {
+        if self.scan.seat_word()? != due {
+            self.late.note(WORD, self.scan.mark());
+        }
+        Ok(())
+    }
+
+    fn due_module(&mut self, due: u32) -> Fits<()> {
+        if self.scan.module_word()? != due {
+            self.late.note(WORD, self.scan.mark());
+        }
+        Ok(())
+    }
+
+    /// A state. Its high bits are lost only where the card is refused anyway.
+    #[inline(always)]
+    fn state(&mut self) -> Fits<u8> {
+        let state = self.scan.number()?;
+        self.note_state(state);
+        Ok(state as u8)
+    }
+
+    /// Notes the number read last if it lies above the top state.
+    #[inline(always)]
+    fn note_state(&mut self, state: u32) {
+        if state > u32::from(self.card.top) {
+            self.late.note(STATE, self.scan.mark());
+        }
+    }
+
+    /// A statement, from its first bracket on.
+    fn statement(&mut self) -> Fits<Statement> {
+        self.guard_from = self.next_node;
+        self.nodes_met = 0;
+        let branches_from = self.next_branch;
+        self.scan.sign(b'[')?;
+        self.scan.sign(b']')?;
+        self.due_seat(1)?;
+        self.scan.sign(b'=')?;
+        let own = self.state()?;
+        self.guard()?;
+        self.scan.long_sign(*b"->")?;
+        self.branches()?;
+        Ok(Statement {
+            own,
+            guard_from: self.guard_from as u16,
+            guard_len: (self.next_node - self.guard_from) as u8,
+            branches_from: branches_from as u16,
+            branches_len: (self.next_branch - branches_from) as u8,
+        })
+    }
+
+    /// What may stand behind the local guard; the first `&` is no node.
+    fn guard(&mut self) -> Fits<()> {
+        if self.scan.takes(b'&') {
+            self.unary(0)?;
+            self.conjuncts(0)?;
+        }
+        Ok(())
+    }
+
+    fn expression(&mut self, depth: usize) -> Fits<()> {
+        self.unary(depth)?;
+        self.conjuncts(depth)?;
+        while self.scan.takes(b'|') {
+            let left = self.meet_joining_sign()?;
+            self.unary(depth)?;
+            self.conjuncts(depth)?;
+            self.store(Node::Or { left });
+        }
+        Ok(())
+    }
+
+    /// `& unary`, as often as it comes, behind a unary.
+    fn conjuncts(&mut self, depth: usize) -> Fits<()> {
+        while self.scan.takes(b'&') {
+            let left = self.meet_joining_sign()?;
+            self.unary(depth)?;
+            self.store(Node::And { left });
+        }
+        Ok(())
+    }
+
+    fn unary(&mut self, depth: usize) -> Fits<()> {
+        if self.scan.takes_not() {
+            let mark = self.scan.mark();
+            if depth == DEPTH {
+                return self.passes_limit(mark);
+            }
+            self.meet_node(mark)?;
+            self.unary(depth + 1)?;
+            self.store(Node::Not);
+            return Ok(());
+        }
+        self.scan.sign(b'(')?;
+        let bracket = self.scan.mark();
+        if let Ok(seat) = self.scan.seat_word() {
+            self.meet_node(bracket)?;
+            return self.group(bracket, seat);
+        }
+        if depth == DEPTH {
+            return self.passes_limit(bracket);
+        }
+        self.expression(depth + 1)?;
+        self.scan.sign(b')')
+    }
+
+    /// A group, from behind its first seat word on.
+    fn group(&mut self, bracket: usize, first_seat: u32) -> Fits<()> {
+        let differs = self.scan.relation()?;
+        // A symmetric group names one state, so its first one speaks for all;
+        // any other group is refused at its bracket, which comes earlier.
+        let state = self.scan.number()?;
+        self.note_state(state);
+        let sign = self.scan.peek();
+        let mut seats = SeatSet::NONE;
+        seats.add(first_seat);
+        let mut alike = true;
+        if sign == b'&' || sign == b'|' {
+            while self.scan.takes(sign) {
+                seats.add(self.scan.seat_word()?);
+                alike &= self.scan.relation()? == differs;
+                alike &= self.scan.number()? == state;
+            }
+        }
+        self.scan.sign(b')')?;
+        match seats.wanted() {
+            Some(wanted) if alike => self.wanted.note(wanted, bracket),
+            _ => self.late.note(WORD, bracket),
+        }
+        self.store(Node::Group(Group {
+            everyone: seats.has_first(),
+            any: sign == b'|',
+            differs,
+            state: state as u8,
+        }));
+        Ok(())
+    }
+
+    fn branches(&mut self) -> Fits<()> {
+        let mut sum = 0;
+        let last = self.next_branch + BRANCHES;
+        loop {
+            if self.next_branch == last {
+                // At one place the shape counts before the limit.
+                return Err(if self.scan.weight_starts() {
+                    Stop::Limit
+                } else {
+                    Stop::Shape
+                });
+            }
+            let branch = self.branch()?;
+            sum += branch.units;
+            self.card.branches[self.next_branch] = branch;
+            self.next_branch += 1;
+            if self.scan.takes(b';') {
+                break;
+            }
+            self.scan.sign(b'+')?;
+        }
+        if sum != UNIT {
+            self.late.note(WEIGHT, self.scan.mark());
+        }
+        Ok(())
+    }
+
+    /// `weight:(s1'=t)`
+    fn branch(&mut self) -> Fits<Branch> {
+        self.scan.peek();
+        let place = self.scan.mark();
+        let units = match self.scan.weight()? {
+            Spelled::Number(number) => units_of_number(number),
+            Spelled::Decimal {
+                whole,
+                further,
+                digits,
+            } => units_of_decimal(whole, further, digits),
+            Spelled::Fraction(above, below) => units_of_fraction(above, below),
+        };
+        if units.is_none() {
+            self.late.note(WEIGHT, place);
+        }
+        self.scan.sign(b':')?;
+        self.scan.sign(b'(')?;
+        self.due_seat(1)?;
+        self.scan.sign(b'\'')?;
+        self.scan.sign(b'=')?;
+        let end = self.state()?;
+        self.scan.sign(b')')?;
+        Ok(Branch {
+            units: units.unwrap_or(0),
+            end,
+        })
+    }
+
+    /// Counts a joined node at its sign and gives its left operand's place.
+    #[inline(always)]
+    fn meet_joining_sign(&mut self) -> Fits<u8> {
+        self.meet_node(self.scan.mark())?;
+        Ok((self.next_node - 1 - self.guard_from) as u8)
+    }
+
+    #[inline(always)]
+    fn meet_node(&mut self, mark: usize) -> Fits<()> {
+        if self.nodes_met == NODES {
+            return self.passes_limit(mark);
+        }
+        self.nodes_met += 1;
+        Ok(())
+    }
+
+    #[cold]
+    fn passes_limit(&mut self, mark: usize) -> Fits<()> {
+        self.scan.back_to(mark);
+        Err(Stop::Limit)
+    }
+
+    #[inline(always)]
+    fn store(&mut self, node: Node) {
+        self.card.nodes[self.next_node] = node;
+        self.next_node += 1;
+    }
+}
+
+const HIGHEST_SEAT: u32 = SEATS as u32;
+
+/// The seats that a group names.
+struct SeatSet {
+    /// Bit 0 stands for seat 1.
+    bits: u32,
+    /// A seat came twice, or no table has it.
+    broken: bool,
+}
+
+impl SeatSet {
+    const NONE: SeatSet = SeatSet {
+        bits: 0,
+        broken: false,
+    };
+
+    #[inline(always)]
+    fn add(&mut self, seat: u32) {
+        let bit = match seat {
+            1..=HIGHEST_SEAT => 1 << (seat - 1),
+            _ => 0,
+        };
+        self.broken |= bit == 0 || self.bits & bit != 0;
+        self.bits |= bit;
+    }
+
+    fn has_first(&self) -> bool {
+        self.bits & 1 != 0
+    }
+
+    /// The number of seats for which these are all seats, or all but the first.
+    #[inline(always)]
+    fn wanted(&self) -> Option<u32> {
+        let with_first = self.bits | 1;
+        let without_gap = with_first & (with_first + 1) == 0;
+        (without_gap && !self.broken).then(|| with_first.count_ones())
+    }
+}

@@ -1,0 +1,48 @@
+//! Why a card, a seating or a room is turned down, and where.
+
+use std::fmt;
+
+/// A refusal: its number and its place, as listed in the chapter "Refusal numbers".
+#[derive(Clone, Copy, PartialEq, Eq, Debug)]
+pub struct Refusal {
+    /// One of the numbers below.
+    pub number: u8,
+    /// A byte of the card, a seat, or a length, depending on the number.
+    pub place: usize,
+}
+
+/// The card is too long.
+pub const TOO_LONG: u8 = 1;
+/// A mark is outside the rules.
+pub const OUTSIDE: u8 = 2;
+/// A mark does not continue the shape.
+pub const SHAPE: u8 = 3;
+/// A limit is passed.
+pub const LIMIT: u8 = 4;
+/// A state lies above the top state.
+pub const STATE: u8 = 5;
+/// A word is not the one due, or a group is not symmetric.
+pub const WORD: u8 = 6;
+/// A weight or a sum of weights is wrong.
+pub const WEIGHT: u8 = 7;
+/// The seating has not as many seats as the card.
+pub const SEAT_COUNT: u8 = 8;
+/// A seat's state lies above the top state.
+pub const SEAT_STATE: u8 = 9;
+/// The text does not fit into the room.
+pub const ROOM: u8 = 10;
+
+impl Refusal {
+    /// A refusal of this number at this place.
+    pub const fn new(number: u8, place: usize) -> Self {
+        Refusal { number, place }
+    }
+}
+
+impl fmt::Display for Refusal {
+    fn fmt(&self, f: &mut fmt::Formatter<'_>) -> fmt::Result {
+        write!(f, "refused {} {}", self.number, self.place)
+    }
+}
+
+impl std::error::Error for Refusal {}

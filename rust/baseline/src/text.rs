@@ -1,0 +1,150 @@
+//! Texts and the rooms that they are put into.
+
+use crate::limits::UNIT;
+use crate::refusal::{Refusal, ROOM};
+
+/// Something that text is put into, one piece behind the other.
+pub(crate) trait Text {
+    fn bytes(&mut self, bytes: &[u8]);
+
+    /// How many bytes have been put.
+    fn length(&self) -> usize;
+
+    /// Puts once more what lies between two former lengths.
+    fn again(&mut self, from: usize, to: usize);
+
+    #[inline(always)]
+    fn byte(&mut self, byte: u8) {
+        self.bytes(&[byte]);
+    }
+
+    /// A number below ten, such as a state.
+    #[inline(always)]
+    fn digit(&mut self, digit: u8) {
+        self.byte(b'0' + digit);
+    }
+
+    /// Any number; nearly all have one digit or two.
+    #[inline(always)]
+    fn number(&mut self, number: u32) {
+        match number {
+            0..10 => self.digit(number as u8),
+            10..100 => self.bytes(&[b'0' + (number / 10) as u8, b'0' + (number % 10) as u8]),
+            _ => self.long_number(number),
+        }
+    }
+
+    fn long_number(&mut self, number: u32) {
+        let mut digits = [0; 10];
+        let mut from = digits.len();
+        let mut rest = number;
+        while rest > 0 {
+            from -= 1;
+            digits[from] = b'0' + (rest % 10) as u8;
+            rest /= 10;
+        }
+        self.bytes(&digits[from..]);
+    }
+
+    /// A weight, in lowest terms.
+    fn weight(&mut self, units: u32) {
+        if units == 0 || units == UNIT {
+            return self.digit((units == UNIT) as u8);
+        }
+        let common = greatest_common_divisor(units, UNIT);
+        self.number(units / common);
+        self.byte(b'/');
+        self.number(UNIT / common);
+    }
+}
+
+fn greatest_common_divisor(mut a: u32, mut b: u32) -> u32 {
+    while b != 0 {
+        (a, b) = (b, a % b);
+    }
+    a
+}
+
+/// Something that can be printed, always as the same bytes.
+pub(crate) trait Print {
+    fn print<T: Text>(&self, text: &mut T);
+}
+
+/// Keeps no bytes, only their number.
+struct Measured(usize);
+
+impl Text for Measured {
+    #[inline(always)]
+    fn bytes(&mut self, bytes: &[u8]) {
+        self.0 += bytes.len();
+    }
+
+    #[inline(always)]
+    fn length(&self) -> usize {
+        self.0
+    }
+
+    #[inline(always)]
+    fn again(&mut self, from: usize, to: usize) {
+        self.0 += to - from;
+    }
+}
+
+/// A lent room that is known to be large enough, and how much of it is used.
+struct Filled<'a> {
+    room: &'a mut [u8],
+    used: usize,
+}
+
+impl Text for Filled<'_> {
+    #[inline(always)]
+    fn bytes(&mut self, bytes: &[u8]) {
+        let end = self.used + bytes.len();
+        self.room[self.used..end].copy_from_slice(bytes);
+        self.used = end;
+    }
+
+    #[inline(always)]
+    fn length(&self) -> usize {
+        self.used
+    }
+
+    #[inline(always)]
+    fn again(&mut self, from: usize, to: usize) {
+        self.room.copy_within(from..to, self.used);
+        self.used += to - from;
+    }
+}
+
+impl Text for Vec<u8> {
+    #[inline(always)]
+    fn bytes(&mut self, bytes: &[u8]) {
+        self.extend_from_slice(bytes);
+    }
+
+    #[inline(always)]
+    fn length(&self) -> usize {
+        self.len()
+    }
+
+    #[inline(always)]
+    fn again(&mut self, from: usize, to: usize) {
+        self.extend_from_within(from..to);
+    }
+}
+
+/// Prints into a lent room, or refuses before the first byte is written.
+pub(crate) fn print_into<P: Print>(printed: &P, room: &mut [u8]) -> Result<usize, Refusal> {
+    let mut measured = Measured(0);
+    printed.print(&mut measured);
+    let Measured(needed) = measured;
+    if needed > room.len() {
+        return Err(Refusal::new(ROOM, needed));
+    }
+    let mut filled = Filled {
+        room: &mut room[..needed],
+        used: 0,
+    };
+    printed.print(&mut filled);
+    Ok(needed)
+}
