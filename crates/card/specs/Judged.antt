@@ -1,8 +1,18 @@
 -- What the judgement of a weight answers: the units that it is worth, or that it breaks the rule. Assumes nothing.
 use Prim.Native.Nat.{ℕ}
+use Rattle.card.specs.Refusals.{wrongWeight}
 use mathlib.Core.Option.{Option, none, some}
 use Rattle.card.specs.declared.weight.Judged.{Judged}
 
 abbrev pub judgedOf : Option ℕ → Judged
 judgedOf none = Judged.Broken
 judgedOf (some u) = Judged.Units (record { units = u })
+
+-- document 01's number for each case, 0 where nothing is refused; and the units
+abbrev pub numberOf : Judged → ℕ
+numberOf (Judged.Units w) = 0
+numberOf Judged.Broken = wrongWeight
+
+abbrev pub unitsIn : Judged → ℕ
+unitsIn (Judged.Units w) = w .units
+unitsIn Judged.Broken = 0

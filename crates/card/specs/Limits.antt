@@ -1,5 +1,5 @@
--- The limits of a card and the unit of its weights ("What the box holds", "Shape of a card"): each number has its only home here, as
--- its constant has in src/limits.rt. Assumes nothing.
+-- The limits of a card and the unit of its weights ("What the box holds", "Shape of a card"). Each number has its only home here, and
+-- its constant for the code in src/limits.rt, the unit's in src/weight.rt. Assumes nothing.
 use Prim.Native.Nat.{ℕ, suc, _*_, _^_}
 
 -- bytes of a card

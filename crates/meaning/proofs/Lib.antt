@@ -10,3 +10,4 @@ pub mod Bounds
 pub mod Reorder
 pub mod Stuck
 pub mod Examples
+pub mod Within

@@ -1,4 +1,5 @@
 pub mod Cards
 pub mod Demands
+pub mod Reductions
 pub mod Panels
 pub mod Edges

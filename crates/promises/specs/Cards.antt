@@ -5,12 +5,15 @@ use mathlib.Core.Logic.{_↔_}
 use mathlib.Core.Option.{some}
 use lib.ListN.{length, getD}
 use Rattle.card.specs.Limits.{mostNodes}
-use Rattle.card.specs.Card.{Statement, Card}
+use Rattle.card.specs.Card.{Mode, Statement, Card}
 use Rattle.card.specs.Valid.{ValidCard}
 use Rattle.card.specs.Weight.{Weight, cardRule, Worth, unitsOf}
+use Rattle.meaning.specs.CardA.{cardA}
 use Rattle.card.specs.Laid.{opOf, leftOf, rightOf, opGroup, guardSize, laid, cardOf}
 
 pub record Cards : Type 0 where
+  -- there are valid cards: card A, in either mode
+  pub card-a : (mode : Mode) → ValidCard (cardA mode)
   -- a weight counts so many units exactly when it keeps its rule and is worth them
   pub weights : (w : Weight) (u : ℕ) → (unitsOf cardRule w ≡ some u) ↔ Worth cardRule w u
   -- a card in its struct is the card, so two cards that lie there alike are the same

@@ -6,6 +6,8 @@ use mathlib.Core.List.{List, [], _∷_}
 use mathlib.Core.Option.{none, some}
 use Rattle.card.specs.Card.{Mode, nondeterministic, probabilistic}
 use Rattle.card.specs.Weight.{decimal, ratio, cardRule, unitsOf}
+use Rattle.card.specs.Judged.{judgedOf, numberOf}
+use Rattle.card.specs.declared.weight.Judged.{Judged}
 use Rattle.meaning.specs.Panel.{Move, Block, Panel, panel}
 use Rattle.meaning.specs.CardA.{cardA}
 
@@ -31,6 +33,10 @@ at mode a b c = panel (cardA mode) (a ∷ b ∷ c ∷ [])
 abbrev pub asAbove : Panel
 asAbove = shows probabilistic 3 (2 ∷ 1 ∷ 0 ∷ []) (lines 18900 (move 0 1 25200 ∷ move 0 2 25200 ∷ move 1 2 6300 ∷ []) ∷ [])
 
+-- a good weight
+abbrev pub units : ℕ → Judged
+units u = Judged.Units (record { units = u })
+
 -- ---- the edges
 
 pub record Edges : Type 0 where
@@ -42,8 +48,8 @@ pub record Edges : Type 0 where
   pub nondeterministic-001 : at nondeterministic 0 0 1
       ≡ shows nondeterministic 2 (2 ∷ 1 ∷ 0 ∷ []) (choice 1 0 (move 0 1 12600 ∷ move 0 2 12600 ∷ []) ∷ choice 2 18900 (move 1 2 6300 ∷ []) ∷ [])
   -- 1/7
-  pub seventh : unitsOf cardRule (ratio 1 7) ≡ some 3600
+  pub seventh : judgedOf (unitsOf cardRule (ratio 1 7)) ≡ units 3600
   -- 1/11
-  pub eleventh : unitsOf cardRule (ratio 1 11) ≡ none
+  pub eleventh : numberOf (judgedOf (unitsOf cardRule (ratio 1 11))) ≡ 7
   -- 0.005, and 0.05
-  pub further-digits : (unitsOf cardRule (decimal 0 3 5) ≡ none) × (unitsOf cardRule (decimal 0 2 5) ≡ some 1260)
+  pub further-digits : (numberOf (judgedOf (unitsOf cardRule (decimal 0 3 5))) ≡ 7) × (judgedOf (unitsOf cardRule (decimal 0 2 5)) ≡ units 1260)

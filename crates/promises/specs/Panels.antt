@@ -2,15 +2,23 @@
 use Prim.Native.Nat.{ℕ, _*_, _≤_, _<_}
 use mathlib.Core.Path.{_≡_}
 use mathlib.Core.Bool.{true}
-use mathlib.Core.Option.{Option}
+use mathlib.Core.List.{[], _∷_}
+use mathlib.Core.Option.{Option, none}
 use lib.ListN.{length}
 use Rattle.card.specs.Limits.{mostSeats, mostStatements}
-use Rattle.card.specs.Card.{Statement, Card}
+use Rattle.card.specs.Card.{probabilistic, Statement, Card}
 use Rattle.card.specs.Valid.{Every, ValidCard}
 use Rattle.meaning.specs.Seats.{Seating, ValidSeating, counts, mayTake, turn}
 use Rattle.meaning.specs.Panel.{panel, blockOf, blockTotal, due}
 use Rattle.meaning.specs.ByCounts.{countPanel}
 use Rattle.meaning.specs.Reordered.{Reordered}
+
+-- two seats, of which one goes from 0 to 2 and one from 1 to 0
+abbrev pub goes : ℕ → ℕ → Statement
+goes a b = record { own = a; guard = none; branches = record { units = 25200; end = b } ∷ [] }
+
+abbrev pub turning : Card
+turning = record { mode = probabilistic; n = 2; k = 2; l = 0; statements = goes 1 0 ∷ goes 0 2 ∷ [] }
 
 pub record Panels : Type 0 where
   -- it can be computed from the counts alone
@@ -26,3 +34,5 @@ pub record Panels : Type 0 where
   -- nondeterministic one
   pub adds-up : (c : Card) → ValidCard c → (x : Seating) → ValidSeating c x → Every (λ b. blockTotal b ≡ due (c .mode) (panel c x .enabled)) (panel c x .blocks)
   pub enabled-most : (c : Card) → ValidCard c → (x : Seating) → ValidSeating c x → panel c x .enabled ≤ mostSeats * mostStatements
+  -- moves stand by old state, then by new
+  pub order : panel turning (0 ∷ 1 ∷ []) .blocks ≡ record { choice = none; stay = 0; moves = record { old = 0; new = 2; weight = 25200 } ∷ record { old = 1; new = 0; weight = 25200 } ∷ [] } ∷ []

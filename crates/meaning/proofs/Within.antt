@@ -1,0 +1,72 @@
+-- A reduced program keeps its counters between 0 and their most: a lowered counter only falls, and a raised one is cut at n.
+use Prim.Native.Nat.{ℕ, zero, suc, _+_, _-_, _≤_, min}
+use mathlib.Core.Path.{_≡_, refl}
+use mathlib.Core.Bool.{Bool, true, false}
+use mathlib.Core.List.{List, [], _∷_, map}
+use native.Mathlib.Omega.{arith}
+use lib.Dec.{eqb}
+use lib.ListN.{set, getD}
+use Rattle.card.specs.Text.{if_then_else_}
+use Rattle.card.specs.Card.{Mode, nondeterministic, probabilistic, Branch, Statement, Card}
+use Rattle.card.specs.Valid.{Every}
+use Rattle.meaning.specs.Sums.{upto, those, flat}
+use Rattle.meaning.specs.Steps.{Step}
+use Rattle.meaning.specs.Reduced.{Update, keep, shift, updateOf, Outcome, Reduced, copy, copies, Program, reduce, noOf, updated, canTake, reducedTurn, reducedTurns, reducedSteps}
+use Rattle.meaning.proofs.Sums.{every-flat, every-map, every-those, every-upto, every-imp}
+
+abbrev pub Few : ℕ → List ℕ → Type 0
+Few n v = Every (λ a. a ≤ n) v
+
+set-few : (n : ℕ) (v : List ℕ) (i a : ℕ) → Few n v → a ≤ n → Few n (set v i a)
+set-few n [] i a w h = tt
+set-few n (b ∷ v) zero a w h = (h, w .1)
+set-few n (b ∷ v) (suc i) a w h = (w .0, set-few n v i a (w .1) h)
+
+no-few : (n : ℕ) (v : List ℕ) (d : ℕ) → Few n v → noOf v d ≤ n
+no-few n [] zero w = omega arith
+no-few n [] (suc d) w = omega arith
+no-few n (b ∷ v) zero w = w .0
+no-few n (b ∷ v) (suc d) w = no-few n v d (w .1)
+
+updated-few : (n j t : ℕ) (v : List ℕ) → Few n v → Few n (updated v (updateOf n j t))
+updated-few n j t v w = go (eqb j t)
+  where
+    go : (b : Bool) → Few n (updated v (if b then keep else shift j t n))
+    go true = w
+    go false = set-few n (set v j (noOf v j - 1)) t (min (noOf v t + 1) n) (set-few n v j (noOf v j - 1) w (omega (arith, no-few n v j w))) (omega arith)
+
+-- a step's next counters
+abbrev Next : ℕ → Step (List ℕ) → Type 0
+Next n s = Few n (s .next)
+
+-- all of a reduced statement's
+abbrev Steady : ℕ → List ℕ → Reduced → Type 0
+Steady n v r = Every (Next n) (reducedTurn v r)
+
+copy-few : (n : ℕ) (s : Statement) (m : ℕ) (v : List ℕ) → Few n v → Steady n v (copy n s m)
+unfolding reducedTurn copy
+copy-few n s m v w = branches (s .branches)
+  where
+    branches : (l : List Branch)
+        → Every (Next n) (map (λ (o : Outcome). record { units = o .units; next = updated v (o .update) }) (map (λ (b : Branch). record { units = b .units; update = updateOf n (s .own) (b .end) }) l))
+    branches [] = tt
+    branches (b ∷ l) = (updated-few n (s .own) (b .end) v w, branches l)
+
+copies-few : (mode : Mode) (n : ℕ) (s : Statement) (v : List ℕ) → Few n v → Every (Steady n v) (copies mode n s)
+copies-few nondeterministic n s v w = (copy-few n s 0 v w, tt)
+copies-few probabilistic n s v w = every-upto (Steady n v) n (copy n s) λ m h. copy-few n s m v w
+
+all-few : (mode : Mode) (n : ℕ) (l : List Statement) (v : List ℕ) → Few n v → Every (Steady n v) (flat (map (copies mode n) l))
+all-few mode n l v w = every-flat (Steady n v) (map (copies mode n) l) (every-map (Every (Steady n v)) (copies mode n) l (each l))
+  where
+    each : (l : List Statement) → Every (λ s. Every (Steady n v) (copies mode n s)) l
+    each [] = tt
+    each (s ∷ l) = (copies-few mode n s v w, each l)
+
+pub stays-within : (c : Card) (v : List ℕ) → Few (c .n) v → Every (λ (s : Step (List ℕ)). Few (reduce c .most) (s .next)) (reducedSteps (reduce c) v)
+unfolding reduce reducedSteps reducedTurns
+stays-within c v w =
+    let program = flat (map (copies (c .mode) (c .n)) (c .statements)) in
+    let taken = every-those (Steady (c .n) v) (canTake v) program (all-few (c .mode) (c .n) (c .statements) v w) in
+    every-flat (Next (c .n)) (map (reducedTurn v) (those (canTake v) program))
+    (every-map (Every (Next (c .n))) (reducedTurn v) (those (canTake v) program) (every-imp _ (those (canTake v) program) taken λ r p. p .0))
