@@ -1,12 +1,13 @@
 -- The marked edges: each by computing its definition. Assumes nothing.
 use mathlib.Core.Path.{refl}
 use Rattle.card.specs.Weight.{unitsOf}
+use Rattle.reading.specs.Reading.{readOf}
 use Rattle.meaning.specs.Panel.{panel}
 use Rattle.meaning.specs.CardA.{cardA}
 use Rattle.promises.specs.Edges.{Edges}
 
 pub edges : Edges
-unfolding panel cardA unitsOf
+unfolding panel cardA unitsOf readOf
 edges = record {
   at-001 = refl;
   at-100 = refl;
@@ -16,5 +17,7 @@ edges = record {
   nondeterministic-001 = refl;
   seventh = refl;
   eleventh = refl;
+  two-seats = (refl, refl);
   further-digits = (refl, refl);
+  any-order = (refl, refl);
 }

@@ -1,15 +1,17 @@
--- The marked edges of "Both sides of the edge", as one list in document 01's order. The panels stand here as data; what concerns the
--- reading of a card (a group's kind, a group's order, a refusal's number and place) comes with the reader. Assumes nothing.
+-- The marked edges of "Both sides of the edge", as one list in document 01's order. The panels stand here as data. Assumes nothing.
 use Prim.Native.Nat.{ℕ}
 use mathlib.Core.Path.{_≡_}
-use mathlib.Core.List.{List, [], _∷_}
-use mathlib.Core.Option.{none, some}
-use Rattle.card.specs.Card.{Mode, nondeterministic, probabilistic}
-use Rattle.card.specs.Weight.{decimal, ratio, cardRule, unitsOf}
-use Rattle.card.specs.Judged.{judgedOf, numberOf}
-use Rattle.card.specs.declared.weight.Judged.{Judged}
+use mathlib.Core.List.{List, [], _∷_, _++_}
+use mathlib.Core.Option.{Option, none, some}
+use Rattle.card.specs.Text.{bytes}
+use Rattle.card.specs.Card.{Mode, nondeterministic, probabilistic, others, all, any, is, group, atom, Guard, Branch, Card}
+use Rattle.reading.specs.Reading.{Outcome, taken, refused, readOf}
 use Rattle.meaning.specs.Panel.{Move, Block, Panel, panel}
 use Rattle.meaning.specs.CardA.{cardA}
+
+-- card A's own text
+abbrev pub textA : List ℕ
+textA = bytes "probabilistic\nmodule process1\ns1 : [0..2] init 0;\n[] s1=0 & (s2=0 | s3=0) -> 1/2:(s1'=1) + 1/2:(s1'=2);\n[] s1=1 & (s1!=2 & s2!=2 & s3!=2) -> 1/4:(s1'=2) + 3/4:(s1'=1);\nendmodule\nmodule process2 = process1 [s1=s2, s2=s1] endmodule\nmodule process3 = process1 [s1=s3, s3=s1] endmodule\n"
 
 -- ---- a panel of three seats, written down
 
@@ -33,9 +35,23 @@ at mode a b c = panel (cardA mode) (a ∷ b ∷ c ∷ [])
 abbrev pub asAbove : Panel
 asAbove = shows probabilistic 3 (2 ∷ 1 ∷ 0 ∷ []) (lines 18900 (move 0 1 25200 ∷ move 0 2 25200 ∷ move 1 2 6300 ∷ []) ∷ [])
 
--- a good weight
-abbrev pub units : ℕ → Judged
-units u = Judged.Units (record { units = u })
+-- ---- a card of one statement
+
+abbrev pub head : List ℕ
+head = bytes "probabilistic\nmodule process1\ns1 : [0..2] init 0;\n[] s1=0"
+
+abbrev pub two : List ℕ
+two = bytes "endmodule\nmodule process2 = process1 [s1=s2, s2=s1] endmodule\n"
+
+abbrev pub three : List ℕ
+three = two ++ bytes "module process3 = process1 [s1=s3, s3=s1] endmodule\n"
+
+-- read as a card of n seats with this guard and these branches
+abbrev pub reads : ℕ → Option Guard → List Branch → Outcome
+reads n guard branches = taken (record { mode = probabilistic; n = n; k = 2; l = 0; statements = record { own = 0; guard = guard; branches = branches } ∷ [] })
+
+abbrev pub to : ℕ → ℕ → Branch
+to units end = record { units = units; end = end }
 
 -- ---- the edges
 
@@ -48,8 +64,15 @@ pub record Edges : Type 0 where
   pub nondeterministic-001 : at nondeterministic 0 0 1
       ≡ shows nondeterministic 2 (2 ∷ 1 ∷ 0 ∷ []) (choice 1 0 (move 0 1 12600 ∷ move 0 2 12600 ∷ []) ∷ choice 2 18900 (move 1 2 6300 ∷ []) ∷ [])
   -- 1/7
-  pub seventh : judgedOf (unitsOf cardRule (ratio 1 7)) ≡ units 3600
-  -- 1/11
-  pub eleventh : numberOf (judgedOf (unitsOf cardRule (ratio 1 11))) ≡ 7
+  pub seventh : readOf (head ++ bytes " -> 1/7:(s1'=1) + 6/7:(s1'=2);\nendmodule\n") ≡ reads 1 none (to 3600 1 ∷ to 21600 2 ∷ [])
+  -- 1/11, at its place
+  pub eleventh : readOf (head ++ bytes " -> 1/11:(s1'=1) + 10/11:(s1'=2);\nendmodule\n") ≡ refused 7 61
+  -- (s2=0) with two seats, and (s1=0)
+  pub two-seats : (readOf (head ++ bytes " & (s2=0) -> 1:(s1'=1);\n" ++ two) ≡ reads 2 (some (atom (group others all is 0))) (to 25200 1 ∷ []))
+      × (readOf (head ++ bytes " & (s1=0) -> 1:(s1'=1);\n" ++ two) ≡ refused 6 60)
   -- 0.005, and 0.05
-  pub further-digits : (numberOf (judgedOf (unitsOf cardRule (decimal 0 3 5))) ≡ 7) × (judgedOf (unitsOf cardRule (decimal 0 2 5)) ≡ units 1260)
+  pub further-digits : (readOf (head ++ bytes " -> 0.005:(s1'=1) + 0.995:(s1'=2);\nendmodule\n") ≡ refused 7 61)
+      × (readOf (head ++ bytes " -> 0.05:(s1'=1) + 0.95:(s1'=2);\nendmodule\n") ≡ reads 1 none (to 1260 1 ∷ to 23940 2 ∷ []))
+  -- (s3=0 | s2=0), and the group of card A
+  pub any-order : (readOf (head ++ bytes " & (s3=0 | s2=0) -> 1:(s1'=1);\n" ++ three) ≡ reads 3 (some (atom (group others any is 0))) (to 25200 1 ∷ []))
+      × (readOf textA ≡ taken (cardA probabilistic))

@@ -1,0 +1,151 @@
+-- Seats judged one by one: those up to a place are within k, so the judgement is that of the rest. What each answer says follows from
+-- one look at the seats: either all are within k, or one is the first that is not. Assumes nothing.
+use Prim.Native.Nat.{ℕ, zero, suc, _+_, _≤_, _<_}
+use mathlib.Core.Path.{_≡_, refl, sym, ap, _∙_}
+use mathlib.Core.Logic.{_↔_, _⊎_, inl, inr, ⊎-elim}
+use mathlib.Core.Bool.{Bool, true, false}
+use mathlib.Core.List.{List, [], _∷_}
+use native.Mathlib.Nat.{not-suc-le-zero, le-of-suc-le-suc}
+use native.Mathlib.Numerals.{add-one}
+use native.Mathlib.Decide.{ℕ-discrete, decLe}
+use native.Mathlib.Omega.{arith}
+use borrow.Author.Tests.{lt-ltb, le-ltb, eq-eqb, ne-eqb}
+use lib.ListN.{length, getD, drop, drop-of-length-le}
+use lib.Seq.{drop-cons}
+use Rattle.card.specs.Card.{Card}
+use Rattle.card.specs.Valid.{Every}
+use Rattle.card.specs.Refusals.{wrongSeats, seatAboveTop}
+use Rattle.meaning.specs.Seats.{Seating, ValidSeating}
+use Rattle.counting.specs.declared.Seated.{Seated}
+use Rattle.counting.specs.declared.Seated.the-variants.{Fine, Refused}
+use Rattle.counting.specs.Judged.{judgedFrom, judgedSeats, seatedNumber, seatedPlace, FirstAbove}
+
+-- ---- as a loop judges
+
+module _ (n k : ℕ) (x : List ℕ) where
+  pub judged-other : (length x ≡ n → ⊥) → judgedSeats n k x ≡ Refused wrongSeats 0
+  unfolding judgedSeats
+  judged-other h = rw (ne-eqb (length x) n h)
+
+  pub judged-start : length x ≡ n → judgedSeats n k x ≡ judgedFrom k 0 x
+  unfolding judgedSeats
+  judged-start h = rw (eq-eqb (length x) n h)
+
+module _ (k : ℕ) (x : List ℕ) (i : ℕ) where
+  pub judged-above : i < length x → k < getD x i 0 → judgedFrom k i (drop i x) ≡ Refused seatAboveTop i
+  unfolding judgedFrom
+  judged-above l h = rw (drop-cons x i 0 l, lt-ltb k (getD x i 0) h)
+
+  pub judged-next : i < length x → getD x i 0 ≤ k → judgedFrom k i (drop i x) ≡ judgedFrom k (i + 1) (drop (i + 1) x)
+  unfolding judgedFrom
+  judged-next l h = rw (add-one i, drop-cons x i 0 l, le-ltb k (getD x i 0) h)
+
+  pub judged-end : length x ≤ i → judgedFrom k i (drop i x) ≡ Fine
+  unfolding judgedFrom
+  judged-end h = rw (drop-of-length-le x h)
+
+-- ---- what the answers say
+
+abbrev Within : ℕ → List ℕ → Type 0
+Within k x = Every (λ a. a ≤ k) x
+
+within-at : (k : ℕ) (x : List ℕ) → Within k x → (i : ℕ) → i < length x → getD x i 0 ≤ k
+within-at k [] w i l = absurd (not-suc-le-zero l)
+within-at k (a ∷ x) w zero l = w .0
+within-at k (a ∷ x) w (suc i) l = within-at k x (w .1) i (le-of-suc-le-suc l)
+
+-- all seats are within k, or one is the first above
+data Look (k p : ℕ) (x : List ℕ) : Type 0 where
+  below : Within k x → judgedFrom k p x ≡ Fine → Look k p x
+  above : (q : ℕ) → FirstAbove k x q → judgedFrom k p x ≡ Refused seatAboveTop (p + q) → Look k p x
+
+later : (k a : ℕ) (x : List ℕ) (q : ℕ) → a ≤ k → FirstAbove k x q → FirstAbove k (a ∷ x) (suc q)
+later k a x q h f = record { seat = omega (arith, f .seat); above = f .above; first = go }
+  where
+    go : (i : ℕ) → i < suc q → getD (a ∷ x) i 0 ≤ k
+    go zero l = h
+    go (suc i) l = f .first i (le-of-suc-le-suc l)
+
+look : (k p : ℕ) (x : List ℕ) → Look k p x
+unfolding judgedFrom
+look k p [] = below tt refl
+look k p (a ∷ x) = go (decLe a k) (look k (suc p) x)
+  where
+    go : Dec (a ≤ k) → Look k (suc p) x → Look k p (a ∷ x)
+    go (yes h) (below w e) = below (h, w) (rw (le-ltb k a h) e)
+    go (yes h) (above q f e) =
+        let there : suc p + q ≡ p + suc q = omega arith in
+        above (suc q) (later k a x q h f) (rw (le-ltb k a h) (e ∙ ap (Refused seatAboveTop) there))
+    go (no h) rest =
+        let l : k < a = omega arith in
+        let here : p ≡ p + 0 = omega arith in
+        above 0 (record { seat = omega arith; above = l; first = λ i z. absurd (not-suc-le-zero z) }) (rw (lt-ltb k a l) (ap (Refused seatAboveTop) here))
+
+-- a seat that is the first above is the only such
+first-only : (k : ℕ) (x : List ℕ) (p q : ℕ) → FirstAbove k x p → FirstAbove k x q → p ≡ q
+first-only k x p q f g = go (decLe p q) (decLe q p)
+  where
+    go : Dec (p ≤ q) → Dec (q ≤ p) → p ≡ q
+    go (yes h) (yes l) = omega arith
+    go (no h) _ = absurd (omega (arith, f .first q (omega arith), g .above))
+    go (yes h) (no l) = absurd (omega (arith, g .first p (omega arith), f .above))
+
+fine≢refused : {A : Type 0} {r p : ℕ} → Fine ≡ Refused r p → A
+fine≢refused e = let z : _≡_ {A = ℕ} 0 1 = cc in absurd (omega arith)
+
+same-refusal : {r s p q : ℕ} → Refused r p ≡ Refused s q → (r ≡ s) × (p ≡ q)
+same-refusal e = (ap seatedNumber e, ap seatedPlace e)
+
+module _ (n k : ℕ) (x : List ℕ) where
+  -- the three ways in which a judgement can go
+  judged-by : {A : Type 0}
+      → ((length x ≡ n → ⊥) → judgedSeats n k x ≡ Refused wrongSeats 0 → A)
+      → (length x ≡ n → (p : ℕ) → FirstAbove k x p → judgedSeats n k x ≡ Refused seatAboveTop p → A)
+      → (length x ≡ n → Within k x → judgedSeats n k x ≡ Fine → A)
+      → A
+  judged-by {A} other over fine = go (ℕ-discrete (length x) n)
+    where
+      go : Dec (length x ≡ n) → A
+      go (no h) = other h (judged-other n k x h)
+      go (yes h) = by (look k 0 x)
+        where
+          by : Look k 0 x → A
+          by (below w e) = fine h w (judged-start n k x h ∙ e)
+          by (above q f e) = let here : 0 + q ≡ q = omega arith in over h q f (judged-start n k x h ∙ e ∙ ap (Refused seatAboveTop) here)
+
+  -- fine: so many seats, each within k
+  pub fine-exactly : (judgedSeats n k x ≡ Fine) ↔ ((length x ≡ n) × Every (λ a. a ≤ k) x)
+  fine-exactly = judged-by
+      (λ h e. (λ f. fine≢refused (sym f ∙ e), λ g. absurd (h (g .0))))
+      (λ h p f e. (λ z. fine≢refused (sym z ∙ e), λ g. absurd (omega (arith, f .above, within-at k x (g .1) p (f .seat)))))
+      (λ h w e. (λ z. (h, w), λ g. e))
+
+  -- 8 at 0: another number of seats
+  pub wrong-seats-exactly : (p : ℕ) → (judgedSeats n k x ≡ Refused wrongSeats p) ↔ ((length x ≡ n → ⊥) × (p ≡ 0))
+  wrong-seats-exactly p = judged-by
+      (λ h e. (λ z. (h, sym (same-refusal (sym e ∙ z) .1)), λ g. e ∙ ap (Refused wrongSeats) (sym (g .1))))
+      (λ h q f e. (λ z. absurd (omega (arith, same-refusal (sym e ∙ z) .0)), λ g. absurd (g .0 h)))
+      (λ h w e. (λ z. fine≢refused (sym e ∙ z), λ g. absurd (g .0 h)))
+
+  -- 9: so many seats, and the place is that of the first above k
+  pub seat-above-exactly : (p : ℕ) → (judgedSeats n k x ≡ Refused seatAboveTop p) ↔ ((length x ≡ n) × FirstAbove k x p)
+  seat-above-exactly p = judged-by
+      (λ h e. (λ z. absurd (omega (arith, same-refusal (sym e ∙ z) .0)), λ g. absurd (h (g .0))))
+      (λ h q f e. (
+        λ z. (h, rw (same-refusal (sym e ∙ z) .1) at f),
+        λ g. e ∙ ap (Refused seatAboveTop) (first-only k x q p f (g .1)),
+      ))
+      (λ h w e. (λ z. fine≢refused (sym e ∙ z), λ g. absurd (omega (arith, g .1 .above, within-at k x w p (g .1 .seat)))))
+
+  -- and there is no other refusal
+  pub judged-else : (r p : ℕ) → judgedSeats n k x ≡ Refused r p → (r ≡ wrongSeats) ⊎ (r ≡ seatAboveTop)
+  judged-else r p z = judged-by
+      (λ h e. inl (same-refusal (sym z ∙ e) .0))
+      (λ h q f e. inr (same-refusal (sym z ∙ e) .0))
+      (λ h w e. fine≢refused (sym e ∙ z))
+
+-- so seats are fine exactly where they are a valid seating of the card
+pub valid-exactly : (c : Card) (x : Seating) → (judgedSeats (c .n) (c .k) x ≡ Fine) ↔ ValidSeating c x
+valid-exactly c x =
+    let f = fine-exactly (c .n) (c .k) x in
+    (λ e. let g = f .0 e in record { seats = g .0; states = g .1 }, λ v. f .1 (v .seats, v .states))

@@ -1,0 +1,4 @@
+pub mod Judging
+pub mod Counted
+pub mod Table
+pub mod Weighed

@@ -1,0 +1,40 @@
+-- `counting::able` meets its contract: as many seats as are in the local state, where the guard holds for them. Assumes nothing.
+use mathlib.Core.Path.{sym, _∙_}
+use borrow.Author.Tests.{not-true, not-false}
+use borrow.Author.Needs.{needs}
+use Rattle.counting.proofs.Table.{takers-none, takers-free, takers-held, takers-kept}
+use Rattle.counting.proofs.able.Statement.{statement}
+use Rattle.counting.proofs.able.Tie as tie
+
+count-at-requires : tie.Need-count-at-requires
+count-at-requires c κs = search needs
+
+returns : tie.Need-returns
+returns c = takers-none _ _ _ (c .before .before .before .before .args .nodes .now) (c .before .before .before .before .args .at) (c .before .before .before .before .args .size) (sym (c .before .count-at .ensures) ∙ c .if1 .taken)
+
+returns-2 : tie.Need-returns-2
+returns-2 c = c .before .before .count-at .ensures ∙ takers-free _ _ _ _ _ _ (c .if2 .taken)
+
+last-of-requires : tie.Need-last-of-requires
+last-of-requires c κs = search needs
+
+held-requires : tie.Need-held-requires
+held-requires c κs = search needs
+
+returns-3 : tie.Need-returns-3
+returns-3 c = takers-kept _ _ _ _ _ _ _ (c .before .before .before .if2 .left) (c .before .before .last-of .ensures) (sym (not-true _ (c .if3 .taken)) ∙ c .before .held .ensures)
+
+returns-4 : tie.Need-returns-4
+returns-4 c = c .before .before .before .before .before .count-at .ensures ∙ takers-held _ _ _ _ _ _ _ (c .before .before .before .if2 .left) (c .before .before .last-of .ensures) (sym (not-false _ (c .if3 .left)) ∙ c .before .held .ensures)
+
+pub able-spec : {M : Type 1} → statement M
+able-spec =
+    tie.close
+    (tie.spec
+    count-at-requires
+    returns
+    returns-2
+    last-of-requires
+    held-requires
+    returns-3
+    returns-4)

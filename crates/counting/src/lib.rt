@@ -1,0 +1,236 @@
+// From a seating to its counts, and from counts to who may take a statement and what it weighs ("What a card means").
+use card::limits::MOST_BRANCHES;
+use card::limits::MOST_STATES;
+use card::node::ALL;
+use card::node::AND;
+use card::node::EVERYONE;
+use card::node::GROUP;
+use card::node::IS;
+use card::node::NOT;
+use card::node::end_of;
+use card::node::kind_of;
+use card::node::left_of;
+use card::node::op_of;
+use card::node::relation_of;
+use card::node::right_of;
+use card::node::sign_of;
+use card::node::state_of;
+use card::node::units_of;
+use card::refusals::SEAT_ABOVE_TOP;
+use card::refusals::WRONG_SEATS;
+ghost use mathlib.Core.Path.{_≡_};
+ghost use mathlib.Core.List.{map};
+ghost use Prim.Native.Nat.{_+_, _-_, min};
+ghost use lib.ListN.{getD, take, drop};
+ghost use Rattle.card.specs.Limits.{topState, mostBranches};
+ghost use Rattle.card.specs.Laid.{groupOf, guardAt, guardOf, branchOf};
+ghost use Rattle.meaning.specs.Seats.{counts as countsOf};
+ghost use Rattle.meaning.specs.Reduced.{noOf, counterOf, passes as passesAt};
+ghost use Rattle.meaning.specs.ByCounts.{heldAt};
+ghost use Rattle.counting.specs.Judged.{judgedSeats};
+ghost use Rattle.counting.specs.Taking.{takers, unitsToEach};
+
+// Seats that a panel can be made for, or what is wrong with them: a refusal's number and place ("Refusal numbers").
+pub enum Seated {
+    Fine,
+    Refused(u8, usize),
+}
+
+fn wide(x: u8) -> usize
+    ensures { λ r. ⌜ r ≡ x ⌝ }
+{
+    x as usize
+}
+
+// Seats for a card of n seats and top state `top`.
+pub fn judge_seats(seats: &[u8], n: usize, top: usize) -> Seated
+    ensures { λ r. ⌜ r ≡ judgedSeats n top (now (seats .entry)) ⌝ }
+{
+    if seats.len() != n {
+        return Seated::Refused(WRONG_SEATS, 0);
+    }
+    let mut i = 0;
+    while i < seats.len() {
+        let state = wide(seats[i]);
+        if top < state {
+            return Seated::Refused(SEAT_ABOVE_TOP, i);
+        }
+        i += 1;
+    }
+    Seated::Fine
+}
+
+// How many seats are in each state that there can be; any other seat is passed over.
+pub fn count_seats(seats: &[u8]) -> [usize; MOST_STATES]
+    ensures { λ r. ⌜ r ≡ countsOf topState (now (seats .entry)) ⌝ }
+{
+    let mut counts: [usize; MOST_STATES] = [0; MOST_STATES];
+    let mut i = 0;
+    while i < seats.len() {
+        let state = wide(seats[i]);
+        if state < MOST_STATES {
+            counts[state] = counts[state] + 1;
+        }
+        i += 1;
+    }
+    counts
+}
+
+// Where there is no count there stands 0.
+fn count_at(counts: &[usize], d: usize) -> usize
+    ensures { λ r. ⌜ r ≡ noOf (now (counts .entry)) d ⌝ }
+{
+    if d < counts.len() {
+        return counts[d];
+    }
+    0
+}
+
+fn one_less(n: usize) -> usize
+    ensures { λ r. ⌜ r ≡ n - 1 ⌝ }
+{
+    if n == 0 {
+        return 0;
+    }
+    n - 1
+}
+
+// The table of counter tests, place by place: does the group in `node` hold for a seat in state `own`, of n seats?
+fn passes(node: u32, own: usize, n: usize, counts: &[usize]) -> bool
+    ensures { λ r. ⌜ r ≡ passesAt (now (counts .entry)) (counterOf n own (groupOf node)) ⌝ }
+{
+    let kind = kind_of(node);
+    let sign = sign_of(node);
+    let relation = relation_of(node);
+    let d = state_of(node);
+    let no_d = count_at(counts, d);
+    if kind == EVERYONE {
+        if relation == IS {
+            if sign == ALL {
+                return no_d == n;
+            }
+            return 0 < no_d;
+        }
+        if sign == ALL {
+            return no_d == 0;
+        }
+        return no_d < n;
+    }
+    if own == d {
+        if relation == IS {
+            if sign == ALL {
+                return no_d == n;
+            }
+            return 1 < no_d;
+        }
+        if sign == ALL {
+            return no_d == 1;
+        }
+        return no_d < n;
+    }
+    let others = one_less(n);
+    if relation == IS {
+        if sign == ALL {
+            return no_d == others;
+        }
+        return 0 < no_d;
+    }
+    if sign == ALL {
+        return no_d == 0;
+    }
+    no_d < others
+}
+
+// Where there is no node there stands 0.
+fn node_at(nodes: &[u32], n: usize) -> u32
+    ensures { λ r. ⌜ r ≡ getD (now (nodes .entry)) n 0 ⌝ }
+{
+    if n < nodes.len() {
+        return nodes[n];
+    }
+    0
+}
+
+// Does the guard whose root is node `root` hold for a seat in state `own`, of n seats? Node numbers fall.
+pub fn held(nodes: &[u32], root: usize, own: usize, n: usize, counts: &[usize]) -> bool
+    ensures { λ r. ⌜ r ≡ heldAt n own (now (counts .entry)) (guardAt (now (nodes .entry)) root) ⌝ }
+{
+    let node = node_at(nodes, root);
+    let op = op_of(node);
+    if root == 0 {
+        return passes(node, own, n, counts);
+    }
+    if op == GROUP {
+        return passes(node, own, n, counts);
+    }
+    let left = held(nodes, left_of(node, root), own, n, counts);
+    if op == NOT {
+        return !left;
+    }
+    if op == AND {
+        if left {
+            return held(nodes, right_of(node, root), own, n, counts);
+        }
+        return false;
+    }
+    if left {
+        return true;
+    }
+    held(nodes, right_of(node, root), own, n, counts)
+}
+
+// The last of `size` places from `at` on, or any place behind the nodes where that is behind them.
+fn last_of(len: usize, at: usize, size: usize) -> usize
+    ensures { λ r. ⌜ min r len ≡ min (at + (size - 1)) len ⌝ }
+{
+    if len <= at {
+        return len;
+    }
+    let below = one_less(size);
+    if len - at <= below {
+        return len;
+    }
+    at + below
+}
+
+// How many of n seats may take a statement of local state `own` whose guard has `size` nodes from `at` on (0: no guard).
+pub fn able(nodes: &[u32], at: usize, size: usize, own: usize, n: usize, counts: &[usize]) -> usize
+    ensures { λ r. ⌜ r ≡ takers n (now (counts .entry)) own (guardOf (now (nodes .entry)) at size) ⌝ }
+{
+    let no_own = count_at(counts, own);
+    if no_own == 0 {
+        return 0;
+    }
+    if size == 0 {
+        return no_own;
+    }
+    let root = last_of(nodes.len(), at, size);
+    if !held(nodes, root, own, n, counts) {
+        return 0;
+    }
+    no_own
+}
+
+// The units of `size` branches from `at` on, by where they end; no statement has more than MOST_BRANCHES.
+pub fn units_to(branches: &[u32], at: usize, size: usize) -> [usize; MOST_STATES]
+    ensures { λ r. ⌜ r ≡ unitsToEach (map branchOf (take (min size mostBranches) (drop at (now (branches .entry))))) ⌝ }
+{
+    let mut units: [usize; MOST_STATES] = [0; MOST_STATES];
+    let mut i = 0;
+    while i < size {
+        if MOST_BRANCHES <= i {
+            return units;
+        }
+        if branches.len() <= at {
+            return units;
+        }
+        if branches.len() - at <= i {
+            return units;
+        }
+        let branch = branches[at + i];
+        let end = end_of(branch);
+        units[end] = units[end] + units_of(branch) as usize;
+        i += 1;
+    }
+    units
+}

@@ -1,0 +1,9 @@
+pub mod KindLaws
+pub mod Values
+pub mod Next
+pub mod Lists
+pub mod Runs
+pub mod Ranges
+pub mod Numbers
+pub mod Starts
+pub mod Laws

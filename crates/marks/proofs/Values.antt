@@ -1,0 +1,114 @@
+-- The numbers in marks are small: a number of so many digits is below that power of 10.
+use Prim.Native.Nat.{ℕ, zero, suc, _+_, _-_, _*_, _^_, _≤_, _<_}
+use mathlib.Core.Path.{_≡_, refl, sym, ap, _∙_}
+use mathlib.Core.Bool.{Bool, true, false, not, _&&_, _||_, false≢true}
+use mathlib.Core.List.{List, [], _∷_}
+use mathlib.Core.Option.{Option, none, some}
+use native.Mathlib.Nat.{pow-suc, pow-le-pow-right, mul-le-mul-right, mul-assoc, le-trans}
+use native.Mathlib.Omega.{arith}
+use borrow.Author.Tests.{leb-true}
+use lib.Dec.{eqb, leb}
+use lib.ListN.{length, drop}
+use Rattle.card.specs.Limits.{numberDigits, furtherDigits, wordDigits}
+use Rattle.card.specs.Text.{bytes, same, if_then_else_}
+use Rattle.marks.specs.Marks.{Mark, text, seat, process, number, decimal, outside, isDigit, isLetter, isBlank, isSign, inWord, second, run, begins, every, after, valueFrom, plain, numberOf, Start, blank, mark, made, numbered, wordMark, word, pointed, decimalMark, numeralMark, numeral, sign1, sign2, sign, comment, startAt}
+
+-- the numbers in a mark have so many digits at most
+abbrev pub Small : Mark → Type 0
+Small (text s) = Unit {0}
+Small (seat i) = i < 10 ^ wordDigits
+Small (process i) = i < 10 ^ wordDigits
+Small (number v) = v < 10 ^ numberDigits
+Small (decimal v n f) = (v < 10 ^ numberDigits) × (n ≤ furtherDigits) × (f < 10 ^ n)
+Small outside = Unit {0}
+
+and-true : (a b : Bool) → (a && b) ≡ true → (a ≡ true) × (b ≡ true)
+and-true true b e = (refl, e)
+and-true false b e = absurd (false≢true e)
+
+value-below : (v : ℕ) (s : List ℕ) → every isDigit s ≡ true → valueFrom v s < suc v * 10 ^ length s
+value-below v [] e = omega arith
+value-below v (b ∷ s) e =
+    let (d, r) = and-true (isDigit b) (every isDigit s) e in
+    let (lo, hi) = and-true (leb 48 b) (leb b 57) d in
+    let next = value-below (v * 10 + (b - 48)) s r in
+    let top : suc (v * 10 + (b - 48)) ≤ suc v * 10 = omega (arith, leb-true b 57 hi) in
+    let grown = mul-le-mul-right (10 ^ length s) top in
+    let power : suc v * 10 * 10 ^ length s ≡ suc v * (10 * 10 ^ length s) = mul-assoc (suc v) 10 (10 ^ length s) in
+    let last : 10 ^ suc (length s) ≡ 10 * 10 ^ length s = omega (arith, pow-suc 10 (length s)) in
+    rw last (omega (arith, next, grown, power))
+
+run-digits : (p : ℕ → Bool) (s : List ℕ) → every p (run p s) ≡ true
+run-digits p [] = refl
+run-digits p (b ∷ s) = go (p b) refl (run-digits p s)
+  where
+    go : (t : Bool) → p b ≡ t → every p (run p s) ≡ true → every p (if t then b ∷ run p s else []) ≡ true
+    go true e r = rw (e, r)
+    go false e r = refl
+
+plain-below : (most : ℕ) (s : List ℕ) → plain most s ≡ true → valueFrom 0 s < 10 ^ most
+plain-below most [] e = absurd (false≢true e)
+plain-below most (b ∷ s) e =
+    let (x, short) = and-true (every isDigit (b ∷ s) && (not (eqb b 48) || same s [])) (leb (length (b ∷ s)) most) e in
+    let (ds, y) = and-true (every isDigit (b ∷ s)) (not (eqb b 48) || same s []) x in
+    let fits : length (b ∷ s) ≤ most = leb-true (length (b ∷ s)) most short in
+    omega (arith, value-below 0 (b ∷ s) ds, pow-le-pow-right {n = 10} (omega arith) fits)
+
+number-below : (most : ℕ) (s : List ℕ) (v : ℕ) → numberOf most s ≡ some v → v < 10 ^ most
+number-below most s v e = go (plain most s) refl e
+  where
+    go : (b : Bool) → plain most s ≡ b → (if b then some (valueFrom 0 s) else none) ≡ some v → v < 10 ^ most
+    go true q e = let z : valueFrom 0 s ≡ v = cc in rw (← z) (plain-below most s q)
+    go false q e = let z : _≡_ {A = ℕ} 0 1 = cc in absurd (omega arith)
+
+-- ---- whatever starts at a byte
+
+abbrev pub SmallStart : Start → Type 0
+SmallStart (blank more) = Unit {0}
+SmallStart (mark m more) = Small m
+
+choose : (b : Bool) (x y : Start) → SmallStart x → SmallStart y → SmallStart (if b then x else y)
+choose true x y p q = p
+choose false x y p q = q
+
+numbered-small : (f : ℕ → Mark) → ((v : ℕ) → v < 10 ^ wordDigits → Small (f v)) → (o : Option (List ℕ)) (other : Mark) → Small other → Small (numbered f o other)
+numbered-small f h none other k = k
+numbered-small f h (some s) other k = go (numberOf wordDigits s) refl
+  where
+    go : (o : Option ℕ) → numberOf wordDigits s ≡ o → Small (made f o other)
+    go none e = k
+    go (some v) e = h v (number-below wordDigits s v e)
+
+decimal-small : (v more : ℕ) (f : List ℕ) → v < 10 ^ numberDigits → every isDigit f ≡ true → SmallStart (decimalMark v more f)
+decimal-small v more f h d = go (leb (length f) furtherDigits) refl
+  where
+    go : (b : Bool) → leb (length f) furtherDigits ≡ b → SmallStart (if b then mark (decimal v (length f) (valueFrom 0 f)) (more + 1 + length f) else mark outside 0)
+    go true e = (h, leb-true (length f) furtherDigits e, omega (arith, value-below 0 f d))
+    go false e = tt
+
+numeral-small : (more : ℕ) (z : List ℕ) (o : Option ℕ) → ((v : ℕ) → o ≡ some v → v < 10 ^ numberDigits) → SmallStart (numeralMark o more z)
+numeral-small more z none h = tt
+numeral-small more z (some v) h =
+    choose (pointed z) (decimalMark v more (run isDigit (drop 1 z))) (mark (number v) more) (decimal-small v more (run isDigit (drop 1 z)) (h v refl) (run-digits isDigit (drop 1 z))) (h v refl)
+
+sign-small : (a : ℕ) (s : List ℕ) → SmallStart (sign a s)
+sign-small a s = two (second a)
+  where
+    one : SmallStart (sign1 a)
+    one = choose (isSign a) (mark (text (a ∷ [])) 0) (mark outside 0) tt tt
+
+    two : (o : Option ℕ) → SmallStart (sign2 a o s)
+    two none = one
+    two (some b) = choose (begins (eqb b) s) (mark (text (a ∷ b ∷ [])) 1) (sign1 a) tt one
+
+pub start-small : (b : ℕ) (s : List ℕ) → SmallStart (startAt b s)
+start-small b s =
+    choose (isBlank b) (blank 0) _ tt
+    (choose (eqb b 47 && begins (eqb 47) s) (comment s) _ tt
+    (choose (isLetter b) (word b s) _
+    (let w = b ∷ run inWord s in
+    numbered-small seat (λ v h. h) (after (bytes "s") w) (numbered process (after (bytes "process") w) (text w))
+    (numbered-small process (λ v h. h) (after (bytes "process") w) (text w) tt))
+    (choose (isDigit b) (numeral b s) (sign b s)
+    (numeral-small (length (run isDigit s)) (drop (length (run isDigit s)) s) (numberOf numberDigits (b ∷ run isDigit s)) (number-below numberDigits (b ∷ run isDigit s)))
+    (sign-small b s))))

@@ -1,0 +1,4 @@
+pub mod Marks
+pub mod Kinds
+pub mod Step
+pub mod Parts

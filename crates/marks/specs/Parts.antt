@@ -1,0 +1,55 @@
+-- What the parts of a step hand back ("Marks on a card"): where a run ends, the digits of a number, what stands between marks.
+-- Assumes nothing.
+use Prim.Native.Nat.{ℕ, zero, suc, _+_, _-_, _*_, _^_, _≤_}
+use mathlib.Core.Path.{_≡_}
+use mathlib.Core.Bool.{Bool, true, false}
+use mathlib.Core.List.{List, [], _∷_}
+use mathlib.Core.Option.{Option, none, some}
+use lib.Dec.{ltb}
+use lib.ListN.{length, drop}
+use Rattle.card.specs.Text.{if_then_else_}
+use Rattle.marks.specs.Marks.{Mark, run, isDigit, after, valueFrom, numbered, Start, blank, mark}
+use Rattle.marks.specs.declared.Step.{Step}
+use Rattle.marks.specs.declared.number.Digits.{Digits}
+
+-- a mark without numbers, and one with a number, at a place, and the cursor behind it
+abbrev pub valuedOf : ℕ → ℕ → ℕ → ℕ → Step
+valuedOf kind value place next = record { mark = record { kind = kind; value = value; digits = 0; further = 0; place = place }; next = record { at = next } }
+
+abbrev pub bareOf : ℕ → ℕ → ℕ → Step
+bareOf kind place next = valuedOf kind 0 place next
+
+-- the place behind the bytes from i on that pass a test
+abbrev pub runEnd : (ℕ → Bool) → List ℕ → ℕ → ℕ
+runEnd p s i = i + length (run p (drop i s))
+
+-- does a text begin with these bytes?
+abbrev pub isSome : Option (List ℕ) → Bool
+isSome none = false
+isSome (some r) = true
+
+abbrev pub begun : List ℕ → List ℕ → Bool
+begun t s = isSome (after t s)
+
+-- so many digits spell a number that the machine holds
+abbrev pub heldDigits : ℕ
+heldDigits = 18
+
+abbrev pub grownBy : ℕ → ℕ → ℕ
+grownBy v b = if ltb v (10 ^ heldDigits) then v * 10 + (b - 48) else v
+
+-- the digits at the front: how many, and, if they are few enough, the number that they spell
+pub record Counted (s : List ℕ) (d : Digits) : Type 0 where
+  pub count-is : d .count ≡ length (run isDigit s)
+  pub value-is : length (run isDigit s) ≤ heldDigits → d .value ≡ valueFrom 0 (run isDigit s)
+
+-- the word w is the beginning t and a number: then its length and the number, and otherwise 0
+pub record Numbered (t w : List ℕ) (d : Digits) : Type 0 where
+  pub long : (d .count ≡ 0 → ⊥) → d .count ≡ length w
+  pub is-one : (d .count ≡ 0 → ⊥) → (f : ℕ → Mark) (other : Mark) → numbered f (after t w) other ≡ f (d .value)
+  pub is-none : d .count ≡ 0 → (f : ℕ → Mark) (other : Mark) → numbered f (after t w) other ≡ other
+
+-- how many bytes a blank or a comment takes; none where a mark starts
+abbrev pub gapOf : Start → ℕ
+gapOf (blank more) = suc more
+gapOf (mark m more) = 0

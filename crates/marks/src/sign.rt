@@ -1,0 +1,68 @@
+// Signs, the longest first ("Marks on a card"), and what stands between marks.
+ghost use mathlib.Core.Path.{_≡_};
+ghost use Prim.Native.Nat.{ℕ, _+_, _<_};
+ghost use lib.ListN.{length, drop, getD};
+ghost use Rattle.marks.specs.Marks.{startAt, sign as signOf};
+ghost use Rattle.marks.specs.Step.{stepped};
+ghost use Rattle.marks.specs.Parts.{gapOf};
+ghost use Rattle.marks.specs.declared.Step as step;
+use crate::Step;
+use crate::answer::bare;
+use crate::bytes::is_blank;
+use crate::bytes::is_sign;
+use crate::bytes::line_end;
+use crate::bytes::stands;
+use crate::kinds::ARROW;
+use crate::kinds::DOTS;
+use crate::kinds::NOT;
+use crate::kinds::NOT_EQUAL;
+use crate::kinds::OUTSIDE;
+
+// The mark that starts with the byte b at a place, which is no letter and no digit.
+pub fn sign(card: &[u8], at: usize, b: u8) -> Step
+    requires { ⌜ at < length (now card) ⌝ }
+    ensures { λ r. ⌜ ((k : ℕ → step.Step) → r ≡ stepped at (signOf b (drop (at + 1) (now (card .entry)))) k) ⌝ }
+{
+    let next = at + 1;
+    if b == 33 {
+        if stands(card, next, 61) {
+            return bare(NOT_EQUAL, at, next + 1);
+        }
+        return bare(NOT, at, next);
+    }
+    if is_sign(b) {
+        return bare(b, at, next);
+    }
+    if b == 46 {
+        if stands(card, next, 46) {
+            return bare(DOTS, at, next + 1);
+        }
+        return bare(OUTSIDE, at, next);
+    }
+    if b == 45 {
+        if stands(card, next, 62) {
+            return bare(ARROW, at, next + 1);
+        }
+        return bare(OUTSIDE, at, next);
+    }
+    bare(OUTSIDE, at, next)
+}
+
+// How many bytes the blank or the comment at a place takes; none where a mark starts.
+pub fn gap(card: &[u8], at: usize, b: u8) -> usize
+    requires { ⌜ at < length (now card) ⌝ }
+    ensures { λ r. ⌜ r ≡ gapOf (startAt b (drop (at + 1) (now (card .entry)))) ⌝ }
+{
+    if is_blank(b) {
+        return 1;
+    }
+    if b == 47 {
+        let next = at + 1;
+        if stands(card, next, 47) {
+            let end = line_end(card, next);
+            return end - at;
+        }
+        return 0;
+    }
+    0
+}

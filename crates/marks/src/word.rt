@@ -1,0 +1,109 @@
+// Words ("Marks on a card"): seat words, module words, keywords and others, compared with fixed byte strings.
+ghost use mathlib.Core.Path.{_≡_};
+ghost use mathlib.Core.Bool.{true};
+ghost use Prim.Native.Nat.{ℕ, _+_, _<_, _≤_};
+ghost use lib.ListN.{length, drop, getD};
+ghost use Rattle.marks.specs.Marks.{run, inWord, isLetter, every, word as wordOf};
+ghost use Rattle.marks.specs.Kinds.{knowns, kindIn};
+ghost use Rattle.marks.specs.Step.{stepped};
+ghost use Rattle.marks.specs.Parts.{Numbered};
+ghost use Rattle.marks.specs.declared.Step as step;
+use crate::Step;
+use crate::answer::bare;
+use crate::answer::valued;
+use crate::bytes::begins_at;
+use crate::bytes::word_at;
+use crate::bytes::word_end;
+use crate::kinds::ENDMODULE;
+use crate::kinds::INIT;
+use crate::kinds::MODULE;
+use crate::kinds::NONDETERMINISTIC;
+use crate::kinds::PROBABILISTIC;
+use crate::kinds::PROCESS;
+use crate::kinds::SEAT;
+use crate::kinds::WORD;
+use crate::number::Digits;
+use crate::number::digits_from;
+use crate::number::is_plain;
+use card::limits::WORD_DIGITS;
+
+// Is the word at a place this beginning and a number? Then its length and the number, and otherwise 0.
+fn numbered_at(card: &[u8], at: usize, these: &[u8]) -> Digits
+    requires { ⌜ (at ≤ length (now card)) × (every inWord (now these) ≡ true) ⌝ }
+    ensures { λ r. ⌜ Numbered (now (these .entry)) (run inWord (drop at (now (card .entry)))) r ⌝ }
+{
+    if !begins_at(card, at, these) {
+        return Digits { count: 0, value: 0 };
+    }
+    let from = at + these.len();
+    let d = digits_from(card, from);
+    let count = d.count;
+    if !is_plain(card, from, count, WORD_DIGITS) {
+        return Digits { count: 0, value: 0 };
+    }
+    if word_at(card, from + count) {
+        return Digits { count: 0, value: 0 };
+    }
+    Digits {
+        count: these.len() + count,
+        value: d.value,
+    }
+}
+
+// The kind of a word of this size: the keywords of that size are compared.
+fn keyword(card: &[u8], at: usize, size: usize) -> u8
+    requires { ⌜ (at < length (now card)) × (isLetter (getD (now card) at 0) ≡ true) × (size ≡ length (run inWord (drop at (now card)))) ⌝ }
+    ensures { λ r. ⌜ r ≡ kindIn knowns (run inWord (drop at (now (card .entry)))) ⌝ }
+{
+    if size == 4 {
+        if begins_at(card, at, b"init") {
+            return INIT;
+        }
+        return WORD;
+    }
+    if size == 6 {
+        if begins_at(card, at, b"module") {
+            return MODULE;
+        }
+        return WORD;
+    }
+    if size == 9 {
+        if begins_at(card, at, b"endmodule") {
+            return ENDMODULE;
+        }
+        return WORD;
+    }
+    if size == 13 {
+        if begins_at(card, at, b"probabilistic") {
+            return PROBABILISTIC;
+        }
+        return WORD;
+    }
+    if size == 16 {
+        if begins_at(card, at, b"nondeterministic") {
+            return NONDETERMINISTIC;
+        }
+        return WORD;
+    }
+    WORD
+}
+
+// The mark that starts with the letter at a place.
+pub fn word(card: &[u8], at: usize) -> Step
+    requires { ⌜ (at < length (now card)) × (isLetter (getD (now card) at 0) ≡ true) ⌝ }
+    ensures { λ r. ⌜ ((k : ℕ → step.Step) → r ≡ stepped at (wordOf (getD (now (card .entry)) at 0) (drop (at + 1) (now (card .entry)))) k) ⌝ }
+{
+    let s = numbered_at(card, at, b"s");
+    let seat = s.count;
+    if seat != 0 {
+        return valued(SEAT, s.value, at, at + seat);
+    }
+    let p = numbered_at(card, at, b"process");
+    let process = p.count;
+    if process != 0 {
+        return valued(PROCESS, p.value, at, at + process);
+    }
+    let end = word_end(card, at);
+    let kind = keyword(card, at, end - at);
+    bare(kind, at, end)
+}

@@ -1,0 +1,2 @@
+pub mod Phrases
+pub mod Puts

@@ -1,0 +1,53 @@
+// Texts that several entries print: the mode, and weights in lowest terms ("Texts, byte for byte").
+use card::weight::Weight;
+use room::put_byte;
+use room::put_bytes;
+use room::put_number;
+ghost use mathlib.Core.Path.{_≡_};
+ghost use Prim.Native.Nat.{ℕ, _<_, _≤_};
+ghost use Rattle.card.specs.Limits.{unit};
+ghost use Rattle.card.specs.Card.{nondeterministic, probabilistic};
+ghost use Rattle.card.specs.Laid.{either};
+ghost use Rattle.phrases.specs.Phrases.{divisor as divisorOf, modeText, weightText};
+ghost use Rattle.phrases.specs.Puts.{Puts};
+
+// The mode by its number in a card's struct: 0 is nondeterministic.
+pub fn put_mode(room: &mut [u8], at: usize, mode: usize) -> usize
+    ensures { λ r. ⌜ Puts (now (room .entry)) (now (room .exit)) at (modeText (either nondeterministic probabilistic mode)) r ⌝ }
+{
+    if mode == 0 {
+        return put_bytes(room, at, b"nondeterministic");
+    }
+    put_bytes(room, at, b"probabilistic")
+}
+
+// The greatest number that divides both the unit and `units`.
+fn divisor(units: u32) -> u32
+    requires { ⌜ units ≤ unit ⌝ }
+    ensures { λ r. ⌜ (r ≡ divisorOf units) × (0 < r) ⌝ }
+{
+    let mut a = Weight::UNIT;
+    let mut b = units;
+    while b != 0 {
+        let rest = a % b;
+        a = b;
+        b = rest;
+    }
+    a
+}
+
+// A weight in lowest terms; units beyond the unit are not a weight, and are put as the unit.
+pub fn put_weight(room: &mut [u8], at: usize, units: u32) -> usize
+    ensures { λ r. ⌜ Puts (now (room .entry)) (now (room .exit)) at (weightText units) r ⌝ }
+{
+    if units == 0 {
+        return put_byte(room, at, b'0');
+    }
+    if Weight::UNIT <= units {
+        return put_byte(room, at, b'1');
+    }
+    let by = divisor(units);
+    let a = put_number(room, at, (units / by) as usize);
+    let b = put_byte(room, a, b'/');
+    put_number(room, b, (Weight::UNIT / by) as usize)
+}

@@ -1,0 +1,21 @@
+-- The written card, by citing. Assumes nothing.
+use mathlib.Core.Path.{_≡_, sym, ap, _∙_}
+use Rattle.reading.specs.Reading.{taken}
+use Rattle.phrases.proofs.Lowest.{lowest-terms, lowest-kept}
+use Rattle.writer.specs.Writing.{writeOf}
+use Rattle.rereading.proofs.RoundTrip.{round-trip, written-once, read-again}
+use Rattle.card.specs.Card.{Card}
+use Rattle.promises.specs.Writings.{Writings}
+
+same-taken : (c d : Card) → taken c ≡ taken d → c ≡ d
+same-taken c d e = cc
+
+pub writings : Writings
+writings = record {
+  again = read-again;
+  round-trip = round-trip;
+  canonical = λ c d v w. ((λ e. ap writeOf e), written-once c d v w);
+  settled = λ s c d e h f. ap writeOf (sym (same-taken c d (sym (read-again s c e h) ∙ f)));
+  lowest-terms = lowest-terms;
+  worth = lowest-kept;
+}

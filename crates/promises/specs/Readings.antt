@@ -1,0 +1,25 @@
+-- Demand 2, its first half: which bytes are a card, which card they are, and which refusal is given where ("Marks on a card", "Shape of a
+-- card", "Refusal numbers"). The words on the right are in `reading/specs/Verdicts.antt`. Assumes nothing.
+use Prim.Native.Nat.{ℕ}
+use mathlib.Core.Path.{_≡_}
+use mathlib.Core.Logic.{_↔_}
+use mathlib.Core.List.{List}
+use Rattle.card.specs.Card.{Card}
+use Rattle.card.specs.Valid.{ValidCard}
+use Rattle.card.specs.Refusals.{tooLong, outsideRules, outOfShape, pastLimit, aboveTop, notDue, wrongWeight}
+use Rattle.reading.specs.Reading.{taken, refused, readOf}
+use Rattle.reading.specs.Verdicts.{Accepted, TooLong, OutsideRules, OutOfShape, PastLimit, Broken}
+
+pub record Readings : Type 0 where
+  -- a card is taken exactly when its marks have the grammar's shape within the limits and keep the rules; and it is the grammar's card
+  pub accepted : (s : List ℕ) (c : Card) → (readOf s ≡ taken c) ↔ Accepted s c
+  -- it is then valid: within all limits, its states at most k, its groups symmetric, its weights adding up
+  pub valid : (s : List ℕ) (c : Card) → readOf s ≡ taken c → ValidCard c
+  -- each row of the table of refusals
+  pub row-1 : (s : List ℕ) (p : ℕ) → (readOf s ≡ refused tooLong p) ↔ TooLong s p
+  pub row-2 : (s : List ℕ) (p : ℕ) → (readOf s ≡ refused outsideRules p) ↔ OutsideRules s p
+  pub row-3 : (s : List ℕ) (p : ℕ) → (readOf s ≡ refused outOfShape p) ↔ OutOfShape s p
+  pub row-4 : (s : List ℕ) (p : ℕ) → (readOf s ≡ refused pastLimit p) ↔ PastLimit s p
+  pub row-5 : (s : List ℕ) (p : ℕ) → (readOf s ≡ refused aboveTop p) ↔ Broken aboveTop s p
+  pub row-6 : (s : List ℕ) (p : ℕ) → (readOf s ≡ refused notDue p) ↔ Broken notDue s p
+  pub row-7 : (s : List ℕ) (p : ℕ) → (readOf s ≡ refused wrongWeight p) ↔ Broken wrongWeight s p

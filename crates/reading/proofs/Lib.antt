@@ -1,0 +1,15 @@
+pub mod Examples
+pub mod Through
+pub mod Follows
+pub mod Steady
+pub mod Exact
+pub mod Rising
+pub mod Shaping
+pub mod Symmetry
+pub mod Ruling
+pub mod Along
+pub mod Ordered
+pub mod Reasons
+pub mod Fair
+pub mod Valid
+pub mod Theorems

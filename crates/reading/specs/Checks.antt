@@ -1,0 +1,74 @@
+-- What refusals 5, 6 and 7 judge on a whole card, in the order of the text, and the card itself, once nothing is broken
+-- ("Refusal numbers", "Shape of a card"). Assumes nothing.
+use Prim.Native.Nat.{ℕ, zero, suc}
+use mathlib.Core.List.{List, [], _∷_, _++_, map}
+use mathlib.Core.Option.{Option, none, some}
+use lib.ListN.{length}
+use Rattle.card.specs.Card.{Formula, Guard, Branch, Statement, Card}
+use Rattle.card.specs.Weight.{Weight}
+use Rattle.reading.specs.Reader.{Numbered}
+use Rattle.reading.specs.Group.{Literals}
+use Rattle.reading.specs.Judgements.{Judgement, state, word, weight, sum, unitsIn, judgedGuard, guardIn}
+use Rattle.reading.specs.Shape.{BranchShape, StatementShape, CardShape}
+
+abbrev pub judgedState : Numbered → Judgement
+judgedState x = state (x .value) (x .place)
+
+-- the words of a run, and the numbers due in them
+abbrev pub judgedWords : List ℕ → List Numbered → List Judgement
+judgedWords [] ws = []
+judgedWords (due ∷ dues) [] = []
+judgedWords (due ∷ dues) (w ∷ ws) = word due (w .value) (w .place) ∷ judgedWords dues ws
+
+abbrev pub judgedBranch : BranchShape → List Judgement
+judgedBranch b = weight (b .weight) (b .place) ∷ (judgedWords (1 ∷ []) (b .words) ++ (judgedState (b .end) ∷ []))
+
+abbrev pub judgedEach : {A : Type 0} → (A → List Judgement) → List A → List Judgement
+judgedEach f [] = []
+judgedEach f (x ∷ xs) = f x ++ judgedEach f xs
+
+abbrev pub judgedOr : Option (Formula Literals) → List Judgement
+judgedOr none = []
+judgedOr (some g) = judgedGuard g
+
+abbrev pub weightIn : BranchShape → Weight
+weightIn b = b .weight
+
+abbrev pub judgedStatement : StatementShape → List Judgement
+judgedStatement x =
+    judgedWords (1 ∷ []) (x .words)
+    ++ (judgedState (x .own)
+    ∷ (judgedOr (x .guard)
+    ++ (judgedEach judgedBranch (x .branches)
+    ++ (sum (map weightIn (x .branches)) (x .close) ∷ []))))
+
+-- module processi = process1 [s1=si, si=s1] endmodule, from i on
+abbrev pub judgedModules : ℕ → List (List Numbered) → List Judgement
+judgedModules i [] = []
+judgedModules i (m ∷ ms) = judgedWords (i ∷ 1 ∷ 1 ∷ i ∷ i ∷ 1 ∷ []) m ++ judgedModules (suc i) ms
+
+abbrev pub judgedCard : CardShape → List Judgement
+judgedCard c =
+    judgedWords (1 ∷ 1 ∷ []) (c .words)
+    ++ (judgedState (c .l)
+    ∷ (judgedEach judgedStatement (c .statements)
+    ++ judgedModules 2 (c .modules)))
+
+-- ---- the card
+
+abbrev pub branchIn : BranchShape → Branch
+branchIn b = record { units = unitsIn (b .weight); end = b .end .value }
+
+abbrev pub guardOr : ℕ → Option (Formula Literals) → Option Guard
+guardOr n none = none
+guardOr n (some g) = some (guardIn n g)
+
+abbrev pub statementIn : ℕ → StatementShape → Statement
+statementIn n x = record { own = x .own .value; guard = guardOr n (x .guard); branches = map branchIn (x .branches) }
+
+-- n is the number of modules
+abbrev pub seatsIn : CardShape → ℕ
+seatsIn c = suc (length (c .modules))
+
+abbrev pub cardIn : CardShape → Card
+cardIn c = record { mode = c .mode; n = seatsIn c; k = c .k; l = c .l .value; statements = map (statementIn (seatsIn c)) (c .statements) }

@@ -1,0 +1,77 @@
+-- A group of literals as it stands on a card ("Shape of a card"). Assumes nothing.
+use Prim.Native.Nat.{ℕ, zero, suc}
+use Prim.Native.String.{String}
+use mathlib.Core.Bool.{Bool, true, false}
+use mathlib.Core.List.{List, [], _∷_}
+use mathlib.Core.Option.{Option, none, some}
+use lib.ListN.{length}
+use Rattle.card.specs.Text.{bytes, if_then_else_}
+use Rattle.card.specs.Refusals.{pastLimit}
+use Rattle.card.specs.Card.{Sign, all, any, Relation, is as eq, isnt as ne}
+use Rattle.marks.specs.Marks.{Mark, Placed}
+use Rattle.reading.specs.Reader.{Place, State, at, Result, ok, stop, Reader, bind, _>>=_, _>>_, return, refuse, the, is, ifNext, sign, seatOf, numberOf, here}
+
+abbrev pub joint : Sign → String
+joint all = "&"
+joint any = "|"
+
+abbrev pub relation : Relation → String
+relation eq = "="
+relation ne = "!="
+
+-- si=d or si!=d; the place is d's
+pub record Literal : Type 0 where
+  pub seat : ℕ
+  pub relation : Relation
+  pub d : ℕ
+  pub place : Place
+
+abbrev pub literalOf : ℕ → Relation → ℕ → Place → Literal
+literalOf i q d p = record { seat = i; relation = q; d = d; place = p }
+
+-- the place is the bracket's
+pub record Literals : Type 0 where
+  pub place : Place
+  pub sign : Sign
+  pub literals : List Literal
+
+abbrev pub literalsOf : Place → Sign → List Literal → Literals
+literalsOf p s ls = record { place = p; sign = s; literals = ls }
+
+abbrev pub relationOf : Mark → Option Relation
+relationOf m = if is "=" m then some eq else (if is "!=" m then some ne else none)
+
+abbrev pub literal : Reader Literal
+literal = do
+  i ← the seatOf
+  q ← the relationOf
+  p ← here
+  d ← the numberOf
+  return (literalOf i q d p)
+
+-- after a literal: others, each after the sign, then the closing bracket; `most` is the number of marks left, and is never met
+abbrev pub others : String → ℕ → Reader (List Literal)
+others t zero =
+    ifNext t (refuse pastLimit)
+    (do
+      sign ")"
+      return [])
+others t (suc most) =
+    ifNext t
+    (do
+      sign t
+      l ← literal
+      ls ← others t most
+      return (l ∷ ls))
+    (do
+      sign ")"
+      return [])
+
+-- behind the bracket, which is at p; one literal alone counts as joined by `&`
+abbrev pub group : Place → Reader Literals
+group p = do
+  l ← literal
+  rest ← here
+  s ← ifNext (joint any) (return any) (return all)
+  ls ← others (joint s) (length rest)
+  return (literalsOf p s (l ∷ ls))

@@ -1,0 +1,84 @@
+-- The shape of a guard ("Shape of a card"), over any reader of a group. Assumes nothing.
+use Prim.Native.Nat.{ℕ, zero, suc}
+use Prim.Native.String.{String}
+use mathlib.Core.Bool.{Bool, true, false}
+use mathlib.Core.List.{List, [], _∷_}
+use mathlib.Core.Option.{Option, none, some}
+use Rattle.card.specs.Limits.{mostNodes}
+use Rattle.card.specs.Refusals.{pastLimit}
+use Rattle.card.specs.Text.{if_then_else_}
+use Rattle.card.specs.Card.{Formula, atom, neg, and, or}
+use Rattle.marks.specs.Marks.{Mark, Placed, placed}
+use Rattle.reading.specs.Reader.{Place, State, at, Result, ok, stop, Reader, bind, _>>=_, _>>_, return, refuse, refuseAt, is, nextIs, ifNext, sign, seatOf, here, nodeAt, node}
+
+abbrev pub isSome : {A : Type 0} → Option A → Bool
+isSome none = false
+isSome (some a) = true
+
+abbrev pub seatNext : Place → Bool
+seatNext [] = false
+seatNext (placed m p ∷ ms) = isSome (seatOf m)
+
+-- the one reader if a seat word follows, else the other
+abbrev pub ifSeat : {A : Type 0} → Reader A → Reader A → Reader A
+ifSeat p q = λ s. (if seatNext (s .marks) then p else q) s
+
+abbrev pub Read : Type 0 → Type 0
+Read A = Reader (Formula A)
+
+module _ {A : Type 0} where
+  -- what was read so far, then as often as the sign follows the sign and an operand: joined to the left
+  abbrev pub chain : String → (Formula A → Formula A → Formula A) → Read A → ℕ → Formula A → Read A
+  chain t join operand zero g = ifNext t (refuse pastLimit) (return g)
+  chain t join operand (suc most) g =
+      ifNext t
+      (do
+        node
+        sign t
+        h ← operand
+        chain t join operand most (join g h))
+      (return g)
+
+  -- each sign is a node, so there are at most as many
+  abbrev pub conjunction : Read A → Read A
+  conjunction unary = do
+    g ← unary
+    chain "&" and unary mostNodes g
+
+  -- `&` binds before `|`
+  abbrev pub expression : Read A → Read A
+  expression unary = do
+    g ← conjunction unary
+    chain "|" or (conjunction unary) mostNodes g
+
+  -- the group's reader gets the place of the bracket, and begins behind it
+  module _ (group : Place → Reader A) where
+    abbrev pub grouped : Place → Read A
+    grouped p = do
+      nodeAt p
+      a ← group p
+      return (atom a)
+
+    -- with so many open brackets and `!` left
+    abbrev pub unary : ℕ → Read A
+    unary zero =
+        ifNext "!" (refuse pastLimit)
+        (do
+          p ← here
+          sign "("
+          ifSeat (grouped p) (refuseAt pastLimit p))
+    unary (suc depth) =
+        ifNext "!"
+        (do
+          node
+          sign "!"
+          g ← unary depth
+          return (neg g))
+        (do
+          p ← here
+          sign "("
+          ifSeat (grouped p)
+              (do
+                g ← expression (unary depth)
+                sign ")"
+                return g))

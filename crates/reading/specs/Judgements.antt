@@ -1,0 +1,133 @@
+-- What refusals 5, 6 and 7 judge on a card of the right shape, and how ("Refusal numbers", "Shape of a card"). Assumes nothing.
+use Prim.Native.Nat.{ℕ, zero, suc, _+_, _-_}
+use mathlib.Core.Bool.{Bool, true, false, _&&_, _||_}
+use mathlib.Core.List.{List, [], _∷_, _++_}
+use mathlib.Core.Option.{Option, none, some}
+use lib.Dec.{eqb, leb}
+use lib.ListN.{length}
+use Rattle.card.specs.Limits.{unit}
+use Rattle.card.specs.Refusals.{aboveTop, notDue, wrongWeight}
+use Rattle.card.specs.Text.{if_then_else_}
+use Rattle.card.specs.Card.{Kind, everyone, others, Sign, all, any, Relation, is, isnt, Group, group, Formula, atom, neg, and, or, Guard}
+use Rattle.card.specs.Weight.{Weight, cardRule, unitsOf}
+use Rattle.reading.specs.Reader.{Place}
+use Rattle.reading.specs.Guard.{isSome}
+use Rattle.reading.specs.Group.{Literal, Literals}
+
+-- ---- symmetric groups
+
+abbrev pub has : ℕ → List Literal → Bool
+has i [] = false
+has i (l ∷ ls) = eqb (l .seat) i || has i ls
+
+-- each of the c seats from i on
+abbrev pub hasFrom : ℕ → ℕ → List Literal → Bool
+hasFrom i zero ls = true
+hasFrom i (suc c) ls = has i ls && hasFrom (suc i) c ls
+
+-- as many literals as seats, and each seat among them: each once
+abbrev pub once : ℕ → ℕ → List Literal → Bool
+once i c ls = eqb (length ls) c && hasFrom i c ls
+
+-- seats 1 to n once each, or 2 to n once each
+abbrev pub kindOf : ℕ → List Literal → Option Kind
+kindOf n ls = if once 1 n ls then some everyone else (if once 2 (n - 1) ls then some others else none)
+
+abbrev pub sameRelation : Relation → Relation → Bool
+sameRelation is is = true
+sameRelation is isnt = false
+sameRelation isnt is = false
+sameRelation isnt isnt = true
+
+-- one relation and one d
+abbrev pub alike : Literal → List Literal → Bool
+alike l [] = true
+alike l (x ∷ ls) = sameRelation (l .relation) (x .relation) && eqb (l .d) (x .d) && alike l ls
+
+abbrev pub symmetric : ℕ → List Literal → Bool
+symmetric n [] = false
+symmetric n (l ∷ ls) = alike l ls && isSome (kindOf n (l ∷ ls))
+
+-- ---- what is judged, and where
+
+pub data Judgement : Type 0 where
+  state : ℕ → Place → Judgement  -- l, j, d or t
+  word : ℕ → ℕ → Place → Judgement  -- the number due in a word, and the one that stands there
+  oneGroup : Literals → Judgement
+  weight : Weight → Place → Judgement
+  sum : List Weight → Place → Judgement  -- a statement's weights; its `;`
+
+abbrev pub placeIn : Judgement → Place
+placeIn (state v p) = p
+placeIn (word due was p) = p
+placeIn (oneGroup g) = g .place
+placeIn (weight w p) = p
+placeIn (sum ws p) = p
+
+abbrev pub orZero : Option ℕ → ℕ
+orZero none = 0
+orZero (some u) = u
+
+-- a weight in units; one that breaks its rule counts nothing
+abbrev pub unitsIn : Weight → ℕ
+unitsIn w = orZero (unitsOf cardRule w)
+
+abbrev pub totalUnits : List Weight → ℕ
+totalUnits [] = 0
+totalUnits (w ∷ ws) = unitsIn w + totalUnits ws
+
+abbrev pub unless : Bool → ℕ → Option ℕ
+unless true r = none
+unless false r = some r
+
+-- the refusal due to it on a card of n seats with top state k, if any
+abbrev pub broken : ℕ → ℕ → Judgement → Option ℕ
+broken n k (state v p) = unless (leb v k) aboveTop
+broken n k (word due was p) = unless (eqb was due) notDue
+broken n k (oneGroup g) = unless (symmetric n (g .literals)) notDue
+broken n k (weight w p) = unless (isSome (unitsOf cardRule w)) wrongWeight
+broken n k (sum ws p) = unless (eqb (totalUnits ws) unit) wrongWeight
+
+-- the first that is broken: its refusal and its place
+pub data Verdict : Type 0 where
+  fine : Verdict
+  wrong : ℕ → Place → Verdict
+
+abbrev pub orElse : Option ℕ → Place → Verdict → Verdict
+orElse none p v = v
+orElse (some r) p v = wrong r p
+
+abbrev pub firstBroken : ℕ → ℕ → List Judgement → Verdict
+firstBroken n k [] = fine
+firstBroken n k (j ∷ js) = orElse (broken n k j) (placeIn j) (firstBroken n k js)
+
+-- ---- of a guard, in the order of the text: each group, then its first d
+
+abbrev pub firstState : List Literal → List Judgement
+firstState [] = []
+firstState (l ∷ ls) = state (l .d) (l .place) ∷ []
+
+abbrev pub judgedGroup : Literals → List Judgement
+judgedGroup g = oneGroup g ∷ firstState (g .literals)
+
+abbrev pub judgedGuard : Formula Literals → List Judgement
+judgedGuard (atom g) = judgedGroup g
+judgedGuard (neg g) = judgedGuard g
+judgedGuard (and g h) = judgedGuard g ++ judgedGuard h
+judgedGuard (or g h) = judgedGuard g ++ judgedGuard h
+
+-- ---- and the guard itself, once nothing is broken
+
+abbrev pub orEveryone : Option Kind → Kind
+orEveryone none = everyone
+orEveryone (some kind) = kind
+
+abbrev pub groupIn : ℕ → Sign → List Literal → Group
+groupIn n s [] = group everyone s is 0
+groupIn n s (l ∷ ls) = group (orEveryone (kindOf n (l ∷ ls))) s (l .relation) (l .d)
+
+abbrev pub guardIn : ℕ → Formula Literals → Guard
+guardIn n (atom g) = atom (groupIn n (g .sign) (g .literals))
+guardIn n (neg g) = neg (guardIn n g)
+guardIn n (and g h) = and (guardIn n g) (guardIn n h)
+guardIn n (or g h) = or (guardIn n g) (guardIn n h)

@@ -1,0 +1,11 @@
+pub mod Reader
+pub mod Guard
+pub mod Group
+pub mod Judgements
+pub mod Shape
+pub mod Checks
+pub mod Reading
+pub mod Grammar
+pub mod Counted
+pub mod Rules
+pub mod Verdicts

@@ -1,0 +1,49 @@
+-- Reading a card: refusals 1 to 7 in their order, or the card ("Refusal numbers"). Assumes nothing.
+use Prim.Native.Nat.{ℕ, zero}
+use mathlib.Core.Bool.{Bool, true, false}
+use mathlib.Core.List.{List, [], _∷_}
+use mathlib.Core.Option.{Option, none, some}
+use lib.Dec.{leb}
+use lib.ListN.{length}
+use Rattle.card.specs.Limits.{cardBytes}
+use Rattle.card.specs.Refusals.{tooLong, outsideRules}
+use Rattle.card.specs.Text.{if_then_else_}
+use Rattle.card.specs.Card.{Card}
+use Rattle.marks.specs.Marks.{Mark, text, seat, process, number, decimal, outside, Placed, placed, marksOf, placeOf}
+use Rattle.reading.specs.Reader.{Place, State, at, Result, ok, stop}
+use Rattle.reading.specs.Judgements.{Verdict, fine, wrong, firstBroken}
+use Rattle.reading.specs.Shape.{CardShape, card}
+use Rattle.reading.specs.Checks.{judgedCard, seatsIn, cardIn}
+
+pub data Outcome : Type 0 where
+  taken : Card → Outcome
+  refused : ℕ → ℕ → Outcome
+
+-- the first mark outside the rules
+abbrev pub isOutside : Mark → Bool
+isOutside (text s) = false
+isOutside (seat i) = false
+isOutside (process i) = false
+isOutside (number v) = false
+isOutside (decimal v n f) = false
+isOutside outside = true
+
+abbrev pub firstOutside : List Placed → Option ℕ
+firstOutside [] = none
+firstOutside (placed m p ∷ ms) = if isOutside m then some p else firstOutside ms
+
+-- e is the card's length
+abbrev pub judged : ℕ → Card → Verdict → Outcome
+judged e c fine = taken c
+judged e c (wrong r p) = refused r (placeOf e p)
+
+abbrev pub shaped : ℕ → Result CardShape → Outcome
+shaped e (ok c _) = judged e (cardIn c) (firstBroken (seatsIn c) (c .k) (judgedCard c))
+shaped e (stop r p) = refused r (placeOf e p)
+
+abbrev pub marked : ℕ → List Placed → Option ℕ → Outcome
+marked e ms none = shaped e (card (at ms zero))
+marked e ms (some p) = refused outsideRules p
+
+unfoldable pub readOf : List ℕ → Outcome
+readOf s = if leb (length s) cardBytes then marked (length s) (marksOf s) (firstOutside (marksOf s)) else refused tooLong 0

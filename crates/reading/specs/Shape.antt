@@ -1,0 +1,192 @@
+-- The shape of a card ("Shape of a card"), with its limits ("What the box holds"). Assumes nothing.
+use Prim.Native.Nat.{ℕ, zero, suc, _-_}
+use Prim.Native.String.{String}
+use mathlib.Core.Bool.{Bool, true, false}
+use mathlib.Core.List.{List, [], _∷_}
+use mathlib.Core.Option.{Option, none, some}
+use lib.Dec.{eqb, leb}
+use Rattle.card.specs.Limits.{mostSeats, topState, mostStatements, mostBranches, mostNodes, mostDepth}
+use Rattle.card.specs.Refusals.{outOfShape, pastLimit}
+use Rattle.card.specs.Text.{bytes, if_then_else_}
+use Rattle.card.specs.Card.{Mode, nondeterministic, probabilistic, Formula}
+use Rattle.card.specs.Weight.{Weight, whole, decimal as point, ratio}
+use Rattle.marks.specs.Marks.{Mark, text, seat, process, number, decimal, outside, Placed, placed}
+use Rattle.reading.specs.Reader.{Place, State, at, Result, ok, stop, Reader, bind, _>>=_, _>>_, return, refuse, refuseAt, the, is, ifNext, sign, seatOf, processOf, numberOf, here, Numbered, numbered, Item, exactly, seatWord, processWord, line}
+use Rattle.reading.specs.Guard.{isSome, conjunction, unary}
+use Rattle.reading.specs.Group.{Literals, group}
+
+-- ---- what stands on a card of the right shape, and where
+
+pub record BranchShape : Type 0 where
+  pub place : Place
+  pub weight : Weight
+  pub words : List Numbered  -- its seat word
+  pub end : Numbered
+
+pub record StatementShape : Type 0 where
+  pub words : List Numbered  -- its seat word
+  pub own : Numbered
+  pub guard : Option (Formula Literals)
+  pub branches : List BranchShape
+  pub close : Place
+
+pub record CardShape : Type 0 where
+  pub mode : Mode
+  pub words : List Numbered  -- the module's word and the seat's
+  pub k : ℕ
+  pub l : Numbered
+  pub statements : List StatementShape
+  pub modules : List (List Numbered)  -- the six words of each further module
+
+-- ---- counted repetition: as often as a thing starts, and then one past the most is refused
+
+abbrev pub many : {A : Type 0} → ℕ → String → Reader A → Reader (List A) → Reader (List A)
+many zero t one past = ifNext t past (return [])
+many (suc most) t one past =
+    ifNext t
+    (do
+      x ← one
+      xs ← many most t one past
+      return (x ∷ xs))
+    (return [])
+
+-- ---- branches
+
+abbrev pub weightOf : Mark → Option Weight
+weightOf (text s) = none
+weightOf (seat i) = none
+weightOf (process i) = none
+weightOf (number v) = some (whole v)
+weightOf (decimal v n f) = some (point v n f)
+weightOf outside = none
+
+-- a number, two numbers with `/` between, or a decimal
+abbrev pub over : Weight → Reader Weight
+over (whole a) =
+    ifNext "/"
+    (do
+      sign "/"
+      b ← the numberOf
+      return (ratio a b))
+    (return (whole a))
+over (point v n f) = return (point v n f)
+over (ratio a b) = return (ratio a b)
+
+abbrev pub weight : Reader Weight
+weight = do
+  w ← the weightOf
+  over w
+
+abbrev pub branch : Reader BranchShape
+branch = do
+  p ← here
+  w ← weight
+  ws ← line (exactly ":" ∷ exactly "(" ∷ seatWord ∷ exactly "'" ∷ exactly "=" ∷ [])
+  t ← numbered numberOf
+  sign ")"
+  return (record { place = p; weight = w; words = ws; end = t })
+
+abbrev pub nextBranch : Reader BranchShape
+nextBranch = sign "+" >> branch
+
+-- one branch too many starts with a weight's first mark
+abbrev pub pastBranches : Reader (List BranchShape)
+pastBranches = do
+  sign "+"
+  p ← here
+  w ← the weightOf
+  refuseAt pastLimit p
+
+abbrev pub moreBranches : ℕ → Reader (List BranchShape)
+moreBranches most = many most "+" nextBranch pastBranches
+
+-- ---- statements
+
+abbrev pub guard : Reader (Option (Formula Literals))
+guard =
+    ifNext "&"
+    (do
+      sign "&"
+      g ← conjunction (unary group mostDepth)
+      return (some g))
+    (return none)
+
+-- a new statement may have so many nodes
+abbrev pub mayHave : ℕ → Reader (Unit {0})
+mayHave n = λ s. ok tt (at (s .marks) n)
+
+abbrev pub statement : Reader StatementShape
+statement = do
+  ws ← line (exactly "[" ∷ exactly "]" ∷ seatWord ∷ exactly "=" ∷ [])
+  j ← numbered numberOf
+  mayHave mostNodes
+  g ← guard
+  sign "->"
+  b ← branch
+  bs ← moreBranches (mostBranches - 1)
+  p ← here
+  sign ";"
+  return (record { words = ws; own = j; guard = g; branches = b ∷ bs; close = p })
+
+abbrev pub moreStatements : ℕ → Reader (List StatementShape)
+moreStatements most = many most "[" statement (refuse pastLimit)
+
+-- ---- the further modules
+
+abbrev pub copy : Reader (List Numbered)
+copy = line
+    (exactly "module" ∷ processWord ∷ exactly "=" ∷ processWord
+    ∷ exactly "[" ∷ seatWord ∷ exactly "=" ∷ seatWord ∷ exactly "," ∷ seatWord ∷ exactly "=" ∷ seatWord ∷ exactly "]"
+    ∷ exactly "endmodule" ∷ [])
+
+abbrev pub moreModules : ℕ → Reader (List (List Numbered))
+moreModules most = many most "module" copy (refuse pastLimit)
+
+-- ---- the card
+
+abbrev pub modeOf : Mark → Option Mode
+modeOf m = if is "nondeterministic" m then some nondeterministic else (if is "probabilistic" m then some probabilistic else none)
+
+-- only `0` fits before `..`
+abbrev pub onlyZero : Option ℕ → Option ℕ
+onlyZero none = none
+onlyZero (some v) = if eqb v 0 then some v else none
+
+abbrev pub zeroOf : Mark → Option ℕ
+zeroOf m = onlyZero (numberOf m)
+
+abbrev pub top : Reader ℕ
+top = do
+  p ← here
+  k ← the numberOf
+  if leb k topState then return k else refuseAt pastLimit p
+
+abbrev pub ended : Place → ℕ → Result (Unit {0})
+ended [] n = ok tt (at [] n)
+ended (m ∷ ms) n = stop outOfShape (m ∷ ms)
+
+abbrev pub theEnd : Reader (Unit {0})
+theEnd = λ s. ended (s .marks) (s .nodes)
+
+abbrev pub body : Reader CardShape
+body = do
+  mode ← the modeOf
+  ws ← line (exactly "module" ∷ processWord ∷ seatWord ∷ exactly ":" ∷ exactly "[" ∷ [])
+  z ← the zeroOf
+  sign ".."
+  k ← top
+  sign "]"
+  sign "init"
+  l ← numbered numberOf
+  sign ";"
+  x ← statement
+  xs ← moreStatements (mostStatements - 1)
+  sign "endmodule"
+  ms ← moreModules (mostSeats - 1)
+  return (record { mode = mode; words = ws; k = k; l = l; statements = x ∷ xs; modules = ms })
+
+abbrev pub card : Reader CardShape
+card = do
+  c ← body
+  theEnd
+  return c

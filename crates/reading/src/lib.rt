@@ -1,0 +1,1 @@
+// Definitions and theorems only: what reading a card means.

@@ -1,0 +1,5 @@
+pub mod Lexed
+pub mod Groups
+pub mod Guards
+pub mod Statements
+pub mod RoundTrip

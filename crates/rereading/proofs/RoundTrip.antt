@@ -1,0 +1,251 @@
+-- A written card is read as the card: its marks are said by the grammar, within the limits and with no judgement broken; and reading
+-- takes what is so said.
+use Prim.Native.Nat.{ℕ, zero, suc, _+_, _-_, _^_, _≤_, _<_}
+use mathlib.Core.Path.{_≡_, refl, sym, ap, ap₂, _∙_, subst}
+use mathlib.Core.Bool.{false}
+use mathlib.Core.List.{List, [], _∷_, _++_, map}
+use mathlib.Core.Option.{Option, none, some}
+use native.Mathlib.Omega.{arith}
+use borrow.Author.Tests.{le-leb}
+use lib.ListN.{length}
+use Rattle.card.specs.Limits.{cardBytes, numberDigits, wordDigits, mostSeats, topState, mostStatements}
+use Rattle.card.specs.Card.{Mode, nondeterministic, probabilistic, Statement, Card}
+use Rattle.card.specs.Valid.{Every, ValidCard}
+use Rattle.marks.specs.Marks.{text, number, placed, isDigit, begins, pointed, marks, marksOf}
+use Rattle.reading.specs.Reader.{Place, at, Result, ok, Numbered, Item}
+use Rattle.reading.specs.Group.{Literal, Literals}
+use Rattle.reading.specs.Judgements.{Judgement, fine, broken, firstBroken}
+use Rattle.reading.specs.Shape.{BranchShape, StatementShape, CardShape}
+use Rattle.reading.specs.Shape.{card as readCard}
+use Rattle.reading.specs.Checks.{judgedWords, judgedEach, judgedStatement, judgedModules, judgedCard, statementIn, seatsIn, cardIn}
+use Rattle.reading.specs.Reading.{taken, firstOutside, shaped, readOf}
+use Rattle.reading.specs.Grammar.{Said, signAt, valued, LineSaid, ended, fixed, aSeat, aProcess, cardRun, moduleRun, ManySaid, done, again, LiteralSaid, literal, OthersSaid, close, next, GroupSaid, conjoined, disjoined, GuardSaid, grouped, negated, bracketed, single, further, RestSaid, nothing, guarded, WeightSaid, aNumber, aRatio, aDecimal, BranchSaid, branch, PlusSaid, plus, StatementSaid, statement, modeWord, CardSaid, card}
+use Rattle.reading.specs.Counted.{Counted, Within, Past, FirstPast, countedMany, countedModule, countedStatement, countedCard}
+use Rattle.reading.proofs.Follows.{Ran, came, fell, card-runs}
+use Rattle.reading.proofs.Valid.{read-valid}
+use Rattle.phrases.specs.Phrases.{_▸_, num}
+use Rattle.phrases.specs.Phrases.{modeWord as modeText}
+use Rattle.writer.specs.Writing.{statements, moduleText, modules, writeOf}
+use Rattle.rereading.proofs.Lexed.{Apart, number-mark, seat-mark, process-mark}
+use Rattle.rereading.proofs.Groups.{Kept}
+use Rattle.rereading.proofs.Guards.{every-append}
+use Rattle.rereading.proofs.Statements.{LineWritten, line-kept, StatementWritten, statement-written, StatementsWritten, statements-written}
+
+-- ---- the further modules
+
+module _ (e : ℕ) where
+  abbrev M : List ℕ → Place
+  M r = marks e 0 r
+
+  abbrev dues : ℕ → List ℕ
+  dues i = i ∷ 1 ∷ 1 ∷ i ∷ i ∷ 1 ∷ []
+
+  module-line : (i : ℕ) → i < 10 ^ wordDigits → (r : List ℕ) → LineWritten moduleRun (dues i) (M (moduleText i r)) (M r)
+  module-line i h r =
+      rw (process-mark e i (" = process1 [s1=s" ▸ num i (", s" ▸ num i ("=s1] endmodule\n" ▸ r))) h refl, seat-mark e i (", s" ▸ num i ("=s1] endmodule\n" ▸ r)) h refl, seat-mark e i ("=s1] endmodule\n" ▸ r) h refl)
+      (record {
+        found = valued i _ ∷ valued 1 _ ∷ valued 1 _ ∷ valued i _ ∷ valued i _ ∷ valued 1 _ ∷ [];
+        said = fixed (aProcess (fixed (aProcess (fixed (aSeat (fixed (aSeat (fixed (aSeat (fixed (aSeat (fixed (fixed ended)))))))))))));
+        due = (refl, (refl, (refl, (refl, (refl, (refl, tt))))));
+      })
+
+  record ModulesWritten (n k i c : ℕ) (ms rest : Place) : Type 0 where
+    found : List (List Numbered)
+    said : ManySaid (LineSaid moduleRun) ms found rest
+    many : length found ≡ c
+    kept : Every (Kept n k) (judgedModules i found)
+    within : i + c ≤ suc mostSeats → Every Within (countedMany countedModule i said)
+
+  modules-made : (n k i c : ℕ) (ms ns rest : Place) → LineWritten moduleRun (dues i) ms ns → ModulesWritten n k (suc i) c ns rest → ModulesWritten n k i (suc c) ms rest
+  modules-made n k i c ms ns rest l w = record {
+    found = l .found ∷ w .found;
+    said = again (l .said) (w .said);
+    many = ap suc (w .many);
+    kept = every-append (Kept n k) (judgedWords (dues i) (l .found)) (judgedModules (suc i) (w .found)) (line-kept n k (dues i) (l .found) (l .due)) (w .kept);
+    within = λ h. (omega arith, w .within (omega arith));
+  }
+
+  modules-written : (n k i c : ℕ) (r : List ℕ) → i + c < 10 ^ wordDigits → ModulesWritten n k (suc i) c (M (modules i c r)) (M r)
+  modules-written n k i zero r h = record { found = []; said = done; many = refl; kept = tt; within = λ l. tt }
+  modules-written n k i (suc c) r h =
+      modules-made n k (suc i) c (M (moduleText (suc i) (modules (suc i) c r))) (M (modules (suc i) c r)) (M r) (module-line (suc i) (omega arith) (modules (suc i) c r)) (modules-written n k (suc i) c r (omega arith))
+
+  -- ---- the card
+
+  abbrev apart : {r : List ℕ} → begins isDigit r ≡ false → pointed r ≡ false → Apart r
+  apart d p = record { no-digit = d; no-point = p }
+
+  front-line : (y : List ℕ) → LineWritten cardRun (1 ∷ 1 ∷ []) (M ("\nmodule process1\ns1 : [0.." ▸ y)) (placed (number 0) (e - length ("0.." ▸ y)) ∷ signAt ".." (e - length (".." ▸ y)) ∷ M y)
+  front-line y = record { found = valued 1 _ ∷ valued 1 _ ∷ []; said = fixed (aProcess (aSeat (fixed (fixed ended)))); due = (refl, (refl, tt)) }
+
+  mode-mark : (m : Mode) (y : List ℕ) → M (modeText m ▸ "\nmodule process1\ns1 : [0.." ▸ y) ≡ signAt (modeWord m) (e - length (modeText m ▸ "\nmodule process1\ns1 : [0.." ▸ y)) ∷ M ("\nmodule process1\ns1 : [0.." ▸ y)
+  mode-mark nondeterministic y = refl
+  mode-mark probabilistic y = refl
+
+  record CardWritten (c : Card) (ms : Place) : Type 0 where
+    found : CardShape
+    said : CardSaid ms found
+    seats : seatsIn found ≡ c .n
+    top : found .k ≡ c .k
+    means : cardIn found ≡ c
+    kept : Every (Kept (c .n) (c .k)) (judgedCard found)
+    within : Every Within (countedCard said)
+
+  same-card : (mode : Mode) (n m k l : ℕ) (ss : List StatementShape) (xs : List Statement) → m ≡ n → map (statementIn n) ss ≡ xs
+      → _≡_ {A = Card} (record { mode = mode; n = m; k = k; l = l; statements = map (statementIn m) ss }) (record { mode = mode; n = n; k = k; l = l; statements = xs })
+  same-card mode n m k l ss xs p q = rw (p, q)
+
+  card-made : (mode : Mode) (n k l : ℕ) (x : Statement) (xs : List Statement) (small-n : n < 10 ^ wordDigits) (small-k : k < 10 ^ numberDigits) → 1 ≤ n → n ≤ mostSeats → k ≤ topState → l ≤ k → length (x ∷ xs) ≤ mostStatements
+      → (a b c d f g h i j : ℕ) (ms ns os qs : Place)
+      → LineWritten cardRun (1 ∷ 1 ∷ []) ms (placed (number 0) b ∷ signAt ".." c ∷ placed (number k) d ∷ signAt "]" f ∷ signAt "init" g ∷ placed (number l) h ∷ signAt ";" i ∷ ns)
+      → StatementWritten e n k small-n small-k x ns os
+      → StatementsWritten e n k small-n small-k xs os (signAt "endmodule" j ∷ qs)
+      → ModulesWritten n k 2 (n - 1) qs []
+      → CardWritten (record { mode = mode; n = n; k = k; l = l; statements = x ∷ xs }) (signAt (modeWord mode) a ∷ ms)
+  card-made mode n k l x xs small-n small-k one most top init few a b c d f g h i j ms ns os qs w s ss ys = record {
+    found = record { mode = mode; words = w .found; k = k; l = valued l (placed (number l) h ∷ signAt ";" i ∷ ns); statements = s .found ∷ ss .found; modules = ys .found };
+    said = card (w .said) (s .said) (ss .said) (ys .said);
+    seats = all-seats;
+    top = refl;
+    means = same-card mode n (suc (length (ys .found))) k l (s .found ∷ ss .found) (x ∷ xs) all-seats (ap₂ _∷_ (s .means) (ss .means));
+    kept = every-append (Kept n k) (judgedWords (1 ∷ 1 ∷ []) (w .found)) _ (line-kept n k (1 ∷ 1 ∷ []) (w .found) (w .due)) (
+      rw (le-leb l k init),
+      every-append (Kept n k) (judgedStatement (s .found) ++ judgedEach judgedStatement (ss .found)) (judgedModules 2 (ys .found))
+          (every-append (Kept n k) (judgedStatement (s .found)) (judgedEach judgedStatement (ss .found)) (s .kept) (ss .kept))
+          (ys .kept),
+    );
+    within = (
+      top,
+      every-append Within (countedStatement ns os (s .found) 1 (s .said)) _ (s .within 1 (omega arith))
+          (every-append Within (countedMany countedStatement 2 (ss .said)) (countedMany countedModule 2 (ys .said)) (ss .within 2 (omega arith)) (ys .within (omega arith))),
+    );
+  }
+    where
+      all-seats : suc (length (ys .found)) ≡ n
+      all-seats = omega (arith, ys .many)
+
+  parts-written : (mode : Mode) (n k l : ℕ) (xs : List Statement) → ValidCard (record { mode = mode; n = n; k = k; l = l; statements = xs })
+      → CardWritten (record { mode = mode; n = n; k = k; l = l; statements = xs })
+      (M (modeText mode ▸ "\nmodule process1\ns1 : [0.." ▸ num k ("] init " ▸ num l (";\n" ▸ statements n xs ("endmodule\n" ▸ modules 1 (n - 1) [])))))
+  parts-written mode n k l [] v = absurd (omega (arith, v .some .0))
+  parts-written mode n k l (x ∷ xs) v =
+      let small-n : n < 10 ^ wordDigits = omega (arith, v .seats-most) in
+      let small-k : k < 10 ^ numberDigits = omega (arith, v .top) in
+      let last = "endmodule\n" ▸ modules 1 (n - 1) [] in
+      let body = statements n (x ∷ xs) last in
+      let start = num l (";\n" ▸ body) in
+      let front = num k ("] init " ▸ start) in
+      let start-mark : M start ≡ placed (number l) (e - length start) ∷ signAt ";" (e - length (";\n" ▸ body)) ∷ M body = number-mark e l (";\n" ▸ body) (omega (arith, v .init)) (apart refl refl) in
+      let front-mark : M front ≡ placed (number k) (e - length front) ∷ signAt "]" (e - length ("] init " ▸ start)) ∷ signAt "init" (e - length ("init " ▸ start)) ∷ M start
+      = number-mark e k ("] init " ▸ start) small-k (apart refl refl) in
+      let both = front-mark ∙ ap (λ (t : Place). placed (number k) (e - length front) ∷ signAt "]" (e - length ("] init " ▸ start)) ∷ signAt "init" (e - length ("init " ▸ start)) ∷ t) start-mark in
+      subst (λ (ms : Place). CardWritten (record { mode = mode; n = n; k = k; l = l; statements = x ∷ xs }) ms) (sym (mode-mark mode front))
+      (card-made mode n k l x xs small-n small-k (v .seats) (v .seats-most) (v .top) (v .init) (v .some .1) _ _ _ _ _ _ _ _ _ (M ("\nmodule process1\ns1 : [0.." ▸ front)) (M body) (M (statements n xs last)) (M (modules 1 (n - 1) []))
+      (subst (λ (y : Place). LineWritten cardRun (1 ∷ 1 ∷ []) (M ("\nmodule process1\ns1 : [0.." ▸ front)) (placed (number 0) (e - length ("0.." ▸ front)) ∷ signAt ".." (e - length (".." ▸ front)) ∷ y)) both (front-line front))
+      (statement-written e n k small-n small-k x (statements n xs last) (v .statements .0))
+      (statements-written e n k small-n small-k xs last (v .statements .1))
+      (modules-written n k 1 (n - 1) [] (omega (arith, v .seats-most))))
+
+  text-of : (c : Card) → writeOf c ≡ (modeText (c .mode) ▸ "\nmodule process1\ns1 : [0.." ▸ num (c .k) ("] init " ▸ num (c .l) (";\n" ▸ statements (c .n) (c .statements) ("endmodule\n" ▸ modules 1 (c .n - 1) []))))
+  unfolding writeOf
+  text-of c = refl
+
+  card-written : (c : Card) → ValidCard c → CardWritten c (M (writeOf c))
+  card-written c v = subst (λ (t : List ℕ). CardWritten c (M t)) (sym (text-of c)) (parts-written (c .mode) (c .n) (c .k) (c .l) (c .statements) v)
+
+-- ---- no mark that the grammar says is outside the rules
+
+abbrev Inside : Place → Place → Type 0
+Inside ms r = firstOutside ms ≡ firstOutside r
+
+line-inside : {items : List Item} {ms r : Place} {ws : List Numbered} → LineSaid items ms ws r → Inside ms r
+line-inside ended = refl
+line-inside (fixed d) = line-inside d
+line-inside (aSeat d) = line-inside d
+line-inside (aProcess d) = line-inside d
+
+literal-inside : {ms r : Place} {l : Literal} → LiteralSaid ms l r → Inside ms r
+literal-inside literal = refl
+
+others-inside : {s : Rattle.card.specs.Card.Sign} {ms r : Place} {ls : List Literal} → OthersSaid s ms ls r → Inside ms r
+others-inside close = refl
+others-inside (next l o) = literal-inside l ∙ others-inside o
+
+group-inside : {p ms r : Place} {g : Literals} → GroupSaid p ms g r → Inside ms r
+group-inside (conjoined l o) = literal-inside l ∙ others-inside o
+group-inside (disjoined l o) = literal-inside l ∙ others-inside o
+
+guard-inside : {v : Rattle.reading.specs.Grammar.Part} {ms r : Place} {g : Rattle.card.specs.Card.Formula Literals} → GuardSaid GroupSaid v ms g r → Inside ms r
+guard-inside (grouped d) = group-inside d
+guard-inside (negated d) = guard-inside d
+guard-inside (bracketed d) = guard-inside d
+guard-inside (single d) = guard-inside d
+guard-inside (further d u) = guard-inside d ∙ guard-inside u
+
+rest-inside : {ms r : Place} {g : Option (Rattle.card.specs.Card.Formula Literals)} → RestSaid ms g r → Inside ms r
+rest-inside nothing = refl
+rest-inside (guarded d) = guard-inside d
+
+weight-inside : {ms r : Place} {w : Rattle.card.specs.Weight.Weight} → WeightSaid ms w r → Inside ms r
+weight-inside aNumber = refl
+weight-inside aRatio = refl
+weight-inside aDecimal = refl
+
+branch-inside : {ms r : Place} {b : BranchShape} → BranchSaid ms b r → Inside ms r
+branch-inside (branch w l) = weight-inside w ∙ line-inside l
+
+plus-inside : (ms r : Place) (b : BranchShape) → PlusSaid ms b r → Inside ms r
+plus-inside ms r b (plus d) = branch-inside d
+
+many-inside : {A : Type 0} (One : Said A) → ((ms r : Place) (x : A) → One ms x r → Inside ms r) → {ms r : Place} {xs : List A} → ManySaid One ms xs r → Inside ms r
+many-inside One h done = refl
+many-inside One h (again {ms} {ns} {x = x} d ds) = h ms ns x d ∙ many-inside One h ds
+
+statement-inside : (ms r : Place) (x : StatementShape) → StatementSaid ms x r → Inside ms r
+statement-inside ms r x (statement l w d ds) = line-inside l ∙ rest-inside w ∙ branch-inside d ∙ many-inside PlusSaid plus-inside ds
+
+pub card-inside : {ms : Place} {c : CardShape} → CardSaid ms c → firstOutside ms ≡ none
+card-inside (card l s ss ys) = line-inside l ∙ statement-inside _ _ _ s ∙ many-inside StatementSaid statement-inside ss ∙ many-inside (LineSaid moduleRun) (λ ms r ws d. line-inside d) ys
+
+-- ---- what is said within the limits and keeps the rules is read
+
+none-past : (cs : List Counted) (q : Place) → Every Within cs → FirstPast cs q → ⊥
+none-past cs q w f = go (f .before) (f .first) (f .after) (subst (Every Within) (f .split) w) (f .past)
+  where
+    go : (xs : List Counted) (c : Counted) (ys : List Counted) → Every Within (xs ++ (c ∷ ys)) → Past c → ⊥
+    go [] c ys w p = omega (arith, w .0)
+    go (x ∷ xs) c ys w p = go xs c ys (w .1) p
+
+none-broken : (n k : ℕ) (js : List Judgement) → Every (Kept n k) js → firstBroken n k js ≡ fine
+none-broken n k [] w = refl
+none-broken n k (j ∷ js) w = rw (w .0) (none-broken n k js (w .1))
+
+said-read : (ms : Place) (x : CardShape) (d : CardSaid ms x) → Every Within (countedCard d) → (e : ℕ) (c : Card) → cardIn x ≡ c → firstBroken (seatsIn x) (x .k) (judgedCard x) ≡ fine
+    → shaped e (readCard (at ms 0)) ≡ taken c
+said-read ms x d w e c m b = go (card-runs d 0)
+  where
+    go : Ran (countedCard d) (λ (y : Result CardShape). (n : ℕ) × (y ≡ ok x (at [] n)) × Unit {0}) (readCard (at ms 0)) → shaped e (readCard (at ms 0)) ≡ taken c
+    go (came v (n, q, p)) = rw (q, b) (ap taken m)
+    go (fell q f s) = absurd (none-past (countedCard d) q w f)
+
+-- what stands in a written card's marks is the card, however long the text is
+marks-mean : (c : Card) → ValidCard c → shaped (length (writeOf c)) (readCard (at (marksOf (writeOf c)) 0)) ≡ taken c
+marks-mean c v =
+    let w = card-written (length (writeOf c)) c v in
+    let b : firstBroken (seatsIn (w .found)) (w .found .k) (judgedCard (w .found)) ≡ fine = rw (w .seats, w .top) (none-broken (c .n) (c .k) (judgedCard (w .found)) (w .kept)) in
+    said-read (marksOf (writeOf c)) (w .found) (w .said) (w .within) (length (writeOf c)) c (w .means) b
+
+-- an accepted card written out and read again is the same card
+pub round-trip : (c : Card) → ValidCard c → length (writeOf c) ≤ cardBytes → readOf (writeOf c) ≡ taken c
+unfolding readOf
+round-trip c v h = rw (le-leb (length (writeOf c)) cardBytes h, card-inside (card-written (length (writeOf c)) c v .said)) (marks-mean c v)
+
+-- so a written form is one card's alone
+pub written-once : (c d : Card) → ValidCard c → ValidCard d → writeOf c ≡ writeOf d → c ≡ d
+written-once c d v w e =
+    let both : taken c ≡ taken d = sym (marks-mean c v) ∙ ap (λ (s : List ℕ). shaped (length s) (readCard (at (marksOf s) 0))) e ∙ marks-mean d w in
+    cc
+
+-- a card that was read, written out and read again is the same card
+pub read-again : (s : List ℕ) (c : Card) → readOf s ≡ taken c → length (writeOf c) ≤ cardBytes → readOf (writeOf c) ≡ taken c
+read-again s c e h = round-trip c (read-valid s c e) h

@@ -1,0 +1,264 @@
+-- Written branches and statements are said by the grammar, keep the rules and the limits, and are the branches and statements.
+use Prim.Native.Nat.{ℕ, suc, _+_, _-_, _/_, _^_, _≤_, _<_}
+use mathlib.Core.Path.{_≡_, refl, sym, ap, ap₂, _∙_, subst}
+use mathlib.Core.Bool.{Bool, true, false}
+use mathlib.Core.List.{List, [], _∷_, _++_, map}
+use mathlib.Core.Option.{Option, none, some}
+use native.Mathlib.Nat.{div-le-self}
+use native.Mathlib.Omega.{arith}
+use borrow.Author.Tests.{le-leb, eq-eqb, ne-eqb}
+use lib.Dec.{eqb, leb}
+use lib.ListN.{length}
+use Rattle.card.specs.Limits.{numberDigits, wordDigits, unit, mostStatements, mostBranches, mostNodes, mostDepth}
+use Rattle.card.specs.Card.{all, Formula, Guard, Branch, Statement}
+use Rattle.card.specs.Valid.{Every, total, size, middle, depth, ValidGuard, ValidBranch, ValidStatement}
+use Rattle.card.specs.Weight.{Weight, whole, ratio, cardRule, unitsOf}
+use Rattle.marks.specs.Marks.{number, placed, isDigit, begins, pointed, marks}
+use Rattle.reading.specs.Reader.{Place, Numbered, Item}
+use Rattle.reading.specs.Guard.{isSome}
+use Rattle.card.specs.Refusals.{wrongWeight}
+use Rattle.reading.specs.Group.{Literals}
+use Rattle.reading.specs.Judgements.{weight, unless, unitsIn, orZero, totalUnits}
+use Rattle.reading.specs.Shape.{BranchShape, StatementShape}
+use Rattle.reading.specs.Checks.{judgedWords, judgedBranch, judgedEach, judgedOr, judgedStatement, weightIn, branchIn, guardOr as guardIn′, statementIn}
+use Rattle.reading.specs.Grammar.{signAt, valued, joinedBy, LineSaid, ended, fixed, aSeat, statementRun, branchRun, ManySaid, done, again, RestSaid, nothing, guarded, WeightSaid, aNumber, aRatio, BranchSaid, branch, PlusSaid, plus, StatementSaid, statement}
+use Rattle.reading.specs.Counted.{Within, countedRest, countedPlus, countedMany, countedStatement}
+use Rattle.room.specs.Digits.{decimal, AllDigits}
+use Rattle.room.proofs.Decimal.{decimal-digits, decimal-some}
+use Rattle.phrases.specs.Phrases.{_▸_, num, lowest, spell, divisor, weightText}
+use Rattle.phrases.proofs.Lowest.{lowest-kept}
+use Rattle.writer.specs.Writing.{guardText, guardOr, branchText, moreBranches, branches, statementText, statements}
+use Rattle.rereading.proofs.Lexed.{Apart, number-mark}
+use Rattle.rereading.proofs.Groups.{Kept}
+use Rattle.rereading.proofs.Guards.{every-append, GuardWritten, guard-written}
+
+cases : {P : Type 0} (b : Bool) → (b ≡ true → P) → (b ≡ false → P) → P
+cases true p q = p refl
+cases false p q = q refl
+
+-- ---- words that are the ones due
+
+abbrev pub Due : List ℕ → List Numbered → Type 0
+Due [] [] = Unit {0}
+Due [] (w ∷ ws) = ⊥
+Due (d ∷ ds) [] = ⊥
+Due (d ∷ ds) (w ∷ ws) = (w .value ≡ d) × Due ds ws
+
+pub record LineWritten (items : List Item) (dues : List ℕ) (ms rest : Place) : Type 0 where
+  pub found : List Numbered
+  pub said : LineSaid items ms found rest
+  pub due : Due dues found
+
+pub line-kept : (n k : ℕ) (dues : List ℕ) (ws : List Numbered) → Due dues ws → Every (Kept n k) (judgedWords dues ws)
+line-kept n k [] [] h = tt
+line-kept n k [] (w ∷ ws) h = absurd h
+line-kept n k (d ∷ ds) [] h = absurd h
+line-kept n k (d ∷ ds) (w ∷ ws) h = (rw (eq-eqb (w .value) d (h .0)), line-kept n k ds ws (h .1))
+
+-- ---- weights
+
+-- what is written of a weight, in few digits
+abbrev Small : Weight → Type 0
+Small (whole v) = v < 10 ^ numberDigits
+Small (Weight.decimal v n f) = ⊥
+Small (ratio a b) = (a < 10 ^ numberDigits) × (b < 10 ^ numberDigits)
+
+lowest-small : (u : ℕ) → u ≤ unit → Small (lowest u)
+lowest-small u h = cases (eqb u 0) (λ e. rw e (omega arith)) (λ e. rw e
+    (cases (leb unit u) (λ f. rw f (omega arith)) (λ f. rw f
+    (omega (arith, div-le-self u (divisor u)), omega (arith, div-le-self unit (divisor u))))))
+
+-- no `/` after `/`
+digits-begin : (s r : List ℕ) → AllDigits s → 0 < length s → begins (eqb 47) (s ++ r) ≡ false
+digits-begin [] r d h = absurd (omega arith)
+digits-begin (b ∷ s) r d h = ne-eqb 47 b (λ z. omega (arith, d .0))
+
+module _ (e : ℕ) where
+  abbrev M : List ℕ → Place
+  M r = marks e 0 r
+
+  over-mark : (v : ℕ) (r : List ℕ) → M ("/" ▸ num v r) ≡ signAt "/" (e - length ("/" ▸ num v r)) ∷ M (num v r)
+  over-mark v r = rw (digits-begin (decimal v) r (decimal-digits v) (decimal-some v))
+
+  spell-written : (w : Weight) (r : List ℕ) → Small w → Apart r → WeightSaid (M (spell w r)) w (M r)
+  spell-written (whole v) r h a = subst (λ (ms : Place). WeightSaid ms (whole v) (M r)) (sym (number-mark e v r h a)) aNumber
+  spell-written (Weight.decimal v n f) r h a = absurd h
+  spell-written (ratio a b) r h p =
+      let x = "/" ▸ num b r in
+      let marked : M (num a x) ≡ placed (number a) (e - length (num a x)) ∷ signAt "/" (e - length x) ∷ placed (number b) (e - length (num b r)) ∷ M r
+      = number-mark e a x (h .0) (record { no-digit = refl; no-point = refl })
+      ∙ ap (λ (t : Place). placed (number a) (e - length (num a x)) ∷ t) (over-mark b r ∙ ap (λ (t : Place). signAt "/" (e - length x) ∷ t) (number-mark e b r (h .1) p)) in
+      subst (λ (ms : Place). WeightSaid ms (ratio a b) (M r)) (sym marked) aRatio
+
+  weight-written : (u : ℕ) (r : List ℕ) → u ≤ unit → Apart r → WeightSaid (M (weightText u r)) (lowest u) (M r)
+  unfolding weightText
+  weight-written u r h a = spell-written (lowest u) r (lowest-small u h) a
+
+  -- ---- fixed runs of marks
+
+  abbrev apart : {r : List ℕ} → begins isDigit r ≡ false → pointed r ≡ false → Apart r
+  apart d p = record { no-digit = d; no-point = p }
+
+  pub branch-line : (x : List ℕ) → LineWritten branchRun (1 ∷ []) (M (":(s1'=" ▸ x)) (M x)
+  branch-line x = record { found = valued 1 _ ∷ []; said = fixed (fixed (aSeat (fixed (fixed ended)))); due = (refl, tt) }
+
+  pub statement-line : (x : List ℕ) → LineWritten statementRun (1 ∷ []) (M ("[] s1=" ▸ x)) (M x)
+  statement-line x = record { found = valued 1 _ ∷ []; said = fixed (fixed (aSeat (fixed ended))); due = (refl, tt) }
+
+  -- ---- branches
+
+  pub record BranchWritten (n k : ℕ) (b : Branch) (ms rest : Place) : Type 0 where
+    pub found : BranchShape
+    pub said : BranchSaid ms found rest
+    pub means : branchIn found ≡ b
+    pub kept : Every (Kept n k) (judgedBranch found)
+    pub units : unitsIn (found .weight) ≡ b .units
+
+  module _ (n k : ℕ) (small-k : k < 10 ^ numberDigits) where
+    branch-made : (b : Branch) → ValidBranch k b → (a c : ℕ) (ms ns rest : Place) → WeightSaid ms (lowest (b .units)) ns
+        → LineWritten branchRun (1 ∷ []) ns (placed (number (b .end)) a ∷ signAt ")" c ∷ rest) → BranchWritten n k b ms rest
+    branch-made b v a c ms ns rest w l = record {
+      found = record { place = ms; weight = lowest (b .units); words = l .found; end = valued (b .end) (placed (number (b .end)) a ∷ signAt ")" c ∷ rest) };
+      said = branch w (l .said);
+      means = ap (λ (u : ℕ). record { units = u; end = b .end }) (ap orZero worth);
+      kept = (weighs (unitsOf cardRule (lowest (b .units))) worth, every-append (Kept n k) (judgedWords (1 ∷ []) (l .found)) _ (line-kept n k (1 ∷ []) (l .found) (l .due)) (rw (le-leb (b .end) k (v .end)), tt));
+      units = ap orZero worth;
+    }
+      where
+        worth : unitsOf cardRule (lowest (b .units)) ≡ some (b .units)
+        worth = lowest-kept (b .units) (v .units)
+
+        weighs : (o : Option ℕ) → o ≡ some (b .units) → unless (isSome o) wrongWeight ≡ none
+        weighs o h = rw h
+
+    pub branch-written : (b : Branch) (r : List ℕ) → ValidBranch k b → BranchWritten n k b (M (branchText b r)) (M r)
+    branch-written b r v =
+        let x = ":(s1'=" ▸ num (b .end) (")" ▸ r) in
+        let ends : M (num (b .end) (")" ▸ r)) ≡ placed (number (b .end)) (e - length (num (b .end) (")" ▸ r))) ∷ signAt ")" (e - length (")" ▸ r)) ∷ M r
+        = number-mark e (b .end) (")" ▸ r) (omega (arith, v .end)) (apart refl refl) in
+        branch-made b v _ _ (M (branchText b r)) (M x) (M r) (weight-written (b .units) x (v .units) (apart refl refl))
+        (subst (λ (y : Place). LineWritten branchRun (1 ∷ []) (M x) y) ends (branch-line (num (b .end) (")" ▸ r))))
+
+    -- all but the first, each behind its sign
+    pub record BranchesWritten (bs : List Branch) (ms rest : Place) : Type 0 where
+      pub found : List BranchShape
+      pub said : ManySaid PlusSaid ms found rest
+      pub means : map branchIn found ≡ bs
+      pub kept : Every (Kept n k) (judgedEach judgedBranch found)
+      pub units : totalUnits (map weightIn found) ≡ total bs
+      pub within : (i : ℕ) → i + length bs ≤ suc mostBranches → Every Within (countedMany countedPlus i said)
+
+    branches-made : (b : Branch) (bs : List Branch) (a : ℕ) (ms ns rest : Place) → BranchWritten n k b ms ns → BranchesWritten bs ns rest → BranchesWritten (b ∷ bs) (signAt "+" a ∷ ms) rest
+    branches-made b bs a ms ns rest w u = record {
+      found = w .found ∷ u .found;
+      said = again (plus (w .said)) (u .said);
+      means = ap₂ _∷_ (w .means) (u .means);
+      kept = every-append (Kept n k) (judgedBranch (w .found)) (judgedEach judgedBranch (u .found)) (w .kept) (u .kept);
+      units = ap₂ _+_ (w .units) (u .units);
+      within = λ i h. (omega arith, u .within (suc i) (omega arith));
+    }
+
+    pub more-branches-written : (bs : List Branch) (r : List ℕ) → Every (ValidBranch k) bs → BranchesWritten bs (M (moreBranches bs r)) (M r)
+    more-branches-written [] r v = record { found = []; said = done; means = refl; kept = tt; units = refl; within = λ i h. tt }
+    more-branches-written (b ∷ bs) r v =
+        branches-made b bs _ (M (branchText b (moreBranches bs r))) (M (moreBranches bs r)) (M r) (branch-written b (moreBranches bs r) (v .0)) (more-branches-written bs r (v .1))
+
+  -- ---- statements
+
+  module _ (n k : ℕ) (small-n : n < 10 ^ wordDigits) (small-k : k < 10 ^ numberDigits) where
+    record RestWritten (g : Option Guard) (ms rest : Place) : Type 0 where
+      found : Option (Formula Literals)
+      said : RestSaid ms found rest
+      means : guardIn′ n found ≡ g
+      kept : Every (Kept n k) (judgedOr found)
+      within : Every Within (countedRest said)
+
+    rest-made : (g : Guard) (a : ℕ) (ms rest : Place) → size g ≤ mostNodes → depth middle g ≤ mostDepth → GuardWritten n k (joinedBy all) (depth middle g) g ms rest → RestWritten (some g) (signAt "&" a ∷ ms) rest
+    rest-made g a ms rest h l w = record {
+      found = some (w .found);
+      said = guarded (w .said);
+      means = ap some (w .means);
+      kept = w .kept;
+      within = w .within 0 0 (omega arith) (omega arith);
+    }
+
+    rest-written : (g : Option Guard) (r : List ℕ) → ValidGuard n k g → RestWritten g (M (guardOr n g r)) (M r)
+    rest-written none r v = record { found = none; said = nothing; means = refl; kept = tt; within = tt }
+    rest-written (some g) r v = rest-made g _ (M (guardText n middle g r)) (M r) (v .2) (v .1) (guard-written e n k small-n small-k middle g r (v .0))
+
+    rest-apart : (g : Option Guard) (r : List ℕ) → Apart (guardOr n g (" -> " ▸ r))
+    rest-apart none r = apart refl refl
+    rest-apart (some g) r = apart refl refl
+
+    pub record StatementWritten (x : Statement) (ms rest : Place) : Type 0 where
+      pub found : StatementShape
+      pub said : StatementSaid ms found rest
+      pub means : statementIn n found ≡ x
+      pub kept : Every (Kept n k) (judgedStatement found)
+      pub within : (i : ℕ) → i ≤ mostStatements → Every Within (countedStatement ms rest found i said)
+
+    statement-made : (j : ℕ) (g : Option Guard) (b : Branch) (bs : List Branch) (a p c : ℕ) (ms ns os qs rest : Place)
+        → j ≤ k → length (b ∷ bs) ≤ mostBranches → total (b ∷ bs) ≡ unit
+        → LineWritten statementRun (1 ∷ []) ms (placed (number j) a ∷ ns)
+        → RestWritten g ns (signAt "->" p ∷ os)
+        → BranchWritten n k b os qs
+        → BranchesWritten n k small-k bs qs (signAt ";" c ∷ rest)
+        → StatementWritten (record { own = j; guard = g; branches = b ∷ bs }) ms rest
+    statement-made j g b bs a p c ms ns os qs rest h few sums l w d ds = record {
+      found = record { words = l .found; own = valued j (placed (number j) a ∷ ns); guard = w .found; branches = d .found ∷ ds .found; close = signAt ";" c ∷ rest };
+      said = statement (l .said) (w .said) (d .said) (ds .said);
+      means = ap₂ (λ (y : Option Guard) (z : List Branch). record { own = j; guard = y; branches = z }) (w .means) (ap₂ _∷_ (d .means) (ds .means));
+      kept = every-append (Kept n k) (judgedWords (1 ∷ []) (l .found)) _ (line-kept n k (1 ∷ []) (l .found) (l .due)) (
+        rw (le-leb j k h),
+        every-append (Kept n k) (judgedOr (w .found)) _ (w .kept)
+            (every-append (Kept n k) (judgedBranch (d .found) ++ judgedEach judgedBranch (ds .found)) _
+            (every-append (Kept n k) (judgedBranch (d .found)) (judgedEach judgedBranch (ds .found)) (d .kept) (ds .kept))
+            (sum-kept, tt)),
+      );
+      within = λ i m. (m, every-append Within (countedRest (w .said)) _ (w .within) (omega (arith, few), ds .within 2 (omega arith)));
+    }
+      where
+        sum-kept : unless (eqb (totalUnits (d .found .weight ∷ map weightIn (ds .found))) unit) wrongWeight ≡ none
+        sum-kept = rw (eq-eqb (totalUnits (d .found .weight ∷ map weightIn (ds .found))) unit (ap₂ _+_ (d .units) (ds .units) ∙ sums))
+
+    text-of : (x : Statement) (r : List ℕ) → statementText n x r ≡ ("[] s1=" ▸ num (x .own) (guardOr n (x .guard) (" -> " ▸ branches (x .branches) (";\n" ▸ r))))
+    unfolding statementText
+    text-of x r = refl
+
+    parts-written : (j : ℕ) (g : Option Guard) (bs : List Branch) (r : List ℕ) → ValidStatement n k (record { own = j; guard = g; branches = bs })
+        → StatementWritten (record { own = j; guard = g; branches = bs }) (M ("[] s1=" ▸ num j (guardOr n g (" -> " ▸ branches bs (";\n" ▸ r))))) (M r)
+    parts-written j g [] r v = absurd (omega (arith, v .some .0))
+    parts-written j g (b ∷ bs) r v =
+        let os = branches (b ∷ bs) (";\n" ▸ r) in
+        let ns = guardOr n g (" -> " ▸ os) in
+        let own-mark : M (num j ns) ≡ placed (number j) (e - length (num j ns)) ∷ M ns = number-mark e j ns (omega (arith, v .own)) (rest-apart g os) in
+        statement-made j g b bs _ _ _ (M ("[] s1=" ▸ num j ns)) (M ns) (M os) (M (moreBranches bs (";\n" ▸ r))) (M r) (v .own) (v .some .1) (v .sum)
+        (subst (λ (y : Place). LineWritten statementRun (1 ∷ []) (M ("[] s1=" ▸ num j ns)) y) own-mark (statement-line (num j ns)))
+        (rest-written g (" -> " ▸ os) (v .guard))
+        (branch-written n k small-k b (moreBranches bs (";\n" ▸ r)) (v .branches .0))
+        (more-branches-written n k small-k bs (";\n" ▸ r) (v .branches .1))
+
+    pub statement-written : (x : Statement) (r : List ℕ) → ValidStatement n k x → StatementWritten x (M (statementText n x r)) (M r)
+    statement-written x r v = subst (λ (t : List ℕ). StatementWritten x (M t) (M r)) (sym (text-of x r)) (parts-written (x .own) (x .guard) (x .branches) r v)
+
+    -- all but the first
+    pub record StatementsWritten (xs : List Statement) (ms rest : Place) : Type 0 where
+      pub found : List StatementShape
+      pub said : ManySaid StatementSaid ms found rest
+      pub means : map (statementIn n) found ≡ xs
+      pub kept : Every (Kept n k) (judgedEach judgedStatement found)
+      pub within : (i : ℕ) → i + length xs ≤ suc mostStatements → Every Within (countedMany countedStatement i said)
+
+    statements-made : (x : Statement) (xs : List Statement) (ms ns rest : Place) → StatementWritten x ms ns → StatementsWritten xs ns rest → StatementsWritten (x ∷ xs) ms rest
+    statements-made x xs ms ns rest w u = record {
+      found = w .found ∷ u .found;
+      said = again (w .said) (u .said);
+      means = ap₂ _∷_ (w .means) (u .means);
+      kept = every-append (Kept n k) (judgedStatement (w .found)) (judgedEach judgedStatement (u .found)) (w .kept) (u .kept);
+      within = λ i h. every-append Within (countedStatement ms ns (w .found) i (w .said)) (countedMany countedStatement (suc i) (u .said)) (w .within i (omega arith)) (u .within (suc i) (omega arith));
+    }
+
+    pub statements-written : (xs : List Statement) (r : List ℕ) → Every (ValidStatement n k) xs → StatementsWritten xs (M (statements n xs r)) (M r)
+    statements-written [] r v = record { found = []; said = done; means = refl; kept = tt; within = λ i h. tt }
+    statements-written (x ∷ xs) r v =
+        statements-made x xs (M (statementText n x (statements n xs r))) (M (statements n xs r)) (M r) (statement-written x (statements n xs r) (v .0)) (statements-written xs r (v .1))

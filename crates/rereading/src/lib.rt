@@ -1,0 +1,1 @@
+// Definitions and theorems only: a written card, read again.

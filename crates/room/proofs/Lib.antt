@@ -1,0 +1,4 @@
+pub mod Laws
+pub mod Decimal
+pub mod Entries
+mod Stores

@@ -1,0 +1,4 @@
+pub mod Room
+pub mod Pieces
+pub mod Digits
+pub mod Answer

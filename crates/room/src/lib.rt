@@ -1,0 +1,136 @@
+// Text into a lent room, shared by all entries, and what an entry answers ("Refusal numbers").
+ghost use mathlib.Core.Path.{_≡_};
+ghost use mathlib.Core.List.{[], _∷_};
+ghost use Prim.Native.Nat.{_+_, _-_, min};
+ghost use lib.ListN.{length};
+ghost use Rattle.room.specs.Room.{cap, Put};
+ghost use Rattle.room.specs.Digits.{decimal};
+
+// The text's length; or a refusal's number and place.
+pub enum Answer {
+    Done(usize),
+    Refused(u8, usize),
+}
+
+// The refusal of a text that is longer than the room; its place is the length needed.
+pub const ROOM_TOO_SMALL: u8 = 10;
+
+// Past every room: a place stops there, so that no put asks anything of its caller.
+const CAP: usize = 9223372036854775808;
+
+// The place after `n` bytes from `at` on.
+fn after(at: usize, n: usize) -> usize
+    ensures { λ r. ⌜ r ≡ min (at + n) cap ⌝ }
+{
+    if CAP <= at {
+        return CAP;
+    }
+    if CAP - at < n {
+        return CAP;
+    }
+    at + n
+}
+
+// The place after an empty text at `at`: a loop of puts starts from it.
+pub fn place(at: usize) -> usize
+    ensures { λ r. ⌜ r ≡ min at cap ⌝ }
+{
+    if CAP < at { CAP } else { at }
+}
+
+// How many of `n` bytes from `at` on a room of `len` bytes has places for.
+fn fitting(len: usize, at: usize, n: usize) -> usize
+    ensures { λ r. ⌜ r ≡ min n (len - at) ⌝ }
+{
+    if len <= at {
+        return 0;
+    }
+    if len - at < n { len - at } else { n }
+}
+
+// One byte. Each put answers the place after its text.
+pub fn put_byte(room: &mut [u8], at: usize, b: u8) -> usize
+    ensures { λ r. ⌜ Put (now (room .entry)) (now (room .exit)) at (b ∷ []) r ⌝ }
+{
+    if at < room.len() {
+        room[at] = b;
+        return at + 1;
+    }
+    after(at, 1)
+}
+
+// Any bytes, `put_bytes(room, at, b" & ")`: how many the room has places for is asked once.
+pub fn put_bytes(room: &mut [u8], at: usize, s: &[u8]) -> usize
+    ensures { λ r. ⌜ Put (now (room .entry)) (now (room .exit)) at (now (s .entry)) r ⌝ }
+{
+    let n = fitting(room.len(), at, s.len());
+    let mut i = 0;
+    while i < n {
+        room[at + i] = s[i];
+        i += 1;
+    }
+    after(at, s.len())
+}
+
+// How many digits a number has, one after the other.
+fn long_digits(n: usize) -> usize
+    ensures { λ r. ⌜ r ≡ length (decimal n) ⌝ }
+{
+    let mut left = n;
+    let mut k = 1;
+    while 10 <= left {
+        left = left / 10;
+        k += 1;
+    }
+    k
+}
+
+// How many digits a number has; up to six are told by tests.
+fn digits(n: usize) -> usize
+    ensures { λ r. ⌜ r ≡ length (decimal n) ⌝ }
+{
+    if n < 10 {
+        return 1;
+    }
+    if n < 100 {
+        return 2;
+    }
+    if n < 1000 {
+        return 3;
+    }
+    if n < 10000 {
+        return 4;
+    }
+    if n < 100000 {
+        return 5;
+    }
+    if n < 1000000 {
+        return 6;
+    }
+    long_digits(n)
+}
+
+// A number in decimal. Its digits are counted first and stored from the last on; past the room they are only counted.
+pub fn put_number(room: &mut [u8], at: usize, n: usize) -> usize
+    ensures { λ r. ⌜ Put (now (room .entry)) (now (room .exit)) at (decimal n) r ⌝ }
+{
+    if n < 10 {
+        return put_byte(room, at, b'0' + n as u8);
+    }
+    let k = digits(n);
+    if room.len() <= at {
+        return after(at, k);
+    }
+    let mut left = n;
+    let mut j = k;
+    while 0 < j {
+        j -= 1;
+        let to = at + j;
+        let b = b'0' + (left % 10) as u8;
+        left = left / 10;
+        if to < room.len() {
+            room[to] = b;
+        }
+    }
+    after(at, k)
+}

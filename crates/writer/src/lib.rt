@@ -1,0 +1,1 @@
+// The written card: its definition; the code follows.
