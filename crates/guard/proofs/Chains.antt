@@ -95,6 +95,7 @@ pub record Linked (s : List ℕ) (k : ℕ) (now : List ℕ) (depth : ℕ) (a : B
 pub record Chaining (s : List ℕ) (k : ℕ) (mid now : List ℕ) (depth : ℕ) (a : Bool) (first g : Guarded) : Type 0 where
   pub fits : g .root + g .left < nodePlaces
   pub most : g .left ≤ mostNodes
+  pub fewer : g .left ≤ first .left
   pub link : (was : List ℕ) (used : ℕ) (before : Late) (x : Result (Formula Literals)) → Refusing x → GuardRead s k was mid used before x first → Linked s k now depth a g was used before x
 
 module _ (s : List ℕ) (k : ℕ) (mid : List ℕ) (depth : ℕ) (a : Bool) (first : Guarded) where
@@ -102,6 +103,7 @@ module _ (s : List ℕ) (k : ℕ) (mid : List ℕ) (depth : ℕ) (a : Bool) (fir
   chain-begins fits most = record {
     fits = fits;
     most = most;
+    fewer = omega arith;
     link = λ was used before x refusing d. record { y = x; refusing = refusing; read = d; fuel = mostNodes; enough = most; goes = refl };
   }
 
@@ -178,6 +180,7 @@ module _ (s : List ℕ) (k : ℕ) (mid : List ℕ) (depth : ℕ) (a : Bool) (fir
           chain-turns now3 r join bounds = record {
             fits = omega (arith, operand-room .fits, bounds .0, bounds .1);
             most = omega (arith, operand-room .less, bounds .1, so .most);
+            fewer = omega (arith, operand-room .less, bounds .1, so .fewer);
             link = λ was used before x refusing d.
                 let i = so .link was used before x refusing d in
                 went-well s k was now used before g (i .y) (i .refusing) (i .read) z

@@ -1,14 +1,15 @@
 -- What the tests of the code say of the first refusal so far: each choice of specs/Late.antt, once its test is known.
-use Prim.Native.Nat.{ℕ}
+use Prim.Native.Nat.{ℕ, _≤_, _<_}
 use mathlib.Core.Path.{_≡_, refl, sym}
 use mathlib.Core.Bool.{Bool, true, false, not, _&&_, and-false}
 use mathlib.Core.Logic.{_⊎_, ⊎-elim}
-use lib.Dec.{eqb}
-use borrow.Author.Tests.{eq-eqb, ne-eqb}
-use Rattle.card.specs.Refusals.{notDue}
+use lib.Dec.{eqb, leb}
+use borrow.Author.Tests.{eq-eqb, ne-eqb, le-leb, lt-leb}
+use Rattle.card.specs.Refusals.{aboveTop, notDue}
+use Rattle.reading.specs.Judgements.{unless}
 use Rattle.guard.specs.declared.Late.{Late}
 use Rattle.guard.specs.declared.Settled.{Settled}
-use Rattle.guard.specs.Late.{blame, splitAt, wants, grouped}
+use Rattle.guard.specs.Late.{blame, blamed, splitAt, wants, grouped}
 use Rattle.guard.specs.Settled.{refusal, settled}
 
 module _ (r p : ℕ) (x : Late) where
@@ -17,6 +18,14 @@ module _ (r p : ℕ) (x : Late) where
 
   pub blame-first : x .number ≡ 0 → record { number = r; place = p; want = x .want; first = x .first; split = x .split; second = x .second } ≡ blame r p x
   blame-first h = rw (eq-eqb _ _ h)
+
+-- a state, against the top
+module _ (v k p : ℕ) (x : Late) where
+  pub state-fine : v ≤ k → x ≡ blamed (unless (leb v k) aboveTop) p x
+  state-fine h = rw (le-leb v k h)
+
+  pub state-above : k < v → blame aboveTop p x ≡ blamed (unless (leb v k) aboveTop) p x
+  state-above h = rw (lt-leb v k h)
 
 module _ (m p : ℕ) (x : Late) where
   pub wants-known : (x .number ≡ 0 → ⊥) → x ≡ wants m p x

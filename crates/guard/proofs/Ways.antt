@@ -7,7 +7,7 @@ use mathlib.Core.List.{List, [], _∷_}
 use native.Mathlib.Nat.{zero-add, add-zero}
 use native.Mathlib.Numerals.{sub-one}
 use native.Mathlib.Omega.{arith}
-use borrow.Author.Tests.{eq-eqb, ne-eqb, le-leb, lt-leb}
+use borrow.Author.Tests.{eq-eqb, ne-eqb}
 use lib.Dec.{eqb, leb}
 use lib.ListN.{length, take, drop, set, length-drop}
 use lib.Seq.{take-all}
@@ -162,14 +162,6 @@ module _ (part : List ℕ) (from v q p left k : ℕ) (was : List ℕ) (used : �
           nodes = ap (set was used) (h .node) ∙ sym (stored-group was used (groupBy (a .sign) (a .literals)));
         }
         go (stop m ms) h = absurd (omega (arith, z, ap (λ (u : Grouped). u .stop) (h .answer)))
-
--- its first d is at most k, or above it
-module _ (d k i : ℕ) (judged x : Late) (e : judged ≡ x) where
-  pub not-above : d ≤ k → judged ≡ blamed (unless (leb d k) aboveTop) i x
-  not-above h = rw (le-leb d k h) e
-
-  pub above : k < d → (late : Late) → late ≡ blame aboveTop i judged → late ≡ blamed (unless (leb d k) aboveTop) i x
-  above h late f = rw (lt-leb d k h) (f ∙ ap (blame aboveTop i) e)
 
 -- ---- a unary
 

@@ -12,15 +12,18 @@ use marks::kinds;
 ghost use mathlib.Core.Path.{_≡_};
 ghost use mathlib.Core.List.{List, _∷_};
 ghost use Prim.Native.Nat.{ℕ, _+_, _≤_, _<_, _^_};
+ghost use lib.Dec.{leb};
 ghost use lib.ListN.{length, drop};
 ghost use Rattle.card.specs.Limits.{nodePlaces, mostNodes};
+ghost use Rattle.card.specs.Refusals.{aboveTop};
 ghost use Rattle.marks.specs.Marks.{placed, seat as seatWord, placeOf};
 ghost use Rattle.marks.specs.Kinds.{kind as kindOf};
 ghost use Rattle.marks.specs.Step.{marksAt};
 ghost use Rattle.reading.specs.Reader.{Place, at as from};
 ghost use Rattle.reading.specs.Guard.{unary as unaryOf, conjunction as conjunctionOf, expression as expressionOf, grouped as groupedOf};
 ghost use Rattle.reading.specs.Group.{group as groupOf};
-ghost use Rattle.guard.specs.Late.{noneYet, blame as blameAt, wants as wantsAt, grouped as groupedAt};
+ghost use Rattle.reading.specs.Judgements.{unless};
+ghost use Rattle.guard.specs.Late.{noneYet, blame as blameAt, blamed, wants as wantsAt, grouped as groupedAt};
 ghost use Rattle.guard.specs.Settled.{settled};
 ghost use Rattle.guard.specs.GuardRead.{stopped as stoppedAt, GuardRead};
 ghost use Rattle.guard.specs.Pieces.{operatorOf, joiner, operandOf, chained, thenNot, thenClose, Onward, Joined, GroupedAt, Bracketed};
@@ -81,6 +84,16 @@ pub fn blame(late: Late, number: u8, place: usize) -> Late
         split: late.split,
         second: late.second,
     }
+}
+
+// A state that stands on the card, against the top state.
+pub fn judge_state(late: Late, value: usize, top: usize, place: usize) -> Late
+    ensures { λ r. ⌜ r ≡ blamed (unless (leb value top) aboveTop) place late ⌝ }
+{
+    if value <= top {
+        return late;
+    }
+    blame(late, ABOVE_TOP, place)
 }
 
 // A group that is symmetric for one number of seats only.
@@ -260,30 +273,22 @@ fn grouping(
     if left == 0 {
         return stopped(PAST_LIMIT, place);
     }
+    let rest = left - 1;
     let g = group::group(part, at, seat);
     if g.stop != 0 {
         return stopped(OUT_OF_SHAPE, begin + g.place);
     }
     nodes[used] = g.node;
-    let judged = grouped(late, g.want, place);
-    if g.d <= top {
-        return Guarded {
-            stop: 0,
-            place: 0,
-            next: begin + g.next,
-            root: used,
-            left: left - 1,
-            late: judged,
-        };
-    }
-    let above = blame(judged, ABOVE_TOP, begin + g.first);
+    let by_seats = grouped(late, g.want, place);
+    let judged = judge_state(by_seats, g.d, top, begin + g.first);
+    let next = begin + g.next;
     Guarded {
         stop: 0,
         place: 0,
-        next: begin + g.next,
+        next: next,
         root: used,
-        left: left - 1,
-        late: above,
+        left: rest,
+        late: judged,
     }
 }
 
@@ -366,7 +371,8 @@ pub fn unary(
     if left == 0 {
         return stopped(PAST_LIMIT, s.mark.place);
     }
-    let g = unary(card, s.next.at, nodes, used, left - 1, depth - 1, top, late);
+    let deeper = depth - 1;
+    let g = unary(card, s.next.at, nodes, used, left - 1, deeper, top, late);
     negated(nodes, g)
 }
 

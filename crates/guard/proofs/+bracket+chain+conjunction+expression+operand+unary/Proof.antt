@@ -8,7 +8,7 @@ use Rattle.card.specs.Text.{if_then_else_}
 use native.Mathlib.Omega.{arith}
 use borrow.Author.Needs.{needs}
 use denote.Ref.{now}
-use Prim.Native.Nat.{ℕ, _+_, _*_, _-_, _<_}
+use Prim.Native.Nat.{ℕ, _<_, _+_, _*_, _-_}
 use borrow.Fn.Kinds.{In}
 use borrow.Fn.PlainCycle.{Measures, is, falls, and}
 use Rattle.guard.proofs.bracket.Reads as bracket
@@ -40,22 +40,22 @@ use Rattle.guard.proofs.+bracket+chain+conjunction+expression+operand+u
 use Rattle.guard.proofs.+bracket+chain+conjunction+expression+operand+unary.Tie.{close}
 
 abbrev μ-bracket : Measures 2 bracket-kinds.ps ℕ
-μ-bracket κs a = a .1 .1 .1 .1 .1 .1 .0 * 8
+μ-bracket κs a = (a .1 .1 .1 .1 .1 .1 .0 + a .1 .1 .1 .1 .1 .0) * 8
 
 abbrev μ-chain : Measures 2 chain-kinds.ps ℕ
-μ-chain κs a = a .1 .1 .1 .0 * 8 + 3 + (if a .1 .1 .1 .1 .1 .0 then 3 else 0)
+μ-chain κs a = (a .1 .1 .1 .0 + a .1 .1 .0 .left) * 8 + 3 + (if a .1 .1 .1 .1 .1 .0 then 3 else 0)
 
 abbrev μ-conjunction : Measures 2 conjunction-kinds.ps ℕ
-μ-conjunction κs a = a .1 .1 .1 .1 .1 .0 * 8 + 4
+μ-conjunction κs a = (a .1 .1 .1 .1 .1 .0 + a .1 .1 .1 .1 .0) * 8 + 4
 
 abbrev μ-expression : Measures 2 expression-kinds.ps ℕ
-μ-expression κs a = a .1 .1 .1 .1 .1 .0 * 8 + 7
+μ-expression κs a = (a .1 .1 .1 .1 .1 .0 + a .1 .1 .1 .1 .0) * 8 + 7
 
 abbrev μ-operand : Measures 2 operand-kinds.ps ℕ
-μ-operand κs a = a .1 .1 .1 .1 .1 .0 * 8 + 2 + (if a .1 .1 .1 .1 .1 .1 .1 .1 .0 then 3 else 0)
+μ-operand κs a = (a .1 .1 .1 .1 .1 .0 + a .1 .1 .1 .1 .0) * 8 + 2 + (if a .1 .1 .1 .1 .1 .1 .1 .1 .0 then 3 else 0)
 
 abbrev μ-unary : Measures 2 unary-kinds.ps ℕ
-μ-unary κs a = a .1 .1 .1 .1 .1 .0 * 8 + 1
+μ-unary κs a = (a .1 .1 .1 .1 .1 .0 + a .1 .1 .1 .1 .0) * 8 + 1
 
 abbrev bracket-at : ℕ → In 2 bracket-kinds.ps
 bracket-at t = and 2 bracket-kinds.ps (is 2 bracket-kinds.ps μ-bracket t) bracket.Pre
@@ -182,7 +182,7 @@ chain-sub-operand : (t : ℕ) → chain-lts.Need-sub-operand (chain-R t) (chain-
 chain-sub-operand t c = search needs
 
 chain-operand-requires : (t : ℕ) → chain-lts.Need-operand-requires (chain-R t) (chain-at t) chain.Post chain-Inv-loop chain-μ-loop
-chain-operand-requires t c κs = (omega (arith, c .before .before .before .before .before .before .before .before .before .before .before .before .before .before .pre .0), (omega (arith, c .before .before .before .before .before .before .before .before .before .before .before .loop .inv .fits), omega (arith, c .before .before .before .before .before .before .before .before .before .before .before .loop .inv .most)))
+chain-operand-requires t c κs = (omega (arith, c .before .before .before .before .before .before .before .before .before .before .before .before .before .before .pre .0, c .before .before .before .before .before .before .before .before .before .before .before .loop .inv .fewer), (omega (arith, c .before .before .before .before .before .before .before .before .before .before .before .loop .inv .fits), omega (arith, c .before .before .before .before .before .before .before .before .before .before .before .loop .inv .most)))
 
 chain-joined-requires : (t : ℕ) → chain-lts.Need-joined-requires (chain-R t) (chain-at t) chain.Post chain-Inv-loop chain-μ-loop
 chain-joined-requires t c κs = (omega (arith, c .before .before .before .before .before .before .before .before .before .before .before .before .before .loop .inv .fits), omega (arith, operand-room (now (c .before .before .before .before .before .before .before .before .before .before .before .before .before .before .before .before .args .card)) (c .before .before .before .before .before .before .before .before .before .before .before .before .before .before .before .before .args .top) (now (c .before .before .before .before .before .before .before .before .before .before .before .before .before .before .before .before .args .nodes)) (c .before .before .before .before .before .before .before .before .before .before .before .before .before .before .before .before .args .depth) (c .before .before .before .before .before .before .before .before .before .before .before .before .before .before .before .before .args .any) (c .before .before .before .before .before .before .before .before .before .before .before .before .before .before .before .before .args .first) (c .before .before .before .before .before .before .before .before .before .before .before .before .before .loop .nodes) (c .before .before .before .before .before .before .before .before .before .before .before .before .before .loop .g) (c .before .before .before .before .before .before .before .before .before .before .before .before .before .loop .inv) (c .before .before .before .before .before .before .before .before .before .before .before .if1 .taken) (c .before .before .before .before .before .before .before .before .before .before .step .result) (c .before .before .before .before .before .before .before .before .before .before .step .ensures) (c .before .before .before .before .before .before .before .before .before .before .before .before .before .before .joint .result) (c .before .before .before .before .before .before .before .before .before .before .before .before .before .before .joint .ensures) (c .before .before .before .before .before .before .before .before .if2 .left) (c .before .before .before .before .before .before .if3 .left) (c .before .operand .last .1 .1 .0) (c .before .operand .result) (c .before .operand .ensures) .fits))
@@ -201,7 +201,7 @@ conjunction-unary-requires t c κs = (omega arith, (c .before .before .pre .1 .0
 
 conjunction-chain-requires : (t : ℕ) → conjunction-lts.Need-chain-requires (conjunction-R t) (conjunction-at t) conjunction.Post
 conjunction-chain-requires t c κs = let r = unary-room (now (c .before .before .before .before .args .card)) (c .before .before .before .before .args .top) (now (c .before .before .before .before .args .nodes)) (c .before .unary .last .1 .1 .0) (c .before .before .before .before .args .used) (c .before .before .before .before .args .late) (c .before .before .before .before .args .at) (c .before .before .before .before .args .left) (c .before .before .before .before .args .depth) (c .before .unary .result) (c .before .unary .ensures) nodePlaces (omega arith) (c .before .before .before .before .pre .1 .0) in
-    (omega arith, (r .fits, omega (arith, r .less, c .before .before .before .before .pre .1 .1)))
+    (omega (arith, r .less, c .before .before .before .before .pre .0), (r .fits, omega (arith, r .less, c .before .before .before .before .pre .1 .1)))
 
 conjunction-returns : (t : ℕ) → conjunction-lts.Need-returns (conjunction-R t) (conjunction-at t) conjunction.Post
 conjunction-returns t c = unary-chained (now (c .before .before .before .before .before .args .card)) (c .before .before .before .before .before .args .top) (now (c .before .before .before .before .before .args .nodes)) (c .before .before .unary .last .1 .1 .0) (c .before .before .before .before .before .args .used) (c .before .before .before .before .before .args .late) (c .before .before .before .before .before .args .at) (c .before .before .before .before .before .args .left) (c .before .before .before .before .before .args .depth) (c .before .before .unary .result) (c .chain .last .1 .0) (c .chain .result) (c .before .before .unary .ensures) (c .chain .ensures)
@@ -211,7 +211,7 @@ expression-conjunction-requires t c κs = (omega arith, (c .before .before .pre 
 
 expression-chain-requires : (t : ℕ) → expression-lts.Need-chain-requires (expression-R t) (expression-at t) expression.Post
 expression-chain-requires t c κs = let r = conjunction-room (now (c .before .before .before .before .args .card)) (c .before .before .before .before .args .top) (now (c .before .before .before .before .args .nodes)) (c .before .conjunction .last .1 .1 .0) (c .before .before .before .before .args .used) (c .before .before .before .before .args .late) (c .before .before .before .before .args .at) (c .before .before .before .before .args .left) (c .before .before .before .before .args .depth) (c .before .conjunction .result) (c .before .conjunction .ensures) nodePlaces (omega arith) (c .before .before .before .before .pre .1 .0) in
-    (omega arith, (r .fits, omega (arith, r .less, c .before .before .before .before .pre .1 .1)))
+    (omega (arith, r .less, c .before .before .before .before .pre .0), (r .fits, omega (arith, r .less, c .before .before .before .before .pre .1 .1)))
 
 expression-returns : (t : ℕ) → expression-lts.Need-returns (expression-R t) (expression-at t) expression.Post
 expression-returns t c = conjunction-chained (now (c .before .before .before .before .before .args .card)) (c .before .before .before .before .before .args .top) (now (c .before .before .before .before .before .args .nodes)) (c .before .before .conjunction .last .1 .1 .0) (c .before .before .before .before .before .args .used) (c .before .before .before .before .before .args .late) (c .before .before .before .before .before .args .at) (c .before .before .before .before .before .args .left) (c .before .before .before .before .before .args .depth) (c .before .before .conjunction .result) (c .chain .last .1 .0) (c .chain .result) (c .before .before .conjunction .ensures) (c .chain .ensures)
@@ -255,11 +255,11 @@ unary-stopped-requires-3 t c κs = tt
 unary-returns-4 : (t : ℕ) → unary-lts.Need-returns-4 (unary-R t) (unary-at t) unary.Post
 unary-returns-4 t c = rw (c .stopped3 .ensures) (reads-full (now (c .before .before .before .before .before .before .before .before .before .args .card)) (c .before .before .before .before .before .before .before .before .before .args .at) (c .before .before .before .before .before .before .before .before .before .args .left) (c .before .before .before .before .before .before .before .before .before .args .depth) (c .before .before .before .before .before .before .before .before .before .args .top) (now (c .before .before .before .before .before .before .before .before .before .args .nodes)) (now (c .before .before .before .before .before .before .before .before .before .args .nodes)) (c .before .before .before .before .before .before .before .before .before .args .used) (c .before .before .before .before .before .before .before .before .before .args .late) (c .before .before .before .before .before .before .before .step .result) (c .before .before .before .before .before .before .before .step .ensures) (c .before .before .before .if2 .left) (c .before .before .if3 .left) (c .before .if4 .taken))
 
+unary-sub-deeper : (t : ℕ) → unary-lts.Need-sub-deeper (unary-R t) (unary-at t) unary.Post
+unary-sub-deeper t c = search needs
+
 unary-sub-unary : (t : ℕ) → unary-lts.Need-sub-unary (unary-R t) (unary-at t) unary.Post
 unary-sub-unary t c = search needs
-
-unary-sub-unary-2 : (t : ℕ) → unary-lts.Need-sub-unary-2 (unary-R t) (unary-at t) unary.Post
-unary-sub-unary-2 t c = search needs
 
 unary-unary-requires : (t : ℕ) → unary-lts.Need-unary-requires (unary-R t) (unary-at t) unary.Post
 unary-unary-requires t c κs = (omega arith, (omega arith, omega arith))
@@ -372,8 +372,8 @@ pub +bracket+chain+conjunction+expression+operand+unary-spec : {M : Type 1} → 
     (unary-returns-3 t)
     (unary-stopped-requires-3 t)
     (unary-returns-4 t)
+    (unary-sub-deeper t)
     (unary-sub-unary t)
-    (unary-sub-unary-2 t)
     (unary-unary-requires t)
     (unary-negated-requires t)
     (unary-returns-5 t)

@@ -1,0 +1,13 @@
+pub mod Passed
+pub mod Steps
+pub mod Answers
+pub mod Lines
+pub mod Counted
+pub mod BranchLaws
+pub mod StatementLaws
+pub mod ModuleLaws
+pub mod HeaderLaws
+pub mod Places
+pub mod Outcomes
+pub mod FilledLaws
+pub mod CardLaws

@@ -1,0 +1,223 @@
+-- A reader passes only marks that fit, so no mark outside the rules: what holds of a place and goes on past every mark inside the rules
+-- (P) holds behind whatever a reader of the shape reads, and where it stops; and it stops with a number. One lemma for each way in
+-- which readers are put together, then the shape of a card. Assumes nothing.
+use Prim.Native.Nat.{ℕ, zero, suc, _-_}
+use Prim.Native.String.{String}
+use mathlib.Core.Path.{_≡_, refl}
+use mathlib.Core.Bool.{Bool, true, false}
+use mathlib.Core.List.{List, [], _∷_}
+use mathlib.Core.Option.{Option, none, some}
+use native.Mathlib.Omega.{arith}
+use lib.Dec.{leb}
+use lib.ListN.{length}
+use Rattle.card.specs.Limits.{mostSeats, topState, mostStatements, mostBranches, mostNodes, mostDepth}
+use Rattle.card.specs.Refusals.{outOfShape, pastLimit}
+use Rattle.card.specs.Text.{if_then_else_}
+use Rattle.card.specs.Card.{Formula, and, or, any, all}
+use Rattle.card.specs.Weight.{Weight, whole, decimal as point, ratio}
+use Rattle.marks.specs.Marks.{Mark, text, seat, process, number, decimal, outside, Placed, placed}
+use Rattle.reading.specs.Reader.{Place, State, at, Result, ok, stop, Reader, bind, return, refuse, refuseAt, took, first, the, is, given, nextIs, ifNext, sign, seatOf, processOf, numberOf, here, numbered, spend, node, nodeAt, Item, exactly, seatWord, processWord, line}
+use Rattle.reading.specs.Guard.{seatNext, ifSeat, Read, chain, conjunction, expression, grouped, unary}
+use Rattle.reading.specs.Group.{joint, relationOf, literal, others, group}
+use Rattle.reading.specs.Shape.{many, weightOf, over, weight, branch, nextBranch, pastBranches, moreBranches, guard, mayHave, statement, moreStatements, copy, moreModules, modeOf, zeroOf, top, ended, theEnd, body, card}
+use Rattle.reading.specs.Reading.{isOutside}
+use Rattle.reading.specs.Grammar.{cardRun, statementRun, branchRun, moduleRun}
+
+module _ (P : Place → Type 0) (pass : (m : Mark) (q : ℕ) (ms : Place) → isOutside m ≡ false → P (placed m q ∷ ms) → P ms) where
+  abbrev pub Held : {A : Type 0} → Result A → Type 0
+  Held (ok a s) = P (s .marks)
+  Held (stop n p) = P p × (n ≡ 0 → ⊥)
+
+  abbrev pub Safe : {A : Type 0} → Reader A → Type 0
+  Safe p = (s : State) → P (s .marks) → Held (p s)
+
+  -- ---- how readers are put together
+
+  module _ {A B : Type 0} where
+    andThen : (x : Result A) (f : A → Reader B) → Held x → ((a : A) → Safe (f a)) → Held (bind x f)
+    andThen (ok a s) f h k = k a s h
+    andThen (stop n p) f h k = h
+
+  limitP : (p : Place) → P p → P p × (pastLimit ≡ 0 → ⊥)
+  limitP p h = (h, λ e. omega arith)
+
+  took-held : {A : Type 0} (o : Option A) (m : Mark) (q : ℕ) (ms : Place) (n : ℕ) → isOutside m ≡ false → P (placed m q ∷ ms) → Held (took o (placed m q) ms n)
+  took-held none m q ms n e h = (h, λ e. omega arith)
+  took-held (some a) m q ms n e h = pass m q ms e h
+
+  first-held : {A : Type 0} (f : Mark → Option A) → f outside ≡ none → (ms : Place) (n : ℕ) → P ms → Held (first f ms n)
+  first-held f e [] n h = (h, λ e. omega arith)
+  first-held f e (placed (text t) q ∷ ms) n h = took-held (f (text t)) (text t) q ms n refl h
+  first-held f e (placed (seat i) q ∷ ms) n h = took-held (f (seat i)) (seat i) q ms n refl h
+  first-held f e (placed (process i) q ∷ ms) n h = took-held (f (process i)) (process i) q ms n refl h
+  first-held f e (placed (number v) q ∷ ms) n h = took-held (f (number v)) (number v) q ms n refl h
+  first-held f e (placed (decimal v d g) q ∷ ms) n h = took-held (f (decimal v d g)) (decimal v d g) q ms n refl h
+  first-held f e (placed outside q ∷ ms) n h = rw e (h, λ e. omega arith)
+
+  theP : {A : Type 0} (f : Mark → Option A) → f outside ≡ none → Safe (the f)
+  theP f e s h = first-held f e (s .marks) (s .nodes) h
+
+  signP : (t : String) → Safe (sign t)
+  signP t = theP (λ m. given (is t m)) refl
+
+  numberedP : (f : Mark → Option ℕ) → f outside ≡ none → Safe (numbered f)
+  numberedP f e s h = andThen (the f s) _ (theP f e s h) λ v s₁ h₁. h₁
+
+  choice : {A : Type 0} (b : Bool) (p q : Reader A) → Safe p → Safe q → Safe (if b then p else q)
+  choice true p q x y = x
+  choice false p q x y = y
+
+  spend-held : (p ms : Place) (n : ℕ) → P p → P ms → Held (spend p ms n)
+  spend-held p ms zero g h = limitP p g
+  spend-held p ms (suc n) g h = h
+
+  nodeP : Safe node
+  nodeP s h = spend-held (s .marks) (s .marks) (s .nodes) h h
+
+  lineP : (items : List Item) → Safe (line items)
+  lineP [] s h = h
+  lineP (exactly t ∷ items) s h = andThen (sign t s) _ (signP t s h) λ u. lineP items
+  lineP (seatWord ∷ items) s h = andThen (numbered seatOf s) _ (numberedP seatOf refl s h) λ w s₁ h₁. andThen (line items s₁) _ (lineP items s₁ h₁) λ ws s₂ h₂. h₂
+  lineP (processWord ∷ items) s h = andThen (numbered processOf s) _ (numberedP processOf refl s h) λ w s₁ h₁. andThen (line items s₁) _ (lineP items s₁ h₁) λ ws s₂ h₂. h₂
+
+  module _ {A : Type 0} (t : String) (one : Reader A) (past : Reader (List A)) (x : Safe one) (y : Safe past) where
+    manyP : (most : ℕ) → Safe (many most t one past)
+    manyP zero s h = choice (nextIs t (s .marks)) past _ y (λ s₁ h₁. h₁) s h
+    manyP (suc most) s h =
+        choice (nextIs t (s .marks)) _ _
+        (λ s₁ h₁. andThen (one s₁) _ (x s₁ h₁) λ a s₂ h₂. andThen (many most t one past s₂) _ (manyP most s₂ h₂) λ rest s₃ h₃. h₃)
+        (λ s₁ h₁. h₁) s h
+
+  -- ---- groups and guards
+
+  literalP : Safe literal
+  literalP s h =
+      andThen (the seatOf s) _ (theP seatOf refl s h) λ i s₁ h₁.
+      andThen (the relationOf s₁) _ (theP relationOf refl s₁ h₁) λ q s₂ h₂.
+      andThen (the numberOf s₂) _ (theP numberOf refl s₂ h₂) λ d s₃ h₃. h₃
+
+  closeP : {A : Type 0} (a : A) → Safe (λ s. bind (sign ")" s) (λ u. return a))
+  closeP a s h = andThen (sign ")" s) _ (signP ")" s h) λ u s₁ h₁. h₁
+
+  othersP : (t : String) (most : ℕ) → Safe (others t most)
+  othersP t zero s h = choice (nextIs t (s .marks)) _ _ (λ s₁ h₁. limitP (s₁ .marks) h₁) (closeP []) s h
+  othersP t (suc most) s h =
+      choice (nextIs t (s .marks)) _ _
+      (λ s₁ h₁.
+      andThen (sign t s₁) _ (signP t s₁ h₁) λ u s₂ h₂.
+      andThen (literal s₂) _ (literalP s₂ h₂) λ l s₃ h₃.
+      andThen (others t most s₃) _ (othersP t most s₃ h₃) λ ls s₄ h₄. h₄)
+      (closeP []) s h
+
+  groupP : (p : Place) → Safe (group p)
+  groupP p s h =
+      andThen (literal s) _ (literalP s h) λ l s₁ h₁.
+      andThen (ifNext (joint any) (return any) (return all) s₁) _ (choice (nextIs (joint any) (s₁ .marks)) _ _ (λ s₂ h₂. h₂) (λ s₂ h₂. h₂) s₁ h₁) λ j s₂ h₂.
+      andThen (others (joint j) (length (s₁ .marks)) s₂) _ (othersP (joint j) (length (s₁ .marks)) s₂ h₂) λ ls s₃ h₃. h₃
+
+  module _ {A : Type 0} where
+    module _ (t : String) (join : Formula A → Formula A → Formula A) (operand : Read A) (x : Safe operand) where
+      chainP : (most : ℕ) (g : Formula A) → Safe (chain t join operand most g)
+      chainP zero g s h = choice (nextIs t (s .marks)) _ _ (λ s₁ h₁. limitP (s₁ .marks) h₁) (λ s₁ h₁. h₁) s h
+      chainP (suc most) g s h =
+          choice (nextIs t (s .marks)) _ _
+          (λ s₁ h₁.
+          andThen (node s₁) _ (nodeP s₁ h₁) λ u s₂ h₂.
+          andThen (sign t s₂) _ (signP t s₂ h₂) λ w s₃ h₃.
+          andThen (operand s₃) _ (x s₃ h₃) λ k. chainP most (join g k))
+          (λ s₁ h₁. h₁) s h
+
+    conjunctionP : (p : Read A) → Safe p → Safe (conjunction p)
+    conjunctionP p x s h = andThen (p s) _ (x s h) λ g. chainP "&" and p x mostNodes g
+
+    expressionP : (p : Read A) → Safe p → Safe (expression p)
+    expressionP p x s h = andThen (conjunction p s) _ (conjunctionP p x s h) λ g. chainP "|" or (conjunction p) (conjunctionP p x) mostNodes g
+
+  groupedP : (p : Place) → P p → Safe (grouped group p)
+  groupedP p g s h =
+      andThen (nodeAt p s) _ (spend-held p (s .marks) (s .nodes) g h) λ u s₁ h₁.
+      andThen (group p s₁) _ (groupP p s₁ h₁) λ a s₂ h₂. h₂
+
+  unaryP : (depth : ℕ) → Safe (unary group depth)
+  unaryP zero s h =
+      choice (nextIs "!" (s .marks)) _ _ (λ s₁ h₁. limitP (s₁ .marks) h₁)
+      (λ s₁ h₁. andThen (sign "(" s₁) _ (signP "(" s₁ h₁) λ u s₂ h₂.
+      choice (seatNext (s₂ .marks)) _ _ (groupedP (s₁ .marks) h₁) (λ s₃ h₃. limitP (s₁ .marks) h₁) s₂ h₂) s h
+  unaryP (suc depth) s h =
+      choice (nextIs "!" (s .marks)) _ _
+      (λ s₁ h₁.
+      andThen (node s₁) _ (nodeP s₁ h₁) λ u s₂ h₂.
+      andThen (sign "!" s₂) _ (signP "!" s₂ h₂) λ w s₃ h₃.
+      andThen (unary group depth s₃) _ (unaryP depth s₃ h₃) λ g s₄ h₄. h₄)
+      (λ s₁ h₁. andThen (sign "(" s₁) _ (signP "(" s₁ h₁) λ u s₂ h₂.
+      choice (seatNext (s₂ .marks)) _ _ (groupedP (s₁ .marks) h₁)
+      (λ s₃ h₃. andThen (expression (unary group depth) s₃) _ (expressionP (unary group depth) (unaryP depth) s₃ h₃) λ g. closeP g) s₂ h₂) s h
+
+  pub guardP : Safe (conjunction (unary group mostDepth))
+  guardP = conjunctionP (unary group mostDepth) (unaryP mostDepth)
+
+  -- ---- the card
+
+  overP : (w : Weight) → Safe (over w)
+  overP (whole a) s h =
+      choice (nextIs "/" (s .marks)) _ _
+      (λ s₁ h₁. andThen (sign "/" s₁) _ (signP "/" s₁ h₁) λ u s₂ h₂. andThen (the numberOf s₂) _ (theP numberOf refl s₂ h₂) λ b s₃ h₃. h₃)
+      (λ s₁ h₁. h₁) s h
+  overP (point v n f) s h = h
+  overP (ratio a b) s h = h
+
+  weightP : Safe weight
+  weightP s h = andThen (the weightOf s) _ (theP weightOf refl s h) λ w. overP w
+
+  branchP : Safe branch
+  branchP s h =
+      andThen (weight s) _ (weightP s h) λ w s₁ h₁.
+      andThen (line branchRun s₁) _ (lineP branchRun s₁ h₁) λ ws s₂ h₂.
+      andThen (numbered numberOf s₂) _ (numberedP numberOf refl s₂ h₂) λ t. closeP _
+
+  moreBranchesP : (most : ℕ) → Safe (moreBranches most)
+  moreBranchesP =
+      manyP "+" nextBranch pastBranches (λ s h. andThen (sign "+" s) _ (signP "+" s h) λ u. branchP)
+      (λ s h. andThen (sign "+" s) _ (signP "+" s h) λ u s₁ h₁. andThen (the weightOf s₁) _ (theP weightOf refl s₁ h₁) λ w s₂ h₂. limitP (s₁ .marks) h₁)
+
+  optionP : Safe guard
+  optionP s h =
+      choice (nextIs "&" (s .marks)) _ _
+      (λ s₁ h₁. andThen (sign "&" s₁) _ (signP "&" s₁ h₁) λ u s₂ h₂. andThen (conjunction (unary group mostDepth) s₂) _ (guardP s₂ h₂) λ g s₃ h₃. h₃)
+      (λ s₁ h₁. h₁) s h
+
+  statementP : Safe statement
+  statementP s h =
+      andThen (line statementRun s) _ (lineP statementRun s h) λ ws s₁ h₁.
+      andThen (numbered numberOf s₁) _ (numberedP numberOf refl s₁ h₁) λ j s₂ h₂.
+      andThen (guard (at (s₂ .marks) mostNodes)) _ (optionP (at (s₂ .marks) mostNodes) h₂) λ g s₃ h₃.
+      andThen (sign "->" s₃) _ (signP "->" s₃ h₃) λ u s₄ h₄.
+      andThen (branch s₄) _ (branchP s₄ h₄) λ b s₅ h₅.
+      andThen (moreBranches (mostBranches - 1) s₅) _ (moreBranchesP (mostBranches - 1) s₅ h₅) λ bs s₆ h₆.
+      andThen (sign ";" s₆) _ (signP ";" s₆ h₆) λ w s₇ h₇. h₇
+
+  topP : Safe top
+  topP s h = andThen (the numberOf s) _ (theP numberOf refl s h) λ k. choice (leb k topState) _ _ (λ s₁ h₁. h₁) (λ s₁ h₁. limitP (s .marks) h)
+
+  ended-held : (ms : Place) (n : ℕ) → P ms → Held (ended ms n)
+  ended-held [] n h = h
+  ended-held (m ∷ ms) n h = (h, λ e. omega arith)
+
+  bodyP : Safe body
+  bodyP s h =
+      andThen (the modeOf s) _ (theP modeOf refl s h) λ m s₁ h₁.
+      andThen (line cardRun s₁) _ (lineP cardRun s₁ h₁) λ ws s₂ h₂.
+      andThen (the zeroOf s₂) _ (theP zeroOf refl s₂ h₂) λ z s₃ h₃.
+      andThen (sign ".." s₃) _ (signP ".." s₃ h₃) λ u s₄ h₄.
+      andThen (top s₄) _ (topP s₄ h₄) λ k s₅ h₅.
+      andThen (sign "]" s₅) _ (signP "]" s₅ h₅) λ u₁ s₆ h₆.
+      andThen (sign "init" s₆) _ (signP "init" s₆ h₆) λ u₂ s₇ h₇.
+      andThen (numbered numberOf s₇) _ (numberedP numberOf refl s₇ h₇) λ l s₈ h₈.
+      andThen (sign ";" s₈) _ (signP ";" s₈ h₈) λ u₃ s₉ h₉.
+      andThen (statement s₉) _ (statementP s₉ h₉) λ x t h₁₀.
+      andThen (moreStatements (mostStatements - 1) t) _ (manyP "[" statement (refuse pastLimit) statementP (λ s h. limitP (s .marks) h) (mostStatements - 1) t h₁₀) λ xs t₁ h₁₁.
+      andThen (sign "endmodule" t₁) _ (signP "endmodule" t₁ h₁₁) λ u₄ t₂ h₁₂.
+      andThen (moreModules (mostSeats - 1) t₂) _ (manyP "module" copy (refuse pastLimit) (lineP moduleRun) (λ s h. limitP (s .marks) h) (mostSeats - 1) t₂ h₁₂) λ ms t₃ h₁₃. h₁₃
+
+  pub cardP : Safe card
+  cardP s h = andThen (body s) _ (bodyP s h) λ c s₁ h₁. andThen (theEnd s₁) _ (ended-held (s₁ .marks) (s₁ .nodes) h₁) λ u s₂ h₂. h₂

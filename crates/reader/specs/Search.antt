@@ -1,0 +1,11 @@
+-- A stop, once what is left of the card was searched for a mark outside the rules: such a mark goes before it ("Refusal numbers").
+-- Assumes nothing.
+use Prim.Native.Nat.{ℕ}
+use mathlib.Core.Option.{Option, none, some}
+use Rattle.card.specs.Refusals.{outsideRules}
+use Rattle.reader.specs.declared.Verdict.{Verdict}
+use Rattle.reader.specs.declared.Verdict.the-variants.{Refused}
+
+abbrev pub searched : ℕ → ℕ → Option ℕ → Verdict
+searched r p none = Refused r p
+searched r p (some o) = Refused outsideRules o

@@ -1,0 +1,116 @@
+// A card, from its bytes, in one pass: each mark of a card that is taken is read once, and only where reading stops is the rest searched
+// for a mark outside the rules.
+mod branches;
+mod header;
+mod modules;
+mod parts;
+mod statements;
+
+use card::Card;
+use card::blank;
+use card::limits::BRANCH_PLACES;
+use card::limits::CARD_BYTES;
+use card::limits::NODE_PLACES;
+use card::refusals::OUTSIDE_RULES;
+use card::refusals::TOO_LONG;
+use guard::settle;
+use header::header as beginning;
+use marks::Cursor;
+use marks::kinds::END;
+use marks::kinds::OUTSIDE;
+use modules::modules as further_modules;
+use statements::statements as all_statements;
+ghost use mathlib.Core.Path.{_≡_};
+ghost use Rattle.card.specs.Laid.{blank as blankCard};
+ghost use Rattle.marks.specs.Step.{marksAt};
+ghost use Rattle.reading.specs.Reading.{firstOutside};
+ghost use Rattle.reader.specs.Search.{searched};
+ghost use Rattle.reader.specs.ReadingOf.{Reads};
+
+// Taken, or refused with a number and a place ("Refusal numbers").
+pub enum Verdict {
+    Taken,
+    Refused(u8, usize),
+}
+
+pub struct Reading {
+    pub verdict: Verdict,
+    pub card: Card,
+}
+
+// A stop at a place, unless a mark outside the rules stands there or further on.
+fn search(card: &[u8], stop: u8, place: usize) -> Verdict
+    ensures { λ r. ⌜ r ≡ searched stop place (firstOutside (marksAt 0 (now (card .entry)) place)) ⌝ }
+{
+    let mut next = place;
+    while next < card.len() {
+        let cursor = Cursor { at: next };
+        let step = cursor.step(card);
+        let mark = step.mark;
+        if mark.kind == END {
+            return Verdict::Refused(stop, place);
+        }
+        if mark.kind == OUTSIDE {
+            return Verdict::Refused(OUTSIDE_RULES, mark.place);
+        }
+        let behind = step.next;
+        next = behind.at;
+    }
+    Verdict::Refused(stop, place)
+}
+
+fn refused(verdict: Verdict) -> Reading
+    ensures { λ r. ⌜ (r .verdict ≡ verdict) × (r .card ≡ blankCard) ⌝ }
+{
+    let card = blank();
+    Reading { verdict, card }
+}
+
+// The card that the bytes spell, or the refusal that is due.
+pub fn read(card: &[u8]) -> Reading
+    ensures { λ r. ⌜ Reads (now (card .entry)) r ⌝ }
+{
+    if card.len() > CARD_BYTES {
+        return refused(Verdict::Refused(TOO_LONG, 0));
+    }
+    let head = beginning(card, 0);
+    if head.stop != 0 {
+        return refused(search(card, head.stop, head.place));
+    }
+    let mut nodes: [u32; NODE_PLACES] = [0; NODE_PLACES];
+    let mut branches: [u32; BRANCH_PLACES] = [0; BRANCH_PLACES];
+    let list = all_statements(
+        card,
+        head.next,
+        head.top,
+        &mut nodes,
+        &mut branches,
+        head.late,
+    );
+    if list.stop != 0 {
+        return refused(search(card, list.stop, list.place));
+    }
+    let tail = further_modules(card, list.next, list.late);
+    if tail.stop != 0 {
+        return refused(search(card, tail.stop, tail.place));
+    }
+    let settled = settle(tail.late, tail.value);
+    if settled.number != 0 {
+        return refused(Verdict::Refused(settled.number, settled.place));
+    }
+    let statements = list.rows;
+    let taken = Card {
+        mode: head.mode,
+        seats: tail.value,
+        top: head.top,
+        start: head.start,
+        count: list.count,
+        statements,
+        nodes,
+        branches,
+    };
+    Reading {
+        verdict: Verdict::Taken,
+        card: taken,
+    }
+}
