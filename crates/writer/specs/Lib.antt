@@ -1,1 +1,3 @@
 pub mod Writing
+pub mod WriteSaid
+pub mod Rows

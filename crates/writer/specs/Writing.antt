@@ -2,9 +2,9 @@
 use Prim.Native.Nat.{ℕ, zero, suc, _-_}
 use Prim.Native.String.{String}
 use mathlib.Core.Bool.{Bool, true, false}
-use mathlib.Core.List.{List, [], _∷_}
+use mathlib.Core.List.{List, [], _∷_, _++_}
 use mathlib.Core.Option.{Option, none, some}
-use Rattle.card.specs.Card.{Sign, all, any, Relation, is, isnt, Group, group, atom, neg, and, or, Guard, Branch, Statement, Card}
+use Rattle.card.specs.Card.{Kind, Sign, all, any, Relation, is, isnt, Group, group, Formula, atom, neg, and, or, Guard, Branch, Statement, Card}
 use Rattle.card.specs.Valid.{firstSeat, Level, loose, middle, tight, needsAnd, needsOr}
 use Rattle.phrases.specs.Phrases.{_▸_, num, modeWord, weightText}
 
