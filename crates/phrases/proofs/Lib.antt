@@ -1,2 +1,4 @@
 pub mod Laws
 pub mod Lowest
+pub mod Counted
+pub mod Adds

@@ -23,48 +23,12 @@ use Rattle.card.proofs.Laws.{guard-at-group, guard-at-not, guard-at-and, guard-
 use Rattle.room.specs.Room.{cap, Put}
 use Rattle.phrases.specs.Phrases.{_▸_, num, weightText}
 use Rattle.phrases.specs.Puts.{Puts}
-use Rattle.phrases.proofs.Laws.{puts-then, puts-as, puts-none}
+use Rattle.phrases.proofs.Counted.{Text, counted}
 use Rattle.writer.specs.Writing.{signText, literal, literals, groupText, opening, closing, guardText, guardOr, branchText, moreBranches, branches, statementText, statements, moduleText, modules, writeOf}
-use Rattle.writer.specs.Rows.{levelOf, headText, row, rowOf, rowsFrom, cardIn}
-
-abbrev pub Text : Type 0
-Text = List ℕ → List ℕ
+use Rattle.rows.specs.Rows.{row, rowOf, rowsFrom, cardIn}
+use Rattle.writer.specs.Parts.{levelOf, headText}
 
 -- ---- counted repetitions
-
--- the text of i, of i + 1 and so on, of so many
-unfoldable pub counted : (ℕ → Text) → ℕ → ℕ → Text
-counted f i zero r = r
-counted f i (suc c) r = f i (counted f (suc i) c r)
-
-module _ (f : ℕ → Text) where
-  counted-more : (i c : ℕ) (r : List ℕ) → counted f i (suc c) r ≡ counted f i c (f (i + c) r)
-  unfolding counted
-  counted-more i zero r = rw add-zero
-  counted-more i (suc c) r = ap (f i) (counted-more (suc i) c r) ∙ ap (λ (k : ℕ). f i (counted f (suc i) c (f k r))) (omega arith)
-
-  -- a loop starts at `place`, adds a piece in each turn, and ends at its bound
-  pub counted-start : (i : ℕ) {a : List ℕ} {at r : ℕ} → length a < cap → r ≡ min at cap → Puts a a at (counted f i (i - i)) r
-  unfolding counted
-  counted-start i h e =
-      let z : i - i ≡ 0 = omega arith in
-      rw z (puts-none h e)
-
-  pub counted-next : (first i : ℕ) {a b c : List ℕ} {at m r : ℕ} → first ≤ i → Puts a b at (counted f first (i - first)) m → Puts b c m (f i) r
-      → Puts a c at (counted f first (i + 1 - first)) r
-  counted-next first i h p q =
-      let e : i + 1 - first ≡ suc (i - first) = omega arith in
-      let k : first + (i - first) ≡ i = omega arith in
-      rw e
-      (puts-as (counted f first (suc (i - first)))
-      (λ t. sym (counted-more first (i - first) t ∙ ap (λ (j : ℕ). counted f first (i - first) (f j t)) k))
-      (puts-then p q))
-
-  pub counted-end : (first i bound : ℕ) {g : Text} {a b : List ℕ} {at m : ℕ} → bound ≤ i → i - first ≤ bound - first
-      → ((t : List ℕ) → counted f first (bound - first) t ≡ g t) → Puts a b at (counted f first (i - first)) m → Puts a b at g m
-  counted-end first i bound {g} h l e p =
-      let k : i - first ≡ bound - first = omega arith in
-      puts-as g e (rw k at p)
 
 -- the definitions' own repetitions are such
 module _ (s : Sign) (q : Relation) (d : ℕ) where

@@ -2,7 +2,7 @@
 -- and of all that repeats there is at most so much. Assumes nothing.
 use Prim.Native.Nat.{ℕ, zero, suc, _+_, _-_, _*_, _/_, _≤_, _<_}
 use Prim.Native.String.{String}
-use mathlib.Core.Path.{_≡_, refl}
+use mathlib.Core.Path.{_≡_, refl, sym, ap, _∙_}
 use mathlib.Core.Bool.{Bool, true, false}
 use mathlib.Core.List.{List, [], _∷_, _++_}
 use mathlib.Core.Option.{Option, none, some}
@@ -20,27 +20,13 @@ use Rattle.room.specs.Digits.{decimal}
 use Rattle.room.specs.Room.{cap}
 use Rattle.room.proofs.Decimal.{decimal-length}
 use Rattle.phrases.specs.Phrases.{_▸_, num, modeText, divisor, lowest, spell, weightText}
+use Rattle.card.specs.Laid.{cardOf}
+use Rattle.card.specs.declared.Card.{Card as CardRow}
+use Rattle.room.specs.Answer.{text}
+use Rattle.rows.specs.Rows.{rowsOf, Holds}
+use Rattle.rows.proofs.Rows.{rowsCard, holds-card, same-card}
 use Rattle.writer.specs.Writing.{signText, relationText, literal, literals, groupText, opening, closing, guardText, guardOr, branchText, moreBranches, branches, statementText, statements, moduleText, modules, writeOf}
-use Rattle.writer.proofs.Laws.{Text}
-
--- a text adds so many bytes at most
-record Adds (most : ℕ) (f : Text) : Type 0 where
-  long : (r : List ℕ) → length (f r) ≤ most + length r
-
-adds-then : {a b : ℕ} {f g : Text} → Adds a f → Adds b g → Adds (a + b) (λ r. f (g r))
-adds-then {g = g} p q = record { long = λ r. omega (arith, p .long (g r), q .long r) }
-
-adds-up : {a : ℕ} {f : Text} (b : ℕ) → a ≤ b → Adds a f → Adds b f
-adds-up b h p = record { long = λ r. omega (arith, p .long r) }
-
-adds-none : Adds 0 (λ r. r)
-adds-none = record { long = λ r. omega arith }
-
-adds-bytes : (s : String) → Adds (length (bytes s)) (λ r. s ▸ r)
-adds-bytes s = record { long = λ r. omega (arith, length-append (bytes s) r) }
-
-adds-number : (v : ℕ) → v < numbers → Adds numberDigits (num v)
-adds-number v h = record { long = λ r. omega (arith, length-append (decimal v) r, decimal-length (numberDigits - 1) v h) }
+use Rattle.phrases.proofs.Adds.{Adds, adds-then, adds-up, adds-none, adds-bytes, adds-number, weightMost, adds-weight, adds-mode}
 
 -- ---- guards
 
@@ -113,23 +99,6 @@ module _ (n k : ℕ) (h : n ≤ mostSeats) (l : k ≤ topState) where
 
 -- ---- statements
 
-abbrev weightMost : ℕ
-weightMost = 1 + 2 * numberDigits
-
-adds-choice : (b : Bool) (x y : Weight) → (b ≡ true → Adds weightMost (spell x)) → (b ≡ false → Adds weightMost (spell y))
-    → Adds weightMost (spell (if b then x else y))
-adds-choice true x y p q = p refl
-adds-choice false x y p q = q refl
-
-adds-weight : (u : ℕ) → Adds weightMost (weightText u)
-unfolding weightText
-adds-weight u =
-    adds-choice (eqb u 0) (whole 0) _ (λ e. adds-up weightMost (omega arith) (adds-number 0 (omega arith)))
-    (λ e. adds-choice (leb unit u) (whole 1) _ (λ f. adds-up weightMost (omega arith) (adds-number 1 (omega arith)))
-    (λ f. adds-up weightMost (omega arith)
-    (adds-then (adds-number (u / divisor u) (omega (arith, leb-false unit u f, div-le-self u (divisor u))))
-    (adds-then (adds-bytes "/") (adds-number (unit / divisor u) (omega (arith, div-le-self unit (divisor u))))))))
-
 -- with the sign before it
 abbrev branchMost : ℕ
 branchMost = 10 + weightMost + numberDigits
@@ -183,10 +152,6 @@ adds-modules i (suc c) h =
     (adds-then (adds-bytes ", s")
     (adds-then (adds-number (suc i) j) (adds-then (adds-bytes "=s1] endmodule\n") (adds-modules (suc i) c (omega arith)))))))))
 
-adds-mode : (m : Mode) → Adds 16 (modeText m)
-adds-mode nondeterministic = adds-bytes "nondeterministic"
-adds-mode probabilistic = adds-up 16 (omega arith) (adds-bytes "probabilistic")
-
 adds-card : (c : Card) → ValidCard c → Adds cap (λ r. modeText (c .mode) ("\nmodule process1\ns1 : [0.." ▸ num (c .k) ("] init " ▸ num (c .l) (";\n"
     ▸ statements (c .n) (c .statements) ("endmodule\n" ▸ modules 1 (c .n - 1) r)))))
 adds-card c v =
@@ -203,3 +168,13 @@ adds-card c v =
 pub short : (c : Card) → ValidCard c → length (writeOf c) ≤ cap
 unfolding writeOf
 short c v = omega (arith, adds-card c v .long [])
+
+-- ---- a card that is lent in parts
+
+-- what is written of its rows is what is written of the card, and no more than a place can tell
+module _ {c : CardRow} (v : Holds c) {rows : List ℕ} (e : rows ≡ rowsOf (c .statements)) where
+  pub rows-said : text (writeOf (cardOf c)) ≡ text (writeOf (rowsCard c rows))
+  rows-said = ap (λ (x : Card). text (writeOf x)) (holds-card v ∙ sym (same-card v e))
+
+  pub rows-short : length (writeOf (rowsCard c rows)) ≤ cap
+  rows-short = rw (same-card v e) (short (v .card) (v .valid))

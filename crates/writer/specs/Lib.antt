@@ -1,3 +1,3 @@
 pub mod Writing
 pub mod WriteSaid
-pub mod Rows
+pub mod Parts

@@ -2,7 +2,6 @@
 use card::Card;
 use card::limits::MOST_BRANCHES;
 use card::limits::MOST_NODES;
-use card::limits::MOST_STATEMENTS;
 use card::node::ALL;
 use card::node::AND;
 use card::node::ANY;
@@ -27,6 +26,9 @@ use room::place;
 use room::put_byte;
 use room::put_bytes;
 use room::put_number;
+use rows::ROW;
+use rows::ROW_PLACES;
+use rows::rows_of;
 ghost use mathlib.Core.Path.{_≡_};
 ghost use mathlib.Core.List.{_∷_, _++_, map};
 ghost use Prim.Native.Nat.{ℕ, _+_, _*_, _-_, _<_, _≤_};
@@ -42,17 +44,13 @@ ghost use Rattle.phrases.specs.Phrases.{_▸_, num};
 ghost use Rattle.phrases.specs.Puts.{Puts};
 ghost use Rattle.writer.specs.Writing.{signText, relationText, literal, literals, groupText, guardText, guardOr, branchText, moreBranches, branches as branchTexts, statementText, statements as statementTexts, moduleText, modules, writeOf};
 ghost use Rattle.writer.specs.WriteSaid.{writeSaid};
-ghost use Rattle.writer.specs.Rows.{levelOf, headText, row, rowsFrom, FitRows, cardIn, Holds};
+ghost use Rattle.rows.specs.Rows.{row, rowsFrom, FitRows, cardIn, Holds};
+ghost use Rattle.writer.specs.Parts.{levelOf, headText};
 
 // Where a part of a guard stands; 0 is loose.
 const MIDDLE: usize = 1;
 
 const TIGHT: usize = 2;
-
-// A statement's row: its own state, how many nodes, how many branches.
-const ROW: usize = 3;
-
-const ROW_PLACES: usize = MOST_STATEMENTS * ROW;
 
 // A number of an array, or 0 where there is none.
 fn number_at(array: &[u32], i: usize) -> u32
@@ -363,17 +361,8 @@ fn write_card(c: Card, room: &mut [u8]) -> Answer
     requires { ⌜ Holds c ⌝ }
     ensures { λ r. ⌜ Entered (now (room .entry)) (now (room .exit)) (text (writeOf (cardOf c))) r ⌝ }
 {
-    let mut rows: [usize; ROW_PLACES] = [0; ROW_PLACES];
+    let rows = rows_of(c.statements);
     let count = c.count;
-    let mut i = 0;
-    while i < count {
-        let x = c.statements[i];
-        let from = i * ROW;
-        rows[from] = x.own;
-        rows[from + 1] = x.nodes;
-        rows[from + 2] = x.branches;
-        i += 1;
-    }
     let need = put_card(
         &mut room[..0],
         0,

@@ -1,4 +1,5 @@
-use Rattle.writer.proofs.Laws.{counted, counted-start, counted-next, counted-end, nextLiteral, literals-counted}
+use Rattle.phrases.proofs.Counted.{counted, counted-start, counted-next, counted-end}
+use Rattle.writer.proofs.Laws.{nextLiteral, literals-counted}
 use Rattle.phrases.proofs.Laws.{puts-then}
 use Rattle.phrases.specs.Puts.{Puts}
 use Rattle.room.proofs.Laws.{put-length}

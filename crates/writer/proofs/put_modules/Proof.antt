@@ -1,4 +1,5 @@
-use Rattle.writer.proofs.Laws.{counted, counted-start, counted-next, counted-end, nextModule, modules-counted}
+use Rattle.phrases.proofs.Counted.{counted, counted-start, counted-next, counted-end}
+use Rattle.writer.proofs.Laws.{nextModule, modules-counted}
 use Rattle.phrases.specs.Puts.{Puts}
 use Rattle.room.proofs.Laws.{put-length}
 use Prim.Native.Nat.{_≤_, _-_}

@@ -1,24 +1,14 @@
--- How the code hands over what it writes: a level and a statement's row as numbers. Assumes nothing.
+-- A card's statements as rows of numbers, which can be lent, and the card that such parts hold. Assumes nothing.
 use Prim.Native.Nat.{ℕ, zero, suc, _+_, _*_, _≤_, _<_}
 use mathlib.Core.Path.{_≡_}
 use mathlib.Core.List.{List, [], _∷_}
 use lib.ListN.{getD}
 use Rattle.card.specs.Limits.{mostStatements, mostNodes, mostBranches}
-use Rattle.card.specs.Card.{Mode, nondeterministic, probabilistic, Card}
-use Rattle.card.specs.Valid.{Level, loose, middle, tight, ValidCard}
+use Rattle.card.specs.Card.{nondeterministic, probabilistic, Card}
+use Rattle.card.specs.Valid.{ValidCard}
 use Rattle.card.specs.Laid.{either, laid, statementsOf}
 use Rattle.card.specs.declared.Statement.{Statement as StatementRow}
 use Rattle.card.specs.declared.Card.{Card as CardRow}
-use Rattle.phrases.specs.Phrases.{_▸_, num, modeWord}
-
-abbrev pub levelOf : ℕ → Level
-levelOf zero = loose
-levelOf (suc zero) = middle
-levelOf (suc (suc v)) = tight
-
--- the card's text before its statements
-abbrev pub headText : Mode → ℕ → ℕ → List ℕ → List ℕ
-headText m k l r = modeWord m ▸ "\nmodule process1\ns1 : [0.." ▸ num k ("] init " ▸ num l (";\n" ▸ r))
 
 -- numbers that a statement's row has: its own state, its nodes and its branches
 abbrev pub rowNumbers : ℕ
@@ -30,6 +20,11 @@ row own nodes branches = record { own = own; nodes = nodes; branches = branches 
 -- the row of statement i, where each has its numbers one after the other
 abbrev pub rowOf : List ℕ → ℕ → StatementRow
 rowOf rows i = row (getD rows (i * rowNumbers) 0) (getD rows (i * rowNumbers + 1) 0) (getD rows (i * rowNumbers + 2) 0)
+
+-- all of them
+unfoldable pub rowsOf : List StatementRow → List ℕ
+rowsOf [] = []
+rowsOf (x ∷ xs) = x .own ∷ x .nodes ∷ x .branches ∷ rowsOf xs
 
 -- the rows of so many statements from i on
 abbrev pub rowsFrom : List ℕ → ℕ → ℕ → List StatementRow

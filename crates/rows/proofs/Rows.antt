@@ -18,11 +18,7 @@ use Rattle.card.specs.declared.Card.{Card as CardRow}
 use Rattle.card.proofs.Held.{Held, HeldCard, every-at, valid-held}
 use Rattle.card.proofs.LaidBack.{statement-row, laid-back}
 use Rattle.card.proofs.Sized.{statements-long, branches-long}
-use Rattle.room.specs.Room.{cap}
-use Rattle.room.specs.Answer.{text}
-use Rattle.writer.specs.Writing.{writeOf}
-use Rattle.writer.specs.Rows.{rowNumbers, row, rowOf, rowsFrom, FitsRow, FitRows, cardIn, Holds}
-use Rattle.writer.proofs.Short.{short}
+use Rattle.rows.specs.Rows.{rowNumbers, row, rowOf, rowsOf, rowsFrom, FitsRow, FitRows, cardIn, Holds}
 
 -- three numbers stored one after the other
 module _ (rows : List ℕ) (at a b c : ℕ) where
@@ -86,7 +82,41 @@ module _ (xs : List StatementRow) where
   pub filled-end : {rows : List ℕ} (i : ℕ) {count : ℕ} → i ≤ count → count ≤ i → Filled xs rows i → Filled xs rows count
   filled-end i {count} g h f = let e : count ≡ i = omega arith in rw e f
 
--- all of them
+-- behind the first row stand the others
+row-next : (a b c : ℕ) (rows : List ℕ) (j : ℕ) → rowOf (a ∷ b ∷ c ∷ rows) (suc j) ≡ rowOf rows j
+row-next a b c rows j = same-row (at (suc j * rowNumbers) (j * rowNumbers) (omega arith)) (at (suc j * rowNumbers + 1) (j * rowNumbers + 1) (omega arith)) (at (suc j * rowNumbers + 2) (j * rowNumbers + 2) (omega arith))
+  where
+    at : (i k : ℕ) → i ≡ suc (suc (suc k)) → getD (a ∷ b ∷ c ∷ rows) i 0 ≡ getD rows k 0
+    at i k e = ap (λ (v : ℕ). getD (a ∷ b ∷ c ∷ rows) v 0) e
+
+-- all of them, one behind the other
+filled-all : (xs : List StatementRow) (rows : List ℕ) → length rows ≡ length xs * rowNumbers
+    → ((j : ℕ) → j < length xs → rowOf rows j ≡ getD xs j noStatement) → rows ≡ rowsOf xs
+unfolding rowsOf
+filled-all [] [] e f = refl
+filled-all [] (a ∷ rows) e f = absurd (omega arith)
+filled-all (x ∷ xs) [] e f = absurd (omega arith)
+filled-all (x ∷ xs) (a ∷ []) e f = absurd (omega arith)
+filled-all (x ∷ xs) (a ∷ b ∷ []) e f = absurd (omega arith)
+filled-all (x ∷ xs) (a ∷ b ∷ c ∷ rows) e f =
+    let first : row a b c ≡ x = f 0 (omega arith) in
+    let own : a ≡ x .own = ap (λ (y : StatementRow). y .own) first in
+    let nodes : b ≡ x .nodes = ap (λ (y : StatementRow). y .nodes) first in
+    let branches : c ≡ x .branches = ap (λ (y : StatementRow). y .branches) first in
+    rw (own, nodes, branches, filled-all xs rows (omega arith) (λ j l. sym (row-next a b c rows j) ∙ f (suc j) (omega arith)))
+
+pub filled-rows : {xs : List StatementRow} {rows : List ℕ} {i : ℕ} → length xs ≡ mostStatements → mostStatements ≤ i → i ≤ mostStatements → Filled xs rows i → rows ≡ rowsOf xs
+filled-rows {xs} {rows} {i} e g h f =
+    let k : i ≡ length xs = omega arith in
+    filled-all xs rows (omega (arith, f .long)) (λ j l. f .each j (omega arith))
+
+rows-row : (xs : List StatementRow) (j : ℕ) → j < length xs → rowOf (rowsOf xs) j ≡ getD xs j noStatement
+unfolding rowsOf
+rows-row [] j l = absurd (omega arith)
+rows-row (x ∷ xs) zero l = refl
+rows-row (x ∷ xs) (suc j) l = row-next (x .own) (x .nodes) (x .branches) (rowsOf xs) j ∙ rows-row xs j (omega arith)
+
+-- the rows of all of them
 rows-list : (rows : List ℕ) (xs : List StatementRow) (i c : ℕ) → c ≤ length xs → ((j : ℕ) → j < c → rowOf rows (i + j) ≡ getD xs j noStatement)
     → rowsFrom rows i c ≡ take c xs
 rows-list rows xs i zero h f = refl
@@ -96,12 +126,12 @@ rows-list rows (x ∷ xs) i (suc c) h f =
     (ap (rowOf rows) (sym (add-zero i)) ∙ f 0 (omega arith))
     (rows-list rows xs (suc i) c (omega arith) (λ j l. ap (rowOf rows) (omega arith) ∙ f (suc j) (omega arith)))
 
-abbrev rowsCard : CardRow → List ℕ → Card
+abbrev pub rowsCard : CardRow → List ℕ → Card
 rowsCard c rows = cardIn (c .mode) (c .seats) (c .top) (c .start) (rowsFrom rows 0 (c .count)) (c .nodes) (c .branches)
 
-rows-card : (c : CardRow) (rows : List ℕ) → Filled (c .statements) rows (c .count) → c .count ≤ length (c .statements) → rowsCard c rows ≡ cardOf c
+rows-card : (c : CardRow) → c .count ≤ length (c .statements) → rowsCard c (rowsOf (c .statements)) ≡ cardOf c
 unfolding cardOf
-rows-card c rows f h = rw (rows-list rows (c .statements) 0 (c .count) h (λ j l. rw (zero-add j) (f .each j l)))
+rows-card c h = rw (rows-list (rowsOf (c .statements)) (c .statements) 0 (c .count) h (λ j l. rw (zero-add j) (rows-row (c .statements) j (omega arith))))
 
 -- ---- of a struct that holds a valid card
 
@@ -125,7 +155,7 @@ module _ {c : CardRow} (v : Holds c) where
   pub holds-branches : length (c .branches) ≡ branchPlaces
   holds-branches = ap (λ (x : CardRow). length (x .branches)) (v .lies) ∙ branches-long (v .card) held
 
-  holds-card : cardOf c ≡ v .card
+  pub holds-card : cardOf c ≡ v .card
   holds-card = ap cardOf (v .lies) ∙ laid-back (v .card) (v .valid)
 
   fits-row : (i : ℕ) → i < c .count → FitsRow (getD (c .statements) i noStatement)
@@ -136,16 +166,13 @@ module _ {c : CardRow} (v : Holds c) where
       let x : Held (getD (v .card .statements) i no-more) = every-at Held (v .card .statements) i no-more l (held .each) in
       rw e (record { nodes = x .nodes; branches = x .branches })
 
-  module _ {rows : List ℕ} (f : Filled (c .statements) rows (c .count)) where
+  module _ {rows : List ℕ} (e : rows ≡ rowsOf (c .statements)) where
     pub fit-rows : FitRows rows (c .count)
-    fit-rows = record { few = holds-count; each = λ i h. rw (f .each i h) (fits-row i h) }
+    fit-rows = record {
+      few = holds-count;
+      each = λ i h. rw (e, rows-row (c .statements) i (omega (arith, holds-count, holds-statements))) (fits-row i h);
+    }
 
-    same-card : rowsCard c rows ≡ cardOf c
-    same-card = rows-card c rows f (omega (arith, holds-count, holds-statements))
-
-    -- what is written of the rows is what is written of the card, and no more than a place can tell
-    pub rows-said : text (writeOf (cardOf c)) ≡ text (writeOf (rowsCard c rows))
-    rows-said = ap (λ (x : Card). text (writeOf x)) (sym same-card)
-
-    pub rows-short : length (writeOf (rowsCard c rows)) ≤ cap
-    rows-short = rw (same-card, holds-card) (short (v .card) (v .valid))
+    -- the card of the rows is the card
+    pub same-card : rowsCard c rows ≡ v .card
+    same-card = ap (rowsCard c) e ∙ rows-card c (omega (arith, holds-count, holds-statements)) ∙ holds-card

@@ -1,0 +1,59 @@
+-- How long a text can be: the bounds of its pieces, added up. Assumes nothing.
+use Prim.Native.Nat.{ℕ, _+_, _-_, _*_, _/_, _≤_, _<_}
+use Prim.Native.String.{String}
+use mathlib.Core.Path.{_≡_, refl}
+use mathlib.Core.Bool.{Bool, true, false}
+use mathlib.Core.List.{List}
+use native.Mathlib.Nat.{div-le-self}
+use native.Mathlib.Omega.{arith}
+use borrow.Author.Tests.{leb-false}
+use lib.Dec.{eqb, leb}
+use lib.ListN.{length, length-append}
+use Rattle.card.specs.Limits.{numberDigits, numbers, unit}
+use Rattle.card.specs.Text.{bytes, if_then_else_}
+use Rattle.card.specs.Card.{Mode, nondeterministic, probabilistic}
+use Rattle.card.specs.Weight.{Weight, whole, ratio}
+use Rattle.room.specs.Digits.{decimal}
+use Rattle.room.proofs.Decimal.{decimal-length}
+use Rattle.phrases.specs.Phrases.{_▸_, num, modeText, divisor, lowest, spell, weightText}
+use Rattle.phrases.proofs.Counted.{Text}
+
+-- a text adds so many bytes at most
+pub record Adds (most : ℕ) (f : Text) : Type 0 where
+  pub long : (r : List ℕ) → length (f r) ≤ most + length r
+
+pub adds-then : {a b : ℕ} {f g : Text} → Adds a f → Adds b g → Adds (a + b) (λ r. f (g r))
+adds-then {g = g} p q = record { long = λ r. omega (arith, p .long (g r), q .long r) }
+
+pub adds-up : {a : ℕ} {f : Text} (b : ℕ) → a ≤ b → Adds a f → Adds b f
+adds-up b h p = record { long = λ r. omega (arith, p .long r) }
+
+pub adds-none : Adds 0 (λ r. r)
+adds-none = record { long = λ r. omega arith }
+
+pub adds-bytes : (s : String) → Adds (length (bytes s)) (λ r. s ▸ r)
+adds-bytes s = record { long = λ r. omega (arith, length-append (bytes s) r) }
+
+pub adds-number : (v : ℕ) → v < numbers → Adds numberDigits (num v)
+adds-number v h = record { long = λ r. omega (arith, length-append (decimal v) r, decimal-length (numberDigits - 1) v h) }
+
+abbrev pub weightMost : ℕ
+weightMost = 1 + 2 * numberDigits
+
+pub adds-choice : (b : Bool) (x y : Weight) → (b ≡ true → Adds weightMost (spell x)) → (b ≡ false → Adds weightMost (spell y))
+    → Adds weightMost (spell (if b then x else y))
+adds-choice true x y p q = p refl
+adds-choice false x y p q = q refl
+
+pub adds-weight : (u : ℕ) → Adds weightMost (weightText u)
+unfolding weightText
+adds-weight u =
+    adds-choice (eqb u 0) (whole 0) _ (λ e. adds-up weightMost (omega arith) (adds-number 0 (omega arith)))
+    (λ e. adds-choice (leb unit u) (whole 1) _ (λ f. adds-up weightMost (omega arith) (adds-number 1 (omega arith)))
+    (λ f. adds-up weightMost (omega arith)
+    (adds-then (adds-number (u / divisor u) (omega (arith, leb-false unit u f, div-le-self u (divisor u))))
+    (adds-then (adds-bytes "/") (adds-number (unit / divisor u) (omega (arith, div-le-self unit (divisor u))))))))
+
+pub adds-mode : (m : Mode) → Adds 16 (modeText m)
+adds-mode nondeterministic = adds-bytes "nondeterministic"
+adds-mode probabilistic = adds-up 16 (omega arith) (adds-bytes "probabilistic")
