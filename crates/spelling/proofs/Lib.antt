@@ -1,2 +1,4 @@
 pub mod Lists
 pub mod Numbers
+pub mod Forms
+pub mod Starts

@@ -17,6 +17,9 @@ module _ (p : ℕ → Bool) where
   run-split [] = refl
   run-split (b ∷ s) = cases (p b) (λ e. rw e (ap (λ (t : List ℕ). b ∷ t) (run-split s))) (λ e. rw e)
 
+  pub run-on : (b : ℕ) (s : List ℕ) → p b ≡ true → run p (b ∷ s) ≡ b ∷ run p s
+  run-on b s e = rw e
+
   -- bytes in front that pass are part of the run
   pub run-covers : (s r : List ℕ) → every p s ≡ true → length s ≤ length (run p (s ++ r))
   run-covers [] r e = omega arith
