@@ -150,6 +150,13 @@ form w m (wrongWhole {s = s} {f = f} {v = v} {u = u} n o d) = ofDecimal s f (num
 form w m (wrongFurther {s = s} {f = f} {v = v} {u = u} n d h) = ofDecimal s f (numeral-every s v (n .numeral)) (n .numeral .some) (numeral-every f u d) (d .some)
 form w m (stray {b = b} s) = stray-form b s
 
+pub form-some : (w : List ℕ) → Form w → 0 < length w
+form-some w (ofWord (word i e)) = omega arith
+form-some w (ofDigits d h) = h
+form-some w (ofDecimal s f d h g k) = omega (arith, length-append s (46 ∷ f))
+form-some w (ofOne a) = omega arith
+form-some w (ofTwo s) = omega arith
+
 -- ---- how far they reach
 
 letter-digit : {C : Type 0} (b : ℕ) → isLetter b ≡ true → isDigit b ≡ true → C

@@ -3,3 +3,4 @@ pub mod Numbers
 pub mod Forms
 pub mod Starts
 pub mod Once
+pub mod Exact
