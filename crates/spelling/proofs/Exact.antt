@@ -37,7 +37,7 @@ widen s more k a ms m = go (k .rest) ms refl m
 rest-is : (b : ℕ) (t front rest : List ℕ) (more : ℕ) → b ∷ t ≡ front ++ rest → length front ≡ suc more → drop more t ≡ rest
 rest-is b t front rest more e h = ap (drop (suc more)) e ∙ ap (λ (n : ℕ). drop n (front ++ rest)) (sym h) ∙ drop-append-seam front rest
 
-taken-fits : (w : List ℕ) (m : Mark) → Spells w m → taken m w ≤ length w
+pub taken-fits : (w : List ℕ) (m : Mark) → Spells w m → taken m w ≤ length w
 taken-fits w m x = go m (form-some w (form w m x))
   where
     go : (m : Mark) → 0 < length w → taken m w ≤ length w

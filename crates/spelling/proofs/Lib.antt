@@ -4,3 +4,5 @@ pub mod Forms
 pub mod Starts
 pub mod Once
 pub mod Exact
+pub mod Theorems
+pub mod Examples

@@ -65,8 +65,8 @@ plain-number most (b ∷ s) e =
       numeral = numeral-of (b ∷ s) (and-left (every isDigit (b ∷ s)) (not (eqb b 48) || same s []) whole) (omega arith);
       short = leb-true (length (b ∷ s)) most short;
       leading = λ t q. or-true (not (eqb b 48)) (same s []) (and-right (every isDigit (b ∷ s)) (not (eqb b 48) || same s []) whole)
-      (λ n. absurd (eqb-false b 48 (not-true (eqb b 48) n) (mathlib.Core.List.head-eq-of-cons-eq q)))
-      (λ z. sym (tail-eq-of-cons-eq q) ∙ same-eq s [] z);
+          (λ n. absurd (eqb-false b 48 (not-true (eqb b 48) n) (mathlib.Core.List.head-eq-of-cons-eq q)))
+          (λ z. sym (tail-eq-of-cons-eq q) ∙ same-eq s [] z);
     }
 
 number-plain : (most : ℕ) (s : List ℕ) (v : ℕ) → Number most s v → plain most s ≡ true

@@ -61,7 +61,7 @@ numbered-cases P f t w other yes-one no-one = go (after (bytes t) w) refl
     one : (s : List ℕ) → after (bytes t) w ≡ some s → (o : Option ℕ) → numberOf wordDigits s ≡ o → P (made f o other)
     one s e none q = no-one (λ i. λ x.
         let same-rest : x .0 ≡ s = let z : some (x .0) ≡ some s = sym (after-front (bytes t) (x .0)) ∙ ap (after (bytes t)) (sym (x .1)) ∙ e in cc in
-        no-number wordDigits s q i (subst (λ (u : List ℕ). Number wordDigits u i) same-rest (x .2)))
+        no-number wordDigits s q i (rw same-rest at (x .2)))
     one s e (some v) q = yes-one v (s, after-is (bytes t) w s e, number-of wordDigits s v q)
 
     go : (o : Option (List ℕ)) → after (bytes t) w ≡ o → P (numbered f o other)

@@ -1,5 +1,5 @@
 -- Which marks a card has, and where ("Marks on a card"): blanks and comments separate, and the longest fits first. Assumes nothing.
-use Prim.Native.Nat.{ℕ, _+_, _≤_}
+use Prim.Native.Nat.{ℕ, _+_, _≤_, _<_}
 use mathlib.Core.Path.{_≡_}
 use mathlib.Core.Bool.{true}
 use mathlib.Core.List.{List, [], _∷_, _++_}
@@ -46,3 +46,11 @@ pub data Marked : ℕ → List ℕ → List Placed → Type 0 where
       → s ≡ g ++ (w ++ r) → Between g (w ++ r) → Stands w r m
       → Marked (a + length g + taken m w) (drop (taken m w) (w ++ r)) ms
       → Marked a s (placed m (a + length g) ∷ ms)
+
+-- the mark m stands at place p of the card s
+pub record StandsAt (s : List ℕ) (p : ℕ) (m : Mark) : Type 0 where
+  pub spelt : List ℕ
+  pub rest : List ℕ
+  pub on-card : p < length s
+  pub from-there : drop p s ≡ spelt ++ rest
+  pub stands : Stands spelt rest m
