@@ -95,7 +95,7 @@ there (suc n) a s h = agree n (there n) a s h
 
 line-done : (s : List ℕ) → LineOver s → begins notLF s ≡ false
 line-done [] q = refl
-line-done (b ∷ s) q = rw (eq-eqb b 10 q)
+line-done (b ∷ s) q = rw (eq-eqb b 10 (omega arith))
 
 pass-comment : (e : ℕ) (c s : List ℕ) → every notLF c ≡ true → LineOver s → marks e 0 (47 ∷ 47 ∷ (c ++ s)) ≡ marks e 0 s
 pass-comment e c s d o = rw (run-front notLF c s d (line-done s o)) (marks-skip e (length c) (c ++ s) ∙ ap (marks e 0) (drop-append-seam c s))

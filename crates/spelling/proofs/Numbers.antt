@@ -2,7 +2,7 @@
 use Prim.Native.Nat.{ℕ, zero, suc, _+_, _-_, _*_, _^_, _≤_, _<_}
 use mathlib.Core.Path.{_≡_, refl, sym, ap, _∙_}
 use mathlib.Core.Bool.{Bool, true, false, not, _&&_, _||_}
-use mathlib.Core.List.{List, [], _∷_, _++_, tail-eq-of-cons-eq}
+use mathlib.Core.List.{List, [], _∷_, head-eq-of-cons-eq, tail-eq-of-cons-eq}
 use mathlib.Core.Option.{Option, none, some}
 use native.Mathlib.Nat.{pow-suc, add-mul, mul-assoc, mul-comm, zero-add}
 use native.Mathlib.Omega.{arith}
@@ -11,7 +11,7 @@ use lib.Dec.{eqb, leb}
 use lib.ListN.{length}
 use Rattle.card.specs.Text.{same, if_then_else_}
 use Rattle.marks.specs.Marks.{isDigit, every, valueFrom, plain, numberOf}
-use Rattle.marks.proofs.Lists.{cases, not-both, and-left, and-right, or-true}
+use Rattle.marks.proofs.Lists.{cases, not-both, and-left, and-right, or-true, none-left}
 use Rattle.marks.proofs.KindLaws.{same-eq}
 use Rattle.spelling.specs.Spells.{Digits, none as noDigit, digit, Numeral, Number}
 
@@ -46,7 +46,7 @@ value-zero : (s : List ℕ) → valueFrom 0 s ≡ worth s
 value-zero s = value-worth 0 s ∙ omega arith
 
 pub numeral-of : (s : List ℕ) → every isDigit s ≡ true → 0 < length s → Numeral s (valueFrom 0 s)
-numeral-of s e h = record { digits = rw (value-zero s) (digits-of s e); some = h }
+numeral-of s e h = record { digits = rw (value-zero s) (digits-of s e); some = omega arith }
 
 pub numeral-value : (s : List ℕ) (v : ℕ) → Numeral s v → valueFrom 0 s ≡ v
 numeral-value s v n = value-zero s ∙ digits-worth s v (n .digits)
@@ -65,8 +65,8 @@ plain-number most (b ∷ s) e =
       numeral = numeral-of (b ∷ s) (and-left (every isDigit (b ∷ s)) (not (eqb b 48) || same s []) whole) (omega arith);
       short = leb-true (length (b ∷ s)) most short;
       leading = λ t q. or-true (not (eqb b 48)) (same s []) (and-right (every isDigit (b ∷ s)) (not (eqb b 48) || same s []) whole)
-          (λ n. absurd (eqb-false b 48 (not-true (eqb b 48) n) (mathlib.Core.List.head-eq-of-cons-eq q)))
-          (λ z. sym (tail-eq-of-cons-eq q) ∙ same-eq s [] z);
+          (λ n. absurd (eqb-false b 48 (not-true (eqb b 48) n) (head-eq-of-cons-eq q)))
+          (λ z. omega (arith, ap length (sym (tail-eq-of-cons-eq q) ∙ same-eq s [] z)));
     }
 
 number-plain : (most : ℕ) (s : List ℕ) (v : ℕ) → Number most s v → plain most s ≡ true
@@ -74,7 +74,7 @@ number-plain most [] v n = absurd (omega (arith, n .numeral .some))
 number-plain most (b ∷ s) v n = rw (numeral-every (b ∷ s) v (n .numeral), le-leb (length (b ∷ s)) most (n .short)) (front (eqb b 48) refl)
   where
     front : (t : Bool) → eqb b 48 ≡ t → ((not t || same s []) && true) ≡ true
-    front true q = rw (n .leading s (ap (λ (c : ℕ). c ∷ s) (eqb-true b 48 q)))
+    front true q = rw (none-left s (omega (arith, n .leading s (ap (λ (c : ℕ). c ∷ s) (eqb-true b 48 q)))))
     front false q = refl
 
 module _ (most : ℕ) (s : List ℕ) where

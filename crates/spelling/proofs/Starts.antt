@@ -86,7 +86,7 @@ word-found b t c l =
       rest = drop (length (run inWord t)) t;
       split = ap (λ (s : List ℕ). b ∷ s) (run-split inWord t);
       spells = whole .0;
-      longest = λ p q m e x. letter-reach b t p q l e (form p m x);
+      longest = λ p q m e x. omega (arith, letter-reach b t p q l e (form p m x));
       no-comment = c;
       reach = whole .1;
     }
@@ -196,7 +196,7 @@ blank-found b t e = record {
 
 line-over : (s : List ℕ) → begins notLF s ≡ false → LineOver s
 line-over [] e = tt
-line-over (b ∷ s) e = eqb-true b 10 (not-false (eqb b 10) e)
+line-over (b ∷ s) e = omega (arith, eqb-true b 10 (not-false (eqb b 10) e))
 
 comment-found : (b : ℕ) (t : List ℕ) → b ≡ 47 → (u : List ℕ) → t ≡ u → begins (eqb 47) u ≡ true → Right (b ∷ t) (comment t)
 comment-found b t q [] r e = not-both false e refl

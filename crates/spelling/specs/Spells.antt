@@ -40,7 +40,7 @@ pub record Numeral (s : List ℕ) (v : ℕ) : Type 0 where
 pub record Number (most : ℕ) (s : List ℕ) (v : ℕ) : Type 0 where
   pub numeral : Numeral s v
   pub short : length s ≤ most
-  pub leading : (t : List ℕ) → s ≡ 48 ∷ t → t ≡ []
+  pub leading : (t : List ℕ) → s ≡ 48 ∷ t → length t ≡ 0
 
 -- ---- words
 
