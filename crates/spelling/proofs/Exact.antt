@@ -2,23 +2,20 @@
 -- (proofs/Starts.antt). Back: blanks and comments are passed over, and of two marks at one place neither is longer, so they are one.
 use Prim.Native.Nat.{ℕ, zero, suc, _+_, _-_, _≤_, _<_}
 use mathlib.Core.Path.{_≡_, refl, sym, ap, ap₂, _∙_, subst}
-use mathlib.Core.Bool.{Bool, true, false, not, _&&_, _||_}
+use mathlib.Core.Bool.{true, false}
 use mathlib.Core.List.{List, [], _∷_, _++_, append-assoc, append-nil}
-use native.Mathlib.Nat.{add-zero, zero-add}
+use native.Mathlib.Nat.{zero-add}
 use native.Mathlib.Omega.{arith}
 use borrow.Author.Tests.{eq-eqb}
-use lib.Dec.{eqb}
 use lib.ListN.{length, drop, length-append, length-drop}
 use lib.Seq.{drop-append-seam}
-use Rattle.card.specs.Text.{bytes, if_then_else_}
-use Rattle.marks.specs.Marks.{Mark, text, seat, process, number, decimal, outside, Placed, placed, isBlank, notLF, run, begins, every, Start, blank, mark, startAt, emit, marks, marksOf}
-use Rattle.marks.proofs.Lists.{cases, not-both}
+use Rattle.marks.specs.Marks.{Mark, text, seat, process, number, decimal, outside, Placed, placed, notLF, begins, every, Start, blank, mark, startAt, emit, marks, marksOf}
 use Rattle.marks.proofs.Next.{marks-skip}
 use Rattle.spelling.specs.Spells.{Spells}
 use Rattle.spelling.specs.Marked.{LineOver, Between, nothing, blank as aBlank, comment as aComment, Longest, Stands, taken, Marked, over, next}
 use Rattle.spelling.proofs.Lists.{run-front, same-front}
 use Rattle.spelling.proofs.Forms.{form, form-some}
-use Rattle.spelling.proofs.Starts.{Found, Skipped, Right, start-right}
+use Rattle.spelling.proofs.Starts.{Skipped, Right, start-right}
 use Rattle.spelling.proofs.Once.{spells-once}
 
 -- ---- there

@@ -1,7 +1,7 @@
 -- Worked marks, by the rules and not by the scan: the scan computes them, and its marks are those by the rules.
 use Prim.Native.String.{String}
 use Prim.Native.Nat.{ℕ}
-use mathlib.Core.List.{List, [], _∷_}
+use mathlib.Core.List.{[], _∷_}
 use Rattle.card.specs.Text.{bytes}
 use Rattle.marks.specs.Marks.{text, seat, process, number, decimal, outside, Placed, placed}
 use Rattle.spelling.specs.Marked.{Marked}

@@ -1,13 +1,13 @@
 -- What bytes that spell a mark look like, and how far they can reach: a word no farther than letters, digits and underscores go on, digits with
 -- a point no farther than the whole numeral, and any other mark one byte or two.
-use Prim.Native.Nat.{ℕ, zero, suc, _+_, _≤_, _<_}
+use Prim.Native.Nat.{ℕ, suc, _+_, _≤_, _<_}
 use Prim.Native.String.{String}
-use mathlib.Core.Path.{_≡_, refl, sym, ap, _∙_}
+use mathlib.Core.Path.{_≡_, refl, ap, ap₂, _∙_}
 use mathlib.Core.Bool.{Bool, true, false, not, _&&_, _||_}
 use mathlib.Core.List.{List, [], _∷_, _++_, append-assoc, head-eq-of-cons-eq, tail-eq-of-cons-eq}
 use mathlib.Core.Option.{Option, none, some}
 use native.Mathlib.Omega.{arith}
-use borrow.Author.Tests.{eqb-true, eq-eqb, ne-eqb, leb-true, not-true}
+use borrow.Author.Tests.{eqb-true, eq-eqb, leb-true, not-true}
 use lib.Dec.{eqb, leb}
 use lib.ListN.{length, drop, length-append}
 use lib.Seq.{drop-append-seam}
@@ -16,7 +16,7 @@ use Rattle.marks.specs.Marks.{Mark, within, isDigit, isLetter, inWord, isBlank,
 use Rattle.marks.proofs.Lists.{cases, not-both, and-left, and-right, or-true}
 use Rattle.marks.proofs.KindLaws.{same-eq}
 use Rattle.marks.proofs.Starts.{digit-in-word, among as of-bytes}
-use Rattle.spelling.specs.Spells.{signs, keywords, OneOf, this, later, Numeral, Number, Word, word, Stray, Spells, sign, keyword, seatWord, moduleWord, otherWord, aNumber, aDecimal, wrongNumber, wrongWhole, wrongFurther, stray}
+use Rattle.spelling.specs.Spells.{signs, keywords, OneOf, this, later, Numeral, Word, word, Stray, Spells, sign, keyword, seatWord, moduleWord, otherWord, aNumber, aDecimal, wrongNumber, wrongWhole, wrongFurther, stray}
 use Rattle.spelling.proofs.Lists.{run-covers, run-front, begins-front, every-wider}
 use Rattle.spelling.proofs.Numbers.{numeral-every}
 
@@ -87,7 +87,9 @@ second-is a b e f g h = cases (eqb a 46)
     (λ s. let q : none ≡ some b = rw (p, r, s) at e in let z : _≡_ {A = ℕ} 0 1 = cc in absurd (omega arith))))
 
 pub sign-two : (a b : ℕ) → second a ≡ some b → OneOf (a ∷ b ∷ []) signs
-sign-two a b e = among-one (a ∷ b ∷ []) signs (second-is a b e (λ p q. rw (p, q)) (λ p q. rw (p, q)) (λ p q. rw (p, q)))
+sign-two a b e =
+    let known : ℕ → ℕ → Bool = λ x y. among (x ∷ y ∷ []) signs in
+    among-one (a ∷ b ∷ []) signs (second-is a b e (ap₂ known) (ap₂ known) (ap₂ known))
 
 second-apart : (a b : ℕ) → second a ≡ some b → apart a ≡ true
 second-apart a b e = second-is a b e (λ p q. rw p) (λ p q. rw p) (λ p q. rw p)

@@ -1,16 +1,15 @@
 -- Runs of bytes in front of others, two ways to split the same bytes, and what follows a beginning. Each law goes by the bytes in front.
-use Prim.Native.Nat.{ℕ, zero, suc, _+_, _≤_, _<_}
-use mathlib.Core.Path.{_≡_, refl, sym, ap, ap₂, _∙_}
-use mathlib.Core.Bool.{Bool, true, false, _&&_}
+use Prim.Native.Nat.{ℕ, _≤_, _<_}
+use mathlib.Core.Path.{_≡_, refl, sym, ap, ap₂}
+use mathlib.Core.Bool.{Bool, true, false}
 use mathlib.Core.List.{List, [], _∷_, _++_, head-eq-of-cons-eq, tail-eq-of-cons-eq}
-use mathlib.Core.Option.{Option, none, some}
+use mathlib.Core.Option.{none, some}
 use native.Mathlib.Omega.{arith}
 use borrow.Author.Tests.{eqb-true, eq-eqb}
 use lib.Dec.{eqb}
-use lib.ListN.{length, drop, length-append}
-use Rattle.card.specs.Text.{if_then_else_}
+use lib.ListN.{length, drop}
 use Rattle.marks.specs.Marks.{run, begins, every, after}
-use Rattle.marks.proofs.Lists.{cases, not-both, and-left, and-right}
+use Rattle.marks.proofs.Lists.{cases, and-left, and-right}
 
 module _ (p : ℕ → Bool) where
   pub run-split : (s : List ℕ) → s ≡ run p s ++ drop (length (run p s)) s

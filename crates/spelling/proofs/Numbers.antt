@@ -1,15 +1,15 @@
 -- Numbers: the scan's test and value are those of the spelling. The value that grows digit by digit is the sum of digits times powers of ten.
-use Prim.Native.Nat.{ℕ, zero, suc, _+_, _-_, _*_, _^_, _≤_, _<_}
+use Prim.Native.Nat.{ℕ, suc, _+_, _-_, _*_, _^_, _<_}
 use mathlib.Core.Path.{_≡_, refl, sym, ap, _∙_}
 use mathlib.Core.Bool.{Bool, true, false, not, _&&_, _||_}
 use mathlib.Core.List.{List, [], _∷_, head-eq-of-cons-eq, tail-eq-of-cons-eq}
-use mathlib.Core.Option.{Option, none, some}
-use native.Mathlib.Nat.{pow-suc, add-mul, mul-assoc, mul-comm, zero-add}
+use mathlib.Core.Option.{none, some}
+use native.Mathlib.Nat.{pow-suc, add-mul, mul-assoc, mul-comm}
 use native.Mathlib.Omega.{arith}
-use borrow.Author.Tests.{eqb-true, eqb-false, eq-eqb, ne-eqb, leb-true, le-leb, not-true}
+use borrow.Author.Tests.{eqb-true, eqb-false, leb-true, le-leb, not-true}
 use lib.Dec.{eqb, leb}
 use lib.ListN.{length}
-use Rattle.card.specs.Text.{same, if_then_else_}
+use Rattle.card.specs.Text.{same}
 use Rattle.marks.specs.Marks.{isDigit, every, valueFrom, plain, numberOf}
 use Rattle.marks.proofs.Lists.{cases, not-both, and-left, and-right, or-true, none-left}
 use Rattle.marks.proofs.KindLaws.{same-eq}

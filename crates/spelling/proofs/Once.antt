@@ -1,22 +1,22 @@
 -- No bytes spell two marks: whatever bytes spell is what the scan finds in them alone.
-use Prim.Native.Nat.{ℕ, zero, suc, _+_, _≤_, _<_}
-use mathlib.Core.Path.{_≡_, refl, sym, ap, ap₂, _∙_}
-use mathlib.Core.Bool.{Bool, true, false, not, _&&_, _||_}
+use Prim.Native.Nat.{ℕ, _≤_, _<_}
+use mathlib.Core.Path.{_≡_, refl, sym, ap, _∙_}
+use mathlib.Core.Bool.{Bool, true, false}
 use mathlib.Core.List.{List, [], _∷_, _++_}
 use mathlib.Core.Option.{Option, none, some}
 use native.Mathlib.Omega.{arith}
 use borrow.Author.Tests.{le-leb, lt-leb}
-use lib.Dec.{eqb, leb}
+use lib.Dec.{eqb}
 use lib.ListN.{length, drop}
 use lib.Seq.{drop-append-seam, drop-length}
 use Rattle.card.specs.Limits.{numberDigits, furtherDigits, wordDigits}
-use Rattle.card.specs.Text.{bytes, same, if_then_else_}
-use Rattle.marks.specs.Marks.{Mark, text, seat, process, number, decimal, outside, isDigit, isLetter, inWord, isBlank, isSign, second, run, begins, every, after, valueFrom, numberOf, Start, blank, mark, made, numbered, wordMark, word, pointed, decimalMark, numeralMark, numeral, sign1, sign2, sign, startAt}
+use Rattle.card.specs.Text.{bytes, same}
+use Rattle.marks.specs.Marks.{Mark, text, seat, process, number, decimal, outside, isDigit, inWord, isSign, second, begins, every, after, numberOf, Start, blank, mark, made, numbered, pointed, numeralMark, numeral, sign1, sign2, startAt}
 use Rattle.marks.proofs.Lists.{cases, not-both, and-left, and-right}
 use Rattle.marks.proofs.KindLaws.{same-eq}
 use Rattle.marks.proofs.Starts.{letter-starts, digit-starts}
 use Rattle.spelling.specs.Spells.{signs, keywords, OneOf, Numeral, Number, Word, word as aWord, Numbered, Stray, Spells, sign as aSign, keyword, seatWord, moduleWord, otherWord, aNumber, aDecimal, wrongNumber, wrongWhole, wrongFurther, stray}
-use Rattle.spelling.proofs.Lists.{run-front, run-whole, begins-front, after-is}
+use Rattle.spelling.proofs.Lists.{run-front, run-whole, after-is}
 use Rattle.spelling.proofs.Numbers.{numeral-every, numeral-value, number-of, of-number, not-number}
 use Rattle.spelling.proofs.Forms.{of-each, sign-one, number-word}
 

@@ -1,13 +1,13 @@
 -- What the scan finds at a byte: a blank or a comment, or a mark whose bytes spell it and of which no longer beginning spells any. The cases
 -- are the scan's own; the longest is known from how far each form reaches.
-use Prim.Native.Nat.{ℕ, zero, suc, _+_, _≤_, _<_}
+use Prim.Native.Nat.{ℕ, suc, _+_, _≤_, _<_}
 use Prim.Native.String.{String}
 use mathlib.Core.Path.{_≡_, refl, sym, ap, ap₂, _∙_, subst}
-use mathlib.Core.Bool.{Bool, true, false, not, _&&_, _||_}
+use mathlib.Core.Bool.{Bool, true, false, _&&_}
 use mathlib.Core.List.{List, [], _∷_, _++_, append-assoc, head-eq-of-cons-eq, tail-eq-of-cons-eq}
 use mathlib.Core.Option.{Option, none, some}
 use native.Mathlib.Omega.{arith}
-use borrow.Author.Tests.{eqb-true, eq-eqb, leb-true, leb-false, not-true, not-false}
+use borrow.Author.Tests.{eqb-true, leb-true, leb-false, not-false}
 use lib.Dec.{eqb, leb}
 use lib.ListN.{length, drop, length-append}
 use Rattle.card.specs.Limits.{numberDigits, furtherDigits, wordDigits}
@@ -15,8 +15,8 @@ use Rattle.card.specs.Text.{bytes, if_then_else_}
 use Rattle.marks.specs.Marks.{Mark, text, seat, process, number, decimal, outside, isDigit, isLetter, inWord, isBlank, isSign, second, notLF, run, begins, every, after, valueFrom, numberOf, Start, blank, mark, made, numbered, wordMark, word, pointed, decimalMark, numeralMark, numeral, sign1, sign2, sign, comment, startAt}
 use Rattle.marks.proofs.Lists.{cases, not-both, and-left, and-right}
 use Rattle.marks.proofs.Runs.{run-passes, run-stops}
-use Rattle.spelling.specs.Spells.{signs, keywords, OneOf, Numeral, Number, Word, word as aWord, Numbered, Spells, sign as aSign, keyword, seatWord, moduleWord, otherWord, aNumber, aDecimal, wrongNumber, wrongWhole, wrongFurther, stray}
-use Rattle.spelling.specs.Marked.{LineOver, Between, nothing, blank as aBlank, comment as aComment, Longest, Stands, taken}
+use Rattle.spelling.specs.Spells.{keywords, Numeral, Number, Word, word as aWord, Numbered, Spells, sign as aSign, keyword, seatWord, moduleWord, otherWord, aNumber, aDecimal, wrongNumber, wrongWhole, wrongFurther, stray}
+use Rattle.spelling.specs.Marked.{LineOver, Between, blank as aBlank, comment as aComment, Longest, Stands, taken}
 use Rattle.spelling.proofs.Lists.{run-on, run-split, after-is, after-front}
 use Rattle.spelling.proofs.Numbers.{numeral-of, number-of, no-number}
 use Rattle.spelling.proofs.Forms.{one-or-none, sign-one, one-sign, sign-two, form, blank-reach, letter-reach, pointReach, numeralReach, digit-reach, sign-reach}

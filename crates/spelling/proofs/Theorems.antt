@@ -1,19 +1,19 @@
 -- What is promised of the marks: exactly those by the rules; and of each mark of a card where it stands, and that the next one stands behind it.
-use Prim.Native.Nat.{ℕ, zero, suc, _+_, _-_, _≤_, _<_}
-use mathlib.Core.Path.{_≡_, refl, sym, ap, _∙_, subst}
+use Prim.Native.Nat.{ℕ, _+_, _≤_}
+use mathlib.Core.Path.{_≡_, sym, ap, _∙_, subst}
 use mathlib.Core.Logic.{_↔_}
-use mathlib.Core.List.{List, [], _∷_, _++_, append-assoc}
+use mathlib.Core.List.{List, [], _∷_, _++_}
 use native.Mathlib.Nat.{zero-add, add-zero}
 use native.Mathlib.Omega.{arith}
 use lib.ListN.{length, drop, length-append, length-drop}
 use lib.Seq.{drop-append-seam, drop-drop}
 use Rattle.marks.specs.Marks.{Mark, Placed, placed, marksOf}
 use Rattle.spelling.specs.Spells.{Spells}
-use Rattle.spelling.specs.Marked.{Longest, Stands, taken, Marked, over, next, StandsAt}
+use Rattle.spelling.specs.Marked.{Stands, taken, Marked, next, StandsAt}
 use Rattle.spelling.proofs.Lists.{same-front}
 use Rattle.spelling.proofs.Forms.{form, form-some}
 use Rattle.spelling.proofs.Once.{spells-once}
-use Rattle.spelling.proofs.Exact.{taken-fits, marked, marked-only}
+use Rattle.spelling.proofs.Exact.{marked, marked-only}
 
 pub exact : (s : List ℕ) (ms : List Placed) → (marksOf s ≡ ms) ↔ Marked 0 s ms
 exact s ms = (λ e. subst (Marked 0 s) e (marked s), marked-only s ms)
