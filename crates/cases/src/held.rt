@@ -1,0 +1,159 @@
+// An entry's answer, and what it left in its room, against the stored answer.
+use crate::entries::READ;
+use crate::entries::WRITE;
+use crate::entries::enter;
+use crate::stored::refuses;
+use crate::stored::stands;
+use crate::stored::whole;
+use card::limits::CARD_BYTES;
+use reader::Verdict;
+use reader::read;
+use room::Answer;
+use room::ROOM_TOO_SMALL;
+use room::put_byte;
+use room::put_bytes;
+use room::put_number;
+ghost use Rattle.io.specs.Counts.{Counts};
+
+// What a room holds before: a byte of no text.
+const UNTOUCHED: u8 = 0xa5;
+
+fn fill(room: &mut [u8]) {
+    let mut i = 0;
+    while i < room.len() {
+        room[i] = UNTOUCHED;
+        i += 1;
+    }
+}
+
+fn untouched(room: &[u8]) -> bool {
+    let mut i = 0;
+    while i < room.len() {
+        if room[i] != UNTOUCHED {
+            return false;
+        }
+        i += 1;
+    }
+    true
+}
+
+fn wide(number: u8) -> usize {
+    number as usize
+}
+
+fn refusal(text: &mut [u8], number: u8, place: usize) -> usize
+    ensures { λ r. ⌜ Counts r (now (text .exit)) ⌝ }
+{
+    let a = put_bytes(text, 0, b"refused ");
+    let b = put_number(text, a, wide(number));
+    let c = put_byte(text, b, b' ');
+    let d = put_number(text, c, place);
+    let end = put_byte(text, d, b'\n');
+    whole(text, end)
+}
+
+// Is this refusal the stored one?
+fn refused(number: u8, place: usize, stored: &[u8]) -> bool {
+    let mut text: [u8; 64] = [0; 64];
+    let end = refusal(&mut text, number, place);
+    check::same(&text[..end], stored)
+}
+
+// Is this the refusal that a room of so many bytes gets?
+fn refused_in(number: u8, place: usize, size: usize, stored: &[u8]) -> bool {
+    if refuses(stored) {
+        return refused(number, place, stored);
+    }
+    if stored.len() <= size {
+        return false;
+    }
+    number == ROOM_TOO_SMALL && place == stored.len()
+}
+
+// Is this the stored text, and the room behind it untouched?
+fn done(room: &[u8], long: usize, stored: &[u8]) -> bool {
+    if refuses(stored) {
+        return false;
+    }
+    if long != stored.len() {
+        return false;
+    }
+    if !stands(room, 0, stored) {
+        return false;
+    }
+    untouched(&room[long..])
+}
+
+// The entry in a room of so many bytes.
+fn in_room(entry: u8, card: &[u8], stored: &[u8], room: &mut [u8], size: usize) -> bool {
+    if room.len() < size {
+        return false;
+    }
+    fill(room);
+    let answer = enter(entry, card, &mut room[..size]);
+    match answer {
+        Answer::Done(long) => {
+            return done(room, long, stored);
+        }
+        Answer::Refused(number, place) => {
+            if !untouched(room) {
+                return false;
+            }
+            return refused_in(number, place, size, stored);
+        }
+    }
+}
+
+// The reader's verdict: a refusal is the writer's too, and what it takes has a text.
+fn reads(card: &[u8], stored: &[u8]) -> bool {
+    let reading = read(card);
+    let verdict = reading.verdict;
+    match verdict {
+        Verdict::Taken => {
+            return !refuses(stored);
+        }
+        Verdict::Refused(number, place) => {
+            return refused(number, place, stored);
+        }
+    }
+}
+
+// A written card, written again: it is itself, if it is not too long for a card.
+fn again(written: &[u8], room: &mut [u8]) -> bool {
+    let size = room.len();
+    if CARD_BYTES < written.len() {
+        return in_room(WRITE, written, b"refused 1 0\n", room, size);
+    }
+    in_room(WRITE, written, written, room, size)
+}
+
+// In the whole room; and a text also in a room one byte short, of just its length, and one byte larger.
+pub fn holds(entry: u8, card: &[u8], stored: &[u8], room: &mut [u8]) -> bool {
+    if entry == READ {
+        return reads(card, stored);
+    }
+    let size = room.len();
+    if !in_room(entry, card, stored, room, size) {
+        return false;
+    }
+    if refuses(stored) {
+        return true;
+    }
+    let long = stored.len();
+    if long == 0 {
+        return false;
+    }
+    if !in_room(entry, card, stored, room, long - 1) {
+        return false;
+    }
+    if !in_room(entry, card, stored, room, long) {
+        return false;
+    }
+    if !in_room(entry, card, stored, room, long + 1) {
+        return false;
+    }
+    if entry == WRITE {
+        return again(stored, room);
+    }
+    true
+}
