@@ -11,7 +11,7 @@ use native.Mathlib.Decide.{decLt}
 use native.Mathlib.Omega.{arith}
 use borrow.Author.Tests.{eq-eqb, ne-eqb, lt-ltb, le-ltb}
 use lib.Dec.{eqb, ltb}
-use lib.ListN.{length, getD, set, replicate, take, drop, length-drop}
+use lib.ListN.{length, getD, set, replicate, take, drop, length-drop, List·getD-eq-default}
 use lib.Seq.{length-take-le, getD-take, getD-drop}
 use Rattle.card.specs.Limits.{mostSeats, topState, mostStates, mostStatements, mostBranches, unit}
 use Rattle.card.specs.Card.{Mode, nondeterministic, probabilistic, Branch, Statement}
@@ -28,8 +28,8 @@ use Rattle.counting.proofs.Weighed.{each-at, length-each}
 use Rattle.rows.specs.Rows.{rowOf}
 use Rattle.lines.specs.PanelText.{line, movesText, stayText, blockText, blocksText, panelText}
 use Rattle.lines.proofs.Laws.{no-line}
-use Rattle.panel.specs.Tables.{total, Most, weighing, weighingRow, ableAt, ablesOf, countsAs, heaviest, weightPlaces, tableOf, weightIn, weightMore, weightBy, weightsOf, choiceIf, choicesIn, blocksIn, panelIn, Fitting}
-use Rattle.panel.proofs.Arrays.{upto-set, total-more, total-most, table-at, table-most, table-cong}
+use Rattle.panel.specs.Tables.{total, Most, weighing, weighingRow, ableAt, ablesOf, countsAs, enabledOf, heaviest, weightPlaces, tableOf, weightIn, weightMore, weightBy, weightsOf, choiceIf, choicesIn, blocksIn, panelIn, Fitting}
+use Rattle.panel.proofs.Arrays.{upto-set, total-more, total-most, length-table, table-at, table-most, table-cong}
 
 -- ---- how many are able
 
@@ -64,11 +64,46 @@ pub counts-most : (m : Mode) (able most : ℕ) → 1 ≤ most → able ≤ most 
 counts-most nondeterministic able most h l = omega (arith, gate-le (ltb 0 able) 1)
 counts-most probabilistic able most h l = l
 
+module _ (m : Mode) (ables : List ℕ) where
+  pub enabled-start : 0 ≡ enabledOf m ables 0
+  unfolding enabledOf
+  enabled-start = refl
+
+  pub enabled-next : (i : ℕ) {enabled more : ℕ} → enabled ≡ enabledOf m ables i → more ≡ countsAs m (getD ables i 0) → enabled + more ≡ enabledOf m ables (i + 1)
+  unfolding enabledOf
+  enabled-next i e h = rw (e, h) (sym (total-more i (λ j. countsAs m (getD ables j 0))))
+
+  pub enabled-end : (i count : ℕ) → i ≤ count → count ≤ i → enabledOf m ables i ≡ enabledOf m ables count
+  enabled-end i count h l = let e : i ≡ count = omega arith in rw e
+
+  pub enabled-most : (i : ℕ) → Most mostSeats ables → enabledOf m ables i ≤ i * mostSeats
+  unfolding enabledOf
+  enabled-most i h = total-most i (λ j. countsAs m (getD ables j 0)) mostSeats (λ j l. counts-most m (getD ables j 0) mostSeats (omega arith) (h j))
+
 -- ---- weights
 
 gate-times : (e : Bool) (v w : ℕ) → v * gate e w ≡ gate e (v * w)
 gate-times true v w = refl
 gate-times false v w = omega arith
+
+-- units to each state
+pub units-long : (l : List Branch) {units : List ℕ} → units ≡ unitsToEach l → length units ≡ mostStates
+units-long l e = rw e (length-each l)
+
+pub units-most : (rows branches : List ℕ) (i : ℕ) {k count from : ℕ} {units : List ℕ} → Fitting k rows branches count → i < count → from ≡ i * mostBranches
+    → units ≡ unitsToEach (map branchOf (take (min (rowOf rows i .branches) mostBranches) (drop from branches))) → Most unit units
+units-most rows branches i {k} {count} {from} {units} f h g e =
+    let l = map branchOf (take (rowOf rows i .branches) (drop (i * mostBranches) branches)) in
+    let cut : min (rowOf rows i .branches) mostBranches ≡ rowOf rows i .branches = omega (arith, f .fit .each i h .branches) in
+    let is : units ≡ unitsToEach l = rw (cut, g) at e in
+    rw is (each-most l unit (f .units i h))
+  where
+    each-most : (l : List Branch) (m : ℕ) → ((t : ℕ) → unitsTo t l ≤ m) → Most m (unitsToEach l)
+    each-most l m h t = go (decLt t mostStates)
+      where
+        go : Dec (t < mostStates) → getD (unitsToEach l) t 0 ≤ m
+        go (yes d) = rw (each-at l t d) (h t)
+        go (no d) = let short : length (unitsToEach l) ≤ t = omega (arith, length-each l) in rw (List·getD-eq-default (unitsToEach l) 0 short) (omega arith)
 
 module _ (ables rows branches : List ℕ) where
   pub weights-none : (mode count : ℕ) → mode ≡ 0 → replicate weightPlaces 0 ≡ weightsOf (either nondeterministic probabilistic mode) ables rows branches count
@@ -95,6 +130,10 @@ module _ (ables rows branches : List ℕ) where
       → weightsOf probabilistic ables rows branches i ≡ weightsOf (either nondeterministic probabilistic mode) ables rows branches count
   weights-end mode i count h l g = let e : i ≡ count = omega arith in rw (ne-eqb mode 0 h, e)
 
+  pub weights-long : (m : Mode) (i : ℕ) {weights : List ℕ} → weights ≡ weightsOf m ables rows branches i → length weights ≡ weightPlaces
+  unfolding weightsOf
+  weights-long m i e = rw e (length-table (weightBy m ables rows branches i))
+
   -- what the code adds up fits
   pub weights-most : {k count : ℕ} → Fitting k rows branches count → Most mostSeats ables → (m : Mode) (i : ℕ) → i ≤ count → Most heaviest (weightsOf m ables rows branches i)
   unfolding weightsOf moveOf
@@ -118,7 +157,7 @@ flat-only (suc n) (suc j) f l h = rw (h 0 (λ e. omega arith)) (flat-only n j (�
 
 module _ (k own : ℕ) (h : own ≤ k) (u v : ℕ → ℕ) (same : (b : ℕ) → b < suc k → u b ≡ v b) where
   -- moves from one state only
-  own-moves : flat (upto (suc k) (λ a. flat (upto (suc k) (λ b. moveLine a b (gate (eqb own a) (v b)))))) ≡ flat (upto (suc k) (λ b. moveLine own b (u b)))
+  pub own-moves : flat (upto (suc k) (λ a. flat (upto (suc k) (λ b. moveLine a b (gate (eqb own a) (v b)))))) ≡ flat (upto (suc k) (λ b. moveLine own b (u b)))
   own-moves =
       flat-only (suc k) own (λ a. flat (upto (suc k) (λ b. moveLine a b (gate (eqb own a) (v b))))) (omega arith) other
       ∙ ap (λ (l : List (List Move)). flat l) (upto-cong (suc k) _ (λ b. moveLine own b (u b)) here)
@@ -140,6 +179,15 @@ module _ (weights : List ℕ) (from k old : ℕ) {to : ℕ} (e : to ≡ from + k
   pub row-moves : flat (upto (length part) (λ b. moveLine old b (getD part b 0))) ≡ flat (upto (suc k) (λ b. moveLine old b (getD weights (from + b) 0)))
   row-moves = rw length-part (ap (λ (l : List (List Move)). flat l) (upto-cong (suc k) _ (λ b. moveLine old b (getD weights (from + b) 0)) λ b l.
       ap (moveLine old b) (getD-take (to - from) (drop from weights) b 0 (omega arith) ∙ getD-drop from weights b 0)))
+
+-- the moves from one old state, in the table
+abbrev pub tableRow : List ℕ → ℕ → ℕ → List Move
+tableRow weights k a = flat (upto (suc k) (λ b. moveLine a b (weightIn weights a b)))
+
+pub table-row : (weights : List ℕ) (k a : ℕ) → k ≤ topState → length weights ≡ weightPlaces → a ≤ k → {from to : ℕ} → from ≡ a * mostStates → to ≡ from + k + 1
+    → (r : List ℕ) → movesText (flat (upto (length (take (to - from) (drop from weights))) (λ b. moveLine a b (getD (take (to - from) (drop from weights)) b 0)))) r
+    ≡ movesText (tableRow weights k a) r
+table-row weights k a h l g {from} {to} e f r = rw (row-moves weights from k a f (omega arith), e)
 
 module _ (k i able : ℕ) (s : Statement) (r : List ℕ) where
   pub choice-none : able ≡ 0 → r ≡ blocksText (choiceIf k i able s) r

@@ -1,3 +1,5 @@
 pub mod Arrays
 pub mod Laws
 pub mod Shown
+pub mod Short
+pub mod Entry

@@ -49,7 +49,7 @@ module _ (nodes branches rows : List ℕ) where
       (statements-from (suc i) c ∙ upto-cong c _ (λ j. at (i + suc j)) (λ j l. ap at (omega arith)))
 
   -- the card's statements, one for each row
-  statements-upto : (c : ℕ) → statementsOf nodes branches (rowsFrom rows 0 c) 0 ≡ upto c at
+  pub statements-upto : (c : ℕ) → statementsOf nodes branches (rowsFrom rows 0 c) 0 ≡ upto c at
   statements-upto c = statements-from 0 c ∙ upto-cong c _ at (λ j l. ap at (omega arith))
 
   sum-rows : (f : Statement → ℕ) (c : ℕ) → sum f (statementsOf nodes branches (rowsFrom rows 0 c) 0) ≡ total c (λ i. f (at i))

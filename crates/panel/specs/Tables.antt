@@ -1,10 +1,11 @@
 -- What the code computes on the way to a panel: numbers in arrays, one for each statement or one for each pair of states. A statement
 -- lies in its row and in the card's nodes and branches. Assumes nothing.
 use Prim.Native.Nat.{ℕ, suc, _+_, _*_, _/_, _%_, _≤_, _<_}
+use mathlib.Core.Path.{_≡_}
 use mathlib.Core.List.{List, [], _∷_, map}
 use mathlib.Core.Option.{none, some}
 use lib.Dec.{eqb, ltb}
-use lib.ListN.{getD, take, drop}
+use lib.ListN.{length, getD, take, drop}
 use Rattle.card.specs.Limits.{mostSeats, topState, mostStates, mostStatements, mostNodes, mostBranches, unit}
 use Rattle.card.specs.Text.{if_then_else_}
 use Rattle.card.specs.Card.{Mode, nondeterministic, probabilistic, Statement}
@@ -65,6 +66,14 @@ weightIn weights a b = getD weights (a * mostStates + b) 0
 -- with those of one statement more
 abbrev pub weightMore : List ℕ → ℕ → ℕ → List ℕ → ℕ → ℕ → ℕ
 weightMore weights own able units a b = weightIn weights a b + gate (eqb own a) (able * getD units b 0)
+
+-- numbers that can be added
+pub record Adding (weights : List ℕ) (own able : ℕ) (units : List ℕ) : Type 0 where
+  pub long : length weights ≡ weightPlaces
+  pub old : own < mostStates
+  pub few : able ≤ mostSeats
+  pub light : Most unit units
+  pub most : Most heaviest weights
 
 abbrev pub weightBy : Mode → List ℕ → List ℕ → List ℕ → ℕ → ℕ → ℕ → ℕ
 weightBy nondeterministic ables rows branches count a b = 0

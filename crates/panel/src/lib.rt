@@ -26,7 +26,7 @@ ghost use mathlib.Core.Path.{_≡_};
 ghost use mathlib.Core.List.{map};
 ghost use Prim.Native.Nat.{ℕ, suc, _+_, _*_, _<_, _≤_};
 ghost use lib.ListN.{length, getD};
-ghost use Rattle.card.specs.Limits.{mostSeats, topState, mostStates, mostStatements, mostBranches, unit};
+ghost use Rattle.card.specs.Limits.{mostSeats, topState, mostStatements, mostBranches};
 ghost use Rattle.card.specs.Card.{nondeterministic, probabilistic};
 ghost use Rattle.card.specs.Laid.{either, cardOf};
 ghost use Rattle.room.specs.Room.{Put};
@@ -37,7 +37,7 @@ ghost use Rattle.meaning.specs.Sums.{upto, flat};
 ghost use Rattle.meaning.specs.Panel.{moveLine};
 ghost use Rattle.rows.specs.Rows.{Holds};
 ghost use Rattle.lines.specs.PanelText.{movesText, blocksText, panelText, panelOf};
-ghost use Rattle.panel.specs.Tables.{Most, weighing, ablesOf, countsAs, enabledOf, weightPlaces, heaviest, tableOf, weightIn, weightMore, weightsOf, stayIn, choiceIf, choicesIn, panelIn, Fitting};
+ghost use Rattle.panel.specs.Tables.{Most, weighing, ablesOf, countsAs, enabledOf, weightPlaces, heaviest, tableOf, weightIn, weightMore, Adding, weightsOf, stayIn, choiceIf, choicesIn, panelIn, Fitting};
 ghost use Rattle.panel.specs.PanelSaid.{shownSaid, panelSaid};
 
 // The table of weights: a row for each old state.
@@ -87,10 +87,7 @@ fn enabled_of(mode: usize, ables: &[usize; MOST_STATEMENTS], count: usize) -> us
 
 // The weights of one statement, for all seats that are able to take it.
 fn add_weights(weights: &mut [usize; WEIGHT_PLACES], own: usize, able: usize, units: &[usize; MOST_STATES])
-    requires { ⌜ own < mostStates ⌝ }
-    requires { ⌜ able ≤ mostSeats ⌝ }
-    requires { ⌜ Most unit (now units) ⌝ }
-    requires { ⌜ Most heaviest (now weights) ⌝ }
+    requires { ⌜ Adding (now weights) own able (now units) ⌝ }
     ensures { λ r. ⌜ now (weights .exit) ≡ tableOf (weightMore (now (weights .entry)) own able (now (units .entry))) ⌝ }
 {
     let mut end = 0;
