@@ -75,7 +75,14 @@ pub fn put_moves(room: &mut [u8], at: usize, old: usize, weights: &[usize]) -> u
 }
 
 // The lines before the weights; the mode by its number in a card's struct.
-pub fn put_head(room: &mut [u8], at: usize, mode: usize, seats: usize, enabled: usize, counts: &[usize]) -> usize
+pub fn put_head(
+    room: &mut [u8],
+    at: usize,
+    mode: usize,
+    seats: usize,
+    enabled: usize,
+    counts: &[usize],
+) -> usize
     ensures { λ r. ⌜ Puts (now (room .entry)) (now (room .exit)) at (λ t. modeText (either nondeterministic probabilistic mode) ("\nseats " ▸ num seats (line " enabled" (enabled ∷ []) (line "counts" (now (counts .entry)) t)))) r ⌝ }
 {
     let a = put_mode(room, at, mode);

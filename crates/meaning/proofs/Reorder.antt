@@ -11,7 +11,7 @@ use Rattle.meaning.proofs.Sums.{upto-cong}
 use Rattle.meaning.proofs.Counting.{Within}
 use Rattle.meaning.proofs.Panel.{equal-counts}
 
-reordered-length : {x y : Seating} → Reordered x y → length x ≡ length y
+pub reordered-length : {x y : Seating} → Reordered x y → length x ≡ length y
 reordered-length done = refl
 reordered-length (keep a r) = ap suc (reordered-length r)
 reordered-length (swap a b x) = refl

@@ -3,3 +3,6 @@ pub mod Laws
 pub mod Shown
 pub mod Short
 pub mod Entry
+pub mod Theorems
+pub mod Reordering
+pub mod Examples

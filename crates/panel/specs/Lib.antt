@@ -1,3 +1,4 @@
 pub mod Tables
 pub mod PanelSaid
 pub mod PanelRoom
+pub mod Reordering

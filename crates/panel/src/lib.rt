@@ -40,11 +40,20 @@ ghost use Rattle.lines.specs.PanelText.{movesText, blocksText, panelText, panel
 ghost use Rattle.panel.specs.Tables.{Most, weighing, ablesOf, countsAs, enabledOf, weightPlaces, heaviest, tableOf, weightIn, weightMore, Adding, weightsOf, stayIn, choiceIf, choicesIn, panelIn, Fitting};
 ghost use Rattle.panel.specs.PanelSaid.{shownSaid, panelSaid};
 
+// A room that every panel fits into (specs/PanelRoom.antt).
+pub const PANEL_ROOM: usize = 4101;
+
 // The table of weights: a row for each old state.
 const WEIGHT_PLACES: usize = MOST_STATES * MOST_STATES;
 
 // How many of n seats are able to take each statement.
-fn ables_of<'a>(rows: &'a [usize; ROW_PLACES], count: usize, nodes: &'a [u32], n: usize, counts: &'a [usize]) -> [usize; MOST_STATEMENTS]
+fn ables_of<'a>(
+    rows: &'a [usize; ROW_PLACES],
+    count: usize,
+    nodes: &'a [u32],
+    n: usize,
+    counts: &'a [usize],
+) -> [usize; MOST_STATEMENTS]
     requires { ⌜ count ≤ mostStatements ⌝ }
     ensures { λ r. ⌜ r ≡ ablesOf n (now (counts .entry)) (now (nodes .entry)) (now (rows .entry)) count ⌝ }
 {
@@ -86,7 +95,12 @@ fn enabled_of(mode: usize, ables: &[usize; MOST_STATEMENTS], count: usize) -> us
 }
 
 // The weights of one statement, for all seats that are able to take it.
-fn add_weights(weights: &mut [usize; WEIGHT_PLACES], own: usize, able: usize, units: &[usize; MOST_STATES])
+fn add_weights(
+    weights: &mut [usize; WEIGHT_PLACES],
+    own: usize,
+    able: usize,
+    units: &[usize; MOST_STATES],
+)
     requires { ⌜ Adding (now weights) own able (now units) ⌝ }
     ensures { λ r. ⌜ now (weights .exit) ≡ tableOf (weightMore (now (weights .entry)) own able (now (units .entry))) ⌝ }
 {
@@ -99,7 +113,14 @@ fn add_weights(weights: &mut [usize; WEIGHT_PLACES], own: usize, able: usize, un
 }
 
 // The weights of a probabilistic card.
-fn weights_of<'a>(mode: usize, ables: &'a [usize; MOST_STATEMENTS], rows: &'a [usize; ROW_PLACES], branches: &'a [u32], count: usize, top: usize) -> [usize; WEIGHT_PLACES]
+fn weights_of<'a>(
+    mode: usize,
+    ables: &'a [usize; MOST_STATEMENTS],
+    rows: &'a [usize; ROW_PLACES],
+    branches: &'a [u32],
+    count: usize,
+    top: usize,
+) -> [usize; WEIGHT_PLACES]
     requires { ⌜ Fitting top (now rows) (now branches) count ⌝ }
     requires { ⌜ Most mostSeats (now ables) ⌝ }
     ensures { λ r. ⌜ r ≡ weightsOf (either nondeterministic probabilistic mode) (now (ables .entry)) (now (rows .entry)) (now (branches .entry)) count ⌝ }
@@ -176,7 +197,16 @@ fn put_choices<'a>(
     let mut i = 0;
     while i < count {
         let from = i * ROW;
-        to = put_choice(room, to, i, ables[i], rows[from], rows[from + 2], branches, top);
+        to = put_choice(
+            room,
+            to,
+            i,
+            ables[i],
+            rows[from],
+            rows[from + 2],
+            branches,
+            top,
+        );
         i += 1;
     }
     to
@@ -285,8 +315,8 @@ fn seated(c: Card, seats: &[u8], room: &mut [u8]) -> Answer
 {
     let judged = judge_seats(seats, c.seats, c.top);
     match judged {
-        Seated::Refused(number, place) => {
-            return Answer::Refused(number, place);
+        Seated::Refused(number, seat) => {
+            return Answer::Refused(number, seat);
         }
         Seated::Fine => {
             return show(c, seats, room);

@@ -1,55 +1,39 @@
-use Rattle.phrases.proofs.Laws.{put-first, puts-then}
+-- `lines::put_head` meets its contract: its puts, one after the other. Assumes nothing.
 use borrow.Author.Needs.{needs}
+use Rattle.phrases.proofs.Laws.{put-first, puts-then}
 use Rattle.lines.proofs.put_head.Statement.{statement}
 use Rattle.lines.proofs.put_head.Tie as tie
-use Rattle.lines.proofs.put_head.Reads as reads
-use Rattle.lines.proofs.put_head.Lts as lts
-use Rattle.lines.proofs.put_line.Reads as put-line-reads
-use Rattle.phrases.proofs.put_mode.Reads as put-mode-reads
-use Rattle.room.proofs.put_bytes.Reads as put-bytes-reads
-use Rattle.room.proofs.put_number.Reads as put-number-reads
 
--- src/lib.rt:81:9
 put-mode-requires : tie.Need-put-mode-requires
 put-mode-requires c κs = search needs
 
--- src/lib.rt:82:32
 slice-aggregate-put-bytes : tie.Need-slice-aggregate-put-bytes
 slice-aggregate-put-bytes c = search needs
 
--- src/lib.rt:82:9
 put-bytes-requires : tie.Need-put-bytes-requires
 put-bytes-requires c κs = search needs
 
--- src/lib.rt:83:9
 put-number-requires : tie.Need-put-number-requires
 put-number-requires c κs = search needs
 
--- src/lib.rt:85:31
 slice-aggregate-put-line : tie.Need-slice-aggregate-put-line
 slice-aggregate-put-line c = search needs
 
--- src/lib.rt:85:44
 slice-aggregate-put-line-2 : tie.Need-slice-aggregate-put-line-2
 slice-aggregate-put-line-2 c = search needs
 
--- src/lib.rt:85:9
 put-line-requires : tie.Need-put-line-requires
 put-line-requires c κs = search needs
 
--- src/lib.rt:86:23
 slice-aggregate-put-line-3 : tie.Need-slice-aggregate-put-line-3
 slice-aggregate-put-line-3 c = search needs
 
--- src/lib.rt:86:5
 put-line-requires-2 : tie.Need-put-line-requires-2
 put-line-requires-2 c κs = search needs
 
--- src/lib.rt:78:1
 same-length : tie.Need-same-length
 same-length c = search needs
 
--- src/lib.rt:78:1
 returns : tie.Need-returns
 returns c = puts-then (c .before .before .before .before .before .before .before .before .before .before .before .before .before .before .before .before .before .before .before .before .before .before .put-mode .ensures) (puts-then (put-first (c .before .before .before .before .before .before .before .before .before .before .before .before .before .before .before .before .before .put-bytes .ensures)) (puts-then (put-first (c .before .before .before .before .before .before .before .before .before .before .before .before .before .put-number .ensures)) (puts-then (c .before .before .before .before .before .before .before .put-line .ensures) (c .before .before .put-line2 .ensures))))
 

@@ -1,18 +1,14 @@
+-- `lines::put_numbers` meets its contract: after i turns the first i numbers are put. Assumes nothing.
 use Prim.Native.Nat.{_≤_, _-_}
+use borrow.Author.Needs.{needs}
 use lib.ListN.{length, take}
-use Rattle.room.proofs.Laws.{put-length}
-use Rattle.phrases.specs.Puts.{Puts}
 use Rattle.phrases.proofs.Laws.{put-first, puts-then, puts-none}
+use Rattle.phrases.specs.Puts.{Puts}
+use Rattle.room.proofs.Laws.{put-length}
 use Rattle.lines.proofs.Laws.{numbers-next, numbers-end}
 use Rattle.lines.specs.PanelText.{numbers}
-use borrow.Author.Needs.{needs}
 use Rattle.lines.proofs.put_numbers.Statement.{statement}
 use Rattle.lines.proofs.put_numbers.Tie as tie
-use Rattle.lines.proofs.put_numbers.Reads as reads
-use Rattle.lines.proofs.put_numbers.Lts as lts
-use Rattle.room.proofs.place.Reads as place-reads
-use Rattle.room.proofs.put_byte.Reads as put-byte-reads
-use Rattle.room.proofs.put_number.Reads as put-number-reads
 
 abbrev Inv-loop : tie.InvT-loop
 Inv-loop room₀ at values to₀ i₀ room to i = (i ≤ length values) × Puts room₀ room at (numbers (take i values)) to
@@ -20,47 +16,36 @@ Inv-loop room₀ at values to₀ i₀ room to i = (i ≤ length values) × Puts 
 abbrev μ-loop : tie.MeasureT-loop
 μ-loop room₀ at values to₀ i₀ room to i = length values - i
 
--- src/lib.rt:21:9
 place-requires : tie.Need-place-requires Inv-loop μ-loop
 place-requires c κs = search needs
 
--- src/lib.rt:23:5
 loop-holds : tie.Need-loop-holds Inv-loop μ-loop
 loop-holds c = (search needs, puts-none (search needs) (c .place .ensures))
 
--- src/lib.rt:24:13
 put-byte-requires : tie.Need-put-byte-requires Inv-loop μ-loop
 put-byte-requires c κs = search needs
 
--- src/lib.rt:25:34
 mul-put-number : tie.Need-mul-put-number Inv-loop μ-loop
 mul-put-number c = search needs
 
--- src/lib.rt:25:34
 shared-slice-read-put-number : tie.Need-shared-slice-read-put-number Inv-loop μ-loop
 shared-slice-read-put-number c = search needs
 
--- src/lib.rt:25:9
 put-number-requires : tie.Need-put-number-requires Inv-loop μ-loop
 put-number-requires c κs = search needs
 
--- src/lib.rt:26:9
 add-i : tie.Need-add-i Inv-loop μ-loop
 add-i c = search needs
 
--- src/lib.rt:23:5
 loop-less : tie.Need-loop-less Inv-loop μ-loop
 loop-less c = search needs
 
--- src/lib.rt:23:5
 loop-again : tie.Need-loop-again Inv-loop μ-loop
 loop-again c = (search needs, numbers-next (c .before .before .before .before .before .before .before .before .before .before .before .before .before .before .args .values .now) (c .before .before .before .before .before .before .before .before .before .before .loop .i) (c .before .before .before .before .before .before .before .before .before .loop-test .taken) (c .before .before .before .before .before .before .before .before .before .before .loop .inv .1) (puts-then (put-first (c .before .before .before .before .before .before .before .put-byte .ensures)) (put-first (c .before .before .put-number .ensures))))
 
--- src/lib.rt:18:1
 same-length : tie.Need-same-length Inv-loop μ-loop
 same-length c = put-length (c .before .loop .inv .1 .put)
 
--- src/lib.rt:18:1
 returns : tie.Need-returns Inv-loop μ-loop
 returns c = numbers-end (c .before .before .before .before .before .args .values .now) _ (c .loop-test .left) (c .before .loop .inv .1)
 

@@ -1,38 +1,28 @@
+-- `lines::put_stay` meets its contract: a weight of 0 has no line. Assumes nothing.
+use borrow.Author.Needs.{needs}
 use Rattle.phrases.proofs.Laws.{puts-as, puts-none}
 use Rattle.lines.proofs.Laws.{stay-none, stay-some}
-use borrow.Author.Needs.{needs}
 use Rattle.lines.proofs.put_stay.Statement.{statement}
 use Rattle.lines.proofs.put_stay.Tie as tie
-use Rattle.lines.proofs.put_stay.Reads as reads
-use Rattle.lines.proofs.put_stay.Lts as lts
-use Rattle.lines.proofs.put_line.Reads as put-line-reads
-use Rattle.room.proofs.place.Reads as place-reads
 
--- src/lib.rt:45:9
 place-requires : tie.Need-place-requires
 place-requires c κs = search needs
 
--- src/lib.rt:45:9
 returns : tie.Need-returns
 returns c = puts-as _ (λ t. stay-none _ t (c .before .if1 .taken)) (puts-none (search needs) (c .place .ensures))
 
--- src/lib.rt:48:24
 slice-aggregate-put-line : tie.Need-slice-aggregate-put-line
 slice-aggregate-put-line c = search needs
 
--- src/lib.rt:48:33
 slice-aggregate-put-line-2 : tie.Need-slice-aggregate-put-line-2
 slice-aggregate-put-line-2 c = search needs
 
--- src/lib.rt:48:5
 put-line-requires : tie.Need-put-line-requires
 put-line-requires c κs = search needs
 
--- src/lib.rt:41:1
 same-length : tie.Need-same-length
 same-length c = search needs
 
--- src/lib.rt:41:1
 returns-2 : tie.Need-returns-2
 returns-2 c = puts-as _ (λ t. stay-some _ t (c .before .before .before .before .before .before .if1 .left)) (c .before .before .put-line .ensures)
 

@@ -1,16 +1,14 @@
+-- `panel::add_weights` meets its contract: after each turn the weight to one state more is added; the sums fit, since they are bounded before. Assumes nothing.
 use Prim.Native.Nat.{_≤_, _-_, _+_, _*_}
-use mathlib.Core.Path.{_≡_, refl, ap, _∙_}
-use lib.ListN.{length}
-use native.Mathlib.Omega.{arith}
+use mathlib.Core.Path.{_≡_, refl, _∙_}
 use native.Mathlib.Nat.{mul-le-mul}
-use Rattle.card.specs.Limits.{mostStates}
-use Rattle.panel.proofs.Arrays.{weightSome, some-start, some-here, some-next, some-end, length-table}
-use Rattle.panel.specs.Tables.{tableOf}
+use native.Mathlib.Omega.{arith}
 use borrow.Author.Needs.{needs}
+use Rattle.card.specs.Limits.{mostStates}
+use Rattle.panel.proofs.Arrays.{weightSome, some-start, some-here, some-next, some-end}
+use Rattle.panel.specs.Tables.{tableOf}
 use Rattle.panel.proofs.add_weights.Statement.{statement}
 use Rattle.panel.proofs.add_weights.Tie as tie
-use Rattle.panel.proofs.add_weights.Reads as reads
-use Rattle.panel.proofs.add_weights.Lts as lts
 
 abbrev Inv-loop : tie.InvT-loop
 Inv-loop weights₀ own able units end₀ weights end = (end ≤ mostStates) × (weights ≡ tableOf (weightSome weights₀ own able units end))
@@ -18,63 +16,48 @@ Inv-loop weights₀ own able units end₀ weights end = (end ≤ mostStates) × 
 abbrev μ-loop : tie.MeasureT-loop
 μ-loop weights₀ own able units end₀ weights end = mostStates - end
 
--- src/lib.rt:94:5
 loop-holds : tie.Need-loop-holds Inv-loop μ-loop
 loop-holds c = (search needs, some-start (c .args .weights .now) (c .args .own) (c .args .able) (c .args .units .now) (c .pre .long))
 
--- src/lib.rt:95:18
 mul-at : tie.Need-mul-at Inv-loop μ-loop
 mul-at c = search needs
 
--- src/lib.rt:95:18
 add-at : tie.Need-add-at Inv-loop μ-loop
 add-at c = search needs
 
--- src/lib.rt:96:23
 mul-weights : tie.Need-mul-weights Inv-loop μ-loop
 mul-weights c = search needs
 
--- src/lib.rt:96:23
 element-copy-out-weights : tie.Need-element-copy-out-weights Inv-loop μ-loop
 element-copy-out-weights c = search needs
 
--- src/lib.rt:96:44
 mul-weights-2 : tie.Need-mul-weights-2 Inv-loop μ-loop
 mul-weights-2 c = search needs
 
--- src/lib.rt:96:44
 element-copy-out-weights-2 : tie.Need-element-copy-out-weights-2 Inv-loop μ-loop
 element-copy-out-weights-2 c = search needs
 
--- src/lib.rt:96:37
 mul-weights-3 : tie.Need-mul-weights-3 Inv-loop μ-loop
-mul-weights-3 c = omega (arith, mul-le-mul (c .before .before .before .before .pre .few) (c .before .before .before .before .pre .light (c .before .before .before .loop .end)))
+mul-weights-3 c = omega (arith, c .before .before .before .before .pre .light (c .before .before .before .loop .end), mul-le-mul (c .before .before .before .before .pre .few) (c .before .before .before .before .pre .light (c .before .before .before .loop .end)))
 
--- src/lib.rt:96:23
 add-weights : tie.Need-add-weights Inv-loop μ-loop
-add-weights c = omega (arith, mul-le-mul (c .before .before .before .before .pre .few) (c .before .before .before .before .pre .light (c .before .before .before .loop .end)), some-here (c .before .before .before .before .args .weights .now) (c .before .before .before .before .args .own) (c .before .before .before .before .args .able) (c .before .before .before .before .args .units .now) (c .before .before .before .loop .end) (c .before .before .before .before .pre .old) (c .before .before .loop-test .taken) refl (c .before .before .before .loop .inv .1), c .before .before .before .before .pre .most (c .before .before .before .before .args .own * mostStates + c .before .before .before .loop .end))
+add-weights c = omega (arith, c .before .before .before .before .pre .light (c .before .before .before .loop .end), mul-le-mul (c .before .before .before .before .pre .few) (c .before .before .before .before .pre .light (c .before .before .before .loop .end)), some-here (c .before .before .before .before .args .weights .now) (c .before .before .before .before .args .own) (c .before .before .before .before .args .able) (c .before .before .before .before .args .units .now) (c .before .before .before .loop .end) (c .before .before .before .before .pre .old) (c .before .before .loop-test .taken) refl (c .before .before .before .loop .inv .1), c .before .before .before .before .pre .most (c .before .before .before .before .args .own * mostStates + c .before .before .before .loop .end))
 
--- src/lib.rt:96:9
 mul-weights-4 : tie.Need-mul-weights-4 Inv-loop μ-loop
 mul-weights-4 c = search needs
 
--- src/lib.rt:96:9
 element-write-weights : tie.Need-element-write-weights Inv-loop μ-loop
 element-write-weights c = search needs
 
--- src/lib.rt:97:9
 add-end : tie.Need-add-end Inv-loop μ-loop
 add-end c = search needs
 
--- src/lib.rt:94:5
 loop-less : tie.Need-loop-less Inv-loop μ-loop
 loop-less c = search needs
 
--- src/lib.rt:94:5
 loop-again : tie.Need-loop-again Inv-loop μ-loop
 loop-again c = (search needs, some-next (c .before .before .before .before .args .weights .now) (c .before .before .before .before .args .own) (c .before .before .before .before .args .able) (c .before .before .before .before .args .units .now) (c .before .before .before .loop .end) (c .before .before .before .before .pre .old) (c .before .before .loop-test .taken) refl (c .before .before .before .loop .inv .1))
 
--- src/lib.rt:89:1
 returns : tie.Need-returns Inv-loop μ-loop
 returns c = c .before .loop .inv .1 ∙ some-end (c .before .before .args .weights .now) (c .before .before .args .own) (c .before .before .args .able) (c .before .before .args .units .now) (c .before .loop .end) (c .loop-test .left)
 

@@ -1,18 +1,16 @@
-use Prim.Native.Nat.{_≤_, _-_, _*_}
+-- `panel::enabled_of` meets its contract: after i turns the sum is that of the first i statements, and no more than 16 for each. Assumes nothing.
+use Prim.Native.Nat.{_≤_, _-_}
 use mathlib.Core.Path.{_≡_, _∙_}
 use native.Mathlib.Omega.{arith}
+use borrow.Author.Needs.{needs}
 use lib.ListN.{getD}
-use Rattle.panel.proofs.Laws.{enabled-start, enabled-next, enabled-end, enabled-most, counts-most}
-use Rattle.panel.specs.Tables.{enabledOf}
 use Rattle.card.specs.Card.{nondeterministic, probabilistic}
 use Rattle.card.specs.Laid.{either}
 use Rattle.card.specs.Limits.{mostSeats}
-use borrow.Author.Needs.{needs}
+use Rattle.panel.proofs.Laws.{enabled-start, enabled-next, enabled-end, enabled-most, counts-most}
+use Rattle.panel.specs.Tables.{enabledOf}
 use Rattle.panel.proofs.enabled_of.Statement.{statement}
 use Rattle.panel.proofs.enabled_of.Tie as tie
-use Rattle.panel.proofs.enabled_of.Reads as reads
-use Rattle.panel.proofs.enabled_of.Lts as lts
-use Rattle.panel.proofs.counts_as.Reads as counts-as-reads
 
 abbrev Inv-loop : tie.InvT-loop
 Inv-loop mode ables count enabled₀ i₀ enabled i = (i ≤ count) × (enabled ≡ enabledOf (either nondeterministic probabilistic mode) ables i)
@@ -20,39 +18,30 @@ Inv-loop mode ables count enabled₀ i₀ enabled i = (i ≤ count) × (enabled 
 abbrev μ-loop : tie.MeasureT-loop
 μ-loop mode ables count enabled₀ i₀ enabled i = count - i
 
--- src/lib.rt:81:5
 loop-holds : tie.Need-loop-holds Inv-loop μ-loop
 loop-holds c = (search needs, enabled-start (either nondeterministic probabilistic (c .args .mode)) (c .args .ables .now))
 
--- src/lib.rt:82:45
 mul-counts-as : tie.Need-mul-counts-as Inv-loop μ-loop
 mul-counts-as c = search needs
 
--- src/lib.rt:82:45
 element-copy-out-counts-as : tie.Need-element-copy-out-counts-as Inv-loop μ-loop
 element-copy-out-counts-as c = search needs
 
--- src/lib.rt:82:29
 counts-as-requires : tie.Need-counts-as-requires Inv-loop μ-loop
 counts-as-requires c κs = search needs
 
--- src/lib.rt:82:19
 add-enabled : tie.Need-add-enabled Inv-loop μ-loop
 add-enabled c = omega (arith, c .before .before .before .loop .inv .1, c .counts-as .ensures, enabled-most (either nondeterministic probabilistic (c .before .before .before .before .args .mode)) (c .before .before .before .before .args .ables .now) (c .before .before .before .loop .i) (c .before .before .before .before .pre .1), counts-most (either nondeterministic probabilistic (c .before .before .before .before .args .mode)) (getD (c .before .before .before .before .args .ables .now) (c .before .before .before .loop .i) 0) mostSeats (omega arith) (c .before .before .before .before .pre .1 (c .before .before .before .loop .i)))
 
--- src/lib.rt:83:9
 add-i : tie.Need-add-i Inv-loop μ-loop
 add-i c = search needs
 
--- src/lib.rt:81:5
 loop-less : tie.Need-loop-less Inv-loop μ-loop
 loop-less c = search needs
 
--- src/lib.rt:81:5
 loop-again : tie.Need-loop-again Inv-loop μ-loop
 loop-again c = (search needs, enabled-next (either nondeterministic probabilistic (c .before .before .before .before .args .mode)) (c .before .before .before .before .args .ables .now) (c .before .before .before .loop .i) (c .before .before .before .loop .inv .1) (c .counts-as .ensures))
 
--- src/lib.rt:74:1
 returns : tie.Need-returns Inv-loop μ-loop
 returns c = c .before .loop .inv .1 ∙ enabled-end (either nondeterministic probabilistic (c .before .before .args .mode)) (c .before .before .args .ables .now) (c .before .loop .i) _ (c .before .loop .inv .0) (c .loop-test .left)
 

@@ -1,85 +1,62 @@
+-- `panel::put_choice` meets its contract: a statement's moves all start from its own state. Assumes nothing.
 use Prim.Native.Nat.{_+_}
-use lib.Seq.{length-take-le}
 use mathlib.Core.Path.{refl, sym}
 use native.Mathlib.Omega.{arith}
+use borrow.Author.Needs.{needs}
+use lib.Seq.{length-take-le}
 use Rattle.phrases.proofs.Laws.{puts-then, puts-as, puts-none}
 use Rattle.panel.proofs.Laws.{units-long, choice-none, choice-text}
-use borrow.Author.Needs.{needs}
 use Rattle.panel.proofs.put_choice.Statement.{statement}
 use Rattle.panel.proofs.put_choice.Tie as tie
-use Rattle.panel.proofs.put_choice.Reads as reads
-use Rattle.panel.proofs.put_choice.Lts as lts
-use Rattle.counting.proofs.units_to.Reads as units-to-reads
-use Rattle.lines.proofs.put_line.Reads as put-line-reads
-use Rattle.lines.proofs.put_moves.Reads as put-moves-reads
-use Rattle.lines.proofs.put_stay.Reads as put-stay-reads
-use Rattle.room.proofs.place.Reads as place-reads
 
--- src/lib.rt:156:9
 place-requires : tie.Need-place-requires
 place-requires c κs = search needs
 
--- src/lib.rt:156:9
 returns : tie.Need-returns
 returns c = puts-as _ (λ t. choice-none (c .before .before .before .before .args .top) (c .before .before .before .before .args .i) _ _ t (c .before .if1 .taken)) (puts-none (search needs) (c .place .ensures))
 
--- src/lib.rt:158:36
 mul-units-to : tie.Need-mul-units-to
 mul-units-to c = search needs
 
--- src/lib.rt:158:17
 units-to-requires : tie.Need-units-to-requires
 units-to-requires c κs = search needs
 
--- src/lib.rt:159:18
 add-states : tie.Need-add-states
 add-states c = search needs
 
--- src/lib.rt:160:19
 add-put-stay : tie.Need-add-put-stay
 add-put-stay c = search needs
 
--- src/lib.rt:161:32
 slice-aggregate-put-line : tie.Need-slice-aggregate-put-line
 slice-aggregate-put-line c = search needs
 
--- src/lib.rt:161:43
 slice-aggregate-put-line-2 : tie.Need-slice-aggregate-put-line-2
 slice-aggregate-put-line-2 c = search needs
 
--- src/lib.rt:161:9
 put-line-requires : tie.Need-put-line-requires
 put-line-requires c κs = search needs
 
--- src/lib.rt:162:31
 mul-put-stay : tie.Need-mul-put-stay
 mul-put-stay c = search needs
 
--- src/lib.rt:162:31
 array-read-put-stay : tie.Need-array-read-put-stay
 array-read-put-stay c = search needs
 
--- src/lib.rt:162:9
 put-stay-requires : tie.Need-put-stay-requires
 put-stay-requires c κs = search needs
 
--- src/lib.rt:163:29
 array-share-prefix-units : tie.Need-array-share-prefix-units
 array-share-prefix-units c = search needs
 
--- src/lib.rt:163:29
 slice-aggregate-put-moves : tie.Need-slice-aggregate-put-moves
 slice-aggregate-put-moves c = sym (length-take-le (c .before .before .before .before .before .before .before .before .before .before .before .before .before .before .before .before .args .top + 1) (c .before .before .before .before .before .before .before .before .before .before .before .before .units-to .result) (omega (arith, units-long _ (c .before .before .before .before .before .before .before .before .before .before .before .before .units-to .ensures), c .before .before .before .before .before .before .before .before .before .before .before .before .before .before .before .before .pre .1 .1 .0)))
 
--- src/lib.rt:163:5
 put-moves-requires : tie.Need-put-moves-requires
 put-moves-requires c κs = search needs
 
--- src/lib.rt:139:1
 same-length : tie.Need-same-length
 same-length c = search needs
 
--- src/lib.rt:139:1
 returns-2 : tie.Need-returns-2
 returns-2 c = puts-as _ (choice-text (c .before .before .before .before .before .before .before .before .before .before .before .before .before .before .before .before .before .before .before .args .top) (c .before .before .before .before .before .before .before .before .before .before .before .before .before .before .before .before .before .before .before .args .i) (c .before .before .before .before .before .before .before .before .before .before .before .before .before .before .before .before .before .before .before .args .able) (c .before .before .before .before .before .before .before .before .before .before .before .before .before .before .before .before .before .before .before .args .own) (c .before .before .before .before .before .before .before .before .before .before .before .before .before .before .before .before .before .before .before .args .many) (c .before .before .before .before .before .before .before .before .before .before .before .before .before .before .before .before .before .before .before .args .branches .now) (c .before .before .before .before .before .before .before .before .before .before .before .before .before .before .before .before .if1 .left) (c .before .before .before .before .before .before .before .before .before .before .before .before .before .before .before .before .before .before .before .pre .1 .1 .0) (c .before .before .before .before .before .before .before .before .before .before .before .before .before .before .before .before .before .before .before .pre .1 .0) (c .before .before .before .before .before .before .before .before .before .before .before .before .before .before .before .before .before .before .before .pre .1 .1 .1) refl refl refl (c .before .before .before .before .before .before .before .before .before .before .before .before .before .before .before .units-to .ensures)) (puts-then (c .before .before .before .before .before .before .before .before .before .before .before .put-line .ensures) (puts-then (c .before .before .before .before .before .before .before .put-stay .ensures) (c .before .before .put-moves .ensures)))
 

@@ -1,21 +1,16 @@
+-- `panel::put_table` meets its contract: after each turn the moves from one state more are put. Assumes nothing.
 use Prim.Native.Nat.{suc, _≤_, _-_}
 use mathlib.Core.Path.{refl}
-use native.Mathlib.Omega.{arith}
-use Rattle.room.proofs.Laws.{put-length}
-use Rattle.phrases.proofs.Laws.{puts-as}
-use Rattle.phrases.specs.Puts.{Puts}
-use Rattle.meaning.specs.Sums.{upto, flat}
-use Rattle.panel.proofs.Laws.{tableRow, table-row}
-use Rattle.panel.specs.Tables.{weightIn}
+use borrow.Author.Needs.{needs}
 use Rattle.lines.proofs.Laws.{moves-join, lists-start, lists-next, lists-end}
 use Rattle.lines.specs.PanelText.{movesText}
-use borrow.Author.Needs.{needs}
+use Rattle.meaning.specs.Sums.{upto, flat}
+use Rattle.phrases.proofs.Laws.{puts-as}
+use Rattle.phrases.specs.Puts.{Puts}
+use Rattle.room.proofs.Laws.{put-length}
+use Rattle.panel.proofs.Laws.{tableRow, table-row}
 use Rattle.panel.proofs.put_table.Statement.{statement}
 use Rattle.panel.proofs.put_table.Tie as tie
-use Rattle.panel.proofs.put_table.Reads as reads
-use Rattle.panel.proofs.put_table.Lts as lts
-use Rattle.lines.proofs.put_moves.Reads as put-moves-reads
-use Rattle.room.proofs.place.Reads as place-reads
 
 abbrev Inv-loop : tie.InvT-loop
 Inv-loop room₀ at weights top to₀ old₀ room to old = (old ≤ suc top) × Puts room₀ room at (movesText (flat (upto old (tableRow weights top)))) to
@@ -23,63 +18,48 @@ Inv-loop room₀ at weights top to₀ old₀ room to old = (old ≤ suc top) × 
 abbrev μ-loop : tie.MeasureT-loop
 μ-loop room₀ at weights top to₀ old₀ room to old = suc top - old
 
--- src/lib.rt:194:9
 place-requires : tie.Need-place-requires Inv-loop μ-loop
 place-requires c κs = search needs
 
--- src/lib.rt:196:5
 loop-holds : tie.Need-loop-holds Inv-loop μ-loop
 loop-holds c = (search needs, lists-start moves-join (tableRow (c .before .before .before .args .weights .now) (c .before .before .before .args .top)) (search needs) (c .place .ensures))
 
--- src/lib.rt:197:20
 mul-from : tie.Need-mul-from Inv-loop μ-loop
 mul-from c = search needs
 
--- src/lib.rt:198:19
 add-end : tie.Need-add-end Inv-loop μ-loop
 add-end c = search needs
 
--- src/lib.rt:198:19
 add-end-2 : tie.Need-add-end-2 Inv-loop μ-loop
 add-end-2 c = search needs
 
--- src/lib.rt:199:39
 mul-put-moves : tie.Need-mul-put-moves Inv-loop μ-loop
 mul-put-moves c = search needs
 
--- src/lib.rt:199:39
 sub-put-moves : tie.Need-sub-put-moves Inv-loop μ-loop
 sub-put-moves c = search needs
 
--- src/lib.rt:199:39
 part-put-moves-start : tie.Need-part-put-moves-start Inv-loop μ-loop
 part-put-moves-start c = search needs
 
--- src/lib.rt:199:39
 part-put-moves-end : tie.Need-part-put-moves-end Inv-loop μ-loop
 part-put-moves-end c = search needs
 
--- src/lib.rt:199:9
 put-moves-requires : tie.Need-put-moves-requires Inv-loop μ-loop
 put-moves-requires c κs = search needs
 
--- src/lib.rt:200:9
 add-old : tie.Need-add-old Inv-loop μ-loop
 add-old c = search needs
 
--- src/lib.rt:196:5
 loop-less : tie.Need-loop-less Inv-loop μ-loop
 loop-less c = search needs
 
--- src/lib.rt:196:5
 loop-again : tie.Need-loop-again Inv-loop μ-loop
 loop-again c = (search needs, lists-next moves-join (tableRow (c .before .before .before .before .before .before .before .before .before .before .args .weights .now) (c .before .before .before .before .before .before .before .before .before .before .args .top)) (c .before .before .before .before .before .before .loop .old) (c .before .before .before .before .before .before .loop .inv .1) (puts-as _ (table-row (c .before .before .before .before .before .before .before .before .before .before .args .weights .now) (c .before .before .before .before .before .before .before .before .before .before .args .top) (c .before .before .before .before .before .before .loop .old) (c .before .before .before .before .before .before .before .before .before .before .pre .0) (c .before .before .before .before .before .before .before .before .before .before .pre .1) (search needs) refl refl) (c .before .before .put-moves .ensures)))
 
--- src/lib.rt:189:1
 same-length : tie.Need-same-length Inv-loop μ-loop
 same-length c = put-length (c .before .loop .inv .1 .put)
 
--- src/lib.rt:189:1
 returns : tie.Need-returns Inv-loop μ-loop
 returns c = lists-end moves-join (tableRow (c .before .before .before .before .before .args .weights .now) (c .before .before .before .before .before .args .top)) (c .before .loop .old) _ (c .before .loop .inv .0) (search needs) (c .before .loop .inv .1)
 

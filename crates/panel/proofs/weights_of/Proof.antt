@@ -1,17 +1,13 @@
+-- `panel::weights_of` meets its contract: after i turns the table has the weights of the first i statements. Assumes nothing.
 use Prim.Native.Nat.{_≤_, _-_}
-use mathlib.Core.Path.{_≡_, refl, sym, _∙_}
+use mathlib.Core.Path.{_≡_, refl, _∙_}
 use native.Mathlib.Omega.{arith}
+use borrow.Author.Needs.{needs}
+use Rattle.card.specs.Card.{probabilistic}
 use Rattle.panel.proofs.Laws.{units-most, weights-none, weights-start, weights-next, weights-end, weights-long, weights-most}
 use Rattle.panel.specs.Tables.{weightsOf}
-use Rattle.card.specs.Laid.{either}
-use Rattle.card.specs.Card.{nondeterministic, probabilistic}
-use borrow.Author.Needs.{needs}
 use Rattle.panel.proofs.weights_of.Statement.{statement}
 use Rattle.panel.proofs.weights_of.Tie as tie
-use Rattle.panel.proofs.weights_of.Reads as reads
-use Rattle.panel.proofs.weights_of.Lts as lts
-use Rattle.counting.proofs.units_to.Reads as units-to-reads
-use Rattle.panel.proofs.add_weights.Reads as add-weights-reads
 
 abbrev Inv-loop : tie.InvT-loop
 Inv-loop mode ables rows branches count top weights₀ i₀ weights i = (i ≤ count) × (weights ≡ weightsOf probabilistic ables rows branches i)
@@ -19,71 +15,54 @@ Inv-loop mode ables rows branches count top weights₀ i₀ weights i = (i ≤ c
 abbrev μ-loop : tie.MeasureT-loop
 μ-loop mode ables rows branches count top weights₀ i₀ weights i = count - i
 
--- src/lib.rt:109:9
 returns : tie.Need-returns Inv-loop μ-loop
 returns c = weights-none (c .before .before .args .ables .now) (c .before .before .args .rows .now) (c .before .before .args .branches .now) _ _ (c .if1 .taken)
 
--- src/lib.rt:112:5
 loop-holds : tie.Need-loop-holds Inv-loop μ-loop
 loop-holds c = (search needs, weights-start (c .before .before .args .ables .now) (c .before .before .args .rows .now) (c .before .before .args .branches .now))
 
--- src/lib.rt:113:20
 mul-from : tie.Need-mul-from Inv-loop μ-loop
 mul-from c = omega (arith, c .before .before .before .before .pre .0 .fit .few)
 
--- src/lib.rt:114:40
 mul-units-to : tie.Need-mul-units-to Inv-loop μ-loop
 mul-units-to c = omega (arith, c .before .before .before .before .pre .0 .fit .few)
 
--- src/lib.rt:114:64
 add-units-to : tie.Need-add-units-to Inv-loop μ-loop
 add-units-to c = omega (arith, c .before .before .before .before .pre .0 .fit .few)
 
--- src/lib.rt:114:59
 mul-units-to-2 : tie.Need-mul-units-to-2 Inv-loop μ-loop
 mul-units-to-2 c = search needs
 
--- src/lib.rt:114:59
 element-copy-out-units-to : tie.Need-element-copy-out-units-to Inv-loop μ-loop
 element-copy-out-units-to c = omega (arith, c .before .before .before .before .pre .0 .fit .few)
 
--- src/lib.rt:114:21
 units-to-requires : tie.Need-units-to-requires Inv-loop μ-loop
 units-to-requires c κs = search needs
 
--- src/lib.rt:115:35
 mul-add-weights : tie.Need-mul-add-weights Inv-loop μ-loop
 mul-add-weights c = search needs
 
--- src/lib.rt:115:35
 element-copy-out-add-weights : tie.Need-element-copy-out-add-weights Inv-loop μ-loop
 element-copy-out-add-weights c = omega (arith, c .before .before .before .before .before .before .before .pre .0 .fit .few)
 
--- src/lib.rt:115:47
 mul-add-weights-2 : tie.Need-mul-add-weights-2 Inv-loop μ-loop
 mul-add-weights-2 c = search needs
 
--- src/lib.rt:115:47
 element-copy-out-add-weights-2 : tie.Need-element-copy-out-add-weights-2 Inv-loop μ-loop
 element-copy-out-add-weights-2 c = omega (arith, c .before .before .before .before .before .before .before .before .pre .0 .fit .few)
 
--- src/lib.rt:115:9
 add-weights-requires : tie.Need-add-weights-requires Inv-loop μ-loop
 add-weights-requires c κs = record { long = weights-long (c .before .before .before .before .before .before .before .before .before .before .args .ables .now) (c .before .before .before .before .before .before .before .before .before .before .args .rows .now) (c .before .before .before .before .before .before .before .before .before .before .args .branches .now) probabilistic (c .before .before .before .before .before .before .before .loop .i) (c .before .before .before .before .before .before .before .loop .inv .1); old = omega (arith, c .before .before .before .before .before .before .before .before .before .before .pre .0 .own (c .before .before .before .before .before .before .before .loop .i) (c .before .before .before .before .before .before .loop-test .taken), c .before .before .before .before .before .before .before .before .before .before .pre .0 .top); few = c .before .before .before .before .before .before .before .before .before .before .pre .1 (c .before .before .before .before .before .before .before .loop .i); light = units-most (c .before .before .before .before .before .before .before .before .before .before .args .rows .now) (c .before .before .before .before .before .before .before .before .before .before .args .branches .now) (c .before .before .before .before .before .before .before .loop .i) (c .before .before .before .before .before .before .before .before .before .before .pre .0) (c .before .before .before .before .before .before .loop-test .taken) refl (c .before .before .before .before .units-to .ensures); most = rw (c .before .before .before .before .before .before .before .loop .inv .1) (weights-most (c .before .before .before .before .before .before .before .before .before .before .args .ables .now) (c .before .before .before .before .before .before .before .before .before .before .args .rows .now) (c .before .before .before .before .before .before .before .before .before .before .args .branches .now) (c .before .before .before .before .before .before .before .before .before .before .pre .0) (c .before .before .before .before .before .before .before .before .before .before .pre .1) probabilistic (c .before .before .before .before .before .before .before .loop .i) (c .before .before .before .before .before .before .before .loop .inv .0)) }
 
--- src/lib.rt:116:9
 add-i : tie.Need-add-i Inv-loop μ-loop
 add-i c = search needs
 
--- src/lib.rt:112:5
 loop-less : tie.Need-loop-less Inv-loop μ-loop
 loop-less c = search needs
 
--- src/lib.rt:112:5
 loop-again : tie.Need-loop-again Inv-loop μ-loop
 loop-again c = (search needs, c .add-weights .ensures ∙ weights-next (c .before .before .before .before .before .before .before .before .before .before .before .args .ables .now) (c .before .before .before .before .before .before .before .before .before .before .before .args .rows .now) (c .before .before .before .before .before .before .before .before .before .before .before .args .branches .now) (c .before .before .before .before .before .before .before .before .loop .i) _ refl refl refl (c .before .before .before .before .before .before .before .before .before .before .before .pre .0 .fit .each (c .before .before .before .before .before .before .before .before .loop .i) (c .before .before .before .before .before .before .before .loop-test .taken) .branches) refl (c .before .before .before .before .before .units-to .ensures) (c .before .before .before .before .before .before .before .before .loop .inv .1))
 
--- src/lib.rt:102:1
 returns-2 : tie.Need-returns-2 Inv-loop μ-loop
 returns-2 c = c .before .loop .inv .1 ∙ weights-end (c .before .before .before .before .args .ables .now) (c .before .before .before .before .args .rows .now) (c .before .before .before .before .args .branches .now) _ (c .before .loop .i) _ (c .before .before .if1 .left) (c .before .loop .inv .0) (c .loop-test .left)
 
