@@ -1,0 +1,33 @@
+use Prim.Native.Nat.{ℕ}
+use mathlib.Core.Path.{_≡_, refl}
+use mathlib.Core.List.{List, [], _∷_}
+use mathlib.Core.Option.{none}
+use Rattle.card.specs.Text.{bytes}
+use Rattle.card.specs.Card.{nondeterministic, probabilistic, Card}
+use Rattle.meaning.specs.CardA.{cardA}
+use Rattle.meaning.specs.Reduced.{copy, reduce}
+use Rattle.room.specs.Digits.{decimal}
+use Rattle.phrases.specs.Phrases.{gcd, divisor}
+use Rattle.reducer.specs.ReducedText.{programText, reducedOf}
+
+-- document 01's one-seat card
+unfoldable pub oneSeat : Card
+oneSeat = record {
+  mode = nondeterministic;
+  n = 1;
+  k = 1;
+  l = 0;
+  statements = record { own = 0; guard = none; branches = record { units = 25200; end = 1 } ∷ [] } ∷ [];
+}
+
+pub one-seat : reducedOf oneSeat ≡ bytes "nondeterministic\nmodule generic_process\nno_0 : [0..1] init 1;\nno_1 : [0..1] init 0;\n[] (no_0>0) -> 1:(no_0'=no_0-1) & (no_1'=min(no_1+1,1));\nendmodule\n"
+unfolding programText reduce copy oneSeat decimal gcd divisor
+one-seat = refl
+
+pub card-a : reducedOf (cardA probabilistic) ≡ bytes "probabilistic\nmodule generic_process\nno_0 : [0..3] init 3;\nno_1 : [0..3] init 0;\nno_2 : [0..3] init 0;\n[] (no_0>0) & (no_0>1) -> 1/2:(no_0'=no_0-1) & (no_1'=min(no_1+1,3)) + 1/2:(no_0'=no_0-1) & (no_2'=min(no_2+1,3));\n[] (no_0>1) & (no_0>1) -> 1/2:(no_0'=no_0-1) & (no_1'=min(no_1+1,3)) + 1/2:(no_0'=no_0-1) & (no_2'=min(no_2+1,3));\n[] (no_0>2) & (no_0>1) -> 1/2:(no_0'=no_0-1) & (no_1'=min(no_1+1,3)) + 1/2:(no_0'=no_0-1) & (no_2'=min(no_2+1,3));\n[] (no_1>0) & (no_2=0) -> 1/4:(no_1'=no_1-1) & (no_2'=min(no_2+1,3)) + 3/4:true;\n[] (no_1>1) & (no_2=0) -> 1/4:(no_1'=no_1-1) & (no_2'=min(no_2+1,3)) + 3/4:true;\n[] (no_1>2) & (no_2=0) -> 1/4:(no_1'=no_1-1) & (no_2'=min(no_2+1,3)) + 3/4:true;\nendmodule\n"
+unfolding programText reduce copy cardA decimal gcd divisor
+card-a = refl
+
+pub card-a-free : reducedOf (cardA nondeterministic) ≡ bytes "nondeterministic\nmodule generic_process\nno_0 : [0..3] init 3;\nno_1 : [0..3] init 0;\nno_2 : [0..3] init 0;\n[] (no_0>0) & (no_0>1) -> 1/2:(no_0'=no_0-1) & (no_1'=min(no_1+1,3)) + 1/2:(no_0'=no_0-1) & (no_2'=min(no_2+1,3));\n[] (no_1>0) & (no_2=0) -> 1/4:(no_1'=no_1-1) & (no_2'=min(no_2+1,3)) + 3/4:true;\nendmodule\n"
+unfolding programText reduce copy cardA decimal gcd divisor
+card-a-free = refl

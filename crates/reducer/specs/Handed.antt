@@ -1,0 +1,60 @@
+-- How the code hands over what it prints: a counter test as a byte and a number, and what the copies of a statement have in common.
+-- Assumes nothing.
+use Prim.Native.Nat.{ℕ, zero, suc, _≤_, _<_}
+use mathlib.Core.Path.{_≡_}
+use mathlib.Core.List.{List, [], _∷_, _++_, map}
+use mathlib.Core.Option.{Option}
+use lib.ListN.{length}
+use Rattle.card.specs.Limits.{branchPlaces}
+use Rattle.card.specs.Card.{Mode, Branch, Statement}
+use Rattle.card.specs.Laid.{statementOf}
+use Rattle.meaning.specs.Sums.{flat}
+use Rattle.meaning.specs.Reduced.{Bound, equalTo, moreThan, lessThan, Counter, counter, Test, testOf, updateOf, Outcome, copy, copies}
+use Rattle.phrases.specs.Phrases.{_▸_, num}
+use Rattle.rows.specs.Rows.{rowOf, FitRows}
+use Rattle.reducer.specs.declared.Bound.{Bound as BoundRow}
+use Rattle.reducer.specs.ReducedText.{guardOr, outcomes, reducedText, statements}
+
+-- the bytes of `=`, `>` and `<`
+abbrev pub boundRow : Bound → BoundRow
+boundRow (equalTo m) = record { sign = 61; number = m }
+boundRow (moreThan m) = record { sign = 62; number = m }
+boundRow (lessThan m) = record { sign = 60; number = m }
+
+abbrev pub boundOf : Counter → Bound
+boundOf (counter d b) = b
+
+-- what a branch of a statement with local state j becomes
+abbrev pub outcomeOf : ℕ → ℕ → Branch → Outcome
+outcomeOf n j b = record { units = b .units; update = updateOf n j (b .end) }
+
+-- a reduced statement behind the number of its first test, alike in all copies
+abbrev pub tailText : Option Test → List Outcome → List ℕ → List ℕ
+tailText g os r = ")" ▸ guardOr g (" -> " ▸ outcomes os (";\n" ▸ r))
+
+unfoldable pub tailOf : ℕ → Statement → List ℕ → List ℕ
+tailOf n s r = tailText (testOf n (s .own) (s .guard)) (map (outcomeOf n (s .own)) (s .branches)) r
+
+-- bytes that are enough for it, for every valid statement (proofs/Short.antt)
+abbrev pub tailPlaces : ℕ
+tailPlaces = 668
+
+-- c copies with a given tail, from no_own>m on
+abbrev pub tailedCopies : ℕ → List ℕ → ℕ → ℕ → List ℕ → List ℕ
+tailedCopies own tail m zero r = r
+tailedCopies own tail m (suc c) r = "[] (no_" ▸ num own (">" ▸ num m (tail ++ tailedCopies own tail (suc m) c r))
+
+-- the copies of a statement, from no_own>m on
+abbrev pub copyTexts : ℕ → Statement → ℕ → ℕ → List ℕ → List ℕ
+copyTexts n s m zero r = r
+copyTexts n s m (suc c) r = reducedText (copy n s m) (copyTexts n s (suc m) c r)
+
+-- the copies of each statement
+abbrev pub allTexts : Mode → ℕ → List Statement → List ℕ → List ℕ
+allTexts mode n xs r = statements (flat (map (copies mode n) xs)) r
+
+-- so many statements by their rows: the nodes, branches and tails of each have their places
+pub record Fits (n : ℕ) (nodes branches rows : List ℕ) (count : ℕ) : Type 0 where
+  pub fit : FitRows rows count
+  pub long : length branches ≡ branchPlaces
+  pub tails : (i : ℕ) → i < count → length (tailOf n (statementOf nodes branches (rowOf rows i) i) []) ≤ tailPlaces

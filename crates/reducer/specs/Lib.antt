@@ -1,0 +1,3 @@
+pub mod ReducedText
+pub mod ReduceSaid
+pub mod Handed

@@ -1,0 +1,356 @@
+// The reduced program's text ("Texts, byte for byte", first part), translated and printed in one walk over the card's nodes.
+use card::NONDETERMINISTIC;
+use card::limits::MOST_BRANCHES;
+use card::limits::MOST_NODES;
+use card::node::ALL;
+use card::node::AND;
+use card::node::EVERYONE;
+use card::node::GROUP;
+use card::node::IS;
+use card::node::NOT;
+use card::node::end_of;
+use card::node::kind_of;
+use card::node::left_of;
+use card::node::op_of;
+use card::node::relation_of;
+use card::node::right_of;
+use card::node::sign_of;
+use card::node::state_of;
+use card::node::units_of;
+use phrases::put_mode;
+use phrases::put_weight;
+use room::place;
+use room::put_byte;
+use room::put_bytes;
+use room::put_number;
+use rows::ROW;
+use rows::ROW_PLACES;
+ghost use mathlib.Core.Path.{_≡_};
+ghost use mathlib.Core.List.{[], _∷_, _++_, map};
+ghost use Prim.Native.Nat.{ℕ, suc, _+_, _*_, _-_, _<_, _≤_};
+ghost use lib.Dec.{eqb};
+ghost use lib.ListN.{length, getD};
+ghost use Rattle.card.specs.Limits.{topState, mostStatements, mostNodes, mostBranches, nodePlaces, branchPlaces};
+ghost use Rattle.card.specs.Text.{if_then_else_};
+ghost use Rattle.card.specs.Card.{nondeterministic, probabilistic};
+ghost use Rattle.card.specs.Laid.{opAnd, either, groupOf, branchOf, guardAt, guardOf, statementOf, statementsOf};
+ghost use Rattle.meaning.specs.Sums.{gate, upto};
+ghost use Rattle.meaning.specs.Formulas.{over};
+ghost use Rattle.meaning.specs.Reduced.{equalTo, moreThan, lessThan, counterOf, testOf, updateOf};
+ghost use Rattle.room.specs.Room.{Put};
+ghost use Rattle.phrases.specs.Phrases.{_▸_, num, modeText};
+ghost use Rattle.phrases.specs.Puts.{Puts};
+ghost use Rattle.rows.specs.Rows.{row, rowsFrom, FitRows, cardIn};
+ghost use Rattle.reducer.specs.ReducedText.{counterText, testText, guardOr, updateText, outcomeText, moreOutcomes, outcomes as outcomeTexts, counterLine, counters, reducedOf};
+ghost use Rattle.reducer.specs.Handed.{boundRow, boundOf, outcomeOf, tailOf, tailPlaces, tailedCopies, copyTexts, allTexts, Fits};
+
+// Enough for what stands behind the first test's number: a guard of 32 nodes has at most 229 bytes with its ` & `, eight branches 432
+// with their ` + `, and 7 stand around them.
+const TAIL_PLACES: usize = 668;
+
+// What a counter is held against: `=`, `>` or `<`, and a number.
+pub struct Bound {
+    pub sign: u8,
+    pub number: usize,
+}
+
+// A number of an array, or 0 where there is none.
+fn number_at(array: &[u32], i: usize) -> u32
+    ensures { λ r. ⌜ r ≡ getD (now (array .entry)) i 0 ⌝ }
+{
+    if i < array.len() {
+        return array[i];
+    }
+    0
+}
+
+fn one_less(n: usize) -> usize
+    ensures { λ r. ⌜ r ≡ n - 1 ⌝ }
+{
+    if n == 0 {
+        return 0;
+    }
+    n - 1
+}
+
+// A text, and a number behind it.
+fn put_numbered(room: &mut [u8], at: usize, s: &[u8], n: usize) -> usize
+    ensures { λ r. ⌜ Puts (now (room .entry)) (now (room .exit)) at (λ t. now (s .entry) ++ num n t) r ⌝ }
+{
+    let a = put_bytes(room, at, s);
+    put_number(room, a, n)
+}
+
+fn equal_to(number: usize) -> Bound
+    ensures { λ r. ⌜ r ≡ boundRow (equalTo number) ⌝ }
+{
+    Bound {
+        sign: b'=',
+        number: number,
+    }
+}
+
+fn more_than(number: usize) -> Bound
+    ensures { λ r. ⌜ r ≡ boundRow (moreThan number) ⌝ }
+{
+    Bound {
+        sign: b'>',
+        number: number,
+    }
+}
+
+fn less_than(number: usize) -> Bound
+    ensures { λ r. ⌜ r ≡ boundRow (lessThan number) ⌝ }
+{
+    Bound {
+        sign: b'<',
+        number: number,
+    }
+}
+
+// The table of counter tests, place by place, for the group in `node` and a statement of local state `own`, with n seats.
+fn bound_of(node: u32, own: usize, n: usize) -> Bound
+    ensures { λ r. ⌜ r ≡ boundRow (boundOf (counterOf n own (groupOf node))) ⌝ }
+{
+    let kind = kind_of(node);
+    let sign = sign_of(node);
+    let relation = relation_of(node);
+    let d = state_of(node);
+    if kind == EVERYONE {
+        if relation == IS {
+            if sign == ALL {
+                return equal_to(n);
+            }
+            return more_than(0);
+        }
+        if sign == ALL {
+            return equal_to(0);
+        }
+        return less_than(n);
+    }
+    if own == d {
+        if relation == IS {
+            if sign == ALL {
+                return equal_to(n);
+            }
+            return more_than(1);
+        }
+        if sign == ALL {
+            return equal_to(1);
+        }
+        return less_than(n);
+    }
+    let others = one_less(n);
+    if relation == IS {
+        if sign == ALL {
+            return equal_to(others);
+        }
+        return more_than(0);
+    }
+    if sign == ALL {
+        return equal_to(0);
+    }
+    less_than(others)
+}
+
+// A group as its counter test.
+fn put_group(room: &mut [u8], at: usize, node: u32, own: usize, seats: usize) -> usize
+    ensures { λ r. ⌜ Puts (now (room .entry)) (now (room .exit)) at (counterText (counterOf seats own (groupOf node))) r ⌝ }
+{
+    let d = state_of(node);
+    let bound = bound_of(node, own, seats);
+    let a = put_numbered(room, at, b"(no_", d);
+    let b = put_byte(room, a, bound.sign);
+    let c = put_number(room, b, bound.number);
+    put_byte(room, c, b')')
+}
+
+// The sign of a joined node, by its operator.
+fn put_sign(room: &mut [u8], at: usize, op: usize) -> usize
+    ensures { λ r. ⌜ Puts (now (room .entry)) (now (room .exit)) at (λ t. (if eqb op opAnd then " & " else " | ") ▸ t) r ⌝ }
+{
+    if op == AND {
+        return put_bytes(room, at, b" & ");
+    }
+    put_bytes(room, at, b" | ")
+}
+
+// The guard whose root is node `root`, each group as its counter test: a child's number is below its parent's.
+fn put_guard(
+    room: &mut [u8],
+    at: usize,
+    nodes: &[u32],
+    root: usize,
+    own: usize,
+    seats: usize,
+) -> usize
+    ensures { λ r. ⌜ Puts (now (room .entry)) (now (room .exit)) at (testText (over (counterOf seats own) (guardAt (now (nodes .entry)) root))) r ⌝ }
+{
+    let x = number_at(nodes, root);
+    if root == 0 {
+        return put_group(room, at, x, own, seats);
+    }
+    let op = op_of(x);
+    if op == GROUP {
+        return put_group(room, at, x, own, seats);
+    }
+    let left = left_of(x, root);
+    if op == NOT {
+        let a = put_byte(room, at, b'!');
+        return put_guard(room, a, nodes, left, own, seats);
+    }
+    let right = right_of(x, root);
+    let a = put_byte(room, at, b'(');
+    let b = put_guard(room, a, nodes, left, own, seats);
+    let c = put_sign(room, b, op);
+    let d = put_guard(room, c, nodes, right, own, seats);
+    put_byte(room, d, b')')
+}
+
+// A statement's guard, of so many nodes from `from` on.
+fn put_test(
+    room: &mut [u8],
+    at: usize,
+    nodes: &[u32],
+    from: usize,
+    count: usize,
+    own: usize,
+    seats: usize,
+) -> usize
+    requires { ⌜ from + count ≤ nodePlaces ⌝ }
+    ensures { λ r. ⌜ Puts (now (room .entry)) (now (room .exit)) at (guardOr (testOf seats own (guardOf (now (nodes .entry)) from count))) r ⌝ }
+{
+    if count == 0 {
+        return place(at);
+    }
+    let root = from + count - 1;
+    let a = put_bytes(room, at, b" & ");
+    put_guard(room, a, nodes, root, own, seats)
+}
+
+// What a branch to `end` does to the counters.
+fn put_update(room: &mut [u8], at: usize, own: usize, end: usize, seats: usize) -> usize
+    ensures { λ r. ⌜ Puts (now (room .entry)) (now (room .exit)) at (updateText (updateOf seats own end)) r ⌝ }
+{
+    if own == end {
+        return put_bytes(room, at, b"true");
+    }
+    let a = put_numbered(room, at, b"(no_", own);
+    let b = put_numbered(room, a, b"'=no_", own);
+    let c = put_numbered(room, b, b"-1) & (no_", end);
+    let d = put_numbered(room, c, b"'=min(no_", end);
+    let e = put_numbered(room, d, b"+1,", seats);
+    put_bytes(room, e, b"))")
+}
+
+fn put_outcome(room: &mut [u8], at: usize, branch: u32, own: usize, seats: usize) -> usize
+    ensures { λ r. ⌜ Puts (now (room .entry)) (now (room .exit)) at (outcomeText (outcomeOf seats own (branchOf branch))) r ⌝ }
+{
+    let units = units_of(branch);
+    let end = end_of(branch);
+    let a = put_weight(room, at, units);
+    let b = put_byte(room, a, b':');
+    put_update(room, b, own, end, seats)
+}
+
+fn put_more_outcomes(
+    room: &mut [u8],
+    at: usize,
+    branches: &[u32],
+    own: usize,
+    seats: usize,
+) -> usize
+    ensures { λ r. ⌜ Puts (now (room .entry)) (now (room .exit)) at (moreOutcomes (map (outcomeOf seats own) (map branchOf (now (branches .entry))))) r ⌝ }
+{
+    let mut to = place(at);
+    let mut i = 0;
+    while i < branches.len() {
+        let a = put_bytes(room, to, b" + ");
+        to = put_outcome(room, a, branches[i], own, seats);
+        i += 1;
+    }
+    to
+}
+
+fn put_outcomes(
+    room: &mut [u8],
+    at: usize,
+    branches: &[u32],
+    own: usize,
+    seats: usize,
+) -> usize
+    ensures { λ r. ⌜ Puts (now (room .entry)) (now (room .exit)) at (outcomeTexts (map (outcomeOf seats own) (map branchOf (now (branches .entry))))) r ⌝ }
+{
+    if branches.len() == 0 {
+        return place(at);
+    }
+    let a = put_outcome(room, at, branches[0], own, seats);
+    put_more_outcomes(room, a, &branches[1..], own, seats)
+}
+
+// Statement i behind the number of its first test, by its row's numbers.
+fn put_tail<'a>(
+    room: &mut [u8],
+    at: usize,
+    i: usize,
+    own: usize,
+    size: usize,
+    many: usize,
+    nodes: &'a [u32],
+    branches: &'a [u32],
+    seats: usize,
+) -> usize
+    requires { ⌜ i < mostStatements ⌝ }
+    requires { ⌜ size ≤ mostNodes ⌝ }
+    requires { ⌜ many ≤ mostBranches ⌝ }
+    requires { ⌜ length (now branches) ≡ branchPlaces ⌝ }
+    ensures { λ r. ⌜ Puts (now (room .entry)) (now (room .exit)) at (tailOf seats (statementOf (now (nodes .entry)) (now (branches .entry)) (row own size many) i)) r ⌝ }
+{
+    let from = i * MOST_BRANCHES;
+    let to = from + many;
+    let a = put_byte(room, at, b')');
+    let b = put_test(room, a, nodes, i * MOST_NODES, size, own, seats);
+    let c = put_bytes(room, b, b" -> ");
+    let d = put_outcomes(room, c, &branches[from..to], own, seats);
+    put_bytes(room, d, b";\n")
+}
+
+// Copies that differ in the first test's number alone.
+fn put_copies(room: &mut [u8], at: usize, own: usize, tail: &[u8], copies: usize) -> usize
+    ensures { λ r. ⌜ Puts (now (room .entry)) (now (room .exit)) at (tailedCopies own (now (tail .entry)) 0 copies) r ⌝ }
+{
+    let mut to = place(at);
+    let mut m = 0;
+    while m < copies {
+        let a = put_numbered(room, to, b"[] (no_", own);
+        let b = put_numbered(room, a, b">", m);
+        to = put_bytes(room, b, tail);
+        m += 1;
+    }
+    to
+}
+
+// All copies of statement i: what they have in common is put once, beside the room.
+fn put_statement<'a>(
+    room: &mut [u8],
+    at: usize,
+    i: usize,
+    own: usize,
+    size: usize,
+    many: usize,
+    nodes: &'a [u32],
+    branches: &'a [u32],
+    seats: usize,
+    copies: usize,
+) -> usize
+    requires { ⌜ i < mostStatements ⌝ }
+    requires { ⌜ size ≤ mostNodes ⌝ }
+    requires { ⌜ many ≤ mostBranches ⌝ }
+    requires { ⌜ length (now branches) ≡ branchPlaces ⌝ }
+    requires { ⌜ length (tailOf seats (statementOf (now nodes) (now branches) (row own size many) i) []) ≤ tailPlaces ⌝ }
+    ensures { λ r. ⌜ Puts (now (room .entry)) (now (room .exit)) at (copyTexts seats (statementOf (now (nodes .entry)) (now (branches .entry)) (row own size many) i) 0 copies) r ⌝ }
+{
+    let mut tail: [u8; TAIL_PLACES] = [0; TAIL_PLACES];
+    let end = put_tail(&mut tail, 0, i, own, size, many, nodes, branches, seats);
+    put_copies(room, at, own, &tail[..end], copies)
+}
