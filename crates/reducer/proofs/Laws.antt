@@ -16,6 +16,7 @@ use lib.Seq.{take-suc, take-all}
 use Rattle.card.specs.Limits.{mostNodes, mostBranches}
 use Rattle.card.specs.Text.{if_then_else_}
 use Rattle.card.specs.Card.{Mode, nondeterministic, probabilistic, Kind, everyone, others, Sign, all, any, Relation, is, isnt, atom, neg, and, or, Branch, Statement}
+use Rattle.card.specs.Valid.{Every}
 use Rattle.card.specs.Laid.{either, opGroup, opNot, opAnd, opOf, leftOf, rightOf, kindPart, signPart, relationPart, statePart, groupOf, unitsPart, endPart, branchOf, guardAt, guardOf, statementOf, statementsOf}
 use Rattle.card.specs.declared.Statement.{Statement as StatementRow}
 use Rattle.card.proofs.Laws.{guard-at-group, guard-at-not, guard-at-and, guard-at-or, guard-of-none, guard-of-some}
@@ -31,7 +32,7 @@ use Rattle.rows.specs.Rows.{row, rowOf, rowsFrom, cardIn}
 use Rattle.phrases.proofs.Counted.{Text, counted}
 use Rattle.reducer.specs.declared.Bound.{Bound as BoundRow}
 use Rattle.reducer.specs.ReducedText.{boundText, counterText, testText, guardOr, updateText, outcomeText, moreOutcomes, outcomes, reducedText, statements, counterLine, counters, programText, reducedOf}
-use Rattle.reducer.specs.Handed.{boundRow, boundOf, outcomeOf, tailText, tailOf, tailPlaces, tailedCopies, copyTexts, allTexts}
+use Rattle.reducer.specs.Handed.{boundRow, boundOf, outcomeOf, tailText, tailOf, tailPlaces, tailedCopies, copyTexts, copyNumber, allTexts}
 
 -- ---- the table
 
@@ -207,7 +208,7 @@ module _ {was is : List ℕ} {f : Text} {end : ℕ} (p : Puts was is 0 f end) (h
   pub kept-count : end ≡ length (take end is)
   kept-count = kept-end ∙ sym (ap length kept-text)
 
-copy-text : (n : ℕ) (s : Statement) (m : ℕ) (r : List ℕ) → reducedText (copy n s m) r ≡ "[] (no_" ▸ num (s .own) (">" ▸ num m (tailOf n s r))
+pub copy-text : (n : ℕ) (s : Statement) (m : ℕ) (r : List ℕ) → reducedText (copy n s m) r ≡ "[] (no_" ▸ num (s .own) (">" ▸ num m (tailOf n s r))
 unfolding reducedText copy tailOf
 copy-text n s m r = refl
 
@@ -227,7 +228,7 @@ row-own nodes bs own size many i = refl
 
 -- ---- all statements
 
-statements-append : (xs ys : List Reduced) (r : List ℕ) → statements (xs ++ ys) r ≡ statements xs (statements ys r)
+pub statements-append : (xs ys : List Reduced) (r : List ℕ) → statements (xs ++ ys) r ≡ statements xs (statements ys r)
 statements-append [] ys r = refl
 statements-append (x ∷ xs) ys r = rw (statements-append xs ys r)
 
@@ -240,27 +241,33 @@ module _ (n : ℕ) (s : Statement) where
       ap (λ (x : Reduced). reducedText x (statements (upto c (λ i. f (suc i))) r)) (e 0 ∙ rw k)
       ∙ ap (reducedText (copy n s m)) (upto-text (suc m) c (λ i. f (suc i)) (λ j. e (suc j) ∙ rw (later j)) r)
 
-  -- so many as the mode has
-  copies-text : (mode c : ℕ) → c ≡ either 1 n mode → (r : List ℕ) → copyTexts n s 0 c r ≡ statements (copies (either nondeterministic probabilistic mode) n s) r
-  copies-text mode c e r = go (eqb mode 0) refl
-    where
-      go : (t : Bool) → eqb mode 0 ≡ t → copyTexts n s 0 c r ≡ statements (copies (either nondeterministic probabilistic mode) n s) r
-      go true k = let z : c ≡ 1 = e ∙ rw k in rw (z, k)
-      go false k = let z : c ≡ n = e ∙ rw k in rw (z, k) (sym (upto-text 0 n (copy n s) (λ j. rw (zero-add j)) r))
+  pub copies-text : (mode : Mode) (r : List ℕ) → statements (copies mode n s) r ≡ copyTexts n s 0 (copyNumber mode n) r
+  copies-text nondeterministic r = refl
+  copies-text probabilistic r = upto-text 0 n (copy n s) (λ j. rw (zero-add j)) r
 
-module _ (mode n c : ℕ) (e : c ≡ either 1 n mode) (nodes bs rows : List ℕ) where
+module _ (n c : ℕ) (nodes bs rows : List ℕ) where
   abbrev pub nextCopies : ℕ → Text
   nextCopies i = copyTexts n (statementOf nodes bs (rowOf rows i) i) 0 c
 
-  statements-counted : (i k : ℕ) (r : List ℕ)
-      → counted nextCopies i k r ≡ allTexts (either nondeterministic probabilistic mode) n (statementsOf nodes bs (rowsFrom rows i k) i) r
-  unfolding counted statementsOf
-  statements-counted i zero r = refl
-  statements-counted i (suc k) r = rw (statements-counted (suc i) k r, statements-append, copies-text n (statementOf nodes bs (rowOf rows i) i) mode c e)
+  module _ (mode : Mode) (e : c ≡ copyNumber mode n) where
+    statements-counted : (i k : ℕ) (r : List ℕ) → counted nextCopies i k r ≡ allTexts mode n (statementsOf nodes bs (rowsFrom rows i k) i) r
+    unfolding counted statementsOf
+    statements-counted i zero r = refl
+    statements-counted i (suc k) r =
+        rw (statements-counted (suc i) k r, statements-append, copies-text n (statementOf nodes bs (rowOf rows i) i) mode, e)
 
-  pub statements-all : (k : ℕ) (r : List ℕ)
-      → counted nextCopies 0 (k - 0) r ≡ allTexts (either nondeterministic probabilistic mode) n (statementsOf nodes bs (rowsFrom rows 0 k) 0) r
-  statements-all k r = rw sub-zero (statements-counted 0 k r)
+    pub statements-all : (k : ℕ) (r : List ℕ) → counted nextCopies 0 (k - 0) r ≡ allTexts mode n (statementsOf nodes bs (rowsFrom rows 0 k) 0) r
+    statements-all k r = rw sub-zero (statements-counted 0 k r)
+
+  -- what holds of each statement holds of the one at a row
+  every-from : (P : Statement → Type 0) (j k i : ℕ) → i < k → Every P (statementsOf nodes bs (rowsFrom rows j k) j) → P (statementOf nodes bs (rowOf rows (j + i)) (j + i))
+  unfolding statementsOf
+  every-from P j zero i h e = absurd (omega arith)
+  every-from P j (suc k) zero h e = let z : j + 0 ≡ j = omega arith in rw z (e .0)
+  every-from P j (suc k) (suc i) h e = let z : j + suc i ≡ suc j + i = omega arith in rw z (every-from P (suc j) k i (omega arith) (e .1))
+
+  pub every-row : (P : Statement → Type 0) (k i : ℕ) → i < k → Every P (statementsOf nodes bs (rowsFrom rows 0 k) 0) → P (statementOf nodes bs (rowOf rows i) i)
+  every-row P k i h e = rw (zero-add i) at (every-from P 0 k i h e)
 
 -- ---- the program
 

@@ -6,12 +6,13 @@ use mathlib.Core.List.{List, [], _∷_, _++_, map}
 use mathlib.Core.Option.{Option}
 use lib.ListN.{length}
 use Rattle.card.specs.Limits.{branchPlaces}
-use Rattle.card.specs.Card.{Mode, Branch, Statement}
-use Rattle.card.specs.Laid.{statementOf}
+use Rattle.card.specs.Card.{Mode, nondeterministic, probabilistic, Branch, Statement}
+use Rattle.card.specs.Valid.{Every}
+use Rattle.card.specs.Laid.{statementsOf}
 use Rattle.meaning.specs.Sums.{flat}
 use Rattle.meaning.specs.Reduced.{Bound, equalTo, moreThan, lessThan, Counter, counter, Test, testOf, updateOf, Outcome, copy, copies}
 use Rattle.phrases.specs.Phrases.{_▸_, num}
-use Rattle.rows.specs.Rows.{rowOf, FitRows}
+use Rattle.rows.specs.Rows.{rowsFrom, FitRows}
 use Rattle.reducer.specs.declared.Bound.{Bound as BoundRow}
 use Rattle.reducer.specs.ReducedText.{guardOr, outcomes, reducedText, statements}
 
@@ -35,9 +36,12 @@ tailText g os r = ")" ▸ guardOr g (" -> " ▸ outcomes os (";\n" ▸ r))
 unfoldable pub tailOf : ℕ → Statement → List ℕ → List ℕ
 tailOf n s r = tailText (testOf n (s .own) (s .guard)) (map (outcomeOf n (s .own)) (s .branches)) r
 
--- bytes that are enough for it, for every valid statement (proofs/Short.antt)
+-- bytes that are enough for it, for every valid statement, and for the whole text of every valid card (proofs/Short.antt)
 abbrev pub tailPlaces : ℕ
 tailPlaces = 668
+
+abbrev pub reducedMost : ℕ
+reducedMost = 347890
 
 -- c copies with a given tail, from no_own>m on
 abbrev pub tailedCopies : ℕ → List ℕ → ℕ → ℕ → List ℕ → List ℕ
@@ -49,12 +53,20 @@ abbrev pub copyTexts : ℕ → Statement → ℕ → ℕ → List ℕ → List �
 copyTexts n s m zero r = r
 copyTexts n s m (suc c) r = reducedText (copy n s m) (copyTexts n s (suc m) c r)
 
+-- how many copies a statement has
+abbrev pub copyNumber : Mode → ℕ → ℕ
+copyNumber nondeterministic n = 1
+copyNumber probabilistic n = n
+
 -- the copies of each statement
 abbrev pub allTexts : Mode → ℕ → List Statement → List ℕ → List ℕ
 allTexts mode n xs r = statements (flat (map (copies mode n) xs)) r
+
+abbrev pub ShortTail : ℕ → Statement → Type 0
+ShortTail n s = length (tailOf n s []) ≤ tailPlaces
 
 -- so many statements by their rows: the nodes, branches and tails of each have their places
 pub record Fits (n : ℕ) (nodes branches rows : List ℕ) (count : ℕ) : Type 0 where
   pub fit : FitRows rows count
   pub long : length branches ≡ branchPlaces
-  pub tails : (i : ℕ) → i < count → length (tailOf n (statementOf nodes branches (rowOf rows i) i) []) ≤ tailPlaces
+  pub tails : Every (ShortTail n) (statementsOf nodes branches (rowsFrom rows 0 count) 0)

@@ -42,7 +42,7 @@ ghost use Rattle.phrases.specs.Phrases.{_▸_, num, modeText};
 ghost use Rattle.phrases.specs.Puts.{Puts};
 ghost use Rattle.rows.specs.Rows.{row, rowsFrom, FitRows, cardIn};
 ghost use Rattle.reducer.specs.ReducedText.{counterText, testText, guardOr, updateText, outcomeText, moreOutcomes, outcomes as outcomeTexts, counterLine, counters, reducedOf};
-ghost use Rattle.reducer.specs.Handed.{boundRow, boundOf, outcomeOf, tailOf, tailPlaces, tailedCopies, copyTexts, allTexts, Fits};
+ghost use Rattle.reducer.specs.Handed.{boundRow, boundOf, outcomeOf, tailOf, tailPlaces, tailedCopies, copyTexts, copyNumber, allTexts, Fits};
 
 // Enough for what stands behind the first test's number: a guard of 32 nodes has at most 229 bytes with its ` & `, eight branches 432
 // with their ` + `, and 7 stand around them.
@@ -353,4 +353,116 @@ fn put_statement<'a>(
     let mut tail: [u8; TAIL_PLACES] = [0; TAIL_PLACES];
     let end = put_tail(&mut tail, 0, i, own, size, many, nodes, branches, seats);
     put_copies(room, at, own, &tail[..end], copies)
+}
+
+// How many copies each statement has: one on a nondeterministic card, one for each seat on a probabilistic one.
+fn copies_of(mode: usize, seats: usize) -> usize
+    ensures { λ r. ⌜ r ≡ copyNumber (either nondeterministic probabilistic mode) seats ⌝ }
+{
+    if mode == NONDETERMINISTIC {
+        return 1;
+    }
+    seats
+}
+
+// So many statements, by their rows.
+fn put_statements<'a>(
+    room: &mut [u8],
+    at: usize,
+    mode: usize,
+    rows: &'a [usize; ROW_PLACES],
+    count: usize,
+    nodes: &'a [u32],
+    branches: &'a [u32],
+    seats: usize,
+) -> usize
+    requires { ⌜ Fits seats (now nodes) (now branches) (now rows) count ⌝ }
+    ensures { λ r. ⌜ Puts (now (room .entry)) (now (room .exit)) at (allTexts (either nondeterministic probabilistic mode) seats (statementsOf (now (nodes .entry)) (now (branches .entry)) (rowsFrom (now (rows .entry)) 0 count) 0)) r ⌝ }
+{
+    let copies = copies_of(mode, seats);
+    let mut to = place(at);
+    let mut i = 0;
+    while i < count {
+        let from = i * ROW;
+        to = put_statement(
+            room,
+            to,
+            i,
+            rows[from],
+            rows[from + 1],
+            rows[from + 2],
+            nodes,
+            branches,
+            seats,
+            copies,
+        );
+        i += 1;
+    }
+    to
+}
+
+// What the counter of state d starts at.
+fn start_of(d: usize, seats: usize, start: usize) -> usize
+    ensures { λ r. ⌜ r ≡ gate (eqb start d) seats ⌝ }
+{
+    if start == d {
+        return seats;
+    }
+    0
+}
+
+fn put_counter(room: &mut [u8], at: usize, d: usize, seats: usize, start: usize) -> usize
+    ensures { λ r. ⌜ Puts (now (room .entry)) (now (room .exit)) at (counterLine seats d (gate (eqb start d) seats)) r ⌝ }
+{
+    let v = start_of(d, seats, start);
+    let a = put_numbered(room, at, b"no_", d);
+    let b = put_numbered(room, a, b" : [0..", seats);
+    let c = put_numbered(room, b, b"] init ", v);
+    put_bytes(room, c, b";\n")
+}
+
+// The counters of states 0 to `top`.
+fn put_counters(room: &mut [u8], at: usize, seats: usize, top: usize, start: usize) -> usize
+    requires { ⌜ top ≤ topState ⌝ }
+    ensures { λ r. ⌜ Puts (now (room .entry)) (now (room .exit)) at (counters seats 0 (upto (suc top) (λ d. gate (eqb start d) seats))) r ⌝ }
+{
+    let mut to = place(at);
+    let mut d = 0;
+    while d <= top {
+        to = put_counter(room, to, d, seats, start);
+        d += 1;
+    }
+    to
+}
+
+// All before the statements.
+fn put_head(room: &mut [u8], at: usize, mode: usize, seats: usize, top: usize, start: usize) -> usize
+    requires { ⌜ top ≤ topState ⌝ }
+    ensures { λ r. ⌜ Puts (now (room .entry)) (now (room .exit)) at (λ t. modeText (either nondeterministic probabilistic mode) ("\nmodule generic_process\n" ▸ counters seats 0 (upto (suc top) (λ d. gate (eqb start d) seats)) t)) r ⌝ }
+{
+    let a = put_mode(room, at, mode);
+    let b = put_bytes(room, a, b"\nmodule generic_process\n");
+    put_counters(room, b, seats, top, start)
+}
+
+// The whole text.
+fn put_program<'a>(
+    room: &mut [u8],
+    at: usize,
+    mode: usize,
+    seats: usize,
+    top: usize,
+    start: usize,
+    rows: &'a [usize; ROW_PLACES],
+    count: usize,
+    nodes: &'a [u32],
+    branches: &'a [u32],
+) -> usize
+    requires { ⌜ top ≤ topState ⌝ }
+    requires { ⌜ Fits seats (now nodes) (now branches) (now rows) count ⌝ }
+    ensures { λ r. ⌜ Put (now (room .entry)) (now (room .exit)) at (reducedOf (cardIn mode seats top start (rowsFrom (now (rows .entry)) 0 count) (now (nodes .entry)) (now (branches .entry)))) r ⌝ }
+{
+    let a = put_head(room, at, mode, seats, top, start);
+    let b = put_statements(room, a, mode, rows, count, nodes, branches, seats);
+    put_bytes(room, b, b"endmodule\n")
 }
