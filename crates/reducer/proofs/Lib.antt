@@ -1,3 +1,4 @@
 pub mod Laws
 pub mod Short
+pub mod Theorems
 pub mod Examples

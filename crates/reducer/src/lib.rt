@@ -1,4 +1,5 @@
 // The reduced program's text ("Texts, byte for byte", first part), translated and printed in one walk over the card's nodes.
+use card::Card;
 use card::NONDETERMINISTIC;
 use card::limits::MOST_BRANCHES;
 use card::limits::MOST_NODES;
@@ -19,12 +20,17 @@ use card::node::state_of;
 use card::node::units_of;
 use phrases::put_mode;
 use phrases::put_weight;
+use reader::Verdict;
+use reader::read;
+use room::Answer;
+use room::ROOM_TOO_SMALL;
 use room::place;
 use room::put_byte;
 use room::put_bytes;
 use room::put_number;
 use rows::ROW;
 use rows::ROW_PLACES;
+use rows::rows_of;
 ghost use mathlib.Core.Path.{_≡_};
 ghost use mathlib.Core.List.{[], _∷_, _++_, map};
 ghost use Prim.Native.Nat.{ℕ, suc, _+_, _*_, _-_, _<_, _≤_};
@@ -33,15 +39,17 @@ ghost use lib.ListN.{length, getD};
 ghost use Rattle.card.specs.Limits.{topState, mostStatements, mostNodes, mostBranches, nodePlaces, branchPlaces};
 ghost use Rattle.card.specs.Text.{if_then_else_};
 ghost use Rattle.card.specs.Card.{nondeterministic, probabilistic};
-ghost use Rattle.card.specs.Laid.{opAnd, either, groupOf, branchOf, guardAt, guardOf, statementOf, statementsOf};
+ghost use Rattle.card.specs.Laid.{opAnd, either, groupOf, branchOf, guardAt, guardOf, statementOf, statementsOf, cardOf};
 ghost use Rattle.meaning.specs.Sums.{gate, upto};
 ghost use Rattle.meaning.specs.Formulas.{over};
 ghost use Rattle.meaning.specs.Reduced.{equalTo, moreThan, lessThan, counterOf, testOf, updateOf};
 ghost use Rattle.room.specs.Room.{Put};
+ghost use Rattle.room.specs.Answer.{text, Entered};
 ghost use Rattle.phrases.specs.Phrases.{_▸_, num, modeText};
 ghost use Rattle.phrases.specs.Puts.{Puts};
-ghost use Rattle.rows.specs.Rows.{row, rowsFrom, FitRows, cardIn};
+ghost use Rattle.rows.specs.Rows.{row, rowsFrom, cardIn, Holds};
 ghost use Rattle.reducer.specs.ReducedText.{counterText, testText, guardOr, updateText, outcomeText, moreOutcomes, outcomes as outcomeTexts, counterLine, counters, reducedOf};
+ghost use Rattle.reducer.specs.ReduceSaid.{reduceSaid};
 ghost use Rattle.reducer.specs.Handed.{boundRow, boundOf, outcomeOf, tailOf, tailPlaces, tailedCopies, copyTexts, copyNumber, allTexts, Fits};
 
 // Enough for what stands behind the first test's number: a guard of 32 nodes has at most 229 bytes with its ` & `, eight branches 432
@@ -465,4 +473,56 @@ fn put_program<'a>(
     let a = put_head(room, at, mode, seats, top, start);
     let b = put_statements(room, a, mode, rows, count, nodes, branches, seats);
     put_bytes(room, b, b"endmodule\n")
+}
+
+// A card that was taken, as its struct holds it: a first walk tells the length, a second one stores the text.
+fn reduce_card(c: Card, room: &mut [u8]) -> Answer
+    requires { ⌜ Holds c ⌝ }
+    ensures { λ r. ⌜ Entered (now (room .entry)) (now (room .exit)) (text (reducedOf (cardOf c))) r ⌝ }
+{
+    let rows = rows_of(c.statements);
+    let count = c.count;
+    let need = put_program(
+        &mut room[..0],
+        0,
+        c.mode,
+        c.seats,
+        c.top,
+        c.start,
+        &rows,
+        count,
+        &c.nodes,
+        &c.branches,
+    );
+    if room.len() < need {
+        return Answer::Refused(ROOM_TOO_SMALL, need);
+    }
+    Answer::Done(put_program(
+        room,
+        0,
+        c.mode,
+        c.seats,
+        c.top,
+        c.start,
+        &rows,
+        count,
+        &c.nodes,
+        &c.branches,
+    ))
+}
+
+// The card is judged first; then its reduced text is measured, and stored where it fits.
+pub fn reduce(card: &[u8], room: &mut [u8]) -> Answer
+    ensures { λ r. ⌜ Entered (now (room .entry)) (now (room .exit)) (reduceSaid (now (card .entry))) r ⌝ }
+{
+    let reading = read(card);
+    let verdict = reading.verdict;
+    match verdict {
+        Verdict::Refused(number, place) => {
+            return Answer::Refused(number, place);
+        }
+        Verdict::Taken => {
+            return reduce_card(reading.card, room);
+        }
+    }
 }
