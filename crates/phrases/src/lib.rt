@@ -4,11 +4,12 @@ use room::put_byte;
 use room::put_bytes;
 use room::put_number;
 ghost use mathlib.Core.Path.{_≡_};
+ghost use mathlib.Core.List.{_++_};
 ghost use Prim.Native.Nat.{ℕ, _<_, _≤_};
 ghost use Rattle.card.specs.Limits.{unit};
 ghost use Rattle.card.specs.Card.{nondeterministic, probabilistic};
 ghost use Rattle.card.specs.Laid.{either};
-ghost use Rattle.phrases.specs.Phrases.{divisor as divisorOf, modeText, weightText};
+ghost use Rattle.phrases.specs.Phrases.{divisor as divisorOf, num, modeText, weightText};
 ghost use Rattle.phrases.specs.Puts.{Puts};
 
 // The mode by its number in a card's struct: 0 is nondeterministic.
@@ -19,6 +20,14 @@ pub fn put_mode(room: &mut [u8], at: usize, mode: usize) -> usize
         return put_bytes(room, at, b"nondeterministic");
     }
     put_bytes(room, at, b"probabilistic")
+}
+
+// A text, and a number behind it.
+pub fn put_numbered(room: &mut [u8], at: usize, s: &[u8], n: usize) -> usize
+    ensures { λ r. ⌜ Puts (now (room .entry)) (now (room .exit)) at (λ t. now (s .entry) ++ num n t) r ⌝ }
+{
+    let a = put_bytes(room, at, s);
+    put_number(room, a, n)
 }
 
 // The greatest number that divides both the unit and `units`.

@@ -1,6 +1,5 @@
-use Prim.Native.Nat.{ℕ}
 use mathlib.Core.Path.{_≡_, refl}
-use mathlib.Core.List.{List, [], _∷_}
+use mathlib.Core.List.{[], _∷_}
 use mathlib.Core.Option.{none}
 use Rattle.card.specs.Text.{bytes}
 use Rattle.card.specs.Card.{nondeterministic, probabilistic, Card}

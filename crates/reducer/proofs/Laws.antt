@@ -2,10 +2,9 @@
 -- alike, and a loop's text is one piece more after each turn. Assumes nothing.
 use Prim.Native.Nat.{ℕ, zero, suc, _+_, _-_, _*_, _≤_, _<_, min}
 use mathlib.Core.Path.{_≡_, refl, sym, ap, _∙_}
-use mathlib.Core.Logic.{_⊎_, inl, inr}
+use mathlib.Core.Logic.{inl, inr}
 use mathlib.Core.Bool.{Bool, true, false}
 use mathlib.Core.List.{List, [], _∷_, _++_, map}
-use mathlib.Core.Option.{Option, none, some}
 use native.Mathlib.Numerals.{add-one}
 use native.Mathlib.Nat.{zero-add, sub-zero}
 use native.Mathlib.Omega.{arith}
@@ -15,41 +14,33 @@ use lib.ListN.{length, getD, take, drop}
 use lib.Seq.{take-suc, take-all}
 use Rattle.card.specs.Limits.{mostNodes, mostBranches}
 use Rattle.card.specs.Text.{if_then_else_}
-use Rattle.card.specs.Card.{Mode, nondeterministic, probabilistic, Kind, everyone, others, Sign, all, any, Relation, is, isnt, atom, neg, and, or, Branch, Statement}
+use Rattle.card.specs.Card.{Mode, nondeterministic, probabilistic, everyone, others, all, any, is, isnt, Statement}
 use Rattle.card.specs.Valid.{Every}
 use Rattle.card.specs.Laid.{either, opGroup, opNot, opAnd, opOf, leftOf, rightOf, kindPart, signPart, relationPart, statePart, groupOf, unitsPart, endPart, branchOf, guardAt, guardOf, statementOf, statementsOf}
 use Rattle.card.specs.declared.Statement.{Statement as StatementRow}
 use Rattle.card.proofs.Laws.{guard-at-group, guard-at-not, guard-at-and, guard-at-or, guard-of-none, guard-of-some}
-use Rattle.meaning.specs.Sums.{gate, upto, flat}
+use Rattle.meaning.specs.Sums.{gate, upto}
 use Rattle.meaning.specs.Formulas.{over}
 use Rattle.meaning.specs.Reduced.{Bound, equalTo, moreThan, lessThan, counterOf, table, testOf, updateOf, Outcome, Reduced, copy, copies, reduce}
-use Rattle.room.specs.Room.{cap, Put}
+use Rattle.room.specs.Room.{Put}
 use Rattle.room.proofs.Laws.{clip-start, put-length}
 use Rattle.phrases.specs.Phrases.{_▸_, num, modeText, weightText}
 use Rattle.phrases.specs.Puts.{Puts}
-use Rattle.phrases.proofs.Laws.{puts-then, puts-as, puts-none}
 use Rattle.rows.specs.Rows.{row, rowOf, rowsFrom, cardIn}
 use Rattle.phrases.proofs.Counted.{Text, counted}
 use Rattle.reducer.specs.declared.Bound.{Bound as BoundRow}
 use Rattle.reducer.specs.ReducedText.{boundText, counterText, testText, guardOr, updateText, outcomeText, moreOutcomes, outcomes, reducedText, statements, counterLine, counters, programText, reducedOf}
-use Rattle.reducer.specs.Handed.{boundRow, boundOf, outcomeOf, tailText, tailOf, tailPlaces, tailedCopies, copyTexts, copyNumber, allTexts}
+use Rattle.reducer.specs.Handed.{boundRow, boundOf, outcomeOf, tailOf, tailPlaces, tailedCopies, copyTexts, copyNumber, allTexts}
 
 -- ---- the table
 
-module _ {A : Type 0} (a b : A) {v : ℕ} where
-  pub first : v ≡ 0 → either a b v ≡ a
-  first h = rw h
-
-  pub second : (v ≡ 0 → ⊥) → either a b v ≡ b
-  second h = rw (ne-eqb v 0 h)
-
--- the group that is packed in x, by its parts
+-- the column of the group that is packed in x
 module _ (n j x : ℕ) {k s q d : ℕ} (ek : k ≡ kindPart x) (es : s ≡ signPart x) (eq : q ≡ relationPart x) (ed : d ≡ statePart x) where
-  pub in-place : {kind : Kind} {sign : Sign} {relation : Relation} {itself : Bool}
-      → either everyone others k ≡ kind → eqb j d ≡ itself → either is isnt q ≡ relation → either all any s ≡ sign
-      → boundRow (table n kind itself sign relation) ≡ boundRow (boundOf (counterOf n j (groupOf x)))
+  pub in-column : {everyone? : Bool} → eqb k 0 ≡ everyone?
+      → boundRow (table n (if everyone? then everyone else others) (eqb j d) (either all any s) (either is isnt q))
+      ≡ boundRow (boundOf (counterOf n j (groupOf x)))
   unfolding groupOf
-  in-place a b c e = rw (← a, ← b, ← c, ← e, ek, es, eq, ed)
+  in-column a = rw (← a, ek, es, eq, ed)
 
 bound-text : (b : Bound) (r : List ℕ) → boundRow b .sign ∷ num (boundRow b .number) r ≡ boundText b r
 bound-text (equalTo m) r = refl

@@ -1,15 +1,15 @@
 -- How long the reduced text of a valid card can be, so that the array for a statement's tail is long enough and the length needed is told
 -- as it is: states have one digit, numbers of seats two, and of all that repeats there is at most so much. Assumes nothing.
 use Prim.Native.Nat.{ℕ, zero, suc, _+_, _-_, _*_, _^_, _≤_, _<_}
-use mathlib.Core.Path.{_≡_, refl, sym, ap, subst, _∙_}
+use mathlib.Core.Path.{_≡_, sym, ap, subst, _∙_}
 use mathlib.Core.Bool.{Bool, true, false}
-use mathlib.Core.List.{List, [], _∷_, _++_, map}
+use mathlib.Core.List.{List, [], _∷_, map}
 use mathlib.Core.Option.{Option, none, some}
 use native.Mathlib.Nat.{mul-le-mul-right, le-trans}
 use native.Mathlib.Omega.{arith}
 use lib.Dec.{eqb}
 use lib.ListN.{length, length-append}
-use Rattle.card.specs.Limits.{mostSeats, topState, mostStatements, mostBranches, mostNodes, branchPlaces}
+use Rattle.card.specs.Limits.{mostSeats, topState, mostNodes}
 use Rattle.card.specs.Text.{if_then_else_}
 use Rattle.card.specs.Card.{Mode, nondeterministic, probabilistic, Kind, everyone, others, Sign, all, any, Relation, is, isnt, Group, group, atom, neg, and, or, Guard, Branch, Statement, Card}
 use Rattle.card.specs.Valid.{size, Every, ValidGroups, ValidGuard, ValidBranch, ValidStatement, ValidCard}
@@ -18,7 +18,7 @@ use Rattle.card.specs.declared.Card.{Card as CardRow}
 use Rattle.card.proofs.Held.{every-map}
 use Rattle.meaning.specs.Sums.{gate, upto, flat}
 use Rattle.meaning.specs.Formulas.{over}
-use Rattle.meaning.specs.Reduced.{Bound, equalTo, moreThan, lessThan, Counter, counterOf, table, testOf, Update, keep, shift, updateOf, Outcome, copy, copies, reduce}
+use Rattle.meaning.specs.Reduced.{Bound, equalTo, moreThan, lessThan, counterOf, table, testOf, Update, keep, shift, updateOf, copy, copies, reduce}
 use Rattle.room.specs.Digits.{decimal}
 use Rattle.room.specs.Room.{cap}
 use Rattle.room.specs.Answer.{text}
@@ -26,9 +26,9 @@ use Rattle.room.proofs.Decimal.{decimal-length}
 use Rattle.phrases.specs.Phrases.{_▸_, num, modeText}
 use Rattle.phrases.proofs.Counted.{Text}
 use Rattle.phrases.proofs.Adds.{Adds, adds-then, adds-up, adds-none, adds-bytes, weightMost, adds-weight, adds-mode}
-use Rattle.rows.specs.Rows.{rowsOf, rowsFrom, Holds}
+use Rattle.rows.specs.Rows.{rowsOf, Holds}
 use Rattle.rows.proofs.Rows.{rowsCard, holds-branches, holds-card, fit-rows, same-card}
-use Rattle.reducer.specs.ReducedText.{boundText, counterText, testText, guardOr, updateText, outcomeText, moreOutcomes, outcomes, reducedText, statements, counterLine, counters, programText, reducedOf}
+use Rattle.reducer.specs.ReducedText.{boundText, counterText, testText, guardOr, updateText, outcomeText, moreOutcomes, outcomes, reducedText, statements, counters, programText, reducedOf}
 use Rattle.reducer.specs.Handed.{boundRow, outcomeOf, tailOf, tailPlaces, reducedMost, copyTexts, copyNumber, allTexts, ShortTail, Fits}
 use Rattle.reducer.proofs.Laws.{copy-text, copies-text, statements-append}
 

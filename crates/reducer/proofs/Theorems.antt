@@ -4,6 +4,7 @@ use Prim.Native.Nat.{ℕ, _≤_, _<_}
 use mathlib.Core.Path.{_≡_}
 use mathlib.Core.Logic.{_↔_}
 use mathlib.Core.List.{List, _++_}
+use native.Mathlib.Omega.{arith}
 use lib.ListN.{length, drop}
 use Rattle.card.specs.Refusals.{wrongWeight}
 use Rattle.card.specs.Card.{Card}
@@ -11,9 +12,12 @@ use Rattle.reading.specs.Reading.{taken, refused as turned, readOf}
 use Rattle.room.specs.declared.Answer.{Answer}
 use Rattle.room.specs.declared.Answer.the-variants.{Done, Refused}
 use Rattle.room.specs.Answer.{Said, text, roomTooSmall, Entered}
+use Rattle.reading.proofs.Theorems.{read-valid}
 use Rattle.rows.proofs.Theorems as of-entry
 use Rattle.reducer.specs.ReducedText.{reducedOf}
 use Rattle.reducer.specs.ReduceSaid.{reduceSaid}
+use Rattle.reducer.specs.Handed.{reducedMost}
+use Rattle.reducer.proofs.Short.{short}
 
 -- what is said of a card that is taken
 abbrev pub said : Card → Said
@@ -41,3 +45,9 @@ module _ (card : List ℕ) {was is : List ℕ} {a : Answer} (e : Entered was is 
   pub room-kept : (number place : ℕ) → a ≡ Refused number place → is ≡ was
   unfolding reduceSaid
   room-kept = of-entry.room-kept reducedOf card e
+
+  -- a room of so many bytes is enough for every card: 10 is never given
+  pub room-enough : reducedMost ≤ length was → (place : ℕ) → a ≡ Refused roomTooSmall place → ⊥
+  room-enough h place r =
+      let (c, t, l, _) = refusal-10 place .0 r in
+      omega (arith, l, short c (read-valid card c t))

@@ -19,6 +19,7 @@ use card::node::sign_of;
 use card::node::state_of;
 use card::node::units_of;
 use phrases::put_mode;
+use phrases::put_numbered;
 use phrases::put_weight;
 use reader::Verdict;
 use reader::read;
@@ -30,22 +31,24 @@ use room::put_bytes;
 use room::put_number;
 use rows::ROW;
 use rows::ROW_PLACES;
+use rows::number_at;
 use rows::rows_of;
 ghost use mathlib.Core.Path.{_≡_};
-ghost use mathlib.Core.List.{[], _∷_, _++_, map};
-ghost use Prim.Native.Nat.{ℕ, suc, _+_, _*_, _-_, _<_, _≤_};
+ghost use mathlib.Core.Bool.{Bool};
+ghost use mathlib.Core.List.{[], map};
+ghost use Prim.Native.Nat.{suc, _+_, _*_, _-_, _<_, _≤_};
 ghost use lib.Dec.{eqb};
-ghost use lib.ListN.{length, getD};
+ghost use lib.ListN.{length};
 ghost use Rattle.card.specs.Limits.{topState, mostStatements, mostNodes, mostBranches, nodePlaces, branchPlaces};
 ghost use Rattle.card.specs.Text.{if_then_else_};
-ghost use Rattle.card.specs.Card.{nondeterministic, probabilistic};
+ghost use Rattle.card.specs.Card.{nondeterministic, probabilistic, everyone, others, all, any, is, isnt};
 ghost use Rattle.card.specs.Laid.{opAnd, either, groupOf, branchOf, guardAt, guardOf, statementOf, statementsOf, cardOf};
 ghost use Rattle.meaning.specs.Sums.{gate, upto};
 ghost use Rattle.meaning.specs.Formulas.{over};
-ghost use Rattle.meaning.specs.Reduced.{equalTo, moreThan, lessThan, counterOf, testOf, updateOf};
+ghost use Rattle.meaning.specs.Reduced.{equalTo, moreThan, lessThan, table, counterOf, testOf, updateOf};
 ghost use Rattle.room.specs.Room.{Put};
 ghost use Rattle.room.specs.Answer.{text, Entered};
-ghost use Rattle.phrases.specs.Phrases.{_▸_, num, modeText};
+ghost use Rattle.phrases.specs.Phrases.{_▸_, modeText};
 ghost use Rattle.phrases.specs.Puts.{Puts};
 ghost use Rattle.rows.specs.Rows.{row, rowsFrom, cardIn, Holds};
 ghost use Rattle.reducer.specs.ReducedText.{counterText, testText, guardOr, updateText, outcomeText, moreOutcomes, outcomes as outcomeTexts, counterLine, counters, reducedOf};
@@ -62,16 +65,6 @@ pub struct Bound {
     pub number: usize,
 }
 
-// A number of an array, or 0 where there is none.
-fn number_at(array: &[u32], i: usize) -> u32
-    ensures { λ r. ⌜ r ≡ getD (now (array .entry)) i 0 ⌝ }
-{
-    if i < array.len() {
-        return array[i];
-    }
-    0
-}
-
 fn one_less(n: usize) -> usize
     ensures { λ r. ⌜ r ≡ n - 1 ⌝ }
 {
@@ -79,14 +72,6 @@ fn one_less(n: usize) -> usize
         return 0;
     }
     n - 1
-}
-
-// A text, and a number behind it.
-fn put_numbered(room: &mut [u8], at: usize, s: &[u8], n: usize) -> usize
-    ensures { λ r. ⌜ Puts (now (room .entry)) (now (room .exit)) at (λ t. now (s .entry) ++ num n t) r ⌝ }
-{
-    let a = put_bytes(room, at, s);
-    put_number(room, a, n)
 }
 
 fn equal_to(number: usize) -> Bound
@@ -116,26 +101,26 @@ fn less_than(number: usize) -> Bound
     }
 }
 
-// The table of counter tests, place by place, for the group in `node` and a statement of local state `own`, with n seats.
-fn bound_of(node: u32, own: usize, n: usize) -> Bound
-    ensures { λ r. ⌜ r ≡ boundRow (boundOf (counterOf n own (groupOf node))) ⌝ }
+// The table of counter tests, place by place: the column of everyone.
+fn everyone_bound(sign: usize, relation: usize, seats: usize) -> Bound
+    ensures { λ r. ⌜ ((itself : Bool) → r ≡ boundRow (table seats everyone itself (either all any sign) (either is isnt relation))) ⌝ }
 {
-    let kind = kind_of(node);
-    let sign = sign_of(node);
-    let relation = relation_of(node);
-    let d = state_of(node);
-    if kind == EVERYONE {
-        if relation == IS {
-            if sign == ALL {
-                return equal_to(n);
-            }
-            return more_than(0);
-        }
+    if relation == IS {
         if sign == ALL {
-            return equal_to(0);
+            return equal_to(seats);
         }
-        return less_than(n);
+        return more_than(0);
     }
+    if sign == ALL {
+        return equal_to(0);
+    }
+    less_than(seats)
+}
+
+// And those of others, of n seats: where d is the statement's own state, a seat that takes it counts itself.
+fn others_bound(sign: usize, relation: usize, own: usize, d: usize, n: usize) -> Bound
+    ensures { λ r. ⌜ r ≡ boundRow (table n others (eqb own d) (either all any sign) (either is isnt relation)) ⌝ }
+{
     if own == d {
         if relation == IS {
             if sign == ALL {
@@ -148,17 +133,31 @@ fn bound_of(node: u32, own: usize, n: usize) -> Bound
         }
         return less_than(n);
     }
-    let others = one_less(n);
+    let less = one_less(n);
     if relation == IS {
         if sign == ALL {
-            return equal_to(others);
+            return equal_to(less);
         }
         return more_than(0);
     }
     if sign == ALL {
         return equal_to(0);
     }
-    less_than(others)
+    less_than(less)
+}
+
+// The test that the group in `node` becomes in a statement of local state `own`.
+fn bound_of(node: u32, own: usize, seats: usize) -> Bound
+    ensures { λ r. ⌜ r ≡ boundRow (boundOf (counterOf seats own (groupOf node))) ⌝ }
+{
+    let kind = kind_of(node);
+    let sign = sign_of(node);
+    let relation = relation_of(node);
+    let d = state_of(node);
+    if kind == EVERYONE {
+        return everyone_bound(sign, relation, seats);
+    }
+    others_bound(sign, relation, own, d, seats)
 }
 
 // A group as its counter test.
@@ -280,13 +279,7 @@ fn put_more_outcomes(
     to
 }
 
-fn put_outcomes(
-    room: &mut [u8],
-    at: usize,
-    branches: &[u32],
-    own: usize,
-    seats: usize,
-) -> usize
+fn put_outcomes(room: &mut [u8], at: usize, branches: &[u32], own: usize, seats: usize) -> usize
     ensures { λ r. ⌜ Puts (now (room .entry)) (now (room .exit)) at (outcomeTexts (map (outcomeOf seats own) (map branchOf (now (branches .entry))))) r ⌝ }
 {
     if branches.len() == 0 {
@@ -444,7 +437,14 @@ fn put_counters(room: &mut [u8], at: usize, seats: usize, top: usize, start: usi
 }
 
 // All before the statements.
-fn put_head(room: &mut [u8], at: usize, mode: usize, seats: usize, top: usize, start: usize) -> usize
+fn put_head(
+    room: &mut [u8],
+    at: usize,
+    mode: usize,
+    seats: usize,
+    top: usize,
+    start: usize,
+) -> usize
     requires { ⌜ top ≤ topState ⌝ }
     ensures { λ r. ⌜ Puts (now (room .entry)) (now (room .exit)) at (λ t. modeText (either nondeterministic probabilistic mode) ("\nmodule generic_process\n" ▸ counters seats 0 (upto (suc top) (λ d. gate (eqb start d) seats)) t)) r ⌝ }
 {

@@ -2,6 +2,7 @@
 use card::Statement;
 use card::limits::MOST_STATEMENTS;
 ghost use mathlib.Core.Path.{_≡_};
+ghost use lib.ListN.{getD};
 ghost use Rattle.rows.specs.Rows.{rowsOf};
 
 // A statement's row: its own state, how many nodes, how many branches.
@@ -24,4 +25,14 @@ pub fn rows_of(statements: [Statement; MOST_STATEMENTS]) -> [usize; ROW_PLACES]
         i += 1;
     }
     rows
+}
+
+// A number of one of a card's arrays, or 0 where there is none.
+pub fn number_at(array: &[u32], i: usize) -> u32
+    ensures { λ r. ⌜ r ≡ getD (now (array .entry)) i 0 ⌝ }
+{
+    if i < array.len() {
+        return array[i];
+    }
+    0
 }

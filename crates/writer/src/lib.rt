@@ -17,6 +17,7 @@ use card::node::sign_of;
 use card::node::state_of;
 use card::node::units_of;
 use phrases::put_mode;
+use phrases::put_numbered;
 use phrases::put_weight;
 use reader::Verdict;
 use reader::read;
@@ -28,19 +29,20 @@ use room::put_bytes;
 use room::put_number;
 use rows::ROW;
 use rows::ROW_PLACES;
+use rows::number_at;
 use rows::rows_of;
 ghost use mathlib.Core.Path.{_≡_};
-ghost use mathlib.Core.List.{_∷_, _++_, map};
-ghost use Prim.Native.Nat.{ℕ, _+_, _*_, _-_, _<_, _≤_};
+ghost use mathlib.Core.List.{_∷_, map};
+ghost use Prim.Native.Nat.{_+_, _*_, _-_, _<_, _≤_};
 ghost use lib.Dec.{eqb, leb};
-ghost use lib.ListN.{length, getD};
+ghost use lib.ListN.{length};
 ghost use Rattle.card.specs.Limits.{mostStatements, mostNodes, mostBranches, nodePlaces, branchPlaces};
 ghost use Rattle.card.specs.Text.{if_then_else_};
 ghost use Rattle.card.specs.Card.{nondeterministic, probabilistic, all, any, is, isnt};
 ghost use Rattle.card.specs.Laid.{signNumber, opAnd, either, groupOf, branchOf, guardAt, guardOf, statementOf, statementsOf, cardOf};
 ghost use Rattle.room.specs.Room.{Put};
 ghost use Rattle.room.specs.Answer.{text, Entered};
-ghost use Rattle.phrases.specs.Phrases.{_▸_, num};
+ghost use Rattle.phrases.specs.Phrases.{_▸_};
 ghost use Rattle.phrases.specs.Puts.{Puts};
 ghost use Rattle.writer.specs.Writing.{signText, relationText, literal, literals, groupText, guardText, guardOr, branchText, moreBranches, branches as branchTexts, statementText, statements as statementTexts, moduleText, modules, writeOf};
 ghost use Rattle.writer.specs.WriteSaid.{writeSaid};
@@ -51,24 +53,6 @@ ghost use Rattle.writer.specs.Parts.{levelOf, headText};
 const MIDDLE: usize = 1;
 
 const TIGHT: usize = 2;
-
-// A number of an array, or 0 where there is none.
-fn number_at(array: &[u32], i: usize) -> u32
-    ensures { λ r. ⌜ r ≡ getD (now (array .entry)) i 0 ⌝ }
-{
-    if i < array.len() {
-        return array[i];
-    }
-    0
-}
-
-// A text, and a number behind it.
-fn put_numbered(room: &mut [u8], at: usize, s: &[u8], n: usize) -> usize
-    ensures { λ r. ⌜ Puts (now (room .entry)) (now (room .exit)) at (λ t. now (s .entry) ++ num n t) r ⌝ }
-{
-    let a = put_bytes(room, at, s);
-    put_number(room, a, n)
-}
 
 fn put_sign(room: &mut [u8], at: usize, sign: usize) -> usize
     ensures { λ r. ⌜ Puts (now (room .entry)) (now (room .exit)) at (λ t. signText (either all any sign) ▸ t) r ⌝ }

@@ -9,7 +9,7 @@ use Rattle.reducer.proofs.put_copies.Statement.{statement}
 use Rattle.reducer.proofs.put_copies.Tie as tie
 use Rattle.reducer.proofs.put_copies.Reads as reads
 use Rattle.reducer.proofs.put_copies.Lts as lts
-use Rattle.reducer.proofs.put_numbered.Reads as put-numbered-reads
+use Rattle.phrases.proofs.put_numbered.Reads as put-numbered-reads
 use Rattle.room.proofs.place.Reads as place-reads
 use Rattle.room.proofs.put_bytes.Reads as put-bytes-reads
 

@@ -4,7 +4,7 @@ use Rattle.reducer.proofs.put_counter.Statement.{statement}
 use Rattle.reducer.proofs.put_counter.Tie as tie
 use Rattle.reducer.proofs.put_counter.Reads as reads
 use Rattle.reducer.proofs.put_counter.Lts as lts
-use Rattle.reducer.proofs.put_numbered.Reads as put-numbered-reads
+use Rattle.phrases.proofs.put_numbered.Reads as put-numbered-reads
 use Rattle.reducer.proofs.start_of.Reads as start-of-reads
 use Rattle.room.proofs.put_bytes.Reads as put-bytes-reads
 

@@ -5,7 +5,7 @@ use Rattle.reducer.proofs.put_update.Statement.{statement}
 use Rattle.reducer.proofs.put_update.Tie as tie
 use Rattle.reducer.proofs.put_update.Reads as reads
 use Rattle.reducer.proofs.put_update.Lts as lts
-use Rattle.reducer.proofs.put_numbered.Reads as put-numbered-reads
+use Rattle.phrases.proofs.put_numbered.Reads as put-numbered-reads
 use Rattle.room.proofs.put_bytes.Reads as put-bytes-reads
 
 -- src/lib.rt:236:36

@@ -9,7 +9,7 @@ use Rattle.card.proofs.node.end_of.Reads as end-of-reads
 use Rattle.card.proofs.node.units_of.Reads as units-of-reads
 use Rattle.phrases.proofs.put_weight.Reads as put-weight-reads
 use Rattle.room.proofs.put_byte.Reads as put-byte-reads
-use Rattle.writer.proofs.put_numbered.Reads as put-numbered-reads
+use Rattle.phrases.proofs.put_numbered.Reads as put-numbered-reads
 
 -- src/lib.rt:191:9
 units-of-requires : tie.Need-units-of-requires

@@ -6,7 +6,7 @@ use Rattle.writer.proofs.put_head.Reads as reads
 use Rattle.writer.proofs.put_head.Lts as lts
 use Rattle.phrases.proofs.put_mode.Reads as put-mode-reads
 use Rattle.room.proofs.put_bytes.Reads as put-bytes-reads
-use Rattle.writer.proofs.put_numbered.Reads as put-numbered-reads
+use Rattle.phrases.proofs.put_numbered.Reads as put-numbered-reads
 
 -- src/lib.rt:280:9
 put-mode-requires : tie.Need-put-mode-requires

@@ -5,7 +5,7 @@ use Rattle.writer.proofs.put_literal.Tie as tie
 use Rattle.writer.proofs.put_literal.Reads as reads
 use Rattle.writer.proofs.put_literal.Lts as lts
 use Rattle.room.proofs.put_number.Reads as put-number-reads
-use Rattle.writer.proofs.put_numbered.Reads as put-numbered-reads
+use Rattle.phrases.proofs.put_numbered.Reads as put-numbered-reads
 use Rattle.writer.proofs.put_relation.Reads as put-relation-reads
 
 -- src/lib.rt:92:36

@@ -5,7 +5,7 @@ use Rattle.writer.proofs.put_module.Tie as tie
 use Rattle.writer.proofs.put_module.Reads as reads
 use Rattle.writer.proofs.put_module.Lts as lts
 use Rattle.room.proofs.put_bytes.Reads as put-bytes-reads
-use Rattle.writer.proofs.put_numbered.Reads as put-numbered-reads
+use Rattle.phrases.proofs.put_numbered.Reads as put-numbered-reads
 
 -- src/lib.rt:224:36
 slice-aggregate-put-numbered : tie.Need-slice-aggregate-put-numbered

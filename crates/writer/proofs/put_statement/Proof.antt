@@ -8,7 +8,7 @@ use Rattle.writer.proofs.put_statement.Reads as reads
 use Rattle.writer.proofs.put_statement.Lts as lts
 use Rattle.room.proofs.put_bytes.Reads as put-bytes-reads
 use Rattle.writer.proofs.put_branches.Reads as put-branches-reads
-use Rattle.writer.proofs.put_numbered.Reads as put-numbered-reads
+use Rattle.phrases.proofs.put_numbered.Reads as put-numbered-reads
 use Rattle.writer.proofs.put_test.Reads as put-test-reads
 
 -- src/lib.rt:238:16

@@ -1,10 +1,10 @@
 use lib.ListN.{List·getD-eq-default}
 use mathlib.Core.Path.{sym}
 use borrow.Author.Needs.{needs}
-use Rattle.reducer.proofs.number_at.Statement.{statement}
-use Rattle.reducer.proofs.number_at.Tie as tie
-use Rattle.reducer.proofs.number_at.Reads as reads
-use Rattle.reducer.proofs.number_at.Lts as lts
+use Rattle.rows.proofs.number_at.Statement.{statement}
+use Rattle.rows.proofs.number_at.Tie as tie
+use Rattle.rows.proofs.number_at.Reads as reads
+use Rattle.rows.proofs.number_at.Lts as lts
 
 -- src/lib.rt:51:16
 mul-result : tie.Need-mul-result

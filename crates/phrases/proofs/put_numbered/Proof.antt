@@ -1,9 +1,9 @@
 use Rattle.phrases.proofs.Laws.{put-first, puts-then}
 use borrow.Author.Needs.{needs}
-use Rattle.writer.proofs.put_numbered.Statement.{statement}
-use Rattle.writer.proofs.put_numbered.Tie as tie
-use Rattle.writer.proofs.put_numbered.Reads as reads
-use Rattle.writer.proofs.put_numbered.Lts as lts
+use Rattle.phrases.proofs.put_numbered.Statement.{statement}
+use Rattle.phrases.proofs.put_numbered.Tie as tie
+use Rattle.phrases.proofs.put_numbered.Reads as reads
+use Rattle.phrases.proofs.put_numbered.Lts as lts
 use Rattle.room.proofs.put_bytes.Reads as put-bytes-reads
 use Rattle.room.proofs.put_number.Reads as put-number-reads
 
