@@ -1,0 +1,89 @@
+// The entries for C: the same promises, with answers in numbers ("Refusal numbers").
+use panel::panel;
+use reader::Verdict;
+use reader::read;
+use reducer::reduce;
+use room::Answer;
+use writer::write;
+ghost use mathlib.Core.Path.{_≡_};
+ghost use Rattle.reading.specs.Reading.{readOf};
+ghost use Rattle.writer.specs.WriteSaid.{writeSaid};
+ghost use Rattle.reducer.specs.ReduceSaid.{reduceSaid};
+ghost use Rattle.panel.specs.PanelSaid.{panelSaid};
+ghost use Rattle.tablet.specs.Told.{numbers, judged, Told};
+
+// Number 0: the value is the text's length. Else the refusal's number, and the value is its place.
+#[repr(C)]
+pub struct OpenPanelAnswer {
+    pub number: u8,
+    pub value: usize,
+}
+
+fn in_numbers(answer: Answer) -> OpenPanelAnswer
+    ensures { λ r. ⌜ r ≡ numbers answer ⌝ }
+{
+    match answer {
+        Answer::Done(long) => {
+            return OpenPanelAnswer {
+                number: 0,
+                value: long,
+            };
+        }
+        Answer::Refused(number, place) => {
+            return OpenPanelAnswer {
+                number: number,
+                value: place,
+            };
+        }
+    }
+}
+
+// Is it a card? A card that is taken answers 0 and 0.
+#[no_mangle]
+pub extern "C" fn open_panel_judge(card: &[u8]) -> OpenPanelAnswer
+    ensures { λ r. ⌜ r ≡ judged (readOf (now (card .entry))) ⌝ }
+{
+    let reading = read(card);
+    let verdict = reading.verdict;
+    match verdict {
+        Verdict::Taken => {
+            return OpenPanelAnswer {
+                number: 0,
+                value: 0,
+            };
+        }
+        Verdict::Refused(number, place) => {
+            return OpenPanelAnswer {
+                number: number,
+                value: place,
+            };
+        }
+    }
+}
+
+// The written card.
+#[no_mangle]
+pub extern "C" fn open_panel_write(card: &[u8], room: &mut [u8]) -> OpenPanelAnswer
+    ensures { λ r. ⌜ Told (now (room .entry)) (now (room .exit)) (writeSaid (now (card .entry))) r ⌝ }
+{
+    let answer = write(card, room);
+    in_numbers(answer)
+}
+
+// The reduced program's text.
+#[no_mangle]
+pub extern "C" fn open_panel_reduce(card: &[u8], room: &mut [u8]) -> OpenPanelAnswer
+    ensures { λ r. ⌜ Told (now (room .entry)) (now (room .exit)) (reduceSaid (now (card .entry))) r ⌝ }
+{
+    let answer = reduce(card, room);
+    in_numbers(answer)
+}
+
+// The panel of a card and its seats.
+#[no_mangle]
+pub extern "C" fn open_panel_show(card: &[u8], seats: &[u8], room: &mut [u8]) -> OpenPanelAnswer
+    ensures { λ r. ⌜ Told (now (room .entry)) (now (room .exit)) (panelSaid (now (card .entry)) (now (seats .entry))) r ⌝ }
+{
+    let answer = panel(card, seats, room);
+    in_numbers(answer)
+}
