@@ -102,4 +102,6 @@ fn entry(entry: u8, name: &[u8], cases: &[u8], answers: &[u8]) {
 fn main() {
     entry(READ, b"read", b"base.cases", b"written.expected");
     entry(WRITE, b"write", b"base.cases", b"written.expected");
+    entry(READ, b"edges read", b"edges.cases", b"edges.expected");
+    entry(WRITE, b"edges written", b"edges.cases", b"edges.expected");
 }

@@ -1,11 +1,10 @@
+-- The room keeps its length from turn to turn. Assumes nothing.
 use borrow.Author.Needs.{needs}
 use Prim.Native.Nat.{_≤_, _-_}
 use lib.ListN.{length}
 use mathlib.Core.Path.{_≡_, refl}
 use Rattle.cases.proofs.held.fill.Statement.{statement}
 use Rattle.cases.proofs.held.fill.Tie as tie
-use Rattle.cases.proofs.held.fill.Reads as reads
-use Rattle.cases.proofs.held.fill.Lts as lts
 
 abbrev Inv-loop : tie.InvT-loop
 Inv-loop room₀ i₀ room i = (i ≤ length room₀) × (length room ≡ length room₀)
@@ -13,31 +12,24 @@ Inv-loop room₀ i₀ room i = (i ≤ length room₀) × (length room ≡ length
 abbrev μ-loop : tie.MeasureT-loop
 μ-loop room₀ i₀ room i = length room₀ - i
 
--- src/held.rt:23:5
 loop-holds : tie.Need-loop-holds Inv-loop μ-loop
 loop-holds c = (search needs, refl)
 
--- src/held.rt:24:9
 slice-write-room : tie.Need-slice-write-room Inv-loop μ-loop
 slice-write-room c = search needs
 
--- src/held.rt:25:9
 add-i : tie.Need-add-i Inv-loop μ-loop
 add-i c = search needs
 
--- src/held.rt:23:5
 loop-less : tie.Need-loop-less Inv-loop μ-loop
 loop-less c = search needs
 
--- src/held.rt:23:5
 loop-again : tie.Need-loop-again Inv-loop μ-loop
 loop-again c = (search needs, search needs)
 
--- src/held.rt:21:1
 same-length : tie.Need-same-length Inv-loop μ-loop
 same-length c = c .before .loop .inv .1
 
--- src/held.rt:21:1
 returns : tie.Need-returns Inv-loop μ-loop
 returns c = search needs
 

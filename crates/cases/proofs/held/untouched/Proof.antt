@@ -1,10 +1,9 @@
+-- The place stays within the room. Assumes nothing.
 use borrow.Author.Needs.{needs}
 use lib.ListN.{length}
 use Prim.Native.Nat.{_≤_, _-_}
 use Rattle.cases.proofs.held.untouched.Statement.{statement}
 use Rattle.cases.proofs.held.untouched.Tie as tie
-use Rattle.cases.proofs.held.untouched.Reads as reads
-use Rattle.cases.proofs.held.untouched.Lts as lts
 
 abbrev Inv-loop : tie.InvT-loop
 Inv-loop room i₀ i = i ≤ length room
@@ -12,31 +11,24 @@ Inv-loop room i₀ i = i ≤ length room
 abbrev μ-loop : tie.MeasureT-loop
 μ-loop room i₀ i = length room - i
 
--- src/held.rt:24:5
 loop-holds : tie.Need-loop-holds Inv-loop μ-loop
 loop-holds c = search needs
 
--- src/held.rt:25:12
 shared-slice-read-if1 : tie.Need-shared-slice-read-if1 Inv-loop μ-loop
 shared-slice-read-if1 c = search needs
 
--- src/held.rt:26:13
 returns : tie.Need-returns Inv-loop μ-loop
 returns c = search needs
 
--- src/held.rt:28:9
 add-i : tie.Need-add-i Inv-loop μ-loop
 add-i c = search needs
 
--- src/held.rt:24:5
 loop-less : tie.Need-loop-less Inv-loop μ-loop
 loop-less c = search needs
 
--- src/held.rt:24:5
 loop-again : tie.Need-loop-again Inv-loop μ-loop
 loop-again c = search needs
 
--- src/held.rt:22:1
 returns-2 : tie.Need-returns-2 Inv-loop μ-loop
 returns-2 c = search needs
 
