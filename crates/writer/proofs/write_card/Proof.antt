@@ -3,7 +3,10 @@ use Rattle.room.proofs.Entries.{entered-small, entered-done}
 use Rattle.room.proofs.Laws.{put-length}
 use Rattle.writer.proofs.Short.{rows-said, rows-short}
 use Rattle.rows.proofs.Rows.{holds-branches, fit-rows}
-use Prim.Native.Nat.{ℕ}
+use Prim.Native.Nat.{ℕ, _≤_}
+use mathlib.Core.Path.{_≡_}
+use mathlib.Core.List.{List}
+use lib.ListN.{length, take, length-take}
 use borrow.Author.Needs.{needs}
 use Rattle.writer.proofs.write_card.Statement.{statement}
 use Rattle.writer.proofs.write_card.Tie as tie
@@ -11,6 +14,10 @@ use Rattle.writer.proofs.write_card.Reads as reads
 use Rattle.writer.proofs.write_card.Lts as lts
 use Rattle.rows.proofs.rows_of.Reads as rows-of-reads
 use Rattle.writer.proofs.put_card.Reads as put-card-reads
+
+-- how long the part is that the text is measured in, for any such part
+counted : (n : ℕ) (xs : List ℕ) → n ≤ length xs → n ≡ length (take n xs)
+counted n xs h = simp length-take (omega arith)
 
 -- src/lib.rt:364:16
 rows-of-requires : tie.Need-rows-of-requires
@@ -22,7 +29,7 @@ slice-relend-prefix-put-card c = search needs
 
 -- src/lib.rt:367:9
 slice-aggregate-put-card : tie.Need-slice-aggregate-put-card
-slice-aggregate-put-card c = search needs
+slice-aggregate-put-card c = search (needs, counted)
 
 -- src/lib.rt:366:9
 put-card-requires : tie.Need-put-card-requires
