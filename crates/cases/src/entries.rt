@@ -1,4 +1,5 @@
 // The entries that the cases run through.
+use panel::panel;
 use room::Answer;
 use writer::write;
 
@@ -6,10 +7,15 @@ pub const READ: u8 = 0;
 
 pub const WRITE: u8 = 1;
 
-// An entry that takes a card and a room.
-pub fn enter(entry: u8, card: &[u8], room: &mut [u8]) -> Answer {
+pub const PANEL: u8 = 2;
+
+// An entry that takes a room.
+pub fn enter(entry: u8, seats: &[u8], card: &[u8], room: &mut [u8]) -> Answer {
     if entry == WRITE {
         return write(card, room);
+    }
+    if entry == PANEL {
+        return panel(card, seats, room);
     }
     Answer::Refused(0, 0)
 }

@@ -85,12 +85,19 @@ fn done(room: &[u8], long: usize, stored: &[u8]) -> bool {
 }
 
 // The entry in a room of so many bytes.
-fn in_room(entry: u8, card: &[u8], stored: &[u8], room: &mut [u8], size: usize) -> bool {
+fn in_room(
+    entry: u8,
+    seats: &[u8],
+    card: &[u8],
+    stored: &[u8],
+    room: &mut [u8],
+    size: usize,
+) -> bool {
     if room.len() < size {
         return false;
     }
     fill(room);
-    let answer = enter(entry, card, &mut room[..size]);
+    let answer = enter(entry, seats, card, &mut room[..size]);
     match answer {
         Answer::Done(long) => {
             return done(room, long, stored);
@@ -122,18 +129,18 @@ fn reads(card: &[u8], stored: &[u8]) -> bool {
 fn again(written: &[u8], room: &mut [u8]) -> bool {
     let size = room.len();
     if CARD_BYTES < written.len() {
-        return in_room(WRITE, written, b"refused 1 0\n", room, size);
+        return in_room(WRITE, b"", written, b"refused 1 0\n", room, size);
     }
-    in_room(WRITE, written, written, room, size)
+    in_room(WRITE, b"", written, written, room, size)
 }
 
 // In the whole room; and a text also in a room one byte short, of just its length, and one byte larger.
-pub fn holds(entry: u8, card: &[u8], stored: &[u8], room: &mut [u8]) -> bool {
+pub fn holds(entry: u8, seats: &[u8], card: &[u8], stored: &[u8], room: &mut [u8]) -> bool {
     if entry == READ {
         return reads(card, stored);
     }
     let size = room.len();
-    if !in_room(entry, card, stored, room, size) {
+    if !in_room(entry, seats, card, stored, room, size) {
         return false;
     }
     if refuses(stored) {
@@ -143,13 +150,13 @@ pub fn holds(entry: u8, card: &[u8], stored: &[u8], room: &mut [u8]) -> bool {
     if long == 0 {
         return false;
     }
-    if !in_room(entry, card, stored, room, long - 1) {
+    if !in_room(entry, seats, card, stored, room, long - 1) {
         return false;
     }
-    if !in_room(entry, card, stored, room, long) {
+    if !in_room(entry, seats, card, stored, room, long) {
         return false;
     }
-    if !in_room(entry, card, stored, room, long + 1) {
+    if !in_room(entry, seats, card, stored, room, long + 1) {
         return false;
     }
     if entry == WRITE {

@@ -5,6 +5,7 @@ mod held;
 mod stored;
 mod tally;
 
+use entries::PANEL;
 use entries::READ;
 use entries::WRITE;
 use held::holds;
@@ -16,6 +17,7 @@ use stored::headed;
 use stored::line_end;
 use stored::record_end;
 use stored::refuses;
+use stored::seats_of;
 use stored::window;
 use tally::Tally;
 use tally::none_yet;
@@ -38,7 +40,9 @@ fn judge(entry: u8, input: &[u8], part: &[u8], room: &mut [u8], so_far: Tally) -
     }
     let answer = &part[heading..];
     let line = line_end(input);
-    let right = holds(entry, &input[line..], answer, room);
+    let mut seats = io::large_buffer();
+    let many = seats_of(input, &mut seats);
+    let right = holds(entry, &seats[..many], &input[line..], answer, room);
     so_far.with(refuses(answer), right)
 }
 
@@ -102,6 +106,7 @@ fn entry(entry: u8, name: &[u8], cases: &[u8], answers: &[u8]) {
 fn main() {
     entry(READ, b"read", b"base.cases", b"written.expected");
     entry(WRITE, b"write", b"base.cases", b"written.expected");
+    entry(PANEL, b"panel", b"base.cases", b"panel.expected");
     entry(READ, b"edges read", b"edges.cases", b"edges.expected");
     entry(WRITE, b"edges written", b"edges.cases", b"edges.expected");
 }

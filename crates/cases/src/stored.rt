@@ -132,6 +132,32 @@ pub fn line_end(input: &[u8]) -> usize
     at
 }
 
+// The state that a byte of the first line names; 255 where it is no digit.
+fn state(b: u8) -> u8 {
+    if b < b'0' {
+        return 255;
+    }
+    if b'9' < b {
+        return 255;
+    }
+    b - b'0'
+}
+
+// The seats that the first line names.
+pub fn seats_of(input: &[u8], seats: &mut [u8]) -> usize
+    ensures { λ r. ⌜ Counts r (now (seats .exit)) ⌝ }
+{
+    let mut i = 0;
+    while i < input.len() && i < seats.len() {
+        if input[i] == b'\n' {
+            return whole(seats, i);
+        }
+        seats[i] = state(input[i]);
+        i += 1;
+    }
+    whole(seats, i)
+}
+
 // Is a stored answer a refusal?
 pub fn refuses(answer: &[u8]) -> bool {
     stands(answer, 0, b"refused ")
