@@ -1,0 +1,165 @@
+//! What the seats do, seat by seat: each module's guard is read as the card
+//! spells it, with its own renaming, and each step is taken on a real seating.
+//! Nothing here counts seats before it has moved them.
+
+use std::collections::BTreeMap;
+
+use crate::model::{Expression, Group, Model, Statement, Unary};
+use crate::weights::UNIT;
+
+/// What some steps lead to, with their weights.
+pub type Weights<T> = BTreeMap<T, u64>;
+
+/// A seat, from 0, taking a statement: what it leads to.
+pub struct Steps {
+    /// The statement, from 0.
+    pub statement: usize,
+    /// The seatings after the step.
+    pub after: Weights<Vec<u8>>,
+}
+
+/// All that may be taken at a seating, by each seat and statement.
+pub fn steps(model: &Model, seats: &[u8]) -> Vec<Steps> {
+    let mut steps = Vec::new();
+    for seat in 0..seats.len() {
+        for (number, statement) in model.statements.iter().enumerate() {
+            if may_take(statement, seats, seat) {
+                let mut after = Weights::new();
+                for branch in &statement.branches {
+                    let mut next = seats.to_vec();
+                    next[seat] = branch.end as u8;
+                    *after.entry(next).or_default() += u64::from(branch.units);
+                }
+                steps.push(Steps {
+                    statement: number,
+                    after,
+                });
+            }
+        }
+    }
+    steps
+}
+
+fn may_take(statement: &Statement, seats: &[u8], seat: usize) -> bool {
+    let renamed = Renamed { seats, seat };
+    usize::from(renamed.state(1)) == statement.own && renamed.row(&statement.guard)
+}
+
+/// A seating as the module of one seat sees it: `[s1=si, si=s1]`.
+struct Renamed<'s> {
+    seats: &'s [u8],
+    seat: usize,
+}
+
+impl Renamed<'_> {
+    /// The state of the seat that the first module would call by this number.
+    fn state(&self, word: usize) -> u8 {
+        let place = word - 1;
+        self.seats[if place == 0 {
+            self.seat
+        } else if place == self.seat {
+            0
+        } else {
+            place
+        }]
+    }
+
+    fn row(&self, row: &[Unary]) -> bool {
+        row.iter().all(|unary| self.unary(unary))
+    }
+
+    fn unary(&self, unary: &Unary) -> bool {
+        match unary {
+            Unary::Not(inner) => !self.unary(inner),
+            Unary::Bracket(Expression(rows)) => rows.iter().any(|row| self.row(row)),
+            Unary::Group(group) => self.group(group),
+        }
+    }
+
+    fn group(&self, group: &Group) -> bool {
+        let mut literals = group
+            .literals
+            .iter()
+            .map(|literal| (usize::from(self.state(literal.seat)) == literal.state) != literal.differs);
+        if group.any {
+            literals.any(|holds| holds)
+        } else {
+            literals.all(|holds| holds)
+        }
+    }
+}
+
+/// How many seats are in each state.
+pub fn counts(seats: &[u8], top: usize) -> Vec<u64> {
+    (0..=top)
+        .map(|state| seats.iter().filter(|&&seat| usize::from(seat) == state).count() as u64)
+        .collect()
+}
+
+/// The same weights, by the counts after the steps.
+pub fn by_counts(after: &Weights<Vec<u8>>, top: usize) -> Weights<Vec<u64>> {
+    let mut by_counts = Weights::new();
+    for (next, weight) in after {
+        *by_counts.entry(counts(next, top)).or_default() += weight;
+    }
+    by_counts.retain(|_, weight| *weight > 0);
+    by_counts
+}
+
+/// The panel that the steps of all seats make.
+pub fn panel(model: &Model, seats: &[u8]) -> String {
+    let steps = steps(model, seats);
+    let mut text = String::new();
+    let taken: Vec<usize> = (0..model.statements.len())
+        .filter(|&number| steps.iter().any(|step| step.statement == number))
+        .collect();
+    let enabled = if model.probabilistic { steps.len() } else { taken.len() };
+    text += if model.probabilistic { "probabilistic\n" } else { "nondeterministic\n" };
+    text += &format!("seats {} enabled {enabled}\ncounts", seats.len());
+    for count in counts(seats, model.top) {
+        text += &format!(" {count}");
+    }
+    text += "\n";
+    if model.probabilistic {
+        let all = steps.iter().map(|step| changes(seats, &step.after));
+        put_changes(all.flatten(), enabled as u64, &mut text);
+    } else {
+        for number in taken {
+            text += &format!("choice {}\n", number + 1);
+            let of_one = steps.iter().find(|step| step.statement == number);
+            let of_one = of_one.expect("some seat may take it");
+            put_changes(changes(seats, &of_one.after), 1, &mut text);
+        }
+    }
+    text
+}
+
+/// What changes with each seating after: nothing, or an old and a new state.
+fn changes<'a>(
+    seats: &'a [u8],
+    after: &'a Weights<Vec<u8>>,
+) -> impl Iterator<Item = (Option<(u8, u8)>, u64)> + 'a {
+    after.iter().map(|(next, weight)| {
+        let mut pairs = seats.iter().copied().zip(next.iter().copied());
+        (pairs.find(|(old, new)| old != new), *weight)
+    })
+}
+
+fn put_changes(
+    changes: impl Iterator<Item = (Option<(u8, u8)>, u64)>,
+    times: u64,
+    text: &mut String,
+) {
+    let mut sums = Weights::new();
+    for (change, weight) in changes {
+        *sums.entry(change).or_default() += weight;
+    }
+    assert_eq!(sums.values().sum::<u64>(), times * u64::from(UNIT));
+    // No change comes first, then the moves by old and new state.
+    for (change, sum) in sums.into_iter().filter(|(_, sum)| *sum > 0) {
+        *text += &match change {
+            None => format!("stay {sum}\n"),
+            Some((old, new)) => format!("move {old} {new} {sum}\n"),
+        };
+    }
+}

@@ -1,0 +1,289 @@
+//! One input, asked of both sides.
+
+use baseline::Refusal;
+
+use crate::by_seats;
+use crate::inputs::{all_seatings, Input, Kind};
+use crate::model::Model;
+use crate::random::Random;
+use crate::reduced::Reduced;
+use crate::tally::Tally;
+use crate::weights::UNIT;
+
+/// What went wrong, in words.
+pub type Fault = String;
+
+/// Bytes on both sides of a room, and of a card, that nothing may touch.
+const GUARD: usize = 64;
+/// Room for the longest texts and cards.
+const STORE: usize = 300_000;
+
+/// The lent rooms of both sides.
+pub struct Checker {
+    rooms: Rooms,
+    written: Vec<u8>,
+    reduced: Vec<u8>,
+    shown: Vec<u8>,
+    surrounded: Vec<u8>,
+}
+
+/// A room among bytes of a known pattern.
+struct Rooms {
+    pattern: Vec<u8>,
+    store: Vec<u8>,
+    probes: u64,
+}
+
+impl Rooms {
+    /// Asks the library once, with a room of this length, and holds answer, text and all other bytes to what is expected.
+    fn probe(
+        &mut self,
+        what: &str,
+        expected: Result<&[u8], Refusal>,
+        length: usize,
+        ask: impl FnOnce(&mut [u8]) -> Result<usize, open_panel::Refusal>,
+    ) -> Result<(), Fault> {
+        let expected = match expected {
+            Ok(text) if text.len() > length => Err(Refusal::new(10, text.len())),
+            other => other,
+        };
+        // The pattern moves on from probe to probe, so that no byte is always what a wrong write would put there.
+        let from = (self.probes % 251) as usize;
+        self.probes += 1;
+        let whole = GUARD + length + GUARD;
+        let pattern = &self.pattern[from..from + whole];
+        let store = &mut self.store[..whole];
+        store.copy_from_slice(pattern);
+        let answer = ask(&mut store[GUARD..GUARD + length]);
+        let answer = answer.map_err(|refusal| Refusal::new(refusal.number(), refusal.place()));
+        if answer != expected.map(<[u8]>::len) {
+            return Err(format!(
+                "{what}, room {length}: the library says {answer:?}, the baseline {:?}",
+                expected.map(<[u8]>::len)
+            ));
+        }
+        let text = expected.unwrap_or(&[]);
+        let end = GUARD + text.len();
+        if &store[GUARD..end] != text {
+            let place = store[GUARD..end].iter().zip(text).take_while(|(a, b)| a == b).count();
+            return Err(format!("{what}, room {length}: the texts differ at byte {place}"));
+        }
+        let touched = |range: std::ops::Range<usize>| store[range.clone()] != pattern[range];
+        if touched(0..GUARD) || touched(GUARD + length..whole) {
+            return Err(format!("{what}, room {length}: a byte outside the room was written"));
+        }
+        if touched(end..GUARD + length) {
+            return Err(format!("{what}, room {length}: the room was written where no text is"));
+        }
+        Ok(())
+    }
+}
+
+impl Default for Checker {
+    fn default() -> Self {
+        let mut random = Random::new(0, 0);
+        Checker {
+            rooms: Rooms {
+                pattern: (0..STORE + 2 * GUARD + 251).map(|_| random.next() as u8).collect(),
+                store: vec![0; STORE + 2 * GUARD],
+                probes: 0,
+            },
+            written: vec![0; open_panel::WRITE_ROOM],
+            reduced: vec![0; open_panel::REDUCE_ROOM],
+            shown: vec![0; open_panel::SHOW_ROOM],
+            surrounded: Vec::new(),
+        }
+    }
+}
+
+impl Checker {
+    /// Asks both sides about an input.
+    pub fn check(&mut self, input: &Input, random: &mut Random, tally: &mut Tally) -> Result<(), Fault> {
+        let kind = input.kind;
+        // Behind the card stand bytes that would change it, were they read.
+        self.surrounded.clear();
+        self.surrounded.extend([b'9'; GUARD]);
+        self.surrounded.extend(&input.card);
+        self.surrounded.extend([random.pick(b"0s/=_ \n."); GUARD]);
+        let surrounded = std::mem::take(&mut self.surrounded);
+        let card = &surrounded[GUARD..GUARD + input.card.len()];
+
+        let judged = baseline::judge(card);
+        let answer = open_panel::judge(card);
+        let expected = judged.as_ref().map(|_| ()).map_err(|refusal| *refusal);
+        if answer.map_err(|refusal| Refusal::new(refusal.number(), refusal.place())) != expected {
+            return Err(format!("judge: the library says {answer:?}, the baseline {expected:?}"));
+        }
+        if input.model.is_some() && expected.is_err() {
+            return Err(format!("a card made to be valid is refused: {expected:?}"));
+        }
+
+        let written = baseline::write(card, &mut self.written);
+        let reduced = baseline::reduce(card, &mut self.reduced);
+        let shown = baseline::panel(card, &input.seats, &mut self.shown);
+        let written = written.map(|length| &self.written[..length]);
+        let reduced = reduced.map(|length| &self.reduced[..length]);
+        let shown = shown.map(|length| &self.shown[..length]);
+        for refusal in [written.err(), reduced.err(), shown.err()].into_iter().flatten() {
+            if refusal.number == 10 {
+                return Err(format!("a room that is always enough was too small: {refusal}"));
+            }
+        }
+
+        tally.input(kind, judged.as_ref().err().or(shown.as_ref().err()));
+        let rooms = &mut self.rooms;
+        for (what, expected) in [("write", written), ("reduce", reduced), ("show", shown)] {
+            let lengths = room_lengths(expected.map(<[u8]>::len).ok(), random);
+            for length in lengths.into_iter().flatten() {
+                tally.room(expected.map(<[u8]>::len).ok(), length);
+                rooms.probe(what, expected, length, |room| match what {
+                    "write" => open_panel::write(card, room),
+                    "reduce" => open_panel::reduce(card, room),
+                    _ => open_panel::show(card, &input.seats, room),
+                })?;
+            }
+        }
+
+        if let (Ok(read), Ok(written)) = (&judged, written) {
+            tally.groups(read);
+            if written.len() <= open_panel::CARD_BYTES {
+                tally.reread += 1;
+                if let Err(refusal) = open_panel::judge(written) {
+                    return Err(format!("the written card is refused: {refusal}"));
+                }
+                let length = written.len();
+                rooms.probe("the written card, written", Ok(written), length, |room| {
+                    open_panel::write(written, room)
+                })?;
+                if random.once_in(4) {
+                    let length = open_panel::REDUCE_ROOM;
+                    rooms.probe("the written card, reduced", reduced, length, |room| {
+                        open_panel::reduce(written, room)
+                    })?;
+                    rooms.probe("the written card, shown", shown, open_panel::SHOW_ROOM, |room| {
+                        open_panel::show(written, &input.seats, room)
+                    })?;
+                }
+            } else {
+                tally.too_long_written += 1;
+            }
+        }
+        if let Ok(shown) = shown {
+            adds_up(shown)?;
+            let mut seats = input.seats.clone();
+            random.shuffle(&mut seats);
+            tally.reordered += 1;
+            rooms.probe("the seats in another order", Ok(shown), shown.len() + 3, |room| {
+                open_panel::show(card, &seats, room)
+            })?;
+        }
+        if let (Kind::Small, Some(model), Ok(reduced)) = (kind, &input.model, reduced) {
+            let reduced = Reduced::read(reduced).ok_or("the reduced text cannot be read")?;
+            starts_right(model, &reduced)?;
+            for seats in all_seatings(model.seats, model.top) {
+                tally.seatings += 1;
+                same_steps(model, &seats, &reduced)?;
+                let panel = by_seats::panel(model, &seats);
+                rooms.probe("the panel by seats", Ok(panel.as_bytes()), panel.len() + 7, |room| {
+                    open_panel::show(card, &seats, room)
+                })?;
+            }
+            tally.small += 1;
+        }
+        let rest = &surrounded[GUARD + input.card.len()..];
+        if card != input.card || surrounded[..GUARD] != [b'9'; GUARD] || rest.iter().any(|byte| *byte != rest[0]) {
+            return Err("the card was written".to_owned());
+        }
+        self.surrounded = surrounded;
+        Ok(())
+    }
+}
+
+/// The rooms to try: one that just fits, one that is a byte short, a larger one; for a refusal any one.
+fn room_lengths(text: Option<usize>, random: &mut Random) -> [Option<usize>; 4] {
+    match text {
+        Some(length) => [
+            Some(length),
+            length.checked_sub(1),
+            Some(length + random.between(1, 200)),
+            random.once_in(8).then(|| random.below(length.max(1))),
+        ],
+        None => {
+            let length = if random.once_in(8) { 20_000 } else { 400 };
+            [Some(random.below(length)), None, None, None]
+        }
+    }
+}
+
+/// The weights on a panel: one unit for each pair that may be taken, or in each choice.
+fn adds_up(panel: &[u8]) -> Result<(), Fault> {
+    let panel = String::from_utf8_lossy(panel);
+    let mut sums = Vec::new();
+    let mut enabled = 0;
+    let mut chooses = false;
+    for line in panel.lines() {
+        let words: Vec<&str> = line.split(' ').collect();
+        match words[..] {
+            ["probabilistic"] => sums.push(0),
+            ["nondeterministic"] => chooses = true,
+            ["seats", _, "enabled", number] => enabled = number.parse().map_err(|_| "no number")?,
+            ["counts", ..] => {}
+            ["choice", _] => sums.push(0),
+            ["stay", weight] | ["move", _, _, weight] => {
+                *sums.last_mut().ok_or("a weight under no choice")? += weight.parse::<u64>().map_err(|_| "no weight")?;
+            }
+            _ => return Err(format!("a line that no panel has: {line}")),
+        }
+    }
+    let unit = u64::from(UNIT);
+    let right = if chooses {
+        sums.len() as u64 == enabled && sums.iter().all(|sum| *sum == unit)
+    } else {
+        sums == [enabled * unit]
+    };
+    right.then_some(()).ok_or_else(|| format!("the weights do not add up:\n{panel}"))
+}
+
+/// The reduced program starts at the counts of the card's own start.
+fn starts_right(model: &Model, reduced: &Reduced) -> Result<(), Fault> {
+    let start = by_seats::counts(&vec![model.start as u8; model.seats], model.top);
+    let copies = if model.probabilistic { model.seats } else { 1 };
+    let right = reduced.start == start
+        && reduced.most.iter().all(|most| *most == model.seats as u64)
+        && reduced.statements() == model.statements.len() * copies;
+    right.then_some(()).ok_or_else(|| "the reduced program starts wrong".to_owned())
+}
+
+/// Demand 3 at one seating: the reduced program leads where the seats lead, with the same weights.
+fn same_steps(model: &Model, seats: &[u8], reduced: &Reduced) -> Result<(), Fault> {
+    let steps = by_seats::steps(model, seats);
+    let counts = by_seats::counts(seats, model.top);
+    let wrong = || format!("at {seats:?} the reduced program does not do what the seats do");
+    if model.probabilistic {
+        let mut of_seats = by_seats::Weights::new();
+        for step in &steps {
+            for (next, weight) in by_seats::by_counts(&step.after, model.top) {
+                *of_seats.entry(next).or_default() += weight;
+            }
+        }
+        let mut of_counts = by_seats::Weights::new();
+        for statement in 0..reduced.statements() {
+            for (next, weight) in reduced.steps(statement, &counts).into_iter().flatten() {
+                *of_counts.entry(next).or_default() += weight;
+            }
+        }
+        return (of_seats == of_counts).then_some(()).ok_or_else(wrong);
+    }
+    for statement in 0..model.statements.len() {
+        let of_counts = reduced.steps(statement, &counts);
+        let mut of_seats = steps.iter().filter(|step| step.statement == statement).peekable();
+        let same = match &of_counts {
+            None => of_seats.peek().is_none(),
+            Some(after) => {
+                of_seats.peek().is_some() && of_seats.all(|step| by_seats::by_counts(&step.after, model.top) == *after)
+            }
+        };
+        same.then_some(()).ok_or_else(wrong)?;
+    }
+    Ok(())
+}

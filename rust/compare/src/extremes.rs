@@ -1,0 +1,175 @@
+//! The largest cards and texts.
+
+use crate::cards::limits::{BRANCHES, CARD_BYTES, NODES, SEATS, STATEMENTS, TOP};
+use crate::inputs::{Input, Kind};
+use crate::marks::{lay_out, Layout, Mark};
+use crate::model::{row_nodes, Branch, Expression, Group, Literal, Model, Statement, Unary};
+use crate::random::Random;
+use crate::weights::fraction;
+
+/// A card with its name and a seating.
+pub struct Extreme {
+    /// What it is the largest of.
+    pub name: &'static str,
+    /// The card and the seating.
+    pub input: Input,
+}
+
+/// The card whose written form is the longest known, the one whose reduced text is, and the one whose panel is.
+pub fn extremes() -> [Extreme; 3] {
+    [longest_written(), longest_reduced(), longest_panel()]
+}
+
+fn extreme(name: &'static str, model: Model, seats: Vec<u8>) -> Extreme {
+    let card = lay_out(&model.marks(), Layout::Tight, &mut Random::new(0, 0));
+    assert!(card.len() <= CARD_BYTES, "{name}: {} bytes", card.len());
+    Extreme {
+        name,
+        input: Input {
+            kind: Kind::Valid,
+            card,
+            seats,
+            model: Some(model),
+        },
+    }
+}
+
+/// How long a card is at least.
+fn length(model: &Model) -> usize {
+    lay_out(&model.marks(), Layout::Tight, &mut Random::new(0, 0)).len()
+}
+
+fn everyone(seats: usize, any: bool) -> Unary {
+    Unary::Group(Group {
+        any,
+        literals: (1..=seats)
+            .map(|seat| Literal {
+                seat,
+                differs: false,
+                state: 0,
+            })
+            .collect(),
+    })
+}
+
+fn weighted(weights: Vec<(u32, Vec<Mark>)>, end: impl Fn(usize) -> usize) -> Vec<Branch> {
+    let weights = weights.into_iter().enumerate();
+    weights
+        .map(|(place, (units, weight))| Branch {
+            units,
+            weight,
+            end: end(place),
+        })
+        .collect()
+}
+
+/// Numerators whose fractions in lowest terms are the longest that sum to one.
+fn long_weights() -> Vec<(u32, Vec<Mark>)> {
+    let above = [10_001, 10_001, 1_003, 1_003, 1_003, 1_003, 1_007, 179];
+    let above = above.iter();
+    above.map(|above| (*above, fraction(*above, 25_200))).collect()
+}
+
+/// Decimals that become longer as fractions.
+fn long_decimals() -> Vec<(u32, Vec<Mark>)> {
+    let hundredths = [11, 11, 11, 11, 13, 13, 13, 17];
+    hundredths
+        .iter()
+        .map(|hundredths| (hundredths * 252, vec![Mark::new(format!("0.{hundredths}").as_bytes())]))
+        .collect()
+}
+
+/// Every group of nine seats gets two blanks for each sign: nothing else on a card grows as much.
+fn longest_written() -> Extreme {
+    let mut model = Model {
+        probabilistic: true,
+        seats: 9,
+        top: TOP,
+        start: 0,
+        statements: Vec::new(),
+    };
+    let plain = Statement {
+        own: 0,
+        guard: Vec::new(),
+        branches: weighted(vec![(25_200, vec![Mark::number(1)])], |_| 0),
+    };
+    let full = Statement {
+        guard: vec![everyone(9, true); NODES / 2],
+        ..plain.clone()
+    };
+    model.statements = vec![plain; STATEMENTS];
+    for place in 0..STATEMENTS {
+        let last = std::mem::replace(&mut model.statements[place], full.clone());
+        while length(&model) > CARD_BYTES && model.statements[place].guard.pop().is_some() {}
+        if model.statements[place].guard.is_empty() {
+            model.statements[place] = last;
+            break;
+        }
+    }
+    for place in (0..STATEMENTS).rev() {
+        let last = std::mem::replace(
+            &mut model.statements[place].branches,
+            weighted(long_decimals(), |_| 0),
+        );
+        if length(&model) > CARD_BYTES {
+            model.statements[place].branches = last;
+        }
+    }
+    extreme("longest written form", model, vec![0; 9])
+}
+
+/// Sixteen copies of each statement, each branch with its update; then as much guard as the card has room for.
+fn longest_reduced() -> Extreme {
+    let statement = Statement {
+        own: 0,
+        guard: Vec::new(),
+        branches: weighted(long_weights(), |_| 1),
+    };
+    let mut model = Model {
+        probabilistic: true,
+        seats: SEATS,
+        top: TOP,
+        start: 0,
+        statements: vec![statement; STATEMENTS],
+    };
+    'filled: loop {
+        for place in 0..STATEMENTS {
+            let others = {
+                let Unary::Group(mut group) = everyone(SEATS, false) else { unreachable!() };
+                group.literals.remove(0);
+                (0..8).fold(Unary::Group(group), |unary, _| Unary::Not(Box::new(unary)))
+            };
+            model.statements[place].guard.push(others);
+            while row_nodes(&model.statements[place].guard) > NODES || length(&model) > CARD_BYTES {
+                // Fewer `!`, then none of it.
+                match model.statements[place].guard.pop() {
+                    Some(Unary::Not(inner)) => model.statements[place].guard.push(*inner),
+                    _ => break 'filled,
+                }
+            }
+        }
+    }
+    extreme("longest reduced text", model, vec![0; SEATS])
+}
+
+/// Every statement is a choice, with all eight ends and long weights.
+fn longest_panel() -> Extreme {
+    let nested = (0..7).fold(everyone(SEATS, true), |unary, _| {
+        Unary::Bracket(Expression(vec![vec![unary]]))
+    });
+    let statement = Statement {
+        own: 0,
+        guard: vec![nested],
+        branches: weighted(long_weights(), |place| place % BRANCHES),
+    };
+    let model = Model {
+        probabilistic: false,
+        seats: SEATS,
+        top: TOP,
+        start: 0,
+        statements: vec![statement; STATEMENTS],
+    };
+    let mut seats = vec![0; 10];
+    seats.extend([1, 2, 3, 4, 5, 6]);
+    extreme("longest panel", model, seats)
+}

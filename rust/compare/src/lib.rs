@@ -1,0 +1,22 @@
+//! The verified library against the baseline.
+//!
+//! Cards and seatings are made from a seed: valid ones over the whole range of
+//! the limits, ones that just pass a limit, and damaged ones. Both sides are
+//! asked about each, in rooms that just fit, that are one byte short and that
+//! are larger; answers, texts and every byte around them have to agree. On
+//! small tables both are held to the steps of the seats themselves
+//! ([`by_seats`]), which no counting has touched.
+
+pub mod by_seats;
+pub mod cards;
+pub mod check;
+pub mod damage;
+pub mod extremes;
+pub mod inputs;
+pub mod marks;
+pub mod model;
+pub mod random;
+pub mod reduced;
+pub mod tally;
+pub mod vectors;
+pub mod weights;

@@ -1,0 +1,170 @@
+//! What a run has tried, and what it must have tried at least.
+
+use std::fmt;
+
+use baseline::{Card, Mode, Node, Refusal};
+
+use crate::inputs::Kind;
+
+/// Inputs of a run that the minima below are for.
+pub const INPUTS: u64 = 100_000;
+/// Times that each refusal is given.
+const EACH_REFUSAL: u64 = 500;
+/// Times that each place of the table stands on an accepted card, in each mode.
+const EACH_PLACE: u64 = 1_000;
+/// Small tables of which every seating is tried.
+const SMALL: u64 = 2_000;
+/// Cards whose written form is too long for a card.
+const TOO_LONG_WRITTEN: u64 = 5;
+
+/// The rows of document 01's table, as a group has them: joined by `|`, says `!=`.
+const ROWS: [(&str, bool, bool); 4] = [
+    ("all =d", false, false),
+    ("some =d", true, false),
+    ("all !=d", false, true),
+    ("some !=d", true, true),
+];
+const COLUMNS: [&str; 3] = ["everyone", "others, d=j", "others, d not j"];
+
+/// What a run has tried.
+#[derive(Default)]
+pub struct Tally {
+    kinds: [[u64; 10]; Kind::SHARES.len()],
+    rooms: [u64; 4],
+    places: [[[u64; 3]; 4]; 2],
+    /// Written cards that were read again.
+    pub reread: u64,
+    /// Written cards that are too long for that.
+    pub too_long_written: u64,
+    /// Panels of reordered seats.
+    pub reordered: u64,
+    /// Small tables.
+    pub small: u64,
+    /// Their seatings.
+    pub seatings: u64,
+}
+
+impl Tally {
+    pub(crate) fn input(&mut self, kind: Kind, refusal: Option<&Refusal>) {
+        let place = Kind::SHARES.iter().position(|(other, _)| *other == kind);
+        let number = refusal.map_or(0, |refusal| refusal.number);
+        self.kinds[place.expect("every kind has a share")][usize::from(number)] += 1;
+    }
+
+    pub(crate) fn room(&mut self, text: Option<usize>, room: usize) {
+        let fit = match text {
+            None => 3,
+            Some(text) if text > room => 0,
+            Some(text) if text == room => 1,
+            Some(_) => 2,
+        };
+        self.rooms[fit] += 1;
+    }
+
+    pub(crate) fn groups(&mut self, card: &Card) {
+        let mode = usize::from(card.mode() == Mode::Probabilistic);
+        for statement in card.statements() {
+            for node in card.guard(statement) {
+                let Node::Group(group) = node else { continue };
+                let row = ROWS.iter().position(|(_, any, differs)| (*any, *differs) == (group.any, group.differs));
+                let column = match (group.everyone, group.state == statement.own) {
+                    (true, _) => 0,
+                    (false, true) => 1,
+                    (false, false) => 2,
+                };
+                self.places[mode][row.expect("the rows are all")][column] += 1;
+            }
+        }
+    }
+
+    /// Adds what another has tried.
+    pub fn add(&mut self, other: &Tally) {
+        let sum = |mine: &mut [u64], others: &[u64]| {
+            for (mine, other) in mine.iter_mut().zip(others) {
+                *mine += other;
+            }
+        };
+        sum(self.kinds.as_flattened_mut(), other.kinds.as_flattened());
+        sum(&mut self.rooms, &other.rooms);
+        sum(
+            self.places.as_flattened_mut().as_flattened_mut(),
+            other.places.as_flattened().as_flattened(),
+        );
+        self.reread += other.reread;
+        self.too_long_written += other.too_long_written;
+        self.reordered += other.reordered;
+        self.small += other.small;
+        self.seatings += other.seatings;
+    }
+
+    /// How many inputs there were.
+    pub fn inputs(&self) -> u64 {
+        self.kinds.as_flattened().iter().sum()
+    }
+
+    /// How many inputs were given this refusal, or a text for 0.
+    fn answered(&self, number: usize) -> u64 {
+        match number {
+            10 => self.rooms[0],
+            _ => self.kinds.iter().map(|kind| kind[number]).sum(),
+        }
+    }
+
+    /// What was tried too seldom, in words.
+    pub fn shortfalls(&self) -> Vec<String> {
+        let mut shortfalls = Vec::new();
+        let mut least = |what: &str, count: u64, least: u64| {
+            if count < least {
+                shortfalls.push(format!("{what}: {count}, not {least}"));
+            }
+        };
+        least("inputs", self.inputs(), INPUTS);
+        least("accepted", self.answered(0), self.inputs().div_ceil(3));
+        for number in 1..=10 {
+            least(&format!("refusal {number}"), self.answered(number), EACH_REFUSAL);
+        }
+        for (mode, places) in ["nondeterministic", "probabilistic"].iter().zip(&self.places) {
+            for ((row, ..), places) in ROWS.iter().zip(places) {
+                for (column, count) in COLUMNS.iter().zip(places) {
+                    least(&format!("{mode}, {row}, {column}"), *count, EACH_PLACE);
+                }
+            }
+        }
+        for (fit, count) in ["short", "exact", "larger"].iter().zip(self.rooms) {
+            least(&format!("rooms, {fit}"), count, INPUTS / 2);
+        }
+        least("small tables", self.small, SMALL);
+        least("written forms too long for a card", self.too_long_written, TOO_LONG_WRITTEN);
+        shortfalls
+    }
+}
+
+impl fmt::Display for Tally {
+    fn fmt(&self, f: &mut fmt::Formatter<'_>) -> fmt::Result {
+        writeln!(f, "{:<12}{:>8}{:>9}  refused 1 to 9", "inputs", "", "accepted")?;
+        for ((kind, _), counts) in Kind::SHARES.iter().zip(&self.kinds) {
+            let name = format!("{kind:?}");
+            write!(f, "{name:<12}{:>8}{:>9} ", counts.iter().sum::<u64>(), counts[0])?;
+            counts[1..].iter().try_for_each(|count| write!(f, "{count:>7}"))?;
+            writeln!(f)?;
+        }
+        write!(f, "{:<12}{:>8}{:>9} ", "all", self.inputs(), self.answered(0))?;
+        (1..10).try_for_each(|number| write!(f, "{:>7}", self.answered(number)))?;
+        let [short, exact, larger, refused] = self.rooms;
+        writeln!(f, "\nrooms       short (10) {short}, exact {exact}, larger {larger}, refused {refused}")?;
+        for (mode, places) in ["nondeterministic", "probabilistic"].iter().zip(&self.places) {
+            for ((row, ..), places) in ROWS.iter().zip(places) {
+                write!(f, "{mode:<18}{row:<10}")?;
+                let mut columns = COLUMNS.iter().zip(places);
+                columns.try_for_each(|(column, count)| write!(f, "{column} {count}  "))?;
+                writeln!(f)?;
+            }
+        }
+        writeln!(
+            f,
+            "written and read again {}, too long for that {}; seats reordered {}",
+            self.reread, self.too_long_written, self.reordered
+        )?;
+        write!(f, "small tables {} with {} seatings", self.small, self.seatings)
+    }
+}

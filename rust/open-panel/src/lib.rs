@@ -1,0 +1,110 @@
+//! The open panel for Rust: rule cards are judged, written, reduced to
+//! counters, and shown, by the verified library.
+//!
+//! Every entry takes the card as bytes and judges it first. A text goes into a
+//! room that the caller lends: an entry answers the text's length, and leaves
+//! the room behind it as it was; a [`Refusal`] leaves the whole room as it was.
+//! The functions that end in `_to_vec` bring their own room.
+//!
+//! ```
+//! let card = b"nondeterministic module process1 s1 : [0..1] init 0;
+//!     [] s1=0 -> 1:(s1'=1); endmodule";
+//! let mut room = [0; open_panel::SHOW_ROOM];
+//! let length = open_panel::show(card, &[0], &mut room)?;
+//! assert_eq!(
+//!     &room[..length],
+//!     b"nondeterministic\nseats 1 enabled 1\ncounts 1 0\nchoice 1\nmove 0 1 25200\n"
+//! );
+//! # Ok::<(), open_panel::Refusal>(())
+//! ```
+
+mod refusal;
+
+#[cfg(open_panel_bridge)]
+#[path = "bridge.rs"]
+mod library;
+#[cfg(not(open_panel_bridge))]
+#[path = "linked.rs"]
+mod library;
+
+pub use refusal::Refusal;
+
+/// Longest card, in bytes.
+pub const CARD_BYTES: usize = 16_384;
+/// Most seats at a table.
+pub const SEATS: usize = 16;
+/// Highest state of a seat on any card.
+pub const TOP_STATE: u8 = 7;
+/// A room in which every written card fits.
+pub const WRITE_ROOM: usize = 24_576;
+/// A room in which every reduced program fits.
+pub const REDUCE_ROOM: usize = 270_336;
+/// A room in which every panel fits.
+pub const SHOW_ROOM: usize = 4_096;
+
+/// What the library answers: number 0 and a length, or a refusal and its place.
+#[repr(C)]
+struct Answer {
+    number: u8,
+    value: usize,
+}
+
+impl Answer {
+    fn into_result(self) -> Result<usize, Refusal> {
+        match self.number {
+            0 => Ok(self.value),
+            number => Err(Refusal::new(number, self.value).expect("the library refuses by 1 to 10")),
+        }
+    }
+}
+
+/// Says whether a card is taken. Refusals: 1 to 7.
+pub fn judge(card: &[u8]) -> Result<(), Refusal> {
+    library::judge(card).into_result().map(|_| ())
+}
+
+/// Puts the card's one written form into a lent room. Refusals: 1 to 7, and 10.
+pub fn write(card: &[u8], room: &mut [u8]) -> Result<usize, Refusal> {
+    library::write(card, room).into_result()
+}
+
+/// Puts the reduced program, counters in place of seats, into a lent room. Refusals: 1 to 7, and 10.
+pub fn reduce(card: &[u8], room: &mut [u8]) -> Result<usize, Refusal> {
+    library::reduce(card, room).into_result()
+}
+
+/// Puts the panel of a seating, a state for each seat, into a lent room. Refusals: 1 to 10.
+pub fn show(card: &[u8], seats: &[u8], room: &mut [u8]) -> Result<usize, Refusal> {
+    library::show(card, seats, room).into_result()
+}
+
+/// The card's one written form. Refusals: 1 to 7.
+pub fn write_to_vec(card: &[u8]) -> Result<Vec<u8>, Refusal> {
+    in_own_room(|room| write(card, room))
+}
+
+/// The reduced program. Refusals: 1 to 7.
+pub fn reduce_to_vec(card: &[u8]) -> Result<Vec<u8>, Refusal> {
+    in_own_room(|room| reduce(card, room))
+}
+
+/// The panel of a seating. Refusals: 1 to 9.
+pub fn show_to_vec(card: &[u8], seats: &[u8]) -> Result<Vec<u8>, Refusal> {
+    in_own_room(|room| show(card, seats, room))
+}
+
+/// Asks for the length first, by a room that holds nothing, then for the text.
+fn in_own_room(
+    entry: impl Fn(&mut [u8]) -> Result<usize, Refusal>,
+) -> Result<Vec<u8>, Refusal> {
+    match entry(&mut []) {
+        Err(Refusal::Room { needed }) => {
+            let mut text = vec![0; needed];
+            let length = entry(&mut text)?;
+            text.truncate(length);
+            Ok(text)
+        }
+        Err(refusal) => Err(refusal),
+        Ok(_) => Ok(Vec::new()),
+    }
+}

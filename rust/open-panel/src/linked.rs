@@ -1,0 +1,60 @@
+//! The library's own entries. `include/open_panel.h` says what each asks for.
+#![allow(unsafe_code)]
+
+use crate::Answer;
+
+extern "C" {
+    fn open_panel_judge(card: *const u8, card_len: usize) -> Answer;
+    fn open_panel_write(
+        card: *const u8,
+        card_len: usize,
+        room: *mut u8,
+        room_len: usize,
+    ) -> Answer;
+    fn open_panel_reduce(
+        card: *const u8,
+        card_len: usize,
+        room: *mut u8,
+        room_len: usize,
+    ) -> Answer;
+    fn open_panel_show(
+        card: *const u8,
+        card_len: usize,
+        seats: *const u8,
+        seats_len: usize,
+        room: *mut u8,
+        room_len: usize,
+    ) -> Answer;
+}
+
+// The library asks for nothing but pieces of memory, of which the room is its
+// alone while it runs: slices are that.
+
+pub(crate) fn judge(card: &[u8]) -> Answer {
+    // SAFETY: as above.
+    unsafe { open_panel_judge(card.as_ptr(), card.len()) }
+}
+
+pub(crate) fn write(card: &[u8], room: &mut [u8]) -> Answer {
+    // SAFETY: as above.
+    unsafe { open_panel_write(card.as_ptr(), card.len(), room.as_mut_ptr(), room.len()) }
+}
+
+pub(crate) fn reduce(card: &[u8], room: &mut [u8]) -> Answer {
+    // SAFETY: as above.
+    unsafe { open_panel_reduce(card.as_ptr(), card.len(), room.as_mut_ptr(), room.len()) }
+}
+
+pub(crate) fn show(card: &[u8], seats: &[u8], room: &mut [u8]) -> Answer {
+    // SAFETY: as above.
+    unsafe {
+        open_panel_show(
+            card.as_ptr(),
+            card.len(),
+            seats.as_ptr(),
+            seats.len(),
+            room.as_mut_ptr(),
+            room.len(),
+        )
+    }
+}

@@ -1,0 +1,134 @@
+//! Why a card, a seating or a room is turned down, and where.
+
+use std::fmt;
+
+/// A refusal. Its [`number`](Refusal::number) and [`place`](Refusal::place)
+/// are document 01's; where it stands `at` something, that is a byte of the card, from 0.
+#[derive(Clone, Copy, PartialEq, Eq, Hash, Debug)]
+pub enum Refusal {
+    /// 1: the card is longer than [`CARD_BYTES`](crate::CARD_BYTES).
+    Long,
+    /// 2: a mark outside the rules, or one with too many digits.
+    Mark {
+        /// Where it starts.
+        at: usize,
+    },
+    /// 3: a mark that cannot stand there, or a card that ends early.
+    Shape {
+        /// Where the mark starts, or the card's length.
+        at: usize,
+    },
+    /// 4: too many seats, statements, branches, guard nodes, or open brackets and `!`; a top state above 7.
+    Limit {
+        /// Where what is too much starts.
+        at: usize,
+    },
+    /// 5: a state above the top state.
+    State {
+        /// Where its number starts.
+        at: usize,
+    },
+    /// 6: not the seat word or module word that is due, or a group that is not symmetric.
+    Word {
+        /// Where the word starts, or the group's bracket.
+        at: usize,
+    },
+    /// 7: something that is no weight, or a statement whose weights do not sum to one.
+    Weight {
+        /// Where the weight starts, or the statement's `;`.
+        at: usize,
+    },
+    /// 8: not as many seats as the card has.
+    SeatCount,
+    /// 9: a seat above the top state.
+    SeatState {
+        /// The first such seat, from 0.
+        seat: usize,
+    },
+    /// 10: the text is longer than the room.
+    Room {
+        /// The text's length.
+        needed: usize,
+    },
+}
+
+impl Refusal {
+    /// The refusal of this number, 1 to 10, at this place.
+    pub const fn new(number: u8, place: usize) -> Option<Refusal> {
+        Some(match number {
+            1 => Refusal::Long,
+            2 => Refusal::Mark { at: place },
+            3 => Refusal::Shape { at: place },
+            4 => Refusal::Limit { at: place },
+            5 => Refusal::State { at: place },
+            6 => Refusal::Word { at: place },
+            7 => Refusal::Weight { at: place },
+            8 => Refusal::SeatCount,
+            9 => Refusal::SeatState { seat: place },
+            10 => Refusal::Room { needed: place },
+            _ => return None,
+        })
+    }
+
+    /// Its number, 1 to 10.
+    pub const fn number(&self) -> u8 {
+        match self {
+            Refusal::Long => 1,
+            Refusal::Mark { .. } => 2,
+            Refusal::Shape { .. } => 3,
+            Refusal::Limit { .. } => 4,
+            Refusal::State { .. } => 5,
+            Refusal::Word { .. } => 6,
+            Refusal::Weight { .. } => 7,
+            Refusal::SeatCount => 8,
+            Refusal::SeatState { .. } => 9,
+            Refusal::Room { .. } => 10,
+        }
+    }
+
+    /// Its place: a byte of the card, a seat, a length, or 0.
+    pub const fn place(&self) -> usize {
+        match *self {
+            Refusal::Long | Refusal::SeatCount => 0,
+            Refusal::Mark { at }
+            | Refusal::Shape { at }
+            | Refusal::Limit { at }
+            | Refusal::State { at }
+            | Refusal::Word { at }
+            | Refusal::Weight { at } => at,
+            Refusal::SeatState { seat } => seat,
+            Refusal::Room { needed } => needed,
+        }
+    }
+
+    /// Line and column, both from 1, of a refusal that stands at a byte of this card.
+    pub fn line_and_column(&self, card: &[u8]) -> Option<(usize, usize)> {
+        if !matches!(self.number(), 2..=7) {
+            return None;
+        }
+        let before = card.get(..self.place())?;
+        let line = before.iter().filter(|&&byte| byte == b'\n').count();
+        let column = before.iter().rev().take_while(|&&byte| byte != b'\n').count();
+        Some((line + 1, column + 1))
+    }
+}
+
+impl fmt::Display for Refusal {
+    fn fmt(&self, f: &mut fmt::Formatter<'_>) -> fmt::Result {
+        match *self {
+            Refusal::Long => write!(f, "the card is longer than {} bytes", crate::CARD_BYTES),
+            Refusal::Mark { at } => write!(f, "byte {at}: no mark of a card, or too many digits"),
+            Refusal::Shape { at } => write!(f, "byte {at}: this cannot stand here, or the card ends early"),
+            Refusal::Limit { at } => write!(f, "byte {at}: one more than a card may have"),
+            Refusal::State { at } => write!(f, "byte {at}: a state above the card's top state"),
+            Refusal::Word { at } => write!(f, "byte {at}: not the seat or module due, or a group that is not symmetric"),
+            Refusal::Weight { at } => write!(f, "byte {at}: not a weight, or weights that do not sum to 1"),
+            Refusal::SeatCount => write!(f, "not as many seats as the card has"),
+            Refusal::SeatState { seat } => write!(f, "seat {seat} (from 0) is above the card's top state"),
+            Refusal::Room { needed } => write!(f, "the room is too small: the text has {needed} bytes"),
+        }?;
+        write!(f, " (refusal {})", self.number())
+    }
+}
+
+impl std::error::Error for Refusal {}

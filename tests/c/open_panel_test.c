@@ -1,0 +1,112 @@
+/* The header and the library from C: one card, every entry, both sides of the room. */
+#include <stdio.h>
+#include <string.h>
+
+#include "open_panel.h"
+
+static const char card_a[] =
+    "probabilistic\n"
+    "module process1\n"
+    "s1 : [0..2] init 0;\n"
+    "[] s1=0 & (s2=0 | s3=0) -> 1/2:(s1'=1) + 1/2:(s1'=2);\n"
+    "[] s1=1 & (s1!=2 & s2!=2 & s3!=2) -> 1/4:(s1'=2) + 3/4:(s1'=1);\n"
+    "endmodule\n"
+    "module process2 = process1 [s1=s2, s2=s1] endmodule\n"
+    "module process3 = process1 [s1=s3, s3=s1] endmodule\n";
+
+static const char panel_at_001[] =
+    "probabilistic\n"
+    "seats 3 enabled 3\n"
+    "counts 2 1 0\n"
+    "stay 18900\n"
+    "move 0 1 25200\n"
+    "move 0 2 25200\n"
+    "move 1 2 6300\n";
+
+static const char one_seat[] =
+    "nondeterministic module process1 s1 : [0..1] init 0;"
+    "[] s1=0 -> 1:(s1'=1); endmodule";
+
+static const char one_seat_reduced[] =
+    "nondeterministic\n"
+    "module generic_process\n"
+    "no_0 : [0..1] init 1;\n"
+    "no_1 : [0..1] init 0;\n"
+    "[] (no_0>0) -> 1:(no_0'=no_0-1) & (no_1'=min(no_1+1,1));\n"
+    "endmodule\n";
+
+enum { GUARD = 16, UNTOUCHED = 0xa5 };
+
+/* A room with bytes on both sides that nothing may touch. */
+static uint8_t store[GUARD + OPEN_PANEL_REDUCE_ROOM + GUARD];
+static uint8_t *const room = store + GUARD;
+
+static int failures;
+
+static void expect(int holds, const char *what) {
+    if (!holds) {
+        printf("failed: %s\n", what);
+        failures++;
+    }
+}
+
+/* Whether the answer is this one, and the text, with nothing else touched. */
+static void answers(open_panel_answer answer, unsigned number, size_t value, const char *text, const char *what) {
+    size_t length = strlen(text);
+    size_t i;
+    int untouched = 1;
+    expect(answer.number == number && answer.value == value, what);
+    expect(memcmp(room, text, length) == 0, what);
+    for (i = 0; i < sizeof store; i++) {
+        if ((i < GUARD || i >= GUARD + length) && store[i] != UNTOUCHED) {
+            untouched = 0;
+        }
+    }
+    expect(untouched, what);
+    memset(store, UNTOUCHED, sizeof store);
+}
+
+static const uint8_t *bytes(const char *text) {
+    return (const uint8_t *)text;
+}
+
+int main(void) {
+    const uint8_t seats_001[] = {0, 0, 1};
+    const uint8_t seats_034[] = {0, 3, 4};
+    const uint8_t *a = bytes(card_a);
+    const size_t a_len = sizeof card_a - 1;
+    const size_t panel_len = sizeof panel_at_001 - 1;
+    memset(store, UNTOUCHED, sizeof store);
+
+    answers(open_panel_judge(a, a_len), OPEN_PANEL_TAKEN, 0, "", "judge takes card A");
+    answers(open_panel_judge(a, a_len - 1), OPEN_PANEL_TAKEN, 0, "", "judge takes card A without its last LF");
+    answers(open_panel_judge(a, a_len - 2), OPEN_PANEL_SHAPE, a_len - 10, "", "judge refuses a word cut short");
+    answers(open_panel_judge(NULL, 0), OPEN_PANEL_SHAPE, 0, "", "judge refuses the empty card");
+
+    answers(open_panel_write(a, a_len, room, OPEN_PANEL_WRITE_ROOM), OPEN_PANEL_TAKEN, a_len, card_a,
+            "card A is its own written form");
+    answers(open_panel_write(a, a_len, room, a_len), OPEN_PANEL_TAKEN, a_len, card_a, "a room that just fits");
+    answers(open_panel_write(a, a_len, room, a_len - 1), OPEN_PANEL_ROOM, a_len, "", "a room one byte short");
+    answers(open_panel_write(a, a_len, NULL, 0), OPEN_PANEL_ROOM, a_len, "", "no room at all");
+    answers(open_panel_write(NULL, 0, room, GUARD), OPEN_PANEL_SHAPE, 0, "", "no card at all");
+
+    answers(open_panel_reduce(bytes(one_seat), sizeof one_seat - 1, room, OPEN_PANEL_REDUCE_ROOM), OPEN_PANEL_TAKEN,
+            sizeof one_seat_reduced - 1, one_seat_reduced, "the one-seat card, reduced");
+    answers(open_panel_reduce(bytes(one_seat), sizeof one_seat - 1, NULL, 0), OPEN_PANEL_ROOM,
+            sizeof one_seat_reduced - 1, "", "the length of a reduced text");
+
+    answers(open_panel_show(a, a_len, seats_001, 3, room, OPEN_PANEL_SHOW_ROOM), OPEN_PANEL_TAKEN, panel_len,
+            panel_at_001, "the panel of card A at 001");
+    answers(open_panel_show(a, a_len, seats_001, 3, room, panel_len - 1), OPEN_PANEL_ROOM, panel_len, "",
+            "a panel in a room one byte short");
+    answers(open_panel_show(a, a_len, seats_001, 2, room, OPEN_PANEL_SHOW_ROOM), OPEN_PANEL_SEAT_COUNT, 0, "",
+            "a seat missing");
+    answers(open_panel_show(a, a_len, NULL, 0, room, OPEN_PANEL_SHOW_ROOM), OPEN_PANEL_SEAT_COUNT, 0, "", "no seats");
+    answers(open_panel_show(a, a_len, seats_034, 3, room, OPEN_PANEL_SHOW_ROOM), OPEN_PANEL_SEAT_STATE, 1, "",
+            "a seat above the top state");
+
+    if (failures == 0) {
+        printf("open_panel.h: every answer as expected\n");
+    }
+    return failures != 0;
+}
