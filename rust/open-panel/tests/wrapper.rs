@@ -1,0 +1,76 @@
+//! The wrapper's own part: refusals as an enum, rooms of its own, the header's numbers.
+
+use open_panel::*;
+
+const CARD: &[u8] = b"nondeterministic\nmodule process1\ns1 : [0..1] init 0;\n[] s1=0 -> 1:(s1'=1);\nendmodule\n";
+
+#[test]
+fn texts_in_their_own_room() {
+    assert_eq!(judge(CARD), Ok(()));
+    assert_eq!(write_to_vec(CARD).as_deref(), Ok(CARD));
+    let reduced = reduce_to_vec(CARD).unwrap();
+    assert!(reduced.starts_with(b"nondeterministic\nmodule generic_process\nno_0 : [0..1] init 1;\n"));
+    let panel = b"nondeterministic\nseats 1 enabled 0\ncounts 0 1\n";
+    assert_eq!(show_to_vec(CARD, &[1]).as_deref(), Ok(&panel[..]));
+}
+
+#[test]
+fn refusals_have_number_place_and_words() {
+    let all = [
+        (1, 0, "the card is longer than 16384 bytes (refusal 1)"),
+        (2, 7, "byte 7: no mark of a card, or too many digits (refusal 2)"),
+        (3, 7, "byte 7: this cannot stand here, or the card ends early (refusal 3)"),
+        (4, 7, "byte 7: one more than a card may have (refusal 4)"),
+        (5, 7, "byte 7: a state above the card's top state (refusal 5)"),
+        (6, 7, "byte 7: not the seat or module due, or a group that is not symmetric (refusal 6)"),
+        (7, 7, "byte 7: not a weight, or weights that do not sum to 1 (refusal 7)"),
+        (8, 0, "not as many seats as the card has (refusal 8)"),
+        (9, 7, "seat 7 (from 0) is above the card's top state (refusal 9)"),
+        (10, 7, "the room is too small: the text has 7 bytes (refusal 10)"),
+    ];
+    for (number, place, words) in all {
+        let refusal = Refusal::new(number, place).unwrap();
+        assert_eq!((refusal.number(), refusal.place()), (number, place));
+        assert_eq!(refusal.to_string(), words);
+    }
+    assert_eq!(Refusal::new(0, 0), None);
+    assert_eq!(Refusal::new(11, 0), None);
+}
+
+#[test]
+fn refusals_of_every_entry() {
+    let long = [b' '; CARD_BYTES + 1];
+    assert_eq!(judge(&long), Err(Refusal::Long));
+    assert_eq!(judge(b""), Err(Refusal::Shape { at: 0 }));
+    assert_eq!(write_to_vec(b"<"), Err(Refusal::Mark { at: 0 }));
+    assert_eq!(reduce_to_vec(b"module"), Err(Refusal::Shape { at: 0 }));
+    assert_eq!(show_to_vec(CARD, &[]), Err(Refusal::SeatCount));
+    assert_eq!(show_to_vec(CARD, &[2]), Err(Refusal::SeatState { seat: 0 }));
+    let needed = CARD.len();
+    assert_eq!(write(CARD, &mut [0; 3]), Err(Refusal::Room { needed }));
+}
+
+#[test]
+fn lines_and_columns() {
+    let wrong = b"nondeterministic\nmodule process1\ns1 : [0..8] init 0;";
+    let refusal = judge(wrong).unwrap_err();
+    assert_eq!(refusal, Refusal::Limit { at: 42 });
+    assert_eq!(refusal.line_and_column(wrong), Some((3, 10)));
+    assert_eq!(Refusal::SeatCount.line_and_column(wrong), None);
+}
+
+#[test]
+fn the_header_has_the_same_numbers() {
+    let header = include_str!("../../../include/open_panel.h");
+    for (name, number) in [
+        ("CARD_BYTES", CARD_BYTES),
+        ("SEATS", SEATS),
+        ("TOP_STATE", TOP_STATE.into()),
+        ("WRITE_ROOM", WRITE_ROOM),
+        ("REDUCE_ROOM", REDUCE_ROOM),
+        ("SHOW_ROOM", SHOW_ROOM),
+    ] {
+        let line = format!("#define OPEN_PANEL_{name} {number}\n");
+        assert!(header.contains(&line), "{line}");
+    }
+}
