@@ -18,6 +18,7 @@ esac
 tools=$(dirname "$(rt doc)")/../on/$(uname -m)/toolchain
 words='-Wall -Wextra -pedantic -Werror -std=c99 -D_POSIX_C_SOURCE=200809L -O1 -Iinclude'
 
+# On the plain processor the C library copies memory without string instructions, which an emulator does byte by byte.
 # c NAME: compiles tests/c/NAME.c with the library to target/c/NAME, which can be run.
 c() {
     if [ "$native" ]; then
@@ -32,7 +33,7 @@ c() {
         "$tools"/lib/{libc.so.6,libc_nonshared.a,libgcc.a,crtendS.o,crtn.o}
     cat >"target/c/$1" <<END
 #!/bin/sh
-exec "$tools/bin/qemu-x86_64" "$tools/lib/ld-linux-x86-64.so.2" --library-path "$tools/lib" "$here/target/c/$1.x86-64" "\$@"
+exec "$tools/bin/qemu-x86_64" -cpu qemu64 "$tools/lib/ld-linux-x86-64.so.2" --library-path "$tools/lib" "$here/target/c/$1.x86-64" "\$@"
 END
     chmod +x "target/c/$1"
 }

@@ -68,7 +68,7 @@ static void put_number(uint8_t *bytes, size_t value) {
 }
 
 int main(void) {
-    uint8_t head[4 * HEAD];
+    uint8_t head[4 * HEAD], behind[GUARD];
     uint8_t *store = NULL, *before = NULL;
     size_t held = 0;
     uint8_t guard = 0;
@@ -94,7 +94,10 @@ int main(void) {
         }
         /* Digits, letters and signs by turns, which would change a card if they were read. */
         guard = guard >= 'z' ? ' ' : (uint8_t)(guard + 1);
-        memset(store, guard, whole);
+        memset(store, guard, GUARD);
+        memset(store + GUARD + card_len, guard, GUARD);
+        memset(store + room_at - GUARD, guard, GUARD);
+        memset(store + room_at + room_len, guard, GUARD);
         /* A piece of no length has no place. */
         card = card_len == 0 ? NULL : store + GUARD;
         seats = seats_len == 0 ? NULL : store + 2 * GUARD + card_len;
@@ -103,7 +106,8 @@ int main(void) {
             !take(store + room_at, room_len)) {
             return 1;
         }
-        memcpy(before, store, whole);
+        memcpy(before, store, room_at);
+        memcpy(behind, store + room_at + room_len, GUARD);
         switch (entry) {
         case JUDGE:
             answer = open_panel_judge(card, card_len);
@@ -120,12 +124,11 @@ int main(void) {
         default:
             return 1;
         }
-        spoilt = memcmp(store, before, room_at) != 0 ||
-                 memcmp(store + room_at + room_len, before + room_at + room_len, GUARD) != 0;
-        put_number(before, spoilt ? SPOILT : answer.number);
-        put_number(before + HEAD, answer.value);
-        memcpy(before + 2 * HEAD, store + room_at, room_len);
-        give(before, 2 * HEAD + room_len);
+        spoilt = memcmp(store, before, room_at) != 0 || memcmp(store + room_at + room_len, behind, GUARD) != 0;
+        /* The answer goes where the guard before the room was, so that all is given at once. */
+        put_number(store + room_at - 2 * HEAD, spoilt ? SPOILT : answer.number);
+        put_number(store + room_at - HEAD, answer.value);
+        give(store + room_at - 2 * HEAD, 2 * HEAD + room_len);
     }
     return 0;
 }

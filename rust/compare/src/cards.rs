@@ -42,13 +42,14 @@ pub struct Size {
 impl Size {
     /// Any size within the limits; most are small, so that many can be tried.
     pub fn any(random: &mut Random) -> Size {
-        let (statements, branches, nodes) = match random.below(20) {
-            0..=13 => (3, 4, 7),
-            14..=18 => (8, BRANCHES, 16),
+        let (statements, branches, nodes) = match random.below(40) {
+            0..=31 => (2, 4, 6),
+            32..=38 => (6, BRANCHES, 12),
             _ => (STATEMENTS, BRANCHES, NODES),
         };
+        let most_seats = random.pick(&[4, 8, SEATS]);
         Size {
-            seats: random.between(1, SEATS),
+            seats: random.between(1, most_seats),
             top: random.between(0, TOP),
             statements,
             branches,

@@ -148,19 +148,20 @@ impl Checker {
             tally.groups(read);
             if written.len() <= open_panel::CARD_BYTES {
                 tally.reread += 1;
-                if let Err(refusal) = open_panel::judge(written) {
-                    return Err(format!("the written card is refused: {refusal}"));
+                if random.once_in(4) {
+                    let judged = open_panel::judge(written);
+                    judged.map_err(|refusal| format!("the written card is refused: {refusal}"))?;
                 }
                 let length = written.len();
                 rooms.probe("the written card, written", Ok(written), length, |room| {
                     open_panel::write(written, room)
                 })?;
                 if random.once_in(4) {
-                    let length = open_panel::REDUCE_ROOM;
+                    let length = reduced.map_or(9, <[u8]>::len);
                     rooms.probe("the written card, reduced", reduced, length, |room| {
                         open_panel::reduce(written, room)
                     })?;
-                    rooms.probe("the written card, shown", shown, open_panel::SHOW_ROOM, |room| {
+                    rooms.probe("the written card, shown", shown, 2_000, |room| {
                         open_panel::show(written, &input.seats, room)
                     })?;
                 }
@@ -199,18 +200,16 @@ impl Checker {
     }
 }
 
-/// The rooms to try: one that just fits, one that is a byte short, a larger one; for a refusal any one.
-fn room_lengths(text: Option<usize>, random: &mut Random) -> [Option<usize>; 4] {
+/// The rooms to try: one that is a byte short, and one that just fits or a larger one; for a refusal any one.
+fn room_lengths(text: Option<usize>, random: &mut Random) -> [Option<usize>; 2] {
     match text {
         Some(length) => [
-            Some(length),
-            length.checked_sub(1),
-            Some(length + random.between(1, 200)),
-            random.once_in(8).then(|| random.below(length.max(1))),
+            Some(if random.once_in(8) { random.below(length) } else { length - 1 }),
+            Some(if random.once_in(2) { length } else { length + random.between(1, 200) }),
         ],
         None => {
-            let length = if random.once_in(8) { 20_000 } else { 400 };
-            [Some(random.below(length)), None, None, None]
+            let most = if random.once_in(16) { 20_000 } else { 400 };
+            [Some(random.below(most)), None]
         }
     }
 }

@@ -43,8 +43,8 @@ pub enum Kind {
 impl Kind {
     /// All kinds, with how many of a hundred inputs are of it.
     pub const SHARES: [(Kind, usize); 14] = [
-        (Kind::Valid, 31),
-        (Kind::Small, 3),
+        (Kind::Valid, 32),
+        (Kind::Small, 2),
         (Kind::AtLimit, 6),
         (Kind::Length, 2),
         (Kind::SeatCount, 3),

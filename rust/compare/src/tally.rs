@@ -13,7 +13,7 @@ const EACH_REFUSAL: u64 = 500;
 /// Times that each place of the table stands on an accepted card, in each mode.
 const EACH_PLACE: u64 = 1_000;
 /// Small tables of which every seating is tried.
-const SMALL: u64 = 2_000;
+const SMALL: u64 = 1_500;
 /// Cards whose written form is too long for a card.
 const TOO_LONG_WRITTEN: u64 = 5;
 
