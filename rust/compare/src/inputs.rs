@@ -34,7 +34,7 @@ pub enum Kind {
     Cut,
     /// A card with several damages.
     Several,
-    /// A refused card, damaged once more where it is refused.
+    /// A card at or past a limit, or any other, damaged just where it is refused or where something ends.
     Aimed,
     /// No card at all.
     Junk,
@@ -43,10 +43,10 @@ pub enum Kind {
 impl Kind {
     /// All kinds, with how many of a hundred inputs are of it.
     pub const SHARES: [(Kind, usize); 14] = [
-        (Kind::Valid, 32),
+        (Kind::Valid, 33),
         (Kind::Small, 2),
         (Kind::AtLimit, 6),
-        (Kind::Length, 2),
+        (Kind::Length, 1),
         (Kind::SeatCount, 3),
         (Kind::SeatState, 3),
         (Kind::PastLimit, 8),
@@ -111,13 +111,16 @@ impl Input {
 fn made(kind: Kind, random: &mut Random) -> (Model, Vec<u8>) {
     let model = match kind {
         Kind::Small => card(Size::small(random), random),
-        Kind::AtLimit if random.once_in(12) => dense_card(random),
+        Kind::AtLimit if random.once_in(60) => dense_card(random),
         Kind::AtLimit => card_at(random.pick(&Limit::ALL), 0, random),
         Kind::PastLimit => {
             let past = random.pick(&[1, 1, 1, 1, 2, 5]);
             card_at(random.pick(&Limit::ALL), past, random)
         }
-        Kind::Aimed if random.once_in(2) => card_at(random.pick(&Limit::ALL), 1, random),
+        Kind::Aimed if !random.once_in(3) => {
+            let past = random.below(2);
+            card_at(random.pick(&Limit::ALL), past, random)
+        }
         _ => card(Size::any(random), random),
     };
     let mut marks = model.marks();
@@ -161,8 +164,8 @@ fn made(kind: Kind, random: &mut Random) -> (Model, Vec<u8>) {
 /// Fills a card up to just the greatest length, or past it.
 fn lengthen(bytes: &mut Vec<u8>, random: &mut Random) {
     let length = match random.below(8) {
-        0..=2 => CARD_BYTES,
-        3..=5 => CARD_BYTES + 1,
+        0 => CARD_BYTES,
+        1..=5 => CARD_BYTES + 1,
         6 => CARD_BYTES + random.between(2, 300),
         _ => random.pick(&[20_000, 32_768, 65_536, 65_540, 131_080]),
     };
@@ -175,16 +178,23 @@ fn lengthen(bytes: &mut Vec<u8>, random: &mut Random) {
     bytes.splice(place..place, std::iter::repeat_n(filling, missing));
 }
 
-/// Changes a byte or two at the place where a card is refused, or close by.
+/// Changes a byte or two at the place where a card is refused, or close by; into
+/// a card that is taken, puts something where something else ends.
 fn damage_where_refused(bytes: &mut Vec<u8>, random: &mut Random) {
-    let place = match baseline::judge(bytes) {
-        Err(refusal) => refusal.place,
-        Ok(_) => return damage_bytes(bytes, random),
-    };
-    let place = (place + random.below(3)).min(bytes.len());
+    const ENDS: [&[u8]; 5] = [b"->", b"->", b"+", b";", b")"];
+    const SIGNS: [&[u8]; 5] = [b"|", b"&", b"!", b"(", b"+"];
     const PIECES: [&[u8]; 14] = [
         b"|", b"&", b"(", b")", b"!", b";", b" ", b"s1", b"0", b"1/", b"9", b"(s1=0)", b"//", b"<",
     ];
+    let Err(refusal) = baseline::judge(bytes) else {
+        let end = random.pick(&ENDS);
+        let start = random.below(bytes.len());
+        let behind = bytes[start..].windows(end.len()).position(|found| found == end);
+        let place = start + behind.unwrap_or(0);
+        bytes.splice(place..place, random.pick(&SIGNS).iter().copied());
+        return;
+    };
+    let place = (refusal.place + random.below(3)).min(bytes.len());
     match random.below(3) {
         0 if place < bytes.len() => drop(bytes.remove(place)),
         1 if place < bytes.len() => bytes[place] = any_byte(random),

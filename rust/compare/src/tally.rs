@@ -15,7 +15,7 @@ const EACH_PLACE: u64 = 1_000;
 /// Small tables of which every seating is tried.
 const SMALL: u64 = 1_500;
 /// Cards whose written form is too long for a card.
-const TOO_LONG_WRITTEN: u64 = 5;
+const TOO_LONG_WRITTEN: u64 = 20;
 
 /// The rows of document 01's table, as a group has them: joined by `|`, says `!=`.
 const ROWS: [(&str, bool, bool); 4] = [

@@ -53,14 +53,16 @@ impl Answer {
     fn into_result(self) -> Result<usize, Refusal> {
         match self.number {
             0 => Ok(self.value),
-            number => Err(Refusal::new(number, self.value).expect("the library refuses by 1 to 10")),
+            number => Err(Refusal::new(number, self.value).expect("the library has no other refusals")),
         }
     }
 }
 
 /// Says whether a card is taken. Refusals: 1 to 7.
 pub fn judge(card: &[u8]) -> Result<(), Refusal> {
-    library::judge(card).into_result().map(|_| ())
+    let length = library::judge(card).into_result()?;
+    assert_eq!(length, 0, "the library judges without a text");
+    Ok(())
 }
 
 /// Puts the card's one written form into a lent room. Refusals: 1 to 7, and 10.

@@ -53,17 +53,18 @@ pub enum Refusal {
 }
 
 impl Refusal {
-    /// The refusal of this number, 1 to 10, at this place.
+    /// The refusal of this number at this place, if there is one: the numbers
+    /// are 1 to 10, and the place of 1 and 8 is always 0.
     pub const fn new(number: u8, place: usize) -> Option<Refusal> {
         Some(match number {
-            1 => Refusal::Long,
+            1 if place == 0 => Refusal::Long,
             2 => Refusal::Mark { at: place },
             3 => Refusal::Shape { at: place },
             4 => Refusal::Limit { at: place },
             5 => Refusal::State { at: place },
             6 => Refusal::Word { at: place },
             7 => Refusal::Weight { at: place },
-            8 => Refusal::SeatCount,
+            8 if place == 0 => Refusal::SeatCount,
             9 => Refusal::SeatState { seat: place },
             10 => Refusal::Room { needed: place },
             _ => return None,

@@ -35,6 +35,8 @@ fn refusals_have_number_place_and_words() {
     }
     assert_eq!(Refusal::new(0, 0), None);
     assert_eq!(Refusal::new(11, 0), None);
+    assert_eq!(Refusal::new(1, 7), None);
+    assert_eq!(Refusal::new(8, 7), None);
 }
 
 #[test]
