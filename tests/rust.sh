@@ -45,7 +45,7 @@ if [ -z "$native" ]; then
     export OPEN_PANEL_BRIDGE=$here/target/c/bridge
 fi
 
-export CARGO_TARGET_DIR=$here/target/rust
+export CARGO_TARGET_DIR=$here/target/rust RUSTFLAGS='-D warnings'
 cd rust
 cargo test --release --offline --quiet
 cargo run --release --offline --quiet --package compare

@@ -13,7 +13,9 @@ fn main() {
     println!("cargo:rerun-if-env-changed=OPEN_PANEL_LIB_DIR");
     println!("cargo:rerun-if-env-changed=OPEN_PANEL_BRIDGE");
     if let Some(bridge) = env::var_os("OPEN_PANEL_BRIDGE") {
-        let bridge = bridge.into_string().expect("OPEN_PANEL_BRIDGE is a plain path");
+        let bridge = bridge
+            .into_string()
+            .expect("OPEN_PANEL_BRIDGE is a plain path");
         println!("cargo:rustc-cfg=open_panel_bridge");
         println!("cargo:rustc-env=OPEN_PANEL_BRIDGE={bridge}");
         return;
@@ -26,7 +28,10 @@ fn main() {
     let library = folder.join("libtablet.a");
     println!("cargo:rerun-if-changed={}", library.display());
     let bytes = fs::read(&library).unwrap_or_else(|error| {
-        panic!("{}: {error}; make it with `rt staticlib tablet`", library.display())
+        panic!(
+            "{}: {error}; make it with `rt staticlib tablet`",
+            library.display()
+        )
     });
     let processor = env::var("CARGO_CFG_TARGET_ARCH").expect("cargo sets it");
     if let Some(other) = processor_of(&bytes).filter(|found| *found != processor) {

@@ -77,10 +77,9 @@ impl Renamed<'_> {
     }
 
     fn group(&self, group: &Group) -> bool {
-        let mut literals = group
-            .literals
-            .iter()
-            .map(|literal| (usize::from(self.state(literal.seat)) == literal.state) != literal.differs);
+        let mut literals = group.literals.iter().map(|literal| {
+            (usize::from(self.state(literal.seat)) == literal.state) != literal.differs
+        });
         if group.any {
             literals.any(|holds| holds)
         } else {
@@ -92,7 +91,12 @@ impl Renamed<'_> {
 /// How many seats are in each state.
 pub fn counts(seats: &[u8], top: usize) -> Vec<u64> {
     (0..=top)
-        .map(|state| seats.iter().filter(|&&seat| usize::from(seat) == state).count() as u64)
+        .map(|state| {
+            seats
+                .iter()
+                .filter(|&&seat| usize::from(seat) == state)
+                .count() as u64
+        })
         .collect()
 }
 
@@ -113,8 +117,16 @@ pub fn panel(model: &Model, seats: &[u8]) -> String {
     let taken: Vec<usize> = (0..model.statements.len())
         .filter(|&number| steps.iter().any(|step| step.statement == number))
         .collect();
-    let enabled = if model.probabilistic { steps.len() } else { taken.len() };
-    text += if model.probabilistic { "probabilistic\n" } else { "nondeterministic\n" };
+    let enabled = if model.probabilistic {
+        steps.len()
+    } else {
+        taken.len()
+    };
+    text += if model.probabilistic {
+        "probabilistic\n"
+    } else {
+        "nondeterministic\n"
+    };
     text += &format!("seats {} enabled {enabled}\ncounts", seats.len());
     for count in counts(seats, model.top) {
         text += &format!(" {count}");

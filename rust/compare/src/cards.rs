@@ -193,7 +193,11 @@ impl Guards<'_> {
     /// A symmetric group.
     pub fn group(&mut self) -> Unary {
         let random = &mut *self.random;
-        let first = if self.size.seats > 1 && random.once_in(2) { 2 } else { 1 };
+        let first = if self.size.seats > 1 && random.once_in(2) {
+            2
+        } else {
+            1
+        };
         let differs = random.once_in(2);
         let state = if random.once_in(2) {
             self.own

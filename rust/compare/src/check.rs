@@ -58,22 +58,32 @@ impl Rooms {
         let answer = answer.map_err(|refusal| Refusal::new(refusal.number(), refusal.place()));
         if answer != expected.map(<[u8]>::len) {
             return Err(format!(
-                "{what}, room {length}: the library says {answer:?}, the baseline {:?}",
+                "{what}, room {length}: the library says {answer:?}, and due is {:?}",
                 expected.map(<[u8]>::len)
             ));
         }
         let text = expected.unwrap_or(&[]);
         let end = GUARD + text.len();
         if &store[GUARD..end] != text {
-            let place = store[GUARD..end].iter().zip(text).take_while(|(a, b)| a == b).count();
-            return Err(format!("{what}, room {length}: the texts differ at byte {place}"));
+            let place = store[GUARD..end]
+                .iter()
+                .zip(text)
+                .take_while(|(a, b)| a == b)
+                .count();
+            return Err(format!(
+                "{what}, room {length}: the texts differ at byte {place}"
+            ));
         }
         let touched = |range: std::ops::Range<usize>| store[range.clone()] != pattern[range];
         if touched(0..GUARD) || touched(GUARD + length..whole) {
-            return Err(format!("{what}, room {length}: a byte outside the room was written"));
+            return Err(format!(
+                "{what}, room {length}: a byte outside the room was written"
+            ));
         }
         if touched(end..GUARD + length) {
-            return Err(format!("{what}, room {length}: the room was written where no text is"));
+            return Err(format!(
+                "{what}, room {length}: the room was written where no text is"
+            ));
         }
         Ok(())
     }
@@ -84,7 +94,9 @@ impl Default for Checker {
         let mut random = Random::new(0, 0);
         Checker {
             rooms: Rooms {
-                pattern: (0..STORE + 2 * GUARD + 251).map(|_| random.next() as u8).collect(),
+                pattern: (0..STORE + 2 * GUARD + 251)
+                    .map(|_| random.next() as u8)
+                    .collect(),
                 store: vec![0; STORE + 2 * GUARD],
                 probes: 0,
             },
@@ -98,7 +110,12 @@ impl Default for Checker {
 
 impl Checker {
     /// Asks both sides about an input.
-    pub fn check(&mut self, input: &Input, random: &mut Random, tally: &mut Tally) -> Result<(), Fault> {
+    pub fn check(
+        &mut self,
+        input: &Input,
+        random: &mut Random,
+        tally: &mut Tally,
+    ) -> Result<(), Fault> {
         let kind = input.kind;
         // Behind the card stand bytes that would change it, were they read.
         self.surrounded.clear();
@@ -112,7 +129,9 @@ impl Checker {
         let answer = open_panel::judge(card);
         let expected = judged.as_ref().map(|_| ()).map_err(|refusal| *refusal);
         if answer.map_err(|refusal| Refusal::new(refusal.number(), refusal.place())) != expected {
-            return Err(format!("judge: the library says {answer:?}, the baseline {expected:?}"));
+            return Err(format!(
+                "judge: the library says {answer:?}, and due is {expected:?}"
+            ));
         }
         if input.model.is_some() && expected.is_err() {
             return Err(format!("a card made to be valid is refused: {expected:?}"));
@@ -124,9 +143,14 @@ impl Checker {
         let written = written.map(|length| &self.written[..length]);
         let reduced = reduced.map(|length| &self.reduced[..length]);
         let shown = shown.map(|length| &self.shown[..length]);
-        for refusal in [written.err(), reduced.err(), shown.err()].into_iter().flatten() {
+        for refusal in [written.err(), reduced.err(), shown.err()]
+            .into_iter()
+            .flatten()
+        {
             if refusal.number == 10 {
-                return Err(format!("a room that is always enough was too small: {refusal}"));
+                return Err(format!(
+                    "a room that is always enough was too small: {refusal}"
+                ));
             }
         }
 
@@ -174,9 +198,12 @@ impl Checker {
             let mut seats = input.seats.clone();
             random.shuffle(&mut seats);
             tally.reordered += 1;
-            rooms.probe("the seats in another order", Ok(shown), shown.len() + 3, |room| {
-                open_panel::show(card, &seats, room)
-            })?;
+            rooms.probe(
+                "the seats in another order",
+                Ok(shown),
+                shown.len() + 3,
+                |room| open_panel::show(card, &seats, room),
+            )?;
         }
         if let (Kind::Small, Some(model), Ok(reduced)) = (kind, &input.model, reduced) {
             let reduced = Reduced::read(reduced).ok_or("the reduced text cannot be read")?;
@@ -185,14 +212,20 @@ impl Checker {
                 tally.seatings += 1;
                 same_steps(model, &seats, &reduced)?;
                 let panel = by_seats::panel(model, &seats);
-                rooms.probe("the panel by seats", Ok(panel.as_bytes()), panel.len() + 7, |room| {
-                    open_panel::show(card, &seats, room)
-                })?;
+                rooms.probe(
+                    "the panel by seats",
+                    Ok(panel.as_bytes()),
+                    panel.len() + 7,
+                    |room| open_panel::show(card, &seats, room),
+                )?;
             }
             tally.small += 1;
         }
         let rest = &surrounded[GUARD + input.card.len()..];
-        if card != input.card || surrounded[..GUARD] != [b'9'; GUARD] || rest.iter().any(|byte| *byte != rest[0]) {
+        if card != input.card
+            || surrounded[..GUARD] != [b'9'; GUARD]
+            || rest.iter().any(|byte| *byte != rest[0])
+        {
             return Err("the card was written".to_owned());
         }
         self.surrounded = surrounded;
@@ -204,8 +237,16 @@ impl Checker {
 fn room_lengths(text: Option<usize>, random: &mut Random) -> [Option<usize>; 2] {
     match text {
         Some(length) => [
-            Some(if random.once_in(8) { random.below(length) } else { length - 1 }),
-            Some(if random.once_in(2) { length } else { length + random.between(1, 200) }),
+            Some(if random.once_in(8) {
+                random.below(length)
+            } else {
+                length - 1
+            }),
+            Some(if random.once_in(2) {
+                length
+            } else {
+                length + random.between(1, 200)
+            }),
         ],
         None => {
             let most = if random.once_in(16) { 20_000 } else { 400 };
@@ -229,7 +270,8 @@ fn adds_up(panel: &[u8]) -> Result<(), Fault> {
             ["counts", ..] => {}
             ["choice", _] => sums.push(0),
             ["stay", weight] | ["move", _, _, weight] => {
-                *sums.last_mut().ok_or("a weight under no choice")? += weight.parse::<u64>().map_err(|_| "no weight")?;
+                *sums.last_mut().ok_or("a weight under no choice")? +=
+                    weight.parse::<u64>().map_err(|_| "no weight")?;
             }
             _ => return Err(format!("a line that no panel has: {line}")),
         }
@@ -240,7 +282,9 @@ fn adds_up(panel: &[u8]) -> Result<(), Fault> {
     } else {
         sums == [enabled * unit]
     };
-    right.then_some(()).ok_or_else(|| format!("the weights do not add up:\n{panel}"))
+    right
+        .then_some(())
+        .ok_or_else(|| format!("the weights do not add up:\n{panel}"))
 }
 
 /// The reduced program starts at the counts of the card's own start.
@@ -250,7 +294,9 @@ fn starts_right(model: &Model, reduced: &Reduced) -> Result<(), Fault> {
     let right = reduced.start == start
         && reduced.most.iter().all(|most| *most == model.seats as u64)
         && reduced.statements() == model.statements.len() * copies;
-    right.then_some(()).ok_or_else(|| "the reduced program starts wrong".to_owned())
+    right
+        .then_some(())
+        .ok_or_else(|| "the reduced program starts wrong".to_owned())
 }
 
 /// Demand 3 at one seating: the reduced program leads where the seats lead, with the same weights.
@@ -275,11 +321,15 @@ fn same_steps(model: &Model, seats: &[u8], reduced: &Reduced) -> Result<(), Faul
     }
     for statement in 0..model.statements.len() {
         let of_counts = reduced.steps(statement, &counts);
-        let mut of_seats = steps.iter().filter(|step| step.statement == statement).peekable();
+        let mut of_seats = steps
+            .iter()
+            .filter(|step| step.statement == statement)
+            .peekable();
         let same = match &of_counts {
             None => of_seats.peek().is_none(),
             Some(after) => {
-                of_seats.peek().is_some() && of_seats.all(|step| by_seats::by_counts(&step.after, model.top) == *after)
+                of_seats.peek().is_some()
+                    && of_seats.all(|step| by_seats::by_counts(&step.after, model.top) == *after)
             }
         };
         same.then_some(()).ok_or_else(wrong)?;

@@ -92,20 +92,24 @@ impl MarkDamage {
                 }
             }
             MarkDamage::Word => {
-                let is_word = |_: &[u8], mark: &Mark| mark.is_numbered(b"s") || mark.is_numbered(b"process");
+                let is_word =
+                    |_: &[u8], mark: &Mark| mark.is_numbered(b"s") || mark.is_numbered(b"process");
                 if let Some(place) = any_place(marks, random, is_word) {
                     marks[place] = any_word(marks[place], random);
                 }
             }
             MarkDamage::Sign => {
-                let pairs: [(&[u8], &[u8]); 4] = [(b"=", b"!="), (b"!=", b"="), (b"&", b"|"), (b"|", b"&")];
+                let pairs: [(&[u8], &[u8]); 4] =
+                    [(b"=", b"!="), (b"!=", b"="), (b"&", b"|"), (b"|", b"&")];
                 let (old, new) = random.pick(&pairs);
                 if let Some(place) = any_place(marks, random, |_, mark| mark.bytes() == old) {
                     marks[place] = Mark::new(new);
                 }
             }
             MarkDamage::Literal => {
-                let follows = |before: &[u8], mark: &Mark| matches!(before, b"&" | b"|") && mark.is_numbered(b"s");
+                let follows = |before: &[u8], mark: &Mark| {
+                    matches!(before, b"&" | b"|") && mark.is_numbered(b"s")
+                };
                 let found = any_place(marks, random, follows);
                 if let Some(seat) = found {
                     let end = (seat + 3).min(marks.len());
@@ -119,12 +123,18 @@ impl MarkDamage {
             MarkDamage::Weight => {
                 let starts = |before: &[u8], _: &Mark| matches!(before, b"->" | b"+" | b"/");
                 if let Some(place) = any_place(marks, random, starts) {
-                    let weight = random.pick(&WEIGHTS).split(' ').map(|mark| Mark::new(mark.as_bytes()));
+                    let weight = random
+                        .pick(&WEIGHTS)
+                        .split(' ')
+                        .map(|mark| Mark::new(mark.as_bytes()));
                     // In place of all of the weight, of its first mark, or before it.
                     let length = match random.below(6) {
                         0 => 0,
                         1 => 1,
-                        _ => marks[place..].iter().take_while(|mark| mark.bytes() != b":").count(),
+                        _ => marks[place..]
+                            .iter()
+                            .take_while(|mark| mark.bytes() != b":")
+                            .count(),
                     };
                     marks.splice(place..place + length, weight);
                 }
@@ -134,23 +144,113 @@ impl MarkDamage {
 }
 
 /// A place, not the first, of which something holds, given the mark before it and its own.
-fn any_place(marks: &[Mark], random: &mut Random, kind: impl Fn(&[u8], &Mark) -> bool) -> Option<usize> {
+fn any_place(
+    marks: &[Mark],
+    random: &mut Random,
+    kind: impl Fn(&[u8], &Mark) -> bool,
+) -> Option<usize> {
     let start = random.between(1, marks.len() - 1);
     let mut places = (start..marks.len()).chain(1..start);
     places.find(|&place| kind(marks[place - 1].bytes(), &marks[place]))
 }
 
 const WEIGHTS: [&str; 34] = [
-    "0", "1", "2", "7", "0.0", "1.00", "0.50", "0.500", "0.005", "1.000", "1.01", "2.0", "0.1", "0.37", "1.0", "1 / 2",
-    "2 / 4", "0 / 5", "3 / 2", "1 / 0", "0 / 0", "0 / 11", "1 / 11", "1 / 7", "1 / 25200", "25200 / 25200",
-    "1 / 50400", "12345.12345", "0.123456", "123456", "0.5 / 2", "1 / 0.5", "1 / 2 / 3", "99999",
+    "0",
+    "1",
+    "2",
+    "7",
+    "0.0",
+    "1.00",
+    "0.50",
+    "0.500",
+    "0.005",
+    "1.000",
+    "1.01",
+    "2.0",
+    "0.1",
+    "0.37",
+    "1.0",
+    "1 / 2",
+    "2 / 4",
+    "0 / 5",
+    "3 / 2",
+    "1 / 0",
+    "0 / 0",
+    "0 / 11",
+    "1 / 11",
+    "1 / 7",
+    "1 / 25200",
+    "25200 / 25200",
+    "1 / 50400",
+    "12345.12345",
+    "0.123456",
+    "123456",
+    "0.5 / 2",
+    "1 / 0.5",
+    "1 / 2 / 3",
+    "99999",
 ];
 
 const MARKS: [&str; 60] = [
-    "[", "]", ":", ";", "=", "!", "&", "|", "(", ")", "+", "'", ",", "/", "..", "->", "!=", "module", "endmodule",
-    "init", "nondeterministic", "probabilistic", "s1", "s2", "s3", "s16", "s17", "s0", "s99999", "s123456", "s01",
-    "process1", "process2", "process0", "process007", "process17", "0", "1", "2", "7", "8", "25200", "0.5", "1.0",
-    "0.12345", "0.123456", "007", "123456", "00.5", "true", "s", "process", "Init", "s1x", "_", ".", "...", "-", ">",
+    "[",
+    "]",
+    ":",
+    ";",
+    "=",
+    "!",
+    "&",
+    "|",
+    "(",
+    ")",
+    "+",
+    "'",
+    ",",
+    "/",
+    "..",
+    "->",
+    "!=",
+    "module",
+    "endmodule",
+    "init",
+    "nondeterministic",
+    "probabilistic",
+    "s1",
+    "s2",
+    "s3",
+    "s16",
+    "s17",
+    "s0",
+    "s99999",
+    "s123456",
+    "s01",
+    "process1",
+    "process2",
+    "process0",
+    "process007",
+    "process17",
+    "0",
+    "1",
+    "2",
+    "7",
+    "8",
+    "25200",
+    "0.5",
+    "1.0",
+    "0.12345",
+    "0.123456",
+    "007",
+    "123456",
+    "00.5",
+    "true",
+    "s",
+    "process",
+    "Init",
+    "s1x",
+    "_",
+    ".",
+    "...",
+    "-",
+    ">",
     "<",
 ];
 
@@ -160,7 +260,11 @@ fn any_mark(random: &mut Random) -> Mark {
 
 fn any_number(random: &mut Random) -> Mark {
     match random.below(8) {
-        0 => Mark::new(random.pick(&["007", "123456", "00", "99999", "65536", "25200"]).as_bytes()),
+        0 => Mark::new(
+            random
+                .pick(&["007", "123456", "00", "99999", "65536", "25200"])
+                .as_bytes(),
+        ),
         1 => Mark::number(random.between(8, 17)),
         _ => Mark::number(random.between(0, 9)),
     }

@@ -67,7 +67,9 @@ fn weighted(weights: Vec<(u32, Vec<Mark>)>, end: impl Fn(usize) -> usize) -> Vec
 fn long_weights() -> Vec<(u32, Vec<Mark>)> {
     let above = [10_001, 10_001, 1_003, 1_003, 1_003, 1_003, 1_007, 179];
     let above = above.iter();
-    above.map(|above| (*above, fraction(*above, 25_200))).collect()
+    above
+        .map(|above| (*above, fraction(*above, 25_200)))
+        .collect()
 }
 
 /// Decimals that become longer as fractions.
@@ -75,7 +77,12 @@ fn long_decimals() -> Vec<(u32, Vec<Mark>)> {
     let hundredths = [11, 11, 11, 11, 13, 13, 13, 17];
     hundredths
         .iter()
-        .map(|hundredths| (hundredths * 252, vec![Mark::new(format!("0.{hundredths}").as_bytes())]))
+        .map(|hundredths| {
+            (
+                hundredths * 252,
+                vec![Mark::new(format!("0.{hundredths}").as_bytes())],
+            )
+        })
         .collect()
 }
 
@@ -135,7 +142,9 @@ fn longest_reduced() -> Extreme {
     'filled: loop {
         for place in 0..STATEMENTS {
             let others = {
-                let Unary::Group(mut group) = everyone(SEATS, false) else { unreachable!() };
+                let Unary::Group(mut group) = everyone(SEATS, false) else {
+                    unreachable!()
+                };
                 group.literals.remove(0);
                 (0..8).fold(Unary::Group(group), |unary, _| Unary::Not(Box::new(unary)))
             };

@@ -172,7 +172,11 @@ fn lengthen(bytes: &mut Vec<u8>, random: &mut Random) {
     if random.once_in(2) {
         bytes.extend(b"\n//");
     }
-    let filling = if random.once_in(6) { any_byte(random) } else { b' ' };
+    let filling = if random.once_in(6) {
+        any_byte(random)
+    } else {
+        b' '
+    };
     let place = if random.once_in(2) { bytes.len() } else { 0 };
     let missing = length.saturating_sub(bytes.len());
     bytes.splice(place..place, std::iter::repeat_n(filling, missing));
@@ -189,7 +193,9 @@ fn damage_where_refused(bytes: &mut Vec<u8>, random: &mut Random) {
     let Err(refusal) = baseline::judge(bytes) else {
         let end = random.pick(&ENDS);
         let start = random.below(bytes.len());
-        let behind = bytes[start..].windows(end.len()).position(|found| found == end);
+        let behind = bytes[start..]
+            .windows(end.len())
+            .position(|found| found == end);
         let place = start + behind.unwrap_or(0);
         bytes.splice(place..place, random.pick(&SIGNS).iter().copied());
         return;
@@ -215,7 +221,9 @@ fn seating(seats: usize, top: usize, random: &mut Random) -> Vec<u8> {
             states
         }
         2 => (0..seats).map(|_| random.pick(&[first, second])).collect(),
-        _ => (0..seats).map(|_| random.between(0, top.min(254)) as u8).collect(),
+        _ => (0..seats)
+            .map(|_| random.between(0, top.min(254)) as u8)
+            .collect(),
     }
 }
 
@@ -237,7 +245,9 @@ fn exceed(seats: &mut [u8], top: usize, random: &mut Random) {
     for _ in 0..random.between(1, 3) {
         if !seats.is_empty() {
             let seat = random.below(seats.len());
-            seats[seat] = random.pick(&[top as u8 + 1, top as u8 + 1, 8, 255, b'0']).max(top as u8 + 1);
+            seats[seat] = random
+                .pick(&[top as u8 + 1, top as u8 + 1, 8, 255, b'0'])
+                .max(top as u8 + 1);
         }
     }
 }

@@ -65,7 +65,11 @@ fn main() -> ExitCode {
         println!("{fault}");
         return ExitCode::FAILURE;
     }
-    println!("{tally}\nseed {}, {:.1} s", run.seed, start.elapsed().as_secs_f64());
+    println!(
+        "{tally}\nseed {}, {:.1} s",
+        run.seed,
+        start.elapsed().as_secs_f64()
+    );
     let shortfalls = tally.shortfalls();
     if run.inputs >= INPUTS && !shortfalls.is_empty() {
         println!("tried too seldom: {}", shortfalls.join("; "));
@@ -138,16 +142,45 @@ fn guarded(check: impl FnOnce() -> Result<(), Fault>) -> Result<(), Fault> {
 /// Tries one input and shows it.
 fn only(run: &Run, index: u64) -> ExitCode {
     let input = Input::new(&mut Random::new(run.seed, index));
-    println!("kind {:?}\nseats {:?}\ncard, {} bytes:", input.kind, input.seats, input.card.len());
-    println!("{}", input.card.escape_ascii().to_string().replace("\\n", "\n"));
+    println!(
+        "kind {:?}\nseats {:?}\ncard, {} bytes:",
+        input.kind,
+        input.seats,
+        input.card.len()
+    );
+    println!(
+        "{}",
+        input.card.escape_ascii().to_string().replace("\\n", "\n")
+    );
     let show = |side: &str, what: &str, answer: String| println!("{side:<9}{what:<7}{answer}");
     let mut room = vec![0; open_panel::REDUCE_ROOM];
     let (card, seats) = (&input.card[..], &input.seats[..]);
-    show("baseline", "judge", format!("{:?}", baseline::judge(card).map(|_| 0)));
-    show("baseline", "write", format!("{:?}", baseline::write(card, &mut room)));
-    show("baseline", "reduce", format!("{:?}", baseline::reduce(card, &mut room)));
-    show("baseline", "show", format!("{:?}", baseline::panel(card, seats, &mut room)));
-    let outcome = match one(run.seed, index, &mut Checker::default(), &mut Tally::default()) {
+    show(
+        "baseline",
+        "judge",
+        format!("{:?}", baseline::judge(card).map(|_| 0)),
+    );
+    show(
+        "baseline",
+        "write",
+        format!("{:?}", baseline::write(card, &mut room)),
+    );
+    show(
+        "baseline",
+        "reduce",
+        format!("{:?}", baseline::reduce(card, &mut room)),
+    );
+    show(
+        "baseline",
+        "show",
+        format!("{:?}", baseline::panel(card, seats, &mut room)),
+    );
+    let outcome = match one(
+        run.seed,
+        index,
+        &mut Checker::default(),
+        &mut Tally::default(),
+    ) {
         Ok(()) => ControlFlow::Continue("the library agrees".to_owned()),
         Err(fault) => ControlFlow::Break(fault),
     };

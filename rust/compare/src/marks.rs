@@ -122,7 +122,10 @@ fn would_merge(last: Option<u8>, first: Option<u8>) -> bool {
     };
     let in_word = |byte: u8| byte.is_ascii_alphanumeric() || byte == b'_';
     in_word(last) && in_word(first)
-        || matches!((last, first), (b'!', b'=') | (b'/', b'/') | (b'.', b'.') | (b'-', b'>'))
+        || matches!(
+            (last, first),
+            (b'!', b'=') | (b'/', b'/') | (b'.', b'.') | (b'-', b'>')
+        )
 }
 
 /// Puts something that separates.
@@ -136,7 +139,9 @@ fn separate(bytes: &mut Vec<u8>, random: &mut Random) {
             0 => bytes.push(b'\t'),
             1 => bytes.extend(b"\r\n"),
             2 => bytes.extend(b"// <a> \xff\0 // s1=0\n"),
-            3 => bytes.extend(random.pick(&[&b"//\n"[..], b"//\r0\n", b"// \x0b;\r\n", b"/// /\n"])),
+            3 => {
+                bytes.extend(random.pick(&[&b"//\n"[..], b"//\r0\n", b"// \x0b;\r\n", b"/// /\n"]))
+            }
             4 => bytes.extend(b"   "),
             5..=8 => bytes.push(b'\n'),
             _ => bytes.push(b' '),

@@ -42,8 +42,12 @@ impl Reduced {
     pub fn read(text: &[u8]) -> Option<Reduced> {
         let text = std::str::from_utf8(text).ok()?;
         let mut lines = text.strip_suffix('\n')?.split('\n');
-        lines.next().filter(|mode| matches!(*mode, "probabilistic" | "nondeterministic"))?;
-        lines.next().filter(|line| *line == "module generic_process")?;
+        lines
+            .next()
+            .filter(|mode| matches!(*mode, "probabilistic" | "nondeterministic"))?;
+        lines
+            .next()
+            .filter(|line| *line == "module generic_process")?;
         let mut reduced = Reduced {
             start: Vec::new(),
             most: Vec::new(),
@@ -77,7 +81,8 @@ impl Reduced {
     /// What one of its statements leads to from some counts, if it can be taken.
     pub fn steps(&self, statement: usize, counts: &[u64]) -> Option<Weights<Vec<u64>>> {
         let line = &self.statements[statement];
-        let holds = line.first.holds(counts) && line.guard.as_ref().is_none_or(|guard| guard.holds(counts));
+        let holds =
+            line.first.holds(counts) && line.guard.as_ref().is_none_or(|guard| guard.holds(counts));
         holds.then(|| {
             let mut after = Weights::new();
             for branch in &line.branches {
@@ -131,7 +136,10 @@ impl Rest<'_> {
     }
 
     fn number(&mut self) -> Option<u64> {
-        let end = self.0.find(|byte: char| !byte.is_ascii_digit()).unwrap_or(self.0.len());
+        let end = self
+            .0
+            .find(|byte: char| !byte.is_ascii_digit())
+            .unwrap_or(self.0.len());
         let (digits, rest) = self.0.split_at(end);
         self.0 = rest;
         digits.parse().ok()
@@ -172,12 +180,20 @@ impl Rest<'_> {
         }
         let right = Box::new(self.guard()?);
         self.due(")")?;
-        Some(if and { Guard::And(left, right) } else { Guard::Or(left, right) })
+        Some(if and {
+            Guard::And(left, right)
+        } else {
+            Guard::Or(left, right)
+        })
     }
 
     fn statement(&mut self) -> Option<Line> {
         let first = self.test()?;
-        let guard = if self.takes(" & ") { Some(self.guard()?) } else { None };
+        let guard = if self.takes(" & ") {
+            Some(self.guard()?)
+        } else {
+            None
+        };
         self.due(" -> ")?;
         let mut branches = vec![self.branch()?];
         while self.takes(" + ") {
@@ -196,7 +212,11 @@ impl Rest<'_> {
         let below = if self.takes("/") { self.number()? } else { 1 };
         let units = above * (u64::from(UNIT) / below);
         self.due(":")?;
-        let update = if self.takes("true") { None } else { Some(self.update()?) };
+        let update = if self.takes("true") {
+            None
+        } else {
+            Some(self.update()?)
+        };
         Some(Branch { units, update })
     }
 

@@ -66,7 +66,9 @@ impl Tally {
         for statement in card.statements() {
             for node in card.guard(statement) {
                 let Node::Group(group) = node else { continue };
-                let row = ROWS.iter().position(|(_, any, differs)| (*any, *differs) == (group.any, group.differs));
+                let row = ROWS
+                    .iter()
+                    .position(|(_, any, differs)| (*any, *differs) == (group.any, group.differs));
                 let column = match (group.everyone, group.state == statement.own) {
                     (true, _) => 0,
                     (false, true) => 1,
@@ -121,9 +123,16 @@ impl Tally {
         least("inputs", self.inputs(), INPUTS);
         least("accepted", self.answered(0), self.inputs().div_ceil(3));
         for number in 1..=10 {
-            least(&format!("refusal {number}"), self.answered(number), EACH_REFUSAL);
+            least(
+                &format!("refusal {number}"),
+                self.answered(number),
+                EACH_REFUSAL,
+            );
         }
-        for (mode, places) in ["nondeterministic", "probabilistic"].iter().zip(&self.places) {
+        for (mode, places) in ["nondeterministic", "probabilistic"]
+            .iter()
+            .zip(&self.places)
+        {
             for ((row, ..), places) in ROWS.iter().zip(places) {
                 for (column, count) in COLUMNS.iter().zip(places) {
                     least(&format!("{mode}, {row}, {column}"), *count, EACH_PLACE);
@@ -134,25 +143,52 @@ impl Tally {
             least(&format!("rooms, {fit}"), count, INPUTS / 2);
         }
         least("small tables", self.small, SMALL);
-        least("written forms too long for a card", self.too_long_written, TOO_LONG_WRITTEN);
+        least(
+            "written forms too long for a card",
+            self.too_long_written,
+            TOO_LONG_WRITTEN,
+        );
         shortfalls
     }
 }
 
 impl fmt::Display for Tally {
     fn fmt(&self, f: &mut fmt::Formatter<'_>) -> fmt::Result {
-        writeln!(f, "{:<12}{:>8}{:>9}  refused 1 to 9", "inputs", "", "accepted")?;
+        writeln!(
+            f,
+            "{:<12}{:>8}{:>9}  refused 1 to 9",
+            "inputs", "", "accepted"
+        )?;
         for ((kind, _), counts) in Kind::SHARES.iter().zip(&self.kinds) {
             let name = format!("{kind:?}");
-            write!(f, "{name:<12}{:>8}{:>9} ", counts.iter().sum::<u64>(), counts[0])?;
-            counts[1..].iter().try_for_each(|count| write!(f, "{count:>7}"))?;
+            write!(
+                f,
+                "{name:<12}{:>8}{:>9} ",
+                counts.iter().sum::<u64>(),
+                counts[0]
+            )?;
+            counts[1..]
+                .iter()
+                .try_for_each(|count| write!(f, "{count:>7}"))?;
             writeln!(f)?;
         }
-        write!(f, "{:<12}{:>8}{:>9} ", "all", self.inputs(), self.answered(0))?;
+        write!(
+            f,
+            "{:<12}{:>8}{:>9} ",
+            "all",
+            self.inputs(),
+            self.answered(0)
+        )?;
         (1..10).try_for_each(|number| write!(f, "{:>7}", self.answered(number)))?;
         let [short, exact, larger, refused] = self.rooms;
-        writeln!(f, "\nrooms       short (10) {short}, exact {exact}, larger {larger}, refused {refused}")?;
-        for (mode, places) in ["nondeterministic", "probabilistic"].iter().zip(&self.places) {
+        writeln!(
+            f,
+            "\nrooms       short (10) {short}, exact {exact}, larger {larger}, refused {refused}"
+        )?;
+        for (mode, places) in ["nondeterministic", "probabilistic"]
+            .iter()
+            .zip(&self.places)
+        {
             for ((row, ..), places) in ROWS.iter().zip(places) {
                 write!(f, "{mode:<18}{row:<10}")?;
                 let mut columns = COLUMNS.iter().zip(places);
@@ -165,6 +201,10 @@ impl fmt::Display for Tally {
             "written and read again {}, too long for that {}; seats reordered {}",
             self.reread, self.too_long_written, self.reordered
         )?;
-        write!(f, "small tables {} with {} seatings", self.small, self.seatings)
+        write!(
+            f,
+            "small tables {} with {} seatings",
+            self.small, self.seatings
+        )
     }
 }

@@ -62,7 +62,9 @@ fn reduced_texts() {
 
 #[test]
 fn all_in_one() {
-    compare("base.expected", |case| [panel(case), written(case), reduced(case)].concat());
+    compare("base.expected", |case| {
+        [panel(case), written(case), reduced(case)].concat()
+    });
 }
 
 #[test]
@@ -70,6 +72,9 @@ fn judgements() {
     for case in cases() {
         let judged = open_panel::judge(case.card());
         let written = open_panel::write(case.card(), &mut [0; ROOM]);
-        assert_eq!(judged.err(), written.err().filter(|refusal| refusal.number() < 8));
+        assert_eq!(
+            judged.err(),
+            written.err().filter(|refusal| refusal.number() < 8)
+        );
     }
 }

@@ -20,7 +20,13 @@ fn main() -> ExitCode {
     // What is no digit becomes a state that no card has.
     let seats: Vec<u8> = seats
         .bytes()
-        .map(|byte| if byte.is_ascii_digit() { byte - b'0' } else { u8::MAX })
+        .map(|byte| {
+            if byte.is_ascii_digit() {
+                byte - b'0'
+            } else {
+                u8::MAX
+            }
+        })
         .collect();
     match open_panel::show_to_vec(&card, &seats) {
         Ok(panel) => {

@@ -48,7 +48,9 @@ impl Bridge {
             self.packed.extend(piece);
         }
         let requests = self.requests.as_mut().expect("open until dropped");
-        requests.write_all(&self.packed).expect("the bridge listens");
+        requests
+            .write_all(&self.packed)
+            .expect("the bridge listens");
         let mut head = [[0; 8]; 2];
         self.answers
             .read_exact(head.as_flattened_mut())

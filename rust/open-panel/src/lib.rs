@@ -42,6 +42,10 @@ pub const REDUCE_ROOM: usize = 270_336;
 /// A room in which every panel fits.
 pub const SHOW_ROOM: usize = 4_096;
 
+/// Whether the library is not linked but asked through pipes, as its tests do on
+/// a processor that cannot run its code.
+pub const BRIDGED: bool = cfg!(open_panel_bridge);
+
 /// What the library answers: number 0 and a length, or a refusal and its place.
 #[repr(C)]
 struct Answer {
@@ -53,7 +57,9 @@ impl Answer {
     fn into_result(self) -> Result<usize, Refusal> {
         match self.number {
             0 => Ok(self.value),
-            number => Err(Refusal::new(number, self.value).expect("the library has no other refusals")),
+            number => {
+                Err(Refusal::new(number, self.value).expect("the library has no other refusals"))
+            }
         }
     }
 }
@@ -96,9 +102,7 @@ pub fn show_to_vec(card: &[u8], seats: &[u8]) -> Result<Vec<u8>, Refusal> {
 }
 
 /// Asks for the length first, by a room that holds nothing, then for the text.
-fn in_own_room(
-    entry: impl Fn(&mut [u8]) -> Result<usize, Refusal>,
-) -> Result<Vec<u8>, Refusal> {
+fn in_own_room(entry: impl Fn(&mut [u8]) -> Result<usize, Refusal>) -> Result<Vec<u8>, Refusal> {
     match entry(&mut []) {
         Err(Refusal::Room { needed }) => {
             let mut text = vec![0; needed];

@@ -5,12 +5,8 @@ use crate::Answer;
 
 extern "C" {
     fn open_panel_judge(card: *const u8, card_len: usize) -> Answer;
-    fn open_panel_write(
-        card: *const u8,
-        card_len: usize,
-        room: *mut u8,
-        room_len: usize,
-    ) -> Answer;
+    fn open_panel_write(card: *const u8, card_len: usize, room: *mut u8, room_len: usize)
+        -> Answer;
     fn open_panel_reduce(
         card: *const u8,
         card_len: usize,

@@ -109,7 +109,11 @@ impl Refusal {
         }
         let before = card.get(..self.place())?;
         let line = before.iter().filter(|&&byte| byte == b'\n').count();
-        let column = before.iter().rev().take_while(|&&byte| byte != b'\n').count();
+        let column = before
+            .iter()
+            .rev()
+            .take_while(|&&byte| byte != b'\n')
+            .count();
         Some((line + 1, column + 1))
     }
 }
@@ -119,14 +123,27 @@ impl fmt::Display for Refusal {
         match *self {
             Refusal::Long => write!(f, "the card is longer than {} bytes", crate::CARD_BYTES),
             Refusal::Mark { at } => write!(f, "byte {at}: no mark of a card, or too many digits"),
-            Refusal::Shape { at } => write!(f, "byte {at}: this cannot stand here, or the card ends early"),
+            Refusal::Shape { at } => write!(
+                f,
+                "byte {at}: this cannot stand here, or the card ends early"
+            ),
             Refusal::Limit { at } => write!(f, "byte {at}: one more than a card may have"),
             Refusal::State { at } => write!(f, "byte {at}: a state above the card's top state"),
-            Refusal::Word { at } => write!(f, "byte {at}: not the seat or module due, or a group that is not symmetric"),
-            Refusal::Weight { at } => write!(f, "byte {at}: not a weight, or weights that do not sum to 1"),
+            Refusal::Word { at } => write!(
+                f,
+                "byte {at}: not the seat or module due, or a group that is not symmetric"
+            ),
+            Refusal::Weight { at } => write!(
+                f,
+                "byte {at}: not a weight, or weights that do not sum to 1"
+            ),
             Refusal::SeatCount => write!(f, "not as many seats as the card has"),
-            Refusal::SeatState { seat } => write!(f, "seat {seat} (from 0) is above the card's top state"),
-            Refusal::Room { needed } => write!(f, "the room is too small: the text has {needed} bytes"),
+            Refusal::SeatState { seat } => {
+                write!(f, "seat {seat} (from 0) is above the card's top state")
+            }
+            Refusal::Room { needed } => {
+                write!(f, "the room is too small: the text has {needed} bytes")
+            }
         }?;
         write!(f, " (refusal {})", self.number())
     }

@@ -2,14 +2,17 @@
 
 use open_panel::*;
 
-const CARD: &[u8] = b"nondeterministic\nmodule process1\ns1 : [0..1] init 0;\n[] s1=0 -> 1:(s1'=1);\nendmodule\n";
+const CARD: &[u8] =
+    b"nondeterministic\nmodule process1\ns1 : [0..1] init 0;\n[] s1=0 -> 1:(s1'=1);\nendmodule\n";
 
 #[test]
 fn texts_in_their_own_room() {
     assert_eq!(judge(CARD), Ok(()));
     assert_eq!(write_to_vec(CARD).as_deref(), Ok(CARD));
     let reduced = reduce_to_vec(CARD).unwrap();
-    assert!(reduced.starts_with(b"nondeterministic\nmodule generic_process\nno_0 : [0..1] init 1;\n"));
+    assert!(
+        reduced.starts_with(b"nondeterministic\nmodule generic_process\nno_0 : [0..1] init 1;\n")
+    );
     let panel = b"nondeterministic\nseats 1 enabled 0\ncounts 0 1\n";
     assert_eq!(show_to_vec(CARD, &[1]).as_deref(), Ok(&panel[..]));
 }
@@ -18,15 +21,43 @@ fn texts_in_their_own_room() {
 fn refusals_have_number_place_and_words() {
     let all = [
         (1, 0, "the card is longer than 16384 bytes (refusal 1)"),
-        (2, 7, "byte 7: no mark of a card, or too many digits (refusal 2)"),
-        (3, 7, "byte 7: this cannot stand here, or the card ends early (refusal 3)"),
+        (
+            2,
+            7,
+            "byte 7: no mark of a card, or too many digits (refusal 2)",
+        ),
+        (
+            3,
+            7,
+            "byte 7: this cannot stand here, or the card ends early (refusal 3)",
+        ),
         (4, 7, "byte 7: one more than a card may have (refusal 4)"),
-        (5, 7, "byte 7: a state above the card's top state (refusal 5)"),
-        (6, 7, "byte 7: not the seat or module due, or a group that is not symmetric (refusal 6)"),
-        (7, 7, "byte 7: not a weight, or weights that do not sum to 1 (refusal 7)"),
+        (
+            5,
+            7,
+            "byte 7: a state above the card's top state (refusal 5)",
+        ),
+        (
+            6,
+            7,
+            "byte 7: not the seat or module due, or a group that is not symmetric (refusal 6)",
+        ),
+        (
+            7,
+            7,
+            "byte 7: not a weight, or weights that do not sum to 1 (refusal 7)",
+        ),
         (8, 0, "not as many seats as the card has (refusal 8)"),
-        (9, 7, "seat 7 (from 0) is above the card's top state (refusal 9)"),
-        (10, 7, "the room is too small: the text has 7 bytes (refusal 10)"),
+        (
+            9,
+            7,
+            "seat 7 (from 0) is above the card's top state (refusal 9)",
+        ),
+        (
+            10,
+            7,
+            "the room is too small: the text has 7 bytes (refusal 10)",
+        ),
     ];
     for (number, place, words) in all {
         let refusal = Refusal::new(number, place).unwrap();
