@@ -1,0 +1,17 @@
+//! The longest texts known, and that the rooms which are always enough hold them.
+
+use compare::extremes::extremes;
+
+#[test]
+fn longest_texts() {
+    let [written, reduced, panel] = extremes();
+    let written = open_panel::write_to_vec(&written.input.card).map(|text| text.len());
+    assert_eq!(written, Ok(22_435));
+    const { assert!(22_516 <= open_panel::WRITE_ROOM) };
+    let reduced = open_panel::reduce_to_vec(&reduced.input.card).map(|text| text.len());
+    assert_eq!(reduced, Ok(262_520));
+    const { assert!(262_613 <= open_panel::REDUCE_ROOM) };
+    let panel = open_panel::show_to_vec(&panel.input.card, &panel.input.seats);
+    assert_eq!(panel.map(|text| text.len()), Ok(3_860));
+    const { assert!(3_860 <= open_panel::SHOW_ROOM) };
+}
