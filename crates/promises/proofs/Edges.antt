@@ -2,12 +2,14 @@
 use mathlib.Core.Path.{refl}
 use Rattle.card.specs.Weight.{unitsOf}
 use Rattle.reading.specs.Reading.{readOf}
+use Rattle.room.specs.Digits.{decimal}
 use Rattle.meaning.specs.Panel.{panel}
+use Rattle.lines.specs.PanelText.{panelOf}
 use Rattle.meaning.specs.CardA.{cardA}
 use Rattle.promises.specs.Edges.{Edges}
 
 pub edges : Edges
-unfolding panel cardA unitsOf readOf
+unfolding panelOf panel cardA decimal unitsOf readOf
 edges = record {
   at-001 = refl;
   at-100 = refl;

@@ -1,5 +1,6 @@
 pub mod Cards
 pub mod Demands
+pub mod Entries
 pub mod Marks
 pub mod Readings
 pub mod Writings

@@ -1,10 +1,10 @@
 -- The demands of document 01, each as one statement, in words that crate `meaning` defines. Assumes nothing.
-use Prim.Native.Nat.{ℕ}
+use Prim.Native.Nat.{ℕ, _≤_}
 use mathlib.Core.Path.{_≡_}
 use mathlib.Core.Logic.{_↔_}
 use mathlib.Core.Bool.{true}
 use mathlib.Core.List.{List, []}
-use lib.ListN.{replicate}
+use lib.ListN.{length, replicate}
 use Rattle.card.specs.Text.{same}
 use Rattle.card.specs.Card.{Card, probabilistic}
 use Rattle.meaning.specs.Steps.{Turn}
@@ -12,6 +12,40 @@ use Rattle.meaning.specs.Sums.{sum}
 use Rattle.meaning.specs.Seats.{Seating, ValidSeating, counts, choices, turns, steps, Stuck}
 use Rattle.meaning.specs.Reduced.{reduce, reducedTurns}
 use Rattle.meaning.specs.Demand.{byCounts, Agrees}
+use Rattle.meaning.specs.Panel.{panel}
+use Rattle.meaning.specs.Reordered.{Reordered}
+use Rattle.card.specs.Limits.{cardBytes}
+use Rattle.reading.specs.Reading.{taken, readOf}
+use Rattle.reading.specs.Verdicts.{Accepted}
+use Rattle.room.specs.declared.Answer.{Answer}
+use Rattle.room.specs.Answer.{text, Entered}
+use Rattle.writer.specs.Writing.{writeOf}
+use Rattle.writer.specs.WriteSaid.{writeSaid}
+use Rattle.reducer.specs.ReducedText.{programText}
+use Rattle.reducer.specs.ReduceSaid.{reduceSaid}
+use Rattle.lines.specs.PanelText.{panelText}
+use Rattle.panel.specs.PanelSaid.{panelSaid}
+use Rattle.panel.specs.Reordering.{SaidAlike, Alike}
+
+-- Demand 2 ("Shape of a card", "Texts, byte for byte"): which bytes are a card, and what is printed of it
+pub record Demand2 : Type 0 where
+  pub accepted : (b : List ℕ) (c : Card) → (readOf b ≡ taken c) ↔ Accepted b c
+  -- the texts of an accepted card are those of the definitions
+  pub written : (b : List ℕ) (c : Card) → readOf b ≡ taken c → writeSaid b ≡ text (writeOf c)
+  pub reduced : (b : List ℕ) (c : Card) → readOf b ≡ taken c → reduceSaid b ≡ text (programText (reduce c))
+  pub shown : (b : List ℕ) (c : Card) (x : Seating) → readOf b ≡ taken c → ValidSeating c x → panelSaid b x ≡ text (panelText (panel c x))
+  -- written out and read again it is the same card
+  pub again : (b : List ℕ) (c : Card) → readOf b ≡ taken c → length (writeOf c) ≤ cardBytes → readOf (writeOf c) ≡ taken c
+
+-- Demand 3 over bytes: of every card that demand 2 accepts
+pub record Demand3-of-bytes : Type 0 where
+  pub agrees : (b : List ℕ) (c : Card) (x : Seating) → readOf b ≡ taken c → ValidSeating c x → Agrees (c .mode) c x
+  -- valid seatings with equal counts show the same bytes; seats in another order do, and of the refusals only the place of 9 may change
+  pub equal-counts : (b : List ℕ) (c : Card) (x y : Seating) → readOf b ≡ taken c → ValidSeating c x → ValidSeating c y → counts (c .k) x ≡ counts (c .k) y
+      → panelSaid b x ≡ panelSaid b y
+  pub reordered : (b : List ℕ) {x y : List ℕ} → Reordered x y → SaidAlike b x y
+  pub answers-alike : (b : List ℕ) {x y : List ℕ} → Reordered x y → {was is-a is-b : List ℕ} {a d : Answer}
+      → Entered was is-a (panelSaid b x) a → Entered was is-b (panelSaid b y) d → Alike a d is-a is-b
 
 -- Demand 3 ("What a card means"), for every card in either mode and every valid seating
 pub record Demand3 : Type 0 where

@@ -1,4 +1,4 @@
--- The marked edges of "Both sides of the edge", as one list in document 01's order. The panels stand here as data. Assumes nothing.
+-- The marked edges of "Both sides of the edge", as one list in document 01's order. The panels stand here as whole texts. Assumes nothing.
 use Prim.Native.Nat.{ℕ}
 use mathlib.Core.Path.{_≡_}
 use mathlib.Core.List.{List, [], _∷_, _++_}
@@ -6,34 +6,19 @@ use mathlib.Core.Option.{Option, none, some}
 use Rattle.card.specs.Text.{bytes}
 use Rattle.card.specs.Card.{Mode, nondeterministic, probabilistic, others, all, any, is, group, atom, Guard, Branch, Card}
 use Rattle.reading.specs.Reading.{Outcome, taken, refused, readOf}
-use Rattle.meaning.specs.Panel.{Move, Block, Panel, panel}
 use Rattle.meaning.specs.CardA.{cardA}
+use Rattle.lines.specs.PanelText.{panelOf}
 
 -- card A's own text
 abbrev pub textA : List ℕ
 textA = bytes "probabilistic\nmodule process1\ns1 : [0..2] init 0;\n[] s1=0 & (s2=0 | s3=0) -> 1/2:(s1'=1) + 1/2:(s1'=2);\n[] s1=1 & (s1!=2 & s2!=2 & s3!=2) -> 1/4:(s1'=2) + 3/4:(s1'=1);\nendmodule\nmodule process2 = process1 [s1=s2, s2=s1] endmodule\nmodule process3 = process1 [s1=s3, s3=s1] endmodule\n"
 
--- ---- a panel of three seats, written down
+-- what card A's panel prints, where the seats are in these states
+abbrev pub at : Mode → ℕ → ℕ → ℕ → List ℕ
+at mode a b c = panelOf (cardA mode) (a ∷ b ∷ c ∷ [])
 
-abbrev pub move : ℕ → ℕ → ℕ → Move
-move a b w = record { old = a; new = b; weight = w }
-
--- the lines of a probabilistic card, and those under `choice q`
-abbrev pub lines : ℕ → List Move → Block
-lines stay moves = record { choice = none; stay = stay; moves = moves }
-
-abbrev pub choice : ℕ → ℕ → List Move → Block
-choice q stay moves = record { choice = some q; stay = stay; moves = moves }
-
-abbrev pub shows : Mode → ℕ → List ℕ → List Block → Panel
-shows mode enabled counts blocks = record { mode = mode; seats = 3; enabled = enabled; counts = counts; blocks = blocks }
-
--- card A's, where the seats are in these states
-abbrev pub at : Mode → ℕ → ℕ → ℕ → Panel
-at mode a b c = panel (cardA mode) (a ∷ b ∷ c ∷ [])
-
-abbrev pub asAbove : Panel
-asAbove = shows probabilistic 3 (2 ∷ 1 ∷ 0 ∷ []) (lines 18900 (move 0 1 25200 ∷ move 0 2 25200 ∷ move 1 2 6300 ∷ []) ∷ [])
+abbrev pub asAbove : List ℕ
+asAbove = bytes "probabilistic\nseats 3 enabled 3\ncounts 2 1 0\nstay 18900\nmove 0 1 25200\nmove 0 2 25200\nmove 1 2 6300\n"
 
 -- ---- a card of one statement
 
@@ -58,11 +43,11 @@ to units end = record { units = units; end = end }
 pub record Edges : Type 0 where
   pub at-001 : at probabilistic 0 0 1 ≡ asAbove
   pub at-100 : at probabilistic 1 0 0 ≡ asAbove
-  pub at-012 : at probabilistic 0 1 2 ≡ shows probabilistic 0 (1 ∷ 1 ∷ 1 ∷ []) (lines 0 [] ∷ [])
-  pub at-011 : at probabilistic 0 1 1 ≡ shows probabilistic 2 (1 ∷ 2 ∷ 0 ∷ []) (lines 37800 (move 1 2 12600 ∷ []) ∷ [])
-  pub at-000 : at probabilistic 0 0 0 ≡ shows probabilistic 3 (3 ∷ 0 ∷ 0 ∷ []) (lines 0 (move 0 1 37800 ∷ move 0 2 37800 ∷ []) ∷ [])
+  pub at-012 : at probabilistic 0 1 2 ≡ bytes "probabilistic\nseats 3 enabled 0\ncounts 1 1 1\n"
+  pub at-011 : at probabilistic 0 1 1 ≡ bytes "probabilistic\nseats 3 enabled 2\ncounts 1 2 0\nstay 37800\nmove 1 2 12600\n"
+  pub at-000 : at probabilistic 0 0 0 ≡ bytes "probabilistic\nseats 3 enabled 3\ncounts 3 0 0\nmove 0 1 37800\nmove 0 2 37800\n"
   pub nondeterministic-001 : at nondeterministic 0 0 1
-      ≡ shows nondeterministic 2 (2 ∷ 1 ∷ 0 ∷ []) (choice 1 0 (move 0 1 12600 ∷ move 0 2 12600 ∷ []) ∷ choice 2 18900 (move 1 2 6300 ∷ []) ∷ [])
+      ≡ bytes "nondeterministic\nseats 3 enabled 2\ncounts 2 1 0\nchoice 1\nmove 0 1 12600\nmove 0 2 12600\nchoice 2\nstay 18900\nmove 1 2 6300\n"
   -- 1/7
   pub seventh : readOf (head ++ bytes " -> 1/7:(s1'=1) + 6/7:(s1'=2);\nendmodule\n") ≡ reads 1 none (to 3600 1 ∷ to 21600 2 ∷ [])
   -- 1/11, at its place

@@ -1,0 +1,55 @@
+-- Demand 1: what each entry answers for a card and a room, and what stands in the room afterwards ("Refusal numbers"). Each statement begins
+-- with the promise that the entry's code is proved to keep: the room `was` became `is`, and `a` is its answer. Assumes nothing.
+use Prim.Native.Nat.{ℕ, _≤_, _<_}
+use mathlib.Core.Path.{_≡_}
+use mathlib.Core.Logic.{_↔_}
+use mathlib.Core.List.{List, _++_}
+use lib.ListN.{length, drop}
+use Rattle.card.specs.Refusals.{wrongWeight, wrongSeats, seatAboveTop, roomTooSmall}
+use Rattle.card.specs.Card.{Card}
+use Rattle.reading.specs.Reading.{taken, refused, readOf}
+use Rattle.room.specs.declared.Answer.{Answer}
+use Rattle.room.specs.declared.Answer.the-variants.{Done, Refused}
+use Rattle.room.specs.Answer.{Entered}
+use Rattle.meaning.specs.Seats.{Seating, ValidSeating}
+use Rattle.counting.specs.Judged.{FirstAbove}
+use Rattle.writer.specs.Writing.{writeOf}
+use Rattle.writer.specs.WriteSaid.{writeSaid}
+use Rattle.reducer.specs.ReducedText.{reducedOf}
+use Rattle.reducer.specs.ReduceSaid.{reduceSaid}
+use Rattle.lines.specs.PanelText.{panelOf}
+use Rattle.panel.specs.PanelSaid.{panelSaid}
+
+-- an entry that prints the text f of its card
+pub record Prints (f : Card → List ℕ) (card was is : List ℕ) (a : Answer) : Type 0 where
+  -- 1 to 7 are the card's
+  pub wrong-card : (number place : ℕ) → number ≤ wrongWeight → (a ≡ Refused number place) ↔ (readOf card ≡ refused number place)
+  -- 10 comes last, and its place is the length needed
+  pub small-room : (place : ℕ) → (a ≡ Refused roomTooSmall place)
+      ↔ ((c : Card) × (readOf card ≡ taken c) × (length was < length (f c)) × (place ≡ length (f c)))
+  -- else the text is there
+  pub done : (long : ℕ) → (a ≡ Done long) ↔ ((c : Card) × (readOf card ≡ taken c) × (length (f c) ≤ length was) × (long ≡ length (f c)))
+  -- and the bytes past it are as they were
+  pub stands : (c : Card) → readOf card ≡ taken c → length (f c) ≤ length was → is ≡ f c ++ drop (length (f c)) was
+  -- a refusal writes nothing
+  pub untouched : (number place : ℕ) → a ≡ Refused number place → is ≡ was
+
+-- the entry that shows the panel of a card and its seats
+pub record Shows (card seats was is : List ℕ) (a : Answer) : Type 0 where
+  pub wrong-card : (number place : ℕ) → number ≤ wrongWeight → (a ≡ Refused number place) ↔ (readOf card ≡ refused number place)
+  -- 8: as many seats as the card has are due
+  pub wrong-count : (place : ℕ) → (a ≡ Refused wrongSeats place) ↔ ((c : Card) × (readOf card ≡ taken c) × (length seats ≡ c .n → ⊥) × (place ≡ 0))
+  -- 9: the first seat above k
+  pub wrong-seat : (place : ℕ) → (a ≡ Refused seatAboveTop place) ↔ ((c : Card) × (readOf card ≡ taken c) × (length seats ≡ c .n) × FirstAbove (c .k) seats place)
+  pub small-room : (place : ℕ) → (a ≡ Refused roomTooSmall place)
+      ↔ ((c : Card) × (readOf card ≡ taken c) × ValidSeating c seats × (length was < length (panelOf c seats)) × (place ≡ length (panelOf c seats)))
+  pub done : (long : ℕ) → (a ≡ Done long)
+      ↔ ((c : Card) × (readOf card ≡ taken c) × ValidSeating c seats × (length (panelOf c seats) ≤ length was) × (long ≡ length (panelOf c seats)))
+  pub stands : (c : Card) → readOf card ≡ taken c → ValidSeating c seats → length (panelOf c seats) ≤ length was
+      → is ≡ panelOf c seats ++ drop (length (panelOf c seats)) was
+  pub untouched : (number place : ℕ) → a ≡ Refused number place → is ≡ was
+
+pub record Demand1 : Type 0 where
+  pub write : (card was is : List ℕ) (a : Answer) → Entered was is (writeSaid card) a → Prints writeOf card was is a
+  pub reduce : (card was is : List ℕ) (a : Answer) → Entered was is (reduceSaid card) a → Prints reducedOf card was is a
+  pub panel : (card seats was is : List ℕ) (a : Answer) → Entered was is (panelSaid card seats) a → Shows card seats was is a
