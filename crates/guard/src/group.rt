@@ -1,7 +1,7 @@
 // A group, read from a part of the card.
+use crate::refusals::OUT_OF_SHAPE;
 use card::limits::MOST_SEATS;
 use card::node::pack_group;
-use card::refusals::OUT_OF_SHAPE;
 use marks::Cursor;
 use marks::kinds;
 ghost use mathlib.Core.Path.{_≡_};
@@ -22,7 +22,7 @@ ghost use Rattle.guard.specs.LiteralRead.{relationBy, noTail, LiteralRea
 // What reading a group found: stop 0, the next cursor, how many seats the group wants (0: it is symmetric for no number of seats),
 // its node, its first d and where that stands; or the number of a refusal and its place.
 pub struct Grouped {
-    pub stop: u8,
+    pub stop: usize,
     pub place: usize,
     pub next: usize,
     pub want: usize,
@@ -34,7 +34,7 @@ pub struct Grouped {
 // What stands behind a seat word: stop 0, the next cursor, the relation, d and where d stands; or the number of a refusal and its
 // place.
 struct Tail {
-    stop: u8,
+    stop: usize,
     place: usize,
     next: usize,
     relation: usize,
@@ -71,7 +71,7 @@ fn no_tail(place: usize) -> Tail
 
 const NO_RELATION: usize = 2;
 
-fn relation(kind: u8) -> usize
+fn relation(kind: usize) -> usize
     ensures { λ r. ⌜ r ≡ relationBy kind ⌝ }
 {
     if kind == kinds::EQUAL {
@@ -179,7 +179,7 @@ fn kind(seen: &[u8; SEATS]) -> usize
 
 // ---- what joins them
 
-fn joint(any: bool) -> u8
+fn joint(any: bool) -> usize
     ensures { λ r. ⌜ r ≡ kindOf (jointOf (signIn any)) ⌝ }
 {
     if any {

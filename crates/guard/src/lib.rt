@@ -1,14 +1,15 @@
 // Guards and groups, read from a card's bytes.
 pub mod group;
+pub mod refusals;
 
 use card::limits::NODE_PLACES;
 use card::node;
-use card::refusals::ABOVE_TOP;
-use card::refusals::NOT_DUE;
-use card::refusals::OUT_OF_SHAPE;
-use card::refusals::PAST_LIMIT;
 use marks::Cursor;
 use marks::kinds;
+use refusals::ABOVE_TOP;
+use refusals::NOT_DUE;
+use refusals::OUT_OF_SHAPE;
+use refusals::PAST_LIMIT;
 ghost use mathlib.Core.Path.{_≡_};
 ghost use mathlib.Core.List.{List, _∷_};
 ghost use Prim.Native.Nat.{ℕ, _+_, _≤_, _<_, _^_};
@@ -31,18 +32,18 @@ ghost use Rattle.guard.specs.Pieces.{operatorOf, joiner, operandOf, chai
 // The first refusal of 5, 6 and 7 so far (number 0: none); how many seats the first group before it wants (0: no group yet) and
 // its bracket; whether a later group wants another number, and the first such group's bracket.
 pub struct Late {
-    pub number: u8,
+    pub number: usize,
     pub place: usize,
     pub want: usize,
     pub first: usize,
-    pub split: u8,
+    pub split: usize,
     pub second: usize,
 }
 
 // What reading a guard found: stop 0, the next cursor, the guard's root, the nodes left and the late refusals so far; or the
 // number of a refusal and its place.
 pub struct Guarded {
-    pub stop: u8,
+    pub stop: usize,
     pub place: usize,
     pub next: usize,
     pub root: usize,
@@ -52,7 +53,7 @@ pub struct Guarded {
 
 // A refusal that is known for certain: its number (0: nothing is wrong), and its place.
 pub struct Settled {
-    pub number: u8,
+    pub number: usize,
     pub place: usize,
 }
 
@@ -70,7 +71,7 @@ pub fn none_yet() -> Late
 }
 
 // A refusal that does not hang on the number of seats, unless one stands before it.
-pub fn blame(late: Late, number: u8, place: usize) -> Late
+pub fn blame(late: Late, number: usize, place: usize) -> Late
     ensures { λ r. ⌜ r ≡ blameAt number place late ⌝ }
 {
     if late.number != 0 {
@@ -165,7 +166,7 @@ pub fn settle(late: Late, seats: usize) -> Settled
 
 // ---- a guard, piece by piece: each node is stored once its parts are
 
-fn stopped(number: u8, place: usize) -> Guarded
+fn stopped(number: usize, place: usize) -> Guarded
     ensures { λ r. ⌜ r ≡ stoppedAt number place ⌝ }
 {
     let late = none_yet();
@@ -437,7 +438,7 @@ fn chain(
     g
 }
 
-fn joint(any: bool) -> u8
+fn joint(any: bool) -> usize
     ensures { λ r. ⌜ r ≡ kindOf (joiner any) ⌝ }
 {
     if any {

@@ -5,7 +5,7 @@ use crate::Cursor;
 use crate::Found;
 use crate::Step;
 
-pub fn bare(kind: u8, place: usize, next: usize) -> Step
+pub fn bare(kind: usize, place: usize, next: usize) -> Step
     ensures { λ r. ⌜ r ≡ bareOf kind place next ⌝ }
 {
     Step {
@@ -20,7 +20,7 @@ pub fn bare(kind: u8, place: usize, next: usize) -> Step
     }
 }
 
-pub fn valued(kind: u8, value: usize, place: usize, next: usize) -> Step
+pub fn valued(kind: usize, value: usize, place: usize, next: usize) -> Step
     ensures { λ r. ⌜ r ≡ valuedOf kind value place next ⌝ }
 {
     Step {

@@ -24,7 +24,7 @@ pub struct Cursor {
 // A mark in numbers: its kind; the number of a word or a number, or before a decimal's point; a decimal's digits after the
 // point, and the number they spell; the place of its first byte.
 pub struct Found {
-    pub kind: u8,
+    pub kind: usize,
     pub value: usize,
     pub digits: usize,
     pub further: usize,

@@ -12,6 +12,7 @@ use crate::bytes::is_blank;
 use crate::bytes::is_sign;
 use crate::bytes::line_end;
 use crate::bytes::stands;
+use crate::bytes::wide;
 use crate::kinds::ARROW;
 use crate::kinds::DOTS;
 use crate::kinds::NOT;
@@ -31,7 +32,7 @@ pub fn sign(card: &[u8], at: usize, b: u8) -> Step
         return bare(NOT, at, next);
     }
     if is_sign(b) {
-        return bare(b, at, next);
+        return bare(wide(b), at, next);
     }
     if b == 46 {
         if stands(card, next, 46) {

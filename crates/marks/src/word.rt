@@ -51,7 +51,7 @@ fn numbered_at(card: &[u8], at: usize, these: &[u8]) -> Digits
 }
 
 // The kind of a word of this size: the keywords of that size are compared.
-fn keyword(card: &[u8], at: usize, size: usize) -> u8
+fn keyword(card: &[u8], at: usize, size: usize) -> usize
     requires { ⌜ (at < length (now card)) × (isLetter (getD (now card) at 0) ≡ true) × (size ≡ length (run inWord (drop at (now card)))) ⌝ }
     ensures { λ r. ⌜ r ≡ kindIn knowns (run inWord (drop at (now (card .entry)))) ⌝ }
 {

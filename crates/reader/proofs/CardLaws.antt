@@ -23,6 +23,7 @@ use Rattle.reading.specs.Checks.{judgedState, judgedWords, judgedEach, judgedSt
 use Rattle.reading.specs.Reading.{Outcome, taken, refused, firstOutside, judged, readOf}
 use Rattle.reading.proofs.Through.{none≢some}
 use Rattle.reading.proofs.Fair.{FairCard, card-fair}
+use Rattle.reading.proofs.Numbers.{read-number}
 use Rattle.reading.proofs.Shaping.{read-shape as shape-of}
 use Rattle.reading.proofs.Valid.{read-valid}
 use Rattle.guard.specs.declared.Settled.{Settled}
@@ -33,7 +34,6 @@ use Rattle.reader.specs.declared.parts.Took.{Took}
 use Rattle.reader.specs.declared.header.Headed.{Headed}
 use Rattle.reader.specs.declared.statements.Listed.{Listed}
 use Rattle.reader.specs.declared.Reading.{Reading}
-use Rattle.reader.specs.declared.Verdict.{Verdict as Answer}
 use Rattle.reader.specs.declared.Verdict.the-variants.{Taken, Refused}
 use Rattle.reader.specs.ReadingOf.{readingOf, Reads}
 use Rattle.reader.specs.Search.{searched}
@@ -197,6 +197,11 @@ module _ (s : List ℕ) (short : length s ≤ cardBytes) where
 
 -- ---- the contract, by the outcome
 
+-- the number of a refusal is small
+pub searched-number : (s : List ℕ) (n p : ℕ) (o : Option ℕ) → readOf s ≡ orOutside n p o → (x : Settled) → x ≡ searched n p o → x .number ≤ wrongWeight
+searched-number s n p none e x h = rw h (read-number s e)
+searched-number s n p (some q) e x h = rw h (read-number s e)
+
 module _ (s : List ℕ) (r : Reading) where
   reads : (o : Outcome) → readOf s ≡ o → r .verdict ≡ readingOf o .verdict → r .card ≡ readingOf o .card → Reads s r
   reads o e v c = record { reading = rw e (λ i. record { verdict = v i; card = c i }); valid = read-valid s }
@@ -204,9 +209,10 @@ module _ (s : List ℕ) (r : Reading) where
   pub reads-refused : (n p : ℕ) → readOf s ≡ refused n p → (r .verdict ≡ Refused n p) × (r .card ≡ blank) → Reads s r
   reads-refused n p e h = reads (refused n p) e (h .0) (h .1)
 
-  pub reads-searched : (n p : ℕ) (o : Option ℕ) → readOf s ≡ orOutside n p o → (v : Answer) → v ≡ searched n p o → (r .verdict ≡ v) × (r .card ≡ blank) → Reads s r
-  reads-searched n p none e v h k = reads (refused n p) e (k .0 ∙ h) (k .1)
-  reads-searched n p (some q) e v h k = reads (refused outsideRules q) e (k .0 ∙ h) (k .1)
+  pub reads-searched : (n p : ℕ) (o : Option ℕ) → readOf s ≡ orOutside n p o → (x : Settled) → x ≡ searched n p o
+      → (r .verdict ≡ Refused (x .number) (x .place)) × (r .card ≡ blank) → Reads s r
+  reads-searched n p none e x h k = reads (refused n p) e (k .0 ∙ ap (λ (y : Settled). Refused (y .number) (y .place)) h) (k .1)
+  reads-searched n p (some q) e x h k = reads (refused outsideRules q) e (k .0 ∙ ap (λ (y : Settled). Refused (y .number) (y .place)) h) (k .1)
 
   pub reads-taken : (c : Card) → readOf s ≡ taken c → r .verdict ≡ Taken → r .card ≡ laid c → Reads s r
   reads-taken c e v h = reads (taken c) e v h

@@ -3,9 +3,8 @@
 use Prim.Native.Nat.{ℕ}
 use mathlib.Core.Option.{Option, none, some}
 use Rattle.card.specs.Refusals.{outsideRules}
-use Rattle.reader.specs.declared.Verdict.{Verdict}
-use Rattle.reader.specs.declared.Verdict.the-variants.{Refused}
+use Rattle.guard.specs.declared.Settled.{Settled}
 
-abbrev pub searched : ℕ → ℕ → Option ℕ → Verdict
-searched r p none = Refused r p
-searched r p (some o) = Refused outsideRules o
+abbrev pub searched : ℕ → ℕ → Option ℕ → Settled
+searched r p none = record { number = r; place = p }
+searched r p (some o) = record { number = outsideRules; place = o }

@@ -8,10 +8,10 @@ use crate::parts::stopped;
 use card::NONDETERMINISTIC as MODE_NONDETERMINISTIC;
 use card::PROBABILISTIC as MODE_PROBABILISTIC;
 use card::limits::TOP_STATE;
-use card::refusals::OUT_OF_SHAPE;
-use card::refusals::PAST_LIMIT;
 use guard::Late;
 use guard::none_yet;
+use guard::refusals::OUT_OF_SHAPE;
+use guard::refusals::PAST_LIMIT;
 use marks::Cursor;
 use marks::kinds::COLON;
 use marks::kinds::DOTS;
@@ -31,7 +31,7 @@ ghost use Rattle.reader.specs.Ends.{ModeFrom, RangeFrom, noHeader as noH
 // What reading it found: stop 0, the next cursor, the mode, the top state, the start state, and the late refusals so far; or the
 // number of a refusal and its place.
 pub struct Headed {
-    pub stop: u8,
+    pub stop: usize,
     pub place: usize,
     pub next: usize,
     pub mode: usize,
@@ -40,7 +40,7 @@ pub struct Headed {
     pub late: Late,
 }
 
-fn no_header(stop: u8, place: usize) -> Headed
+fn no_header(stop: usize, place: usize) -> Headed
     ensures { λ r. ⌜ r ≡ noHeaderAt stop place ⌝ }
 {
     let late = none_yet();

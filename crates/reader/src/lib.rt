@@ -11,8 +11,9 @@ use card::blank;
 use card::limits::BRANCH_PLACES;
 use card::limits::CARD_BYTES;
 use card::limits::NODE_PLACES;
-use card::refusals::OUTSIDE_RULES;
-use card::refusals::TOO_LONG;
+use guard::Settled;
+use guard::refusals::OUTSIDE_RULES;
+use guard::refusals::TOO_LONG;
 use guard::settle;
 use header::header as beginning;
 use marks::Cursor;
@@ -21,9 +22,12 @@ use marks::kinds::OUTSIDE;
 use modules::modules as further_modules;
 use statements::statements as all_statements;
 ghost use mathlib.Core.Path.{_≡_};
+ghost use Prim.Native.Nat.{_≤_};
 ghost use Rattle.card.specs.Laid.{blank as blankCard};
+ghost use Rattle.card.specs.Refusals.{wrongWeight};
 ghost use Rattle.marks.specs.Step.{marksAt};
 ghost use Rattle.reading.specs.Reading.{firstOutside};
+ghost use Rattle.reader.specs.declared.Verdict.the-variants.{Refused};
 ghost use Rattle.reader.specs.Search.{searched};
 ghost use Rattle.reader.specs.ReadingOf.{Reads};
 
@@ -39,7 +43,7 @@ pub struct Reading {
 }
 
 // A stop at a place, unless a mark outside the rules stands there or further on.
-fn search(card: &[u8], stop: u8, place: usize) -> Verdict
+fn search(card: &[u8], stop: usize, place: usize) -> Settled
     ensures { λ r. ⌜ r ≡ searched stop place (firstOutside (marksAt 0 (now (card .entry)) place)) ⌝ }
 {
     let mut next = place;
@@ -48,20 +52,33 @@ fn search(card: &[u8], stop: u8, place: usize) -> Verdict
         let step = cursor.step(card);
         let mark = step.mark;
         if mark.kind == END {
-            return Verdict::Refused(stop, place);
+            return Settled {
+                number: stop,
+                place,
+            };
         }
         if mark.kind == OUTSIDE {
-            return Verdict::Refused(OUTSIDE_RULES, mark.place);
+            return Settled {
+                number: OUTSIDE_RULES,
+                place: mark.place,
+            };
         }
         let behind = step.next;
         next = behind.at;
     }
-    Verdict::Refused(stop, place)
+    Settled {
+        number: stop,
+        place,
+    }
 }
 
-fn refused(verdict: Verdict) -> Reading
-    ensures { λ r. ⌜ (r .verdict ≡ verdict) × (r .card ≡ blankCard) ⌝ }
+// Reading refuses with one of the first seven numbers.
+fn refused(due: Settled) -> Reading
+    requires { ⌜ due .number ≤ wrongWeight ⌝ }
+    ensures { λ r. ⌜ (r .verdict ≡ Refused (due .number) (due .place)) × (r .card ≡ blankCard) ⌝ }
 {
+    let number = due.number;
+    let verdict = Verdict::Refused(number as u8, due.place);
     let card = blank();
     Reading { verdict, card }
 }
@@ -71,7 +88,10 @@ pub fn read(card: &[u8]) -> Reading
     ensures { λ r. ⌜ Reads (now (card .entry)) r ⌝ }
 {
     if card.len() > CARD_BYTES {
-        return refused(Verdict::Refused(TOO_LONG, 0));
+        return refused(Settled {
+            number: TOO_LONG,
+            place: 0,
+        });
     }
     let head = beginning(card, 0);
     if head.stop != 0 {
@@ -96,7 +116,7 @@ pub fn read(card: &[u8]) -> Reading
     }
     let settled = settle(tail.late, tail.value);
     if settled.number != 0 {
-        return refused(Verdict::Refused(settled.number, settled.place));
+        return refused(settled);
     }
     let statements = list.rows;
     let taken = Card {

@@ -1,10 +1,10 @@
 // Parts of a card, read mark by mark from its bytes.
-use card::refusals::ABOVE_TOP;
-use card::refusals::NOT_DUE;
-use card::refusals::OUT_OF_SHAPE;
 use guard::Late;
 use guard::blame;
 use guard::none_yet;
+use guard::refusals::ABOVE_TOP;
+use guard::refusals::NOT_DUE;
+use guard::refusals::OUT_OF_SHAPE;
 use marks::Cursor;
 use marks::kinds::NUMBER;
 ghost use mathlib.Core.Path.{_≡_};
@@ -14,14 +14,14 @@ ghost use Rattle.reader.specs.Parts.{stopped as stoppedAt, tookTo, state
 
 // What reading a part found: stop 0, the next cursor, a number, and the late refusals so far; or the number of a refusal and its place.
 pub struct Took {
-    pub stop: u8,
+    pub stop: usize,
     pub place: usize,
     pub next: usize,
     pub value: usize,
     pub late: Late,
 }
 
-pub fn stopped(stop: u8, place: usize) -> Took
+pub fn stopped(stop: usize, place: usize) -> Took
     ensures { λ r. ⌜ r ≡ stoppedAt stop place ⌝ }
 {
     let late = none_yet();
@@ -82,7 +82,7 @@ pub fn number(card: &[u8], at: usize, top: usize, late: Late) -> Took
 }
 
 // A sign or keyword.
-pub fn sign(card: &[u8], at: usize, kind: u8, late: Late) -> Took
+pub fn sign(card: &[u8], at: usize, kind: usize, late: Late) -> Took
     ensures { λ r. ⌜ SignFrom (now (card .entry)) at kind late r ⌝ }
 {
     let cursor = Cursor { at };
@@ -96,7 +96,7 @@ pub fn sign(card: &[u8], at: usize, kind: u8, late: Late) -> Took
 }
 
 // A run of marks that are fixed but for the numbers in words: their kinds, and the numbers due (0 at a sign).
-pub fn run(card: &[u8], at: usize, kinds: &[u8], dues: &[usize], late: Late) -> Took
+pub fn run(card: &[u8], at: usize, kinds: &[usize], dues: &[usize], late: Late) -> Took
     requires { ⌜ length (now kinds) ≤ length (now dues) ⌝ }
     ensures { λ r. ⌜ RunFrom (now (card .entry)) at (now (kinds .entry)) (now (dues .entry)) late r ⌝ }
 {

@@ -13,11 +13,11 @@ use card::limits::MOST_DEPTH;
 use card::limits::MOST_NODES;
 use card::limits::MOST_STATEMENTS;
 use card::limits::NODE_PLACES;
-use card::refusals::OUT_OF_SHAPE;
-use card::refusals::PAST_LIMIT;
 use guard::Late;
 use guard::conjunction;
 use guard::none_yet;
+use guard::refusals::OUT_OF_SHAPE;
+use guard::refusals::PAST_LIMIT;
 use marks::Cursor;
 use marks::kinds::AND;
 use marks::kinds::ARROW;
@@ -34,7 +34,7 @@ ghost use Rattle.reader.specs.Statements.{GuardedFrom, noRow as noRowAt,
 // What reading a statement found: stop 0, the next cursor, the statement's row, and the late refusals so far; or the number of a
 // refusal and its place.
 pub struct Stated {
-    pub stop: u8,
+    pub stop: usize,
     pub place: usize,
     pub next: usize,
     pub row: Statement,
@@ -43,7 +43,7 @@ pub struct Stated {
 
 // The same of all statements: how many there are, and their rows.
 pub struct Listed {
-    pub stop: u8,
+    pub stop: usize,
     pub place: usize,
     pub next: usize,
     pub count: usize,
@@ -51,7 +51,7 @@ pub struct Listed {
     pub late: Late,
 }
 
-fn no_row(stop: u8, place: usize) -> Stated
+fn no_row(stop: usize, place: usize) -> Stated
     ensures { λ r. ⌜ r ≡ noRowAt stop place ⌝ }
 {
     let late = none_yet();
@@ -69,7 +69,7 @@ fn no_row(stop: u8, place: usize) -> Stated
     }
 }
 
-fn no_list(stop: u8, place: usize) -> Listed
+fn no_list(stop: usize, place: usize) -> Listed
     ensures { λ r. ⌜ r ≡ noListAt stop place ⌝ }
 {
     let late = none_yet();

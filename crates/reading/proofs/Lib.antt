@@ -11,5 +11,6 @@ pub mod Along
 pub mod Ordered
 pub mod Reasons
 pub mod Fair
+pub mod Numbers
 pub mod Valid
 pub mod Theorems

@@ -1,4 +1,3 @@
 pub mod Rows
-pub mod Numbers
 pub mod Entry
 pub mod Theorems

@@ -15,7 +15,7 @@ use Rattle.room.specs.declared.Answer.the-variants.{Done, Refused}
 use Rattle.room.specs.Answer.{text, roomTooSmall, Entered}
 use Rattle.room.proofs.Entries.{entered-refusal, entered-fits, entered-longer, entered-unique, entered-kept, entered-past, entered-length}
 use Rattle.rows.specs.Said.{saidOf}
-use Rattle.rows.proofs.Numbers.{read-number}
+use Rattle.reading.proofs.Numbers.{read-number}
 
 -- no two answers, and no two outcomes, of different kinds are the same
 done≢refused : {A : Type 0} {long number place : ℕ} → Done long ≡ Refused number place → A

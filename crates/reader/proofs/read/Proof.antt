@@ -1,7 +1,8 @@
-use Rattle.reader.proofs.CardLaws.{header-stops, statements-stop, modules-stop, late-read, taken-read, reads-refused, reads-searched, reads-taken}
+use Rattle.reader.proofs.CardLaws.{header-stops, statements-stop, modules-stop, late-read, taken-read, reads-refused, searched-number, reads-searched, reads-taken}
 use Rattle.reader.proofs.Outcomes.{read-long}
 use Rattle.reader.specs.Statements.{arrays}
 use Rattle.reading.specs.Reading.{firstOutside}
+use Rattle.reading.proofs.Numbers.{read-number}
 use Rattle.marks.specs.Step.{marksAt}
 use Rattle.card.specs.Refusals.{tooLong}
 use Rattle.card.proofs.Filling.{zeros-repeat}
@@ -39,7 +40,8 @@ search-requires c κs = search needs
 
 -- src/lib.rt:78:9
 refused-requires-2 : tie.Need-refused-requires-2
-refused-requires-2 c κs = search needs
+refused-requires-2 c κs = searched-number (now (c .before .before .before .before .before .before .args .card)) (c .before .before .before .header .result .stop) (c .before .before .before .header .result .place) (firstOutside (marksAt 0 (now (c .before .before .before .before .before .before .args .card)) (c .before .before .before .header .result .place)))
+    (header-stops (now (c .before .before .before .before .before .before .args .card)) (c .before .before .before .before .if1 .left) (c .before .before .before .header .result) (c .before .before .before .header .ensures) (c .before .if2 .taken)) (c .search .result) (c .search .ensures)
 
 -- src/lib.rt:78:9
 returns-2 : tie.Need-returns-2
@@ -56,7 +58,8 @@ search-requires-2 c κs = search needs
 
 -- src/lib.rt:84:9
 refused-requires-3 : tie.Need-refused-requires-3
-refused-requires-3 c κs = search needs
+refused-requires-3 c κs = searched-number (now (c .before .before .before .before .before .before .before .before .before .before .before .args .card)) (c .before .before .before .statements .result .stop) (c .before .before .before .statements .result .place) (firstOutside (marksAt 0 (now (c .before .before .before .before .before .before .before .before .before .before .before .args .card)) (c .before .before .before .statements .result .place)))
+    (statements-stop (now (c .before .before .before .before .before .before .before .before .before .before .before .args .card)) (c .before .before .before .before .before .before .before .before .before .if1 .left) (c .before .before .before .before .before .before .before .before .header .result) (c .before .before .before .before .before .before .before .before .header .ensures) (c .before .before .before .before .before .before .if2 .left) (c .before .before .before .statements .result) (arrays (replicate nodePlaces 0) (replicate branchPlaces 0)) (arrays (c .before .before .before .statements .last .1 .1 .1 .0) (c .before .before .before .statements .last .1 .1 .1 .1 .0)) (c .before .before .before .statements .ensures) (c .before .if3 .taken)) (c .search2 .result) (c .search2 .ensures)
 
 -- src/lib.rt:84:9
 returns-3 : tie.Need-returns-3
@@ -73,7 +76,8 @@ search-requires-3 c κs = search needs
 
 -- src/lib.rt:88:9
 refused-requires-4 : tie.Need-refused-requires-4
-refused-requires-4 c κs = search needs
+refused-requires-4 c κs = searched-number (now (c .before .before .before .before .before .before .before .before .before .before .before .before .before .before .args .card)) (c .before .before .before .modules .result .stop) (c .before .before .before .modules .result .place) (firstOutside (marksAt 0 (now (c .before .before .before .before .before .before .before .before .before .before .before .before .before .before .args .card)) (c .before .before .before .modules .result .place)))
+    (modules-stop (now (c .before .before .before .before .before .before .before .before .before .before .before .before .before .before .args .card)) (c .before .before .before .before .before .before .before .before .before .before .before .before .if1 .left) (c .before .before .before .before .before .before .before .before .before .before .before .header .result) (c .before .before .before .before .before .before .before .before .before .before .before .header .ensures) (c .before .before .before .before .before .before .before .before .before .if2 .left) (c .before .before .before .before .before .before .statements .result) (arrays (replicate nodePlaces 0) (replicate branchPlaces 0)) (arrays (c .before .before .before .before .before .before .statements .last .1 .1 .1 .0) (c .before .before .before .before .before .before .statements .last .1 .1 .1 .1 .0)) (c .before .before .before .before .before .before .statements .ensures) (c .before .before .before .before .if3 .left) (c .before .before .before .modules .result) (c .before .before .before .modules .ensures) (c .before .if4 .taken)) (c .search3 .result) (c .search3 .ensures)
 
 -- src/lib.rt:88:9
 returns-4 : tie.Need-returns-4
@@ -86,7 +90,8 @@ settle-requires c κs = search needs
 
 -- src/lib.rt:92:9
 refused-requires-5 : tie.Need-refused-requires-5
-refused-requires-5 c κs = search needs
+refused-requires-5 c κs = read-number (now (c .before .before .before .before .before .before .before .before .before .before .before .before .before .before .before .before .args .card))
+    (late-read (now (c .before .before .before .before .before .before .before .before .before .before .before .before .before .before .before .before .args .card)) (c .before .before .before .before .before .before .before .before .before .before .before .before .before .before .if1 .left) (c .before .before .before .before .before .before .before .before .before .before .before .before .before .header .result) (c .before .before .before .before .before .before .before .before .before .before .before .before .before .header .ensures) (c .before .before .before .before .before .before .before .before .before .before .before .if2 .left) (c .before .before .before .before .before .before .before .before .statements .result) (arrays (replicate nodePlaces 0) (replicate branchPlaces 0)) (arrays (c .before .before .before .before .before .before .before .before .statements .last .1 .1 .1 .0) (c .before .before .before .before .before .before .before .before .statements .last .1 .1 .1 .1 .0)) (c .before .before .before .before .before .before .before .before .statements .ensures) (c .before .before .before .before .before .before .if3 .left) (c .before .before .before .before .before .modules .result) (c .before .before .before .before .before .modules .ensures) (c .before .before .before .if4 .left) (c .before .before .settle .result) (c .before .before .settle .ensures) (c .if5 .taken))
 
 -- src/lib.rt:92:9
 returns-5 : tie.Need-returns-5

@@ -12,6 +12,7 @@ use Rattle.marks.proofs.sign.sign.Lts as lts
 use Rattle.marks.proofs.answer.bare.Reads as bare-reads
 use Rattle.marks.proofs.bytes.is_sign.Reads as is-sign-reads
 use Rattle.marks.proofs.bytes.stands.Reads as stands-reads
+use Rattle.marks.proofs.bytes.wide.Reads as wide-reads
 
 add-next : tie.Need-add-next
 add-next c = search needs
@@ -37,14 +38,19 @@ returns-2 c = λ k. rw (c .before .before .before .if1 .taken) (c .bare2 .ensure
 is-sign-requires : tie.Need-is-sign-requires
 is-sign-requires c κs = search needs
 
+wide-requires : tie.Need-wide-requires
+wide-requires c κs = search needs
+
 bare-requires-3 : tie.Need-bare-requires-3
 bare-requires-3 c κs = search needs
 
 returns-3 : tie.Need-returns-3
 returns-3 c =
-    let y = sym (c .before .before .is-sign .ensures) ∙ c .before .if3 .taken in
-    let s = drop (c .before .before .before .before .before .args .at + 1) (c .before .before .before .before .before .args .card .now) in
-    λ k. c .bare3 .ensures ∙ ap (λ (v : ℕ). bareOf v (c .before .before .before .before .before .args .at) (c .before .before .before .before .before .args .at + 1)) (sym (sign-kind (c .before .before .before .before .before .args .b) y)) ∙ sym (sign-one (c .before .before .before .before .before .args .b) s (c .before .before .before .before .before .args .at) k (sign-single (c .before .before .before .before .before .args .b) s (c .before .before .before .before .before .args .at) k (sign-second (c .before .before .before .before .before .args .b) (c .before .before .before .if1 .left) y)) y)
+    let b = c .before .before .before .before .before .before .args .b in
+    let i = c .before .before .before .before .before .before .args .at in
+    let y = sym (c .before .before .before .is-sign .ensures) ∙ c .before .before .if3 .taken in
+    let s = drop (i + 1) (c .before .before .before .before .before .before .args .card .now) in
+    λ k. c .bare3 .ensures ∙ ap (λ (v : ℕ). bareOf v i (i + 1)) (c .before .wide .ensures ∙ sym (sign-kind b y)) ∙ sym (sign-one b s i k (sign-single b s i k (sign-second b (c .before .before .before .before .if1 .left) y)) y)
 
 stands-requires-2 : tie.Need-stands-requires-2
 stands-requires-2 c κs = search needs
@@ -100,6 +106,7 @@ sign-spec =
     bare-requires-2
     returns-2
     is-sign-requires
+    wide-requires
     bare-requires-3
     returns-3
     stands-requires-2

@@ -33,6 +33,10 @@ step-requires : tie.Need-step-requires Inv-loop μ-loop
 step-requires c κs = search needs
 
 -- src/parts.rt:98:25
+mul-if1 : tie.Need-mul-if1 Inv-loop μ-loop
+mul-if1 c = search needs
+
+-- src/parts.rt:98:25
 shared-slice-read-if1 : tie.Need-shared-slice-read-if1 Inv-loop μ-loop
 shared-slice-read-if1 c = search needs
 
@@ -92,6 +96,7 @@ run-spec =
     μ-loop
     loop-holds
     step-requires
+    mul-if1
     shared-slice-read-if1
     stopped-requires
     returns
