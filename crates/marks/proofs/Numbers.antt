@@ -22,7 +22,7 @@ plain-long : (most : ℕ) (ds : List ℕ) → most < length ds → plain most ds
 plain-long most [] h = refl
 plain-long most (b ∷ ds) h = rw (lt-leb (length (b ∷ ds)) most h) (and-false (every isDigit (b ∷ ds) && (not (eqb b 48) || same ds [])))
 
-one-digit : (most : ℕ) (ds : List ℕ) → every isDigit ds ≡ true → length ds ≡ 1 → 1 ≤ most → plain most ds ≡ true
+pub one-digit : (most : ℕ) (ds : List ℕ) → every isDigit ds ≡ true → length ds ≡ 1 → 1 ≤ most → plain most ds ≡ true
 one-digit most [] e n h = absurd (omega arith)
 one-digit most (b ∷ []) e n h = rw (e, le-leb 1 most h, or-true (not (eqb b 48)))
 one-digit most (b ∷ c ∷ ds) e n h = absurd (omega arith)

@@ -22,6 +22,19 @@ between f (suc n) a e b l h = cases (eqb b a)
     (λ q. rw (eqb-true b a q) (and-left (f a) (allFrom f n (suc a)) e))
     (λ q. between f n (suc a) (and-right (f a) (allFrom f n (suc a)) e) b (omega (arith, eqb-false b a q)) (omega arith))
 
+-- two tests that agree on each of them
+abbrev alike : Bool → Bool → Bool
+alike true b = b
+alike false b = not b
+
+alike-same : (a b : Bool) → alike a b ≡ true → a ≡ b
+alike-same true b e = sym e
+alike-same false true e = not-both false e refl
+alike-same false false e = refl
+
+pub agree : (f g : ℕ → Bool) (n a : ℕ) → allFrom (λ b. alike (f b) (g b)) n a ≡ true → (b : ℕ) → a ≤ b → b < a + n → f b ≡ g b
+agree f g n a e b l h = alike-same (f b) (g b) (between (λ b. alike (f b) (g b)) n a e b l h)
+
 -- of the keys of a `match`
 pub of-keys : (f : ℕ → Bool) (ks : List ℕ) → every f ks ≡ true → (b : ℕ) → OneOf ks b → f b ≡ true
 of-keys f ks e b h = cases (hasKey ks b)

@@ -64,6 +64,10 @@ begun-short (a ∷ t) (b ∷ s) h = cases (eqb a b) (λ e. rw e (begun-short t s
 
 -- ---- a run of bytes
 
+pub run-empty : (p : ℕ → Bool) (s : List ℕ) → begins p s ≡ false → run p s ≡ []
+run-empty p [] e = refl
+run-empty p (b ∷ s) e = rw e
+
 pub run-length : (p : ℕ → Bool) (s : List ℕ) → length (run p s) ≤ length s
 run-length p [] = omega arith
 run-length p (b ∷ s) = cases (p b) (λ e. rw e (omega (arith, run-length p s))) (λ e. rw e (omega arith))

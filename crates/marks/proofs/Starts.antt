@@ -5,24 +5,24 @@ use mathlib.Core.Path.{_≡_, refl, sym, ap, ap₂, _∙_}
 use mathlib.Core.Bool.{Bool, true, false, not, _&&_, _||_}
 use mathlib.Core.List.{List, [], _∷_}
 use mathlib.Core.Option.{Option, none, some}
-use native.Mathlib.Nat.{add-zero, add-assoc}
+use native.Mathlib.Nat.{add-zero, zero-add, add-assoc}
 use native.Mathlib.Numerals.{add-one}
 use native.Mathlib.Omega.{arith}
 use lib.Dec.{eqb, leb}
 use lib.ListN.{length, getD, drop, length-drop, drop-of-length-le}
 use lib.Seq.{drop-drop}
-use borrow.Author.Tests.{le-leb, lt-leb, leb-true, eqb-true, eqb-false, eq-eqb, ne-eqb}
+use borrow.Author.Tests.{le-leb, lt-leb, leb-true, eqb-true, eqb-false, eq-eqb, ne-eqb, not-true}
 use Rattle.card.specs.Limits.{numberDigits, furtherDigits, wordDigits}
 use Rattle.card.specs.Text.{bytes, same, if_then_else_}
 use Rattle.marks.specs.Marks.{Mark, text, seat, process, number, decimal, outside, within, isDigit, isLetter, inWord, isBlank, isSign, oneOf, second, notLF, run, begins, every, after, valueFrom, plain, numberOf, Start, blank, mark, made, numbered, wordMark, word, pointed, decimalMark, numeralMark, numeral, sign1, sign2, sign, comment, startAt}
 use Rattle.marks.specs.Kinds.{Known, knowns, kindIn, kWord}
 use Rattle.marks.specs.Step.{stepTo, stepEnd, stepped, stepFrom, stepAt}
-use Rattle.marks.specs.Parts.{begun, heldDigits, Counted, gapOf, Numbered}
+use Rattle.marks.specs.Parts.{isAlone, inNumber, shortSeat, begun, heldDigits, Counted, gapOf, Numbered}
 use Rattle.marks.specs.declared.number.Digits.{Digits}
 use Rattle.marks.specs.declared.Step.{Step}
-use Rattle.marks.proofs.Lists.{cases, not-both, and-left, and-right, or-true, drop-at}
-use Rattle.marks.proofs.Runs.{same-begun, run-on, run-length, run-passes, run-stops, run-narrow, run-same, after-run, after-not, run-begun, begins-at}
-use Rattle.marks.proofs.Numbers.{plain-short, plain-digits}
+use Rattle.marks.proofs.Lists.{cases, not-both, and-left, and-right, or-true, or-left, or-right, drop-at}
+use Rattle.marks.proofs.Runs.{same-begun, run-on, run-empty, run-length, run-passes, run-stops, run-narrow, run-same, after-run, after-not, run-begun, begins-at, begins-place}
+use Rattle.marks.proofs.Numbers.{one-digit, plain-short, plain-digits}
 
 -- ---- numbers and decimals
 
@@ -85,6 +85,17 @@ module _ (s : List ℕ) (i : ℕ) (h : i < length s) (d : isDigit (getD s i 0) �
           numeral-decimal e point d rest short
           ∙ sym (ap₂ (λ v n. stepTo (decimal v (f .count) (f .value)) i (i + n + 1 + f .count)) (counted .value-is held) (counted .count-is)
           ∙ ap₂ (λ v n. stepTo (decimal (valueFrom 0 (run isDigit (drop i s))) n v) i (i + length (run isDigit (drop i s)) + 1 + n)) (more .value-is kept) (more .count-is))
+
+-- one digit, and the number ends
+not-pointed : (s : List ℕ) → begins inNumber s ≡ false → (begins isDigit s ≡ false) × (pointed s ≡ false)
+not-pointed [] e = (refl, refl)
+not-pointed (a ∷ s) e = (or-left (isDigit a) (eqb a 46) e, rw (or-right (isDigit a) (eqb a 46) e))
+
+pub numeral-single : (b : ℕ) (s : List ℕ) (i : ℕ) (k : ℕ → Step) → isDigit b ≡ true → begins inNumber s ≡ false → stepped i (numeral b s) k ≡ stepTo (number (b - 48)) i (i + 1)
+numeral-single b s i k d e =
+    let t : run isDigit s ≡ [] = run-empty isDigit s (not-pointed s e .0) in
+    let y : plain numberDigits (b ∷ []) ≡ true = one-digit numberDigits (b ∷ []) (rw d) refl (omega arith) in
+    rw (t, y, not-pointed s e .1, zero-add, add-zero)
 
 -- ---- words
 
@@ -152,6 +163,32 @@ module _ (s : List ℕ) (i : ℕ) (h : i < length s) (l : isLetter (getD s i 0) 
 
   pub word-step : (m : Mark) → wordMark (run inWord (drop i s)) ≡ m → stepped i (word (getD s i 0) (drop (i + 1) s)) k ≡ stepTo m i (i + length (run inWord (drop i s)))
   word-step m e = rw (← e, word-run, word-size, word-run)
+
+-- a seat word with one digit
+module _ (s : List ℕ) (i : ℕ) (h : i < length s) (e : shortSeat (drop i s) ≡ true) where
+  seat-parts : (eqb (getD s i 0) 115 && begins isDigit (drop (i + 1) s) && not (begins inWord (drop 1 (drop (i + 1) s)))) ≡ true
+  seat-parts = rw (drop-at s i h) at e
+
+  digit-behind : begins isDigit (drop (i + 1) s) ≡ true
+  digit-behind = and-right (eqb (getD s i 0) 115) (begins isDigit (drop (i + 1) s)) (and-left _ _ seat-parts)
+
+  pub seat-place : i + 1 < length s
+  seat-place = begins-place isDigit s (i + 1) digit-behind
+
+  pub seat-digit : isDigit (getD s (i + 1) 0) ≡ true
+  seat-digit = sym (begins-at isDigit s (i + 1) seat-place) ∙ digit-behind
+
+  seat-rest : run inWord (drop (i + 1) s) ≡ getD s (i + 1) 0 ∷ []
+  seat-rest =
+      let n : begins inWord (drop 1 (drop (i + 1) s)) ≡ false = not-true (begins inWord (drop 1 (drop (i + 1) s))) (and-right (eqb (getD s i 0) 115 && begins isDigit (drop (i + 1) s)) (not (begins inWord (drop 1 (drop (i + 1) s)))) seat-parts) in
+      run-on inWord s (i + 1) seat-place (digit-in-word (getD s (i + 1) 0) seat-digit)
+      ∙ ap (λ (t : List ℕ). getD s (i + 1) 0 ∷ t) (run-empty inWord (drop (i + 1 + 1) s) (ap (begins inWord) (sym (drop-drop 1 (i + 1) s)) ∙ n))
+
+  pub seat-single : (k : ℕ → Step) → stepped i (word (getD s i 0) (drop (i + 1) s)) k ≡ stepTo (seat (getD s (i + 1) 0 - 48)) i (i + 1 + 1)
+  seat-single k =
+      let b : getD s i 0 ≡ 115 = eqb-true (getD s i 0) 115 (and-left _ _ (and-left _ _ seat-parts)) in
+      let y : plain wordDigits (getD s (i + 1) 0 ∷ []) ≡ true = one-digit wordDigits (getD s (i + 1) 0 ∷ []) (rw seat-digit) refl (omega arith) in
+      rw (b, seat-rest, y, zero-add)
 
 -- ---- keywords: of a word only the keywords of its length are in question
 
@@ -242,7 +279,7 @@ sign-second a x e = no-second a x (λ q. not-both (isSign a) e (rw q)) (λ q. no
 
 -- ---- what starts at a byte
 
-not-blank : (b : ℕ) → 33 ≤ b → isBlank b ≡ false
+pub not-blank : (b : ℕ) → 33 ≤ b → isBlank b ≡ false
 not-blank b h = rw (ne-eqb b 32 (λ q. omega arith), ne-eqb b 9 (λ q. omega arith), ne-eqb b 13 (λ q. omega arith), ne-eqb b 10 (λ q. omega arith))
 
 letter-high : (b : ℕ) → isLetter b ≡ true → 65 ≤ b
@@ -299,6 +336,15 @@ module _ (b : ℕ) (s : List ℕ) where
       (λ e. cases (eqb b 47 && begins (eqb 47) s)
       (λ c. absurd (omega (arith, rw (e, c) at g)))
       (λ c. rw (e, c, l, d)))
+
+  -- a sign that begins no other mark
+  pub alone-step : (i : ℕ) (k : ℕ → Step) → isAlone b ≡ true → gapOf (startAt b s) ≡ 0 → stepped i (startAt b s) k ≡ stepTo (text (b ∷ [])) i (i + 1)
+  alone-step i k e g =
+      let y : isSign b ≡ true = and-left (isSign b) (not (eqb b 33 || eqb b 47)) e in
+      let l : isLetter b ≡ false = not-true (isLetter b) (among (λ a. not (isLetter a)) (bytes "[]:;=!&|()+',/") b refl y) in
+      let d : isDigit b ≡ false = not-true (isDigit b) (among (λ a. not (isDigit a)) (bytes "[]:;=!&|()+',/") b refl y) in
+      let x : (b ≡ 33 → ⊥) = λ q. not-both (isAlone b) e (rw q) in
+      rw (sign-starts l d g) (sign-one b s i k (sign-single b s i k (sign-second b x y)) y)
 
   -- a blank or a comment lies within the text
   pub gap-fits : gapOf (startAt b s) ≤ suc (length s)

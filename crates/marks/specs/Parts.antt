@@ -2,13 +2,13 @@
 -- Assumes nothing.
 use Prim.Native.Nat.{ℕ, zero, suc, _+_, _-_, _*_, _^_, _≤_}
 use mathlib.Core.Path.{_≡_}
-use mathlib.Core.Bool.{Bool, true, false}
+use mathlib.Core.Bool.{Bool, true, false, not, _&&_, _||_}
 use mathlib.Core.List.{List, [], _∷_}
 use mathlib.Core.Option.{Option, none, some}
-use lib.Dec.{ltb}
+use lib.Dec.{eqb, ltb}
 use lib.ListN.{length, drop}
 use Rattle.card.specs.Text.{if_then_else_}
-use Rattle.marks.specs.Marks.{Mark, run, isDigit, after, valueFrom, numbered, Start, blank, mark}
+use Rattle.marks.specs.Marks.{Mark, run, begins, isDigit, isSign, inWord, after, valueFrom, numbered, Start, blank, mark}
 use Rattle.marks.specs.declared.Step.{Step}
 use Rattle.marks.specs.declared.number.Digits.{Digits}
 
@@ -18,6 +18,19 @@ valuedOf kind value place next = record { mark = record { kind = kind; value = v
 
 abbrev pub bareOf : ℕ → ℕ → ℕ → Step
 bareOf kind place next = valuedOf kind 0 place next
+
+-- the signs of one byte that begin no other mark
+abbrev pub isAlone : ℕ → Bool
+isAlone b = isSign b && not (eqb b 33 || eqb b 47)
+
+-- a number goes on, with a digit or a point
+abbrev pub inNumber : ℕ → Bool
+inNumber b = isDigit b || eqb b 46
+
+-- a seat word with one digit
+abbrev pub shortSeat : List ℕ → Bool
+shortSeat [] = false
+shortSeat (a ∷ s) = eqb a 115 && begins isDigit s && not (begins inWord (drop 1 s))
 
 -- the place behind the bytes from i on that pass a test
 abbrev pub runEnd : (ℕ → Bool) → List ℕ → ℕ → ℕ

@@ -4,7 +4,7 @@ ghost use Prim.Native.Nat.{_≤_};
 ghost use lib.ListN.{length, drop};
 ghost use lib.Dec.{eqb};
 ghost use Rattle.marks.specs.Marks.{isDigit, isLetter, inWord, isBlank, isSign, oneOf, notLF, begins};
-ghost use Rattle.marks.specs.Parts.{runEnd, begun};
+ghost use Rattle.marks.specs.Parts.{isAlone, inNumber, runEnd, begun};
 
 pub fn wide(b: u8) -> usize
     ensures { λ r. ⌜ r ≡ b ⌝ }
@@ -21,22 +21,25 @@ pub fn is_digit(b: u8) -> bool
 pub fn is_letter(b: u8) -> bool
     ensures { λ r. ⌜ r ≡ isLetter b ⌝ }
 {
-    if 97 <= b {
-        return b <= 122;
+    if b < 65 {
+        return false;
     }
-    65 <= b && b <= 90
+    if b < 97 {
+        return b <= 90;
+    }
+    b <= 122
 }
 
 pub fn in_word(b: u8) -> bool
     ensures { λ r. ⌜ r ≡ inWord b ⌝ }
 {
-    if is_digit(b) {
+    if b < 65 {
+        return is_digit(b);
+    }
+    if b == 95 {
         return true;
     }
-    if is_letter(b) {
-        return true;
-    }
-    b == 95
+    is_letter(b)
 }
 
 fn one_of(b: u8, these: &[u8]) -> bool
@@ -81,6 +84,34 @@ pub fn is_sign(b: u8) -> bool
     }
 }
 
+// A sign that begins no other mark; the most frequent bytes take the fewest tests.
+pub fn is_alone(b: u8) -> bool
+    ensures { λ r. ⌜ r ≡ isAlone b ⌝ }
+{
+    if b < 48 {
+        if b < 38 {
+            return false;
+        }
+        if 44 < b {
+            return false;
+        }
+        return b != 42;
+    }
+    if b < 58 {
+        return false;
+    }
+    if b < 62 {
+        return b != 60;
+    }
+    if 97 <= b {
+        return b == 124;
+    }
+    if b == 91 {
+        return true;
+    }
+    b == 93
+}
+
 // Does this byte stand at a place?
 pub fn stands(card: &[u8], at: usize, b: u8) -> bool
     ensures { λ r. ⌜ r ≡ begins (eqb b) (drop at (now (card .entry))) ⌝ }
@@ -106,6 +137,20 @@ pub fn digit_at(card: &[u8], at: usize) -> bool
 {
     if at < card.len() {
         return is_digit(card[at]);
+    }
+    false
+}
+
+// Does a number go on at a place, with a digit or a point?
+pub fn number_at(card: &[u8], at: usize) -> bool
+    ensures { λ r. ⌜ r ≡ begins inNumber (drop at (now (card .entry))) ⌝ }
+{
+    if at < card.len() {
+        let b = card[at];
+        if b == 46 {
+            return true;
+        }
+        return is_digit(b);
     }
     false
 }

@@ -7,10 +7,17 @@ mod sign;
 mod word;
 
 ghost use mathlib.Core.Path.{_≡_};
-ghost use Rattle.marks.specs.Step.{stepAt};
+ghost use Prim.Native.Nat.{ℕ, _+_, _<_};
+ghost use lib.ListN.{length, drop, getD};
+ghost use Rattle.marks.specs.Marks.{startAt};
+ghost use Rattle.marks.specs.Step.{stepped, stepAt};
+ghost use Rattle.marks.specs.Parts.{gapOf};
+ghost use Rattle.marks.specs.declared.Step as steps;
 use answer::bare;
+use bytes::is_alone;
 use bytes::is_digit;
 use bytes::is_letter;
+use bytes::wide;
 use kinds::END;
 use number::numeral;
 use sign::gap;
@@ -36,6 +43,24 @@ pub struct Step {
     pub next: Cursor,
 }
 
+// The mark that starts with the byte b at a place, which is no blank and begins no comment.
+fn start(card: &[u8], at: usize, b: u8) -> Step
+    requires { ⌜ (at < length (now card)) × (b ≡ getD (now card) at 0) × (gapOf (startAt b (drop (at + 1) (now card))) ≡ 0) ⌝ }
+    ensures { λ r. ⌜ ((k : ℕ → steps.Step) → r ≡ stepped at (startAt b (drop (at + 1) (now (card .entry)))) k) ⌝ }
+{
+    if is_alone(b) {
+        let kind = wide(b);
+        return bare(kind, at, at + 1);
+    }
+    if is_digit(b) {
+        return numeral(card, at);
+    }
+    if is_letter(b) {
+        return word(card, at);
+    }
+    sign(card, at, b)
+}
+
 impl Cursor {
     pub fn new() -> Cursor
         ensures { λ r. ⌜ r .at ≡ 0 ⌝ }
@@ -50,15 +75,9 @@ impl Cursor {
         let mut at = self.at;
         while at < card.len() {
             let b = card[at];
-            if is_letter(b) {
-                return word(card, at);
-            }
-            if is_digit(b) {
-                return numeral(card, at);
-            }
             let n = gap(card, at, b);
             if n == 0 {
-                return sign(card, at, b);
+                return start(card, at, b);
             }
             at += n;
         }

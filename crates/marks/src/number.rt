@@ -14,6 +14,7 @@ use crate::answer::bare;
 use crate::answer::valued;
 use crate::bytes::digit_at;
 use crate::bytes::is_digit;
+use crate::bytes::number_at;
 use crate::bytes::stands;
 use crate::bytes::wide;
 use crate::kinds::DECIMAL;
@@ -92,7 +93,7 @@ fn is_pointed(card: &[u8], at: usize) -> bool
 }
 
 // The mark that starts with the digit at a place.
-pub fn numeral(card: &[u8], at: usize) -> Step
+fn long_numeral(card: &[u8], at: usize) -> Step
     requires { ⌜ (at < length (now card)) × (isDigit (getD (now card) at 0) ≡ true) ⌝ }
     ensures { λ r. ⌜ ((k : ℕ → step.Step) → r ≡ stepped at (numeralOf (getD (now (card .entry)) at 0) (drop (at + 1) (now (card .entry)))) k) ⌝ }
 {
@@ -121,4 +122,17 @@ pub fn numeral(card: &[u8], at: usize) -> Step
         },
         next: Cursor { at: from + more },
     }
+}
+
+// The same; most numbers have one digit.
+pub fn numeral(card: &[u8], at: usize) -> Step
+    requires { ⌜ (at < length (now card)) × (isDigit (getD (now card) at 0) ≡ true) ⌝ }
+    ensures { λ r. ⌜ ((k : ℕ → step.Step) → r ≡ stepped at (numeralOf (getD (now (card .entry)) at 0) (drop (at + 1) (now (card .entry)))) k) ⌝ }
+{
+    let next = at + 1;
+    if number_at(card, next) {
+        return long_numeral(card, at);
+    }
+    let value = wide(card[at] - 48);
+    valued(NUMBER, value, at, next)
 }

@@ -54,8 +54,11 @@ pub fn gap(card: &[u8], at: usize, b: u8) -> usize
     requires { ⌜ at < length (now card) ⌝ }
     ensures { λ r. ⌜ r ≡ gapOf (startAt b (drop (at + 1) (now (card .entry)))) ⌝ }
 {
-    if is_blank(b) {
+    if b == 32 {
         return 1;
+    }
+    if 47 < b {
+        return 0;
     }
     if b == 47 {
         let next = at + 1;
@@ -64,6 +67,12 @@ pub fn gap(card: &[u8], at: usize, b: u8) -> usize
             return end - at;
         }
         return 0;
+    }
+    if 32 < b {
+        return 0;
+    }
+    if is_blank(b) {
+        return 1;
     }
     0
 }

@@ -6,12 +6,14 @@ ghost use lib.ListN.{length, drop, getD};
 ghost use Rattle.marks.specs.Marks.{run, inWord, isLetter, every, word as wordOf};
 ghost use Rattle.marks.specs.Kinds.{knowns, kindIn};
 ghost use Rattle.marks.specs.Step.{stepped};
-ghost use Rattle.marks.specs.Parts.{Numbered};
+ghost use Rattle.marks.specs.Parts.{shortSeat, Numbered};
 ghost use Rattle.marks.specs.declared.Step as step;
 use crate::Step;
 use crate::answer::bare;
 use crate::answer::valued;
 use crate::bytes::begins_at;
+use crate::bytes::digit_at;
+use crate::bytes::wide;
 use crate::bytes::word_at;
 use crate::bytes::word_end;
 use crate::kinds::ENDMODULE;
@@ -89,7 +91,7 @@ fn keyword(card: &[u8], at: usize, size: usize) -> usize
 }
 
 // The mark that starts with the letter at a place.
-pub fn word(card: &[u8], at: usize) -> Step
+fn long_word(card: &[u8], at: usize) -> Step
     requires { ⌜ (at < length (now card)) × (isLetter (getD (now card) at 0) ≡ true) ⌝ }
     ensures { λ r. ⌜ ((k : ℕ → step.Step) → r ≡ stepped at (wordOf (getD (now (card .entry)) at 0) (drop (at + 1) (now (card .entry)))) k) ⌝ }
 {
@@ -106,4 +108,32 @@ pub fn word(card: &[u8], at: usize) -> Step
     let end = word_end(card, at);
     let kind = keyword(card, at, end - at);
     bare(kind, at, end)
+}
+
+// Is the word at a place a seat word with one digit?
+fn is_short_seat(card: &[u8], at: usize) -> bool
+    requires { ⌜ at < length (now card) ⌝ }
+    ensures { λ r. ⌜ r ≡ shortSeat (drop at (now (card .entry))) ⌝ }
+{
+    if card[at] != 115 {
+        return false;
+    }
+    let next = at + 1;
+    if !digit_at(card, next) {
+        return false;
+    }
+    !word_at(card, next + 1)
+}
+
+// The same; most words are seat words with one digit.
+pub fn word(card: &[u8], at: usize) -> Step
+    requires { ⌜ (at < length (now card)) × (isLetter (getD (now card) at 0) ≡ true) ⌝ }
+    ensures { λ r. ⌜ ((k : ℕ → step.Step) → r ≡ stepped at (wordOf (getD (now (card .entry)) at 0) (drop (at + 1) (now (card .entry)))) k) ⌝ }
+{
+    if !is_short_seat(card, at) {
+        return long_word(card, at);
+    }
+    let next = at + 1;
+    let value = wide(card[next] - 48);
+    valued(SEAT, value, at, next + 1)
 }

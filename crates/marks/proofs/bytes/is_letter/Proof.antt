@@ -1,26 +1,25 @@
--- The definition tests the capitals first; a byte from 97 on is none.
+use mathlib.Core.Path.{refl}
+use mathlib.Core.Bool.{false}
 use native.Mathlib.Omega.{arith}
-use mathlib.Core.Bool.{or-false}
-use borrow.Author.Tests.{le-leb, lt-leb}
+use lib.Dec.{leb}
+use Rattle.marks.specs.Marks.{isLetter}
+use Rattle.marks.proofs.Ranges.{agree}
 use Rattle.marks.proofs.bytes.is_letter.Statement.{statement}
 use Rattle.marks.proofs.bytes.is_letter.Tie as tie
 use Rattle.marks.proofs.bytes.is_letter.Reads as reads
 use Rattle.marks.proofs.bytes.is_letter.Lts as lts
 
+-- src/bytes.rt:25:9
 returns : tie.Need-returns
-returns c =
-    let b = c .before .args .b in
-    rw (le-leb 65 b (omega arith), lt-leb b 90 (omega arith), le-leb 97 b (omega arith))
+returns c = agree (λ b. false) isLetter 65 0 refl (c .before .args .b) (omega arith) (omega arith)
 
+-- src/bytes.rt:28:9
 returns-2 : tie.Need-returns-2
-returns-2 c =
-    let b = c .before .before .args .b in
-    rw (le-leb 65 b (omega arith), lt-leb 97 b (omega arith), or-false)
+returns-2 c = agree (λ b. leb b 90) isLetter 32 65 refl (c .before .before .args .b) (omega arith) (omega arith)
 
+-- src/bytes.rt:21:1
 returns-3 : tie.Need-returns-3
-returns-3 c =
-    let b = c .before .before .args .b in
-    rw (lt-leb 65 b (omega arith), lt-leb 97 b (omega arith))
+returns-3 c = agree (λ b. leb b 122) isLetter 159 97 refl (c .before .before .args .b) (omega arith) (omega arith)
 
 pub is-letter-spec : {M : Type 1} → statement M
 is-letter-spec = tie.close (tie.spec returns returns-2 returns-3)

@@ -1,94 +1,79 @@
--- A word is a seat word, or a module word, or its text, in the definition's order (proofs/Starts.antt).
-use Rattle.marks.proofs.Starts.{word-step}
-use Rattle.marks.proofs.Runs.{run-length}
-use Rattle.marks.specs.Parts.{bareOf}
-use Rattle.marks.specs.Step.{stepTo}
-use Rattle.marks.specs.Marks.{text, seat, process, run, inWord, after, numbered}
-use Rattle.card.specs.Text.{bytes}
-use lib.ListN.{length, drop, length-drop}
-use native.Mathlib.Omega.{arith}
-use mathlib.Core.Path.{refl, sym, ap, ap₂, _∙_}
 use Prim.Native.Nat.{ℕ, _+_}
+use mathlib.Core.Path.{sym, ap, _∙_}
+use native.Mathlib.Omega.{arith}
+use lib.Dec.{leb}
+use lib.ListN.{getD, drop}
+use borrow.Author.Tests.{leb-true, not-false}
+use Rattle.marks.specs.Parts.{valuedOf}
+use Rattle.marks.specs.Kinds.{kSeat}
+use Rattle.marks.proofs.Lists.{and-left}
+use Rattle.marks.proofs.Starts.{seat-place, seat-digit, seat-single}
 use borrow.Author.Needs.{needs}
 use Rattle.marks.proofs.word.word.Statement.{statement}
 use Rattle.marks.proofs.word.word.Tie as tie
 use Rattle.marks.proofs.word.word.Reads as reads
 use Rattle.marks.proofs.word.word.Lts as lts
-use Rattle.marks.proofs.answer.bare.Reads as bare-reads
 use Rattle.marks.proofs.answer.valued.Reads as valued-reads
-use Rattle.marks.proofs.bytes.word_end.Reads as word-end-reads
-use Rattle.marks.proofs.word.keyword.Reads as keyword-reads
-use Rattle.marks.proofs.word.numbered_at.Reads as numbered-at-reads
+use Rattle.marks.proofs.bytes.wide.Reads as wide-reads
+use Rattle.marks.proofs.word.is_short_seat.Reads as is-short-seat-reads
+use Rattle.marks.proofs.word.long_word.Reads as long-word-reads
 
-slice-aggregate-numbered-at : tie.Need-slice-aggregate-numbered-at
-slice-aggregate-numbered-at c = search needs
+-- src/word.rt:134:9
+is-short-seat-requires : tie.Need-is-short-seat-requires
+is-short-seat-requires c κs = search needs
 
-numbered-at-requires : tie.Need-numbered-at-requires
-numbered-at-requires c κs = (omega (arith, c .before .before .pre .0), refl)
+-- src/word.rt:135:9
+long-word-requires : tie.Need-long-word-requires
+long-word-requires c κs = search needs
 
+-- src/word.rt:135:9
+returns : tie.Need-returns
+returns c = c .long-word .ensures
+
+-- src/word.rt:137:16
+add-next : tie.Need-add-next
+add-next c = search needs
+
+-- src/word.rt:138:22
+shared-slice-read-wide : tie.Need-shared-slice-read-wide
+shared-slice-read-wide c = seat-place (c .before .before .before .before .args .card .now) (c .before .before .before .before .args .at) (c .before .before .before .before .pre .0) (sym (c .before .before .is-short-seat .ensures) ∙ not-false (c .before .before .is-short-seat .result) (c .before .if1 .left))
+
+-- src/word.rt:138:22
+sub-wide : tie.Need-sub-wide
+sub-wide c =
+    let d = getD (c .before .before .before .before .args .card .now) (c .before .before .before .before .args .at + 1) 0 in
+    leb-true 48 d (and-left (leb 48 d) (leb d 57) (seat-digit (c .before .before .before .before .args .card .now) (c .before .before .before .before .args .at) (c .before .before .before .before .pre .0) (sym (c .before .before .is-short-seat .ensures) ∙ not-false (c .before .before .is-short-seat .result) (c .before .if1 .left))))
+
+-- src/word.rt:138:9
+wide-requires : tie.Need-wide-requires
+wide-requires c κs = search needs
+
+-- src/word.rt:139:29
 add-valued : tie.Need-add-valued
-add-valued c = omega (arith, c .before .numbered-at .ensures .long (c .if1 .taken), run-length inWord (drop (c .before .before .before .before .args .at) (c .before .before .before .before .args .card .now)), length-drop (c .before .before .before .before .args .at) (c .before .before .before .before .args .card .now), c .before .before .before .before .good .0)
+add-valued c = omega (arith, seat-place (c .before .before .before .before .before .args .card .now) (c .before .before .before .before .before .args .at) (c .before .before .before .before .before .pre .0) (sym (c .before .before .before .is-short-seat .ensures) ∙ not-false (c .before .before .before .is-short-seat .result) (c .before .before .if1 .left)), c .before .before .before .before .before .good .0)
 
+-- src/word.rt:139:5
 valued-requires : tie.Need-valued-requires
 valued-requires c κs = search needs
 
-returns : tie.Need-returns
-returns c =
-    let w = run inWord (drop (c .before .before .before .before .before .args .at) (c .before .before .before .before .before .args .card .now)) in
-    let v = c .before .before .numbered-at .result .value in
-    λ k. c .valued .ensures ∙ ap (λ (n : ℕ). stepTo (seat v) (c .before .before .before .before .before .args .at) (c .before .before .before .before .before .args .at + n)) (c .before .before .numbered-at .ensures .long (c .before .if1 .taken)) ∙ sym (word-step (c .before .before .before .before .before .args .card .now) (c .before .before .before .before .before .args .at) (c .before .before .before .before .before .pre .0) (c .before .before .before .before .before .pre .1) k (seat v) (c .before .before .numbered-at .ensures .is-one (c .before .if1 .taken) seat (numbered process (after (bytes "process") w) (text w))))
-
-slice-aggregate-numbered-at-2 : tie.Need-slice-aggregate-numbered-at-2
-slice-aggregate-numbered-at-2 c = search needs
-
-numbered-at-requires-2 : tie.Need-numbered-at-requires-2
-numbered-at-requires-2 c κs = (omega (arith, c .before .before .before .before .before .pre .0), refl)
-
-add-valued-2 : tie.Need-add-valued-2
-add-valued-2 c = omega (arith, c .before .numbered-at2 .ensures .long (c .if2 .taken), run-length inWord (drop (c .before .before .before .before .before .before .before .args .at) (c .before .before .before .before .before .before .before .args .card .now)), length-drop (c .before .before .before .before .before .before .before .args .at) (c .before .before .before .before .before .before .before .args .card .now), c .before .before .before .before .before .before .before .good .0)
-
-valued-requires-2 : tie.Need-valued-requires-2
-valued-requires-2 c κs = search needs
-
+-- src/word.rt:130:1
 returns-2 : tie.Need-returns-2
 returns-2 c =
-    let w = run inWord (drop (c .before .before .before .before .before .before .before .before .args .at) (c .before .before .before .before .before .before .before .before .args .card .now)) in
-    let v = c .before .before .numbered-at2 .result .value in
-    λ k. c .valued2 .ensures ∙ ap (λ (n : ℕ). stepTo (process v) (c .before .before .before .before .before .before .before .before .args .at) (c .before .before .before .before .before .before .before .before .args .at + n)) (c .before .before .numbered-at2 .ensures .long (c .before .if2 .taken)) ∙ sym (word-step (c .before .before .before .before .before .before .before .before .args .card .now) (c .before .before .before .before .before .before .before .before .args .at) (c .before .before .before .before .before .before .before .before .pre .0) (c .before .before .before .before .before .before .before .before .pre .1) k (process v) (c .before .before .before .before .before .numbered-at .ensures .is-none (c .before .before .before .before .if1 .left) seat (numbered process (after (bytes "process") w) (text w)) ∙ c .before .before .numbered-at2 .ensures .is-one (c .before .if2 .taken) process (text w)))
-
-word-end-requires : tie.Need-word-end-requires
-word-end-requires c κs = search needs
-
-sub-keyword : tie.Need-sub-keyword
-sub-keyword c = omega (arith, c .word-end .ensures)
-
-keyword-requires : tie.Need-keyword-requires
-keyword-requires c κs = (c .before .before .before .before .before .before .before .before .pre .0, c .before .before .before .before .before .before .before .before .pre .1, omega (arith, c .word-end .ensures))
-
-bare-requires : tie.Need-bare-requires
-bare-requires c κs = search needs
-
-returns-3 : tie.Need-returns-3
-returns-3 c =
-    let w = run inWord (drop (c .before .before .before .before .before .before .before .before .before .before .args .at) (c .before .before .before .before .before .before .before .before .before .before .args .card .now)) in
-    λ k. c .bare .ensures ∙ ap₂ (λ (v e : ℕ). bareOf v (c .before .before .before .before .before .before .before .before .before .before .args .at) e) (c .before .keyword .ensures) (c .before .before .word-end .ensures) ∙ sym (word-step (c .before .before .before .before .before .before .before .before .before .before .args .card .now) (c .before .before .before .before .before .before .before .before .before .before .args .at) (c .before .before .before .before .before .before .before .before .before .before .pre .0) (c .before .before .before .before .before .before .before .before .before .before .pre .1) k (text w) (c .before .before .before .before .before .before .before .numbered-at .ensures .is-none (c .before .before .before .before .before .before .if1 .left) seat (numbered process (after (bytes "process") w) (text w)) ∙ c .before .before .before .before .numbered-at2 .ensures .is-none (c .before .before .before .if2 .left) process (text w)))
+    let s = c .before .before .before .before .before .before .args .card .now in
+    let i = c .before .before .before .before .before .before .args .at in
+    λ k. c .valued .ensures ∙ ap (λ (v : ℕ). valuedOf kSeat v i (i + 1 + 1)) (c .before .wide .ensures) ∙ sym (seat-single s i (c .before .before .before .before .before .before .pre .0) (sym (c .before .before .before .before .is-short-seat .ensures) ∙ not-false (c .before .before .before .before .is-short-seat .result) (c .before .before .before .if1 .left)) k)
 
 pub word-spec : {M : Type 1} → statement M
 word-spec =
     tie.close
     (tie.spec
-    slice-aggregate-numbered-at
-    numbered-at-requires
+    is-short-seat-requires
+    long-word-requires
+    returns
+    add-next
+    shared-slice-read-wide
+    sub-wide
+    wide-requires
     add-valued
     valued-requires
-    returns
-    slice-aggregate-numbered-at-2
-    numbered-at-requires-2
-    add-valued-2
-    valued-requires-2
-    returns-2
-    word-end-requires
-    sub-keyword
-    keyword-requires
-    bare-requires
-    returns-3)
+    returns-2)
