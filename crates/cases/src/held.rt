@@ -15,6 +15,9 @@ use room::put_bytes;
 use room::put_number;
 ghost use Rattle.io.specs.Counts.{Counts};
 
+// The room that the answers were stored for.
+const ROOM: usize = 32_768;
+
 // What a room holds before: a byte of no text.
 const UNTOUCHED: u8 = 0xa5;
 
@@ -127,20 +130,18 @@ fn reads(card: &[u8], stored: &[u8]) -> bool {
 
 // A written card, written again: it is itself, if it is not too long for a card.
 fn again(written: &[u8], room: &mut [u8]) -> bool {
-    let size = room.len();
     if CARD_BYTES < written.len() {
-        return in_room(WRITE, b"", written, b"refused 1 0\n", room, size);
+        return in_room(WRITE, b"", written, b"refused 1 0\n", room, ROOM);
     }
-    in_room(WRITE, b"", written, written, room, size)
+    in_room(WRITE, b"", written, written, room, ROOM)
 }
 
-// In the whole room; and a text also in a room one byte short, of just its length, and one byte larger.
+// In the room of the stored answers; and a text also in a room one byte short, of just its length, and one byte larger.
 pub fn holds(entry: u8, seats: &[u8], card: &[u8], stored: &[u8], room: &mut [u8]) -> bool {
     if entry == READ {
         return reads(card, stored);
     }
-    let size = room.len();
-    if !in_room(entry, seats, card, stored, room, size) {
+    if !in_room(entry, seats, card, stored, room, ROOM) {
         return false;
     }
     if refuses(stored) {
