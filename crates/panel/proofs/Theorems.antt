@@ -21,7 +21,7 @@ use Rattle.counting.specs.declared.Seated.{Seated}
 use Rattle.counting.specs.declared.Seated.the-variants.{Fine, Refused as Turned}
 use Rattle.counting.specs.Judged.{judgedSeats, FirstAbove}
 use Rattle.counting.proofs.Judging.{valid-exactly, wrong-seats-exactly, seat-above-exactly, judged-else}
-use Rattle.rows.proofs.Numbers.{read-number}
+use Rattle.reading.proofs.Numbers.{read-number}
 use Rattle.lines.specs.PanelText.{panelOf}
 use Rattle.panel.specs.PanelSaid.{panelSaid}
 use Rattle.panel.specs.PanelRoom.{panelRoom}
