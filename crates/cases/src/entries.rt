@@ -1,5 +1,6 @@
 // The entries that the cases run through.
 use panel::panel;
+use reducer::reduce;
 use room::Answer;
 use writer::write;
 
@@ -9,6 +10,8 @@ pub const WRITE: u8 = 1;
 
 pub const PANEL: u8 = 2;
 
+pub const REDUCE: u8 = 3;
+
 // An entry that takes a room.
 pub fn enter(entry: u8, seats: &[u8], card: &[u8], room: &mut [u8]) -> Answer {
     if entry == WRITE {
@@ -16,6 +19,9 @@ pub fn enter(entry: u8, seats: &[u8], card: &[u8], room: &mut [u8]) -> Answer {
     }
     if entry == PANEL {
         return panel(card, seats, room);
+    }
+    if entry == REDUCE {
+        return reduce(card, room);
     }
     Answer::Refused(0, 0)
 }

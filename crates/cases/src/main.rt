@@ -7,6 +7,7 @@ mod tally;
 
 use entries::PANEL;
 use entries::READ;
+use entries::REDUCE;
 use entries::WRITE;
 use held::holds;
 use stored::PAST;
@@ -106,6 +107,7 @@ fn entry(entry: u8, name: &[u8], cases: &[u8], answers: &[u8]) {
 fn main() {
     entry(READ, b"read", b"base.cases", b"written.expected");
     entry(WRITE, b"write", b"base.cases", b"written.expected");
+    entry(REDUCE, b"reduce", b"base.cases", b"reduced.expected");
     entry(PANEL, b"panel", b"base.cases", b"panel.expected");
     entry(READ, b"edges read", b"edges.cases", b"edges.expected");
     entry(WRITE, b"edges written", b"edges.cases", b"edges.expected");
