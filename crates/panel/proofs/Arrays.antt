@@ -3,8 +3,7 @@
 use Prim.Native.Nat.{ℕ, zero, suc, _+_, _*_, _/_, _%_, _≤_, _<_}
 use mathlib.Core.Path.{_≡_, refl, sym, ap, _∙_}
 use mathlib.Core.Logic.{_≢_}
-use mathlib.Core.Bool.{Bool, true, false}
-use mathlib.Core.List.{List, [], _∷_}
+use mathlib.Core.List.{List, _∷_}
 use native.Mathlib.Nat.{not-suc-le-zero, le-of-suc-le-suc}
 use native.Mathlib.Numerals.{add-one}
 use native.Mathlib.Decide.{ℕ-discrete, decLt}
@@ -14,7 +13,7 @@ use lib.Dec.{eqb, ltb}
 use lib.ListN.{length, getD, set, take, List·getD-eq-default}
 use lib.Seq.{ext-getD}
 use Rattle.card.specs.Limits.{mostStates}
-use Rattle.meaning.specs.Sums.{gate, sum, upto}
+use Rattle.meaning.specs.Sums.{gate, upto}
 use Rattle.meaning.proofs.Sums.{gate-zero, length-upto, getD-upto, upto-cong}
 use Rattle.panel.specs.Tables.{total, Most, weightPlaces, tableOf, weightIn, weightMore}
 

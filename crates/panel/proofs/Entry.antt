@@ -1,7 +1,7 @@
 -- What the panel entry needs of a struct that holds a valid card and of a seating of it: its rows fit, its numbers are small, and the panel
 -- that is printed from the arrays is the card's. Assumes nothing.
-use Prim.Native.Nat.{ℕ, zero, suc, _+_, _*_, _≤_, _<_}
-use mathlib.Core.Path.{_≡_, refl, sym, ap, _∙_}
+use Prim.Native.Nat.{ℕ, zero, suc, _+_, _≤_, _<_}
+use mathlib.Core.Path.{_≡_, sym, ap, _∙_}
 use mathlib.Core.List.{List}
 use mathlib.Core.Option.{Option}
 use native.Mathlib.Nat.{not-suc-le-zero, le-of-suc-le-suc, le-trans}
@@ -9,13 +9,13 @@ use native.Mathlib.Numerals.{add-one}
 use native.Mathlib.Omega.{arith}
 use lib.Dec.{ltb}
 use lib.ListN.{length, take}
-use Rattle.card.specs.Limits.{mostSeats, topState, mostStatements, unit}
+use Rattle.card.specs.Limits.{mostSeats, topState, mostStatements}
 use Rattle.card.specs.Card.{nondeterministic, probabilistic, Guard, Card}
 use Rattle.card.specs.Valid.{Every, ValidStatement, ValidCard}
 use Rattle.card.specs.Laid.{either, statementOf, cardOf}
 use Rattle.card.specs.declared.Card.{Card as CardRow}
 use Rattle.room.specs.Room.{cap}
-use Rattle.room.specs.Answer.{Said, text, refused}
+use Rattle.room.specs.Answer.{text, refused}
 use Rattle.meaning.specs.Sums.{gate, upto}
 use Rattle.meaning.specs.Seats.{Seating, ValidSeating, count, counts}
 use Rattle.meaning.specs.Panel.{Panel, panel}
@@ -31,12 +31,11 @@ use Rattle.counting.specs.Judged.{judgedSeats}
 use Rattle.counting.specs.Taking.{takers}
 use Rattle.counting.proofs.Judging.{valid-exactly}
 use Rattle.counting.proofs.Counted.{counts-most}
-use Rattle.rows.specs.Rows.{rowOf, rowsOf, rowsFrom, Holds}
+use Rattle.rows.specs.Rows.{rowOf, rowsOf, Holds}
 use Rattle.rows.proofs.Rows.{rowsCard, holds-card, fit-rows, same-card}
 use Rattle.lines.specs.PanelText.{panelText, panelOf}
 use Rattle.panel.specs.Tables.{Most, heaviest, weighingRow, ableAt, ablesOf, enabledOf, weightsOf, stayIn, panelIn, Fitting}
 use Rattle.panel.specs.PanelSaid.{shownSaid}
-use Rattle.panel.specs.PanelRoom.{panelRoom}
 use Rattle.panel.proofs.Arrays.{upto-take}
 use Rattle.panel.proofs.Laws.{weights-most}
 use Rattle.panel.proofs.Shown.{statements-upto, panel-rows}

@@ -4,7 +4,7 @@ use Prim.Native.Nat.{ℕ, zero, suc, _+_, _-_, _*_, _≤_, _<_, min}
 use mathlib.Core.Path.{_≡_, refl, sym, ap, _∙_}
 use mathlib.Core.Logic.{_≢_}
 use mathlib.Core.Bool.{Bool, true, false}
-use mathlib.Core.List.{List, [], _∷_, _++_, map, append-nil}
+use mathlib.Core.List.{List, [], _∷_, map, append-nil}
 use mathlib.Core.Option.{none, some}
 use native.Mathlib.Nat.{not-suc-le-zero, le-of-suc-le-suc, le-trans, mul-le-mul}
 use native.Mathlib.Decide.{decLt}
@@ -22,13 +22,13 @@ use Rattle.room.specs.Room.{Put}
 use Rattle.meaning.specs.Sums.{gate, upto, flat}
 use Rattle.meaning.specs.Panel.{Move, moveLine, block}
 use Rattle.meaning.specs.ByCounts.{unitsTo, stayOf, moveOf}
-use Rattle.meaning.proofs.Sums.{gate-le, gate-out, gate-zero, getD-upto, upto-cong}
+use Rattle.meaning.proofs.Sums.{gate-le, upto-cong}
 use Rattle.counting.specs.Taking.{unitsToEach}
 use Rattle.counting.proofs.Weighed.{each-at, length-each}
 use Rattle.rows.specs.Rows.{rowOf}
 use Rattle.lines.specs.PanelText.{line, movesText, stayText, blockText, blocksText, panelText}
 use Rattle.lines.proofs.Laws.{no-line}
-use Rattle.panel.specs.Tables.{total, Most, weighing, weighingRow, ableAt, ablesOf, countsAs, enabledOf, heaviest, weightPlaces, tableOf, weightIn, weightMore, weightBy, weightsOf, choiceIf, choicesIn, blocksIn, panelIn, Fitting}
+use Rattle.panel.specs.Tables.{Most, weighing, weighingRow, ableAt, ablesOf, countsAs, enabledOf, heaviest, weightPlaces, tableOf, weightIn, weightMore, weightBy, weightsOf, choiceIf, choicesIn, panelIn, Fitting}
 use Rattle.panel.proofs.Arrays.{upto-set, total-more, total-most, length-table, table-at, table-most, table-cong}
 
 -- ---- how many are able

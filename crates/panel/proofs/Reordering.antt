@@ -1,11 +1,10 @@
--- Reordered seats are as many, and a seating exactly where the first are; so both are judged alike, and where they are fine their panels are
--- the same. Assumes nothing.
+-- Reordered seats are as many, and a seating exactly where the first are; so both are judged alike, and where they are fine their panels
+-- are the same. Assumes nothing.
 use Prim.Native.Nat.{ℕ}
 use mathlib.Core.Path.{_≡_, refl, sym, ap, _∙_}
-use mathlib.Core.Logic.{_⊎_, inl, inr, ⊎-elim}
+use mathlib.Core.Logic.{inl, inr, ⊎-elim}
 use mathlib.Core.List.{List}
 use native.Mathlib.Omega.{arith}
-use lib.ListN.{length}
 use Rattle.card.specs.Refusals.{wrongSeats, seatAboveTop}
 use Rattle.card.specs.Card.{Card}
 use Rattle.reading.specs.Reading.{Outcome, taken, refused as turned, readOf}
@@ -21,7 +20,7 @@ use Rattle.counting.specs.declared.Seated.the-variants.{Fine, Refused}
 use Rattle.counting.specs.Judged.{judgedSeats}
 use Rattle.counting.proofs.Judging.{valid-exactly, wrong-seats-exactly, seat-above-exactly, judged-else}
 use Rattle.lines.specs.PanelText.{panelText, panelOf}
-use Rattle.panel.specs.PanelSaid.{shownSaid, panelSaid}
+use Rattle.panel.specs.PanelSaid.{panelSaid}
 use Rattle.panel.specs.Reordering.{SaidAlike, Alike}
 
 back : {x y : Seating} → Reordered x y → Reordered y x

@@ -5,12 +5,12 @@ use Prim.Native.String.{String}
 use mathlib.Core.Path.{_≡_, refl, sym, ap, _∙_}
 use mathlib.Core.Bool.{Bool, true, false, not, _&&_}
 use mathlib.Core.List.{List, [], _∷_, _++_}
-use mathlib.Core.Option.{Option, none, some}
+use mathlib.Core.Option.{none, some}
 use native.Mathlib.Nat.{le-trans, mul-le-mul, mul-le-mul-right}
 use native.Mathlib.Omega.{arith}
 use lib.Dec.{eqb, ltb}
 use lib.ListN.{length, length-append}
-use Rattle.card.specs.Limits.{mostSeats, topState, mostStates, mostStatements, unit}
+use Rattle.card.specs.Limits.{mostSeats, topState, mostStatements, unit}
 use Rattle.card.specs.Text.{bytes, if_then_else_}
 use Rattle.card.specs.Card.{Mode, nondeterministic, probabilistic, Statement, Card}
 use Rattle.card.specs.Valid.{Every, ValidStatement, ValidCard}
@@ -21,14 +21,14 @@ use Rattle.phrases.proofs.Counted.{Text}
 use Rattle.phrases.proofs.Adds.{Adds, adds-then, adds-up, adds-none, adds-bytes, adds-mode}
 use Rattle.meaning.specs.Sums.{gate, upto, flat}
 use Rattle.meaning.specs.Seats.{Seating, ValidSeating, count, counts}
-use Rattle.meaning.specs.Panel.{Move, moveLine, Block, block, Panel, panel}
+use Rattle.meaning.specs.Panel.{Move, moveLine, block}
 use Rattle.meaning.specs.ByCounts.{able, unitsTo, stayOf, moveOf, allAble, allStay, allMove, choiceBlocks, countBlocks, countEnabled, countPanel}
-use Rattle.meaning.proofs.Sums.{gate-le, every-upto, sumBelow, below-pick}
+use Rattle.meaning.proofs.Sums.{every-upto, sumBelow, below-pick}
 use Rattle.meaning.proofs.Counting.{count-le, length-counts}
-use Rattle.meaning.proofs.Bounds.{Few, counts-few, units-le, stay-le, move-le, all-able-le, all-stay-le, all-move-le, enabled-le}
+use Rattle.meaning.proofs.Bounds.{Few, counts-few, units-le, stay-le, all-able-le, all-stay-le, all-move-le, enabled-le}
 use Rattle.meaning.proofs.Panel.{panel-by-counts}
-use Rattle.lines.specs.PanelText.{numbers, line, movesText, stayText, choiceText, blockText, blocksText, panelText, panelOf}
-use Rattle.lines.proofs.Laws.{moves-join, blocks-join}
+use Rattle.lines.specs.PanelText.{numbers, line, movesText, stayText, blockText, blocksText, panelText, panelOf}
+use Rattle.lines.proofs.Laws.{moves-join}
 use Rattle.panel.specs.PanelRoom.{panelRoom}
 use Rattle.panel.proofs.Laws.{own-moves}
 

@@ -2,25 +2,23 @@
 -- rows one by one, sums over them are sums over their numbers, and no change is a move from each state to itself. Assumes nothing.
 use Prim.Native.Nat.{ℕ, zero, suc, _+_, _*_, _≤_, _<_}
 use mathlib.Core.Path.{_≡_, refl, sym, ap, ap₂, _∙_}
-use mathlib.Core.Bool.{Bool, true, false}
 use mathlib.Core.List.{List, [], _∷_, _++_}
-use mathlib.Core.Option.{Option, none, some}
+use mathlib.Core.Option.{Option, none}
 use native.Mathlib.Nat.{add-zero, zero-add, mul-add}
 use native.Mathlib.Omega.{arith}
 use borrow.Author.Tests.{lt-ltb}
-use lib.Dec.{eqb, ltb}
-use lib.ListN.{length, getD}
-use Rattle.card.specs.Limits.{mostSeats, topState, mostStates, mostStatements}
-use Rattle.card.specs.Text.{if_then_else_}
-use Rattle.card.specs.Card.{Mode, nondeterministic, probabilistic, Statement, Card}
+use lib.Dec.{ltb}
+use lib.ListN.{getD}
+use Rattle.card.specs.Limits.{mostStates, mostStatements}
+use Rattle.card.specs.Card.{Mode, nondeterministic, probabilistic, Statement}
 use Rattle.card.specs.Laid.{either, statementOf, statementsOf}
 use Rattle.meaning.specs.Sums.{gate, sum, upto, flat}
-use Rattle.meaning.specs.Panel.{Move, moveLine, Block, block, Panel}
+use Rattle.meaning.specs.Panel.{Move, moveLine, Block, block}
 use Rattle.meaning.specs.ByCounts.{able, unitsTo, stayOf, moveOf, allAble, allStay, allMove, choiceBlocks, countBlocks, countEnabled, countPanel}
-use Rattle.meaning.proofs.Sums.{getD-upto, upto-cong, sumBelow, sum-upto, below-cong, below-exchange, below-pick, sum-cong, sum-times}
+use Rattle.meaning.proofs.Sums.{getD-upto, upto-cong, sumBelow, sum-upto, below-cong, below-exchange, below-pick}
 use Rattle.counting.specs.Taking.{takers}
 use Rattle.rows.specs.Rows.{rowOf, rowsFrom, cardIn}
-use Rattle.panel.specs.Tables.{total, Most, weighingRow, ableAt, ablesOf, countsAs, enabledOf, tableOf, weightIn, weightBy, weightsOf, stayIn, choiceIf, choiceAt, choicesIn, blocksIn, panelIn, Fitting}
+use Rattle.panel.specs.Tables.{total, weighingRow, ableAt, ablesOf, enabledOf, weightIn, weightBy, weightsOf, stayIn, choiceIf, choiceAt, choicesIn, blocksIn, panelIn, Fitting}
 use Rattle.panel.proofs.Arrays.{table-at}
 
 -- ---- a block by its weights up to k

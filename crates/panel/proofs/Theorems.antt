@@ -1,6 +1,6 @@
--- What `panel` answers for a card, seats and a room, read off its promise: refusals 1 to 7 are the reader's; 8 and 9 are given exactly where the
--- card is taken and the seats are no seating of it, 10 exactly where there is none of those and the text is longer than the room; and else
--- the text stands in the room. By the five ways in which it can go. Assumes nothing.
+-- What `panel` answers for a card, seats and a room, read off its promise: refusals 1 to 7 are the reader's; 8 and 9 are given exactly
+-- where the card is taken and the seats are no seating of it, 10 exactly where there is none of those and the text is longer than the
+-- room; and else the text stands in the room. By the five ways in which it can go. Assumes nothing.
 use Prim.Native.Nat.{ℕ, _≤_, _<_}
 use mathlib.Core.Path.{_≡_, refl, sym, ap, _∙_}
 use mathlib.Core.Logic.{_↔_, _⊎_, inl, inr}

@@ -1,4 +1,5 @@
--- `panel::add_weights` meets its contract: after each turn the weight to one state more is added; the sums fit, since they are bounded before. Assumes nothing.
+-- `panel::add_weights` meets its contract: after each turn the weight to one state more is added; the sums fit, since they are bounded
+-- before. Assumes nothing.
 use Prim.Native.Nat.{_≤_, _-_, _+_, _*_}
 use mathlib.Core.Path.{_≡_, refl, _∙_}
 use native.Mathlib.Nat.{mul-le-mul}

@@ -1,4 +1,5 @@
--- `panel::enabled_of` meets its contract: after i turns the sum is that of the first i statements, and no more than 16 for each. Assumes nothing.
+-- `panel::enabled_of` meets its contract: after i turns the sum is that of the first i statements, and no more than 16 for each. Assumes
+-- nothing.
 use Prim.Native.Nat.{_≤_, _-_}
 use mathlib.Core.Path.{_≡_, _∙_}
 use native.Mathlib.Omega.{arith}

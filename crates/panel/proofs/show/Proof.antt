@@ -1,4 +1,5 @@
--- `panel::show` meets its contract: the arrays hold what is due, so both walks put the panel's text; the first tells its length. Assumes nothing.
+-- `panel::show` meets its contract: the arrays hold what is due, so both walks put the panel's text; the first tells its length. Assumes
+-- nothing.
 use Prim.Native.Nat.{_+_}
 use mathlib.Core.Path.{refl, sym}
 use native.Mathlib.Omega.{arith}
