@@ -1,5 +1,6 @@
 // The panel program as a function from the bytes that it reads to the bytes that it prints ("Texts, byte for byte").
 use card::limits::MOST_SEATS;
+use panel::PANEL_ROOM;
 use panel::panel;
 use room::Answer;
 use room::put_byte;
@@ -18,8 +19,8 @@ ghost use Rattle.program.specs.Program.{seatsLine, seatOf, printed, refu
 // Bytes behind these are not read.
 pub const INPUT_BYTES: usize = 65536;
 
-// Enough for every panel and every refusal, so that none is refused for its length; specs/PanelRoom.antt of `panel` has the same number.
-pub const OUTPUT_BYTES: usize = 4101;
+// Enough for every panel and every refusal, so that none is refused for its length.
+pub const OUTPUT_BYTES: usize = PANEL_ROOM;
 
 const LINE_END: u8 = b'\n';
 
