@@ -39,10 +39,14 @@ extern "C" {
 #define OPEN_PANEL_SEATS 16
 #define OPEN_PANEL_TOP_STATE 7
 
-/* Rooms, in bytes, that are always enough, whatever the card and the seats. */
+/*
+ * Rooms, in bytes, that are always enough, whatever the card and the seats.
+ * The last two are proved. The first is reckoned from the longest card, which
+ * has to spell what is written, and tried on cards made to be long.
+ */
 #define OPEN_PANEL_WRITE_ROOM 24576
-#define OPEN_PANEL_REDUCE_ROOM 270336
-#define OPEN_PANEL_SHOW_ROOM 4096
+#define OPEN_PANEL_REDUCE_ROOM 347890
+#define OPEN_PANEL_SHOW_ROOM 4101
 
 /* The numbers of the refusals, and what `value` is. */
 enum open_panel_refusal {

@@ -38,9 +38,9 @@ pub const TOP_STATE: u8 = 7;
 /// A room in which every written card fits.
 pub const WRITE_ROOM: usize = 24_576;
 /// A room in which every reduced program fits.
-pub const REDUCE_ROOM: usize = 270_336;
+pub const REDUCE_ROOM: usize = 347_890;
 /// A room in which every panel fits.
-pub const SHOW_ROOM: usize = 4_096;
+pub const SHOW_ROOM: usize = 4_101;
 
 /// Whether the library is not linked but asked through pipes, as its tests do on
 /// a processor that cannot run its code.
