@@ -6,4 +6,5 @@ pub mod Runs
 pub mod Ranges
 pub mod Numbers
 pub mod Starts
+pub mod Keywords
 pub mod Laws

@@ -8,9 +8,11 @@ use mathlib.Core.Option.{Option, none, some}
 use lib.Dec.{eqb, ltb}
 use lib.ListN.{length, drop}
 use Rattle.card.specs.Text.{if_then_else_}
-use Rattle.marks.specs.Marks.{Mark, run, begins, isDigit, isSign, inWord, after, valueFrom, numbered, Start, blank, mark}
+use Rattle.marks.specs.Marks.{Mark, run, begins, isDigit, isLetter, isSign, inWord, after, valueFrom, numbered, Start, blank, mark}
 use Rattle.marks.specs.declared.Step.{Step}
+use Rattle.marks.specs.Kinds.{Known, kWord}
 use Rattle.marks.specs.declared.number.Digits.{Digits}
+use Rattle.marks.specs.declared.word.Keyword.{Keyword}
 
 -- a mark without numbers, and one with a number, at a place, and the cursor behind it
 abbrev pub valuedOf : ℕ → ℕ → ℕ → ℕ → Step
@@ -43,6 +45,17 @@ isSome (some r) = true
 
 abbrev pub begun : List ℕ → List ℕ → Bool
 begun t s = isSome (after t s)
+
+-- the keywords among signs and keywords; and the first of some that a text begins with: its kind and its size, 0 for none
+abbrev pub lettered : List Known → List Known
+lettered [] = []
+lettered (x ∷ xs) =
+    let more = lettered xs in
+    if begins isLetter (x .spelt) then x ∷ more else more
+
+abbrev pub begunIn : List Known → List ℕ → Keyword
+begunIn [] s = record { kind = kWord; size = 0 }
+begunIn (x ∷ xs) s = if begun (x .spelt) s then record { kind = x .kind; size = length (x .spelt) } else begunIn xs s
 
 -- so many digits spell a number that the machine holds
 abbrev pub heldDigits : ℕ

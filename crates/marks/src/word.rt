@@ -1,12 +1,13 @@
 // Words ("Marks on a card"): seat words, module words, keywords and others, compared with fixed byte strings.
 ghost use mathlib.Core.Path.{_≡_};
-ghost use mathlib.Core.Bool.{true};
+ghost use mathlib.Core.Bool.{true, _||_};
+ghost use lib.Dec.{eqb};
 ghost use Prim.Native.Nat.{ℕ, _+_, _<_, _≤_};
 ghost use lib.ListN.{length, drop, getD};
-ghost use Rattle.marks.specs.Marks.{run, inWord, isLetter, every, word as wordOf};
-ghost use Rattle.marks.specs.Kinds.{knowns, kindIn};
+ghost use Rattle.marks.specs.Marks.{run, begins, inWord, isLetter, every, word as wordOf};
+ghost use Rattle.marks.specs.Kinds.{knowns};
 ghost use Rattle.marks.specs.Step.{stepped};
-ghost use Rattle.marks.specs.Parts.{shortSeat, Numbered};
+ghost use Rattle.marks.specs.Parts.{shortSeat, lettered, begunIn, Numbered};
 ghost use Rattle.marks.specs.declared.Step as step;
 use crate::Step;
 use crate::answer::bare;
@@ -52,42 +53,62 @@ fn numbered_at(card: &[u8], at: usize, these: &[u8]) -> Digits
     }
 }
 
-// The kind of a word of this size: the keywords of that size are compared.
-fn keyword(card: &[u8], at: usize, size: usize) -> usize
-    requires { ⌜ (at < length (now card)) × (isLetter (getD (now card) at 0) ≡ true) × (size ≡ length (run inWord (drop at (now card)))) ⌝ }
-    ensures { λ r. ⌜ r ≡ kindIn knowns (run inWord (drop at (now (card .entry)))) ⌝ }
+// A keyword's kind and its size; size 0: none.
+struct Keyword {
+    kind: usize,
+    size: usize,
+}
+
+// The keyword that the card goes on with, whatever stands behind it.
+fn keyword_begun(card: &[u8], at: usize) -> Keyword
+    requires { ⌜ at ≤ length (now card) ⌝ }
+    ensures { λ r. ⌜ r ≡ begunIn (lettered knowns) (drop at (now (card .entry))) ⌝ }
 {
-    if size == 4 {
-        if begins_at(card, at, b"init") {
-            return INIT;
-        }
-        return WORD;
+    if begins_at(card, at, b"nondeterministic") {
+        return Keyword {
+            kind: NONDETERMINISTIC,
+            size: 16,
+        };
     }
-    if size == 6 {
-        if begins_at(card, at, b"module") {
-            return MODULE;
-        }
-        return WORD;
+    if begins_at(card, at, b"probabilistic") {
+        return Keyword {
+            kind: PROBABILISTIC,
+            size: 13,
+        };
     }
-    if size == 9 {
-        if begins_at(card, at, b"endmodule") {
-            return ENDMODULE;
-        }
-        return WORD;
+    if begins_at(card, at, b"module") {
+        return Keyword {
+            kind: MODULE,
+            size: 6,
+        };
     }
-    if size == 13 {
-        if begins_at(card, at, b"probabilistic") {
-            return PROBABILISTIC;
-        }
-        return WORD;
+    if begins_at(card, at, b"endmodule") {
+        return Keyword {
+            kind: ENDMODULE,
+            size: 9,
+        };
     }
-    if size == 16 {
-        if begins_at(card, at, b"nondeterministic") {
-            return NONDETERMINISTIC;
-        }
-        return WORD;
+    if begins_at(card, at, b"init") {
+        return Keyword {
+            kind: INIT,
+            size: 4,
+        };
     }
-    WORD
+    Keyword {
+        kind: WORD,
+        size: 0,
+    }
+}
+
+// Is the word at a place no keyword, or longer than the one of this size that it begins with?
+fn is_other(card: &[u8], at: usize, size: usize) -> bool
+    requires { ⌜ at + size ≤ length (now card) ⌝ }
+    ensures { λ r. ⌜ r ≡ (eqb size 0 || begins inWord (drop (at + size) (now (card .entry)))) ⌝ }
+{
+    if size == 0 {
+        return true;
+    }
+    word_at(card, at + size)
 }
 
 // The mark that starts with the letter at a place.
@@ -105,9 +126,13 @@ fn long_word(card: &[u8], at: usize) -> Step
     if process != 0 {
         return valued(PROCESS, p.value, at, at + process);
     }
-    let end = word_end(card, at);
-    let kind = keyword(card, at, end - at);
-    bare(kind, at, end)
+    let known = keyword_begun(card, at);
+    let size = known.size;
+    if is_other(card, at, size) {
+        let end = word_end(card, at);
+        return bare(WORD, at, end);
+    }
+    bare(known.kind, at, at + size)
 }
 
 // Is the word at a place a seat word with one digit?

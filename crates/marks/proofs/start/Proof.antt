@@ -1,3 +1,4 @@
+-- The four ways that a mark starts, each by its law (proofs/Starts.antt).
 use Prim.Native.Nat.{ℕ, _+_}
 use mathlib.Core.Path.{sym, ap, _∙_}
 use mathlib.Core.Bool.{not, _||_}
@@ -22,23 +23,18 @@ use Rattle.marks.proofs.number.numeral.Reads as numeral-reads
 use Rattle.marks.proofs.sign.sign.Reads as sign-reads
 use Rattle.marks.proofs.word.word.Reads as word-reads
 
--- src/lib.rt:51:8
 is-alone-requires : tie.Need-is-alone-requires
 is-alone-requires c κs = search needs
 
--- src/lib.rt:52:13
 wide-requires : tie.Need-wide-requires
 wide-requires c κs = search needs
 
--- src/lib.rt:53:31
 add-bare : tie.Need-add-bare
 add-bare c = search needs
 
--- src/lib.rt:53:9
 bare-requires : tie.Need-bare-requires
 bare-requires c κs = search needs
 
--- src/lib.rt:53:9
 returns : tie.Need-returns
 returns c =
     let b = c .before .before .before .before .before .args .b in
@@ -46,15 +42,12 @@ returns c =
     let y = sym (c .before .before .before .is-alone .ensures) ∙ c .before .before .if1 .taken in
     λ k. c .bare .ensures ∙ ap (λ (v : ℕ). bareOf v i (i + 1)) (c .before .wide .ensures ∙ sym (sign-kind b (and-left (isSign b) (not (eqb b 33 || eqb b 47)) y))) ∙ sym (alone-step b (drop (i + 1) (c .before .before .before .before .before .args .card .now)) i k y (c .before .before .before .before .before .pre .2))
 
--- src/lib.rt:55:8
 is-digit-requires : tie.Need-is-digit-requires
 is-digit-requires c κs = search needs
 
--- src/lib.rt:56:9
 numeral-requires : tie.Need-numeral-requires
 numeral-requires c κs = (c .before .before .before .before .before .pre .0, ap isDigit (sym (c .before .before .before .before .before .pre .1)) ∙ sym (c .before .is-digit .ensures) ∙ c .if2 .taken)
 
--- src/lib.rt:56:9
 returns-2 : tie.Need-returns-2
 returns-2 c =
     let b = c .before .before .before .before .before .before .args .b in
@@ -62,15 +55,12 @@ returns-2 c =
     let s = drop (i + 1) (c .before .before .before .before .before .before .args .card .now) in
     λ k. c .numeral .ensures k ∙ ap (λ (x : ℕ). stepped i (numeral x s) k) (sym (c .before .before .before .before .before .before .pre .1)) ∙ ap (λ (x : Start). stepped i x k) (sym (digit-starts b s (sym (c .before .before .is-digit .ensures) ∙ c .before .if2 .taken)))
 
--- src/lib.rt:58:8
 is-letter-requires : tie.Need-is-letter-requires
 is-letter-requires c κs = search needs
 
--- src/lib.rt:59:9
 word-requires : tie.Need-word-requires
 word-requires c κs = (c .before .before .before .before .before .before .before .pre .0, ap isLetter (sym (c .before .before .before .before .before .before .before .pre .1)) ∙ sym (c .before .is-letter .ensures) ∙ c .if3 .taken)
 
--- src/lib.rt:59:9
 returns-3 : tie.Need-returns-3
 returns-3 c =
     let b = c .before .before .before .before .before .before .before .before .args .b in
@@ -78,11 +68,9 @@ returns-3 c =
     let s = drop (i + 1) (c .before .before .before .before .before .before .before .before .args .card .now) in
     λ k. c .word .ensures k ∙ ap (λ (x : ℕ). stepped i (word x s) k) (sym (c .before .before .before .before .before .before .before .before .pre .1)) ∙ ap (λ (x : Start). stepped i x k) (sym (letter-starts b s (sym (c .before .before .is-letter .ensures) ∙ c .before .if3 .taken)))
 
--- src/lib.rt:61:5
 sign-requires : tie.Need-sign-requires
 sign-requires c κs = search needs
 
--- src/lib.rt:47:1
 returns-4 : tie.Need-returns-4
 returns-4 c =
     let b = c .before .before .before .before .before .before .before .before .args .b in

@@ -1,3 +1,4 @@
+-- The loop's invariant: a step from here is the step from the start. Each exit has its law (proofs/Starts.antt).
 use Prim.Native.Nat.{ℕ, _+_, _-_}
 use mathlib.Core.Path.{_≡_, refl, sym, ap, _∙_}
 use native.Mathlib.Omega.{arith}
@@ -20,52 +21,42 @@ Inv-loop card at₀ at = stepAt card at₀ ≡ stepAt card at
 abbrev μ-loop : tie.MeasureT-loop
 μ-loop card at₀ at = length card - at
 
--- src/lib.rt:76:9
 loop-holds : tie.Need-loop-holds Inv-loop μ-loop
 loop-holds c = refl
 
--- src/lib.rt:77:21
 shared-slice-read-b : tie.Need-shared-slice-read-b Inv-loop μ-loop
 shared-slice-read-b c = search needs
 
--- src/lib.rt:78:17
 gap-requires : tie.Need-gap-requires Inv-loop μ-loop
 gap-requires c κs = search needs
 
--- src/lib.rt:80:17
 start-requires : tie.Need-start-requires Inv-loop μ-loop
 start-requires c κs = (c .before .before .before .loop-test .taken, refl, sym (c .before .gap .ensures) ∙ c .if1 .taken)
 
--- src/lib.rt:80:17
 returns : tie.Need-returns Inv-loop μ-loop
 returns c =
     let s = c .before .before .before .before .before .before .before .args .card .now in
     let i = c .before .before .before .before .before .loop .at in
     step-mark s i (c .before .before .before .before .loop-test .taken) (startAt (getD s i 0) (drop (i + 1) s)) (c .start .result) refl (c .start .ensures) ∙ sym (c .before .before .before .before .before .loop .inv)
 
--- src/lib.rt:82:13
 add-at : tie.Need-add-at Inv-loop μ-loop
 add-at c =
     let s = c .before .before .before .before .before .before .args .card .now in
     let i = c .before .before .before .before .loop .at in
     omega (arith, c .before .gap .ensures, gap-fits (getD s i 0) (drop (i + 1) s), length-drop (i + 1) s, c .before .before .before .loop-test .taken, c .before .before .before .before .before .before .good .0)
 
--- src/lib.rt:76:9
 loop-less : tie.Need-loop-less Inv-loop μ-loop
 loop-less c = omega (arith, c .if1 .left, c .before .before .before .loop-test .taken)
 
--- src/lib.rt:76:9
 loop-again : tie.Need-loop-again Inv-loop μ-loop
 loop-again c =
     let s = c .before .before .before .before .before .before .args .card .now in
     let i = c .before .before .before .before .loop .at in
     c .before .before .before .before .loop .inv ∙ step-gap s i (c .before .before .before .loop-test .taken) (λ z. c .if1 .left (c .before .gap .ensures ∙ z)) ∙ ap (λ (n : ℕ). stepAt s (i + n)) (sym (c .before .gap .ensures))
 
--- src/lib.rt:85:9
 bare-requires : tie.Need-bare-requires Inv-loop μ-loop
 bare-requires c κs = search needs
 
--- src/lib.rt:72:5
 returns-2 : tie.Need-returns-2 Inv-loop μ-loop
 returns-2 c = c .bare .ensures ∙ sym (c .before .before .loop .inv ∙ step-end (c .before .before .before .before .args .card .now) (c .before .before .loop .at) (c .before .loop-test .left))
 

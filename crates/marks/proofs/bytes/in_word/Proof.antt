@@ -1,3 +1,4 @@
+-- Below 65 only the digits are in question, and from there on only `_` and the letters.
 use mathlib.Core.Path.{refl, sym, ap, _∙_}
 use mathlib.Core.Bool.{Bool, _||_}
 use native.Mathlib.Omega.{arith}
@@ -13,23 +14,18 @@ use Rattle.marks.proofs.bytes.in_word.Lts as lts
 use Rattle.marks.proofs.bytes.is_digit.Reads as is-digit-reads
 use Rattle.marks.proofs.bytes.is_letter.Reads as is-letter-reads
 
--- src/bytes.rt:37:9
 is-digit-requires : tie.Need-is-digit-requires
 is-digit-requires c κs = search needs
 
--- src/bytes.rt:37:9
 returns : tie.Need-returns
 returns c = c .is-digit .ensures ∙ agree isDigit inWord 65 0 refl (c .before .before .args .b) (omega arith) (omega arith)
 
--- src/bytes.rt:40:9
 returns-2 : tie.Need-returns-2
 returns-2 c = rw (c .if2 .taken)
 
--- src/bytes.rt:42:5
 is-letter-requires : tie.Need-is-letter-requires
 is-letter-requires c κs = search needs
 
--- src/bytes.rt:33:1
 returns-3 : tie.Need-returns-3
 returns-3 c = c .is-letter .ensures ∙ sym (ap (λ (t : Bool). t || isLetter (c .before .before .before .args .b)) (ne-eqb (c .before .before .before .args .b) 95 (c .before .if2 .left))) ∙ agree (λ b. eqb b 95 || isLetter b) inWord 191 65 refl (c .before .before .before .args .b) (omega arith) (omega arith)
 

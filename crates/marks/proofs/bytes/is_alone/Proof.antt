@@ -1,3 +1,4 @@
+-- Each exit is a range of bytes, on which the definition, computed there, agrees with what is handed back.
 use mathlib.Core.Path.{refl, sym, ap, _∙_}
 use mathlib.Core.Bool.{Bool, false, not, _||_}
 use native.Mathlib.Omega.{arith}
@@ -10,35 +11,27 @@ use Rattle.marks.proofs.bytes.is_alone.Tie as tie
 use Rattle.marks.proofs.bytes.is_alone.Reads as reads
 use Rattle.marks.proofs.bytes.is_alone.Lts as lts
 
--- src/bytes.rt:93:13
 returns : tie.Need-returns
 returns c = agree (λ b. false) isAlone 38 0 refl (c .before .before .args .b) (omega arith) (omega arith)
 
--- src/bytes.rt:96:13
 returns-2 : tie.Need-returns-2
 returns-2 c = agree (λ b. false) isAlone 3 45 refl (c .before .before .before .args .b) (omega arith) (omega arith)
 
--- src/bytes.rt:98:9
 returns-3 : tie.Need-returns-3
 returns-3 c = agree (λ b. not (eqb b 42)) isAlone 7 38 refl (c .before .before .before .args .b) (omega arith) (omega arith)
 
--- src/bytes.rt:101:9
 returns-4 : tie.Need-returns-4
 returns-4 c = agree (λ b. false) isAlone 10 48 refl (c .before .before .args .b) (omega arith) (omega arith)
 
--- src/bytes.rt:104:9
 returns-5 : tie.Need-returns-5
 returns-5 c = agree (λ b. not (eqb b 60)) isAlone 4 58 refl (c .before .before .before .args .b) (omega arith) (omega arith)
 
--- src/bytes.rt:107:9
 returns-6 : tie.Need-returns-6
 returns-6 c = agree (λ b. eqb b 124) isAlone 159 97 refl (c .before .before .before .before .args .b) (omega arith) (omega arith)
 
--- src/bytes.rt:110:9
 returns-7 : tie.Need-returns-7
 returns-7 c = rw (c .if7 .taken)
 
--- src/bytes.rt:88:1
 returns-8 : tie.Need-returns-8
 returns-8 c = sym (ap (λ (t : Bool). t || eqb (c .before .before .before .before .before .args .b) 93) (ne-eqb (c .before .before .before .before .before .args .b) 91 (c .if7 .left))) ∙ agree (λ b. eqb b 91 || eqb b 93) isAlone 35 62 refl (c .before .before .before .before .before .args .b) (omega arith) (omega arith)
 

@@ -1,3 +1,4 @@
+-- Each exit is a range of bytes, on which the definition, computed there, agrees with what is handed back.
 use mathlib.Core.Path.{refl}
 use mathlib.Core.Bool.{false}
 use native.Mathlib.Omega.{arith}
@@ -9,15 +10,12 @@ use Rattle.marks.proofs.bytes.is_letter.Tie as tie
 use Rattle.marks.proofs.bytes.is_letter.Reads as reads
 use Rattle.marks.proofs.bytes.is_letter.Lts as lts
 
--- src/bytes.rt:25:9
 returns : tie.Need-returns
 returns c = agree (λ b. false) isLetter 65 0 refl (c .before .args .b) (omega arith) (omega arith)
 
--- src/bytes.rt:28:9
 returns-2 : tie.Need-returns-2
 returns-2 c = agree (λ b. leb b 90) isLetter 32 65 refl (c .before .before .args .b) (omega arith) (omega arith)
 
--- src/bytes.rt:21:1
 returns-3 : tie.Need-returns-3
 returns-3 c = agree (λ b. leb b 122) isLetter 159 97 refl (c .before .before .args .b) (omega arith) (omega arith)
 

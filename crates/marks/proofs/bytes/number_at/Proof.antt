@@ -1,3 +1,4 @@
+-- The byte at the place, or the end.
 use mathlib.Core.Path.{sym, _∙_}
 use mathlib.Core.Bool.{or-false}
 use lib.ListN.{getD}
@@ -12,23 +13,18 @@ use Rattle.marks.proofs.bytes.number_at.Reads as reads
 use Rattle.marks.proofs.bytes.number_at.Lts as lts
 use Rattle.marks.proofs.bytes.is_digit.Reads as is-digit-reads
 
--- src/bytes.rt:149:17
 shared-slice-read-b : tie.Need-shared-slice-read-b
 shared-slice-read-b c = search needs
 
--- src/bytes.rt:151:13
 returns : tie.Need-returns
 returns c = sym (begins-at inNumber (c .before .before .before .before .args .card .now) (c .before .before .before .before .args .at) (c .before .before .if1 .taken) ∙ rw (c .if2 .taken))
 
--- src/bytes.rt:153:9
 is-digit-requires : tie.Need-is-digit-requires
 is-digit-requires c κs = search needs
 
--- src/bytes.rt:153:9
 returns-2 : tie.Need-returns-2
 returns-2 c = sym (begins-at inNumber (c .before .before .before .before .before .args .card .now) (c .before .before .before .before .before .args .at) (c .before .before .before .if1 .taken) ∙ rw (ne-eqb (getD (c .before .before .before .before .before .args .card .now) (c .before .before .before .before .before .args .at) 0) 46 (c .before .if2 .left), or-false) (sym (c .is-digit .ensures)))
 
--- src/bytes.rt:145:1
 returns-3 : tie.Need-returns-3
 returns-3 c = sym (begins-none inNumber (c .before .before .args .card .now) (c .before .before .args .at) (c .if1 .left))
 

@@ -1,3 +1,4 @@
+-- One digit where none and no point follows (proofs/Starts.antt); else the digits are counted.
 use Prim.Native.Nat.{ℕ, _+_}
 use mathlib.Core.Path.{sym, ap, _∙_}
 use lib.Dec.{leb}
@@ -17,39 +18,30 @@ use Rattle.marks.proofs.bytes.number_at.Reads as number-at-reads
 use Rattle.marks.proofs.bytes.wide.Reads as wide-reads
 use Rattle.marks.proofs.number.long_numeral.Reads as long-numeral-reads
 
--- src/number.rt:132:16
 add-next : tie.Need-add-next
 add-next c = search needs
 
--- src/number.rt:133:8
 number-at-requires : tie.Need-number-at-requires
 number-at-requires c κs = search needs
 
--- src/number.rt:134:9
 long-numeral-requires : tie.Need-long-numeral-requires
 long-numeral-requires c κs = search needs
 
--- src/number.rt:134:9
 returns : tie.Need-returns
 returns c = c .long-numeral .ensures
 
--- src/number.rt:136:22
 shared-slice-read-wide : tie.Need-shared-slice-read-wide
 shared-slice-read-wide c = search needs
 
--- src/number.rt:136:22
 sub-wide : tie.Need-sub-wide
 sub-wide c = leb-true 48 (getD (c .before .before .before .before .args .card .now) (c .before .before .before .before .args .at) 0) (and-left (leb 48 (getD (c .before .before .before .before .args .card .now) (c .before .before .before .before .args .at) 0)) (leb (getD (c .before .before .before .before .args .card .now) (c .before .before .before .before .args .at) 0) 57) (c .before .before .before .before .pre .1))
 
--- src/number.rt:136:9
 wide-requires : tie.Need-wide-requires
 wide-requires c κs = search needs
 
--- src/number.rt:137:5
 valued-requires : tie.Need-valued-requires
 valued-requires c κs = search needs
 
--- src/number.rt:128:1
 returns-2 : tie.Need-returns-2
 returns-2 c =
     let s = c .before .before .before .before .before .before .args .card .now in

@@ -1,3 +1,4 @@
+-- Each exit has its law (proofs/Starts.antt); from 33 on no byte is blank.
 use Prim.Native.Nat.{_+_}
 use mathlib.Core.Path.{sym, _∙_}
 use native.Mathlib.Omega.{arith}
@@ -15,51 +16,39 @@ use Rattle.marks.proofs.bytes.is_blank.Reads as is-blank-reads
 use Rattle.marks.proofs.bytes.line_end.Reads as line-end-reads
 use Rattle.marks.proofs.bytes.stands.Reads as stands-reads
 
--- src/sign.rt:58:9
 returns : tie.Need-returns
 returns c = sym (gap-blank (c .before .before .args .b) (drop (c .before .before .args .at + 1) (c .before .before .args .card .now)) (rw (c .if1 .taken)))
 
--- src/sign.rt:61:9
 returns-2 : tie.Need-returns-2
 returns-2 c = sym (gap-none (c .before .before .before .args .b) (drop (c .before .before .before .args .at + 1) (c .before .before .before .args .card .now)) (not-blank (c .before .before .before .args .b) (omega arith)) (rw (ne-eqb (c .before .before .before .args .b) 47 (λ q. omega arith))))
 
--- src/sign.rt:64:20
 add-next : tie.Need-add-next
 add-next c = search needs
 
--- src/sign.rt:65:12
 stands-requires : tie.Need-stands-requires
 stands-requires c κs = search needs
 
--- src/sign.rt:66:17
 line-end-requires : tie.Need-line-end-requires
 line-end-requires c κs = search needs
 
--- src/sign.rt:67:20
 sub-result : tie.Need-sub-result
 sub-result c = omega (arith, c .line-end .ensures)
 
--- src/sign.rt:67:13
 returns-3 : tie.Need-returns-3
 returns-3 c = omega (arith, c .line-end .ensures, gap-comment (c .before .before .before .before .before .before .before .args .b) (drop (c .before .before .before .before .before .before .before .args .at + 1) (c .before .before .before .before .before .before .before .args .card .now)) (not-blank (c .before .before .before .before .before .before .before .args .b) (omega arith)) (c .before .before .before .if3 .taken) (sym (c .before .before .stands .ensures) ∙ c .before .if4 .taken))
 
--- src/sign.rt:69:9
 returns-4 : tie.Need-returns-4
 returns-4 c = sym (gap-none (c .before .before .before .before .before .before .args .b) (drop (c .before .before .before .before .before .before .args .at + 1) (c .before .before .before .before .before .before .args .card .now)) (not-blank (c .before .before .before .before .before .before .args .b) (omega arith)) (and-off (eqb (c .before .before .before .before .before .before .args .b) 47) _ (sym (c .before .stands .ensures) ∙ c .if4 .left)))
 
--- src/sign.rt:72:9
 returns-5 : tie.Need-returns-5
 returns-5 c = sym (gap-none (c .before .before .before .before .before .args .b) (drop (c .before .before .before .before .before .args .at + 1) (c .before .before .before .before .before .args .card .now)) (not-blank (c .before .before .before .before .before .args .b) (omega arith)) (rw (ne-eqb (c .before .before .before .before .before .args .b) 47 (c .before .if3 .left))))
 
--- src/sign.rt:74:8
 is-blank-requires : tie.Need-is-blank-requires
 is-blank-requires c κs = search needs
 
--- src/sign.rt:75:9
 returns-6 : tie.Need-returns-6
 returns-6 c = sym (gap-blank (c .before .before .before .before .before .before .before .args .b) (drop (c .before .before .before .before .before .before .before .args .at + 1) (c .before .before .before .before .before .before .before .args .card .now)) (sym (c .before .is-blank .ensures) ∙ c .if6 .taken))
 
--- src/sign.rt:53:1
 returns-7 : tie.Need-returns-7
 returns-7 c = sym (gap-none (c .before .before .before .before .before .before .before .args .b) (drop (c .before .before .before .before .before .before .before .args .at + 1) (c .before .before .before .before .before .before .before .args .card .now)) (sym (c .before .is-blank .ensures) ∙ c .if6 .left) (rw (ne-eqb (c .before .before .before .before .before .before .before .args .b) 47 (c .before .before .before .if3 .left))))
 

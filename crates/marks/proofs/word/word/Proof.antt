@@ -1,3 +1,4 @@
+-- A seat word with one digit by its law (proofs/Starts.antt), or any word.
 use Prim.Native.Nat.{ℕ, _+_}
 use mathlib.Core.Path.{sym, ap, _∙_}
 use native.Mathlib.Omega.{arith}
@@ -18,45 +19,35 @@ use Rattle.marks.proofs.bytes.wide.Reads as wide-reads
 use Rattle.marks.proofs.word.is_short_seat.Reads as is-short-seat-reads
 use Rattle.marks.proofs.word.long_word.Reads as long-word-reads
 
--- src/word.rt:134:9
 is-short-seat-requires : tie.Need-is-short-seat-requires
 is-short-seat-requires c κs = search needs
 
--- src/word.rt:135:9
 long-word-requires : tie.Need-long-word-requires
 long-word-requires c κs = search needs
 
--- src/word.rt:135:9
 returns : tie.Need-returns
 returns c = c .long-word .ensures
 
--- src/word.rt:137:16
 add-next : tie.Need-add-next
 add-next c = search needs
 
--- src/word.rt:138:22
 shared-slice-read-wide : tie.Need-shared-slice-read-wide
 shared-slice-read-wide c = seat-place (c .before .before .before .before .args .card .now) (c .before .before .before .before .args .at) (c .before .before .before .before .pre .0) (sym (c .before .before .is-short-seat .ensures) ∙ not-false (c .before .before .is-short-seat .result) (c .before .if1 .left))
 
--- src/word.rt:138:22
 sub-wide : tie.Need-sub-wide
 sub-wide c =
     let d = getD (c .before .before .before .before .args .card .now) (c .before .before .before .before .args .at + 1) 0 in
     leb-true 48 d (and-left (leb 48 d) (leb d 57) (seat-digit (c .before .before .before .before .args .card .now) (c .before .before .before .before .args .at) (c .before .before .before .before .pre .0) (sym (c .before .before .is-short-seat .ensures) ∙ not-false (c .before .before .is-short-seat .result) (c .before .if1 .left))))
 
--- src/word.rt:138:9
 wide-requires : tie.Need-wide-requires
 wide-requires c κs = search needs
 
--- src/word.rt:139:29
 add-valued : tie.Need-add-valued
 add-valued c = omega (arith, seat-place (c .before .before .before .before .before .args .card .now) (c .before .before .before .before .before .args .at) (c .before .before .before .before .before .pre .0) (sym (c .before .before .before .is-short-seat .ensures) ∙ not-false (c .before .before .before .is-short-seat .result) (c .before .before .if1 .left)), c .before .before .before .before .before .good .0)
 
--- src/word.rt:139:5
 valued-requires : tie.Need-valued-requires
 valued-requires c κs = search needs
 
--- src/word.rt:130:1
 returns-2 : tie.Need-returns-2
 returns-2 c =
     let s = c .before .before .before .before .before .before .args .card .now in
