@@ -8,13 +8,13 @@ use mathlib.Core.List.{List, _++_}
 use native.Mathlib.Decide.{decLe}
 use native.Mathlib.Omega.{arith}
 use lib.ListN.{length, drop}
-use Rattle.card.specs.Refusals.{wrongWeight, wrongSeats, seatAboveTop}
+use Rattle.card.specs.Refusals.{wrongWeight, wrongSeats, seatAboveTop, roomTooSmall}
 use Rattle.card.specs.Card.{Card}
 use Rattle.reading.specs.Reading.{Outcome, taken, refused as turned, readOf}
 use Rattle.reading.proofs.Theorems.{read-valid}
 use Rattle.room.specs.declared.Answer.{Answer}
 use Rattle.room.specs.declared.Answer.the-variants.{Done, Refused}
-use Rattle.room.specs.Answer.{text, roomTooSmall, answerNumber, answerValue, Entered}
+use Rattle.room.specs.Answer.{text, answerNumber, answerValue, Entered}
 use Rattle.room.proofs.Entries.{entered-refusal, entered-fits, entered-longer, entered-kept}
 use Rattle.meaning.specs.Seats.{ValidSeating}
 use Rattle.counting.specs.declared.Seated.{Seated}

@@ -1,6 +1,6 @@
 -- Demand 2, its first half: which bytes are a card, which card they are, and which refusal is given where ("Marks on a card", "Shape of a
 -- card", "Refusal numbers"). The words on the right are in `reading/specs/Verdicts.antt`. Assumes nothing.
-use Prim.Native.Nat.{ℕ}
+use Prim.Native.Nat.{ℕ, _≤_}
 use mathlib.Core.Path.{_≡_}
 use mathlib.Core.Logic.{_↔_}
 use mathlib.Core.List.{List}
@@ -23,3 +23,5 @@ pub record Readings : Type 0 where
   pub row-5 : (s : List ℕ) (p : ℕ) → (readOf s ≡ refused aboveTop p) ↔ Broken aboveTop s p
   pub row-6 : (s : List ℕ) (p : ℕ) → (readOf s ≡ refused notDue p) ↔ Broken notDue s p
   pub row-7 : (s : List ℕ) (p : ℕ) → (readOf s ≡ refused wrongWeight p) ↔ Broken wrongWeight s p
+  -- there is no other refusal of a card
+  pub no-other : (s : List ℕ) {r p : ℕ} → readOf s ≡ refused r p → r ≤ wrongWeight

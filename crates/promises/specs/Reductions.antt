@@ -1,18 +1,36 @@
 -- What demand 3 alone does not fix of the reduced program ("What a card means", "Texts, byte for byte"): its mode, its counters' range, how
 -- many copies there are, and where a raised counter is cut. Assumes nothing.
-use Prim.Native.Nat.{ℕ, _≤_}
+use Prim.Native.Nat.{ℕ, _-_, _≤_}
 use mathlib.Core.Path.{_≡_}
 use mathlib.Core.List.{List, [], _∷_}
 use mathlib.Core.Option.{Option, none, some}
-use Rattle.card.specs.Card.{nondeterministic, probabilistic, atom, Card}
+use Rattle.card.specs.Text.{bytes}
+use Rattle.card.specs.Card.{nondeterministic, probabilistic, Kind, everyone, others, Sign, all, any, Relation, is, isnt, group, atom, neg, and, Card}
+use Rattle.reducer.specs.ReducedText.{reducedOf}
 use Rattle.card.specs.Valid.{Every}
 use Rattle.meaning.specs.CardA.{cardA}
 use Rattle.meaning.specs.Steps.{Step}
-use Rattle.meaning.specs.Reduced.{equalTo, moreThan, counter, Test, keep, shift, Outcome, Reduced, Program, reduce, reducedSteps}
+use Rattle.meaning.specs.Reduced.{Bound, equalTo, moreThan, lessThan, counter, counterOf, Test, keep, shift, Outcome, Reduced, Program, reduce, reducedSteps}
 
 -- document 01's one-seat card
 abbrev pub oneSeat : Card
 oneSeat = record { mode = nondeterministic; n = 1; k = 1; l = 0; statements = record { own = 0; guard = none; branches = record { units = 25200; end = 1 } ∷ [] } ∷ [] }
+
+-- two seats, and a guard of two groups
+abbrev pub joined : Card
+joined = record {
+  mode = nondeterministic;
+  n = 2;
+  k = 1;
+  l = 0;
+  statements =
+      record {
+        own = 0;
+        guard = some (and (atom (group others all is 0)) (neg (atom (group everyone all is 1))));
+        branches = record { units = 18900; end = 0 } ∷ record { units = 6300; end = 1 } ∷ [];
+      }
+      ∷ [];
+}
 
 -- ---- a reduced statement, written down
 
@@ -29,7 +47,25 @@ first m = line 0 m (some (atom (counter 0 (moreThan 1)))) (outcome 12600 (shift 
 abbrev pub second : ℕ → Reduced
 second m = line 1 m (some (atom (counter 2 (equalTo 0)))) (outcome 6300 (shift 1 2 3) ∷ outcome 18900 keep ∷ [])
 
+-- the test that a group becomes, in a statement with local state j, for n seats
+abbrev pub becomes : ℕ → ℕ → Kind → Sign → Relation → ℕ → Bound → Type 0
+becomes n j kind s q d b = counterOf n j (group kind s q d) ≡ counter d b
+
+-- the table of document 01, row by row, place by place: everyone; others, d=j; others, d not j
+pub record Table : Type 0 where
+  pub all-is : (n j d : ℕ) → becomes n j everyone all is d (equalTo n) × becomes n d others all is d (equalTo n) × ((j ≡ d → ⊥) → becomes n j others all is d (equalTo (n - 1)))
+  pub some-is : (n j d : ℕ) → becomes n j everyone any is d (moreThan 0) × becomes n d others any is d (moreThan 1) × ((j ≡ d → ⊥) → becomes n j others any is d (moreThan 0))
+  pub all-isnt : (n j d : ℕ) → becomes n j everyone all isnt d (equalTo 0) × becomes n d others all isnt d (equalTo 1) × ((j ≡ d → ⊥) → becomes n j others all isnt d (equalTo 0))
+  pub some-isnt : (n j d : ℕ) → becomes n j everyone any isnt d (lessThan n) × becomes n d others any isnt d (lessThan n) × ((j ≡ d → ⊥) → becomes n j others any isnt d (lessThan (n - 1)))
+
 pub record Reductions : Type 0 where
+  pub table : Table
+  -- document 01's text of its one-seat card, letter for letter
+  pub one-seat-text : reducedOf oneSeat
+      ≡ bytes "nondeterministic\nmodule generic_process\nno_0 : [0..1] init 1;\nno_1 : [0..1] init 0;\n[] (no_0>0) -> 1:(no_0'=no_0-1) & (no_1'=min(no_1+1,1));\nendmodule\n"
+  -- a joined guard with its brackets, and the update `true`
+  pub joined-text : reducedOf joined
+      ≡ bytes "nondeterministic\nmodule generic_process\nno_0 : [0..2] init 2;\nno_1 : [0..2] init 0;\n[] (no_0>0) & ((no_0=2) & !(no_1=2)) -> 3/4:true + 1/4:(no_0'=no_0-1) & (no_1'=min(no_1+1,2));\nendmodule\n"
   pub one-seat : reduce oneSeat ≡ record { mode = nondeterministic; most = 1; start = 1 ∷ 0 ∷ []; statements = line 0 0 none (outcome 25200 (shift 0 1 1) ∷ []) ∷ [] }
   pub card-a : reduce (cardA probabilistic)
       ≡ record { mode = probabilistic; most = 3; start = 3 ∷ 0 ∷ 0 ∷ []; statements = first 0 ∷ first 1 ∷ first 2 ∷ second 0 ∷ second 1 ∷ second 2 ∷ [] }

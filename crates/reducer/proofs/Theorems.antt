@@ -6,12 +6,12 @@ use mathlib.Core.Logic.{_↔_}
 use mathlib.Core.List.{List, _++_}
 use native.Mathlib.Omega.{arith}
 use lib.ListN.{length, drop}
-use Rattle.card.specs.Refusals.{wrongWeight}
+use Rattle.card.specs.Refusals.{wrongWeight, roomTooSmall}
 use Rattle.card.specs.Card.{Card}
 use Rattle.reading.specs.Reading.{taken, refused as turned, readOf}
 use Rattle.room.specs.declared.Answer.{Answer}
 use Rattle.room.specs.declared.Answer.the-variants.{Done, Refused}
-use Rattle.room.specs.Answer.{Said, text, roomTooSmall, Entered}
+use Rattle.room.specs.Answer.{Said, text, Entered}
 use Rattle.reading.proofs.Theorems.{read-valid}
 use Rattle.rows.proofs.Theorems as of-entry
 use Rattle.reducer.specs.ReducedText.{reducedOf}

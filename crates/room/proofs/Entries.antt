@@ -10,10 +10,11 @@ use native.Mathlib.Omega.{arith}
 use borrow.Author.Tests.{le-leb, lt-leb}
 use lib.ListN.{length, drop, length-append, length-drop}
 use lib.Seq.{drop-append-seam}
+use Rattle.card.specs.Refusals.{roomTooSmall}
 use Rattle.room.specs.declared.Answer.{Answer}
 use Rattle.room.specs.declared.Answer.the-variants.{Done, Refused}
 use Rattle.room.specs.Room.{cap, Put}
-use Rattle.room.specs.Answer.{Said, text, refused, roomTooSmall, answerNumber, Entered, Longer}
+use Rattle.room.specs.Answer.{Said, text, refused, answerNumber, Entered, Longer}
 use Rattle.room.proofs.Laws.{clip-past, clip-start}
 
 -- ---- how an entry keeps the promise

@@ -4,6 +4,7 @@ use mathlib.Core.Path.{_≡_}
 use mathlib.Core.List.{List, _++_}
 use lib.Dec.{leb}
 use lib.ListN.{length, drop}
+use Rattle.card.specs.Refusals.{roomTooSmall}
 use Rattle.card.specs.Text.{if_then_else_}
 use Rattle.room.specs.declared.Answer.{Answer}
 use Rattle.room.specs.declared.Answer.the-variants.{Done, Refused}
@@ -12,10 +13,6 @@ use Rattle.room.specs.declared.Answer.the-variants.{Done, Refused}
 pub data Said : Type 0 where
   text : List ℕ → Said
   refused : ℕ → ℕ → Said
-
--- the refusal of a text that is longer than the room
-abbrev pub roomTooSmall : ℕ
-roomTooSmall = 10
 
 -- the number of an answer, 0 if it is no refusal; and the length of the text, or the refusal's place
 abbrev pub answerNumber : Answer → ℕ

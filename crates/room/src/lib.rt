@@ -12,9 +12,6 @@ pub enum Answer {
     Refused(u8, usize),
 }
 
-// The refusal of a text that is longer than the room; its place is the length needed.
-pub const ROOM_TOO_SMALL: u8 = 10;
-
 // Past every room: a place stops there, so that no put asks anything of its caller.
 const CAP: usize = 9223372036854775808;
 

@@ -7,12 +7,12 @@ use mathlib.Core.List.{List, _++_}
 use native.Mathlib.Decide.{decLe}
 use native.Mathlib.Omega.{arith}
 use lib.ListN.{length, drop}
-use Rattle.card.specs.Refusals.{wrongWeight}
+use Rattle.card.specs.Refusals.{wrongWeight, roomTooSmall}
 use Rattle.card.specs.Card.{Card}
 use Rattle.reading.specs.Reading.{Outcome, taken, refused as turned, readOf}
 use Rattle.room.specs.declared.Answer.{Answer}
 use Rattle.room.specs.declared.Answer.the-variants.{Done, Refused}
-use Rattle.room.specs.Answer.{text, roomTooSmall, Entered}
+use Rattle.room.specs.Answer.{text, Entered}
 use Rattle.room.proofs.Entries.{entered-refusal, entered-fits, entered-longer, entered-unique, entered-kept, entered-past, entered-length}
 use Rattle.rows.specs.Said.{saidOf}
 use Rattle.reading.proofs.Numbers.{read-number}

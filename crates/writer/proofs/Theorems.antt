@@ -5,12 +5,12 @@ use mathlib.Core.Path.{_≡_}
 use mathlib.Core.Logic.{_↔_}
 use mathlib.Core.List.{List, _++_}
 use lib.ListN.{length, drop}
-use Rattle.card.specs.Refusals.{wrongWeight}
+use Rattle.card.specs.Refusals.{wrongWeight, roomTooSmall}
 use Rattle.card.specs.Card.{Card}
 use Rattle.reading.specs.Reading.{taken, refused as turned, readOf}
 use Rattle.room.specs.declared.Answer.{Answer}
 use Rattle.room.specs.declared.Answer.the-variants.{Done, Refused}
-use Rattle.room.specs.Answer.{roomTooSmall, Entered}
+use Rattle.room.specs.Answer.{Entered}
 use Rattle.rows.proofs.Theorems as of-entry
 use Rattle.writer.specs.Writing.{writeOf}
 use Rattle.writer.specs.WriteSaid.{writeSaid}
