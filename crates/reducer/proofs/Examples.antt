@@ -1,3 +1,4 @@
+-- Document 01's reduced text of its one-seat card, letter for letter, and those of card A in both modes, by computing. Assumes nothing.
 use mathlib.Core.Path.{_≡_, refl}
 use mathlib.Core.List.{[], _∷_}
 use mathlib.Core.Option.{none}

@@ -60,9 +60,9 @@ ghost use Rattle.reducer.specs.Handed.{boundRow, boundOf, outcomeOf, tai
 const TAIL_PLACES: usize = 668;
 
 // What a counter is held against: `=`, `>` or `<`, and a number.
-pub struct Bound {
-    pub sign: u8,
-    pub number: usize,
+struct Bound {
+    sign: u8,
+    number: usize,
 }
 
 fn one_less(n: usize) -> usize

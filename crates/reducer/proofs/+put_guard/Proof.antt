@@ -1,3 +1,4 @@
+-- `reducer::put_guard` meets its contract: what stands at a node gives its text from its parts' texts, and node numbers fall. Assumes nothing.
 use borrow.Author.Needs.{needs}
 use native.Mathlib.Omega.{arith}
 use Rattle.phrases.proofs.Laws.{put-first, puts-then, puts-as}
@@ -31,87 +32,66 @@ put-guard-below t =
 abbrev put-guard-R : ℕ → put-guard-lts.Claims
 put-guard-R t = (number-at-reads.Asked, number-at-reads.Learnt, put-group-reads.Asked, put-group-reads.Learnt, op-of-reads.Asked, op-of-reads.Learnt, left-of-reads.Asked, left-of-reads.Learnt, put-byte-reads.Asked, put-byte-reads.Learnt, put-guard-below t, put-guard.Post, right-of-reads.Asked, right-of-reads.Learnt, put-sign-reads.Asked, put-sign-reads.Learnt)
 
--- src/lib.rt:189:9
 put-guard-number-at-requires : (t : ℕ) → put-guard-lts.Need-number-at-requires (put-guard-R t) (put-guard-at t) put-guard.Post
 put-guard-number-at-requires t c κs = search needs
 
--- src/lib.rt:191:9
 put-guard-put-group-requires : (t : ℕ) → put-guard-lts.Need-put-group-requires (put-guard-R t) (put-guard-at t) put-guard.Post
 put-guard-put-group-requires t c κs = search needs
 
--- src/lib.rt:191:9
 put-guard-same-length : (t : ℕ) → put-guard-lts.Need-same-length (put-guard-R t) (put-guard-at t) put-guard.Post
 put-guard-same-length t c = search needs
 
--- src/lib.rt:191:9
 put-guard-returns : (t : ℕ) → put-guard-lts.Need-returns (put-guard-R t) (put-guard-at t) put-guard.Post
 put-guard-returns t c = puts-as _ (text-first (c .before .before .before .before .before .before .before .before .args .seats) (c .before .before .before .before .before .before .before .before .args .own) (c .before .before .before .before .before .before .before .before .args .nodes .now) (c .before .before .before .before .before .before .before .before .args .root) (c .before .before .before .before .before .number-at .result) (c .before .before .before .before .before .number-at .ensures) (c .before .before .before .before .if1 .taken)) (c .before .before .put-group .ensures)
 
--- src/lib.rt:193:9
 put-guard-op-of-requires : (t : ℕ) → put-guard-lts.Need-op-of-requires (put-guard-R t) (put-guard-at t) put-guard.Post
 put-guard-op-of-requires t c κs = search needs
 
--- src/lib.rt:195:9
 put-guard-put-group-requires-2 : (t : ℕ) → put-guard-lts.Need-put-group-requires-2 (put-guard-R t) (put-guard-at t) put-guard.Post
 put-guard-put-group-requires-2 t c κs = search needs
 
--- src/lib.rt:195:9
 put-guard-same-length-2 : (t : ℕ) → put-guard-lts.Need-same-length-2 (put-guard-R t) (put-guard-at t) put-guard.Post
 put-guard-same-length-2 t c = search needs
 
--- src/lib.rt:195:9
 put-guard-returns-2 : (t : ℕ) → put-guard-lts.Need-returns-2 (put-guard-R t) (put-guard-at t) put-guard.Post
 put-guard-returns-2 t c = puts-as _ (text-group (c .before .before .before .before .before .before .before .before .before .before .args .seats) (c .before .before .before .before .before .before .before .before .before .before .args .own) (c .before .before .before .before .before .before .before .before .before .before .args .nodes .now) (c .before .before .before .before .before .before .before .before .before .before .args .root) (c .before .before .before .before .before .before .before .number-at .result) (c .before .before .before .before .before .before .before .number-at .ensures) (c .before .before .before .before .before .op-of .ensures) (c .before .before .before .before .if2 .taken)) (c .before .before .put-group2 .ensures)
 
--- src/lib.rt:197:9
 put-guard-left-of-requires : (t : ℕ) → put-guard-lts.Need-left-of-requires (put-guard-R t) (put-guard-at t) put-guard.Post
 put-guard-left-of-requires t c κs = search needs
 
--- src/lib.rt:199:13
 put-guard-put-byte-requires : (t : ℕ) → put-guard-lts.Need-put-byte-requires (put-guard-R t) (put-guard-at t) put-guard.Post
 put-guard-put-byte-requires t c κs = search needs
 
--- src/lib.rt:200:9
 put-guard-put-guard-requires : (t : ℕ) → put-guard-lts.Need-put-guard-requires (put-guard-R t) (put-guard-at t) put-guard.Post
 put-guard-put-guard-requires t c κs = omega (arith, c .before .before .before .before .before .before .left-of .ensures .1 (c .before .before .before .before .before .before .before .before .before .if1 .left), c .before .before .before .before .before .before .before .before .before .before .before .before .before .pre)
 
--- src/lib.rt:200:9
 put-guard-same-length-3 : (t : ℕ) → put-guard-lts.Need-same-length-3 (put-guard-R t) (put-guard-at t) put-guard.Post
 put-guard-same-length-3 t c = search needs
 
--- src/lib.rt:200:9
 put-guard-returns-3 : (t : ℕ) → put-guard-lts.Need-returns-3 (put-guard-R t) (put-guard-at t) put-guard.Post
 put-guard-returns-3 t c = puts-as _ (text-not (c .before .before .before .before .before .before .before .before .before .before .before .before .before .before .before .before .args .seats) (c .before .before .before .before .before .before .before .before .before .before .before .before .before .before .before .before .args .own) (c .before .before .before .before .before .before .before .before .before .before .before .before .before .before .before .before .args .nodes .now) (c .before .before .before .before .before .before .before .before .before .before .before .before .before .before .before .before .args .root) (c .before .before .before .before .before .before .before .before .before .before .before .before .before .number-at .result) (c .before .before .before .before .before .before .before .before .before .before .before .before .before .number-at .ensures) (c .before .before .before .before .before .before .before .before .before .before .before .op-of .ensures) (c .before .before .before .before .before .before .before .before .before .before .before .before .if1 .left) (c .before .before .before .before .before .before .before .before .before .left-of .ensures .0) (c .before .before .before .before .before .before .before .before .if3 .taken)) (puts-then (put-first (c .before .before .before .before .before .before .put-byte .ensures)) (c .before .before .put-guard .ensures))
 
--- src/lib.rt:202:9
 put-guard-right-of-requires : (t : ℕ) → put-guard-lts.Need-right-of-requires (put-guard-R t) (put-guard-at t) put-guard.Post
 put-guard-right-of-requires t c κs = search needs
 
--- src/lib.rt:203:9
 put-guard-put-byte-requires-2 : (t : ℕ) → put-guard-lts.Need-put-byte-requires-2 (put-guard-R t) (put-guard-at t) put-guard.Post
 put-guard-put-byte-requires-2 t c κs = search needs
 
--- src/lib.rt:204:9
 put-guard-put-guard-requires-2 : (t : ℕ) → put-guard-lts.Need-put-guard-requires-2 (put-guard-R t) (put-guard-at t) put-guard.Post
 put-guard-put-guard-requires-2 t c κs = omega (arith, c .before .before .before .before .before .before .before .left-of .ensures .1 (c .before .before .before .before .before .before .before .before .before .before .if1 .left), c .before .before .before .before .before .before .before .before .before .before .before .before .before .before .pre)
 
--- src/lib.rt:205:9
 put-guard-put-sign-requires : (t : ℕ) → put-guard-lts.Need-put-sign-requires (put-guard-R t) (put-guard-at t) put-guard.Post
 put-guard-put-sign-requires t c κs = search needs
 
--- src/lib.rt:206:9
 put-guard-put-guard-requires-3 : (t : ℕ) → put-guard-lts.Need-put-guard-requires-3 (put-guard-R t) (put-guard-at t) put-guard.Post
 put-guard-put-guard-requires-3 t c κs = omega (arith, c .before .before .before .before .before .before .before .before .before .before .before .before .before .right-of .ensures .1 (c .before .before .before .before .before .before .before .before .before .before .before .before .before .before .before .before .before .before .if1 .left), c .before .before .before .before .before .before .before .before .before .before .before .before .before .before .before .before .before .before .before .before .before .before .pre)
 
--- src/lib.rt:207:5
 put-guard-put-byte-requires-3 : (t : ℕ) → put-guard-lts.Need-put-byte-requires-3 (put-guard-R t) (put-guard-at t) put-guard.Post
 put-guard-put-byte-requires-3 t c κs = search needs
 
--- src/lib.rt:179:1
 put-guard-same-length-4 : (t : ℕ) → put-guard-lts.Need-same-length-4 (put-guard-R t) (put-guard-at t) put-guard.Post
 put-guard-same-length-4 t c = search needs
 
--- src/lib.rt:179:1
 put-guard-returns-4 : (t : ℕ) → put-guard-lts.Need-returns-4 (put-guard-R t) (put-guard-at t) put-guard.Post
 put-guard-returns-4 t c = puts-as _ (text-joined (c .before .before .before .before .before .before .before .before .before .before .before .before .before .before .before .before .before .before .before .before .before .before .before .before .before .before .before .before .before .args .seats) (c .before .before .before .before .before .before .before .before .before .before .before .before .before .before .before .before .before .before .before .before .before .before .before .before .before .before .before .before .before .args .own) (c .before .before .before .before .before .before .before .before .before .before .before .before .before .before .before .before .before .before .before .before .before .before .before .before .before .before .before .before .before .args .nodes .now) (c .before .before .before .before .before .before .before .before .before .before .before .before .before .before .before .before .before .before .before .before .before .before .before .before .before .before .before .before .before .args .root) (c .before .before .before .before .before .before .before .before .before .before .before .before .before .before .before .before .before .before .before .before .before .before .before .before .before .before .number-at .result) (c .before .before .before .before .before .before .before .before .before .before .before .before .before .before .before .before .before .before .before .before .before .before .before .before .before .before .number-at .ensures) (c .before .before .before .before .before .before .before .before .before .before .before .before .before .before .before .before .before .before .before .before .before .before .before .before .op-of .ensures) (c .before .before .before .before .before .before .before .before .before .before .before .before .before .before .before .before .before .before .before .before .before .before .before .before .before .if1 .left) (c .before .before .before .before .before .before .before .before .before .before .before .before .before .before .before .before .before .before .before .before .before .before .left-of .ensures .0) (c .before .before .before .before .before .before .before .before .before .before .before .before .before .before .before .before .before .before .before .before .right-of .ensures .0) (c .before .before .before .before .before .before .before .before .before .before .before .before .before .before .before .before .before .before .before .before .before .before .before .if2 .left) (c .before .before .before .before .before .before .before .before .before .before .before .before .before .before .before .before .before .before .before .before .before .if3 .left)) (puts-then (put-first (c .before .before .before .before .before .before .before .before .before .before .before .before .before .before .before .before .before .before .put-byte2 .ensures)) (puts-then (c .before .before .before .before .before .before .before .before .before .before .before .before .before .before .put-guard2 .ensures) (puts-then (c .before .before .before .before .before .before .before .before .before .before .put-sign .ensures) (puts-then (c .before .before .before .before .before .before .put-guard3 .ensures) (put-first (c .before .before .put-byte3 .ensures))))))
 

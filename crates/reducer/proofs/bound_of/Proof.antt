@@ -1,3 +1,4 @@
+-- `reducer::bound_of` meets its contract: the parts of the packed group lead to its column of the table. Assumes nothing.
 use Rattle.reducer.proofs.Laws.{in-column}
 use borrow.Author.Tests.{eq-eqb, ne-eqb}
 use mathlib.Core.Path.{_∙_}
@@ -13,35 +14,27 @@ use Rattle.card.proofs.node.state_of.Reads as state-of-reads
 use Rattle.reducer.proofs.everyone_bound.Reads as everyone-bound-reads
 use Rattle.reducer.proofs.others_bound.Reads as others-bound-reads
 
--- src/lib.rt:153:9
 kind-of-requires : tie.Need-kind-of-requires
 kind-of-requires c κs = search needs
 
--- src/lib.rt:154:9
 sign-of-requires : tie.Need-sign-of-requires
 sign-of-requires c κs = search needs
 
--- src/lib.rt:155:9
 relation-of-requires : tie.Need-relation-of-requires
 relation-of-requires c κs = search needs
 
--- src/lib.rt:156:9
 state-of-requires : tie.Need-state-of-requires
 state-of-requires c κs = search needs
 
--- src/lib.rt:158:9
 everyone-bound-requires : tie.Need-everyone-bound-requires
 everyone-bound-requires c κs = search needs
 
--- src/lib.rt:158:9
 returns : tie.Need-returns
 returns c = c .everyone-bound .ensures _ ∙ in-column _ _ _ (c .before .before .before .before .before .kind-of .ensures .0) (c .before .before .before .before .sign-of .ensures .0) (c .before .before .before .relation-of .ensures .0) (c .before .before .state-of .ensures .0) (eq-eqb _ 0 (c .before .if1 .taken))
 
--- src/lib.rt:160:5
 others-bound-requires : tie.Need-others-bound-requires
 others-bound-requires c κs = search needs
 
--- src/lib.rt:150:1
 returns-2 : tie.Need-returns-2
 returns-2 c = c .others-bound .ensures ∙ in-column _ _ _ (c .before .before .before .before .before .kind-of .ensures .0) (c .before .before .before .before .sign-of .ensures .0) (c .before .before .before .relation-of .ensures .0) (c .before .before .state-of .ensures .0) (ne-eqb _ 0 (c .before .if1 .left))
 

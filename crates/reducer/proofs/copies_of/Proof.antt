@@ -1,14 +1,13 @@
+-- `reducer::copies_of` meets its contract: by its test on the mode. Assumes nothing.
 use borrow.Author.Tests.{eq-eqb, ne-eqb}
 use Rattle.reducer.proofs.copies_of.Statement.{statement}
 use Rattle.reducer.proofs.copies_of.Tie as tie
 use Rattle.reducer.proofs.copies_of.Reads as reads
 use Rattle.reducer.proofs.copies_of.Lts as lts
 
--- src/lib.rt:363:9
 returns : tie.Need-returns
 returns c = rw (eq-eqb _ 0 (c .if1 .taken))
 
--- src/lib.rt:359:1
 returns-2 : tie.Need-returns-2
 returns-2 c = rw (ne-eqb _ 0 (c .if1 .left))
 

@@ -1,3 +1,5 @@
+-- `reducer::everyone_bound` meets its contract: the tests on relation and sign lead to the place of the table whose test is returned.
+-- Assumes nothing.
 use borrow.Author.Tests.{eq-eqb, ne-eqb}
 use borrow.Author.Needs.{needs}
 use Rattle.reducer.proofs.everyone_bound.Statement.{statement}
@@ -8,35 +10,27 @@ use Rattle.reducer.proofs.equal_to.Reads as equal-to-reads
 use Rattle.reducer.proofs.less_than.Reads as less-than-reads
 use Rattle.reducer.proofs.more_than.Reads as more-than-reads
 
--- src/lib.rt:110:13
 equal-to-requires : tie.Need-equal-to-requires
 equal-to-requires c κs = search needs
 
--- src/lib.rt:110:13
 returns : tie.Need-returns
 returns c = λ itself. rw (eq-eqb _ 0 (c .before .before .if1 .taken), eq-eqb _ 0 (c .before .if2 .taken)) (c .equal-to .ensures)
 
--- src/lib.rt:112:9
 more-than-requires : tie.Need-more-than-requires
 more-than-requires c κs = search needs
 
--- src/lib.rt:112:9
 returns-2 : tie.Need-returns-2
 returns-2 c = λ itself. rw (eq-eqb _ 0 (c .before .before .if1 .taken), ne-eqb _ 0 (c .before .if2 .left)) (c .more-than .ensures)
 
--- src/lib.rt:115:9
 equal-to-requires-2 : tie.Need-equal-to-requires-2
 equal-to-requires-2 c κs = search needs
 
--- src/lib.rt:115:9
 returns-3 : tie.Need-returns-3
 returns-3 c = λ itself. rw (ne-eqb _ 0 (c .before .before .if1 .left), eq-eqb _ 0 (c .before .if3 .taken)) (c .equal-to2 .ensures)
 
--- src/lib.rt:117:5
 less-than-requires : tie.Need-less-than-requires
 less-than-requires c κs = search needs
 
--- src/lib.rt:105:1
 returns-4 : tie.Need-returns-4
 returns-4 c = λ itself. rw (ne-eqb _ 0 (c .before .before .if1 .left), ne-eqb _ 0 (c .before .if3 .left)) (c .less-than .ensures)
 

@@ -1,3 +1,4 @@
+-- `reducer::others_bound` meets its contract: the tests lead to the place of the table whose test is returned. Assumes nothing.
 use Rattle.reducer.specs.Handed.{boundRow}
 use Rattle.meaning.specs.Reduced.{equalTo, lessThan}
 use borrow.Author.Tests.{eq-eqb, ne-eqb}
@@ -13,71 +14,54 @@ use Rattle.reducer.proofs.less_than.Reads as less-than-reads
 use Rattle.reducer.proofs.more_than.Reads as more-than-reads
 use Rattle.reducer.proofs.one_less.Reads as one-less-reads
 
--- src/lib.rt:127:17
 equal-to-requires : tie.Need-equal-to-requires
 equal-to-requires c κs = search needs
 
--- src/lib.rt:127:17
 returns : tie.Need-returns
 returns c = rw (eq-eqb _ _ (c .before .before .before .if1 .taken), eq-eqb _ 0 (c .before .before .if2 .taken), eq-eqb _ 0 (c .before .if3 .taken)) (c .equal-to .ensures)
 
--- src/lib.rt:129:13
 more-than-requires : tie.Need-more-than-requires
 more-than-requires c κs = search needs
 
--- src/lib.rt:129:13
 returns-2 : tie.Need-returns-2
 returns-2 c = rw (eq-eqb _ _ (c .before .before .before .if1 .taken), eq-eqb _ 0 (c .before .before .if2 .taken), ne-eqb _ 0 (c .before .if3 .left)) (c .more-than .ensures)
 
--- src/lib.rt:132:13
 equal-to-requires-2 : tie.Need-equal-to-requires-2
 equal-to-requires-2 c κs = search needs
 
--- src/lib.rt:132:13
 returns-3 : tie.Need-returns-3
 returns-3 c = rw (eq-eqb _ _ (c .before .before .before .if1 .taken), ne-eqb _ 0 (c .before .before .if2 .left), eq-eqb _ 0 (c .before .if4 .taken)) (c .equal-to2 .ensures)
 
--- src/lib.rt:134:9
 less-than-requires : tie.Need-less-than-requires
 less-than-requires c κs = search needs
 
--- src/lib.rt:134:9
 returns-4 : tie.Need-returns-4
 returns-4 c = rw (eq-eqb _ _ (c .before .before .before .if1 .taken), ne-eqb _ 0 (c .before .before .if2 .left), ne-eqb _ 0 (c .before .if4 .left)) (c .less-than .ensures)
 
--- src/lib.rt:136:9
 one-less-requires : tie.Need-one-less-requires
 one-less-requires c κs = search needs
 
--- src/lib.rt:139:13
 equal-to-requires-3 : tie.Need-equal-to-requires-3
 equal-to-requires-3 c κs = search needs
 
--- src/lib.rt:139:13
 returns-5 : tie.Need-returns-5
 returns-5 c = rw (ne-eqb _ _ (c .before .before .before .before .if1 .left), eq-eqb _ 0 (c .before .before .if5 .taken), eq-eqb _ 0 (c .before .if6 .taken)) (c .equal-to3 .ensures ∙ ap (λ (m : ℕ). boundRow (equalTo m)) (c .before .before .before .one-less .ensures))
 
--- src/lib.rt:141:9
 more-than-requires-2 : tie.Need-more-than-requires-2
 more-than-requires-2 c κs = search needs
 
--- src/lib.rt:141:9
 returns-6 : tie.Need-returns-6
 returns-6 c = rw (ne-eqb _ _ (c .before .before .before .before .if1 .left), eq-eqb _ 0 (c .before .before .if5 .taken), ne-eqb _ 0 (c .before .if6 .left)) (c .more-than2 .ensures)
 
--- src/lib.rt:144:9
 equal-to-requires-4 : tie.Need-equal-to-requires-4
 equal-to-requires-4 c κs = search needs
 
--- src/lib.rt:144:9
 returns-7 : tie.Need-returns-7
 returns-7 c = rw (ne-eqb _ _ (c .before .before .before .before .if1 .left), ne-eqb _ 0 (c .before .before .if5 .left), eq-eqb _ 0 (c .before .if7 .taken)) (c .equal-to4 .ensures)
 
--- src/lib.rt:146:5
 less-than-requires-2 : tie.Need-less-than-requires-2
 less-than-requires-2 c κs = search needs
 
--- src/lib.rt:121:1
 returns-8 : tie.Need-returns-8
 returns-8 c = rw (ne-eqb _ _ (c .before .before .before .before .if1 .left), ne-eqb _ 0 (c .before .before .if5 .left), ne-eqb _ 0 (c .before .if7 .left)) (c .less-than2 .ensures ∙ ap (λ (m : ℕ). boundRow (lessThan m)) (c .before .before .before .one-less .ensures))
 

@@ -1,3 +1,4 @@
+-- `reducer::put_copies` meets its contract: one copy more after each turn. Assumes nothing.
 use borrow.Author.Needs.{needs}
 use Prim.Native.Nat.{_≤_, _-_}
 use Rattle.room.proofs.Laws.{put-length}
@@ -19,51 +20,39 @@ Inv-loop room₀ at own tail copies to₀ m₀ t10 t11 room to m = (m ≤ copies
 abbrev μ-loop : tie.MeasureT-loop
 μ-loop room₀ at own tail copies to₀ m₀ t10 t11 room to m = copies - m
 
--- src/lib.rt:322:9
 place-requires : tie.Need-place-requires Inv-loop μ-loop
 place-requires c κs = search needs
 
--- src/lib.rt:324:5
 loop-holds : tie.Need-loop-holds Inv-loop μ-loop
 loop-holds c = (search needs, counted-start _ 0 (search needs) (c .place .ensures))
 
--- src/lib.rt:325:40
 slice-aggregate-put-numbered : tie.Need-slice-aggregate-put-numbered Inv-loop μ-loop
 slice-aggregate-put-numbered c = search needs
 
--- src/lib.rt:325:13
 put-numbered-requires : tie.Need-put-numbered-requires Inv-loop μ-loop
 put-numbered-requires c κs = search needs
 
--- src/lib.rt:326:39
 slice-aggregate-put-numbered-2 : tie.Need-slice-aggregate-put-numbered-2 Inv-loop μ-loop
 slice-aggregate-put-numbered-2 c = search needs
 
--- src/lib.rt:326:13
 put-numbered-requires-2 : tie.Need-put-numbered-requires-2 Inv-loop μ-loop
 put-numbered-requires-2 c κs = search needs
 
--- src/lib.rt:327:9
 put-bytes-requires : tie.Need-put-bytes-requires Inv-loop μ-loop
 put-bytes-requires c κs = search needs
 
--- src/lib.rt:328:9
 add-m : tie.Need-add-m Inv-loop μ-loop
 add-m c = search needs
 
--- src/lib.rt:324:5
 loop-less : tie.Need-loop-less Inv-loop μ-loop
 loop-less c = search needs
 
--- src/lib.rt:324:5
 loop-again : tie.Need-loop-again Inv-loop μ-loop
 loop-again c = (search needs, counted-next _ 0 _ (search needs) (c .before .before .before .before .before .before .before .before .before .before .before .before .before .before .before .loop .inv .1) (puts-then (c .before .before .before .before .before .before .before .before .before .before .before .put-numbered .ensures) (puts-then (c .before .before .before .before .before .before .put-numbered2 .ensures) (put-first (c .before .before .put-bytes .ensures)))))
 
--- src/lib.rt:319:1
 same-length : tie.Need-same-length Inv-loop μ-loop
 same-length c = put-length (c .before .loop .inv .1 .put)
 
--- src/lib.rt:319:1
 returns : tie.Need-returns Inv-loop μ-loop
 returns c = counted-end _ 0 _ _ (c .loop-test .left) (search needs) (tailed-all _ _ _) (c .before .loop .inv .1)
 

@@ -1,3 +1,4 @@
+-- `reducer::put_counter` meets its contract: one put after the other. Assumes nothing.
 use Rattle.phrases.proofs.Laws.{put-first, puts-then}
 use borrow.Author.Needs.{needs}
 use Rattle.reducer.proofs.put_counter.Statement.{statement}
@@ -8,47 +9,36 @@ use Rattle.phrases.proofs.put_numbered.Reads as put-numbered-reads
 use Rattle.reducer.proofs.start_of.Reads as start-of-reads
 use Rattle.room.proofs.put_bytes.Reads as put-bytes-reads
 
--- src/lib.rt:417:9
 start-of-requires : tie.Need-start-of-requires
 start-of-requires c κs = search needs
 
--- src/lib.rt:418:36
 slice-aggregate-put-numbered : tie.Need-slice-aggregate-put-numbered
 slice-aggregate-put-numbered c = search needs
 
--- src/lib.rt:418:9
 put-numbered-requires : tie.Need-put-numbered-requires
 put-numbered-requires c κs = search needs
 
--- src/lib.rt:419:35
 slice-aggregate-put-numbered-2 : tie.Need-slice-aggregate-put-numbered-2
 slice-aggregate-put-numbered-2 c = search needs
 
--- src/lib.rt:419:9
 put-numbered-requires-2 : tie.Need-put-numbered-requires-2
 put-numbered-requires-2 c κs = search needs
 
--- src/lib.rt:420:35
 slice-aggregate-put-numbered-3 : tie.Need-slice-aggregate-put-numbered-3
 slice-aggregate-put-numbered-3 c = search needs
 
--- src/lib.rt:420:9
 put-numbered-requires-3 : tie.Need-put-numbered-requires-3
 put-numbered-requires-3 c κs = search needs
 
--- src/lib.rt:421:24
 slice-aggregate-put-bytes : tie.Need-slice-aggregate-put-bytes
 slice-aggregate-put-bytes c = search needs
 
--- src/lib.rt:421:5
 put-bytes-requires : tie.Need-put-bytes-requires
 put-bytes-requires c κs = search needs
 
--- src/lib.rt:414:1
 same-length : tie.Need-same-length
 same-length c = search needs
 
--- src/lib.rt:414:1
 returns : tie.Need-returns
 returns c = rw (c .before .before .before .before .before .before .before .before .before .before .before .before .before .before .before .before .before .before .before .before .start-of .ensures) at (puts-then (c .before .before .before .before .before .before .before .before .before .before .before .before .before .before .before .before .before .put-numbered .ensures) (puts-then (c .before .before .before .before .before .before .before .before .before .before .before .before .put-numbered2 .ensures) (puts-then (c .before .before .before .before .before .before .before .put-numbered3 .ensures) (put-first (c .before .before .put-bytes .ensures)))))
 

@@ -1,3 +1,4 @@
+-- `reducer::put_counters` meets its contract: one counter more after each turn. Assumes nothing.
 use borrow.Author.Needs.{needs}
 use native.Mathlib.Omega.{arith}
 use Prim.Native.Nat.{_+_, _≤_, _-_}
@@ -18,35 +19,27 @@ Inv-loop room₀ at seats top start to₀ d₀ room to d = (d ≤ top + 1) × Pu
 abbrev μ-loop : tie.MeasureT-loop
 μ-loop room₀ at seats top start to₀ d₀ room to d = top + 1 - d
 
--- src/lib.rt:429:9
 place-requires : tie.Need-place-requires Inv-loop μ-loop
 place-requires c κs = search needs
 
--- src/lib.rt:431:5
 loop-holds : tie.Need-loop-holds Inv-loop μ-loop
 loop-holds c = (search needs, counted-start _ 0 (search needs) (c .place .ensures))
 
--- src/lib.rt:432:9
 put-counter-requires : tie.Need-put-counter-requires Inv-loop μ-loop
 put-counter-requires c κs = search needs
 
--- src/lib.rt:433:9
 add-d : tie.Need-add-d Inv-loop μ-loop
 add-d c = search needs
 
--- src/lib.rt:431:5
 loop-less : tie.Need-loop-less Inv-loop μ-loop
 loop-less c = search needs
 
--- src/lib.rt:431:5
 loop-again : tie.Need-loop-again Inv-loop μ-loop
 loop-again c = (search needs, counted-next _ 0 _ (search needs) (c .before .before .before .before .before .loop .inv .1) (c .before .before .put-counter .ensures))
 
--- src/lib.rt:425:1
 same-length : tie.Need-same-length Inv-loop μ-loop
 same-length c = put-length (c .before .loop .inv .1 .put)
 
--- src/lib.rt:425:1
 returns : tie.Need-returns Inv-loop μ-loop
 returns c = counted-end _ 0 _ (c .before .before .before .before .args .top + 1) (search needs) (search needs) (counters-all (c .before .before .before .before .args .seats) (c .before .before .before .before .args .start) (c .before .before .before .before .args .top)) (c .before .loop .inv .1)
 

@@ -1,3 +1,4 @@
+-- `reducer::put_group` meets its contract: one put after the other, with the bound by its byte and its number. Assumes nothing.
 use Rattle.reducer.proofs.Laws.{group-text}
 use Rattle.phrases.proofs.Laws.{put-first, puts-then, puts-as}
 use borrow.Author.Needs.{needs}
@@ -11,39 +12,30 @@ use Rattle.phrases.proofs.put_numbered.Reads as put-numbered-reads
 use Rattle.room.proofs.put_byte.Reads as put-byte-reads
 use Rattle.room.proofs.put_number.Reads as put-number-reads
 
--- src/lib.rt:160:9
 state-of-requires : tie.Need-state-of-requires
 state-of-requires c κs = search needs
 
--- src/lib.rt:161:9
 bound-of-requires : tie.Need-bound-of-requires
 bound-of-requires c κs = search needs
 
--- src/lib.rt:162:36
 slice-aggregate-put-numbered : tie.Need-slice-aggregate-put-numbered
 slice-aggregate-put-numbered c = search needs
 
--- src/lib.rt:162:9
 put-numbered-requires : tie.Need-put-numbered-requires
 put-numbered-requires c κs = search needs
 
--- src/lib.rt:163:9
 put-byte-requires : tie.Need-put-byte-requires
 put-byte-requires c κs = search needs
 
--- src/lib.rt:164:9
 put-number-requires : tie.Need-put-number-requires
 put-number-requires c κs = search needs
 
--- src/lib.rt:165:5
 put-byte-requires-2 : tie.Need-put-byte-requires-2
 put-byte-requires-2 c κs = search needs
 
--- src/lib.rt:157:1
 same-length : tie.Need-same-length
 same-length c = search needs
 
--- src/lib.rt:157:1
 returns : tie.Need-returns
 returns c = puts-as _ (group-text _ _ _ (c .before .before .before .before .before .before .before .before .before .before .before .before .before .before .before .before .before .before .state-of .ensures .0) (c .before .before .before .before .before .before .before .before .before .before .before .before .before .before .before .before .before .bound-of .ensures)) (puts-then (c .before .before .before .before .before .before .before .before .before .before .before .before .before .before .put-numbered .ensures) (puts-then (put-first (c .before .before .before .before .before .before .before .before .before .before .put-byte .ensures)) (puts-then (put-first (c .before .before .before .before .before .before .put-number .ensures)) (put-first (c .before .before .put-byte2 .ensures)))))
 

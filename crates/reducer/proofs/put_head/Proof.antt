@@ -1,3 +1,4 @@
+-- `reducer::put_head` meets its contract: one put after the other. Assumes nothing.
 use Rattle.phrases.proofs.Laws.{put-first, puts-then}
 use borrow.Author.Needs.{needs}
 use Rattle.reducer.proofs.put_head.Statement.{statement}
@@ -8,27 +9,21 @@ use Rattle.phrases.proofs.put_mode.Reads as put-mode-reads
 use Rattle.reducer.proofs.put_counters.Reads as put-counters-reads
 use Rattle.room.proofs.put_bytes.Reads as put-bytes-reads
 
--- src/lib.rt:443:9
 put-mode-requires : tie.Need-put-mode-requires
 put-mode-requires c κs = search needs
 
--- src/lib.rt:444:32
 slice-aggregate-put-bytes : tie.Need-slice-aggregate-put-bytes
 slice-aggregate-put-bytes c = search needs
 
--- src/lib.rt:444:9
 put-bytes-requires : tie.Need-put-bytes-requires
 put-bytes-requires c κs = search needs
 
--- src/lib.rt:445:5
 put-counters-requires : tie.Need-put-counters-requires
 put-counters-requires c κs = search needs
 
--- src/lib.rt:439:1
 same-length : tie.Need-same-length
 same-length c = search needs
 
--- src/lib.rt:439:1
 returns : tie.Need-returns
 returns c = puts-then (c .before .before .before .before .before .before .before .before .before .before .before .put-mode .ensures) (puts-then (put-first (c .before .before .before .before .before .before .put-bytes .ensures)) (c .before .before .put-counters .ensures))
 

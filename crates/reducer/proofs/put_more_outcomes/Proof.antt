@@ -1,3 +1,4 @@
+-- `reducer::put_more_outcomes` meets its contract: one branch more after each turn. Assumes nothing.
 use borrow.Author.Needs.{needs}
 use Prim.Native.Nat.{_≤_, _-_}
 use lib.ListN.{length}
@@ -19,51 +20,39 @@ Inv-loop room₀ at branches own seats to₀ i₀ t9 room to i = (i ≤ length b
 abbrev μ-loop : tie.MeasureT-loop
 μ-loop room₀ at branches own seats to₀ i₀ t9 room to i = length branches - i
 
--- src/lib.rt:265:9
 place-requires : tie.Need-place-requires Inv-loop μ-loop
 place-requires c κs = search needs
 
--- src/lib.rt:267:5
 loop-holds : tie.Need-loop-holds Inv-loop μ-loop
 loop-holds c = (search needs, puts-none (search needs) (c .place .ensures))
 
--- src/lib.rt:268:37
 slice-aggregate-put-bytes : tie.Need-slice-aggregate-put-bytes Inv-loop μ-loop
 slice-aggregate-put-bytes c = search needs
 
--- src/lib.rt:268:13
 put-bytes-requires : tie.Need-put-bytes-requires Inv-loop μ-loop
 put-bytes-requires c κs = search needs
 
--- src/lib.rt:269:35
 mul-put-outcome : tie.Need-mul-put-outcome Inv-loop μ-loop
 mul-put-outcome c = search needs
 
--- src/lib.rt:269:35
 shared-slice-read-put-outcome : tie.Need-shared-slice-read-put-outcome Inv-loop μ-loop
 shared-slice-read-put-outcome c = search needs
 
--- src/lib.rt:269:9
 put-outcome-requires : tie.Need-put-outcome-requires Inv-loop μ-loop
 put-outcome-requires c κs = search needs
 
--- src/lib.rt:270:9
 add-i : tie.Need-add-i Inv-loop μ-loop
 add-i c = search needs
 
--- src/lib.rt:267:5
 loop-less : tie.Need-loop-less Inv-loop μ-loop
 loop-less c = search needs
 
--- src/lib.rt:267:5
 loop-again : tie.Need-loop-again Inv-loop μ-loop
 loop-again c = (search needs, puts-as _ (outcomes-next (c .before .before .before .before .before .before .before .before .before .before .before .before .before .before .before .args .seats) (c .before .before .before .before .before .before .before .before .before .before .before .before .before .before .before .args .own) (c .before .before .before .before .before .before .before .before .before .before .before .before .before .before .before .args .branches .now) _ (c .before .before .before .before .before .before .before .before .before .before .loop-test .taken)) (puts-then (c .before .before .before .before .before .before .before .before .before .before .before .loop .inv .1) (puts-then (put-first (c .before .before .before .before .before .before .before .put-bytes .ensures)) (c .before .before .put-outcome .ensures))))
 
--- src/lib.rt:256:1
 same-length : tie.Need-same-length Inv-loop μ-loop
 same-length c = put-length (c .before .loop .inv .1 .put)
 
--- src/lib.rt:256:1
 returns : tie.Need-returns Inv-loop μ-loop
 returns c = outcomes-end (c .before .before .before .before .before .args .seats) (c .before .before .before .before .before .args .own) (c .before .before .before .before .before .args .branches .now) _ (c .loop-test .left) (c .before .loop .inv .1)
 

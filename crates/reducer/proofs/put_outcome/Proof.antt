@@ -1,3 +1,4 @@
+-- `reducer::put_outcome` meets its contract: one put after the other, with the branch by its parts. Assumes nothing.
 use Rattle.phrases.proofs.Laws.{put-first, puts-then, puts-as}
 use Rattle.reducer.proofs.Laws.{outcome-text}
 use borrow.Author.Needs.{needs}
@@ -11,31 +12,24 @@ use Rattle.phrases.proofs.put_weight.Reads as put-weight-reads
 use Rattle.reducer.proofs.put_update.Reads as put-update-reads
 use Rattle.room.proofs.put_byte.Reads as put-byte-reads
 
--- src/lib.rt:249:9
 units-of-requires : tie.Need-units-of-requires
 units-of-requires c κs = search needs
 
--- src/lib.rt:250:9
 end-of-requires : tie.Need-end-of-requires
 end-of-requires c κs = search needs
 
--- src/lib.rt:251:9
 put-weight-requires : tie.Need-put-weight-requires
 put-weight-requires c κs = search needs
 
--- src/lib.rt:252:9
 put-byte-requires : tie.Need-put-byte-requires
 put-byte-requires c κs = search needs
 
--- src/lib.rt:253:5
 put-update-requires : tie.Need-put-update-requires
 put-update-requires c κs = search needs
 
--- src/lib.rt:246:1
 same-length : tie.Need-same-length
 same-length c = search needs
 
--- src/lib.rt:246:1
 returns : tie.Need-returns
 returns c = puts-as _ (outcome-text (c .before .before .before .before .before .before .before .before .before .before .before .before .before .before .before .args .seats) (c .before .before .before .before .before .before .before .before .before .before .before .before .before .before .before .args .own) (c .before .before .before .before .before .before .before .before .before .before .before .before .before .before .before .args .branch) (c .before .before .before .before .before .before .before .before .before .before .before .before .before .units-of .ensures) (c .before .before .before .before .before .before .before .before .before .before .before .before .end-of .ensures .0)) (puts-then (c .before .before .before .before .before .before .before .before .before .before .put-weight .ensures) (puts-then (put-first (c .before .before .before .before .before .before .put-byte .ensures)) (c .before .before .put-update .ensures)))
 

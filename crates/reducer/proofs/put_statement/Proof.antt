@@ -1,3 +1,4 @@
+-- `reducer::put_statement` meets its contract: the tail fits its array, and copies that end in it are the statement's. Assumes nothing.
 use Rattle.phrases.proofs.Laws.{puts-as}
 use Rattle.reducer.proofs.Laws.{kept-fits, kept-count, copies-kept, row-own}
 use borrow.Author.Needs.{needs}
@@ -8,31 +9,24 @@ use Rattle.reducer.proofs.put_statement.Lts as lts
 use Rattle.reducer.proofs.put_copies.Reads as put-copies-reads
 use Rattle.reducer.proofs.put_tail.Reads as put-tail-reads
 
--- src/lib.rt:354:24
 slice-aggregate-put-tail : tie.Need-slice-aggregate-put-tail
 slice-aggregate-put-tail c = search needs
 
--- src/lib.rt:354:9
 put-tail-requires : tie.Need-put-tail-requires
 put-tail-requires c κs = search needs
 
--- src/lib.rt:355:31
 array-share-prefix-tail : tie.Need-array-share-prefix-tail
 array-share-prefix-tail c = kept-fits (c .before .before .put-tail .ensures) (c .before .before .before .before .before .before .before .pre .1 .1 .1 .1) (search needs)
 
--- src/lib.rt:355:31
 slice-aggregate-put-copies : tie.Need-slice-aggregate-put-copies
 slice-aggregate-put-copies c = kept-count (c .before .before .before .put-tail .ensures) (c .before .before .before .before .before .before .before .before .pre .1 .1 .1 .1) (search needs)
 
--- src/lib.rt:355:5
 put-copies-requires : tie.Need-put-copies-requires
 put-copies-requires c κs = search needs
 
--- src/lib.rt:334:1
 same-length : tie.Need-same-length
 same-length c = search needs
 
--- src/lib.rt:334:1
 returns : tie.Need-returns
 returns c = puts-as _ (copies-kept (c .before .before .before .before .before .before .before .before .before .before .before .args .seats) _ (row-own (c .before .before .before .before .before .before .before .before .before .before .before .args .nodes .now) (c .before .before .before .before .before .before .before .before .before .before .before .args .branches .now) (c .before .before .before .before .before .before .before .before .before .before .before .args .own) (c .before .before .before .before .before .before .before .before .before .before .before .args .size) (c .before .before .before .before .before .before .before .before .before .before .before .args .many) (c .before .before .before .before .before .before .before .before .before .before .before .args .i)) (c .before .before .before .before .before .before .put-tail .ensures) (c .before .before .before .before .before .before .before .before .before .before .before .pre .1 .1 .1 .1) (search needs) (c .before .before .before .before .before .before .before .before .before .before .before .args .copies)) (c .before .before .put-copies .ensures)
 

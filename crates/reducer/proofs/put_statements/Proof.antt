@@ -1,3 +1,4 @@
+-- `reducer::put_statements` meets its contract: the copies of one statement more after each turn. Assumes nothing.
 use borrow.Author.Needs.{needs}
 use native.Mathlib.Omega.{arith}
 use Prim.Native.Nat.{_≤_, _-_}
@@ -22,75 +23,57 @@ Inv-loop room₀ at mode rows count nodes branches seats copies to₀ i₀ room 
 abbrev μ-loop : tie.MeasureT-loop
 μ-loop room₀ at mode rows count nodes branches seats copies to₀ i₀ room to i = count - i
 
--- src/lib.rt:382:9
 copies-of-requires : tie.Need-copies-of-requires Inv-loop μ-loop
 copies-of-requires c κs = search needs
 
--- src/lib.rt:383:9
 place-requires : tie.Need-place-requires Inv-loop μ-loop
 place-requires c κs = search needs
 
--- src/lib.rt:385:5
 loop-holds : tie.Need-loop-holds Inv-loop μ-loop
 loop-holds c = (search needs, counted-start _ 0 (search needs) (c .place .ensures))
 
--- src/lib.rt:386:20
 mul-from : tie.Need-mul-from Inv-loop μ-loop
 mul-from c = search needs
 
--- src/lib.rt:391:13
 mul-put-statement : tie.Need-mul-put-statement Inv-loop μ-loop
 mul-put-statement c = search needs
 
--- src/lib.rt:391:13
 element-copy-out-put-statement : tie.Need-element-copy-out-put-statement Inv-loop μ-loop
 element-copy-out-put-statement c = search needs
 
--- src/lib.rt:392:18
 add-put-statement : tie.Need-add-put-statement Inv-loop μ-loop
 add-put-statement c = search needs
 
--- src/lib.rt:392:13
 mul-put-statement-2 : tie.Need-mul-put-statement-2 Inv-loop μ-loop
 mul-put-statement-2 c = search needs
 
--- src/lib.rt:392:13
 element-copy-out-put-statement-2 : tie.Need-element-copy-out-put-statement-2 Inv-loop μ-loop
 element-copy-out-put-statement-2 c = search needs
 
--- src/lib.rt:393:18
 add-put-statement-2 : tie.Need-add-put-statement-2 Inv-loop μ-loop
 add-put-statement-2 c = search needs
 
--- src/lib.rt:393:13
 mul-put-statement-3 : tie.Need-mul-put-statement-3 Inv-loop μ-loop
 mul-put-statement-3 c = search needs
 
--- src/lib.rt:393:13
 element-copy-out-put-statement-3 : tie.Need-element-copy-out-put-statement-3 Inv-loop μ-loop
 element-copy-out-put-statement-3 c = search needs
 
--- src/lib.rt:387:9
 put-statement-requires : tie.Need-put-statement-requires Inv-loop μ-loop
 put-statement-requires c κs = let f = c .before .before .before .before .before .before .before .before .before .before .before .pre .fit .each (c .before .before .before .before .before .loop .i) (c .before .before .before .before .loop-test .taken) in (omega (arith, c .before .before .before .before .before .before .before .before .before .before .before .pre .fit .few), (f .nodes, (f .branches, (c .before .before .before .before .before .before .before .before .before .before .before .pre .long, every-row (c .before .before .before .before .before .before .before .before .before .before .before .args .seats) (c .before .before .before .before .before .before .before .copies-of .result) (c .before .before .before .before .before .before .before .before .before .before .before .args .nodes .now) (c .before .before .before .before .before .before .before .before .before .before .before .args .branches .now) (c .before .before .before .before .before .before .before .before .before .before .before .args .rows .now) (ShortTail (c .before .before .before .before .before .before .before .before .before .before .before .args .seats)) _ (c .before .before .before .before .before .loop .i) (c .before .before .before .before .loop-test .taken) (c .before .before .before .before .before .before .before .before .before .before .before .pre .tails)))))
 
--- src/lib.rt:399:9
 add-i : tie.Need-add-i Inv-loop μ-loop
 add-i c = search needs
 
--- src/lib.rt:385:5
 loop-less : tie.Need-loop-less Inv-loop μ-loop
 loop-less c = search needs
 
--- src/lib.rt:385:5
 loop-again : tie.Need-loop-again Inv-loop μ-loop
 loop-again c = (search needs, counted-next _ 0 _ (search needs) (c .before .before .before .before .before .before .before .before .loop .inv .1) (c .before .before .put-statement .ensures))
 
--- src/lib.rt:369:1
 same-length : tie.Need-same-length Inv-loop μ-loop
 same-length c = put-length (c .before .loop .inv .1 .put)
 
--- src/lib.rt:369:1
 returns : tie.Need-returns Inv-loop μ-loop
 returns c = counted-end _ 0 _ _ (c .loop-test .left) (search needs) (statements-all (c .before .before .before .before .before .before .before .args .seats) _ (c .before .before .before .before .before .before .before .args .nodes .now) (c .before .before .before .before .before .before .before .args .branches .now) (c .before .before .before .before .before .before .before .args .rows .now) (either nondeterministic probabilistic (c .before .before .before .before .before .before .before .args .mode)) (c .before .before .before .copies-of .ensures) _) (c .before .loop .inv .1)
 

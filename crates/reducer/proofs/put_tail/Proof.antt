@@ -1,3 +1,4 @@
+-- `reducer::put_tail` meets its contract: one put after the other. Assumes nothing.
 use mathlib.Core.Path.{refl}
 use Rattle.phrases.proofs.Laws.{put-first, puts-then, puts-as}
 use Rattle.reducer.proofs.Laws.{tail-text}
@@ -11,67 +12,51 @@ use Rattle.reducer.proofs.put_test.Reads as put-test-reads
 use Rattle.room.proofs.put_byte.Reads as put-byte-reads
 use Rattle.room.proofs.put_bytes.Reads as put-bytes-reads
 
--- src/lib.rt:309:16
 mul-from : tie.Need-mul-from
 mul-from c = search needs
 
--- src/lib.rt:310:14
 add-to : tie.Need-add-to
 add-to c = search needs
 
--- src/lib.rt:311:9
 put-byte-requires : tie.Need-put-byte-requires
 put-byte-requires c κs = search needs
 
--- src/lib.rt:312:38
 mul-put-test : tie.Need-mul-put-test
 mul-put-test c = search needs
 
--- src/lib.rt:312:9
 put-test-requires : tie.Need-put-test-requires
 put-test-requires c κs = search needs
 
--- src/lib.rt:313:32
 slice-aggregate-put-bytes : tie.Need-slice-aggregate-put-bytes
 slice-aggregate-put-bytes c = search needs
 
--- src/lib.rt:313:9
 put-bytes-requires : tie.Need-put-bytes-requires
 put-bytes-requires c κs = search needs
 
--- src/lib.rt:314:35
 mul-put-outcomes : tie.Need-mul-put-outcomes
 mul-put-outcomes c = search needs
 
--- src/lib.rt:314:35
 sub-put-outcomes : tie.Need-sub-put-outcomes
 sub-put-outcomes c = search needs
 
--- src/lib.rt:314:35
 part-put-outcomes-start : tie.Need-part-put-outcomes-start
 part-put-outcomes-start c = search needs
 
--- src/lib.rt:314:35
 part-put-outcomes-end : tie.Need-part-put-outcomes-end
 part-put-outcomes-end c = search needs
 
--- src/lib.rt:314:9
 put-outcomes-requires : tie.Need-put-outcomes-requires
 put-outcomes-requires c κs = search needs
 
--- src/lib.rt:315:24
 slice-aggregate-put-bytes-2 : tie.Need-slice-aggregate-put-bytes-2
 slice-aggregate-put-bytes-2 c = search needs
 
--- src/lib.rt:315:5
 put-bytes-requires-2 : tie.Need-put-bytes-requires-2
 put-bytes-requires-2 c κs = search needs
 
--- src/lib.rt:292:1
 same-length : tie.Need-same-length
 same-length c = search needs
 
--- src/lib.rt:292:1
 returns : tie.Need-returns
 returns c = puts-as _ (tail-text (c .before .before .before .before .before .before .before .before .before .before .before .before .before .before .before .before .before .before .before .before .before .before .before .before .before .before .args .seats) (c .before .before .before .before .before .before .before .before .before .before .before .before .before .before .before .before .before .before .before .before .before .before .before .before .before .before .args .nodes .now) (c .before .before .before .before .before .before .before .before .before .before .before .before .before .before .before .before .before .before .before .before .before .before .before .before .before .before .args .branches .now) (c .before .before .before .before .before .before .before .before .before .before .before .before .before .before .before .before .before .before .before .before .before .before .before .before .before .before .args .own) (c .before .before .before .before .before .before .before .before .before .before .before .before .before .before .before .before .before .before .before .before .before .before .before .before .before .before .args .size) (c .before .before .before .before .before .before .before .before .before .before .before .before .before .before .before .before .before .before .before .before .before .before .before .before .before .before .args .many) (c .before .before .before .before .before .before .before .before .before .before .before .before .before .before .before .before .before .before .before .before .before .before .before .before .before .before .args .i) refl refl) (puts-then (put-first (c .before .before .before .before .before .before .before .before .before .before .before .before .before .before .before .before .before .before .before .before .before .put-byte .ensures)) (puts-then (c .before .before .before .before .before .before .before .before .before .before .before .before .before .before .before .before .before .put-test .ensures) (puts-then (put-first (c .before .before .before .before .before .before .before .before .before .before .before .before .put-bytes .ensures)) (puts-then (c .before .before .before .before .before .before .before .put-outcomes .ensures) (put-first (c .before .before .put-bytes2 .ensures))))))
 

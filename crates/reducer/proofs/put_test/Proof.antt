@@ -1,3 +1,4 @@
+-- `reducer::put_test` meets its contract: no guard, or the sign and the guard at its root. Assumes nothing.
 use native.Mathlib.Omega.{arith}
 use Rattle.phrases.proofs.Laws.{put-first, puts-then, puts-as, puts-none}
 use Rattle.reducer.proofs.Laws.{test-none, test-some}
@@ -10,39 +11,30 @@ use Rattle.reducer.proofs.put_guard.Reads as put-guard-reads
 use Rattle.room.proofs.place.Reads as place-reads
 use Rattle.room.proofs.put_bytes.Reads as put-bytes-reads
 
--- src/lib.rt:224:9
 place-requires : tie.Need-place-requires
 place-requires c κs = search needs
 
--- src/lib.rt:224:9
 returns : tie.Need-returns
 returns c = puts-as _ (test-none (c .before .before .before .before .args .seats) (c .before .before .before .before .args .own) (c .before .before .before .before .args .nodes .now) (c .before .before .before .before .args .from) (c .before .before .before .before .args .count) (c .before .if1 .taken)) (puts-none (search needs) (c .place .ensures))
 
--- src/lib.rt:226:16
 add-root : tie.Need-add-root
 add-root c = search needs
 
--- src/lib.rt:226:16
 sub-root : tie.Need-sub-root
 sub-root c = search needs
 
--- src/lib.rt:227:33
 slice-aggregate-put-bytes : tie.Need-slice-aggregate-put-bytes
 slice-aggregate-put-bytes c = search needs
 
--- src/lib.rt:227:9
 put-bytes-requires : tie.Need-put-bytes-requires
 put-bytes-requires c κs = search needs
 
--- src/lib.rt:228:5
 put-guard-requires : tie.Need-put-guard-requires
 put-guard-requires c κs = search needs
 
--- src/lib.rt:211:1
 same-length : tie.Need-same-length
 same-length c = search needs
 
--- src/lib.rt:211:1
 returns-2 : tie.Need-returns-2
 returns-2 c = puts-as _ (test-some (c .before .before .before .before .before .before .before .before .before .before .before .before .args .seats) (c .before .before .before .before .before .before .before .before .before .before .before .before .args .own) (c .before .before .before .before .before .before .before .before .before .before .before .before .args .nodes .now) (c .before .before .before .before .before .before .before .before .before .before .before .before .args .from) (c .before .before .before .before .before .before .before .before .before .before .before .before .args .count) _ (c .before .before .before .before .before .before .before .before .before .if1 .left) (omega arith)) (puts-then (put-first (c .before .before .before .before .before .before .put-bytes .ensures)) (c .before .before .put-guard .ensures))
 

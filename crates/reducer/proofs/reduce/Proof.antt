@@ -1,3 +1,4 @@
+-- `reducer::reduce` meets its contract: the reader's refusal, or what is said of the card that is taken. Assumes nothing.
 use Rattle.reducer.proofs.Theorems.{said}
 use Rattle.reducer.specs.ReduceSaid.{reduceSaid}
 use Rattle.room.proofs.Entries.{entered-refused}
@@ -10,32 +11,25 @@ use Rattle.reducer.proofs.reduce.Lts as lts
 use Rattle.reader.proofs.read.Reads as read-reads
 use Rattle.reducer.proofs.reduce_card.Reads as reduce-card-reads
 
--- src/lib.rt:518:9
 read-requires : tie.Need-read-requires
 read-requires c κs = search needs
 
--- src/lib.rt:521:26
 enum-known-verdict : tie.Need-enum-known-verdict
 enum-known-verdict c = search needs
 
--- src/lib.rt:522:13
 returns : tie.Need-returns
 unfolding reduceSaid
 returns c = entered-refused (refused-said _ (c .before .before .before .read .ensures) said (c .before .verdict .given .1))
 
--- src/lib.rt:525:46
 enum-told : tie.Need-enum-told
 enum-told c = search needs
 
--- src/lib.rt:525:13
 reduce-card-requires : tie.Need-reduce-card-requires
 reduce-card-requires c κs = taken-holds _ (c .before .before .before .read .ensures) (c .before .enum-told .given .1)
 
--- src/lib.rt:525:13
 same-length : tie.Need-same-length
 same-length c = search needs
 
--- src/lib.rt:525:13
 returns-2 : tie.Need-returns-2
 unfolding reduceSaid
 returns-2 c = rw (taken-said _ (c .before .before .before .before .before .before .read .ensures) said (c .before .before .before .before .enum-told .given .1)) at (c .before .before .reduce-card .ensures)

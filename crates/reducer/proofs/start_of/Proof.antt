@@ -1,14 +1,13 @@
+-- `reducer::start_of` meets its contract: by its test on the state. Assumes nothing.
 use borrow.Author.Tests.{eq-eqb, ne-eqb}
 use Rattle.reducer.proofs.start_of.Statement.{statement}
 use Rattle.reducer.proofs.start_of.Tie as tie
 use Rattle.reducer.proofs.start_of.Reads as reads
 use Rattle.reducer.proofs.start_of.Lts as lts
 
--- src/lib.rt:409:9
 returns : tie.Need-returns
 returns c = rw (eq-eqb _ _ (c .if1 .taken))
 
--- src/lib.rt:405:1
 returns-2 : tie.Need-returns-2
 returns-2 c = rw (ne-eqb _ _ (c .if1 .left))
 
