@@ -6,7 +6,10 @@ use Rattle.room.specs.Digits.{decimal}
 use Rattle.meaning.specs.Panel.{panel}
 use Rattle.lines.specs.PanelText.{panelOf}
 use Rattle.meaning.specs.CardA.{cardA}
-use Rattle.promises.specs.Edges.{Edges}
+use Rattle.counting.specs.Judged.{judgedSeats, judgedFrom}
+use Rattle.panel.specs.PanelSaid.{panelSaid}
+use Rattle.program.specs.Program.{programOf, answerTo, seatsLine, cardBehind}
+use Rattle.promises.specs.Edges.{Edges, Printing}
 
 pub edges : Edges
 unfolding panelOf panel cardA decimal unitsOf readOf
@@ -23,3 +26,7 @@ edges = record {
   further-digits = (refl, refl);
   any-order = (refl, refl);
 }
+
+pub printing : Printing
+unfolding programOf answerTo seatsLine cardBehind panelSaid judgedSeats judgedFrom readOf panelOf panel cardA decimal unitsOf
+printing = record { card-a = refl; no-card = refl }

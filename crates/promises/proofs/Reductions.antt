@@ -1,10 +1,22 @@
 -- The reduced programs by computing, the range by citing. Assumes nothing.
 use mathlib.Core.Path.{refl}
+use borrow.Author.Tests.{eq-eqb, ne-eqb}
+use Rattle.room.specs.Digits.{decimal}
+use Rattle.phrases.specs.Phrases.{gcd, divisor}
+use Rattle.reducer.specs.ReducedText.{programText}
 use Rattle.meaning.specs.CardA.{cardA}
 use Rattle.meaning.specs.Reduced.{reduce, copy}
 use Rattle.meaning.proofs.Within.{stays-within}
-use Rattle.promises.specs.Reductions.{Reductions}
+use Rattle.promises.specs.Reductions.{Table, Reductions}
+
+table : Table
+table = record {
+  all-is = λ n j d. (refl, rw (eq-eqb d d refl), λ h. rw (ne-eqb j d h));
+  some-is = λ n j d. (refl, rw (eq-eqb d d refl), λ h. rw (ne-eqb j d h));
+  all-isnt = λ n j d. (refl, rw (eq-eqb d d refl), λ h. rw (ne-eqb j d h));
+  some-isnt = λ n j d. (refl, rw (eq-eqb d d refl), λ h. rw (ne-eqb j d h));
+}
 
 pub reductions : Reductions
-unfolding reduce copy cardA
-reductions = record { one-seat = refl; card-a = refl; card-a-free = refl; stays-within = stays-within }
+unfolding programText reduce copy cardA decimal gcd divisor
+reductions = record { table = table; one-seat-text = refl; joined-text = refl; one-seat = refl; card-a = refl; card-a-free = refl; stays-within = stays-within }

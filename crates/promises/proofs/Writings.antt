@@ -1,6 +1,9 @@
 -- The written card, by citing. Assumes nothing.
-use mathlib.Core.Path.{_≡_, sym, ap, _∙_}
+use mathlib.Core.Path.{_≡_, refl, sym, ap, _∙_}
 use Rattle.reading.specs.Reading.{taken}
+use Rattle.room.specs.Digits.{decimal}
+use Rattle.meaning.specs.CardA.{cardA}
+use Rattle.phrases.specs.Phrases.{gcd, divisor}
 use Rattle.phrases.proofs.Lowest.{lowest-terms, lowest-kept}
 use Rattle.writer.specs.Writing.{writeOf}
 use Rattle.rereading.proofs.RoundTrip.{round-trip, written-once, read-again}
@@ -11,7 +14,10 @@ same-taken : (c d : Card) → taken c ≡ taken d → c ≡ d
 same-taken c d e = cc
 
 pub writings : Writings
+unfolding writeOf cardA decimal gcd divisor
 writings = record {
+  card-a = refl;
+  brackets = refl;
   again = read-again;
   round-trip = round-trip;
   canonical = λ c d v w. ((λ e. ap writeOf e), written-once c d v w);

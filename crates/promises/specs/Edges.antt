@@ -8,6 +8,7 @@ use Rattle.card.specs.Card.{Mode, nondeterministic, probabilistic, others, all,
 use Rattle.reading.specs.Reading.{Outcome, taken, refused, readOf}
 use Rattle.meaning.specs.CardA.{cardA}
 use Rattle.lines.specs.PanelText.{panelOf}
+use Rattle.program.specs.Program.{programOf}
 
 -- card A's own text
 abbrev pub textA : List ℕ
@@ -61,3 +62,8 @@ pub record Edges : Type 0 where
   -- (s3=0 | s2=0), and the group of card A
   pub any-order : (readOf (head ++ bytes " & (s3=0 | s2=0) -> 1:(s1'=1);\n" ++ three) ≡ reads 3 (some (atom (group others any is 0))) (to 25200 1 ∷ []))
       × (readOf textA ≡ taken (cardA probabilistic))
+
+-- what the program prints, whole: for `001` and card A, and for a line without LF
+pub record Printing : Type 0 where
+  pub card-a : programOf (bytes "001\n" ++ textA) ≡ asAbove
+  pub no-card : programOf (bytes "001") ≡ bytes "refused 3 0\n"
