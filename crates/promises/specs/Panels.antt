@@ -5,7 +5,7 @@ use mathlib.Core.Bool.{true}
 use mathlib.Core.List.{[], _∷_}
 use mathlib.Core.Option.{Option, none}
 use lib.ListN.{length}
-use Rattle.card.specs.Limits.{mostSeats, mostStatements}
+use Rattle.card.specs.Limits.{mostSeats, mostStatements, unit}
 use Rattle.card.specs.Card.{probabilistic, Statement, Card}
 use Rattle.card.specs.Valid.{Every, ValidCard}
 use Rattle.meaning.specs.Seats.{Seating, ValidSeating, counts, mayTake, turn}
@@ -15,7 +15,7 @@ use Rattle.meaning.specs.Reordered.{Reordered}
 
 -- two seats, of which one goes from 0 to 2 and one from 1 to 0
 abbrev pub goes : ℕ → ℕ → Statement
-goes a b = record { own = a; guard = none; branches = record { units = 25200; end = b } ∷ [] }
+goes a b = record { own = a; guard = none; branches = record { units = unit; end = b } ∷ [] }
 
 abbrev pub turning : Card
 turning = record { mode = probabilistic; n = 2; k = 2; l = 0; statements = goes 1 0 ∷ goes 0 2 ∷ [] }
