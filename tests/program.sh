@@ -1,5 +1,6 @@
 #!/usr/bin/env bash
-# The panel program on inputs that only a whole run can show: at and around 65,536 bytes, with CR, without LF ("Texts, byte for byte").
+# The panel program as it is built, on inputs at and around 65,536 bytes, with CR, without LF ("Texts, byte for byte"). Crate `cases` runs
+# inputs like these on the function that it prints from; here the reading and the printing around it are run too.
 set -eu
 cd "$(dirname "${BASH_SOURCE[0]}")/.."
 runs=0

@@ -12,6 +12,9 @@ pub const PANEL: u8 = 2;
 
 pub const REDUCE: u8 = 3;
 
+// The program: it takes the seats with the card, and its room is its own.
+pub const PROGRAM: u8 = 4;
+
 // An entry that takes a room.
 pub fn enter(entry: u8, seats: &[u8], card: &[u8], room: &mut [u8]) -> Answer {
     if entry == WRITE {

@@ -7,6 +7,8 @@ use crate::stored::stands;
 use crate::stored::whole;
 use card::limits::CARD_BYTES;
 use card::refusals::ROOM_TOO_SMALL;
+use program::OUTPUT_BYTES;
+use program::respond;
 use reader::Verdict;
 use reader::read;
 use room::Answer;
@@ -73,11 +75,8 @@ fn refused_in(number: u8, place: usize, size: usize, stored: &[u8]) -> bool {
     number == ROOM_TOO_SMALL && place == stored.len()
 }
 
-// Is this the stored text, and the room behind it untouched?
-fn done(room: &[u8], long: usize, stored: &[u8]) -> bool {
-    if refuses(stored) {
-        return false;
-    }
+// Does a room hold so many bytes, just these, and is it untouched behind them?
+fn just(room: &[u8], long: usize, stored: &[u8]) -> bool {
     if long != stored.len() {
         return false;
     }
@@ -85,6 +84,14 @@ fn done(room: &[u8], long: usize, stored: &[u8]) -> bool {
         return false;
     }
     untouched(&room[long..])
+}
+
+// Is this the stored text, and the room behind it untouched?
+fn done(room: &[u8], long: usize, stored: &[u8]) -> bool {
+    if refuses(stored) {
+        return false;
+    }
+    just(room, long, stored)
 }
 
 // The entry in a room of so many bytes.
@@ -164,4 +171,11 @@ pub fn holds(entry: u8, seats: &[u8], card: &[u8], stored: &[u8], room: &mut [u8
         return again(stored, room);
     }
     true
+}
+
+// Does the program print just these bytes, a refusal's line among them?
+pub fn prints(input: &[u8], stored: &[u8]) -> bool {
+    let mut room: [u8; OUTPUT_BYTES] = [UNTOUCHED; OUTPUT_BYTES];
+    let long = respond(input, &mut room);
+    just(&room, long, stored)
 }

@@ -1,15 +1,20 @@
-// Runs the stored cases: each card goes through each entry, and the answer is held to the stored one, in rooms of several sizes. It prints
-// a line for each entry, which the file `stdout` fixes. An entry is added here, in `entries` and by its stored answers.
+// Runs the stored cases: each card goes through each entry, and the answer is held to the stored one, in rooms of several sizes; and through
+// the program, which reads each case whole. It prints a line for each entry, which the file `stdout` fixes. An entry is added here, in
+// `entries` and by its stored answers.
+mod around;
 mod entries;
 mod held;
 mod stored;
 mod tally;
 
+use around::around;
 use entries::PANEL;
+use entries::PROGRAM;
 use entries::READ;
 use entries::REDUCE;
 use entries::WRITE;
 use held::holds;
+use held::prints;
 use stored::PAST;
 use stored::RECORD;
 use stored::answer_end;
@@ -40,6 +45,9 @@ fn judge(entry: u8, input: &[u8], part: &[u8], room: &mut [u8], so_far: Tally) -
         return so_far.with(false, false);
     }
     let answer = &part[heading..];
+    if entry == PROGRAM {
+        return so_far.with(refuses(answer), prints(input, answer));
+    }
     let line = line_end(input);
     let mut seats = io::large_buffer();
     let many = seats_of(input, &mut seats);
@@ -109,6 +117,8 @@ fn main() {
     entry(WRITE, b"write", b"base.cases", b"written.expected");
     entry(REDUCE, b"reduce", b"base.cases", b"reduced.expected");
     entry(PANEL, b"panel", b"base.cases", b"panel.expected");
+    entry(PROGRAM, b"program", b"base.cases", b"panel.expected");
     entry(READ, b"edges read", b"edges.cases", b"edges.expected");
     entry(WRITE, b"edges written", b"edges.cases", b"edges.expected");
+    report(b"edges printed", around());
 }

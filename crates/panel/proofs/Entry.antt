@@ -1,7 +1,7 @@
 -- What the panel entry needs of a struct that holds a valid card and of a seating of it: its rows fit, its numbers are small, and the panel
 -- that is printed from the arrays is the card's. Assumes nothing.
 use Prim.Native.Nat.{ℕ, zero, suc, _+_, _≤_, _<_}
-use mathlib.Core.Path.{_≡_, sym, ap, _∙_}
+use mathlib.Core.Path.{_≡_, refl, sym, ap, _∙_}
 use mathlib.Core.List.{List}
 use mathlib.Core.Option.{Option}
 use native.Mathlib.Nat.{not-suc-le-zero, le-of-suc-le-suc, le-trans}
@@ -14,7 +14,6 @@ use Rattle.card.specs.Card.{nondeterministic, probabilistic, Guard, Card}
 use Rattle.card.specs.Valid.{Every, ValidStatement, ValidCard}
 use Rattle.card.specs.Laid.{either, statementOf, cardOf}
 use Rattle.card.specs.declared.Card.{Card as CardRow}
-use Rattle.room.specs.Room.{cap}
 use Rattle.room.specs.Answer.{text, refused}
 use Rattle.meaning.specs.Sums.{gate, upto}
 use Rattle.meaning.specs.Seats.{Seating, ValidSeating, count, counts}
@@ -31,11 +30,18 @@ use Rattle.counting.specs.Judged.{judgedSeats}
 use Rattle.counting.specs.Taking.{takers}
 use Rattle.counting.proofs.Judging.{valid-exactly}
 use Rattle.counting.proofs.Counted.{counts-most}
+use Rattle.reader.specs.declared.Verdict.{Verdict}
+use Rattle.reader.specs.declared.Verdict.the-variants.{Taken, Refused as Turned}
+use Rattle.reader.specs.declared.Reading.{Reading}
+use Rattle.reader.specs.ReadingOf.{Reads}
 use Rattle.rows.specs.Rows.{rowOf, rowsOf, Holds}
+use Rattle.rows.specs.Said.{saidOf}
+use Rattle.rows.proofs.Entry.{taken-holds, refused-said, taken-said}
 use Rattle.rows.proofs.Rows.{rowsCard, holds-card, fit-rows, same-card}
 use Rattle.lines.specs.PanelText.{panelText, panelOf}
 use Rattle.panel.specs.Tables.{Most, heaviest, weighingRow, ableAt, ablesOf, enabledOf, weightsOf, stayIn, panelIn, Fitting}
-use Rattle.panel.specs.PanelSaid.{shownSaid}
+use Rattle.panel.specs.PanelRoom.{panelRoom}
+use Rattle.panel.specs.PanelSaid.{shownSaid, firstDue, panelSaid}
 use Rattle.panel.proofs.Arrays.{upto-take}
 use Rattle.panel.proofs.Laws.{weights-most}
 use Rattle.panel.proofs.Shown.{statements-upto, panel-rows}
@@ -124,24 +130,48 @@ module _ {c : CardRow} (v : Holds c) where
         unfolding panelOf
         panel-said = ap (λ (p : Panel). text (panelText p)) is-panel
 
-        pub panel-short : length (panelText printed) ≤ cap
+        pub panel-short : length (panelText printed) ≤ panelRoom
         unfolding panelOf
         panel-short =
             let valid : ValidCard (cardOf c) = rw (holds-card v) (v .valid) in
-            rw (← is-panel) (le-trans (panel-fits (cardOf c) valid x ok) (omega arith))
+            rw (← is-panel) (panel-fits (cardOf c) valid x ok)
 
--- ---- the seats' judgement
+-- ---- the card's judgement and the seats'
 
-module _ (c : CardRow) (x : List ℕ) {j : Seated} (e : j ≡ judgedSeats (c .seats) (c .top) x) where
-  pub seats-refused : {number place : ℕ} → j ≡ Refused number place → shownSaid x (cardOf c) ≡ refused number place
-  unfolding cardOf
-  seats-refused h = rw (← e, h)
+fine≢refused : {A : Type 0} {number place : ℕ} → Refused number place ≡ Fine → A
+fine≢refused e = let z : _≡_ {A = ℕ} 0 1 = cc in absurd (omega arith)
 
-  module _ (h : j ≡ Fine) where
-    pub seats-valid : ValidSeating (cardOf c) x
+-- nothing is due only where there is nothing wrong with either
+first-fine : (v : Verdict) (j : Seated) → firstDue v j ≡ Fine → (v ≡ Taken) × (j ≡ Fine)
+first-fine Taken j e = (refl, e)
+first-fine (Turned number place) j e = fine≢refused e
+
+module _ (s : List ℕ) {r : Reading} (h : Reads s r) (x : List ℕ) {j d : Seated} (e : j ≡ judgedSeats (r .card .seats) (r .card .top) x) (f : d ≡ firstDue (r .verdict) j) where
+  module _ (g : d ≡ Fine) where
+    fine : (r .verdict ≡ Taken) × (j ≡ Fine)
+    fine = first-fine (r .verdict) j (sym f ∙ g)
+
+    pub due-holds : Holds (r .card)
+    due-holds = taken-holds s h (fine .0)
+
+    pub due-valid : ValidSeating (cardOf (r .card)) x
     unfolding cardOf
-    seats-valid = valid-exactly (cardOf c) x .0 (sym e ∙ h)
+    due-valid = valid-exactly (cardOf (r .card)) x .0 (sym e ∙ fine .1)
 
-    pub seats-fine : text (panelOf (cardOf c) x) ≡ shownSaid x (cardOf c)
-    unfolding cardOf
-    seats-fine = rw (← e, h)
+    pub due-said : text (panelOf (cardOf (r .card)) x) ≡ panelSaid s x
+    unfolding cardOf panelSaid
+    due-said =
+        let a : text (panelOf (cardOf (r .card)) x) ≡ shownSaid x (cardOf (r .card)) = rw (← e, fine .1) in
+        a ∙ taken-said s h (shownSaid x) (fine .0)
+
+  pub due-refused : {number place : ℕ} → d ≡ Refused number place → panelSaid s x ≡ refused number place
+  unfolding cardOf panelSaid
+  due-refused {number} {place} g = go (r .verdict) refl
+    where
+      go : (v : Verdict) → r .verdict ≡ v → saidOf (shownSaid x) s ≡ refused number place
+      go Taken k = sym (taken-said s h (shownSaid x) k) ∙ rw (← e, sym (f ∙ ap (λ (v : Verdict). firstDue v j) k) ∙ g)
+      go (Turned a b) k =
+          let z : Refused a b ≡ Refused number place = sym (f ∙ ap (λ (v : Verdict). firstDue v j) k) ∙ g in
+          let n : a ≡ number = cc in
+          let p : b ≡ place = cc in
+          refused-said s h (shownSaid x) k ∙ rw (n, p)

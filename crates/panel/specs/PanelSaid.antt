@@ -7,6 +7,8 @@ use Rattle.room.specs.Answer.{Said, text, refused}
 use Rattle.counting.specs.declared.Seated.{Seated}
 use Rattle.counting.specs.declared.Seated.the-variants.{Fine, Refused}
 use Rattle.counting.specs.Judged.{judgedSeats}
+use Rattle.reader.specs.declared.Verdict.{Verdict}
+use Rattle.reader.specs.declared.Verdict.the-variants.{Taken, Refused as Turned}
 use Rattle.rows.specs.Said.{saidOf}
 use Rattle.lines.specs.PanelText.{panelOf}
 
@@ -20,3 +22,8 @@ shownSaid seats c = seatedSaid c seats (judgedSeats (c .n) (c .k) seats)
 
 unfoldable pub panelSaid : List ℕ → List ℕ → Said
 panelSaid card seats = saidOf (shownSaid seats) card
+
+-- of two judgements the card's comes first
+abbrev pub firstDue : Verdict → Seated → Seated
+firstDue Taken seats = seats
+firstDue (Turned number place) seats = Refused number place

@@ -1,10 +1,11 @@
 // The panel of a card and its seats ("Texts, byte for byte"): from the counts alone, in one pass over the card's statements.
-use card::Card;
 use card::NONDETERMINISTIC;
+use card::limits::BRANCH_PLACES;
 use card::limits::MOST_BRANCHES;
 use card::limits::MOST_NODES;
 use card::limits::MOST_STATEMENTS;
 use card::limits::MOST_STATES;
+use card::limits::NODE_PLACES;
 use card::refusals::ROOM_TOO_SMALL;
 use counting::Seated;
 use counting::able;
@@ -15,8 +16,9 @@ use lines::put_head;
 use lines::put_line;
 use lines::put_moves;
 use lines::put_stay;
+use reader::Outline;
 use reader::Verdict;
-use reader::read;
+use reader::read_into;
 use room::Answer;
 use room::place;
 use rows::ROW;
@@ -37,7 +39,10 @@ ghost use Rattle.meaning.specs.Panel.{moveLine};
 ghost use Rattle.rows.specs.Rows.{Holds};
 ghost use Rattle.lines.specs.PanelText.{movesText, blocksText, panelText, panelOf};
 ghost use Rattle.panel.specs.Tables.{Most, weighing, ablesOf, countsAs, enabledOf, weightPlaces, heaviest, tableOf, weightIn, weightMore, Adding, weightsOf, stayIn, choiceIf, choicesIn, panelIn, Fitting};
-ghost use Rattle.panel.specs.PanelSaid.{shownSaid, panelSaid};
+ghost use Rattle.reader.specs.Statements.{arrays};
+ghost use Rattle.reader.specs.ReadingOf.{gathered};
+ghost use Rattle.panel.specs.PanelRoom.{panelRoom};
+ghost use Rattle.panel.specs.PanelSaid.{firstDue, panelSaid};
 
 // A room that every panel fits into (specs/PanelRoom.antt).
 pub const PANEL_ROOM: usize = 4101;
@@ -255,11 +260,65 @@ fn put_panel<'a>(
     put_table(room, b, weights, top)
 }
 
-// A card that was taken and seats that are a seating of it: a first walk tells the length, a second one stores the text.
-fn show(c: Card, seats: &[u8], room: &mut [u8]) -> Answer
-    requires { ⌜ Holds c ⌝ }
-    requires { ⌜ ValidSeating (cardOf c) (now seats) ⌝ }
-    ensures { λ r. ⌜ Entered (now (room .entry)) (now (room .exit)) (text (panelOf (cardOf c) (now (seats .entry)))) r ⌝ }
+// A panel of which all numbers are known. A room that every panel fits into takes it in one walk; else a first walk tells the length, and
+// a second one stores the text where it fits.
+fn enter_panel<'a>(
+    room: &mut [u8],
+    mode: usize,
+    seats: usize,
+    top: usize,
+    enabled: usize,
+    counts: &'a [usize],
+    stay: usize,
+    weights: &'a [usize; WEIGHT_PLACES],
+    ables: &'a [usize; MOST_STATEMENTS],
+    rows: &'a [usize; ROW_PLACES],
+    branches: &'a [u32],
+    count: usize,
+) -> Answer
+    requires { ⌜ Fitting top (now rows) (now branches) count ⌝ }
+    requires { ⌜ length (panelText (panelIn mode seats top enabled (now counts) stay (now weights) (now ables) (now rows) (now branches) count)) ≤ panelRoom ⌝ }
+    ensures { λ r. ⌜ Entered (now (room .entry)) (now (room .exit)) (text (panelText (panelIn mode seats top enabled (now (counts .entry)) stay (now (weights .entry)) (now (ables .entry)) (now (rows .entry)) (now (branches .entry)) count))) r ⌝ }
+{
+    if PANEL_ROOM <= room.len() {
+        return Answer::Done(put_panel(
+            room, 0, mode, seats, top, enabled, counts, stay, weights, ables, rows, branches, count,
+        ));
+    }
+    let need = put_panel(
+        &mut room[..0],
+        0,
+        mode,
+        seats,
+        top,
+        enabled,
+        counts,
+        stay,
+        weights,
+        ables,
+        rows,
+        branches,
+        count,
+    );
+    if room.len() < need {
+        return Answer::Refused(ROOM_TOO_SMALL, need);
+    }
+    Answer::Done(put_panel(
+        room, 0, mode, seats, top, enabled, counts, stay, weights, ables, rows, branches, count,
+    ))
+}
+
+// A card that was taken, and seats that are a seating of it.
+fn show<'a>(
+    c: Outline,
+    nodes: &'a [u32; NODE_PLACES],
+    branches: &'a [u32; BRANCH_PLACES],
+    seats: &'a [u8],
+    room: &mut [u8],
+) -> Answer
+    requires { ⌜ Holds (gathered c (arrays (now nodes) (now branches)) .card) ⌝ }
+    requires { ⌜ ValidSeating (cardOf (gathered c (arrays (now nodes) (now branches)) .card)) (now seats) ⌝ }
+    ensures { λ r. ⌜ Entered (now (room .entry)) (now (room .exit)) (text (panelOf (cardOf (gathered c (arrays (now (nodes .entry)) (now (branches .entry))) .card)) (now (seats .entry)))) r ⌝ }
 {
     let mode = c.mode;
     let n = c.seats;
@@ -267,32 +326,14 @@ fn show(c: Card, seats: &[u8], room: &mut [u8]) -> Answer
     let count = c.count;
     let states = top + 1;
     let counts = count_seats(seats);
-    let rows = rows_of(c.statements);
-    let ables = ables_of(&rows, count, &c.nodes, n, &counts[..states]);
+    let statements = c.statements;
+    let rows = rows_of(statements);
+    let ables = ables_of(&rows, count, nodes, n, &counts[..states]);
     let enabled = enabled_of(mode, &ables, count);
-    let weights = weights_of(mode, &ables, &rows, &c.branches, count, top);
+    let weights = weights_of(mode, &ables, &rows, branches, count, top);
     let stay = stay_of(&weights);
-    let need = put_panel(
-        &mut room[..0],
-        0,
-        mode,
-        n,
-        top,
-        enabled,
-        &counts[..states],
-        stay,
-        &weights,
-        &ables,
-        &rows,
-        &c.branches,
-        count,
-    );
-    if room.len() < need {
-        return Answer::Refused(ROOM_TOO_SMALL, need);
-    }
-    Answer::Done(put_panel(
+    enter_panel(
         room,
-        0,
         mode,
         n,
         top,
@@ -302,39 +343,41 @@ fn show(c: Card, seats: &[u8], room: &mut [u8]) -> Answer
         &weights,
         &ables,
         &rows,
-        &c.branches,
+        branches,
         count,
-    ))
+    )
 }
 
-// A card that was taken, and any seats.
-fn seated(c: Card, seats: &[u8], room: &mut [u8]) -> Answer
-    requires { ⌜ Holds c ⌝ }
-    ensures { λ r. ⌜ Entered (now (room .entry)) (now (room .exit)) (shownSaid (now (seats .entry)) (cardOf c)) r ⌝ }
+// The card's refusal comes before the seats'.
+fn first_due(card: Verdict, seats: Seated) -> Seated
+    ensures { λ r. ⌜ r ≡ firstDue card seats ⌝ }
 {
-    let judged = judge_seats(seats, c.seats, c.top);
-    match judged {
-        Seated::Refused(number, seat) => {
-            return Answer::Refused(number, seat);
+    match card {
+        Verdict::Refused(number, place) => {
+            return Seated::Refused(number, place);
         }
-        Seated::Fine => {
-            return show(c, seats, room);
+        Verdict::Taken => {
+            return seats;
         }
     }
 }
 
-// The card is judged first, then the seats; then the panel's text is measured, and stored where it fits.
+// The card is judged first, then the seats; then the panel's text is stored where it fits.
 pub fn panel(card: &[u8], seats: &[u8], room: &mut [u8]) -> Answer
     ensures { λ r. ⌜ Entered (now (room .entry)) (now (room .exit)) (panelSaid (now (card .entry)) (now (seats .entry))) r ⌝ }
 {
-    let reading = read(card);
-    let verdict = reading.verdict;
-    match verdict {
-        Verdict::Refused(number, place) => {
+    let mut nodes: [u32; NODE_PLACES] = [0; NODE_PLACES];
+    let mut branches: [u32; BRANCH_PLACES] = [0; BRANCH_PLACES];
+    let outline = read_into(card, &mut nodes, &mut branches);
+    let judged = judge_seats(seats, outline.seats, outline.top);
+    let verdict = outline.verdict;
+    let due = first_due(verdict, judged);
+    match due {
+        Seated::Refused(number, place) => {
             return Answer::Refused(number, place);
         }
-        Verdict::Taken => {
-            return seated(reading.card, seats, room);
+        Seated::Fine => {
+            return show(outline, &nodes, &branches, seats, room);
         }
     }
 }

@@ -1,5 +1,5 @@
 -- How long a text can be: the bounds of its pieces, added up. Assumes nothing.
-use Prim.Native.Nat.{ℕ, _+_, _-_, _*_, _/_, _≤_, _<_}
+use Prim.Native.Nat.{ℕ, suc, _+_, _-_, _*_, _/_, _^_, _≤_, _<_}
 use Prim.Native.String.{String}
 use mathlib.Core.Path.{_≡_, refl}
 use mathlib.Core.Bool.{Bool, true, false}
@@ -9,7 +9,7 @@ use native.Mathlib.Omega.{arith}
 use borrow.Author.Tests.{leb-false}
 use lib.Dec.{eqb, leb}
 use lib.ListN.{length, length-append}
-use Rattle.card.specs.Limits.{numberDigits, numbers, unit}
+use Rattle.card.specs.Limits.{mostSeats, topState, numberDigits, numbers, unit}
 use Rattle.card.specs.Text.{bytes, if_then_else_}
 use Rattle.card.specs.Card.{Mode, nondeterministic, probabilistic}
 use Rattle.card.specs.Weight.{Weight, whole, ratio}
@@ -34,8 +34,18 @@ adds-none = record { long = λ r. omega arith }
 pub adds-bytes : (s : String) → Adds (length (bytes s)) (λ r. s ▸ r)
 adds-bytes s = record { long = λ r. omega (arith, length-append (bytes s) r) }
 
+-- a number of k + 1 digits at most
+pub adds-digits : (k v : ℕ) → v < 10 ^ suc k → Adds (suc k) (num v)
+adds-digits k v h = record { long = λ r. omega (arith, length-append (decimal v) r, decimal-length k v h) }
+
 pub adds-number : (v : ℕ) → v < numbers → Adds numberDigits (num v)
-adds-number v h = record { long = λ r. omega (arith, length-append (decimal v) r, decimal-length (numberDigits - 1) v h) }
+adds-number v h = adds-digits (numberDigits - 1) v h
+
+pub adds-state : (d : ℕ) → d ≤ topState → Adds 1 (num d)
+adds-state d h = adds-digits 0 d (omega arith)
+
+pub adds-seats : (v : ℕ) → v ≤ mostSeats → Adds 2 (num v)
+adds-seats v h = adds-digits 1 v (omega arith)
 
 abbrev pub weightMost : ℕ
 weightMost = 1 + 2 * numberDigits

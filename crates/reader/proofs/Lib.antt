@@ -10,4 +10,5 @@ pub mod HeaderLaws
 pub mod Places
 pub mod Outcomes
 pub mod FilledLaws
+pub mod Cleared
 pub mod CardLaws

@@ -1,6 +1,6 @@
-pub mod ReadingOf
 pub mod Parts
 pub mod Branches
 pub mod Statements
 pub mod Ends
 pub mod Search
+pub mod ReadingOf

@@ -10,6 +10,8 @@ use Rattle.reading.specs.Reading.{Outcome, taken, refused, readOf}
 use Rattle.reader.specs.declared.Verdict.{Verdict}
 use Rattle.reader.specs.declared.Verdict.the-variants.{Taken, Refused}
 use Rattle.reader.specs.declared.Reading.{Reading}
+use Rattle.reader.specs.declared.Outline.{Outline}
+use Rattle.reader.specs.Statements.{Arrays, noRows}
 
 abbrev pub readingOf : Outcome → Reading
 readingOf (taken c) = record { verdict = Taken; card = laid c }
@@ -28,3 +30,22 @@ placeOf (Refused r p) = p
 pub record Reads (bytes : List ℕ) (r : Reading) : Type 0 where
   pub reading : r ≡ readingOf (readOf bytes)
   pub valid : (c : Card) → readOf bytes ≡ taken c → ValidCard c
+
+-- an outline with its two arrays, and the outline of no card
+abbrev pub gathered : Outline → Arrays → Reading
+gathered r is = record {
+  verdict = r .verdict;
+  card = record {
+    mode = r .mode;
+    seats = r .seats;
+    top = r .top;
+    start = r .start;
+    count = r .count;
+    statements = r .statements;
+    nodes = is .nodes;
+    branches = is .branches;
+  };
+}
+
+abbrev pub noOutline : ℕ → ℕ → Outline
+noOutline r p = record { verdict = Refused r p; mode = 0; seats = 0; top = 0; start = 0; count = 0; statements = noRows }

@@ -7,9 +7,10 @@ mod parts;
 mod statements;
 
 use card::Card;
-use card::blank;
+use card::Statement;
 use card::limits::BRANCH_PLACES;
 use card::limits::CARD_BYTES;
+use card::limits::MOST_STATEMENTS;
 use card::limits::NODE_PLACES;
 use guard::Settled;
 use guard::refusals::OUTSIDE_RULES;
@@ -23,13 +24,15 @@ use modules::modules as further_modules;
 use statements::statements as all_statements;
 ghost use mathlib.Core.Path.{_≡_};
 ghost use Prim.Native.Nat.{_≤_};
-ghost use Rattle.card.specs.Laid.{blank as blankCard};
+ghost use lib.ListN.{length};
+ghost use Rattle.card.specs.Limits.{nodePlaces, branchPlaces};
+ghost use Rattle.card.specs.Laid.{zeros};
 ghost use Rattle.card.specs.Refusals.{wrongWeight};
 ghost use Rattle.marks.specs.Step.{marksAt};
 ghost use Rattle.reading.specs.Reading.{firstOutside};
-ghost use Rattle.reader.specs.declared.Verdict.the-variants.{Refused};
 ghost use Rattle.reader.specs.Search.{searched};
-ghost use Rattle.reader.specs.ReadingOf.{Reads};
+ghost use Rattle.reader.specs.Statements.{arrays};
+ghost use Rattle.reader.specs.ReadingOf.{Reads, gathered, noOutline};
 
 // Taken, or refused with a number and a place ("Refusal numbers").
 pub enum Verdict {
@@ -40,6 +43,17 @@ pub enum Verdict {
 pub struct Reading {
     pub verdict: Verdict,
     pub card: Card,
+}
+
+// The same without the card's nodes and branches: those stand in two arrays that the caller lends.
+pub struct Outline {
+    pub verdict: Verdict,
+    pub mode: usize,
+    pub seats: usize,
+    pub top: usize,
+    pub start: usize,
+    pub count: usize,
+    pub statements: [Statement; MOST_STATEMENTS],
 }
 
 // A stop at a place, unless a mark outside the rules stands there or further on.
@@ -72,20 +86,49 @@ fn search(card: &[u8], stop: usize, place: usize) -> Settled
     }
 }
 
+fn clear(array: &mut [u32])
+    ensures { λ r. ⌜ now (array .exit) ≡ zeros (length (now (array .entry))) ⌝ }
+{
+    let mut i = 0;
+    while i < array.len() {
+        array[i] = 0;
+        i += 1;
+    }
+}
+
 // Reading refuses with one of the first seven numbers.
-fn refused(due: Settled) -> Reading
+fn refused(due: Settled) -> Outline
     requires { ⌜ due .number ≤ wrongWeight ⌝ }
-    ensures { λ r. ⌜ (r .verdict ≡ Refused (due .number) (due .place)) × (r .card ≡ blankCard) ⌝ }
+    ensures { λ r. ⌜ r ≡ noOutline (due .number) (due .place) ⌝ }
 {
     let number = due.number;
     let verdict = Verdict::Refused(number as u8, due.place);
-    let card = blank();
-    Reading { verdict, card }
+    let none = Statement {
+        own: 0,
+        nodes: 0,
+        branches: 0,
+    };
+    let statements = [none; MOST_STATEMENTS];
+    Outline {
+        verdict,
+        mode: 0,
+        seats: 0,
+        top: 0,
+        start: 0,
+        count: 0,
+        statements,
+    }
 }
 
-// The card that the bytes spell, or the refusal that is due.
-pub fn read(card: &[u8]) -> Reading
-    ensures { λ r. ⌜ Reads (now (card .entry)) r ⌝ }
+// The card that the bytes spell, or the refusal that is due; its nodes and branches go into arrays of zeros, which a refusal leaves so.
+pub fn read_into(
+    card: &[u8],
+    nodes: &mut [u32; NODE_PLACES],
+    branches: &mut [u32; BRANCH_PLACES],
+) -> Outline
+    requires { ⌜ now nodes ≡ zeros nodePlaces ⌝ }
+    requires { ⌜ now branches ≡ zeros branchPlaces ⌝ }
+    ensures { λ r. ⌜ Reads (now (card .entry)) (gathered r (arrays (now (nodes .exit)) (now (branches .exit)))) ⌝ }
 {
     if card.len() > CARD_BYTES {
         return refused(Settled {
@@ -97,40 +140,57 @@ pub fn read(card: &[u8]) -> Reading
     if head.stop != 0 {
         return refused(search(card, head.stop, head.place));
     }
-    let mut nodes: [u32; NODE_PLACES] = [0; NODE_PLACES];
-    let mut branches: [u32; BRANCH_PLACES] = [0; BRANCH_PLACES];
-    let list = all_statements(
-        card,
-        head.next,
-        head.top,
-        &mut nodes,
-        &mut branches,
-        head.late,
-    );
+    let list = all_statements(card, head.next, head.top, nodes, branches, head.late);
     if list.stop != 0 {
+        clear(nodes);
+        clear(branches);
         return refused(search(card, list.stop, list.place));
     }
     let tail = further_modules(card, list.next, list.late);
     if tail.stop != 0 {
+        clear(nodes);
+        clear(branches);
         return refused(search(card, tail.stop, tail.place));
     }
     let settled = settle(tail.late, tail.value);
     if settled.number != 0 {
+        clear(nodes);
+        clear(branches);
         return refused(settled);
     }
     let statements = list.rows;
-    let taken = Card {
+    Outline {
+        verdict: Verdict::Taken,
         mode: head.mode,
         seats: tail.value,
         top: head.top,
         start: head.start,
         count: list.count,
         statements,
+    }
+}
+
+// The same with the card as one struct.
+pub fn read(card: &[u8]) -> Reading
+    ensures { λ r. ⌜ Reads (now (card .entry)) r ⌝ }
+{
+    let mut nodes: [u32; NODE_PLACES] = [0; NODE_PLACES];
+    let mut branches: [u32; BRANCH_PLACES] = [0; BRANCH_PLACES];
+    let outline = read_into(card, &mut nodes, &mut branches);
+    let verdict = outline.verdict;
+    let statements = outline.statements;
+    let whole = Card {
+        mode: outline.mode,
+        seats: outline.seats,
+        top: outline.top,
+        start: outline.start,
+        count: outline.count,
+        statements,
         nodes,
         branches,
     };
     Reading {
-        verdict: Verdict::Taken,
-        card: taken,
+        verdict,
+        card: whole,
     }
 }

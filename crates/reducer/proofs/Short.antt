@@ -1,6 +1,6 @@
 -- How long the reduced text of a valid card can be, so that the array for a statement's tail is long enough and the length needed is told
 -- as it is: states have one digit, numbers of seats two, and of all that repeats there is at most so much. Assumes nothing.
-use Prim.Native.Nat.{ℕ, zero, suc, _+_, _-_, _*_, _^_, _≤_, _<_}
+use Prim.Native.Nat.{ℕ, zero, suc, _+_, _-_, _*_, _≤_, _<_}
 use mathlib.Core.Path.{_≡_, sym, ap, subst, _∙_}
 use mathlib.Core.Bool.{Bool, true, false}
 use mathlib.Core.List.{List, [], _∷_, map}
@@ -8,7 +8,7 @@ use mathlib.Core.Option.{Option, none, some}
 use native.Mathlib.Nat.{mul-le-mul-right, le-trans}
 use native.Mathlib.Omega.{arith}
 use lib.Dec.{eqb}
-use lib.ListN.{length, length-append}
+use lib.ListN.{length}
 use Rattle.card.specs.Limits.{mostSeats, topState, mostNodes}
 use Rattle.card.specs.Text.{if_then_else_}
 use Rattle.card.specs.Card.{Mode, nondeterministic, probabilistic, Kind, everyone, others, Sign, all, any, Relation, is, isnt, Group, group, atom, neg, and, or, Guard, Branch, Statement, Card}
@@ -19,13 +19,11 @@ use Rattle.card.proofs.Held.{every-map}
 use Rattle.meaning.specs.Sums.{gate, upto, flat}
 use Rattle.meaning.specs.Formulas.{over}
 use Rattle.meaning.specs.Reduced.{Bound, equalTo, moreThan, lessThan, counterOf, table, testOf, Update, keep, shift, updateOf, copy, copies, reduce}
-use Rattle.room.specs.Digits.{decimal}
 use Rattle.room.specs.Room.{cap}
 use Rattle.room.specs.Answer.{text}
-use Rattle.room.proofs.Decimal.{decimal-length}
 use Rattle.phrases.specs.Phrases.{_▸_, num, modeText}
 use Rattle.phrases.proofs.Counted.{Text}
-use Rattle.phrases.proofs.Adds.{Adds, adds-then, adds-up, adds-none, adds-bytes, weightMost, adds-weight, adds-mode}
+use Rattle.phrases.proofs.Adds.{Adds, adds-then, adds-up, adds-none, adds-bytes, adds-state, adds-seats, weightMost, adds-weight, adds-mode}
 use Rattle.rows.specs.Rows.{rowsOf, Holds}
 use Rattle.rows.proofs.Rows.{rowsCard, holds-branches, holds-card, fit-rows, same-card}
 use Rattle.reducer.specs.ReducedText.{boundText, counterText, testText, guardOr, updateText, outcomeText, moreOutcomes, outcomes, reducedText, statements, counters, programText, reducedOf}
@@ -34,16 +32,6 @@ use Rattle.reducer.proofs.Laws.{copy-text, copies-text, statements-appe
 
 adds-as : {a : ℕ} {f g : Text} → ((r : List ℕ) → g r ≡ f r) → Adds a f → Adds a g
 adds-as e p = record { long = λ r. omega (arith, ap length (e r), p .long r) }
-
--- a number of k + 1 digits at most
-adds-digits : (k v : ℕ) → v < 10 ^ suc k → Adds (suc k) (num v)
-adds-digits k v h = record { long = λ r. omega (arith, length-append (decimal v) r, decimal-length k v h) }
-
-adds-state : (d : ℕ) → d ≤ topState → Adds 1 (num d)
-adds-state d h = adds-digits 0 d (omega arith)
-
-adds-seats : (v : ℕ) → v ≤ mostSeats → Adds 2 (num v)
-adds-seats v h = adds-digits 1 v (omega arith)
 
 -- ---- tests
 
@@ -232,9 +220,12 @@ module _ {c : CardRow} (v : Holds c) {rows : List ℕ} (e : rows ≡ rowsOf (c .
     tails = subst (λ (x : Card). Every (ShortTail (x .n)) (x .statements)) (sym (same-card v e)) (short-tails (v .card) (v .valid));
   }
 
-  -- the text of the rows is the text of the card, and no longer than a place can tell
+  -- the text of the rows is the text of the card, and no longer than any, nor than a place can tell
   pub rows-said : text (reducedOf (cardOf c)) ≡ text (reducedOf (rowsCard c rows))
   rows-said = ap (λ (x : Card). text (reducedOf x)) (holds-card v ∙ sym (same-card v e))
 
+  pub rows-most : length (reducedOf (rowsCard c rows)) ≤ reducedMost
+  rows-most = rw (same-card v e) (short (v .card) (v .valid))
+
   pub rows-short : length (reducedOf (rowsCard c rows)) ≤ cap
-  rows-short = rw (same-card v e) (omega (arith, short (v .card) (v .valid)))
+  rows-short = omega (arith, rows-most)

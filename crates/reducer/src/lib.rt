@@ -1,8 +1,9 @@
 // The reduced program's text ("Texts, byte for byte", first part), translated and printed in one walk over the card's nodes.
-use card::Card;
 use card::NONDETERMINISTIC;
+use card::limits::BRANCH_PLACES;
 use card::limits::MOST_BRANCHES;
 use card::limits::MOST_NODES;
+use card::limits::NODE_PLACES;
 use card::node::ALL;
 use card::node::AND;
 use card::node::EVERYONE;
@@ -22,8 +23,9 @@ use card::refusals::ROOM_TOO_SMALL;
 use phrases::put_mode;
 use phrases::put_numbered;
 use phrases::put_weight;
+use reader::Outline;
 use reader::Verdict;
-use reader::read;
+use reader::read_into;
 use room::Answer;
 use room::place;
 use room::put_byte;
@@ -52,6 +54,8 @@ ghost use Rattle.phrases.specs.Phrases.{_▸_, modeText};
 ghost use Rattle.phrases.specs.Puts.{Puts};
 ghost use Rattle.rows.specs.Rows.{row, rowsFrom, cardIn, Holds};
 ghost use Rattle.reducer.specs.ReducedText.{counterText, testText, guardOr, updateText, outcomeText, moreOutcomes, outcomes as outcomeTexts, counterLine, counters, reducedOf};
+ghost use Rattle.reader.specs.Statements.{arrays};
+ghost use Rattle.reader.specs.ReadingOf.{gathered};
 ghost use Rattle.reducer.specs.ReduceSaid.{reduceSaid};
 ghost use Rattle.reducer.specs.Handed.{boundRow, boundOf, outcomeOf, tailOf, tailPlaces, tailedCopies, copyTexts, copyNumber, allTexts, Fits};
 
@@ -475,13 +479,28 @@ fn put_program<'a>(
     put_bytes(room, b, b"endmodule\n")
 }
 
-// A card that was taken, as its struct holds it: a first walk tells the length, a second one stores the text.
-fn reduce_card(c: Card, room: &mut [u8]) -> Answer
-    requires { ⌜ Holds c ⌝ }
-    ensures { λ r. ⌜ Entered (now (room .entry)) (now (room .exit)) (text (reducedOf (cardOf c))) r ⌝ }
+// A room that every reduced text fits into (specs/Handed.antt).
+pub const REDUCED_ROOM: usize = 347890;
+
+// A card that was taken. A room that every text fits into takes it in one walk; else a first walk tells the length, and a second one
+// stores the text where it fits.
+fn reduce_card<'a>(
+    c: Outline,
+    nodes: &'a [u32; NODE_PLACES],
+    branches: &'a [u32; BRANCH_PLACES],
+    room: &mut [u8],
+) -> Answer
+    requires { ⌜ Holds (gathered c (arrays (now nodes) (now branches)) .card) ⌝ }
+    ensures { λ r. ⌜ Entered (now (room .entry)) (now (room .exit)) (text (reducedOf (cardOf (gathered c (arrays (now (nodes .entry)) (now (branches .entry))) .card)))) r ⌝ }
 {
-    let rows = rows_of(c.statements);
+    let statements = c.statements;
+    let rows = rows_of(statements);
     let count = c.count;
+    if REDUCED_ROOM <= room.len() {
+        return Answer::Done(put_program(
+            room, 0, c.mode, c.seats, c.top, c.start, &rows, count, nodes, branches,
+        ));
+    }
     let need = put_program(
         &mut room[..0],
         0,
@@ -491,38 +510,31 @@ fn reduce_card(c: Card, room: &mut [u8]) -> Answer
         c.start,
         &rows,
         count,
-        &c.nodes,
-        &c.branches,
+        nodes,
+        branches,
     );
     if room.len() < need {
         return Answer::Refused(ROOM_TOO_SMALL, need);
     }
     Answer::Done(put_program(
-        room,
-        0,
-        c.mode,
-        c.seats,
-        c.top,
-        c.start,
-        &rows,
-        count,
-        &c.nodes,
-        &c.branches,
+        room, 0, c.mode, c.seats, c.top, c.start, &rows, count, nodes, branches,
     ))
 }
 
-// The card is judged first; then its reduced text is measured, and stored where it fits.
+// The card is judged first; then its reduced text is stored where it fits.
 pub fn reduce(card: &[u8], room: &mut [u8]) -> Answer
     ensures { λ r. ⌜ Entered (now (room .entry)) (now (room .exit)) (reduceSaid (now (card .entry))) r ⌝ }
 {
-    let reading = read(card);
-    let verdict = reading.verdict;
+    let mut nodes: [u32; NODE_PLACES] = [0; NODE_PLACES];
+    let mut branches: [u32; BRANCH_PLACES] = [0; BRANCH_PLACES];
+    let outline = read_into(card, &mut nodes, &mut branches);
+    let verdict = outline.verdict;
     match verdict {
         Verdict::Refused(number, place) => {
             return Answer::Refused(number, place);
         }
         Verdict::Taken => {
-            return reduce_card(reading.card, room);
+            return reduce_card(outline, &nodes, &branches, room);
         }
     }
 }

@@ -32,6 +32,10 @@ put-fits {was} {is} {t} h p =
       leaves = rw (le-leb (length t) (length was) h) (p .wrote ∙ clip-start was t h);
     }
 
+-- a text that is known to fit is put at once
+pub entered-whole : {was is t : List ℕ} {said : Said} {r : ℕ} → said ≡ text t → length t ≤ length was → Put was is 0 t r → Entered was is said (Done r)
+entered-whole says h p = rw says (put-fits h p)
+
 put-longer : (was t : List ℕ) → length was < length t → Entered was was (text t) (Refused roomTooSmall (length t))
 put-longer was t h =
     record {

@@ -1,7 +1,9 @@
 // The entries for C: the same promises, with answers in numbers ("Refusal numbers").
+use card::limits::BRANCH_PLACES;
+use card::limits::NODE_PLACES;
 use panel::panel;
 use reader::Verdict;
-use reader::read;
+use reader::read_into;
 use reducer::reduce;
 use room::Answer;
 use writer::write;
@@ -43,8 +45,10 @@ fn in_numbers(answer: Answer) -> OpenPanelAnswer
 pub extern "C" fn open_panel_judge(card: &[u8]) -> OpenPanelAnswer
     ensures { λ r. ⌜ r ≡ judged (readOf (now (card .entry))) ⌝ }
 {
-    let reading = read(card);
-    let verdict = reading.verdict;
+    let mut nodes: [u32; NODE_PLACES] = [0; NODE_PLACES];
+    let mut branches: [u32; BRANCH_PLACES] = [0; BRANCH_PLACES];
+    let outline = read_into(card, &mut nodes, &mut branches);
+    let verdict = outline.verdict;
     match verdict {
         Verdict::Taken => {
             return OpenPanelAnswer {

@@ -1,3 +1,4 @@
 pub mod Writing
 pub mod WriteSaid
 pub mod Parts
+pub mod WrittenMost

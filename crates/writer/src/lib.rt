@@ -1,7 +1,8 @@
 // The written card ("Texts, byte for byte", the paragraph on the written card).
-use card::Card;
+use card::limits::BRANCH_PLACES;
 use card::limits::MOST_BRANCHES;
 use card::limits::MOST_NODES;
+use card::limits::NODE_PLACES;
 use card::node::ALL;
 use card::node::AND;
 use card::node::ANY;
@@ -20,8 +21,9 @@ use card::refusals::ROOM_TOO_SMALL;
 use phrases::put_mode;
 use phrases::put_numbered;
 use phrases::put_weight;
+use reader::Outline;
 use reader::Verdict;
-use reader::read;
+use reader::read_into;
 use room::Answer;
 use room::place;
 use room::put_byte;
@@ -36,7 +38,7 @@ ghost use mathlib.Core.List.{_∷_, map};
 ghost use Prim.Native.Nat.{_+_, _*_, _-_, _<_, _≤_};
 ghost use lib.Dec.{eqb, leb};
 ghost use lib.ListN.{length};
-ghost use Rattle.card.specs.Limits.{mostStatements, mostNodes, mostBranches, nodePlaces, branchPlaces};
+ghost use Rattle.card.specs.Limits.{mostSeats, mostStatements, mostNodes, mostBranches, nodePlaces, branchPlaces};
 ghost use Rattle.card.specs.Text.{if_then_else_};
 ghost use Rattle.card.specs.Card.{nondeterministic, probabilistic, all, any, is, isnt};
 ghost use Rattle.card.specs.Laid.{signNumber, opAnd, either, groupOf, branchOf, guardAt, guardOf, statementOf, statementsOf, cardOf};
@@ -45,7 +47,10 @@ ghost use Rattle.room.specs.Answer.{text, Entered};
 ghost use Rattle.phrases.specs.Phrases.{_▸_};
 ghost use Rattle.phrases.specs.Puts.{Puts};
 ghost use Rattle.writer.specs.Writing.{signText, relationText, literal, literals, groupText, guardText, guardOr, branchText, moreBranches, branches as branchTexts, statementText, statements as statementTexts, moduleText, modules, writeOf};
+ghost use Rattle.reader.specs.Statements.{arrays};
+ghost use Rattle.reader.specs.ReadingOf.{gathered};
 ghost use Rattle.writer.specs.WriteSaid.{writeSaid};
+ghost use Rattle.writer.specs.WrittenMost.{writtenMost};
 ghost use Rattle.rows.specs.Rows.{row, rowsFrom, FitRows, cardIn, Holds};
 ghost use Rattle.writer.specs.Parts.{levelOf, headText};
 
@@ -340,13 +345,45 @@ fn put_card<'a>(
     put_modules(room, c, seats)
 }
 
-// A card that was taken, as its struct holds it: a first walk tells the length, a second one stores the text.
-fn write_card(c: Card, room: &mut [u8]) -> Answer
-    requires { ⌜ Holds c ⌝ }
-    ensures { λ r. ⌜ Entered (now (room .entry)) (now (room .exit)) (text (writeOf (cardOf c))) r ⌝ }
+// What each part of a written card comes to at most (specs/WrittenMost.antt).
+const HEAD_MOST: usize = 63;
+
+const BARE_MOST: usize = 249;
+
+const SEAT_MOST: usize = 144;
+
+const MODULE_MOST: usize = 55;
+
+// Bytes that are enough for every card of so many seats and statements.
+fn written_most(seats: usize, count: usize) -> usize
+    requires { ⌜ seats ≤ mostSeats ⌝ }
+    requires { ⌜ count ≤ mostStatements ⌝ }
+    ensures { λ r. ⌜ r ≡ writtenMost seats count ⌝ }
 {
-    let rows = rows_of(c.statements);
+    let statement = BARE_MOST + SEAT_MOST * seats;
+    HEAD_MOST + count * statement + seats * MODULE_MOST
+}
+
+// A card that was taken. A room that is long enough for every card of its size takes the text in one walk; else a first walk tells the
+// length, and a second one stores the text where it fits.
+fn write_card<'a>(
+    c: Outline,
+    nodes: &'a [u32; NODE_PLACES],
+    branches: &'a [u32; BRANCH_PLACES],
+    room: &mut [u8],
+) -> Answer
+    requires { ⌜ Holds (gathered c (arrays (now nodes) (now branches)) .card) ⌝ }
+    ensures { λ r. ⌜ Entered (now (room .entry)) (now (room .exit)) (text (writeOf (cardOf (gathered c (arrays (now (nodes .entry)) (now (branches .entry))) .card)))) r ⌝ }
+{
+    let statements = c.statements;
+    let rows = rows_of(statements);
     let count = c.count;
+    let most = written_most(c.seats, count);
+    if most <= room.len() {
+        return Answer::Done(put_card(
+            room, 0, c.mode, c.seats, c.top, c.start, &rows, count, nodes, branches,
+        ));
+    }
     let need = put_card(
         &mut room[..0],
         0,
@@ -356,38 +393,31 @@ fn write_card(c: Card, room: &mut [u8]) -> Answer
         c.start,
         &rows,
         count,
-        &c.nodes,
-        &c.branches,
+        nodes,
+        branches,
     );
     if room.len() < need {
         return Answer::Refused(ROOM_TOO_SMALL, need);
     }
     Answer::Done(put_card(
-        room,
-        0,
-        c.mode,
-        c.seats,
-        c.top,
-        c.start,
-        &rows,
-        count,
-        &c.nodes,
-        &c.branches,
+        room, 0, c.mode, c.seats, c.top, c.start, &rows, count, nodes, branches,
     ))
 }
 
-// The card is judged first; then its text is measured, and stored where it fits.
+// The card is judged first; then its text is stored where it fits.
 pub fn write(card: &[u8], room: &mut [u8]) -> Answer
     ensures { λ r. ⌜ Entered (now (room .entry)) (now (room .exit)) (writeSaid (now (card .entry))) r ⌝ }
 {
-    let reading = read(card);
-    let verdict = reading.verdict;
+    let mut nodes: [u32; NODE_PLACES] = [0; NODE_PLACES];
+    let mut branches: [u32; BRANCH_PLACES] = [0; BRANCH_PLACES];
+    let outline = read_into(card, &mut nodes, &mut branches);
+    let verdict = outline.verdict;
     match verdict {
         Verdict::Refused(number, place) => {
             return Answer::Refused(number, place);
         }
         Verdict::Taken => {
-            return write_card(reading.card, room);
+            return write_card(outline, &nodes, &branches, room);
         }
     }
 }

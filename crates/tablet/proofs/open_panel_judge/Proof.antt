@@ -1,31 +1,34 @@
+use mathlib.Core.Path.{sym}
+use Rattle.card.specs.Limits.{nodePlaces, branchPlaces}
+use Rattle.card.proofs.Filling.{zeros-repeat}
 use Rattle.tablet.proofs.Laws.{verdict-judged}
 use borrow.Author.Needs.{needs}
 use Rattle.tablet.proofs.open_panel_judge.Statement.{statement}
 use Rattle.tablet.proofs.open_panel_judge.Tie as tie
 use Rattle.tablet.proofs.open_panel_judge.Reads as reads
 use Rattle.tablet.proofs.open_panel_judge.Lts as lts
-use Rattle.reader.proofs.read.Reads as read-reads
+use Rattle.reader.proofs.read_into.Reads as read-into-reads
 
--- src/lib.rt:43:9
-read-requires : tie.Need-read-requires
-read-requires c κs = search needs
+-- src/lib.rt:50:9
+read-into-requires : tie.Need-read-into-requires
+read-into-requires c κs = (sym (zeros-repeat nodePlaces), sym (zeros-repeat branchPlaces))
 
--- src/lib.rt:47:13
+-- src/lib.rt:54:13
 enum-told : tie.Need-enum-told
 enum-told c = search needs
 
--- src/lib.rt:47:13
+-- src/lib.rt:54:13
 returns : tie.Need-returns
-returns c = verdict-judged (c .before .before .read .ensures) (c .enum-told .given .1)
+returns c = verdict-judged (c .before .before .read-into .ensures) (c .enum-told .given .1)
 
--- src/lib.rt:52:26
+-- src/lib.rt:59:26
 enum-known-verdict : tie.Need-enum-known-verdict
 enum-known-verdict c = search needs
 
--- src/lib.rt:53:13
+-- src/lib.rt:60:13
 returns-2 : tie.Need-returns-2
-returns-2 c = verdict-judged (c .before .before .before .read .ensures) (c .before .verdict .given .1)
+returns-2 c = verdict-judged (c .before .before .before .read-into .ensures) (c .before .verdict .given .1)
 
 pub open-panel-judge-spec : {M : Type 1} → statement M
 open-panel-judge-spec =
-    tie.close (tie.spec read-requires enum-told returns enum-known-verdict returns-2)
+    tie.close (tie.spec read-into-requires enum-told returns enum-known-verdict returns-2)

@@ -2,29 +2,23 @@
 use native.Mathlib.Omega.{arith}
 use borrow.Author.Tests.{not-false}
 use borrow.Author.Needs.{needs}
-use Rattle.cases.proofs.held.done.Statement.{statement}
-use Rattle.cases.proofs.held.done.Tie as tie
-
-refuses-requires : tie.Need-refuses-requires
-refuses-requires c κs = search needs
+use Rattle.cases.proofs.held.just.Statement.{statement}
+use Rattle.cases.proofs.held.just.Tie as tie
 
 returns : tie.Need-returns
 returns c = search needs
 
-returns-2 : tie.Need-returns-2
-returns-2 c = search needs
-
 stands-requires : tie.Need-stands-requires
 stands-requires c κs = search needs
 
-returns-3 : tie.Need-returns-3
-returns-3 c = search needs
+returns-2 : tie.Need-returns-2
+returns-2 c = search needs
 
 sub-untouched : tie.Need-sub-untouched
-sub-untouched c = omega (arith, c .before .stands .ensures (not-false (c .before .stands .result) (c .if3 .left)))
+sub-untouched c = omega (arith, c .before .stands .ensures (not-false (c .before .stands .result) (c .if2 .left)))
 
 part-untouched-start : tie.Need-part-untouched-start
-part-untouched-start c = omega (arith, c .before .stands .ensures (not-false (c .before .stands .result) (c .if3 .left)))
+part-untouched-start c = omega (arith, c .before .stands .ensures (not-false (c .before .stands .result) (c .if2 .left)))
 
 part-untouched-end : tie.Need-part-untouched-end
 part-untouched-end c = search needs
@@ -32,20 +26,18 @@ part-untouched-end c = search needs
 untouched-requires : tie.Need-untouched-requires
 untouched-requires c κs = search needs
 
-returns-4 : tie.Need-returns-4
-returns-4 c = search needs
+returns-3 : tie.Need-returns-3
+returns-3 c = search needs
 
-pub done-spec : {M : Type 1} → statement M
-done-spec =
+pub just-spec : {M : Type 1} → statement M
+just-spec =
     tie.close
     (tie.spec
-    refuses-requires
     returns
-    returns-2
     stands-requires
-    returns-3
+    returns-2
     sub-untouched
     part-untouched-start
     part-untouched-end
     untouched-requires
-    returns-4)
+    returns-3)
