@@ -8,3 +8,4 @@ pub mod Numbers
 pub mod Starts
 pub mod Keywords
 pub mod Laws
+pub mod Quick

@@ -2,3 +2,4 @@ pub mod Marks
 pub mod Kinds
 pub mod Step
 pub mod Parts
+pub mod Quick

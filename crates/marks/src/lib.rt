@@ -1,7 +1,9 @@
 // A cursor by value over the bytes of a card: its step hands back the next mark and the cursor behind it.
 mod answer;
 mod bytes;
+pub mod due;
 pub mod kinds;
+pub mod look;
 mod number;
 mod sign;
 mod word;

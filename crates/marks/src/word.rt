@@ -8,12 +8,14 @@ ghost use Rattle.marks.specs.Marks.{run, begins, inWord, isLetter, every
 ghost use Rattle.marks.specs.Kinds.{knowns};
 ghost use Rattle.marks.specs.Step.{stepped};
 ghost use Rattle.marks.specs.Parts.{shortSeat, lettered, begunIn, Numbered};
+ghost use Rattle.marks.specs.Quick.{longSeat};
 ghost use Rattle.marks.specs.declared.Step as step;
 use crate::Step;
 use crate::answer::bare;
 use crate::answer::valued;
 use crate::bytes::begins_at;
 use crate::bytes::digit_at;
+use crate::bytes::stands;
 use crate::bytes::wide;
 use crate::bytes::word_at;
 use crate::bytes::word_end;
@@ -150,13 +152,50 @@ fn is_short_seat(card: &[u8], at: usize) -> bool
     !word_at(card, next + 1)
 }
 
+// Is the word at a place a seat word with two digits?
+fn is_long_seat(card: &[u8], at: usize) -> bool
+    requires { ⌜ at < length (now card) ⌝ }
+    ensures { λ r. ⌜ r ≡ longSeat (drop at (now (card .entry))) ⌝ }
+{
+    if card[at] != 115 {
+        return false;
+    }
+    let first = at + 1;
+    if !digit_at(card, first) {
+        return false;
+    }
+    if stands(card, first, 48) {
+        return false;
+    }
+    let second = first + 1;
+    if !digit_at(card, second) {
+        return false;
+    }
+    !word_at(card, second + 1)
+}
+
+// The same where it is no seat word with one digit; most of these have two.
+fn longer_word(card: &[u8], at: usize) -> Step
+    requires { ⌜ (at < length (now card)) × (isLetter (getD (now card) at 0) ≡ true) ⌝ }
+    ensures { λ r. ⌜ ((k : ℕ → step.Step) → r ≡ stepped at (wordOf (getD (now (card .entry)) at 0) (drop (at + 1) (now (card .entry)))) k) ⌝ }
+{
+    if !is_long_seat(card, at) {
+        return long_word(card, at);
+    }
+    let first = at + 1;
+    let tens = wide(card[first] - 48);
+    let second = first + 1;
+    let ones = wide(card[second] - 48);
+    valued(SEAT, tens * 10 + ones, at, second + 1)
+}
+
 // The same; most words are seat words with one digit.
 pub fn word(card: &[u8], at: usize) -> Step
     requires { ⌜ (at < length (now card)) × (isLetter (getD (now card) at 0) ≡ true) ⌝ }
     ensures { λ r. ⌜ ((k : ℕ → step.Step) → r ≡ stepped at (wordOf (getD (now (card .entry)) at 0) (drop (at + 1) (now (card .entry)))) k) ⌝ }
 {
     if !is_short_seat(card, at) {
-        return long_word(card, at);
+        return longer_word(card, at);
     }
     let next = at + 1;
     let value = wide(card[next] - 48);

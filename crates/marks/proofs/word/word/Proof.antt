@@ -17,16 +17,16 @@ use Rattle.marks.proofs.word.word.Lts as lts
 use Rattle.marks.proofs.answer.valued.Reads as valued-reads
 use Rattle.marks.proofs.bytes.wide.Reads as wide-reads
 use Rattle.marks.proofs.word.is_short_seat.Reads as is-short-seat-reads
-use Rattle.marks.proofs.word.long_word.Reads as long-word-reads
+use Rattle.marks.proofs.word.longer_word.Reads as longer-word-reads
 
 is-short-seat-requires : tie.Need-is-short-seat-requires
 is-short-seat-requires c κs = search needs
 
-long-word-requires : tie.Need-long-word-requires
-long-word-requires c κs = search needs
+longer-word-requires : tie.Need-longer-word-requires
+longer-word-requires c κs = search needs
 
 returns : tie.Need-returns
-returns c = c .long-word .ensures
+returns c = c .longer-word .ensures
 
 add-next : tie.Need-add-next
 add-next c = search needs
@@ -59,7 +59,7 @@ word-spec =
     tie.close
     (tie.spec
     is-short-seat-requires
-    long-word-requires
+    longer-word-requires
     returns
     add-next
     shared-slice-read-wide

@@ -1,0 +1,41 @@
+-- What the look found is what the step finds (proofs/Quick.antt).
+use Rattle.marks.proofs.Quick.{digit-place, digit-step}
+use native.Mathlib.Omega.{arith}
+use mathlib.Core.Path.{sym, _∙_}
+use borrow.Author.Needs.{needs}
+use Rattle.marks.proofs.due.step_number.Statement.{statement}
+use Rattle.marks.proofs.due.step_number.Tie as tie
+use Rattle.marks.proofs.due.step_number.Reads as reads
+use Rattle.marks.proofs.due.step_number.Lts as lts
+use Rattle.marks.proofs.Cursor.step.Reads as step-reads
+use Rattle.marks.proofs.answer.valued.Reads as valued-reads
+use Rattle.marks.proofs.look.digit_here.Reads as digit-here-reads
+
+-- src/due.rt:71:9
+digit-here-requires : tie.Need-digit-here-requires
+digit-here-requires c κs = search needs
+
+-- src/due.rt:73:42
+add-valued : tie.Need-add-valued
+add-valued c = omega (arith, digit-place (c .before .before .before .args .card .now) (c .before .before .before .args .at) (c .before .digit-here .result) (c .before .digit-here .ensures) (c .if1 .taken))
+
+-- src/due.rt:73:9
+valued-requires : tie.Need-valued-requires
+valued-requires c κs = search needs
+
+-- src/due.rt:73:9
+returns : tie.Need-returns
+returns c = c .valued .ensures ∙ sym (digit-step (c .before .before .before .before .args .card .now) (c .before .before .before .before .args .at) (c .before .before .digit-here .result) (c .before .before .digit-here .ensures) (c .before .if1 .taken))
+
+-- src/due.rt:76:5
+step-requires : tie.Need-step-requires
+step-requires c κs = search needs
+
+-- src/due.rt:68:1
+returns-2 : tie.Need-returns-2
+returns-2 c = search needs
+
+pub step-number-spec : {M : Type 1} → statement M
+step-number-spec =
+    tie.close
+    (tie.spec digit-here-requires add-valued valued-requires returns step-requires returns-2)

@@ -1,0 +1,41 @@
+-- The definition's two tests, or the end.
+use Rattle.marks.proofs.Quick.{sign-none, sign-at}
+use borrow.Author.Tests.{eq-eqb, ne-eqb}
+use lib.ListN.{getD}
+use mathlib.Core.Path.{sym, ap, _∙_}
+use borrow.Author.Needs.{needs}
+use Rattle.marks.proofs.look.sign_here.Statement.{statement}
+use Rattle.marks.proofs.look.sign_here.Tie as tie
+use Rattle.marks.proofs.look.sign_here.Reads as reads
+use Rattle.marks.proofs.look.sign_here.Lts as lts
+use Rattle.marks.proofs.bytes.is_alone.Reads as is-alone-reads
+use Rattle.marks.proofs.bytes.wide.Reads as wide-reads
+
+-- src/look.rt:21:17
+shared-slice-read-b : tie.Need-shared-slice-read-b
+shared-slice-read-b c = search needs
+
+-- src/look.rt:22:12
+wide-requires : tie.Need-wide-requires
+wide-requires c κs = search needs
+
+-- src/look.rt:23:13
+is-alone-requires : tie.Need-is-alone-requires
+is-alone-requires c κs = search needs
+
+-- src/look.rt:23:13
+returns : tie.Need-returns
+returns c = c .is-alone .ensures ∙ sym (sign-at (c .before .before .before .before .before .before .args .kind) (c .before .before .before .before .before .before .args .card .now) (c .before .before .before .before .before .before .args .at) (c .before .before .before .before .if1 .taken) ∙ rw (eq-eqb (getD (c .before .before .before .before .before .before .args .card .now) (c .before .before .before .before .before .before .args .at) 0) (c .before .before .before .before .before .before .args .kind) (sym (c .before .before .wide .ensures) ∙ c .before .if2 .taken)))
+
+-- src/look.rt:17:1
+returns-2 : tie.Need-returns-2
+returns-2 c = sym (sign-at (c .before .before .before .before .before .args .kind) (c .before .before .before .before .before .args .card .now) (c .before .before .before .before .before .args .at) (c .before .before .before .if1 .taken) ∙ rw (ne-eqb (getD (c .before .before .before .before .before .args .card .now) (c .before .before .before .before .before .args .at) 0) (c .before .before .before .before .before .args .kind) (λ q. c .if2 .left (c .before .wide .ensures ∙ q))))
+
+-- src/look.rt:17:1
+returns-3 : tie.Need-returns-3
+returns-3 c = sym (sign-none (c .before .before .args .kind) (c .before .before .args .card .now) (c .before .before .args .at) (c .if1 .left))
+
+pub sign-here-spec : {M : Type 1} → statement M
+sign-here-spec =
+    tie.close
+    (tie.spec shared-slice-read-b wide-requires is-alone-requires returns returns-2 returns-3)

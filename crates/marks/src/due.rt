@@ -1,0 +1,137 @@
+// A step where it is known which mark is due: a quick look for it, and the cursor's step where it does not stand right there.
+ghost use mathlib.Core.Path.{_≡_};
+ghost use Rattle.marks.specs.Step.{stepAt};
+use crate::Cursor;
+use crate::Step;
+use crate::answer::bare;
+use crate::answer::valued;
+use crate::bytes::stands;
+use crate::kinds::ARROW;
+use crate::kinds::NOT;
+use crate::kinds::NUMBER;
+use crate::kinds::PLUS;
+use crate::kinds::ROUND_CLOSE;
+use crate::kinds::ROUND_OPEN;
+use crate::kinds::SEAT;
+use crate::kinds::SEMICOLON;
+use crate::kinds::SLASH;
+use crate::look::NO_DIGIT;
+use crate::look::digit_here;
+use crate::look::seat_here;
+use crate::look::sign_here;
+
+// A sign of this kind.
+pub fn step_sign(card: &[u8], at: usize, kind: usize) -> Step
+    ensures { λ r. ⌜ r ≡ stepAt (now (card .entry)) at ⌝ }
+{
+    if sign_here(card, at, kind) {
+        return bare(kind, at, at + 1);
+    }
+    let cursor = Cursor { at };
+    cursor.step(card)
+}
+
+// A `)` or a sign of this kind.
+pub fn step_closing(card: &[u8], at: usize, kind: usize) -> Step
+    ensures { λ r. ⌜ r ≡ stepAt (now (card .entry)) at ⌝ }
+{
+    if sign_here(card, at, ROUND_CLOSE) {
+        return bare(ROUND_CLOSE, at, at + 1);
+    }
+    step_sign(card, at, kind)
+}
+
+// A `+` or a `;`.
+pub fn step_further(card: &[u8], at: usize) -> Step
+    ensures { λ r. ⌜ r ≡ stepAt (now (card .entry)) at ⌝ }
+{
+    if sign_here(card, at, PLUS) {
+        return bare(PLUS, at, at + 1);
+    }
+    step_sign(card, at, SEMICOLON)
+}
+
+// A `(` or a `!`.
+pub fn step_opening(card: &[u8], at: usize) -> Step
+    ensures { λ r. ⌜ r ≡ stepAt (now (card .entry)) at ⌝ }
+{
+    if stands(card, at, 33) {
+        let next = at + 1;
+        if !stands(card, next, 61) {
+            return bare(NOT, at, next);
+        }
+    }
+    step_sign(card, at, ROUND_OPEN)
+}
+
+// A number.
+pub fn step_number(card: &[u8], at: usize) -> Step
+    ensures { λ r. ⌜ r ≡ stepAt (now (card .entry)) at ⌝ }
+{
+    let value = digit_here(card, at);
+    if value < NO_DIGIT {
+        return valued(NUMBER, value, at, at + 1);
+    }
+    let cursor = Cursor { at };
+    cursor.step(card)
+}
+
+// A seat word.
+pub fn step_seat(card: &[u8], at: usize) -> Step
+    ensures { λ r. ⌜ r ≡ stepAt (now (card .entry)) at ⌝ }
+{
+    let value = seat_here(card, at);
+    if value < NO_DIGIT {
+        return valued(SEAT, value, at, at + 2);
+    }
+    let cursor = Cursor { at };
+    cursor.step(card)
+}
+
+// A `(` or a seat word.
+pub fn step_inner(card: &[u8], at: usize) -> Step
+    ensures { λ r. ⌜ r ≡ stepAt (now (card .entry)) at ⌝ }
+{
+    if sign_here(card, at, ROUND_OPEN) {
+        return bare(ROUND_OPEN, at, at + 1);
+    }
+    step_seat(card, at)
+}
+
+// A seat word, if that is the kind, or a sign.
+pub fn step_kind(card: &[u8], at: usize, kind: usize) -> Step
+    ensures { λ r. ⌜ r ≡ stepAt (now (card .entry)) at ⌝ }
+{
+    if kind == SEAT {
+        return step_seat(card, at);
+    }
+    step_sign(card, at, kind)
+}
+
+// A `/`.
+pub fn step_slash(card: &[u8], at: usize) -> Step
+    ensures { λ r. ⌜ r ≡ stepAt (now (card .entry)) at ⌝ }
+{
+    if stands(card, at, 47) {
+        let next = at + 1;
+        if !stands(card, next, 47) {
+            return bare(SLASH, at, next);
+        }
+    }
+    let cursor = Cursor { at };
+    cursor.step(card)
+}
+
+// A `->`.
+pub fn step_arrow(card: &[u8], at: usize) -> Step
+    ensures { λ r. ⌜ r ≡ stepAt (now (card .entry)) at ⌝ }
+{
+    if stands(card, at, 45) {
+        let next = at + 1;
+        if stands(card, next, 62) {
+            return bare(ARROW, at, next + 1);
+        }
+    }
+    let cursor = Cursor { at };
+    cursor.step(card)
+}
