@@ -3,7 +3,14 @@ use crate::refusals::OUT_OF_SHAPE;
 use card::limits::MOST_SEATS;
 use card::node::pack_group;
 use marks::Cursor;
+use marks::Step;
+use marks::due::step_number;
+use marks::due::step_seat;
+use marks::due::step_sign;
 use marks::kinds;
+use marks::look::NO_DIGIT;
+use marks::look::digit_here;
+use marks::look::sign_here;
 ghost use mathlib.Core.Path.{_≡_};
 ghost use mathlib.Core.Bool.{_&&_};
 ghost use mathlib.Core.List.{_∷_};
@@ -13,7 +20,7 @@ ghost use Rattle.card.specs.Limits.{mostSeats};
 ghost use Rattle.card.specs.Laid.{signNumber};
 ghost use Rattle.marks.specs.Marks.{placed, seat as seatWord};
 ghost use Rattle.marks.specs.Kinds.{kind as kindOf};
-ghost use Rattle.marks.specs.Step.{marksAt};
+ghost use Rattle.marks.specs.Step.{stepAt, marksAt};
 ghost use Rattle.reading.specs.Reader.{Place, at as from};
 ghost use Rattle.reading.specs.Group.{joint as jointOf, literal as literalOf, group as groupOf};
 ghost use Rattle.guard.specs.GroupRead.{noGroup, GroupRead};
@@ -84,7 +91,7 @@ fn relation(kind: usize) -> usize
 }
 
 // A literal from behind its seat word on.
-fn literal(part: &[u8], at: usize) -> Tail
+fn long_literal(part: &[u8], at: usize) -> Tail
     ensures { λ r. ⌜ ((o n i x : ℕ) → LiteralRead o (now (part .entry)) at n i (literalOf (from (placed (seatWord i) x ∷ marksAt o (now (part .entry)) at) n)) r) ⌝ }
 {
     let start = Cursor { at: at };
@@ -94,7 +101,7 @@ fn literal(part: &[u8], at: usize) -> Tail
         return no_tail(sign.mark.place);
     }
     let behind = sign.next;
-    let number = behind.step(part);
+    let number = step_number(part, behind.at);
     if number.mark.kind != kinds::NUMBER {
         return no_tail(number.mark.place);
     }
@@ -105,6 +112,28 @@ fn literal(part: &[u8], at: usize) -> Tail
         relation: relation,
         d: number.mark.value,
         first: number.mark.place,
+    }
+}
+
+// The same; most literals are `=` and one digit.
+fn literal(part: &[u8], at: usize) -> Tail
+    ensures { λ r. ⌜ ((o n i x : ℕ) → LiteralRead o (now (part .entry)) at n i (literalOf (from (placed (seatWord i) x ∷ marksAt o (now (part .entry)) at) n)) r) ⌝ }
+{
+    if !sign_here(part, at, kinds::EQUAL) {
+        return long_literal(part, at);
+    }
+    let first = at + 1;
+    let d = digit_here(part, first);
+    if NO_DIGIT <= d {
+        return long_literal(part, at);
+    }
+    Tail {
+        stop: 0,
+        place: 0,
+        next: first + 1,
+        relation: 0,
+        d: d,
+        first: first,
     }
 }
 
@@ -188,6 +217,16 @@ fn joint(any: bool) -> usize
     kinds::AND
 }
 
+// The step where such a sign is due.
+fn step_joint(part: &[u8], at: usize, any: bool) -> Step
+    ensures { λ r. ⌜ r ≡ stepAt (now (part .entry)) at ⌝ }
+{
+    if any {
+        return step_sign(part, at, kinds::OR);
+    }
+    step_sign(part, at, kinds::AND)
+}
+
 fn sign(any: bool) -> usize
     ensures { λ r. ⌜ r ≡ signNumber (signIn any) ⌝ }
 {
@@ -217,8 +256,7 @@ pub fn group(part: &[u8], at: usize, seat: usize) -> Grouped
     if first.stop != 0 {
         return no_group(first.place);
     }
-    let mut c = Cursor { at: first.next };
-    let mut ahead = c.step(part);
+    let mut ahead = step_sign(part, first.next, kinds::OR);
     let any = ahead.mark.kind == kinds::OR;
     let joint = joint(any);
     let mut seen: [u8; SEATS] = [0; SEATS];
@@ -226,8 +264,8 @@ pub fn group(part: &[u8], at: usize, seat: usize) -> Grouped
     let mut count: usize = 1;
     let mut alike = true;
     while ahead.mark.kind == joint {
-        c = ahead.next;
-        let word = c.step(part);
+        let c = ahead.next;
+        let word = step_seat(part, c.at);
         if word.mark.kind != kinds::SEAT {
             return no_group(word.mark.place);
         }
@@ -238,8 +276,7 @@ pub fn group(part: &[u8], at: usize, seat: usize) -> Grouped
         note(&mut seen, word.mark.value);
         count = one_more(count);
         alike = same(alike, first, more);
-        c = Cursor { at: more.next };
-        ahead = c.step(part);
+        ahead = step_joint(part, more.next, any);
     }
     if ahead.mark.kind != kinds::ROUND_CLOSE {
         return no_group(ahead.mark.place);

@@ -4,7 +4,10 @@ pub mod refusals;
 
 use card::limits::NODE_PLACES;
 use card::node;
-use marks::Cursor;
+use marks::due::step_closing;
+use marks::due::step_inner;
+use marks::due::step_opening;
+use marks::due::step_sign;
 use marks::kinds;
 use refusals::ABOVE_TOP;
 use refusals::NOT_DUE;
@@ -238,8 +241,7 @@ fn closed(card: &[u8], g: Guarded) -> Guarded
     if g.stop != 0 {
         return g;
     }
-    let c = Cursor { at: g.next };
-    let s = c.step(card);
+    let s = step_sign(card, g.next, kinds::ROUND_CLOSE);
     if s.mark.kind != kinds::ROUND_CLOSE {
         return stopped(OUT_OF_SHAPE, s.mark.place);
     }
@@ -312,8 +314,7 @@ fn bracket(
     ensures { λ r. ⌜ Bracketed (now (card .entry)) begin place left depth top (now (nodes .entry)) (now (nodes .exit)) used late r ⌝ }
 {
     let part = &card[begin..];
-    let c = Cursor { at: 0 };
-    let word = c.step(part);
+    let word = step_inner(part, 0);
     if word.mark.kind == kinds::SEAT {
         return grouping(
             part,
@@ -348,8 +349,7 @@ pub fn unary(
     requires { ⌜ (used + left ≤ nodePlaces) × (left ≤ mostNodes) ⌝ }
     ensures { λ r. ⌜ GuardRead (now (card .entry)) top (now (nodes .entry)) (now (nodes .exit)) used late (unaryOf groupOf depth (from (marksAt 0 (now (card .entry)) at) left)) r ⌝ }
 {
-    let c = Cursor { at: at };
-    let s = c.step(card);
+    let s = step_opening(card, at);
     if s.mark.kind == kinds::ROUND_OPEN {
         return bracket(
             card,
@@ -413,8 +413,7 @@ fn chain(
     let mut g = first;
     let kind = joint(any);
     while g.stop == 0 {
-        let c = Cursor { at: g.next };
-        let s = c.step(card);
+        let s = step_closing(card, g.next, kind);
         if s.mark.kind != kind {
             return g;
         }

@@ -35,7 +35,9 @@ use Rattle.guard.proofs.joined.Reads as joined-reads
 use Rattle.guard.proofs.joint.Reads as joint-reads
 use Rattle.guard.proofs.negated.Reads as negated-reads
 use Rattle.guard.proofs.stopped.Reads as stopped-reads
-use Rattle.marks.proofs.Cursor.step.Reads as step-reads
+use Rattle.marks.proofs.due.step_closing.Reads as step-closing-reads
+use Rattle.marks.proofs.due.step_inner.Reads as step-inner-reads
+use Rattle.marks.proofs.due.step_opening.Reads as step-opening-reads
 use Rattle.guard.proofs.+bracket+chain+conjunction+expression+operand+unary.{statement}
 use Rattle.guard.proofs.+bracket+chain+conjunction+expression+operand+unary.Tie.{close}
 
@@ -98,10 +100,10 @@ abbrev unary-below : ℕ → In 2 unary-kinds.ps
 unary-below t = and 2 unary-kinds.ps (falls 2 unary-kinds.ps _<_ μ-unary t) unary.Pre
 
 abbrev bracket-R : ℕ → bracket-lts.Claims
-bracket-R t = (step-reads.Asked, step-reads.Learnt, grouping-reads.Asked, grouping-reads.Learnt, stopped-reads.Asked, stopped-reads.Learnt, expression-below t, expression.Post, closed-reads.Asked, closed-reads.Learnt)
+bracket-R t = (step-inner-reads.Asked, step-inner-reads.Learnt, grouping-reads.Asked, grouping-reads.Learnt, stopped-reads.Asked, stopped-reads.Learnt, expression-below t, expression.Post, closed-reads.Asked, closed-reads.Learnt)
 
 abbrev chain-R : ℕ → chain-lts.Claims
-chain-R t = (joint-reads.Asked, joint-reads.Learnt, step-reads.Asked, step-reads.Learnt, stopped-reads.Asked, stopped-reads.Learnt, operand-below t, operand.Post, joined-reads.Asked, joined-reads.Learnt)
+chain-R t = (joint-reads.Asked, joint-reads.Learnt, step-closing-reads.Asked, step-closing-reads.Learnt, stopped-reads.Asked, stopped-reads.Learnt, operand-below t, operand.Post, joined-reads.Asked, joined-reads.Learnt)
 
 abbrev conjunction-R : ℕ → conjunction-lts.Claims
 conjunction-R t = (unary-below t, unary.Post, chain-below t, chain.Post)
@@ -113,7 +115,7 @@ abbrev operand-R : ℕ → operand-lts.Claims
 operand-R t = (conjunction-below t, conjunction.Post, unary-below t, unary.Post)
 
 abbrev unary-R : ℕ → unary-lts.Claims
-unary-R t = (step-reads.Asked, step-reads.Learnt, bracket-below t, bracket.Post, stopped-reads.Asked, stopped-reads.Learnt, unary-below t, unary.Post, negated-reads.Asked, negated-reads.Learnt)
+unary-R t = (step-opening-reads.Asked, step-opening-reads.Learnt, bracket-below t, bracket.Post, stopped-reads.Asked, stopped-reads.Learnt, unary-below t, unary.Post, negated-reads.Asked, negated-reads.Learnt)
 
 bracket-sub-part : (t : ℕ) → bracket-lts.Need-sub-part (bracket-R t) (bracket-at t) bracket.Post
 bracket-sub-part t c = search needs
@@ -124,20 +126,20 @@ bracket-part-part-start t c = search needs
 bracket-part-part-end : (t : ℕ) → bracket-lts.Need-part-part-end (bracket-R t) (bracket-at t) bracket.Post
 bracket-part-part-end t c = search needs
 
-bracket-step-requires : (t : ℕ) → bracket-lts.Need-step-requires (bracket-R t) (bracket-at t) bracket.Post
-bracket-step-requires t c κs = tt
+bracket-step-inner-requires : (t : ℕ) → bracket-lts.Need-step-inner-requires (bracket-R t) (bracket-at t) bracket.Post
+bracket-step-inner-requires t c κs = tt
 
 bracket-grouping-requires : (t : ℕ) → bracket-lts.Need-grouping-requires (bracket-R t) (bracket-at t) bracket.Post
 bracket-grouping-requires t c κs = (c .before .before .before .before .before .before .pre .1 .0, omega (arith, part-long (now (c .before .before .before .before .before .before .args .card)) (c .before .before .before .before .before .before .args .begin) (c .before .before .before .before .before .before .pre .1 .2), c .before .before .before .before .before .before .good .0 .0))
 
 bracket-returns : (t : ℕ) → bracket-lts.Need-returns (bracket-R t) (bracket-at t) bracket.Post
-bracket-returns t c = bracket-groups (now (c .before .before .before .before .before .before .before .args .card)) (c .before .before .before .before .before .before .before .args .begin) (c .before .before .before .before .before .before .before .args .place) (c .before .before .before .before .before .before .before .args .left) (c .before .before .before .before .before .before .before .args .depth) (c .before .before .before .before .before .before .before .args .top) (c .before .before .before .before .before .before .before .pre .1 .2) (now (c .before .before .before .before .before .before .before .args .nodes)) (c .grouping .last .1 .1 .1 .1 .1 .0) (c .before .before .before .before .before .before .before .args .used) (c .before .before .before .before .before .before .before .args .late) (take (length (now (c .before .before .before .before .before .before .before .args .card)) - c .before .before .before .before .before .before .before .args .begin) (drop (c .before .before .before .before .before .before .before .args .begin) (now (c .before .before .before .before .before .before .before .args .card)))) (part-is (now (c .before .before .before .before .before .before .before .args .card)) (c .before .before .before .before .before .before .before .args .begin) (c .before .before .before .before .before .before .before .pre .1 .2)) (c .before .before .before .before .step .result) (c .before .before .before .before .step .ensures) (c .grouping .result) (c .before .before .if1 .taken) (c .grouping .ensures)
+bracket-returns t c = bracket-groups (now (c .before .before .before .before .before .before .before .args .card)) (c .before .before .before .before .before .before .before .args .begin) (c .before .before .before .before .before .before .before .args .place) (c .before .before .before .before .before .before .before .args .left) (c .before .before .before .before .before .before .before .args .depth) (c .before .before .before .before .before .before .before .args .top) (c .before .before .before .before .before .before .before .pre .1 .2) (now (c .before .before .before .before .before .before .before .args .nodes)) (c .grouping .last .1 .1 .1 .1 .1 .0) (c .before .before .before .before .before .before .before .args .used) (c .before .before .before .before .before .before .before .args .late) (take (length (now (c .before .before .before .before .before .before .before .args .card)) - c .before .before .before .before .before .before .before .args .begin) (drop (c .before .before .before .before .before .before .before .args .begin) (now (c .before .before .before .before .before .before .before .args .card)))) (part-is (now (c .before .before .before .before .before .before .before .args .card)) (c .before .before .before .before .before .before .before .args .begin) (c .before .before .before .before .before .before .before .pre .1 .2)) (c .before .before .before .before .step-inner .result) (c .before .before .before .before .step-inner .ensures) (c .grouping .result) (c .before .before .if1 .taken) (c .grouping .ensures)
 
 bracket-stopped-requires : (t : ℕ) → bracket-lts.Need-stopped-requires (bracket-R t) (bracket-at t) bracket.Post
 bracket-stopped-requires t c κs = tt
 
 bracket-returns-2 : (t : ℕ) → bracket-lts.Need-returns-2 (bracket-R t) (bracket-at t) bracket.Post
-bracket-returns-2 t c = rw (c .stopped .ensures) (bracket-stops (now (c .before .before .before .before .before .before .before .args .card)) (c .before .before .before .before .before .before .before .args .begin) (c .before .before .before .before .before .before .before .args .place) (c .before .before .before .before .before .before .before .args .left) (c .before .before .before .before .before .before .before .args .depth) (c .before .before .before .before .before .before .before .args .top) (c .before .before .before .before .before .before .before .pre .1 .2) (now (c .before .before .before .before .before .before .before .args .nodes)) (now (c .before .before .before .before .before .before .before .args .nodes)) (c .before .before .before .before .before .before .before .args .used) (c .before .before .before .before .before .before .before .args .late) (take (length (now (c .before .before .before .before .before .before .before .args .card)) - c .before .before .before .before .before .before .before .args .begin) (drop (c .before .before .before .before .before .before .before .args .begin) (now (c .before .before .before .before .before .before .before .args .card)))) (part-is (now (c .before .before .before .before .before .before .before .args .card)) (c .before .before .before .before .before .before .before .args .begin) (c .before .before .before .before .before .before .before .pre .1 .2)) (c .before .before .before .before .step .result) (c .before .before .before .before .step .ensures) (c .before .before .if1 .left) (c .before .if2 .taken))
+bracket-returns-2 t c = rw (c .stopped .ensures) (bracket-stops (now (c .before .before .before .before .before .before .before .args .card)) (c .before .before .before .before .before .before .before .args .begin) (c .before .before .before .before .before .before .before .args .place) (c .before .before .before .before .before .before .before .args .left) (c .before .before .before .before .before .before .before .args .depth) (c .before .before .before .before .before .before .before .args .top) (c .before .before .before .before .before .before .before .pre .1 .2) (now (c .before .before .before .before .before .before .before .args .nodes)) (now (c .before .before .before .before .before .before .before .args .nodes)) (c .before .before .before .before .before .before .before .args .used) (c .before .before .before .before .before .before .before .args .late) (take (length (now (c .before .before .before .before .before .before .before .args .card)) - c .before .before .before .before .before .before .before .args .begin) (drop (c .before .before .before .before .before .before .before .args .begin) (now (c .before .before .before .before .before .before .before .args .card)))) (part-is (now (c .before .before .before .before .before .before .before .args .card)) (c .before .before .before .before .before .before .before .args .begin) (c .before .before .before .before .before .before .before .pre .1 .2)) (c .before .before .before .before .step-inner .result) (c .before .before .before .before .step-inner .ensures) (c .before .before .if1 .left) (c .before .if2 .taken))
 
 bracket-sub-expression : (t : ℕ) → bracket-lts.Need-sub-expression (bracket-R t) (bracket-at t) bracket.Post
 bracket-sub-expression t c = search needs
@@ -149,7 +151,7 @@ bracket-closed-requires : (t : ℕ) → bracket-lts.Need-closed-requires (bracke
 bracket-closed-requires t c κs = tt
 
 bracket-returns-3 : (t : ℕ) → bracket-lts.Need-returns-3 (bracket-R t) (bracket-at t) bracket.Post
-bracket-returns-3 t c = bracket-closes (now (c .before .before .before .before .before .before .before .before .before .args .card)) (c .before .before .before .before .before .before .before .before .before .args .begin) (c .before .before .before .before .before .before .before .before .before .args .place) (c .before .before .before .before .before .before .before .before .before .args .left) (c .before .before .before .before .before .before .before .before .before .args .depth) (c .before .before .before .before .before .before .before .before .before .args .top) (c .before .before .before .before .before .before .before .before .before .pre .1 .2) (now (c .before .before .before .before .before .before .before .before .before .args .nodes)) (c .before .expression .last .1 .1 .0) (c .before .before .before .before .before .before .before .before .before .args .used) (c .before .before .before .before .before .before .before .before .before .args .late) (take (length (now (c .before .before .before .before .before .before .before .before .before .args .card)) - c .before .before .before .before .before .before .before .before .before .args .begin) (drop (c .before .before .before .before .before .before .before .before .before .args .begin) (now (c .before .before .before .before .before .before .before .before .before .args .card)))) (part-is (now (c .before .before .before .before .before .before .before .before .before .args .card)) (c .before .before .before .before .before .before .before .before .before .args .begin) (c .before .before .before .before .before .before .before .before .before .pre .1 .2)) (c .before .before .before .before .before .before .step .result) (c .before .before .before .before .before .before .step .ensures) (c .before .before .before .before .if1 .left) (c .before .before .before .if2 .left) (c .before .expression .result) (c .closed .result) (c .before .expression .ensures) (c .closed .ensures)
+bracket-returns-3 t c = bracket-closes (now (c .before .before .before .before .before .before .before .before .before .args .card)) (c .before .before .before .before .before .before .before .before .before .args .begin) (c .before .before .before .before .before .before .before .before .before .args .place) (c .before .before .before .before .before .before .before .before .before .args .left) (c .before .before .before .before .before .before .before .before .before .args .depth) (c .before .before .before .before .before .before .before .before .before .args .top) (c .before .before .before .before .before .before .before .before .before .pre .1 .2) (now (c .before .before .before .before .before .before .before .before .before .args .nodes)) (c .before .expression .last .1 .1 .0) (c .before .before .before .before .before .before .before .before .before .args .used) (c .before .before .before .before .before .before .before .before .before .args .late) (take (length (now (c .before .before .before .before .before .before .before .before .before .args .card)) - c .before .before .before .before .before .before .before .before .before .args .begin) (drop (c .before .before .before .before .before .before .before .before .before .args .begin) (now (c .before .before .before .before .before .before .before .before .before .args .card)))) (part-is (now (c .before .before .before .before .before .before .before .before .before .args .card)) (c .before .before .before .before .before .before .before .before .before .args .begin) (c .before .before .before .before .before .before .before .before .before .pre .1 .2)) (c .before .before .before .before .before .before .step-inner .result) (c .before .before .before .before .before .before .step-inner .ensures) (c .before .before .before .before .if1 .left) (c .before .before .before .if2 .left) (c .before .expression .result) (c .closed .result) (c .before .expression .ensures) (c .closed .ensures)
 
 abbrev chain-Inv-loop : chain-lts.InvT-loop
 chain-Inv-loop card nodes₀ depth top any g₀ kind nodes g = Chaining card top nodes₀ nodes depth any g₀ g
@@ -163,17 +165,17 @@ chain-joint-requires t c κs = tt
 chain-loop-holds : (t : ℕ) → chain-lts.Need-loop-holds (chain-R t) (chain-at t) chain.Post chain-Inv-loop chain-μ-loop
 chain-loop-holds t c = chain-begins (now (c .before .before .args .card)) (c .before .before .args .top) (now (c .before .before .args .nodes)) (c .before .before .args .depth) (c .before .before .args .any) (c .before .before .args .first) (c .before .before .pre .1 .0) (c .before .before .pre .1 .1)
 
-chain-step-requires : (t : ℕ) → chain-lts.Need-step-requires (chain-R t) (chain-at t) chain.Post chain-Inv-loop chain-μ-loop
-chain-step-requires t c κs = tt
+chain-step-closing-requires : (t : ℕ) → chain-lts.Need-step-closing-requires (chain-R t) (chain-at t) chain.Post chain-Inv-loop chain-μ-loop
+chain-step-closing-requires t c κs = tt
 
 chain-returns : (t : ℕ) → chain-lts.Need-returns (chain-R t) (chain-at t) chain.Post chain-Inv-loop chain-μ-loop
-chain-returns t c = chain-done (now (c .before .before .before .before .before .before .before .before .args .card)) (c .before .before .before .before .before .before .before .before .args .top) (now (c .before .before .before .before .before .before .before .before .args .nodes)) (c .before .before .before .before .before .before .before .before .args .depth) (c .before .before .before .before .before .before .before .before .args .any) (c .before .before .before .before .before .before .before .before .args .first) (c .before .before .before .before .before .loop .nodes) (c .before .before .before .before .before .loop .g) (c .before .before .before .before .before .loop .inv) (c .before .before .before .if1 .taken) (c .before .before .step .result) (c .before .before .step .ensures) (c .before .before .before .before .before .before .joint .result) (c .before .before .before .before .before .before .joint .ensures) (c .if2 .taken)
+chain-returns t c = chain-done (now (c .before .before .before .before .before .before .before .before .args .card)) (c .before .before .before .before .before .before .before .before .args .top) (now (c .before .before .before .before .before .before .before .before .args .nodes)) (c .before .before .before .before .before .before .before .before .args .depth) (c .before .before .before .before .before .before .before .before .args .any) (c .before .before .before .before .before .before .before .before .args .first) (c .before .before .before .before .before .loop .nodes) (c .before .before .before .before .before .loop .g) (c .before .before .before .before .before .loop .inv) (c .before .before .before .if1 .taken) (c .before .before .step-closing .result) (c .before .before .step-closing .ensures) (c .before .before .before .before .before .before .joint .result) (c .before .before .before .before .before .before .joint .ensures) (c .if2 .taken)
 
 chain-stopped-requires : (t : ℕ) → chain-lts.Need-stopped-requires (chain-R t) (chain-at t) chain.Post chain-Inv-loop chain-μ-loop
 chain-stopped-requires t c κs = tt
 
 chain-returns-2 : (t : ℕ) → chain-lts.Need-returns-2 (chain-R t) (chain-at t) chain.Post chain-Inv-loop chain-μ-loop
-chain-returns-2 t c = rw (c .stopped .ensures) (chain-stops (now (c .before .before .before .before .before .before .before .before .before .before .before .args .card)) (c .before .before .before .before .before .before .before .before .before .before .before .args .top) (now (c .before .before .before .before .before .before .before .before .before .before .before .args .nodes)) (c .before .before .before .before .before .before .before .before .before .before .before .args .depth) (c .before .before .before .before .before .before .before .before .before .before .before .args .any) (c .before .before .before .before .before .before .before .before .before .before .before .args .first) (c .before .before .before .before .before .before .before .before .loop .nodes) (c .before .before .before .before .before .before .before .before .loop .g) (c .before .before .before .before .before .before .before .before .loop .inv) (c .before .before .before .before .before .before .if1 .taken) (c .before .before .before .before .before .step .result) (c .before .before .before .before .before .step .ensures) (c .before .before .before .before .before .before .before .before .before .joint .result) (c .before .before .before .before .before .before .before .before .before .joint .ensures) (c .before .before .before .if2 .left) (c .before .if3 .taken))
+chain-returns-2 t c = rw (c .stopped .ensures) (chain-stops (now (c .before .before .before .before .before .before .before .before .before .before .before .args .card)) (c .before .before .before .before .before .before .before .before .before .before .before .args .top) (now (c .before .before .before .before .before .before .before .before .before .before .before .args .nodes)) (c .before .before .before .before .before .before .before .before .before .before .before .args .depth) (c .before .before .before .before .before .before .before .before .before .before .before .args .any) (c .before .before .before .before .before .before .before .before .before .before .before .args .first) (c .before .before .before .before .before .before .before .before .loop .nodes) (c .before .before .before .before .before .before .before .before .loop .g) (c .before .before .before .before .before .before .before .before .loop .inv) (c .before .before .before .before .before .before .if1 .taken) (c .before .before .before .before .before .step-closing .result) (c .before .before .before .before .before .step-closing .ensures) (c .before .before .before .before .before .before .before .before .before .joint .result) (c .before .before .before .before .before .before .before .before .before .joint .ensures) (c .before .before .before .if2 .left) (c .before .if3 .taken))
 
 chain-add-operand : (t : ℕ) → chain-lts.Need-add-operand (chain-R t) (chain-at t) chain.Post chain-Inv-loop chain-μ-loop
 chain-add-operand t c = omega (arith, c .before .before .before .before .before .before .before .before .before .before .loop .inv .fits)
@@ -185,13 +187,13 @@ chain-operand-requires : (t : ℕ) → chain-lts.Need-operand-requires (chain-R 
 chain-operand-requires t c κs = (omega (arith, c .before .before .before .before .before .before .before .before .before .before .before .before .before .before .pre .0, c .before .before .before .before .before .before .before .before .before .before .before .loop .inv .fewer), (omega (arith, c .before .before .before .before .before .before .before .before .before .before .before .loop .inv .fits), omega (arith, c .before .before .before .before .before .before .before .before .before .before .before .loop .inv .most)))
 
 chain-joined-requires : (t : ℕ) → chain-lts.Need-joined-requires (chain-R t) (chain-at t) chain.Post chain-Inv-loop chain-μ-loop
-chain-joined-requires t c κs = (omega (arith, c .before .before .before .before .before .before .before .before .before .before .before .before .before .loop .inv .fits), omega (arith, operand-room (now (c .before .before .before .before .before .before .before .before .before .before .before .before .before .before .before .before .args .card)) (c .before .before .before .before .before .before .before .before .before .before .before .before .before .before .before .before .args .top) (now (c .before .before .before .before .before .before .before .before .before .before .before .before .before .before .before .before .args .nodes)) (c .before .before .before .before .before .before .before .before .before .before .before .before .before .before .before .before .args .depth) (c .before .before .before .before .before .before .before .before .before .before .before .before .before .before .before .before .args .any) (c .before .before .before .before .before .before .before .before .before .before .before .before .before .before .before .before .args .first) (c .before .before .before .before .before .before .before .before .before .before .before .before .before .loop .nodes) (c .before .before .before .before .before .before .before .before .before .before .before .before .before .loop .g) (c .before .before .before .before .before .before .before .before .before .before .before .before .before .loop .inv) (c .before .before .before .before .before .before .before .before .before .before .before .if1 .taken) (c .before .before .before .before .before .before .before .before .before .before .step .result) (c .before .before .before .before .before .before .before .before .before .before .step .ensures) (c .before .before .before .before .before .before .before .before .before .before .before .before .before .before .joint .result) (c .before .before .before .before .before .before .before .before .before .before .before .before .before .before .joint .ensures) (c .before .before .before .before .before .before .before .before .if2 .left) (c .before .before .before .before .before .before .if3 .left) (c .before .operand .last .1 .1 .0) (c .before .operand .result) (c .before .operand .ensures) .fits))
+chain-joined-requires t c κs = (omega (arith, c .before .before .before .before .before .before .before .before .before .before .before .before .before .loop .inv .fits), omega (arith, operand-room (now (c .before .before .before .before .before .before .before .before .before .before .before .before .before .before .before .before .args .card)) (c .before .before .before .before .before .before .before .before .before .before .before .before .before .before .before .before .args .top) (now (c .before .before .before .before .before .before .before .before .before .before .before .before .before .before .before .before .args .nodes)) (c .before .before .before .before .before .before .before .before .before .before .before .before .before .before .before .before .args .depth) (c .before .before .before .before .before .before .before .before .before .before .before .before .before .before .before .before .args .any) (c .before .before .before .before .before .before .before .before .before .before .before .before .before .before .before .before .args .first) (c .before .before .before .before .before .before .before .before .before .before .before .before .before .loop .nodes) (c .before .before .before .before .before .before .before .before .before .before .before .before .before .loop .g) (c .before .before .before .before .before .before .before .before .before .before .before .before .before .loop .inv) (c .before .before .before .before .before .before .before .before .before .before .before .if1 .taken) (c .before .before .before .before .before .before .before .before .before .before .step-closing .result) (c .before .before .before .before .before .before .before .before .before .before .step-closing .ensures) (c .before .before .before .before .before .before .before .before .before .before .before .before .before .before .joint .result) (c .before .before .before .before .before .before .before .before .before .before .before .before .before .before .joint .ensures) (c .before .before .before .before .before .before .before .before .if2 .left) (c .before .before .before .before .before .before .if3 .left) (c .before .operand .last .1 .1 .0) (c .before .operand .result) (c .before .operand .ensures) .fits))
 
 chain-loop-less : (t : ℕ) → chain-lts.Need-loop-less (chain-R t) (chain-at t) chain.Post chain-Inv-loop chain-μ-loop
-chain-loop-less t c = chain-falls (now (c .before .before .before .before .before .before .before .before .before .before .before .before .before .before .before .before .before .args .card)) (c .before .before .before .before .before .before .before .before .before .before .before .before .before .before .before .before .before .args .top) (now (c .before .before .before .before .before .before .before .before .before .before .before .before .before .before .before .before .before .args .nodes)) (c .before .before .before .before .before .before .before .before .before .before .before .before .before .before .before .before .before .args .depth) (c .before .before .before .before .before .before .before .before .before .before .before .before .before .before .before .before .before .args .any) (c .before .before .before .before .before .before .before .before .before .before .before .before .before .before .before .before .before .args .first) (c .before .before .before .before .before .before .before .before .before .before .before .before .before .before .loop .nodes) (c .before .before .before .before .before .before .before .before .before .before .before .before .before .before .loop .g) (c .before .before .before .before .before .before .before .before .before .before .before .before .before .before .loop .inv) (c .before .before .before .before .before .before .before .before .before .before .before .before .if1 .taken) (c .before .before .before .before .before .before .before .before .before .before .before .step .result) (c .before .before .before .before .before .before .before .before .before .before .before .step .ensures) (c .before .before .before .before .before .before .before .before .before .before .before .before .before .before .before .joint .result) (c .before .before .before .before .before .before .before .before .before .before .before .before .before .before .before .joint .ensures) (c .before .before .before .before .before .before .before .before .before .if2 .left) (c .before .before .before .before .before .before .before .if3 .left) (c .before .before .operand .last .1 .1 .0) (c .before .before .operand .result) (c .before .before .operand .ensures) (c .joined .result) (c .joined .ensures .1 .1)
+chain-loop-less t c = chain-falls (now (c .before .before .before .before .before .before .before .before .before .before .before .before .before .before .before .before .before .args .card)) (c .before .before .before .before .before .before .before .before .before .before .before .before .before .before .before .before .before .args .top) (now (c .before .before .before .before .before .before .before .before .before .before .before .before .before .before .before .before .before .args .nodes)) (c .before .before .before .before .before .before .before .before .before .before .before .before .before .before .before .before .before .args .depth) (c .before .before .before .before .before .before .before .before .before .before .before .before .before .before .before .before .before .args .any) (c .before .before .before .before .before .before .before .before .before .before .before .before .before .before .before .before .before .args .first) (c .before .before .before .before .before .before .before .before .before .before .before .before .before .before .loop .nodes) (c .before .before .before .before .before .before .before .before .before .before .before .before .before .before .loop .g) (c .before .before .before .before .before .before .before .before .before .before .before .before .before .before .loop .inv) (c .before .before .before .before .before .before .before .before .before .before .before .before .if1 .taken) (c .before .before .before .before .before .before .before .before .before .before .before .step-closing .result) (c .before .before .before .before .before .before .before .before .before .before .before .step-closing .ensures) (c .before .before .before .before .before .before .before .before .before .before .before .before .before .before .before .joint .result) (c .before .before .before .before .before .before .before .before .before .before .before .before .before .before .before .joint .ensures) (c .before .before .before .before .before .before .before .before .before .if2 .left) (c .before .before .before .before .before .before .before .if3 .left) (c .before .before .operand .last .1 .1 .0) (c .before .before .operand .result) (c .before .before .operand .ensures) (c .joined .result) (c .joined .ensures .1 .1)
 
 chain-loop-again : (t : ℕ) → chain-lts.Need-loop-again (chain-R t) (chain-at t) chain.Post chain-Inv-loop chain-μ-loop
-chain-loop-again t c = chain-turns (now (c .before .before .before .before .before .before .before .before .before .before .before .before .before .before .before .before .before .args .card)) (c .before .before .before .before .before .before .before .before .before .before .before .before .before .before .before .before .before .args .top) (now (c .before .before .before .before .before .before .before .before .before .before .before .before .before .before .before .before .before .args .nodes)) (c .before .before .before .before .before .before .before .before .before .before .before .before .before .before .before .before .before .args .depth) (c .before .before .before .before .before .before .before .before .before .before .before .before .before .before .before .before .before .args .any) (c .before .before .before .before .before .before .before .before .before .before .before .before .before .before .before .before .before .args .first) (c .before .before .before .before .before .before .before .before .before .before .before .before .before .before .loop .nodes) (c .before .before .before .before .before .before .before .before .before .before .before .before .before .before .loop .g) (c .before .before .before .before .before .before .before .before .before .before .before .before .before .before .loop .inv) (c .before .before .before .before .before .before .before .before .before .before .before .before .if1 .taken) (c .before .before .before .before .before .before .before .before .before .before .before .step .result) (c .before .before .before .before .before .before .before .before .before .before .before .step .ensures) (c .before .before .before .before .before .before .before .before .before .before .before .before .before .before .before .joint .result) (c .before .before .before .before .before .before .before .before .before .before .before .before .before .before .before .joint .ensures) (c .before .before .before .before .before .before .before .before .before .if2 .left) (c .before .before .before .before .before .before .before .if3 .left) (c .before .before .operand .last .1 .1 .0) (c .before .before .operand .result) (c .before .before .operand .ensures) (c .joined .last .0) (c .joined .result) (c .joined .ensures .0) (c .joined .ensures .1)
+chain-loop-again t c = chain-turns (now (c .before .before .before .before .before .before .before .before .before .before .before .before .before .before .before .before .before .args .card)) (c .before .before .before .before .before .before .before .before .before .before .before .before .before .before .before .before .before .args .top) (now (c .before .before .before .before .before .before .before .before .before .before .before .before .before .before .before .before .before .args .nodes)) (c .before .before .before .before .before .before .before .before .before .before .before .before .before .before .before .before .before .args .depth) (c .before .before .before .before .before .before .before .before .before .before .before .before .before .before .before .before .before .args .any) (c .before .before .before .before .before .before .before .before .before .before .before .before .before .before .before .before .before .args .first) (c .before .before .before .before .before .before .before .before .before .before .before .before .before .before .loop .nodes) (c .before .before .before .before .before .before .before .before .before .before .before .before .before .before .loop .g) (c .before .before .before .before .before .before .before .before .before .before .before .before .before .before .loop .inv) (c .before .before .before .before .before .before .before .before .before .before .before .before .if1 .taken) (c .before .before .before .before .before .before .before .before .before .before .before .step-closing .result) (c .before .before .before .before .before .before .before .before .before .before .before .step-closing .ensures) (c .before .before .before .before .before .before .before .before .before .before .before .before .before .before .before .joint .result) (c .before .before .before .before .before .before .before .before .before .before .before .before .before .before .before .joint .ensures) (c .before .before .before .before .before .before .before .before .before .if2 .left) (c .before .before .before .before .before .before .before .if3 .left) (c .before .before .operand .last .1 .1 .0) (c .before .before .operand .result) (c .before .before .operand .ensures) (c .joined .last .0) (c .joined .result) (c .joined .ensures .0) (c .joined .ensures .1)
 
 chain-returns-3 : (t : ℕ) → chain-lts.Need-returns-3 (chain-R t) (chain-at t) chain.Post chain-Inv-loop chain-μ-loop
 chain-returns-3 t c = chain-wrong (now (c .before .before .before .before .before .args .card)) (c .before .before .before .before .before .args .top) (now (c .before .before .before .before .before .args .nodes)) (c .before .before .before .before .before .args .depth) (c .before .before .before .before .before .args .any) (c .before .before .before .before .before .args .first) (c .before .before .loop .nodes) (c .before .before .loop .g) (c .before .before .loop .inv) (c .if1 .left)
@@ -228,32 +230,32 @@ operand-unary-requires t c κs = (omega arith, (c .before .before .before .pre .
 operand-returns-2 : (t : ℕ) → operand-lts.Need-returns-2 (operand-R t) (operand-at t) operand.Post
 operand-returns-2 t c = rw (c .before .before .if1 .left) (c .unary .ensures)
 
-unary-step-requires : (t : ℕ) → unary-lts.Need-step-requires (unary-R t) (unary-at t) unary.Post
-unary-step-requires t c κs = tt
+unary-step-opening-requires : (t : ℕ) → unary-lts.Need-step-opening-requires (unary-R t) (unary-at t) unary.Post
+unary-step-opening-requires t c κs = tt
 
 unary-bracket-requires : (t : ℕ) → unary-lts.Need-bracket-requires (unary-R t) (unary-at t) unary.Post
-unary-bracket-requires t c κs = (omega arith, (c .before .before .before .before .before .pre .1 .0, c .before .before .before .before .before .pre .1 .1, step-within (now (c .before .before .before .before .before .args .card)) (c .before .before .before .before .before .args .at) (c .before .before .before .step .result) (c .before .before .before .step .ensures)))
+unary-bracket-requires t c κs = (omega arith, (c .before .before .before .before .before .pre .1 .0, c .before .before .before .before .before .pre .1 .1, step-within (now (c .before .before .before .before .before .args .card)) (c .before .before .before .before .before .args .at) (c .before .before .before .step-opening .result) (c .before .before .before .step-opening .ensures)))
 
 unary-returns : (t : ℕ) → unary-lts.Need-returns (unary-R t) (unary-at t) unary.Post
-unary-returns t c = reads-bracket (now (c .before .before .before .before .before .before .args .card)) (c .before .before .before .before .before .before .args .at) (c .before .before .before .before .before .before .args .left) (c .before .before .before .before .before .before .args .depth) (c .before .before .before .before .before .before .args .top) (now (c .before .before .before .before .before .before .args .nodes)) (c .bracket .last .1 .1 .1 .0) (c .before .before .before .before .before .before .args .used) (c .before .before .before .before .before .before .args .late) (c .before .before .before .before .step .result) (c .before .before .before .before .step .ensures) (c .before .before .if1 .taken) (c .bracket .result) (c .bracket .ensures)
+unary-returns t c = reads-bracket (now (c .before .before .before .before .before .before .args .card)) (c .before .before .before .before .before .before .args .at) (c .before .before .before .before .before .before .args .left) (c .before .before .before .before .before .before .args .depth) (c .before .before .before .before .before .before .args .top) (now (c .before .before .before .before .before .before .args .nodes)) (c .bracket .last .1 .1 .1 .0) (c .before .before .before .before .before .before .args .used) (c .before .before .before .before .before .before .args .late) (c .before .before .before .before .step-opening .result) (c .before .before .before .before .step-opening .ensures) (c .before .before .if1 .taken) (c .bracket .result) (c .bracket .ensures)
 
 unary-stopped-requires : (t : ℕ) → unary-lts.Need-stopped-requires (unary-R t) (unary-at t) unary.Post
 unary-stopped-requires t c κs = tt
 
 unary-returns-2 : (t : ℕ) → unary-lts.Need-returns-2 (unary-R t) (unary-at t) unary.Post
-unary-returns-2 t c = rw (c .stopped .ensures) (reads-unfit (now (c .before .before .before .before .before .before .before .args .card)) (c .before .before .before .before .before .before .before .args .at) (c .before .before .before .before .before .before .before .args .left) (c .before .before .before .before .before .before .before .args .depth) (c .before .before .before .before .before .before .before .args .top) (now (c .before .before .before .before .before .before .before .args .nodes)) (now (c .before .before .before .before .before .before .before .args .nodes)) (c .before .before .before .before .before .before .before .args .used) (c .before .before .before .before .before .before .before .args .late) (c .before .before .before .before .before .step .result) (c .before .before .before .before .before .step .ensures) (c .before .before .before .if1 .left) (c .before .if2 .taken))
+unary-returns-2 t c = rw (c .stopped .ensures) (reads-unfit (now (c .before .before .before .before .before .before .before .args .card)) (c .before .before .before .before .before .before .before .args .at) (c .before .before .before .before .before .before .before .args .left) (c .before .before .before .before .before .before .before .args .depth) (c .before .before .before .before .before .before .before .args .top) (now (c .before .before .before .before .before .before .before .args .nodes)) (now (c .before .before .before .before .before .before .before .args .nodes)) (c .before .before .before .before .before .before .before .args .used) (c .before .before .before .before .before .before .before .args .late) (c .before .before .before .before .before .step-opening .result) (c .before .before .before .before .before .step-opening .ensures) (c .before .before .before .if1 .left) (c .before .if2 .taken))
 
 unary-stopped-requires-2 : (t : ℕ) → unary-lts.Need-stopped-requires-2 (unary-R t) (unary-at t) unary.Post
 unary-stopped-requires-2 t c κs = tt
 
 unary-returns-3 : (t : ℕ) → unary-lts.Need-returns-3 (unary-R t) (unary-at t) unary.Post
-unary-returns-3 t c = rw (c .stopped2 .ensures) (reads-deep (now (c .before .before .before .before .before .before .before .before .args .card)) (c .before .before .before .before .before .before .before .before .args .at) (c .before .before .before .before .before .before .before .before .args .left) (c .before .before .before .before .before .before .before .before .args .depth) (c .before .before .before .before .before .before .before .before .args .top) (now (c .before .before .before .before .before .before .before .before .args .nodes)) (now (c .before .before .before .before .before .before .before .before .args .nodes)) (c .before .before .before .before .before .before .before .before .args .used) (c .before .before .before .before .before .before .before .before .args .late) (c .before .before .before .before .before .before .step .result) (c .before .before .before .before .before .before .step .ensures) (c .before .before .if2 .left) (c .before .if3 .taken))
+unary-returns-3 t c = rw (c .stopped2 .ensures) (reads-deep (now (c .before .before .before .before .before .before .before .before .args .card)) (c .before .before .before .before .before .before .before .before .args .at) (c .before .before .before .before .before .before .before .before .args .left) (c .before .before .before .before .before .before .before .before .args .depth) (c .before .before .before .before .before .before .before .before .args .top) (now (c .before .before .before .before .before .before .before .before .args .nodes)) (now (c .before .before .before .before .before .before .before .before .args .nodes)) (c .before .before .before .before .before .before .before .before .args .used) (c .before .before .before .before .before .before .before .before .args .late) (c .before .before .before .before .before .before .step-opening .result) (c .before .before .before .before .before .before .step-opening .ensures) (c .before .before .if2 .left) (c .before .if3 .taken))
 
 unary-stopped-requires-3 : (t : ℕ) → unary-lts.Need-stopped-requires-3 (unary-R t) (unary-at t) unary.Post
 unary-stopped-requires-3 t c κs = tt
 
 unary-returns-4 : (t : ℕ) → unary-lts.Need-returns-4 (unary-R t) (unary-at t) unary.Post
-unary-returns-4 t c = rw (c .stopped3 .ensures) (reads-full (now (c .before .before .before .before .before .before .before .before .before .args .card)) (c .before .before .before .before .before .before .before .before .before .args .at) (c .before .before .before .before .before .before .before .before .before .args .left) (c .before .before .before .before .before .before .before .before .before .args .depth) (c .before .before .before .before .before .before .before .before .before .args .top) (now (c .before .before .before .before .before .before .before .before .before .args .nodes)) (now (c .before .before .before .before .before .before .before .before .before .args .nodes)) (c .before .before .before .before .before .before .before .before .before .args .used) (c .before .before .before .before .before .before .before .before .before .args .late) (c .before .before .before .before .before .before .before .step .result) (c .before .before .before .before .before .before .before .step .ensures) (c .before .before .before .if2 .left) (c .before .before .if3 .left) (c .before .if4 .taken))
+unary-returns-4 t c = rw (c .stopped3 .ensures) (reads-full (now (c .before .before .before .before .before .before .before .before .before .args .card)) (c .before .before .before .before .before .before .before .before .before .args .at) (c .before .before .before .before .before .before .before .before .before .args .left) (c .before .before .before .before .before .before .before .before .before .args .depth) (c .before .before .before .before .before .before .before .before .before .args .top) (now (c .before .before .before .before .before .before .before .before .before .args .nodes)) (now (c .before .before .before .before .before .before .before .before .before .args .nodes)) (c .before .before .before .before .before .before .before .before .before .args .used) (c .before .before .before .before .before .before .before .before .before .args .late) (c .before .before .before .before .before .before .before .step-opening .result) (c .before .before .before .before .before .before .before .step-opening .ensures) (c .before .before .before .if2 .left) (c .before .before .if3 .left) (c .before .if4 .taken))
 
 unary-sub-deeper : (t : ℕ) → unary-lts.Need-sub-deeper (unary-R t) (unary-at t) unary.Post
 unary-sub-deeper t c = search needs
@@ -265,16 +267,16 @@ unary-unary-requires : (t : ℕ) → unary-lts.Need-unary-requires (unary-R t) (
 unary-unary-requires t c κs = (omega arith, (omega arith, omega arith))
 
 unary-negated-requires : (t : ℕ) → unary-lts.Need-negated-requires (unary-R t) (unary-at t) unary.Post
-unary-negated-requires t c κs = omega (arith, unary-room (now (c .before .before .before .before .before .before .before .before .before .before .before .args .card)) (c .before .before .before .before .before .before .before .before .before .before .before .args .top) (now (c .before .before .before .before .before .before .before .before .before .before .before .args .nodes)) (c .before .unary .last .1 .1 .0) (c .before .before .before .before .before .before .before .before .before .before .before .args .used) (c .before .before .before .before .before .before .before .before .before .before .before .args .late) (c .before .before .before .before .before .before .before .before .before .step .result .next .at) (c .before .before .before .before .before .before .before .before .before .before .before .args .left - 1) (c .before .before .before .before .before .before .before .before .before .before .before .args .depth - 1) (c .before .unary .result) (c .before .unary .ensures) (nodePlaces - 1) (omega arith) (omega arith) .fits)
+unary-negated-requires t c κs = omega (arith, unary-room (now (c .before .before .before .before .before .before .before .before .before .before .before .args .card)) (c .before .before .before .before .before .before .before .before .before .before .before .args .top) (now (c .before .before .before .before .before .before .before .before .before .before .before .args .nodes)) (c .before .unary .last .1 .1 .0) (c .before .before .before .before .before .before .before .before .before .before .before .args .used) (c .before .before .before .before .before .before .before .before .before .before .before .args .late) (c .before .before .before .before .before .before .before .before .before .step-opening .result .next .at) (c .before .before .before .before .before .before .before .before .before .before .before .args .left - 1) (c .before .before .before .before .before .before .before .before .before .before .before .args .depth - 1) (c .before .unary .result) (c .before .unary .ensures) (nodePlaces - 1) (omega arith) (omega arith) .fits)
 
 unary-returns-5 : (t : ℕ) → unary-lts.Need-returns-5 (unary-R t) (unary-at t) unary.Post
-unary-returns-5 t c = reads-not (now (c .before .before .before .before .before .before .before .before .before .before .before .before .args .card)) (c .before .before .before .before .before .before .before .before .before .before .before .before .args .at) (c .before .before .before .before .before .before .before .before .before .before .before .before .args .left) (c .before .before .before .before .before .before .before .before .before .before .before .before .args .depth) (c .before .before .before .before .before .before .before .before .before .before .before .before .args .top) (now (c .before .before .before .before .before .before .before .before .before .before .before .before .args .nodes)) (c .negated .last .0) (c .before .before .before .before .before .before .before .before .before .before .before .before .args .used) (c .before .before .before .before .before .before .before .before .before .before .before .before .args .late) (c .before .before .before .before .before .before .before .before .before .before .step .result) (c .before .before .before .before .before .before .before .before .before .before .step .ensures) (c .before .before .before .before .before .before .if2 .left) (c .before .before .before .before .before .if3 .left) (c .before .before .before .before .if4 .left) (c .before .before .unary .last .1 .1 .0) (c .before .before .unary .result) (c .negated .result) (c .before .before .unary .ensures) (c .negated .ensures)
+unary-returns-5 t c = reads-not (now (c .before .before .before .before .before .before .before .before .before .before .before .before .args .card)) (c .before .before .before .before .before .before .before .before .before .before .before .before .args .at) (c .before .before .before .before .before .before .before .before .before .before .before .before .args .left) (c .before .before .before .before .before .before .before .before .before .before .before .before .args .depth) (c .before .before .before .before .before .before .before .before .before .before .before .before .args .top) (now (c .before .before .before .before .before .before .before .before .before .before .before .before .args .nodes)) (c .negated .last .0) (c .before .before .before .before .before .before .before .before .before .before .before .before .args .used) (c .before .before .before .before .before .before .before .before .before .before .before .before .args .late) (c .before .before .before .before .before .before .before .before .before .before .step-opening .result) (c .before .before .before .before .before .before .before .before .before .before .step-opening .ensures) (c .before .before .before .before .before .before .if2 .left) (c .before .before .before .before .before .if3 .left) (c .before .before .before .before .if4 .left) (c .before .before .unary .last .1 .1 .0) (c .before .before .unary .result) (c .negated .result) (c .before .before .unary .ensures) (c .negated .ensures)
 
 pub +bracket+chain+conjunction+expression+operand+unary-spec : {M : Type 1} → statement M
 +bracket+chain+conjunction+expression+operand+unary-spec =
     close μ-bracket μ-chain μ-conjunction μ-expression μ-operand μ-unary (λ t. bracket-lts.spec (
-      step-reads.Asked,
-      step-reads.Learnt,
+      step-inner-reads.Asked,
+      step-inner-reads.Learnt,
       grouping-reads.Asked,
       grouping-reads.Learnt,
       stopped-reads.Asked,
@@ -289,7 +291,7 @@ pub +bracket+chain+conjunction+expression+operand+unary-spec : {M : Type 1} → 
     (bracket-sub-part t)
     (bracket-part-part-start t)
     (bracket-part-part-end t)
-    (bracket-step-requires t)
+    (bracket-step-inner-requires t)
     (bracket-grouping-requires t)
     (bracket-returns t)
     (bracket-stopped-requires t)
@@ -301,8 +303,8 @@ pub +bracket+chain+conjunction+expression+operand+unary-spec : {M : Type 1} → 
     (λ t. chain-lts.spec (
       joint-reads.Asked,
       joint-reads.Learnt,
-      step-reads.Asked,
-      step-reads.Learnt,
+      step-closing-reads.Asked,
+      step-closing-reads.Learnt,
       stopped-reads.Asked,
       stopped-reads.Learnt,
       operand-below t,
@@ -316,7 +318,7 @@ pub +bracket+chain+conjunction+expression+operand+unary-spec : {M : Type 1} → 
     chain-μ-loop
     (chain-joint-requires t)
     (chain-loop-holds t)
-    (chain-step-requires t)
+    (chain-step-closing-requires t)
     (chain-returns t)
     (chain-stopped-requires t)
     (chain-returns-2 t)
@@ -350,8 +352,8 @@ pub +bracket+chain+conjunction+expression+operand+unary-spec : {M : Type 1} → 
     (operand-unary-requires t)
     (operand-returns-2 t))
     λ t. unary-lts.spec (
-      step-reads.Asked,
-      step-reads.Learnt,
+      step-opening-reads.Asked,
+      step-opening-reads.Learnt,
       bracket-below t,
       bracket.Post,
       stopped-reads.Asked,
@@ -363,7 +365,7 @@ pub +bracket+chain+conjunction+expression+operand+unary-spec : {M : Type 1} → 
     )
     (unary-at t)
     unary.Post
-    (unary-step-requires t)
+    (unary-step-opening-requires t)
     (unary-bracket-requires t)
     (unary-returns t)
     (unary-stopped-requires t)

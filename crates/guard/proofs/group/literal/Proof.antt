@@ -1,42 +1,68 @@
--- One way out for the sign, one for the number, one for the whole literal.
-use Rattle.guard.proofs.Literals.{literal-sign, literal-number, literal-whole}
+-- The quick way has the two steps by their looks (proofs/Quick.antt of marks).
+use Rattle.guard.proofs.Literals.{literal-whole}
+use Rattle.marks.proofs.Quick.{sign-place, sign-step, digit-place, digit-step}
+use Rattle.marks.specs.Parts.{bareOf, valuedOf}
+use Rattle.marks.specs.Kinds.{kNumber}
 use denote.Ref.{now}
+use borrow.Author.Tests.{not-false}
+use native.Mathlib.Omega.{arith}
+use mathlib.Core.Path.{refl, sym, _∙_}
+use Prim.Native.Nat.{_+_}
+use borrow.Author.Needs.{needs}
 use Rattle.guard.proofs.group.literal.Statement.{statement}
 use Rattle.guard.proofs.group.literal.Tie as tie
+use Rattle.guard.proofs.group.literal.Reads as reads
+use Rattle.guard.proofs.group.literal.Lts as lts
+use Rattle.guard.proofs.group.long_literal.Reads as long-literal-reads
+use Rattle.marks.proofs.look.digit_here.Reads as digit-here-reads
+use Rattle.marks.proofs.look.sign_here.Reads as sign-here-reads
 
-step-requires : tie.Need-step-requires
-step-requires c κs = tt
+-- src/group.rt:122:9
+sign-here-requires : tie.Need-sign-here-requires
+sign-here-requires c κs = search needs
 
-relation-requires : tie.Need-relation-requires
-relation-requires c κs = tt
+-- src/group.rt:123:9
+long-literal-requires : tie.Need-long-literal-requires
+long-literal-requires c κs = search needs
 
-no-tail-requires : tie.Need-no-tail-requires
-no-tail-requires c κs = tt
-
+-- src/group.rt:123:9
 returns : tie.Need-returns
-returns c = rw (c .no-tail .ensures) (literal-sign (now (c .before .before .before .before .before .args .part)) (c .before .before .before .before .before .args .at) (c .before .before .relation .result) (c .before .before .before .step .result) (c .before .before .before .step .ensures) (c .before .before .relation .ensures) (c .before .if1 .taken))
+returns c = search needs
 
-step-requires-2 : tie.Need-step-requires-2
-step-requires-2 c κs = tt
+-- src/group.rt:125:17
+add-first : tie.Need-add-first
+add-first c = omega (arith, sign-place (c .before .before .before .args .part .now) (c .before .before .before .args .at) 61 (sym (c .before .sign-here .ensures) ∙ not-false (c .before .sign-here .result) (c .if1 .left)))
 
-no-tail-requires-2 : tie.Need-no-tail-requires-2
-no-tail-requires-2 c κs = tt
+-- src/group.rt:126:9
+digit-here-requires : tie.Need-digit-here-requires
+digit-here-requires c κs = search needs
 
+-- src/group.rt:128:9
+long-literal-requires-2 : tie.Need-long-literal-requires-2
+long-literal-requires-2 c κs = search needs
+
+-- src/group.rt:128:9
 returns-2 : tie.Need-returns-2
-returns-2 c = rw (c .no-tail2 .ensures) (literal-number (now (c .before .before .before .before .before .before .before .before .before .args .part)) (c .before .before .before .before .before .before .before .before .before .args .at) (c .before .before .before .before .before .before .relation .result) (c .before .before .before .before .before .before .before .step .result) (c .before .before .before .step2 .result) (c .before .before .before .before .before .before .before .step .ensures) (c .before .before .before .step2 .ensures) (c .before .before .before .before .before .before .relation .ensures) (c .before .before .before .before .before .if1 .left) (c .before .if2 .taken))
+returns-2 c = search needs
 
+-- src/group.rt:133:15
+add-t7 : tie.Need-add-t7
+add-t7 c = omega (arith, digit-place (c .before .before .before .before .before .args .part .now) (c .before .before .before .before .before .args .at + 1) (c .before .digit-here .result) (c .before .digit-here .ensures) (c .if2 .left))
+
+-- src/group.rt:119:1
 returns-3 : tie.Need-returns-3
-returns-3 c = literal-whole (now (c .before .before .before .before .before .before .before .before .args .part)) (c .before .before .before .before .before .before .before .before .args .at) (c .before .before .before .before .before .relation .result) (c .before .before .before .before .before .before .step .result) (c .before .before .step2 .result) (c .before .before .before .before .before .before .step .ensures) (c .before .before .step2 .ensures) (c .before .before .before .before .before .relation .ensures) (c .before .before .before .before .if1 .left) (c .if2 .left)
+returns-3 c = literal-whole (now (c .before .before .before .before .before .args .part)) (c .before .before .before .before .before .args .at) 0 (bareOf 61 (c .before .before .before .before .before .args .at) (c .before .before .before .before .before .args .at + 1)) (valuedOf kNumber (c .before .digit-here .result) (c .before .before .before .before .before .args .at + 1) (c .before .before .before .before .before .args .at + 1 + 1)) (sym (sign-step (c .before .before .before .before .before .args .part .now) (c .before .before .before .before .before .args .at) 61 (sym (c .before .before .before .sign-here .ensures) ∙ not-false (c .before .before .before .sign-here .result) (c .before .before .if1 .left)))) (sym (digit-step (c .before .before .before .before .before .args .part .now) (c .before .before .before .before .before .args .at + 1) (c .before .digit-here .result) (c .before .digit-here .ensures) (c .if2 .left))) refl (λ z. omega arith) refl
 
 pub literal-spec : {M : Type 1} → statement M
 literal-spec =
     tie.close
     (tie.spec
-    step-requires
-    relation-requires
-    no-tail-requires
+    sign-here-requires
+    long-literal-requires
     returns
-    step-requires-2
-    no-tail-requires-2
+    add-first
+    digit-here-requires
+    long-literal-requires-2
     returns-2
+    add-t7
     returns-3)
