@@ -2,6 +2,7 @@ pub mod Passed
 pub mod Steps
 pub mod Answers
 pub mod Lines
+pub mod Updates
 pub mod Counted
 pub mod BranchLaws
 pub mod StatementLaws

@@ -14,7 +14,7 @@ use Rattle.card.specs.Stored.{stored}
 use Rattle.card.specs.Weight.{Weight}
 use Rattle.card.specs.Judged.{judgedOf}
 use Rattle.card.specs.declared.weight.Judged.{Judged}
-use Rattle.marks.specs.Kinds.{kNumber, kDecimal, kind}
+use Rattle.marks.specs.Kinds.{kNumber, kDecimal, kSeat, kind}
 use Rattle.marks.specs.declared.Found.{Found}
 use Rattle.marks.specs.Step.{marksAt}
 use Rattle.reading.specs.Reader.{Place, State, Result, Reader, bind, _>>=_, _>>_, return, sign, here}
@@ -25,7 +25,7 @@ use Rattle.reading.specs.Checks.{weightIn, judgedBranch, judgedEach}
 use Rattle.guard.specs.declared.Late.{Late}
 use Rattle.guard.specs.Late.{blamed, judgeAll}
 use Rattle.reader.specs.declared.parts.Took.{Took}
-use Rattle.reader.specs.Parts.{from, Answers, tookTo, stopped, tookForm, Went}
+use Rattle.reader.specs.Parts.{from, Answers, tookTo, stopped, tookForm, Went, RunFrom}
 
 -- ---- a weight: its units, or 0 and a late refusal where it breaks its rule
 
@@ -43,6 +43,17 @@ WeightRead s k before p = Answers tookForm s (λ w. Went s k before (unitsIn w) 
 
 abbrev pub WeightFrom : List ℕ → ℕ → Late → Took → Type 0
 WeightFrom s i before r = (k n : ℕ) → WeightRead s k before (marksAt 0 s i) (readWeight (from s i n)) r
+
+-- ---- between a branch's weight and its state, in kinds and numbers due: `:(s1'=`
+
+abbrev pub updateKinds : List ℕ
+updateKinds = kind ":" ∷ kind "(" ∷ kSeat ∷ kind "'" ∷ kind "=" ∷ []
+
+abbrev pub updateNumbers : List ℕ
+updateNumbers = 0 ∷ 0 ∷ 1 ∷ 0 ∷ 0 ∷ []
+
+abbrev pub UpdateFrom : List ℕ → ℕ → Late → Took → Type 0
+UpdateFrom s i late r = RunFrom s i updateKinds updateNumbers late r
 
 -- ---- a branch, in the array as the packer makes it
 

@@ -17,6 +17,8 @@ use guard::refusals::PAST_LIMIT;
 use guard::refusals::WRONG_WEIGHT;
 use marks::Cursor;
 use marks::Found;
+use marks::due::step_further;
+use marks::due::step_slash;
 use marks::kinds::COLON;
 use marks::kinds::DECIMAL;
 use marks::kinds::EQUAL;
@@ -28,10 +30,11 @@ use marks::kinds::ROUND_OPEN;
 use marks::kinds::SEAT;
 use marks::kinds::SEMICOLON;
 use marks::kinds::SLASH;
+use marks::look::all_here;
 ghost use mathlib.Core.Path.{_≡_};
 ghost use Prim.Native.Nat.{_+_, _≤_, _<_};
 ghost use Rattle.card.specs.Limits.{mostBranches, branchPlaces};
-ghost use Rattle.reader.specs.Branches.{sumBy, WeighedTo, WeightFrom, BranchFrom, closedTo, pastBy, BranchesFrom};
+ghost use Rattle.reader.specs.Branches.{sumBy, WeighedTo, WeightFrom, UpdateFrom, BranchFrom, closedTo, pastBy, BranchesFrom};
 
 fn wide(x: u32) -> usize
     ensures { λ r. ⌜ r ≡ x ⌝ }
@@ -64,7 +67,7 @@ fn weight(card: &[u8], at: usize, late: Late) -> Took
     if mark.kind != NUMBER {
         return stopped(OUT_OF_SHAPE, mark.place);
     }
-    let slash = next.step(card);
+    let slash = step_slash(card, next.at);
     let second = slash.mark;
     let behind = slash.next;
     if second.kind != SLASH {
@@ -79,6 +82,18 @@ fn weight(card: &[u8], at: usize, late: Late) -> Took
     }
     let judged = Weight::ratio(mark.value, third.value);
     weighed(judged, end.at, mark.place, late)
+}
+
+// :(s1'= mark by mark, unless it stands right there.
+fn updated(card: &[u8], at: usize, late: Late) -> Took
+    ensures { λ r. ⌜ UpdateFrom (now (card .entry)) at late r ⌝ }
+{
+    if all_here(card, at, b":(s1'=") {
+        return passed(at + 6, 0, late);
+    }
+    let kinds = [COLON, ROUND_OPEN, SEAT, PRIME, EQUAL];
+    let dues = [0, 0, 1, 0, 0];
+    run(card, at, &kinds, &dues, late)
 }
 
 // weight:(s1'=t); the number handed back is that of its units.
@@ -97,9 +112,7 @@ fn branch(
     if w.stop != 0 {
         return w;
     }
-    let kinds = [COLON, ROUND_OPEN, SEAT, PRIME, EQUAL];
-    let dues = [0, 0, 1, 0, 0];
-    let update = run(card, w.next, &kinds, &dues, w.late);
+    let update = updated(card, w.next, w.late);
     if update.stop != 0 {
         return update;
     }
@@ -172,8 +185,7 @@ pub fn branches(
         }
         count += 1;
         total += b.value;
-        let cursor = Cursor { at: b.next };
-        let step = cursor.step(card);
+        let step = step_further(card, b.next);
         let mark = step.mark;
         let behind = step.next;
         if mark.kind != PLUS {

@@ -5,7 +5,9 @@ use guard::none_yet;
 use guard::refusals::ABOVE_TOP;
 use guard::refusals::NOT_DUE;
 use guard::refusals::OUT_OF_SHAPE;
-use marks::Cursor;
+use marks::due::step_kind;
+use marks::due::step_number;
+use marks::due::step_sign;
 use marks::kinds::NUMBER;
 ghost use mathlib.Core.Path.{_≡_};
 ghost use Prim.Native.Nat.{_≤_};
@@ -70,8 +72,7 @@ fn judge_word(due: usize, number: usize, place: usize, late: Late) -> Late
 pub fn number(card: &[u8], at: usize, top: usize, late: Late) -> Took
     ensures { λ r. ⌜ NumberFrom (now (card .entry)) at top late r ⌝ }
 {
-    let cursor = Cursor { at };
-    let step = cursor.step(card);
+    let step = step_number(card, at);
     let mark = step.mark;
     let next = step.next;
     if mark.kind != NUMBER {
@@ -85,8 +86,7 @@ pub fn number(card: &[u8], at: usize, top: usize, late: Late) -> Took
 pub fn sign(card: &[u8], at: usize, kind: usize, late: Late) -> Took
     ensures { λ r. ⌜ SignFrom (now (card .entry)) at kind late r ⌝ }
 {
-    let cursor = Cursor { at };
-    let step = cursor.step(card);
+    let step = step_sign(card, at, kind);
     let mark = step.mark;
     let next = step.next;
     if mark.kind != kind {
@@ -104,10 +104,10 @@ pub fn run(card: &[u8], at: usize, kinds: &[usize], dues: &[usize], late: Late) 
     let mut kept = late;
     let mut i = 0;
     while i < kinds.len() {
-        let cursor = Cursor { at: next };
-        let step = cursor.step(card);
+        let kind = kinds[i];
+        let step = step_kind(card, next, kind);
         let mark = step.mark;
-        if mark.kind != kinds[i] {
+        if mark.kind != kind {
             return stopped(OUT_OF_SHAPE, mark.place);
         }
         kept = judge_word(dues[i], mark.value, mark.place, kept);

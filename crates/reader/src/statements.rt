@@ -18,7 +18,8 @@ use guard::conjunction;
 use guard::none_yet;
 use guard::refusals::OUT_OF_SHAPE;
 use guard::refusals::PAST_LIMIT;
-use marks::Cursor;
+use marks::due::step_arrow;
+use marks::due::step_sign;
 use marks::kinds::AND;
 use marks::kinds::ARROW;
 use marks::kinds::ENDMODULE;
@@ -101,8 +102,7 @@ fn guarded(
     requires { ⌜ used + mostNodes ≤ nodePlaces ⌝ }
     ensures { λ r. ⌜ GuardedFrom (now (card .entry)) at top late (now (nodes .entry)) (now (nodes .exit)) used r ⌝ }
 {
-    let cursor = Cursor { at };
-    let step = cursor.step(card);
+    let step = step_sign(card, at, AND);
     let mark = step.mark;
     let next = step.next;
     if mark.kind != AND {
@@ -124,8 +124,7 @@ fn guarded(
     if guard.stop != 0 {
         return stopped(guard.stop, guard.place);
     }
-    let behind = Cursor { at: guard.next };
-    let after = behind.step(card);
+    let after = step_arrow(card, guard.next);
     let arrow = after.mark;
     let end = after.next;
     if arrow.kind != ARROW {
@@ -220,8 +219,7 @@ pub fn statements(
         let row = read.row;
         rows[count] = row;
         count += 1;
-        let cursor = Cursor { at: read.next };
-        let step = cursor.step(card);
+        let step = step_sign(card, read.next, SQUARE_OPEN);
         let mark = step.mark;
         let behind = step.next;
         kept = read.late;

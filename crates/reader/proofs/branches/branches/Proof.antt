@@ -12,6 +12,7 @@ use Rattle.reader.proofs.branches.branches.Tie as tie
 use Rattle.reader.proofs.branches.branches.Reads as reads
 use Rattle.reader.proofs.branches.branches.Lts as lts
 use Rattle.marks.proofs.Cursor.step.Reads as step-reads
+use Rattle.marks.proofs.due.step_further.Reads as step-further-reads
 use Rattle.reader.proofs.branches.branch.Reads as branch-reads
 use Rattle.reader.proofs.branches.closed.Reads as closed-reads
 use Rattle.reader.proofs.branches.past.Reads as past-reads
@@ -48,8 +49,8 @@ add-total : tie.Need-add-total Inv-loop μ-loop
 add-total c = omega (arith, c .before .before .before .before .before .before .loop .inv .small, c .before .before .before .before .before .before .loop .inv .few, branch-few (now (c .before .before .before .before .before .before .before .before .args .card)) (c .before .before .before .before .before .before .before .before .args .top) (c .before .before .before .before .before .before .loop .kept) (c .before .before .before .before .before .before .loop .array) (c .before .before .before .branch .last .1 .1 .1 .0) (c .before .before .before .before .before .before .before .before .args .first + c .before .before .before .before .before .before .loop .count) (branch (from (now (c .before .before .before .before .before .before .before .before .args .card)) (c .before .before .before .before .before .before .loop .next) 0)) (c .before .before .before .branch .result) (c .before .before .before .branch .ensures 0))
 
 -- src/branches.rt:162:13
-step-requires : tie.Need-step-requires Inv-loop μ-loop
-step-requires c κs = search needs
+step-further-requires : tie.Need-step-further-requires Inv-loop μ-loop
+step-further-requires c κs = search needs
 
 -- src/branches.rt:166:13
 closed-requires : tie.Need-closed-requires Inv-loop μ-loop
@@ -59,7 +60,7 @@ closed-requires c κs = search needs
 returns-2 : tie.Need-returns-2 Inv-loop μ-loop
 returns-2 c = λ n. rw (c .closed .ensures)
     (going-closed (now (c .before .before .before .before .before .before .before .before .before .before .before .before .before .before .args .card)) (c .before .before .before .before .before .before .before .before .before .before .before .before .before .before .args .top) (c .before .before .before .before .before .before .before .before .before .before .before .before .before .before .args .first) (c .before .before .before .before .before .before .before .before .before .before .before .before .before .before .args .late) (now (c .before .before .before .before .before .before .before .before .before .before .before .before .before .before .args .array)) (c .before .before .before .before .before .before .before .before .before .before .before .before .before .before .args .at) (c .before .before .before .before .before .before .before .before .before .before .before .before .loop .count) (c .before .before .before .before .before .before .before .before .before .before .before .before .loop .total) (c .before .before .before .before .before .before .before .before .before .before .before .before .loop .kept) (c .before .before .before .before .before .before .before .before .before .before .before .before .loop .array) (c .before .before .before .before .before .before .before .before .before .before .before .before .loop .next) (c .before .before .before .before .before .before .before .before .before .before .before .before .loop .inv) (c .before .before .before .before .before .before .before .before .before .before .before .loop-test .taken)
-    (c .before .before .before .before .before .before .before .before .before .branch .result) (c .before .before .before .before .before .before .before .before .before .branch .last .1 .1 .1 .0) (c .before .before .before .before .before .before .before .before .before .branch .ensures) (c .before .before .before .before .before .before .before .if1 .left) (c .before .before .before .before .before .step .result) (next-at (now (c .before .before .before .before .before .before .before .before .before .before .before .before .before .before .args .card)) (c .before .before .before .before .before .before .before .before .before .branch .result .next) (c .before .before .before .before .before .step .result) (c .before .before .before .before .before .step .ensures)) (c .before .if2 .taken) n)
+    (c .before .before .before .before .before .before .before .before .before .branch .result) (c .before .before .before .before .before .before .before .before .before .branch .last .1 .1 .1 .0) (c .before .before .before .before .before .before .before .before .before .branch .ensures) (c .before .before .before .before .before .before .before .if1 .left) (c .before .before .before .before .before .step-further .result) (next-at (now (c .before .before .before .before .before .before .before .before .before .before .before .before .before .before .args .card)) (c .before .before .before .before .before .before .before .before .before .branch .result .next) (c .before .before .before .before .before .step-further .result) (c .before .before .before .before .before .step-further .ensures)) (c .before .if2 .taken) n)
 
 -- src/branches.rt:154:5
 loop-less : tie.Need-loop-less Inv-loop μ-loop
@@ -69,11 +70,11 @@ loop-less c = search needs
 loop-again : tie.Need-loop-again Inv-loop μ-loop
 loop-again c =
     going-more (now (c .before .before .before .before .before .before .before .before .before .before .before .before .before .before .args .card)) (c .before .before .before .before .before .before .before .before .before .before .before .before .before .before .args .top) (c .before .before .before .before .before .before .before .before .before .before .before .before .before .before .args .first) (c .before .before .before .before .before .before .before .before .before .before .before .before .before .before .args .late) (now (c .before .before .before .before .before .before .before .before .before .before .before .before .before .before .args .array)) (c .before .before .before .before .before .before .before .before .before .before .before .before .before .before .args .at) (c .before .before .before .before .before .before .before .before .before .before .before .before .loop .count) (c .before .before .before .before .before .before .before .before .before .before .before .before .loop .total) (c .before .before .before .before .before .before .before .before .before .before .before .before .loop .kept) (c .before .before .before .before .before .before .before .before .before .before .before .before .loop .array) (c .before .before .before .before .before .before .before .before .before .before .before .before .loop .next) (c .before .before .before .before .before .before .before .before .before .before .before .before .loop .inv) (c .before .before .before .before .before .before .before .before .before .before .before .loop-test .taken)
-    (c .before .before .before .before .before .before .before .before .before .branch .result) (c .before .before .before .before .before .before .before .before .before .branch .last .1 .1 .1 .0) (c .before .before .before .before .before .before .before .before .before .branch .ensures) (c .before .before .before .before .before .before .before .if1 .left) (c .before .before .before .before .before .step .result) (next-at (now (c .before .before .before .before .before .before .before .before .before .before .before .before .before .before .args .card)) (c .before .before .before .before .before .before .before .before .before .branch .result .next) (c .before .before .before .before .before .step .result) (c .before .before .before .before .before .step .ensures)) (c .before .if2 .left)
+    (c .before .before .before .before .before .before .before .before .before .branch .result) (c .before .before .before .before .before .before .before .before .before .branch .last .1 .1 .1 .0) (c .before .before .before .before .before .before .before .before .before .branch .ensures) (c .before .before .before .before .before .before .before .if1 .left) (c .before .before .before .before .before .step-further .result) (next-at (now (c .before .before .before .before .before .before .before .before .before .before .before .before .before .before .args .card)) (c .before .before .before .before .before .before .before .before .before .branch .result .next) (c .before .before .before .before .before .step-further .result) (c .before .before .before .before .before .step-further .ensures)) (c .before .if2 .left)
 
 -- src/branches.rt:172:9
-step-requires-2 : tie.Need-step-requires-2 Inv-loop μ-loop
-step-requires-2 c κs = search needs
+step-requires : tie.Need-step-requires Inv-loop μ-loop
+step-requires c κs = search needs
 
 -- src/branches.rt:173:5
 past-requires : tie.Need-past-requires Inv-loop μ-loop
@@ -83,7 +84,7 @@ past-requires c κs = search needs
 returns-3 : tie.Need-returns-3 Inv-loop μ-loop
 returns-3 c = λ n. rw (c .past .ensures)
     (going-past (now (c .before .before .before .before .before .args .card)) (c .before .before .before .before .before .args .top) (c .before .before .before .before .before .args .first) (c .before .before .before .before .before .args .late) (now (c .before .before .before .before .before .args .array)) (c .before .before .before .before .before .args .at) (c .before .before .before .loop .count) (c .before .before .before .loop .total) (c .before .before .before .loop .kept) (c .before .before .before .loop .array) (c .before .before .before .loop .next) (c .before .before .before .loop .inv) (c .before .before .loop-test .left)
-    (c .before .step2 .result) (next-at (now (c .before .before .before .before .before .args .card)) (c .before .before .before .loop .next) (c .before .step2 .result) (c .before .step2 .ensures)) n)
+    (c .before .step .result) (next-at (now (c .before .before .before .before .before .args .card)) (c .before .before .before .loop .next) (c .before .step .result) (c .before .step .ensures)) n)
 
 pub branches-spec : {M : Type 1} → statement M
 branches-spec =
@@ -97,11 +98,11 @@ branches-spec =
     returns
     add-count
     add-total
-    step-requires
+    step-further-requires
     closed-requires
     returns-2
     loop-less
     loop-again
-    step-requires-2
+    step-requires
     past-requires
     returns-3)

@@ -11,6 +11,7 @@ use Rattle.card.proofs.weight.Weight.decimal.Reads as decimal-reads
 use Rattle.card.proofs.weight.Weight.ratio.Reads as ratio-reads
 use Rattle.card.proofs.weight.Weight.whole.Reads as whole-reads
 use Rattle.marks.proofs.Cursor.step.Reads as step-reads
+use Rattle.marks.proofs.due.step_slash.Reads as step-slash-reads
 use Rattle.reader.proofs.branches.weighed.Reads as weighed-reads
 use Rattle.reader.proofs.parts.stopped.Reads as stopped-reads
 
@@ -43,8 +44,8 @@ returns-2 c = λ k n.
     rw (c .stopped .ensures) (weight-misses s k (c .before .before .before .before .before .before .before .before .before .args .at) (c .before .before .before .before .before .before .before .before .before .args .late) (c .before .before .before .before .before .before .before .step .result) (next-at s (c .before .before .before .before .before .before .before .before .before .args .at) (c .before .before .before .before .before .before .before .step .result) (c .before .before .before .before .before .before .before .step .ensures)) n (c .before .before .before .if1 .left) (c .before .if2 .taken))
 
 -- src/branches.rt:67:9
-step-requires-2 : tie.Need-step-requires-2
-step-requires-2 c κs = search needs
+step-slash-requires : tie.Need-step-slash-requires
+step-slash-requires c κs = search needs
 
 -- src/branches.rt:71:13
 whole-requires : tie.Need-whole-requires
@@ -60,11 +61,11 @@ returns-3 c = λ k n.
     let s = now (c .before .before .before .before .before .before .before .before .before .before .before .before .before .before .before .args .card) in
     rw (c .weighed2 .ensures (unitsOf cardRule (whole (c .before .before .before .before .before .before .before .before .before .before .before .before .before .step .result .mark .value))) (c .before .whole .ensures))
     (whole-fits s k (c .before .before .before .before .before .before .before .before .before .before .before .before .before .before .before .args .at) (c .before .before .before .before .before .before .before .before .before .before .before .before .before .before .before .args .late) (c .before .before .before .before .before .before .before .before .before .before .before .before .before .step .result) (next-at s (c .before .before .before .before .before .before .before .before .before .before .before .before .before .before .before .args .at) (c .before .before .before .before .before .before .before .before .before .before .before .before .before .step .result) (c .before .before .before .before .before .before .before .before .before .before .before .before .before .step .ensures)) n (c .before .before .before .before .before .before .before .if2 .left)
-    (c .before .before .before .before .before .before .step2 .result) (next-at s (c .before .before .before .before .before .before .before .before .before .before .before .before .before .step .result .next .at) (c .before .before .before .before .before .before .step2 .result) (c .before .before .before .before .before .before .step2 .ensures)) (c .before .before .if3 .taken))
+    (c .before .before .before .before .before .before .step-slash .result) (next-at s (c .before .before .before .before .before .before .before .before .before .before .before .before .before .step .result .next .at) (c .before .before .before .before .before .before .step-slash .result) (c .before .before .before .before .before .before .step-slash .ensures)) (c .before .before .if3 .taken))
 
 -- src/branches.rt:74:9
-step-requires-3 : tie.Need-step-requires-3
-step-requires-3 c κs = search needs
+step-requires-2 : tie.Need-step-requires-2
+step-requires-2 c κs = search needs
 
 -- src/branches.rt:78:9
 stopped-requires-2 : tie.Need-stopped-requires-2
@@ -76,8 +77,8 @@ returns-4 c = λ k n.
     let s = now (c .before .before .before .before .before .before .before .before .before .before .before .before .before .before .before .before .before .before .before .args .card) in
     rw (c .stopped2 .ensures)
     (ratio-misses s k (c .before .before .before .before .before .before .before .before .before .before .before .before .before .before .before .before .before .before .before .args .at) (c .before .before .before .before .before .before .before .before .before .before .before .before .before .before .before .before .before .before .before .args .late) (c .before .before .before .before .before .before .before .before .before .before .before .before .before .before .before .before .before .step .result) (next-at s (c .before .before .before .before .before .before .before .before .before .before .before .before .before .before .before .before .before .before .before .args .at) (c .before .before .before .before .before .before .before .before .before .before .before .before .before .before .before .before .before .step .result) (c .before .before .before .before .before .before .before .before .before .before .before .before .before .before .before .before .before .step .ensures)) n (c .before .before .before .before .before .before .before .before .before .before .before .if2 .left)
-    (c .before .before .before .before .before .before .before .before .before .before .step2 .result) (next-at s (c .before .before .before .before .before .before .before .before .before .before .before .before .before .before .before .before .before .step .result .next .at) (c .before .before .before .before .before .before .before .before .before .before .step2 .result) (c .before .before .before .before .before .before .before .before .before .before .step2 .ensures)) (c .before .before .before .before .before .before .if3 .left)
-    (c .before .before .before .before .before .step3 .result) (next-at s (c .before .before .before .before .before .before .before .before .before .before .step2 .result .next .at) (c .before .before .before .before .before .step3 .result) (c .before .before .before .before .before .step3 .ensures)) (c .before .if4 .taken))
+    (c .before .before .before .before .before .before .before .before .before .before .step-slash .result) (next-at s (c .before .before .before .before .before .before .before .before .before .before .before .before .before .before .before .before .before .step .result .next .at) (c .before .before .before .before .before .before .before .before .before .before .step-slash .result) (c .before .before .before .before .before .before .before .before .before .before .step-slash .ensures)) (c .before .before .before .before .before .before .if3 .left)
+    (c .before .before .before .before .before .step2 .result) (next-at s (c .before .before .before .before .before .before .before .before .before .before .step-slash .result .next .at) (c .before .before .before .before .before .step2 .result) (c .before .before .before .before .before .step2 .ensures)) (c .before .if4 .taken))
 
 -- src/branches.rt:80:9
 ratio-requires : tie.Need-ratio-requires
@@ -91,10 +92,10 @@ weighed-requires-3 c κs = search needs
 returns-5 : tie.Need-returns-5
 returns-5 c = λ k n.
     let s = now (c .before .before .before .before .before .before .before .before .before .before .before .before .before .before .before .before .before .before .before .before .args .card) in
-    rw (c .weighed3 .ensures (unitsOf cardRule (ratio (c .before .before .before .before .before .before .before .before .before .before .before .before .before .before .before .before .before .before .step .result .mark .value) (c .before .before .before .before .before .before .step3 .result .mark .value))) (c .before .ratio .ensures))
+    rw (c .weighed3 .ensures (unitsOf cardRule (ratio (c .before .before .before .before .before .before .before .before .before .before .before .before .before .before .before .before .before .before .step .result .mark .value) (c .before .before .before .before .before .before .step2 .result .mark .value))) (c .before .ratio .ensures))
     (ratio-fits s k (c .before .before .before .before .before .before .before .before .before .before .before .before .before .before .before .before .before .before .before .before .args .at) (c .before .before .before .before .before .before .before .before .before .before .before .before .before .before .before .before .before .before .before .before .args .late) (c .before .before .before .before .before .before .before .before .before .before .before .before .before .before .before .before .before .before .step .result) (next-at s (c .before .before .before .before .before .before .before .before .before .before .before .before .before .before .before .before .before .before .before .before .args .at) (c .before .before .before .before .before .before .before .before .before .before .before .before .before .before .before .before .before .before .step .result) (c .before .before .before .before .before .before .before .before .before .before .before .before .before .before .before .before .before .before .step .ensures)) n (c .before .before .before .before .before .before .before .before .before .before .before .before .if2 .left)
-    (c .before .before .before .before .before .before .before .before .before .before .before .step2 .result) (next-at s (c .before .before .before .before .before .before .before .before .before .before .before .before .before .before .before .before .before .before .step .result .next .at) (c .before .before .before .before .before .before .before .before .before .before .before .step2 .result) (c .before .before .before .before .before .before .before .before .before .before .before .step2 .ensures)) (c .before .before .before .before .before .before .before .if3 .left)
-    (c .before .before .before .before .before .before .step3 .result) (next-at s (c .before .before .before .before .before .before .before .before .before .before .before .step2 .result .next .at) (c .before .before .before .before .before .before .step3 .result) (c .before .before .before .before .before .before .step3 .ensures)) (c .before .before .if4 .left))
+    (c .before .before .before .before .before .before .before .before .before .before .before .step-slash .result) (next-at s (c .before .before .before .before .before .before .before .before .before .before .before .before .before .before .before .before .before .before .step .result .next .at) (c .before .before .before .before .before .before .before .before .before .before .before .step-slash .result) (c .before .before .before .before .before .before .before .before .before .before .before .step-slash .ensures)) (c .before .before .before .before .before .before .before .if3 .left)
+    (c .before .before .before .before .before .before .step2 .result) (next-at s (c .before .before .before .before .before .before .before .before .before .before .before .step-slash .result .next .at) (c .before .before .before .before .before .before .step2 .result) (c .before .before .before .before .before .before .step2 .ensures)) (c .before .before .if4 .left))
 
 pub weight-spec : {M : Type 1} → statement M
 weight-spec =
@@ -106,11 +107,11 @@ weight-spec =
     returns
     stopped-requires
     returns-2
-    step-requires-2
+    step-slash-requires
     whole-requires
     weighed-requires-2
     returns-3
-    step-requires-3
+    step-requires-2
     stopped-requires-2
     returns-4
     ratio-requires

@@ -1,19 +1,20 @@
-use Rattle.reader.proofs.Lines.{Left, run-end-at, run-stops-at, run-more-at}
-use Rattle.reader.proofs.Steps.{next-at}
-use Rattle.reader.specs.Parts.{from, Due, Sure, kindsIn, numbersIn, itemsIn, duesIn, LineRead}
-use Rattle.reading.specs.Reader.{line}
-use lib.ListN.{length, drop}
+-- Invariant: an answer to what is left of the run answers the whole (Left).
 use borrow.Author.Needs.{needs}
-use native.Mathlib.Omega.{arith}
-use mathlib.Core.List.{List}
-use mathlib.Core.Path.{_≡_}
-use Prim.Native.Nat.{ℕ, _≤_, _-_}
 use denote.Ref.{now}
+use Prim.Native.Nat.{ℕ, _≤_, _-_}
+use mathlib.Core.Path.{_≡_}
+use mathlib.Core.List.{List}
+use native.Mathlib.Omega.{arith}
+use lib.ListN.{length, drop}
+use Rattle.reading.specs.Reader.{line}
+use Rattle.reader.specs.Parts.{from, Due, Sure, kindsIn, numbersIn, itemsIn, duesIn, LineRead}
+use Rattle.reader.proofs.Steps.{next-at}
+use Rattle.reader.proofs.Lines.{Left, run-end-at, run-stops-at, run-more-at}
 use Rattle.reader.proofs.parts.run.Statement.{statement}
 use Rattle.reader.proofs.parts.run.Tie as tie
 use Rattle.reader.proofs.parts.run.Reads as reads
 use Rattle.reader.proofs.parts.run.Lts as lts
-use Rattle.marks.proofs.Cursor.step.Reads as step-reads
+use Rattle.marks.proofs.due.step_kind.Reads as step-kind-reads
 use Rattle.reader.proofs.parts.judge_word.Reads as judge-word-reads
 use Rattle.reader.proofs.parts.passed.Reads as passed-reads
 use Rattle.reader.proofs.parts.stopped.Reads as stopped-reads
@@ -24,66 +25,66 @@ Inv-loop card at kinds dues next₀ kept₀ i₀ next kept i = (i ≤ length kin
 abbrev μ-loop : tie.MeasureT-loop
 μ-loop card at kinds dues next₀ kept₀ i₀ next kept i = length kinds - i
 
--- src/parts.rt:94:5
+-- src/parts.rt:106:5
 loop-holds : tie.Need-loop-holds Inv-loop μ-loop
 loop-holds c = (omega arith, λ run h e f k n. record { rest = run; sure = h; kinds-left = e; dues-left = f; answered = λ r y. y })
 
--- src/parts.rt:96:13
-step-requires : tie.Need-step-requires Inv-loop μ-loop
-step-requires c κs = search needs
+-- src/parts.rt:107:20
+mul-kind : tie.Need-mul-kind Inv-loop μ-loop
+mul-kind c = search needs
 
--- src/parts.rt:98:25
-mul-if1 : tie.Need-mul-if1 Inv-loop μ-loop
-mul-if1 c = search needs
+-- src/parts.rt:107:20
+shared-slice-read-kind : tie.Need-shared-slice-read-kind Inv-loop μ-loop
+shared-slice-read-kind c = search needs
 
--- src/parts.rt:98:25
-shared-slice-read-if1 : tie.Need-shared-slice-read-if1 Inv-loop μ-loop
-shared-slice-read-if1 c = search needs
+-- src/parts.rt:108:13
+step-kind-requires : tie.Need-step-kind-requires Inv-loop μ-loop
+step-kind-requires c κs = search needs
 
--- src/parts.rt:99:13
+-- src/parts.rt:111:13
 stopped-requires : tie.Need-stopped-requires Inv-loop μ-loop
 stopped-requires c κs = search needs
 
--- src/parts.rt:99:13
+-- src/parts.rt:111:13
 returns : tie.Need-returns Inv-loop μ-loop
 returns c = λ run h e f k n. rw (c .stopped .ensures)
     (run-stops-at (now (c .before .before .before .before .before .before .before .before .before .before .before .args .card)) k n (c .before .before .before .before .before .before .before .loop .next) (c .before .before .before .before .before .before .before .loop .kept) _ (now (c .before .before .before .before .before .before .before .before .before .before .before .args .kinds)) (now (c .before .before .before .before .before .before .before .before .before .before .before .args .dues)) (c .before .before .before .before .before .before .before .loop .i) (c .before .before .before .before .before .before .loop-test .taken)
-    (c .before .before .before .before .before .step .result) (next-at (now (c .before .before .before .before .before .before .before .before .before .before .before .args .card)) (c .before .before .before .before .before .before .before .loop .next) (c .before .before .before .before .before .step .result) (c .before .before .before .before .before .step .ensures)) (c .before .before .before .before .before .before .before .loop .inv .1 run h e f k n) (c .before .if1 .taken))
+    (c .before .before .before .before .step-kind .result) (next-at (now (c .before .before .before .before .before .before .before .before .before .before .before .args .card)) (c .before .before .before .before .before .before .before .loop .next) (c .before .before .before .before .step-kind .result) (c .before .before .before .before .step-kind .ensures)) (c .before .before .before .before .before .before .before .loop .inv .1 run h e f k n) (c .before .if1 .taken))
 
--- src/parts.rt:101:27
+-- src/parts.rt:113:27
 mul-judge-word : tie.Need-mul-judge-word Inv-loop μ-loop
 mul-judge-word c = search needs
 
--- src/parts.rt:101:27
+-- src/parts.rt:113:27
 shared-slice-read-judge-word : tie.Need-shared-slice-read-judge-word Inv-loop μ-loop
 shared-slice-read-judge-word c = search needs
 
--- src/parts.rt:101:9
+-- src/parts.rt:113:9
 judge-word-requires : tie.Need-judge-word-requires Inv-loop μ-loop
 judge-word-requires c κs = search needs
 
--- src/parts.rt:104:9
+-- src/parts.rt:116:9
 add-i : tie.Need-add-i Inv-loop μ-loop
 add-i c = search needs
 
--- src/parts.rt:94:5
+-- src/parts.rt:106:5
 loop-less : tie.Need-loop-less Inv-loop μ-loop
 loop-less c = search needs
 
--- src/parts.rt:94:5
+-- src/parts.rt:106:5
 loop-again : tie.Need-loop-again Inv-loop μ-loop
 loop-again c = (
   omega arith,
   λ run h e f k n. rw (c .before .judge-word .ensures)
       (run-more-at (now (c .before .before .before .before .before .before .before .before .before .before .before .before .before .args .card)) k n (c .before .before .before .before .before .before .before .before .before .loop .next) (c .before .before .before .before .before .before .before .before .before .loop .kept) _ (now (c .before .before .before .before .before .before .before .before .before .before .before .before .before .args .kinds)) (now (c .before .before .before .before .before .before .before .before .before .before .before .before .before .args .dues)) (c .before .before .before .before .before .before .before .before .before .loop .i) (c .before .before .before .before .before .before .before .before .loop-test .taken)
-      (c .before .before .before .before .before .before .before .step .result) (next-at (now (c .before .before .before .before .before .before .before .before .before .before .before .before .before .args .card)) (c .before .before .before .before .before .before .before .before .before .loop .next) (c .before .before .before .before .before .before .before .step .result) (c .before .before .before .before .before .before .before .step .ensures)) (omega (arith, c .before .before .before .before .before .before .before .before .before .before .before .before .before .pre)) (c .before .before .before .before .before .before .before .before .before .loop .inv .1 run h e f k n) (c .before .before .before .if1 .left)),
+      (c .before .before .before .before .before .before .step-kind .result) (next-at (now (c .before .before .before .before .before .before .before .before .before .before .before .before .before .args .card)) (c .before .before .before .before .before .before .before .before .before .loop .next) (c .before .before .before .before .before .before .step-kind .result) (c .before .before .before .before .before .before .step-kind .ensures)) (omega (arith, c .before .before .before .before .before .before .before .before .before .before .before .before .before .pre)) (c .before .before .before .before .before .before .before .before .before .loop .inv .1 run h e f k n) (c .before .before .before .if1 .left)),
 )
 
--- src/parts.rt:106:5
+-- src/parts.rt:118:5
 passed-requires : tie.Need-passed-requires Inv-loop μ-loop
 passed-requires c κs = search needs
 
--- src/parts.rt:87:1
+-- src/parts.rt:99:1
 returns-2 : tie.Need-returns-2 Inv-loop μ-loop
 returns-2 c = λ run h e f k n. rw (c .passed .ensures)
     (run-end-at (now (c .before .before .before .before .before .before .args .card)) k n (c .before .before .loop .next) (c .before .before .loop .kept) _ (now (c .before .before .before .before .before .before .args .kinds)) (now (c .before .before .before .before .before .before .args .dues)) (c .before .before .loop .i) (c .before .loop-test .left) (c .before .before .loop .inv .1 run h e f k n))
@@ -95,9 +96,9 @@ run-spec =
     Inv-loop
     μ-loop
     loop-holds
-    step-requires
-    mul-if1
-    shared-slice-read-if1
+    mul-kind
+    shared-slice-read-kind
+    step-kind-requires
     stopped-requires
     returns
     mul-judge-word

@@ -1,0 +1,93 @@
+-- What stands between a branch's weight and its state, where its bytes stand right there: each byte says what the step finds at its
+-- place, and the run is passed mark by mark.
+use Prim.Native.Nat.{ℕ, _+_, _≤_, _<_}
+use mathlib.Core.Path.{_≡_, refl, sym, ap, _∙_}
+use mathlib.Core.Bool.{Bool, true, false, _&&_}
+use mathlib.Core.List.{List, [], _∷_}
+use native.Mathlib.Decide.{decLt}
+use native.Mathlib.Omega.{arith}
+use lib.Dec.{eqb}
+use borrow.Author.Tests.{eqb-true}
+use lib.ListN.{length, getD, drop, drop-of-length-le}
+use Rattle.card.specs.Text.{bytes}
+use Rattle.marks.specs.Marks.{isDigit, inWord, begins}
+use Rattle.marks.specs.Kinds.{kSeat, kind}
+use Rattle.marks.specs.Step.{stepAt}
+use Rattle.marks.specs.Parts.{bareOf, valuedOf, isAlone, begun}
+use Rattle.marks.specs.Quick.{signAhead, seatAhead}
+use Rattle.marks.proofs.Lists.{cases, not-both, drop-at}
+use Rattle.marks.proofs.Runs.{begins-at}
+use Rattle.marks.proofs.Quick.{sign-at, sign-step, seat-at, seat-step}
+use Rattle.guard.specs.declared.Late.{Late}
+use Rattle.reader.specs.Parts.{Due, Sure, kindsIn, numbersIn, tookTo}
+use Rattle.reader.specs.Branches.{updateKinds, updateNumbers, UpdateFrom}
+use Rattle.reader.proofs.Steps.{next-at}
+use Rattle.reader.proofs.Lines.{Left, run-end, run-more}
+
+-- the first of some bytes, and the others behind it
+record Front (b : ℕ) (t s : List ℕ) (i : ℕ) : Type 0 where
+  place : i < length s
+  byte : getD s i 0 ≡ b
+  others : begun t (drop (i + 1) s) ≡ true
+
+front : (b : ℕ) (t s : List ℕ) (i : ℕ) → begun (b ∷ t) (drop i s) ≡ true → Front b t s i
+front b t s i e = go (decLt i (length s))
+  where
+    there : i < length s → Front b t s i
+    there h =
+        let f : begun (b ∷ t) (getD s i 0 ∷ drop (i + 1) s) ≡ true = rw (drop-at s i h) at e in
+        cases (eqb b (getD s i 0))
+        (λ y. record { place = h; byte = sym (eqb-true b (getD s i 0) y); others = rw y at f })
+        (λ n. not-both false (rw n at f) refl)
+
+    go : Dec (i < length s) → Front b t s i
+    go (yes h) = there h
+    go (no h) = let l : length s ≤ i = omega arith in not-both (begun (b ∷ t) (drop i s)) e (ap (begun (b ∷ t)) (drop-of-length-le s l))
+
+-- a sign by its byte
+sign-by : (s : List ℕ) (b i j : ℕ) → j ≡ i + 1 → isAlone b ≡ true → eqb b b ≡ true → i < length s → getD s i 0 ≡ b → stepAt s i ≡ bareOf b i j
+sign-by s b i j to y r h e = rw to (sign-step s i b (sign-at b s i h ∙ rw (e, r, y)))
+
+module _ (s : List ℕ) (i : ℕ) (e : begun (bytes ":(s1'=") (drop i s) ≡ true) where
+  at-colon : Front 58 (bytes "(s1'=") s i
+  at-colon = front 58 (bytes "(s1'=") s i e
+
+  at-open : Front 40 (bytes "s1'=") s (i + 1)
+  at-open = front 40 (bytes "s1'=") s (i + 1) (at-colon .others)
+
+  at-word : Front 115 (bytes "1'=") s (i + 1 + 1)
+  at-word = front 115 (bytes "1'=") s (i + 1 + 1) (at-open .others)
+
+  at-digit : Front 49 (bytes "'=") s (i + 1 + 1 + 1)
+  at-digit = front 49 (bytes "'=") s (i + 1 + 1 + 1) (at-word .others)
+
+  at-prime : Front 39 (bytes "=") s (i + 1 + 1 + 1 + 1)
+  at-prime = front 39 (bytes "=") s (i + 1 + 1 + 1 + 1) (at-digit .others)
+
+  at-equal : Front 61 [] s (i + 1 + 1 + 1 + 1 + 1)
+  at-equal = front 61 [] s (i + 1 + 1 + 1 + 1 + 1) (at-prime .others)
+
+  pub update-place : i + 5 < length s
+  update-place = omega (arith, at-equal .place)
+
+  word-step : stepAt s (i + 1 + 1) ≡ valuedOf kSeat 1 (i + 1 + 1) (i + 1 + 1 + 1 + 1)
+  word-step =
+      let d : begins isDigit (drop (i + 1 + 1 + 1) s) ≡ true = begins-at isDigit s (i + 1 + 1 + 1) (at-digit .place) ∙ rw (at-digit .byte) in
+      let w : begins inWord (drop (i + 1 + 1 + 1 + 1) s) ≡ false = begins-at inWord s (i + 1 + 1 + 1 + 1) (at-prime .place) ∙ rw (at-prime .byte) in
+      let v : seatAhead (drop (i + 1 + 1) s) ≡ 1 = seat-at s (i + 1 + 1) (at-word .place) ∙ rw (at-word .byte, d, w, at-digit .byte) in
+      let to : i + 1 + 1 + 1 + 1 ≡ i + 1 + 1 + 2 = omega arith in
+      rw to (seat-step s (i + 1 + 1) 1 (sym v) (omega arith))
+
+  pub update-passed : (late : Late) → UpdateFrom s i late (tookTo (i + 6) 0 late)
+  update-passed late run h kinds dues k n =
+      let to : i + 1 + 1 + 1 + 1 + 1 + 1 ≡ i + 6 = omega arith in
+      let p2 = i + 1 + 1 in
+      let p4 = i + 1 + 1 + 1 + 1 in
+      let p5 = i + 1 + 1 + 1 + 1 + 1 in
+      run-end s k n (i + 6) late _ []
+      (run-more s k n p5 late (bareOf 61 p5 (i + 6)) (next-at s p5 (bareOf 61 p5 (i + 6)) (sym (sign-by s 61 p5 (i + 6) (sym to) refl refl (at-equal .place) (at-equal .byte)))) _ (kind "=") [] 0 []
+      (run-more s k n p4 late (bareOf 39 p4 p5) (next-at s p4 (bareOf 39 p4 p5) (sym (sign-by s 39 p4 p5 refl refl refl (at-prime .place) (at-prime .byte)))) _ (kind "'") (kind "=" ∷ []) 0 (0 ∷ [])
+      (run-more s k n p2 late (valuedOf kSeat 1 p2 p4) (next-at s p2 (valuedOf kSeat 1 p2 p4) (sym word-step)) _ kSeat (kind "'" ∷ kind "=" ∷ []) 1 (0 ∷ 0 ∷ [])
+      (run-more s k n (i + 1) late (bareOf 40 (i + 1) p2) (next-at s (i + 1) (bareOf 40 (i + 1) p2) (sym (sign-by s 40 (i + 1) p2 refl refl refl (at-open .place) (at-open .byte)))) _ (kind "(") (kSeat ∷ kind "'" ∷ kind "=" ∷ []) 0 (1 ∷ 0 ∷ 0 ∷ [])
+      (run-more s k n i late (bareOf 58 i (i + 1)) (next-at s i (bareOf 58 i (i + 1)) (sym (sign-by s 58 i (i + 1) refl refl refl (at-colon .place) (at-colon .byte)))) _ (kind ":") (kind "(" ∷ kSeat ∷ kind "'" ∷ kind "=" ∷ []) 0 (0 ∷ 1 ∷ 0 ∷ 0 ∷ [])
+      (record { rest = run; sure = h; kinds-left = kinds; dues-left = dues; answered = λ r y. y }) refl) refl) refl) refl) refl)
