@@ -3,11 +3,13 @@
 use Prim.Native.Nat.{ℕ, zero, suc, _+_, _-_, _≤_, _<_}
 use Prim.Native.String.{String}
 use mathlib.Core.Path.{_≡_, refl, sym, ap, _∙_}
-use mathlib.Core.Bool.{Bool, true, false}
+use mathlib.Core.Bool.{Bool, true, false, _&&_}
 use mathlib.Core.List.{List}
 use native.Mathlib.Numerals.{sub-one}
 use native.Mathlib.Omega.{arith}
-use lib.ListN.{length}
+use borrow.Author.Tests.{eqb-true}
+use lib.Dec.{eqb}
+use lib.ListN.{length, drop}
 use Rattle.card.specs.Limits.{nodePlaces, mostNodes}
 use Rattle.card.specs.Refusals.{pastLimit}
 use Rattle.card.specs.Text.{if_then_else_}
@@ -17,14 +19,18 @@ use Rattle.card.proofs.Storing.{size-below}
 use Rattle.marks.specs.Marks.{placeOf}
 use Rattle.marks.specs.Kinds.{kind}
 use Rattle.marks.specs.Step.{stepAt, marksAt}
+use Rattle.marks.specs.Parts.{bareOf}
+use Rattle.marks.specs.Quick.{signAhead}
 use Rattle.marks.specs.declared.Step.{Step}
+use Rattle.marks.proofs.Lists.{and-left, and-right}
+use Rattle.marks.proofs.Quick.{sign-step}
 use Rattle.reading.specs.Reader.{Place, State, at, Result, ok, stop, Reader, bind, _>>=_, _>>_, return, nextIs, sign, spend}
 use Rattle.reading.specs.Guard.{chain, conjunction, expression, unary}
 use Rattle.reading.specs.Group.{Literals, group}
 use Rattle.guard.specs.declared.Late.{Late}
 use Rattle.guard.specs.declared.Guarded.{Guarded}
 use Rattle.guard.specs.GuardRead.{stopped, Read, GuardRead}
-use Rattle.guard.specs.Pieces.{joinOf, joiner, operandOf, chained, Refusing, Onward, Joined}
+use Rattle.guard.specs.Pieces.{joinOf, joiner, operandOf, chained, closedRight, Refusing, Onward, Joined}
 use Rattle.guard.proofs.Signs.{Known}
 use Rattle.guard.proofs.Spent.{Each, Spent, Spends, unary-spends, conjunction-spends}
 use Rattle.guard.proofs.Building.{goes-wrong, went-well, read-as, root-next}
@@ -194,6 +200,18 @@ module _ (s : List ℕ) (k : ℕ) (mid : List ℕ) (depth : ℕ) (a : Bool) (fir
                 });
           }
 
+-- a bracket right behind what was read joins nothing to it
+no-joint : (a : Bool) → kind ")" ≡ kind (joiner a) → ⊥
+no-joint false e = let z : _≡_ {A = ℕ} 41 38 = e in omega arith
+no-joint true e = let z : _≡_ {A = ℕ} 41 124 = e in omega arith
+
+chain-none : (s : List ℕ) (k : ℕ) (now : List ℕ) (depth : ℕ) (a : Bool) (g : Guarded) → closedRight s g ≡ true → g .root + g .left < nodePlaces → g .left ≤ mostNodes → Onward s k now now g (chained a depth) g
+chain-none s k now depth a g closes fits most =
+    let there : signAhead (kind ")") (drop (g .next) s) ≡ true = and-right (eqb (g .stop) 0) (signAhead (kind ")") (drop (g .next) s)) closes in
+    chain-done s k now depth a g now g (chain-begins s k now depth a g fits most)
+    (eqb-true (g .stop) 0 (and-left (eqb (g .stop) 0) (signAhead (kind ")") (drop (g .next) s)) closes))
+    (bareOf (kind ")") (g .next) (g .next + 1)) (sym (sign-step s (g .next) (kind ")") there)) (kind (joiner a)) refl (no-joint a)
+
 -- ---- what the code's calls ask
 
 pub three : (b : Bool) → b ≡ true → _≡_ {A = ℕ} (if b then 3 else 0) 3
@@ -219,3 +237,15 @@ module _ (s : List ℕ) (k : ℕ) (was is : List ℕ) (used : ℕ) (before : Lat
     conjunction-chained d onward =
         onward was used before (conjunction (unary group depth) (at (marksAt 0 s i) n))
         (each-refusing (Spent n) (conjunction (unary group depth) (at (marksAt 0 s i) n)) (conjunction-spends (unary group depth) (unary-spends depth) (at (marksAt 0 s i) n))) d
+
+  -- and none where a bracket is right behind it
+  module _ (closes : closedRight s r ≡ true) (l : used + n ≤ nodePlaces) (m : n ≤ mostNodes) where
+    pub unary-alone : GuardRead s k was is used before (unary group depth (at (marksAt 0 s i) n)) r → GuardRead s k was is used before (conjunction (unary group depth) (at (marksAt 0 s i) n)) r
+    unary-alone d =
+        let q : Room nodePlaces n r = unary-room d nodePlaces (omega arith) l in
+        unary-chained is r d (chain-none s k is depth false r closes (q .fits) (omega (arith, q .less, m)))
+
+    pub conjunction-alone : GuardRead s k was is used before (conjunction (unary group depth) (at (marksAt 0 s i) n)) r → GuardRead s k was is used before (expression (unary group depth) (at (marksAt 0 s i) n)) r
+    conjunction-alone d =
+        let q : Room nodePlaces n r = conjunction-room d nodePlaces (omega arith) l in
+        conjunction-chained is r d (chain-none s k is depth true r closes (q .fits) (omega (arith, q .less, m)))

@@ -2,14 +2,17 @@
 use Prim.Native.Nat.{ℕ, zero, suc, _+_, _≤_}
 use Prim.Native.String.{String}
 use mathlib.Core.Path.{_≡_}
-use mathlib.Core.Bool.{Bool, true, false}
+use mathlib.Core.Bool.{Bool, true, false, _&&_}
 use mathlib.Core.List.{List, _∷_}
+use lib.Dec.{eqb}
 use lib.ListN.{length, drop}
 use Rattle.card.specs.Limits.{mostNodes}
 use Rattle.card.specs.Refusals.{pastLimit}
 use Rattle.card.specs.Card.{Formula, neg, and, or}
 use Rattle.card.specs.Laid.{opAnd, opOr}
 use Rattle.marks.specs.Marks.{placed, seat, placeOf}
+use Rattle.marks.specs.Kinds.{kind}
+use Rattle.marks.specs.Quick.{signAhead}
 use Rattle.marks.specs.Step.{marksAt}
 use Rattle.reading.specs.Reader.{Place, State, at as from, Result, ok, stop, Reader, bind, _>>=_, _>>_, return, refuseAt, sign}
 use Rattle.reading.specs.Guard.{ifSeat, chain, conjunction, expression, grouped, unary}
@@ -46,6 +49,10 @@ thenNot g = return (neg g)
 
 abbrev pub thenClose : Formula Literals → Reader (Formula Literals)
 thenClose g = sign ")" >> return g
+
+-- a guard was read, and a bracket is right behind it
+abbrev pub closedRight : List ℕ → Guarded → Bool
+closedRight s g = eqb (g .stop) 0 && signAhead (kind ")") (drop (g .next) s)
 
 -- ---- going on
 

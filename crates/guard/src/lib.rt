@@ -4,11 +4,11 @@ pub mod refusals;
 
 use card::limits::NODE_PLACES;
 use card::node;
-use marks::due::step_closing;
 use marks::due::step_inner;
 use marks::due::step_opening;
 use marks::due::step_sign;
 use marks::kinds;
+use marks::look::sign_here;
 use refusals::ABOVE_TOP;
 use refusals::NOT_DUE;
 use refusals::OUT_OF_SHAPE;
@@ -30,7 +30,7 @@ ghost use Rattle.reading.specs.Judgements.{unless};
 ghost use Rattle.guard.specs.Late.{noneYet, blame as blameAt, blamed, wants as wantsAt, grouped as groupedAt};
 ghost use Rattle.guard.specs.Settled.{settled};
 ghost use Rattle.guard.specs.GuardRead.{stopped as stoppedAt, GuardRead};
-ghost use Rattle.guard.specs.Pieces.{operatorOf, joiner, operandOf, chained, thenNot, thenClose, Onward, Joined, GroupedAt, Bracketed};
+ghost use Rattle.guard.specs.Pieces.{operatorOf, joiner, operandOf, chained, thenNot, thenClose, closedRight, Onward, Joined, GroupedAt, Bracketed};
 
 // The first refusal of 5, 6 and 7 so far (number 0: none); how many seats the first group before it wants (0: no group yet) and
 // its bracket; whether a later group wants another number, and the first such group's bracket.
@@ -413,7 +413,7 @@ fn chain(
     let mut g = first;
     let kind = joint(any);
     while g.stop == 0 {
-        let s = step_closing(card, g.next, kind);
+        let s = step_sign(card, g.next, kind);
         if s.mark.kind != kind {
             return g;
         }
@@ -446,6 +446,16 @@ fn joint(any: bool) -> usize
     kinds::AND
 }
 
+// Is a `)` right behind what was read? Then no chain goes on from it.
+fn is_closed(card: &[u8], g: Guarded) -> bool
+    ensures { λ r. ⌜ r ≡ closedRight (now (card .entry)) g ⌝ }
+{
+    if g.stop != 0 {
+        return false;
+    }
+    sign_here(card, g.next, kinds::ROUND_CLOSE)
+}
+
 pub fn conjunction(
     card: &[u8],
     at: usize,
@@ -460,6 +470,9 @@ pub fn conjunction(
     ensures { λ r. ⌜ GuardRead (now (card .entry)) top (now (nodes .entry)) (now (nodes .exit)) used late (conjunctionOf (unaryOf groupOf depth) (from (marksAt 0 (now (card .entry)) at) left)) r ⌝ }
 {
     let first = unary(card, at, nodes, used, left, depth, top, late);
+    if is_closed(card, first) {
+        return first;
+    }
     chain(card, nodes, first, depth, top, false)
 }
 
@@ -477,5 +490,8 @@ pub fn expression(
     ensures { λ r. ⌜ GuardRead (now (card .entry)) top (now (nodes .entry)) (now (nodes .exit)) used late (expressionOf (unaryOf groupOf depth) (from (marksAt 0 (now (card .entry)) at) left)) r ⌝ }
 {
     let first = conjunction(card, at, nodes, used, left, depth, top, late);
+    if is_closed(card, first) {
+        return first;
+    }
     chain(card, nodes, first, depth, top, true)
 }

@@ -10,7 +10,6 @@ use crate::kinds::ARROW;
 use crate::kinds::NOT;
 use crate::kinds::NUMBER;
 use crate::kinds::PLUS;
-use crate::kinds::ROUND_CLOSE;
 use crate::kinds::ROUND_OPEN;
 use crate::kinds::SEAT;
 use crate::kinds::SEMICOLON;
@@ -29,16 +28,6 @@ pub fn step_sign(card: &[u8], at: usize, kind: usize) -> Step
     }
     let cursor = Cursor { at };
     cursor.step(card)
-}
-
-// A `)` or a sign of this kind.
-pub fn step_closing(card: &[u8], at: usize, kind: usize) -> Step
-    ensures { λ r. ⌜ r ≡ stepAt (now (card .entry)) at ⌝ }
-{
-    if sign_here(card, at, ROUND_CLOSE) {
-        return bare(ROUND_CLOSE, at, at + 1);
-    }
-    step_sign(card, at, kind)
 }
 
 // A `+` or a `;`.

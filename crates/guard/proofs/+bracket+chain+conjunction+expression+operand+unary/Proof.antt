@@ -1,6 +1,7 @@
 -- The readers of a guard call each other, with a measure of eight steps for each bracket and `!` left. The chain's invariant: the
 -- guard is what was read so far and the chain behind it make (Chaining); its measure is how many nodes are left.
-use Rattle.guard.proofs.Chains.{three, Chaining, chain-begins, chain-wrong, chain-done, chain-stops, operand-room, chain-falls, chain-turns, unary-room, conjunction-room, unary-chained, conjunction-chained}
+use mathlib.Core.Path.{sym, _∙_}
+use Rattle.guard.proofs.Chains.{three, Chaining, chain-begins, chain-wrong, chain-done, chain-stops, operand-room, chain-falls, chain-turns, unary-room, conjunction-room, unary-chained, conjunction-chained, unary-alone, conjunction-alone}
 use Rattle.guard.proofs.Ways.{step-within, part-is, part-long, bracket-groups, bracket-stops, bracket-closes, reads-bracket, reads-unfit, reads-deep, reads-full, reads-not}
 use lib.ListN.{length, take, drop}
 use Rattle.card.specs.Limits.{nodePlaces}
@@ -32,10 +33,11 @@ use Rattle.guard.proofs.+bracket+chain+conjunction+expression+operand+u
 use Rattle.guard.proofs.closed.Reads as closed-reads
 use Rattle.guard.proofs.grouping.Reads as grouping-reads
 use Rattle.guard.proofs.joined.Reads as joined-reads
+use Rattle.guard.proofs.is_closed.Reads as is-closed-reads
 use Rattle.guard.proofs.joint.Reads as joint-reads
 use Rattle.guard.proofs.negated.Reads as negated-reads
 use Rattle.guard.proofs.stopped.Reads as stopped-reads
-use Rattle.marks.proofs.due.step_closing.Reads as step-closing-reads
+use Rattle.marks.proofs.due.step_sign.Reads as step-sign-reads
 use Rattle.marks.proofs.due.step_inner.Reads as step-inner-reads
 use Rattle.marks.proofs.due.step_opening.Reads as step-opening-reads
 use Rattle.guard.proofs.+bracket+chain+conjunction+expression+operand+unary.{statement}
@@ -103,13 +105,13 @@ abbrev bracket-R : ℕ → bracket-lts.Claims
 bracket-R t = (step-inner-reads.Asked, step-inner-reads.Learnt, grouping-reads.Asked, grouping-reads.Learnt, stopped-reads.Asked, stopped-reads.Learnt, expression-below t, expression.Post, closed-reads.Asked, closed-reads.Learnt)
 
 abbrev chain-R : ℕ → chain-lts.Claims
-chain-R t = (joint-reads.Asked, joint-reads.Learnt, step-closing-reads.Asked, step-closing-reads.Learnt, stopped-reads.Asked, stopped-reads.Learnt, operand-below t, operand.Post, joined-reads.Asked, joined-reads.Learnt)
+chain-R t = (joint-reads.Asked, joint-reads.Learnt, step-sign-reads.Asked, step-sign-reads.Learnt, stopped-reads.Asked, stopped-reads.Learnt, operand-below t, operand.Post, joined-reads.Asked, joined-reads.Learnt)
 
 abbrev conjunction-R : ℕ → conjunction-lts.Claims
-conjunction-R t = (unary-below t, unary.Post, chain-below t, chain.Post)
+conjunction-R t = (unary-below t, unary.Post, is-closed-reads.Asked, is-closed-reads.Learnt, chain-below t, chain.Post)
 
 abbrev expression-R : ℕ → expression-lts.Claims
-expression-R t = (conjunction-below t, conjunction.Post, chain-below t, chain.Post)
+expression-R t = (conjunction-below t, conjunction.Post, is-closed-reads.Asked, is-closed-reads.Learnt, chain-below t, chain.Post)
 
 abbrev operand-R : ℕ → operand-lts.Claims
 operand-R t = (conjunction-below t, conjunction.Post, unary-below t, unary.Post)
@@ -165,17 +167,17 @@ chain-joint-requires t c κs = tt
 chain-loop-holds : (t : ℕ) → chain-lts.Need-loop-holds (chain-R t) (chain-at t) chain.Post chain-Inv-loop chain-μ-loop
 chain-loop-holds t c = chain-begins (now (c .before .before .args .card)) (c .before .before .args .top) (now (c .before .before .args .nodes)) (c .before .before .args .depth) (c .before .before .args .any) (c .before .before .args .first) (c .before .before .pre .1 .0) (c .before .before .pre .1 .1)
 
-chain-step-closing-requires : (t : ℕ) → chain-lts.Need-step-closing-requires (chain-R t) (chain-at t) chain.Post chain-Inv-loop chain-μ-loop
-chain-step-closing-requires t c κs = tt
+chain-step-sign-requires : (t : ℕ) → chain-lts.Need-step-sign-requires (chain-R t) (chain-at t) chain.Post chain-Inv-loop chain-μ-loop
+chain-step-sign-requires t c κs = tt
 
 chain-returns : (t : ℕ) → chain-lts.Need-returns (chain-R t) (chain-at t) chain.Post chain-Inv-loop chain-μ-loop
-chain-returns t c = chain-done (now (c .before .before .before .before .before .before .before .before .args .card)) (c .before .before .before .before .before .before .before .before .args .top) (now (c .before .before .before .before .before .before .before .before .args .nodes)) (c .before .before .before .before .before .before .before .before .args .depth) (c .before .before .before .before .before .before .before .before .args .any) (c .before .before .before .before .before .before .before .before .args .first) (c .before .before .before .before .before .loop .nodes) (c .before .before .before .before .before .loop .g) (c .before .before .before .before .before .loop .inv) (c .before .before .before .if1 .taken) (c .before .before .step-closing .result) (c .before .before .step-closing .ensures) (c .before .before .before .before .before .before .joint .result) (c .before .before .before .before .before .before .joint .ensures) (c .if2 .taken)
+chain-returns t c = chain-done (now (c .before .before .before .before .before .before .before .before .args .card)) (c .before .before .before .before .before .before .before .before .args .top) (now (c .before .before .before .before .before .before .before .before .args .nodes)) (c .before .before .before .before .before .before .before .before .args .depth) (c .before .before .before .before .before .before .before .before .args .any) (c .before .before .before .before .before .before .before .before .args .first) (c .before .before .before .before .before .loop .nodes) (c .before .before .before .before .before .loop .g) (c .before .before .before .before .before .loop .inv) (c .before .before .before .if1 .taken) (c .before .before .step-sign .result) (c .before .before .step-sign .ensures) (c .before .before .before .before .before .before .joint .result) (c .before .before .before .before .before .before .joint .ensures) (c .if2 .taken)
 
 chain-stopped-requires : (t : ℕ) → chain-lts.Need-stopped-requires (chain-R t) (chain-at t) chain.Post chain-Inv-loop chain-μ-loop
 chain-stopped-requires t c κs = tt
 
 chain-returns-2 : (t : ℕ) → chain-lts.Need-returns-2 (chain-R t) (chain-at t) chain.Post chain-Inv-loop chain-μ-loop
-chain-returns-2 t c = rw (c .stopped .ensures) (chain-stops (now (c .before .before .before .before .before .before .before .before .before .before .before .args .card)) (c .before .before .before .before .before .before .before .before .before .before .before .args .top) (now (c .before .before .before .before .before .before .before .before .before .before .before .args .nodes)) (c .before .before .before .before .before .before .before .before .before .before .before .args .depth) (c .before .before .before .before .before .before .before .before .before .before .before .args .any) (c .before .before .before .before .before .before .before .before .before .before .before .args .first) (c .before .before .before .before .before .before .before .before .loop .nodes) (c .before .before .before .before .before .before .before .before .loop .g) (c .before .before .before .before .before .before .before .before .loop .inv) (c .before .before .before .before .before .before .if1 .taken) (c .before .before .before .before .before .step-closing .result) (c .before .before .before .before .before .step-closing .ensures) (c .before .before .before .before .before .before .before .before .before .joint .result) (c .before .before .before .before .before .before .before .before .before .joint .ensures) (c .before .before .before .if2 .left) (c .before .if3 .taken))
+chain-returns-2 t c = rw (c .stopped .ensures) (chain-stops (now (c .before .before .before .before .before .before .before .before .before .before .before .args .card)) (c .before .before .before .before .before .before .before .before .before .before .before .args .top) (now (c .before .before .before .before .before .before .before .before .before .before .before .args .nodes)) (c .before .before .before .before .before .before .before .before .before .before .before .args .depth) (c .before .before .before .before .before .before .before .before .before .before .before .args .any) (c .before .before .before .before .before .before .before .before .before .before .before .args .first) (c .before .before .before .before .before .before .before .before .loop .nodes) (c .before .before .before .before .before .before .before .before .loop .g) (c .before .before .before .before .before .before .before .before .loop .inv) (c .before .before .before .before .before .before .if1 .taken) (c .before .before .before .before .before .step-sign .result) (c .before .before .before .before .before .step-sign .ensures) (c .before .before .before .before .before .before .before .before .before .joint .result) (c .before .before .before .before .before .before .before .before .before .joint .ensures) (c .before .before .before .if2 .left) (c .before .if3 .taken))
 
 chain-add-operand : (t : ℕ) → chain-lts.Need-add-operand (chain-R t) (chain-at t) chain.Post chain-Inv-loop chain-μ-loop
 chain-add-operand t c = omega (arith, c .before .before .before .before .before .before .before .before .before .before .loop .inv .fits)
@@ -187,13 +189,13 @@ chain-operand-requires : (t : ℕ) → chain-lts.Need-operand-requires (chain-R 
 chain-operand-requires t c κs = (omega (arith, c .before .before .before .before .before .before .before .before .before .before .before .before .before .before .pre .0, c .before .before .before .before .before .before .before .before .before .before .before .loop .inv .fewer), (omega (arith, c .before .before .before .before .before .before .before .before .before .before .before .loop .inv .fits), omega (arith, c .before .before .before .before .before .before .before .before .before .before .before .loop .inv .most)))
 
 chain-joined-requires : (t : ℕ) → chain-lts.Need-joined-requires (chain-R t) (chain-at t) chain.Post chain-Inv-loop chain-μ-loop
-chain-joined-requires t c κs = (omega (arith, c .before .before .before .before .before .before .before .before .before .before .before .before .before .loop .inv .fits), omega (arith, operand-room (now (c .before .before .before .before .before .before .before .before .before .before .before .before .before .before .before .before .args .card)) (c .before .before .before .before .before .before .before .before .before .before .before .before .before .before .before .before .args .top) (now (c .before .before .before .before .before .before .before .before .before .before .before .before .before .before .before .before .args .nodes)) (c .before .before .before .before .before .before .before .before .before .before .before .before .before .before .before .before .args .depth) (c .before .before .before .before .before .before .before .before .before .before .before .before .before .before .before .before .args .any) (c .before .before .before .before .before .before .before .before .before .before .before .before .before .before .before .before .args .first) (c .before .before .before .before .before .before .before .before .before .before .before .before .before .loop .nodes) (c .before .before .before .before .before .before .before .before .before .before .before .before .before .loop .g) (c .before .before .before .before .before .before .before .before .before .before .before .before .before .loop .inv) (c .before .before .before .before .before .before .before .before .before .before .before .if1 .taken) (c .before .before .before .before .before .before .before .before .before .before .step-closing .result) (c .before .before .before .before .before .before .before .before .before .before .step-closing .ensures) (c .before .before .before .before .before .before .before .before .before .before .before .before .before .before .joint .result) (c .before .before .before .before .before .before .before .before .before .before .before .before .before .before .joint .ensures) (c .before .before .before .before .before .before .before .before .if2 .left) (c .before .before .before .before .before .before .if3 .left) (c .before .operand .last .1 .1 .0) (c .before .operand .result) (c .before .operand .ensures) .fits))
+chain-joined-requires t c κs = (omega (arith, c .before .before .before .before .before .before .before .before .before .before .before .before .before .loop .inv .fits), omega (arith, operand-room (now (c .before .before .before .before .before .before .before .before .before .before .before .before .before .before .before .before .args .card)) (c .before .before .before .before .before .before .before .before .before .before .before .before .before .before .before .before .args .top) (now (c .before .before .before .before .before .before .before .before .before .before .before .before .before .before .before .before .args .nodes)) (c .before .before .before .before .before .before .before .before .before .before .before .before .before .before .before .before .args .depth) (c .before .before .before .before .before .before .before .before .before .before .before .before .before .before .before .before .args .any) (c .before .before .before .before .before .before .before .before .before .before .before .before .before .before .before .before .args .first) (c .before .before .before .before .before .before .before .before .before .before .before .before .before .loop .nodes) (c .before .before .before .before .before .before .before .before .before .before .before .before .before .loop .g) (c .before .before .before .before .before .before .before .before .before .before .before .before .before .loop .inv) (c .before .before .before .before .before .before .before .before .before .before .before .if1 .taken) (c .before .before .before .before .before .before .before .before .before .before .step-sign .result) (c .before .before .before .before .before .before .before .before .before .before .step-sign .ensures) (c .before .before .before .before .before .before .before .before .before .before .before .before .before .before .joint .result) (c .before .before .before .before .before .before .before .before .before .before .before .before .before .before .joint .ensures) (c .before .before .before .before .before .before .before .before .if2 .left) (c .before .before .before .before .before .before .if3 .left) (c .before .operand .last .1 .1 .0) (c .before .operand .result) (c .before .operand .ensures) .fits))
 
 chain-loop-less : (t : ℕ) → chain-lts.Need-loop-less (chain-R t) (chain-at t) chain.Post chain-Inv-loop chain-μ-loop
-chain-loop-less t c = chain-falls (now (c .before .before .before .before .before .before .before .before .before .before .before .before .before .before .before .before .before .args .card)) (c .before .before .before .before .before .before .before .before .before .before .before .before .before .before .before .before .before .args .top) (now (c .before .before .before .before .before .before .before .before .before .before .before .before .before .before .before .before .before .args .nodes)) (c .before .before .before .before .before .before .before .before .before .before .before .before .before .before .before .before .before .args .depth) (c .before .before .before .before .before .before .before .before .before .before .before .before .before .before .before .before .before .args .any) (c .before .before .before .before .before .before .before .before .before .before .before .before .before .before .before .before .before .args .first) (c .before .before .before .before .before .before .before .before .before .before .before .before .before .before .loop .nodes) (c .before .before .before .before .before .before .before .before .before .before .before .before .before .before .loop .g) (c .before .before .before .before .before .before .before .before .before .before .before .before .before .before .loop .inv) (c .before .before .before .before .before .before .before .before .before .before .before .before .if1 .taken) (c .before .before .before .before .before .before .before .before .before .before .before .step-closing .result) (c .before .before .before .before .before .before .before .before .before .before .before .step-closing .ensures) (c .before .before .before .before .before .before .before .before .before .before .before .before .before .before .before .joint .result) (c .before .before .before .before .before .before .before .before .before .before .before .before .before .before .before .joint .ensures) (c .before .before .before .before .before .before .before .before .before .if2 .left) (c .before .before .before .before .before .before .before .if3 .left) (c .before .before .operand .last .1 .1 .0) (c .before .before .operand .result) (c .before .before .operand .ensures) (c .joined .result) (c .joined .ensures .1 .1)
+chain-loop-less t c = chain-falls (now (c .before .before .before .before .before .before .before .before .before .before .before .before .before .before .before .before .before .args .card)) (c .before .before .before .before .before .before .before .before .before .before .before .before .before .before .before .before .before .args .top) (now (c .before .before .before .before .before .before .before .before .before .before .before .before .before .before .before .before .before .args .nodes)) (c .before .before .before .before .before .before .before .before .before .before .before .before .before .before .before .before .before .args .depth) (c .before .before .before .before .before .before .before .before .before .before .before .before .before .before .before .before .before .args .any) (c .before .before .before .before .before .before .before .before .before .before .before .before .before .before .before .before .before .args .first) (c .before .before .before .before .before .before .before .before .before .before .before .before .before .before .loop .nodes) (c .before .before .before .before .before .before .before .before .before .before .before .before .before .before .loop .g) (c .before .before .before .before .before .before .before .before .before .before .before .before .before .before .loop .inv) (c .before .before .before .before .before .before .before .before .before .before .before .before .if1 .taken) (c .before .before .before .before .before .before .before .before .before .before .before .step-sign .result) (c .before .before .before .before .before .before .before .before .before .before .before .step-sign .ensures) (c .before .before .before .before .before .before .before .before .before .before .before .before .before .before .before .joint .result) (c .before .before .before .before .before .before .before .before .before .before .before .before .before .before .before .joint .ensures) (c .before .before .before .before .before .before .before .before .before .if2 .left) (c .before .before .before .before .before .before .before .if3 .left) (c .before .before .operand .last .1 .1 .0) (c .before .before .operand .result) (c .before .before .operand .ensures) (c .joined .result) (c .joined .ensures .1 .1)
 
 chain-loop-again : (t : ℕ) → chain-lts.Need-loop-again (chain-R t) (chain-at t) chain.Post chain-Inv-loop chain-μ-loop
-chain-loop-again t c = chain-turns (now (c .before .before .before .before .before .before .before .before .before .before .before .before .before .before .before .before .before .args .card)) (c .before .before .before .before .before .before .before .before .before .before .before .before .before .before .before .before .before .args .top) (now (c .before .before .before .before .before .before .before .before .before .before .before .before .before .before .before .before .before .args .nodes)) (c .before .before .before .before .before .before .before .before .before .before .before .before .before .before .before .before .before .args .depth) (c .before .before .before .before .before .before .before .before .before .before .before .before .before .before .before .before .before .args .any) (c .before .before .before .before .before .before .before .before .before .before .before .before .before .before .before .before .before .args .first) (c .before .before .before .before .before .before .before .before .before .before .before .before .before .before .loop .nodes) (c .before .before .before .before .before .before .before .before .before .before .before .before .before .before .loop .g) (c .before .before .before .before .before .before .before .before .before .before .before .before .before .before .loop .inv) (c .before .before .before .before .before .before .before .before .before .before .before .before .if1 .taken) (c .before .before .before .before .before .before .before .before .before .before .before .step-closing .result) (c .before .before .before .before .before .before .before .before .before .before .before .step-closing .ensures) (c .before .before .before .before .before .before .before .before .before .before .before .before .before .before .before .joint .result) (c .before .before .before .before .before .before .before .before .before .before .before .before .before .before .before .joint .ensures) (c .before .before .before .before .before .before .before .before .before .if2 .left) (c .before .before .before .before .before .before .before .if3 .left) (c .before .before .operand .last .1 .1 .0) (c .before .before .operand .result) (c .before .before .operand .ensures) (c .joined .last .0) (c .joined .result) (c .joined .ensures .0) (c .joined .ensures .1)
+chain-loop-again t c = chain-turns (now (c .before .before .before .before .before .before .before .before .before .before .before .before .before .before .before .before .before .args .card)) (c .before .before .before .before .before .before .before .before .before .before .before .before .before .before .before .before .before .args .top) (now (c .before .before .before .before .before .before .before .before .before .before .before .before .before .before .before .before .before .args .nodes)) (c .before .before .before .before .before .before .before .before .before .before .before .before .before .before .before .before .before .args .depth) (c .before .before .before .before .before .before .before .before .before .before .before .before .before .before .before .before .before .args .any) (c .before .before .before .before .before .before .before .before .before .before .before .before .before .before .before .before .before .args .first) (c .before .before .before .before .before .before .before .before .before .before .before .before .before .before .loop .nodes) (c .before .before .before .before .before .before .before .before .before .before .before .before .before .before .loop .g) (c .before .before .before .before .before .before .before .before .before .before .before .before .before .before .loop .inv) (c .before .before .before .before .before .before .before .before .before .before .before .before .if1 .taken) (c .before .before .before .before .before .before .before .before .before .before .before .step-sign .result) (c .before .before .before .before .before .before .before .before .before .before .before .step-sign .ensures) (c .before .before .before .before .before .before .before .before .before .before .before .before .before .before .before .joint .result) (c .before .before .before .before .before .before .before .before .before .before .before .before .before .before .before .joint .ensures) (c .before .before .before .before .before .before .before .before .before .if2 .left) (c .before .before .before .before .before .before .before .if3 .left) (c .before .before .operand .last .1 .1 .0) (c .before .before .operand .result) (c .before .before .operand .ensures) (c .joined .last .0) (c .joined .result) (c .joined .ensures .0) (c .joined .ensures .1)
 
 chain-returns-3 : (t : ℕ) → chain-lts.Need-returns-3 (chain-R t) (chain-at t) chain.Post chain-Inv-loop chain-μ-loop
 chain-returns-3 t c = chain-wrong (now (c .before .before .before .before .before .args .card)) (c .before .before .before .before .before .args .top) (now (c .before .before .before .before .before .args .nodes)) (c .before .before .before .before .before .args .depth) (c .before .before .before .before .before .args .any) (c .before .before .before .before .before .args .first) (c .before .before .loop .nodes) (c .before .before .loop .g) (c .before .before .loop .inv) (c .if1 .left)
@@ -201,22 +203,34 @@ chain-returns-3 t c = chain-wrong (now (c .before .before .before .before .befor
 conjunction-unary-requires : (t : ℕ) → conjunction-lts.Need-unary-requires (conjunction-R t) (conjunction-at t) conjunction.Post
 conjunction-unary-requires t c κs = (omega arith, (c .before .before .pre .1 .0, c .before .before .pre .1 .1))
 
-conjunction-chain-requires : (t : ℕ) → conjunction-lts.Need-chain-requires (conjunction-R t) (conjunction-at t) conjunction.Post
-conjunction-chain-requires t c κs = let r = unary-room (now (c .before .before .before .before .args .card)) (c .before .before .before .before .args .top) (now (c .before .before .before .before .args .nodes)) (c .before .unary .last .1 .1 .0) (c .before .before .before .before .args .used) (c .before .before .before .before .args .late) (c .before .before .before .before .args .at) (c .before .before .before .before .args .left) (c .before .before .before .before .args .depth) (c .before .unary .result) (c .before .unary .ensures) nodePlaces (omega arith) (c .before .before .before .before .pre .1 .0) in
-    (omega (arith, r .less, c .before .before .before .before .pre .0), (r .fits, omega (arith, r .less, c .before .before .before .before .pre .1 .1)))
+conjunction-is-closed-requires : (t : ℕ) → conjunction-lts.Need-is-closed-requires (conjunction-R t) (conjunction-at t) conjunction.Post
+conjunction-is-closed-requires t c κs = tt
 
 conjunction-returns : (t : ℕ) → conjunction-lts.Need-returns (conjunction-R t) (conjunction-at t) conjunction.Post
-conjunction-returns t c = unary-chained (now (c .before .before .before .before .before .args .card)) (c .before .before .before .before .before .args .top) (now (c .before .before .before .before .before .args .nodes)) (c .before .before .unary .last .1 .1 .0) (c .before .before .before .before .before .args .used) (c .before .before .before .before .before .args .late) (c .before .before .before .before .before .args .at) (c .before .before .before .before .before .args .left) (c .before .before .before .before .before .args .depth) (c .before .before .unary .result) (c .chain .last .1 .0) (c .chain .result) (c .before .before .unary .ensures) (c .chain .ensures)
+conjunction-returns t c = unary-alone (now (c .before .before .before .before .before .args .card)) (c .before .before .before .before .before .args .top) (now (c .before .before .before .before .before .args .nodes)) (c .before .before .unary .last .1 .1 .0) (c .before .before .before .before .before .args .used) (c .before .before .before .before .before .args .late) (c .before .before .before .before .before .args .at) (c .before .before .before .before .before .args .left) (c .before .before .before .before .before .args .depth) (c .before .before .unary .result) (sym (c .before .is-closed .ensures) ∙ c .if1 .taken) (c .before .before .before .before .before .pre .1 .0) (c .before .before .before .before .before .pre .1 .1) (c .before .before .unary .ensures)
+
+conjunction-chain-requires : (t : ℕ) → conjunction-lts.Need-chain-requires (conjunction-R t) (conjunction-at t) conjunction.Post
+conjunction-chain-requires t c κs = let r = unary-room (now (c .before .before .before .before .before .before .args .card)) (c .before .before .before .before .before .before .args .top) (now (c .before .before .before .before .before .before .args .nodes)) (c .before .before .before .unary .last .1 .1 .0) (c .before .before .before .before .before .before .args .used) (c .before .before .before .before .before .before .args .late) (c .before .before .before .before .before .before .args .at) (c .before .before .before .before .before .before .args .left) (c .before .before .before .before .before .before .args .depth) (c .before .before .before .unary .result) (c .before .before .before .unary .ensures) nodePlaces (omega arith) (c .before .before .before .before .before .before .pre .1 .0) in
+    (omega (arith, r .less, c .before .before .before .before .before .before .pre .0), (r .fits, omega (arith, r .less, c .before .before .before .before .before .before .pre .1 .1)))
+
+conjunction-returns-2 : (t : ℕ) → conjunction-lts.Need-returns-2 (conjunction-R t) (conjunction-at t) conjunction.Post
+conjunction-returns-2 t c = unary-chained (now (c .before .before .before .before .before .before .before .args .card)) (c .before .before .before .before .before .before .before .args .top) (now (c .before .before .before .before .before .before .before .args .nodes)) (c .before .before .before .before .unary .last .1 .1 .0) (c .before .before .before .before .before .before .before .args .used) (c .before .before .before .before .before .before .before .args .late) (c .before .before .before .before .before .before .before .args .at) (c .before .before .before .before .before .before .before .args .left) (c .before .before .before .before .before .before .before .args .depth) (c .before .before .before .before .unary .result) (c .chain .last .1 .0) (c .chain .result) (c .before .before .before .before .unary .ensures) (c .chain .ensures)
 
 expression-conjunction-requires : (t : ℕ) → expression-lts.Need-conjunction-requires (expression-R t) (expression-at t) expression.Post
 expression-conjunction-requires t c κs = (omega arith, (c .before .before .pre .1 .0, c .before .before .pre .1 .1))
 
-expression-chain-requires : (t : ℕ) → expression-lts.Need-chain-requires (expression-R t) (expression-at t) expression.Post
-expression-chain-requires t c κs = let r = conjunction-room (now (c .before .before .before .before .args .card)) (c .before .before .before .before .args .top) (now (c .before .before .before .before .args .nodes)) (c .before .conjunction .last .1 .1 .0) (c .before .before .before .before .args .used) (c .before .before .before .before .args .late) (c .before .before .before .before .args .at) (c .before .before .before .before .args .left) (c .before .before .before .before .args .depth) (c .before .conjunction .result) (c .before .conjunction .ensures) nodePlaces (omega arith) (c .before .before .before .before .pre .1 .0) in
-    (omega (arith, r .less, c .before .before .before .before .pre .0), (r .fits, omega (arith, r .less, c .before .before .before .before .pre .1 .1)))
+expression-is-closed-requires : (t : ℕ) → expression-lts.Need-is-closed-requires (expression-R t) (expression-at t) expression.Post
+expression-is-closed-requires t c κs = tt
 
 expression-returns : (t : ℕ) → expression-lts.Need-returns (expression-R t) (expression-at t) expression.Post
-expression-returns t c = conjunction-chained (now (c .before .before .before .before .before .args .card)) (c .before .before .before .before .before .args .top) (now (c .before .before .before .before .before .args .nodes)) (c .before .before .conjunction .last .1 .1 .0) (c .before .before .before .before .before .args .used) (c .before .before .before .before .before .args .late) (c .before .before .before .before .before .args .at) (c .before .before .before .before .before .args .left) (c .before .before .before .before .before .args .depth) (c .before .before .conjunction .result) (c .chain .last .1 .0) (c .chain .result) (c .before .before .conjunction .ensures) (c .chain .ensures)
+expression-returns t c = conjunction-alone (now (c .before .before .before .before .before .args .card)) (c .before .before .before .before .before .args .top) (now (c .before .before .before .before .before .args .nodes)) (c .before .before .conjunction .last .1 .1 .0) (c .before .before .before .before .before .args .used) (c .before .before .before .before .before .args .late) (c .before .before .before .before .before .args .at) (c .before .before .before .before .before .args .left) (c .before .before .before .before .before .args .depth) (c .before .before .conjunction .result) (sym (c .before .is-closed .ensures) ∙ c .if1 .taken) (c .before .before .before .before .before .pre .1 .0) (c .before .before .before .before .before .pre .1 .1) (c .before .before .conjunction .ensures)
+
+expression-chain-requires : (t : ℕ) → expression-lts.Need-chain-requires (expression-R t) (expression-at t) expression.Post
+expression-chain-requires t c κs = let r = conjunction-room (now (c .before .before .before .before .before .before .args .card)) (c .before .before .before .before .before .before .args .top) (now (c .before .before .before .before .before .before .args .nodes)) (c .before .before .before .conjunction .last .1 .1 .0) (c .before .before .before .before .before .before .args .used) (c .before .before .before .before .before .before .args .late) (c .before .before .before .before .before .before .args .at) (c .before .before .before .before .before .before .args .left) (c .before .before .before .before .before .before .args .depth) (c .before .before .before .conjunction .result) (c .before .before .before .conjunction .ensures) nodePlaces (omega arith) (c .before .before .before .before .before .before .pre .1 .0) in
+    (omega (arith, r .less, c .before .before .before .before .before .before .pre .0), (r .fits, omega (arith, r .less, c .before .before .before .before .before .before .pre .1 .1)))
+
+expression-returns-2 : (t : ℕ) → expression-lts.Need-returns-2 (expression-R t) (expression-at t) expression.Post
+expression-returns-2 t c = conjunction-chained (now (c .before .before .before .before .before .before .before .args .card)) (c .before .before .before .before .before .before .before .args .top) (now (c .before .before .before .before .before .before .before .args .nodes)) (c .before .before .before .before .conjunction .last .1 .1 .0) (c .before .before .before .before .before .before .before .args .used) (c .before .before .before .before .before .before .before .args .late) (c .before .before .before .before .before .before .before .args .at) (c .before .before .before .before .before .before .before .args .left) (c .before .before .before .before .before .before .before .args .depth) (c .before .before .before .before .conjunction .result) (c .chain .last .1 .0) (c .chain .result) (c .before .before .before .before .conjunction .ensures) (c .chain .ensures)
 
 operand-conjunction-requires : (t : ℕ) → operand-lts.Need-conjunction-requires (operand-R t) (operand-at t) operand.Post
 operand-conjunction-requires t c κs = (omega (arith, three (c .before .before .before .args .any) (c .before .if1 .taken)), (c .before .before .before .pre .1 .0, c .before .before .before .pre .1 .1))
@@ -303,8 +317,8 @@ pub +bracket+chain+conjunction+expression+operand+unary-spec : {M : Type 1} → 
     (λ t. chain-lts.spec (
       joint-reads.Asked,
       joint-reads.Learnt,
-      step-closing-reads.Asked,
-      step-closing-reads.Learnt,
+      step-sign-reads.Asked,
+      step-sign-reads.Learnt,
       stopped-reads.Asked,
       stopped-reads.Learnt,
       operand-below t,
@@ -318,7 +332,7 @@ pub +bracket+chain+conjunction+expression+operand+unary-spec : {M : Type 1} → 
     chain-μ-loop
     (chain-joint-requires t)
     (chain-loop-holds t)
-    (chain-step-closing-requires t)
+    (chain-step-sign-requires t)
     (chain-returns t)
     (chain-stopped-requires t)
     (chain-returns-2 t)
@@ -330,19 +344,23 @@ pub +bracket+chain+conjunction+expression+operand+unary-spec : {M : Type 1} → 
     (chain-loop-again t)
     (chain-returns-3 t))
     (λ t. conjunction-lts.spec
-    (unary-below t, unary.Post, chain-below t, chain.Post)
+    (unary-below t, unary.Post, is-closed-reads.Asked, is-closed-reads.Learnt, chain-below t, chain.Post)
     (conjunction-at t)
     conjunction.Post
     (conjunction-unary-requires t)
+    (conjunction-is-closed-requires t)
+    (conjunction-returns t)
     (conjunction-chain-requires t)
-    (conjunction-returns t))
+    (conjunction-returns-2 t))
     (λ t. expression-lts.spec
-    (conjunction-below t, conjunction.Post, chain-below t, chain.Post)
+    (conjunction-below t, conjunction.Post, is-closed-reads.Asked, is-closed-reads.Learnt, chain-below t, chain.Post)
     (expression-at t)
     expression.Post
     (expression-conjunction-requires t)
+    (expression-is-closed-requires t)
+    (expression-returns t)
     (expression-chain-requires t)
-    (expression-returns t))
+    (expression-returns-2 t))
     (λ t. operand-lts.spec
     (conjunction-below t, conjunction.Post, unary-below t, unary.Post)
     (operand-at t)
