@@ -46,14 +46,8 @@ WeightFrom s i before r = (k n : ℕ) → WeightRead s k before (marksAt 0 s i) 
 
 -- ---- between a branch's weight and its state, in kinds and numbers due: `:(s1'=`
 
-abbrev pub updateKinds : List ℕ
-updateKinds = kind ":" ∷ kind "(" ∷ kSeat ∷ kind "'" ∷ kind "=" ∷ []
-
-abbrev pub updateNumbers : List ℕ
-updateNumbers = 0 ∷ 0 ∷ 1 ∷ 0 ∷ 0 ∷ []
-
 abbrev pub UpdateFrom : List ℕ → ℕ → Late → Took → Type 0
-UpdateFrom s i late r = RunFrom s i updateKinds updateNumbers late r
+UpdateFrom s i late r = RunFrom s i (kind ":" ∷ kind "(" ∷ kSeat ∷ kind "'" ∷ kind "=" ∷ []) (0 ∷ 0 ∷ 1 ∷ 0 ∷ 0 ∷ []) late r
 
 -- ---- a branch, in the array as the packer makes it
 

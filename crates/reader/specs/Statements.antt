@@ -9,6 +9,7 @@ use Rattle.card.specs.Card.{Formula, Guard}
 use Rattle.card.specs.Laid.{guardCells, guardSize, noStatement}
 use Rattle.card.specs.Stored.{stored}
 use Rattle.card.specs.declared.Statement.{Statement}
+use Rattle.marks.specs.Kinds.{kSeat, kind}
 use Rattle.reading.specs.Reader.{State, Result, ok, Reader, bind, _>>=_, _>>_, return, sign}
 use Rattle.reading.specs.Group.{Literals}
 use Rattle.reading.specs.Shape.{StatementShape, guard, statement, moreStatements}
@@ -18,8 +19,13 @@ use Rattle.guard.specs.Late.{noneYet, judgeAll, guardBy}
 use Rattle.reader.specs.declared.parts.Took.{Took}
 use Rattle.reader.specs.declared.statements.Stated.{Stated}
 use Rattle.reader.specs.declared.statements.Listed.{Listed}
-use Rattle.reader.specs.Parts.{from, Form, Answers, tookForm, Went}
+use Rattle.reader.specs.Parts.{from, Form, Answers, tookForm, Went, RunFrom}
 use Rattle.reader.specs.Branches.{packedIn}
+
+-- ---- before a statement's own state, in kinds and numbers due: `]s1=`
+
+abbrev pub OwnFrom : List ℕ → ℕ → Late → Took → Type 0
+OwnFrom s i late r = RunFrom s i (kind "]" ∷ kSeat ∷ kind "=" ∷ []) (0 ∷ 1 ∷ 0 ∷ []) late r
 
 -- ---- the guard, with the arrow behind it; its number is that of its nodes, which stand from `used` on
 

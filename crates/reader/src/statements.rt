@@ -27,10 +27,11 @@ use marks::kinds::EQUAL;
 use marks::kinds::SEAT;
 use marks::kinds::SQUARE_CLOSE;
 use marks::kinds::SQUARE_OPEN;
+use marks::look::all_here;
 ghost use mathlib.Core.Path.{_≡_};
 ghost use Prim.Native.Nat.{_+_, _≤_, _<_};
 ghost use Rattle.card.specs.Limits.{mostStatements, mostNodes, nodePlaces};
-ghost use Rattle.reader.specs.Statements.{GuardedFrom, noRow as noRowAt, arrays, StatementFrom, noList as noListAt, StatementsFrom};
+ghost use Rattle.reader.specs.Statements.{OwnFrom, GuardedFrom, noRow as noRowAt, arrays, StatementFrom, noList as noListAt, StatementsFrom};
 
 // What reading a statement found: stop 0, the next cursor, the statement's row, and the late refusals so far; or the number of a
 // refusal and its place.
@@ -133,6 +134,18 @@ fn guarded(
     passed(end.at, MOST_NODES - guard.left, guard.late)
 }
 
+// ]s1= mark by mark, unless it stands right there.
+fn owned(card: &[u8], at: usize, late: Late) -> Took
+    ensures { λ r. ⌜ OwnFrom (now (card .entry)) at late r ⌝ }
+{
+    if all_here(card, at, b"]s1=") {
+        return passed(at + 4, 0, late);
+    }
+    let kinds = [SQUARE_CLOSE, SEAT, EQUAL];
+    let dues = [0, 1, 0];
+    run(card, at, &kinds, &dues, late)
+}
+
 // A statement behind its `[`, the one at `index` on the card.
 fn statement(
     card: &[u8],
@@ -146,9 +159,7 @@ fn statement(
     requires { ⌜ index < mostStatements ⌝ }
     ensures { λ r. ⌜ StatementFrom (now (card .entry)) at top late (arrays (now (nodes .entry)) (now (branches .entry))) (arrays (now (nodes .exit)) (now (branches .exit))) index r ⌝ }
 {
-    let kinds = [SQUARE_CLOSE, SEAT, EQUAL];
-    let dues = [0, 1, 0];
-    let words = run(card, at, &kinds, &dues, late);
+    let words = owned(card, at, late);
     if words.stop != 0 {
         return no_row(words.stop, words.place);
     }
