@@ -17,11 +17,11 @@ use Rattle.marks.specs.Marks.{seat, isDigit, isBlank, isSign, inWord, be
 use Rattle.marks.specs.Kinds.{kNumber, kSeat}
 use Rattle.marks.specs.Step.{stepTo, stepped, stepFrom, stepAt}
 use Rattle.marks.specs.Parts.{bareOf, valuedOf, isAlone, inNumber, shortSeat, gapOf}
-use Rattle.marks.specs.Quick.{signAhead, noDigit, digitAhead, seatAhead, longSeat}
+use Rattle.marks.specs.Quick.{signAhead, noDigit, digitAhead, seatAhead, longSeat, pastBlank}
 use Rattle.marks.specs.declared.Step.{Step}
 use Rattle.marks.proofs.Lists.{cases, not-both, and-left, and-right, drop-at}
 use Rattle.marks.proofs.Runs.{run-on, run-empty, begins-at, begins-place, eqb-sym}
-use Rattle.marks.proofs.Starts.{among, sign-kind, alone-step, gap-none, numeral-single, digit-starts, letter-starts, digit-in-word, seat-place, seat-single, step-at}
+use Rattle.marks.proofs.Starts.{among, sign-kind, alone-step, gap-blank, gap-none, step-gap, numeral-single, digit-starts, letter-starts, digit-in-word, seat-place, seat-single, step-at}
 
 -- ---- what a look answers, test by test
 
@@ -122,6 +122,22 @@ module _ (s : List ℕ) (i : ℕ) where
   -- the byte that stands there
   stood : (b : ℕ) → begins (eqb b) (drop i s) ≡ true → getD s i 0 ≡ b
   stood b e = sym (eqb-true b (getD s i 0) (sym (begins-at (eqb b) s i (begins-place (eqb b) s i e)) ∙ e))
+
+  -- behind a blank the step finds the same
+  blank-step : begins (eqb 32) (drop i s) ≡ true → stepAt s (i + 1) ≡ stepAt s i
+  blank-step e =
+      let g : gapOf (startAt (getD s i 0) (drop (i + 1) s)) ≡ 1 = gap-blank (getD s i 0) (drop (i + 1) s) (rw (stood 32 e)) in
+      sym (step-gap s i (begins-place (eqb 32) s i e) (λ z. omega (arith, g, z)) ∙ ap (λ (n : ℕ). stepAt s (i + n)) g)
+
+  pub past-step : {r : ℕ} → r ≡ pastBlank s i → stepAt s r ≡ stepAt s i
+  past-step {r} is =
+      cases (begins (eqb 32) (drop i s))
+      (λ e.
+      let a : r ≡ i + 1 = is ∙ rw e in
+      ap (stepAt s) a ∙ blank-step e)
+      (λ e.
+      let a : r ≡ i = is ∙ rw e in
+      ap (stepAt s) a)
 
   pub not-step : begins (eqb 33) (drop i s) ≡ true → begins (eqb 61) (drop (i + 1) s) ≡ false → stepAt s i ≡ bareOf 33 i (i + 1)
   not-step e n = step-at s i (begins-place (eqb 33) s i e) ∙ rw (stood 33 e, n, add-zero)

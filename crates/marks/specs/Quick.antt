@@ -1,5 +1,5 @@
 -- Marks that stand right at the front of a text, told from their first bytes. Assumes nothing.
-use Prim.Native.Nat.{ℕ, _-_}
+use Prim.Native.Nat.{ℕ, _+_, _-_}
 use mathlib.Core.Bool.{Bool, true, false, not, _&&_}
 use mathlib.Core.List.{List, [], _∷_}
 use lib.Dec.{eqb}
@@ -28,3 +28,7 @@ seatAhead s = if shortSeat s then getD s 1 0 - 48 else noDigit
 abbrev pub longSeat : List ℕ → Bool
 longSeat [] = false
 longSeat (a ∷ s) = eqb a 115 && begins isDigit s && not (begins (eqb 48) s) && begins isDigit (drop 1 s) && not (begins inWord (drop 2 s))
+
+-- the place behind one blank, where one stands
+abbrev pub pastBlank : List ℕ → ℕ → ℕ
+pastBlank s i = if begins (eqb 32) (drop i s) then i + 1 else i

@@ -1,4 +1,5 @@
-// A step where it is known which mark is due: a quick look for it, and the cursor's step where it does not stand right there.
+// A step where it is known which mark is due: a quick look for it, behind one blank at most, and the cursor's step where it does not stand
+// there.
 ghost use mathlib.Core.Path.{_≡_};
 ghost use Rattle.marks.specs.Step.{stepAt};
 use crate::Cursor;
@@ -16,6 +17,7 @@ use crate::kinds::SEMICOLON;
 use crate::kinds::SLASH;
 use crate::look::NO_DIGIT;
 use crate::look::digit_here;
+use crate::look::past_blank;
 use crate::look::seat_here;
 use crate::look::sign_here;
 
@@ -23,10 +25,11 @@ use crate::look::sign_here;
 pub fn step_sign(card: &[u8], at: usize, kind: usize) -> Step
     ensures { λ r. ⌜ r ≡ stepAt (now (card .entry)) at ⌝ }
 {
-    if sign_here(card, at, kind) {
-        return bare(kind, at, at + 1);
+    let from = past_blank(card, at);
+    if sign_here(card, from, kind) {
+        return bare(kind, from, from + 1);
     }
-    let cursor = Cursor { at };
+    let cursor = Cursor { at: from };
     cursor.step(card)
 }
 
@@ -34,10 +37,10 @@ pub fn step_sign(card: &[u8], at: usize, kind: usize) -> Step
 pub fn step_further(card: &[u8], at: usize) -> Step
     ensures { λ r. ⌜ r ≡ stepAt (now (card .entry)) at ⌝ }
 {
-    if sign_here(card, at, PLUS) {
-        return bare(PLUS, at, at + 1);
+    if sign_here(card, at, SEMICOLON) {
+        return bare(SEMICOLON, at, at + 1);
     }
-    step_sign(card, at, SEMICOLON)
+    step_sign(card, at, PLUS)
 }
 
 // A `(` or a `!`.
@@ -57,11 +60,12 @@ pub fn step_opening(card: &[u8], at: usize) -> Step
 pub fn step_number(card: &[u8], at: usize) -> Step
     ensures { λ r. ⌜ r ≡ stepAt (now (card .entry)) at ⌝ }
 {
-    let value = digit_here(card, at);
+    let from = past_blank(card, at);
+    let value = digit_here(card, from);
     if value < NO_DIGIT {
-        return valued(NUMBER, value, at, at + 1);
+        return valued(NUMBER, value, from, from + 1);
     }
-    let cursor = Cursor { at };
+    let cursor = Cursor { at: from };
     cursor.step(card)
 }
 
@@ -69,11 +73,12 @@ pub fn step_number(card: &[u8], at: usize) -> Step
 pub fn step_seat(card: &[u8], at: usize) -> Step
     ensures { λ r. ⌜ r ≡ stepAt (now (card .entry)) at ⌝ }
 {
-    let value = seat_here(card, at);
+    let from = past_blank(card, at);
+    let value = seat_here(card, from);
     if value < NO_DIGIT {
-        return valued(SEAT, value, at, at + 2);
+        return valued(SEAT, value, from, from + 2);
     }
-    let cursor = Cursor { at };
+    let cursor = Cursor { at: from };
     cursor.step(card)
 }
 
@@ -115,12 +120,13 @@ pub fn step_slash(card: &[u8], at: usize) -> Step
 pub fn step_arrow(card: &[u8], at: usize) -> Step
     ensures { λ r. ⌜ r ≡ stepAt (now (card .entry)) at ⌝ }
 {
-    if stands(card, at, 45) {
-        let next = at + 1;
+    let from = past_blank(card, at);
+    if stands(card, from, 45) {
+        let next = from + 1;
         if stands(card, next, 62) {
-            return bare(ARROW, at, next + 1);
+            return bare(ARROW, from, next + 1);
         }
     }
-    let cursor = Cursor { at };
+    let cursor = Cursor { at: from };
     cursor.step(card)
 }

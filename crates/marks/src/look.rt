@@ -4,7 +4,7 @@ ghost use mathlib.Core.Bool.{_&&_};
 ghost use lib.Dec.{leb};
 ghost use lib.ListN.{length, drop};
 ghost use Rattle.marks.specs.Parts.{begun};
-ghost use Rattle.marks.specs.Quick.{signAhead, digitAhead, seatAhead};
+ghost use Rattle.marks.specs.Quick.{signAhead, digitAhead, seatAhead, pastBlank};
 use crate::bytes::begins_at;
 use crate::bytes::digit_at;
 use crate::bytes::is_alone;
@@ -12,6 +12,16 @@ use crate::bytes::number_at;
 use crate::bytes::stands;
 use crate::bytes::wide;
 use crate::bytes::word_at;
+
+// The place behind one blank, where one stands: most marks that are set off are so by one.
+pub fn past_blank(card: &[u8], at: usize) -> usize
+    ensures { λ r. ⌜ r ≡ pastBlank (now (card .entry)) at ⌝ }
+{
+    if stands(card, at, 32) {
+        return at + 1;
+    }
+    at
+}
 
 // A sign of this kind that begins no other mark?
 pub fn sign_here(card: &[u8], at: usize, kind: usize) -> bool

@@ -1,10 +1,9 @@
--- What the look found is what the step finds (proofs/Quick.antt).
-use Rattle.marks.proofs.Quick.{arrow-step}
-use Rattle.marks.proofs.Runs.{begins-place}
-use lib.Dec.{eqb}
+use mathlib.Core.Path.{sym, _∙_}
 use native.Mathlib.Omega.{arith}
 use Prim.Native.Nat.{_+_}
-use mathlib.Core.Path.{sym, _∙_}
+use lib.Dec.{eqb}
+use Rattle.marks.proofs.Runs.{begins-place}
+use Rattle.marks.proofs.Quick.{arrow-step, past-step}
 use borrow.Author.Needs.{needs}
 use Rattle.marks.proofs.due.step_arrow.Statement.{statement}
 use Rattle.marks.proofs.due.step_arrow.Tie as tie
@@ -13,43 +12,49 @@ use Rattle.marks.proofs.due.step_arrow.Lts as lts
 use Rattle.marks.proofs.Cursor.step.Reads as step-reads
 use Rattle.marks.proofs.answer.bare.Reads as bare-reads
 use Rattle.marks.proofs.bytes.stands.Reads as stands-reads
+use Rattle.marks.proofs.look.past_blank.Reads as past-blank-reads
 
--- src/due.rt:129:8
+-- src/due.rt:123:9
+past-blank-requires : tie.Need-past-blank-requires
+past-blank-requires c κs = search needs
+
+-- src/due.rt:124:8
 stands-requires : tie.Need-stands-requires
 stands-requires c κs = search needs
 
--- src/due.rt:130:20
+-- src/due.rt:125:20
 add-next : tie.Need-add-next
-add-next c = omega (arith, begins-place (eqb 45) (c .before .before .before .args .card .now) (c .before .before .before .args .at) (sym (c .before .stands .ensures) ∙ c .if1 .taken))
+add-next c = omega (arith, begins-place (eqb 45) (c .before .before .before .before .args .card .now) (c .before .before .past-blank .result) (sym (c .before .stands .ensures) ∙ c .if1 .taken))
 
--- src/due.rt:131:12
+-- src/due.rt:126:12
 stands-requires-2 : tie.Need-stands-requires-2
 stands-requires-2 c κs = search needs
 
--- src/due.rt:132:36
+-- src/due.rt:127:38
 add-bare : tie.Need-add-bare
-add-bare c = omega (arith, begins-place (eqb 62) (c .before .before .before .before .before .args .card .now) (c .before .before .before .before .before .args .at + 1) (sym (c .before .stands2 .ensures) ∙ c .if2 .taken))
+add-bare c = omega (arith, begins-place (eqb 62) (c .before .before .before .before .before .before .args .card .now) (c .before .before .before .before .past-blank .result + 1) (sym (c .before .stands2 .ensures) ∙ c .if2 .taken))
 
--- src/due.rt:132:13
+-- src/due.rt:127:13
 bare-requires : tie.Need-bare-requires
 bare-requires c κs = search needs
 
--- src/due.rt:132:13
+-- src/due.rt:127:13
 returns : tie.Need-returns
-returns c = c .bare .ensures ∙ sym (arrow-step (c .before .before .before .before .before .before .args .card .now) (c .before .before .before .before .before .before .args .at) (sym (c .before .before .before .before .stands .ensures) ∙ c .before .before .before .if1 .taken) (sym (c .before .before .stands2 .ensures) ∙ c .before .if2 .taken))
+returns c = c .bare .ensures ∙ sym (arrow-step (c .before .before .before .before .before .before .before .args .card .now) (c .before .before .before .before .before .past-blank .result) (sym (c .before .before .before .before .stands .ensures) ∙ c .before .before .before .if1 .taken) (sym (c .before .before .stands2 .ensures) ∙ c .before .if2 .taken)) ∙ past-step (c .before .before .before .before .before .before .before .args .card .now) (c .before .before .before .before .before .before .before .args .at) (c .before .before .before .before .before .past-blank .ensures)
 
--- src/due.rt:136:5
+-- src/due.rt:131:5
 step-requires : tie.Need-step-requires
 step-requires c κs = search needs
 
--- src/due.rt:126:1
+-- src/due.rt:120:1
 returns-2 : tie.Need-returns-2
-returns-2 c = search needs
+returns-2 c = c .step .ensures ∙ past-step (c .before .before .before .before .before .args .card .now) (c .before .before .before .before .before .args .at) (c .before .before .before .past-blank .ensures)
 
 pub step-arrow-spec : {M : Type 1} → statement M
 step-arrow-spec =
     tie.close
     (tie.spec
+    past-blank-requires
     stands-requires
     add-next
     stands-requires-2

@@ -17,7 +17,7 @@ sign-here-requires c κs = search needs
 
 -- src/due.rt:49:31
 add-bare : tie.Need-add-bare
-add-bare c = omega (arith, sign-place (c .before .before .before .args .card .now) (c .before .before .before .args .at) 43 (sym (c .before .sign-here .ensures) ∙ c .if1 .taken))
+add-bare c = omega (arith, sign-place (c .before .before .before .args .card .now) (c .before .before .before .args .at) 59 (sym (c .before .sign-here .ensures) ∙ c .if1 .taken))
 
 -- src/due.rt:49:9
 bare-requires : tie.Need-bare-requires
@@ -25,7 +25,7 @@ bare-requires c κs = search needs
 
 -- src/due.rt:49:9
 returns : tie.Need-returns
-returns c = c .bare .ensures ∙ sym (sign-step (c .before .before .before .before .args .card .now) (c .before .before .before .before .args .at) 43 (sym (c .before .before .sign-here .ensures) ∙ c .before .if1 .taken))
+returns c = c .bare .ensures ∙ sym (sign-step (c .before .before .before .before .args .card .now) (c .before .before .before .before .args .at) 59 (sym (c .before .before .sign-here .ensures) ∙ c .before .if1 .taken))
 
 -- src/due.rt:51:5
 step-sign-requires : tie.Need-step-sign-requires

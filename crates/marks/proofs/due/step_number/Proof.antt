@@ -1,7 +1,6 @@
--- What the look found is what the step finds (proofs/Quick.antt).
-use Rattle.marks.proofs.Quick.{digit-place, digit-step}
-use native.Mathlib.Omega.{arith}
 use mathlib.Core.Path.{sym, _∙_}
+use native.Mathlib.Omega.{arith}
+use Rattle.marks.proofs.Quick.{digit-place, digit-step, past-step}
 use borrow.Author.Needs.{needs}
 use Rattle.marks.proofs.due.step_number.Statement.{statement}
 use Rattle.marks.proofs.due.step_number.Tie as tie
@@ -10,32 +9,44 @@ use Rattle.marks.proofs.due.step_number.Lts as lts
 use Rattle.marks.proofs.Cursor.step.Reads as step-reads
 use Rattle.marks.proofs.answer.valued.Reads as valued-reads
 use Rattle.marks.proofs.look.digit_here.Reads as digit-here-reads
+use Rattle.marks.proofs.look.past_blank.Reads as past-blank-reads
 
--- src/due.rt:71:9
+-- src/due.rt:63:9
+past-blank-requires : tie.Need-past-blank-requires
+past-blank-requires c κs = search needs
+
+-- src/due.rt:64:9
 digit-here-requires : tie.Need-digit-here-requires
 digit-here-requires c κs = search needs
 
--- src/due.rt:73:42
+-- src/due.rt:66:44
 add-valued : tie.Need-add-valued
-add-valued c = omega (arith, digit-place (c .before .before .before .args .card .now) (c .before .before .before .args .at) (c .before .digit-here .result) (c .before .digit-here .ensures) (c .if1 .taken))
+add-valued c = omega (arith, digit-place (c .before .before .before .before .args .card .now) (c .before .before .past-blank .result) (c .before .digit-here .result) (c .before .digit-here .ensures) (c .if1 .taken))
 
--- src/due.rt:73:9
+-- src/due.rt:66:9
 valued-requires : tie.Need-valued-requires
 valued-requires c κs = search needs
 
--- src/due.rt:73:9
+-- src/due.rt:66:9
 returns : tie.Need-returns
-returns c = c .valued .ensures ∙ sym (digit-step (c .before .before .before .before .args .card .now) (c .before .before .before .before .args .at) (c .before .before .digit-here .result) (c .before .before .digit-here .ensures) (c .before .if1 .taken))
+returns c = c .valued .ensures ∙ sym (digit-step (c .before .before .before .before .before .args .card .now) (c .before .before .before .past-blank .result) (c .before .before .digit-here .result) (c .before .before .digit-here .ensures) (c .before .if1 .taken)) ∙ past-step (c .before .before .before .before .before .args .card .now) (c .before .before .before .before .before .args .at) (c .before .before .before .past-blank .ensures)
 
--- src/due.rt:76:5
+-- src/due.rt:69:5
 step-requires : tie.Need-step-requires
 step-requires c κs = search needs
 
--- src/due.rt:68:1
+-- src/due.rt:60:1
 returns-2 : tie.Need-returns-2
-returns-2 c = search needs
+returns-2 c = c .step .ensures ∙ past-step (c .before .before .before .before .before .args .card .now) (c .before .before .before .before .before .args .at) (c .before .before .before .past-blank .ensures)
 
 pub step-number-spec : {M : Type 1} → statement M
 step-number-spec =
     tie.close
-    (tie.spec digit-here-requires add-valued valued-requires returns step-requires returns-2)
+    (tie.spec
+    past-blank-requires
+    digit-here-requires
+    add-valued
+    valued-requires
+    returns
+    step-requires
+    returns-2)

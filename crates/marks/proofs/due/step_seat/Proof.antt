@@ -1,7 +1,6 @@
--- What the look found is what the step finds (proofs/Quick.antt).
-use Rattle.marks.proofs.Quick.{seat-room, seat-step}
-use native.Mathlib.Omega.{arith}
 use mathlib.Core.Path.{sym, _∙_}
+use native.Mathlib.Omega.{arith}
+use Rattle.marks.proofs.Quick.{seat-room, seat-step, past-step}
 use borrow.Author.Needs.{needs}
 use Rattle.marks.proofs.due.step_seat.Statement.{statement}
 use Rattle.marks.proofs.due.step_seat.Tie as tie
@@ -9,33 +8,45 @@ use Rattle.marks.proofs.due.step_seat.Reads as reads
 use Rattle.marks.proofs.due.step_seat.Lts as lts
 use Rattle.marks.proofs.Cursor.step.Reads as step-reads
 use Rattle.marks.proofs.answer.valued.Reads as valued-reads
+use Rattle.marks.proofs.look.past_blank.Reads as past-blank-reads
 use Rattle.marks.proofs.look.seat_here.Reads as seat-here-reads
 
--- src/due.rt:83:9
+-- src/due.rt:76:9
+past-blank-requires : tie.Need-past-blank-requires
+past-blank-requires c κs = search needs
+
+-- src/due.rt:77:9
 seat-here-requires : tie.Need-seat-here-requires
 seat-here-requires c κs = search needs
 
--- src/due.rt:85:40
+-- src/due.rt:79:42
 add-valued : tie.Need-add-valued
-add-valued c = omega (arith, seat-room (c .before .before .before .args .card .now) (c .before .before .before .args .at) (c .before .seat-here .result) (c .before .seat-here .ensures) (c .if1 .taken))
+add-valued c = omega (arith, seat-room (c .before .before .before .before .args .card .now) (c .before .before .past-blank .result) (c .before .seat-here .result) (c .before .seat-here .ensures) (c .if1 .taken))
 
--- src/due.rt:85:9
+-- src/due.rt:79:9
 valued-requires : tie.Need-valued-requires
 valued-requires c κs = search needs
 
--- src/due.rt:85:9
+-- src/due.rt:79:9
 returns : tie.Need-returns
-returns c = c .valued .ensures ∙ sym (seat-step (c .before .before .before .before .args .card .now) (c .before .before .before .before .args .at) (c .before .before .seat-here .result) (c .before .before .seat-here .ensures) (c .before .if1 .taken))
+returns c = c .valued .ensures ∙ sym (seat-step (c .before .before .before .before .before .args .card .now) (c .before .before .before .past-blank .result) (c .before .before .seat-here .result) (c .before .before .seat-here .ensures) (c .before .if1 .taken)) ∙ past-step (c .before .before .before .before .before .args .card .now) (c .before .before .before .before .before .args .at) (c .before .before .before .past-blank .ensures)
 
--- src/due.rt:88:5
+-- src/due.rt:82:5
 step-requires : tie.Need-step-requires
 step-requires c κs = search needs
 
--- src/due.rt:80:1
+-- src/due.rt:73:1
 returns-2 : tie.Need-returns-2
-returns-2 c = search needs
+returns-2 c = c .step .ensures ∙ past-step (c .before .before .before .before .before .args .card .now) (c .before .before .before .before .before .args .at) (c .before .before .before .past-blank .ensures)
 
 pub step-seat-spec : {M : Type 1} → statement M
 step-seat-spec =
     tie.close
-    (tie.spec seat-here-requires add-valued valued-requires returns step-requires returns-2)
+    (tie.spec
+    past-blank-requires
+    seat-here-requires
+    add-valued
+    valued-requires
+    returns
+    step-requires
+    returns-2)

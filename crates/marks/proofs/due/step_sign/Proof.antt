@@ -1,7 +1,6 @@
--- What the look found is what the step finds (proofs/Quick.antt).
-use Rattle.marks.proofs.Quick.{sign-place, sign-step}
-use native.Mathlib.Omega.{arith}
 use mathlib.Core.Path.{sym, _∙_}
+use native.Mathlib.Omega.{arith}
+use Rattle.marks.proofs.Quick.{sign-place, sign-step, past-step}
 use borrow.Author.Needs.{needs}
 use Rattle.marks.proofs.due.step_sign.Statement.{statement}
 use Rattle.marks.proofs.due.step_sign.Tie as tie
@@ -9,32 +8,45 @@ use Rattle.marks.proofs.due.step_sign.Reads as reads
 use Rattle.marks.proofs.due.step_sign.Lts as lts
 use Rattle.marks.proofs.Cursor.step.Reads as step-reads
 use Rattle.marks.proofs.answer.bare.Reads as bare-reads
+use Rattle.marks.proofs.look.past_blank.Reads as past-blank-reads
 use Rattle.marks.proofs.look.sign_here.Reads as sign-here-reads
 
--- src/due.rt:27:8
+-- src/due.rt:28:9
+past-blank-requires : tie.Need-past-blank-requires
+past-blank-requires c κs = search needs
+
+-- src/due.rt:29:8
 sign-here-requires : tie.Need-sign-here-requires
 sign-here-requires c κs = search needs
 
--- src/due.rt:28:31
+-- src/due.rt:30:33
 add-bare : tie.Need-add-bare
-add-bare c = omega (arith, sign-place (c .before .before .before .args .card .now) (c .before .before .before .args .at) (c .before .before .before .args .kind) (sym (c .before .sign-here .ensures) ∙ c .if1 .taken))
+add-bare c = omega (arith, sign-place (c .before .before .before .before .args .card .now) (c .before .before .past-blank .result) (c .before .before .before .before .args .kind) (sym (c .before .sign-here .ensures) ∙ c .if1 .taken))
 
--- src/due.rt:28:9
+-- src/due.rt:30:9
 bare-requires : tie.Need-bare-requires
 bare-requires c κs = search needs
 
--- src/due.rt:28:9
+-- src/due.rt:30:9
 returns : tie.Need-returns
-returns c = c .bare .ensures ∙ sym (sign-step (c .before .before .before .before .args .card .now) (c .before .before .before .before .args .at) (c .before .before .before .before .args .kind) (sym (c .before .before .sign-here .ensures) ∙ c .before .if1 .taken))
+returns c = c .bare .ensures ∙ sym (sign-step (c .before .before .before .before .before .args .card .now) (c .before .before .before .past-blank .result) (c .before .before .before .before .before .args .kind) (sym (c .before .before .sign-here .ensures) ∙ c .before .if1 .taken)) ∙ past-step (c .before .before .before .before .before .args .card .now) (c .before .before .before .before .before .args .at) (c .before .before .before .past-blank .ensures)
 
--- src/due.rt:31:5
+-- src/due.rt:33:5
 step-requires : tie.Need-step-requires
 step-requires c κs = search needs
 
--- src/due.rt:24:1
+-- src/due.rt:25:1
 returns-2 : tie.Need-returns-2
-returns-2 c = search needs
+returns-2 c = c .step .ensures ∙ past-step (c .before .before .before .before .before .args .card .now) (c .before .before .before .before .before .args .at) (c .before .before .before .past-blank .ensures)
 
 pub step-sign-spec : {M : Type 1} → statement M
 step-sign-spec =
-    tie.close (tie.spec sign-here-requires add-bare bare-requires returns step-requires returns-2)
+    tie.close
+    (tie.spec
+    past-blank-requires
+    sign-here-requires
+    add-bare
+    bare-requires
+    returns
+    step-requires
+    returns-2)
