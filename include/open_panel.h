@@ -40,11 +40,13 @@ extern "C" {
 #define OPEN_PANEL_TOP_STATE 7
 
 /*
- * Rooms, in bytes, that are always enough, whatever the card and the seats.
- * The last two are proved. The first is reckoned from the longest card, which
- * has to spell what is written, and tried on cards made to be long.
+ * Rooms, in bytes, that are always enough, whatever the card and the seats:
+ * this is proved. A room that is known to be enough before the text is made
+ * (these are, and for open_panel_write smaller ones too, by the card's seats
+ * and statements) is written in one walk; in any other room the text is
+ * measured first, so that a refusal leaves the room as it was.
  */
-#define OPEN_PANEL_WRITE_ROOM 24576
+#define OPEN_PANEL_WRITE_ROOM 82639
 #define OPEN_PANEL_REDUCE_ROOM 347890
 #define OPEN_PANEL_SHOW_ROOM 4101
 

@@ -36,7 +36,7 @@ pub const SEATS: usize = 16;
 /// Highest state of a seat on any card.
 pub const TOP_STATE: u8 = 7;
 /// A room in which every written card fits.
-pub const WRITE_ROOM: usize = 24_576;
+pub const WRITE_ROOM: usize = 82_639;
 /// A room in which every reduced program fits.
 pub const REDUCE_ROOM: usize = 347_890;
 /// A room in which every panel fits.

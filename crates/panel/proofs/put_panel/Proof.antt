@@ -1,4 +1,5 @@
 -- `panel::put_panel` meets its contract: the head, and then what the mode asks for. Assumes nothing.
+use native.Mathlib.Omega.{arith}
 use borrow.Author.Needs.{needs}
 use Rattle.phrases.proofs.Laws.{puts-then}
 use Rattle.panel.proofs.Laws.{choices-text, weights-text}
@@ -21,7 +22,7 @@ put-stay-requires : tie.Need-put-stay-requires
 put-stay-requires c κs = search needs
 
 put-table-requires : tie.Need-put-table-requires
-put-table-requires c κs = (c .before .before .before .before .before .before .before .before .before .before .before .before .before .before .pre .top, search needs)
+put-table-requires c κs = (omega (arith, c .before .before .before .before .before .before .before .before .before .before .before .before .before .before .pre .top), search needs)
 
 same-length-2 : tie.Need-same-length-2
 same-length-2 c = search needs
