@@ -2,11 +2,11 @@
 use crate::refusals::OUT_OF_SHAPE;
 use card::limits::MOST_SEATS;
 use card::node::pack_group;
-use marks::Cursor;
-use marks::Step;
+use marks::due::step_closing;
+use marks::due::step_joint;
 use marks::due::step_number;
+use marks::due::step_relation;
 use marks::due::step_seat;
-use marks::due::step_sign;
 use marks::kinds;
 use marks::look::NO_DIGIT;
 use marks::look::digit_here;
@@ -20,7 +20,7 @@ ghost use Rattle.card.specs.Limits.{mostSeats};
 ghost use Rattle.card.specs.Laid.{signNumber};
 ghost use Rattle.marks.specs.Marks.{placed, seat as seatWord};
 ghost use Rattle.marks.specs.Kinds.{kind as kindOf};
-ghost use Rattle.marks.specs.Step.{stepAt, marksAt};
+ghost use Rattle.marks.specs.Step.{marksAt};
 ghost use Rattle.reading.specs.Reader.{Place, at as from};
 ghost use Rattle.reading.specs.Group.{joint as jointOf, literal as literalOf, group as groupOf};
 ghost use Rattle.guard.specs.GroupRead.{noGroup, GroupRead};
@@ -94,8 +94,7 @@ fn relation(kind: usize) -> usize
 fn long_literal(part: &[u8], at: usize) -> Tail
     ensures { λ r. ⌜ ((o n i x : ℕ) → LiteralRead o (now (part .entry)) at n i (literalOf (from (placed (seatWord i) x ∷ marksAt o (now (part .entry)) at) n)) r) ⌝ }
 {
-    let start = Cursor { at: at };
-    let sign = start.step(part);
+    let sign = step_relation(part, at);
     let relation = relation(sign.mark.kind);
     if relation == NO_RELATION {
         return no_tail(sign.mark.place);
@@ -217,16 +216,6 @@ fn joint(any: bool) -> usize
     kinds::AND
 }
 
-// The step where such a sign is due.
-fn step_joint(part: &[u8], at: usize, any: bool) -> Step
-    ensures { λ r. ⌜ r ≡ stepAt (now (part .entry)) at ⌝ }
-{
-    if any {
-        return step_sign(part, at, kinds::OR);
-    }
-    step_sign(part, at, kinds::AND)
-}
-
 fn sign(any: bool) -> usize
     ensures { λ r. ⌜ r ≡ signNumber (signIn any) ⌝ }
 {
@@ -256,7 +245,7 @@ pub fn group(part: &[u8], at: usize, seat: usize) -> Grouped
     if first.stop != 0 {
         return no_group(first.place);
     }
-    let mut ahead = step_sign(part, first.next, kinds::OR);
+    let mut ahead = step_joint(part, first.next);
     let any = ahead.mark.kind == kinds::OR;
     let joint = joint(any);
     let mut seen: [u8; SEATS] = [0; SEATS];
@@ -276,7 +265,7 @@ pub fn group(part: &[u8], at: usize, seat: usize) -> Grouped
         note(&mut seen, word.mark.value);
         count = one_more(count);
         alike = same(alike, first, more);
-        ahead = step_joint(part, more.next, any);
+        ahead = step_closing(part, more.next, joint);
     }
     if ahead.mark.kind != kinds::ROUND_CLOSE {
         return no_group(ahead.mark.place);

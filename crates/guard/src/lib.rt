@@ -4,6 +4,7 @@ pub mod refusals;
 
 use card::limits::NODE_PLACES;
 use card::node;
+use marks::due::step_closing;
 use marks::due::step_inner;
 use marks::due::step_opening;
 use marks::due::step_sign;
@@ -413,7 +414,7 @@ fn chain(
     let mut g = first;
     let kind = joint(any);
     while g.stop == 0 {
-        let s = step_sign(card, g.next, kind);
+        let s = step_closing(card, g.next, kind);
         if s.mark.kind != kind {
             return g;
         }

@@ -142,6 +142,9 @@ module _ (s : List ℕ) (i : ℕ) where
   pub not-step : begins (eqb 33) (drop i s) ≡ true → begins (eqb 61) (drop (i + 1) s) ≡ false → stepAt s i ≡ bareOf 33 i (i + 1)
   not-step e n = step-at s i (begins-place (eqb 33) s i e) ∙ rw (stood 33 e, n, add-zero)
 
+  pub unequal-step : begins (eqb 33) (drop i s) ≡ true → begins (eqb 61) (drop (i + 1) s) ≡ true → stepAt s i ≡ bareOf 7 i (i + 1 + 1)
+  unequal-step e n = step-at s i (begins-place (eqb 33) s i e) ∙ rw (stood 33 e, n)
+
   pub slash-step : begins (eqb 47) (drop i s) ≡ true → begins (eqb 47) (drop (i + 1) s) ≡ false → stepAt s i ≡ bareOf 47 i (i + 1)
   slash-step e n = step-at s i (begins-place (eqb 47) s i e) ∙ rw (stood 47 e, n, add-zero)
 

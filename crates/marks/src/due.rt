@@ -7,10 +7,15 @@ use crate::Step;
 use crate::answer::bare;
 use crate::answer::valued;
 use crate::bytes::stands;
+use crate::kinds::AND;
 use crate::kinds::ARROW;
+use crate::kinds::EQUAL;
 use crate::kinds::NOT;
+use crate::kinds::NOT_EQUAL;
 use crate::kinds::NUMBER;
+use crate::kinds::OR;
 use crate::kinds::PLUS;
+use crate::kinds::ROUND_CLOSE;
 use crate::kinds::ROUND_OPEN;
 use crate::kinds::SEAT;
 use crate::kinds::SEMICOLON;
@@ -31,6 +36,47 @@ pub fn step_sign(card: &[u8], at: usize, kind: usize) -> Step
     }
     let cursor = Cursor { at: from };
     cursor.step(card)
+}
+
+// A sign of this kind, a `)` or a `->`.
+pub fn step_closing(card: &[u8], at: usize, kind: usize) -> Step
+    ensures { λ r. ⌜ r ≡ stepAt (now (card .entry)) at ⌝ }
+{
+    let from = past_blank(card, at);
+    if sign_here(card, from, kind) {
+        return bare(kind, from, from + 1);
+    }
+    if sign_here(card, from, ROUND_CLOSE) {
+        return bare(ROUND_CLOSE, from, from + 1);
+    }
+    step_arrow(card, from)
+}
+
+// A `|`, a `&` or a `)`.
+pub fn step_joint(card: &[u8], at: usize) -> Step
+    ensures { λ r. ⌜ r ≡ stepAt (now (card .entry)) at ⌝ }
+{
+    let from = past_blank(card, at);
+    if sign_here(card, from, OR) {
+        return bare(OR, from, from + 1);
+    }
+    if sign_here(card, from, AND) {
+        return bare(AND, from, from + 1);
+    }
+    step_sign(card, from, ROUND_CLOSE)
+}
+
+// A `=` or a `!=`.
+pub fn step_relation(card: &[u8], at: usize) -> Step
+    ensures { λ r. ⌜ r ≡ stepAt (now (card .entry)) at ⌝ }
+{
+    if stands(card, at, 33) {
+        let next = at + 1;
+        if stands(card, next, 61) {
+            return bare(NOT_EQUAL, at, next + 1);
+        }
+    }
+    step_sign(card, at, EQUAL)
 }
 
 // A `+` or a `;`.

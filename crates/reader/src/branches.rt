@@ -18,6 +18,7 @@ use guard::refusals::WRONG_WEIGHT;
 use marks::Cursor;
 use marks::Found;
 use marks::due::step_further;
+use marks::due::step_number;
 use marks::due::step_slash;
 use marks::kinds::COLON;
 use marks::kinds::DECIMAL;
@@ -56,8 +57,7 @@ fn weighed(judged: Judged, next: usize, place: usize, late: Late) -> Took
 fn weight(card: &[u8], at: usize, late: Late) -> Took
     ensures { λ r. ⌜ WeightFrom (now (card .entry)) at late r ⌝ }
 {
-    let cursor = Cursor { at };
-    let step = cursor.step(card);
+    let step = step_number(card, at);
     let mark = step.mark;
     let next = step.next;
     if mark.kind == DECIMAL {
@@ -74,7 +74,7 @@ fn weight(card: &[u8], at: usize, late: Late) -> Took
         let judged = Weight::whole(mark.value);
         return weighed(judged, next.at, mark.place, late);
     }
-    let last = behind.step(card);
+    let last = step_number(card, behind.at);
     let third = last.mark;
     let end = last.next;
     if third.kind != NUMBER {

@@ -23,8 +23,8 @@ no-group-requires c κs = tt
 returns : tie.Need-returns Inv-loop μ-loop
 returns c = rw (c .no-group .ensures) (first-wrong (now (c .before .before .before .before .before .args .part)) (c .before .before .before .before .before .args .at) (c .before .before .before .before .before .args .seat) (c .before .before .before .literal .result) (c .before .before .before .literal .ensures) (c .before .if1 .taken))
 
-step-sign-requires : tie.Need-step-sign-requires Inv-loop μ-loop
-step-sign-requires c κs = tt
+step-joint-requires : tie.Need-step-joint-requires Inv-loop μ-loop
+step-joint-requires c κs = tt
 
 joint-requires : tie.Need-joint-requires Inv-loop μ-loop
 joint-requires c κs = tt
@@ -33,7 +33,7 @@ note-requires : tie.Need-note-requires Inv-loop μ-loop
 note-requires c κs = tt
 
 loop-holds : tie.Need-loop-holds Inv-loop μ-loop
-loop-holds c = begins (now (c .before .before .before .before .before .before .before .before .before .args .part)) (c .before .before .before .before .before .before .before .before .before .args .at) (c .before .before .before .before .before .before .before .before .before .args .seat) (c .before .before .before .before .before .before .before .literal .result) _ (c .before .before .joint .result) (c .before .before .joint .ensures) (c .before .before .before .before .before .before .before .literal .ensures) (c .before .before .before .before .before .if1 .left) (c .before .before .before .before .step-sign .result) (c .before .before .before .before .step-sign .ensures) refl _ (c .note .ensures)
+loop-holds c = begins (now (c .before .before .before .before .before .before .before .before .before .args .part)) (c .before .before .before .before .before .before .before .before .before .args .at) (c .before .before .before .before .before .before .before .before .before .args .seat) (c .before .before .before .before .before .before .before .literal .result) _ (c .before .before .joint .result) (c .before .before .joint .ensures) (c .before .before .before .before .before .before .before .literal .ensures) (c .before .before .before .before .before .if1 .left) (c .before .before .before .before .step-joint .result) (c .before .before .before .before .step-joint .ensures) refl _ (c .note .ensures)
 
 step-seat-requires : tie.Need-step-seat-requires Inv-loop μ-loop
 step-seat-requires c κs = tt
@@ -62,14 +62,14 @@ one-more-requires c κs = tt
 same-requires : tie.Need-same-requires Inv-loop μ-loop
 same-requires c κs = tt
 
-step-joint-requires : tie.Need-step-joint-requires Inv-loop μ-loop
-step-joint-requires c κs = tt
+step-closing-requires : tie.Need-step-closing-requires Inv-loop μ-loop
+step-closing-requires c κs = tt
 
 loop-less : tie.Need-loop-less Inv-loop μ-loop
-loop-less c = turn-less (now (c .before .before .before .before .before .before .before .before .before .before .before .before .before .before .before .before .before .before .before .before .before .before .before .before .args .part)) (c .before .before .before .before .before .before .before .before .before .before .before .before .before .before .before .before .before .before .before .before .before .before .before .before .args .at) (c .before .before .before .before .before .before .before .before .before .before .before .before .before .before .before .before .before .before .before .before .before .before .before .before .args .seat) (c .before .before .before .before .before .before .before .before .before .before .before .before .before .before .before .before .before .before .before .before .before .before .literal .result) _ (c .before .before .before .before .before .before .before .before .before .before .before .before .before .before .before .before .before .joint .result) (c .before .before .before .before .before .before .before .before .before .before .before .before .before .before .before .before .before .joint .ensures) (c .before .before .before .before .before .before .before .before .before .before .before .before .before .before .loop .seen) (c .before .before .before .before .before .before .before .before .before .before .before .before .before .before .loop .count) (c .before .before .before .before .before .before .before .before .before .before .before .before .before .before .loop .alike) (c .before .before .before .before .before .before .before .before .before .before .before .before .before .before .loop .ahead) (c .before .before .before .before .before .before .before .before .before .before .before .before .before .before .loop .inv) (c .before .before .before .before .before .before .before .before .before .before .before .before .if2 .taken) (c .before .before .before .before .before .before .before .before .before .before .step-seat .result) (c .before .before .before .before .before .before .before .before .before .before .step-seat .ensures) (c .before .before .before .before .before .before .before .before .if3 .left) (c .before .before .before .before .before .before .before .literal2 .result) (c .before .before .before .before .before .before .before .literal2 .ensures) (c .before .before .before .before .before .if4 .left) (c .step-joint .result) (c .step-joint .ensures)
+loop-less c = turn-less (now (c .before .before .before .before .before .before .before .before .before .before .before .before .before .before .before .before .before .before .before .before .before .before .before .before .args .part)) (c .before .before .before .before .before .before .before .before .before .before .before .before .before .before .before .before .before .before .before .before .before .before .before .before .args .at) (c .before .before .before .before .before .before .before .before .before .before .before .before .before .before .before .before .before .before .before .before .before .before .before .before .args .seat) (c .before .before .before .before .before .before .before .before .before .before .before .before .before .before .before .before .before .before .before .before .before .before .literal .result) _ (c .before .before .before .before .before .before .before .before .before .before .before .before .before .before .before .before .before .joint .result) (c .before .before .before .before .before .before .before .before .before .before .before .before .before .before .before .before .before .joint .ensures) (c .before .before .before .before .before .before .before .before .before .before .before .before .before .before .loop .seen) (c .before .before .before .before .before .before .before .before .before .before .before .before .before .before .loop .count) (c .before .before .before .before .before .before .before .before .before .before .before .before .before .before .loop .alike) (c .before .before .before .before .before .before .before .before .before .before .before .before .before .before .loop .ahead) (c .before .before .before .before .before .before .before .before .before .before .before .before .before .before .loop .inv) (c .before .before .before .before .before .before .before .before .before .before .before .before .if2 .taken) (c .before .before .before .before .before .before .before .before .before .before .step-seat .result) (c .before .before .before .before .before .before .before .before .before .before .step-seat .ensures) (c .before .before .before .before .before .before .before .before .if3 .left) (c .before .before .before .before .before .before .before .literal2 .result) (c .before .before .before .before .before .before .before .literal2 .ensures) (c .before .before .before .before .before .if4 .left) (c .step-closing .result) (c .step-closing .ensures)
 
 loop-again : tie.Need-loop-again Inv-loop μ-loop
-loop-again c = turn-on (now (c .before .before .before .before .before .before .before .before .before .before .before .before .before .before .before .before .before .before .before .before .before .before .before .before .args .part)) (c .before .before .before .before .before .before .before .before .before .before .before .before .before .before .before .before .before .before .before .before .before .before .before .before .args .at) (c .before .before .before .before .before .before .before .before .before .before .before .before .before .before .before .before .before .before .before .before .before .before .before .before .args .seat) (c .before .before .before .before .before .before .before .before .before .before .before .before .before .before .before .before .before .before .before .before .before .before .literal .result) _ (c .before .before .before .before .before .before .before .before .before .before .before .before .before .before .before .before .before .joint .result) (c .before .before .before .before .before .before .before .before .before .before .before .before .before .before .before .before .before .joint .ensures) (c .before .before .before .before .before .before .before .before .before .before .before .before .before .before .loop .seen) (c .before .before .before .before .before .before .before .before .before .before .before .before .before .before .loop .count) (c .before .before .before .before .before .before .before .before .before .before .before .before .before .before .loop .alike) (c .before .before .before .before .before .before .before .before .before .before .before .before .before .before .loop .ahead) (c .before .before .before .before .before .before .before .before .before .before .before .before .before .before .loop .inv) (c .before .before .before .before .before .before .before .before .before .before .before .before .if2 .taken) (c .before .before .before .before .before .before .before .before .before .before .step-seat .result) (c .before .before .before .before .before .before .before .before .before .before .step-seat .ensures) (c .before .before .before .before .before .before .before .before .if3 .left) (c .before .before .before .before .before .before .before .literal2 .result) (c .before .before .before .before .before .before .before .literal2 .ensures) (c .before .before .before .before .before .if4 .left) (c .step-joint .result) (c .step-joint .ensures) (c .before .before .before .note2 .last .0) (c .before .before .before .note2 .ensures) (c .before .before .one-more .result) (c .before .before .one-more .ensures) (c .before .same .result) (c .before .same .ensures)
+loop-again c = turn-on (now (c .before .before .before .before .before .before .before .before .before .before .before .before .before .before .before .before .before .before .before .before .before .before .before .before .args .part)) (c .before .before .before .before .before .before .before .before .before .before .before .before .before .before .before .before .before .before .before .before .before .before .before .before .args .at) (c .before .before .before .before .before .before .before .before .before .before .before .before .before .before .before .before .before .before .before .before .before .before .before .before .args .seat) (c .before .before .before .before .before .before .before .before .before .before .before .before .before .before .before .before .before .before .before .before .before .before .literal .result) _ (c .before .before .before .before .before .before .before .before .before .before .before .before .before .before .before .before .before .joint .result) (c .before .before .before .before .before .before .before .before .before .before .before .before .before .before .before .before .before .joint .ensures) (c .before .before .before .before .before .before .before .before .before .before .before .before .before .before .loop .seen) (c .before .before .before .before .before .before .before .before .before .before .before .before .before .before .loop .count) (c .before .before .before .before .before .before .before .before .before .before .before .before .before .before .loop .alike) (c .before .before .before .before .before .before .before .before .before .before .before .before .before .before .loop .ahead) (c .before .before .before .before .before .before .before .before .before .before .before .before .before .before .loop .inv) (c .before .before .before .before .before .before .before .before .before .before .before .before .if2 .taken) (c .before .before .before .before .before .before .before .before .before .before .step-seat .result) (c .before .before .before .before .before .before .before .before .before .before .step-seat .ensures) (c .before .before .before .before .before .before .before .before .if3 .left) (c .before .before .before .before .before .before .before .literal2 .result) (c .before .before .before .before .before .before .before .literal2 .ensures) (c .before .before .before .before .before .if4 .left) (c .step-closing .result) (c .step-closing .ensures) (c .before .before .before .note2 .last .0) (c .before .before .before .note2 .ensures) (c .before .before .one-more .result) (c .before .before .one-more .ensures) (c .before .same .result) (c .before .same .ensures)
 
 no-group-requires-4 : tie.Need-no-group-requires-4 Inv-loop μ-loop
 no-group-requires-4 c κs = tt
@@ -101,7 +101,7 @@ group-spec =
     literal-requires
     no-group-requires
     returns
-    step-sign-requires
+    step-joint-requires
     joint-requires
     note-requires
     loop-holds
@@ -114,7 +114,7 @@ group-spec =
     note-requires-2
     one-more-requires
     same-requires
-    step-joint-requires
+    step-closing-requires
     loop-less
     loop-again
     no-group-requires-4

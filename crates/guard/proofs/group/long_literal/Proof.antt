@@ -1,38 +1,52 @@
--- One way out for the sign, one for the number, one for the whole literal.
-use Rattle.guard.proofs.Literals.{literal-sign, literal-number, literal-whole}
 use denote.Ref.{now}
+use Rattle.guard.proofs.Literals.{literal-sign, literal-number, literal-whole}
+use borrow.Author.Needs.{needs}
 use Rattle.guard.proofs.group.long_literal.Statement.{statement}
 use Rattle.guard.proofs.group.long_literal.Tie as tie
+use Rattle.guard.proofs.group.long_literal.Reads as reads
+use Rattle.guard.proofs.group.long_literal.Lts as lts
+use Rattle.guard.proofs.group.no_tail.Reads as no-tail-reads
+use Rattle.guard.proofs.group.relation.Reads as relation-reads
+use Rattle.marks.proofs.due.step_number.Reads as step-number-reads
+use Rattle.marks.proofs.due.step_relation.Reads as step-relation-reads
 
-step-requires : tie.Need-step-requires
-step-requires c κs = tt
+-- src/group.rt:97:9
+step-relation-requires : tie.Need-step-relation-requires
+step-relation-requires c κs = tt
 
+-- src/group.rt:98:9
 relation-requires : tie.Need-relation-requires
 relation-requires c κs = tt
 
+-- src/group.rt:100:9
 no-tail-requires : tie.Need-no-tail-requires
 no-tail-requires c κs = tt
 
+-- src/group.rt:100:9
 returns : tie.Need-returns
-returns c = rw (c .no-tail .ensures) (literal-sign (now (c .before .before .before .before .before .args .part)) (c .before .before .before .before .before .args .at) (c .before .before .relation .result) (c .before .before .before .step .result) (c .before .before .before .step .ensures) (c .before .before .relation .ensures) (c .before .if1 .taken))
+returns c = rw (c .no-tail .ensures) (literal-sign (now (c .before .before .before .before .before .args .part)) (c .before .before .before .before .before .args .at) (c .before .before .relation .result) (c .before .before .before .step-relation .result) (c .before .before .before .step-relation .ensures) (c .before .before .relation .ensures) (c .before .if1 .taken))
 
+-- src/group.rt:103:9
 step-number-requires : tie.Need-step-number-requires
 step-number-requires c κs = tt
 
+-- src/group.rt:105:9
 no-tail-requires-2 : tie.Need-no-tail-requires-2
 no-tail-requires-2 c κs = tt
 
+-- src/group.rt:105:9
 returns-2 : tie.Need-returns-2
-returns-2 c = rw (c .no-tail2 .ensures) (literal-number (now (c .before .before .before .before .before .before .before .before .before .args .part)) (c .before .before .before .before .before .before .before .before .before .args .at) (c .before .before .before .before .before .before .relation .result) (c .before .before .before .before .before .before .before .step .result) (c .before .before .before .step-number .result) (c .before .before .before .before .before .before .before .step .ensures) (c .before .before .before .step-number .ensures) (c .before .before .before .before .before .before .relation .ensures) (c .before .before .before .before .before .if1 .left) (c .before .if2 .taken))
+returns-2 c = rw (c .no-tail2 .ensures) (literal-number (now (c .before .before .before .before .before .before .before .before .before .args .part)) (c .before .before .before .before .before .before .before .before .before .args .at) (c .before .before .before .before .before .before .relation .result) (c .before .before .before .before .before .before .before .step-relation .result) (c .before .before .before .step-number .result) (c .before .before .before .before .before .before .before .step-relation .ensures) (c .before .before .before .step-number .ensures) (c .before .before .before .before .before .before .relation .ensures) (c .before .before .before .before .before .if1 .left) (c .before .if2 .taken))
 
+-- src/group.rt:94:1
 returns-3 : tie.Need-returns-3
-returns-3 c = literal-whole (now (c .before .before .before .before .before .before .before .before .args .part)) (c .before .before .before .before .before .before .before .before .args .at) (c .before .before .before .before .before .relation .result) (c .before .before .before .before .before .before .step .result) (c .before .before .step-number .result) (c .before .before .before .before .before .before .step .ensures) (c .before .before .step-number .ensures) (c .before .before .before .before .before .relation .ensures) (c .before .before .before .before .if1 .left) (c .if2 .left)
+returns-3 c = literal-whole (now (c .before .before .before .before .before .before .before .before .args .part)) (c .before .before .before .before .before .before .before .before .args .at) (c .before .before .before .before .before .relation .result) (c .before .before .before .before .before .before .step-relation .result) (c .before .before .step-number .result) (c .before .before .before .before .before .before .step-relation .ensures) (c .before .before .step-number .ensures) (c .before .before .before .before .before .relation .ensures) (c .before .before .before .before .if1 .left) (c .if2 .left)
 
 pub long-literal-spec : {M : Type 1} → statement M
 long-literal-spec =
     tie.close
     (tie.spec
-    step-requires
+    step-relation-requires
     relation-requires
     no-tail-requires
     returns
