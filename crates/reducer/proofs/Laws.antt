@@ -14,33 +14,26 @@ use lib.ListN.{length, getD, take, drop}
 use lib.Seq.{take-suc, take-all}
 use Rattle.card.specs.Limits.{mostNodes, mostBranches}
 use Rattle.card.specs.Text.{if_then_else_}
-use Rattle.card.specs.Card.{Mode, nondeterministic, probabilistic, everyone, others, all, any, is, isnt, Statement}
+use Rattle.card.specs.Card.{Mode, nondeterministic, probabilistic, Statement}
 use Rattle.card.specs.Valid.{Every}
-use Rattle.card.specs.Laid.{either, opGroup, opNot, opAnd, opOf, leftOf, rightOf, kindPart, signPart, relationPart, statePart, groupOf, unitsPart, endPart, branchOf, guardAt, guardOf, statementOf, statementsOf}
+use Rattle.card.specs.Laid.{either, opGroup, opNot, opAnd, opOf, leftOf, rightOf, statePart, groupOf, unitsPart, endPart, branchOf, guardAt, guardOf, statementOf, statementsOf}
 use Rattle.card.specs.declared.Statement.{Statement as StatementRow}
 use Rattle.card.proofs.Laws.{guard-at-group, guard-at-not, guard-at-and, guard-at-or, guard-of-none, guard-of-some}
 use Rattle.meaning.specs.Sums.{gate, upto}
 use Rattle.meaning.specs.Formulas.{over}
-use Rattle.meaning.specs.Reduced.{Bound, equalTo, moreThan, lessThan, counterOf, table, testOf, updateOf, Outcome, Reduced, copy, copies, reduce}
+use Rattle.meaning.specs.Reduced.{Bound, equalTo, moreThan, lessThan, counterOf, testOf, updateOf, Outcome, Reduced, copy, copies, reduce}
+use Rattle.table.specs.declared.Bound.{Bound as BoundRow}
+use Rattle.table.specs.Bounds.{boundRow, boundOf}
 use Rattle.room.specs.Room.{Put}
 use Rattle.room.proofs.Laws.{clip-start, put-length}
 use Rattle.phrases.specs.Phrases.{_▸_, num, modeText, weightText}
 use Rattle.phrases.specs.Puts.{Puts}
 use Rattle.rows.specs.Rows.{row, rowOf, rowsFrom, cardIn}
 use Rattle.phrases.proofs.Counted.{Text, counted}
-use Rattle.reducer.specs.declared.Bound.{Bound as BoundRow}
 use Rattle.reducer.specs.ReducedText.{boundText, counterText, testText, guardOr, updateText, outcomeText, moreOutcomes, outcomes, reducedText, statements, counterLine, counters, programText, reducedOf}
-use Rattle.reducer.specs.Handed.{boundRow, boundOf, outcomeOf, tailOf, tailPlaces, tailedCopies, copyTexts, copyNumber, allTexts}
+use Rattle.reducer.specs.Handed.{outcomeOf, tailOf, tailPlaces, tailedCopies, copyTexts, copyNumber, allTexts}
 
--- ---- the table
-
--- the column of the group that is packed in x
-module _ (n j x : ℕ) {k s q d : ℕ} (ek : k ≡ kindPart x) (es : s ≡ signPart x) (eq : q ≡ relationPart x) (ed : d ≡ statePart x) where
-  pub in-column : {everyone? : Bool} → eqb k 0 ≡ everyone?
-      → boundRow (table n (if everyone? then everyone else others) (eqb j d) (either all any s) (either is isnt q))
-      ≡ boundRow (boundOf (counterOf n j (groupOf x)))
-  unfolding groupOf
-  in-column a = rw (← a, ek, es, eq, ed)
+-- ---- a group
 
 bound-text : (b : Bound) (r : List ℕ) → boundRow b .sign ∷ num (boundRow b .number) r ≡ boundText b r
 bound-text (equalTo m) r = refl

@@ -19,6 +19,7 @@ use Rattle.card.proofs.Held.{every-map}
 use Rattle.meaning.specs.Sums.{gate, upto, flat}
 use Rattle.meaning.specs.Formulas.{over}
 use Rattle.meaning.specs.Reduced.{Bound, equalTo, moreThan, lessThan, counterOf, table, testOf, Update, keep, shift, updateOf, copy, copies, reduce}
+use Rattle.table.specs.Bounds.{boundRow}
 use Rattle.room.specs.Room.{cap}
 use Rattle.room.specs.Answer.{text}
 use Rattle.phrases.specs.Phrases.{_▸_, num, modeText}
@@ -27,7 +28,7 @@ use Rattle.phrases.proofs.Adds.{Adds, adds-then, adds-up, adds-none, adds-bytes
 use Rattle.rows.specs.Rows.{rowsOf, Holds}
 use Rattle.rows.proofs.Rows.{rowsCard, holds-branches, holds-card, fit-rows, same-card}
 use Rattle.reducer.specs.ReducedText.{boundText, counterText, testText, guardOr, updateText, outcomeText, moreOutcomes, outcomes, reducedText, statements, counters, programText, reducedOf}
-use Rattle.reducer.specs.Handed.{boundRow, outcomeOf, tailOf, tailPlaces, reducedMost, copyTexts, copyNumber, allTexts, ShortTail, Fits}
+use Rattle.reducer.specs.Handed.{outcomeOf, tailOf, tailPlaces, reducedMost, copyTexts, copyNumber, allTexts, ShortTail, Fits}
 use Rattle.reducer.proofs.Laws.{copy-text, copies-text, statements-append}
 
 adds-as : {a : ℕ} {f g : Text} → ((r : List ℕ) → g r ≡ f r) → Adds a f → Adds a g

@@ -1,6 +1,5 @@
--- How the code hands over what it prints: a counter test as a byte and a number, and what the copies of a statement have in common.
--- Assumes nothing.
-use Prim.Native.Nat.{ℕ, zero, suc, _≤_, _<_}
+-- How the code hands over the copies of a statement: what they have in common, once, and how many there are. Assumes nothing.
+use Prim.Native.Nat.{ℕ, zero, suc, _≤_}
 use mathlib.Core.Path.{_≡_}
 use mathlib.Core.List.{List, [], _++_, map}
 use mathlib.Core.Option.{Option}
@@ -10,20 +9,10 @@ use Rattle.card.specs.Card.{Mode, nondeterministic, probabilistic, Branch, Stat
 use Rattle.card.specs.Valid.{Every}
 use Rattle.card.specs.Laid.{statementsOf}
 use Rattle.meaning.specs.Sums.{flat}
-use Rattle.meaning.specs.Reduced.{Bound, equalTo, moreThan, lessThan, Counter, counter, Test, testOf, updateOf, Outcome, copy, copies}
+use Rattle.meaning.specs.Reduced.{Test, testOf, updateOf, Outcome, copy, copies}
 use Rattle.phrases.specs.Phrases.{_▸_, num}
 use Rattle.rows.specs.Rows.{rowsFrom, FitRows}
-use Rattle.reducer.specs.declared.Bound.{Bound as BoundRow}
 use Rattle.reducer.specs.ReducedText.{guardOr, outcomes, reducedText, statements}
-
--- the bytes of `=`, `>` and `<`
-abbrev pub boundRow : Bound → BoundRow
-boundRow (equalTo m) = record { sign = 61; number = m }
-boundRow (moreThan m) = record { sign = 62; number = m }
-boundRow (lessThan m) = record { sign = 60; number = m }
-
-abbrev pub boundOf : Counter → Bound
-boundOf (counter d b) = b
 
 -- what a branch of a statement with local state j becomes
 abbrev pub outcomeOf : ℕ → ℕ → Branch → Outcome

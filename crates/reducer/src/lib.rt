@@ -4,19 +4,13 @@ use card::limits::BRANCH_PLACES;
 use card::limits::MOST_BRANCHES;
 use card::limits::MOST_NODES;
 use card::limits::NODE_PLACES;
-use card::node::ALL;
 use card::node::AND;
-use card::node::EVERYONE;
 use card::node::GROUP;
-use card::node::IS;
 use card::node::NOT;
 use card::node::end_of;
-use card::node::kind_of;
 use card::node::left_of;
 use card::node::op_of;
-use card::node::relation_of;
 use card::node::right_of;
-use card::node::sign_of;
 use card::node::state_of;
 use card::node::units_of;
 use card::refusals::ROOM_TOO_SMALL;
@@ -35,19 +29,19 @@ use rows::ROW;
 use rows::ROW_PLACES;
 use rows::number_at;
 use rows::rows_of;
+use table::bound_of;
 ghost use mathlib.Core.Path.{_≡_};
-ghost use mathlib.Core.Bool.{Bool};
 ghost use mathlib.Core.List.{[], map};
 ghost use Prim.Native.Nat.{suc, _+_, _*_, _-_, _<_, _≤_};
 ghost use lib.Dec.{eqb};
 ghost use lib.ListN.{length};
 ghost use Rattle.card.specs.Limits.{topState, mostStatements, mostNodes, mostBranches, nodePlaces, branchPlaces};
 ghost use Rattle.card.specs.Text.{if_then_else_};
-ghost use Rattle.card.specs.Card.{nondeterministic, probabilistic, everyone, others, all, any, is, isnt};
+ghost use Rattle.card.specs.Card.{nondeterministic, probabilistic};
 ghost use Rattle.card.specs.Laid.{opAnd, either, groupOf, branchOf, guardAt, guardOf, statementOf, statementsOf, cardOf};
 ghost use Rattle.meaning.specs.Sums.{gate, upto};
 ghost use Rattle.meaning.specs.Formulas.{over};
-ghost use Rattle.meaning.specs.Reduced.{equalTo, moreThan, lessThan, table, counterOf, testOf, updateOf};
+ghost use Rattle.meaning.specs.Reduced.{counterOf, testOf, updateOf};
 ghost use Rattle.room.specs.Room.{Put};
 ghost use Rattle.room.specs.Answer.{text, Entered};
 ghost use Rattle.phrases.specs.Phrases.{_▸_, modeText};
@@ -57,112 +51,11 @@ ghost use Rattle.reducer.specs.ReducedText.{counterText, testText, guard
 ghost use Rattle.reader.specs.Statements.{arrays};
 ghost use Rattle.reader.specs.ReadingOf.{gathered};
 ghost use Rattle.reducer.specs.ReduceSaid.{reduceSaid};
-ghost use Rattle.reducer.specs.Handed.{boundRow, boundOf, outcomeOf, tailOf, tailPlaces, tailedCopies, copyTexts, copyNumber, allTexts, Fits};
+ghost use Rattle.reducer.specs.Handed.{outcomeOf, tailOf, tailPlaces, tailedCopies, copyTexts, copyNumber, allTexts, Fits};
 
 // Enough for what stands behind the first test's number: a guard of 32 nodes has at most 229 bytes with its ` & `, eight branches 432
 // with their ` + `, and 7 stand around them.
 const TAIL_PLACES: usize = 668;
-
-// What a counter is held against: `=`, `>` or `<`, and a number.
-struct Bound {
-    sign: u8,
-    number: usize,
-}
-
-fn one_less(n: usize) -> usize
-    ensures { λ r. ⌜ r ≡ n - 1 ⌝ }
-{
-    if n == 0 {
-        return 0;
-    }
-    n - 1
-}
-
-fn equal_to(number: usize) -> Bound
-    ensures { λ r. ⌜ r ≡ boundRow (equalTo number) ⌝ }
-{
-    Bound {
-        sign: b'=',
-        number: number,
-    }
-}
-
-fn more_than(number: usize) -> Bound
-    ensures { λ r. ⌜ r ≡ boundRow (moreThan number) ⌝ }
-{
-    Bound {
-        sign: b'>',
-        number: number,
-    }
-}
-
-fn less_than(number: usize) -> Bound
-    ensures { λ r. ⌜ r ≡ boundRow (lessThan number) ⌝ }
-{
-    Bound {
-        sign: b'<',
-        number: number,
-    }
-}
-
-// The table of counter tests, place by place: the column of everyone.
-fn everyone_bound(sign: usize, relation: usize, seats: usize) -> Bound
-    ensures { λ r. ⌜ ((itself : Bool) → r ≡ boundRow (table seats everyone itself (either all any sign) (either is isnt relation))) ⌝ }
-{
-    if relation == IS {
-        if sign == ALL {
-            return equal_to(seats);
-        }
-        return more_than(0);
-    }
-    if sign == ALL {
-        return equal_to(0);
-    }
-    less_than(seats)
-}
-
-// And those of others, of n seats: where d is the statement's own state, a seat that takes it counts itself.
-fn others_bound(sign: usize, relation: usize, own: usize, d: usize, n: usize) -> Bound
-    ensures { λ r. ⌜ r ≡ boundRow (table n others (eqb own d) (either all any sign) (either is isnt relation)) ⌝ }
-{
-    if own == d {
-        if relation == IS {
-            if sign == ALL {
-                return equal_to(n);
-            }
-            return more_than(1);
-        }
-        if sign == ALL {
-            return equal_to(1);
-        }
-        return less_than(n);
-    }
-    let less = one_less(n);
-    if relation == IS {
-        if sign == ALL {
-            return equal_to(less);
-        }
-        return more_than(0);
-    }
-    if sign == ALL {
-        return equal_to(0);
-    }
-    less_than(less)
-}
-
-// The test that the group in `node` becomes in a statement of local state `own`.
-fn bound_of(node: u32, own: usize, seats: usize) -> Bound
-    ensures { λ r. ⌜ r ≡ boundRow (boundOf (counterOf seats own (groupOf node))) ⌝ }
-{
-    let kind = kind_of(node);
-    let sign = sign_of(node);
-    let relation = relation_of(node);
-    let d = state_of(node);
-    if kind == EVERYONE {
-        return everyone_bound(sign, relation, seats);
-    }
-    others_bound(sign, relation, own, d, seats)
-}
 
 // A group as its counter test.
 fn put_group(room: &mut [u8], at: usize, node: u32, own: usize, seats: usize) -> usize

@@ -7,7 +7,7 @@ use Rattle.reducer.proofs.put_group.Tie as tie
 use Rattle.reducer.proofs.put_group.Reads as reads
 use Rattle.reducer.proofs.put_group.Lts as lts
 use Rattle.card.proofs.node.state_of.Reads as state-of-reads
-use Rattle.reducer.proofs.bound_of.Reads as bound-of-reads
+use Rattle.table.proofs.bound_of.Reads as bound-of-reads
 use Rattle.phrases.proofs.put_numbered.Reads as put-numbered-reads
 use Rattle.room.proofs.put_byte.Reads as put-byte-reads
 use Rattle.room.proofs.put_number.Reads as put-number-reads

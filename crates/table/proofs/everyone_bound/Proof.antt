@@ -1,14 +1,14 @@
--- `reducer::everyone_bound` meets its contract: the tests on relation and sign lead to the place of the table whose test is returned.
+-- `table::everyone_bound` meets its contract: the tests on relation and sign lead to the place of the table whose test is returned.
 -- Assumes nothing.
 use borrow.Author.Tests.{eq-eqb, ne-eqb}
 use borrow.Author.Needs.{needs}
-use Rattle.reducer.proofs.everyone_bound.Statement.{statement}
-use Rattle.reducer.proofs.everyone_bound.Tie as tie
-use Rattle.reducer.proofs.everyone_bound.Reads as reads
-use Rattle.reducer.proofs.everyone_bound.Lts as lts
-use Rattle.reducer.proofs.equal_to.Reads as equal-to-reads
-use Rattle.reducer.proofs.less_than.Reads as less-than-reads
-use Rattle.reducer.proofs.more_than.Reads as more-than-reads
+use Rattle.table.proofs.everyone_bound.Statement.{statement}
+use Rattle.table.proofs.everyone_bound.Tie as tie
+use Rattle.table.proofs.everyone_bound.Reads as reads
+use Rattle.table.proofs.everyone_bound.Lts as lts
+use Rattle.table.proofs.equal_to.Reads as equal-to-reads
+use Rattle.table.proofs.less_than.Reads as less-than-reads
+use Rattle.table.proofs.more_than.Reads as more-than-reads
 
 equal-to-requires : tie.Need-equal-to-requires
 equal-to-requires c κs = search needs

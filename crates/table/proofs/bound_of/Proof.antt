@@ -1,18 +1,18 @@
--- `reducer::bound_of` meets its contract: the parts of the packed group lead to its column of the table. Assumes nothing.
-use Rattle.reducer.proofs.Laws.{in-column}
+-- `table::bound_of` meets its contract: the parts of the packed group lead to its column of the table. Assumes nothing.
+use Rattle.table.proofs.Laws.{in-column}
 use borrow.Author.Tests.{eq-eqb, ne-eqb}
 use mathlib.Core.Path.{_∙_}
 use borrow.Author.Needs.{needs}
-use Rattle.reducer.proofs.bound_of.Statement.{statement}
-use Rattle.reducer.proofs.bound_of.Tie as tie
-use Rattle.reducer.proofs.bound_of.Reads as reads
-use Rattle.reducer.proofs.bound_of.Lts as lts
+use Rattle.table.proofs.bound_of.Statement.{statement}
+use Rattle.table.proofs.bound_of.Tie as tie
+use Rattle.table.proofs.bound_of.Reads as reads
+use Rattle.table.proofs.bound_of.Lts as lts
 use Rattle.card.proofs.node.kind_of.Reads as kind-of-reads
 use Rattle.card.proofs.node.relation_of.Reads as relation-of-reads
 use Rattle.card.proofs.node.sign_of.Reads as sign-of-reads
 use Rattle.card.proofs.node.state_of.Reads as state-of-reads
-use Rattle.reducer.proofs.everyone_bound.Reads as everyone-bound-reads
-use Rattle.reducer.proofs.others_bound.Reads as others-bound-reads
+use Rattle.table.proofs.everyone_bound.Reads as everyone-bound-reads
+use Rattle.table.proofs.others_bound.Reads as others-bound-reads
 
 kind-of-requires : tie.Need-kind-of-requires
 kind-of-requires c κs = search needs

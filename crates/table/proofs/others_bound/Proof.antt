@@ -1,18 +1,18 @@
--- `reducer::others_bound` meets its contract: the tests lead to the place of the table whose test is returned. Assumes nothing.
-use Rattle.reducer.specs.Handed.{boundRow}
+-- `table::others_bound` meets its contract: the tests lead to the place of the table whose test is returned. Assumes nothing.
+use Rattle.table.specs.Bounds.{boundRow}
 use Rattle.meaning.specs.Reduced.{equalTo, lessThan}
 use borrow.Author.Tests.{eq-eqb, ne-eqb}
 use mathlib.Core.Path.{ap, _∙_}
 use Prim.Native.Nat.{ℕ}
 use borrow.Author.Needs.{needs}
-use Rattle.reducer.proofs.others_bound.Statement.{statement}
-use Rattle.reducer.proofs.others_bound.Tie as tie
-use Rattle.reducer.proofs.others_bound.Reads as reads
-use Rattle.reducer.proofs.others_bound.Lts as lts
-use Rattle.reducer.proofs.equal_to.Reads as equal-to-reads
-use Rattle.reducer.proofs.less_than.Reads as less-than-reads
-use Rattle.reducer.proofs.more_than.Reads as more-than-reads
-use Rattle.reducer.proofs.one_less.Reads as one-less-reads
+use Rattle.table.proofs.others_bound.Statement.{statement}
+use Rattle.table.proofs.others_bound.Tie as tie
+use Rattle.table.proofs.others_bound.Reads as reads
+use Rattle.table.proofs.others_bound.Lts as lts
+use Rattle.table.proofs.equal_to.Reads as equal-to-reads
+use Rattle.table.proofs.less_than.Reads as less-than-reads
+use Rattle.table.proofs.more_than.Reads as more-than-reads
+use Rattle.table.proofs.one_less.Reads as one-less-reads
 
 equal-to-requires : tie.Need-equal-to-requires
 equal-to-requires c κs = search needs

@@ -1,0 +1,117 @@
+// The table of counter tests ("What a card means", second part), place by place.
+use card::node::ALL;
+use card::node::EVERYONE;
+use card::node::IS;
+use card::node::kind_of;
+use card::node::relation_of;
+use card::node::sign_of;
+use card::node::state_of;
+ghost use mathlib.Core.Path.{_≡_};
+ghost use mathlib.Core.Bool.{Bool};
+ghost use Prim.Native.Nat.{_-_};
+ghost use lib.Dec.{eqb};
+ghost use Rattle.card.specs.Card.{everyone, others, all, any, is, isnt};
+ghost use Rattle.card.specs.Laid.{either, groupOf};
+ghost use Rattle.meaning.specs.Reduced.{equalTo, moreThan, lessThan, table, counterOf};
+ghost use Rattle.table.specs.Bounds.{boundRow, boundOf};
+
+// What a counter is held against: `=`, `>` or `<`, and a number.
+pub struct Bound {
+    pub sign: u8,
+    pub number: usize,
+}
+
+fn one_less(n: usize) -> usize
+    ensures { λ r. ⌜ r ≡ n - 1 ⌝ }
+{
+    if n == 0 {
+        return 0;
+    }
+    n - 1
+}
+
+fn equal_to(number: usize) -> Bound
+    ensures { λ r. ⌜ r ≡ boundRow (equalTo number) ⌝ }
+{
+    Bound {
+        sign: b'=',
+        number: number,
+    }
+}
+
+fn more_than(number: usize) -> Bound
+    ensures { λ r. ⌜ r ≡ boundRow (moreThan number) ⌝ }
+{
+    Bound {
+        sign: b'>',
+        number: number,
+    }
+}
+
+fn less_than(number: usize) -> Bound
+    ensures { λ r. ⌜ r ≡ boundRow (lessThan number) ⌝ }
+{
+    Bound {
+        sign: b'<',
+        number: number,
+    }
+}
+
+// The table of counter tests, place by place: the column of everyone.
+fn everyone_bound(sign: usize, relation: usize, seats: usize) -> Bound
+    ensures { λ r. ⌜ ((itself : Bool) → r ≡ boundRow (table seats everyone itself (either all any sign) (either is isnt relation))) ⌝ }
+{
+    if relation == IS {
+        if sign == ALL {
+            return equal_to(seats);
+        }
+        return more_than(0);
+    }
+    if sign == ALL {
+        return equal_to(0);
+    }
+    less_than(seats)
+}
+
+// And those of others, of n seats: where d is the statement's own state, a seat that takes it counts itself.
+fn others_bound(sign: usize, relation: usize, own: usize, d: usize, n: usize) -> Bound
+    ensures { λ r. ⌜ r ≡ boundRow (table n others (eqb own d) (either all any sign) (either is isnt relation)) ⌝ }
+{
+    if own == d {
+        if relation == IS {
+            if sign == ALL {
+                return equal_to(n);
+            }
+            return more_than(1);
+        }
+        if sign == ALL {
+            return equal_to(1);
+        }
+        return less_than(n);
+    }
+    let less = one_less(n);
+    if relation == IS {
+        if sign == ALL {
+            return equal_to(less);
+        }
+        return more_than(0);
+    }
+    if sign == ALL {
+        return equal_to(0);
+    }
+    less_than(less)
+}
+
+// The test that the group in `node` becomes in a statement of local state `own`.
+pub fn bound_of(node: u32, own: usize, seats: usize) -> Bound
+    ensures { λ r. ⌜ r ≡ boundRow (boundOf (counterOf seats own (groupOf node))) ⌝ }
+{
+    let kind = kind_of(node);
+    let sign = sign_of(node);
+    let relation = relation_of(node);
+    let d = state_of(node);
+    if kind == EVERYONE {
+        return everyone_bound(sign, relation, seats);
+    }
+    others_bound(sign, relation, own, d, seats)
+}
