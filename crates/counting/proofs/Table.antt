@@ -1,5 +1,5 @@
--- The table of counter tests, place by place, and a guard held at counts, node by node: a node holds as its parts do, and the children
--- of a node have lower numbers. Assumes nothing.
+-- A count held against a bound of the table, by the bound's byte; and a guard held at counts, node by node: a node holds as its parts
+-- do, and the children of a node have lower numbers. Assumes nothing.
 use Prim.Native.Nat.{ℕ, _+_, _-_, _≤_, _<_, min}
 use mathlib.Core.Path.{_≡_, refl, sym, ap, _∙_}
 use mathlib.Core.Logic.{_⊎_, inl, inr, ⊎-elim}
@@ -8,34 +8,52 @@ use mathlib.Core.List.{List}
 use mathlib.Core.Option.{none, some}
 use native.Mathlib.Decide.{decLt}
 use native.Mathlib.Omega.{arith}
-use borrow.Author.Tests.{ne-eqb}
-use lib.Dec.{eqb}
+use lib.Dec.{eqb, ltb}
 use lib.ListN.{length, getD, List·getD-eq-default}
-use Rattle.card.specs.Card.{Kind, everyone, others, Sign, all, any, Relation, is, isnt, Guard, Statement}
-use Rattle.card.specs.Laid.{either, opGroup, opNot, opAnd, opOf, leftOf, rightOf, kindPart, signPart, relationPart, statePart, groupOf, guardAt, guardOf}
+use Rattle.card.specs.Card.{Guard, Statement}
+use Rattle.card.specs.Laid.{opGroup, opNot, opAnd, opOf, leftOf, rightOf, statePart, groupOf, guardAt, guardOf}
 use Rattle.card.proofs.GuardAt.{guard-at-group, guard-at-not, guard-at-and, guard-at-or, guard-of-none, guard-of-some}
 use Rattle.meaning.specs.Sums.{gate}
-use Rattle.meaning.specs.Reduced.{table, counterOf, noOf, meets, passes}
+use Rattle.meaning.specs.Reduced.{Bound, equalTo, moreThan, lessThan, counterOf, noOf, meets, passes}
 use Rattle.meaning.specs.ByCounts.{heldAt, heldOr, able}
+use Rattle.table.specs.declared.Bound.{Bound as BoundRow}
+use Rattle.table.specs.Bounds.{boundRow, boundOf}
 use Rattle.counting.specs.Taking.{takers}
 
 -- ---- the table
 
-module _ {A : Type 0} (a b : A) {v : ℕ} where
-  pub first : v ≡ 0 → either a b v ≡ a
-  first h = rw h
+-- a count held against a bound, by the bound's byte
+held-equal : (b : Bound) (a : ℕ) → boundRow b .sign ≡ 61 → eqb a (boundRow b .number) ≡ meets b a
+held-equal (equalTo m) a e = refl
+held-equal (moreThan m) a e = absurd (omega arith)
+held-equal (lessThan m) a e = absurd (omega arith)
 
-  pub second : (v ≡ 0 → ⊥) → either a b v ≡ b
-  second h = rw (ne-eqb v 0 h)
+held-more : (b : Bound) (a : ℕ) → boundRow b .sign ≡ 62 → ltb (boundRow b .number) a ≡ meets b a
+held-more (equalTo m) a e = absurd (omega arith)
+held-more (moreThan m) a e = refl
+held-more (lessThan m) a e = absurd (omega arith)
 
-module _ (v : List ℕ) (n j x : ℕ) where
-  -- the group that is packed in x, by its parts
-  pub in-place : {k s q d : ℕ} {kind : Kind} {sign : Sign} {relation : Relation} {itself : Bool}
-      → k ≡ kindPart x → s ≡ signPart x → q ≡ relationPart x → d ≡ statePart x
-      → either everyone others k ≡ kind → eqb j d ≡ itself → either is isnt q ≡ relation → either all any s ≡ sign
-      → meets (table n kind itself sign relation) (noOf v d) ≡ passes v (counterOf n j (groupOf x))
+held-less : (b : Bound) (a : ℕ) → (boundRow b .sign ≡ 61 → ⊥) → (boundRow b .sign ≡ 62 → ⊥) → ltb a (boundRow b .number) ≡ meets b a
+held-less (equalTo m) a e f = absurd (e refl)
+held-less (moreThan m) a e f = absurd (f refl)
+held-less (lessThan m) a e f = refl
+
+-- the count of the state of the group that is packed in x, held against that group's bound
+module _ (v : List ℕ) (n j x : ℕ) {d a : ℕ} {b : BoundRow}
+    (ed : d ≡ statePart x) (ea : a ≡ noOf v d) (eb : b ≡ boundRow (boundOf (counterOf n j (groupOf x)))) where
+  pub passes-equal : b .sign ≡ 61 → eqb a (b .number) ≡ passes v (counterOf n j (groupOf x))
   unfolding groupOf
-  in-place e f g h a b c d = rw (← a, ← b, ← c, ← d, e, f, g, h)
+  passes-equal e = rw (eb, ea, ed) (held-equal (boundOf (counterOf n j (groupOf x))) (noOf v (statePart x)) (ap (λ (y : BoundRow). y .sign) (sym eb) ∙ e))
+
+  pub passes-more : b .sign ≡ 62 → ltb (b .number) a ≡ passes v (counterOf n j (groupOf x))
+  unfolding groupOf
+  passes-more e = rw (eb, ea, ed) (held-more (boundOf (counterOf n j (groupOf x))) (noOf v (statePart x)) (ap (λ (y : BoundRow). y .sign) (sym eb) ∙ e))
+
+  pub passes-less : (b .sign ≡ 61 → ⊥) → (b .sign ≡ 62 → ⊥) → ltb a (b .number) ≡ passes v (counterOf n j (groupOf x))
+  unfolding groupOf
+  passes-less e f =
+      rw (eb, ea, ed)
+      (held-less (boundOf (counterOf n j (groupOf x))) (noOf v (statePart x)) (λ h. e (ap (λ (y : BoundRow). y .sign) eb ∙ h)) (λ h. f (ap (λ (y : BoundRow). y .sign) eb ∙ h)))
 
 -- ---- a guard
 

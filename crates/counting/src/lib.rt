@@ -1,26 +1,21 @@
 // From a seating to its counts, and from counts to who may take a statement and what it weighs ("What a card means").
 use card::limits::MOST_BRANCHES;
 use card::limits::MOST_STATES;
-use card::node::ALL;
 use card::node::AND;
-use card::node::EVERYONE;
 use card::node::GROUP;
-use card::node::IS;
 use card::node::NOT;
 use card::node::end_of;
-use card::node::kind_of;
 use card::node::left_of;
 use card::node::op_of;
-use card::node::relation_of;
 use card::node::right_of;
-use card::node::sign_of;
 use card::node::state_of;
 use card::node::units_of;
 use card::refusals::SEAT_ABOVE_TOP;
 use card::refusals::WRONG_SEATS;
+use table::bound_of;
 ghost use mathlib.Core.Path.{_≡_};
 ghost use mathlib.Core.List.{map};
-ghost use Prim.Native.Nat.{_+_, _-_, min};
+ghost use Prim.Native.Nat.{_+_, min};
 ghost use lib.ListN.{getD, take, drop};
 ghost use Rattle.card.specs.Limits.{topState, mostBranches};
 ghost use Rattle.card.specs.Laid.{groupOf, guardAt, guardOf, branchOf};
@@ -86,59 +81,20 @@ fn count_at(counts: &[usize], d: usize) -> usize
     0
 }
 
-fn one_less(n: usize) -> usize
-    ensures { λ r. ⌜ r ≡ n - 1 ⌝ }
-{
-    if n == 0 {
-        return 0;
-    }
-    n - 1
-}
-
-// The table of counter tests, place by place: does the group in `node` hold for a seat in state `own`, of n seats?
+// Does the group in `node` hold for a seat in state `own`, of n seats? Its counter is held against its bound in the table.
 fn passes(node: u32, own: usize, n: usize, counts: &[usize]) -> bool
     ensures { λ r. ⌜ r ≡ passesAt (now (counts .entry)) (counterOf n own (groupOf node)) ⌝ }
 {
-    let kind = kind_of(node);
-    let sign = sign_of(node);
-    let relation = relation_of(node);
     let d = state_of(node);
     let no_d = count_at(counts, d);
-    if kind == EVERYONE {
-        if relation == IS {
-            if sign == ALL {
-                return no_d == n;
-            }
-            return 0 < no_d;
-        }
-        if sign == ALL {
-            return no_d == 0;
-        }
-        return no_d < n;
+    let bound = bound_of(node, own, n);
+    if bound.sign == b'=' {
+        return no_d == bound.number;
     }
-    if own == d {
-        if relation == IS {
-            if sign == ALL {
-                return no_d == n;
-            }
-            return 1 < no_d;
-        }
-        if sign == ALL {
-            return no_d == 1;
-        }
-        return no_d < n;
+    if bound.sign == b'>' {
+        return bound.number < no_d;
     }
-    let others = one_less(n);
-    if relation == IS {
-        if sign == ALL {
-            return no_d == others;
-        }
-        return 0 < no_d;
-    }
-    if sign == ALL {
-        return no_d == 0;
-    }
-    no_d < others
+    no_d < bound.number
 }
 
 // Where there is no node there stands 0.
@@ -179,18 +135,17 @@ pub fn held(nodes: &[u32], root: usize, own: usize, n: usize, counts: &[usize]) 
     held(nodes, right_of(node, root), own, n, counts)
 }
 
-// The last of `size` places from `at` on, or any place behind the nodes where that is behind them.
-fn last_of(len: usize, at: usize, size: usize) -> usize
-    ensures { λ r. ⌜ min r len ≡ min (at + (size - 1)) len ⌝ }
+// The place `more` behind `at`, or any place behind the nodes where that is behind them.
+fn place_behind(len: usize, at: usize, more: usize) -> usize
+    ensures { λ r. ⌜ min r len ≡ min (at + more) len ⌝ }
 {
     if len <= at {
         return len;
     }
-    let below = one_less(size);
-    if len - at <= below {
+    if len - at <= more {
         return len;
     }
-    at + below
+    at + more
 }
 
 // How many of n seats may take a statement of local state `own` whose guard has `size` nodes from `at` on (0: no guard).
@@ -204,7 +159,7 @@ pub fn able(nodes: &[u32], at: usize, size: usize, own: usize, n: usize, counts:
     if size == 0 {
         return no_own;
     }
-    let root = last_of(nodes.len(), at, size);
+    let root = place_behind(nodes.len(), at, size - 1);
     if !held(nodes, root, own, n, counts) {
         return 0;
     }

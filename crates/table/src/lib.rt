@@ -61,14 +61,14 @@ fn less_than(number: usize) -> Bound
 fn everyone_bound(sign: usize, relation: usize, seats: usize) -> Bound
     ensures { λ r. ⌜ ((itself : Bool) → r ≡ boundRow (table seats everyone itself (either all any sign) (either is isnt relation))) ⌝ }
 {
-    if relation == IS {
-        if sign == ALL {
+    if sign == ALL {
+        if relation == IS {
             return equal_to(seats);
         }
-        return more_than(0);
-    }
-    if sign == ALL {
         return equal_to(0);
+    }
+    if relation == IS {
+        return more_than(0);
     }
     less_than(seats)
 }
@@ -78,26 +78,26 @@ fn others_bound(sign: usize, relation: usize, own: usize, d: usize, n: usize) ->
     ensures { λ r. ⌜ r ≡ boundRow (table n others (eqb own d) (either all any sign) (either is isnt relation)) ⌝ }
 {
     if own == d {
-        if relation == IS {
-            if sign == ALL {
+        if sign == ALL {
+            if relation == IS {
                 return equal_to(n);
             }
-            return more_than(1);
-        }
-        if sign == ALL {
             return equal_to(1);
+        }
+        if relation == IS {
+            return more_than(1);
         }
         return less_than(n);
     }
     let less = one_less(n);
-    if relation == IS {
-        if sign == ALL {
+    if sign == ALL {
+        if relation == IS {
             return equal_to(less);
         }
-        return more_than(0);
-    }
-    if sign == ALL {
         return equal_to(0);
+    }
+    if relation == IS {
+        return more_than(0);
     }
     less_than(less)
 }

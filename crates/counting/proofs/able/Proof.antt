@@ -15,17 +15,20 @@ returns c = takers-none _ _ _ (c .before .before .before .before .args .nodes .n
 returns-2 : tie.Need-returns-2
 returns-2 c = c .before .before .count-at .ensures ∙ takers-free _ _ _ _ _ _ (c .if2 .taken)
 
-last-of-requires : tie.Need-last-of-requires
-last-of-requires c κs = search needs
+sub-place-behind : tie.Need-sub-place-behind
+sub-place-behind c = search needs
+
+place-behind-requires : tie.Need-place-behind-requires
+place-behind-requires c κs = search needs
 
 held-requires : tie.Need-held-requires
 held-requires c κs = search needs
 
 returns-3 : tie.Need-returns-3
-returns-3 c = takers-kept _ _ _ _ _ _ _ (c .before .before .before .if2 .left) (c .before .before .last-of .ensures) (sym (not-true _ (c .if3 .taken)) ∙ c .before .held .ensures)
+returns-3 c = takers-kept _ _ _ _ _ _ _ (c .before .before .before .if2 .left) (c .before .before .place-behind .ensures) (sym (not-true _ (c .if3 .taken)) ∙ c .before .held .ensures)
 
 returns-4 : tie.Need-returns-4
-returns-4 c = c .before .before .before .before .before .count-at .ensures ∙ takers-held _ _ _ _ _ _ _ (c .before .before .before .if2 .left) (c .before .before .last-of .ensures) (sym (not-false _ (c .if3 .left)) ∙ c .before .held .ensures)
+returns-4 c = c .before .before .before .before .before .count-at .ensures ∙ takers-held _ _ _ _ _ _ _ (c .before .before .before .if2 .left) (c .before .before .place-behind .ensures) (sym (not-false _ (c .if3 .left)) ∙ c .before .held .ensures)
 
 pub able-spec : {M : Type 1} → statement M
 able-spec =
@@ -34,7 +37,8 @@ able-spec =
     count-at-requires
     returns
     returns-2
-    last-of-requires
+    sub-place-behind
+    place-behind-requires
     held-requires
     returns-3
     returns-4)

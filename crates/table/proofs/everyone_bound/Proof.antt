@@ -1,4 +1,4 @@
--- `table::everyone_bound` meets its contract: the tests on relation and sign lead to the place of the table whose test is returned.
+-- `table::everyone_bound` meets its contract: the tests on sign and relation lead to the place of the table whose test is returned.
 -- Assumes nothing.
 use borrow.Author.Tests.{eq-eqb, ne-eqb}
 use borrow.Author.Needs.{needs}
@@ -16,17 +16,17 @@ equal-to-requires c κs = search needs
 returns : tie.Need-returns
 returns c = λ itself. rw (eq-eqb _ 0 (c .before .before .if1 .taken), eq-eqb _ 0 (c .before .if2 .taken)) (c .equal-to .ensures)
 
-more-than-requires : tie.Need-more-than-requires
-more-than-requires c κs = search needs
-
-returns-2 : tie.Need-returns-2
-returns-2 c = λ itself. rw (eq-eqb _ 0 (c .before .before .if1 .taken), ne-eqb _ 0 (c .before .if2 .left)) (c .more-than .ensures)
-
 equal-to-requires-2 : tie.Need-equal-to-requires-2
 equal-to-requires-2 c κs = search needs
 
+returns-2 : tie.Need-returns-2
+returns-2 c = λ itself. rw (eq-eqb _ 0 (c .before .before .if1 .taken), ne-eqb _ 0 (c .before .if2 .left)) (c .equal-to2 .ensures)
+
+more-than-requires : tie.Need-more-than-requires
+more-than-requires c κs = search needs
+
 returns-3 : tie.Need-returns-3
-returns-3 c = λ itself. rw (ne-eqb _ 0 (c .before .before .if1 .left), eq-eqb _ 0 (c .before .if3 .taken)) (c .equal-to2 .ensures)
+returns-3 c = λ itself. rw (ne-eqb _ 0 (c .before .before .if1 .left), eq-eqb _ 0 (c .before .if3 .taken)) (c .more-than .ensures)
 
 less-than-requires : tie.Need-less-than-requires
 less-than-requires c κs = search needs
@@ -40,9 +40,9 @@ everyone-bound-spec =
     (tie.spec
     equal-to-requires
     returns
-    more-than-requires
-    returns-2
     equal-to-requires-2
+    returns-2
+    more-than-requires
     returns-3
     less-than-requires
     returns-4)

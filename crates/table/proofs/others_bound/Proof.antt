@@ -1,9 +1,9 @@
 -- `table::others_bound` meets its contract: the tests lead to the place of the table whose test is returned. Assumes nothing.
-use Rattle.table.specs.Bounds.{boundRow}
-use Rattle.meaning.specs.Reduced.{equalTo, lessThan}
-use borrow.Author.Tests.{eq-eqb, ne-eqb}
-use mathlib.Core.Path.{ap, _∙_}
 use Prim.Native.Nat.{ℕ}
+use mathlib.Core.Path.{ap, _∙_}
+use borrow.Author.Tests.{eq-eqb, ne-eqb}
+use Rattle.meaning.specs.Reduced.{equalTo, lessThan}
+use Rattle.table.specs.Bounds.{boundRow}
 use borrow.Author.Needs.{needs}
 use Rattle.table.proofs.others_bound.Statement.{statement}
 use Rattle.table.proofs.others_bound.Tie as tie
@@ -20,17 +20,17 @@ equal-to-requires c κs = search needs
 returns : tie.Need-returns
 returns c = rw (eq-eqb _ _ (c .before .before .before .if1 .taken), eq-eqb _ 0 (c .before .before .if2 .taken), eq-eqb _ 0 (c .before .if3 .taken)) (c .equal-to .ensures)
 
-more-than-requires : tie.Need-more-than-requires
-more-than-requires c κs = search needs
-
-returns-2 : tie.Need-returns-2
-returns-2 c = rw (eq-eqb _ _ (c .before .before .before .if1 .taken), eq-eqb _ 0 (c .before .before .if2 .taken), ne-eqb _ 0 (c .before .if3 .left)) (c .more-than .ensures)
-
 equal-to-requires-2 : tie.Need-equal-to-requires-2
 equal-to-requires-2 c κs = search needs
 
+returns-2 : tie.Need-returns-2
+returns-2 c = rw (eq-eqb _ _ (c .before .before .before .if1 .taken), eq-eqb _ 0 (c .before .before .if2 .taken), ne-eqb _ 0 (c .before .if3 .left)) (c .equal-to2 .ensures)
+
+more-than-requires : tie.Need-more-than-requires
+more-than-requires c κs = search needs
+
 returns-3 : tie.Need-returns-3
-returns-3 c = rw (eq-eqb _ _ (c .before .before .before .if1 .taken), ne-eqb _ 0 (c .before .before .if2 .left), eq-eqb _ 0 (c .before .if4 .taken)) (c .equal-to2 .ensures)
+returns-3 c = rw (eq-eqb _ _ (c .before .before .before .if1 .taken), ne-eqb _ 0 (c .before .before .if2 .left), eq-eqb _ 0 (c .before .if4 .taken)) (c .more-than .ensures)
 
 less-than-requires : tie.Need-less-than-requires
 less-than-requires c κs = search needs
@@ -47,17 +47,17 @@ equal-to-requires-3 c κs = search needs
 returns-5 : tie.Need-returns-5
 returns-5 c = rw (ne-eqb _ _ (c .before .before .before .before .if1 .left), eq-eqb _ 0 (c .before .before .if5 .taken), eq-eqb _ 0 (c .before .if6 .taken)) (c .equal-to3 .ensures ∙ ap (λ (m : ℕ). boundRow (equalTo m)) (c .before .before .before .one-less .ensures))
 
-more-than-requires-2 : tie.Need-more-than-requires-2
-more-than-requires-2 c κs = search needs
-
-returns-6 : tie.Need-returns-6
-returns-6 c = rw (ne-eqb _ _ (c .before .before .before .before .if1 .left), eq-eqb _ 0 (c .before .before .if5 .taken), ne-eqb _ 0 (c .before .if6 .left)) (c .more-than2 .ensures)
-
 equal-to-requires-4 : tie.Need-equal-to-requires-4
 equal-to-requires-4 c κs = search needs
 
+returns-6 : tie.Need-returns-6
+returns-6 c = rw (ne-eqb _ _ (c .before .before .before .before .if1 .left), eq-eqb _ 0 (c .before .before .if5 .taken), ne-eqb _ 0 (c .before .if6 .left)) (c .equal-to4 .ensures)
+
+more-than-requires-2 : tie.Need-more-than-requires-2
+more-than-requires-2 c κs = search needs
+
 returns-7 : tie.Need-returns-7
-returns-7 c = rw (ne-eqb _ _ (c .before .before .before .before .if1 .left), ne-eqb _ 0 (c .before .before .if5 .left), eq-eqb _ 0 (c .before .if7 .taken)) (c .equal-to4 .ensures)
+returns-7 c = rw (ne-eqb _ _ (c .before .before .before .before .if1 .left), ne-eqb _ 0 (c .before .before .if5 .left), eq-eqb _ 0 (c .before .if7 .taken)) (c .more-than2 .ensures)
 
 less-than-requires-2 : tie.Need-less-than-requires-2
 less-than-requires-2 c κs = search needs
@@ -71,18 +71,18 @@ others-bound-spec =
     (tie.spec
     equal-to-requires
     returns
-    more-than-requires
-    returns-2
     equal-to-requires-2
+    returns-2
+    more-than-requires
     returns-3
     less-than-requires
     returns-4
     one-less-requires
     equal-to-requires-3
     returns-5
-    more-than-requires-2
-    returns-6
     equal-to-requires-4
+    returns-6
+    more-than-requires-2
     returns-7
     less-than-requires-2
     returns-8)
