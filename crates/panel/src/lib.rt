@@ -282,7 +282,19 @@ fn enter_panel<'a>(
 {
     if PANEL_ROOM <= room.len() {
         return Answer::Done(put_panel(
-            room, 0, mode, seats, top, enabled, counts, stay, weights, ables, rows, branches, count,
+            room,
+            0,
+            mode,
+            seats,
+            top,
+            enabled,
+            counts,
+            stay,
+            weights,
+            ables,
+            rows,
+            branches,
+            count,
         ));
     }
     let need = put_panel(
@@ -304,7 +316,19 @@ fn enter_panel<'a>(
         return Answer::Refused(ROOM_TOO_SMALL, need);
     }
     Answer::Done(put_panel(
-        room, 0, mode, seats, top, enabled, counts, stay, weights, ables, rows, branches, count,
+        room,
+        0,
+        mode,
+        seats,
+        top,
+        enabled,
+        counts,
+        stay,
+        weights,
+        ables,
+        rows,
+        branches,
+        count,
     ))
 }
 

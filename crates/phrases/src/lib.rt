@@ -2,6 +2,7 @@
 use card::weight::Weight;
 use room::put_byte;
 use room::put_bytes;
+use room::put_long_number;
 use room::put_number;
 ghost use mathlib.Core.Path.{_≡_};
 ghost use mathlib.Core.List.{_++_};
@@ -58,5 +59,5 @@ pub fn put_weight(room: &mut [u8], at: usize, units: u32) -> usize
     let by = divisor(units);
     let a = put_number(room, at, (units / by) as usize);
     let b = put_byte(room, a, b'/');
-    put_number(room, b, (Weight::UNIT / by) as usize)
+    put_long_number(room, b, (Weight::UNIT / by) as usize)
 }

@@ -25,6 +25,7 @@ use room::place;
 use room::put_byte;
 use room::put_bytes;
 use room::put_number;
+use room::put_run;
 use rows::ROW;
 use rows::ROW_PLACES;
 use rows::number_at;
@@ -222,7 +223,7 @@ fn put_copies(room: &mut [u8], at: usize, own: usize, tail: &[u8], copies: usize
     while m < copies {
         let a = put_numbered(room, to, b"[] (no_", own);
         let b = put_numbered(room, a, b">", m);
-        to = put_bytes(room, b, tail);
+        to = put_run(room, b, tail);
         m += 1;
     }
     to
@@ -391,7 +392,16 @@ fn reduce_card<'a>(
     let count = c.count;
     if REDUCED_ROOM <= room.len() {
         return Answer::Done(put_program(
-            room, 0, c.mode, c.seats, c.top, c.start, &rows, count, nodes, branches,
+            room,
+            0,
+            c.mode,
+            c.seats,
+            c.top,
+            c.start,
+            &rows,
+            count,
+            nodes,
+            branches,
         ));
     }
     let need = put_program(
@@ -410,7 +420,16 @@ fn reduce_card<'a>(
         return Answer::Refused(ROOM_TOO_SMALL, need);
     }
     Answer::Done(put_program(
-        room, 0, c.mode, c.seats, c.top, c.start, &rows, count, nodes, branches,
+        room,
+        0,
+        c.mode,
+        c.seats,
+        c.top,
+        c.start,
+        &rows,
+        count,
+        nodes,
+        branches,
     ))
 }
 

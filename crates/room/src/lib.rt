@@ -1,7 +1,7 @@
 // Text into a lent room, shared by all entries, and what an entry answers ("Refusal numbers").
 ghost use mathlib.Core.Path.{_≡_};
 ghost use mathlib.Core.List.{[], _∷_};
-ghost use Prim.Native.Nat.{_+_, _-_, min};
+ghost use Prim.Native.Nat.{_+_, _-_, _≤_, min};
 ghost use lib.ListN.{length};
 ghost use Rattle.room.specs.Room.{cap, Put};
 ghost use Rattle.room.specs.Digits.{decimal};
@@ -56,8 +56,22 @@ pub fn put_byte(room: &mut [u8], at: usize, b: u8) -> usize
     after(at, 1)
 }
 
-// Any bytes, `put_bytes(room, at, b" & ")`: how many the room has places for is asked once.
-pub fn put_bytes(room: &mut [u8], at: usize, s: &[u8]) -> usize
+// Bytes that there is place for in the room.
+fn put_whole(room: &mut [u8], at: usize, s: &[u8]) -> usize
+    requires { ⌜ at + length (now s) ≤ length (now room) ⌝ }
+    ensures { λ r. ⌜ Put (now (room .entry)) (now (room .exit)) at (now (s .entry)) r ⌝ }
+{
+    let mut i = 0;
+    while i < s.len() {
+        let to = at + i;
+        room[to] = s[i];
+        i += 1;
+    }
+    at + s.len()
+}
+
+// Any bytes: how many the room has places for is asked once.
+pub fn put_run(room: &mut [u8], at: usize, s: &[u8]) -> usize
     ensures { λ r. ⌜ Put (now (room .entry)) (now (room .exit)) at (now (s .entry)) r ⌝ }
 {
     let n = fitting(room.len(), at, s.len());
@@ -67,6 +81,18 @@ pub fn put_bytes(room: &mut [u8], at: usize, s: &[u8]) -> usize
         i += 1;
     }
     after(at, s.len())
+}
+
+// The same for a fixed text, `put_bytes(room, at, b" & ")`: where it fits, so many bytes are stored at once.
+pub fn put_bytes(room: &mut [u8], at: usize, s: &[u8]) -> usize
+    ensures { λ r. ⌜ Put (now (room .entry)) (now (room .exit)) at (now (s .entry)) r ⌝ }
+{
+    if at < room.len() {
+        if s.len() <= room.len() - at {
+            return put_whole(room, at, s);
+        }
+    }
+    put_run(room, at, s)
 }
 
 // How many digits a number has, one after the other.
@@ -108,12 +134,9 @@ fn digits(n: usize) -> usize
 }
 
 // A number in decimal. Its digits are counted first and stored from the last on; past the room they are only counted.
-pub fn put_number(room: &mut [u8], at: usize, n: usize) -> usize
+pub fn put_long_number(room: &mut [u8], at: usize, n: usize) -> usize
     ensures { λ r. ⌜ Put (now (room .entry)) (now (room .exit)) at (decimal n) r ⌝ }
 {
-    if n < 10 {
-        return put_byte(room, at, b'0' + n as u8);
-    }
     let k = digits(n);
     if room.len() <= at {
         return after(at, k);
@@ -130,4 +153,14 @@ pub fn put_number(room: &mut [u8], at: usize, n: usize) -> usize
         }
     }
     after(at, k)
+}
+
+// The same; most numbers have one digit.
+pub fn put_number(room: &mut [u8], at: usize, n: usize) -> usize
+    ensures { λ r. ⌜ Put (now (room .entry)) (now (room .exit)) at (decimal n) r ⌝ }
+{
+    if n < 10 {
+        return put_byte(room, at, b'0' + n as u8);
+    }
+    put_long_number(room, at, n)
 }

@@ -80,9 +80,10 @@ fn put_relation(room: &mut [u8], at: usize, relation: usize) -> usize
 fn put_literal(room: &mut [u8], at: usize, relation: usize, state: usize, seat: usize) -> usize
     ensures { λ r. ⌜ Puts (now (room .entry)) (now (room .exit)) at (literal (either is isnt relation) state seat) r ⌝ }
 {
-    let a = put_numbered(room, at, b"s", seat);
-    let b = put_relation(room, a, relation);
-    put_number(room, b, state)
+    let a = put_byte(room, at, b's');
+    let b = put_number(room, a, seat);
+    let c = put_relation(room, b, relation);
+    put_number(room, c, state)
 }
 
 // The literals of a group behind its first.
@@ -381,7 +382,16 @@ fn write_card<'a>(
     let most = written_most(c.seats, count);
     if most <= room.len() {
         return Answer::Done(put_card(
-            room, 0, c.mode, c.seats, c.top, c.start, &rows, count, nodes, branches,
+            room,
+            0,
+            c.mode,
+            c.seats,
+            c.top,
+            c.start,
+            &rows,
+            count,
+            nodes,
+            branches,
         ));
     }
     let need = put_card(
@@ -400,7 +410,16 @@ fn write_card<'a>(
         return Answer::Refused(ROOM_TOO_SMALL, need);
     }
     Answer::Done(put_card(
-        room, 0, c.mode, c.seats, c.top, c.start, &rows, count, nodes, branches,
+        room,
+        0,
+        c.mode,
+        c.seats,
+        c.top,
+        c.start,
+        &rows,
+        count,
+        nodes,
+        branches,
     ))
 }
 

@@ -60,16 +60,16 @@ put-byte-requires-3 : tie.Need-put-byte-requires-3
 put-byte-requires-3 c κs = search needs
 
 -- src/lib.rt:52:26
-div-put-number-2 : tie.Need-div-put-number-2
-div-put-number-2 c = search needs
+div-put-long-number : tie.Need-div-put-long-number
+div-put-long-number c = search needs
 
 -- src/lib.rt:52:25
-cast-put-number-2 : tie.Need-cast-put-number-2
-cast-put-number-2 c = omega (arith, div-le-self unit (c .before .before .before .before .before .before .before .before .before .divisor .result))
+cast-put-long-number : tie.Need-cast-put-long-number
+cast-put-long-number c = omega (arith, div-le-self unit (c .before .before .before .before .before .before .before .before .before .divisor .result))
 
 -- src/lib.rt:52:5
-put-number-requires-2 : tie.Need-put-number-requires-2
-put-number-requires-2 c κs = search needs
+put-long-number-requires : tie.Need-put-long-number-requires
+put-long-number-requires c κs = search needs
 
 -- src/lib.rt:40:1
 same-length-3 : tie.Need-same-length-3
@@ -77,7 +77,7 @@ same-length-3 c = search needs
 
 -- src/lib.rt:40:1
 returns-3 : tie.Need-returns-3
-returns-3 c = puts-as _ (text-ratio _ _ (c .before .before .before .before .before .before .before .before .before .before .before .before .before .before .if1 .left) (c .before .before .before .before .before .before .before .before .before .before .before .before .before .if2 .left) (c .before .before .before .before .before .before .before .before .before .before .before .before .divisor .ensures .0)) (puts-then (put-first (c .before .before .before .before .before .before .before .before .before .before .put-number .ensures)) (puts-then (put-first (c .before .before .before .before .before .before .put-byte3 .ensures)) (put-first (c .before .before .put-number2 .ensures))))
+returns-3 c = puts-as _ (text-ratio _ _ (c .before .before .before .before .before .before .before .before .before .before .before .before .before .before .if1 .left) (c .before .before .before .before .before .before .before .before .before .before .before .before .before .if2 .left) (c .before .before .before .before .before .before .before .before .before .before .before .before .divisor .ensures .0)) (puts-then (put-first (c .before .before .before .before .before .before .before .before .before .before .put-number .ensures)) (puts-then (put-first (c .before .before .before .before .before .before .put-byte3 .ensures)) (put-first (c .before .before .put-long-number .ensures))))
 
 pub put-weight-spec : {M : Type 1} → statement M
 put-weight-spec =
@@ -94,8 +94,8 @@ put-weight-spec =
     cast-put-number
     put-number-requires
     put-byte-requires-3
-    div-put-number-2
-    cast-put-number-2
-    put-number-requires-2
+    div-put-long-number
+    cast-put-long-number
+    put-long-number-requires
     same-length-3
     returns-3)

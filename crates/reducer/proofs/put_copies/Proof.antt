@@ -12,7 +12,7 @@ use Rattle.reducer.proofs.put_copies.Reads as reads
 use Rattle.reducer.proofs.put_copies.Lts as lts
 use Rattle.phrases.proofs.put_numbered.Reads as put-numbered-reads
 use Rattle.room.proofs.place.Reads as place-reads
-use Rattle.room.proofs.put_bytes.Reads as put-bytes-reads
+use Rattle.room.proofs.put_run.Reads as put-run-reads
 
 abbrev Inv-loop : tie.InvT-loop
 Inv-loop room₀ at own tail copies to₀ m₀ t10 t11 room to m = (m ≤ copies) × Puts room₀ room at (counted (tailedCopy own tail) 0 (m - 0)) to
@@ -38,8 +38,8 @@ slice-aggregate-put-numbered-2 c = search needs
 put-numbered-requires-2 : tie.Need-put-numbered-requires-2 Inv-loop μ-loop
 put-numbered-requires-2 c κs = search needs
 
-put-bytes-requires : tie.Need-put-bytes-requires Inv-loop μ-loop
-put-bytes-requires c κs = search needs
+put-run-requires : tie.Need-put-run-requires Inv-loop μ-loop
+put-run-requires c κs = search needs
 
 add-m : tie.Need-add-m Inv-loop μ-loop
 add-m c = search needs
@@ -48,7 +48,7 @@ loop-less : tie.Need-loop-less Inv-loop μ-loop
 loop-less c = search needs
 
 loop-again : tie.Need-loop-again Inv-loop μ-loop
-loop-again c = (search needs, counted-next _ 0 _ (search needs) (c .before .before .before .before .before .before .before .before .before .before .before .before .before .before .before .loop .inv .1) (puts-then (c .before .before .before .before .before .before .before .before .before .before .before .put-numbered .ensures) (puts-then (c .before .before .before .before .before .before .put-numbered2 .ensures) (put-first (c .before .before .put-bytes .ensures)))))
+loop-again c = (search needs, counted-next _ 0 _ (search needs) (c .before .before .before .before .before .before .before .before .before .before .before .before .before .before .before .loop .inv .1) (puts-then (c .before .before .before .before .before .before .before .before .before .before .before .put-numbered .ensures) (puts-then (c .before .before .before .before .before .before .put-numbered2 .ensures) (put-first (c .before .before .put-run .ensures)))))
 
 same-length : tie.Need-same-length Inv-loop μ-loop
 same-length c = put-length (c .before .loop .inv .1 .put)
@@ -68,7 +68,7 @@ put-copies-spec =
     put-numbered-requires
     slice-aggregate-put-numbered-2
     put-numbered-requires-2
-    put-bytes-requires
+    put-run-requires
     add-m
     loop-less
     loop-again

@@ -1,119 +1,53 @@
--- A number: with j digits to go the others are stored, and those j are the digits of what is left. Assumes nothing.
-use Prim.Native.Nat.{_+_}
-use mathlib.Core.Path.{_≡_, refl}
-use native.Mathlib.Omega.{arith}
+use Rattle.room.proofs.Decimal.{decimal-one}
 use borrow.Author.Needs.{needs}
-use lib.ListN.{length, drop}
-use Rattle.room.specs.Room.{clip}
-use Rattle.room.specs.Digits.{decimal}
-use Rattle.room.proofs.Decimal.{decimal-one, decimal-length}
-use Rattle.room.proofs.Stores.{put-past, back-none, back-more, back-past, back-all, Leads, leads-all, leads-last, leads-next}
 use Rattle.room.proofs.put_number.Statement.{statement}
 use Rattle.room.proofs.put_number.Tie as tie
+use Rattle.room.proofs.put_number.Reads as reads
+use Rattle.room.proofs.put_number.Lts as lts
+use Rattle.room.proofs.put_byte.Reads as put-byte-reads
+use Rattle.room.proofs.put_long_number.Reads as put-long-number-reads
 
-abbrev Inv-loop : tie.InvT-loop
-Inv-loop room₀ at n k left₀ j₀ room left j =
-    Leads n j left × (length room ≡ length room₀) × (room ≡ clip room₀ (at + j) (drop j (decimal n)))
-
-abbrev μ-loop : tie.MeasureT-loop
-μ-loop room₀ at n k left₀ j₀ room left j = j
-
-cast-put-byte : tie.Need-cast-put-byte Inv-loop μ-loop
+-- src/lib.rt:163:42
+cast-put-byte : tie.Need-cast-put-byte
 cast-put-byte c = search needs
 
-add-put-byte : tie.Need-add-put-byte Inv-loop μ-loop
+-- src/lib.rt:163:35
+add-put-byte : tie.Need-add-put-byte
 add-put-byte c = search needs
 
-put-byte-requires : tie.Need-put-byte-requires Inv-loop μ-loop
+-- src/lib.rt:163:9
+put-byte-requires : tie.Need-put-byte-requires
 put-byte-requires c κs = search needs
 
-same-length : tie.Need-same-length Inv-loop μ-loop
+-- src/lib.rt:163:9
+same-length : tie.Need-same-length
 same-length c = search needs
 
-returns : tie.Need-returns Inv-loop μ-loop
+-- src/lib.rt:163:9
+returns : tie.Need-returns
 returns c = rw (decimal-one _ (c .before .before .before .before .if1 .taken)) (c .before .before .put-byte .ensures)
 
-digits-requires : tie.Need-digits-requires Inv-loop μ-loop
-digits-requires c κs = search needs
+-- src/lib.rt:165:5
+put-long-number-requires : tie.Need-put-long-number-requires
+put-long-number-requires c κs = search needs
 
-after-requires : tie.Need-after-requires Inv-loop μ-loop
-after-requires c κs = search needs
+-- src/lib.rt:159:1
+same-length-2 : tie.Need-same-length-2
+same-length-2 c = search needs
 
-returns-2 : tie.Need-returns-2 Inv-loop μ-loop
-returns-2 c = put-past (search needs) (c .before .if2 .taken) (search needs)
-
-loop-holds : tie.Need-loop-holds Inv-loop μ-loop
-loop-holds c = (leads-all _ _ (c .before .digits .ensures), refl, back-none _ _ _ _ (search needs))
-
-sub-j : tie.Need-sub-j Inv-loop μ-loop
-sub-j c = search needs
-
-add-to : tie.Need-add-to Inv-loop μ-loop
-add-to c =
-    let n = c .before .before .before .before .before .before .args .n in
-    omega (arith, c .before .loop .inv .0 .within, decimal-length 19 n (omega arith))
-
-cast-b : tie.Need-cast-b Inv-loop μ-loop
-cast-b c = search needs
-
-add-b : tie.Need-add-b Inv-loop μ-loop
-add-b c = search needs
-
-slice-write-room : tie.Need-slice-write-room Inv-loop μ-loop
-slice-write-room c = search needs
-
-loop-less : tie.Need-loop-less Inv-loop μ-loop
-loop-less c = search needs
-
-loop-again : tie.Need-loop-again Inv-loop μ-loop
-loop-again c =
-    let (leads, long, wrote) = c .before .before .loop .inv in
-    let some = c .before .loop-test .taken in
-    (leads-next leads some, search needs, back-more _ _ _ _ some (leads .within) (leads-last leads some) wrote)
-
-loop-less-2 : tie.Need-loop-less-2 Inv-loop μ-loop
-loop-less-2 c = search needs
-
-loop-again-2 : tie.Need-loop-again-2 Inv-loop μ-loop
-loop-again-2 c =
-    let (leads, long, wrote) = c .before .before .loop .inv in
-    let some = c .before .loop-test .taken in
-    (leads-next leads some, search needs, back-past _ _ _ _ some (search needs) wrote)
-
-after-requires-2 : tie.Need-after-requires-2 Inv-loop μ-loop
-after-requires-2 c κs = search needs
-
-same-length-2 : tie.Need-same-length-2 Inv-loop μ-loop
-same-length-2 c = c .before .before .loop .inv .1
-
-returns-3 : tie.Need-returns-3 Inv-loop μ-loop
-returns-3 c =
-    back-all _ _ _ _ (search needs) (c .before .loop-test .left) (c .before .before .loop .inv .2) (search needs)
+-- src/lib.rt:159:1
+returns-2 : tie.Need-returns-2
+returns-2 c = search needs
 
 pub put-number-spec : {M : Type 1} → statement M
 put-number-spec =
     tie.close
     (tie.spec
-    Inv-loop
-    μ-loop
     cast-put-byte
     add-put-byte
     put-byte-requires
     same-length
     returns
-    digits-requires
-    after-requires
-    returns-2
-    loop-holds
-    sub-j
-    add-to
-    cast-b
-    add-b
-    slice-write-room
-    loop-less
-    loop-again
-    loop-less-2
-    loop-again-2
-    after-requires-2
+    put-long-number-requires
     same-length-2
-    returns-3)
+    returns-2)

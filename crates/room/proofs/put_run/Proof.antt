@@ -7,8 +7,8 @@ use lib.ListN.{length, take}
 use Rattle.room.specs.Room.{clip}
 use Rattle.room.proofs.Laws.{clip-none}
 use Rattle.room.proofs.Stores.{clip-more, put-part}
-use Rattle.room.proofs.put_bytes.Statement.{statement}
-use Rattle.room.proofs.put_bytes.Tie as tie
+use Rattle.room.proofs.put_run.Statement.{statement}
+use Rattle.room.proofs.put_run.Tie as tie
 
 abbrev Inv-loop : tie.InvT-loop
 Inv-loop room₀ at s n i₀ room i = (i ≤ n) × (length room ≡ length room₀) × (room ≡ clip room₀ at (take i s))
@@ -54,8 +54,8 @@ returns c =
     let end = c .before .before .loop in
     put-part (end .i) (search needs) (search needs) (end .inv .2) (search needs)
 
-pub put-bytes-spec : {M : Type 1} → statement M
-put-bytes-spec =
+pub put-run-spec : {M : Type 1} → statement M
+put-run-spec =
     tie.close
     (tie.spec
     Inv-loop
