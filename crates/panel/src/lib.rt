@@ -1,4 +1,4 @@
-// The panel of a card and its seats ("Texts, byte for byte"): from the counts alone, in one pass over the card's statements.
+// The panel of a card and its seats ("Texts, byte for byte"): from the counts alone; each statement's guard and weights are worked out once.
 use card::NONDETERMINISTIC;
 use card::limits::BRANCH_PLACES;
 use card::limits::MOST_BRANCHES;
@@ -297,8 +297,9 @@ fn enter_panel<'a>(
             count,
         ));
     }
+    let nothing = 0;
     let need = put_panel(
-        &mut room[..0],
+        &mut room[..nothing],
         0,
         mode,
         seats,

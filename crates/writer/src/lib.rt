@@ -394,8 +394,9 @@ fn write_card<'a>(
             branches,
         ));
     }
+    let nothing = 0;
     let need = put_card(
-        &mut room[..0],
+        &mut room[..nothing],
         0,
         c.mode,
         c.seats,

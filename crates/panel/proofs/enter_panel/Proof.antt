@@ -1,5 +1,6 @@
+use lib.Seq.{length-take-le}
 use Rattle.room.proofs.Entries.{entered-whole, entered-small, entered-done, entered-length}
-use mathlib.Core.Path.{refl}
+use mathlib.Core.Path.{refl, sym}
 use native.Mathlib.Omega.{arith}
 use borrow.Author.Needs.{needs}
 use Rattle.panel.proofs.enter_panel.Statement.{statement}
@@ -20,27 +21,27 @@ same-length c = search needs
 returns : tie.Need-returns
 returns c = entered-whole refl (omega (arith, c .before .before .before .before .before .before .before .before .pre .1, c .before .before .before .before .if1 .taken)) (c .before .before .put-panel .ensures)
 
--- src/lib.rt:289:9
+-- src/lib.rt:302:9
 slice-relend-prefix-put-panel : tie.Need-slice-relend-prefix-put-panel
 slice-relend-prefix-put-panel c = search needs
 
--- src/lib.rt:289:9
+-- src/lib.rt:302:9
 slice-aggregate-put-panel : tie.Need-slice-aggregate-put-panel
-slice-aggregate-put-panel c = search needs
+slice-aggregate-put-panel c = sym (length-take-le _ (c .before .before .before .before .before .args .room .now) (search needs))
 
--- src/lib.rt:288:9
+-- src/lib.rt:301:9
 put-panel-requires-2 : tie.Need-put-panel-requires-2
 put-panel-requires-2 c κs = c .before .before .before .before .before .pre .0
 
--- src/lib.rt:304:9
+-- src/lib.rt:317:9
 same-length-2 : tie.Need-same-length-2
 same-length-2 c = search needs
 
--- src/lib.rt:304:9
+-- src/lib.rt:317:9
 returns-2 : tie.Need-returns-2
 returns-2 c = entered-small refl (c .before .before .before .put-panel2 .ensures) (omega (arith, c .before .before .before .before .before .before .before .before .before .pre .1)) (c .if2 .taken)
 
--- src/lib.rt:306:18
+-- src/lib.rt:319:18
 put-panel-requires-3 : tie.Need-put-panel-requires-3
 put-panel-requires-3 c κs = c .before .before .before .before .before .before .before .before .before .before .pre .0
 
