@@ -13,12 +13,13 @@ use Rattle.meaning.specs.Panel.{panel, blockOf, blockTotal, due}
 use Rattle.meaning.specs.ByCounts.{countPanel}
 use Rattle.meaning.specs.Reordered.{Reordered}
 
--- two seats, of which one goes from 0 to 2 and one from 1 to 0
-abbrev pub goes : ℕ → ℕ → Statement
-goes a b = record { own = a; guard = none; branches = record { units = unit; end = b } ∷ [] }
+-- a seat in state a moves to state b, whatever the others are in
+abbrev pub fromTo : ℕ → ℕ → Statement
+fromTo a b = record { own = a; guard = none; branches = record { units = unit; end = b } ∷ [] }
 
+-- two seats, of which one moves from 0 to 2 and one from 1 to 0
 abbrev pub turning : Card
-turning = record { mode = probabilistic; n = 2; k = 2; l = 0; statements = goes 1 0 ∷ goes 0 2 ∷ [] }
+turning = record { mode = probabilistic; n = 2; k = 2; l = 0; statements = fromTo 1 0 ∷ fromTo 0 2 ∷ [] }
 
 pub record Panels : Type 0 where
   -- it can be computed from the counts alone
