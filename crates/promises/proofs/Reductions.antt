@@ -19,4 +19,4 @@ table = record {
 
 pub reductions : Reductions
 unfolding programText reduce copy cardA decimal gcd divisor
-reductions = record { table = table; one-seat-text = refl; joined-text = refl; one-seat = refl; card-a = refl; card-a-free = refl; stays-within = stays-within }
+reductions = record { table = table; one-seat-text = refl; joined-text = refl; either-text = refl; card-a-text = refl; one-seat = refl; card-a = refl; card-a-free = refl; stays-within = stays-within }

@@ -1,4 +1,4 @@
--- The written card, by citing. Assumes nothing.
+-- The written card, by citing; the texts written out, by computing. Assumes nothing.
 use mathlib.Core.Path.{_≡_, refl, sym, ap, _∙_}
 use Rattle.reading.specs.Reading.{taken}
 use Rattle.room.specs.Digits.{decimal}
@@ -7,17 +7,24 @@ use Rattle.phrases.specs.Phrases.{gcd, divisor}
 use Rattle.phrases.proofs.Lowest.{lowest-terms, lowest-kept}
 use Rattle.writer.specs.Writing.{writeOf}
 use Rattle.rereading.proofs.RoundTrip.{round-trip, written-once, read-again}
-use Rattle.card.specs.Card.{Card}
+use Rattle.card.specs.Card.{Mode, nondeterministic, probabilistic, Card}
+use Rattle.promises.specs.Edges.{textA}
 use Rattle.promises.specs.Writings.{Writings}
 
 same-taken : (c d : Card) → taken c ≡ taken d → c ≡ d
 same-taken c d e = cc
 
-pub writings : Writings
+card-a-written : (mode : Mode) → writeOf (cardA mode) ≡ textA mode
 unfolding writeOf cardA decimal gcd divisor
+card-a-written nondeterministic = refl
+card-a-written probabilistic = refl
+
+pub writings : Writings
+unfolding writeOf decimal gcd divisor
 writings = record {
-  card-a = refl;
+  card-a = card-a-written;
   brackets = refl;
+  whole-bars = refl;
   again = read-again;
   round-trip = round-trip;
   canonical = λ c d v w. ((λ e. ap writeOf e), written-once c d v w);

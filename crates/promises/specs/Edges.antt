@@ -10,9 +10,14 @@ use Rattle.meaning.specs.CardA.{cardA}
 use Rattle.lines.specs.PanelText.{panelOf}
 use Rattle.program.specs.Program.{programOf}
 
--- card A's own text
-abbrev pub textA : List ℕ
-textA = bytes "probabilistic\nmodule process1\ns1 : [0..2] init 0;\n[] s1=0 & (s2=0 | s3=0) -> 1/2:(s1'=1) + 1/2:(s1'=2);\n[] s1=1 & (s1!=2 & s2!=2 & s3!=2) -> 1/4:(s1'=2) + 3/4:(s1'=1);\nendmodule\nmodule process2 = process1 [s1=s2, s2=s1] endmodule\nmodule process3 = process1 [s1=s3, s3=s1] endmodule\n"
+-- card A's own text behind its mode
+abbrev pub behindMode : List ℕ
+behindMode = bytes "\nmodule process1\ns1 : [0..2] init 0;\n[] s1=0 & (s2=0 | s3=0) -> 1/2:(s1'=1) + 1/2:(s1'=2);\n[] s1=1 & (s1!=2 & s2!=2 & s3!=2) -> 1/4:(s1'=2) + 3/4:(s1'=1);\nendmodule\nmodule process2 = process1 [s1=s2, s2=s1] endmodule\nmodule process3 = process1 [s1=s3, s3=s1] endmodule\n"
+
+-- the whole of it, in either mode
+abbrev pub textA : Mode → List ℕ
+textA probabilistic = bytes "probabilistic" ++ behindMode
+textA nondeterministic = bytes "nondeterministic" ++ behindMode
 
 -- what card A's panel prints, where the seats are in these states
 abbrev pub at : Mode → ℕ → ℕ → ℕ → List ℕ
@@ -47,8 +52,10 @@ pub record Edges : Type 0 where
   pub at-012 : at probabilistic 0 1 2 ≡ bytes "probabilistic\nseats 3 enabled 0\ncounts 1 1 1\n"
   pub at-011 : at probabilistic 0 1 1 ≡ bytes "probabilistic\nseats 3 enabled 2\ncounts 1 2 0\nstay 37800\nmove 1 2 12600\n"
   pub at-000 : at probabilistic 0 0 0 ≡ bytes "probabilistic\nseats 3 enabled 3\ncounts 3 0 0\nmove 0 1 37800\nmove 0 2 37800\n"
-  pub nondeterministic-001 : at nondeterministic 0 0 1
-      ≡ bytes "nondeterministic\nseats 3 enabled 2\ncounts 2 1 0\nchoice 1\nmove 0 1 12600\nmove 0 2 12600\nchoice 2\nstay 18900\nmove 1 2 6300\n"
+  -- the same card as nondeterministic: its bytes read as it, and its panel
+  pub nondeterministic-001 : (readOf (textA nondeterministic) ≡ taken (cardA nondeterministic))
+      × (at nondeterministic 0 0 1
+      ≡ bytes "nondeterministic\nseats 3 enabled 2\ncounts 2 1 0\nchoice 1\nmove 0 1 12600\nmove 0 2 12600\nchoice 2\nstay 18900\nmove 1 2 6300\n")
   -- 1/7
   pub seventh : readOf (head ++ bytes " -> 1/7:(s1'=1) + 6/7:(s1'=2);\nendmodule\n") ≡ reads 1 none (to 3600 1 ∷ to 21600 2 ∷ [])
   -- 1/11, at its place
@@ -61,9 +68,9 @@ pub record Edges : Type 0 where
       × (readOf (head ++ bytes " -> 0.05:(s1'=1) + 0.95:(s1'=2);\nendmodule\n") ≡ reads 1 none (to 1260 1 ∷ to 23940 2 ∷ []))
   -- (s3=0 | s2=0), and the group of card A
   pub any-order : (readOf (head ++ bytes " & (s3=0 | s2=0) -> 1:(s1'=1);\n" ++ three) ≡ reads 3 (some (atom (group others any is 0))) (to 25200 1 ∷ []))
-      × (readOf textA ≡ taken (cardA probabilistic))
+      × (readOf (textA probabilistic) ≡ taken (cardA probabilistic))
 
 -- what the program prints, whole: for `001` and card A, and for a line without LF
 pub record Printing : Type 0 where
-  pub card-a : programOf (bytes "001\n" ++ textA) ≡ asAbove
+  pub card-a : programOf (bytes "001\n" ++ textA probabilistic) ≡ asAbove
   pub no-card : programOf (bytes "001") ≡ bytes "refused 3 0\n"

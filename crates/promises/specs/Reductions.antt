@@ -5,7 +5,7 @@ use mathlib.Core.Path.{_≡_}
 use mathlib.Core.List.{List, [], _∷_}
 use mathlib.Core.Option.{Option, none, some}
 use Rattle.card.specs.Text.{bytes}
-use Rattle.card.specs.Card.{nondeterministic, probabilistic, Kind, everyone, others, Sign, all, any, Relation, is, isnt, group, atom, neg, and, Card}
+use Rattle.card.specs.Card.{nondeterministic, probabilistic, Kind, everyone, others, Sign, all, any, Relation, is, isnt, group, atom, neg, and, or, Card}
 use Rattle.reducer.specs.ReducedText.{reducedOf}
 use Rattle.card.specs.Valid.{Every}
 use Rattle.meaning.specs.CardA.{cardA}
@@ -28,6 +28,22 @@ joined = record {
         own = 0;
         guard = some (and (atom (group others all is 0)) (neg (atom (group everyone all is 1))));
         branches = record { units = 18900; end = 0 } ∷ record { units = 6300; end = 1 } ∷ [];
+      }
+      ∷ [];
+}
+
+-- the same on a probabilistic card, with `|` twice and a branch of weight 0
+abbrev pub either : Card
+either = record {
+  mode = probabilistic;
+  n = 2;
+  k = 1;
+  l = 1;
+  statements =
+      record {
+        own = 1;
+        guard = some (or (atom (group others any isnt 0)) (neg (or (atom (group others all isnt 1)) (atom (group everyone any is 1)))));
+        branches = record { units = 0; end = 0 } ∷ record { units = 25200; end = 1 } ∷ [];
       }
       ∷ [];
 }
@@ -66,6 +82,11 @@ pub record Reductions : Type 0 where
   -- a joined guard with its brackets, and the update `true`
   pub joined-text : reducedOf joined
       ≡ bytes "nondeterministic\nmodule generic_process\nno_0 : [0..2] init 2;\nno_1 : [0..2] init 0;\n[] (no_0>0) & ((no_0=2) & !(no_1=2)) -> 3/4:true + 1/4:(no_0'=no_0-1) & (no_1'=min(no_1+1,2));\nendmodule\n"
+  -- the copies of a statement on a probabilistic card, one behind the other
+  pub either-text : reducedOf either
+      ≡ bytes "probabilistic\nmodule generic_process\nno_0 : [0..2] init 0;\nno_1 : [0..2] init 2;\n[] (no_1>0) & ((no_0<1) | !((no_1=1) | (no_1>0))) -> 0:(no_1'=no_1-1) & (no_0'=min(no_0+1,2)) + 1:true;\n[] (no_1>1) & ((no_0<1) | !((no_1=1) | (no_1>0))) -> 0:(no_1'=no_1-1) & (no_0'=min(no_0+1,2)) + 1:true;\nendmodule\n"
+  pub card-a-text : reducedOf (cardA probabilistic)
+      ≡ bytes "probabilistic\nmodule generic_process\nno_0 : [0..3] init 3;\nno_1 : [0..3] init 0;\nno_2 : [0..3] init 0;\n[] (no_0>0) & (no_0>1) -> 1/2:(no_0'=no_0-1) & (no_1'=min(no_1+1,3)) + 1/2:(no_0'=no_0-1) & (no_2'=min(no_2+1,3));\n[] (no_0>1) & (no_0>1) -> 1/2:(no_0'=no_0-1) & (no_1'=min(no_1+1,3)) + 1/2:(no_0'=no_0-1) & (no_2'=min(no_2+1,3));\n[] (no_0>2) & (no_0>1) -> 1/2:(no_0'=no_0-1) & (no_1'=min(no_1+1,3)) + 1/2:(no_0'=no_0-1) & (no_2'=min(no_2+1,3));\n[] (no_1>0) & (no_2=0) -> 1/4:(no_1'=no_1-1) & (no_2'=min(no_2+1,3)) + 3/4:true;\n[] (no_1>1) & (no_2=0) -> 1/4:(no_1'=no_1-1) & (no_2'=min(no_2+1,3)) + 3/4:true;\n[] (no_1>2) & (no_2=0) -> 1/4:(no_1'=no_1-1) & (no_2'=min(no_2+1,3)) + 3/4:true;\nendmodule\n"
   pub one-seat : reduce oneSeat ≡ record { mode = nondeterministic; most = 1; start = 1 ∷ 0 ∷ []; statements = line 0 0 none (outcome 25200 (shift 0 1 1) ∷ []) ∷ [] }
   pub card-a : reduce (cardA probabilistic)
       ≡ record { mode = probabilistic; most = 3; start = 3 ∷ 0 ∷ 0 ∷ []; statements = first 0 ∷ first 1 ∷ first 2 ∷ second 0 ∷ second 1 ∷ second 2 ∷ [] }
