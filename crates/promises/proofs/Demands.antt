@@ -2,7 +2,6 @@
 use Rattle.meaning.proofs.Vectors.{same-right}
 use Rattle.meaning.proofs.Demand.{demand, turns-agree, starts}
 use Rattle.meaning.proofs.Stuck.{stuck, no-step}
-use Rattle.reading.proofs.Theorems.{accepted}
 use Rattle.counting.proofs.Judging.{valid-exactly}
 use Rattle.rereading.proofs.RoundTrip.{read-again}
 use Rattle.writer.specs.WriteSaid.{writeSaid}
@@ -10,6 +9,8 @@ use Rattle.reducer.specs.ReduceSaid.{reduceSaid}
 use Rattle.panel.specs.PanelSaid.{panelSaid}
 use Rattle.lines.specs.PanelText.{panelOf}
 use Rattle.panel.proofs.Reordering.{equal-said, said-alike, alike}
+use Rattle.promises.proofs.Marks.{markings}
+use Rattle.promises.proofs.Readings.{readings}
 use Rattle.promises.specs.Demands.{Demand2, Demand3-of-bytes, Demand3, Meanings}
 
 pub demand3 : Demand3
@@ -21,7 +22,8 @@ meanings = record { turn-sums = turns-agree; nothing = stuck; no-step = no-step;
 pub demand2 : Demand2
 unfolding writeSaid reduceSaid panelSaid panelOf
 demand2 = record {
-  accepted = accepted;
+  marks = markings;
+  readings = readings;
   written = λ b c h. rw h;
   reduced = λ b c h. rw h;
   shown = λ b c x h ok. rw (h, valid-exactly c x .1 ok);

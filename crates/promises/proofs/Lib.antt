@@ -2,6 +2,7 @@ pub mod Cards
 pub mod Demands
 pub mod Entries
 pub mod Marks
+pub mod Numbers
 pub mod Readings
 pub mod Writings
 pub mod Reductions

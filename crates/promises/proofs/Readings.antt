@@ -1,6 +1,7 @@
 -- Reading, by citing. Assumes nothing.
 use Rattle.reading.proofs.Theorems.{accepted, read-valid, refusal-1, refusal-2, refusal-3, refusal-4, refusal-5, refusal-6, refusal-7}
 use Rattle.reading.proofs.Numbers.{read-number}
+use Rattle.promises.proofs.Numbers.{number-some}
 use Rattle.promises.specs.Readings.{Readings}
 
 pub readings : Readings
@@ -14,5 +15,5 @@ readings = record {
   row-5 = refusal-5;
   row-6 = refusal-6;
   row-7 = refusal-7;
-  no-other = read-number;
+  no-other = λ s e. (number-some s e, read-number s e);
 }

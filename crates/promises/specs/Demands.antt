@@ -16,7 +16,6 @@ use Rattle.meaning.specs.Panel.{panel}
 use Rattle.meaning.specs.Reordered.{Reordered}
 use Rattle.card.specs.Limits.{cardBytes}
 use Rattle.reading.specs.Reading.{taken, readOf}
-use Rattle.reading.specs.Verdicts.{Accepted}
 use Rattle.room.specs.declared.Answer.{Answer}
 use Rattle.room.specs.Answer.{text, Entered}
 use Rattle.writer.specs.Writing.{writeOf}
@@ -26,10 +25,16 @@ use Rattle.reducer.specs.ReduceSaid.{reduceSaid}
 use Rattle.lines.specs.PanelText.{panelText}
 use Rattle.panel.specs.PanelSaid.{panelSaid}
 use Rattle.panel.specs.Reordering.{SaidAlike, Alike}
+use Rattle.promises.specs.Marks.{Markings}
+use Rattle.promises.specs.Readings.{Readings}
 
--- Demand 2 ("Shape of a card", "Texts, byte for byte"): which bytes are a card, and what is printed of it
+-- Demand 2 ("Marks on a card", "Shape of a card", "Texts, byte for byte", "Refusal numbers"): which bytes are a card, why others are not, and what is
+-- printed of a card
 pub record Demand2 : Type 0 where
-  pub accepted : (b : List ℕ) (c : Card) → (readOf b ≡ taken c) ↔ Accepted b c
+  -- which marks the bytes are; then when they are taken and as which card, and each refusal 1 to 7 with its place exactly under the
+  -- condition of its row
+  pub marks : Markings
+  pub readings : Readings
   -- the texts of an accepted card are those of the definitions
   pub written : (b : List ℕ) (c : Card) → readOf b ≡ taken c → writeSaid b ≡ text (writeOf c)
   pub reduced : (b : List ℕ) (c : Card) → readOf b ≡ taken c → reduceSaid b ≡ text (programText (reduce c))

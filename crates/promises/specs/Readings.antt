@@ -24,4 +24,4 @@ pub record Readings : Type 0 where
   pub row-6 : (s : List ℕ) (p : ℕ) → (readOf s ≡ refused notDue p) ↔ Broken notDue s p
   pub row-7 : (s : List ℕ) (p : ℕ) → (readOf s ≡ refused wrongWeight p) ↔ Broken wrongWeight s p
   -- there is no other refusal of a card
-  pub no-other : (s : List ℕ) {r p : ℕ} → readOf s ≡ refused r p → r ≤ wrongWeight
+  pub no-other : (s : List ℕ) {r p : ℕ} → readOf s ≡ refused r p → (tooLong ≤ r) × (r ≤ wrongWeight)
