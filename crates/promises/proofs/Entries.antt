@@ -9,7 +9,8 @@ use Rattle.room.specs.Answer.{answerNumber, answerValue}
 use Rattle.writer.proofs.Theorems as of-writer
 use Rattle.reducer.proofs.Theorems as of-reducer
 use Rattle.panel.proofs.Theorems as of-panel
-use Rattle.promises.specs.Entries.{Numbered, numberIn, placeIn, Demand1}
+use Rattle.promises.specs.Entries.{Numbered, numberIn, placeIn, Rooms, Demand1}
+use Rattle.promises.proofs.Program.{responds, never-10}
 
 numbered : (a : Answer) → Numbered a
 numbered a = record { refusal = λ number place e. (ap answerNumber e, ap answerValue e); length-told = λ long e. (ap answerNumber e, ap answerValue e) }
@@ -22,6 +23,13 @@ reads-place : (o : Outcome) → placeOf (readingOf o .verdict) ≡ placeIn o
 reads-place (taken c) = refl
 reads-place (refused number place) = refl
 
+pub rooms : Rooms
+rooms = record {
+  written = λ card was is a e. of-writer.room-enough card e;
+  reduced = λ card was is a e. of-reducer.room-enough card e;
+  shown = λ card seats was is a e. of-panel.never-small card seats e;
+}
+
 pub demand1 : Demand1
 demand1 = record {
   read = λ card x h. (
@@ -30,6 +38,9 @@ demand1 = record {
     ap (λ (y : Reading). y .card) (h .reading),
   );
   program = λ input was is long p. (p .stands, p .length-is);
+  responds = responds;
+  never-10 = never-10;
+  rooms = rooms;
   write = λ card was is a e. record {
     wrong-card = of-writer.refusal-1-to-7 card e;
     small-room = of-writer.refusal-10 card e;

@@ -3,6 +3,7 @@ pub mod Demands
 pub mod Entries
 pub mod Marks
 pub mod Numbers
+pub mod Program
 pub mod Readings
 pub mod Writings
 pub mod Reductions

@@ -3,8 +3,9 @@
 use Prim.Native.Nat.{ℕ, _≤_, _<_}
 use mathlib.Core.Path.{_≡_}
 use mathlib.Core.Logic.{_↔_}
-use mathlib.Core.List.{List, _++_}
-use lib.ListN.{length, drop}
+use mathlib.Core.List.{List, _++_, map}
+use lib.ListN.{length, take, drop}
+use Rattle.card.specs.Text.{bytes}
 use Rattle.card.specs.Refusals.{wrongWeight, wrongSeats, seatAboveTop, roomTooSmall}
 use Rattle.card.specs.Card.{Card}
 use Rattle.reading.specs.Reading.{Outcome, taken, refused, readOf}
@@ -12,7 +13,8 @@ use Rattle.reader.specs.declared.Reading.{Reading}
 use Rattle.reader.specs.ReadingOf.{readingOf, numberOf, placeOf, Reads}
 use Rattle.room.specs.declared.Answer.{Answer}
 use Rattle.room.specs.declared.Answer.the-variants.{Done, Refused}
-use Rattle.room.specs.Answer.{answerNumber, answerValue, Entered}
+use Rattle.room.specs.Digits.{decimal}
+use Rattle.room.specs.Answer.{Said, refused as refusal, answerNumber, answerValue, Entered}
 use Rattle.meaning.specs.Seats.{Seating, ValidSeating}
 use Rattle.counting.specs.Judged.{FirstAbove}
 use Rattle.writer.specs.Writing.{writeOf}
@@ -21,7 +23,7 @@ use Rattle.reducer.specs.ReducedText.{reducedOf}
 use Rattle.reducer.specs.ReduceSaid.{reduceSaid}
 use Rattle.lines.specs.PanelText.{panelOf}
 use Rattle.panel.specs.PanelSaid.{panelSaid}
-use Rattle.program.specs.Program.{programOf, Printed}
+use Rattle.program.specs.Program.{seatsLine, cardBehind, seatOf, programOf, Printed}
 
 -- an answer in document 01's numbers: a refusal's number and place, and 0 with the length
 pub record Numbered (a : Answer) : Type 0 where
@@ -68,6 +70,39 @@ pub record Shows (card seats was is : List ℕ) (a : Answer) : Type 0 where
   pub untouched : (number place : ℕ) → a ≡ Refused number place → is ≡ was
   pub numbered : Numbered a
 
+-- lent a room of so many bytes or more, an entry never answers 10
+abbrev pub Enough : ℕ → Said → Type 0
+Enough room said = (was is : List ℕ) (a : Answer) → Entered was is said a → room ≤ length was → (place : ℕ) → a ≡ Refused roomTooSmall place → ⊥
+
+-- rooms that every text fits into, whatever the card and the seats
+pub record Rooms : Type 0 where
+  pub written : (card : List ℕ) → Enough 82639 (writeSaid card)
+  pub reduced : (card : List ℕ) → Enough 347890 (reduceSaid card)
+  pub shown : (card seats : List ℕ) → Enough 4101 (panelSaid card seats)
+
+-- ---- the program
+
+-- of the input's first bytes, the seats up to LF and the card behind it
+abbrev pub seatsRead : List ℕ → List ℕ
+seatsRead input = map seatOf (seatsLine (take 65536 input))
+
+abbrev pub cardRead : List ℕ → List ℕ
+cardRead input = cardBehind (take 65536 input)
+
+abbrev pub refusalLine : ℕ → ℕ → List ℕ
+refusalLine number place = bytes "refused " ++ (decimal number ++ (bytes " " ++ (decimal place ++ bytes "\n")))
+
+-- what is printed: the card's refusal 1 to 7, an 8, a 9, or the panel, which fits into the program's room
+pub data Response (input : List ℕ) : Type 0 where
+  wrong-card : (number place : ℕ) → readOf (cardRead input) ≡ refused number place → 1 ≤ number → number ≤ wrongWeight
+      → programOf input ≡ refusalLine number place → Response input
+  wrong-count : (c : Card) → readOf (cardRead input) ≡ taken c → (length (seatsRead input) ≡ c .n → ⊥)
+      → programOf input ≡ refusalLine wrongSeats 0 → Response input
+  wrong-seat : (c : Card) → readOf (cardRead input) ≡ taken c → length (seatsRead input) ≡ c .n → (place : ℕ) → FirstAbove (c .k) (seatsRead input) place
+      → programOf input ≡ refusalLine seatAboveTop place → Response input
+  the-panel : (c : Card) → readOf (cardRead input) ≡ taken c → ValidSeating c (seatsRead input) → length (panelOf c (seatsRead input)) ≤ 4101
+      → programOf input ≡ panelOf c (seatsRead input) → Response input
+
 pub record Demand1 : Type 0 where
   -- the reader: its verdict in numbers, and the struct that it hands back
   pub read : (card : List ℕ) (x : Reading) → Reads card x
@@ -78,3 +113,8 @@ pub record Demand1 : Type 0 where
   -- the program: what it prints stands at the start of its room
   pub program : (input was is : List ℕ) (long : ℕ) → Printed was is (programOf input) long
       → (is ≡ programOf input ++ drop (length (programOf input)) was) × (long ≡ length (programOf input))
+  -- and it is the panel or a refusal 1 to 9: a 10 is never printed, for of no bytes and no seats is one said
+  pub responds : (input : List ℕ) → Response input
+  pub never-10 : (card seats : List ℕ) (number place : ℕ) → panelSaid card seats ≡ refusal number place → (1 ≤ number) × (number ≤ seatAboveTop)
+  -- rooms that are always enough
+  pub rooms : Rooms
