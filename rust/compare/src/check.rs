@@ -1,8 +1,10 @@
 //! One input, asked of both sides.
 
-use baseline::Refusal;
+use baseline::{Card, Refusal};
+use open_panel::{REDUCE_ROOM, SHOW_ROOM, WRITE_ROOM};
 
 use crate::by_seats;
+use crate::cards::limits::{SEATS, STATEMENTS};
 use crate::inputs::{all_seatings, Input, Kind};
 use crate::model::Model;
 use crate::random::Random;
@@ -15,11 +17,14 @@ pub type Fault = String;
 
 /// Bytes on both sides of a room, and of a card, that nothing may touch.
 const GUARD: usize = 64;
-/// Room for the longest texts and cards.
-const STORE: usize = 300_000;
+/// The longest room that is lent.
+const STORE: usize = REDUCE_ROOM;
+/// Once in so many inputs of a run the long rooms are lent too.
+pub const LONG_ROOMS_ONCE_IN: usize = 6;
 
 /// The lent rooms of both sides.
 pub struct Checker {
+    long_rooms_once_in: usize,
     rooms: Rooms,
     written: Vec<u8>,
     reduced: Vec<u8>,
@@ -89,10 +94,12 @@ impl Rooms {
     }
 }
 
-impl Default for Checker {
-    fn default() -> Self {
+impl Checker {
+    /// Lends the long rooms too, once in so many inputs.
+    pub fn new(long_rooms_once_in: usize) -> Self {
         let mut random = Random::new(0, 0);
         Checker {
+            long_rooms_once_in,
             rooms: Rooms {
                 pattern: (0..STORE + 2 * GUARD + 251)
                     .map(|_| random.next() as u8)
@@ -100,15 +107,13 @@ impl Default for Checker {
                 store: vec![0; STORE + 2 * GUARD],
                 probes: 0,
             },
-            written: vec![0; open_panel::WRITE_ROOM],
-            reduced: vec![0; open_panel::REDUCE_ROOM],
-            shown: vec![0; open_panel::SHOW_ROOM],
+            written: vec![0; WRITE_ROOM],
+            reduced: vec![0; REDUCE_ROOM],
+            shown: vec![0; SHOW_ROOM],
             surrounded: Vec::new(),
         }
     }
-}
 
-impl Checker {
     /// Asks both sides about an input.
     pub fn check(
         &mut self,
@@ -156,15 +161,30 @@ impl Checker {
 
         tally.input(kind, judged.as_ref().err().or(shown.as_ref().err()));
         let rooms = &mut self.rooms;
-        for (what, expected) in [("write", written), ("reduce", reduced), ("show", shown)] {
+        let texts = [
+            (Entry::Write, written),
+            (Entry::Reduce, reduced),
+            (Entry::Show, shown),
+        ];
+        let ask = |entry, room: &mut [u8]| match entry {
+            Entry::Write => open_panel::write(card, room),
+            Entry::Reduce => open_panel::reduce(card, room),
+            Entry::Show => open_panel::show(card, &input.seats, room),
+        };
+        for (entry, expected) in texts {
             let lengths = room_lengths(expected.map(<[u8]>::len).ok(), random);
             for length in lengths.into_iter().flatten() {
                 tally.room(expected.map(<[u8]>::len).ok(), length);
-                rooms.probe(what, expected, length, |room| match what {
-                    "write" => open_panel::write(card, room),
-                    "reduce" => open_panel::reduce(card, room),
-                    _ => open_panel::show(card, &input.seats, room),
-                })?;
+                rooms.probe(entry.name(), expected, length, |room| ask(entry, room))?;
+            }
+        }
+        if let (Ok(read), true) = (&judged, random.once_in(self.long_rooms_once_in)) {
+            for (entry, expected) in texts.into_iter().filter(|(_, text)| text.is_ok()) {
+                let one_walk = entry.one_walk_room(read);
+                for length in entry.long_rooms(read) {
+                    tally.long_room(entry, length >= one_walk);
+                    rooms.probe(entry.name(), expected, length, |room| ask(entry, room))?;
+                }
             }
         }
 
@@ -232,6 +252,56 @@ impl Checker {
         Ok(())
     }
 }
+
+/// An entry that puts a text into a room.
+#[derive(Clone, Copy, PartialEq, Eq, Debug)]
+pub enum Entry {
+    /// The written card.
+    Write,
+    /// The reduced program.
+    Reduce,
+    /// The panel.
+    Show,
+}
+
+impl Entry {
+    /// All of them.
+    pub const ALL: [Entry; 3] = [Entry::Write, Entry::Reduce, Entry::Show];
+
+    /// What it is called.
+    pub fn name(self) -> &'static str {
+        match self {
+            Entry::Write => "write",
+            Entry::Reduce => "reduce",
+            Entry::Show => "show",
+        }
+    }
+
+    /// The least room into which the library puts this card's text without measuring it first.
+    fn one_walk_room(self, card: &Card) -> usize {
+        match self {
+            Entry::Write => one_walk_write_room(card.seats(), card.statements().len()),
+            Entry::Reduce => REDUCE_ROOM,
+            Entry::Show => SHOW_ROOM,
+        }
+    }
+
+    /// The room from which on one walk is enough, the room that is always enough, and those a byte shorter.
+    fn long_rooms(self, card: &Card) -> Vec<usize> {
+        let one_walk = self.one_walk_room(card);
+        match self {
+            Entry::Write => vec![one_walk - 1, one_walk, WRITE_ROOM - 1, WRITE_ROOM],
+            Entry::Reduce | Entry::Show => vec![one_walk - 1, one_walk],
+        }
+    }
+}
+
+/// The library's bound for the written cards of so many seats and statements (crate `writer`).
+const fn one_walk_write_room(seats: usize, statements: usize) -> usize {
+    63 + statements * (249 + 144 * seats) + seats * 55
+}
+
+const _: () = assert!(one_walk_write_room(SEATS, STATEMENTS) == WRITE_ROOM);
 
 /// The rooms to try: one that is a byte short, and one that just fits or a larger one; for a refusal any one.
 fn room_lengths(text: Option<usize>, random: &mut Random) -> [Option<usize>; 2] {

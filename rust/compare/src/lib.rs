@@ -3,7 +3,8 @@
 //! Cards and seatings are made from a seed: valid ones over the whole range of
 //! the limits, ones that just pass a limit, and damaged ones. Both sides are
 //! asked about each, in rooms that just fit, that are one byte short and that
-//! are larger; answers, texts and every byte around them have to agree. On
+//! are larger, and some in the long rooms that a text is put into without being
+//! measured first; answers, texts and every byte around them have to agree. On
 //! small tables both are held to the steps of the seats themselves
 //! ([`by_seats`]), which no counting has touched.
 

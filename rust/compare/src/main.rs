@@ -11,7 +11,7 @@ use std::sync::atomic::{AtomicBool, Ordering};
 use std::time::Instant;
 use std::{env, thread};
 
-use compare::check::{Checker, Fault};
+use compare::check::{Checker, Fault, LONG_ROOMS_ONCE_IN};
 use compare::extremes::extremes;
 use compare::inputs::Input;
 use compare::random::Random;
@@ -79,9 +79,9 @@ fn main() -> ExitCode {
     ExitCode::SUCCESS
 }
 
-/// Tries the largest cards, which are the same in every run.
+/// Tries the largest cards, which are the same in every run, in the long rooms too.
 fn largest() -> Result<(), Fault> {
-    let (mut checker, mut tally) = (Checker::default(), Tally::default());
+    let (mut checker, mut tally) = (Checker::new(1), Tally::default());
     for extreme in extremes() {
         guarded(|| checker.check(&extreme.input, &mut Random::new(0, 0), &mut tally))
             .map_err(|fault| format!("{}: {fault}", extreme.name))?;
@@ -97,7 +97,8 @@ fn all(run: &Run, tally: &mut Tally) -> Result<(), Fault> {
             .map(|first| {
                 let stop = &stop;
                 scope.spawn(move || {
-                    let (mut checker, mut tally) = (Checker::default(), Tally::default());
+                    let mut checker = Checker::new(LONG_ROOMS_ONCE_IN);
+                    let mut tally = Tally::default();
                     let indices = (first..run.inputs).step_by(run.threads as usize);
                     for index in indices {
                         if stop.load(Ordering::Relaxed) {
@@ -178,7 +179,7 @@ fn only(run: &Run, index: u64) -> ExitCode {
     let outcome = match one(
         run.seed,
         index,
-        &mut Checker::default(),
+        &mut Checker::new(LONG_ROOMS_ONCE_IN),
         &mut Tally::default(),
     ) {
         Ok(()) => ControlFlow::Continue("the library agrees".to_owned()),

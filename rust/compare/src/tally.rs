@@ -4,6 +4,7 @@ use std::fmt;
 
 use baseline::{Card, Mode, Node, Refusal};
 
+use crate::check::Entry;
 use crate::inputs::Kind;
 
 /// Inputs of a run that the minima below are for.
@@ -12,6 +13,12 @@ pub const INPUTS: u64 = 100_000;
 const EACH_REFUSAL: u64 = 500;
 /// Times that each place of the table stands on an accepted card, in each mode.
 const EACH_PLACE: u64 = 1_000;
+/// Rooms of each entry in which one walk is enough, and long ones in which it measures first.
+const EACH_LONG_ROOM: u64 = 5_000;
+/// Written cards that are read again.
+const REREAD: u64 = 30_000;
+/// Panels of reordered seats.
+const REORDERED: u64 = 30_000;
 /// Small tables of which every seating is tried.
 const SMALL: u64 = 1_500;
 /// Cards whose written form is too long for a card.
@@ -31,6 +38,8 @@ const COLUMNS: [&str; 3] = ["everyone", "others, d=j", "others, d not j"];
 pub struct Tally {
     kinds: [[u64; 10]; Kind::SHARES.len()],
     rooms: [u64; 4],
+    /// Of each entry: in one walk, measured first.
+    long_rooms: [[u64; 2]; Entry::ALL.len()],
     places: [[[u64; 3]; 4]; 2],
     /// Written cards that were read again.
     pub reread: u64,
@@ -61,6 +70,10 @@ impl Tally {
         self.rooms[fit] += 1;
     }
 
+    pub(crate) fn long_room(&mut self, entry: Entry, one_walk: bool) {
+        self.long_rooms[entry as usize][usize::from(!one_walk)] += 1;
+    }
+
     pub(crate) fn groups(&mut self, card: &Card) {
         let mode = usize::from(card.mode() == Mode::Probabilistic);
         for statement in card.statements() {
@@ -88,6 +101,10 @@ impl Tally {
         };
         sum(self.kinds.as_flattened_mut(), other.kinds.as_flattened());
         sum(&mut self.rooms, &other.rooms);
+        sum(
+            self.long_rooms.as_flattened_mut(),
+            other.long_rooms.as_flattened(),
+        );
         sum(
             self.places.as_flattened_mut().as_flattened_mut(),
             other.places.as_flattened().as_flattened(),
@@ -142,6 +159,17 @@ impl Tally {
         for (fit, count) in ["short", "exact", "larger"].iter().zip(self.rooms) {
             least(&format!("rooms, {fit}"), count, INPUTS / 2);
         }
+        for (entry, [one_walk, measured]) in Entry::ALL.iter().zip(self.long_rooms) {
+            let name = entry.name();
+            least(&format!("{name} in one walk"), one_walk, EACH_LONG_ROOM);
+            least(
+                &format!("{name} in a long room, measured first"),
+                measured,
+                EACH_LONG_ROOM,
+            );
+        }
+        least("written and read again", self.reread, REREAD);
+        least("seats reordered", self.reordered, REORDERED);
         least("small tables", self.small, SMALL);
         least(
             "written forms too long for a card",
@@ -185,6 +213,13 @@ impl fmt::Display for Tally {
             f,
             "\nrooms       short (10) {short}, exact {exact}, larger {larger}, refused {refused}"
         )?;
+        for (entry, [one_walk, measured]) in Entry::ALL.iter().zip(self.long_rooms) {
+            let name = entry.name();
+            writeln!(
+                f,
+                "long rooms  {name:<7} in one walk {one_walk}, measured first {measured}"
+            )?;
+        }
         for (mode, places) in ["nondeterministic", "probabilistic"]
             .iter()
             .zip(&self.places)
