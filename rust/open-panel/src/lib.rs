@@ -88,29 +88,27 @@ pub fn show(card: &[u8], seats: &[u8], room: &mut [u8]) -> Result<usize, Refusal
 
 /// The card's one written form. Refusals: 1 to 7.
 pub fn write_to_vec(card: &[u8]) -> Result<Vec<u8>, Refusal> {
-    in_own_room(|room| write(card, room))
+    in_own_room(WRITE_ROOM, |room| write(card, room))
 }
 
 /// The reduced program. Refusals: 1 to 7.
 pub fn reduce_to_vec(card: &[u8]) -> Result<Vec<u8>, Refusal> {
-    in_own_room(|room| reduce(card, room))
+    in_own_room(REDUCE_ROOM, |room| reduce(card, room))
 }
 
 /// The panel of a seating. Refusals: 1 to 9.
 pub fn show_to_vec(card: &[u8], seats: &[u8]) -> Result<Vec<u8>, Refusal> {
-    in_own_room(|room| show(card, seats, room))
+    in_own_room(SHOW_ROOM, |room| show(card, seats, room))
 }
 
-/// Asks for the length first, by a room that holds nothing, then for the text.
-fn in_own_room(entry: impl Fn(&mut [u8]) -> Result<usize, Refusal>) -> Result<Vec<u8>, Refusal> {
-    match entry(&mut []) {
-        Err(Refusal::Room { needed }) => {
-            let mut text = vec![0; needed];
-            let length = entry(&mut text)?;
-            text.truncate(length);
-            Ok(text)
-        }
-        Err(refusal) => Err(refusal),
-        Ok(_) => Ok(Vec::new()),
-    }
+/// Lends a room that is always enough, and keeps of it what the text takes.
+fn in_own_room(
+    enough: usize,
+    entry: impl FnOnce(&mut [u8]) -> Result<usize, Refusal>,
+) -> Result<Vec<u8>, Refusal> {
+    let mut text = vec![0; enough];
+    let length = entry(&mut text)?;
+    text.truncate(length);
+    text.shrink_to_fit();
+    Ok(text)
 }
