@@ -5,7 +5,10 @@ set -eu
 cd "$(dirname "${BASH_SOURCE[0]}")/.."
 here=$PWD
 library=target/staticlib/libtablet.a
-[ -e "$library" ] || rt staticlib tablet
+# made anew where a crate has changed since
+if [ ! -e "$library" ] || [ "$(find crates crates.txt -newer "$library" -print -quit)" ]; then
+    rt staticlib tablet
+fi
 mkdir -p target/c
 
 # The library is x86-64 code. Elsewhere its programs are linked with the kit's C library and run by the kit's emulator.

@@ -7,7 +7,10 @@ cd "$(dirname "${BASH_SOURCE[0]}")/../.."
 here=$PWD
 crate=tablet
 library=target/staticlib/lib$crate.a
-[ -e "$library" ] || rt staticlib $crate
+# made anew where a crate has changed since
+if [ ! -e "$library" ] || [ "$(find crates crates.txt -newer "$library" -print -quit)" ]; then
+    rt staticlib $crate
+fi
 export CARGO_TARGET_DIR=$here/target/rust-bench
 unset OPEN_PANEL_BRIDGE
 
