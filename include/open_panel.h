@@ -1,9 +1,9 @@
 /*
  * The open panel: rule cards judged, written, reduced to counters, and shown.
  *
- * Link libtablet.a, which `rt staticlib tablet` makes for x86-64 Linux. The
- * library has no state, takes nothing from a heap and calls no system
- * function, so any number of threads may call it at once.
+ * Link libtablet.a, which `rt staticlib tablet` makes for x86-64 Linux. Of the
+ * C library it needs memcpy and memset, and nothing else: it has no state, no
+ * heap and no system calls, so any number of threads may call it at once.
  *
  * What holds of every function here:
  *
@@ -11,18 +11,16 @@
  *     pointer leads to so many bytes, which nothing else writes during the
  *     call; only for a length of 0 may it be null. A card or a room has no
  *     closing zero byte.
- *   - The room must not overlap the card or the seats.
+ *   - The room must not overlap the card or the seats. Card and seats may
+ *     overlap: they are only read.
  *   - Any bytes may be passed as a card and as seats; what is wrong with them
  *     is answered, with a number and a place.
  *   - On success `number` is 0 and `value` the length of the text, which
  *     stands at the room's start. The rest of the room is as it was.
  *   - On a refusal `number` says which and `value` where. The whole room is as
  *     it was.
- *   - Card and seats are never written.
  *   - A text is ASCII with a LF behind each line, and no closing zero byte.
- *
- * An entry called with a room of length 0 answers OPEN_PANEL_ROOM with the
- * length that its text needs, if nothing else is wrong: no text is empty.
+ *     None is empty.
  */
 #ifndef OPEN_PANEL_H
 #define OPEN_PANEL_H
@@ -50,19 +48,19 @@ extern "C" {
 #define OPEN_PANEL_REDUCE_ROOM 347890
 #define OPEN_PANEL_SHOW_ROOM 4101
 
-/* The numbers of the refusals, and what `value` is. */
+/* The numbers of the refusals, and behind the semicolon what `value` is: bytes of the card count from 0. */
 enum open_panel_refusal {
-    OPEN_PANEL_TAKEN = 0,      /* no refusal; a length, or 0 from open_panel_judge */
-    OPEN_PANEL_LONG = 1,       /* the card is too long; 0 */
-    OPEN_PANEL_MARK = 2,       /* a mark outside the rules, or too many digits; its first byte */
-    OPEN_PANEL_SHAPE = 3,      /* a mark that cannot stand there; its first byte, or the card's length if it ends early */
-    OPEN_PANEL_LIMIT = 4,      /* too many of something, or a top state above 7; the first mark that is too much */
-    OPEN_PANEL_STATE = 5,      /* a state above the top state; the number's first byte */
-    OPEN_PANEL_WORD = 6,       /* not the seat or module due, or a group that is not symmetric; the word, or the group's bracket */
-    OPEN_PANEL_WEIGHT = 7,     /* not a weight, or weights that do not sum to 1; the weight's first byte, or the statement's `;` */
-    OPEN_PANEL_SEAT_COUNT = 8, /* not as many seats as the card has; 0 */
-    OPEN_PANEL_SEAT_STATE = 9, /* a seat above the top state; the first such seat, from 0 */
-    OPEN_PANEL_ROOM = 10       /* the room is too small; the length that the text needs */
+    OPEN_PANEL_TAKEN = 0,      /* none; the text's length, or 0 from open_panel_judge */
+    OPEN_PANEL_LONG = 1,       /* a card of more than OPEN_PANEL_CARD_BYTES; 0 */
+    OPEN_PANEL_MARK = 2,       /* bytes that make no mark of a card, or a number written too long; where they begin */
+    OPEN_PANEL_SHAPE = 3,      /* a mark that does not fit there; where it begins. Or none is left where one is due; card_len */
+    OPEN_PANEL_LIMIT = 4,      /* more of something, or a higher top state, than any card may have; where the excess begins */
+    OPEN_PANEL_STATE = 5,      /* a state higher than the card's highest; where its number begins */
+    OPEN_PANEL_WORD = 6,       /* another seat or module than has to stand there, or an asymmetric group; where that begins */
+    OPEN_PANEL_WEIGHT = 7,     /* a weight that is none; where it begins. Or weights that do not come to 1; their closing `;` */
+    OPEN_PANEL_SEAT_COUNT = 8, /* seats_len differs from the number of the card's modules; 0 */
+    OPEN_PANEL_SEAT_STATE = 9, /* a seat in a state higher than the card's highest; the index in seats of the first one */
+    OPEN_PANEL_ROOM = 10       /* a room that the text does not fit into; the text's length */
 };
 
 typedef struct {
@@ -70,23 +68,47 @@ typedef struct {
     size_t value;   /* a length if number is 0, else the place of the refusal */
 } open_panel_answer;
 
-/* Judges a card: number 0 and value 0 if it is taken, else 1 to 7. */
+/*
+ * Judges a card: number 0 and value 0 if it is taken, else 1 to 7. Nothing is
+ * written anywhere. A null card of length 0 is an empty card: refused, 3 at 0.
+ */
 open_panel_answer open_panel_judge(const uint8_t *card, size_t card_len);
 
 /*
  * Writes the card in its one written form. Two cards are the same exactly when
  * their written forms are. Refusals: 1 to 7, and 10.
+ *
+ * A room of OPEN_PANEL_WRITE_ROOM bytes is always enough. A null room of
+ * length 0 gets 10 with the length to lend, if the card is taken; a null card
+ * of length 0 gets 3 at 0. The room must not overlap the card. Untouched are
+ * the card, the room behind the text, and on a refusal all of the room.
  */
 open_panel_answer open_panel_write(const uint8_t *card, size_t card_len,
                                    uint8_t *room, size_t room_len);
 
-/* Writes the reduced program: counters in place of seats. Refusals: 1 to 7, and 10. */
+/*
+ * Writes the reduced program: counters in place of seats. Refusals: 1 to 7,
+ * and 10.
+ *
+ * A room of OPEN_PANEL_REDUCE_ROOM bytes is always enough. A null room of
+ * length 0 gets 10 with the length to lend, if the card is taken; a null card
+ * of length 0 gets 3 at 0. The room must not overlap the card. Untouched are
+ * the card, the room behind the text, and on a refusal all of the room.
+ */
 open_panel_answer open_panel_reduce(const uint8_t *card, size_t card_len,
                                     uint8_t *room, size_t room_len);
 
 /*
  * Writes the panel of a seating: one byte for each seat, its state as a
- * number (0, not '0'). The order of the seats does not matter. Refusals: 1 to 10.
+ * number (0, not '0'). The order of the seats does not matter. Refusals: 1 to
+ * 10; the card is judged before the seats, and the seats before the room.
+ *
+ * A room of OPEN_PANEL_SHOW_ROOM bytes is always enough. A null room of length
+ * 0 gets 10 with the length to lend, if card and seats are taken. Null seats
+ * of length 0 get 8 with any card that is taken, as every card has a seat; a
+ * null card of length 0 gets 3 at 0. The room must overlap neither the card
+ * nor the seats. Untouched are both of them, the room behind the text, and on
+ * a refusal all of the room.
  */
 open_panel_answer open_panel_show(const uint8_t *card, size_t card_len,
                                   const uint8_t *seats, size_t seats_len,

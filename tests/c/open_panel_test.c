@@ -94,6 +94,7 @@ int main(void) {
             sizeof one_seat_reduced - 1, one_seat_reduced, "the one-seat card, reduced");
     answers(open_panel_reduce(bytes(one_seat), sizeof one_seat - 1, NULL, 0), OPEN_PANEL_ROOM,
             sizeof one_seat_reduced - 1, "", "the length of a reduced text");
+    answers(open_panel_reduce(NULL, 0, room, GUARD), OPEN_PANEL_SHAPE, 0, "", "no card to reduce");
 
     answers(open_panel_show(a, a_len, seats_001, 3, room, OPEN_PANEL_SHOW_ROOM), OPEN_PANEL_TAKEN, panel_len,
             panel_at_001, "the panel of card A at 001");
@@ -102,6 +103,8 @@ int main(void) {
     answers(open_panel_show(a, a_len, seats_001, 2, room, OPEN_PANEL_SHOW_ROOM), OPEN_PANEL_SEAT_COUNT, 0, "",
             "a seat missing");
     answers(open_panel_show(a, a_len, NULL, 0, room, OPEN_PANEL_SHOW_ROOM), OPEN_PANEL_SEAT_COUNT, 0, "", "no seats");
+    answers(open_panel_show(a, a_len, seats_001, 3, NULL, 0), OPEN_PANEL_ROOM, panel_len, "", "the length of a panel");
+    answers(open_panel_show(NULL, 0, NULL, 0, NULL, 0), OPEN_PANEL_SHAPE, 0, "", "nothing at all");
     answers(open_panel_show(a, a_len, seats_034, 3, room, OPEN_PANEL_SHOW_ROOM), OPEN_PANEL_SEAT_STATE, 1, "",
             "a seat above the top state");
 

@@ -8,44 +8,44 @@ use std::fmt;
 pub enum Refusal {
     /// 1: the card is longer than [`CARD_BYTES`](crate::CARD_BYTES).
     Long,
-    /// 2: a mark outside the rules, or one with too many digits.
+    /// 2: bytes that make no mark of a card, or a number written too long.
     Mark {
-        /// Where it starts.
+        /// Where they start.
         at: usize,
     },
-    /// 3: a mark that cannot stand there, or a card that ends early.
+    /// 3: a mark that does not fit there, or none is left where one is due.
     Shape {
-        /// Where the mark starts, or the card's length.
+        /// Where the mark starts, or the length of the card.
         at: usize,
     },
-    /// 4: too many seats, statements, branches, guard nodes, or open brackets and `!`; a top state above 7.
+    /// 4: more of something, or a higher top state, than any card may have.
     Limit {
-        /// Where what is too much starts.
+        /// Where the excess starts.
         at: usize,
     },
-    /// 5: a state above the top state.
+    /// 5: a state higher than the card's highest.
     State {
         /// Where its number starts.
         at: usize,
     },
-    /// 6: not the seat word or module word that is due, or a group that is not symmetric.
+    /// 6: another seat or module than has to stand there, or an asymmetric group.
     Word {
-        /// Where the word starts, or the group's bracket.
+        /// Where the word or the group starts.
         at: usize,
     },
-    /// 7: something that is no weight, or a statement whose weights do not sum to one.
+    /// 7: a weight that is none, or a statement whose weights do not come to 1.
     Weight {
-        /// Where the weight starts, or the statement's `;`.
+        /// Where the weight starts, or the closing `;`.
         at: usize,
     },
-    /// 8: not as many seats as the card has.
+    /// 8: a seating of more or fewer seats than the card has.
     SeatCount,
-    /// 9: a seat above the top state.
+    /// 9: a seat in a state higher than the card's highest.
     SeatState {
-        /// The first such seat, from 0.
+        /// The index of the first one.
         seat: usize,
     },
-    /// 10: the text is longer than the room.
+    /// 10: a room that the text does not fit into.
     Room {
         /// The text's length.
         needed: usize,
