@@ -149,6 +149,22 @@ impl Card {
         let from = usize::from(statement.branches_from);
         &self.branches[from..from + usize::from(statement.branches_len)]
     }
+
+    /// How many guard nodes there are on the whole card.
+    pub(crate) fn all_nodes(&self) -> usize {
+        let last = self.statements().last();
+        last.map_or(0, |last| {
+            usize::from(last.guard_from) + usize::from(last.guard_len)
+        })
+    }
+
+    /// How many branches there are on the whole card.
+    pub(crate) fn all_branches(&self) -> usize {
+        let last = self.statements().last();
+        last.map_or(0, |last| {
+            usize::from(last.branches_from) + usize::from(last.branches_len)
+        })
+    }
 }
 
 /// Sameness of cards as the chapter "What a card means" has it: a row of nodes

@@ -68,6 +68,18 @@ impl<'c> Panel<'c> {
 }
 
 impl Print for Panel<'_> {
+    fn most(&self) -> usize {
+        const FRAME: usize = "nondeterministic\nseats 16 enabled 512\ncounts\n".len();
+        const COUNT: usize = " 16".len();
+        const CHOICE: usize = "choice 32\n".len();
+        // No branch makes more than one line, and the weights of all seats and statements together have eight digits.
+        const LINE: usize = "move 7 7 12902400\n".len();
+        FRAME
+            + STATES * COUNT
+            + self.card.statements().len() * CHOICE
+            + self.card.all_branches() * LINE
+    }
+
     fn print<T: Text>(&self, text: &mut T) {
         text.bytes(self.card.mode.word().as_bytes());
         text.bytes(b"\nseats ");

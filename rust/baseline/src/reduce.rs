@@ -2,9 +2,10 @@
 
 use crate::card::{Branch, Card, Mode, Node, Statement};
 use crate::counter::{Comparison, CounterTest};
+use crate::limits::STATES;
 use crate::read::read_into;
 use crate::refusal::Refusal;
-use crate::text::{print_into, Print, Text};
+use crate::text::{print_into, Print, Text, WEIGHT_MOST};
 
 /// Writes the reduced text of a card into a lent room.
 pub fn reduce(card: &[u8], room: &mut [u8]) -> Result<usize, Refusal> {
@@ -16,6 +17,19 @@ pub fn reduce(card: &[u8], room: &mut [u8]) -> Result<usize, Refusal> {
 struct Reduced<'c>(&'c Card);
 
 impl Print for Reduced<'_> {
+    fn most(&self) -> usize {
+        const FRAME: usize = "nondeterministic\nmodule generic_process\nendmodule\n".len();
+        const COUNTER: usize = "no_7 : [0..16] init 16;\n".len();
+        const STATEMENT: usize = "[] (no_7>15) &  -> ;\n".len();
+        // Of all nodes a test is the longest.
+        const NODE: usize = "(no_7=16)".len();
+        const BRANCH: usize = " + :(no_7'=no_7-1) & (no_7'=min(no_7+1,16))".len() + WEIGHT_MOST;
+        let once = self.0.statements().len() * STATEMENT
+            + self.0.all_nodes() * NODE
+            + self.0.all_branches() * BRANCH;
+        FRAME + STATES * COUNTER + usize::from(self.copies()) * once
+    }
+
     fn print<T: Text>(&self, text: &mut T) {
         let card = self.0;
         text.bytes(card.mode.word().as_bytes());
@@ -29,26 +43,29 @@ impl Print for Reduced<'_> {
             text.number(at_start.into());
             text.bytes(b";\n");
         }
-        // One copy for each seat that may act, so that their weights add up.
-        let copies = match card.mode {
-            Mode::Nondeterministic => 1,
-            Mode::Probabilistic => card.seats,
-        };
         for statement in card.statements() {
-            self.copies(statement, copies, text);
+            self.statement(statement, text);
         }
         text.bytes(b"endmodule\n");
     }
 }
 
 impl Reduced<'_> {
+    /// How often each statement stands: once for each seat that may act, so that their weights add up.
+    fn copies(&self) -> u8 {
+        match self.0.mode {
+            Mode::Nondeterministic => 1,
+            Mode::Probabilistic => self.0.seats,
+        }
+    }
+
     /// The copies of one statement: they differ only in their first test.
-    fn copies<T: Text>(&self, statement: &Statement, copies: u8, text: &mut T) {
+    fn statement<T: Text>(&self, statement: &Statement, text: &mut T) {
         first_test(statement.own, 0, text);
         let from = text.length();
         self.behind_first_test(statement, text);
         let to = text.length();
-        for copy in 1..copies {
+        for copy in 1..self.copies() {
             first_test(statement.own, copy, text);
             text.again(from, to);
         }

@@ -58,6 +58,9 @@ pub(crate) trait Text {
     }
 }
 
+/// The longest weight.
+pub(crate) const WEIGHT_MOST: usize = "25199/25200".len();
+
 fn greatest_common_divisor(mut a: u32, mut b: u32) -> u32 {
     while b != 0 {
         (a, b) = (b, a % b);
@@ -67,6 +70,9 @@ fn greatest_common_divisor(mut a: u32, mut b: u32) -> u32 {
 
 /// Something that can be printed, always as the same bytes.
 pub(crate) trait Print {
+    /// How long the text is at most, reckoned without walking through it.
+    fn most(&self) -> usize;
+
     fn print<T: Text>(&self, text: &mut T);
 }
 
@@ -133,18 +139,20 @@ impl Text for Vec<u8> {
     }
 }
 
-/// Prints into a lent room, or refuses before the first byte is written.
+/// Prints into a lent room, or refuses before the first byte is written: a text that might not fit is measured first.
 pub(crate) fn print_into<P: Print>(printed: &P, room: &mut [u8]) -> Result<usize, Refusal> {
-    let mut measured = Measured(0);
-    printed.print(&mut measured);
-    let Measured(needed) = measured;
-    if needed > room.len() {
-        return Err(Refusal::new(ROOM, needed));
+    let most = printed.most();
+    if room.len() < most {
+        let mut measured = Measured(0);
+        printed.print(&mut measured);
+        let Measured(needed) = measured;
+        debug_assert!(needed <= most);
+        if needed > room.len() {
+            return Err(Refusal::new(ROOM, needed));
+        }
     }
-    let mut filled = Filled {
-        room: &mut room[..needed],
-        used: 0,
-    };
+    let mut filled = Filled { room, used: 0 };
     printed.print(&mut filled);
-    Ok(needed)
+    debug_assert!(filled.used <= most);
+    Ok(filled.used)
 }

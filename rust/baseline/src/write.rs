@@ -3,7 +3,7 @@
 use crate::card::{Card, Group, Node, Statement};
 use crate::read::read_into;
 use crate::refusal::Refusal;
-use crate::text::{print_into, Print, Text};
+use crate::text::{print_into, Print, Text, WEIGHT_MOST};
 
 /// Writes a card in its canonical form into a lent room.
 pub fn write(card: &[u8], room: &mut [u8]) -> Result<usize, Refusal> {
@@ -20,6 +20,23 @@ pub fn write_read(card: &Card, room: &mut [u8]) -> Result<usize, Refusal> {
 struct Written<'c>(&'c Card);
 
 impl Print for Written<'_> {
+    fn most(&self) -> usize {
+        const FRAME: usize =
+            "nondeterministic\nmodule process1\ns1 : [0..7] init 7;\nendmodule\n".len();
+        const MODULE: usize = "module process16 = process1 [s1=s16, s16=s1] endmodule\n".len();
+        const STATEMENT: usize = "[] s1=7 &  -> ;\n".len();
+        const BRANCH: usize = " + :(s1'=7)".len() + WEIGHT_MOST;
+        const LITERAL: usize = " & s16!=7".len();
+        // A node without its literals: of all that there are a joined one in brackets is the longest.
+        const NODE: usize = "( & )".len();
+        let seats = self.0.seats();
+        FRAME
+            + seats * MODULE
+            + self.0.statements().len() * STATEMENT
+            + self.0.all_nodes() * (NODE + seats * LITERAL)
+            + self.0.all_branches() * BRANCH
+    }
+
     fn print<T: Text>(&self, text: &mut T) {
         let card = self.0;
         text.bytes(card.mode.word().as_bytes());
