@@ -1,5 +1,7 @@
 //! Measures the library's entries and the baseline's on the same cards, in the
-//! same rooms, by turns in one run, and prints Markdown for `docs/BENCHMARKS.md`.
+//! same rooms, by turns in one run, and prints Markdown for `docs/BENCHMARKS.md`:
+//! first in a room that is always enough, then in rooms that just fit, where
+//! both sides measure a text before they put it.
 
 mod stack;
 
@@ -11,9 +13,11 @@ use compare::extremes::extremes;
 use compare::vectors::cases;
 
 /// Rounds of which the best counts, for each side.
-const ROUNDS: usize = 9;
-/// How long a round takes at least.
+const ROUNDS: usize = 11;
+/// How long a round takes at least, about.
 const ROUND: Duration = Duration::from_millis(20);
+/// How long the processor is kept busy before the first row.
+const WARM_UP: Duration = Duration::from_secs(2);
 
 /// Cards with a seating each, measured together.
 struct Set {
@@ -59,7 +63,10 @@ fn sets() -> Vec<Set> {
 type Call = fn(&[u8], &[u8], &mut [u8]) -> Option<usize>;
 
 /// An entry: its name, the library's form and the baseline's.
-const ENTRIES: [(&str, Call, Call); 4] = [
+type Entry = (&'static str, Call, Call);
+
+/// All entries; the first takes no room.
+const ENTRIES: [Entry; 4] = [
     (
         "judge",
         |card, _, _| open_panel::judge(card).ok().map(|()| 0),
@@ -82,40 +89,73 @@ const ENTRIES: [(&str, Call, Call); 4] = [
     ),
 ];
 
-/// How long it takes to go through a set once.
-fn once_through(set: &Set, call: Call, room: &mut [u8]) -> Duration {
-    let start = Instant::now();
-    let mut times = 0;
-    while start.elapsed() < ROUND {
-        for (card, seats) in &set.cards {
-            let length = call(black_box(card), black_box(seats), room);
-            assert!(black_box(length).is_some());
-        }
-        times += 1;
-    }
-    start.elapsed() / times
+/// A call on all cards of a set, each in a room of its own length.
+struct Work<'a> {
+    set: &'a Set,
+    rooms: &'a [usize],
+    call: Call,
 }
 
-fn main() -> ExitCode {
-    if open_panel::BRIDGED {
-        eprintln!(
-            "bench: the library is not linked but asked through pipes, so its times say nothing"
-        );
-        return ExitCode::from(2);
+impl Work<'_> {
+    /// How long it takes to go through the set so many times.
+    fn time(&self, times: u32, room: &mut [u8]) -> Duration {
+        let start = Instant::now();
+        for _ in 0..times {
+            for ((card, seats), length) in self.set.cards.iter().zip(self.rooms) {
+                let room = &mut room[..*length];
+                let length = (self.call)(black_box(card), black_box(seats), room);
+                assert!(black_box(length).is_some());
+            }
+        }
+        start.elapsed()
     }
-    let sets = sets();
-    let mut room = vec![0; open_panel::REDUCE_ROOM];
+
+    /// How many times make a round. Finding out warms up caches and branches for the rounds.
+    fn times(&self, room: &mut [u8]) -> u32 {
+        let mut times = 1;
+        while self.time(times, room) < ROUND {
+            times *= 2;
+        }
+        times
+    }
+}
+
+/// Seconds that the library and the baseline take to go through a set, the best of rounds by turns.
+fn best(set: &Set, rooms: &[usize], calls: [Call; 2], room: &mut [u8]) -> [f64; 2] {
+    let works = calls.map(|call| Work { set, rooms, call });
+    let times = works.each_ref().map(|work| work.times(room));
+    let mut best = [f64::INFINITY; 2];
+    for round in 0..ROUNDS {
+        for turn in 0..2 {
+            let side = (round + turn) % 2;
+            let spent = works[side].time(times[side], room).as_secs_f64();
+            best[side] = best[side].min(spent / f64::from(times[side]));
+        }
+    }
+    best
+}
+
+/// Which lengths of the room the cards of a set are lent, for an entry.
+type Lengths = fn(&Set, Call, &mut [u8]) -> Vec<usize>;
+
+fn whole_room(set: &Set, _: Call, room: &mut [u8]) -> Vec<usize> {
+    vec![room.len(); set.cards.len()]
+}
+
+fn text_lengths(set: &Set, call: Call, room: &mut [u8]) -> Vec<usize> {
+    let cards = set.cards.iter();
+    cards
+        .map(|(card, seats)| call(card, seats, room).expect("the cards are accepted"))
+        .collect()
+}
+
+fn table(entries: &[Entry], sets: &[Set], lengths: Lengths, room: &mut [u8]) {
     println!("| Entry | Cards | Bytes | Library, calls/s | ns/byte | Baseline, calls/s | ns/byte | Library / baseline |");
     println!("|---|---|---:|---:|---:|---:|---:|---:|");
-    for (entry, library, baseline) in ENTRIES {
-        for set in &sets {
-            let mut best = [Duration::MAX; 2];
-            for _ in 0..ROUNDS {
-                for (best, call) in best.iter_mut().zip([library, baseline]) {
-                    *best = (*best).min(once_through(set, call, &mut room));
-                }
-            }
-            let [library, baseline] = best.map(|best| best.as_secs_f64());
+    for &(entry, library, baseline) in entries {
+        for set in sets {
+            let lengths = lengths(set, baseline, room);
+            let [library, baseline] = best(set, &lengths, [library, baseline], room);
             let calls = |seconds: f64| set.cards.len() as f64 / seconds;
             let per_byte = |seconds: f64| seconds * 1e9 / set.bytes() as f64;
             println!(
@@ -130,6 +170,37 @@ fn main() -> ExitCode {
             );
         }
     }
+}
+
+/// Goes through all cards with all entries until the processor runs at its speed.
+fn warm_up(sets: &[Set], room: &mut [u8]) {
+    let start = Instant::now();
+    while start.elapsed() < WARM_UP {
+        for (_, library, baseline) in ENTRIES {
+            for set in sets {
+                for call in [library, baseline] {
+                    let rooms = &whole_room(set, call, room);
+                    Work { set, rooms, call }.time(1, room);
+                }
+            }
+        }
+    }
+}
+
+fn main() -> ExitCode {
+    if open_panel::BRIDGED {
+        eprintln!(
+            "bench: the library is not linked but asked through pipes, so its times say nothing"
+        );
+        return ExitCode::from(2);
+    }
+    let sets = sets();
+    let mut room = vec![0; open_panel::REDUCE_ROOM];
+    warm_up(&sets, &mut room);
+    println!("In a room of {} bytes:\n", room.len());
+    table(&ENTRIES, &sets, whole_room, &mut room);
+    println!("\nIn rooms that just fit each text:\n");
+    table(&ENTRIES[1..], &sets, text_lengths, &mut room);
     println!("\n| Entry | Library, bytes of stack | Baseline, bytes of stack |\n|---|---:|---:|");
     for (entry, library, baseline) in ENTRIES {
         let deepest = |call: Call| {
