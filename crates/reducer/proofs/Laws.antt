@@ -210,6 +210,12 @@ pub row-own : (nodes bs : List ℕ) (own size many i : ℕ) → own ≡ statemen
 unfolding statementOf
 row-own nodes bs own size many i = refl
 
+-- one copy, without a tail kept beside it
+pub once-text : (n : ℕ) (nodes bs : List ℕ) (own size many i : ℕ) (r : List ℕ)
+    → "[] (no_" ▸ num own (">" ▸ num 0 (tailOf n (statementOf nodes bs (row own size many) i) r)) ≡ copyTexts n (statementOf nodes bs (row own size many) i) 0 1 r
+unfolding statementOf
+once-text n nodes bs own size many i r = sym (copy-text n (statementOf nodes bs (row own size many) i) 0 r)
+
 -- ---- all statements
 
 pub statements-append : (xs ys : List Reduced) (r : List ℕ) → statements (xs ++ ys) r ≡ statements xs (statements ys r)

@@ -229,7 +229,30 @@ fn put_copies(room: &mut [u8], at: usize, own: usize, tail: &[u8], copies: usize
     to
 }
 
-// All copies of statement i: what they have in common is put once, beside the room.
+// The one copy of statement i on a card where each has one.
+fn put_once<'a>(
+    room: &mut [u8],
+    at: usize,
+    i: usize,
+    own: usize,
+    size: usize,
+    many: usize,
+    nodes: &'a [u32],
+    branches: &'a [u32],
+    seats: usize,
+) -> usize
+    requires { ⌜ i < mostStatements ⌝ }
+    requires { ⌜ size ≤ mostNodes ⌝ }
+    requires { ⌜ many ≤ mostBranches ⌝ }
+    requires { ⌜ length (now branches) ≡ branchPlaces ⌝ }
+    ensures { λ r. ⌜ Puts (now (room .entry)) (now (room .exit)) at (copyTexts seats (statementOf (now (nodes .entry)) (now (branches .entry)) (row own size many) i) 0 1) r ⌝ }
+{
+    let a = put_numbered(room, at, b"[] (no_", own);
+    let b = put_numbered(room, a, b">", 0);
+    put_tail(room, b, i, own, size, many, nodes, branches, seats)
+}
+
+// All copies of statement i: what several have in common is put once, beside the room.
 fn put_statement<'a>(
     room: &mut [u8],
     at: usize,
@@ -249,6 +272,9 @@ fn put_statement<'a>(
     requires { ⌜ length (tailOf seats (statementOf (now nodes) (now branches) (row own size many) i) []) ≤ tailPlaces ⌝ }
     ensures { λ r. ⌜ Puts (now (room .entry)) (now (room .exit)) at (copyTexts seats (statementOf (now (nodes .entry)) (now (branches .entry)) (row own size many) i) 0 copies) r ⌝ }
 {
+    if copies == 1 {
+        return put_once(room, at, i, own, size, many, nodes, branches, seats);
+    }
     let mut tail: [u8; TAIL_PLACES] = [0; TAIL_PLACES];
     let end = put_tail(&mut tail, 0, i, own, size, many, nodes, branches, seats);
     put_copies(room, at, own, &tail[..end], copies)
