@@ -1,7 +1,8 @@
 //! Measures the library's entries and the baseline's on the same cards, in the
 //! same rooms, by turns in one run, and prints Markdown for `docs/BENCHMARKS.md`:
 //! first in a room that is always enough, then in rooms that just fit, where
-//! both sides measure a text before they put it.
+//! both sides measure a text before they put it. Each round goes through all
+//! rows, so that a while in which the machine is slow spoils none of them.
 
 mod stack;
 
@@ -16,8 +17,6 @@ use compare::vectors::cases;
 const ROUNDS: usize = 11;
 /// How long a round takes at least, about.
 const ROUND: Duration = Duration::from_millis(20);
-/// How long the processor is kept busy before the first row.
-const WARM_UP: Duration = Duration::from_secs(2);
 
 /// Cards with a seating each, measured together.
 struct Set {
@@ -89,52 +88,6 @@ const ENTRIES: [Entry; 4] = [
     ),
 ];
 
-/// A call on all cards of a set, each in a room of its own length.
-struct Work<'a> {
-    set: &'a Set,
-    rooms: &'a [usize],
-    call: Call,
-}
-
-impl Work<'_> {
-    /// How long it takes to go through the set so many times.
-    fn time(&self, times: u32, room: &mut [u8]) -> Duration {
-        let start = Instant::now();
-        for _ in 0..times {
-            for ((card, seats), length) in self.set.cards.iter().zip(self.rooms) {
-                let room = &mut room[..*length];
-                let length = (self.call)(black_box(card), black_box(seats), room);
-                assert!(black_box(length).is_some());
-            }
-        }
-        start.elapsed()
-    }
-
-    /// How many times make a round. Finding out warms up caches and branches for the rounds.
-    fn times(&self, room: &mut [u8]) -> u32 {
-        let mut times = 1;
-        while self.time(times, room) < ROUND {
-            times *= 2;
-        }
-        times
-    }
-}
-
-/// Seconds that the library and the baseline take to go through a set, the best of rounds by turns.
-fn best(set: &Set, rooms: &[usize], calls: [Call; 2], room: &mut [u8]) -> [f64; 2] {
-    let works = calls.map(|call| Work { set, rooms, call });
-    let times = works.each_ref().map(|work| work.times(room));
-    let mut best = [f64::INFINITY; 2];
-    for round in 0..ROUNDS {
-        for turn in 0..2 {
-            let side = (round + turn) % 2;
-            let spent = works[side].time(times[side], room).as_secs_f64();
-            best[side] = best[side].min(spent / f64::from(times[side]));
-        }
-    }
-    best
-}
-
 /// Which lengths of the room the cards of a set are lent, for an entry.
 type Lengths = fn(&Set, Call, &mut [u8]) -> Vec<usize>;
 
@@ -149,42 +102,101 @@ fn text_lengths(set: &Set, call: Call, room: &mut [u8]) -> Vec<usize> {
         .collect()
 }
 
-fn table(entries: &[Entry], sets: &[Set], lengths: Lengths, room: &mut [u8]) {
-    println!("| Entry | Cards | Bytes | Library, calls/s | ns/byte | Baseline, calls/s | ns/byte | Library / baseline |");
-    println!("|---|---|---:|---:|---:|---:|---:|---:|");
-    for &(entry, library, baseline) in entries {
-        for set in sets {
-            let lengths = lengths(set, baseline, room);
-            let [library, baseline] = best(set, &lengths, [library, baseline], room);
-            let calls = |seconds: f64| set.cards.len() as f64 / seconds;
-            let per_byte = |seconds: f64| seconds * 1e9 / set.bytes() as f64;
-            println!(
-                "| {entry} | {} | {} | {:.0} | {:.2} | {:.0} | {:.2} | {:.2} |",
-                set.name,
-                set.bytes() / set.cards.len(),
-                calls(library),
-                per_byte(library),
-                calls(baseline),
-                per_byte(baseline),
-                library / baseline
-            );
+/// One side of a row: a call on all cards of a set, each in a room of its own length.
+struct Side {
+    call: Call,
+    /// How often a round goes through the set.
+    times: u32,
+    /// Seconds to go through it once, in the best round so far.
+    best: f64,
+}
+
+impl Side {
+    /// Finds out how many times make a round, which warms up the processor for the rounds.
+    fn new(call: Call, set: &Set, lengths: &[usize], room: &mut [u8]) -> Side {
+        let mut side = Side {
+            call,
+            times: 1,
+            best: f64::INFINITY,
+        };
+        while side.time(set, lengths, room) < ROUND {
+            side.times *= 2;
         }
+        side
+    }
+
+    fn time(&self, set: &Set, lengths: &[usize], room: &mut [u8]) -> Duration {
+        let start = Instant::now();
+        for _ in 0..self.times {
+            for ((card, seats), length) in set.cards.iter().zip(lengths) {
+                let room = &mut room[..*length];
+                let length = (self.call)(black_box(card), black_box(seats), room);
+                assert!(black_box(length).is_some());
+            }
+        }
+        start.elapsed()
     }
 }
 
-/// Goes through all cards with all entries until the processor runs at its speed.
-fn warm_up(sets: &[Set], room: &mut [u8]) {
-    let start = Instant::now();
-    while start.elapsed() < WARM_UP {
-        for (_, library, baseline) in ENTRIES {
-            for set in sets {
-                for call in [library, baseline] {
-                    let rooms = &whole_room(set, call, room);
-                    Work { set, rooms, call }.time(1, room);
-                }
-            }
+/// A row of a table: an entry of the library and of the baseline, on one set.
+struct Row<'a> {
+    entry: &'static str,
+    set: &'a Set,
+    lengths: Vec<usize>,
+    sides: [Side; 2],
+}
+
+impl<'a> Row<'a> {
+    fn new(entry: Entry, set: &'a Set, lengths: Lengths, room: &mut [u8]) -> Row<'a> {
+        let (entry, library, baseline) = entry;
+        let lengths = lengths(set, baseline, room);
+        Row {
+            entry,
+            set,
+            sides: [library, baseline].map(|call| Side::new(call, set, &lengths, room)),
+            lengths,
         }
     }
+
+    /// Measures both sides once; which is first changes from round to round.
+    fn round(&mut self, round: usize, room: &mut [u8]) {
+        for turn in [round, round + 1] {
+            let side = &mut self.sides[turn % 2];
+            let spent = side.time(self.set, &self.lengths, room).as_secs_f64();
+            side.best = side.best.min(spent / f64::from(side.times));
+        }
+    }
+
+    fn print(&self) {
+        let Row { entry, set, .. } = self;
+        let calls = |seconds: f64| set.cards.len() as f64 / seconds;
+        let per_byte = |seconds: f64| seconds * 1e9 / set.bytes() as f64;
+        let [library, baseline] = self.sides.each_ref().map(|side| side.best);
+        println!(
+            "| {entry} | {} | {} | {:.0} | {:.2} | {:.0} | {:.2} | {:.2} |",
+            set.name,
+            set.bytes() / set.cards.len(),
+            calls(library),
+            per_byte(library),
+            calls(baseline),
+            per_byte(baseline),
+            library / baseline
+        );
+    }
+}
+
+fn rows<'a>(entries: &[Entry], sets: &'a [Set], lengths: Lengths, room: &mut [u8]) -> Vec<Row<'a>> {
+    let all = entries
+        .iter()
+        .flat_map(|entry| sets.iter().map(|set| (*entry, set)));
+    all.map(|(entry, set)| Row::new(entry, set, lengths, room))
+        .collect()
+}
+
+fn print_table(rows: &[Row]) {
+    println!("| Entry | Cards | Bytes | Library, calls/s | ns/byte | Baseline, calls/s | ns/byte | Library / baseline |");
+    println!("|---|---|---:|---:|---:|---:|---:|---:|");
+    rows.iter().for_each(Row::print);
 }
 
 fn main() -> ExitCode {
@@ -196,11 +208,20 @@ fn main() -> ExitCode {
     }
     let sets = sets();
     let mut room = vec![0; open_panel::REDUCE_ROOM];
-    warm_up(&sets, &mut room);
+    let mut tables = [
+        rows(&ENTRIES, &sets, whole_room, &mut room),
+        rows(&ENTRIES[1..], &sets, text_lengths, &mut room),
+    ];
+    for round in 0..ROUNDS {
+        for row in tables.iter_mut().flatten() {
+            row.round(round, &mut room);
+        }
+    }
+    let [always_enough, just_fit] = tables;
     println!("In a room of {} bytes:\n", room.len());
-    table(&ENTRIES, &sets, whole_room, &mut room);
+    print_table(&always_enough);
     println!("\nIn rooms that just fit each text:\n");
-    table(&ENTRIES[1..], &sets, text_lengths, &mut room);
+    print_table(&just_fit);
     println!("\n| Entry | Library, bytes of stack | Baseline, bytes of stack |\n|---|---:|---:|");
     for (entry, library, baseline) in ENTRIES {
         let deepest = |call: Call| {
