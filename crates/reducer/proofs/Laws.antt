@@ -24,12 +24,12 @@ use Rattle.meaning.specs.Formulas.{over}
 use Rattle.meaning.specs.Reduced.{Bound, equalTo, moreThan, lessThan, counterOf, testOf, updateOf, Outcome, Reduced, copy, copies, reduce}
 use Rattle.table.specs.declared.Bound.{Bound as BoundRow}
 use Rattle.table.specs.Bounds.{boundRow, boundOf}
-use Rattle.room.specs.Room.{Put}
-use Rattle.room.proofs.Laws.{clip-start, put-length}
+use Rattle.room.specs.Room.{cap, Put}
 use Rattle.phrases.specs.Phrases.{_▸_, num, modeText, weightText}
 use Rattle.phrases.specs.Puts.{Puts}
 use Rattle.rows.specs.Rows.{row, rowOf, rowsFrom, cardIn}
 use Rattle.phrases.proofs.Counted.{Text, counted}
+use Rattle.reducer.proofs.Drafts.{drafted-long, drafted-fits, drafted-text, drafted-count}
 use Rattle.reducer.specs.ReducedText.{boundText, counterText, testText, guardOr, updateText, outcomeText, moreOutcomes, outcomes, reducedText, statements, counterLine, counters, programText, reducedOf}
 use Rattle.reducer.specs.Handed.{outcomeOf, tailOf, tailPlaces, tailedCopies, copyTexts, copyNumber, allTexts}
 
@@ -171,26 +171,22 @@ tailed-counted own tail m (suc c) r = rw (tailed-counted own tail (suc m) c r)
 pub tailed-all : (own : ℕ) (tail : List ℕ) (c : ℕ) (r : List ℕ) → counted (tailedCopy own tail) 0 (c - 0) r ≡ tailedCopies own tail 0 c r
 tailed-all own tail c r = rw sub-zero (tailed-counted own tail 0 c r)
 
--- a text that has been put into an array of its own
+-- a text that has been put into the array for a tail
 module _ {was is : List ℕ} {f : Text} {end : ℕ} (p : Puts was is 0 f end) (h : length (f []) ≤ tailPlaces) (l : length was ≡ tailPlaces) where
-  kept-end : end ≡ length (f [])
-  kept-end = omega (arith, p .put .next)
+  below-cap : length (f []) ≤ cap
+  below-cap = omega arith
+
+  has-places : end ≤ length was
+  has-places = omega (arith, drafted-long below-cap (p .put))
 
   pub kept-fits : end ≤ length is
-  kept-fits = omega (arith, kept-end, put-length (p .put))
+  kept-fits = drafted-fits below-cap (p .put) has-places
 
   kept-text : take end is ≡ f []
-  kept-text =
-      ap (λ (k : ℕ). take k is) kept-end
-      ∙ ap (take (length (f []))) (p .put .wrote ∙ clip-start was (f []) (omega arith))
-      ∙ take-front (f []) (drop (length (f [])) was)
-    where
-      take-front : (xs ys : List ℕ) → take (length xs) (xs ++ ys) ≡ xs
-      take-front [] ys = refl
-      take-front (x ∷ xs) ys = ap (λ (t : List ℕ). x ∷ t) (take-front xs ys)
+  kept-text = drafted-text below-cap (p .put) has-places
 
   pub kept-count : end ≡ length (take end is)
-  kept-count = kept-end ∙ sym (ap length kept-text)
+  kept-count = drafted-count below-cap (p .put) has-places
 
 pub copy-text : (n : ℕ) (s : Statement) (m : ℕ) (r : List ℕ) → reducedText (copy n s m) r ≡ "[] (no_" ▸ num (s .own) (">" ▸ num m (tailOf n s r))
 unfolding reducedText copy tailOf

@@ -1,3 +1,4 @@
+pub mod Drafts
 pub mod Laws
 pub mod Short
 pub mod Theorems

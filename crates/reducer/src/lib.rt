@@ -402,8 +402,11 @@ fn put_program<'a>(
 // A room that every reduced text fits into (specs/Handed.antt).
 pub const REDUCED_ROOM: usize = 347890;
 
-// A card that was taken. A room that every text fits into takes it in one walk; else a first walk tells the length, and a second one
-// stores the text where it fits.
+// A text up to this length is made once, beside the room, where the room may be too small.
+const DRAFT_PLACES: usize = 2048;
+
+// A card that was taken. A room that every text fits into takes it in one walk. Else a first walk makes a draft, which tells the length;
+// a text that the draft holds is copied where it fits, and a longer one is walked again.
 fn reduce_card<'a>(
     c: Outline,
     nodes: &'a [u32; NODE_PLACES],
@@ -430,8 +433,9 @@ fn reduce_card<'a>(
             branches,
         ));
     }
+    let mut draft: [u8; DRAFT_PLACES] = [0; DRAFT_PLACES];
     let need = put_program(
-        &mut room[..0],
+        &mut draft,
         0,
         c.mode,
         c.seats,
@@ -444,6 +448,9 @@ fn reduce_card<'a>(
     );
     if room.len() < need {
         return Answer::Refused(ROOM_TOO_SMALL, need);
+    }
+    if need <= DRAFT_PLACES {
+        return Answer::Done(put_run(room, 0, &draft[..need]));
     }
     Answer::Done(put_program(
         room,
