@@ -9,16 +9,14 @@ use mathlib.Core.Option.{none, some}
 use native.Mathlib.Nat.{le-trans, mul-le-mul, mul-le-mul-right}
 use native.Mathlib.Omega.{arith}
 use lib.Dec.{eqb, ltb}
-use lib.ListN.{length, length-append}
+use lib.ListN.{length}
 use Rattle.card.specs.Limits.{mostSeats, topState, mostStatements, unit}
 use Rattle.card.specs.Text.{bytes, if_then_else_}
 use Rattle.card.specs.Card.{Mode, nondeterministic, probabilistic, Statement, Card}
 use Rattle.card.specs.Valid.{Every, ValidStatement, ValidCard}
-use Rattle.room.specs.Digits.{decimal}
-use Rattle.room.proofs.Decimal.{decimal-length}
 use Rattle.phrases.specs.Phrases.{_▸_, num, modeText}
 use Rattle.phrases.proofs.Counted.{Text}
-use Rattle.phrases.proofs.Adds.{Adds, adds-then, adds-up, adds-none, adds-bytes, adds-mode}
+use Rattle.phrases.proofs.Adds.{Adds, adds-then, adds-up, adds-none, adds-bytes, adds-digits, adds-mode}
 use Rattle.meaning.specs.Sums.{gate, upto, flat}
 use Rattle.meaning.specs.Seats.{Seating, ValidSeating, count, counts}
 use Rattle.meaning.specs.Panel.{Move, moveLine, block}
@@ -37,9 +35,6 @@ use Rattle.panel.proofs.Laws.{own-moves}
 -- of d + 1 digits at most
 abbrev Digits : ℕ → ℕ → Type 0
 Digits d v = v < 10 ^ suc d
-
-adds-digits : (d v : ℕ) → Digits d v → Adds (suc d) (num v)
-adds-digits d v h = record { long = λ r. omega (arith, length-append (decimal v) r, decimal-length d v h) }
 
 adds-numbers : (d : ℕ) (l : List ℕ) → Every (Digits d) l → Adds (length l * (2 + d)) (numbers l)
 adds-numbers d [] e = adds-up _ (omega arith) adds-none

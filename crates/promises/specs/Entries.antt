@@ -18,12 +18,15 @@ use Rattle.room.specs.Answer.{Said, refused as refusal, answerNumber, answerVal
 use Rattle.meaning.specs.Seats.{Seating, ValidSeating}
 use Rattle.counting.specs.Judged.{FirstAbove}
 use Rattle.writer.specs.Writing.{writeOf}
+use Rattle.writer.specs.WrittenMost.{writtenRoom}
 use Rattle.writer.specs.WriteSaid.{writeSaid}
 use Rattle.reducer.specs.ReducedText.{reducedOf}
+use Rattle.reducer.specs.Handed.{reducedMost}
 use Rattle.reducer.specs.ReduceSaid.{reduceSaid}
 use Rattle.lines.specs.PanelText.{panelOf}
 use Rattle.panel.specs.PanelSaid.{panelSaid}
-use Rattle.program.specs.Program.{seatsLine, cardBehind, seatOf, programOf, Printed}
+use Rattle.panel.specs.PanelRoom.{panelRoom}
+use Rattle.program.specs.Program.{inputBytes, seatsLine, cardBehind, seatOf, programOf, Printed}
 
 -- an answer in document 01's numbers: a refusal's number and place, and 0 with the length
 pub record Numbered (a : Answer) : Type 0 where
@@ -76,18 +79,18 @@ Enough room said = (was is : List ℕ) (a : Answer) → Entered was is said a �
 
 -- rooms that every text fits into, whatever the card and the seats
 pub record Rooms : Type 0 where
-  pub written : (card : List ℕ) → Enough 82639 (writeSaid card)
-  pub reduced : (card : List ℕ) → Enough 347890 (reduceSaid card)
-  pub shown : (card seats : List ℕ) → Enough 4101 (panelSaid card seats)
+  pub written : (card : List ℕ) → Enough writtenRoom (writeSaid card)
+  pub reduced : (card : List ℕ) → Enough reducedMost (reduceSaid card)
+  pub shown : (card seats : List ℕ) → Enough panelRoom (panelSaid card seats)
 
 -- ---- the program
 
 -- of the input's first bytes, the seats up to LF and the card behind it
 abbrev pub seatsRead : List ℕ → List ℕ
-seatsRead input = map seatOf (seatsLine (take 65536 input))
+seatsRead input = map seatOf (seatsLine (take inputBytes input))
 
 abbrev pub cardRead : List ℕ → List ℕ
-cardRead input = cardBehind (take 65536 input)
+cardRead input = cardBehind (take inputBytes input)
 
 abbrev pub refusalLine : ℕ → ℕ → List ℕ
 refusalLine number place = bytes "refused " ++ (decimal number ++ (bytes " " ++ (decimal place ++ bytes "\n")))
@@ -100,7 +103,7 @@ pub data Response (input : List ℕ) : Type 0 where
       → programOf input ≡ refusalLine wrongSeats 0 → Response input
   wrong-seat : (c : Card) → readOf (cardRead input) ≡ taken c → length (seatsRead input) ≡ c .n → (place : ℕ) → FirstAbove (c .k) (seatsRead input) place
       → programOf input ≡ refusalLine seatAboveTop place → Response input
-  the-panel : (c : Card) → readOf (cardRead input) ≡ taken c → ValidSeating c (seatsRead input) → length (panelOf c (seatsRead input)) ≤ 4101
+  the-panel : (c : Card) → readOf (cardRead input) ≡ taken c → ValidSeating c (seatsRead input) → length (panelOf c (seatsRead input)) ≤ panelRoom
       → programOf input ≡ panelOf c (seatsRead input) → Response input
 
 pub record Demand1 : Type 0 where
