@@ -1,4 +1,5 @@
 pub mod Judging
+pub mod SeatsStage
 pub mod Counted
 pub mod Table
 pub mod Weighed

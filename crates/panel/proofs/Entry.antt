@@ -14,7 +14,7 @@ use Rattle.card.specs.Card.{nondeterministic, probabilistic, Guard, Card}
 use Rattle.card.specs.Valid.{Every, ValidStatement, ValidCard}
 use Rattle.card.specs.Laid.{either, statementOf, cardOf}
 use Rattle.card.specs.declared.Card.{Card as CardRow}
-use Rattle.room.specs.Answer.{text, refused}
+use Rattle.entry.specs.Said.{says as text, refused, _>>=_}
 use Rattle.meaning.specs.Sums.{gate, upto}
 use Rattle.meaning.specs.Seats.{Seating, ValidSeating, count, counts}
 use Rattle.meaning.specs.Panel.{Panel, panel}
@@ -35,7 +35,7 @@ use Rattle.reader.specs.declared.Verdict.the-variants.{Taken, Refused as Turned
 use Rattle.reader.specs.declared.Reading.{Reading}
 use Rattle.reader.specs.ReadingOf.{Reads}
 use Rattle.rows.specs.Rows.{rowOf, rowsOf, Holds}
-use Rattle.rows.specs.Said.{saidOf}
+use Rattle.rows.specs.Said.{cardSaid}
 use Rattle.rows.proofs.Entry.{taken-holds, refused-said, taken-said}
 use Rattle.rows.proofs.Rows.{rowsCard, holds-card, fit-rows, same-card}
 use Rattle.lines.specs.PanelText.{panelText, panelOf}
@@ -168,7 +168,7 @@ module _ (s : List ℕ) {r : Reading} (h : Reads s r) (x : List ℕ) {j d : Seat
   unfolding cardOf panelSaid
   due-refused {number} {place} g = go (r .verdict) refl
     where
-      go : (v : Verdict) → r .verdict ≡ v → saidOf (shownSaid x) s ≡ refused number place
+      go : (v : Verdict) → r .verdict ≡ v → cardSaid s >>= shownSaid x ≡ refused number place
       go Taken k = sym (taken-said s h (shownSaid x) k) ∙ rw (← e, sym (f ∙ ap (λ (v : Verdict). firstDue v j) k) ∙ g)
       go (Turned a b) k =
           let z : Refused a b ≡ Refused number place = sym (f ∙ ap (λ (v : Verdict). firstDue v j) k) ∙ g in

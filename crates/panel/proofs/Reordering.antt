@@ -9,7 +9,8 @@ use Rattle.card.specs.Refusals.{wrongSeats, seatAboveTop}
 use Rattle.card.specs.Card.{Card}
 use Rattle.reading.specs.Reading.{Outcome, taken, refused as turned, readOf}
 use Rattle.room.specs.declared.Answer.{Answer}
-use Rattle.room.specs.Answer.{Said, text, refused, answerNumber, answered, roomAfter, Entered}
+use Rattle.entry.specs.Said.{says as text, refused}
+use Rattle.room.specs.Answer.{Text, answerNumber, answered, roomAfter, Entered}
 use Rattle.meaning.specs.Seats.{Seating, ValidSeating, counts}
 use Rattle.meaning.specs.Panel.{Panel}
 use Rattle.meaning.specs.Reordered.{Reordered, done, keep, swap, then}
@@ -91,15 +92,15 @@ module _ (card : List ℕ) {x y : List ℕ} (r : Reordered x y) where
     where
       same : panelSaid card x ≡ panelSaid card y → Alike a b is-a is-b
       same e =
-          let equal : a ≡ b = p .answers ∙ ap (λ (s : Said). answered s was) e ∙ sym (q .answers) in
-          record { rooms = p .leaves ∙ ap (λ (s : Said). roomAfter s was) e ∙ sym (q .leaves); numbers = ap answerNumber equal; answers = λ n. equal }
+          let equal : a ≡ b = p .answers ∙ ap (λ (s : Text). answered s was) e ∙ sym (q .answers) in
+          record { rooms = p .leaves ∙ ap (λ (s : Text). roomAfter s was) e ∙ sym (q .leaves); numbers = ap answerNumber equal; answers = λ n. equal }
 
       nine : (m : ℕ) × (n : ℕ) × (panelSaid card x ≡ refused seatAboveTop m) × (panelSaid card y ≡ refused seatAboveTop n) → Alike a b is-a is-b
       nine w =
-          let first : answerNumber a ≡ seatAboveTop = ap answerNumber (p .answers ∙ ap (λ (s : Said). answered s was) (w .2)) in
-          let second : answerNumber b ≡ seatAboveTop = ap answerNumber (q .answers ∙ ap (λ (s : Said). answered s was) (w .3)) in
+          let first : answerNumber a ≡ seatAboveTop = ap answerNumber (p .answers ∙ ap (λ (s : Text). answered s was) (w .2)) in
+          let second : answerNumber b ≡ seatAboveTop = ap answerNumber (q .answers ∙ ap (λ (s : Text). answered s was) (w .3)) in
           record {
-            rooms = p .leaves ∙ ap (λ (s : Said). roomAfter s was) (w .2) ∙ sym (q .leaves ∙ ap (λ (s : Said). roomAfter s was) (w .3));
+            rooms = p .leaves ∙ ap (λ (s : Text). roomAfter s was) (w .2) ∙ sym (q .leaves ∙ ap (λ (s : Text). roomAfter s was) (w .3));
             numbers = first ∙ sym second;
             answers = λ n. absurd (n first);
           }

@@ -3,25 +3,26 @@
 use Prim.Native.Nat.{ℕ}
 use mathlib.Core.List.{List}
 use Rattle.card.specs.Card.{Card}
-use Rattle.room.specs.Answer.{Said, text, refused}
+use Rattle.entry.specs.Said.{_>>=_, _>>_, return}
+use Rattle.room.specs.Answer.{Text}
 use Rattle.counting.specs.declared.Seated.{Seated}
 use Rattle.counting.specs.declared.Seated.the-variants.{Fine, Refused}
-use Rattle.counting.specs.Judged.{judgedSeats}
+use Rattle.counting.specs.SeatsSaid.{seatsSaid}
 use Rattle.reader.specs.declared.Verdict.{Verdict}
 use Rattle.reader.specs.declared.Verdict.the-variants.{Taken, Refused as Turned}
-use Rattle.rows.specs.Said.{saidOf}
+use Rattle.rows.specs.Said.{cardSaid}
 use Rattle.lines.specs.PanelText.{panelOf}
 
-abbrev pub seatedSaid : Card → List ℕ → Seated → Said
-seatedSaid c seats Fine = text (panelOf c seats)
-seatedSaid c seats (Refused number place) = refused number place
-
 -- of a card that is taken
-abbrev pub shownSaid : List ℕ → Card → Said
-shownSaid seats c = seatedSaid c seats (judgedSeats (c .n) (c .k) seats)
+abbrev pub shownSaid : List ℕ → Card → Text
+shownSaid seats c = do
+  seatsSaid seats c
+  return (panelOf c seats)
 
-unfoldable pub panelSaid : List ℕ → List ℕ → Said
-panelSaid card seats = saidOf (shownSaid seats) card
+unfoldable pub panelSaid : List ℕ → List ℕ → Text
+panelSaid card seats = do
+  c ← cardSaid card
+  shownSaid seats c
 
 -- of two judgements the card's comes first
 abbrev pub firstDue : Verdict → Seated → Seated

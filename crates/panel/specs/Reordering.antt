@@ -4,7 +4,8 @@ use mathlib.Core.Path.{_≡_}
 use mathlib.Core.Logic.{_⊎_}
 use mathlib.Core.List.{List}
 use Rattle.card.specs.Refusals.{seatAboveTop}
-use Rattle.room.specs.Answer.{refused, answerNumber}
+use Rattle.entry.specs.Said.{refused}
+use Rattle.room.specs.Answer.{answerNumber}
 use Rattle.room.specs.declared.Answer.{Answer}
 use Rattle.panel.specs.PanelSaid.{panelSaid}
 

@@ -31,7 +31,8 @@ ghost use Rattle.card.specs.Limits.{mostSeats, topState, mostStatements, mostBr
 ghost use Rattle.card.specs.Card.{nondeterministic, probabilistic};
 ghost use Rattle.card.specs.Laid.{either, cardOf};
 ghost use Rattle.room.specs.Room.{Put};
-ghost use Rattle.room.specs.Answer.{text, Entered};
+ghost use Rattle.entry.specs.Said.{says as text};
+ghost use Rattle.room.specs.Answer.{Entered};
 ghost use Rattle.phrases.specs.Puts.{Puts};
 ghost use Rattle.meaning.specs.Seats.{ValidSeating};
 ghost use Rattle.meaning.specs.Sums.{upto, flat};

@@ -17,12 +17,15 @@ use Rattle.card.specs.Text.{if_then_else_}
 use Rattle.card.specs.Card.{Card}
 use Rattle.card.specs.Valid.{ValidCard}
 use Rattle.reading.specs.Reading.{Outcome, taken, refused as turned, readOf}
-use Rattle.room.specs.Answer.{Said, text, refused}
+use Rattle.entry.specs.Said.{says as text, refused, _>>=_, _>>_, return}
+use Rattle.room.specs.Answer.{Text}
 use Rattle.counting.specs.declared.Seated.{Seated}
 use Rattle.counting.specs.declared.Seated.the-variants.{Fine, Refused}
 use Rattle.counting.specs.Judged.{judgedSeats}
-use Rattle.rows.specs.Said.{saidBy}
-use Rattle.panel.specs.PanelSaid.{seatedSaid, shownSaid, panelSaid}
+use Rattle.rows.specs.Said.{outcomeSaid}
+use Rattle.counting.specs.SeatsSaid.{seatedSaid}
+use Rattle.lines.specs.PanelText.{panelOf}
+use Rattle.panel.specs.PanelSaid.{shownSaid, panelSaid}
 use Rattle.counting.proofs.Judging.{valid-exactly}
 use Rattle.reading.proofs.Theorems.{read-valid}
 use Rattle.panel.specs.PanelRoom.{panelRoom}
@@ -77,7 +80,7 @@ module _ (card x y : List ℕ) (h : mostSeats < length x) (l : mostSeats < lengt
   unfolding panelSaid
   too-many = go (readOf card) refl
     where
-      go : (o : Outcome) → readOf card ≡ o → saidBy (shownSaid x) (readOf card) ≡ saidBy (shownSaid y) (readOf card)
+      go : (o : Outcome) → readOf card ≡ o → outcomeSaid (readOf card) >>= shownSaid x ≡ outcomeSaid (readOf card) >>= shownSaid y
       go (taken c) e =
           let v = read-valid card c e .seats-most in
           rw (e, wrong (c .k) x v h, wrong (c .k) y v l)
@@ -111,11 +114,11 @@ pub panel-short : (card seats : List ℕ) → Short panelRoom (panelSaid card se
 unfolding panelSaid
 panel-short card seats = go (readOf card) refl
   where
-    by-seats : (c : Card) → readOf card ≡ taken c → (s : Seated) → judgedSeats (c .n) (c .k) seats ≡ s → Short panelRoom (seatedSaid c seats s)
+    by-seats : (c : Card) → readOf card ≡ taken c → (s : Seated) → judgedSeats (c .n) (c .k) seats ≡ s → Short panelRoom (seatedSaid s >> return (panelOf c seats))
     by-seats c e Fine j = panel-fits c (read-valid card c e) seats (valid-exactly c seats .0 j)
     by-seats c e (Refused number place) j = tt
 
-    go : (o : Outcome) → readOf card ≡ o → Short panelRoom (saidBy (shownSaid seats) o)
+    go : (o : Outcome) → readOf card ≡ o → Short panelRoom (outcomeSaid o >>= shownSaid seats)
     go (taken c) e = by-seats c e (judgedSeats (c .n) (c .k) seats) refl
     go (turned number place) e = tt
 

@@ -11,7 +11,8 @@ use Rattle.room.specs.declared.Answer.{Answer}
 use Rattle.room.specs.declared.Answer.the-variants.{Done, Refused}
 use Rattle.room.specs.Digits.{decimal}
 use Rattle.room.specs.Room.{Put}
-use Rattle.room.specs.Answer.{Said, text, refused, Entered}
+use Rattle.entry.specs.Said.{says as text, refused}
+use Rattle.room.specs.Answer.{Text, Entered}
 use Rattle.room.proofs.Laws.{clip-start}
 use Rattle.room.proofs.Decimal.{decimal-length}
 use Rattle.room.proofs.Entries.{entered-refusal, entered-fits, entered-kept, entered-text}
@@ -22,11 +23,11 @@ done≢refused : {A : Type 0} {long number place : ℕ} → Done long ≡ Refuse
 done≢refused e = let z : _≡_ {A = ℕ} 0 1 = cc in absurd (omega arith)
 
 -- a text, if that is what is said, has at most so many bytes
-abbrev pub Short : ℕ → Said → Type 0
+abbrev pub Short : ℕ → Text → Type 0
 Short most (text t) = length t ≤ most
 Short most (refused number place) = Unit {0}
 
-pub printed-done : {was is : List ℕ} {said : Said} {a : Answer} {long : ℕ} → Entered was is said a → a ≡ Done long → Printed was is (printed said) long
+pub printed-done : {was is : List ℕ} {said : Text} {a : Answer} {long : ℕ} → Entered was is said a → a ≡ Done long → Printed was is (printed said) long
 printed-done {was} {is} {said} {long = long} e d = of (entered-text (rw d at e))
   where
     of : (t : List ℕ) × (said ≡ text t) × (long ≡ length t) × (long ≤ length was) × (is ≡ t ++ drop long was) → Printed was is (printed said) long
@@ -34,7 +35,7 @@ printed-done {was} {is} {said} {long = long} e d = of (entered-text (rw d at e))
         rw says (record { fits = omega arith; length-is = k; stands = stands ∙ ap (λ (n : ℕ). t ++ drop n was) k })
 
 -- a text that is short enough is not refused
-is-refused : {most number place : ℕ} {was is : List ℕ} (said : Said) → Short most said → most ≤ length was → Entered was is said (Refused number place) → said ≡ refused number place
+is-refused : {most number place : ℕ} {was is : List ℕ} (said : Text) → Short most said → most ≤ length was → Entered was is said (Refused number place) → said ≡ refused number place
 is-refused (text t) h l e = done≢refused (sym (entered-fits e (omega arith) .0))
 is-refused {number = number} {place = place} (refused k p) h l e =
     let z : Refused number place ≡ Refused k p = entered-refusal e .0 in
@@ -59,7 +60,7 @@ refusal-length number place h l =
 pub refusal-short : {number place r : ℕ} {was is : List ℕ} → number < 256 → place < 2 ^ 64 → Put was is 0 (refusal number place) r → r ≤ refusalMost
 refusal-short {number} {place} h l p = omega (arith, p .next, refusal-length number place h l)
 
-pub printed-refused : {most number place r : ℕ} {was mid is : List ℕ} {said : Said} {a : Answer} → Short most said → most ≤ length was → refusalMost ≤ most
+pub printed-refused : {most number place r : ℕ} {was mid is : List ℕ} {said : Text} {a : Answer} → Short most said → most ≤ length was → refusalMost ≤ most
     → Entered was mid said a → a ≡ Refused number place → Put mid is 0 (refusal number place) r → r ≤ refusalMost → Printed was is (printed said) r
 printed-refused {most} {number} {place} {r} {was} {mid} {is} {said} h l m entered turned p short =
     let e : Entered was mid said (Refused number place) = rw turned at entered in

@@ -7,7 +7,8 @@ use lib.Dec.{eqb, leb}
 use lib.ListN.{length, take, drop}
 use Rattle.card.specs.Text.{if_then_else_}
 use Rattle.room.specs.Digits.{digit}
-use Rattle.room.specs.Answer.{Said, text, refused}
+use Rattle.entry.specs.Said.{says as text, refused}
+use Rattle.room.specs.Answer.{Text}
 use Rattle.phrases.specs.Phrases.{_▸_, num}
 use Rattle.panel.specs.PanelSaid.{panelSaid}
 
@@ -37,7 +38,7 @@ abbrev pub seatOf : ℕ → ℕ
 seatOf b = if leb (digit 0) b && leb b (digit 9) then b - digit 0 else noState
 
 -- a text as it is, a refusal as a line
-abbrev pub printed : Said → List ℕ
+abbrev pub printed : Text → List ℕ
 printed (text t) = t
 printed (refused number place) = "refused " ▸ num number (" " ▸ num place ("\n" ▸ []))
 

@@ -11,7 +11,7 @@ ghost use mathlib.Core.List.{map, _++_};
 ghost use Prim.Native.Nat.{_≤_, min};
 ghost use lib.ListN.{length, take, drop};
 ghost use Rattle.room.specs.Room.{Put};
-ghost use Rattle.room.specs.Answer.{refused};
+ghost use Rattle.entry.specs.Said.{refused};
 ghost use Rattle.panel.specs.PanelSaid.{panelSaid};
 ghost use Rattle.panel.specs.PanelRoom.{panelRoom};
 ghost use Rattle.program.specs.Program.{seatsLine, seatOf, printed, refusalMost, answerTo, programOf, Printed};

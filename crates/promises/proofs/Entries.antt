@@ -1,15 +1,37 @@
--- What entries answer, by citing. Assumes nothing.
+-- What entries answer: each stage's refusals and the room's, from the one theorem of stages. Assumes nothing.
 use Prim.Native.Nat.{ℕ}
 use mathlib.Core.Path.{_≡_, refl, ap, _∙_}
+use mathlib.Core.List.{List}
+use native.Mathlib.Omega.{arith}
+use Rattle.card.specs.Refusals.{wrongSeats, seatAboveTop, roomTooSmall}
+use Rattle.card.specs.Card.{Card}
 use Rattle.reading.specs.Reading.{Outcome, taken, refused, readOf}
+use Rattle.reading.proofs.Theorems.{read-valid}
 use Rattle.reader.specs.declared.Reading.{Reading}
 use Rattle.reader.specs.ReadingOf.{readingOf, numberOf, placeOf}
+use Rattle.entry.specs.Said.{says, _>>=_}
+use Rattle.entry.specs.Numbers.{only}
+use Rattle.entry.specs.Contract.{InRoom}
+use Rattle.entry.proofs.Stages.{among-says, value}
+use Rattle.entry.proofs.Exactly.{_↔∙_}
+use Rattle.entry.proofs.Entries.{before-room, in-room}
 use Rattle.room.specs.declared.Answer.{Answer}
-use Rattle.room.specs.Answer.{answerNumber, answerValue}
-use Rattle.writer.proofs.Theorems as of-writer
-use Rattle.reducer.proofs.Theorems as of-reducer
-use Rattle.panel.proofs.Theorems as of-panel
-use Rattle.promises.specs.Entries.{Numbered, numberIn, placeIn, Rooms, Demand1}
+use Rattle.room.specs.Answer.{told, answerNumber, answerValue, Entered}
+use Rattle.room.proofs.Entries.{told-faithful}
+use Rattle.meaning.specs.Seats.{ValidSeating}
+use Rattle.rows.specs.Said.{cardSaid, Read}
+use Rattle.rows.proofs.Theorems.{of-card, card-stage, card-first}
+use Rattle.writer.specs.Writing.{writeOf}
+use Rattle.writer.specs.WriteSaid.{writeSaid}
+use Rattle.writer.proofs.Short.{written-room}
+use Rattle.reducer.specs.ReducedText.{reducedOf}
+use Rattle.reducer.specs.ReduceSaid.{reduceSaid}
+use Rattle.reducer.proofs.Short.{short}
+use Rattle.lines.specs.PanelText.{panelOf}
+use Rattle.panel.specs.PanelSaid.{panelSaid}
+use Rattle.panel.proofs.Short.{panel-fits}
+use Rattle.panel.proofs.Theorems.{said, said-card, said-count, said-seat}
+use Rattle.promises.specs.Entries.{Numbered, numberIn, placeIn, Prints, Shows, Rooms, Demand1}
 use Rattle.promises.proofs.Program.{responds, never-10}
 
 numbered : (a : Answer) → Numbered a
@@ -23,11 +45,51 @@ reads-place : (o : Outcome) → placeOf (readingOf o .verdict) ≡ placeIn o
 reads-place (taken c) = refl
 reads-place (refused number place) = refl
 
+-- a text of a card
+module _ (f : Card → List ℕ) (card : List ℕ) {was is : List ℕ} {a : Answer} (e : Entered was is (cardSaid card >>= (λ (c : Card). says (f c))) a) where
+  printed : InRoom told (Read card) (λ w. f (w .0)) was is a
+  printed = in-room told-faithful e (value (card-stage card) f) refl
+
+  prints : Prints f card was is a
+  prints = record {
+    wrong-card = λ r p l. before-room told-faithful e r p (of-card (only roomTooSmall) r l refl) ↔∙ card-first card (λ (c : Card). says (f c)) (λ c. among-says (f c)) r p l refl;
+    small-room = λ p. printed .small-room p ↔∙ (λ h. (h .0 .0, h .0 .1, h .1, h .2), λ h. ((h .0, h .1), h .2, h .3));
+    done = λ p. printed .done p ↔∙ (λ h. (h .0 .0, h .0 .1, h .1, h .2), λ h. ((h .0, h .1), h .2, h .3));
+    stands = λ c t l. printed .stands (c, t) l;
+    untouched = printed .untouched;
+    numbered = numbered a;
+  }
+
+write : (card was is : List ℕ) (a : Answer) → Entered was is (writeSaid card) a → Prints writeOf card was is a
+unfolding writeSaid
+write card was is a e = prints writeOf card e
+
+reduce : (card was is : List ℕ) (a : Answer) → Entered was is (reduceSaid card) a → Prints reducedOf card was is a
+unfolding reduceSaid
+reduce card was is a e = prints reducedOf card e
+
+-- the panel of a card and its seats
+module _ (card seats was is : List ℕ) (a : Answer) (e : Entered was is (panelSaid card seats) a) where
+  shown : InRoom told ((w : Read card) × ValidSeating (w .0) seats) (λ z. panelOf (z .0 .0) seats) was is a
+  shown = in-room told-faithful e (said card seats) refl
+
+  panel : Shows card seats was is a
+  panel = record {
+    wrong-card = λ r p l. before-room told-faithful e r p (of-card (only roomTooSmall) r l refl) ↔∙ said-card card seats r p l;
+    wrong-count = λ p. before-room told-faithful e wrongSeats p refl ↔∙ said-count card seats p;
+    wrong-seat = λ p. before-room told-faithful e seatAboveTop p refl ↔∙ said-seat card seats p;
+    small-room = λ p. shown .small-room p ↔∙ (λ h. (h .0 .0 .0, h .0 .0 .1, h .0 .1, h .1, h .2), λ h. (((h .0, h .1), h .2), h .3, h .4));
+    done = λ p. shown .done p ↔∙ (λ h. (h .0 .0 .0, h .0 .0 .1, h .0 .1, h .1, h .2), λ h. (((h .0, h .1), h .2), h .3, h .4));
+    stands = λ c t ok l. shown .stands ((c, t), ok) l;
+    untouched = shown .untouched;
+    numbered = numbered a;
+  }
+
 pub rooms : Rooms
 rooms = record {
-  written = λ card was is a e. of-writer.room-enough card e;
-  reduced = λ card was is a e. of-reducer.room-enough card e;
-  shown = λ card seats was is a e. of-panel.never-small card seats e;
+  written = λ card was is a e l p r. let (c, t, g, _) = write card was is a e .small-room p .0 r in omega (arith, g, written-room c (read-valid card c t));
+  reduced = λ card was is a e l p r. let (c, t, g, _) = reduce card was is a e .small-room p .0 r in omega (arith, g, short c (read-valid card c t));
+  shown = λ card seats was is a e l p r. let (c, t, ok, g, _) = panel card seats was is a e .small-room p .0 r in omega (arith, g, panel-fits c (read-valid card c t) seats ok);
 }
 
 pub demand1 : Demand1
@@ -41,30 +103,7 @@ demand1 = record {
   responds = responds;
   never-10 = never-10;
   rooms = rooms;
-  write = λ card was is a e. record {
-    wrong-card = of-writer.refusal-1-to-7 card e;
-    small-room = of-writer.refusal-10 card e;
-    done = of-writer.done-exactly card e;
-    stands = of-writer.written card e;
-    untouched = of-writer.room-kept card e;
-    numbered = numbered a;
-  };
-  reduce = λ card was is a e. record {
-    wrong-card = of-reducer.refusal-1-to-7 card e;
-    small-room = of-reducer.refusal-10 card e;
-    done = of-reducer.done-exactly card e;
-    stands = of-reducer.written card e;
-    untouched = of-reducer.room-kept card e;
-    numbered = numbered a;
-  };
-  panel = λ card seats was is a e. record {
-    wrong-card = of-panel.refusal-1-to-7 card seats e;
-    wrong-count = of-panel.refusal-8 card seats e;
-    wrong-seat = of-panel.refusal-9 card seats e;
-    small-room = of-panel.refusal-10 card seats e;
-    done = of-panel.done-exactly card seats e;
-    stands = of-panel.shown card seats e;
-    untouched = of-panel.room-kept card seats e;
-    numbered = numbered a;
-  };
+  write = write;
+  reduce = reduce;
+  panel = panel;
 }

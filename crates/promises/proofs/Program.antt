@@ -1,25 +1,27 @@
 -- What the program prints, by the four ways in which the panel entry's word of a card and its seats can go: the card's refusal, the two of
 -- seats, the panel. Assumes nothing.
 use Prim.Native.Nat.{ℕ, _≤_}
-use mathlib.Core.Path.{_≡_, refl, sym, ap, _∙_}
-use mathlib.Core.Logic.{_⊎_, inl, inr}
-use mathlib.Core.List.{List, map}
+use mathlib.Core.Path.{_≡_, refl, ap, _∙_}
+use mathlib.Core.List.{List, _++_, map}
+use native.Mathlib.Decide.{ℕ-discrete, decLe}
 use native.Mathlib.Omega.{arith}
 use lib.ListN.{length, take}
-use Rattle.card.specs.Refusals.{wrongSeats, seatAboveTop}
+use Rattle.card.specs.Refusals.{wrongWeight, wrongSeats, seatAboveTop}
 use Rattle.card.specs.Card.{Card}
 use Rattle.reading.specs.Reading.{Outcome, taken, refused, readOf}
 use Rattle.reading.proofs.Theorems.{read-valid}
 use Rattle.reading.proofs.Numbers.{read-number}
-use Rattle.room.specs.Answer.{Said, text, refused as refusal}
+use Rattle.entry.specs.Said.{says as text, refused as refusal}
+use Rattle.room.specs.Answer.{Text}
 use Rattle.meaning.specs.Seats.{ValidSeating}
-use Rattle.counting.specs.declared.Seated.{Seated}
-use Rattle.counting.specs.declared.Seated.the-variants.{Fine, Refused as Turned}
-use Rattle.counting.specs.Judged.{judgedSeats, FirstAbove}
-use Rattle.counting.proofs.Judging.{valid-exactly, wrong-seats-exactly, seat-above-exactly, judged-else}
+use Rattle.counting.specs.Judged.{FirstAbove}
+use Rattle.counting.specs.SeatsSaid.{seatsNumbers}
+use Rattle.rows.specs.Said.{cardNumbers}
 use Rattle.lines.specs.PanelText.{panelOf}
 use Rattle.panel.specs.PanelSaid.{panelSaid}
 use Rattle.panel.proofs.Short.{panel-fits}
+use Rattle.panel.proofs.Theorems.{said, said-card, said-count, said-seat}
+use Rattle.entry.proofs.Stages.{among-up-to}
 use Rattle.program.specs.Program.{inputBytes, seatsLine, cardBehind, seatOf, printed, programOf, answerTo}
 use Rattle.promises.specs.Entries.{seatsRead, cardRead, Response, wrong-card, wrong-count, wrong-seat, the-panel}
 use Rattle.promises.proofs.Numbers.{number-some}
@@ -31,41 +33,33 @@ module _ (card seats : List ℕ) where
     of-seat : (c : Card) → readOf card ≡ taken c → length seats ≡ c .n → (place : ℕ) → FirstAbove (c .k) seats place → panelSaid card seats ≡ refusal seatAboveTop place → Way
     of-panel : (c : Card) → readOf card ≡ taken c → ValidSeating c seats → panelSaid card seats ≡ text (panelOf c seats) → Way
 
+  most : (r p : ℕ) → panelSaid card seats ≡ refusal r p → r ≤ seatAboveTop
+  most r p e = among-up-to (cardNumbers ++ seatsNumbers) r seatAboveTop (said card seats .numbers .number r p e) refl
+
   way : Way
-  unfolding panelSaid
-  way = by-card (readOf card) refl
+  way = go (panelSaid card seats) refl
     where
-      by-refusal : (c : Card) → readOf card ≡ taken c → (r p : ℕ) → judgedSeats (c .n) (c .k) seats ≡ Turned r p → (r ≡ wrongSeats) ⊎ (r ≡ seatAboveTop) → Way
-      by-refusal c h r p j (inl k) =
-          let q = wrong-seats-exactly (c .n) (c .k) seats p .0 (j ∙ ap (λ (n : ℕ). Turned n p) k) in
-          of-count c h (q .0) (rw (h, wrong-seats-exactly (c .n) (c .k) seats 0 .1 (q .0, refl)))
-      by-refusal c h r p j (inr k) =
-          let above = j ∙ ap (λ (n : ℕ). Turned n p) k in
-          let q = seat-above-exactly (c .n) (c .k) seats p .0 above in
-          of-seat c h (q .0) p (q .1) (rw (h, above))
+      numbered : (r p : ℕ) → panelSaid card seats ≡ refusal r p → Dec (r ≤ wrongWeight) → Dec (r ≡ wrongSeats) → Way
+      numbered r p e (yes l) k = of-card r p (said-card card seats r p l .0 e) e
+      numbered r p e (no l) (yes k) =
+          let (c, t, n, z) = said-count card seats p .0 (e ∙ ap (λ (s : ℕ). refusal s p) k) in
+          of-count c t n (said-count card seats 0 .1 (c, t, n, refl))
+      numbered r p e (no l) (no k) =
+          let nine : r ≡ seatAboveTop = omega (arith, most r p e) in
+          let h = e ∙ ap (λ (s : ℕ). refusal s p) nine in
+          let (c, t, n, f) = said-seat card seats p .0 h in
+          of-seat c t n p f h
 
-      by-seats : (c : Card) → readOf card ≡ taken c → (s : Seated) → judgedSeats (c .n) (c .k) seats ≡ s → Way
-      by-seats c h Fine j = of-panel c h (valid-exactly c seats .0 j) (rw (h, j))
-      by-seats c h (Turned r p) j = by-refusal c h r p j (judged-else (c .n) (c .k) seats r p j)
-
-      by-card : (o : Outcome) → readOf card ≡ o → Way
-      by-card (taken c) h = by-seats c h (judgedSeats (c .n) (c .k) seats) refl
-      by-card (refused number place) h = of-card number place h (rw h)
+      go : (s : Text) → panelSaid card seats ≡ s → Way
+      go (text t) e = let (z, k) = said card seats .found .only t e in of-panel (z .0 .0) (z .0 .1) (z .1) (e ∙ ap text k)
+      go (refusal r p) e = numbered r p e (decLe r wrongWeight) (ℕ-discrete r wrongSeats)
 
   pub never-10 : (number place : ℕ) → panelSaid card seats ≡ refusal number place → (1 ≤ number) × (number ≤ seatAboveTop)
-  never-10 number place e = go way
+  never-10 number place e = (go (decLe number wrongWeight), most number place e)
     where
-      of-text : {t : List ℕ} {r p : ℕ} → text t ≡ refusal r p → (1 ≤ number) × (number ≤ seatAboveTop)
-      of-text z = let a : _≡_ {A = ℕ} 0 1 = cc in absurd (omega arith)
-
-      same-number : {r s p q : ℕ} → refusal r p ≡ refusal s q → r ≡ s
-      same-number z = cc
-
-      go : Way → (1 ≤ number) × (number ≤ seatAboveTop)
-      go (of-card r p h k) = (omega (arith, same-number (sym k ∙ e), number-some card h), omega (arith, same-number (sym k ∙ e), read-number card h))
-      go (of-count c h n k) = (omega (arith, same-number (sym k ∙ e)), omega (arith, same-number (sym k ∙ e)))
-      go (of-seat c h n p f k) = (omega (arith, same-number (sym k ∙ e)), omega (arith, same-number (sym k ∙ e)))
-      go (of-panel c h ok k) = of-text (sym k ∙ e)
+      go : Dec (number ≤ wrongWeight) → 1 ≤ number
+      go (yes l) = number-some card (said-card card seats number place l .0 e)
+      go (no l) = omega arith
 
 -- the program prints what is said of the card and the seats that it reads
 answer-printed : (s : List ℕ) → answerTo s ≡ printed (panelSaid (cardBehind s) (map seatOf (seatsLine s)))
@@ -79,7 +73,7 @@ program-printed input = answer-printed (take inputBytes input)
 pub responds : (input : List ℕ) → Response input
 responds input = go (way (cardRead input) (seatsRead input))
   where
-    prints : {said : Said} → panelSaid (cardRead input) (seatsRead input) ≡ said → programOf input ≡ printed said
+    prints : {said : Text} → panelSaid (cardRead input) (seatsRead input) ≡ said → programOf input ≡ printed said
     prints e = program-printed input ∙ ap printed e
 
     go : Way (cardRead input) (seatsRead input) → Response input

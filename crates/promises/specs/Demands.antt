@@ -17,7 +17,8 @@ use Rattle.meaning.specs.Reordered.{Reordered}
 use Rattle.card.specs.Limits.{cardBytes}
 use Rattle.reading.specs.Reading.{taken, readOf}
 use Rattle.room.specs.declared.Answer.{Answer}
-use Rattle.room.specs.Answer.{text, Entered}
+use Rattle.entry.specs.Said.{says as text}
+use Rattle.room.specs.Answer.{Entered}
 use Rattle.writer.specs.Writing.{writeOf}
 use Rattle.writer.specs.WriteSaid.{writeSaid}
 use Rattle.reducer.specs.ReducedText.{programText}

@@ -14,7 +14,8 @@ use Rattle.reader.specs.ReadingOf.{readingOf, numberOf, placeOf, Reads}
 use Rattle.room.specs.declared.Answer.{Answer}
 use Rattle.room.specs.declared.Answer.the-variants.{Done, Refused}
 use Rattle.room.specs.Digits.{decimal}
-use Rattle.room.specs.Answer.{Said, refused as refusal, answerNumber, answerValue, Entered}
+use Rattle.entry.specs.Said.{refused as refusal}
+use Rattle.room.specs.Answer.{Text, answerNumber, answerValue, Entered}
 use Rattle.meaning.specs.Seats.{Seating, ValidSeating}
 use Rattle.counting.specs.Judged.{FirstAbove}
 use Rattle.writer.specs.Writing.{writeOf}
@@ -74,7 +75,7 @@ pub record Shows (card seats was is : List ℕ) (a : Answer) : Type 0 where
   pub numbered : Numbered a
 
 -- lent a room of so many bytes or more, an entry never answers 10
-abbrev pub Enough : ℕ → Said → Type 0
+abbrev pub Enough : ℕ → Text → Type 0
 Enough room said = (was is : List ℕ) (a : Answer) → Entered was is said a → room ≤ length was → (place : ℕ) → a ≡ Refused roomTooSmall place → ⊥
 
 -- rooms that every text fits into, whatever the card and the seats

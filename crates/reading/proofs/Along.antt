@@ -132,7 +132,7 @@ joined-along any ms r g h k = k
 guard-along : {v : Part} {ms r : Place} {g : Formula Literals} → GuardSaid GroupSaid v ms g r → Judging ms (judgedGuard g) r
 guard-along (grouped d) = group-along d
 guard-along (negated {a} {ms} {r} {g} u) = along-behind strictly placeIn (signAt "!" a) ms r (judgedGuard g) (guard-along u)
-guard-along (bracketed {a} {b} {ms} {r} {g} u) =
+guard-along (bracketed {a} {b} {ms} {r} {g} f u) =
     along-behind strictly placeIn (signAt "(" a) ms r (judgedGuard g)
     (along-before strictly placeIn ms (signAt ")" b ∷ r) r (judgedGuard g) (guard-along u) (signAt ")" b ∷ []) refl)
 guard-along (single u) = guard-along u

@@ -17,11 +17,12 @@ use Rattle.card.specs.Card.{Mode, nondeterministic, probabilistic, Sign, all, a
 use Rattle.card.specs.Weight.{Weight, whole, decimal as point, ratio}
 use Rattle.marks.specs.Marks.{Mark, text, seat, process, number, decimal, outside, Placed, placed}
 use Rattle.reading.specs.Reader.{Place, State, at, Result, ok, stop, Reader, bind, _>>=_, return, refuse, refuseAt, the, is, nextIs, ifNext, given, sign, seatOf, processOf, numberOf, here, numbered, Item, exactly, seatWord, processWord, line}
-use Rattle.reading.specs.Guard.{seatNext, ifSeat, Read, chain, conjunction, expression, grouped as readGrouped, unary as readUnary}
-use Rattle.reading.specs.Group.{joint, relation, Literal, literalOf, Literals, literalsOf, relationOf, literal as readLiteral, others, group}
+use Rattle.reading.specs.Guard.{seatNext, ifAhead, Read, unaryBy, chain, conjunction, expression, grouped as readGrouped, unary as readUnary}
+use Rattle.reading.specs.Group.{joint, relation, Literal, literalOf, Literals, literalsOf, relationOf, literal as readLiteral, joined, others, group}
 use Rattle.reading.specs.Shape.{BranchShape, CardShape, many, weightOf, over, weight, branch as readBranch, nextBranch, pastBranches, moreBranches, guard, mayHave, statement as readStatement, moreStatements, copy, moreModules, modeOf, onlyZero, zeroOf, top, ended as readEnd, theEnd, body, card as readCard}
-use Rattle.reading.specs.Grammar.{Said, signAt, valued, LineSaid, ended, fixed, aSeat, aProcess, cardRun, statementRun, branchRun, moduleRun, ManySaid, done, again, LiteralSaid, literal, OthersSaid, close, next, GroupSaid, conjoined, disjoined, Part, unary, joinedBy, operand, joining, GuardSaid, grouped, negated, bracketed, single, further, RestSaid, nothing, guarded, WeightSaid, aNumber, aRatio, aDecimal, BranchSaid, branch, PlusSaid, plus, StatementSaid, statement, modeWord, CardSaid, card}
-use Rattle.reading.specs.Verdicts.{Completable}
+use Rattle.reading.specs.Grammar.{Said, signAt, valued, LineSaid, ended, fixed, aSeat, aProcess, cardRun, statementRun, branchRun, moduleRun, ManySaid, done, again, LiteralSaid, literal, JoinedSaid, OthersSaid, close, next, GroupSaid, conjoined, disjoined, Part, unary, joinedBy, operand, joining, GuardSaid, FormulaSaid, Anything, grouped, negated, bracketed, single, further, RestSaid, nothing, guarded, WeightSaid, aNumber, aRatio, aDecimal, BranchSaid, branch, PlusSaid, plus, StatementSaid, statement, modeWord, CardSaid, card}
+use Rattle.reading.specs.Verdicts.{CompletableIn}
+use Rattle.reading.proofs.Follows.{guard-no-seat}
 use Rattle.reading.proofs.Through.{same-refl, none≢some, is→eq, given-true, stop≢ok, ok-state, through, chose, sign-took}
 use Rattle.reading.proofs.Steady.{Lang, Nil, _then_, _either_, One, Mark₁, OneThen, Saying, Word, SameHead, SameBracket, Alike, head-append, seat-head, free, Passed, Cause, unfit, excess, Stopped, Steady, Always, Next, At, Refused, Behind, ok≢stop, stop-number, stop-place, stopped, chose-stop, cause-as, steady-as, steady-on, steady-free, steady-bind, steady-the, steady-sign, steady-return, steady-here, steady-next, steady-limit, steady-node, steady-behind, behind-steady, steady-silent, steady-last, steady-like}
 
@@ -69,7 +70,7 @@ mode→eq m d e = go (is "nondeterministic" m) (is "probabilistic" m) refl refl 
     go false false _ _ e = none≢some e
 
 -- one mark of a kind, as it stands in the grammar
-one-seat : (ms r : Place) → One seatOf ms r → (i p : ℕ) × (ms ≡ placed (seat i) p ∷ r)
+pub one-seat : (ms r : Place) → One seatOf ms r → (i p : ℕ) × (ms ≡ placed (seat i) p ∷ r)
 one-seat ms r (m, p, i, e, s) = (i, p, e ∙ ap (λ x. placed x p ∷ r) (seat→eq m i s))
 
 one-process : (ms r : Place) → One processOf ms r → (i p : ℕ) × (ms ≡ placed (process i) p ∷ r)
@@ -78,25 +79,11 @@ one-process ms r (m, p, i, e, s) = (i, p, e ∙ ap (λ x. placed x p ∷ r) (pro
 one-number : (ms r : Place) → One numberOf ms r → (i p : ℕ) × (ms ≡ placed (number i) p ∷ r)
 one-number ms r (m, p, i, e, s) = (i, p, e ∙ ap (λ x. placed x p ∷ r) (number→eq m i s))
 
-one-sign : (t : String) (ms r : Place) → Mark₁ t ms r → (p : ℕ) × (ms ≡ signAt t p ∷ r)
+pub one-sign : (t : String) (ms r : Place) → Mark₁ t ms r → (p : ℕ) × (ms ≡ signAt t p ∷ r)
 one-sign t ms r (m, p, u, e, s) = (p, e ∙ ap (λ x. placed x p ∷ r) (is→eq t m (given-true (is t m) u s)))
 
-a-sign : (t : String) (p : ℕ) (r : Place) → Mark₁ t (signAt t p ∷ r) r
+pub a-sign : (t : String) (p : ℕ) (r : Place) → Mark₁ t (signAt t p ∷ r) r
 a-sign t p r = (text (bytes t), p, tt, refl, rw (same-refl (bytes t)))
-
--- ---- runs
-
-seatT : Steady Always free (One seatOf) (the seatOf) (the seatOf)
-seatT = steady-free (steady-the seatOf (seat 1) 1 refl)
-
-processT : Steady Always free (One processOf) (the processOf) (the processOf)
-processT = steady-free (steady-the processOf (process 1) 1 refl)
-
-numberT : Steady Always free (One numberOf) (the numberOf) (the numberOf)
-numberT = steady-free (steady-the numberOf (number 0) 0 refl)
-
-numberedT : {f : Mark → Option ℕ} → Steady Always free (One f) (the f) (the f) → Steady Always free (One f) (numbered f) (numbered f)
-numberedT x = steady-silent steady-here λ p p₁ _. steady-last x λ v v₁ _. steady-return (valued v p) (valued v₁ p₁)
 
 line-fixed : (t : String) (items : List Item) (ms r : Place) → (Mark₁ t then Saying (LineSaid items)) ms r → Saying (LineSaid (exactly t ∷ items)) ms r
 line-fixed t items ms r (q, m, (ws, d)) = let (p, e) = one-sign t ms q m in rw e (ws, fixed d)
@@ -107,14 +94,6 @@ line-seat items ms r (q, m, (ws, d)) = let (i, p, e) = one-seat ms q m in rw e (
 line-process : (items : List Item) (ms r : Place) → (One processOf then Saying (LineSaid items)) ms r → Saying (LineSaid (processWord ∷ items)) ms r
 line-process items ms r (q, m, (ws, d)) = let (i, p, e) = one-process ms q m in rw e (_, aProcess d)
 
-lineT : (items : List Item) → Steady Always free (Saying (LineSaid items)) (line items) (line items)
-lineT [] = steady-as (λ ms r e. rw e ([], ended)) (steady-return [] [])
-lineT (exactly t ∷ items) = steady-as (line-fixed t items) (steady-bind (steady-sign t) λ _ _ _. lineT items)
-lineT (seatWord ∷ items) = steady-as (line-seat items) (steady-bind (numberedT seatT) λ w w₁ _. steady-last (lineT items) λ ws ws₁ _. steady-return (w ∷ ws) (w₁ ∷ ws₁))
-lineT (processWord ∷ items) = steady-as (line-process items) (steady-bind (numberedT processT) λ w w₁ _. steady-last (lineT items) λ ws ws₁ _. steady-return (w ∷ ws) (w₁ ∷ ws₁))
-
--- ---- groups
-
 literal-said : (ms r : Place) → (One seatOf then One relationOf then One numberOf) ms r → Saying LiteralSaid ms r
 literal-said ms r (q, s, (q₁, (m, p, k, e, i), n)) =
     let (a, b, z) = one-seat ms q s in
@@ -122,37 +101,51 @@ literal-said ms r (q, s, (q₁, (m, p, k, e, i), n)) =
     let w : ms ≡ placed (seat a) b ∷ signAt (relation k) p ∷ placed (number d) c ∷ r = cc (relation→eq m k i) in
     rw w (_, literal {i = a} {d = d} {a = b} {b = p} {c = c} {q = k} {r = r})
 
-literalT : Steady Always free (Saying LiteralSaid) readLiteral readLiteral
-literalT = steady-as literal-said
-    (steady-bind seatT λ i i₁ _. steady-bind (steady-free (steady-the relationOf (text (bytes "=")) eq refl)) λ q q₁ _. steady-silent steady-here λ p p₁ _.
-    steady-last numberT λ d d₁ _. steady-return (literalOf i q d p) (literalOf i₁ q₁ d₁ p₁))
+module _ {Look : Type 0} {look : Place → Look} where
+  -- ---- runs
 
-abbrev MoreL : Sign → Lang
-MoreL s = Mark₁ (joint s) then Saying LiteralSaid then Saying (OthersSaid s)
+  seatT : Steady look Always free (One seatOf) (the seatOf) (the seatOf)
+  seatT = steady-free (steady-the seatOf (seat 1) 1 refl)
 
-others-said : (s : Sign) (ms r : Place) → (MoreL s either Mark₁ ")") ms r → Saying (OthersSaid s) ms r
-others-said s ms r (inl (q, m, (q₁, (l, d), (ls, o)))) = let (p, e) = one-sign (joint s) ms q m in rw e (l ∷ ls, next d o)
-others-said s ms r (inr m) = let (p, e) = one-sign ")" ms r m in rw e ([], close)
+  processT : Steady look Always free (One processOf) (the processOf) (the processOf)
+  processT = steady-free (steady-the processOf (process 1) 1 refl)
+
+  numberT : Steady look Always free (One numberOf) (the numberOf) (the numberOf)
+  numberT = steady-free (steady-the numberOf (number 0) 0 refl)
+
+  numberedT : {f : Mark → Option ℕ} → Steady look Always free (One f) (the f) (the f) → Steady look Always free (One f) (numbered f) (numbered f)
+  numberedT x = steady-silent steady-here λ p p₁ _. steady-last x λ v v₁ _. steady-return (valued v p) (valued v₁ p₁)
+
+  lineT : (items : List Item) → Steady look Always free (Saying (LineSaid items)) (line items) (line items)
+  lineT [] = steady-as (λ ms r e. rw e ([], ended)) (steady-return [] [])
+  lineT (exactly t ∷ items) = steady-as (line-fixed t items) (steady-bind (steady-sign t) λ _ _ _. lineT items)
+  lineT (seatWord ∷ items) = steady-as (line-seat items) (steady-bind (numberedT seatT) λ w w₁ _. steady-last (lineT items) λ ws ws₁ _. steady-return (w ∷ ws) (w₁ ∷ ws₁))
+  lineT (processWord ∷ items) = steady-as (line-process items) (steady-bind (numberedT processT) λ w w₁ _. steady-last (lineT items) λ ws ws₁ _. steady-return (w ∷ ws) (w₁ ∷ ws₁))
+
+  -- ---- groups
+
+  pub literalT : Steady look Always free (Saying LiteralSaid) readLiteral readLiteral
+  literalT = steady-as literal-said
+      (steady-bind seatT λ i i₁ _. steady-bind (steady-free (steady-the relationOf (text (bytes "=")) eq refl)) λ q q₁ _. steady-silent steady-here λ p p₁ _.
+      steady-last numberT λ d d₁ _. steady-return (literalOf i q d p) (literalOf i₁ q₁ d₁ p₁))
+
+-- ---- things of one kind, joined by a sign and closed by a bracket, over a steady reader of one
+
+module _ {A : Type 0} (S : Said A) where
+  abbrev MoreL : Sign → Lang
+  MoreL s = Mark₁ (joint s) then Saying S then Saying (JoinedSaid S s)
+
+  joined-items : (s : Sign) (ms r : Place) → (MoreL s either Mark₁ ")") ms r → Saying (JoinedSaid S s) ms r
+  joined-items s ms r (inl (q, m, (q₁, (l, d), (ls, o)))) = let (p, e) = one-sign (joint s) ms q m in rw e (l ∷ ls, next d o)
+  joined-items s ms r (inr m) = let (p, e) = one-sign ")" ms r m in rw e ([], close)
 
 joint-no-bracket : (s : Sign) → is "(" (text (bytes (joint s))) ≡ false
 joint-no-bracket all = refl
 joint-no-bracket any = refl
 
-othersT : (s : Sign) (f : ℕ) → Steady Always free (Saying (OthersSaid s)) (others (joint s) f) (others (joint s) f)
-othersT s zero = steady-as (others-said s)
-    (steady-next (joint s) (steady-limit (joint s) (joint-no-bracket s) (steady-bind literalT (λ l l₁ _. steady-as (λ ms r m. others-said s ms r (inr m)) (steady-sign ")")) .word) [])
-    (steady-last (steady-sign ")") λ _ _ _. steady-return [] []))
-othersT s (suc f) = steady-as (others-said s)
-    (steady-next (joint s)
-    (steady-on (Next (joint s)) (steady-bind (steady-sign (joint s)) λ _ _ _. steady-bind literalT λ l l₁ _. steady-last (othersT s f) λ ls ls₁ _. steady-return (l ∷ ls) (l₁ ∷ ls₁)))
-    (steady-last (steady-sign ")") λ _ _ _. steady-return [] []))
-
 bind-same : {A B : Type 0} (x : Result A) (f g : A → Reader B) → ((a : A) (s : State) → x ≡ ok a s → f a s ≡ g a s) → bind x f ≡ bind x g
 bind-same (ok a s) f g h = h a s refl
 bind-same (stop n r) f g h = refl
-
-literal-shorter : (s s₁ : State) (l : Literal) → readLiteral s ≡ ok l s₁ → length (s₁ .marks) ≤ length (s .marks)
-literal-shorter s s₁ l e = let w = literalT .passes s s₁ l tt e in omega (arith, ap length (w .split) ∙ length-append (w .pre) (s₁ .marks))
 
 if-same : {A : Type 0} (b : Bool) (p q r : Reader A) (s : State) → p s ≡ q s → (if b then p else r) s ≡ (if b then q else r) s
 if-same true p q r s e = e
@@ -161,51 +154,66 @@ if-same false p q r s e = refl
 sign-shorter : (t : String) (s s₁ : State) (u : Unit {0}) → sign t s ≡ ok u s₁ → length (s .marks) ≡ suc (length (s₁ .marks))
 sign-shorter t s s₁ u = sign-took t s s₁ u _ λ p e n. ap length e
 
-none-left : (t : String) (g : ℕ) (ms : Place) (n : ℕ) → length ms ≤ 0 → others t zero (at ms n) ≡ others t (suc g) (at ms n)
-none-left t g [] n h = refl
-none-left t g (m ∷ ms) n h = absurd (omega arith)
+none-left : {A : Type 0} (one : Reader A) (t : String) (g : ℕ) (ms : Place) (n : ℕ) → length ms ≤ 0 → joined one t zero (at ms n) ≡ joined one t (suc g) (at ms n)
+none-left one t g [] n h = refl
+none-left one t g (m ∷ ms) n h = absurd (omega arith)
 
--- as many as there are marks left are enough
-others-enough : (t : String) (f g : ℕ) (s : State) → length (s .marks) ≤ f → length (s .marks) ≤ g → others t f s ≡ others t g s
-others-enough t zero zero s h k = refl
-others-enough t zero (suc g) s h k = none-left t g (s .marks) (s .nodes) h
-others-enough t (suc f) zero s h k = sym (none-left t f (s .marks) (s .nodes) k)
-others-enough t (suc f) (suc g) s h k = if-same (nextIs t (s .marks)) _ _ _ s
-    (bind-same (sign t s) _ _ λ u s₂ e. bind-same (readLiteral s₂) _ _ λ l s₃ e₁.
-    let y = sign-shorter t s s₂ u e in
-    let z = literal-shorter s₂ s₃ l e₁ in
-    ap (λ x. bind x (λ ls. return (l ∷ ls))) (others-enough t f g s₃ (omega arith) (omega arith)))
+abbrev pub joinedHere : {A : Type 0} → Reader A → Sign → Reader (List A)
+joinedHere one s = λ st. joined one (joint s) (length (st .marks)) st
 
-abbrev othersHere : Sign → Reader (List Literal)
-othersHere s = λ st. others (joint s) (length (st .marks)) st
+module _ {A Look : Type 0} {look : Place → Look} (S : Said A) (one : Reader A) (x : Steady look Always free (Saying S) one one) where
+  item-shorter : (s s₁ : State) (l : A) → one s ≡ ok l s₁ → length (s₁ .marks) ≤ length (s .marks)
+  item-shorter s s₁ l e = let w = x .passes s s₁ l tt e in omega (arith, ap length (w .split) ∙ length-append (w .pre) (s₁ .marks))
 
-othersHereT : (s : Sign) → Steady Always free (Saying (OthersSaid s)) (othersHere s) (othersHere s)
-othersHereT s = record {
-  passes = λ st st₁ a _ e. let w = othersT s (length (st .marks)) .passes st st₁ a tt e in
-      record { pre = w .pre; split = w .split; said = w .said; same = λ y h. passes st st₁ a e (w .pre) (w .split) y h };
-  stops = λ st n r _ e. let w = othersT s (length (st .marks)) .stops st n r tt e in
-      record { pre = w .pre; split = w .split; cause = w .cause; same = λ y h. stops st n r e (w .pre) (w .split) y h };
-  word = othersT s 0 .word;
-  sample = [];
-}
-  where
-    passes : (st st₁ : State) (a : List Literal) → othersHere s st ≡ ok a st₁ → (pre : Place) → st .marks ≡ pre ++ st₁ .marks → (y : Place) → SameHead (st₁ .marks) y
-        → (a₁ : List Literal) × (othersHere s (at (pre ++ y) (st .nodes)) ≡ ok a₁ (at y (st₁ .nodes))) × Unit {0}
-    passes st st₁ a e pre q y h =
-        let f = length (st .marks) + length (pre ++ y) in
-        let w = othersT s f .passes st st₁ a tt (others-enough (joint s) f (length (st .marks)) st (omega arith) (omega arith) ∙ e) in
-        let z : w .pre ≡ pre = append-cancel-right (w .pre) pre (st₁ .marks) (sym (w .split) ∙ q) in
-        let (a₁, e₁, _) = w .same y h in
-        (a₁, others-enough (joint s) (length (pre ++ y)) f (at (pre ++ y) (st .nodes)) (omega arith) (omega arith) ∙ (rw z at e₁), tt)
+  -- as many as there are marks left are enough
+  enough : (t : String) (f g : ℕ) (s : State) → length (s .marks) ≤ f → length (s .marks) ≤ g → joined one t f s ≡ joined one t g s
+  enough t zero zero s h k = refl
+  enough t zero (suc g) s h k = none-left one t g (s .marks) (s .nodes) h
+  enough t (suc f) zero s h k = sym (none-left one t f (s .marks) (s .nodes) k)
+  enough t (suc f) (suc g) s h k = if-same (nextIs t (s .marks)) _ _ _ s
+      (bind-same (sign t s) _ _ λ u s₂ e. bind-same (one s₂) _ _ λ l s₃ e₁.
+      let y = sign-shorter t s s₂ u e in
+      let z = item-shorter s₂ s₃ l e₁ in
+      ap (λ x. bind x (λ ls. return (l ∷ ls))) (enough t f g s₃ (omega arith) (omega arith)))
 
-    stops : (st : State) (n : ℕ) (r : Place) → othersHere s st ≡ stop n r → (pre : Place) → st .marks ≡ pre ++ r → (y : Place) → Alike n r y
-        → othersHere s (at (pre ++ y) (st .nodes)) ≡ stop n y
-    stops st n r e pre q y h =
-        let f = length (st .marks) + length (pre ++ y) in
-        let w = othersT s f .stops st n r tt (others-enough (joint s) f (length (st .marks)) st (omega arith) (omega arith) ∙ e) in
-        let z : w .pre ≡ pre = append-cancel-right (w .pre) pre r (sym (w .split) ∙ q) in
-        let e₁ = w .same y h in
-        others-enough (joint s) (length (pre ++ y)) f (at (pre ++ y) (st .nodes)) (omega arith) (omega arith) ∙ (rw z at e₁)
+  joinedT : (s : Sign) (f : ℕ) → Steady look Always free (Saying (JoinedSaid S s)) (joined one (joint s) f) (joined one (joint s) f)
+  joinedT s zero = steady-as (joined-items S s)
+      (steady-next (joint s) (steady-limit (joint s) (joint-no-bracket s) (steady-bind x (λ l l₁ _. steady-as (λ ms r m. joined-items S s ms r (inr m)) (steady-sign ")")) .word) [])
+      (steady-last (steady-sign ")") λ _ _ _. steady-return [] []))
+  joinedT s (suc f) = steady-as (joined-items S s)
+      (steady-next (joint s)
+      (steady-on (Next (joint s)) (steady-bind (steady-sign (joint s)) λ _ _ _. steady-bind x λ l l₁ _. steady-last (joinedT s f) λ ls ls₁ _. steady-return (l ∷ ls) (l₁ ∷ ls₁)))
+      (steady-last (steady-sign ")") λ _ _ _. steady-return [] []))
+
+  pub joinedHereT : (s : Sign) → Steady look Always free (Saying (JoinedSaid S s)) (joinedHere one s) (joinedHere one s)
+  joinedHereT s = record {
+    passes = λ st st₁ a _ e. let w = joinedT s (length (st .marks)) .passes st st₁ a tt e in
+        record { pre = w .pre; split = w .split; said = w .said; same = λ y h. passes st st₁ a e (w .pre) (w .split) y h };
+    stops = λ st n r _ e. let w = joinedT s (length (st .marks)) .stops st n r tt e in
+        record { pre = w .pre; split = w .split; cause = w .cause; same = λ y h. stops st n r e (w .pre) (w .split) y h };
+    word = joinedT s 0 .word;
+    sample = [];
+  }
+    where
+      passes : (st st₁ : State) (a : List A) → joinedHere one s st ≡ ok a st₁ → (pre : Place) → st .marks ≡ pre ++ st₁ .marks → (y : Place) → SameHead (st₁ .marks) y
+          → (a₁ : List A) × (joinedHere one s (at (pre ++ y) (st .nodes)) ≡ ok a₁ (at y (st₁ .nodes))) × Unit {0}
+      passes st st₁ a e pre q y h =
+          let f = length (st .marks) + length (pre ++ y) in
+          let w = joinedT s f .passes st st₁ a tt (enough (joint s) f (length (st .marks)) st (omega arith) (omega arith) ∙ e) in
+          let z : w .pre ≡ pre = append-cancel-right (w .pre) pre (st₁ .marks) (sym (w .split) ∙ q) in
+          let (a₁, e₁, _) = w .same y h in
+          (a₁, enough (joint s) (length (pre ++ y)) f (at (pre ++ y) (st .nodes)) (omega arith) (omega arith) ∙ (rw z at e₁), tt)
+
+      stops : (st : State) (n : ℕ) (r : Place) → joinedHere one s st ≡ stop n r → (pre : Place) → st .marks ≡ pre ++ r → (y : Place) → Alike look n r y
+          → joinedHere one s (at (pre ++ y) (st .nodes)) ≡ stop n y
+      stops st n r e pre q y h =
+          let f = length (st .marks) + length (pre ++ y) in
+          let w = joinedT s f .stops st n r tt (enough (joint s) f (length (st .marks)) st (omega arith) (omega arith) ∙ e) in
+          let z : w .pre ≡ pre = append-cancel-right (w .pre) pre r (sym (w .split) ∙ q) in
+          let e₁ = w .same y h in
+          enough (joint s) (length (pre ++ y)) f (at (pre ++ y) (st .nodes)) (omega arith) (omega arith) ∙ (rw z at e₁)
+
+-- ---- groups
 
 -- behind any bracket
 abbrev pub GroupL : Lang
@@ -218,7 +226,8 @@ group-said ms r (q, (l, d), inr (ls, o)) p = (_, conjoined d o)
 
 -- the sign is told by the mark behind the first literal
 abbrev signed : Place → Literal → Reader Literals
-signed p l = ifNext (joint any) (othersHere any >>= λ ls. return (literalsOf p any (l ∷ ls))) (othersHere all >>= λ ls. return (literalsOf p all (l ∷ ls)))
+signed p l =
+    ifNext (joint any) (joinedHere readLiteral any >>= λ ls. return (literalsOf p any (l ∷ ls))) (joinedHere readLiteral all >>= λ ls. return (literalsOf p all (l ∷ ls)))
 
 abbrev told : Place → Literal → Reader Literals
 told p l = do
@@ -231,18 +240,19 @@ told-signed : (p : Place) (l : Literal) (s : State) → told p l s ≡ signed p 
 told-signed p l s = go (nextIs (joint any) (s .marks))
   where
     go : (b : Bool) → bind ((if b then return any else return all) s) (λ j. others (joint j) (length (s .marks)) >>= λ ls. return (literalsOf p j (l ∷ ls)))
-        ≡ (if b then othersHere any >>= (λ ls. return (literalsOf p any (l ∷ ls))) else (othersHere all >>= λ ls. return (literalsOf p all (l ∷ ls)))) s
+        ≡ (if b then joinedHere readLiteral any >>= (λ ls. return (literalsOf p any (l ∷ ls))) else (joinedHere readLiteral all >>= λ ls. return (literalsOf p all (l ∷ ls)))) s
     go true = refl
     go false = refl
 
-pub groupT : (p p₁ : Place) → Steady Always free GroupL (group p) (group p₁)
-groupT p p₁ = steady-as group-said
-    (steady-bind literalT λ l l₁ _. steady-like (told p l) (told p₁ l₁) (told-signed p l) (told-signed p₁ l₁)
-    (steady-next (joint any)
-    (steady-on (Next (joint any)) (steady-last (othersHereT any) λ ls ls₁ _. steady-return (literalsOf p any (l ∷ ls)) (literalsOf p₁ any (l₁ ∷ ls₁))))
-    (steady-last (othersHereT all) λ ls ls₁ _. steady-return (literalsOf p all (l ∷ ls)) (literalsOf p₁ all (l₁ ∷ ls₁)))))
+module _ {Look : Type 0} {look : Place → Look} where
+  pub groupT : (p p₁ : Place) → Steady look Always free GroupL (group p) (group p₁)
+  groupT p p₁ = steady-as group-said
+      (steady-bind literalT λ l l₁ _. steady-like (told p l) (told p₁ l₁) (told-signed p l) (told-signed p₁ l₁)
+      (steady-next (joint any)
+      (steady-on (Next (joint any)) (steady-last (joinedHereT LiteralSaid readLiteral literalT any) λ ls ls₁ _. steady-return (literalsOf p any (l ∷ ls)) (literalsOf p₁ any (l₁ ∷ ls₁))))
+      (steady-last (joinedHereT LiteralSaid readLiteral literalT all) λ ls ls₁ _. steady-return (literalsOf p all (l ∷ ls)) (literalsOf p₁ all (l₁ ∷ ls₁)))))
 
--- ---- guards, over a steady reader of what a group is
+-- ---- formulas, over a steady reader of what a group is
 
 pub data ManyL (L : Lang) : Place → Place → Type 0 where
   noneL : {r : Place} → ManyL L r r
@@ -252,18 +262,18 @@ many-said : (L M : Lang) (ms r : Place) → ((L then M then ManyL (L then M)) ei
 many-said L M ms r (inl (q, l, (q₁, m, o))) = oneL (q, l, m) o
 many-said L M ms r (inr e) = rw e noneL
 
-module _ {A : Type 0} (s : Sign) (join : Formula A → Formula A → Formula A) (L : Lang) (p : Read A) (x : Steady Always free L p p) where
-  chainT : (f : ℕ) (g g₁ : Formula A) → Steady Always free (ManyL (Mark₁ (joint s) then L)) (chain (joint s) join p f g) (chain (joint s) join p f g₁)
+module _ {A Look : Type 0} {look : Place → Look} (s : Sign) (join : Formula A → Formula A → Formula A) (L : Lang) (p : Read A) (x : Steady look Always free L p p) where
+  pub chainT : (f : ℕ) (g g₁ : Formula A) → Steady look Always free (ManyL (Mark₁ (joint s) then L)) (chain (joint s) join p f g) (chain (joint s) join p f g₁)
   chainT zero g g₁ = steady-as (many-said (Mark₁ (joint s)) L)
       (steady-next (joint s) (steady-limit (joint s) (joint-no-bracket s) (x .word .0, λ t. (t, x .word .1 t, noneL)) g) (steady-return g g₁))
   chainT (suc f) g g₁ = steady-as (many-said (Mark₁ (joint s)) L)
       (steady-next (joint s) (steady-node (joint s) (joint-no-bracket s) (steady-bind x λ h h₁ _. chainT f (join g h) (join g₁ h₁))) (steady-return g g₁))
 
-module _ {A : Type 0} (Group : Place → Said A) (p : Place → Reader A) where
-  abbrev GuardL : Part → Lang
-  GuardL v = Saying (GuardSaid Group v)
+module _ {A : Type 0} (Free : Place → Type 0) (Group : Place → Said A) where
+  abbrev pub GuardL : Part → Lang
+  GuardL v = Saying (FormulaSaid Free Group v)
 
-  joins : (s : Sign) (ms q r : Place) (g : Formula A) → GuardSaid Group (joinedBy s) ms g q → ManyL (Mark₁ (joint s) then GuardL (operand s)) q r
+  joins : (s : Sign) (ms q r : Place) (g : Formula A) → FormulaSaid Free Group (joinedBy s) ms g q → ManyL (Mark₁ (joint s) then GuardL (operand s)) q r
       → GuardL (joinedBy s) ms r
   joins s ms q r g d noneL = (g, d)
   joins s ms q r g d (oneL {q = z} (y, m, (h, e)) o) = let (a, w) = one-sign (joint s) q y m in joins s ms z r (joining s g h) (further {a = a} (rw w at d) e) o
@@ -271,153 +281,222 @@ module _ {A : Type 0} (Group : Place → Said A) (p : Place → Reader A) where
   joined-said : (s : Sign) (ms r : Place) → (GuardL (operand s) then ManyL (Mark₁ (joint s) then GuardL (operand s))) ms r → GuardL (joinedBy s) ms r
   joined-said s ms r (q, (g, d), m) = joins s ms q r g (single d) m
 
-  conjunctionT : (u : Read A) → Steady Always free (GuardL unary) u u → Steady Always free (GuardL (joinedBy all)) (conjunction u) (conjunction u)
-  conjunctionT u x = steady-as (joined-said all) (steady-bind x λ g g₁ _. chainT all and (GuardL unary) u x mostNodes g g₁)
+  -- a group, behind any bracket
+  abbrev pub GroupsL : Lang
+  GroupsL ms r = (o : Place) → Saying (Group o) ms r
 
-  expressionT : (u : Read A) → Steady Always free (GuardL unary) u u → Steady Always free (GuardL (joinedBy any)) (expression u) (expression u)
+  -- a bracketed expression, behind its opening bracket; and where it may stand
+  abbrev pub ClosedL : Lang
+  ClosedL = GuardL (joinedBy any) then Mark₁ ")"
+
+  abbrev pub FreeL : Lang
+  FreeL ms r = Free ms × ClosedL ms r
+
+module _ {A Look : Type 0} {look : Place → Look} (Free : Place → Type 0) (Group : Place → Said A) where
+  pub conjunctionT : (u : Read A) → Steady look Always free (GuardL Free Group unary) u u → Steady look Always free (GuardL Free Group (joinedBy all)) (conjunction u) (conjunction u)
+  conjunctionT u x = steady-as (joined-said Free Group all) (steady-bind x λ g g₁ _. chainT all and (GuardL Free Group unary) u x mostNodes g g₁)
+
+  pub expressionT : (u : Read A) → Steady look Always free (GuardL Free Group unary) u u → Steady look Always free (GuardL Free Group (joinedBy any)) (expression u) (expression u)
   expressionT u x =
       let y = conjunctionT u x in
-      steady-as (joined-said any) (steady-bind y λ g g₁ _. chainT any or (GuardL (joinedBy all)) (conjunction u) y mostNodes g g₁)
+      steady-as (joined-said Free Group any) (steady-bind y λ g g₁ _. chainT any or (GuardL Free Group (joinedBy all)) (conjunction u) y mostNodes g g₁)
 
--- a steady reader of groups, and a group, behind its bracket
-pub record SteadyGroup {A : Type 0} (Group : Place → Said A) (p : Place → Reader A) : Type 0 where
-  pub steady : (q q₁ : Place) → Steady Always free (λ ms r. (o : Place) → Saying (Group o) ms r) (p q) (p q₁)
-  pub word : Place
-  pub said : (t o : Place) → Saying (Group o) (word ++ t) t
-  pub seat : (t : Place) → seatNext (word ++ t) ≡ true
+-- an expression and its closing bracket
+abbrev pub closing : {A : Type 0} → Read A → Read A
+closing u = expression u >>= λ g. sign ")" >>= λ _. return g
+
+-- What a language of formulas must keep. `starts` tells from the marks behind a bracket whether it starts a group, which p reads and Group
+-- says, or else an expression, which stands only before Free marks. All that is looked at behind a bracket is `look`: what this bracket
+-- starts and what the one before it starts
+pub record Leaves {A Look : Type 0} (look : Place → Look) (starts : Place → Bool) (Free : Place → Type 0) (Group : Place → Said A) (p : Place → Reader A) : Type 0 where
+  pub decided : (x y : Place) → look x ≡ look y → starts x ≡ starts y
+  pub allows : (ms : Place) → starts ms ≡ false → Free ms
+  -- groups, behind the bracket m
+  pub steady : (m : Placed) → Steady look (λ ms. starts ms ≡ true) free (GroupsL Free Group) (λ s. p (m ∷ s .marks) s) (λ s. p (m ∷ s .marks) s)
+  -- a group that began stays one, whatever follows where it ended or stopped
+  pub group-ends : (m : Placed) (s s₁ : State) (a : A) → starts (s .marks) ≡ true → p (m ∷ s .marks) s ≡ ok a s₁ → (pre : Place) → s .marks ≡ pre ++ s₁ .marks
+      → (y : Place) → SameHead (s₁ .marks) y → starts (pre ++ y) ≡ true
+  pub group-halts : (m : Placed) (s : State) (n : ℕ) (r : Place) → starts (s .marks) ≡ true → p (m ∷ s .marks) s ≡ stop n r → (pre : Place) → s .marks ≡ pre ++ r
+      → (y : Place) → Alike look n r y → starts (pre ++ y) ≡ true
+  -- for each thing seen that starts a group there is a group that is seen so
+  pub word : (ms : Place) → starts ms ≡ true → (w : Place) × ((t : Place) → look ms ≡ look (w ++ t)) × ((t : Place) → GroupsL Free Group (w ++ t) t)
+  pub sample : Place
+  pub sampled : starts sample ≡ true
+  -- and an expression that is seen like any other
+  pub closed : Place
+  pub closes : (t : Place) → ClosedL Free Group (closed ++ t) t
+  pub shut : (t : Place) → starts (closed ++ t) ≡ false
+  pub alike : (ms : Place) → starts ms ≡ false → (t : Place) → look ms ≡ look (closed ++ t)
+  -- an expression that ended stays one, whatever follows
+  pub settled : (pre r : Place) → starts (pre ++ r) ≡ false → ((t : Place) → ClosedL Free Group (pre ++ t) t) → (t : Place) → starts (pre ++ t) ≡ false
+  -- one that stopped stays one, whatever follows the mark there
+  pub halts : (d : ℕ) → Steady look Always free (GuardL Free Group unary) (unaryBy starts p d) (unaryBy starts p d) → (s : State) (n : ℕ) (r : Place) → starts (s .marks) ≡ false
+      → closing (unaryBy starts p d) s ≡ stop n r → (pre : Place) → s .marks ≡ pre ++ r → (y : Place) → Alike look n r y → starts (pre ++ y) ≡ false
+  -- and if it can be completed, it can be completed to an expression where it may stand, or to a group
+  pub completes : (pre r post : Place) → starts (pre ++ r) ≡ false → ((t : Place) → ClosedL Free Group (pre ++ (post ++ t)) t)
+      → (last : Place) × ((t : Place) → (GroupsL Free Group either FreeL Free Group) (pre ++ (last ++ t)) t)
 
 abbrev paren : Mark → Option (Unit {0})
 paren m = given (is "(" m)
 
-module _ {A : Type 0} (Group : Place → Said A) (p : Place → Reader A) (G : SteadyGroup Group p) where
-  abbrev GroupsL : Lang
-  GroupsL ms r = (o : Place) → Saying (Group o) ms r
-
-  -- a bracketed expression, behind its opening bracket
-  abbrev ClosedL : Lang
-  ClosedL = GuardL Group p (joinedBy any) then Mark₁ ")"
+module _ {A Look : Type 0} {look : Place → Look} (starts : Place → Bool) (Free : Place → Type 0) (Group : Place → Said A) (p : Place → Reader A) (G : Leaves look starts Free Group p) where
+  abbrev BracketL : Lang
+  BracketL = GroupsL Free Group either FreeL Free Group
 
   abbrev opened : (Place → Read A) → Place → Unit {0} → Read A
-  opened k q _ = ifSeat (readGrouped p q) (k q)
+  opened k q _ = ifAhead starts (readGrouped p q) (k q)
 
-  inGroupT : (m : Placed) → Steady Always free GroupsL (here >>= λ q. p (m ∷ q) >>= λ x. return (atom x)) (here >>= λ q. p (m ∷ q) >>= λ x. return (atom x))
-  inGroupT m = steady-silent steady-here λ q q₁ _. steady-last (G .steady (m ∷ q) (m ∷ q₁)) λ x x₁ _. steady-return (atom x) (atom x₁)
+  inGroupT : (m : Placed) → Steady look (λ ms. starts ms ≡ true) free (GroupsL Free Group) (λ s. bind (p (m ∷ s .marks) s) (λ x. return (atom x))) (λ s. bind (p (m ∷ s .marks) s) (λ x. return (atom x)))
+  inGroupT m = steady-last (G .steady m) λ x x₁ _. steady-return (atom x) (atom x₁)
+
+  abbrev wordOf : Place
+  wordOf = G .word (G .sample) (G .sampled) .0
 
   module _ (k : Place → Read A) where
-    group-passes : (m : Mark) (a : ℕ) (ms : Place) (n : ℕ) (s₁ : State) (d : Formula A) → seatNext ms ≡ true → readGrouped p (placed m a ∷ ms) (at ms n) ≡ ok d s₁
-        → Passed free (GroupsL either ClosedL) (At (opened k) m a tt) (at ms n) d s₁
+    group-passes : (m : Mark) (a : ℕ) (ms : Place) (n : ℕ) (s₁ : State) (d : Formula A) → starts ms ≡ true → readGrouped p (placed m a ∷ ms) (at ms n) ≡ ok d s₁
+        → Passed free BracketL (At (opened k) m a tt) (at ms n) d s₁
     group-passes m a ms zero s₁ d y e = stop≢ok e
-    group-passes m a ms (suc n) s₁ d y e = let w = inGroupT (placed m a) .passes (at ms n) s₁ d tt e in record {
+    group-passes m a ms (suc n) s₁ d y e = let w = inGroupT (placed m a) .passes (at ms n) s₁ d y e in record {
       pre = w .pre;
       split = w .split;
       said = λ t. inl (w .said t);
       same = λ u h.
           let v = w .same u h in
-          let z : seatNext (w .pre ++ u) ≡ true = sym (seat-head ms (w .pre ++ u) (ap head? (w .split) ∙ head-append (w .pre) (s₁ .marks) u h)) ∙ y in
+          let z : starts (w .pre ++ u) ≡ true = through (p (placed m a ∷ ms) (at ms n)) (λ x. return (atom x)) d s₁ _ (λ x s₂ e₁ e₂.
+          let q : s₂ ≡ s₁ = ok-state e₂ in
+          G .group-ends (placed m a) (at ms n) s₁ x y (rw q at e₁) (w .pre) (w .split) u h) e in
           (v .0, rw z (v .1), tt);
     }
 
-    group-stops : (m : Mark) (a : ℕ) → is "(" m ≡ true → (ms : Place) (n i : ℕ) (r : Place) → seatNext ms ≡ true
+    group-stops : (m : Mark) (a : ℕ) → is "(" m ≡ true → (ms : Place) (n i : ℕ) (r : Place) → starts ms ≡ true
         → readGrouped p (placed m a ∷ ms) (at ms n) ≡ stop i r
-        → Stopped (GroupsL either ClosedL) (At (opened k) m a tt) (at ms n) i r ⊎ Refused (GroupsL either ClosedL) (At (opened k) m a tt) (placed m a) ms n i r
-    group-stops m a c ms zero i r y e = inr (record {
+        → Stopped look BracketL (At (opened k) m a tt) (at ms n) i r ⊎ Refused look BracketL (At (opened k) m a tt) (placed m a) ms n i r
+    group-stops m a c ms zero i r y e = let w = G .word ms y in inr (record {
       number = sym (stop-number {A = Formula A} e);
       place = sym (stop-place {A = Formula A} e);
-      post = G .word;
-      bracket = λ t _. y ∙ sym (G .seat t);
-      said = λ t. inl (G .said t);
-      same = λ u h. rw (sym (h c) ∙ y);
+      post = w .0;
+      bracket = λ t _. w .1 t;
+      said = λ t. inl (w .2 t);
+      same = λ u h. rw (sym (G .decided ms u (h c)) ∙ y);
     })
-    group-stops m a c ms (suc n) i r y e = let w = inGroupT (placed m a) .stops (at ms n) i r tt e in inl (record {
+    group-stops m a c ms (suc n) i r y e = let w = inGroupT (placed m a) .stops (at ms n) i r y e in inl (record {
       pre = w .pre;
       split = w .split;
       cause = cause-as (λ ms r l. inl l) (w .cause);
       same = λ u h.
-          let z : seatNext (w .pre ++ u) ≡ true = sym (seat-head ms (w .pre ++ u) (ap head? (w .split) ∙ head-append (w .pre) r u (h .0))) ∙ y in
+          let z : starts (w .pre ++ u) ≡ true = stopped (p (placed m a ∷ ms) (at ms n)) (λ x. return (atom x)) i r _
+          (λ e₁. G .group-halts (placed m a) (at ms n) i r y e₁ (w .pre) (w .split) u h) (λ x s₂ e₁ e₂. ok≢stop e₂) e in
           rw z (w .same u h);
     })
 
-  a-group : Word (GuardL Group p unary)
-  a-group = (signAt "(" 0 ∷ G .word, λ t. let (x, d) = G .said t (signAt "(" 0 ∷ (G .word ++ t)) in (atom x, grouped d))
+  a-group : Word (GuardL Free Group unary)
+  a-group = (signAt "(" 0 ∷ wordOf, λ t. let (x, d) = G .word (G .sample) (G .sampled) .2 t (signAt "(" 0 ∷ (wordOf ++ t)) in (atom x, grouped d))
 
-  abbrev closed : Place
-  closed = signAt "(" 0 ∷ (G .word ++ (signAt ")" 0 ∷ []))
+  a-formula : Formula A
+  a-formula = atom (G .word (G .sample) (G .sampled) .2 [] [] .0)
 
-  closed-said : (t : Place) → ClosedL (closed ++ t) t
-  closed-said t =
-      let (x, d) = G .said (signAt ")" 0 ∷ t) (signAt "(" 0 ∷ (G .word ++ (signAt ")" 0 ∷ t))) in
-      (signAt ")" 0 ∷ t, rw (append-assoc (G .word) (signAt ")" 0 ∷ []) t) (atom x, single {s = any} (single {s = all} (grouped d))), a-sign ")" 0 t)
+  closed-free : (t : Place) → FreeL Free Group (G .closed ++ t) t
+  closed-free t = (G .allows (G .closed ++ t) (G .shut t), G .closes t)
 
   -- no bracket may be open any more
-  limit-behind : Behind free paren (λ _. GroupsL either ClosedL) (opened (refuseAt pastLimit)) (opened (refuseAt pastLimit))
+  limit-behind : Behind look free paren (λ _. BracketL) (opened (refuseAt pastLimit)) (opened (refuseAt pastLimit))
   limit-behind = record {
-    passes = λ m a v i s s₁ d. chose (seatNext (s .marks)) _ _ s s₁ d _ (group-passes (refuseAt pastLimit) m a (s .marks) (s .nodes) s₁ d) (λ y e. stop≢ok e);
-    stops = λ m a v i s n r. chose-stop (seatNext (s .marks)) _ _ s n r _
+    passes = λ m a v i s s₁ d. chose (starts (s .marks)) _ _ s s₁ d _ (group-passes (refuseAt pastLimit) m a (s .marks) (s .nodes) s₁ d) (λ y e. stop≢ok e);
+    stops = λ m a v i s n r. chose-stop (starts (s .marks)) _ _ s n r _
         (group-stops (refuseAt pastLimit) m a (given-true (is "(" m) v i) (s .marks) (s .nodes) n r)
         (λ y e. inr (record {
           number = sym (stop-number {A = Formula A} e);
           place = sym (stop-place {A = Formula A} e);
-          post = closed;
-          bracket = λ t _. y;
-          said = λ t. inr (closed-said t);
-          same = λ u h. rw (sym (h (given-true (is "(" m) v i)) ∙ y);
+          post = G .closed;
+          bracket = λ t _. G .alike (s .marks) y t;
+          said = λ t. inr (closed-free t);
+          same = λ u h. rw (sym (G .decided (s .marks) u (h (given-true (is "(" m) v i))) ∙ y);
         }));
-    word = λ _. (closed, λ t. inr (closed-said t));
-    sample = atom (G .steady [] [] .sample);
+    word = λ _. (G .closed, λ t. inr (closed-free t));
+    sample = a-formula;
   }
 
-  steady-behind-bracket : (u : Read A) → Steady Always free ClosedL u u → Behind free paren (λ _. GroupsL either ClosedL) (opened (λ _. u)) (opened (λ _. u))
-  steady-behind-bracket u x = record {
-    passes = λ m a v i s s₁ d. chose (seatNext (s .marks)) _ _ s s₁ d _ (group-passes (λ _. u) m a (s .marks) (s .nodes) s₁ d)
-        (λ y e. let w = x .passes s s₁ d tt e in record {
+  freed : (pre : Place) (n : ℕ) (r : Place) → starts (pre ++ r) ≡ false → ((y : Place) → Alike look n r y → starts (pre ++ y) ≡ false)
+      → Cause look (ClosedL Free Group) pre n r → Cause look BracketL pre n r
+  freed pre n r y see (unfit e post f) = let w = G .completes pre r post y f in unfit e (w .0) (w .1)
+  freed pre n r y see (excess e m x post z k f) =
+      excess e m x post z k (λ t. inr (G .allows (pre ++ (m ∷ (post ++ t))) (see (m ∷ (post ++ t)) (ap head? z, λ _. rw z (k t))), f t))
+
+  steady-behind-bracket : (d : ℕ) → Steady look Always free (GuardL Free Group unary) (unaryBy starts p d) (unaryBy starts p d)
+      → Behind look free paren (λ _. BracketL) (opened (λ _. closing (unaryBy starts p d))) (opened (λ _. closing (unaryBy starts p d)))
+  steady-behind-bracket d x = record {
+    passes = λ m a v i s s₁ g. chose (starts (s .marks)) _ _ s s₁ g _ (group-passes (λ _. closing (unaryBy starts p d)) m a (s .marks) (s .nodes) s₁ g)
+        (λ y e.
+        let w = closingT .passes s s₁ g tt e in
+        let z = G .settled (w .pre) (s₁ .marks) (rw (w .split) at y) (w .said) in
+        record {
           pre = w .pre;
           split = w .split;
-          said = λ t. inr (w .said t);
-          same = λ o h.
-              let z : seatNext (w .pre ++ o) ≡ false = sym (seat-head (s .marks) (w .pre ++ o) (ap head? (w .split) ∙ head-append (w .pre) (s₁ .marks) o h)) ∙ y in
-              let l = w .same o h in
-              (l .0, rw z (l .1), tt);
+          said = λ t. inr (G .allows (w .pre ++ t) (z t), w .said t);
+          same = λ o h. let l = w .same o h in (l .0, rw (z o) (l .1), tt);
         });
-    stops = λ m a v i s n r. chose-stop (seatNext (s .marks)) _ _ s n r _
-        (group-stops (λ _. u) m a (given-true (is "(" m) v i) (s .marks) (s .nodes) n r)
-        (λ y e. let w = x .stops s n r tt e in inl (record {
+    stops = λ m a v i s n r. chose-stop (starts (s .marks)) _ _ s n r _
+        (group-stops (λ _. closing (unaryBy starts p d)) m a (given-true (is "(" m) v i) (s .marks) (s .nodes) n r)
+        (λ y e.
+        let w = closingT .stops s n r tt e in
+        let see = G .halts d x s n r y e (w .pre) (w .split) in
+        inl (record {
           pre = w .pre;
           split = w .split;
-          cause = cause-as (λ ms r l. inr l) (w .cause);
-          same = λ o h.
-              let z : seatNext (w .pre ++ o) ≡ false = sym (seat-head (s .marks) (w .pre ++ o) (ap head? (w .split) ∙ head-append (w .pre) r o (h .0))) ∙ y in
-              rw z (w .same o h);
+          cause = freed (w .pre) n r (rw (w .split) at y) see (w .cause);
+          same = λ o h. rw (see o h) (w .same o h);
         }));
-    word = λ _. (closed, λ t. inr (closed-said t));
-    sample = atom (G .steady [] [] .sample);
+    word = λ _. (G .closed, λ t. inr (closed-free t));
+    sample = a-formula;
   }
+    where
+      closingT : Steady look Always free (ClosedL Free Group) (closing (unaryBy starts p d)) (closing (unaryBy starts p d))
+      closingT = steady-bind (expressionT Free Group (unaryBy starts p d) x) λ g g₁ _. steady-last (steady-sign ")") λ _ _ _. steady-return g g₁
 
-  unary-said : (ms r : Place) → ((Mark₁ "!" then GuardL Group p unary) either OneThen paren (λ _. GroupsL either ClosedL)) ms r → GuardL Group p unary ms r
+  unary-said : (ms r : Place) → ((Mark₁ "!" then GuardL Free Group unary) either OneThen paren (λ _. BracketL)) ms r → GuardL Free Group unary ms r
   unary-said ms r (inl (q, m, (g, d))) = let (a, e) = one-sign "!" ms q m in rw e (neg g, negated d)
   unary-said ms r (inr (m, a, v, q, e, i, inl g)) =
       let z : ms ≡ signAt "(" a ∷ q = e ∙ ap (λ x. placed x a ∷ q) (is→eq "(" m (given-true (is "(" m) v i)) in
       let (x, d) = g (signAt "(" a ∷ q) in
       rw z (atom x, grouped d)
-  unary-said ms r (inr (m, a, v, q, e, i, inr (o, (g, d), c))) =
+  unary-said ms r (inr (m, a, v, q, e, i, inr (f, (o, (g, d), c)))) =
       let z : ms ≡ signAt "(" a ∷ q = e ∙ ap (λ x. placed x a ∷ q) (is→eq "(" m (given-true (is "(" m) v i)) in
       let (b, y) = one-sign ")" o r c in
-      rw z (g, bracketed {b = b} (rw y at d))
+      rw z (g, bracketed {b = b} f (rw y at d))
 
-  unaryT : (d : ℕ) → Steady Always free (GuardL Group p unary) (readUnary p d) (readUnary p d)
+  pub unaryT : (d : ℕ) → Steady look Always free (GuardL Free Group unary) (unaryBy starts p d) (unaryBy starts p d)
   unaryT zero = steady-as unary-said
-      (steady-next "!" (steady-limit "!" refl a-group (atom (G .steady [] [] .sample))) (steady-behind (text (bytes "(")) tt refl limit-behind))
+      (steady-next "!" (steady-limit "!" refl a-group a-formula) (steady-behind (text (bytes "(")) tt refl limit-behind))
   unaryT (suc d) = steady-as unary-said
       (steady-next "!" (steady-node "!" refl (steady-last (unaryT d) λ g g₁ _. steady-return (neg g) (neg g₁)))
-      (steady-behind (text (bytes "(")) tt refl
-      (steady-behind-bracket _ (steady-bind (expressionT Group p (readUnary p d) (unaryT d)) λ g g₁ _. steady-last (steady-sign ")") λ _ _ _. steady-return g g₁))))
+      (steady-behind (text (bytes "(")) tt refl (steady-behind-bracket d (unaryT d))))
 
-cardGroup : SteadyGroup GroupSaid group
-cardGroup = record {
-  steady = groupT;
-  word = placed (seat 1) 0 ∷ signAt "=" 0 ∷ placed (number 0) 0 ∷ signAt ")" 0 ∷ [];
-  said = λ t o. (_, conjoined (literal {q = eq}) close);
-  seat = λ t. refl;
+-- ---- a card's groups: one mark behind a bracket decides
+
+pub seat-still : (b : Bool) (ms pre r y : Place) → seatNext ms ≡ b → ms ≡ pre ++ r → SameHead r y → seatNext (pre ++ y) ≡ b
+seat-still b ms pre r y e z h = sym (seat-head ms (pre ++ y) (ap head? z ∙ head-append pre r y h)) ∙ e
+
+cardLeaves : Leaves seatNext seatNext Anything GroupSaid group
+cardLeaves = record {
+  decided = λ x y e. e;
+  allows = λ ms e. tt;
+  steady = λ m. steady-on (λ ms. seatNext ms ≡ true) (steady-silent steady-here λ q q₁ _. groupT (m ∷ q) (m ∷ q₁));
+  group-ends = λ m s s₁ a y e pre z u h. seat-still true (s .marks) pre (s₁ .marks) u y z h;
+  group-halts = λ m s n r y e pre z u h. seat-still true (s .marks) pre r u y z (h .0);
+  word = λ ms y. (a-literal, (λ t. y), (λ t o. (_, conjoined (literal {q = eq}) close)));
+  sample = a-literal;
+  sampled = refl;
+  closed = signAt "(" 0 ∷ (a-literal ++ (signAt ")" 0 ∷ []));
+  closes = λ t. (signAt ")" 0 ∷ t, (_, single {s = any} (single {s = all} (grouped (conjoined (literal {q = eq}) close)))), a-sign ")" 0 t);
+  shut = λ t. refl;
+  alike = λ ms y t. y;
+  settled = λ pre r y f t. guard-no-seat (f t .1 .1);
+  halts = λ d x s n r y e pre z u h. seat-still false (s .marks) pre r u y z (h .0);
+  completes = λ pre r post y f. (post, λ t. inr (tt, f t));
 }
+  where
+    a-literal : Place
+    a-literal = placed (seat 1) 0 ∷ signAt "=" 0 ∷ placed (number 0) 0 ∷ signAt ")" 0 ∷ []
 
 -- ---- branches
 
@@ -426,7 +505,7 @@ OverL (whole a) = (Mark₁ "/" then One numberOf) either Nil
 OverL (point v n f) = Nil
 OverL (ratio a b) = Nil
 
-overT : (w : Weight) → Steady Always free (OverL w) (over w) (over w)
+overT : (w : Weight) → Steady seatNext Always free (OverL w) (over w) (over w)
 overT (whole a) = steady-next "/"
     (steady-on (Next "/") (steady-bind (steady-sign "/") λ _ _ _. steady-last numberT λ b b₁ _. steady-return (ratio a b) (ratio a b₁))) (steady-return (whole a) (whole a))
 overT (point v n f) = steady-return (point v n f) (point v n f)
@@ -451,7 +530,7 @@ weight-said ms r (m, p, w, q, e, i, l) = rw e (go m w i l)
     go (decimal v n f) w i l = let z : point v n f ≡ w = cc in let e : q ≡ r = rw (← z) at l in rw e (_, aDecimal)
     go outside w i l = none≢some i
 
-weightT : Steady Always free (Saying WeightSaid) weight weight
+weightT : Steady seatNext Always free (Saying WeightSaid) weight weight
 weightT = steady-as weight-said (steady-behind (number 0) (whole 0) refl (behind-steady (whole 0) overT))
 
 -- behind its weight
@@ -465,7 +544,7 @@ branch-said ms r (q, (w, d), (q₁, (ws, l), (q₂, n, c))) =
     let e : q₁ ≡ placed (number t) a ∷ signAt ")" b ∷ r = cc in
     (_, branch d (rw e at l))
 
-branchT : Steady Always free (Saying BranchSaid) readBranch readBranch
+branchT : Steady seatNext Always free (Saying BranchSaid) readBranch readBranch
 branchT = steady-as branch-said
     (steady-silent steady-here λ p p₁ _. steady-bind weightT λ w w₁ _. steady-bind (lineT branchRun) λ ws ws₁ _. steady-bind (numberedT numberT) λ t t₁ _.
     steady-last (steady-sign ")") λ _ _ _. steady-return (record { place = p; weight = w; words = ws; end = t }) (record { place = p₁; weight = w₁; words = ws₁; end = t₁ }))
@@ -473,18 +552,18 @@ branchT = steady-as branch-said
 plus-said : (ms r : Place) → (Mark₁ "+" then Saying BranchSaid) ms r → Saying PlusSaid ms r
 plus-said ms r (q, m, (x, d)) = let (a, e) = one-sign "+" ms q m in rw e (x, plus d)
 
-plusT : Steady Always free (Saying PlusSaid) nextBranch nextBranch
+plusT : Steady seatNext Always free (Saying PlusSaid) nextBranch nextBranch
 plusT = steady-as plus-said (steady-bind (steady-sign "+") λ _ _ _. branchT)
 
 -- ---- any number of things
 
-module _ {A : Type 0} (S : Said A) (t : String) (one : Reader A) (over : Reader (List A)) (x : Steady Always free (Saying S) one one)
-    (z : Steady Always free (Saying (ManySaid S)) (many zero t one over) (many zero t one over)) where
+module _ {A : Type 0} (S : Said A) (t : String) (one : Reader A) (over : Reader (List A)) (x : Steady seatNext Always free (Saying S) one one)
+    (z : Steady seatNext Always free (Saying (ManySaid S)) (many zero t one over) (many zero t one over)) where
   again-said : (ms r : Place) → ((Saying S then Saying (ManySaid S)) either Nil) ms r → Saying (ManySaid S) ms r
   again-said ms r (inl (q, (a, d), (l, o))) = (a ∷ l, again d o)
   again-said ms r (inr e) = rw e ([], done)
 
-  manyT : (f : ℕ) → Steady Always free (Saying (ManySaid S)) (many f t one over) (many f t one over)
+  manyT : (f : ℕ) → Steady seatNext Always free (Saying (ManySaid S)) (many f t one over) (many f t one over)
   manyT zero = z
   manyT (suc f) = steady-as again-said
       (steady-next t (steady-on (Next t) (steady-bind x λ a a₁ _. steady-last (manyT f) λ l l₁ _. steady-return (a ∷ l) (a₁ ∷ l₁))) (steady-return [] []))
@@ -497,7 +576,7 @@ none-or S L h ms r (inr e) = rw e ([], done)
 
 -- ---- too many branches
 
-no-weight-bracket : (m : Mark) (w : Weight) → weightOf m ≡ some w → (a : ℕ) (x y : Place) → SameBracket (placed m a ∷ x) y
+no-weight-bracket : (m : Mark) (w : Weight) → weightOf m ≡ some w → (a : ℕ) (x y : Place) → SameBracket seatNext (placed m a ∷ x) y
 no-weight-bracket (text s) w i a x y e = none≢some i
 no-weight-bracket (seat j) w i a x y e = absurd (false≢true e)
 no-weight-bracket (process j) w i a x y e = absurd (false≢true e)
@@ -506,9 +585,9 @@ no-weight-bracket (decimal v n f) w i a x y e = absurd (false≢true e)
 no-weight-bracket outside w i a x y e = absurd (false≢true e)
 
 target : Word TargetL
-target = steady-bind (lineT branchRun) (λ ws ws₁ _. steady-bind numberT λ t t₁ _. steady-sign ")") .word
+target = steady-bind {look = seatNext} (lineT branchRun) (λ ws ws₁ _. steady-bind numberT λ t t₁ _. steady-sign ")") .word
 
-limit-weight : Behind free weightOf (λ _. TargetL) (λ p w. refuseAt {A = List BranchShape} pastLimit p) (λ p w. refuseAt {A = List BranchShape} pastLimit p)
+limit-weight : Behind seatNext free weightOf (λ _. TargetL) (λ p w. refuseAt {A = List BranchShape} pastLimit p) (λ p w. refuseAt {A = List BranchShape} pastLimit p)
 limit-weight = record {
   passes = λ m a w i s s₁ d e. stop≢ok e;
   stops = λ m a w i s n r e. inr (record {
@@ -537,27 +616,27 @@ past-said ms r (q, p, (m, a, w, o, e, i, l)) =
     let (x, d) = plus-said ms r (q, p, rw e (branch-said (placed m a ∷ o) r (o, first-weight m w i a o, l))) in
     (x ∷ [], again d done)
 
-pastT : Steady Always free (Saying (ManySaid PlusSaid)) pastBranches pastBranches
+pastT : Steady seatNext Always free (Saying (ManySaid PlusSaid)) pastBranches pastBranches
 pastT = steady-as past-said (steady-bind (steady-sign "+") λ _ _ _. steady-behind (number 0) (whole 0) refl limit-weight)
 
-moreBranchesT : (f : ℕ) → Steady Always free (Saying (ManySaid PlusSaid)) (moreBranches f) (moreBranches f)
+moreBranchesT : (f : ℕ) → Steady seatNext Always free (Saying (ManySaid PlusSaid)) (moreBranches f) (moreBranches f)
 moreBranchesT = manyT PlusSaid "+" nextBranch pastBranches plusT
     (steady-as (none-or PlusSaid (Saying (ManySaid PlusSaid)) (λ ms r l. l)) (steady-next "+" (steady-on (Next "+") pastT) (steady-return [] [])))
 
 -- ---- statements
 
-rest-said : (ms r : Place) → ((Mark₁ "&" then GuardL GroupSaid group (joinedBy all)) either Nil) ms r → Saying RestSaid ms r
+rest-said : (ms r : Place) → ((Mark₁ "&" then GuardL Anything GroupSaid (joinedBy all)) either Nil) ms r → Saying RestSaid ms r
 rest-said ms r (inl (q, m, (g, d))) = let (a, e) = one-sign "&" ms q m in rw e (some g, guarded d)
 rest-said ms r (inr e) = rw e (none, nothing)
 
-guardT : Steady Always free (Saying RestSaid) guard guard
+guardT : Steady seatNext Always free (Saying RestSaid) guard guard
 guardT = steady-as rest-said
     (steady-next "&"
-    (steady-on (Next "&") (steady-bind (steady-sign "&") λ _ _ _. steady-last (conjunctionT GroupSaid group (readUnary group mostDepth) (unaryT GroupSaid group cardGroup mostDepth)) λ g g₁ _.
+    (steady-on (Next "&") (steady-bind (steady-sign "&") λ _ _ _. steady-last (conjunctionT Anything GroupSaid (readUnary group mostDepth) (unaryT seatNext Anything GroupSaid group cardLeaves mostDepth)) λ g g₁ _.
     steady-return (some g) (some g₁)))
     (steady-return none none))
 
-mayHaveT : (n : ℕ) → Steady Always free Nil (mayHave n) (mayHave n)
+pub mayHaveT : {Look : Type 0} {look : Place → Look} (n : ℕ) → Steady look Always free Nil (mayHave n) (mayHave n)
 mayHaveT n = record {
   passes = λ s s₁ d _ e. record { pre = []; split = ap (λ (x : State). x .marks) (ok-state e); said = λ t. refl; same = λ y h. (tt, ap (λ (x : State). ok tt (at y (x .nodes))) (ok-state e), tt) };
   stops = λ s n r _ e. ok≢stop e;
@@ -573,7 +652,7 @@ statement-said ms r (q, (ws, l), (q₁, n, (q₂, (g, d), (q₃, m, (q₄, (b, e
     let (o, y) = one-sign ";" q₅ r c in
     (_, statement {a = a} {b = i} {c = o} (rw w at l) (rw x at d) e (rw y at f))
 
-statementT : Steady Always free (Saying StatementSaid) readStatement readStatement
+statementT : Steady seatNext Always free (Saying StatementSaid) readStatement readStatement
 statementT = steady-as statement-said
     (steady-bind (lineT statementRun) λ ws ws₁ _. steady-bind (numberedT numberT) λ j j₁ _. steady-silent (mayHaveT mostNodes) λ _ _ _. steady-bind guardT λ g g₁ _.
     steady-bind (steady-sign "->") λ _ _ _. steady-bind branchT λ b b₁ _. steady-bind (moreBranchesT (mostBranches - 1)) λ bs bs₁ _. steady-silent steady-here λ p p₁ _.
@@ -590,8 +669,8 @@ behind-said t S ms r (q, m, k) =
     let (x, d) = k p in
     rw e (x ∷ [], again d done)
 
-module _ {A : Type 0} (S : Said A) (t : String) (miss : is "(" (text (bytes t)) ≡ false) (one : Reader A) (x : Steady Always free (Saying S) one one) (w : Word (BehindL t S)) where
-  limitedT : (f : ℕ) → Steady Always free (Saying (ManySaid S)) (many f t one (refuse pastLimit)) (many f t one (refuse pastLimit))
+module _ {A : Type 0} (S : Said A) (t : String) (miss : is "(" (text (bytes t)) ≡ false) (one : Reader A) (x : Steady seatNext Always free (Saying S) one one) (w : Word (BehindL t S)) where
+  limitedT : (f : ℕ) → Steady seatNext Always free (Saying (ManySaid S)) (many f t one (refuse pastLimit)) (many f t one (refuse pastLimit))
   limitedT = manyT S t one (refuse pastLimit) x
       (steady-as (none-or S (Mark₁ t then BehindL t S) (behind-said t S)) (steady-next t (steady-limit t miss w []) (steady-return [] [])))
 
@@ -602,7 +681,7 @@ a-statement = (
   λ t p. (_, statement (fixed (fixed (aSeat (fixed ended)))) nothing (branch aNumber (fixed (fixed (aSeat (fixed (fixed ended)))))) done),
 )
 
-moreStatementsT : (f : ℕ) → Steady Always free (Saying (ManySaid StatementSaid)) (moreStatements f) (moreStatements f)
+moreStatementsT : (f : ℕ) → Steady seatNext Always free (Saying (ManySaid StatementSaid)) (moreStatements f) (moreStatements f)
 moreStatementsT = limitedT StatementSaid "[" refl readStatement statementT a-statement
 
 -- ---- the further modules
@@ -614,12 +693,12 @@ a-module = (
   λ t p. (_, fixed (aProcess (fixed (aProcess (fixed (aSeat (fixed (aSeat (fixed (aSeat (fixed (aSeat (fixed (fixed ended)))))))))))))),
 )
 
-moreModulesT : (f : ℕ) → Steady Always free (Saying (ManySaid (LineSaid moduleRun))) (moreModules f) (moreModules f)
+moreModulesT : (f : ℕ) → Steady seatNext Always free (Saying (ManySaid (LineSaid moduleRun))) (moreModules f) (moreModules f)
 moreModulesT = limitedT (LineSaid moduleRun) "module" refl copy (lineT moduleRun) a-module
 
 -- ---- the card
 
-no-number-bracket : (m : Mark) (k : ℕ) → numberOf m ≡ some k → (a : ℕ) (x y : Place) → SameBracket (placed m a ∷ x) y
+no-number-bracket : (m : Mark) (k : ℕ) → numberOf m ≡ some k → (a : ℕ) (x y : Place) → SameBracket seatNext (placed m a ∷ x) y
 no-number-bracket (text s) k i a x y e = none≢some i
 no-number-bracket (seat j) k i a x y e = absurd (false≢true e)
 no-number-bracket (process j) k i a x y e = absurd (false≢true e)
@@ -630,7 +709,7 @@ no-number-bracket outside k i a x y e = absurd (false≢true e)
 abbrev limited : Place → ℕ → Reader ℕ
 limited p k = if leb k topState then return k else refuseAt pastLimit p
 
-top-behind : Behind free numberOf (λ _. Nil) limited limited
+top-behind : Behind seatNext free numberOf (λ _. Nil) limited limited
 top-behind = record {
   passes = λ m a k i s s₁ d. passes m a k (leb k topState) s s₁ d refl;
   stops = λ m a k i s n r. stops m a k i (leb k topState) s n r refl;
@@ -651,8 +730,8 @@ top-behind = record {
 
     stops : (m : Mark) (a k : ℕ) → numberOf m ≡ some k → (b : Bool) (s : State) (n : ℕ) (r : Place) → leb k topState ≡ b
         → (if b then return k else refuseAt pastLimit (placed m a ∷ s .marks)) s ≡ stop n r
-        → Stopped Nil (λ s. limited (placed m a ∷ s .marks) k s) s n r
-        ⊎ Refused Nil (λ s. limited (placed m a ∷ s .marks) k s) (placed m a) (s .marks) (s .nodes) n r
+        → Stopped seatNext Nil (λ s. limited (placed m a ∷ s .marks) k s) s n r
+        ⊎ Refused seatNext Nil (λ s. limited (placed m a ∷ s .marks) k s) (placed m a) (s .marks) (s .nodes) n r
     stops m a k i true s n r y e = ok≢stop e
     stops m a k i false s n r y e = inr (record {
       number = sym (stop-number {A = ℕ} e);
@@ -663,7 +742,7 @@ top-behind = record {
       same = λ u h. rw y;
     })
 
-topT : Steady Always free (One numberOf) top top
+topT : Steady seatNext Always free (One numberOf) top top
 topT = steady-as (λ ms r (m, p, v, q, e, i, z). (m, p, v, e ∙ ap (λ x. placed m p ∷ x) z, i)) (steady-behind (number 0) 0 refl top-behind)
 
 zero→eq : (m : Mark) (v : ℕ) → zeroOf m ≡ some v → m ≡ number 0
@@ -695,7 +774,7 @@ body-said ms (q, (m, p, d, e, i), (q₁, (ws, l), (q₂, (m₂, p₂, v₂, e₂
     let y : ms ≡ signAt (modeWord d) p ∷ q = e ∙ ap (λ o. placed o p ∷ q) (mode→eq m d i) in
     rw y (_, card {mode = d} {a = p} {i = a₁₁} (rw z at l) dx (rw w₁₁ at ds) dy)
 
-bodyT : Steady Always free BodyL body body
+bodyT : Steady seatNext Always free BodyL body body
 bodyT =
     steady-bind (steady-free (steady-the modeOf (text (bytes "probabilistic")) probabilistic refl)) λ m m₁ _. steady-bind (lineT cardRun) λ ws ws₁ _.
     steady-bind (steady-free (steady-the zeroOf (number 0) 0 refl)) λ z z₁ _. steady-bind (steady-sign "..") λ _ _ _. steady-bind topT λ k k₁ _. steady-bind (steady-sign "]") λ _ _ _.
@@ -703,56 +782,73 @@ bodyT =
     steady-bind (moreStatementsT (mostStatements - 1)) λ xs xs₁ _. steady-bind (steady-sign "endmodule") λ _ _ _. steady-last (moreModulesT (mostSeats - 1)) λ ms ms₁ _.
     steady-return (record { mode = m; words = ws; k = k; l = l; statements = x ∷ xs; modules = ms }) (record { mode = m₁; words = ws₁; k = k₁; l = l₁; statements = x₁ ∷ xs₁; modules = ms₁ })
 
--- what is read has a card's shape
-pub card-passes : (ms : Place) (n : ℕ) (c : CardShape) (s : State) → readCard (at ms n) ≡ ok c s → (d : CardShape) × CardSaid ms d
-card-passes ms n c s = through (body (at ms n)) _ c s _ λ b s₁ e. through (theEnd s₁) _ c s _ λ u s₂ e₁ _.
-    let w = bodyT .passes (at ms n) s₁ b tt e in
-    let z : ms ≡ w .pre ++ [] = w .split ∙ ap (λ x. w .pre ++ x) (nothing-left (s₁ .marks) (s₁ .nodes) u s₂ e₁) in
-    rw z (body-said (w .pre ++ []) (w .said []))
-  where
-    nothing-left : (l : Place) (k : ℕ) (u : Unit {0}) (s : State) → readEnd l k ≡ ok u s → l ≡ []
-    nothing-left [] k u s e = refl
-    nothing-left (x ∷ l) k u s e = stop≢ok e
+-- ---- a whole: a thing and then the end
 
 -- where reading stops, the marks before can be completed; with the mark there too, if it passes a limit
-pub data CardCause (pre : Place) (n : ℕ) (r : Place) : Type 0 where
-  unfits : n ≡ outOfShape → Completable pre → CardCause pre n r
-  exceeds : n ≡ pastLimit → (m : Placed) (x post : Place) → r ≡ m ∷ x → SameBracket (m ∷ x) (m ∷ post) → (c : CardShape) → CardSaid (pre ++ (m ∷ post)) c
-      → CardCause pre n r
+pub data CauseIn {C Look : Type 0} (look : Place → Look) (Said : Place → C → Type 0) (pre : Place) (n : ℕ) (r : Place) : Type 0 where
+  unfits : n ≡ outOfShape → CompletableIn Said pre → CauseIn look Said pre n r
+  exceeds : n ≡ pastLimit → (m : Placed) (x post : Place) → r ≡ m ∷ x → SameBracket look (m ∷ x) (m ∷ post) → (c : C) → Said (pre ++ (m ∷ post)) c
+      → CauseIn look Said pre n r
 
-pub record Halted (ms : Place) (i n : ℕ) (r : Place) : Type 0 where
+pub record HaltedIn {C Look : Type 0} (look : Place → Look) (Said : Place → C → Type 0) (read : Reader C) (ms : Place) (i n : ℕ) (r : Place) : Type 0 where
   pub pre : Place
   pub split : ms ≡ pre ++ r
-  pub cause : CardCause pre n r
-  pub same : (y : Place) → Alike n r y → readCard (at (pre ++ y) i) ≡ stop n y
+  pub cause : CauseIn look Said pre n r
+  pub same : (y : Place) → Alike look n r y → read (at (pre ++ y) i) ≡ stop n y
 
-body-cause : (pre : Place) (n : ℕ) (r : Place) → Cause BodyL pre n r → CardCause pre n r
-body-cause pre n r (unfit e post f) = let (c, d) = body-said (pre ++ (post ++ [])) (f []) in unfits e (post ++ [], c, d)
-body-cause pre n r (excess e m x post z k f) = let (c, d) = body-said (pre ++ (m ∷ (post ++ []))) (f []) in exceeds e m x (post ++ []) z (k []) c d
+abbrev pub toEnd : {C : Type 0} → Reader C → Reader C
+toEnd read = read >>= λ c. theEnd >>= λ _. return c
 
-pub card-stops : (ms : Place) (i n : ℕ) (r : Place) → readCard (at ms i) ≡ stop n r → Halted ms i n r
-card-stops ms i n r = stopped (body (at ms i)) _ n r _
-    (λ e. let w = bodyT .stops (at ms i) n r tt e in
-    record { pre = w .pre; split = w .split; cause = body-cause (w .pre) n r (w .cause); same = λ y h. rw (w .same y h) })
-    (λ b s e. stopped (theEnd s) _ n r _
-    (λ e₁.
-    let w = bodyT .passes (at ms i) s b tt e in
-    let (k, z, f) = something-left (s .marks) (s .nodes) e₁ in
-    record {
-      pre = w .pre;
-      split = w .split ∙ ap (λ x. w .pre ++ x) z;
-      cause = let (c, d) = body-said (w .pre ++ []) (w .said []) in unfits k ([], c, d);
-      same = λ y h. let v = w .same y (ap head? z ∙ h .0) in rw (v .1) (rw (f y (s .nodes) (h .0)));
-    })
-    (λ u s₁ e₁ e₂. ok≢stop e₂))
-  where
-    stays : (m : Placed) (l : Place) → outOfShape ≡ n → m ∷ l ≡ r → (y : Place) (j : ℕ) → SameHead r y → readEnd y j ≡ stop n y
-    stays m l k z [] j h = none≢some (sym h ∙ ap head? (sym z))
-    stays m l k z (o ∷ y) j h = rw (← k)
+module _ {C Look : Type 0} {look : Place → Look} (Said : Place → C → Type 0) (L : Lang) (said : (ms : Place) → L ms [] → (c : C) × Said ms c) (read : Reader C)
+    (x : Steady look Always free L read read) where
+  -- what is read has the shape
+  pub whole-passes : (ms : Place) (n : ℕ) (c : C) (s : State) → toEnd read (at ms n) ≡ ok c s → (d : C) × Said ms d
+  whole-passes ms n c s = through (read (at ms n)) _ c s _ λ b s₁ e. through (theEnd s₁) _ c s _ λ u s₂ e₁ _.
+      let w = x .passes (at ms n) s₁ b tt e in
+      let z : ms ≡ w .pre ++ [] = w .split ∙ ap (λ x. w .pre ++ x) (nothing-left (s₁ .marks) (s₁ .nodes) u s₂ e₁) in
+      rw z (said (w .pre ++ []) (w .said []))
+    where
+      nothing-left : (l : Place) (k : ℕ) (u : Unit {0}) (s : State) → readEnd l k ≡ ok u s → l ≡ []
+      nothing-left [] k u s e = refl
+      nothing-left (x ∷ l) k u s e = stop≢ok e
 
-    something-left : (l : Place) (k : ℕ) → readEnd l k ≡ stop n r → (n ≡ outOfShape) × (l ≡ r) × ((y : Place) (j : ℕ) → SameHead r y → readEnd y j ≡ stop n y)
-    something-left [] k e = ok≢stop e
-    something-left (m ∷ l) k e =
-        let z = stop-number {A = Unit {0}} e in
-        let w = stop-place {A = Unit {0}} e in
-        (sym z, w, stays m l z w)
+  whole-cause : (pre : Place) (n : ℕ) (r : Place) → Cause look L pre n r → CauseIn look Said pre n r
+  whole-cause pre n r (unfit e post f) = let (c, d) = said (pre ++ (post ++ [])) (f []) in unfits e (post ++ [], c, d)
+  whole-cause pre n r (excess e m x post z k f) = let (c, d) = said (pre ++ (m ∷ (post ++ []))) (f []) in exceeds e m x (post ++ []) z (k []) c d
+
+  pub whole-stops : (ms : Place) (i n : ℕ) (r : Place) → toEnd read (at ms i) ≡ stop n r → HaltedIn look Said (toEnd read) ms i n r
+  whole-stops ms i n r = stopped (read (at ms i)) _ n r _
+      (λ e. let w = x .stops (at ms i) n r tt e in
+      record { pre = w .pre; split = w .split; cause = whole-cause (w .pre) n r (w .cause); same = λ y h. rw (w .same y h) })
+      (λ b s e. stopped (theEnd s) _ n r _
+      (λ e₁.
+      let w = x .passes (at ms i) s b tt e in
+      let (k, z, f) = something-left (s .marks) (s .nodes) e₁ in
+      record {
+        pre = w .pre;
+        split = w .split ∙ ap (λ x. w .pre ++ x) z;
+        cause = let (c, d) = said (w .pre ++ []) (w .said []) in unfits k ([], c, d);
+        same = λ y h. let v = w .same y (ap head? z ∙ h .0) in rw (v .1) (rw (f y (s .nodes) (h .0)));
+      })
+      (λ u s₁ e₁ e₂. ok≢stop e₂))
+    where
+      stays : (m : Placed) (l : Place) → outOfShape ≡ n → m ∷ l ≡ r → (y : Place) (j : ℕ) → SameHead r y → readEnd y j ≡ stop n y
+      stays m l k z [] j h = none≢some (sym h ∙ ap head? (sym z))
+      stays m l k z (o ∷ y) j h = rw (← k)
+
+      something-left : (l : Place) (k : ℕ) → readEnd l k ≡ stop n r → (n ≡ outOfShape) × (l ≡ r) × ((y : Place) (j : ℕ) → SameHead r y → readEnd y j ≡ stop n y)
+      something-left [] k e = ok≢stop e
+      something-left (m ∷ l) k e =
+          let z = stop-number {A = Unit {0}} e in
+          let w = stop-place {A = Unit {0}} e in
+          (sym z, w, stays m l z w)
+
+abbrev pub CardCause : Place → ℕ → Place → Type 0
+CardCause pre n r = CauseIn seatNext CardSaid pre n r
+
+-- what is read has a card's shape
+pub card-passes : (ms : Place) (n : ℕ) (c : CardShape) (s : State) → readCard (at ms n) ≡ ok c s → (d : CardShape) × CardSaid ms d
+card-passes = whole-passes CardSaid BodyL body-said body bodyT
+
+pub card-stops : (ms : Place) (i n : ℕ) (r : Place) → readCard (at ms i) ≡ stop n r → HaltedIn seatNext CardSaid readCard ms i n r
+card-stops = whole-stops CardSaid BodyL body-said body bodyT

@@ -73,7 +73,7 @@ guard-fits (grouped x) nodes around w = record { deep = omega arith; large = ome
 guard-fits (negated u) nodes around w =
     let f = guard-fits u (suc nodes) (suc around) (w .1 .1) in
     record { deep = omega (arith, f .deep, w .1 .0); large = omega (arith, f .large, w .0); fair = f .fair }
-guard-fits (bracketed {g = g} u) nodes around w =
+guard-fits (bracketed {g = g} f u) nodes around w =
     let f = guard-fits u nodes (suc around) (w .1) in
     record { deep = omega (arith, loosen g, f .deep, w .0); large = f .large; fair = f .fair }
 guard-fits (single {s} {g = g} u) nodes around w = single-fits s (mostDepth - around) (mostNodes - nodes) g (guard-fits u nodes around w)

@@ -3,7 +3,7 @@
 use Prim.Native.Nat.{ℕ, zero, suc, _+_, _-_, _≤_, _<_}
 use Prim.Native.String.{String}
 use mathlib.Core.Path.{_≡_, refl, sym, _∙_, subst}
-use mathlib.Core.Bool.{true, false}
+use mathlib.Core.Bool.{Bool, true, false}
 use mathlib.Core.List.{List, [], _∷_, _++_, append-assoc}
 use mathlib.Core.Option.{Option, some}
 use native.Mathlib.Omega.{arith}
@@ -18,11 +18,11 @@ use Rattle.card.specs.Weight.{Weight}
 use Rattle.card.specs.Valid.{size, Every}
 use Rattle.marks.specs.Marks.{number, placed}
 use Rattle.reading.specs.Reader.{Place, at, Result, ok, stop, Reader, bind, _>>=_, _>>_, return, refuse, the, nextIs, sign, here, Numbered, Item, exactly, line}
-use Rattle.reading.specs.Guard.{seatNext, Read, chain, conjunction, expression, unary as readUnary}
+use Rattle.reading.specs.Guard.{seatNext, Read, chain, conjunction, expression, unaryBy}
 use Rattle.reading.specs.Guard.{grouped as readGrouped}
 use Rattle.reading.specs.Group.{joint, Literal, Literals, literal as readLiteral, others, group}
 use Rattle.reading.specs.Shape.{BranchShape, StatementShape, CardShape, many, weight, branch as readBranch, nextBranch, pastBranches, moreBranches, guard, statement as readStatement, moreStatements, copy, moreModules, modeOf, body, card as readCard, theEnd}
-use Rattle.reading.specs.Grammar.{Said, signAt, valued, LineSaid, ended, fixed, aSeat, aProcess, moduleRun, ManySaid, done, again, LiteralSaid, literal, OthersSaid, close, next, GroupSaid, conjoined, disjoined, Part, unary, joinedBy, operand, joining, GuardSaid, grouped, negated, bracketed, single, further, RestSaid, nothing, guarded, WeightSaid, aNumber, aRatio, aDecimal, BranchSaid, branch, PlusSaid, plus, StatementSaid, statement, modeWord, CardSaid, card}
+use Rattle.reading.specs.Grammar.{Said, signAt, valued, LineSaid, ended, fixed, aSeat, aProcess, moduleRun, ManySaid, done, again, LiteralSaid, literal, OthersSaid, close, next, GroupSaid, conjoined, disjoined, Part, unary, joinedBy, operand, joining, GuardSaid, FormulaSaid, Anything, grouped, negated, bracketed, single, further, RestSaid, nothing, guarded, WeightSaid, aNumber, aRatio, aDecimal, BranchSaid, branch, PlusSaid, plus, StatementSaid, statement, modeWord, CardSaid, card}
 use Rattle.reading.specs.Counted.{Counted, counted, Within, Past, FirstPast, countedGuard, countedRest, countedMany, countedPlus, countedStatement, countedModule, countedCard}
 use Rattle.reading.proofs.Through.{same-refl}
 
@@ -60,7 +60,7 @@ past-here c ds h = record { before = []; first = c; after = ds; split = refl; wi
 -- ---- what reading came to
 
 -- to its end, with so many nodes left that P holds
-abbrev Came : {A : Type 0} → (ℕ → Type 0) → A → Place → Result A → Type 0
+abbrev pub Came : {A : Type 0} → (ℕ → Type 0) → A → Place → Result A → Type 0
 Came P a r x = (n : ℕ) × (x ≡ ok a (at r n)) × P n
 
 abbrev pub Anyway : ℕ → Type 0
@@ -72,7 +72,7 @@ pub data Ran {A : Type 0} (cs : List Counted) (K : Result A → Type 0) (x : Res
   fell : (q : Place) → FirstPast cs q → x ≡ stop pastLimit q → Ran cs K x
 
 module _ {A : Type 0} {cs : List Counted} {J K : Result A → Type 0} {x : Result A} where
-  ran-as : (J x → K x) → Ran cs J x → Ran cs K x
+  pub ran-as : (J x → K x) → Ran cs J x → Ran cs K x
   ran-as h (came w j) = came w (h j)
   ran-as h (fell q f e) = fell q f e
 
@@ -99,7 +99,7 @@ module _ {A B : Type 0} {cs : List Counted} (ds : List Counted) {P : ℕ → Typ
   ran-bind (fell z g e) h = rw e (fell z (past-left cs ds z g) refl)
 
 module _ {A B : Type 0} {cs : List Counted} {P : ℕ → Type 0} {a : A} {q : Place} {K : Result B → Type 0} (f : A → Reader B) {x : Result A} where
-  ran-last : Ran cs (Came P a q) x → ((n : ℕ) → P n → K (f a (at q n))) → Ran cs K (bind x f)
+  pub ran-last : Ran cs (Came P a q) x → ((n : ℕ) → P n → K (f a (at q n))) → Ran cs K (bind x f)
   ran-last (came w (n, e, p)) h = rw e (came w (h n p))
   ran-last (fell z g e) h = rw e (fell z g refl)
 
@@ -111,22 +111,22 @@ line-reads (fixed {t} d) n = rw (same-refl (bytes t)) (line-reads d n)
 line-reads (aSeat d) n = rw (line-reads d n)
 line-reads (aProcess d) n = rw (line-reads d n)
 
-literal-reads : {ms r : Place} {l : Literal} → LiteralSaid ms l r → (n : ℕ) → readLiteral (at ms n) ≡ ok l (at r n)
+pub literal-reads : {ms r : Place} {l : Literal} → LiteralSaid ms l r → (n : ℕ) → readLiteral (at ms n) ≡ ok l (at r n)
 literal-reads (literal {q = eq}) n = refl
 literal-reads (literal {q = ne}) n = refl
 
-literal-shrinks : {ms r : Place} {l : Literal} → LiteralSaid ms l r → length r ≤ length ms
+pub literal-shrinks : {ms r : Place} {l : Literal} → LiteralSaid ms l r → length r ≤ length ms
 literal-shrinks literal = omega arith
 
-joint-next : (s : Sign) → same (bytes (joint s)) (bytes (joint s)) ≡ true
+pub joint-next : (s : Sign) → same (bytes (joint s)) (bytes (joint s)) ≡ true
 joint-next s = same-refl (bytes (joint s))
 
-close-not : (s : Sign) → same (bytes ")") (bytes (joint s)) ≡ false
+pub close-not : (s : Sign) → same (bytes ")") (bytes (joint s)) ≡ false
 close-not all = refl
 close-not any = refl
 
 -- with as many marks left as there are
-others-reads : {s : Sign} {ms r : Place} {ls : List Literal} → OthersSaid s ms ls r → (f : ℕ) → length ms ≤ f → (n : ℕ)
+pub others-reads : {s : Sign} {ms r : Place} {ls : List Literal} → OthersSaid s ms ls r → (f : ℕ) → length ms ≤ f → (n : ℕ)
     → others (joint s) f (at ms n) ≡ ok ls (at r n)
 others-reads (close {a} {r}) zero h n = absurd (omega arith)
 others-reads {s} close (suc f) h n = rw (close-not s)
@@ -140,21 +140,31 @@ and-next (next l o) = refl
 or-next : {ms r : Place} {k : Literal} {ls : List Literal} → OthersSaid any ms (k ∷ ls) r → nextIs "|" ms ≡ true
 or-next (next l o) = refl
 
-group-reads : {p ms r : Place} {x : Literals} → GroupSaid p ms x r → (n : ℕ) → group p (at ms n) ≡ ok x (at r n)
+pub group-reads : {p ms r : Place} {x : Literals} → GroupSaid p ms x r → (n : ℕ) → group p (at ms n) ≡ ok x (at r n)
 group-reads (conjoined {ns = ns} l o) n = rw (literal-reads l n, and-next o, others-reads o (length ns) (omega arith) n)
 group-reads (disjoined {ns = ns} l o) n = rw (literal-reads l n, or-next o, others-reads o (length ns) (omega arith) n)
 
-group-opens : {p ms r : Place} {x : Literals} → GroupSaid p ms x r → seatNext ms ≡ true
+pub group-opens : {p ms r : Place} {x : Literals} → GroupSaid p ms x r → seatNext ms ≡ true
 group-opens (conjoined literal o) = refl
 group-opens (disjoined literal o) = refl
 
 -- ---- guards, over a reader of what a group is
 
-module _ {A : Type 0} (Group : Place → Said A) (p : Place → Reader A) (opens : (q ms r : Place) (x : A) → Group q ms x r → seatNext ms ≡ true)
+pub guard-no-seat : {v : Part} {ms r : Place} {g : Formula Literals} → GuardSaid GroupSaid v ms g r → seatNext ms ≡ false
+guard-no-seat (grouped x) = refl
+guard-no-seat (negated u) = refl
+guard-no-seat (bracketed f u) = refl
+guard-no-seat (single u) = guard-no-seat u
+guard-no-seat (further us u) = guard-no-seat us
+
+-- `starts` holds behind each group's bracket, and behind no expression's
+module _ {A : Type 0} (starts : Place → Bool) (Free : Place → Type 0) (Group : Place → Said A) (p : Place → Reader A)
+    (opens : (q ms r : Place) (x : A) → Group q ms x r → starts ms ≡ true)
+    (shuts : (ms r : Place) (g : Formula A) → Free ms → FormulaSaid Free Group (joinedBy any) ms g r → starts ms ≡ false)
     (reads : (q ms r : Place) (x : A) → Group q ms x r → (n : ℕ) → p q (at ms n) ≡ ok x (at r n)) where
   readOperand : ℕ → Sign → Read A
-  readOperand d all = readUnary p d
-  readOperand d any = conjunction (readUnary p d)
+  readOperand d all = unaryBy starts p d
+  readOperand d any = conjunction (unaryBy starts p d)
 
   abbrev readJoined : ℕ → Sign → Read A
   readJoined d s = λ st. bind (readOperand d s st) (chain (joint s) (joining s) (readOperand d s) mostNodes)
@@ -171,13 +181,6 @@ module _ {A : Type 0} (Group : Place → Said A) (p : Place → Reader A) (opens
   size-joined : (s : Sign) (g h : Formula A) → size (joining s g h) ≡ suc (size g + size h)
   size-joined all g h = refl
   size-joined any g h = refl
-
-  no-seat : {v : Part} {ms r : Place} {g : Formula A} → GuardSaid Group v ms g r → seatNext ms ≡ false
-  no-seat (grouped x) = refl
-  no-seat (negated u) = refl
-  no-seat (bracketed u) = refl
-  no-seat (single u) = no-seat u
-  no-seat (further us u) = no-seat us
 
   abbrev Ends : ℕ → Formula A → Place → Result (Formula A) → Type 0
   Ends n g r = Came (λ left. n ≡ size g + left) g r
@@ -196,13 +199,13 @@ module _ {A : Type 0} (Group : Place → Said A) (p : Place → Reader A) (opens
   chained-ends s d n g r x q (f, left, e, m, l) = (left, e ∙ chain-ends s d f g r left q, m)
 
   -- so many brackets and `!`, and nodes, are left
-  abbrev Aim : (v : Part) (ms r : Place) (g : Formula A) → GuardSaid Group v ms g r → Type 0
+  abbrev Aim : (v : Part) (ms r : Place) (g : Formula A) → FormulaSaid Free Group v ms g r → Type 0
   Aim unary ms r g u = (d n around nodes : ℕ) → around + d ≡ mostDepth → nodes + n ≡ mostNodes
-      → Ran (countedGuard nodes around u) (Ends n g r) (readUnary p d (at ms n))
+      → Ran (countedGuard nodes around u) (Ends n g r) (unaryBy starts p d (at ms n))
   Aim (joinedBy s) ms r g u = (d n around nodes : ℕ) → around + d ≡ mostDepth → nodes + n ≡ mostNodes → Quiet s r
       → Ran (countedGuard nodes around u) (Chained s d n g r) (readJoined d s (at ms n))
 
-  as-operand : (s : Sign) (ms r : Place) (g : Formula A) (u : GuardSaid Group (operand s) ms g r) → Aim (operand s) ms r g u
+  as-operand : (s : Sign) (ms r : Place) (g : Formula A) (u : FormulaSaid Free Group (operand s) ms g r) → Aim (operand s) ms r g u
       → (d n around nodes : ℕ) → around + d ≡ mostDepth → nodes + n ≡ mostNodes → Quiet s r
       → Ran (countedGuard nodes around u) (Ends n g r) (readOperand d s (at ms n))
   unfolding readOperand
@@ -210,12 +213,12 @@ module _ {A : Type 0} (Group : Place → Said A) (p : Place → Reader A) (opens
   as-operand any ms r g u h d n around nodes e e₁ q = ran-as (chained-ends all d n g r _ q) (h d n around nodes e e₁ tt)
 
   -- behind its bracket
-  behind-bracket : (d a : ℕ) (ms : Place) (n : ℕ) → seatNext ms ≡ true → readUnary p d (at (signAt "(" a ∷ ms) n) ≡ readGrouped p (signAt "(" a ∷ ms) (at ms n)
+  behind-bracket : (d a : ℕ) (ms : Place) (n : ℕ) → starts ms ≡ true → unaryBy starts p d (at (signAt "(" a ∷ ms) n) ≡ readGrouped p (signAt "(" a ∷ ms) (at ms n)
   behind-bracket zero a ms n e = rw e
   behind-bracket (suc d) a ms n e = rw e
 
   group-runs : (a : ℕ) (ms r : Place) (x : A) → Group (signAt "(" a ∷ ms) ms x r → (d n nodes : ℕ) → nodes + n ≡ mostNodes
-      → Ran (counted (suc nodes) mostNodes (signAt "(" a ∷ ms) ∷ []) (Ends n (atom x) r) (readUnary p d (at (signAt "(" a ∷ ms) n))
+      → Ran (counted (suc nodes) mostNodes (signAt "(" a ∷ ms) ∷ []) (Ends n (atom x) r) (unaryBy starts p d (at (signAt "(" a ∷ ms) n))
   group-runs a ms r x s d n nodes e = rw (behind-bracket d a ms n (opens _ ms r x s)) (go n e)
     where
       go : (n : ℕ) → nodes + n ≡ mostNodes
@@ -223,32 +226,32 @@ module _ {A : Type 0} (Group : Place → Said A) (p : Place → Reader A) (opens
       go zero e = ran-one (λ w. absurd (omega arith)) (λ _. refl)
       go (suc n) e = ran-one (λ w. came tt (n, rw (reads _ ms r x s n), omega arith)) (λ w. absurd (omega arith))
 
-  neg-runs : (a : ℕ) (ms r : Place) (g : Formula A) (u : GuardSaid Group unary ms g r) → Aim unary ms r g u → Aim unary (signAt "!" a ∷ ms) r (neg g) (negated u)
+  neg-runs : (a : ℕ) (ms r : Place) (g : Formula A) (u : FormulaSaid Free Group unary ms g r) → Aim unary ms r g u → Aim unary (signAt "!" a ∷ ms) r (neg g) (negated u)
   neg-runs a ms r g u h zero zero around nodes e e₁ = ran-one (λ w. absurd (omega arith)) (λ _. refl)
   neg-runs a ms r g u h zero (suc n) around nodes e e₁ = ran-one (λ w. ran-one (λ v. absurd (omega arith)) (λ _. refl)) (λ _. refl)
   neg-runs a ms r g u h (suc d) zero around nodes e e₁ = ran-one (λ w. absurd (omega arith)) (λ _. refl)
   neg-runs a ms r g u h (suc d) (suc n) around nodes e e₁ = ran-one (λ w. ran-one (λ v. on) (λ v. absurd (omega arith))) (λ w. absurd (omega arith))
     where
-      on : Ran (countedGuard (suc nodes) (suc around) u) (Ends (suc n) (neg g) r) (readUnary p (suc d) (at (signAt "!" a ∷ ms) (suc n)))
+      on : Ran (countedGuard (suc nodes) (suc around) u) (Ends (suc n) (neg g) r) (unaryBy starts p (suc d) (at (signAt "!" a ∷ ms) (suc n)))
       on = ran-last (λ k. return (neg k)) (h d n (suc around) (suc nodes) (omega arith) (omega arith)) λ left q. (left, refl, omega arith)
 
-  bracket-runs : (a b : ℕ) (ms r : Place) (g : Formula A) (u : GuardSaid Group (joinedBy any) ms g (signAt ")" b ∷ r)) → Aim (joinedBy any) ms (signAt ")" b ∷ r) g u
-      → Aim unary (signAt "(" a ∷ ms) r g (bracketed u)
+  bracket-runs : (a b : ℕ) (ms r : Place) (g : Formula A) (f : Free ms) (u : FormulaSaid Free Group (joinedBy any) ms g (signAt ")" b ∷ r)) → Aim (joinedBy any) ms (signAt ")" b ∷ r) g u
+      → Aim unary (signAt "(" a ∷ ms) r g (bracketed f u)
   unfolding readOperand
-  bracket-runs a b ms r g u h zero n around nodes e e₁ = ran-one (λ w. absurd (omega arith)) (λ _. rw (no-seat u))
-  bracket-runs a b ms r g u h (suc d) n around nodes e e₁ = ran-one (λ w. on) (λ w. absurd (omega arith))
+  bracket-runs a b ms r g f u h zero n around nodes e e₁ = ran-one (λ w. absurd (omega arith)) (λ _. rw (shuts ms (signAt ")" b ∷ r) g f u))
+  bracket-runs a b ms r g f u h (suc d) n around nodes e e₁ = ran-one (λ w. on) (λ w. absurd (omega arith))
     where
-      inner : Ran (countedGuard nodes (suc around) u) (Ends n g (signAt ")" b ∷ r)) (expression (readUnary p d) (at ms n))
+      inner : Ran (countedGuard nodes (suc around) u) (Ends n g (signAt ")" b ∷ r)) (expression (unaryBy starts p d) (at ms n))
       inner = ran-as (chained-ends any d n g (signAt ")" b ∷ r) _ refl) (h d n (suc around) nodes (omega arith) e₁ refl)
 
-      on : Ran (countedGuard nodes (suc around) u) (Ends n g r) (readUnary p (suc d) (at (signAt "(" a ∷ ms) n))
-      on = rw (no-seat u) (ran-last (λ k. sign ")" >> return k) inner λ left q. (left, refl, omega arith))
+      on : Ran (countedGuard nodes (suc around) u) (Ends n g r) (unaryBy starts p (suc d) (at (signAt "(" a ∷ ms) n))
+      on = rw (shuts ms (signAt ")" b ∷ r) g f u) (ran-last (λ k. sign ")" >> return k) inner λ left q. (left, refl, omega arith))
 
-  single-runs : (s : Sign) (ms r : Place) (g : Formula A) (u : GuardSaid Group (operand s) ms g r) → Aim (operand s) ms r g u → Aim (joinedBy s) ms r g (single u)
+  single-runs : (s : Sign) (ms r : Place) (g : Formula A) (u : FormulaSaid Free Group (operand s) ms g r) → Aim (operand s) ms r g u → Aim (joinedBy s) ms r g (single u)
   single-runs s ms r g u h d n around nodes e e₁ q =
       ran-last (chain (joint s) (joining s) (readOperand d s) mostNodes) (as-operand s ms r g u h d n around nodes e e₁ q) λ left m. (mostNodes, left, refl, m, omega arith)
 
-  further-runs : (s : Sign) (a : ℕ) (ms ns r : Place) (g h : Formula A) (us : GuardSaid Group (joinedBy s) ms g (signAt (joint s) a ∷ ns)) (u : GuardSaid Group (operand s) ns h r)
+  further-runs : (s : Sign) (a : ℕ) (ms ns r : Place) (g h : Formula A) (us : FormulaSaid Free Group (joinedBy s) ms g (signAt (joint s) a ∷ ns)) (u : FormulaSaid Free Group (operand s) ns h r)
       → Aim (joinedBy s) ms (signAt (joint s) a ∷ ns) g us → Aim (operand s) ns r h u → Aim (joinedBy s) ms r (joining s g h) (further us u)
   further-runs s a ms ns r g h us u k₁ k₂ d n around nodes e e₁ q =
       ran-on _ (k₁ d n around nodes e e₁ (quiet-sign s a ns)) λ (f, left, y, m, l). on f left y m l
@@ -273,15 +276,20 @@ module _ {A : Type 0} (Group : Place → Said A) (p : Place → Reader A) (opens
           ran-one (λ w. subst (λ x. Ran (countedGuard (suc (nodes + size g)) around u) (Chained s d n (joining s g h) r) x) (sym z) (last f left m l))
           (λ w. absurd (omega arith))
 
-  runs : {v : Part} {ms r : Place} {g : Formula A} (u : GuardSaid Group v ms g r) → Aim v ms r g u
+  runs : {v : Part} {ms r : Place} {g : Formula A} (u : FormulaSaid Free Group v ms g r) → Aim v ms r g u
   runs (grouped {a} {ms} {r} {x} s) = λ d n around nodes e e₁. group-runs a ms r x s d n nodes e₁
   runs (negated {a} {ms} {r} {g} u) = neg-runs a ms r g u (runs u)
-  runs (bracketed {a} {b} {ms} {r} {g} u) = bracket-runs a b ms r g u (runs u)
+  runs (bracketed {a} {b} {ms} {r} {g} f u) = bracket-runs a b ms r g f u (runs u)
   runs (single {s} {ms} {r} {g} u) = single-runs s ms r g u (runs u)
   runs (further {s} {a} {ms} {ns} {r} {g} {h} us u) = further-runs s a ms ns r g h us u (runs us) (runs u)
 
-  conjunction-runs : {ms r : Place} {g : Formula A} (u : GuardSaid Group (joinedBy all) ms g r) → nextIs "&" r ≡ false
-      → Ran (countedGuard 0 0 u) (Came Anyway g r) (conjunction (readUnary p mostDepth) (at ms mostNodes))
+  pub expression-runs : {ms r : Place} {g : Formula A} (u : FormulaSaid Free Group (joinedBy any) ms g r) → nextIs "&" r ≡ false → nextIs "|" r ≡ false
+      → Ran (countedGuard 0 0 u) (Came Anyway g r) (expression (unaryBy starts p mostDepth) (at ms mostNodes))
+  unfolding readOperand
+  expression-runs {r = r} {g} u q q₁ = ran-as (λ h. let k = chained-ends any mostDepth mostNodes g r _ q₁ h in (k .0, k .1, tt)) (runs u mostDepth mostNodes 0 0 refl refl q)
+
+  conjunction-runs : {ms r : Place} {g : Formula A} (u : FormulaSaid Free Group (joinedBy all) ms g r) → nextIs "&" r ≡ false
+      → Ran (countedGuard 0 0 u) (Came Anyway g r) (conjunction (unaryBy starts p mostDepth) (at ms mostNodes))
   unfolding readOperand
   conjunction-runs {r = r} {g} u q = ran-as (λ h. let k = chained-ends all mostDepth mostNodes g r _ q h in (k .0, k .1, tt)) (runs u mostDepth mostNodes 0 0 refl refl tt)
 
@@ -289,7 +297,7 @@ rest-runs : {ms r : Place} {g : Option (Formula Literals)} (u : RestSaid ms g r)
     → Ran (countedRest u) (Came Anyway g r) (guard (at ms mostNodes))
 rest-runs nothing q = rw q (came tt (mostNodes, refl, tt))
 rest-runs (guarded u) q =
-    ran-last (λ k. return (some k)) (conjunction-runs GroupSaid group (λ q ms r x s. group-opens s) (λ q ms r x s. group-reads s) u q) λ left m. (left, refl, tt)
+    ran-last (λ k. return (some k)) (conjunction-runs seatNext Anything GroupSaid group (λ q ms r x s. group-opens s) (λ ms r g f s. guard-no-seat s) (λ q ms r x s. group-reads s) u q) λ left m. (left, refl, tt)
 
 -- ---- branches
 

@@ -4,6 +4,7 @@ pub mod Follows
 pub mod Steady
 pub mod Exact
 pub mod Rising
+pub mod Shapes
 pub mod Shaping
 pub mod Symmetry
 pub mod Ruling

@@ -37,7 +37,7 @@ guard-counting (negated {a} {ms} {r} u) nodes around =
     let c = counted (suc around) mostDepth (signAt "!" a ∷ ms) in
     counting-at (signAt "!" a) ms r (counted (suc nodes) mostNodes (signAt "!" a ∷ ms)) (c ∷ cs) refl
     (counting-at (signAt "!" a) ms r c cs refl (along-behind weakly placeAt (signAt "!" a) ms r cs (guard-counting u (suc nodes) (suc around))))
-guard-counting (bracketed {a} {b} {ms} {r} u) nodes around =
+guard-counting (bracketed {a} {b} {ms} {r} f u) nodes around =
     let cs = countedGuard nodes (suc around) u in
     counting-at (signAt "(" a) ms r (counted (suc around) mostDepth (signAt "(" a ∷ ms)) cs refl
     (along-behind weakly placeAt (signAt "(" a) ms r cs (along-before weakly placeAt ms (signAt ")" b ∷ r) r cs (guard-counting u nodes (suc around)) (signAt ")" b ∷ []) refl))

@@ -54,7 +54,7 @@ outside-false outside h = absurd (h refl)
 inside-not : (m : Mark) → isOutside m ≡ false → m ≡ outside → ⊥
 inside-not m e z = false≢true (sym e ∙ ap isOutside z)
 
-none-outside : (ms : List Placed) → firstOutside ms ≡ none → Inside ms
+pub none-outside : (ms : List Placed) → firstOutside ms ≡ none → Inside ms
 none-outside [] e = tt
 none-outside (placed m p ∷ ms) e = go (isOutside m) refl e (none-outside ms)
   where
@@ -62,11 +62,11 @@ none-outside (placed m p ∷ ms) e = go (isOutside m) refl e (none-outside ms)
     go true y e f = none≢some (sym e)
     go false y e f = (inside-not m y, f e)
 
-inside-none : (ms : List Placed) → Inside ms → firstOutside ms ≡ none
+pub inside-none : (ms : List Placed) → Inside ms → firstOutside ms ≡ none
 inside-none [] h = refl
 inside-none (placed m p ∷ ms) h = rw (outside-false m (h .0)) (inside-none ms (h .1))
 
-first-outside : (ms : List Placed) (p : ℕ) → firstOutside ms ≡ some p → (pre post : List Placed) × (ms ≡ pre ++ (placed outside p ∷ post)) × Inside pre
+pub first-outside : (ms : List Placed) (p : ℕ) → firstOutside ms ≡ some p → (pre post : List Placed) × (ms ≡ pre ++ (placed outside p ∷ post)) × Inside pre
 first-outside [] p e = none≢some e
 first-outside (placed m q ∷ ms) p e = go (isOutside m) refl e (first-outside ms p)
   where
@@ -76,7 +76,7 @@ first-outside (placed m q ∷ ms) p e = go (isOutside m) refl e (first-outside m
     go true y e f = let z : q ≡ p = cc in ([], ms, cc (outside-true m y), tt)
     go false y e f = let (pre, post, z, h) = f e in (placed m q ∷ pre, post, ap (λ x. placed m q ∷ x) z, (inside-not m y, h))
 
-outside-first : (p : ℕ) (pre post : List Placed) → Inside pre → firstOutside (pre ++ (placed outside p ∷ post)) ≡ some p
+pub outside-first : (p : ℕ) (pre post : List Placed) → Inside pre → firstOutside (pre ++ (placed outside p ∷ post)) ≡ some p
 outside-first p [] post h = refl
 outside-first p (placed m q ∷ pre) post h = rw (outside-false m (h .0)) (outside-first p pre post (h .1))
 

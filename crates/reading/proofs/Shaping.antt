@@ -1,223 +1,51 @@
--- What the reader of the shape does on marks, in terms of the grammar: where it comes to its end the marks have the shape within the limits;
--- where it stops, the marks before can be completed, and the mark there cannot go on or is the first past a limit. A reader is steady,
--- so what it does on one completion it does on all. Assumes nothing.
+-- What the reader of a card's shape does on marks, in terms of the grammar. Assumes nothing.
 use Prim.Native.Nat.{ℕ, zero}
-use mathlib.Core.Path.{_≡_, refl, sym, ap, _∙_, subst}
-use mathlib.Core.Logic.{_⊎_, inl, inr}
-use mathlib.Core.List.{List, [], _∷_, _++_, append-assoc, append-cancel-right, append-nil, nil≢cons, head-eq-of-cons-eq, tail-eq-of-cons-eq, head?}
-use native.Mathlib.Omega.{arith}
+use mathlib.Core.Path.{_≡_}
+use mathlib.Core.Logic.{_⊎_}
+use mathlib.Core.List.{List, [], _∷_, _++_}
 use Rattle.card.specs.Refusals.{outOfShape, pastLimit}
 use Rattle.card.specs.Valid.{Every}
 use Rattle.marks.specs.Marks.{Placed}
 use Rattle.reading.specs.Reader.{Place, State, at, Result, ok, stop}
+use Rattle.reading.specs.Guard.{seatNext}
 use Rattle.reading.specs.Shape.{CardShape, card}
 use Rattle.reading.specs.Grammar.{CardSaid}
-use Rattle.reading.specs.Counted.{Counted, Within, Past, FirstPast, countedCard}
-use Rattle.reading.specs.Verdicts.{Completable, Hopeless, UnfitAt, PastAt}
-use Rattle.reading.proofs.Through.{stop≢ok, ok-value}
-use Rattle.reading.proofs.Rising.{Order, equal, before, behind, order}
-use Rattle.reading.proofs.Follows.{Ran, came, fell, Anyway, card-runs}
-use Rattle.reading.proofs.Steady.{Alike, ok≢stop, stop-number, stop-place}
-use Rattle.reading.proofs.Exact.{card-passes, CardCause, unfits, exceeds, Halted, card-stops}
+use Rattle.reading.specs.Counted.{Within, countedCard}
+use Rattle.reading.specs.Verdicts.{countsOf, UnfitAt, PastAt}
+use Rattle.reading.proofs.Follows.{Ran, Came, Anyway, card-runs}
+use Rattle.reading.proofs.Exact.{HaltedIn, card-passes, card-stops}
+use Rattle.reading.proofs.Shapes.{shape-read as the-shape-read, read-shape as the-read-shape, stopped-past as the-stopped-past, past-stopped as the-past-stopped, stopped-unfit as the-stopped-unfit, unfit-stopped as the-unfit-stopped, stop-numbers as the-stop-numbers}
 
--- ---- first past its limit
+runs : (ms : Place) (c : CardShape) (d : CardSaid ms c) → Ran (countsOf ms c d) (Came Anyway c []) (card (at ms zero))
+runs ms c d = card-runs d zero
 
-past-not-within : (cs : List Counted) (q : Place) → FirstPast cs q → Every Within cs → ⊥
-past-not-within cs q f w = go (f .before) (rw (f .split) at w)
-  where
-    go : (xs : List Counted) → Every Within (xs ++ (f .first ∷ f .after)) → ⊥
-    go [] w = omega (arith, w .0, f .past)
-    go (x ∷ xs) w = go xs (w .1)
+passes : (ms : Place) (c : CardShape) (s : State) → card (at ms zero) ≡ ok c s → (d : CardShape) × CardSaid ms d
+passes ms = card-passes ms zero
 
-within-or-past : {B : Type 0} (c : Counted) → Within c → Past c → B
-within-or-past c w p = absurd (omega arith)
+stops : (ms : Place) (n : ℕ) (r : Place) → card (at ms zero) ≡ stop n r → HaltedIn seatNext CardSaid card ms zero n r
+stops ms = card-stops ms zero
 
-one-first : (xs ys : List Counted) (x y : Counted) (u t : List Counted) → xs ++ (x ∷ u) ≡ ys ++ (y ∷ t) → Every Within xs → Every Within ys → Past x → Past y → x ≡ y
-one-first [] [] x y u t e v w p q = head-eq-of-cons-eq e
-one-first [] (z ∷ ys) x y u t e v w p q = let i : x ≡ z = head-eq-of-cons-eq e in within-or-past z (w .0) (rw i at p)
-one-first (z ∷ xs) [] x y u t e v w p q = let i : y ≡ z = sym (head-eq-of-cons-eq e) in within-or-past z (v .0) (rw i at q)
-one-first (z ∷ xs) (o ∷ ys) x y u t e v w p q = one-first xs ys x y u t (tail-eq-of-cons-eq e) (v .1) (w .1) p q
-
-past-place : (cs : List Counted) (p q : Place) → FirstPast cs p → FirstPast cs q → p ≡ q
-past-place cs p q f g =
-    let e = one-first (f .before) (g .before) (f .first) (g .first) (f .after) (g .after) (sym (f .split) ∙ g .split) (f .within) (g .within) (f .past) (g .past) in
-    sym (f .place) ∙ ap (λ (c : Counted). c .place) e ∙ g .place
-
--- ---- on marks of a card's shape
-
-module _ {ms : Place} {c : CardShape} (d : CardSaid ms c) where
-  -- reading never says 3
-  shape-fits : (r : Place) → card (at ms zero) ≡ stop outOfShape r → ⊥
-  shape-fits r e = go (card-runs d zero)
-    where
-      go : Ran (countedCard d) (λ x. (n : ℕ) × (x ≡ ok c (at [] n)) × Anyway n) (card (at ms zero)) → ⊥
-      go (came w (n, e₁, _)) = ok≢stop (sym e₁ ∙ e)
-      go (fell q f e₁) = let z : pastLimit ≡ outOfShape = stop-number {A = CardShape} (sym e₁ ∙ e) in omega arith
-
-  -- it says 4 at the first past its limit
-  shape-past : (q : Place) → FirstPast (countedCard d) q → card (at ms zero) ≡ stop pastLimit q
-  shape-past q f = go (card-runs d zero)
-    where
-      go : Ran (countedCard d) (λ x. (n : ℕ) × (x ≡ ok c (at [] n)) × Anyway n) (card (at ms zero)) → card (at ms zero) ≡ stop pastLimit q
-      go (came w (n, e₁, _)) = absurd (past-not-within (countedCard d) q f w)
-      go (fell p g e₁) = e₁ ∙ ap (stop pastLimit) (past-place (countedCard d) p q g f)
-
-  shape-stopped : (q : Place) → card (at ms zero) ≡ stop pastLimit q → FirstPast (countedCard d) q
-  shape-stopped q e = go (card-runs d zero)
-    where
-      go : Ran (countedCard d) (λ x. (n : ℕ) × (x ≡ ok c (at [] n)) × Anyway n) (card (at ms zero)) → FirstPast (countedCard d) q
-      go (came w (n, e₁, _)) = ok≢stop (sym e₁ ∙ e)
-      go (fell p g e₁) = let z : p ≡ q = stop-place {A = CardShape} (sym e₁ ∙ e) in rw z at g
-
-  -- and else it reads the card
-  pub shape-read : Every Within (countedCard d) → (n : ℕ) × (card (at ms zero) ≡ ok c (at [] n))
-  shape-read w = go (card-runs d zero)
-    where
-      go : Ran (countedCard d) (λ x. (n : ℕ) × (x ≡ ok c (at [] n)) × Anyway n) (card (at ms zero)) → (n : ℕ) × (card (at ms zero) ≡ ok c (at [] n))
-      go (came w (n, e₁, _)) = (n, e₁)
-      go (fell q f e₁) = absurd (past-not-within (countedCard d) q f w)
-
-  shape-within : (b : CardShape) (s : State) → card (at ms zero) ≡ ok b s → (c ≡ b) × Every Within (countedCard d)
-  shape-within b s e = go (card-runs d zero)
-    where
-      go : Ran (countedCard d) (λ x. (n : ℕ) × (x ≡ ok c (at [] n)) × Anyway n) (card (at ms zero)) → (c ≡ b) × Every Within (countedCard d)
-      go (came w (n, e₁, _)) = (ok-value (sym e₁ ∙ e), w)
-      go (fell q f e₁) = stop≢ok (sym e₁ ∙ e)
-
--- ---- read to the end
+pub shape-read : {ms : Place} {c : CardShape} (d : CardSaid ms c) → Every Within (countedCard d) → (n : ℕ) × (card (at ms zero) ≡ ok c (at [] n))
+shape-read d = the-shape-read seatNext card CardSaid countsOf runs passes stops d
 
 abbrev pub ShapeWithin : Place → CardShape → Type 0
 ShapeWithin ms c = (d : CardSaid ms c) × Every Within (countedCard d)
 
 pub read-shape : (ms : Place) (c : CardShape) (s : State) → card (at ms zero) ≡ ok c s → ShapeWithin ms c
-read-shape ms c s e =
-    let (b, d) = card-passes ms zero c s e in
-    let (z, w) = shape-within d c s e in
-    subst (ShapeWithin ms) z (d, w)
-
--- ---- stopped by a limit
+read-shape = the-read-shape seatNext card CardSaid countsOf runs passes stops
 
 pub stopped-past : (ms r : Place) → card (at ms zero) ≡ stop pastLimit r → PastAt ms r
-stopped-past ms r e = go (card-stops ms zero pastLimit r e)
-  where
-    go : Halted ms zero pastLimit r → PastAt ms r
-    go h = because (h .cause)
-      where
-        because : CardCause (h .pre) pastLimit r → PastAt ms r
-        because (unfits z k) = absurd (omega arith)
-        because (exceeds z m x post q b c d) = record {
-          before = h .pre;
-          mark = m;
-          after = x;
-          split = h .split ∙ ap (λ y. h .pre ++ y) q;
-          place = q;
-          other = post;
-          starts = b;
-          shape = c;
-          said = d;
-          past = shape-stopped d (m ∷ post) (h .same (m ∷ post) (ap head? q, λ _. rw q b));
-        }
+stopped-past = the-stopped-past seatNext card CardSaid countsOf runs passes stops
 
 pub past-stopped : (ms r : Place) → PastAt ms r → card (at ms zero) ≡ stop pastLimit r
-past-stopped ms r p =
-    let e = shape-past (p .said) (p .mark ∷ p .other) (p .past) in
-    let h = card-stops (p .before ++ (p .mark ∷ p .other)) zero pastLimit (p .mark ∷ p .other) e in
-    let z : h .pre ≡ p .before = append-cancel-right (h .pre) (p .before) (p .mark ∷ p .other) (sym (h .split)) in
-    rw (p .split, p .place) (rw z at (h .same (p .mark ∷ p .after) (refl, λ _ y. sym (p .starts y))))
-
--- ---- stopped by a mark that does not fit
+past-stopped = the-past-stopped seatNext card CardSaid countsOf runs passes stops
 
 pub stopped-unfit : (ms r : Place) → card (at ms zero) ≡ stop outOfShape r → UnfitAt ms r
-stopped-unfit ms r e = go (card-stops ms zero outOfShape r e)
-  where
-    no-limit : {C : Type 0} → outOfShape ≡ pastLimit → C
-    no-limit z = absurd (omega arith)
+stopped-unfit = the-stopped-unfit seatNext card CardSaid countsOf runs passes stops
 
-    hopeless : (pre : Place) (r : Place) → ms ≡ pre ++ r → card (at ms zero) ≡ stop outOfShape r
-        → ((y : Place) → Alike outOfShape r y → card (at (pre ++ y) zero) ≡ stop outOfShape y) → Hopeless pre r
-    hopeless pre [] q e f = λ c d. shape-fits d [] (rw (q, append-nil pre) at e)
-    hopeless pre (m ∷ x) q e f = λ (post, c, d). shape-fits (rw (append-assoc pre (m ∷ []) post) at d) (m ∷ post) (f (m ∷ post) (refl, no-limit))
-
-    go : Halted ms zero outOfShape r → UnfitAt ms r
-    go h = record { before = h .pre; split = h .split; possible = because (h .cause); impossible = hopeless (h .pre) r (h .split) e (h .same) }
-      where
-        because : CardCause (h .pre) outOfShape r → Completable (h .pre)
-        because (unfits z k) = k
-        because (exceeds z m x post q b c d) = absurd (omega arith)
-
--- ---- one of the three
-
--- more marks can be completed only if fewer can
-pub completable-less : (pre : Place) (m : Placed) (w : Place) → Completable (pre ++ (m ∷ w)) → Completable (pre ++ (m ∷ []))
-completable-less pre m w (post, c, d) = (w ++ post, c, rw (append-assoc pre (m ∷ []) (w ++ post)) (rw (append-assoc pre (m ∷ w) post) at d))
-
--- what cannot go on at r is no card, passes no limit at r or later, and cannot go on at no other place
-module _ {ms r : Place} (u : UnfitAt ms r) where
-  unfit-no-card : (c : CardShape) → CardSaid ms c → ⊥
-  unfit-no-card c d = go r (u .split) (u .impossible)
-    where
-      go : (r : Place) → ms ≡ u .before ++ r → Hopeless (u .before) r → ⊥
-      go [] e h = h c (rw (e, append-nil (u .before)) at d)
-      go (m ∷ x) e h = h (x, c, rw (append-assoc (u .before) (m ∷ []) x) (rw e at d))
-
-  -- marks of a completable beginning stop before r
-  unfit-here : (pre t : Place) → ms ≡ pre ++ t → Completable pre → (m : Placed) (w : Place) → pre ≡ u .before ++ (m ∷ w) → r ≡ m ∷ (w ++ t) → ⊥
-  unfit-here pre t e k m w q z = hopeless r (u .impossible) z
-    where
-      hopeless : (r : Place) → Hopeless (u .before) r → r ≡ m ∷ (w ++ t) → ⊥
-      hopeless [] h z = nil≢cons z
-      hopeless (o ∷ x) h z = let i : o ≡ m = head-eq-of-cons-eq z in h (rw i (completable-less (u .before) m w (rw q at k)))
-
-pub unfit-one : (ms r t : Place) → UnfitAt ms r → UnfitAt ms t → r ≡ t
-unfit-one ms r t u v = go (order (u .before) r (v .before) t (sym (u .split) ∙ v .split))
-  where
-    go : Order (u .before) r (v .before) t → r ≡ t
-    go (equal e z) = z
-    go (before m w q z) = absurd (unfit-here u (v .before) t (v .split) (v .possible) m w q z)
-    go (behind m w q z) = absurd (unfit-here v (u .before) r (u .split) (u .possible) m w q z)
-
--- a limit is passed only before it
-pub past-earlier : (ms r t : Place) (u : UnfitAt ms r) (p : PastAt ms t) → (m : Placed) × (w : Place) × (t ≡ m ∷ (w ++ r))
-past-earlier ms r t u p = go (order (p .before) t (u .before) r (sym (p .split ∙ ap (λ x. p .before ++ x) (sym (p .place))) ∙ u .split))
-  where
-    -- the marks before, and the one at t, can be completed
-    with-mark : Completable (p .before ++ (p .mark ∷ []))
-    with-mark = (p .other, p .shape, rw (append-assoc (p .before) (p .mark ∷ []) (p .other)) (p .said))
-
-    whole : ms ≡ (p .before ++ (p .mark ∷ [])) ++ p .after
-    whole = p .split ∙ sym (append-assoc (p .before) (p .mark ∷ []) (p .after))
-
-    go : Order (p .before) t (u .before) r → (m : Placed) × (w : Place) × (t ≡ m ∷ (w ++ r))
-    go (equal e z) = absurd (unfit-here u (p .before ++ (p .mark ∷ [])) (p .after) whole with-mark (p .mark) [] (ap (λ x. x ++ (p .mark ∷ [])) e) (sym z ∙ p .place))
-    go (before m w q z) = (m, w, z)
-    go (behind m w q z) =
-        absurd (unfit-here u (p .before ++ (p .mark ∷ [])) (p .after) whole with-mark m (w ++ (p .mark ∷ []))
-        (ap (λ x. x ++ (p .mark ∷ [])) q ∙ append-assoc (u .before) (m ∷ w) (p .mark ∷ []))
-        (z ∙ ap (λ x. m ∷ (w ++ x)) (p .place) ∙ ap (λ x. m ∷ x) (sym (append-assoc w (p .mark ∷ []) (p .after)))))
-
--- reading stops where a mark cannot go on, unless a limit is passed before
 pub unfit-stopped : (ms r : Place) → UnfitAt ms r → ((t : Place) → PastAt ms t → (m : Placed) (w : Place) → t ≡ m ∷ (w ++ r) → ⊥)
     → card (at ms zero) ≡ stop outOfShape r
-unfit-stopped ms r u first = go (card (at ms zero)) refl
-  where
-    halted : (n : ℕ) (t : Place) → card (at ms zero) ≡ stop n t → (h : Halted ms zero n t) → CardCause (h .pre) n t
-        → _≡_ {A = Result CardShape} (stop n t) (stop outOfShape r)
-    halted n t e h (unfits z k) =
-        let q : t ≡ r = unfit-one ms t r (stopped-unfit ms t (e ∙ ap (λ i. stop i t) z)) u in
-        rw (z, q)
-    halted n t e h (exceeds z m x post q b c d) =
-        let p = stopped-past ms t (e ∙ ap (λ i. stop i t) z) in
-        let (o, w, y) = past-earlier ms r t u p in
-        absurd (first t p o w y)
+unfit-stopped = the-unfit-stopped seatNext card CardSaid countsOf runs passes stops
 
-    go : (x : Result CardShape) → card (at ms zero) ≡ x → x ≡ stop outOfShape r
-    go (ok c s) e = absurd (unfit-no-card u c (read-shape ms c s e .0))
-    go (stop n t) e = let h = card-stops ms zero n t e in halted n t e h (h .cause)
-
--- the reader of the shape says 3 or 4
 pub stop-numbers : (ms : Place) (n : ℕ) (r : Place) → card (at ms zero) ≡ stop n r → (n ≡ outOfShape) ⊎ (n ≡ pastLimit)
-stop-numbers ms n r e = let h = card-stops ms zero n r e in go (h .pre) (h .cause)
-  where
-    go : (pre : Place) → CardCause pre n r → (n ≡ outOfShape) ⊎ (n ≡ pastLimit)
-    go pre (unfits z k) = inl z
-    go pre (exceeds z m x post q b c d) = inr z
+stop-numbers = the-stop-numbers seatNext card CardSaid countsOf runs passes stops

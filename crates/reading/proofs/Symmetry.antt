@@ -22,17 +22,17 @@ use Rattle.reading.proofs.Through.{and-true}
 
 -- ---- one relation and one d
 
-relation-same : (p q : Relation) → sameRelation p q ≡ true → q ≡ p
+pub relation-same : (p q : Relation) → sameRelation p q ≡ true → q ≡ p
 relation-same is is e = refl
 relation-same is isnt e = absurd (false≢true e)
 relation-same isnt is e = absurd (false≢true e)
 relation-same isnt isnt e = refl
 
-same-relation : (p : Relation) → sameRelation p p ≡ true
+pub same-relation : (p : Relation) → sameRelation p p ≡ true
 same-relation is = refl
 same-relation isnt = refl
 
-alike-all : (l : Literal) (ls : List Literal) → alike l ls ≡ true → Every (λ x. x .relation ≡ l .relation) ls × Every (λ x. x .d ≡ l .d) ls
+pub alike-all : (l : Literal) (ls : List Literal) → alike l ls ≡ true → Every (λ x. x .relation ≡ l .relation) ls × Every (λ x. x .d ≡ l .d) ls
 alike-all l [] e = (tt, tt)
 alike-all l (x ∷ ls) e =
     let (y, z) = and-true (sameRelation (l .relation) (x .relation) && eqb (l .d) (x .d)) (alike l ls) e in
@@ -40,7 +40,7 @@ alike-all l (x ∷ ls) e =
     let (p, q) = alike-all l ls z in
     ((relation-same (l .relation) (x .relation) v, p), (sym (eqb-true (l .d) (x .d) w), q))
 
-all-alike : (l : Literal) (ls : List Literal) → Every (λ x. x .relation ≡ l .relation) ls → Every (λ x. x .d ≡ l .d) ls → alike l ls ≡ true
+pub all-alike : (l : Literal) (ls : List Literal) → Every (λ x. x .relation ≡ l .relation) ls → Every (λ x. x .d ≡ l .d) ls → alike l ls ≡ true
 all-alike l [] p q = refl
 all-alike l (x ∷ ls) p q = rw (p .0, same-relation (l .relation), eq-eqb (l .d) (x .d) (sym (q .0))) (all-alike l ls (p .1) (q .1))
 
@@ -205,10 +205,10 @@ module _ (a c n : ℕ) (last : a + c ≡ max a (suc n)) where
   above j (inl l) = inl l
   above j (inr l) = inr (omega arith)
 
-  once-is : (ls : List Literal) → once a c ls ≡ true → OnceEach a n ls
+  pub once-is : (ls : List Literal) → once a c ls ≡ true → OnceEach a n ls
   once-is ls e = let (p, q) = once-each a c ls e in record { once = λ j h k. p j h (omega arith); only = λ j o. q j (beyond j o) }
 
-  is-once : (ls : List Literal) → OnceEach a n ls → once a c ls ≡ true
+  pub is-once : (ls : List Literal) → OnceEach a n ls → once a c ls ≡ true
   is-once ls o = each-once-true a c ls (λ j h k. o .once j h (omega arith)) (λ j l. o .only j (above j l))
 
 kind-some : (a b : Bool) → isSome (if a then some everyone else (if b then some others else none)) ≡ true → (a ≡ true) ⊎ (b ≡ true)
@@ -241,7 +241,7 @@ symmetric-is n (l ∷ ls) e =
     seats (inr e) = inr (once-is 2 (n - 1) n (omega arith) (l ∷ ls) e)
 
 -- all equal to one, so to the first
-first-of : {A B : Type 0} (f : A → B) (b : B) (x : A) (xs : List A) → f x ≡ b → Every (λ y. f y ≡ b) xs → Every (λ y. f y ≡ f x) xs
+pub first-of : {A B : Type 0} (f : A → B) (b : B) (x : A) (xs : List A) → f x ≡ b → Every (λ y. f y ≡ b) xs → Every (λ y. f y ≡ f x) xs
 first-of f b x [] e h = tt
 first-of f b x (y ∷ xs) e h = (h .0 ∙ sym e, first-of f b x xs e (h .1))
 

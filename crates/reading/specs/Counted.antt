@@ -10,7 +10,7 @@ use Rattle.marks.specs.Marks.{number, placed}
 use Rattle.reading.specs.Reader.{Place, Numbered}
 use Rattle.reading.specs.Group.{joint, Literals}
 use Rattle.reading.specs.Shape.{BranchShape, StatementShape, CardShape}
-use Rattle.reading.specs.Grammar.{Said, signAt, LineSaid, moduleRun, ManySaid, done, again, Part, GuardSaid, grouped, negated, bracketed, single, further, RestSaid, nothing, guarded, BranchSaid, PlusSaid, plus, StatementSaid, statement, CardSaid, card}
+use Rattle.reading.specs.Grammar.{Said, signAt, LineSaid, moduleRun, ManySaid, done, again, Part, FormulaSaid, grouped, negated, bracketed, single, further, RestSaid, nothing, guarded, BranchSaid, PlusSaid, plus, StatementSaid, statement, CardSaid, card}
 
 -- the how-manieth of its kind it is, or its value; the most that there may be; where it stands
 pub record Counted : Type 0 where
@@ -40,11 +40,11 @@ pub record FirstPast (cs : List Counted) (p : Place) : Type 0 where
 -- ---- guards: nodes, a group at its bracket and a joined node at its sign; and open brackets and `!`
 
 -- so many nodes of the statement stand before it, and so many brackets and `!` are open around it
-abbrev pub countedGuard : {A : Type 0} {Group : Place → Said A} {v : Part} {ms r : Place} {g : Formula A} → ℕ → ℕ → GuardSaid Group v ms g r → List Counted
+abbrev pub countedGuard : {A : Type 0} {Free : Place → Type 0} {Group : Place → Said A} {v : Part} {ms r : Place} {g : Formula A} → ℕ → ℕ → FormulaSaid Free Group v ms g r → List Counted
 countedGuard nodes around (grouped {a} {ms} x) = counted (suc nodes) mostNodes (signAt "(" a ∷ ms) ∷ []
 countedGuard nodes around (negated {a} {ms} u) =
     counted (suc nodes) mostNodes (signAt "!" a ∷ ms) ∷ counted (suc around) mostDepth (signAt "!" a ∷ ms) ∷ countedGuard (suc nodes) (suc around) u
-countedGuard nodes around (bracketed {a} {ms = ms} u) = counted (suc around) mostDepth (signAt "(" a ∷ ms) ∷ countedGuard nodes (suc around) u
+countedGuard nodes around (bracketed {a} {ms = ms} f u) = counted (suc around) mostDepth (signAt "(" a ∷ ms) ∷ countedGuard nodes (suc around) u
 countedGuard nodes around (single u) = countedGuard nodes around u
 countedGuard nodes around (further {s} {a} {ns = ns} {g = g} us u) =
     countedGuard nodes around us

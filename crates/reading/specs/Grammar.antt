@@ -67,12 +67,15 @@ pub data LiteralSaid : Place → Literal → Place → Type 0 where
   literal : {i d a b c : ℕ} {q : Relation} {r : Place}
       → LiteralSaid (placed (seat i) a ∷ signAt (relation q) b ∷ placed (number d) c ∷ r) (literalOf i q d (placed (number d) c ∷ r)) r
 
--- further literals, each behind the sign, and the closing bracket
-pub data OthersSaid (s : Sign) : Place → List Literal → Place → Type 0 where
-  close : {a : ℕ} {r : Place} → OthersSaid s (signAt ")" a ∷ r) [] r
-  next : {a : ℕ} {ms ns r : Place} {l : Literal} {ls : List Literal}
-      → LiteralSaid ms l ns → OthersSaid s ns ls r
-      → OthersSaid s (signAt (joint s) a ∷ ms) (l ∷ ls) r
+-- further things of one kind, each behind the sign, and the closing bracket
+pub data JoinedSaid {A : Type 0} (One : Said A) (s : Sign) : Place → List A → Place → Type 0 where
+  close : {a : ℕ} {r : Place} → JoinedSaid One s (signAt ")" a ∷ r) [] r
+  next : {a : ℕ} {ms ns r : Place} {l : A} {ls : List A}
+      → One ms l ns → JoinedSaid One s ns ls r
+      → JoinedSaid One s (signAt (joint s) a ∷ ms) (l ∷ ls) r
+
+abbrev pub OthersSaid : Sign → Place → List Literal → Place → Type 0
+OthersSaid s = JoinedSaid LiteralSaid s
 
 -- behind a bracket at p; a literal alone goes with `&`
 pub data GroupSaid (p : Place) : Place → Literals → Place → Type 0 where
@@ -99,17 +102,24 @@ abbrev pub joining : {A : Type 0} → Sign → Formula A → Formula A → Formu
 joining all g h = and g h
 joining any g h = or g h
 
--- over what a group is: said of the place of its bracket and of the marks behind it
-pub data GuardSaid {A : Type 0} (Group : Place → Said A) : Part → Place → Formula A → Place → Type 0 where
-  grouped : {a : ℕ} {ms r : Place} {x : A} → Group (signAt "(" a ∷ ms) ms x r → GuardSaid Group unary (signAt "(" a ∷ ms) (atom x) r
-  negated : {a : ℕ} {ms r : Place} {g : Formula A} → GuardSaid Group unary ms g r → GuardSaid Group unary (signAt "!" a ∷ ms) (neg g) r
+-- over what a group is: said of the place of its bracket and of the marks behind it; and over what may stand behind an expression's bracket
+pub data FormulaSaid {A : Type 0} (Free : Place → Type 0) (Group : Place → Said A) : Part → Place → Formula A → Place → Type 0 where
+  grouped : {a : ℕ} {ms r : Place} {x : A} → Group (signAt "(" a ∷ ms) ms x r → FormulaSaid Free Group unary (signAt "(" a ∷ ms) (atom x) r
+  negated : {a : ℕ} {ms r : Place} {g : Formula A} → FormulaSaid Free Group unary ms g r → FormulaSaid Free Group unary (signAt "!" a ∷ ms) (neg g) r
   bracketed : {a b : ℕ} {ms r : Place} {g : Formula A}
-      → GuardSaid Group (joinedBy any) ms g (signAt ")" b ∷ r)
-      → GuardSaid Group unary (signAt "(" a ∷ ms) g r
-  single : {s : Sign} {ms r : Place} {g : Formula A} → GuardSaid Group (operand s) ms g r → GuardSaid Group (joinedBy s) ms g r
+      → Free ms → FormulaSaid Free Group (joinedBy any) ms g (signAt ")" b ∷ r)
+      → FormulaSaid Free Group unary (signAt "(" a ∷ ms) g r
+  single : {s : Sign} {ms r : Place} {g : Formula A} → FormulaSaid Free Group (operand s) ms g r → FormulaSaid Free Group (joinedBy s) ms g r
   further : {s : Sign} {a : ℕ} {ms ns r : Place} {g h : Formula A}
-      → GuardSaid Group (joinedBy s) ms g (signAt (joint s) a ∷ ns) → GuardSaid Group (operand s) ns h r
-      → GuardSaid Group (joinedBy s) ms (joining s g h) r
+      → FormulaSaid Free Group (joinedBy s) ms g (signAt (joint s) a ∷ ns) → FormulaSaid Free Group (operand s) ns h r
+      → FormulaSaid Free Group (joinedBy s) ms (joining s g h) r
+
+-- on a card anything may
+abbrev pub Anything : Place → Type 0
+Anything ms = Unit {0}
+
+abbrev pub GuardSaid : {A : Type 0} → (Place → Said A) → Part → Place → Formula A → Place → Type 0
+GuardSaid Group v ms g r = FormulaSaid Anything Group v ms g r
 
 -- behind the local guard: any number of `& unary`
 pub data RestSaid : Place → Option (Formula Literals) → Place → Type 0 where

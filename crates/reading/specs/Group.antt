@@ -49,23 +49,26 @@ literal = do
   d ← the numberOf
   return (literalOf i q d p)
 
--- after a literal: others, each after the sign, then the closing bracket; `most` is the number of marks left, and is never met
-abbrev pub others : String → ℕ → Reader (List Literal)
-others t zero =
+-- behind one of them: others, each after the sign, then the closing bracket; `most` is the number of marks left, and is never met
+abbrev pub joined : {A : Type 0} → Reader A → String → ℕ → Reader (List A)
+joined one t zero =
     ifNext t (refuse pastLimit)
     (do
       sign ")"
       return [])
-others t (suc most) =
+joined one t (suc most) =
     ifNext t
     (do
       sign t
-      l ← literal
-      ls ← others t most
-      return (l ∷ ls))
+      x ← one
+      xs ← joined one t most
+      return (x ∷ xs))
     (do
       sign ")"
       return [])
+
+abbrev pub others : String → ℕ → Reader (List Literal)
+others t most = joined literal t most
 
 -- behind the bracket, which is at p; one literal alone counts as joined by `&`
 abbrev pub group : Place → Reader Literals

@@ -19,9 +19,12 @@ abbrev pub seatNext : Place → Bool
 seatNext [] = false
 seatNext (placed m p ∷ ms) = isSome (seatOf m)
 
--- the one reader if a seat word follows, else the other
+-- the one reader if what is looked for follows, else the other
+abbrev pub ifAhead : {A : Type 0} → (Place → Bool) → Reader A → Reader A → Reader A
+ifAhead starts p q = λ s. (if starts (s .marks) then p else q) s
+
 abbrev pub ifSeat : {A : Type 0} → Reader A → Reader A → Reader A
-ifSeat p q = λ s. (if seatNext (s .marks) then p else q) s
+ifSeat p q = ifAhead seatNext p q
 
 abbrev pub Read : Type 0 → Type 0
 Read A = Reader (Formula A)
@@ -52,33 +55,36 @@ module _ {A : Type 0} where
     chain "|" or (conjunction unary) mostNodes g
 
   -- the group's reader gets the place of the bracket, and begins behind it
-  module _ (group : Place → Reader A) where
-    abbrev pub grouped : Place → Read A
-    grouped p = do
-      nodeAt p
-      a ← group p
-      return (atom a)
+  abbrev pub grouped : (Place → Reader A) → Place → Read A
+  grouped group p = do
+    nodeAt p
+    a ← group p
+    return (atom a)
 
-    -- with so many open brackets and `!` left
-    abbrev pub unary : ℕ → Read A
-    unary zero =
-        ifNext "!" (refuse pastLimit)
-        (do
-          p ← here
-          sign "("
-          ifSeat (grouped p) (refuseAt pastLimit p))
-    unary (suc depth) =
-        ifNext "!"
-        (do
-          node
-          sign "!"
-          g ← unary depth
-          return (neg g))
-        (do
-          p ← here
-          sign "("
-          ifSeat (grouped p)
-              (do
-                g ← expression (unary depth)
-                sign ")"
-                return g))
+  -- with so many open brackets and `!` left; `starts` tells from the marks behind a bracket whether it starts a group
+  abbrev pub unaryBy : (Place → Bool) → (Place → Reader A) → ℕ → Read A
+  unaryBy starts group zero =
+      ifNext "!" (refuse pastLimit)
+      (do
+        p ← here
+        sign "("
+        ifAhead starts (grouped group p) (refuseAt pastLimit p))
+  unaryBy starts group (suc depth) =
+      ifNext "!"
+      (do
+        node
+        sign "!"
+        g ← unaryBy starts group depth
+        return (neg g))
+      (do
+        p ← here
+        sign "("
+        ifAhead starts (grouped group p)
+            (do
+              g ← expression (unaryBy starts group depth)
+              sign ")"
+              return g))
+
+  -- on a card a seat word starts a group
+  abbrev pub unary : (Place → Reader A) → ℕ → Read A
+  unary group depth = unaryBy seatNext group depth

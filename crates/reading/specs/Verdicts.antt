@@ -15,7 +15,7 @@ use Rattle.reading.specs.Judgements.{Judgement, placeIn}
 use Rattle.reading.specs.Shape.{CardShape}
 use Rattle.reading.specs.Checks.{judgedCard, seatsIn, cardIn}
 use Rattle.reading.specs.Grammar.{CardSaid}
-use Rattle.reading.specs.Counted.{Within, FirstPast, countedCard}
+use Rattle.reading.specs.Counted.{Counted, Within, FirstPast, countedCard}
 use Rattle.reading.specs.Rules.{Kept, Breaks}
 
 -- ---- 1 and 2
@@ -41,39 +41,56 @@ pub record OutsideRules (s : List ℕ) (p : ℕ) : Type 0 where
   pub split : marksOf s ≡ before ++ (placed outside p ∷ after)
   pub inside : Inside before
 
--- ---- 3: where no card goes on as these marks do
+-- ---- 3: where nothing of a language goes on as these marks do
 
--- further marks, at any places, make a card's shape of them
-abbrev pub Completable : Place → Type 0
-Completable ms = (post : Place) × (c : CardShape) × CardSaid (ms ++ post) c
+-- further marks, at any places, make such a shape of them
+abbrev pub CompletableIn : {C : Type 0} → (Place → C → Type 0) → Place → Type 0
+CompletableIn {C} Said ms = (post : Place) × (c : C) × Said (ms ++ post) c
 
--- with the next mark no completion is left; or none follows, and these are no card
-abbrev pub Hopeless : Place → Place → Type 0
-Hopeless before [] = (c : CardShape) → CardSaid before c → ⊥
-Hopeless before (m ∷ after) = Completable (before ++ (m ∷ [])) → ⊥
+-- with the next mark no completion is left; or none follows, and these are none
+abbrev pub HopelessIn : {C : Type 0} → (Place → C → Type 0) → Place → Place → Type 0
+HopelessIn {C} Said before [] = (c : C) → Said before c → ⊥
+HopelessIn Said before (m ∷ after) = CompletableIn Said (before ++ (m ∷ [])) → ⊥
 
--- up to r the marks ms begin as a card does, and at r they go on as none does
-pub record UnfitAt (ms r : Place) : Type 0 where
+-- up to r the marks ms begin as one does, and at r they go on as none does
+pub record UnfitIn {C : Type 0} (Said : Place → C → Type 0) (ms r : Place) : Type 0 where
   pub before : Place
   pub split : ms ≡ before ++ r
-  pub possible : Completable before
-  pub impossible : Hopeless before r
+  pub possible : CompletableIn Said before
+  pub impossible : HopelessIn Said before r
 
 -- ---- 4: a mark that passes a limit
 
--- up to the mark at r the marks ms begin as a card of the right shape does, on which that mark is the first to pass a limit. What follows it
--- there is left open, but for one thing: whether an opening bracket starts a group is told by the mark behind it
-pub record PastAt (ms r : Place) : Type 0 where
+-- up to the mark at r the marks ms begin as one of the right shape does, in which that mark is the first to pass a limit. What follows it
+-- there is left open, but for one thing: what is looked for behind an opening bracket
+pub record PastIn {C Look : Type 0} (Said : Place → C → Type 0) (counts : (ms : Place) (c : C) → Said ms c → List Counted) (look : Place → Look) (ms r : Place) : Type 0 where
   pub before : Place
   pub mark : Placed
   pub after : Place
   pub split : ms ≡ before ++ (mark ∷ after)
   pub place : r ≡ mark ∷ after
   pub other : Place
-  pub starts : nextIs "(" (mark ∷ after) ≡ true → seatNext after ≡ seatNext other
-  pub shape : CardShape
-  pub said : CardSaid (before ++ (mark ∷ other)) shape
-  pub past : FirstPast (countedCard said) (mark ∷ other)
+  pub starts : nextIs "(" (mark ∷ after) ≡ true → look after ≡ look other
+  pub shape : C
+  pub said : Said (before ++ (mark ∷ other)) shape
+  pub past : FirstPast (counts (before ++ (mark ∷ other)) shape said) (mark ∷ other)
+
+-- ---- on a card: whether an opening bracket starts a group is told by the mark behind it
+
+abbrev pub countsOf : (ms : Place) (c : CardShape) → CardSaid ms c → List Counted
+countsOf ms c d = countedCard d
+
+abbrev pub Completable : Place → Type 0
+Completable ms = CompletableIn CardSaid ms
+
+abbrev pub Hopeless : Place → Place → Type 0
+Hopeless before r = HopelessIn CardSaid before r
+
+abbrev pub UnfitAt : Place → Place → Type 0
+UnfitAt ms r = UnfitIn CardSaid ms r
+
+abbrev pub PastAt : Place → Place → Type 0
+PastAt ms r = PastIn CardSaid countsOf seatNext ms r
 
 -- ---- 3 and 4 on a card, by place; a mark that passes a limit is still one of the shape, so no 3 stands before it or there
 

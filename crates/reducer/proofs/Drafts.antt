@@ -10,7 +10,8 @@ use Rattle.card.specs.Refusals.{roomTooSmall}
 use Rattle.room.specs.declared.Answer.{Answer}
 use Rattle.room.specs.declared.Answer.the-variants.{Done, Refused}
 use Rattle.room.specs.Room.{cap, Put}
-use Rattle.room.specs.Answer.{Said, text, Entered}
+use Rattle.entry.specs.Said.{says as text}
+use Rattle.room.specs.Answer.{Text, Entered}
 use Rattle.room.proofs.Laws.{clip-start, put-length}
 use Rattle.room.proofs.Entries.{entered-whole}
 
@@ -36,13 +37,13 @@ module _ {was draft t : List ℕ} {m : ℕ} (b : length t ≤ cap) (p : Put was 
     pub drafted-count : m ≡ length (take m draft)
     drafted-count = drafted-long ∙ sym (ap length drafted-text)
 
-    pub entered-copied : {room is : List ℕ} {said : Said} {r : ℕ} → said ≡ text t → m ≤ length room → Put room is 0 (take m draft) r → Entered room is said (Done r)
+    pub entered-copied : {room is : List ℕ} {said : Text} {r : ℕ} → said ≡ text t → m ≤ length room → Put room is 0 (take m draft) r → Entered room is said (Done r)
     entered-copied says l q = entered-whole says (omega (arith, drafted-long)) (rw drafted-text at q)
 
-  pub entered-short : {room : List ℕ} {said : Said} → said ≡ text t → length room < m → Entered room room said (Refused roomTooSmall m)
+  pub entered-short : {room : List ℕ} {said : Text} → said ≡ text t → length room < m → Entered room room said (Refused roomTooSmall m)
   entered-short {room} says l =
       let k : length room < length t = omega (arith, drafted-long) in
       rw (says, drafted-long) (record { answers = rw (lt-leb (length t) (length room) k); leaves = rw (lt-leb (length t) (length room) k) })
 
-  pub entered-again : {room is : List ℕ} {said : Said} {r : ℕ} → said ≡ text t → m ≤ length room → Put room is 0 t r → Entered room is said (Done r)
+  pub entered-again : {room is : List ℕ} {said : Text} {r : ℕ} → said ≡ text t → m ≤ length room → Put room is 0 t r → Entered room is said (Done r)
   entered-again says l q = entered-whole says (omega (arith, drafted-long)) q

@@ -1,5 +1,4 @@
 pub mod Drafts
 pub mod Laws
 pub mod Short
-pub mod Theorems
 pub mod Examples

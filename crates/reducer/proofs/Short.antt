@@ -21,7 +21,7 @@ use Rattle.meaning.specs.Formulas.{over}
 use Rattle.meaning.specs.Reduced.{Bound, equalTo, moreThan, lessThan, counterOf, table, testOf, Update, keep, shift, updateOf, copy, copies, reduce}
 use Rattle.table.specs.Bounds.{boundRow}
 use Rattle.room.specs.Room.{cap}
-use Rattle.room.specs.Answer.{text}
+use Rattle.entry.specs.Said.{says as text}
 use Rattle.phrases.specs.Phrases.{_▸_, num, modeText}
 use Rattle.phrases.proofs.Counted.{Text}
 use Rattle.phrases.proofs.Adds.{Adds, adds-then, adds-up, adds-none, adds-bytes, adds-state, adds-seats, weightMost, adds-weight, adds-mode}

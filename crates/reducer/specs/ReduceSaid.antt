@@ -2,9 +2,16 @@
 use Prim.Native.Nat.{ℕ}
 use mathlib.Core.List.{List}
 use Rattle.card.specs.Card.{Card}
-use Rattle.room.specs.Answer.{Said, text}
-use Rattle.rows.specs.Said.{saidOf}
+use Rattle.entry.specs.Said.{_>>=_, return}
+use Rattle.room.specs.Answer.{Text}
+use Rattle.rows.specs.Said.{cardSaid}
 use Rattle.reducer.specs.ReducedText.{reducedOf}
 
-unfoldable pub reduceSaid : List ℕ → Said
-reduceSaid card = saidOf (λ (c : Card). text (reducedOf c)) card
+-- of a card that is taken
+abbrev pub reduceCard : Card → Text
+reduceCard c = return (reducedOf c)
+
+unfoldable pub reduceSaid : List ℕ → Text
+reduceSaid card = do
+  c ← cardSaid card
+  reduceCard c

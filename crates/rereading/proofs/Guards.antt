@@ -40,7 +40,7 @@ module _ {n k : ℕ} where
   bracket : {a b deep : ℕ} {g : Guard} {ms rest : Place} → GuardWritten n k (joinedBy any) deep g ms (signAt ")" b ∷ rest) → GuardWritten n k unary (suc deep) g (signAt "(" a ∷ ms) rest
   bracket w = record {
     found = w .found;
-    said = bracketed (w .said);
+    said = bracketed tt (w .said);
     means = w .means;
     kept = w .kept;
     large = w .large;

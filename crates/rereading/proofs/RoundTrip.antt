@@ -178,7 +178,7 @@ group-inside (disjoined l o) = literal-inside l ∙ others-inside o
 guard-inside : {v : Rattle.reading.specs.Grammar.Part} {ms r : Place} {g : Rattle.card.specs.Card.Formula Literals} → GuardSaid GroupSaid v ms g r → Inside ms r
 guard-inside (grouped d) = group-inside d
 guard-inside (negated d) = guard-inside d
-guard-inside (bracketed d) = guard-inside d
+guard-inside (bracketed f d) = guard-inside d
 guard-inside (single d) = guard-inside d
 guard-inside (further d u) = guard-inside d ∙ guard-inside u
 

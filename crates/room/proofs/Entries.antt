@@ -14,13 +14,15 @@ use Rattle.card.specs.Refusals.{roomTooSmall}
 use Rattle.room.specs.declared.Answer.{Answer}
 use Rattle.room.specs.declared.Answer.the-variants.{Done, Refused}
 use Rattle.room.specs.Room.{cap, Put}
-use Rattle.room.specs.Answer.{Said, text, refused, answerNumber, Entered, Longer}
+use Rattle.entry.specs.Contract.{Faithful}
+use Rattle.entry.specs.Said.{says as text, refused}
+use Rattle.room.specs.Answer.{Text, told, answerNumber, answerValue, Entered, Longer}
 use Rattle.room.proofs.Laws.{clip-past, clip-start}
 
 -- ---- how an entry keeps the promise
 
 -- it refuses before it puts anything
-pub entered-refused : {was : List ℕ} {said : Said} {number place : ℕ} → said ≡ refused number place
+pub entered-refused : {was : List ℕ} {said : Text} {number place : ℕ} → said ≡ refused number place
     → Entered was was said (Refused number place)
 entered-refused e = rw e (record { answers = refl; leaves = refl })
 
@@ -33,7 +35,7 @@ put-fits {was} {is} {t} h p =
     }
 
 -- a text that is known to fit is put at once
-pub entered-whole : {was is t : List ℕ} {said : Said} {r : ℕ} → said ≡ text t → length t ≤ length was → Put was is 0 t r → Entered was is said (Done r)
+pub entered-whole : {was is t : List ℕ} {said : Text} {r : ℕ} → said ≡ text t → length t ≤ length was → Put was is 0 t r → Entered was is said (Done r)
 entered-whole says h p = rw says (put-fits h p)
 
 put-longer : (was t : List ℕ) → length was < length t → Entered was was (text t) (Refused roomTooSmall (length t))
@@ -47,7 +49,7 @@ put-longer was t h =
 pub measured : {e : List ℕ} {at : ℕ} {s : List ℕ} {m : ℕ} → Put [] e at s m → e ≡ []
 measured {at = at} {s = s} p = p .wrote ∙ clip-past [] at s (omega arith)
 
-module _ {e was t : List ℕ} {said : Said} {m : ℕ} (says : said ≡ text t) (first : Put [] e 0 t m) where
+module _ {e was t : List ℕ} {said : Text} {m : ℕ} (says : said ≡ text t) (first : Put [] e 0 t m) where
   -- the length is above the room's: it answers that length, and puts nothing more
   pub entered-small : length t ≤ cap → length (e ++ was) < m → Entered was (e ++ was) said (Refused roomTooSmall m)
   entered-small b h =
@@ -64,7 +66,7 @@ module _ {e was t : List ℕ} {said : Said} {m : ℕ} (says : said ≡ text t) (
 -- ---- what the promise says
 
 -- two answers and rooms that keep it are the same
-pub entered-unique : {was is₁ is₂ : List ℕ} {said : Said} {a₁ a₂ : Answer} → Entered was is₁ said a₁ → Entered was is₂ said a₂
+pub entered-unique : {was is₁ is₂ : List ℕ} {said : Text} {a₁ a₂ : Answer} → Entered was is₁ said a₁ → Entered was is₂ said a₂
     → (a₁ ≡ a₂) × (is₁ ≡ is₂)
 entered-unique p q = (p .answers ∙ sym (q .answers), p .leaves ∙ sym (q .leaves))
 
@@ -91,14 +93,24 @@ by-room {C} t was fits longer = go (decLe (length t) (length was))
     go (yes h) = fits h
     go (no h) = longer (omega arith)
 
+-- what is said can be read off the answer
+pub told-faithful : Faithful told
+told-faithful (text a) (text b) e = ap text (ap answerValue e)
+told-faithful (text a) (refused r p) e = done≢refused e
+told-faithful (refused r p) (text a) e = done≢refused (sym e)
+told-faithful (refused r p) (refused s q) e =
+    let n : r ≡ s = ap answerNumber e in
+    let k : p ≡ q = ap answerValue e in
+    rw (n, k)
+
 -- a refusal leaves the room as it was
-pub entered-kept : {was is : List ℕ} {said : Said} {number place : ℕ} → Entered was is said (Refused number place) → is ≡ was
+pub entered-kept : {was is : List ℕ} {said : Text} {number place : ℕ} → Entered was is said (Refused number place) → is ≡ was
 entered-kept {was} {said = text t} p =
     by-room t was (λ h. done≢refused (sym (entered-fits p h .0))) (λ h. entered-longer p h .1)
 entered-kept {said = refused k x} p = p .leaves
 
 -- success: there was a text that fits, and it stands at the start of the room
-pub entered-text : {was is : List ℕ} {said : Said} {long : ℕ} → Entered was is said (Done long)
+pub entered-text : {was is : List ℕ} {said : Text} {long : ℕ} → Entered was is said (Done long)
     → (t : List ℕ) × (said ≡ text t) × (long ≡ length t) × (long ≤ length was) × (is ≡ t ++ drop long was)
 entered-text {was} {said = text t} {long} p =
     by-room t was
@@ -112,11 +124,11 @@ behind : (t was is : List ℕ) (long : ℕ) → long ≡ length t → is ≡ t +
 behind t was is long e w = rw (w, e) (drop-append-seam t (drop (length t) was))
 
 -- the bytes past its length are as they were
-pub entered-past : {was is : List ℕ} {said : Said} {long : ℕ} → Entered was is said (Done long) → drop long is ≡ drop long was
+pub entered-past : {was is : List ℕ} {said : Text} {long : ℕ} → Entered was is said (Done long) → drop long is ≡ drop long was
 entered-past {was} {is} {long = long} p = let q = entered-text p in behind (q .0) was is long (q .2) (q .4)
 
 -- the room is as long as before
-pub entered-length : {was is : List ℕ} {said : Said} {a : Answer} → Entered was is said a → length is ≡ length was
+pub entered-length : {was is : List ℕ} {said : Text} {a : Answer} → Entered was is said a → length is ≡ length was
 entered-length {was} {said = text t} p =
     by-room t was
     (λ h. ap length (entered-fits p h .1) ∙ rw (length-append, length-drop) (omega arith))
@@ -124,7 +136,7 @@ entered-length {was} {said = text t} p =
 entered-length {said = refused k x} p = ap length (p .leaves)
 
 -- the refusal of a room that is too small is given exactly where there is a text that is longer than the room
-pub small-exactly : {was is : List ℕ} {said : Said} {a : Answer} → Entered was is said a
+pub small-exactly : {was is : List ℕ} {said : Text} {a : Answer} → Entered was is said a
     → ((place : ℕ) → said ≡ refused roomTooSmall place → ⊥) → (answerNumber a ≡ roomTooSmall) ↔ Longer said was
 small-exactly {was} {said = text t} {a} p n = (
   λ e. by-room t was (λ h. absurd (omega (arith, e, ap answerNumber (entered-fits p h .0)))) (λ h. h),

@@ -1,18 +1,20 @@
--- What an entry has to say, its answer, and the lent room afterwards ("Refusal numbers"). Assumes nothing.
+-- What an entry with a text has to say, its answer, and the lent room afterwards ("Refusal numbers"). Assumes nothing.
 use Prim.Native.Nat.{ℕ, _<_}
-use mathlib.Core.Path.{_≡_}
-use mathlib.Core.List.{List, _++_}
-use lib.Dec.{leb}
-use lib.ListN.{length, drop}
-use Rattle.card.specs.Refusals.{roomTooSmall}
-use Rattle.card.specs.Text.{if_then_else_}
+use mathlib.Core.List.{List}
+use lib.ListN.{length}
+use Rattle.entry.specs.Said.{Said, says, refused}
+use Rattle.entry.specs.Contract.{valued, left, Enters, inRoom}
 use Rattle.room.specs.declared.Answer.{Answer}
 use Rattle.room.specs.declared.Answer.the-variants.{Done, Refused}
 
 -- a text, or a refusal with its number and place
-pub data Said : Type 0 where
-  text : List ℕ → Said
-  refused : ℕ → ℕ → Said
+abbrev pub Text : Type 0
+Text = Said (List ℕ)
+
+-- an answer: a number, here a text's length, or the refusal
+abbrev pub told : Said ℕ → Answer
+told (says long) = Done long
+told (refused number place) = Refused number place
 
 -- the number of an answer, 0 if it is no refusal; and the length of the text, or the refusal's place
 abbrev pub answerNumber : Answer → ℕ
@@ -23,22 +25,18 @@ abbrev pub answerValue : Answer → ℕ
 answerValue (Done long) = long
 answerValue (Refused number place) = place
 
--- the answer of an entry that is lent the room `was`
-abbrev pub answered : Said → List ℕ → Answer
-answered (text t) was = if leb (length t) (length was) then Done (length t) else Refused roomTooSmall (length t)
-answered (refused number place) was = Refused number place
+-- the answer of an entry that is lent the room `was`, and the room afterwards
+abbrev pub answered : Text → List ℕ → Answer
+answered said was = told (valued (inRoom was said))
 
--- the room afterwards: a text that fits stands at its start, all else is as it was
-abbrev pub roomAfter : Said → List ℕ → List ℕ
-roomAfter (text t) was = if leb (length t) (length was) then t ++ drop (length t) was else was
-roomAfter (refused number place) was = was
+abbrev pub roomAfter : Text → List ℕ → List ℕ
+roomAfter said was = left was (inRoom was said)
 
 -- what an entry promises: the room `was` became `is`
-pub record Entered (was is : List ℕ) (said : Said) (answer : Answer) : Type 0 where
-  pub answers : answer ≡ answered said was
-  pub leaves : is ≡ roomAfter said was
+abbrev pub Entered : (was is : List ℕ) → Text → Answer → Type 0
+Entered was is said answer = Enters inRoom told was is said answer
 
 -- is there a text that is longer than the room?
-abbrev pub Longer : Said → List ℕ → Type 0
-Longer (text t) was = length was < length t
+abbrev pub Longer : Text → List ℕ → Type 0
+Longer (says t) was = length was < length t
 Longer (refused number place) was = ⊥

@@ -13,8 +13,8 @@ use Rattle.reader.specs.ReadingOf.{readingOf, Reads}
 use Rattle.reader.specs.declared.Verdict.{Verdict}
 use Rattle.reader.specs.declared.Verdict.the-variants.{Taken, Refused}
 use Rattle.reader.specs.declared.Reading.{Reading}
-use Rattle.room.specs.Answer.{Said, refused}
-use Rattle.rows.specs.Said.{saidBy, saidOf}
+use Rattle.entry.specs.Said.{Said, refused, _>>=_}
+use Rattle.rows.specs.Said.{outcomeSaid, cardSaid}
 use Rattle.rows.specs.Rows.{Holds}
 
 taken≢refused : {A : Type 0} {number place : ℕ} → Taken ≡ Refused number place → A
@@ -39,11 +39,11 @@ module _ (s : List ℕ) {x : Reading} (h : Reads s x) where
       go (turned r p) e = taken≢refused (sym v ∙ verdict-is e)
 
   -- f: what an entry says of a card
-  module _ (f : Card → Said) where
-    pub refused-said : {number place : ℕ} → x .verdict ≡ Refused number place → saidOf f s ≡ refused number place
+  module _ {B : Type 0} (f : Card → Said B) where
+    pub refused-said : {number place : ℕ} → x .verdict ≡ Refused number place → cardSaid s >>= f ≡ refused number place
     refused-said {number} {place} v = go (readOf s) refl
       where
-        go : (o : Outcome) → readOf s ≡ o → saidBy f (readOf s) ≡ refused number place
+        go : (o : Outcome) → readOf s ≡ o → outcomeSaid (readOf s) >>= f ≡ refused number place
         go (taken c) e = taken≢refused (sym (verdict-is e) ∙ v)
         go (turned r p) e =
             let z : Refused r p ≡ Refused number place = sym (verdict-is e) ∙ v in
@@ -51,9 +51,9 @@ module _ (s : List ℕ) {x : Reading} (h : Reads s x) where
             let q : p ≡ place = cc in
             rw (e, n, q)
 
-    pub taken-said : x .verdict ≡ Taken → f (cardOf (x .card)) ≡ saidOf f s
+    pub taken-said : x .verdict ≡ Taken → f (cardOf (x .card)) ≡ cardSaid s >>= f
     taken-said v = go (readOf s) refl
       where
-        go : (o : Outcome) → readOf s ≡ o → f (cardOf (x .card)) ≡ saidBy f (readOf s)
+        go : (o : Outcome) → readOf s ≡ o → f (cardOf (x .card)) ≡ outcomeSaid (readOf s) >>= f
         go (taken c) e = rw (e, lies e, laid-back c (h .valid c e))
         go (turned r p) e = taken≢refused (sym v ∙ verdict-is e)

@@ -1,14 +1,24 @@
--- What an entry that takes a card as bytes has to say of them: the card's refusal, or what it says of the card ("Refusal numbers").
--- Assumes nothing.
+-- The first stage of an entry that takes a card as bytes: the card's refusal, or the card ("Refusal numbers"). Assumes nothing.
 use Prim.Native.Nat.{ℕ}
-use mathlib.Core.List.{List}
+use mathlib.Core.Path.{_≡_}
+use mathlib.Core.List.{List, [], _∷_}
+use Rattle.card.specs.Refusals.{wrongWeight}
 use Rattle.card.specs.Card.{Card}
 use Rattle.reading.specs.Reading.{Outcome, taken, refused as turned, readOf}
-use Rattle.room.specs.Answer.{Said, refused}
+use Rattle.entry.specs.Said.{Said, says, refused, _>>=_}
+use Rattle.entry.specs.Numbers.{Numbers, _to_}
 
-abbrev pub saidBy : (Card → Said) → Outcome → Said
-saidBy f (taken c) = f c
-saidBy f (turned number place) = refused number place
+abbrev pub outcomeSaid : Outcome → Said Card
+outcomeSaid (taken c) = says c
+outcomeSaid (turned number place) = refused number place
 
-abbrev pub saidOf : (Card → Said) → List ℕ → Said
-saidOf f card = saidBy f (readOf card)
+abbrev pub cardSaid : List ℕ → Said Card
+cardSaid card = outcomeSaid (readOf card)
+
+-- its numbers
+abbrev pub cardNumbers : Numbers
+cardNumbers = (0 to wrongWeight) ∷ []
+
+-- a card that is taken
+abbrev pub Read : List ℕ → Type 0
+Read card = (c : Card) × (readOf card ≡ taken c)

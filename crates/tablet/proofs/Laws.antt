@@ -9,11 +9,11 @@ use Rattle.reader.specs.declared.Verdict.{Verdict}
 use Rattle.reader.specs.declared.Verdict.the-variants.{Taken, Refused}
 use Rattle.reader.specs.declared.Reading.{Reading}
 use Rattle.room.specs.declared.Answer.{Answer}
-use Rattle.room.specs.Answer.{Said, Entered}
+use Rattle.room.specs.Answer.{Text, Entered}
 use Rattle.tablet.specs.declared.OpenPanelAnswer.{OpenPanelAnswer}
 use Rattle.tablet.specs.Told.{numbers, judged, Told}
 
-pub told : {was is : List ℕ} {said : Said} {a : Answer} {r : OpenPanelAnswer} → Entered was is said a → r ≡ numbers a → Told was is said r
+pub told : {was is : List ℕ} {said : Text} {a : Answer} {r : OpenPanelAnswer} → Entered was is said a → r ≡ numbers a → Told was is said r
 told e n = record { answers = n ∙ ap numbers (e .answers); leaves = e .leaves }
 
 -- the verdict in numbers

@@ -1,4 +1,3 @@
 pub mod Laws
 pub mod Short
-pub mod Theorems
 pub mod Examples

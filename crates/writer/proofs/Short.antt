@@ -14,7 +14,7 @@ use Rattle.card.specs.Valid.{firstSeat, Enough, Level, loose, middle, tight, ne
 use Rattle.card.specs.Laid.{laid, cardOf}
 use Rattle.card.specs.declared.Card.{Card as CardRow}
 use Rattle.room.specs.Room.{cap}
-use Rattle.room.specs.Answer.{text}
+use Rattle.entry.specs.Said.{says as text}
 use Rattle.phrases.specs.Phrases.{_▸_, num, modeText}
 use Rattle.phrases.proofs.Adds.{Adds, adds-then, adds-up, adds-none, adds-bytes, adds-state, adds-seats, weightMost, adds-weight, adds-mode}
 use Rattle.rows.specs.Rows.{rowsOf, Holds}

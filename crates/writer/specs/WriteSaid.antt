@@ -2,9 +2,16 @@
 use Prim.Native.Nat.{ℕ}
 use mathlib.Core.List.{List}
 use Rattle.card.specs.Card.{Card}
-use Rattle.room.specs.Answer.{Said, text}
-use Rattle.rows.specs.Said.{saidOf}
+use Rattle.entry.specs.Said.{_>>=_, return}
+use Rattle.room.specs.Answer.{Text}
+use Rattle.rows.specs.Said.{cardSaid}
 use Rattle.writer.specs.Writing.{writeOf}
 
-unfoldable pub writeSaid : List ℕ → Said
-writeSaid card = saidOf (λ (c : Card). text (writeOf c)) card
+-- of a card that is taken
+abbrev pub writeCard : Card → Text
+writeCard c = return (writeOf c)
+
+unfoldable pub writeSaid : List ℕ → Text
+writeSaid card = do
+  c ← cardSaid card
+  writeCard c

@@ -1,6 +1,5 @@
 use mathlib.Core.Path.{sym}
-use Rattle.reducer.specs.ReduceSaid.{reduceSaid}
-use Rattle.reducer.proofs.Theorems.{said}
+use Rattle.reducer.specs.ReduceSaid.{reduceSaid, reduceCard}
 use Rattle.card.specs.Limits.{nodePlaces, branchPlaces}
 use Rattle.card.proofs.Filling.{zeros-repeat}
 use Rattle.room.proofs.Entries.{entered-refused}
@@ -24,7 +23,7 @@ enum-known-verdict c = search needs
 -- src/lib.rt:534:13
 returns : tie.Need-returns
 unfolding reduceSaid
-returns c = entered-refused (refused-said _ (c .before .before .before .read-into .ensures) said (c .before .verdict .given .1))
+returns c = entered-refused (refused-said _ (c .before .before .before .read-into .ensures) reduceCard (c .before .verdict .given .1))
 
 -- src/lib.rt:537:41
 enum-told : tie.Need-enum-told
@@ -41,7 +40,7 @@ same-length c = search needs
 -- src/lib.rt:537:13
 returns-2 : tie.Need-returns-2
 unfolding reduceSaid
-returns-2 c = rw (taken-said _ (c .before .before .before .before .before .before .before .before .read-into .ensures) said (c .before .before .before .before .before .before .enum-told .given .1)) at (c .before .before .reduce-card .ensures)
+returns-2 c = rw (taken-said _ (c .before .before .before .before .before .before .before .before .read-into .ensures) reduceCard (c .before .before .before .before .before .before .enum-told .given .1)) at (c .before .before .reduce-card .ensures)
 
 pub reduce-spec : {M : Type 1} → statement M
 reduce-spec =

@@ -1,6 +1,5 @@
 use mathlib.Core.Path.{sym}
-use Rattle.writer.specs.WriteSaid.{writeSaid}
-use Rattle.writer.proofs.Theorems.{said}
+use Rattle.writer.specs.WriteSaid.{writeSaid, writeCard}
 use Rattle.card.specs.Limits.{nodePlaces, branchPlaces}
 use Rattle.card.proofs.Filling.{zeros-repeat}
 use Rattle.room.proofs.Entries.{entered-refused}
@@ -24,7 +23,7 @@ enum-known-verdict c = search needs
 -- src/lib.rt:417:13
 returns : tie.Need-returns
 unfolding writeSaid
-returns c = entered-refused (refused-said _ (c .before .before .before .read-into .ensures) said (c .before .verdict .given .1))
+returns c = entered-refused (refused-said _ (c .before .before .before .read-into .ensures) writeCard (c .before .verdict .given .1))
 
 -- src/lib.rt:420:40
 enum-told : tie.Need-enum-told
@@ -41,7 +40,7 @@ same-length c = search needs
 -- src/lib.rt:420:13
 returns-2 : tie.Need-returns-2
 unfolding writeSaid
-returns-2 c = rw (taken-said _ (c .before .before .before .before .before .before .before .before .read-into .ensures) said (c .before .before .before .before .before .before .enum-told .given .1)) at (c .before .before .write-card .ensures)
+returns-2 c = rw (taken-said _ (c .before .before .before .before .before .before .before .before .read-into .ensures) writeCard (c .before .before .before .before .before .before .enum-told .given .1)) at (c .before .before .write-card .ensures)
 
 pub write-spec : {M : Type 1} → statement M
 write-spec =

@@ -1,0 +1,45 @@
+-- The seats as a stage: it passes exactly for valid seatings, and else gives 8 or 9. Assumes nothing.
+use Prim.Native.Nat.{ℕ}
+use mathlib.Core.Path.{_≡_, refl, sym, ap, _∙_}
+use mathlib.Core.Logic.{_↔_, ⊎-elim}
+use mathlib.Core.Bool.{true}
+use mathlib.Core.List.{List}
+use native.Mathlib.Omega.{arith}
+use lib.ListN.{length}
+use Rattle.card.specs.Refusals.{wrongSeats, seatAboveTop}
+use Rattle.card.specs.Card.{Card}
+use Rattle.meaning.specs.Seats.{ValidSeating}
+use Rattle.entry.specs.Said.{Said, says, refused}
+use Rattle.entry.specs.Numbers.{among, Among}
+use Rattle.entry.specs.Stage.{Stage}
+use Rattle.entry.proofs.Stages.{says≢refused, same-number, same-place}
+use Rattle.entry.proofs.Exactly.{_↔∙_}
+use Rattle.counting.specs.declared.Seated.{Seated}
+use Rattle.counting.specs.declared.Seated.the-variants.{Fine, Refused}
+use Rattle.counting.specs.Judged.{judgedSeats, FirstAbove}
+use Rattle.counting.specs.SeatsSaid.{seatedSaid, seatsSaid, seatsNumbers}
+use Rattle.counting.proofs.Judging.{valid-exactly, wrong-seats-exactly, seat-above-exactly, judged-else}
+
+seated-refused : (s : Seated) (r p : ℕ) → (seatedSaid s ≡ refused r p) ↔ (s ≡ Refused r p)
+seated-refused Fine r p = (λ e. says≢refused e, λ e. let z : _≡_ {A = ℕ} 0 1 = cc in absurd (omega arith))
+seated-refused (Refused s q) r p = (λ e. rw (same-number e, same-place e), λ e. ap seatedSaid e)
+
+seated-fine : (s : Seated) (u : Unit {0}) → seatedSaid s ≡ says u → s ≡ Fine
+seated-fine Fine u e = refl
+seated-fine (Refused s q) u e = says≢refused (sym e)
+
+module _ (seats : List ℕ) (c : Card) where
+  pub seats-stage : Stage (seatsSaid seats c) seatsNumbers (ValidSeating c seats) (λ _. tt)
+  seats-stage = record {
+    numbers = record { number = λ r p e. ⊎-elim (λ k. rw k) (λ k. rw k) (judged-else (c .n) (c .k) seats r p (seated-refused (judgedSeats (c .n) (c .k) seats) r p .0 e)) };
+    found = record {
+      each = λ ok. ap seatedSaid (valid-exactly c seats .1 ok);
+      only = λ u e. (valid-exactly c seats .0 (seated-fine (judgedSeats (c .n) (c .k) seats) u e), refl);
+    };
+  }
+
+  pub wrong-count : (p : ℕ) → (seatsSaid seats c ≡ refused wrongSeats p) ↔ ((length seats ≡ c .n → ⊥) × (p ≡ 0))
+  wrong-count p = seated-refused (judgedSeats (c .n) (c .k) seats) wrongSeats p ↔∙ wrong-seats-exactly (c .n) (c .k) seats p
+
+  pub wrong-seat : (p : ℕ) → (seatsSaid seats c ≡ refused seatAboveTop p) ↔ ((length seats ≡ c .n) × FirstAbove (c .k) seats p)
+  wrong-seat p = seated-refused (judgedSeats (c .n) (c .k) seats) seatAboveTop p ↔∙ seat-above-exactly (c .n) (c .k) seats p

@@ -1,0 +1,20 @@
+-- The seats as a stage: 8 and 9, or nothing to say ("Refusal numbers"). Assumes nothing.
+use Prim.Native.Nat.{ℕ}
+use mathlib.Core.List.{List, [], _∷_}
+use Rattle.card.specs.Refusals.{wrongSeats, seatAboveTop}
+use Rattle.card.specs.Card.{Card}
+use Rattle.entry.specs.Said.{Said, says, refused}
+use Rattle.entry.specs.Numbers.{Numbers, _to_}
+use Rattle.counting.specs.declared.Seated.{Seated}
+use Rattle.counting.specs.declared.Seated.the-variants.{Fine, Refused}
+use Rattle.counting.specs.Judged.{judgedSeats}
+
+abbrev pub seatedSaid : Seated → Said (Unit {0})
+seatedSaid Fine = says tt
+seatedSaid (Refused number place) = refused number place
+
+abbrev pub seatsSaid : List ℕ → Card → Said (Unit {0})
+seatsSaid seats c = seatedSaid (judgedSeats (c .n) (c .k) seats)
+
+abbrev pub seatsNumbers : Numbers
+seatsNumbers = (wrongSeats to seatAboveTop) ∷ []

@@ -1,0 +1,4 @@
+pub mod Said
+pub mod Numbers
+pub mod Stage
+pub mod Contract

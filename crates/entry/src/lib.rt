@@ -1,0 +1,1 @@
+// What an entry has to say and what it promises: definitions (specs/) and what is proved of them (proofs/); there is no code here.
