@@ -1,0 +1,64 @@
+#!/usr/bin/env bash
+# docs/CARDS.md says what is so: each card on it shows the panel that stands behind it, and in the table of refusals each line, in its place
+# on the card before the table, is refused as it says, and taken once mended.
+set -eu
+cd "$(dirname "${BASH_SOURCE[0]}")/.."
+page=docs/CARDS.md
+made=$(mktemp -d)
+trap 'rm -rf "$made"' EXIT
+shown=0
+refused=0
+wrong=0
+
+# panel SEATS CARD: what the program prints
+panel() {
+    { echo "$1" && cat "$2"; } | bin/open_panel
+}
+
+# hold WHAT FOUND DUE
+hold() {
+    if [ "$2" != "$3" ]; then
+        printf 'cards: %s: "%s" and not "%s"\n' "$1" "$2" "$3"
+        wrong=$((wrong + 1))
+    fi
+}
+
+# The blocks of the page: block N goes to N.text, its first line's words to N.head.
+awk -v made="$made" '
+    /^```/ { if (open) { open = 0; close(file) } else { open = 1; n++; file = made "/" n ".text"; print substr($0, 4) > (made "/" n ".head"); printf "" > file }; next }
+    open { print > file }
+' "$page"
+
+n=1
+while [ -e "$made/$n.head" ]; do
+    read -r kind seats <"$made/$n.head" || true
+    case $kind in
+        card)
+            read -r next _ <"$made/$((n + 1)).head"
+            hold "block $((n + 1))" "$next" shows
+            hold "block $n" "$(panel "$seats" "$made/$n.text")" "$(cat "$made/$((n + 1)).text")"
+            shown=$((shown + 1))
+            ;;
+        base) base=$n && base_seats=$seats ;;
+        shows) ;;
+        *) hold "block $n" "$kind" 'card, shows or base' ;;
+    esac
+    n=$((n + 1))
+done
+
+# The table: | line | stands | refused | because | write |, with \| for a bar.
+while IFS=$'\t' read -r line stands due mended; do
+    for text in "$stands" "$mended"; do
+        awk -v at="$line" -v text="${text//\\/\\\\}" 'NR == at { print text; next } { print }' "$made/$base.text" >"$made/card"
+        answer=$(panel "$base_seats" "$made/card")
+        if [ "$text" = "$stands" ]; then
+            hold "$text" "$answer" "refused $due"
+        else
+            hold "$text" "${answer%%[[:space:]]*}" probabilistic
+        fi
+    done
+    refused=$((refused + 1))
+done < <(sed -n 's/^| \([0-9]\{1,\}\) | `\(.*\)` | `\([0-9]\{1,\} [0-9]\{1,\}\)` | .* | `\(.*\)` |$/\1\t\2\t\3\t\4/p' "$page" | sed 's/\\|/|/g')
+
+echo "cards: $shown cards shown and $refused lines refused and mended, $wrong wrong"
+[ "$wrong" -eq 0 ] && [ "$shown" -ge 3 ] && [ "$refused" -ge 13 ]
