@@ -19,4 +19,8 @@ pub use Rattle.card.proofs.LaidBack.{laid-is, laid-statements, laid-nod
 -- node numbers fall from parent to child
 pub use Rattle.card.proofs.Falls.{Falls, Falling, cells-fall, laid-falls}
 -- the arrays' lengths, and that each number fits
-pub use Rattle.card.proofs.Sized.{statements-long, nodes-long, branches-long, blank-statements-long, blank-nodes-long, blank-branches-long, nodes-small, branches-small}
+pub use Rattle.card.proofs.Sized.{statements-long, nodes-long, branches-long, nodes-small, branches-small}
+-- rows stored one by one, and read
+pub use Rattle.card.proofs.Rows.{Filled, filled-start, filled-next, filled-rows, rows-row, rows-taken, length-rows-of}
+-- what a head and the lent arrays hold
+pub use Rattle.card.proofs.HeldIn.{lent-back, holds-card, holds-seats, holds-a-seat, holds-top, holds-start, holds-count, holds-rows, rows-long, holds-nodes, holds-branches}

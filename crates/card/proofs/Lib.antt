@@ -10,4 +10,6 @@ pub mod Standing
 pub mod LaidBack
 pub mod Falls
 pub mod Sized
+pub mod Rows
+pub mod HeldIn
 pub mod Examples

@@ -9,7 +9,7 @@ use lib.ListN.{length, getD}
 use Rattle.card.specs.Limits.{topState, mostStatements, mostNodes, mostBranches, nodePlaces, branchPlaces, numbers}
 use Rattle.card.specs.Card.{Guard, atom, neg, and, or, Branch, Statement, Card}
 use Rattle.card.specs.Valid.{size, Every, ValidBranch, ValidCard}
-use Rattle.card.specs.Laid.{opNot, opAnd, opOr, packNode, branchNumber, below, cells, guardCells, guardSize, zeros, padded, rows, nodeRow, branchRow, laid, blank}
+use Rattle.card.specs.Laid.{opNot, opAnd, opOr, packNode, branchNumber, below, cells, guardCells, guardSize, zeros, padded, rows, nodeRow, branchRow, laid}
 use Rattle.card.proofs.Packed.{words, node-fits, group-number-fits, branch-fits}
 use Rattle.card.proofs.Storing.{size-below}
 use Rattle.card.proofs.Filling.{Narrow, length-padded, length-rows, rows-none, rows-one}
@@ -38,19 +38,6 @@ module _ (c : Card) where
     branches-long =
         rw laid-branches
         (padded-long mostBranches mostStatements branchPlaces branchRow (c .statements) (held-branches c v) (v .few) (omega arith))
-
--- the blank card's
-pub blank-statements-long : length (blank .statements) ≡ mostStatements
-unfolding blank
-blank-statements-long = length-statement-rows mostStatements []
-
-pub blank-nodes-long : length (blank .nodes) ≡ nodePlaces
-unfolding blank
-blank-nodes-long = length-padded nodePlaces [] (omega arith)
-
-pub blank-branches-long : length (blank .branches) ≡ branchPlaces
-unfolding blank
-blank-branches-long = length-padded branchPlaces [] (omega arith)
 
 -- ---- each number fits
 

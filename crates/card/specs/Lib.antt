@@ -4,6 +4,9 @@ pub mod Card
 pub mod Weight
 pub mod Valid
 pub mod Laid
+pub mod Rows
+pub mod Lent
+pub mod Verdict
 pub mod Judged
 pub mod Stored
 pub mod Refusals

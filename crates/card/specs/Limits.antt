@@ -57,3 +57,10 @@ nodePlaces = mostStatements * mostNodes
 
 abbrev pub branchPlaces : ℕ
 branchPlaces = mostStatements * mostBranches
+
+-- a statement's row has so many numbers: its own state, how many nodes, how many branches
+abbrev pub rowNumbers : ℕ
+rowNumbers = 3
+
+abbrev pub rowPlaces : ℕ
+rowPlaces = mostStatements * rowNumbers

@@ -8,7 +8,8 @@ use limits::BRANCH_PLACES;
 use limits::MOST_STATEMENTS;
 use limits::NODE_PLACES;
 ghost use mathlib.Core.Path.{_≡_};
-ghost use Rattle.card.specs.Laid.{blank as blankCard};
+ghost use lib.ListN.{getD};
+ghost use Rattle.card.specs.Laid.{noStatement};
 
 // a card's mode
 pub const NONDETERMINISTIC: usize = 0;
@@ -34,26 +35,38 @@ pub struct Card {
     pub branches: [u32; BRANCH_PLACES],
 }
 
-// What stands there where there is no card.
-pub fn blank() -> Card
-    ensures { λ r. ⌜ r ≡ blankCard ⌝ }
+// A card beside its arrays: what is handed on by value.
+pub struct Head {
+    pub mode: usize,
+    pub seats: usize,
+    pub top: usize,
+    pub start: usize,
+    pub count: usize,
+}
+
+// Taken, or refused with a number and a place ("Refusal numbers").
+pub enum Verdict {
+    Taken,
+    Refused(u8, usize),
+}
+
+// What stands there where there is no statement.
+pub fn no_statement() -> Statement
+    ensures { λ r. ⌜ r ≡ noStatement ⌝ }
 {
-    let none = Statement {
+    Statement {
         own: 0,
         nodes: 0,
         branches: 0,
-    };
-    let statements = [none; MOST_STATEMENTS];
-    let nodes: [u32; NODE_PLACES] = [0; NODE_PLACES];
-    let branches: [u32; BRANCH_PLACES] = [0; BRANCH_PLACES];
-    Card {
-        mode: 0,
-        seats: 0,
-        top: 0,
-        start: 0,
-        count: 0,
-        statements: statements,
-        nodes: nodes,
-        branches: branches,
     }
+}
+
+// A number of one of a card's arrays, or 0 where there is none.
+pub fn number_at(array: &[u32], i: usize) -> u32
+    ensures { λ r. ⌜ r ≡ getD (now (array .entry)) i 0 ⌝ }
+{
+    if i < array.len() {
+        return array[i];
+    }
+    0
 }

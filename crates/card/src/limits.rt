@@ -30,3 +30,8 @@ pub const NUMBERS: usize = 100_000;
 pub const NODE_PLACES: usize = MOST_STATEMENTS * MOST_NODES;
 
 pub const BRANCH_PLACES: usize = MOST_STATEMENTS * MOST_BRANCHES;
+
+// a statement's row: its own state, how many nodes, how many branches
+pub const ROW: usize = 3;
+
+pub const ROW_PLACES: usize = MOST_STATEMENTS * ROW;

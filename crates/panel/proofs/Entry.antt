@@ -30,11 +30,12 @@ use Rattle.counting.specs.Judged.{judgedSeats}
 use Rattle.counting.specs.Taking.{takers}
 use Rattle.counting.proofs.Judging.{valid-exactly}
 use Rattle.counting.proofs.Counted.{counts-most}
-use Rattle.reader.specs.declared.Verdict.{Verdict}
-use Rattle.reader.specs.declared.Verdict.the-variants.{Taken, Refused as Turned}
+use Rattle.card.specs.declared.Verdict.{Verdict}
+use Rattle.card.specs.declared.Verdict.the-variants.{Taken, Refused as Turned}
 use Rattle.reader.specs.declared.Reading.{Reading}
 use Rattle.reader.specs.ReadingOf.{Reads}
-use Rattle.rows.specs.Rows.{rowOf, rowsOf, Holds}
+use Rattle.card.specs.Rows.{rowOf, rowsOf}
+use Rattle.rows.specs.Rows.{Holds}
 use Rattle.rows.specs.Said.{cardSaid}
 use Rattle.rows.proofs.Entry.{taken-holds, refused-said, taken-said}
 use Rattle.rows.proofs.Rows.{rowsCard, holds-card, fit-rows, same-card}

@@ -25,7 +25,7 @@ use Rattle.meaning.specs.ByCounts.{unitsTo, stayOf, moveOf}
 use Rattle.meaning.proofs.Sums.{gate-le, upto-cong}
 use Rattle.counting.specs.Taking.{unitsToEach}
 use Rattle.counting.proofs.Weighed.{each-at, length-each}
-use Rattle.rows.specs.Rows.{rowOf}
+use Rattle.card.specs.Rows.{rowOf}
 use Rattle.lines.specs.PanelText.{line, movesText, stayText, blockText, blocksText, panelText}
 use Rattle.lines.proofs.Laws.{no-line}
 use Rattle.panel.specs.Tables.{Most, weighing, weighingRow, ableAt, ablesOf, countsAs, enabledOf, heaviest, weightPlaces, tableOf, weightIn, weightMore, weightBy, weightsOf, choiceIf, choicesIn, panelIn, Fitting}

@@ -17,7 +17,8 @@ use Rattle.meaning.specs.Panel.{Move, moveLine, Block, block}
 use Rattle.meaning.specs.ByCounts.{able, unitsTo, stayOf, moveOf, allAble, allStay, allMove, choiceBlocks, countBlocks, countEnabled, countPanel}
 use Rattle.meaning.proofs.Sums.{getD-upto, upto-cong, sumBelow, sum-upto, below-cong, below-exchange, below-pick}
 use Rattle.counting.specs.Taking.{takers}
-use Rattle.rows.specs.Rows.{rowOf, rowsFrom, cardIn}
+use Rattle.card.specs.Rows.{rowOf, rowsFrom}
+use Rattle.rows.specs.Rows.{cardIn}
 use Rattle.panel.specs.Tables.{total, weighingRow, ableAt, ablesOf, enabledOf, weightIn, weightBy, weightsOf, stayIn, choiceIf, choiceAt, choicesIn, blocksIn, panelIn, Fitting}
 use Rattle.panel.proofs.Arrays.{table-at}
 

@@ -8,8 +8,8 @@ use Rattle.room.specs.Answer.{Text}
 use Rattle.counting.specs.declared.Seated.{Seated}
 use Rattle.counting.specs.declared.Seated.the-variants.{Fine, Refused}
 use Rattle.counting.specs.SeatsSaid.{seatsSaid}
-use Rattle.reader.specs.declared.Verdict.{Verdict}
-use Rattle.reader.specs.declared.Verdict.the-variants.{Taken, Refused as Turned}
+use Rattle.card.specs.declared.Verdict.{Verdict}
+use Rattle.card.specs.declared.Verdict.the-variants.{Taken, Refused as Turned}
 use Rattle.rows.specs.Said.{cardSaid}
 use Rattle.lines.specs.PanelText.{panelOf}
 

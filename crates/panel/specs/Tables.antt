@@ -14,7 +14,7 @@ use Rattle.meaning.specs.Sums.{gate, sum, upto, flat}
 use Rattle.meaning.specs.Panel.{Block, block, Panel}
 use Rattle.meaning.specs.ByCounts.{unitsTo, stayOf, moveOf}
 use Rattle.counting.specs.Taking.{takers}
-use Rattle.rows.specs.Rows.{rowOf, FitRows}
+use Rattle.card.specs.Rows.{rowOf, FitRows}
 
 -- f 0 + … + f (n - 1)
 abbrev pub total : ℕ → (ℕ → ℕ) → ℕ

@@ -1,11 +1,14 @@
 // The panel of a card and its seats ("Texts, byte for byte"): from the counts alone; each statement's guard and weights are worked out once.
 use card::NONDETERMINISTIC;
+use card::Verdict;
 use card::limits::BRANCH_PLACES;
 use card::limits::MOST_BRANCHES;
 use card::limits::MOST_NODES;
 use card::limits::MOST_STATEMENTS;
 use card::limits::MOST_STATES;
 use card::limits::NODE_PLACES;
+use card::limits::ROW;
+use card::limits::ROW_PLACES;
 use card::refusals::ROOM_TOO_SMALL;
 use counting::Seated;
 use counting::able;
@@ -16,13 +19,10 @@ use lines::put_head;
 use lines::put_line;
 use lines::put_moves;
 use lines::put_stay;
-use reader::Outline;
-use reader::Verdict;
-use reader::read_into;
+use reader::Rough;
+use reader::read_rough;
 use room::Answer;
 use room::place;
-use rows::ROW;
-use rows::ROW_PLACES;
 use rows::rows_of;
 ghost use mathlib.Core.Path.{_≡_};
 ghost use Prim.Native.Nat.{suc, _+_, _*_, _<_, _≤_};
@@ -336,7 +336,7 @@ fn enter_panel<'a>(
 
 // A card that was taken, and seats that are a seating of it.
 fn show<'a>(
-    c: Outline,
+    c: Rough,
     nodes: &'a [u32; NODE_PLACES],
     branches: &'a [u32; BRANCH_PLACES],
     seats: &'a [u8],
@@ -394,7 +394,7 @@ pub fn panel(card: &[u8], seats: &[u8], room: &mut [u8]) -> Answer
 {
     let mut nodes: [u32; NODE_PLACES] = [0; NODE_PLACES];
     let mut branches: [u32; BRANCH_PLACES] = [0; BRANCH_PLACES];
-    let outline = read_into(card, &mut nodes, &mut branches);
+    let outline = read_rough(card, &mut nodes, &mut branches);
     let judged = judge_seats(seats, outline.seats, outline.top);
     let verdict = outline.verdict;
     let due = first_due(verdict, judged);

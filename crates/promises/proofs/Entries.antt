@@ -8,7 +8,8 @@ use Rattle.card.specs.Card.{Card}
 use Rattle.reading.specs.Reading.{Outcome, taken, refused, readOf}
 use Rattle.reading.proofs.Theorems.{read-valid}
 use Rattle.reader.specs.declared.Reading.{Reading}
-use Rattle.reader.specs.ReadingOf.{readingOf, numberOf, placeOf}
+use Rattle.card.specs.Verdict.{numberOf, placeOf}
+use Rattle.reader.specs.ReadingOf.{readingOf}
 use Rattle.entry.specs.Said.{says, _>>=_}
 use Rattle.entry.specs.Numbers.{only}
 use Rattle.entry.specs.Contract.{InRoom}

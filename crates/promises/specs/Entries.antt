@@ -10,7 +10,8 @@ use Rattle.card.specs.Refusals.{wrongWeight, wrongSeats, seatAboveTop, roomTooS
 use Rattle.card.specs.Card.{Card}
 use Rattle.reading.specs.Reading.{Outcome, taken, refused, readOf}
 use Rattle.reader.specs.declared.Reading.{Reading}
-use Rattle.reader.specs.ReadingOf.{readingOf, numberOf, placeOf, Reads}
+use Rattle.card.specs.Verdict.{numberOf, placeOf}
+use Rattle.reader.specs.ReadingOf.{readingOf, Reads}
 use Rattle.room.specs.declared.Answer.{Answer}
 use Rattle.room.specs.declared.Answer.the-variants.{Done, Refused}
 use Rattle.room.specs.Digits.{decimal}

@@ -34,9 +34,9 @@ use Rattle.reader.specs.declared.parts.Took.{Took}
 use Rattle.reader.specs.declared.header.Headed.{Headed}
 use Rattle.reader.specs.declared.statements.Listed.{Listed}
 use Rattle.reader.specs.declared.Reading.{Reading}
-use Rattle.reader.specs.declared.Outline.{Outline}
-use Rattle.reader.specs.declared.Verdict.the-variants.{Taken, Refused}
-use Rattle.reader.specs.ReadingOf.{readingOf, Reads, gathered, noOutline}
+use Rattle.reader.specs.declared.Rough.{Rough}
+use Rattle.card.specs.declared.Verdict.the-variants.{Taken, Refused}
+use Rattle.reader.specs.ReadingOf.{readingOf, Reads, gathered, noRough}
 use Rattle.reader.specs.Search.{searched}
 use Rattle.reader.specs.Parts.{from, Form, Read, Answers, tookForm, stopped}
 use Rattle.reader.specs.Statements.{Arrays, statements, noRows, withRow, withNodes, withBranches, filled, listedForm, StatementsRead}
@@ -207,24 +207,24 @@ module _ (s : List ℕ) (r : Reading) where
   reads : (o : Outcome) → readOf s ≡ o → r .verdict ≡ readingOf o .verdict → r .card ≡ readingOf o .card → Reads s r
   reads o e v c = record { reading = rw e (λ i. record { verdict = v i; card = c i }); valid = read-valid s }
 
--- an outline and its two arrays
-module _ (s : List ℕ) (r : Outline) (is : Arrays) where
+-- what was read and its two arrays
+module _ (s : List ℕ) (r : Rough) (is : Arrays) where
   module _ (n : is .nodes ≡ zeros nodePlaces) (b : is .branches ≡ zeros branchPlaces) where
-    empty : (k p : ℕ) → r ≡ noOutline k p → (gathered r is .verdict ≡ Refused k p) × (gathered r is .card ≡ blank)
+    empty : (k p : ℕ) → r ≡ noRough k p → (gathered r is .verdict ≡ Refused k p) × (gathered r is .card ≡ blank)
     unfolding blank
     empty k p h = (
-      ap (λ (x : Outline). x .verdict) h,
-      ap (λ (x : Outline). gathered x is .card) h
+      ap (λ (x : Rough). x .verdict) h,
+      ap (λ (x : Rough). gathered x is .card) h
           ∙ (λ i. record { mode = 0; seats = 0; top = 0; start = 0; count = 0; statements = noRows; nodes = n i; branches = b i }),
     )
 
-    pub reads-refused : (k p : ℕ) → readOf s ≡ refused k p → r ≡ noOutline k p → Reads s (gathered r is)
+    pub reads-refused : (k p : ℕ) → readOf s ≡ refused k p → r ≡ noRough k p → Reads s (gathered r is)
     reads-refused k p e h = reads s _ (refused k p) e (empty k p h .0) (empty k p h .1)
 
     pub reads-searched : (k p : ℕ) (o : Option ℕ) → readOf s ≡ orOutside k p o → (x : Settled) → x ≡ searched k p o
-        → r ≡ noOutline (x .number) (x .place) → Reads s (gathered r is)
-    reads-searched k p none e x h f = reads-refused k p e (f ∙ ap (λ (y : Settled). noOutline (y .number) (y .place)) h)
-    reads-searched k p (some q) e x h f = reads-refused outsideRules q e (f ∙ ap (λ (y : Settled). noOutline (y .number) (y .place)) h)
+        → r ≡ noRough (x .number) (x .place) → Reads s (gathered r is)
+    reads-searched k p none e x h f = reads-refused k p e (f ∙ ap (λ (y : Settled). noRough (y .number) (y .place)) h)
+    reads-searched k p (some q) e x h f = reads-refused outsideRules q e (f ∙ ap (λ (y : Settled). noRough (y .number) (y .place)) h)
 
   pub reads-taken : (c : Card) → readOf s ≡ taken c → r .verdict ≡ Taken → gathered r is .card ≡ laid c → Reads s (gathered r is)
   reads-taken c e v h = reads s _ (taken c) e v h

@@ -13,3 +13,4 @@ pub mod Outcomes
 pub mod FilledLaws
 pub mod Cleared
 pub mod CardLaws
+pub mod Into

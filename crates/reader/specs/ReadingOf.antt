@@ -1,5 +1,4 @@
--- What the reader hands back for every outcome: the struct holds the card that was taken, or zeros. For each case of the answer,
--- document 01's number and place. Assumes nothing.
+-- What the reader hands back for every outcome: the card that was taken, as a struct or in lent arrays, or zeros. Assumes nothing.
 use Prim.Native.Nat.{ℕ}
 use mathlib.Core.Path.{_≡_}
 use mathlib.Core.List.{List}
@@ -7,32 +6,40 @@ use Rattle.card.specs.Card.{Card}
 use Rattle.card.specs.Valid.{ValidCard}
 use Rattle.card.specs.Laid.{laid, blank}
 use Rattle.reading.specs.Reading.{Outcome, taken, refused, readOf}
-use Rattle.reader.specs.declared.Verdict.{Verdict}
-use Rattle.reader.specs.declared.Verdict.the-variants.{Taken, Refused}
+use Rattle.card.specs.Lent.{Lent, headOf, noHead, lentOf, noneLent}
+use Rattle.card.specs.declared.Verdict.the-variants.{Taken, Refused}
 use Rattle.reader.specs.declared.Reading.{Reading}
 use Rattle.reader.specs.declared.Outline.{Outline}
+use Rattle.reader.specs.declared.Rough.{Rough}
 use Rattle.reader.specs.Statements.{Arrays, noRows}
 
 abbrev pub readingOf : Outcome → Reading
 readingOf (taken c) = record { verdict = Taken; card = laid c }
 readingOf (refused r p) = record { verdict = Refused r p; card = blank }
 
--- 0 for a card that is taken
-abbrev pub numberOf : Verdict → ℕ
-numberOf Taken = 0
-numberOf (Refused r p) = r
-
-abbrev pub placeOf : Verdict → ℕ
-placeOf Taken = 0
-placeOf (Refused r p) = p
-
 -- the contract: one equation, and what is taken is valid
 pub record Reads (bytes : List ℕ) (r : Reading) : Type 0 where
   pub reading : r ≡ readingOf (readOf bytes)
   pub valid : (c : Card) → readOf bytes ≡ taken c → ValidCard c
 
--- an outline with its two arrays, and the outline of no card
-abbrev pub gathered : Outline → Arrays → Reading
+-- ---- the same in lent arrays
+
+abbrev pub outlineOf : Outcome → Outline
+outlineOf (taken c) = record { verdict = Taken; head = headOf c }
+outlineOf (refused r p) = record { verdict = Refused r p; head = noHead }
+
+abbrev pub memoryOf : Outcome → Lent
+memoryOf (taken c) = lentOf c
+memoryOf (refused r p) = noneLent
+
+pub record ReadsInto (bytes : List ℕ) (r : Outline) (x : Lent) : Type 0 where
+  pub outline : r ≡ outlineOf (readOf bytes)
+  pub memory : x ≡ memoryOf (readOf bytes)
+  pub valid : (c : Card) → readOf bytes ≡ taken c → ValidCard c
+
+-- ---- and with the rows as structs
+
+abbrev pub gathered : Rough → Arrays → Reading
 gathered r is = record {
   verdict = r .verdict;
   card = record {
@@ -47,5 +54,5 @@ gathered r is = record {
   };
 }
 
-abbrev pub noOutline : ℕ → ℕ → Outline
-noOutline r p = record { verdict = Refused r p; mode = 0; seats = 0; top = 0; start = 0; count = 0; statements = noRows }
+abbrev pub noRough : ℕ → ℕ → Rough
+noRough r p = record { verdict = Refused r p; mode = 0; seats = 0; top = 0; start = 0; count = 0; statements = noRows }

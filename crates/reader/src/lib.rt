@@ -7,11 +7,16 @@ mod parts;
 mod statements;
 
 use card::Card;
+use card::Head;
 use card::Statement;
+use card::Verdict;
 use card::limits::BRANCH_PLACES;
 use card::limits::CARD_BYTES;
 use card::limits::MOST_STATEMENTS;
 use card::limits::NODE_PLACES;
+use card::limits::ROW;
+use card::limits::ROW_PLACES;
+use card::no_statement;
 use guard::Settled;
 use guard::refusals::OUTSIDE_RULES;
 use guard::refusals::TOO_LONG;
@@ -25,28 +30,30 @@ use statements::statements as all_statements;
 ghost use mathlib.Core.Path.{_≡_};
 ghost use Prim.Native.Nat.{_≤_};
 ghost use lib.ListN.{length};
-ghost use Rattle.card.specs.Limits.{nodePlaces, branchPlaces};
+ghost use Rattle.card.specs.Limits.{rowPlaces, nodePlaces, branchPlaces};
 ghost use Rattle.card.specs.Laid.{zeros};
+ghost use Rattle.card.specs.Rows.{rowsOf};
+ghost use Rattle.card.specs.Lent.{lent, noneLent};
 ghost use Rattle.card.specs.Refusals.{wrongWeight};
 ghost use Rattle.marks.specs.Step.{marksAt};
 ghost use Rattle.reading.specs.Reading.{firstOutside};
 ghost use Rattle.reader.specs.Search.{searched};
 ghost use Rattle.reader.specs.Statements.{arrays};
-ghost use Rattle.reader.specs.ReadingOf.{Reads, gathered, noOutline};
-
-// Taken, or refused with a number and a place ("Refusal numbers").
-pub enum Verdict {
-    Taken,
-    Refused(u8, usize),
-}
+ghost use Rattle.reader.specs.ReadingOf.{Reads, ReadsInto, gathered, noRough};
 
 pub struct Reading {
     pub verdict: Verdict,
     pub card: Card,
 }
 
-// The same without the card's nodes and branches: those stand in two arrays that the caller lends.
+// What stands beside the arrays that the caller lends.
 pub struct Outline {
+    pub verdict: Verdict,
+    pub head: Head,
+}
+
+// The same with the statements' rows as structs.
+pub struct Rough {
     pub verdict: Verdict,
     pub mode: usize,
     pub seats: usize,
@@ -97,19 +104,15 @@ fn clear(array: &mut [u32])
 }
 
 // Reading refuses with one of the first seven numbers.
-fn refused(due: Settled) -> Outline
+fn refused(due: Settled) -> Rough
     requires { ⌜ due .number ≤ wrongWeight ⌝ }
-    ensures { λ r. ⌜ r ≡ noOutline (due .number) (due .place) ⌝ }
+    ensures { λ r. ⌜ r ≡ noRough (due .number) (due .place) ⌝ }
 {
     let number = due.number;
     let verdict = Verdict::Refused(number as u8, due.place);
-    let none = Statement {
-        own: 0,
-        nodes: 0,
-        branches: 0,
-    };
+    let none = no_statement();
     let statements = [none; MOST_STATEMENTS];
-    Outline {
+    Rough {
         verdict,
         mode: 0,
         seats: 0,
@@ -121,11 +124,11 @@ fn refused(due: Settled) -> Outline
 }
 
 // The card that the bytes spell, or the refusal that is due; its nodes and branches go into arrays of zeros, which a refusal leaves so.
-pub fn read_into(
+pub fn read_rough(
     card: &[u8],
     nodes: &mut [u32; NODE_PLACES],
     branches: &mut [u32; BRANCH_PLACES],
-) -> Outline
+) -> Rough
     requires { ⌜ now nodes ≡ zeros nodePlaces ⌝ }
     requires { ⌜ now branches ≡ zeros branchPlaces ⌝ }
     ensures { λ r. ⌜ Reads (now (card .entry)) (gathered r (arrays (now (nodes .exit)) (now (branches .exit)))) ⌝ }
@@ -159,7 +162,7 @@ pub fn read_into(
         return refused(settled);
     }
     let statements = list.rows;
-    Outline {
+    Rough {
         verdict: Verdict::Taken,
         mode: head.mode,
         seats: tail.value,
@@ -170,13 +173,53 @@ pub fn read_into(
     }
 }
 
+// The rows of the statements, one behind the other.
+fn copy_rows(rows: &mut [usize; ROW_PLACES], statements: [Statement; MOST_STATEMENTS])
+    requires { ⌜ now rows ≡ zeros rowPlaces ⌝ }
+    ensures { λ r. ⌜ now (rows .exit) ≡ rowsOf statements ⌝ }
+{
+    let mut i = 0;
+    while i < MOST_STATEMENTS {
+        let x = statements[i];
+        let from = i * ROW;
+        rows[from] = x.own;
+        rows[from + 1] = x.nodes;
+        rows[from + 2] = x.branches;
+        i += 1;
+    }
+}
+
+// The card that the bytes spell, or the refusal that is due; its arrays are lent as zeros, and a refusal leaves them so.
+pub fn read_into(
+    card: &[u8],
+    rows: &mut [usize; ROW_PLACES],
+    nodes: &mut [u32; NODE_PLACES],
+    branches: &mut [u32; BRANCH_PLACES],
+) -> Outline
+    requires { ⌜ lent (now rows) (now nodes) (now branches) ≡ noneLent ⌝ }
+    ensures { λ r. ⌜ ReadsInto (now (card .entry)) r (lent (now (rows .exit)) (now (nodes .exit)) (now (branches .exit))) ⌝ }
+{
+    let rough = read_rough(card, nodes, branches);
+    let statements = rough.statements;
+    copy_rows(rows, statements);
+    let verdict = rough.verdict;
+    let head = Head {
+        mode: rough.mode,
+        seats: rough.seats,
+        top: rough.top,
+        start: rough.start,
+        count: rough.count,
+    };
+    Outline { verdict, head }
+}
+
 // The same with the card as one struct.
 pub fn read(card: &[u8]) -> Reading
     ensures { λ r. ⌜ Reads (now (card .entry)) r ⌝ }
 {
     let mut nodes: [u32; NODE_PLACES] = [0; NODE_PLACES];
     let mut branches: [u32; BRANCH_PLACES] = [0; BRANCH_PLACES];
-    let outline = read_into(card, &mut nodes, &mut branches);
+    let outline = read_rough(card, &mut nodes, &mut branches);
     let verdict = outline.verdict;
     let statements = outline.statements;
     let whole = Card {

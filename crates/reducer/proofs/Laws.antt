@@ -27,7 +27,8 @@ use Rattle.table.specs.Bounds.{boundRow, boundOf}
 use Rattle.room.specs.Room.{cap, Put}
 use Rattle.phrases.specs.Phrases.{_▸_, num, modeText, weightText}
 use Rattle.phrases.specs.Puts.{Puts}
-use Rattle.rows.specs.Rows.{row, rowOf, rowsFrom, cardIn}
+use Rattle.card.specs.Rows.{row, rowOf, rowsFrom}
+use Rattle.rows.specs.Rows.{cardIn}
 use Rattle.phrases.proofs.Counted.{Text, counted}
 use Rattle.reducer.proofs.Drafts.{drafted-long, drafted-fits, drafted-text, drafted-count}
 use Rattle.reducer.specs.ReducedText.{boundText, counterText, testText, guardOr, updateText, outcomeText, moreOutcomes, outcomes, reducedText, statements, counterLine, counters, programText, reducedOf}

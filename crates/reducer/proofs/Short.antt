@@ -25,7 +25,8 @@ use Rattle.entry.specs.Said.{says as text}
 use Rattle.phrases.specs.Phrases.{_▸_, num, modeText}
 use Rattle.phrases.proofs.Counted.{Text}
 use Rattle.phrases.proofs.Adds.{Adds, adds-then, adds-up, adds-none, adds-bytes, adds-state, adds-seats, weightMost, adds-weight, adds-mode}
-use Rattle.rows.specs.Rows.{rowsOf, Holds}
+use Rattle.card.specs.Rows.{rowsOf}
+use Rattle.rows.specs.Rows.{Holds}
 use Rattle.rows.proofs.Rows.{rowsCard, holds-branches, holds-card, fit-rows, same-card}
 use Rattle.reducer.specs.ReducedText.{boundText, counterText, testText, guardOr, updateText, outcomeText, moreOutcomes, outcomes, reducedText, statements, counters, programText, reducedOf}
 use Rattle.reducer.specs.Handed.{outcomeOf, tailOf, tailPlaces, reducedMost, copyTexts, copyNumber, allTexts, ShortTail, Fits}

@@ -11,7 +11,7 @@ use Rattle.card.specs.Laid.{statementsOf}
 use Rattle.meaning.specs.Sums.{flat}
 use Rattle.meaning.specs.Reduced.{Test, testOf, updateOf, Outcome, copy, copies}
 use Rattle.phrases.specs.Phrases.{_▸_, num}
-use Rattle.rows.specs.Rows.{rowsFrom, FitRows}
+use Rattle.card.specs.Rows.{rowsFrom, FitRows}
 use Rattle.reducer.specs.ReducedText.{guardOr, outcomes, reducedText, statements}
 
 -- what a branch of a statement with local state j becomes

@@ -1,9 +1,12 @@
 // The reduced program's text ("Texts, byte for byte", first part), translated and printed in one walk over the card's nodes.
 use card::NONDETERMINISTIC;
+use card::Verdict;
 use card::limits::BRANCH_PLACES;
 use card::limits::MOST_BRANCHES;
 use card::limits::MOST_NODES;
 use card::limits::NODE_PLACES;
+use card::limits::ROW;
+use card::limits::ROW_PLACES;
 use card::node::AND;
 use card::node::GROUP;
 use card::node::NOT;
@@ -13,22 +16,19 @@ use card::node::op_of;
 use card::node::right_of;
 use card::node::state_of;
 use card::node::units_of;
+use card::number_at;
 use card::refusals::ROOM_TOO_SMALL;
 use phrases::put_mode;
 use phrases::put_numbered;
 use phrases::put_weight;
-use reader::Outline;
-use reader::Verdict;
-use reader::read_into;
+use reader::Rough;
+use reader::read_rough;
 use room::Answer;
 use room::place;
 use room::put_byte;
 use room::put_bytes;
 use room::put_number;
 use room::put_run;
-use rows::ROW;
-use rows::ROW_PLACES;
-use rows::number_at;
 use rows::rows_of;
 use table::bound_of;
 ghost use mathlib.Core.Path.{_≡_};
@@ -48,7 +48,8 @@ ghost use Rattle.entry.specs.Said.{says as text};
 ghost use Rattle.room.specs.Answer.{Entered};
 ghost use Rattle.phrases.specs.Phrases.{_▸_, modeText};
 ghost use Rattle.phrases.specs.Puts.{Puts};
-ghost use Rattle.rows.specs.Rows.{row, rowsFrom, cardIn, Holds};
+ghost use Rattle.card.specs.Rows.{row, rowsFrom};
+ghost use Rattle.rows.specs.Rows.{cardIn, Holds};
 ghost use Rattle.reducer.specs.ReducedText.{counterText, testText, guardOr, updateText, outcomeText, moreOutcomes, outcomes as outcomeTexts, counterLine, counters, reducedOf};
 ghost use Rattle.reader.specs.Statements.{arrays};
 ghost use Rattle.reader.specs.ReadingOf.{gathered};
@@ -409,7 +410,7 @@ const DRAFT_PLACES: usize = 2048;
 // A card that was taken. A room that every text fits into takes it in one walk. Else a first walk makes a draft, which tells the length;
 // a text that the draft holds is copied where it fits, and a longer one is walked again.
 fn reduce_card<'a>(
-    c: Outline,
+    c: Rough,
     nodes: &'a [u32; NODE_PLACES],
     branches: &'a [u32; BRANCH_PLACES],
     room: &mut [u8],
@@ -473,7 +474,7 @@ pub fn reduce(card: &[u8], room: &mut [u8]) -> Answer
 {
     let mut nodes: [u32; NODE_PLACES] = [0; NODE_PLACES];
     let mut branches: [u32; BRANCH_PLACES] = [0; BRANCH_PLACES];
-    let outline = read_into(card, &mut nodes, &mut branches);
+    let outline = read_rough(card, &mut nodes, &mut branches);
     let verdict = outline.verdict;
     match verdict {
         Verdict::Refused(number, place) => {

@@ -1,3 +1,4 @@
 pub mod Rows
 pub mod Entry
+pub mod ReadInto
 pub mod Theorems

@@ -5,8 +5,8 @@ use mathlib.Core.List.{List}
 use native.Mathlib.Omega.{arith}
 use Rattle.reading.specs.Reading.{Outcome, taken, refused, readOf}
 use Rattle.reader.specs.ReadingOf.{readingOf, Reads}
-use Rattle.reader.specs.declared.Verdict.{Verdict}
-use Rattle.reader.specs.declared.Verdict.the-variants.{Taken, Refused}
+use Rattle.card.specs.declared.Verdict.{Verdict}
+use Rattle.card.specs.declared.Verdict.the-variants.{Taken, Refused}
 use Rattle.reader.specs.declared.Reading.{Reading}
 use Rattle.room.specs.declared.Answer.{Answer}
 use Rattle.room.specs.Answer.{Text, Entered}

@@ -1,9 +1,9 @@
 // The entries for C: the same promises, with answers in numbers ("Refusal numbers").
+use card::Verdict;
 use card::limits::BRANCH_PLACES;
 use card::limits::NODE_PLACES;
 use panel::panel;
-use reader::Verdict;
-use reader::read_into;
+use reader::read_rough;
 use reducer::reduce;
 use room::Answer;
 use writer::write;
@@ -47,7 +47,7 @@ pub extern "C" fn open_panel_judge(card: &[u8]) -> OpenPanelAnswer
 {
     let mut nodes: [u32; NODE_PLACES] = [0; NODE_PLACES];
     let mut branches: [u32; BRANCH_PLACES] = [0; BRANCH_PLACES];
-    let outline = read_into(card, &mut nodes, &mut branches);
+    let outline = read_rough(card, &mut nodes, &mut branches);
     let verdict = outline.verdict;
     match verdict {
         Verdict::Taken => {

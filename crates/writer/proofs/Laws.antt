@@ -25,7 +25,8 @@ use Rattle.phrases.specs.Phrases.{_▸_, num, weightText}
 use Rattle.phrases.specs.Puts.{Puts}
 use Rattle.phrases.proofs.Counted.{Text, counted}
 use Rattle.writer.specs.Writing.{signText, literal, literals, groupText, opening, closing, guardText, guardOr, branchText, moreBranches, branches, statementText, statements, moduleText, modules, writeOf}
-use Rattle.rows.specs.Rows.{row, rowOf, rowsFrom, cardIn}
+use Rattle.card.specs.Rows.{row, rowOf, rowsFrom}
+use Rattle.rows.specs.Rows.{cardIn}
 use Rattle.writer.specs.Parts.{levelOf, headText}
 
 -- ---- counted repetitions

@@ -17,7 +17,8 @@ use Rattle.room.specs.Room.{cap}
 use Rattle.entry.specs.Said.{says as text}
 use Rattle.phrases.specs.Phrases.{_▸_, num, modeText}
 use Rattle.phrases.proofs.Adds.{Adds, adds-then, adds-up, adds-none, adds-bytes, adds-state, adds-seats, weightMost, adds-weight, adds-mode}
-use Rattle.rows.specs.Rows.{rowsOf, Holds}
+use Rattle.card.specs.Rows.{rowsOf}
+use Rattle.rows.specs.Rows.{Holds}
 use Rattle.rows.proofs.Rows.{rowsCard, holds-count, holds-card, same-card}
 use Rattle.writer.specs.Writing.{signText, relationText, literal, literals, groupText, opening, closing, guardText, guardOr, branchText, moreBranches, branches, statementText, statements, modules, writeOf}
 use Rattle.writer.specs.WrittenMost.{seatMost, statementMost, moduleMost, writtenMost, writtenRoom}

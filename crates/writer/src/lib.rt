@@ -1,8 +1,11 @@
 // The written card ("Texts, byte for byte", the paragraph on the written card).
+use card::Verdict;
 use card::limits::BRANCH_PLACES;
 use card::limits::MOST_BRANCHES;
 use card::limits::MOST_NODES;
 use card::limits::NODE_PLACES;
+use card::limits::ROW;
+use card::limits::ROW_PLACES;
 use card::node::ALL;
 use card::node::AND;
 use card::node::ANY;
@@ -17,21 +20,18 @@ use card::node::right_of;
 use card::node::sign_of;
 use card::node::state_of;
 use card::node::units_of;
+use card::number_at;
 use card::refusals::ROOM_TOO_SMALL;
 use phrases::put_mode;
 use phrases::put_numbered;
 use phrases::put_weight;
-use reader::Outline;
-use reader::Verdict;
-use reader::read_into;
+use reader::Rough;
+use reader::read_rough;
 use room::Answer;
 use room::place;
 use room::put_byte;
 use room::put_bytes;
 use room::put_number;
-use rows::ROW;
-use rows::ROW_PLACES;
-use rows::number_at;
 use rows::rows_of;
 ghost use mathlib.Core.Path.{_≡_};
 ghost use mathlib.Core.List.{_∷_, map};
@@ -52,7 +52,8 @@ ghost use Rattle.reader.specs.Statements.{arrays};
 ghost use Rattle.reader.specs.ReadingOf.{gathered};
 ghost use Rattle.writer.specs.WriteSaid.{writeSaid};
 ghost use Rattle.writer.specs.WrittenMost.{writtenMost};
-ghost use Rattle.rows.specs.Rows.{row, rowsFrom, FitRows, cardIn, Holds};
+ghost use Rattle.card.specs.Rows.{row, rowsFrom, FitRows};
+ghost use Rattle.rows.specs.Rows.{cardIn, Holds};
 ghost use Rattle.writer.specs.Parts.{levelOf, headText};
 
 // Where a part of a guard stands; 0 is loose.
@@ -369,7 +370,7 @@ fn written_most(seats: usize, count: usize) -> usize
 // A card that was taken. A room that is long enough for every card of its size takes the text in one walk; else a first walk tells the
 // length, and a second one stores the text where it fits.
 fn write_card<'a>(
-    c: Outline,
+    c: Rough,
     nodes: &'a [u32; NODE_PLACES],
     branches: &'a [u32; BRANCH_PLACES],
     room: &mut [u8],
@@ -431,7 +432,7 @@ pub fn write(card: &[u8], room: &mut [u8]) -> Answer
 {
     let mut nodes: [u32; NODE_PLACES] = [0; NODE_PLACES];
     let mut branches: [u32; BRANCH_PLACES] = [0; BRANCH_PLACES];
-    let outline = read_into(card, &mut nodes, &mut branches);
+    let outline = read_rough(card, &mut nodes, &mut branches);
     let verdict = outline.verdict;
     match verdict {
         Verdict::Refused(number, place) => {

@@ -1,5 +1,5 @@
 use mathlib.Core.Path.{sym, ap}
-use Rattle.reader.specs.declared.Verdict.{Verdict}
+use Rattle.card.specs.declared.Verdict.{Verdict}
 use Rattle.panel.specs.PanelSaid.{firstDue}
 use borrow.Author.Needs.{needs}
 use Rattle.panel.proofs.first_due.Statement.{statement}

@@ -3,7 +3,7 @@ use native.Mathlib.Omega.{arith}
 use mathlib.Core.Path.{refl}
 use Prim.Native.Nat.{_≤_, _-_}
 use Rattle.card.specs.Limits.{mostStatements}
-use Rattle.rows.proofs.Rows.{Filled, filled-start, filled-next, filled-rows}
+use Rattle.card.proofs.Rows.{Filled, filled-start, filled-next, filled-rows}
 use Rattle.rows.proofs.rows_of.Statement.{statement}
 use Rattle.rows.proofs.rows_of.Tie as tie
 use Rattle.rows.proofs.rows_of.Reads as reads

@@ -12,7 +12,7 @@ use Rattle.card.proofs.node.left_of.Reads as left-of-reads
 use Rattle.card.proofs.node.op_of.Reads as op-of-reads
 use Rattle.card.proofs.node.right_of.Reads as right-of-reads
 use Rattle.room.proofs.put_byte.Reads as put-byte-reads
-use Rattle.rows.proofs.number_at.Reads as number-at-reads
+use Rattle.card.proofs.number_at.Reads as number-at-reads
 use Rattle.writer.proofs.put_bracket.Reads as put-bracket-reads
 use Rattle.writer.proofs.put_group.Reads as put-group-reads
 use Rattle.writer.proofs.put_sign.Reads as put-sign-reads

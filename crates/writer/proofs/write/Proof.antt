@@ -9,12 +9,12 @@ use Rattle.writer.proofs.write.Statement.{statement}
 use Rattle.writer.proofs.write.Tie as tie
 use Rattle.writer.proofs.write.Reads as reads
 use Rattle.writer.proofs.write.Lts as lts
-use Rattle.reader.proofs.read_into.Reads as read-into-reads
+use Rattle.reader.proofs.read_rough.Reads as read-rough-reads
 use Rattle.writer.proofs.write_card.Reads as write-card-reads
 
 -- src/lib.rt:413:9
-read-into-requires : tie.Need-read-into-requires
-read-into-requires c κs = (sym (zeros-repeat nodePlaces), sym (zeros-repeat branchPlaces))
+read-rough-requires : tie.Need-read-rough-requires
+read-rough-requires c κs = (sym (zeros-repeat nodePlaces), sym (zeros-repeat branchPlaces))
 
 -- src/lib.rt:416:26
 enum-known-verdict : tie.Need-enum-known-verdict
@@ -23,7 +23,7 @@ enum-known-verdict c = search needs
 -- src/lib.rt:417:13
 returns : tie.Need-returns
 unfolding writeSaid
-returns c = entered-refused (refused-said _ (c .before .before .before .read-into .ensures) writeCard (c .before .verdict .given .1))
+returns c = entered-refused (refused-said _ (c .before .before .before .read-rough .ensures) writeCard (c .before .verdict .given .1))
 
 -- src/lib.rt:420:40
 enum-told : tie.Need-enum-told
@@ -31,7 +31,7 @@ enum-told c = search needs
 
 -- src/lib.rt:420:13
 write-card-requires : tie.Need-write-card-requires
-write-card-requires c κs = taken-holds _ (c .before .before .before .before .before .read-into .ensures) (c .before .before .before .enum-told .given .1)
+write-card-requires c κs = taken-holds _ (c .before .before .before .before .before .read-rough .ensures) (c .before .before .before .enum-told .given .1)
 
 -- src/lib.rt:420:13
 same-length : tie.Need-same-length
@@ -40,13 +40,13 @@ same-length c = search needs
 -- src/lib.rt:420:13
 returns-2 : tie.Need-returns-2
 unfolding writeSaid
-returns-2 c = rw (taken-said _ (c .before .before .before .before .before .before .before .before .read-into .ensures) writeCard (c .before .before .before .before .before .before .enum-told .given .1)) at (c .before .before .write-card .ensures)
+returns-2 c = rw (taken-said _ (c .before .before .before .before .before .before .before .before .read-rough .ensures) writeCard (c .before .before .before .before .before .before .enum-told .given .1)) at (c .before .before .write-card .ensures)
 
 pub write-spec : {M : Type 1} → statement M
 write-spec =
     tie.close
     (tie.spec
-    read-into-requires
+    read-rough-requires
     enum-known-verdict
     returns
     enum-told

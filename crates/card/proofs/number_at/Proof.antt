@@ -1,10 +1,11 @@
+-- `card::number_at` meets its contract: behind the array there are zeros. Assumes nothing.
 use lib.ListN.{List·getD-eq-default}
 use mathlib.Core.Path.{sym}
 use borrow.Author.Needs.{needs}
-use Rattle.rows.proofs.number_at.Statement.{statement}
-use Rattle.rows.proofs.number_at.Tie as tie
-use Rattle.rows.proofs.number_at.Reads as reads
-use Rattle.rows.proofs.number_at.Lts as lts
+use Rattle.card.proofs.number_at.Statement.{statement}
+use Rattle.card.proofs.number_at.Tie as tie
+use Rattle.card.proofs.number_at.Reads as reads
+use Rattle.card.proofs.number_at.Lts as lts
 
 -- src/lib.rt:51:16
 mul-result : tie.Need-mul-result
