@@ -20,10 +20,10 @@ use Rattle.marks.specs.Marks.{placeOf}
 use Rattle.marks.specs.Kinds.{kind}
 use Rattle.marks.specs.Step.{stepAt, marksAt}
 use Rattle.marks.specs.Parts.{bareOf}
-use Rattle.marks.specs.Quick.{signAhead}
+use Rattle.looks.specs.Quick.{signAhead}
 use Rattle.marks.specs.declared.Step.{Step}
 use Rattle.marks.proofs.Lists.{and-left, and-right}
-use Rattle.marks.proofs.Quick.{sign-step}
+use Rattle.looks.proofs.Quick.{sign-step}
 use Rattle.reading.specs.Reader.{Place, State, at, Result, ok, stop, Reader, bind, _>>=_, _>>_, return, nextIs, sign, spend}
 use Rattle.reading.specs.Guard.{chain, conjunction, expression, unary}
 use Rattle.reading.specs.Group.{Literals, group}

@@ -12,7 +12,7 @@ use Rattle.card.specs.Card.{Formula, neg, and, or}
 use Rattle.card.specs.Laid.{opAnd, opOr}
 use Rattle.marks.specs.Marks.{placed, seat, placeOf}
 use Rattle.marks.specs.Kinds.{kind}
-use Rattle.marks.specs.Quick.{signAhead}
+use Rattle.looks.specs.Quick.{signAhead}
 use Rattle.marks.specs.Step.{marksAt}
 use Rattle.reading.specs.Reader.{Place, State, at as from, Result, ok, stop, Reader, bind, _>>=_, _>>_, return, refuseAt, sign}
 use Rattle.reading.specs.Guard.{ifSeat, chain, conjunction, expression, grouped, unary}

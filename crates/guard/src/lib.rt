@@ -4,12 +4,12 @@ pub mod refusals;
 
 use card::limits::NODE_PLACES;
 use card::node;
-use marks::due::step_closing;
-use marks::due::step_inner;
-use marks::due::step_opening;
-use marks::due::step_sign;
+use looks::due::step_after;
+use looks::due::step_inner;
+use looks::due::step_opening;
+use looks::due::step_sign;
+use looks::look::sign_here;
 use marks::kinds;
-use marks::look::sign_here;
 use refusals::ABOVE_TOP;
 use refusals::NOT_DUE;
 use refusals::OUT_OF_SHAPE;
@@ -414,7 +414,7 @@ fn chain(
     let mut g = first;
     let kind = joint(any);
     while g.stop == 0 {
-        let s = step_closing(card, g.next, kind);
+        let s = step_after(card, g.next);
         if s.mark.kind != kind {
             return g;
         }

@@ -6,6 +6,6 @@ pub mod Runs
 pub mod Ranges
 pub mod Numbers
 pub mod Starts
+pub mod Seats
 pub mod Keywords
 pub mod Laws
-pub mod Quick

@@ -2,4 +2,3 @@ pub mod Marks
 pub mod Kinds
 pub mod Step
 pub mod Parts
-pub mod Quick

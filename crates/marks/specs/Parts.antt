@@ -34,6 +34,11 @@ abbrev pub shortSeat : List ℕ → Bool
 shortSeat [] = false
 shortSeat (a ∷ s) = eqb a 115 && begins isDigit s && not (begins inWord (drop 1 s))
 
+-- a seat word with two digits
+abbrev pub longSeat : List ℕ → Bool
+longSeat [] = false
+longSeat (a ∷ s) = eqb a 115 && begins isDigit s && not (begins (eqb 48) s) && begins isDigit (drop 1 s) && not (begins inWord (drop 2 s))
+
 -- the place behind the bytes from i on that pass a test
 abbrev pub runEnd : (ℕ → Bool) → List ℕ → ℕ → ℕ
 runEnd p s i = i + length (run p (drop i s))

@@ -1,9 +1,7 @@
 // A cursor by value over the bytes of a card: its step hands back the next mark and the cursor behind it.
-mod answer;
-mod bytes;
-pub mod due;
+pub mod answer;
+pub mod bytes;
 pub mod kinds;
-pub mod look;
 mod number;
 mod sign;
 mod word;

@@ -14,10 +14,10 @@ use Rattle.marks.specs.Marks.{isDigit, inWord, begins}
 use Rattle.marks.specs.Kinds.{kSeat, kind}
 use Rattle.marks.specs.Step.{stepAt}
 use Rattle.marks.specs.Parts.{bareOf, valuedOf, isAlone, begun}
-use Rattle.marks.specs.Quick.{signAhead, seatAhead}
+use Rattle.looks.specs.Quick.{signAhead, seatAhead}
 use Rattle.marks.proofs.Lists.{cases, not-both, drop-at}
 use Rattle.marks.proofs.Runs.{begins-at}
-use Rattle.marks.proofs.Quick.{sign-at, sign-step, seat-at, seat-step}
+use Rattle.looks.proofs.Quick.{sign-at, sign-step, seat-at, seat-step}
 use Rattle.guard.specs.declared.Late.{Late}
 use Rattle.reader.specs.Parts.{Due, Sure, kindsIn, numbersIn, tookTo}
 use Rattle.reader.specs.Branches.{UpdateFrom}

@@ -7,6 +7,7 @@ use card::limits::MOST_SEATS;
 use guard::Late;
 use guard::refusals::OUT_OF_SHAPE;
 use guard::refusals::PAST_LIMIT;
+use looks::due::step_module;
 use marks::Cursor;
 use marks::Found;
 use marks::kinds::COMMA;
@@ -62,8 +63,7 @@ pub fn modules(card: &[u8], at: usize, late: Late) -> Took
     let mut kept = late;
     let mut seats = 1;
     while seats < MOST_SEATS {
-        let cursor = Cursor { at: next };
-        let step = cursor.step(card);
+        let step = step_module(card, next);
         let mark = step.mark;
         let behind = step.next;
         if mark.kind != MODULE {

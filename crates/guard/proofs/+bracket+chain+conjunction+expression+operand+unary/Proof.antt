@@ -37,9 +37,9 @@ use Rattle.guard.proofs.is_closed.Reads as is-closed-reads
 use Rattle.guard.proofs.joint.Reads as joint-reads
 use Rattle.guard.proofs.negated.Reads as negated-reads
 use Rattle.guard.proofs.stopped.Reads as stopped-reads
-use Rattle.marks.proofs.due.step_closing.Reads as step-closing-reads
-use Rattle.marks.proofs.due.step_inner.Reads as step-inner-reads
-use Rattle.marks.proofs.due.step_opening.Reads as step-opening-reads
+use Rattle.looks.proofs.due.step_after.Reads as step-after-reads
+use Rattle.looks.proofs.due.step_inner.Reads as step-inner-reads
+use Rattle.looks.proofs.due.step_opening.Reads as step-opening-reads
 use Rattle.guard.proofs.+bracket+chain+conjunction+expression+operand+unary.{statement}
 use Rattle.guard.proofs.+bracket+chain+conjunction+expression+operand+unary.Tie.{close}
 
@@ -105,7 +105,7 @@ abbrev bracket-R : ℕ → bracket-lts.Claims
 bracket-R t = (step-inner-reads.Asked, step-inner-reads.Learnt, grouping-reads.Asked, grouping-reads.Learnt, stopped-reads.Asked, stopped-reads.Learnt, expression-below t, expression.Post, closed-reads.Asked, closed-reads.Learnt)
 
 abbrev chain-R : ℕ → chain-lts.Claims
-chain-R t = (joint-reads.Asked, joint-reads.Learnt, step-closing-reads.Asked, step-closing-reads.Learnt, stopped-reads.Asked, stopped-reads.Learnt, operand-below t, operand.Post, joined-reads.Asked, joined-reads.Learnt)
+chain-R t = (joint-reads.Asked, joint-reads.Learnt, step-after-reads.Asked, step-after-reads.Learnt, stopped-reads.Asked, stopped-reads.Learnt, operand-below t, operand.Post, joined-reads.Asked, joined-reads.Learnt)
 
 abbrev conjunction-R : ℕ → conjunction-lts.Claims
 conjunction-R t = (unary-below t, unary.Post, is-closed-reads.Asked, is-closed-reads.Learnt, chain-below t, chain.Post)
@@ -167,17 +167,17 @@ chain-joint-requires t c κs = tt
 chain-loop-holds : (t : ℕ) → chain-lts.Need-loop-holds (chain-R t) (chain-at t) chain.Post chain-Inv-loop chain-μ-loop
 chain-loop-holds t c = chain-begins (now (c .before .before .args .card)) (c .before .before .args .top) (now (c .before .before .args .nodes)) (c .before .before .args .depth) (c .before .before .args .any) (c .before .before .args .first) (c .before .before .pre .1 .0) (c .before .before .pre .1 .1)
 
-chain-step-closing-requires : (t : ℕ) → chain-lts.Need-step-closing-requires (chain-R t) (chain-at t) chain.Post chain-Inv-loop chain-μ-loop
-chain-step-closing-requires t c κs = tt
+chain-step-after-requires : (t : ℕ) → chain-lts.Need-step-after-requires (chain-R t) (chain-at t) chain.Post chain-Inv-loop chain-μ-loop
+chain-step-after-requires t c κs = tt
 
 chain-returns : (t : ℕ) → chain-lts.Need-returns (chain-R t) (chain-at t) chain.Post chain-Inv-loop chain-μ-loop
-chain-returns t c = chain-done (now (c .before .before .before .before .before .before .before .before .args .card)) (c .before .before .before .before .before .before .before .before .args .top) (now (c .before .before .before .before .before .before .before .before .args .nodes)) (c .before .before .before .before .before .before .before .before .args .depth) (c .before .before .before .before .before .before .before .before .args .any) (c .before .before .before .before .before .before .before .before .args .first) (c .before .before .before .before .before .loop .nodes) (c .before .before .before .before .before .loop .g) (c .before .before .before .before .before .loop .inv) (c .before .before .before .if1 .taken) (c .before .before .step-closing .result) (c .before .before .step-closing .ensures) (c .before .before .before .before .before .before .joint .result) (c .before .before .before .before .before .before .joint .ensures) (c .if2 .taken)
+chain-returns t c = chain-done (now (c .before .before .before .before .before .before .before .before .args .card)) (c .before .before .before .before .before .before .before .before .args .top) (now (c .before .before .before .before .before .before .before .before .args .nodes)) (c .before .before .before .before .before .before .before .before .args .depth) (c .before .before .before .before .before .before .before .before .args .any) (c .before .before .before .before .before .before .before .before .args .first) (c .before .before .before .before .before .loop .nodes) (c .before .before .before .before .before .loop .g) (c .before .before .before .before .before .loop .inv) (c .before .before .before .if1 .taken) (c .before .before .step-after .result) (c .before .before .step-after .ensures) (c .before .before .before .before .before .before .joint .result) (c .before .before .before .before .before .before .joint .ensures) (c .if2 .taken)
 
 chain-stopped-requires : (t : ℕ) → chain-lts.Need-stopped-requires (chain-R t) (chain-at t) chain.Post chain-Inv-loop chain-μ-loop
 chain-stopped-requires t c κs = tt
 
 chain-returns-2 : (t : ℕ) → chain-lts.Need-returns-2 (chain-R t) (chain-at t) chain.Post chain-Inv-loop chain-μ-loop
-chain-returns-2 t c = rw (c .stopped .ensures) (chain-stops (now (c .before .before .before .before .before .before .before .before .before .before .before .args .card)) (c .before .before .before .before .before .before .before .before .before .before .before .args .top) (now (c .before .before .before .before .before .before .before .before .before .before .before .args .nodes)) (c .before .before .before .before .before .before .before .before .before .before .before .args .depth) (c .before .before .before .before .before .before .before .before .before .before .before .args .any) (c .before .before .before .before .before .before .before .before .before .before .before .args .first) (c .before .before .before .before .before .before .before .before .loop .nodes) (c .before .before .before .before .before .before .before .before .loop .g) (c .before .before .before .before .before .before .before .before .loop .inv) (c .before .before .before .before .before .before .if1 .taken) (c .before .before .before .before .before .step-closing .result) (c .before .before .before .before .before .step-closing .ensures) (c .before .before .before .before .before .before .before .before .before .joint .result) (c .before .before .before .before .before .before .before .before .before .joint .ensures) (c .before .before .before .if2 .left) (c .before .if3 .taken))
+chain-returns-2 t c = rw (c .stopped .ensures) (chain-stops (now (c .before .before .before .before .before .before .before .before .before .before .before .args .card)) (c .before .before .before .before .before .before .before .before .before .before .before .args .top) (now (c .before .before .before .before .before .before .before .before .before .before .before .args .nodes)) (c .before .before .before .before .before .before .before .before .before .before .before .args .depth) (c .before .before .before .before .before .before .before .before .before .before .before .args .any) (c .before .before .before .before .before .before .before .before .before .before .before .args .first) (c .before .before .before .before .before .before .before .before .loop .nodes) (c .before .before .before .before .before .before .before .before .loop .g) (c .before .before .before .before .before .before .before .before .loop .inv) (c .before .before .before .before .before .before .if1 .taken) (c .before .before .before .before .before .step-after .result) (c .before .before .before .before .before .step-after .ensures) (c .before .before .before .before .before .before .before .before .before .joint .result) (c .before .before .before .before .before .before .before .before .before .joint .ensures) (c .before .before .before .if2 .left) (c .before .if3 .taken))
 
 chain-add-operand : (t : ℕ) → chain-lts.Need-add-operand (chain-R t) (chain-at t) chain.Post chain-Inv-loop chain-μ-loop
 chain-add-operand t c = omega (arith, c .before .before .before .before .before .before .before .before .before .before .loop .inv .fits)
@@ -189,13 +189,13 @@ chain-operand-requires : (t : ℕ) → chain-lts.Need-operand-requires (chain-R 
 chain-operand-requires t c κs = (omega (arith, c .before .before .before .before .before .before .before .before .before .before .before .before .before .before .pre .0, c .before .before .before .before .before .before .before .before .before .before .before .loop .inv .fewer), (omega (arith, c .before .before .before .before .before .before .before .before .before .before .before .loop .inv .fits), omega (arith, c .before .before .before .before .before .before .before .before .before .before .before .loop .inv .most)))
 
 chain-joined-requires : (t : ℕ) → chain-lts.Need-joined-requires (chain-R t) (chain-at t) chain.Post chain-Inv-loop chain-μ-loop
-chain-joined-requires t c κs = (omega (arith, c .before .before .before .before .before .before .before .before .before .before .before .before .before .loop .inv .fits), omega (arith, operand-room (now (c .before .before .before .before .before .before .before .before .before .before .before .before .before .before .before .before .args .card)) (c .before .before .before .before .before .before .before .before .before .before .before .before .before .before .before .before .args .top) (now (c .before .before .before .before .before .before .before .before .before .before .before .before .before .before .before .before .args .nodes)) (c .before .before .before .before .before .before .before .before .before .before .before .before .before .before .before .before .args .depth) (c .before .before .before .before .before .before .before .before .before .before .before .before .before .before .before .before .args .any) (c .before .before .before .before .before .before .before .before .before .before .before .before .before .before .before .before .args .first) (c .before .before .before .before .before .before .before .before .before .before .before .before .before .loop .nodes) (c .before .before .before .before .before .before .before .before .before .before .before .before .before .loop .g) (c .before .before .before .before .before .before .before .before .before .before .before .before .before .loop .inv) (c .before .before .before .before .before .before .before .before .before .before .before .if1 .taken) (c .before .before .before .before .before .before .before .before .before .before .step-closing .result) (c .before .before .before .before .before .before .before .before .before .before .step-closing .ensures) (c .before .before .before .before .before .before .before .before .before .before .before .before .before .before .joint .result) (c .before .before .before .before .before .before .before .before .before .before .before .before .before .before .joint .ensures) (c .before .before .before .before .before .before .before .before .if2 .left) (c .before .before .before .before .before .before .if3 .left) (c .before .operand .last .1 .1 .0) (c .before .operand .result) (c .before .operand .ensures) .fits))
+chain-joined-requires t c κs = (omega (arith, c .before .before .before .before .before .before .before .before .before .before .before .before .before .loop .inv .fits), omega (arith, operand-room (now (c .before .before .before .before .before .before .before .before .before .before .before .before .before .before .before .before .args .card)) (c .before .before .before .before .before .before .before .before .before .before .before .before .before .before .before .before .args .top) (now (c .before .before .before .before .before .before .before .before .before .before .before .before .before .before .before .before .args .nodes)) (c .before .before .before .before .before .before .before .before .before .before .before .before .before .before .before .before .args .depth) (c .before .before .before .before .before .before .before .before .before .before .before .before .before .before .before .before .args .any) (c .before .before .before .before .before .before .before .before .before .before .before .before .before .before .before .before .args .first) (c .before .before .before .before .before .before .before .before .before .before .before .before .before .loop .nodes) (c .before .before .before .before .before .before .before .before .before .before .before .before .before .loop .g) (c .before .before .before .before .before .before .before .before .before .before .before .before .before .loop .inv) (c .before .before .before .before .before .before .before .before .before .before .before .if1 .taken) (c .before .before .before .before .before .before .before .before .before .before .step-after .result) (c .before .before .before .before .before .before .before .before .before .before .step-after .ensures) (c .before .before .before .before .before .before .before .before .before .before .before .before .before .before .joint .result) (c .before .before .before .before .before .before .before .before .before .before .before .before .before .before .joint .ensures) (c .before .before .before .before .before .before .before .before .if2 .left) (c .before .before .before .before .before .before .if3 .left) (c .before .operand .last .1 .1 .0) (c .before .operand .result) (c .before .operand .ensures) .fits))
 
 chain-loop-less : (t : ℕ) → chain-lts.Need-loop-less (chain-R t) (chain-at t) chain.Post chain-Inv-loop chain-μ-loop
-chain-loop-less t c = chain-falls (now (c .before .before .before .before .before .before .before .before .before .before .before .before .before .before .before .before .before .args .card)) (c .before .before .before .before .before .before .before .before .before .before .before .before .before .before .before .before .before .args .top) (now (c .before .before .before .before .before .before .before .before .before .before .before .before .before .before .before .before .before .args .nodes)) (c .before .before .before .before .before .before .before .before .before .before .before .before .before .before .before .before .before .args .depth) (c .before .before .before .before .before .before .before .before .before .before .before .before .before .before .before .before .before .args .any) (c .before .before .before .before .before .before .before .before .before .before .before .before .before .before .before .before .before .args .first) (c .before .before .before .before .before .before .before .before .before .before .before .before .before .before .loop .nodes) (c .before .before .before .before .before .before .before .before .before .before .before .before .before .before .loop .g) (c .before .before .before .before .before .before .before .before .before .before .before .before .before .before .loop .inv) (c .before .before .before .before .before .before .before .before .before .before .before .before .if1 .taken) (c .before .before .before .before .before .before .before .before .before .before .before .step-closing .result) (c .before .before .before .before .before .before .before .before .before .before .before .step-closing .ensures) (c .before .before .before .before .before .before .before .before .before .before .before .before .before .before .before .joint .result) (c .before .before .before .before .before .before .before .before .before .before .before .before .before .before .before .joint .ensures) (c .before .before .before .before .before .before .before .before .before .if2 .left) (c .before .before .before .before .before .before .before .if3 .left) (c .before .before .operand .last .1 .1 .0) (c .before .before .operand .result) (c .before .before .operand .ensures) (c .joined .result) (c .joined .ensures .1 .1)
+chain-loop-less t c = chain-falls (now (c .before .before .before .before .before .before .before .before .before .before .before .before .before .before .before .before .before .args .card)) (c .before .before .before .before .before .before .before .before .before .before .before .before .before .before .before .before .before .args .top) (now (c .before .before .before .before .before .before .before .before .before .before .before .before .before .before .before .before .before .args .nodes)) (c .before .before .before .before .before .before .before .before .before .before .before .before .before .before .before .before .before .args .depth) (c .before .before .before .before .before .before .before .before .before .before .before .before .before .before .before .before .before .args .any) (c .before .before .before .before .before .before .before .before .before .before .before .before .before .before .before .before .before .args .first) (c .before .before .before .before .before .before .before .before .before .before .before .before .before .before .loop .nodes) (c .before .before .before .before .before .before .before .before .before .before .before .before .before .before .loop .g) (c .before .before .before .before .before .before .before .before .before .before .before .before .before .before .loop .inv) (c .before .before .before .before .before .before .before .before .before .before .before .before .if1 .taken) (c .before .before .before .before .before .before .before .before .before .before .before .step-after .result) (c .before .before .before .before .before .before .before .before .before .before .before .step-after .ensures) (c .before .before .before .before .before .before .before .before .before .before .before .before .before .before .before .joint .result) (c .before .before .before .before .before .before .before .before .before .before .before .before .before .before .before .joint .ensures) (c .before .before .before .before .before .before .before .before .before .if2 .left) (c .before .before .before .before .before .before .before .if3 .left) (c .before .before .operand .last .1 .1 .0) (c .before .before .operand .result) (c .before .before .operand .ensures) (c .joined .result) (c .joined .ensures .1 .1)
 
 chain-loop-again : (t : ℕ) → chain-lts.Need-loop-again (chain-R t) (chain-at t) chain.Post chain-Inv-loop chain-μ-loop
-chain-loop-again t c = chain-turns (now (c .before .before .before .before .before .before .before .before .before .before .before .before .before .before .before .before .before .args .card)) (c .before .before .before .before .before .before .before .before .before .before .before .before .before .before .before .before .before .args .top) (now (c .before .before .before .before .before .before .before .before .before .before .before .before .before .before .before .before .before .args .nodes)) (c .before .before .before .before .before .before .before .before .before .before .before .before .before .before .before .before .before .args .depth) (c .before .before .before .before .before .before .before .before .before .before .before .before .before .before .before .before .before .args .any) (c .before .before .before .before .before .before .before .before .before .before .before .before .before .before .before .before .before .args .first) (c .before .before .before .before .before .before .before .before .before .before .before .before .before .before .loop .nodes) (c .before .before .before .before .before .before .before .before .before .before .before .before .before .before .loop .g) (c .before .before .before .before .before .before .before .before .before .before .before .before .before .before .loop .inv) (c .before .before .before .before .before .before .before .before .before .before .before .before .if1 .taken) (c .before .before .before .before .before .before .before .before .before .before .before .step-closing .result) (c .before .before .before .before .before .before .before .before .before .before .before .step-closing .ensures) (c .before .before .before .before .before .before .before .before .before .before .before .before .before .before .before .joint .result) (c .before .before .before .before .before .before .before .before .before .before .before .before .before .before .before .joint .ensures) (c .before .before .before .before .before .before .before .before .before .if2 .left) (c .before .before .before .before .before .before .before .if3 .left) (c .before .before .operand .last .1 .1 .0) (c .before .before .operand .result) (c .before .before .operand .ensures) (c .joined .last .0) (c .joined .result) (c .joined .ensures .0) (c .joined .ensures .1)
+chain-loop-again t c = chain-turns (now (c .before .before .before .before .before .before .before .before .before .before .before .before .before .before .before .before .before .args .card)) (c .before .before .before .before .before .before .before .before .before .before .before .before .before .before .before .before .before .args .top) (now (c .before .before .before .before .before .before .before .before .before .before .before .before .before .before .before .before .before .args .nodes)) (c .before .before .before .before .before .before .before .before .before .before .before .before .before .before .before .before .before .args .depth) (c .before .before .before .before .before .before .before .before .before .before .before .before .before .before .before .before .before .args .any) (c .before .before .before .before .before .before .before .before .before .before .before .before .before .before .before .before .before .args .first) (c .before .before .before .before .before .before .before .before .before .before .before .before .before .before .loop .nodes) (c .before .before .before .before .before .before .before .before .before .before .before .before .before .before .loop .g) (c .before .before .before .before .before .before .before .before .before .before .before .before .before .before .loop .inv) (c .before .before .before .before .before .before .before .before .before .before .before .before .if1 .taken) (c .before .before .before .before .before .before .before .before .before .before .before .step-after .result) (c .before .before .before .before .before .before .before .before .before .before .before .step-after .ensures) (c .before .before .before .before .before .before .before .before .before .before .before .before .before .before .before .joint .result) (c .before .before .before .before .before .before .before .before .before .before .before .before .before .before .before .joint .ensures) (c .before .before .before .before .before .before .before .before .before .if2 .left) (c .before .before .before .before .before .before .before .if3 .left) (c .before .before .operand .last .1 .1 .0) (c .before .before .operand .result) (c .before .before .operand .ensures) (c .joined .last .0) (c .joined .result) (c .joined .ensures .0) (c .joined .ensures .1)
 
 chain-returns-3 : (t : ℕ) → chain-lts.Need-returns-3 (chain-R t) (chain-at t) chain.Post chain-Inv-loop chain-μ-loop
 chain-returns-3 t c = chain-wrong (now (c .before .before .before .before .before .args .card)) (c .before .before .before .before .before .args .top) (now (c .before .before .before .before .before .args .nodes)) (c .before .before .before .before .before .args .depth) (c .before .before .before .before .before .args .any) (c .before .before .before .before .before .args .first) (c .before .before .loop .nodes) (c .before .before .loop .g) (c .before .before .loop .inv) (c .if1 .left)
@@ -317,8 +317,8 @@ pub +bracket+chain+conjunction+expression+operand+unary-spec : {M : Type 1} → 
     (λ t. chain-lts.spec (
       joint-reads.Asked,
       joint-reads.Learnt,
-      step-closing-reads.Asked,
-      step-closing-reads.Learnt,
+      step-after-reads.Asked,
+      step-after-reads.Learnt,
       stopped-reads.Asked,
       stopped-reads.Learnt,
       operand-below t,
@@ -332,7 +332,7 @@ pub +bracket+chain+conjunction+expression+operand+unary-spec : {M : Type 1} → 
     chain-μ-loop
     (chain-joint-requires t)
     (chain-loop-holds t)
-    (chain-step-closing-requires t)
+    (chain-step-after-requires t)
     (chain-returns t)
     (chain-stopped-requires t)
     (chain-returns-2 t)

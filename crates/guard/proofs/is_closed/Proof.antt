@@ -5,7 +5,7 @@ use Rattle.guard.proofs.is_closed.Statement.{statement}
 use Rattle.guard.proofs.is_closed.Tie as tie
 use Rattle.guard.proofs.is_closed.Reads as reads
 use Rattle.guard.proofs.is_closed.Lts as lts
-use Rattle.marks.proofs.look.sign_here.Reads as sign-here-reads
+use Rattle.looks.proofs.look.sign_here.Reads as sign-here-reads
 
 -- src/lib.rt:454:9
 returns : tie.Need-returns

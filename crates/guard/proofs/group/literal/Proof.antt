@@ -1,6 +1,6 @@
--- The quick way has the two steps by their looks (proofs/Quick.antt of marks).
+-- The quick way has the two steps by their looks (proofs/Quick.antt of looks).
 use Rattle.guard.proofs.Literals.{literal-whole}
-use Rattle.marks.proofs.Quick.{sign-place, sign-step, digit-place, digit-step}
+use Rattle.looks.proofs.Quick.{sign-place, sign-step, digit-place, digit-step}
 use Rattle.marks.specs.Parts.{bareOf, valuedOf}
 use Rattle.marks.specs.Kinds.{kNumber}
 use denote.Ref.{now}
@@ -14,8 +14,8 @@ use Rattle.guard.proofs.group.literal.Tie as tie
 use Rattle.guard.proofs.group.literal.Reads as reads
 use Rattle.guard.proofs.group.literal.Lts as lts
 use Rattle.guard.proofs.group.long_literal.Reads as long-literal-reads
-use Rattle.marks.proofs.look.digit_here.Reads as digit-here-reads
-use Rattle.marks.proofs.look.sign_here.Reads as sign-here-reads
+use Rattle.looks.proofs.look.digit_here.Reads as digit-here-reads
+use Rattle.looks.proofs.look.sign_here.Reads as sign-here-reads
 
 -- src/group.rt:122:9
 sign-here-requires : tie.Need-sign-here-requires

@@ -7,8 +7,8 @@ use Rattle.guard.proofs.group.long_literal.Reads as reads
 use Rattle.guard.proofs.group.long_literal.Lts as lts
 use Rattle.guard.proofs.group.no_tail.Reads as no-tail-reads
 use Rattle.guard.proofs.group.relation.Reads as relation-reads
-use Rattle.marks.proofs.due.step_number.Reads as step-number-reads
-use Rattle.marks.proofs.due.step_relation.Reads as step-relation-reads
+use Rattle.looks.proofs.due.step_number.Reads as step-number-reads
+use Rattle.looks.proofs.due.step_relation.Reads as step-relation-reads
 
 -- src/group.rt:97:9
 step-relation-requires : tie.Need-step-relation-requires

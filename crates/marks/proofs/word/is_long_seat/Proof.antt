@@ -1,5 +1,5 @@
 -- The definition's tests, in its order.
-use Rattle.marks.proofs.Quick.{long-at}
+use Rattle.marks.proofs.Seats.{long-at}
 use Rattle.marks.proofs.Runs.{begins-place}
 use Rattle.marks.specs.Marks.{isDigit}
 use mathlib.Core.Path.{sym, _∙_}

@@ -1,5 +1,5 @@
 -- A seat word with two digits by its law (proofs/Quick.antt), or any word.
-use Rattle.marks.proofs.Quick.{long-place, first-low, second-low, seat-double}
+use Rattle.marks.proofs.Seats.{long-place, first-low, second-low, seat-double}
 use Rattle.marks.specs.Kinds.{kSeat}
 use Rattle.marks.specs.Parts.{valuedOf}
 use borrow.Author.Tests.{not-false}

@@ -12,7 +12,7 @@ use Rattle.reader.proofs.branches.branches.Tie as tie
 use Rattle.reader.proofs.branches.branches.Reads as reads
 use Rattle.reader.proofs.branches.branches.Lts as lts
 use Rattle.marks.proofs.Cursor.step.Reads as step-reads
-use Rattle.marks.proofs.due.step_further.Reads as step-further-reads
+use Rattle.looks.proofs.due.step_further.Reads as step-further-reads
 use Rattle.reader.proofs.branches.branch.Reads as branch-reads
 use Rattle.reader.proofs.branches.closed.Reads as closed-reads
 use Rattle.reader.proofs.branches.past.Reads as past-reads

@@ -14,7 +14,7 @@ use Rattle.reader.proofs.branches.updated.Statement.{statement}
 use Rattle.reader.proofs.branches.updated.Tie as tie
 use Rattle.reader.proofs.branches.updated.Reads as reads
 use Rattle.reader.proofs.branches.updated.Lts as lts
-use Rattle.marks.proofs.look.all_here.Reads as all-here-reads
+use Rattle.looks.proofs.look.all_here.Reads as all-here-reads
 use Rattle.reader.proofs.parts.passed.Reads as passed-reads
 use Rattle.reader.proofs.parts.run.Reads as run-reads
 

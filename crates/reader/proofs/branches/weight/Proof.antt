@@ -10,8 +10,8 @@ use Rattle.reader.proofs.branches.weight.Lts as lts
 use Rattle.card.proofs.weight.Weight.decimal.Reads as decimal-reads
 use Rattle.card.proofs.weight.Weight.ratio.Reads as ratio-reads
 use Rattle.card.proofs.weight.Weight.whole.Reads as whole-reads
-use Rattle.marks.proofs.due.step_number.Reads as step-number-reads
-use Rattle.marks.proofs.due.step_slash.Reads as step-slash-reads
+use Rattle.looks.proofs.due.step_number.Reads as step-number-reads
+use Rattle.looks.proofs.due.step_slash.Reads as step-slash-reads
 use Rattle.reader.proofs.branches.weighed.Reads as weighed-reads
 use Rattle.reader.proofs.parts.stopped.Reads as stopped-reads
 

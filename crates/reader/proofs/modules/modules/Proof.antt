@@ -10,6 +10,7 @@ use Rattle.reader.proofs.modules.modules.Tie as tie
 use Rattle.reader.proofs.modules.modules.Reads as reads
 use Rattle.reader.proofs.modules.modules.Lts as lts
 use Rattle.marks.proofs.Cursor.step.Reads as step-reads
+use Rattle.looks.proofs.due.step_module.Reads as step-module-reads
 use Rattle.reader.proofs.modules.copy.Reads as copy-reads
 use Rattle.reader.proofs.modules.ended.Reads as ended-reads
 use Rattle.reader.proofs.parts.stopped.Reads as stopped-reads
@@ -25,8 +26,8 @@ loop-holds : tie.Need-loop-holds Inv-loop μ-loop
 loop-holds c = going-start (now (c .before .args .card)) (c .before .args .late) (c .before .args .at)
 
 -- src/modules.rt:52:13
-step-requires : tie.Need-step-requires Inv-loop μ-loop
-step-requires c κs = search needs
+step-module-requires : tie.Need-step-module-requires Inv-loop μ-loop
+step-module-requires c κs = search needs
 
 -- src/modules.rt:56:13
 ended-requires : tie.Need-ended-requires Inv-loop μ-loop
@@ -35,7 +36,7 @@ ended-requires c κs = search needs
 -- src/modules.rt:56:13
 returns : tie.Need-returns Inv-loop μ-loop
 returns c = λ k n. rw (c .ended .ensures)
-    (going-ended (now (c .before .before .before .before .before .before .before .before .before .args .card)) (c .before .before .before .before .before .before .before .before .before .args .late) (c .before .before .before .before .before .before .before .before .before .args .at) (c .before .before .before .before .before .before .before .loop .seats) (c .before .before .before .before .before .before .before .loop .kept) (c .before .before .before .before .before .before .before .loop .next) (c .before .before .before .before .before .before .before .loop .inv) (c .before .before .before .before .before .step .result) (next-at (now (c .before .before .before .before .before .before .before .before .before .args .card)) (c .before .before .before .before .before .before .before .loop .next) (c .before .before .before .before .before .step .result) (c .before .before .before .before .before .step .ensures)) (c .before .if1 .taken) k n)
+    (going-ended (now (c .before .before .before .before .before .before .before .before .before .args .card)) (c .before .before .before .before .before .before .before .before .before .args .late) (c .before .before .before .before .before .before .before .before .before .args .at) (c .before .before .before .before .before .before .before .loop .seats) (c .before .before .before .before .before .before .before .loop .kept) (c .before .before .before .before .before .before .before .loop .next) (c .before .before .before .before .before .before .before .loop .inv) (c .before .before .before .before .before .step-module .result) (next-at (now (c .before .before .before .before .before .before .before .before .before .args .card)) (c .before .before .before .before .before .before .before .loop .next) (c .before .before .before .before .before .step-module .result) (c .before .before .before .before .before .step-module .ensures)) (c .before .if1 .taken) k n)
 
 -- src/modules.rt:58:9
 add-seats : tie.Need-add-seats Inv-loop μ-loop
@@ -48,7 +49,7 @@ copy-requires c κs = search needs
 -- src/modules.rt:61:13
 returns-2 : tie.Need-returns-2 Inv-loop μ-loop
 returns-2 c =
-    going-stops (now (c .before .before .before .before .before .before .before .before .before .before .before .args .card)) (c .before .before .before .before .before .before .before .before .before .before .before .args .late) (c .before .before .before .before .before .before .before .before .before .before .before .args .at) (c .before .before .before .before .before .before .before .before .before .loop .seats) (c .before .before .before .before .before .before .before .before .before .loop .kept) (c .before .before .before .before .before .before .before .before .before .loop .next) (c .before .before .before .before .before .before .before .before .before .loop .inv) (c .before .before .before .before .before .before .before .step .result) (next-at (now (c .before .before .before .before .before .before .before .before .before .before .before .args .card)) (c .before .before .before .before .before .before .before .before .before .loop .next) (c .before .before .before .before .before .before .before .step .result) (c .before .before .before .before .before .before .before .step .ensures)) (c .before .before .before .if1 .left) (c .before .before .before .before .before .before .before .before .loop-test .taken)
+    going-stops (now (c .before .before .before .before .before .before .before .before .before .before .before .args .card)) (c .before .before .before .before .before .before .before .before .before .before .before .args .late) (c .before .before .before .before .before .before .before .before .before .before .before .args .at) (c .before .before .before .before .before .before .before .before .before .loop .seats) (c .before .before .before .before .before .before .before .before .before .loop .kept) (c .before .before .before .before .before .before .before .before .before .loop .next) (c .before .before .before .before .before .before .before .before .before .loop .inv) (c .before .before .before .before .before .before .before .step-module .result) (next-at (now (c .before .before .before .before .before .before .before .before .before .before .before .args .card)) (c .before .before .before .before .before .before .before .before .before .loop .next) (c .before .before .before .before .before .before .before .step-module .result) (c .before .before .before .before .before .before .before .step-module .ensures)) (c .before .before .before .if1 .left) (c .before .before .before .before .before .before .before .before .loop-test .taken)
     (c .before .before .copy .result) (c .before .before .copy .ensures) (c .if2 .taken)
 
 -- src/modules.rt:50:5
@@ -58,12 +59,12 @@ loop-less c = search needs
 -- src/modules.rt:50:5
 loop-again : tie.Need-loop-again Inv-loop μ-loop
 loop-again c =
-    going-more (now (c .before .before .before .before .before .before .before .before .before .before .before .before .args .card)) (c .before .before .before .before .before .before .before .before .before .before .before .before .args .late) (c .before .before .before .before .before .before .before .before .before .before .before .before .args .at) (c .before .before .before .before .before .before .before .before .before .before .loop .seats) (c .before .before .before .before .before .before .before .before .before .before .loop .kept) (c .before .before .before .before .before .before .before .before .before .before .loop .next) (c .before .before .before .before .before .before .before .before .before .before .loop .inv) (c .before .before .before .before .before .before .before .before .step .result) (next-at (now (c .before .before .before .before .before .before .before .before .before .before .before .before .args .card)) (c .before .before .before .before .before .before .before .before .before .before .loop .next) (c .before .before .before .before .before .before .before .before .step .result) (c .before .before .before .before .before .before .before .before .step .ensures)) (c .before .before .before .before .if1 .left) (c .before .before .before .before .before .before .before .before .before .loop-test .taken)
+    going-more (now (c .before .before .before .before .before .before .before .before .before .before .before .before .args .card)) (c .before .before .before .before .before .before .before .before .before .before .before .before .args .late) (c .before .before .before .before .before .before .before .before .before .before .before .before .args .at) (c .before .before .before .before .before .before .before .before .before .before .loop .seats) (c .before .before .before .before .before .before .before .before .before .before .loop .kept) (c .before .before .before .before .before .before .before .before .before .before .loop .next) (c .before .before .before .before .before .before .before .before .before .before .loop .inv) (c .before .before .before .before .before .before .before .before .step-module .result) (next-at (now (c .before .before .before .before .before .before .before .before .before .before .before .before .args .card)) (c .before .before .before .before .before .before .before .before .before .before .loop .next) (c .before .before .before .before .before .before .before .before .step-module .result) (c .before .before .before .before .before .before .before .before .step-module .ensures)) (c .before .before .before .before .if1 .left) (c .before .before .before .before .before .before .before .before .before .loop-test .taken)
     (c .before .before .before .copy .result) (c .before .before .before .copy .ensures) (c .before .if2 .left)
 
 -- src/modules.rt:67:9
-step-requires-2 : tie.Need-step-requires-2 Inv-loop μ-loop
-step-requires-2 c κs = search needs
+step-requires : tie.Need-step-requires Inv-loop μ-loop
+step-requires c κs = search needs
 
 -- src/modules.rt:70:9
 stopped-requires : tie.Need-stopped-requires Inv-loop μ-loop
@@ -72,7 +73,7 @@ stopped-requires c κs = search needs
 -- src/modules.rt:70:9
 returns-3 : tie.Need-returns-3 Inv-loop μ-loop
 returns-3 c = λ k n. rw (c .stopped .ensures)
-    (going-past (now (c .before .before .before .before .before .before .before .before .args .card)) (c .before .before .before .before .before .before .before .before .args .late) (c .before .before .before .before .before .before .before .before .args .at) (c .before .before .before .before .before .before .loop .seats) (c .before .before .before .before .before .before .loop .kept) (c .before .before .before .before .before .before .loop .next) (c .before .before .before .before .before .before .loop .inv) (c .before .before .before .before .step2 .result) (next-at (now (c .before .before .before .before .before .before .before .before .args .card)) (c .before .before .before .before .before .before .loop .next) (c .before .before .before .before .step2 .result) (c .before .before .before .before .step2 .ensures)) (c .before .if3 .taken) (c .before .before .before .before .before .loop-test .left) k n)
+    (going-past (now (c .before .before .before .before .before .before .before .before .args .card)) (c .before .before .before .before .before .before .before .before .args .late) (c .before .before .before .before .before .before .before .before .args .at) (c .before .before .before .before .before .before .loop .seats) (c .before .before .before .before .before .before .loop .kept) (c .before .before .before .before .before .before .loop .next) (c .before .before .before .before .before .before .loop .inv) (c .before .before .before .before .step .result) (next-at (now (c .before .before .before .before .before .before .before .before .args .card)) (c .before .before .before .before .before .before .loop .next) (c .before .before .before .before .step .result) (c .before .before .before .before .step .ensures)) (c .before .if3 .taken) (c .before .before .before .before .before .loop-test .left) k n)
 
 -- src/modules.rt:72:5
 ended-requires-2 : tie.Need-ended-requires-2 Inv-loop μ-loop
@@ -81,7 +82,7 @@ ended-requires-2 c κs = search needs
 -- src/modules.rt:44:1
 returns-4 : tie.Need-returns-4 Inv-loop μ-loop
 returns-4 c = λ k n. rw (c .ended2 .ensures)
-    (going-ended (now (c .before .before .before .before .before .before .before .before .args .card)) (c .before .before .before .before .before .before .before .before .args .late) (c .before .before .before .before .before .before .before .before .args .at) (c .before .before .before .before .before .before .loop .seats) (c .before .before .before .before .before .before .loop .kept) (c .before .before .before .before .before .before .loop .next) (c .before .before .before .before .before .before .loop .inv) (c .before .before .before .before .step2 .result) (next-at (now (c .before .before .before .before .before .before .before .before .args .card)) (c .before .before .before .before .before .before .loop .next) (c .before .before .before .before .step2 .result) (c .before .before .before .before .step2 .ensures)) (c .before .if3 .left) k n)
+    (going-ended (now (c .before .before .before .before .before .before .before .before .args .card)) (c .before .before .before .before .before .before .before .before .args .late) (c .before .before .before .before .before .before .before .before .args .at) (c .before .before .before .before .before .before .loop .seats) (c .before .before .before .before .before .before .loop .kept) (c .before .before .before .before .before .before .loop .next) (c .before .before .before .before .before .before .loop .inv) (c .before .before .before .before .step .result) (next-at (now (c .before .before .before .before .before .before .before .before .args .card)) (c .before .before .before .before .before .before .loop .next) (c .before .before .before .before .step .result) (c .before .before .before .before .step .ensures)) (c .before .if3 .left) k n)
 
 pub modules-spec : {M : Type 1} → statement M
 modules-spec =
@@ -90,7 +91,7 @@ modules-spec =
     Inv-loop
     μ-loop
     loop-holds
-    step-requires
+    step-module-requires
     ended-requires
     returns
     add-seats
@@ -98,7 +99,7 @@ modules-spec =
     returns-2
     loop-less
     loop-again
-    step-requires-2
+    step-requires
     stopped-requires
     returns-3
     ended-requires-2

@@ -6,7 +6,7 @@ use Rattle.reader.proofs.parts.number.Statement.{statement}
 use Rattle.reader.proofs.parts.number.Tie as tie
 use Rattle.reader.proofs.parts.number.Reads as reads
 use Rattle.reader.proofs.parts.number.Lts as lts
-use Rattle.marks.proofs.due.step_number.Reads as step-number-reads
+use Rattle.looks.proofs.due.step_number.Reads as step-number-reads
 use Rattle.reader.proofs.parts.judge_state.Reads as judge-state-reads
 use Rattle.reader.proofs.parts.passed.Reads as passed-reads
 use Rattle.reader.proofs.parts.stopped.Reads as stopped-reads

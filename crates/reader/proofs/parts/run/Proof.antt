@@ -14,7 +14,7 @@ use Rattle.reader.proofs.parts.run.Statement.{statement}
 use Rattle.reader.proofs.parts.run.Tie as tie
 use Rattle.reader.proofs.parts.run.Reads as reads
 use Rattle.reader.proofs.parts.run.Lts as lts
-use Rattle.marks.proofs.due.step_kind.Reads as step-kind-reads
+use Rattle.looks.proofs.due.step_kind.Reads as step-kind-reads
 use Rattle.reader.proofs.parts.judge_word.Reads as judge-word-reads
 use Rattle.reader.proofs.parts.passed.Reads as passed-reads
 use Rattle.reader.proofs.parts.stopped.Reads as stopped-reads

@@ -7,7 +7,7 @@ use Rattle.reader.proofs.parts.sign.Statement.{statement}
 use Rattle.reader.proofs.parts.sign.Tie as tie
 use Rattle.reader.proofs.parts.sign.Reads as reads
 use Rattle.reader.proofs.parts.sign.Lts as lts
-use Rattle.marks.proofs.due.step_sign.Reads as step-sign-reads
+use Rattle.looks.proofs.due.step_sign.Reads as step-sign-reads
 use Rattle.reader.proofs.parts.passed.Reads as passed-reads
 use Rattle.reader.proofs.parts.stopped.Reads as stopped-reads
 

@@ -10,8 +10,8 @@ use Rattle.reader.proofs.statements.guarded.Tie as tie
 use Rattle.reader.proofs.statements.guarded.Reads as reads
 use Rattle.reader.proofs.statements.guarded.Lts as lts
 use Rattle.guard.proofs.conjunction.Reads as conjunction-reads
-use Rattle.marks.proofs.due.step_arrow.Reads as step-arrow-reads
-use Rattle.marks.proofs.due.step_sign.Reads as step-sign-reads
+use Rattle.looks.proofs.due.step_arrow.Reads as step-arrow-reads
+use Rattle.looks.proofs.due.step_sign.Reads as step-sign-reads
 use Rattle.reader.proofs.parts.passed.Reads as passed-reads
 use Rattle.reader.proofs.parts.stopped.Reads as stopped-reads
 

@@ -11,7 +11,7 @@ use Rattle.reader.proofs.statements.statements.Statement.{statement}
 use Rattle.reader.proofs.statements.statements.Tie as tie
 use Rattle.reader.proofs.statements.statements.Reads as reads
 use Rattle.reader.proofs.statements.statements.Lts as lts
-use Rattle.marks.proofs.due.step_sign.Reads as step-sign-reads
+use Rattle.looks.proofs.due.step_square.Reads as step-square-reads
 use Rattle.reader.proofs.parts.sign.Reads as sign-reads
 use Rattle.reader.proofs.statements.no_list.Reads as no-list-reads
 use Rattle.reader.proofs.statements.statement.Reads as statement-reads
@@ -65,8 +65,8 @@ add-count : tie.Need-add-count Inv-loop μ-loop
 add-count c = omega (arith, c .before .before .before .before .before .before .loop-test .taken)
 
 -- src/statements.rt:163:13
-step-sign-requires : tie.Need-step-sign-requires Inv-loop μ-loop
-step-sign-requires c κs = search needs
+step-square-requires : tie.Need-step-square-requires Inv-loop μ-loop
+step-square-requires c κs = search needs
 
 -- src/statements.rt:169:17
 no-list-requires-3 : tie.Need-no-list-requires-3 Inv-loop μ-loop
@@ -74,11 +74,11 @@ no-list-requires-3 c κs = search needs
 
 -- src/statements.rt:169:17
 returns-3 : tie.Need-returns-3 Inv-loop μ-loop
-returns-3 c = λ n. rw (c .no-list3 .ensures) (going-unended (now (c .before .before .before .before .before .before .before .before .before .before .before .before .before .before .before .before .before .before .before .before .before .args .card)) (c .before .before .before .before .before .before .before .before .before .before .before .before .before .before .before .before .before .before .before .before .before .args .top) (c .before .before .before .before .before .before .before .before .before .before .before .before .before .before .before .before .before .before .before .before .before .args .late) (arrays (now (c .before .before .before .before .before .before .before .before .before .before .before .before .before .before .before .before .before .before .before .before .before .args .nodes)) (now (c .before .before .before .before .before .before .before .before .before .before .before .before .before .before .before .before .before .before .before .before .before .args .branches))) (c .before .before .before .before .before .before .before .before .before .before .before .before .before .before .before .before .before .before .before .before .before .args .at) (c .before .before .before .before .before .before .before .before .before .before .before .before .before .before .before .before .loop .count) (c .before .before .before .before .before .before .before .before .before .before .before .before .before .before .before .before .loop .place) (c .before .before .before .before .before .before .before .before .before .before .before .before .before .before .before .before .loop .kept) (c .before .before .before .before .before .before .before .before .before .before .before .before .before .before .before .before .loop .rows) (arrays (c .before .before .before .before .before .before .before .before .before .before .before .before .before .before .before .before .loop .nodes) (c .before .before .before .before .before .before .before .before .before .before .before .before .before .before .before .before .loop .branches)) (c .before .before .before .before .before .before .before .before .before .before .before .before .before .before .before .before .loop .next) (c .before .before .before .before .before .before .before .before .before .before .before .before .before .before .before .before .loop .inv) (c .before .before .before .before .before .before .before .before .before .before .before .before .before .before .before .loop-test .taken) (c .before .before .before .before .before .before .before .before .before .before .before .before .statement .result) (arrays (c .before .before .before .before .before .before .before .before .before .before .before .before .statement .last .1 .1 .1 .0) (c .before .before .before .before .before .before .before .before .before .before .before .before .statement .last .1 .1 .1 .1 .0)) (c .before .before .before .before .before .before .before .before .before .before .before .before .statement .ensures) (c .before .before .before .before .before .before .before .before .before .before .if2 .left) (c .before .before .before .before .before .before .before .before .step-sign .result) (next-at (now (c .before .before .before .before .before .before .before .before .before .before .before .before .before .before .before .before .before .before .before .before .before .args .card)) (c .before .before .before .before .before .before .before .before .before .before .before .before .statement .result .next) (c .before .before .before .before .before .before .before .before .step-sign .result) (c .before .before .before .before .before .before .before .before .step-sign .ensures)) (c .before .before .before .if3 .taken) (c .before .if4 .taken) n)
+returns-3 c = λ n. rw (c .no-list3 .ensures) (going-unended (now (c .before .before .before .before .before .before .before .before .before .before .before .before .before .before .before .before .before .before .before .before .before .args .card)) (c .before .before .before .before .before .before .before .before .before .before .before .before .before .before .before .before .before .before .before .before .before .args .top) (c .before .before .before .before .before .before .before .before .before .before .before .before .before .before .before .before .before .before .before .before .before .args .late) (arrays (now (c .before .before .before .before .before .before .before .before .before .before .before .before .before .before .before .before .before .before .before .before .before .args .nodes)) (now (c .before .before .before .before .before .before .before .before .before .before .before .before .before .before .before .before .before .before .before .before .before .args .branches))) (c .before .before .before .before .before .before .before .before .before .before .before .before .before .before .before .before .before .before .before .before .before .args .at) (c .before .before .before .before .before .before .before .before .before .before .before .before .before .before .before .before .loop .count) (c .before .before .before .before .before .before .before .before .before .before .before .before .before .before .before .before .loop .place) (c .before .before .before .before .before .before .before .before .before .before .before .before .before .before .before .before .loop .kept) (c .before .before .before .before .before .before .before .before .before .before .before .before .before .before .before .before .loop .rows) (arrays (c .before .before .before .before .before .before .before .before .before .before .before .before .before .before .before .before .loop .nodes) (c .before .before .before .before .before .before .before .before .before .before .before .before .before .before .before .before .loop .branches)) (c .before .before .before .before .before .before .before .before .before .before .before .before .before .before .before .before .loop .next) (c .before .before .before .before .before .before .before .before .before .before .before .before .before .before .before .before .loop .inv) (c .before .before .before .before .before .before .before .before .before .before .before .before .before .before .before .loop-test .taken) (c .before .before .before .before .before .before .before .before .before .before .before .before .statement .result) (arrays (c .before .before .before .before .before .before .before .before .before .before .before .before .statement .last .1 .1 .1 .0) (c .before .before .before .before .before .before .before .before .before .before .before .before .statement .last .1 .1 .1 .1 .0)) (c .before .before .before .before .before .before .before .before .before .before .before .before .statement .ensures) (c .before .before .before .before .before .before .before .before .before .before .if2 .left) (c .before .before .before .before .before .before .before .before .step-square .result) (next-at (now (c .before .before .before .before .before .before .before .before .before .before .before .before .before .before .before .before .before .before .before .before .before .args .card)) (c .before .before .before .before .before .before .before .before .before .before .before .before .statement .result .next) (c .before .before .before .before .before .before .before .before .step-square .result) (c .before .before .before .before .before .before .before .before .step-square .ensures)) (c .before .before .before .if3 .taken) (c .before .if4 .taken) n)
 
 -- src/statements.rt:171:13
 returns-4 : tie.Need-returns-4 Inv-loop μ-loop
-returns-4 c = going-ended (now (c .before .before .before .before .before .before .before .before .before .before .before .before .before .before .before .before .before .before .before .before .args .card)) (c .before .before .before .before .before .before .before .before .before .before .before .before .before .before .before .before .before .before .before .before .args .top) (c .before .before .before .before .before .before .before .before .before .before .before .before .before .before .before .before .before .before .before .before .args .late) (arrays (now (c .before .before .before .before .before .before .before .before .before .before .before .before .before .before .before .before .before .before .before .before .args .nodes)) (now (c .before .before .before .before .before .before .before .before .before .before .before .before .before .before .before .before .before .before .before .before .args .branches))) (c .before .before .before .before .before .before .before .before .before .before .before .before .before .before .before .before .before .before .before .before .args .at) (c .before .before .before .before .before .before .before .before .before .before .before .before .before .before .before .loop .count) (c .before .before .before .before .before .before .before .before .before .before .before .before .before .before .before .loop .place) (c .before .before .before .before .before .before .before .before .before .before .before .before .before .before .before .loop .kept) (c .before .before .before .before .before .before .before .before .before .before .before .before .before .before .before .loop .rows) (arrays (c .before .before .before .before .before .before .before .before .before .before .before .before .before .before .before .loop .nodes) (c .before .before .before .before .before .before .before .before .before .before .before .before .before .before .before .loop .branches)) (c .before .before .before .before .before .before .before .before .before .before .before .before .before .before .before .loop .next) (c .before .before .before .before .before .before .before .before .before .before .before .before .before .before .before .loop .inv) (c .before .before .before .before .before .before .before .before .before .before .before .before .before .before .loop-test .taken) (c .before .before .before .before .before .before .before .before .before .before .before .statement .result) (arrays (c .before .before .before .before .before .before .before .before .before .before .before .statement .last .1 .1 .1 .0) (c .before .before .before .before .before .before .before .before .before .before .before .statement .last .1 .1 .1 .1 .0)) (c .before .before .before .before .before .before .before .before .before .before .before .statement .ensures) (c .before .before .before .before .before .before .before .before .before .if2 .left) (c .before .before .before .before .before .before .before .step-sign .result) (next-at (now (c .before .before .before .before .before .before .before .before .before .before .before .before .before .before .before .before .before .before .before .before .args .card)) (c .before .before .before .before .before .before .before .before .before .before .before .statement .result .next) (c .before .before .before .before .before .before .before .step-sign .result) (c .before .before .before .before .before .before .before .step-sign .ensures)) (c .before .before .if3 .taken) (c .if4 .left)
+returns-4 c = going-ended (now (c .before .before .before .before .before .before .before .before .before .before .before .before .before .before .before .before .before .before .before .before .args .card)) (c .before .before .before .before .before .before .before .before .before .before .before .before .before .before .before .before .before .before .before .before .args .top) (c .before .before .before .before .before .before .before .before .before .before .before .before .before .before .before .before .before .before .before .before .args .late) (arrays (now (c .before .before .before .before .before .before .before .before .before .before .before .before .before .before .before .before .before .before .before .before .args .nodes)) (now (c .before .before .before .before .before .before .before .before .before .before .before .before .before .before .before .before .before .before .before .before .args .branches))) (c .before .before .before .before .before .before .before .before .before .before .before .before .before .before .before .before .before .before .before .before .args .at) (c .before .before .before .before .before .before .before .before .before .before .before .before .before .before .before .loop .count) (c .before .before .before .before .before .before .before .before .before .before .before .before .before .before .before .loop .place) (c .before .before .before .before .before .before .before .before .before .before .before .before .before .before .before .loop .kept) (c .before .before .before .before .before .before .before .before .before .before .before .before .before .before .before .loop .rows) (arrays (c .before .before .before .before .before .before .before .before .before .before .before .before .before .before .before .loop .nodes) (c .before .before .before .before .before .before .before .before .before .before .before .before .before .before .before .loop .branches)) (c .before .before .before .before .before .before .before .before .before .before .before .before .before .before .before .loop .next) (c .before .before .before .before .before .before .before .before .before .before .before .before .before .before .before .loop .inv) (c .before .before .before .before .before .before .before .before .before .before .before .before .before .before .loop-test .taken) (c .before .before .before .before .before .before .before .before .before .before .before .statement .result) (arrays (c .before .before .before .before .before .before .before .before .before .before .before .statement .last .1 .1 .1 .0) (c .before .before .before .before .before .before .before .before .before .before .before .statement .last .1 .1 .1 .1 .0)) (c .before .before .before .before .before .before .before .before .before .before .before .statement .ensures) (c .before .before .before .before .before .before .before .before .before .if2 .left) (c .before .before .before .before .before .before .before .step-square .result) (next-at (now (c .before .before .before .before .before .before .before .before .before .before .before .before .before .before .before .before .before .before .before .before .args .card)) (c .before .before .before .before .before .before .before .before .before .before .before .statement .result .next) (c .before .before .before .before .before .before .before .step-square .result) (c .before .before .before .before .before .before .before .step-square .ensures)) (c .before .before .if3 .taken) (c .if4 .left)
 
 -- src/statements.rt:154:5
 loop-less : tie.Need-loop-less Inv-loop μ-loop
@@ -86,7 +86,7 @@ loop-less c = omega (arith, c .before .before .before .before .before .before .b
 
 -- src/statements.rt:154:5
 loop-again : tie.Need-loop-again Inv-loop μ-loop
-loop-again c = going-more (now (c .before .before .before .before .before .before .before .before .before .before .before .before .before .before .before .before .before .before .args .card)) (c .before .before .before .before .before .before .before .before .before .before .before .before .before .before .before .before .before .before .args .top) (c .before .before .before .before .before .before .before .before .before .before .before .before .before .before .before .before .before .before .args .late) (arrays (now (c .before .before .before .before .before .before .before .before .before .before .before .before .before .before .before .before .before .before .args .nodes)) (now (c .before .before .before .before .before .before .before .before .before .before .before .before .before .before .before .before .before .before .args .branches))) (c .before .before .before .before .before .before .before .before .before .before .before .before .before .before .before .before .before .before .args .at) (c .before .before .before .before .before .before .before .before .before .before .before .before .before .loop .count) (c .before .before .before .before .before .before .before .before .before .before .before .before .before .loop .place) (c .before .before .before .before .before .before .before .before .before .before .before .before .before .loop .kept) (c .before .before .before .before .before .before .before .before .before .before .before .before .before .loop .rows) (arrays (c .before .before .before .before .before .before .before .before .before .before .before .before .before .loop .nodes) (c .before .before .before .before .before .before .before .before .before .before .before .before .before .loop .branches)) (c .before .before .before .before .before .before .before .before .before .before .before .before .before .loop .next) (c .before .before .before .before .before .before .before .before .before .before .before .before .before .loop .inv) (c .before .before .before .before .before .before .before .before .before .before .before .before .loop-test .taken) (c .before .before .before .before .before .before .before .before .before .statement .result) (arrays (c .before .before .before .before .before .before .before .before .before .statement .last .1 .1 .1 .0) (c .before .before .before .before .before .before .before .before .before .statement .last .1 .1 .1 .1 .0)) (c .before .before .before .before .before .before .before .before .before .statement .ensures) (c .before .before .before .before .before .before .before .if2 .left) (c .before .before .before .before .before .step-sign .result) (next-at (now (c .before .before .before .before .before .before .before .before .before .before .before .before .before .before .before .before .before .before .args .card)) (c .before .before .before .before .before .before .before .before .before .statement .result .next) (c .before .before .before .before .before .step-sign .result) (c .before .before .before .before .before .step-sign .ensures)) (c .if3 .left)
+loop-again c = going-more (now (c .before .before .before .before .before .before .before .before .before .before .before .before .before .before .before .before .before .before .args .card)) (c .before .before .before .before .before .before .before .before .before .before .before .before .before .before .before .before .before .before .args .top) (c .before .before .before .before .before .before .before .before .before .before .before .before .before .before .before .before .before .before .args .late) (arrays (now (c .before .before .before .before .before .before .before .before .before .before .before .before .before .before .before .before .before .before .args .nodes)) (now (c .before .before .before .before .before .before .before .before .before .before .before .before .before .before .before .before .before .before .args .branches))) (c .before .before .before .before .before .before .before .before .before .before .before .before .before .before .before .before .before .before .args .at) (c .before .before .before .before .before .before .before .before .before .before .before .before .before .loop .count) (c .before .before .before .before .before .before .before .before .before .before .before .before .before .loop .place) (c .before .before .before .before .before .before .before .before .before .before .before .before .before .loop .kept) (c .before .before .before .before .before .before .before .before .before .before .before .before .before .loop .rows) (arrays (c .before .before .before .before .before .before .before .before .before .before .before .before .before .loop .nodes) (c .before .before .before .before .before .before .before .before .before .before .before .before .before .loop .branches)) (c .before .before .before .before .before .before .before .before .before .before .before .before .before .loop .next) (c .before .before .before .before .before .before .before .before .before .before .before .before .before .loop .inv) (c .before .before .before .before .before .before .before .before .before .before .before .before .loop-test .taken) (c .before .before .before .before .before .before .before .before .before .statement .result) (arrays (c .before .before .before .before .before .before .before .before .before .statement .last .1 .1 .1 .0) (c .before .before .before .before .before .before .before .before .before .statement .last .1 .1 .1 .1 .0)) (c .before .before .before .before .before .before .before .before .before .statement .ensures) (c .before .before .before .before .before .before .before .if2 .left) (c .before .before .before .before .before .step-square .result) (next-at (now (c .before .before .before .before .before .before .before .before .before .before .before .before .before .before .before .before .before .before .args .card)) (c .before .before .before .before .before .before .before .before .before .statement .result .next) (c .before .before .before .before .before .step-square .result) (c .before .before .before .before .before .step-square .ensures)) (c .if3 .left)
 
 -- src/statements.rt:176:5
 no-list-requires-4 : tie.Need-no-list-requires-4 Inv-loop μ-loop
@@ -112,7 +112,7 @@ statements-spec =
     mul-rows
     array-set-from-rows
     add-count
-    step-sign-requires
+    step-square-requires
     no-list-requires-3
     returns-3
     returns-4

@@ -1,0 +1,85 @@
+-- A keyword or a module word whose bytes stand right there: no word goes on behind them, so the step finds it.
+use Prim.Native.Nat.{ℕ, _+_, _-_, _≤_, _<_}
+use mathlib.Core.Path.{_≡_, refl, sym, ap, _∙_}
+use mathlib.Core.Bool.{Bool, true, false, not, _&&_}
+use mathlib.Core.List.{List, [], _∷_, _++_}
+use native.Mathlib.Nat.{add-zero, zero-add}
+use native.Mathlib.Omega.{arith}
+use borrow.Author.Tests.{eqb-true, leb-true, not-true}
+use lib.Dec.{eqb, leb}
+use lib.ListN.{length, getD, drop}
+use lib.Seq.{drop-drop, getD-drop}
+use Rattle.card.specs.Limits.{wordDigits}
+use Rattle.card.specs.Text.{bytes}
+use Rattle.marks.specs.Marks.{text, process, isDigit, isLetter, inWord, begins, run, every, plain, wordMark}
+use Rattle.marks.specs.Kinds.{kProcess}
+use Rattle.marks.specs.Step.{stepTo, stepped, stepFrom, stepAt}
+use Rattle.marks.specs.Parts.{begun, valuedOf}
+use Rattle.looks.specs.Quick.{wordAhead}
+use Rattle.marks.specs.declared.Step.{Step}
+use Rattle.marks.proofs.Lists.{cases, not-both, and-left, and-right}
+use Rattle.marks.proofs.Runs.{run-on, run-empty, run-first, begins-at, begins-place, begun-fits}
+use Rattle.marks.proofs.Numbers.{one-digit}
+use Rattle.marks.proofs.Starts.{letter-starts, digit-in-word, word-step, step-at}
+
+-- a run that begins with these bytes
+run-of : (p : ℕ → Bool) (t s : List ℕ) → every p t ≡ true → begun t s ≡ true → run p s ≡ t ++ run p (drop (length t) s)
+run-of p [] s w e = refl
+run-of p (a ∷ t) [] w e = not-both false e refl
+run-of p (a ∷ t) (b ∷ s) w e = cases (eqb a b)
+    (λ y.
+    let q : a ≡ b = eqb-true a b y in
+    let f : begun t s ≡ true = rw y at e in
+    let g : p b ≡ true = ap p (sym q) ∙ and-left (p a) (every p t) w in
+    rw (g, q) (ap (λ (u : List ℕ). b ∷ u) (run-of p t s (and-right (p a) (every p t) w) f)))
+    (λ y. not-both false (rw y at e) refl)
+
+module _ (s : List ℕ) (i : ℕ) where
+  abbrev on : ℕ → Step
+  on = λ more. stepFrom (length s) more (drop (i + 1) s)
+
+  -- a word w whose first byte is a letter
+  whole : (b : ℕ) (u : List ℕ) → isLetter b ≡ true → i < length s → run inWord (drop i s) ≡ b ∷ u → stepAt s i ≡ stepTo (wordMark (b ∷ u)) i (i + length (b ∷ u))
+  whole b u l h w =
+      let some-byte : 0 < length (run inWord (drop i s)) = omega (arith, ap length w) in
+      let first : getD s i 0 ≡ b = ap (λ (n : ℕ). getD s n 0) (sym (add-zero i)) ∙ sym (getD-drop i s 0 0) ∙ sym (run-first inWord (drop i s) some-byte) ∙ ap (λ (v : List ℕ). getD v 0 0) w in
+      let m : isLetter (getD s i 0) ≡ true = ap isLetter first ∙ l in
+      step-at s i h ∙ ap (λ x. stepped i x on) (letter-starts (getD s i 0) (drop (i + 1) s) m)
+      ∙ word-step s i h m on (wordMark (b ∷ u)) (ap wordMark w) ∙ ap (λ (v : List ℕ). stepTo (wordMark (b ∷ u)) i (i + length v)) w
+
+  module _ (b : ℕ) (t : List ℕ) (e : wordAhead (b ∷ t) s i ≡ true) where
+    there : (leb i (length s) && begun (b ∷ t) (drop i s)) ≡ true
+    there = and-left (leb i (length s) && begun (b ∷ t) (drop i s)) (not (begins inWord (drop (i + length (b ∷ t)) s))) e
+
+    stands : begun (b ∷ t) (drop i s) ≡ true
+    stands = and-right (leb i (length s)) (begun (b ∷ t) (drop i s)) there
+
+    pub word-fits : i + length (b ∷ t) ≤ length s
+    word-fits = begun-fits (b ∷ t) s i (leb-true i (length s) (and-left (leb i (length s)) (begun (b ∷ t) (drop i s)) there)) stands
+
+    over : begins inWord (drop (length (b ∷ t)) (drop i s)) ≡ false
+    over = ap (begins inWord) (drop-drop (length (b ∷ t)) i s) ∙ not-true (begins inWord (drop (i + length (b ∷ t)) s)) (and-right (leb i (length s) && begun (b ∷ t) (drop i s)) (not (begins inWord (drop (i + length (b ∷ t)) s))) e)
+
+    pub keyword-step : every inWord (b ∷ t) ≡ true → isLetter b ≡ true → stepAt s i ≡ stepTo (wordMark (b ∷ t ++ [])) i (i + length (b ∷ t ++ []))
+    keyword-step w l = whole b (t ++ []) l (omega (arith, word-fits)) (run-of inWord (b ∷ t) (drop i s) w stands ∙ ap (λ (u : List ℕ). b ∷ t ++ u) (run-empty inWord (drop (length (b ∷ t)) (drop i s)) over))
+
+  -- a module word with one digit
+  module _ (n : i ≤ length s) (e : begun (bytes "process") (drop i s) ≡ true) where
+    pub process-fits : i + 7 ≤ length s
+    process-fits = begun-fits (bytes "process") s i n e
+
+    module _ (d : begins isDigit (drop (i + 7) s) ≡ true) (o : begins inWord (drop (i + 7 + 1) s) ≡ false) where
+      digit-place : i + 7 < length s
+      digit-place = begins-place isDigit s (i + 7) d
+
+      digit : isDigit (getD s (i + 7) 0) ≡ true
+      digit = sym (begins-at isDigit s (i + 7) digit-place) ∙ d
+
+      pub process-step : stepAt s i ≡ valuedOf kProcess (getD s (i + 7) 0 - 48) i (i + 7 + 1)
+      process-step =
+          let v = getD s (i + 7) 0 in
+          let last : run inWord (drop 7 (drop i s)) ≡ v ∷ [] = ap (run inWord) (drop-drop 7 i s) ∙ run-on inWord s (i + 7) digit-place (digit-in-word v digit) ∙ ap (λ (u : List ℕ). v ∷ u) (run-empty inWord (drop (i + 7 + 1) s) o) in
+          let w : run inWord (drop i s) ≡ bytes "process" ++ (v ∷ []) = run-of inWord (bytes "process") (drop i s) refl e ∙ ap (λ (u : List ℕ). bytes "process" ++ u) last in
+          let y : plain wordDigits (v ∷ []) ≡ true = one-digit wordDigits (v ∷ []) (rw digit) refl (omega arith) in
+          let to : i + 8 ≡ i + 7 + 1 = omega arith in
+          whole 112 (bytes "rocess" ++ (v ∷ [])) refl (omega (arith, digit-place)) w ∙ rw (y, zero-add, to)

@@ -1,0 +1,37 @@
+use Rattle.marks.proofs.Runs.{begun-fits}
+use Rattle.marks.proofs.Lists.{and-left, and-right}
+use Rattle.marks.specs.Parts.{begun}
+use lib.ListN.{length, drop}
+use lib.Dec.{leb}
+use borrow.Author.Tests.{leb-true, not-true, not-false}
+use mathlib.Core.Path.{sym, ap, _∙_}
+use native.Mathlib.Omega.{arith}
+use borrow.Author.Needs.{needs}
+use Rattle.looks.proofs.look.word_here.Statement.{statement}
+use Rattle.looks.proofs.look.word_here.Tie as tie
+use Rattle.looks.proofs.look.word_here.Reads as reads
+use Rattle.looks.proofs.look.word_here.Lts as lts
+use Rattle.marks.proofs.bytes.word_at.Reads as word-at-reads
+use Rattle.looks.proofs.look.all_here.Reads as all-here-reads
+
+all-here-requires : tie.Need-all-here-requires
+all-here-requires c κs = search needs
+
+returns : tie.Need-returns
+returns c = rw (sym (c .before .all-here .ensures) ∙ not-true (c .before .all-here .result) (c .if1 .taken))
+
+add-word-at : tie.Need-add-word-at
+add-word-at c = let both = sym (c .before .all-here .ensures) ∙ not-false (c .before .all-here .result) (c .if1 .left) in
+    let l = leb (c .before .before .before .before .args .at) (length (c .before .before .before .before .args .card .now)) in
+    let b = begun (c .before .before .before .before .args .these .now) (drop (c .before .before .before .before .args .at) (c .before .before .before .before .args .card .now)) in
+    omega (arith, begun-fits (c .before .before .before .before .args .these .now) (c .before .before .before .before .args .card .now) (c .before .before .before .before .args .at) (leb-true (c .before .before .before .before .args .at) (length (c .before .before .before .before .args .card .now)) (and-left l b both)) (and-right l b both))
+
+word-at-requires : tie.Need-word-at-requires
+word-at-requires c κs = search needs
+
+returns-2 : tie.Need-returns-2
+returns-2 c = rw (sym (c .before .before .all-here .ensures) ∙ not-false (c .before .before .all-here .result) (c .before .if1 .left), ← c .word-at .ensures)
+
+pub word-here-spec : {M : Type 1} → statement M
+word-here-spec =
+    tie.close (tie.spec all-here-requires returns add-word-at word-at-requires returns-2)

@@ -1,0 +1,279 @@
+// A step where it is known which mark is due: a quick look for it, behind one blank at most, and the cursor's step where it does not stand
+// there.
+ghost use mathlib.Core.Path.{_≡_};
+ghost use Rattle.marks.specs.Step.{stepAt};
+use crate::look::NO_DIGIT;
+use crate::look::all_here;
+use crate::look::digit_here;
+use crate::look::past_blank;
+use crate::look::past_line;
+use crate::look::seat_here;
+use crate::look::sign_here;
+use crate::look::word_here;
+use marks::Cursor;
+use marks::Step;
+use marks::answer::bare;
+use marks::answer::valued;
+use marks::bytes::digit_at;
+use marks::bytes::stands;
+use marks::bytes::wide;
+use marks::bytes::word_at;
+use marks::kinds::AND;
+use marks::kinds::ARROW;
+use marks::kinds::COLON;
+use marks::kinds::ENDMODULE;
+use marks::kinds::EQUAL;
+use marks::kinds::MODULE;
+use marks::kinds::NOT;
+use marks::kinds::NOT_EQUAL;
+use marks::kinds::NUMBER;
+use marks::kinds::OR;
+use marks::kinds::PLUS;
+use marks::kinds::PROCESS;
+use marks::kinds::ROUND_CLOSE;
+use marks::kinds::ROUND_OPEN;
+use marks::kinds::SEAT;
+use marks::kinds::SEMICOLON;
+use marks::kinds::SLASH;
+use marks::kinds::SQUARE_OPEN;
+
+// The cursor's step from a place on. The answer is made anew, so that the callers' quick answers need not lie in memory for it.
+fn step_from(card: &[u8], at: usize) -> Step
+    ensures { λ r. ⌜ r ≡ stepAt (now (card .entry)) at ⌝ }
+{
+    let cursor = Cursor { at };
+    let step = cursor.step(card);
+    let mark = step.mark;
+    let next = step.next;
+    Step { mark, next }
+}
+
+// A sign of this kind.
+pub fn step_sign(card: &[u8], at: usize, kind: usize) -> Step
+    ensures { λ r. ⌜ r ≡ stepAt (now (card .entry)) at ⌝ }
+{
+    let from = past_blank(card, at);
+    if sign_here(card, from, kind) {
+        return bare(kind, from, from + 1);
+    }
+    step_from(card, from)
+}
+
+// A sign of this kind, a `)` or a `->`.
+pub fn step_closing(card: &[u8], at: usize, kind: usize) -> Step
+    ensures { λ r. ⌜ r ≡ stepAt (now (card .entry)) at ⌝ }
+{
+    let from = past_blank(card, at);
+    if sign_here(card, from, kind) {
+        return bare(kind, from, from + 1);
+    }
+    if sign_here(card, from, ROUND_CLOSE) {
+        return bare(ROUND_CLOSE, from, from + 1);
+    }
+    step_arrow(card, from)
+}
+
+// A `)`, a `&`, a `|` or a `->`.
+pub fn step_after(card: &[u8], at: usize) -> Step
+    ensures { λ r. ⌜ r ≡ stepAt (now (card .entry)) at ⌝ }
+{
+    let from = past_blank(card, at);
+    if sign_here(card, from, ROUND_CLOSE) {
+        return bare(ROUND_CLOSE, from, from + 1);
+    }
+    if sign_here(card, from, AND) {
+        return bare(AND, from, from + 1);
+    }
+    if sign_here(card, from, OR) {
+        return bare(OR, from, from + 1);
+    }
+    step_arrow(card, from)
+}
+
+// A `|`, a `&` or a `)`.
+pub fn step_joint(card: &[u8], at: usize) -> Step
+    ensures { λ r. ⌜ r ≡ stepAt (now (card .entry)) at ⌝ }
+{
+    let from = past_blank(card, at);
+    if sign_here(card, from, OR) {
+        return bare(OR, from, from + 1);
+    }
+    if sign_here(card, from, AND) {
+        return bare(AND, from, from + 1);
+    }
+    step_sign(card, from, ROUND_CLOSE)
+}
+
+// A `=` or a `!=`.
+pub fn step_relation(card: &[u8], at: usize) -> Step
+    ensures { λ r. ⌜ r ≡ stepAt (now (card .entry)) at ⌝ }
+{
+    let from = past_blank(card, at);
+    if sign_here(card, from, EQUAL) {
+        return bare(EQUAL, from, from + 1);
+    }
+    if stands(card, from, b'!') {
+        let next = from + 1;
+        if stands(card, next, b'=') {
+            return bare(NOT_EQUAL, from, next + 1);
+        }
+    }
+    step_from(card, from)
+}
+
+// A `+` or a `;`.
+pub fn step_further(card: &[u8], at: usize) -> Step
+    ensures { λ r. ⌜ r ≡ stepAt (now (card .entry)) at ⌝ }
+{
+    let from = past_blank(card, at);
+    if sign_here(card, from, SEMICOLON) {
+        return bare(SEMICOLON, from, from + 1);
+    }
+    step_sign(card, from, PLUS)
+}
+
+// A `(` or a `!`.
+pub fn step_opening(card: &[u8], at: usize) -> Step
+    ensures { λ r. ⌜ r ≡ stepAt (now (card .entry)) at ⌝ }
+{
+    let from = past_blank(card, at);
+    if sign_here(card, from, ROUND_OPEN) {
+        return bare(ROUND_OPEN, from, from + 1);
+    }
+    if stands(card, from, b'!') {
+        let next = from + 1;
+        if !stands(card, next, b'=') {
+            return bare(NOT, from, next);
+        }
+    }
+    step_from(card, from)
+}
+
+// A number.
+pub fn step_number(card: &[u8], at: usize) -> Step
+    ensures { λ r. ⌜ r ≡ stepAt (now (card .entry)) at ⌝ }
+{
+    let from = past_blank(card, at);
+    let value = digit_here(card, from);
+    if value < NO_DIGIT {
+        return valued(NUMBER, value, from, from + 1);
+    }
+    step_from(card, from)
+}
+
+// A seat word.
+pub fn step_seat(card: &[u8], at: usize) -> Step
+    ensures { λ r. ⌜ r ≡ stepAt (now (card .entry)) at ⌝ }
+{
+    let from = past_blank(card, at);
+    let value = seat_here(card, from);
+    if value < NO_DIGIT {
+        return valued(SEAT, value, from, from + 2);
+    }
+    step_from(card, from)
+}
+
+// A `(` or a seat word.
+pub fn step_inner(card: &[u8], at: usize) -> Step
+    ensures { λ r. ⌜ r ≡ stepAt (now (card .entry)) at ⌝ }
+{
+    let from = past_blank(card, at);
+    if sign_here(card, from, ROUND_OPEN) {
+        return bare(ROUND_OPEN, from, from + 1);
+    }
+    step_seat(card, from)
+}
+
+// A `module`, also on the next line.
+pub fn step_module(card: &[u8], at: usize) -> Step
+    ensures { λ r. ⌜ r ≡ stepAt (now (card .entry)) at ⌝ }
+{
+    let from = past_line(card, at);
+    if word_here(card, from, b"module") {
+        return bare(MODULE, from, from + 6);
+    }
+    step_from(card, from)
+}
+
+// A `[`, also on the next line.
+pub fn step_square(card: &[u8], at: usize) -> Step
+    ensures { λ r. ⌜ r ≡ stepAt (now (card .entry)) at ⌝ }
+{
+    let from = past_line(card, at);
+    if sign_here(card, from, SQUARE_OPEN) {
+        return bare(SQUARE_OPEN, from, from + 1);
+    }
+    step_from(card, from)
+}
+
+// An `endmodule`.
+pub fn step_endmodule(card: &[u8], at: usize) -> Step
+    ensures { λ r. ⌜ r ≡ stepAt (now (card .entry)) at ⌝ }
+{
+    let from = past_blank(card, at);
+    if word_here(card, from, b"endmodule") {
+        return bare(ENDMODULE, from, from + 9);
+    }
+    step_from(card, from)
+}
+
+// A module word.
+pub fn step_process(card: &[u8], at: usize) -> Step
+    ensures { λ r. ⌜ r ≡ stepAt (now (card .entry)) at ⌝ }
+{
+    let from = past_blank(card, at);
+    if all_here(card, from, b"process") {
+        let first = from + 7;
+        if digit_at(card, first) {
+            let end = first + 1;
+            if !word_at(card, end) {
+                let value = wide(card[first] - b'0');
+                return valued(PROCESS, value, from, end);
+            }
+        }
+    }
+    step_from(card, from)
+}
+
+// A word of this kind, or a sign.
+pub fn step_kind(card: &[u8], at: usize, kind: usize) -> Step
+    ensures { λ r. ⌜ r ≡ stepAt (now (card .entry)) at ⌝ }
+{
+    if kind == SEAT {
+        return step_seat(card, at);
+    }
+    if kind == PROCESS {
+        return step_process(card, at);
+    }
+    if kind == ENDMODULE {
+        return step_endmodule(card, at);
+    }
+    step_sign(card, at, kind)
+}
+
+// A `/` or a `:`.
+pub fn step_slash(card: &[u8], at: usize) -> Step
+    ensures { λ r. ⌜ r ≡ stepAt (now (card .entry)) at ⌝ }
+{
+    if stands(card, at, b'/') {
+        let next = at + 1;
+        if !stands(card, next, b'/') {
+            return bare(SLASH, at, next);
+        }
+    }
+    step_sign(card, at, COLON)
+}
+
+// A `->`.
+pub fn step_arrow(card: &[u8], at: usize) -> Step
+    ensures { λ r. ⌜ r ≡ stepAt (now (card .entry)) at ⌝ }
+{
+    let from = past_blank(card, at);
+    if stands(card, from, b'-') {
+        let next = from + 1;
+        if stands(card, next, b'>') {
+            return bare(ARROW, from, next + 1);
+        }
+    }
+    step_from(card, from)
+}

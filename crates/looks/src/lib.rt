@@ -1,0 +1,3 @@
+// Quick looks for the marks that are due, and steps of the cursor that try them first.
+pub mod due;
+pub mod look;
