@@ -30,7 +30,7 @@ use Rattle.guard.specs.declared.Settled.{Settled}
 use Rattle.guard.specs.Late.{noneYet, judgeAll}
 use Rattle.guard.specs.Settled.{settled, verdict}
 use Rattle.guard.proofs.Settling.{judge-append, settled-first}
-use Rattle.reader.specs.declared.parts.Took.{Took}
+use Rattle.parts.specs.declared.Took.{Took}
 use Rattle.reader.specs.declared.header.Headed.{Headed}
 use Rattle.reader.specs.declared.statements.Listed.{Listed}
 use Rattle.reader.specs.declared.Reading.{Reading}
@@ -38,12 +38,11 @@ use Rattle.reader.specs.declared.Rough.{Rough}
 use Rattle.card.specs.declared.Verdict.the-variants.{Taken, Refused}
 use Rattle.reader.specs.ReadingOf.{readingOf, Reads, gathered, noRough}
 use Rattle.reader.specs.Search.{searched}
-use Rattle.reader.specs.Parts.{from, Form, Read, Answers, tookForm, stopped}
+use Rattle.parts.specs.Parts.{from, Form, Read, Answers, tookForm, stopped}
 use Rattle.reader.specs.Statements.{Arrays, statements, noRows, withRow, withNodes, withBranches, filled, listedForm, StatementsRead}
 use Rattle.reader.specs.Ends.{HeaderShape, header, headedForm, HeaderRead, modules, ModulesRead}
-use Rattle.reader.proofs.Answers.{Right, onward, halted}
-use Rattle.reader.proofs.Lines.{assoc, made}
-use Rattle.reader.proofs.BranchLaws.{right}
+use Rattle.parts.proofs.Answers.{right, Right, onward, halted}
+use Rattle.parts.proofs.Lines.{assoc, made}
 use Rattle.reader.proofs.Outcomes.{orOutside, read-stop, read-shape}
 use Rattle.reader.proofs.FilledLaws.{card-laid}
 

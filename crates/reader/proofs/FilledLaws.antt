@@ -22,7 +22,7 @@ use Rattle.reading.specs.Shape.{BranchShape, StatementShape, CardShape}
 use Rattle.reading.specs.Checks.{judgedState, judgedWords, judgedOr, weightIn, judgedBranch, judgedEach, judgedStatement, judgedModules, judgedCard, branchIn, guardOr, statementIn, seatsIn, cardIn}
 use Rattle.guard.specs.Late.{guardBy}
 use Rattle.guard.proofs.Settling.{fine-cons, fine-append, same-guard}
-use Rattle.reader.specs.Branches.{packedIn}
+use Rattle.branches.specs.Branches.{packedIn}
 use Rattle.reader.specs.Statements.{guardOrBy, rowBy, withRow, withNodes, withBranches, noRows, filled}
 
 -- ---- one lemma for each array: A is the array with these statements in it

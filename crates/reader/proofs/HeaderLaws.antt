@@ -24,14 +24,13 @@ use Rattle.reading.specs.Checks.{judgedState, judgedWords}
 use Rattle.guard.specs.declared.Late.{Late}
 use Rattle.guard.specs.Late.{noneYet, judge, judgeAll}
 use Rattle.guard.proofs.Settling.{judge-append}
-use Rattle.reader.specs.declared.parts.Took.{Took}
+use Rattle.parts.specs.declared.Took.{Took}
 use Rattle.reader.specs.declared.header.Headed.{Headed}
-use Rattle.reader.specs.Parts.{from, Form, Read, Answers, tookTo, stopped, tookForm, Went, NumberRead, SignRead, Due, sign as due, seat, process, Sure, LineRead}
+use Rattle.parts.specs.Parts.{from, Form, Read, Answers, tookTo, stopped, tookForm, Went, NumberRead, SignRead, Due, sign as due, seat, process, Sure, LineRead}
 use Rattle.reader.specs.Ends.{ModeRead, range, RangeRead, HeaderShape, header, judgedHeader, noHeader, headedForm, HeaderIn, HeaderRead}
-use Rattle.reader.proofs.Steps.{Next, place-seen, seen, valueBy, number-shown, zero-shown, modeBy, mode-shown, told}
-use Rattle.reader.proofs.Answers.{onward, halted, fits, misses}
-use Rattle.reader.proofs.Lines.{sign-fits, sign-misses}
-use Rattle.reader.proofs.BranchLaws.{right}
+use Rattle.parts.proofs.Steps.{Next, place-seen, seen, valueBy, number-shown, zero-shown, modeBy, mode-shown, told}
+use Rattle.parts.proofs.Answers.{right, onward, halted, fits, misses}
+use Rattle.parts.proofs.Lines.{sign-fits, sign-misses}
 
 -- ---- the mode
 

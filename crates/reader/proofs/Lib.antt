@@ -1,10 +1,5 @@
 pub mod Passed
-pub mod Steps
-pub mod Answers
-pub mod Lines
-pub mod Updates
-pub mod Counted
-pub mod BranchLaws
+pub mod Owned
 pub mod StatementLaws
 pub mod ModuleLaws
 pub mod HeaderLaws

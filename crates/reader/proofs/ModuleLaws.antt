@@ -23,14 +23,13 @@ use Rattle.reading.specs.Checks.{judgedWords, judgedModules}
 use Rattle.guard.specs.declared.Late.{Late}
 use Rattle.guard.specs.Late.{judgeAll}
 use Rattle.guard.proofs.Settling.{judge-append}
-use Rattle.reader.specs.declared.parts.Took.{Took}
-use Rattle.reader.specs.Parts.{from, Read, Answers, tookTo, stopped, tookForm, Went, Told, Due, sign as due, seat, process, Sure, LineRead}
+use Rattle.parts.specs.declared.Took.{Took}
+use Rattle.parts.specs.Parts.{from, Read, Answers, tookTo, stopped, tookForm, Went, Told, Due, sign as due, seat, process, Sure, LineRead}
 use Rattle.reader.specs.Ends.{moduleRest, duesOf, modules, endedTo, ModulesRead}
-use Rattle.reader.proofs.Steps.{Next, end, one, place-seen, told}
-use Rattle.reader.proofs.Answers.{onward, handed}
-use Rattle.reader.proofs.Counted.{upTo, another, too-many, no-other}
-use Rattle.reader.proofs.Lines.{made, sign-took}
-use Rattle.reader.proofs.BranchLaws.{right}
+use Rattle.parts.proofs.Steps.{Next, end, one, place-seen, told}
+use Rattle.parts.proofs.Answers.{right, onward, handed}
+use Rattle.parts.proofs.Counted.{upTo, another, too-many, no-other}
+use Rattle.parts.proofs.Lines.{made, sign-took}
 
 -- what is due in a module for seat i, behind its keyword
 abbrev pub moduleDue : ℕ → List Due

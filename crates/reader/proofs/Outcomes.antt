@@ -20,7 +20,7 @@ use Rattle.reading.specs.Shape.{CardShape, ended, theEnd, body, card}
 use Rattle.reading.specs.Checks.{judgedCard, seatsIn, cardIn}
 use Rattle.reading.specs.Reading.{Outcome, taken, refused, firstOutside, judged, shaped, marked, readOf}
 use Rattle.reading.proofs.Through.{stop≢ok, ok-state, through}
-use Rattle.reader.specs.Parts.{from}
+use Rattle.parts.specs.Parts.{from}
 use Rattle.reader.proofs.Passed.{Held, cardP}
 use Rattle.reader.proofs.Places.{Reached, reached-first, reached-next, outside-behind}
 

@@ -18,7 +18,7 @@ use Rattle.marks.proofs.KindLaws.{kind-outside, kind-some}
 use Rattle.marks.specs.declared.Step.{Step}
 use Rattle.reading.specs.Reader.{Place}
 use Rattle.reading.specs.Reading.{isOutside, firstOutside}
-use Rattle.reader.proofs.Steps.{Next, end, one, next-at}
+use Rattle.parts.proofs.Steps.{Next, end, one, next-at}
 
 module _ (s : List ℕ) where
   -- of the bytes x at the end of s, of which k are skipped

@@ -35,17 +35,16 @@ use Rattle.guard.proofs.Settling.{judge-append}
 use Rattle.guard.proofs.Spent.{Each, Spent, unary-spends, conjunction-spends}
 use Rattle.guard.specs.GuardRead as guardRead
 use Rattle.guard.specs.GuardRead.{GuardRead}
-use Rattle.reader.specs.declared.parts.Took.{Took}
+use Rattle.parts.specs.declared.Took.{Took}
 use Rattle.reader.specs.declared.statements.Stated.{Stated}
 use Rattle.reader.specs.declared.statements.Listed.{Listed}
-use Rattle.reader.specs.Parts.{from, Form, Read, Answers, tookTo, stopped, tookForm, Went, NumberRead, SignRead, Told, Due, sign as due, seat, Sure, LineRead}
-use Rattle.reader.specs.Branches.{BranchesShape, branches, judgedBranches, packedIn, BranchesRead}
+use Rattle.parts.specs.Parts.{from, Form, Read, Answers, tookTo, stopped, tookForm, Went, NumberRead, SignRead, Told, Due, sign as due, seat, Sure, LineRead}
+use Rattle.branches.specs.Branches.{BranchesShape, branches, judgedBranches, packedIn, BranchesRead}
 use Rattle.reader.specs.Statements.{guarded, guardOrBy, GuardedIn, GuardedRead, rowBy, noRow, statedForm, withRow, withNodes, withBranches, Arrays, StatementIn, StatementRead, statements, noRows, noList, listedForm, filled, StatementsIn, StatementsRead}
-use Rattle.reader.proofs.Steps.{Next, place-seen, told}
-use Rattle.reader.proofs.Answers.{Right, onward, halted, handed, next-is, next-is-not, if-so, if-not}
-use Rattle.reader.proofs.Counted.{upTo, with-first, another, too-many, no-other}
-use Rattle.reader.proofs.Lines.{made, assoc, sign-took, sign-fits, sign-misses}
-use Rattle.reader.proofs.BranchLaws.{right}
+use Rattle.parts.proofs.Steps.{Next, place-seen, told}
+use Rattle.parts.proofs.Answers.{right, Right, onward, halted, handed, next-is, next-is-not, if-so, if-not}
+use Rattle.parts.proofs.Counted.{upTo, with-first, another, too-many, no-other}
+use Rattle.parts.proofs.Lines.{made, assoc, sign-took, sign-fits, sign-misses}
 
 -- ---- a guard
 

@@ -18,9 +18,9 @@ use Rattle.reading.specs.Shape.{modeOf, zeroOf, top, moreModules, theEnd}
 use Rattle.reading.specs.Checks.{judgedState, judgedWords, judgedModules}
 use Rattle.guard.specs.declared.Late.{Late}
 use Rattle.guard.specs.Late.{noneYet, judgeAll}
-use Rattle.reader.specs.declared.parts.Took.{Took}
+use Rattle.parts.specs.declared.Took.{Took}
 use Rattle.reader.specs.declared.header.Headed.{Headed}
-use Rattle.reader.specs.Parts.{from, Form, Answers, tookTo, stopped, tookForm, Went, LineRead}
+use Rattle.parts.specs.Parts.{from, Form, Answers, tookTo, stopped, tookForm, Went, LineRead}
 
 -- ---- the mode, and the top state
 

@@ -1,5 +1,3 @@
-pub mod Parts
-pub mod Branches
 pub mod Statements
 pub mod Ends
 pub mod Search

@@ -16,11 +16,11 @@ use Rattle.reading.specs.Shape.{StatementShape, guard, statement, moreStatement
 use Rattle.reading.specs.Checks.{judgedOr, judgedStatement, judgedEach}
 use Rattle.guard.specs.declared.Late.{Late}
 use Rattle.guard.specs.Late.{noneYet, judgeAll, guardBy}
-use Rattle.reader.specs.declared.parts.Took.{Took}
+use Rattle.parts.specs.declared.Took.{Took}
 use Rattle.reader.specs.declared.statements.Stated.{Stated}
 use Rattle.reader.specs.declared.statements.Listed.{Listed}
-use Rattle.reader.specs.Parts.{from, Form, Answers, tookForm, Went, RunFrom}
-use Rattle.reader.specs.Branches.{packedIn}
+use Rattle.parts.specs.Parts.{from, Form, Answers, tookForm, Went, RunFrom}
+use Rattle.branches.specs.Branches.{packedIn}
 
 -- ---- before a statement's own state, in kinds and numbers due: `]s1=`
 

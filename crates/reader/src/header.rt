@@ -1,10 +1,4 @@
 // The beginning of a card, up to its statements, read from its bytes.
-use crate::parts::Took;
-use crate::parts::number;
-use crate::parts::passed;
-use crate::parts::run;
-use crate::parts::sign;
-use crate::parts::stopped;
 use card::NONDETERMINISTIC as MODE_NONDETERMINISTIC;
 use card::PROBABILISTIC as MODE_PROBABILISTIC;
 use card::limits::TOP_STATE;
@@ -25,6 +19,12 @@ use marks::kinds::SEAT;
 use marks::kinds::SEMICOLON;
 use marks::kinds::SQUARE_CLOSE;
 use marks::kinds::SQUARE_OPEN;
+use parts::Took;
+use parts::number;
+use parts::passed;
+use parts::run;
+use parts::sign;
+use parts::stopped;
 ghost use mathlib.Core.Path.{_≡_};
 ghost use Rattle.reader.specs.Ends.{ModeFrom, RangeFrom, noHeader as noHeaderAt, HeaderFrom};
 

@@ -1,9 +1,7 @@
 // A card, from its bytes, in one pass: each mark of a card that is taken is read once, and only where reading stops is the rest searched
 // for a mark outside the rules.
-mod branches;
 mod header;
 mod modules;
-mod parts;
 mod statements;
 
 use card::Card;

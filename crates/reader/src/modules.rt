@@ -1,8 +1,4 @@
 // The further modules of a card, up to its end, read from its bytes.
-use crate::parts::Took;
-use crate::parts::passed;
-use crate::parts::run;
-use crate::parts::stopped;
 use card::limits::MOST_SEATS;
 use guard::Late;
 use guard::refusals::OUT_OF_SHAPE;
@@ -19,6 +15,10 @@ use marks::kinds::PROCESS;
 use marks::kinds::SEAT;
 use marks::kinds::SQUARE_CLOSE;
 use marks::kinds::SQUARE_OPEN;
+use parts::Took;
+use parts::passed;
+use parts::run;
+use parts::stopped;
 ghost use mathlib.Core.Path.{_≡_};
 ghost use Rattle.reader.specs.Ends.{ModuleFrom, endedTo, ModulesFrom};
 

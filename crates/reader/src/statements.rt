@@ -1,11 +1,5 @@
 // Statements, read from a card's bytes into the card's arrays.
-use crate::branches::branches as all_branches;
-use crate::parts::Took;
-use crate::parts::number;
-use crate::parts::passed;
-use crate::parts::run;
-use crate::parts::sign;
-use crate::parts::stopped;
+use branches::branches as all_branches;
 use card::Statement;
 use card::limits::BRANCH_PLACES;
 use card::limits::MOST_BRANCHES;
@@ -29,6 +23,12 @@ use marks::kinds::EQUAL;
 use marks::kinds::SEAT;
 use marks::kinds::SQUARE_CLOSE;
 use marks::kinds::SQUARE_OPEN;
+use parts::Took;
+use parts::number;
+use parts::passed;
+use parts::run;
+use parts::sign;
+use parts::stopped;
 ghost use mathlib.Core.Path.{_≡_};
 ghost use Prim.Native.Nat.{_+_, _≤_, _<_};
 ghost use Rattle.card.specs.Limits.{mostStatements, mostNodes, nodePlaces};

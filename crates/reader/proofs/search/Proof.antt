@@ -1,5 +1,5 @@
 use Rattle.reader.proofs.Places.{search-over, search-end, search-found, search-more}
-use Rattle.reader.proofs.Steps.{next-at}
+use Rattle.parts.proofs.Steps.{next-at}
 use Rattle.reader.specs.Search.{searched}
 use Rattle.reading.specs.Reading.{firstOutside}
 use Rattle.marks.specs.Step.{marksAt}

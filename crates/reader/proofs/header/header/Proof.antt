@@ -1,6 +1,6 @@
 use Rattle.reader.proofs.HeaderLaws.{cardDue, card-sure, mode-stops, words-stop, range-stops, square-stops, init-stops, start-stops, semicolon-stops, header-read}
-use Rattle.reader.proofs.Steps.{told}
-use Rattle.reader.specs.Parts.{from, LineRead}
+use Rattle.parts.proofs.Steps.{told}
+use Rattle.parts.specs.Parts.{from, LineRead}
 use Rattle.guard.specs.declared.Late.{Late}
 use Rattle.reading.specs.Grammar.{cardRun}
 use Rattle.reading.specs.Reader.{line}
@@ -17,9 +17,9 @@ use Rattle.guard.proofs.none_yet.Reads as none-yet-reads
 use Rattle.reader.proofs.header.mode.Reads as mode-reads
 use Rattle.reader.proofs.header.no_header.Reads as no-header-reads
 use Rattle.reader.proofs.header.range.Reads as range-reads
-use Rattle.reader.proofs.parts.number.Reads as number-reads
-use Rattle.reader.proofs.parts.run.Reads as run-reads
-use Rattle.reader.proofs.parts.sign.Reads as sign-reads
+use Rattle.parts.proofs.number.Reads as number-reads
+use Rattle.parts.proofs.run.Reads as run-reads
+use Rattle.parts.proofs.sign.Reads as sign-reads
 
 -- src/header.rt:101:9
 mode-requires : tie.Need-mode-requires

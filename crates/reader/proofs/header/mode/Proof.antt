@@ -1,6 +1,6 @@
 use Rattle.guard.specs.Late.{noneYet}
 use Rattle.reader.proofs.HeaderLaws.{mode-first, mode-second, mode-neither}
-use Rattle.reader.proofs.Steps.{next-at}
+use Rattle.parts.proofs.Steps.{next-at}
 use denote.Ref.{now}
 use borrow.Author.Needs.{needs}
 use Rattle.reader.proofs.header.mode.Statement.{statement}
@@ -9,8 +9,8 @@ use Rattle.reader.proofs.header.mode.Reads as reads
 use Rattle.reader.proofs.header.mode.Lts as lts
 use Rattle.guard.proofs.none_yet.Reads as none-yet-reads
 use Rattle.marks.proofs.Cursor.step.Reads as step-reads
-use Rattle.reader.proofs.parts.passed.Reads as passed-reads
-use Rattle.reader.proofs.parts.stopped.Reads as stopped-reads
+use Rattle.parts.proofs.passed.Reads as passed-reads
+use Rattle.parts.proofs.stopped.Reads as stopped-reads
 
 -- src/header.rt:54:9
 step-requires : tie.Need-step-requires

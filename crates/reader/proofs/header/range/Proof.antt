@@ -1,5 +1,5 @@
 use Rattle.reader.proofs.HeaderLaws.{zero-misses, dots-miss, top-misses, top-past, top-fits}
-use Rattle.reader.proofs.Steps.{next-at}
+use Rattle.parts.proofs.Steps.{next-at}
 use denote.Ref.{now}
 use borrow.Author.Needs.{needs}
 use Rattle.reader.proofs.header.range.Statement.{statement}
@@ -7,8 +7,8 @@ use Rattle.reader.proofs.header.range.Tie as tie
 use Rattle.reader.proofs.header.range.Reads as reads
 use Rattle.reader.proofs.header.range.Lts as lts
 use Rattle.marks.proofs.Cursor.step.Reads as step-reads
-use Rattle.reader.proofs.parts.passed.Reads as passed-reads
-use Rattle.reader.proofs.parts.stopped.Reads as stopped-reads
+use Rattle.parts.proofs.passed.Reads as passed-reads
+use Rattle.parts.proofs.stopped.Reads as stopped-reads
 
 -- src/header.rt:71:9
 step-requires : tie.Need-step-requires

@@ -5,7 +5,7 @@ use Rattle.reader.proofs.modules.copy.Statement.{statement}
 use Rattle.reader.proofs.modules.copy.Tie as tie
 use Rattle.reader.proofs.modules.copy.Reads as reads
 use Rattle.reader.proofs.modules.copy.Lts as lts
-use Rattle.reader.proofs.parts.run.Reads as run-reads
+use Rattle.parts.proofs.run.Reads as run-reads
 
 -- src/modules.rt:30:19
 slice-aggregate-run : tie.Need-slice-aggregate-run

@@ -5,8 +5,8 @@ use Rattle.reader.proofs.modules.ended.Statement.{statement}
 use Rattle.reader.proofs.modules.ended.Tie as tie
 use Rattle.reader.proofs.modules.ended.Reads as reads
 use Rattle.reader.proofs.modules.ended.Lts as lts
-use Rattle.reader.proofs.parts.passed.Reads as passed-reads
-use Rattle.reader.proofs.parts.stopped.Reads as stopped-reads
+use Rattle.parts.proofs.passed.Reads as passed-reads
+use Rattle.parts.proofs.stopped.Reads as stopped-reads
 
 -- src/modules.rt:38:9
 stopped-requires : tie.Need-stopped-requires

@@ -1,5 +1,5 @@
 use Rattle.reader.proofs.ModuleLaws.{Going, going-start, going-ended, going-past, going-stops, going-more}
-use Rattle.reader.proofs.Steps.{next-at}
+use Rattle.parts.proofs.Steps.{next-at}
 use Rattle.card.specs.Limits.{mostSeats}
 use borrow.Author.Needs.{needs}
 use native.Mathlib.Omega.{arith}
@@ -13,7 +13,7 @@ use Rattle.marks.proofs.Cursor.step.Reads as step-reads
 use Rattle.looks.proofs.due.step_module.Reads as step-module-reads
 use Rattle.reader.proofs.modules.copy.Reads as copy-reads
 use Rattle.reader.proofs.modules.ended.Reads as ended-reads
-use Rattle.reader.proofs.parts.stopped.Reads as stopped-reads
+use Rattle.parts.proofs.stopped.Reads as stopped-reads
 
 abbrev Inv-loop : tie.InvT-loop
 Inv-loop card at next₀ kept₀ seats₀ next kept seats = Going card kept₀ next₀ seats kept next

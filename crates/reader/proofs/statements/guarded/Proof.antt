@@ -1,5 +1,5 @@
 use Rattle.reader.proofs.StatementLaws.{none-stops, none-read, left-few, some-stops, arrow-stops, some-read}
-use Rattle.reader.proofs.Steps.{next-at}
+use Rattle.parts.proofs.Steps.{next-at}
 use Rattle.card.specs.Limits.{mostNodes}
 use native.Mathlib.Omega.{arith}
 use mathlib.Core.Path.{refl}
@@ -12,8 +12,8 @@ use Rattle.reader.proofs.statements.guarded.Lts as lts
 use Rattle.guard.proofs.conjunction.Reads as conjunction-reads
 use Rattle.looks.proofs.due.step_arrow.Reads as step-arrow-reads
 use Rattle.looks.proofs.due.step_sign.Reads as step-sign-reads
-use Rattle.reader.proofs.parts.passed.Reads as passed-reads
-use Rattle.reader.proofs.parts.stopped.Reads as stopped-reads
+use Rattle.parts.proofs.passed.Reads as passed-reads
+use Rattle.parts.proofs.stopped.Reads as stopped-reads
 
 -- src/statements.rt:77:9
 step-sign-requires : tie.Need-step-sign-requires

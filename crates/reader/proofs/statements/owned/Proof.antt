@@ -1,5 +1,5 @@
--- The bytes that stand right there pass the run at once (proofs/Updates.antt); else it goes mark by mark.
-use Rattle.reader.proofs.Updates.{own-place, own-passed}
+-- The bytes that stand right there pass the run at once (proofs/Owned.antt); else it goes mark by mark.
+use Rattle.reader.proofs.Owned.{own-place, own-passed}
 use Rattle.marks.proofs.Lists.{and-right}
 use Rattle.marks.specs.Parts.{begun}
 use Rattle.card.specs.Text.{bytes}
@@ -15,8 +15,8 @@ use Rattle.reader.proofs.statements.owned.Tie as tie
 use Rattle.reader.proofs.statements.owned.Reads as reads
 use Rattle.reader.proofs.statements.owned.Lts as lts
 use Rattle.looks.proofs.look.all_here.Reads as all-here-reads
-use Rattle.reader.proofs.parts.passed.Reads as passed-reads
-use Rattle.reader.proofs.parts.run.Reads as run-reads
+use Rattle.parts.proofs.passed.Reads as passed-reads
+use Rattle.parts.proofs.run.Reads as run-reads
 
 -- src/statements.rt:141:27
 slice-aggregate-all-here : tie.Need-slice-aggregate-all-here

@@ -8,8 +8,8 @@ use Rattle.reader.proofs.statements.statement.Statement.{statement}
 use Rattle.reader.proofs.statements.statement.Tie as tie
 use Rattle.reader.proofs.statements.statement.Reads as reads
 use Rattle.reader.proofs.statements.statement.Lts as lts
-use Rattle.reader.proofs.branches.branches.Reads as branches-reads
-use Rattle.reader.proofs.parts.number.Reads as number-reads
+use Rattle.branches.proofs.branches.Reads as branches-reads
+use Rattle.parts.proofs.number.Reads as number-reads
 use Rattle.reader.proofs.statements.guarded.Reads as guarded-reads
 use Rattle.reader.proofs.statements.no_row.Reads as no-row-reads
 use Rattle.reader.proofs.statements.owned.Reads as owned-reads

@@ -1,5 +1,5 @@
 use Rattle.reader.proofs.StatementLaws.{open-stops, Going, going-start, going-stops, going-unended, going-ended, going-more, going-past}
-use Rattle.reader.proofs.Steps.{next-at, told}
+use Rattle.parts.proofs.Steps.{next-at, told}
 use Rattle.reader.specs.Statements.{arrays}
 use Rattle.card.specs.Limits.{mostStatements}
 use borrow.Author.Needs.{needs}
@@ -12,7 +12,7 @@ use Rattle.reader.proofs.statements.statements.Tie as tie
 use Rattle.reader.proofs.statements.statements.Reads as reads
 use Rattle.reader.proofs.statements.statements.Lts as lts
 use Rattle.looks.proofs.due.step_square.Reads as step-square-reads
-use Rattle.reader.proofs.parts.sign.Reads as sign-reads
+use Rattle.parts.proofs.sign.Reads as sign-reads
 use Rattle.reader.proofs.statements.no_list.Reads as no-list-reads
 use Rattle.reader.proofs.statements.statement.Reads as statement-reads
 

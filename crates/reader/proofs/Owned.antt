@@ -1,0 +1,45 @@
+-- `]s1=` whose bytes stand right there, passed mark by mark. Assumes nothing.
+use Prim.Native.Nat.{ℕ, _+_, _<_}
+use mathlib.Core.Path.{_≡_, refl, sym, ap}
+use mathlib.Core.Bool.{true}
+use mathlib.Core.List.{List, [], _∷_}
+use native.Mathlib.Omega.{arith}
+use lib.ListN.{length, drop}
+use Rattle.card.specs.Text.{bytes}
+use Rattle.marks.specs.Marks.{inWord}
+use Rattle.marks.specs.Kinds.{kSeat, kind}
+use Rattle.marks.specs.Parts.{bareOf, valuedOf, begun}
+use Rattle.guard.specs.declared.Late.{Late}
+use Rattle.parts.specs.Parts.{Due, Sure, kindsIn, numbersIn, tookTo}
+use Rattle.reader.specs.Statements.{OwnFrom}
+use Rattle.parts.proofs.Steps.{next-at}
+use Rattle.parts.proofs.Lines.{Left, run-end, run-more}
+use Rattle.parts.proofs.Front.{Front, front, sign-by, word-by}
+
+-- before a statement's own state
+module _ (s : List ℕ) (i : ℕ) (e : begun (bytes "]s1=") (drop i s) ≡ true) where
+  own-bracket : Front 93 (bytes "s1=") s i
+  own-bracket = front 93 (bytes "s1=") s i e
+
+  own-word : Front 115 (bytes "1=") s (i + 1)
+  own-word = front 115 (bytes "1=") s (i + 1) (own-bracket .others)
+
+  own-digit : Front 49 (bytes "=") s (i + 1 + 1)
+  own-digit = front 49 (bytes "=") s (i + 1 + 1) (own-word .others)
+
+  own-equal : Front 61 [] s (i + 1 + 1 + 1)
+  own-equal = front 61 [] s (i + 1 + 1 + 1) (own-digit .others)
+
+  pub own-place : i + 3 < length s
+  own-place = omega (arith, own-equal .place)
+
+  pub own-passed : (late : Late) → OwnFrom s i late (tookTo (i + 4) 0 late)
+  own-passed late run h kinds dues k n =
+      let to : i + 1 + 1 + 1 + 1 ≡ i + 4 = omega arith in
+      let p1 = i + 1 in
+      let p3 = i + 1 + 1 + 1 in
+      run-end s k n (i + 4) late _ []
+      (run-more s k n p3 late (bareOf 61 p3 (i + 4)) (next-at s p3 (bareOf 61 p3 (i + 4)) (sym (sign-by s 61 p3 (i + 4) (sym to) refl refl (own-equal .place) (own-equal .byte)))) _ (kind "=") [] 0 []
+      (run-more s k n p1 late (valuedOf kSeat 1 p1 p3) (next-at s p1 (valuedOf kSeat 1 p1 p3) (sym (word-by s p1 (own-word .place) (own-word .byte) (own-digit .place) (own-digit .byte) (own-equal .place) (ap inWord (own-equal .byte))))) _ kSeat (kind "=" ∷ []) 1 (0 ∷ [])
+      (run-more s k n i late (bareOf 93 i p1) (next-at s i (bareOf 93 i p1) (sym (sign-by s 93 i p1 refl refl refl (own-bracket .place) (own-bracket .byte)))) _ (kind "]") (kSeat ∷ kind "=" ∷ []) 0 (1 ∷ 0 ∷ [])
+      (record { rest = run; sure = h; kinds-left = kinds; dues-left = dues; answered = λ r y. y }) refl) refl) refl)
