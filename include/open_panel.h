@@ -1,9 +1,10 @@
 /*
  * The open panel: rule cards judged, written, reduced to counters, and shown.
  *
- * Link libtablet.a, which `rt staticlib tablet` makes for x86-64 Linux. Of the
- * C library it needs memcpy and memset, and nothing else: it has no state, no
- * heap and no system calls, so any number of threads may call it at once.
+ * Link libopen_panel.a, which `bin/library` makes for x86-64 and for aarch64
+ * Linux. Of the C library it needs memcpy and memset, and nothing else: it has
+ * no state, no heap and no system calls, so any number of threads may call it
+ * at once.
  *
  * What holds of every function here:
  *
@@ -67,6 +68,11 @@ typedef struct {
     uint8_t number; /* 0, or one of enum open_panel_refusal */
     size_t value;   /* a length if number is 0, else the place of the refusal */
 } open_panel_answer;
+
+/* C hands back a larger struct otherwise than the library does, on some processors. */
+#if defined(__STDC_VERSION__) && __STDC_VERSION__ >= 201112L
+_Static_assert(sizeof(open_panel_answer) <= 16, "an answer is handed back in two registers");
+#endif
 
 /*
  * Judges a card: number 0 and value 0 if it is taken, else 1 to 7. Nothing is

@@ -1,12 +1,13 @@
 /*
- * The library behind two pipes, for tests on a processor that cannot run its
- * code: this program is linked with the library and run by an emulator.
+ * A build of the library behind two pipes, for tests on a processor that cannot
+ * run its code: this program is linked with it and run by an emulator.
  *
- * A request is four numbers of eight bytes, low byte first (the entry, and the
- * lengths of card, seats and room), then card, seats and room. The answer is
- * the entry's number and value and then the whole room. Around and between the
- * pieces stand bytes that the library must not write: the number is
- * SPOILT if one of them, or the card or the seats, is not what it was.
+ * A request is numbers of eight bytes, low byte first: how many pieces, and the
+ * length of each; then the pieces: the name of an entry, what it only reads, and
+ * its room (of no length for an entry without one). The answer is the entry's
+ * number and value and then the whole room. Before and behind each piece stand
+ * bytes that the library must not write: the number is SPOILT if one of them, or
+ * of what is only read, is not what it was.
  */
 #include <stdlib.h>
 #include <string.h>
@@ -14,7 +15,28 @@
 
 #include "open_panel.h"
 
-enum { JUDGE = 1, WRITE = 2, REDUCE = 3, SHOW = 4, HEAD = 8, GUARD = 64, SPOILT = 256 };
+enum { NUMBER = 8, MOST_PIECES = 16, GUARD = 64, SPOILT = 256 };
+
+typedef struct {
+    uint8_t *at;
+    size_t length;
+} piece;
+
+/* An entry is added here. Returns 0 for a name that none has. */
+static int enter(const char *name, const piece *p, open_panel_answer *answer) {
+    if (strcmp(name, "open_panel_judge") == 0) {
+        *answer = open_panel_judge(p[0].at, p[0].length);
+    } else if (strcmp(name, "open_panel_write") == 0) {
+        *answer = open_panel_write(p[0].at, p[0].length, p[1].at, p[1].length);
+    } else if (strcmp(name, "open_panel_reduce") == 0) {
+        *answer = open_panel_reduce(p[0].at, p[0].length, p[1].at, p[1].length);
+    } else if (strcmp(name, "open_panel_show") == 0) {
+        *answer = open_panel_show(p[0].at, p[0].length, p[1].at, p[1].length, p[2].at, p[2].length);
+    } else {
+        return 0;
+    }
+    return 1;
+}
 
 /* Reads all of so many bytes; 0 at the end of the input. */
 static int take(uint8_t *into, size_t length) {
@@ -50,10 +72,14 @@ static void give(const uint8_t *from, size_t length) {
     }
 }
 
-static size_t number(const uint8_t *bytes) {
+static size_t take_number(void) {
+    uint8_t bytes[NUMBER];
     size_t value = 0;
     int i;
-    for (i = HEAD; i > 0; i--) {
+    if (!take(bytes, NUMBER)) {
+        exit(0);
+    }
+    for (i = NUMBER; i > 0; i--) {
         value = value << 8 | bytes[i - 1];
     }
     return value;
@@ -61,27 +87,34 @@ static size_t number(const uint8_t *bytes) {
 
 static void put_number(uint8_t *bytes, size_t value) {
     int i;
-    for (i = 0; i < HEAD; i++) {
+    for (i = 0; i < NUMBER; i++) {
         bytes[i] = (uint8_t)(value & 255);
         value >>= 8;
     }
 }
 
 int main(void) {
-    uint8_t head[4 * HEAD], behind[GUARD];
     uint8_t *store = NULL, *before = NULL;
     size_t held = 0;
     uint8_t guard = 0;
-    while (take(head, sizeof head)) {
-        const size_t entry = number(head);
-        const size_t card_len = number(head + HEAD);
-        const size_t seats_len = number(head + 2 * HEAD);
-        const size_t room_len = number(head + 3 * HEAD);
-        const size_t room_at = 3 * GUARD + card_len + seats_len;
-        const size_t whole = room_at + room_len + GUARD;
+    for (;;) {
+        const size_t pieces = take_number();
+        piece p[MOST_PIECES];
+        char name[64] = {0};
         open_panel_answer answer = {0, 0};
-        uint8_t *card, *seats, *room;
+        size_t whole = GUARD, i;
+        uint8_t *next, *room;
         int spoilt;
+        if (pieces < 2 || pieces > MOST_PIECES) {
+            return 1;
+        }
+        for (i = 0; i < pieces; i++) {
+            p[i].length = take_number();
+            whole += i == 0 ? 0 : p[i].length + GUARD;
+        }
+        if (p[0].length >= sizeof name || !take((uint8_t *)name, p[0].length)) {
+            return 1;
+        }
         if (whole > held) {
             free(store);
             free(before);
@@ -94,41 +127,27 @@ int main(void) {
         }
         /* Digits, letters and signs by turns, which would change a card if they were read. */
         guard = guard >= 'z' ? ' ' : (uint8_t)(guard + 1);
-        memset(store, guard, GUARD);
-        memset(store + GUARD + card_len, guard, GUARD);
-        memset(store + room_at - GUARD, guard, GUARD);
-        memset(store + room_at + room_len, guard, GUARD);
-        /* A piece of no length has no place. */
-        card = card_len == 0 ? NULL : store + GUARD;
-        seats = seats_len == 0 ? NULL : store + 2 * GUARD + card_len;
-        room = room_len == 0 ? NULL : store + room_at;
-        if (!take(store + GUARD, card_len) || !take(store + 2 * GUARD + card_len, seats_len) ||
-            !take(store + room_at, room_len)) {
+        memset(store, guard, whole);
+        next = store + GUARD;
+        room = next;
+        for (i = 1; i < pieces; i++) {
+            if (!take(next, p[i].length)) {
+                return 1;
+            }
+            /* A piece of no length has no place. */
+            p[i].at = p[i].length == 0 ? NULL : next;
+            room = next;
+            next += p[i].length + GUARD;
+        }
+        memcpy(before, store, whole);
+        if (!enter(name, p + 1, &answer)) {
             return 1;
         }
-        memcpy(before, store, room_at);
-        memcpy(behind, store + room_at + room_len, GUARD);
-        switch (entry) {
-        case JUDGE:
-            answer = open_panel_judge(card, card_len);
-            break;
-        case WRITE:
-            answer = open_panel_write(card, card_len, room, room_len);
-            break;
-        case REDUCE:
-            answer = open_panel_reduce(card, card_len, room, room_len);
-            break;
-        case SHOW:
-            answer = open_panel_show(card, card_len, seats, seats_len, room, room_len);
-            break;
-        default:
-            return 1;
-        }
-        spoilt = memcmp(store, before, room_at) != 0 || memcmp(store + room_at + room_len, behind, GUARD) != 0;
+        i = p[pieces - 1].length;
+        spoilt = memcmp(store, before, (size_t)(room - store)) != 0 || memcmp(room + i, before + (room + i - store), GUARD) != 0;
         /* The answer goes where the guard before the room was, so that all is given at once. */
-        put_number(store + room_at - 2 * HEAD, spoilt ? SPOILT : answer.number);
-        put_number(store + room_at - HEAD, answer.value);
-        give(store + room_at - 2 * HEAD, 2 * HEAD + room_len);
+        put_number(room - 2 * NUMBER, spoilt ? SPOILT : answer.number);
+        put_number(room - NUMBER, answer.value);
+        give(room - 2 * NUMBER, 2 * NUMBER + i);
     }
-    return 0;
 }

@@ -19,5 +19,4 @@ pub mod model;
 pub mod random;
 pub mod reduced;
 pub mod tally;
-pub mod vectors;
 pub mod weights;

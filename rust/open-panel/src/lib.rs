@@ -18,14 +18,8 @@
 //! # Ok::<(), open_panel::Refusal>(())
 //! ```
 
+mod library;
 mod refusal;
-
-#[cfg(open_panel_bridge)]
-#[path = "bridge.rs"]
-mod library;
-#[cfg(not(open_panel_bridge))]
-#[path = "linked.rs"]
-mod library;
 
 pub use refusal::Refusal;
 
@@ -42,16 +36,15 @@ pub const REDUCE_ROOM: usize = 347_890;
 /// A room in which every panel fits.
 pub const SHOW_ROOM: usize = 4_101;
 
-/// Whether the library is not linked but asked through pipes, as its tests do on
-/// a processor that cannot run its code.
-pub const BRIDGED: bool = cfg!(open_panel_bridge);
-
 /// What the library answers: number 0 and a length, or a refusal and its place.
 #[repr(C)]
 struct Answer {
     number: u8,
     value: usize,
 }
+
+// C hands back a larger struct otherwise than the library does, on some processors.
+const _: () = assert!(size_of::<Answer>() <= 16);
 
 impl Answer {
     fn into_result(self) -> Result<usize, Refusal> {

@@ -4,7 +4,9 @@ use std::fmt;
 
 /// A refusal. Its [`number`](Refusal::number) and [`place`](Refusal::place)
 /// are document 01's; where it stands `at` something, that is a byte of the card, from 0.
+/// More numbers may come.
 #[derive(Clone, Copy, PartialEq, Eq, Hash, Debug)]
+#[non_exhaustive]
 pub enum Refusal {
     /// 1: the card is longer than [`CARD_BYTES`](crate::CARD_BYTES).
     Long,

@@ -1,0 +1,237 @@
+//! Holds stored answers: `vectors CASES ANSWERS ENTRY [SIDE]`.
+//!
+//! Every case of a file that is a call of the entry is asked, and its answer
+//! held to the one in the file of answers; a text also in rooms one byte short,
+//! of just its length and one byte larger, and no other byte of a room may have
+//! changed. The entry is named as in the vectors; `program` is the panel program.
+//!
+//! Without a side the library is asked, through its wrapper. `--baseline` asks
+//! the baseline. Any other words are a command: the panel program's, which is
+//! run for each case, or else a bridge to a build of the library.
+
+use std::env;
+use std::ffi::OsString;
+use std::io::{self, Write};
+use std::path::Path;
+use std::process::{Command, ExitCode, Stdio};
+use std::thread;
+
+use vectors::sides::{self, Side};
+use vectors::stored::{file, Answer, Cases};
+
+/// What a room holds before: a byte of no text.
+const UNTOUCHED: u8 = 0xa5;
+/// The number of the refusal that tells how long a text is.
+const ROOM_TOO_SMALL: u8 = 10;
+/// How many wrong answers are shown.
+const SHOWN: usize = 5;
+
+/// What is wrong with an answer.
+type Fault = String;
+
+/// A call of an entry: what it is handed, and what is stored.
+struct Call<'a> {
+    number: usize,
+    pieces: Vec<Vec<u8>>,
+    stored: Answer<'a>,
+}
+
+fn main() -> ExitCode {
+    let words: Vec<OsString> = env::args_os().skip(1).collect();
+    let [cases, answers, entry, side @ ..] = &words[..] else {
+        eprintln!("usage: vectors CASES ANSWERS ENTRY [--baseline | COMMAND WORDS..]");
+        return ExitCode::from(2);
+    };
+    let entry = entry.to_str().expect("an entry has a plain name");
+    let (name, answers) = (
+        Path::new(cases).file_name().expect("a file").display(),
+        file(answers),
+    );
+    let cases = Cases::new(&file(cases));
+    let answers = cases.answers(&answers);
+    let calls: Vec<Call> = (0..cases.count())
+        .filter_map(|number| {
+            let pieces = cases.call(number, entry)?;
+            Some(Call {
+                number,
+                pieces,
+                stored: answers[number],
+            })
+        })
+        .collect();
+    let faults = if entry == "program" {
+        printed(side, &calls)
+    } else {
+        answered(side, entry, &calls)
+    };
+    for fault in faults.iter().take(SHOWN) {
+        println!("{name}, {entry}, {fault}");
+    }
+    let refused = calls
+        .iter()
+        .filter(|call| matches!(call.stored, Answer::Refused(..)))
+        .count();
+    println!(
+        "{name}, {entry}: {} cases, {refused} refused, {} wrong",
+        calls.len(),
+        faults.len()
+    );
+    if calls.is_empty() || !faults.is_empty() {
+        return ExitCode::FAILURE;
+    }
+    ExitCode::SUCCESS
+}
+
+/// The wrong answers of an entry, each with the number of its case.
+fn answered(side: &[OsString], entry: &str, calls: &[Call]) -> Vec<Fault> {
+    let mut side: Side = match side {
+        [] => Box::new(sides::wrapper),
+        [word] if word == "--baseline" => Box::new(sides::baseline),
+        command => sides::bridge(command),
+    };
+    calls
+        .iter()
+        .filter_map(|call| faulty(call, answers_as(&mut side, entry, call)))
+        .collect()
+}
+
+fn faulty(call: &Call, outcome: Result<(), Fault>) -> Option<Fault> {
+    outcome
+        .err()
+        .map(|fault| format!("case {}: {fault}", call.number))
+}
+
+/// An entry's answer to a call against the stored one. An entry that is added is named here and in `sides`.
+fn answers_as(side: &mut Side, entry: &str, call: &Call) -> Result<(), Fault> {
+    let pieces: Vec<&[u8]> = call.pieces.iter().map(Vec::as_slice).collect();
+    match (entry, &pieces[..]) {
+        ("read", [_]) => takes(side("open_panel_judge", &pieces, &mut []), call.stored),
+        ("write", [read @ .., room]) => writes(side, "open_panel_write", read, room, call.stored),
+        ("reduce", [read @ .., room]) => writes(side, "open_panel_reduce", read, room, call.stored),
+        ("panel", [read @ .., room]) => writes(side, "open_panel_show", read, room, call.stored),
+        _ => Err(format!("{entry} is no entry, or is handed something else")),
+    }
+}
+
+/// What is taken has a text, or the word for it.
+fn takes(answer: Result<usize, (u8, usize)>, stored: Answer) -> Result<(), Fault> {
+    let due = match stored {
+        Answer::Refused(number, place) => Err((number, place)),
+        Answer::Text(_) | Answer::Words(b"taken\n") => Ok(0),
+        Answer::Words(words) => return Err(format!("no judgement: {}", words.escape_ascii())),
+    };
+    same(answer, due)
+}
+
+fn same<T: PartialEq + std::fmt::Debug>(answer: T, due: T) -> Result<(), Fault> {
+    if answer == due {
+        return Ok(());
+    }
+    Err(format!("{answer:?} and not {due:?}"))
+}
+
+/// A text into a room of the size that is told in digits, and into rooms around its own length.
+fn writes(
+    side: &mut Side,
+    name: &str,
+    read: &[&[u8]],
+    room: &[u8],
+    stored: Answer,
+) -> Result<(), Fault> {
+    let room = std::str::from_utf8(room)
+        .ok()
+        .and_then(|digits| digits.parse().ok());
+    let room: usize = room.ok_or("a room of no size")?;
+    let text = match stored {
+        Answer::Refused(number, place) => {
+            return in_room(side, name, read, room, Err((number, place)))
+        }
+        Answer::Text(text) => text,
+        Answer::Words(words) => return Err(format!("no text: {}", words.escape_ascii())),
+    };
+    in_room(side, name, read, room, Ok(text))?;
+    if let Some(short) = text.len().checked_sub(1) {
+        in_room(side, name, read, short, Err((ROOM_TOO_SMALL, text.len())))?;
+    }
+    in_room(side, name, read, text.len(), Ok(text))?;
+    in_room(side, name, read, text.len() + 1, Ok(text))
+}
+
+/// The answer in a room, and every byte of the room.
+fn in_room(
+    side: &mut Side,
+    name: &str,
+    read: &[&[u8]],
+    room: usize,
+    due: Result<&[u8], (u8, usize)>,
+) -> Result<(), Fault> {
+    let mut lent = vec![UNTOUCHED; room];
+    let answer = side(name, read, &mut lent);
+    same(answer, due.map(<[u8]>::len)).map_err(|fault| format!("in a room of {room}: {fault}"))?;
+    let text = due.unwrap_or(&[]);
+    if !lent.starts_with(text) {
+        return Err(format!(
+            "in a room of {room}: {}",
+            lent[..text.len()].escape_ascii()
+        ));
+    }
+    if lent[text.len()..].iter().any(|&byte| byte != UNTOUCHED) {
+        return Err(format!("in a room of {room}: written behind the text"));
+    }
+    Ok(())
+}
+
+/// The wrong answers of the panel program, each with the number of its case. It is run for each, by as many threads as there are processors.
+fn printed(side: &[OsString], calls: &[Call]) -> Vec<Fault> {
+    let threads = thread::available_parallelism().map_or(1, |threads| threads.get());
+    thread::scope(|scope| {
+        let workers: Vec<_> = (0..threads)
+            .map(|first| {
+                let mine = calls.iter().skip(first).step_by(threads);
+                scope.spawn(move || {
+                    mine.filter_map(|call| faulty(call, prints(side, call)))
+                        .collect::<Vec<_>>()
+                })
+            })
+            .collect();
+        workers
+            .into_iter()
+            .flat_map(|worker| worker.join().expect("a run ends"))
+            .collect()
+    })
+}
+
+/// What the program prints for an input: just the stored bytes.
+fn prints(side: &[OsString], call: &Call) -> Result<(), Fault> {
+    let due = match call.stored {
+        Answer::Refused(number, place) => format!("refused {number} {place}\n").into_bytes(),
+        Answer::Text(text) | Answer::Words(text) => text.to_vec(),
+    };
+    let input = &call.pieces[0];
+    let found = match side {
+        [] => return Err("the panel program is a command".to_owned()),
+        [word] if word == "--baseline" => baseline::program(input),
+        [program, words @ ..] => {
+            run(program, words, input).map_err(|error| format!("{program:?}: {error}"))?
+        }
+    };
+    if found != due {
+        return Err(found.escape_ascii().to_string());
+    }
+    Ok(())
+}
+
+/// What a program prints.
+fn run(program: &OsString, words: &[OsString], input: &[u8]) -> io::Result<Vec<u8>> {
+    let mut run = Command::new(program)
+        .args(words)
+        .stdin(Stdio::piped())
+        .stdout(Stdio::piped())
+        .spawn()?;
+    run.stdin.take().expect("piped").write_all(input)?;
+    let run = run.wait_with_output()?;
+    if !run.status.success() {
+        return Err(io::Error::other(run.status.to_string()));
+    }
+    Ok(run.stdout)
+}

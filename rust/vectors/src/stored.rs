@@ -1,0 +1,188 @@
+//! Stored files, in the two forms that `vectors/README.md` tells.
+
+use std::path::Path;
+use std::{fs, str};
+
+/// How large the rooms were when the base's answers were stored.
+const ROOM: &[u8] = b"32768";
+
+/// The bytes of a file.
+pub fn file(path: impl AsRef<Path>) -> Vec<u8> {
+    let path = path.as_ref();
+    fs::read(path).unwrap_or_else(|error| panic!("{}: {error}", path.display()))
+}
+
+/// The base's inputs.
+pub fn base() -> Vec<Input> {
+    inputs(&file(concat!(
+        env!("CARGO_MANIFEST_DIR"),
+        "/../../vectors/base.cases"
+    )))
+}
+
+/// A file of cases.
+pub enum Cases {
+    /// What the panel program reads, one after the other. Each is a call of every entry of the base.
+    Inputs(Vec<Input>),
+    /// Calls: the entry's name and what it is handed.
+    Calls(Vec<Vec<Vec<u8>>>),
+}
+
+impl Cases {
+    /// Reads a file of cases, in either form.
+    pub fn new(bytes: &[u8]) -> Cases {
+        calls(bytes).map_or_else(|| Cases::Inputs(inputs(bytes)), Cases::Calls)
+    }
+
+    /// How many there are.
+    pub fn count(&self) -> usize {
+        match self {
+            Cases::Inputs(inputs) => inputs.len(),
+            Cases::Calls(calls) => calls.len(),
+        }
+    }
+
+    /// What an entry is handed in the case of a number, if that is a call of it.
+    pub fn call(&self, number: usize, entry: &str) -> Option<Vec<Vec<u8>>> {
+        match self {
+            Cases::Inputs(inputs) => inputs[number].call(entry),
+            Cases::Calls(calls) => {
+                let (name, pieces) = calls[number].split_first()?;
+                (name == entry.as_bytes()).then(|| pieces.to_vec())
+            }
+        }
+    }
+
+    /// The answers of a file, one for each case; the last `case` that is due is where the next begins.
+    pub fn answers<'a>(&self, mut rest: &'a [u8]) -> Vec<Answer<'a>> {
+        let mut answers = Vec::new();
+        for number in 0..self.count() {
+            let heading = format!("case {number}\n");
+            let behind = rest.strip_prefix(heading.as_bytes());
+            let behind = behind.unwrap_or_else(|| panic!("`case {number}` is missing"));
+            let next = format!("\ncase {}\n", number + 1);
+            let end = behind
+                .windows(next.len())
+                .position(|part| part == next.as_bytes());
+            let (answer, behind) = behind.split_at(end.map_or(behind.len(), |end| end + 1));
+            answers.push(self.answer(answer));
+            rest = behind;
+        }
+        assert!(rest.is_empty());
+        answers
+    }
+
+    fn answer<'a>(&self, stored: &'a [u8]) -> Answer<'a> {
+        if let Some(refusal) = refusal(stored) {
+            return refusal;
+        }
+        match self {
+            Cases::Inputs(_) => Answer::Text(stored),
+            Cases::Calls(_) => counted(stored).map_or(Answer::Words(stored), Answer::Text),
+        }
+    }
+}
+
+/// What is stored as the answer to a call.
+#[derive(Clone, Copy)]
+pub enum Answer<'a> {
+    /// A refusal: its number and its place.
+    Refused(u8, usize),
+    /// A text.
+    Text(&'a [u8]),
+    /// Anything else, as the entry's own words, with LF.
+    Words(&'a [u8]),
+}
+
+/// `refused R P` and LF.
+fn refusal(stored: &[u8]) -> Option<Answer<'_>> {
+    let words = str::from_utf8(stored).ok()?;
+    let (number, place) = words.strip_prefix("refused ")?.trim_end().split_once(' ')?;
+    Some(Answer::Refused(number.parse().ok()?, place.parse().ok()?))
+}
+
+/// A text behind its length: `ok LENGTH`, LF, so many bytes, LF.
+fn counted(stored: &[u8]) -> Option<&[u8]> {
+    let behind = stored.strip_prefix(b"ok ")?;
+    let end = behind.iter().position(|&byte| byte == b'\n')?;
+    let length: usize = str::from_utf8(&behind[..end]).ok()?.parse().ok()?;
+    behind[end + 1..]
+        .strip_suffix(b"\n")
+        .filter(|text| text.len() == length)
+}
+
+/// What the panel program reads: a line of seats and the card.
+pub struct Input(Vec<u8>);
+
+impl Input {
+    fn parts(&self) -> (&[u8], &[u8]) {
+        let Input(bytes) = self;
+        match bytes.iter().position(|&byte| byte == b'\n') {
+            Some(end) => (&bytes[..end], &bytes[end + 1..]),
+            None => (bytes, &[]),
+        }
+    }
+
+    /// Its card.
+    pub fn card(&self) -> &[u8] {
+        self.parts().1
+    }
+
+    /// Its seats.
+    pub fn seats(&self) -> Vec<u8> {
+        let states = self.parts().0.iter();
+        states
+            .map(|byte| match byte {
+                b'0'..=b'9' => byte - b'0',
+                _ => 255,
+            })
+            .collect()
+    }
+
+    fn call(&self, entry: &str) -> Option<Vec<Vec<u8>>> {
+        let (card, room) = (self.card().to_vec(), ROOM.to_vec());
+        Some(match entry {
+            "program" => vec![self.0.clone()],
+            "read" => vec![card],
+            "write" | "reduce" => vec![card, room],
+            "panel" => vec![card, self.seats(), room],
+            _ => return None,
+        })
+    }
+}
+
+/// Records of a length in four bytes, low byte first, and so many bytes.
+fn inputs(mut rest: &[u8]) -> Vec<Input> {
+    let mut inputs = Vec::new();
+    while !rest.is_empty() {
+        let record = piece(&mut rest).expect("records are whole");
+        inputs.push(Input(record.to_vec()));
+    }
+    inputs
+}
+
+/// Records of a number of pieces and so many of them, the first a name; nothing if the bytes are no such records.
+fn calls(mut rest: &[u8]) -> Option<Vec<Vec<Vec<u8>>>> {
+    let mut calls = Vec::new();
+    while let Some((count, behind)) = rest.split_first() {
+        rest = behind;
+        let pieces = (0..*count).map(|_| piece(&mut rest).map(<[u8]>::to_vec));
+        let pieces: Vec<_> = pieces.collect::<Option<_>>()?;
+        let name = pieces.first()?;
+        if !name
+            .iter()
+            .all(|byte| byte.is_ascii_lowercase() || *byte == b'_')
+        {
+            return None;
+        }
+        calls.push(pieces);
+    }
+    Some(calls)
+}
+
+fn piece<'a>(rest: &mut &'a [u8]) -> Option<&'a [u8]> {
+    let (length, behind) = rest.split_first_chunk()?;
+    let (piece, behind) = behind.split_at_checked(u32::from_le_bytes(*length) as usize)?;
+    *rest = behind;
+    Some(piece)
+}

@@ -1,0 +1,59 @@
+// The library as WebAssembly behind two pipes, asked as tests/c/bridge.c says: `node tests/bridge.mjs open_panel.wasm`.
+//
+// An entry takes where its answer goes, and for each piece where it lies (a number) and its length (a BigInt).
+import { readFileSync, readSync, writeSync } from "node:fs";
+
+const GUARD = 64;
+const SPOILT = 256n;
+const NUMBER = 8;
+const ANSWER = 2 * NUMBER;
+
+const { instance } = await WebAssembly.instantiate(readFileSync(process.argv[2]));
+const { memory, __heap_base, ...entries } = instance.exports;
+const answerAt = Math.ceil(__heap_base.value / NUMBER) * NUMBER;
+
+// All of so many bytes; nothing at the end of the input.
+function take(length) {
+    const bytes = Buffer.alloc(length);
+    for (let done = 0; done < length; ) {
+        const got = readSync(0, bytes, done, length - done, null);
+        if (got === 0) process.exit(0);
+        done += got;
+    }
+    return bytes;
+}
+
+const takeNumber = () => Number(take(NUMBER).readBigUInt64LE());
+
+function give(bytes) {
+    for (let done = 0; done < bytes.length; ) done += writeSync(1, bytes, done);
+}
+
+for (let guard = 0; ; guard = guard >= 122 ? 32 : guard + 1) {
+    const lengths = Array.from({ length: takeNumber() }, takeNumber);
+    const [name, ...pieces] = lengths.map(take);
+    let end = answerAt + ANSWER + GUARD;
+    const places = pieces.map((piece) => {
+        const place = end;
+        end += piece.length + GUARD;
+        return place;
+    });
+    const more = end - memory.buffer.byteLength;
+    if (more > 0) memory.grow(Math.ceil(more / 65536));
+    const lent = new Uint8Array(memory.buffer, 0, end);
+    lent.fill(guard, answerAt);
+    pieces.forEach((piece, i) => lent.set(piece, places[i]));
+    const before = lent.slice(answerAt);
+
+    entries[name.toString()](answerAt, ...pieces.flatMap((piece, i) => [piece.length && places[i], BigInt(piece.length)]));
+
+    const roomAt = places.at(-1);
+    const behind = roomAt + pieces.at(-1).length;
+    const kept = (from, to) => Buffer.compare(lent.subarray(from, to), before.subarray(from - answerAt, to - answerAt)) === 0;
+    const spoilt = !kept(answerAt + ANSWER, roomAt) || !kept(behind, end);
+    const answer = new DataView(memory.buffer, answerAt, ANSWER);
+    const head = Buffer.alloc(ANSWER);
+    head.writeBigUInt64LE(spoilt ? SPOILT : BigInt(answer.getUint8(0)), 0);
+    head.writeBigUInt64LE(answer.getBigUint64(NUMBER, true), NUMBER);
+    give(Buffer.concat([head, lent.subarray(roomAt, behind)]));
+}

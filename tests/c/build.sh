@@ -1,0 +1,32 @@
+# For bash to read in, with `root` set and bin/kit.sh read in: programs of this folder, linked with a build of the library.
+words=(-Wall -Wextra -pedantic -Werror -std=c99 -D_POSIX_C_SOURCE=200809L -O1 "-I$root/include")
+
+# linked TARGET NAME: compiles NAME.c, links it with the library for TARGET, and leaves in `run` the words that run it here.
+# Where that cannot be, it says why, and fails.
+linked() {
+    local library=$root/target/library/$1/libopen_panel.a source=$root/tests/c/$2.c made=$root/target/c/$1
+    mkdir -p "$made"
+    made=$made/$2
+    run=("$made")
+    case $1 in
+        "$machine-linux") cc "${words[@]}" "$source" "$library" -o "$made" ;;
+        x86_64-linux)
+            # with the kit's C library, under the kit's emulator: on the plain processor the C library copies memory without string
+            # instructions, which an emulator does byte by byte
+            "$tools/bin/clang" --target=x86_64-linux-gnu "${words[@]}" -fPIE \
+                -isystem "$(cc -print-file-name=include)" -isystem "/usr/include/$(cc -dumpmachine)" -c "$source" -o "$made.o"
+            "$tools/bin/ld.lld" -pie --dynamic-linker /lib64/ld-linux-x86-64.so.2 -o "$made" \
+                "$tools"/lib/{Scrt1.o,crti.o,crtbeginS.o} "$made.o" "$library" \
+                "$tools"/lib/{libc.so.6,libc_nonshared.a,libgcc.a,crtendS.o,crtn.o}
+            run=("${run_x86_64[0]}" -cpu qemu64 "${run_x86_64[@]:1}" "$made")
+            ;;
+        aarch64-linux)
+            if ! command -v aarch64-linux-gnu-gcc >/dev/null || ! command -v qemu-aarch64 >/dev/null; then
+                echo "$2: skipped for $1, as there is no aarch64-linux-gnu-gcc or no qemu-aarch64 here"
+                return 1
+            fi
+            aarch64-linux-gnu-gcc -static "${words[@]}" "$source" "$library" -o "$made"
+            run=(qemu-aarch64 "$made")
+            ;;
+    esac
+}

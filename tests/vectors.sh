@@ -1,0 +1,44 @@
+#!/usr/bin/env bash
+# The stored vectors: through the library by its Rust wrapper, through its builds that cannot be linked with that here (for the other
+# processor, and as WebAssembly), through the panel program, and through the independent implementation.
+set -eu
+cd "$(dirname "${BASH_SOURCE[0]}")/.."
+root=$PWD
+. bin/kit.sh
+. tests/c/build.sh
+bin/library >/dev/null
+: | bin/open_panel >/dev/null
+export CARGO_TARGET_DIR=$root/target/rust RUSTFLAGS='-D warnings'
+cargo build --manifest-path rust/Cargo.toml --release --offline --quiet --package vectors
+
+# held CASES ANSWERS ENTRY [SIDE..]
+held() { target/rust/release/vectors "vectors/$1.cases" "vectors/$2.expected" "${@:3}"; }
+
+# through WHAT [SIDE..]: every entry. An entry that is added, or a file, is named here.
+through() {
+    echo "vectors: $1"
+    held base written read "${@:2}"
+    held base written write "${@:2}"
+    held base reduced reduce "${@:2}"
+    held base panel panel "${@:2}"
+    held edges edges read "${@:2}"
+    held edges edges write "${@:2}"
+}
+
+through 'Rust wrapper'
+through 'independent implementation' --baseline
+held base panel program --baseline
+
+for target in x86_64-linux aarch64-linux; do
+    if [ $target != "$machine-linux" ] && linked $target bridge; then
+        through $target "${run[@]}"
+    fi
+done
+if command -v node >/dev/null; then
+    through wasm32 node tests/bridge.mjs target/library/wasm32/open_panel.wasm
+else
+    echo "vectors: skipped for wasm32, as there is no node here"
+fi
+
+echo "vectors: panel program"
+held base panel program "${run_x86_64[@]}" target/bin/open_panel
