@@ -5,5 +5,5 @@ cd "$(dirname "${BASH_SOURCE[0]}")/.."
 made=$(mktemp -d)
 trap 'rm -rf "$made"' EXIT
 bash vectors/edges.sh "$made"
-cmp "$made/edges.cases" crates/cases/data/edges.cases
-cmp "$made/edges.expected" crates/cases/data/edges.expected
+cmp "$made/edges.cases" vectors/edges.cases
+cmp "$made/edges.expected" vectors/edges.expected

@@ -1,6 +1,5 @@
 #!/usr/bin/env bash
-# The panel program as it is built, on inputs at and around 65,536 bytes, with CR, without LF ("Texts, byte for byte"). Crate `cases` runs
-# inputs like these on the function that it prints from; here the reading and the printing around it are run too.
+# The panel program as it is built, on inputs at and around 65,536 bytes, with CR, without LF ("Texts, byte for byte").
 set -eu
 cd "$(dirname "${BASH_SOURCE[0]}")/.."
 runs=0
@@ -21,24 +20,36 @@ made=$(mktemp -d)
 trap 'rm -rf "$made"' EXIT
 tail -n +2 examples/card-a >"$made/card"
 
-# A card of exactly 16,384 bytes whose last byte is needed: blanks stand before its last word.
-size=$(($(wc -c <"$made/card") - 10))
-{
+# card BYTES: card A of so many bytes, of which the last is needed: blanks stand before its last word.
+card() {
+    local size=$(($(wc -c <"$made/card") - 10))
     head -c "$size" "$made/card"
-    printf '%*s' $((16384 - size - 9)) ''
-    printf endmodule
-} >"$made/full"
-
-# so many bytes of seats, LF, and that card: 16,385 bytes
-input() {
-    printf '%*s\n' "$1" '' | tr ' ' 0
-    cat "$made/full"
+    printf '%*sendmodule' $(($1 - size - 9)) ''
 }
-input 3 >"$made/in" && expect "$made/in" "$(printf 'probabilistic\nseats 3 enabled 3\ncounts 3 0 0\nmove 0 1 37800\nmove 0 2 37800')"
-input 49150 >"$made/in" && [ "$(wc -c <"$made/in")" = 65535 ] && expect "$made/in" 'refused 8 0'
-input 49151 >"$made/in" && [ "$(wc -c <"$made/in")" = 65536 ] && expect "$made/in" 'refused 8 0'
-# the last byte of the card is not read
-input 49152 >"$made/in" && [ "$(wc -c <"$made/in")" = 65537 ] && expect "$made/in" 'refused 3 16375'
+
+# sized INPUT SEATS CARD BEHIND ANSWER: an input of so many bytes: so many seats of state 0, LF, a card of so many bytes, and what stands behind it
+sized() {
+    {
+        printf '%*s\n' "$2" '' | tr ' ' 0
+        card "$3"
+        printf %s "$4"
+    } >"$made/in"
+    [ "$(wc -c <"$made/in")" = "$1" ]
+    expect "$made/in" "$5"
+}
+sized 16388 3 16384 '' "$(printf 'probabilistic\nseats 3 enabled 3\ncounts 3 0 0\nmove 0 1 37800\nmove 0 2 37800')"
+sized 65535 49150 16384 '' 'refused 8 0'
+sized 65536 49151 16384 '' 'refused 8 0'
+# the last byte of the card is not read, and without it the last word is another word
+sized 65537 49152 16384 '' 'refused 3 16375'
+# one byte more would be too long for a card
+sized 65537 49151 16384 '?' 'refused 8 0'
+# a byte outside the rules, as the last that is read and as the first that is not
+sized 65536 49151 16383 '?' 'refused 2 16383'
+sized 65537 49152 16383 '?' 'refused 8 0'
+# LF, as the last byte that is read and as the first that is not
+sized 81920 65535 16384 '' 'refused 3 0'
+sized 81921 65536 16384 '' 'refused 3 0'
 
 # CR is a seat, and no digit
 { printf '001\r\n' && cat "$made/card"; } >"$made/in" && expect "$made/in" 'refused 8 0'

@@ -1,124 +1,116 @@
-// Runs the stored cases: each card goes through each entry, and the answer is held to the stored one, in rooms of several sizes; and through
-// the program, which reads each case whole. It prints a line for each entry, which the file `stdout` fixes. An entry is added here, in
-// `entries` and by its stored answers.
-mod around;
-mod entries;
-mod held;
-mod stored;
-mod tally;
+// The edges that document 01 has run ("Both sides of the edge"): a card on each side of its limit, and a room on each side of a text's
+// length. What the writer answers is printed, and the file `stdout` fixes it.
+use libc::STDOUT_FILENO;
+use room::Answer;
+use room::put_bytes;
+use room::put_number;
+use writer::write;
+ghost use Rattle.io.specs.Counts.{Counts};
 
-use around::around;
-use entries::PANEL;
-use entries::PROGRAM;
-use entries::READ;
-use entries::REDUCE;
-use entries::WRITE;
-use held::holds;
-use held::prints;
-use stored::PAST;
-use stored::RECORD;
-use stored::answer_end;
-use stored::further;
-use stored::headed;
-use stored::line_end;
-use stored::record_end;
-use stored::refuses;
-use stored::seats_of;
-use stored::window;
-use tally::Tally;
-use tally::none_yet;
-use tally::report;
-ghost use Prim.Native.Nat.{_<_};
-ghost use Rattle.cases.specs.Files.{past};
+// Longer than each card below and its written form.
+const SPACE: usize = 2_048;
 
-// Where the next case and its answer stand in their files, and what was found so far.
-struct Progress {
-    case: usize,
-    answer: usize,
-    tally: Tally,
+// How long the plain card is, and its written form, which is itself.
+const PLAIN: usize = 82;
+
+// A seat's own module.
+fn put_module(card: &mut [u8], at: usize, seat: usize) -> usize {
+    let a = put_bytes(card, at, b"module process");
+    let b = put_number(card, a, seat);
+    let c = put_bytes(card, b, b" = process1 [s1=s");
+    let d = put_number(card, c, seat);
+    let e = put_bytes(card, d, b", s");
+    let f = put_number(card, e, seat);
+    put_bytes(card, f, b"=s1] endmodule\n")
 }
 
-// A case, its first line the seats and the rest the card, against its part of the stored answers.
-fn judge(entry: u8, input: &[u8], part: &[u8], room: &mut [u8], so_far: Tally) -> Tally {
-    let heading = headed(part, so_far.cases);
-    if heading == 0 {
-        return so_far.with(false, false);
+// The modules behind the first.
+fn put_modules(card: &mut [u8], from: usize, modules: usize) -> usize {
+    let mut at = from;
+    let mut seat = 1;
+    while seat < modules {
+        seat += 1;
+        at = put_module(card, at, seat);
     }
-    let answer = &part[heading..];
-    if entry == PROGRAM {
-        return so_far.with(refuses(answer), prints(input, answer));
-    }
-    let line = line_end(input);
-    let mut seats = io::large_buffer();
-    let many = seats_of(input, &mut seats);
-    let right = holds(entry, &seats[..many], &input[line..], answer, room);
-    so_far.with(refuses(answer), right)
+    at
 }
 
-// The next case.
-fn next(entry: u8, cases: i32, answers: i32, was: Progress) -> Progress
-    requires { ⌜ was .case < past ⌝ }
-    ensures { λ r. ⌜ was .case < r .case ⌝ }
+// A text's length, where it fitted: 0 where not.
+fn whole(text: &[u8], end: usize) -> usize
+    ensures { λ r. ⌜ Counts r (now (text .entry)) ⌝ }
 {
-    let tally = was.tally;
-    let mut input = io::large_buffer();
-    let size = window(cases, was.case, &mut input);
-    if size < RECORD {
-        return Progress {
-            case: PAST,
-            answer: PAST,
-            tally,
-        };
+    if text.len() < end {
+        return 0;
     }
-    let end = record_end(&input[..size]);
-    let mut stored = io::large_buffer();
-    let long = window(answers, was.answer, &mut stored);
-    let part = answer_end(&stored[..long]);
-    let mut room = io::large_buffer();
-    let judged = judge(
-        entry,
-        &input[RECORD..end],
-        &stored[..part],
-        &mut room,
-        tally,
-    );
-    Progress {
-        case: further(was.case, end),
-        answer: further(was.answer, part),
-        tally: judged,
-    }
+    end
 }
 
-// All cases, with their answers beside them.
-fn run(entry: u8, cases: i32, answers: i32) -> Tally {
-    let tally = none_yet();
-    let mut at = Progress {
-        case: 0,
-        answer: 0,
-        tally,
-    };
-    while at.case < PAST {
-        at = next(entry, cases, answers, at);
-    }
-    at.tally
+// A card of so many modules, with this top state and guard, and its length.
+fn lay(card: &mut [u8], modules: usize, top: usize, guard: &[u8]) -> usize
+    ensures { λ r. ⌜ Counts r (now (card .exit)) ⌝ }
+{
+    let a = put_bytes(card, 0, b"probabilistic\nmodule process1\ns1 : [0..");
+    let b = put_number(card, a, top);
+    let c = put_bytes(card, b, b"] init 0;\n[] s1=0");
+    let d = put_bytes(card, c, guard);
+    let e = put_bytes(card, d, b" -> 1:(s1'=0);\nendmodule\n");
+    let end = put_modules(card, e, modules);
+    whole(card, end)
 }
 
-// The cases through one entry, and its line.
-fn entry(entry: u8, name: &[u8], cases: &[u8], answers: &[u8]) {
-    let from = os::open_read(cases);
-    let to = os::open_read(answers);
-    report(name, run(entry, from, to));
-    libc::close(from);
-    libc::close(to);
+fn numbered(text: &[u8], n: usize) {
+    io::write_all(STDOUT_FILENO, text);
+    io::print_decimal(STDOUT_FILENO, n as u64);
+}
+
+fn wide(number: u8) -> usize {
+    number as usize
+}
+
+// The line of an answer.
+fn say(name: &[u8], answer: Answer) {
+    io::write_all(STDOUT_FILENO, name);
+    match answer {
+        Answer::Done(long) => {
+            numbered(b": written, ", long);
+        }
+        Answer::Refused(number, place) => {
+            numbered(b": refused ", wide(number));
+            numbered(b" ", place);
+        }
+    }
+    io::write_all(STDOUT_FILENO, b"\n");
+}
+
+// A card laid so, in room enough.
+fn edge(name: &[u8], modules: usize, top: usize, guard: &[u8]) {
+    let mut card: [u8; SPACE] = [b' '; SPACE];
+    let long = lay(&mut card, modules, top, guard);
+    let mut room: [u8; SPACE] = [b'.'; SPACE];
+    say(name, write(&card[..long], &mut room));
+}
+
+// The plain card in a room that just fits it and in one a byte short, and what the room holds then.
+fn rooms() {
+    let mut card: [u8; PLAIN] = [b' '; PLAIN];
+    let long = lay(&mut card, 1, 0, b"");
+    let mut fits: [u8; PLAIN] = [b'.'; PLAIN];
+    say(b"a room that fits", write(&card[..long], &mut fits));
+    io::write_all(STDOUT_FILENO, &fits);
+    let mut short: [u8; PLAIN - 1] = [b'.'; PLAIN - 1];
+    say(b"one byte short", write(&card[..long], &mut short));
+    io::write_all(STDOUT_FILENO, &short);
+    io::write_all(STDOUT_FILENO, b"\n");
 }
 
 fn main() {
-    entry(READ, b"read", b"base.cases", b"written.expected");
-    entry(WRITE, b"write", b"base.cases", b"written.expected");
-    entry(REDUCE, b"reduce", b"base.cases", b"reduced.expected");
-    entry(PANEL, b"panel", b"base.cases", b"panel.expected");
-    entry(PROGRAM, b"program", b"base.cases", b"panel.expected");
-    entry(READ, b"edges read", b"edges.cases", b"edges.expected");
-    entry(WRITE, b"edges written", b"edges.cases", b"edges.expected");
-    report(b"edges printed", around());
+    let mut room: [u8; SPACE] = [b'.'; SPACE];
+    say(b"no card", write(b"", &mut room));
+    edge(b"16 modules", 16, 0, b"");
+    edge(b"17 modules", 17, 0, b"");
+    edge(b"top state 7", 1, 7, b"");
+    edge(b"top state 8", 1, 8, b"");
+    edge(b"depth 8", 1, 0, b" & !(!(!(!((s1=0)))))");
+    edge(b"depth 9", 1, 0, b" & !!(!(!(!((s1=0)))))");
+    rooms();
 }

@@ -2,8 +2,8 @@
 use native.Mathlib.Omega.{arith}
 use lib.ListN.{length-take}
 use borrow.Author.Needs.{needs}
-use Rattle.cases.proofs.stored.whole.Statement.{statement}
-use Rattle.cases.proofs.stored.whole.Tie as tie
+use Rattle.cases.proofs.whole.Statement.{statement}
+use Rattle.cases.proofs.whole.Tie as tie
 
 returns : tie.Need-returns
 returns c = search needs
