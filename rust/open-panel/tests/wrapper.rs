@@ -1,4 +1,4 @@
-//! The wrapper's own part: refusals as an enum, rooms of its own, the header's numbers.
+//! The wrapper's own part: refusals as an enum, rooms of its own.
 
 use open_panel::*;
 
@@ -90,20 +90,4 @@ fn lines_and_columns() {
     assert_eq!(refusal, Refusal::Limit { at: 42 });
     assert_eq!(refusal.line_and_column(wrong), Some((3, 10)));
     assert_eq!(Refusal::SeatCount.line_and_column(wrong), None);
-}
-
-#[test]
-fn the_header_has_the_same_numbers() {
-    let header = include_str!("../../../include/open_panel.h");
-    for (name, number) in [
-        ("CARD_BYTES", CARD_BYTES),
-        ("SEATS", SEATS),
-        ("TOP_STATE", TOP_STATE.into()),
-        ("WRITE_ROOM", WRITE_ROOM),
-        ("REDUCE_ROOM", REDUCE_ROOM),
-        ("SHOW_ROOM", SHOW_ROOM),
-    ] {
-        let line = format!("#define OPEN_PANEL_{name} {number}\n");
-        assert!(header.contains(&line), "{line}");
-    }
 }

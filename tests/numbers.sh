@@ -1,0 +1,63 @@
+#!/usr/bin/env bash
+# The numbers of the header and of the Rust wrapper are those that the proofs speak of: limits, rooms that are always enough, refusals.
+set -eu
+cd "$(dirname "${BASH_SOURCE[0]}")/.."
+seen=0
+wrong=0
+
+# proved NAME: the number that a definition in some crate's specs/ gives the name, written out or reckoned from other such names
+proved() {
+    local given name
+    given=$(sed -n "s/^$1 = //p" crates/*/specs/*.antt)
+    for name in $(grep -oE '[A-Za-z]+' <<<"$given" | sort -u); do
+        given=$(sed "s/\b$name\b/$(proved "$name")/g" <<<"$given")
+    done
+    [[ $given =~ ^[0-9\ +*\(\)-]+$ ]] || { echo "numbers: specs/ give $1 no number, or two" >&2 && return 1; }
+    echo $((given))
+}
+
+# same NAME DEFINITION HEADER WRAPPER
+same() {
+    local due
+    due=$(proved "$2")
+    seen=$((seen + 1))
+    if [ "$3" != "$due" ] || [ "$4" != "$due" ]; then
+        echo "numbers: $1 is ${3:-nothing} in the header and ${4:-nothing} in the wrapper, and $2 is $due"
+        wrong=$((wrong + 1))
+    fi
+}
+
+# number NAME DEFINITION: a macro and a constant
+number() {
+    same "$1" "$2" "$(sed -n "s/^#define OPEN_PANEL_$1 //p" include/open_panel.h)" \
+        "$(sed -n "s/^pub const $1: [a-z0-9]* = \(.*\);/\1/p" rust/open-panel/src/lib.rs | tr -d _)"
+}
+
+# refusal NAME VARIANT DEFINITION: an enum's constant, and what the variant's number is
+refusal() {
+    same "$1" "$3" "$(sed -n "s/^ *OPEN_PANEL_$1 = \([0-9]*\)\b.*/\1/p" include/open_panel.h)" \
+        "$(sed -n "s/^ *Refusal::$2\( { \.\. }\)* => \([0-9]*\),/\2/p" rust/open-panel/src/refusal.rs)"
+}
+
+number CARD_BYTES cardBytes
+number SEATS mostSeats
+number TOP_STATE topState
+number WRITE_ROOM writtenRoom
+number REDUCE_ROOM reducedMost
+number SHOW_ROOM panelRoom
+
+refusal LONG Long tooLong
+refusal MARK Mark outsideRules
+refusal SHAPE Shape outOfShape
+refusal LIMIT Limit pastLimit
+refusal STATE State aboveTop
+refusal WORD Word notDue
+refusal WEIGHT Weight wrongWeight
+refusal SEAT_COUNT SeatCount wrongSeats
+refusal SEAT_STATE SeatState seatAboveTop
+refusal ROOM Room roomTooSmall
+
+# every number of the header is among them, but for the 0 of no refusal
+all=$(grep -cE '^#define OPEN_PANEL_[A-Z_]* |^ *OPEN_PANEL_[A-Z_]* = [1-9]' include/open_panel.h)
+echo "numbers: $seen of $all, $wrong wrong"
+[ "$wrong" -eq 0 ] && [ "$seen" -eq "$all" ]
