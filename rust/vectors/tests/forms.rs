@@ -1,0 +1,73 @@
+//! Both forms of stored files, written out by hand.
+
+use vectors::stored::{Answer, Cases};
+
+/// A length in four bytes and the bytes.
+fn piece(bytes: &str) -> Vec<u8> {
+    let mut piece = (bytes.len() as u32).to_le_bytes().to_vec();
+    piece.extend(bytes.bytes());
+    piece
+}
+
+fn call(pieces: &[&str]) -> Vec<u8> {
+    let mut call = vec![pieces.len() as u8];
+    call.extend(pieces.iter().flat_map(|bytes| piece(bytes)));
+    call
+}
+
+fn words(answer: &Answer) -> String {
+    match answer {
+        Answer::Refused(number, place) => format!("refused {number} {place}"),
+        Answer::Text(text) => format!("text {}", text.escape_ascii()),
+        Answer::Words(words) => format!("words {}", words.escape_ascii()),
+    }
+}
+
+#[test]
+fn inputs_are_calls_of_every_entry() {
+    let cases = Cases::new(&[piece("0x\ncard"), piece("none")].concat());
+    assert_eq!(cases.count(), 2);
+    let pieces = |number, entry| cases.call(number, entry).unwrap().concat();
+    assert_eq!(pieces(0, "panel"), b"card\x00\xff32768");
+    assert_eq!(pieces(0, "write"), b"card32768");
+    assert_eq!(pieces(0, "read"), b"card");
+    assert_eq!(pieces(0, "program"), b"0x\ncard");
+    assert_eq!(pieces(1, "read"), b"");
+    assert!(cases.call(0, "ask").is_none());
+    let answers = cases.answers(b"case 0\na\ncase 7\ncase 1\nrefused 3 12\n");
+    let answers: Vec<String> = answers.iter().map(words).collect();
+    assert_eq!(answers, ["text a\\ncase 7\\n", "refused 3 12"]);
+}
+
+#[test]
+fn calls_name_their_entry() {
+    let calls = [
+        call(&["ask", "card", "", "\x01"]),
+        call(&["write", "card", "5"]),
+        call(&["read", "card"]),
+        call(&["write", "", "0"]),
+    ];
+    let cases = Cases::new(&calls.concat());
+    assert_eq!(cases.count(), 4);
+    assert!(cases.call(0, "write").is_none());
+    let ask = cases.call(0, "ask").unwrap();
+    assert_eq!(ask, [&b"card"[..], b"", b"\x01"]);
+    assert_eq!(cases.call(1, "write").unwrap(), [&b"card"[..], b"5"]);
+    let answers =
+        cases.answers(b"case 0\nyes\ncase 1\nok 4\na\nb\n\ncase 2\ntaken\ncase 3\nrefused 3 0\n");
+    let answers: Vec<String> = answers.iter().map(words).collect();
+    let due = [
+        "words yes\\n",
+        "text a\\nb\\n",
+        "words taken\\n",
+        "refused 3 0",
+    ];
+    assert_eq!(answers, due);
+}
+
+#[test]
+#[should_panic = "`case 1` is missing"]
+fn answers_are_as_many_as_cases() {
+    let cases = Cases::new(&[piece("0\na"), piece("0\nb")].concat());
+    cases.answers(b"case 0\na\n");
+}
