@@ -6,6 +6,11 @@
  * no state, no heap and no system calls, so any number of threads may call it
  * at once.
  *
+ * In open_panel.wasm the same functions are exports. Before its other arguments
+ * each takes where the answer goes: 16 bytes, `number` at 0 and `value` at 8. A
+ * pointer is an i32, a length and `value` an i64. The memory from __heap_base on
+ * is the caller's.
+ *
  * What holds of every function here:
  *
  *   - A card, the seats and a room are a pointer and a length in bytes. The
