@@ -23,7 +23,7 @@ if command -v node >/dev/null; then
     same 'exports of the module' "$(node -p "$module WebAssembly.Module.exports(module)$names")" "__heap_base memory $functions"
     same 'imports of the module' "$(node -p "$module WebAssembly.Module.imports(module)$names")" ''
 else
-    echo "library: skipped for wasm32, as there is no node here"
+    echo "wasm32: skipped, as there is no node here"
 fi
 
 strict=(-Wall -Wextra -pedantic -Werror -fsyntax-only)
@@ -34,8 +34,8 @@ for language in "${languages[@]}"; do
 done
 
 for target in x86_64-linux aarch64-linux; do
-    if linked $target open_panel_test; then
-        printf '%s: ' $target
-        "${run[@]}"
-    fi
+    runnable $target || continue
+    linked $target open_panel_test
+    printf '%s: ' $target
+    "${run[@]}"
 done

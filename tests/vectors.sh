@@ -30,14 +30,15 @@ through 'independent implementation' --baseline
 held base panel program --baseline
 
 for target in x86_64-linux aarch64-linux; do
-    if [ $target != "$machine-linux" ] && linked $target bridge; then
-        through $target "${run[@]}"
-    fi
+    [ $target != "$machine-linux" ] || continue
+    runnable $target || continue
+    linked $target bridge
+    through $target "${run[@]}"
 done
 if command -v node >/dev/null; then
     through wasm32 node tests/bridge.mjs target/library/wasm32/open_panel.wasm
 else
-    echo "vectors: skipped for wasm32, as there is no node here"
+    echo "wasm32: skipped, as there is no node here"
 fi
 
 echo "vectors: panel program"

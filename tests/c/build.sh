@@ -1,8 +1,19 @@
 # For bash to read in, with `root` set and bin/kit.sh read in: programs of this folder, linked with a build of the library.
 words=(-Wall -Wextra -pedantic -Werror -std=c99 -D_POSIX_C_SOURCE=200809L -O1 "-I$root/include")
 
+# runnable TARGET: can a program for it be linked and run here? Where not, it says why.
+runnable() {
+    case $1 in
+        "$machine-linux" | x86_64-linux) return 0 ;;
+        aarch64-linux)
+            if command -v aarch64-linux-gnu-gcc >/dev/null && command -v qemu-aarch64 >/dev/null; then return 0; fi
+            echo "$1: skipped, as there is no aarch64-linux-gnu-gcc or no qemu-aarch64 here"
+            ;;
+    esac
+    return 1
+}
+
 # linked TARGET NAME: compiles NAME.c, links it with the library for TARGET, and leaves in `run` the words that run it here.
-# Where that cannot be, it says why, and fails.
 linked() {
     local library=$root/target/library/$1/libopen_panel.a source=$root/tests/c/$2.c made=$root/target/c/$1
     mkdir -p "$made"
@@ -21,10 +32,6 @@ linked() {
             run=("${run_x86_64[0]}" -cpu qemu64 "${run_x86_64[@]:1}" "$made")
             ;;
         aarch64-linux)
-            if ! command -v aarch64-linux-gnu-gcc >/dev/null || ! command -v qemu-aarch64 >/dev/null; then
-                echo "$2: skipped for $1, as there is no aarch64-linux-gnu-gcc or no qemu-aarch64 here"
-                return 1
-            fi
             aarch64-linux-gnu-gcc -static "${words[@]}" "$source" "$library" -o "$made"
             run=(qemu-aarch64 "$made")
             ;;
