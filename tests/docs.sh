@@ -5,7 +5,8 @@
 #   CRATE::NAME, MODULE::NAME, TYPE::NAME       something that the code names so
 #   statement : Type                            in `promises`
 #   a bare word in a column "Function"          a function or a crate
-# And the README's table of crates is crates.txt. What stands in a block of code, and docs/landings (history), is not looked at.
+# A link leads to a file or a folder.
+# The README's table of crates is crates.txt. What stands in a block of code, and docs/landings (history), is not looked at.
 set -eu
 cd "$(dirname "${BASH_SOURCE[0]}")/.."
 pages=(README.md CHANGELOG.md vectors/README.md docs/*.md)
@@ -19,6 +20,10 @@ named=$(awk '
     !/^\|/ { columns = 0; head = "" }
     /^\|/ && !columns { columns = split($0, head_cells, "|"); head = $0; crate = "" }
     {
+        for (rest = $0; match(rest, /\]\([^)]*\)/); rest = substr(rest, RSTART + RLENGTH)) {
+            link = substr(rest, RSTART + 2, RLENGTH - 3)
+            if (link !~ /^https?:/) say("link", link)
+        }
         n = split($0, parts, "`")
         cell = 1
         was_edit = 0
@@ -56,9 +61,10 @@ missing=0
 # coded NAME FILES..: do the files of code name something so?
 coded() { grep -qEs "\b(fn|mod|const|struct|enum|type) $1\b" "${@:2}"; }
 
-found() { # KIND WORD
+found() { # KIND WORD PAGE
     local first=${2%%::*} last=${2##*::}
     case $1 in
+        link) [ -e "$(dirname "$3")/${2%%#*}" ] ;;
         edit) [ -f "crates/${2}.edit" ] ;;
         path) grep -qxF -e "./${2%/}" <<<"$files" || grep -qE -e "/$(sed 's/[.]/\\./g' <<<"${2%/}")\$" <<<"$files" ;;
         code)
@@ -77,7 +83,7 @@ found() { # KIND WORD
 
 while IFS=$'\t' read -r kind page line word; do
     looked=$((looked + 1))
-    if ! found "$kind" "$word"; then
+    if ! found "$kind" "$word" "$page"; then
         echo "$page:$line: there is no $kind $word"
         missing=$((missing + 1))
     fi
