@@ -26,6 +26,12 @@ else
     echo "wasm32: skipped, as there is no node here"
 fi
 
+# the header asserts of each struct that is handed back that it is small enough to be
+for type in $(sed -n 's/^\([a-z_]*\) open_panel_[a-z_]*(.*/\1/p' include/open_panel.h | sort -u); do
+    ! grep -q "^} $type;" include/open_panel.h || grep -q "^_Static_assert(sizeof($type) <= 16," include/open_panel.h ||
+        { echo "library: the header does not say that $type has 16 bytes at most" && exit 1; }
+done
+
 strict=(-Wall -Wextra -pedantic -Werror -fsyntax-only)
 languages=(c99 c11)
 ! cc -x c++ -fsyntax-only /dev/null 2>/dev/null || languages+=(c++98)
