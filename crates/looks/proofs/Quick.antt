@@ -17,7 +17,7 @@ use Rattle.marks.specs.Marks.{seat, isDigit, isBlank, isSign, inWord, begins, r
 use Rattle.marks.specs.Kinds.{kNumber, kSeat}
 use Rattle.marks.specs.Step.{stepTo, stepped, stepFrom, stepAt}
 use Rattle.marks.specs.Parts.{bareOf, valuedOf, isAlone, inNumber, shortSeat, gapOf}
-use Rattle.looks.specs.Quick.{signAhead, noDigit, digitAhead, seatAhead, pastBlank, pastLine}
+use Rattle.looks.specs.Quick.{signAhead, noDigit, oneDigit, digitAhead, lastDigit, seatAhead, pastBlank, pastLine}
 use Rattle.marks.specs.declared.Step.{Step}
 use Rattle.marks.proofs.Lists.{cases, not-both, and-left, and-right, drop-at}
 use Rattle.marks.proofs.Runs.{run-on, run-empty, begins-at, begins-place, eqb-sym}
@@ -31,53 +31,57 @@ sign-none k s i h = rw (drop-of-length-le s h)
 pub sign-at : (k : ℕ) (s : List ℕ) (i : ℕ) → i < length s → signAhead k (drop i s) ≡ (eqb (getD s i 0) k && isAlone (getD s i 0))
 sign-at k s i h = rw (drop-at s i h)
 
-pub digit-none : (s : List ℕ) → begins isDigit s ≡ false → digitAhead s ≡ noDigit
-digit-none [] e = refl
-digit-none (b ∷ s) e = rw e
+module _ (more : ℕ → Bool) (s : List ℕ) (i : ℕ) where
+  one-digit-at : oneDigit more (drop i s) ≡ (if begins isDigit (drop i s) && not (begins more (drop (i + 1) s)) then getD s i 0 - 48 else noDigit)
+  one-digit-at = tests (drop i s) ∙ rw (drop-drop 1 i s, getD-drop i s 0 0, add-zero i)
+    where
+      tests : (u : List ℕ) → oneDigit more u ≡ (if begins isDigit u && not (begins more (drop 1 u)) then getD u 0 0 - 48 else noDigit)
+      tests [] = refl
+      tests (b ∷ t) = refl
 
-pub seat-none : (s : List ℕ) → begins (eqb 115) s ≡ false → seatAhead s ≡ noDigit
-seat-none [] e = refl
-seat-none (b ∷ s) e = let f : eqb b 115 ≡ false = eqb-sym b 115 ∙ e in rw f
+  pub digit-none : begins isDigit (drop i s) ≡ false → oneDigit more (drop i s) ≡ noDigit
+  digit-none e = one-digit-at ∙ rw e
 
-module _ (s : List ℕ) (i : ℕ) (h : i < length s) where
-  pub digit-at : digitAhead (drop i s) ≡ (if isDigit (getD s i 0) && not (begins inNumber (drop (i + 1) s)) then getD s i 0 - 48 else noDigit)
-  digit-at = rw (drop-at s i h)
+  pub digit-more : begins more (drop (i + 1) s) ≡ true → oneDigit more (drop i s) ≡ noDigit
+  digit-more e = one-digit-at ∙ rw (e, and-false (begins isDigit (drop i s)))
 
-  pub short-at : shortSeat (drop i s) ≡ (eqb (getD s i 0) 115 && begins isDigit (drop (i + 1) s) && not (begins inWord (drop (i + 1 + 1) s)))
-  short-at = rw (drop-at s i h, drop-drop 1 (i + 1) s)
+  pub digit-over : begins isDigit (drop i s) ≡ true → begins more (drop (i + 1) s) ≡ false → oneDigit more (drop i s) ≡ getD s i 0 - 48
+  digit-over d e = one-digit-at ∙ rw (d, e)
 
-  pub seat-at : seatAhead (drop i s) ≡ (if eqb (getD s i 0) 115 && begins isDigit (drop (i + 1) s) && not (begins inWord (drop (i + 1 + 1) s)) then getD s (i + 1) 0 - 48 else noDigit)
-  seat-at = rw (← short-at, getD-drop i s 1 0)
+  -- the other way round: what stands there if the look found a digit
+  module _ (v : ℕ) (is : v ≡ oneDigit more (drop i s)) (small : v < noDigit) where
+    both : (begins isDigit (drop i s) && not (begins more (drop (i + 1) s))) ≡ true
+    both = cases (begins isDigit (drop i s) && not (begins more (drop (i + 1) s))) (λ y. y) (λ n. let none : v ≡ noDigit = is ∙ one-digit-at ∙ rw n in absurd (omega arith))
 
--- the same of what the tests have said
-module _ (s : List ℕ) (i : ℕ) (d : begins isDigit (drop i s) ≡ true) where
-  there : i < length s
-  there = begins-place isDigit s i d
+    pub digit-there : begins isDigit (drop i s) ≡ true
+    digit-there = and-left (begins isDigit (drop i s)) (not (begins more (drop (i + 1) s))) both
 
-  is-digit : isDigit (getD s i 0) ≡ true
-  is-digit = sym (begins-at isDigit s i there) ∙ d
+    pub digit-ends : begins more (drop (i + 1) s) ≡ false
+    digit-ends = not-true (begins more (drop (i + 1) s)) (and-right (begins isDigit (drop i s)) (not (begins more (drop (i + 1) s))) both)
 
-  pub digit-low : 48 ≤ getD s i 0
-  digit-low = leb-true 48 (getD s i 0) (and-left (leb 48 (getD s i 0)) (leb (getD s i 0) 57) is-digit)
+    pub digit-is : v ≡ getD s i 0 - 48
+    digit-is = is ∙ digit-over digit-there digit-ends
 
-  pub digit-more : begins inNumber (drop (i + 1) s) ≡ true → digitAhead (drop i s) ≡ noDigit
-  digit-more e = digit-at s i there ∙ rw (is-digit, e)
+pub digit-low : (s : List ℕ) (i : ℕ) → begins isDigit (drop i s) ≡ true → 48 ≤ getD s i 0
+digit-low s i d =
+    let b = getD s i 0 in
+    leb-true 48 b (and-left (leb 48 b) (leb b 57) (sym (begins-at isDigit s i (begins-place isDigit s i d)) ∙ d))
 
-  pub digit-over : begins inNumber (drop (i + 1) s) ≡ false → digitAhead (drop i s) ≡ getD s i 0 - 48
-  digit-over e = digit-at s i there ∙ rw (is-digit, e)
+module _ (s : List ℕ) (i : ℕ) where
+  pub seat-none : begins (eqb 115) (drop i s) ≡ false → seatAhead (drop i s) ≡ noDigit
+  seat-none e = rw e
 
-module _ (s : List ℕ) (i : ℕ) (e : begins (eqb 115) (drop i s) ≡ true) where
-  an-s : eqb (getD s i 0) 115 ≡ true
-  an-s = eqb-sym (getD s i 0) 115 ∙ sym (begins-at (eqb 115) s i (begins-place (eqb 115) s i e)) ∙ e
+  pub seat-begun : begins (eqb 115) (drop i s) ≡ true → seatAhead (drop i s) ≡ lastDigit (drop (i + 1) s)
+  seat-begun e = rw (e, drop-drop 1 i s)
 
-  pub seat-bare : begins isDigit (drop (i + 1) s) ≡ false → seatAhead (drop i s) ≡ noDigit
-  seat-bare d = seat-at s i (begins-place (eqb 115) s i e) ∙ rw (an-s, d)
-
-  pub seat-more : begins inWord (drop (i + 1 + 1) s) ≡ true → seatAhead (drop i s) ≡ noDigit
-  seat-more w = seat-at s i (begins-place (eqb 115) s i e) ∙ rw (w, and-false (eqb (getD s i 0) 115 && begins isDigit (drop (i + 1) s)))
-
-  pub seat-over : begins isDigit (drop (i + 1) s) ≡ true → begins inWord (drop (i + 1 + 1) s) ≡ false → seatAhead (drop i s) ≡ getD s (i + 1) 0 - 48
-  seat-over d w = seat-at s i (begins-place (eqb 115) s i e) ∙ rw (an-s, d, w)
+  pub seat-at : i < length s → seatAhead (drop i s) ≡ (if eqb (getD s i 0) 115 && begins isDigit (drop (i + 1) s) && not (begins inWord (drop (i + 1 + 1) s)) then getD s (i + 1) 0 - 48 else noDigit)
+  seat-at h = cases (begins (eqb 115) (drop i s))
+      (λ e.
+      let q : eqb (getD s i 0) 115 ≡ true = eqb-sym (getD s i 0) 115 ∙ sym (begins-at (eqb 115) s i h) ∙ e in
+      seat-begun e ∙ one-digit-at inWord s (i + 1) ∙ rw q)
+      (λ e.
+      let q : eqb (getD s i 0) 115 ≡ false = eqb-sym (getD s i 0) 115 ∙ sym (begins-at (eqb 115) s i h) ∙ e in
+      seat-none e ∙ rw q)
 
 -- ---- the steps
 
@@ -158,43 +162,35 @@ module _ (s : List ℕ) (i : ℕ) where
 
   module _ (v : ℕ) (is : v ≡ digitAhead (drop i s)) (small : v < noDigit) where
     pub digit-place : i < length s
-    digit-place = go (decLt i (length s))
-      where
-        go : Dec (i < length s) → i < length s
-        go (yes h) = h
-        go (no h) = let l : length s ≤ i = omega arith in absurd (omega (arith, is ∙ ap digitAhead (drop-of-length-le s l)))
+    digit-place = begins-place isDigit s i (digit-there inNumber s i v is small)
 
     pub digit-step : stepAt s i ≡ valuedOf kNumber v i (i + 1)
     digit-step =
         let b = getD s i 0 in
         let t = drop (i + 1) s in
-        let here : v ≡ (if isDigit b && not (begins inNumber t) then b - 48 else noDigit) = is ∙ digit-at s i digit-place in
-        cases (isDigit b && not (begins inNumber t))
-        (λ y.
-        let d : isDigit b ≡ true = and-left (isDigit b) (not (begins inNumber t)) y in
-        let n : begins inNumber t ≡ false = not-true (begins inNumber t) (and-right (isDigit b) (not (begins inNumber t)) y) in
-        let value : v ≡ b - 48 = here ∙ rw y in
-        step-at s i digit-place ∙ ap (λ x. stepped i x on) (digit-starts b t d) ∙ numeral-single b t i on d n ∙ ap (λ (u : ℕ). valuedOf kNumber u i (i + 1)) (sym value))
-        (λ n. let none : v ≡ noDigit = here ∙ rw n in absurd (omega arith))
+        let d : isDigit b ≡ true = sym (begins-at isDigit s i digit-place) ∙ digit-there inNumber s i v is small in
+        step-at s i digit-place ∙ ap (λ x. stepped i x on) (digit-starts b t d) ∙ numeral-single b t i on d (digit-ends inNumber s i v is small)
+        ∙ ap (λ (u : ℕ). valuedOf kNumber u i (i + 1)) (sym (digit-is inNumber s i v is small))
 
   module _ (v : ℕ) (is : v ≡ seatAhead (drop i s)) (small : v < noDigit) where
-    seat-short : shortSeat (drop i s) ≡ true
-    seat-short = cases (shortSeat (drop i s)) (λ y. y) (λ n. let none : seatAhead (drop i s) ≡ noDigit = rw n in absurd (omega (arith, is ∙ none)))
+    seat-s : begins (eqb 115) (drop i s) ≡ true
+    seat-s = cases (begins (eqb 115) (drop i s)) (λ y. y) (λ n. absurd (omega (arith, is ∙ seat-none s i n)))
+
+    seat-last : v ≡ lastDigit (drop (i + 1) s)
+    seat-last = is ∙ seat-begun s i seat-s
 
     seat-before : i < length s
-    seat-before = before-end shortSeat refl seat-short
+    seat-before = begins-place (eqb 115) s i seat-s
 
     pub seat-room : i + 1 < length s
-    seat-room = seat-place s i seat-before seat-short
+    seat-room = begins-place isDigit s (i + 1) (digit-there inWord s (i + 1) v seat-last small)
+
+    seat-short : shortSeat (drop i s) ≡ true
+    seat-short = rw (drop-at s i seat-before, drop-drop 1 (i + 1) s, stood 115 seat-s, digit-there inWord s (i + 1) v seat-last small, digit-ends inWord s (i + 1) v seat-last small)
 
     pub seat-step : stepAt s i ≡ valuedOf kSeat v i (i + 2)
     seat-step =
         let b = getD s i 0 in
-        let t = drop (i + 1) s in
-        let u = drop (i + 1 + 1) s in
-        let parts : (eqb b 115 && begins isDigit t && not (begins inWord u)) ≡ true = sym (short-at s i seat-before) ∙ seat-short in
-        let q : b ≡ 115 = eqb-true b 115 (and-left (eqb b 115) (begins isDigit t) (and-left (eqb b 115 && begins isDigit t) (not (begins inWord u)) parts)) in
-        let value : v ≡ getD s (i + 1) 0 - 48 = is ∙ rw (seat-short, getD-drop i s 1 0) in
         let two : i + 1 + 1 ≡ i + 2 = omega arith in
-        step-at s i seat-before ∙ ap (λ x. stepped i x on) (letter-starts b t (rw q)) ∙ seat-single s i seat-before seat-short on
-        ∙ rw (two, ← value)
+        step-at s i seat-before ∙ ap (λ x. stepped i x on) (letter-starts b (drop (i + 1) s) (rw (stood 115 seat-s))) ∙ seat-single s i seat-before seat-short on
+        ∙ rw (two, ← digit-is inWord s (i + 1) v seat-last small)

@@ -15,11 +15,12 @@ use Rattle.marks.specs.Marks.{text, process, isDigit, isLetter, inWord, begins,
 use Rattle.marks.specs.Kinds.{kProcess}
 use Rattle.marks.specs.Step.{stepTo, stepped, stepFrom, stepAt}
 use Rattle.marks.specs.Parts.{begun, valuedOf}
-use Rattle.looks.specs.Quick.{wordAhead}
+use Rattle.looks.specs.Quick.{noDigit, lastDigit, bytesAhead, wordAhead, processAhead}
 use Rattle.marks.specs.declared.Step.{Step}
 use Rattle.marks.proofs.Lists.{cases, not-both, and-left, and-right}
 use Rattle.marks.proofs.Runs.{run-on, run-empty, run-first, begins-at, begins-place, begun-fits}
 use Rattle.marks.proofs.Numbers.{one-digit}
+use Rattle.looks.proofs.Quick.{digit-there, digit-ends, digit-is}
 use Rattle.marks.proofs.Starts.{letter-starts, digit-in-word, word-step, step-at}
 
 -- a run that begins with these bytes
@@ -34,11 +35,18 @@ run-of p (a ∷ t) (b ∷ s) w e = cases (eqb a b)
     rw (g, q) (ap (λ (u : List ℕ). b ∷ u) (run-of p t s (and-right (p a) (every p t) w) f)))
     (λ y. not-both false (rw y at e) refl)
 
+module _ (t s : List ℕ) (i : ℕ) (e : bytesAhead t s i ≡ true) where
+  pub bytes-stand : begun t (drop i s) ≡ true
+  bytes-stand = and-right (leb i (length s)) (begun t (drop i s)) e
+
+  pub bytes-fit : i + length t ≤ length s
+  bytes-fit = begun-fits t s i (leb-true i (length s) (and-left (leb i (length s)) (begun t (drop i s)) e)) bytes-stand
+
 module _ (s : List ℕ) (i : ℕ) where
   abbrev on : ℕ → Step
   on = λ more. stepFrom (length s) more (drop (i + 1) s)
 
-  -- a word w whose first byte is a letter
+  -- a word whose first byte is a letter
   whole : (b : ℕ) (u : List ℕ) → isLetter b ≡ true → i < length s → run inWord (drop i s) ≡ b ∷ u → stepAt s i ≡ stepTo (wordMark (b ∷ u)) i (i + length (b ∷ u))
   whole b u l h w =
       let some-byte : 0 < length (run inWord (drop i s)) = omega (arith, ap length w) in
@@ -48,38 +56,44 @@ module _ (s : List ℕ) (i : ℕ) where
       ∙ word-step s i h m on (wordMark (b ∷ u)) (ap wordMark w) ∙ ap (λ (v : List ℕ). stepTo (wordMark (b ∷ u)) i (i + length v)) w
 
   module _ (b : ℕ) (t : List ℕ) (e : wordAhead (b ∷ t) s i ≡ true) where
-    there : (leb i (length s) && begun (b ∷ t) (drop i s)) ≡ true
-    there = and-left (leb i (length s) && begun (b ∷ t) (drop i s)) (not (begins inWord (drop (i + length (b ∷ t)) s))) e
-
-    stands : begun (b ∷ t) (drop i s) ≡ true
-    stands = and-right (leb i (length s)) (begun (b ∷ t) (drop i s)) there
+    there : bytesAhead (b ∷ t) s i ≡ true
+    there = and-left (bytesAhead (b ∷ t) s i) (not (begins inWord (drop (i + length (b ∷ t)) s))) e
 
     pub word-fits : i + length (b ∷ t) ≤ length s
-    word-fits = begun-fits (b ∷ t) s i (leb-true i (length s) (and-left (leb i (length s)) (begun (b ∷ t) (drop i s)) there)) stands
+    word-fits = bytes-fit (b ∷ t) s i there
 
     over : begins inWord (drop (length (b ∷ t)) (drop i s)) ≡ false
-    over = ap (begins inWord) (drop-drop (length (b ∷ t)) i s) ∙ not-true (begins inWord (drop (i + length (b ∷ t)) s)) (and-right (leb i (length s) && begun (b ∷ t) (drop i s)) (not (begins inWord (drop (i + length (b ∷ t)) s))) e)
+    over =
+        ap (begins inWord) (drop-drop (length (b ∷ t)) i s)
+        ∙ not-true (begins inWord (drop (i + length (b ∷ t)) s)) (and-right (bytesAhead (b ∷ t) s i) (not (begins inWord (drop (i + length (b ∷ t)) s))) e)
 
     pub keyword-step : every inWord (b ∷ t) ≡ true → isLetter b ≡ true → stepAt s i ≡ stepTo (wordMark (b ∷ t ++ [])) i (i + length (b ∷ t ++ []))
-    keyword-step w l = whole b (t ++ []) l (omega (arith, word-fits)) (run-of inWord (b ∷ t) (drop i s) w stands ∙ ap (λ (u : List ℕ). b ∷ t ++ u) (run-empty inWord (drop (length (b ∷ t)) (drop i s)) over))
+    keyword-step w l =
+        whole b (t ++ []) l (omega (arith, word-fits))
+        (run-of inWord (b ∷ t) (drop i s) w (bytes-stand (b ∷ t) s i there) ∙ ap (λ (u : List ℕ). b ∷ t ++ u) (run-empty inWord (drop (length (b ∷ t)) (drop i s)) over))
 
   -- a module word with one digit
-  module _ (n : i ≤ length s) (e : begun (bytes "process") (drop i s) ≡ true) where
-    pub process-fits : i + 7 ≤ length s
-    process-fits = begun-fits (bytes "process") s i n e
+  module _ (v : ℕ) (is : v ≡ processAhead s i) (small : v < noDigit) where
+    begun-so : bytesAhead (bytes "process") s i ≡ true
+    begun-so = cases (bytesAhead (bytes "process") s i) (λ y. y) (λ n. let none : v ≡ noDigit = is ∙ rw n in absurd (omega arith))
 
-    module _ (d : begins isDigit (drop (i + 7) s) ≡ true) (o : begins inWord (drop (i + 7 + 1) s) ≡ false) where
-      digit-place : i + 7 < length s
-      digit-place = begins-place isDigit s (i + 7) d
+    last : v ≡ lastDigit (drop (i + 7) s)
+    last = is ∙ rw begun-so
 
-      digit : isDigit (getD s (i + 7) 0) ≡ true
-      digit = sym (begins-at isDigit s (i + 7) digit-place) ∙ d
+    a-digit : begins isDigit (drop (i + 7) s) ≡ true
+    a-digit = digit-there inWord s (i + 7) v last small
 
-      pub process-step : stepAt s i ≡ valuedOf kProcess (getD s (i + 7) 0 - 48) i (i + 7 + 1)
-      process-step =
-          let v = getD s (i + 7) 0 in
-          let last : run inWord (drop 7 (drop i s)) ≡ v ∷ [] = ap (run inWord) (drop-drop 7 i s) ∙ run-on inWord s (i + 7) digit-place (digit-in-word v digit) ∙ ap (λ (u : List ℕ). v ∷ u) (run-empty inWord (drop (i + 7 + 1) s) o) in
-          let w : run inWord (drop i s) ≡ bytes "process" ++ (v ∷ []) = run-of inWord (bytes "process") (drop i s) refl e ∙ ap (λ (u : List ℕ). bytes "process" ++ u) last in
-          let y : plain wordDigits (v ∷ []) ≡ true = one-digit wordDigits (v ∷ []) (rw digit) refl (omega arith) in
-          let to : i + 8 ≡ i + 7 + 1 = omega arith in
-          whole 112 (bytes "rocess" ++ (v ∷ [])) refl (omega (arith, digit-place)) w ∙ rw (y, zero-add, to)
+    pub process-room : i + 7 < length s
+    process-room = begins-place isDigit s (i + 7) a-digit
+
+    pub process-step : stepAt s i ≡ valuedOf kProcess v i (i + 8)
+    process-step =
+        let b = getD s (i + 7) 0 in
+        let d : isDigit b ≡ true = sym (begins-at isDigit s (i + 7) process-room) ∙ a-digit in
+        let end : run inWord (drop 7 (drop i s)) ≡ b ∷ [] =
+        ap (run inWord) (drop-drop 7 i s) ∙ run-on inWord s (i + 7) process-room (digit-in-word b d)
+        ∙ ap (λ (u : List ℕ). b ∷ u) (run-empty inWord (drop (i + 7 + 1) s) (digit-ends inWord s (i + 7) v last small)) in
+        let w : run inWord (drop i s) ≡ bytes "process" ++ (b ∷ []) =
+        run-of inWord (bytes "process") (drop i s) refl (bytes-stand (bytes "process") s i begun-so) ∙ ap (λ (u : List ℕ). bytes "process" ++ u) end in
+        let y : plain wordDigits (b ∷ []) ≡ true = one-digit wordDigits (b ∷ []) (rw d) refl (omega arith) in
+        whole 112 (bytes "rocess" ++ (b ∷ [])) refl (omega (arith, process-room)) w ∙ rw (y, zero-add, ← digit-is inWord s (i + 7) v last small)

@@ -3,10 +3,10 @@
 ghost use mathlib.Core.Path.{_≡_};
 ghost use Rattle.marks.specs.Step.{stepAt};
 use crate::look::NO_DIGIT;
-use crate::look::all_here;
 use crate::look::digit_here;
 use crate::look::past_blank;
 use crate::look::past_line;
+use crate::look::process_here;
 use crate::look::seat_here;
 use crate::look::sign_here;
 use crate::look::word_here;
@@ -14,10 +14,7 @@ use marks::Cursor;
 use marks::Step;
 use marks::answer::bare;
 use marks::answer::valued;
-use marks::bytes::digit_at;
 use marks::bytes::stands;
-use marks::bytes::wide;
-use marks::bytes::word_at;
 use marks::kinds::AND;
 use marks::kinds::ARROW;
 use marks::kinds::COLON;
@@ -173,15 +170,16 @@ pub fn step_seat(card: &[u8], at: usize) -> Step
     step_from(card, from)
 }
 
-// A `(` or a seat word.
+// A seat word, a `(` or a `!`.
 pub fn step_inner(card: &[u8], at: usize) -> Step
     ensures { λ r. ⌜ r ≡ stepAt (now (card .entry)) at ⌝ }
 {
     let from = past_blank(card, at);
-    if sign_here(card, from, ROUND_OPEN) {
-        return bare(ROUND_OPEN, from, from + 1);
+    let value = seat_here(card, from);
+    if value < NO_DIGIT {
+        return valued(SEAT, value, from, from + 2);
     }
-    step_seat(card, from)
+    step_opening(card, from)
 }
 
 // A `module`, also on the next line.
@@ -222,15 +220,9 @@ pub fn step_process(card: &[u8], at: usize) -> Step
     ensures { λ r. ⌜ r ≡ stepAt (now (card .entry)) at ⌝ }
 {
     let from = past_blank(card, at);
-    if all_here(card, from, b"process") {
-        let first = from + 7;
-        if digit_at(card, first) {
-            let end = first + 1;
-            if !word_at(card, end) {
-                let value = wide(card[first] - b'0');
-                return valued(PROCESS, value, from, end);
-            }
-        }
+    let value = process_here(card, from);
+    if value < NO_DIGIT {
+        return valued(PROCESS, value, from, from + 8);
     }
     step_from(card, from)
 }
@@ -255,13 +247,25 @@ pub fn step_kind(card: &[u8], at: usize, kind: usize) -> Step
 pub fn step_slash(card: &[u8], at: usize) -> Step
     ensures { λ r. ⌜ r ≡ stepAt (now (card .entry)) at ⌝ }
 {
-    if stands(card, at, b'/') {
-        let next = at + 1;
+    let from = past_blank(card, at);
+    if stands(card, from, b'/') {
+        let next = from + 1;
         if !stands(card, next, b'/') {
-            return bare(SLASH, at, next);
+            return bare(SLASH, from, next);
         }
     }
-    step_sign(card, at, COLON)
+    step_sign(card, from, COLON)
+}
+
+// A `&` or a `->`.
+pub fn step_guard(card: &[u8], at: usize) -> Step
+    ensures { λ r. ⌜ r ≡ stepAt (now (card .entry)) at ⌝ }
+{
+    let from = past_blank(card, at);
+    if sign_here(card, from, AND) {
+        return bare(AND, from, from + 1);
+    }
+    step_arrow(card, from)
 }
 
 // A `->`.

@@ -1,10 +1,7 @@
 // Quick looks: does a frequent mark stand right at a place? Each asks two or three bytes at most.
 ghost use mathlib.Core.Path.{_≡_};
-ghost use mathlib.Core.Bool.{_&&_};
-ghost use lib.Dec.{leb};
-ghost use lib.ListN.{length, drop};
-ghost use Rattle.marks.specs.Parts.{begun};
-ghost use Rattle.looks.specs.Quick.{signAhead, digitAhead, seatAhead, pastBlank, pastLine, wordAhead};
+ghost use lib.ListN.{drop};
+ghost use Rattle.looks.specs.Quick.{signAhead, digitAhead, lastDigit, seatAhead, processAhead, pastBlank, pastLine, bytesAhead, wordAhead};
 use marks::bytes::begins_at;
 use marks::bytes::digit_at;
 use marks::bytes::is_alone;
@@ -46,7 +43,7 @@ pub fn sign_here(card: &[u8], at: usize, kind: usize) -> bool
     false
 }
 
-// What `digit_here` and `seat_here` answer where no such mark stands.
+// What the looks below answer where no such mark stands.
 pub const NO_DIGIT: usize = 10;
 
 // The number of one digit.
@@ -62,26 +59,32 @@ pub fn digit_here(card: &[u8], at: usize) -> usize
     wide(card[at] - b'0')
 }
 
+// The number of the one digit that ends a word.
+fn last_digit(card: &[u8], at: usize) -> usize
+    ensures { λ r. ⌜ r ≡ lastDigit (drop at (now (card .entry))) ⌝ }
+{
+    if !digit_at(card, at) {
+        return NO_DIGIT;
+    }
+    if word_at(card, at + 1) {
+        return NO_DIGIT;
+    }
+    wide(card[at] - b'0')
+}
+
 // The number of the seat word with one digit.
 pub fn seat_here(card: &[u8], at: usize) -> usize
     ensures { λ r. ⌜ r ≡ seatAhead (drop at (now (card .entry))) ⌝ }
 {
-    if !stands(card, at, b's') {
-        return NO_DIGIT;
+    if stands(card, at, b's') {
+        return last_digit(card, at + 1);
     }
-    let first = at + 1;
-    if !digit_at(card, first) {
-        return NO_DIGIT;
-    }
-    if word_at(card, first + 1) {
-        return NO_DIGIT;
-    }
-    wide(card[first] - b'0')
+    NO_DIGIT
 }
 
 // These bytes?
 pub fn all_here(card: &[u8], at: usize, these: &[u8]) -> bool
-    ensures { λ r. ⌜ r ≡ (leb at (length (now (card .entry))) && begun (now (these .entry)) (drop at (now (card .entry)))) ⌝ }
+    ensures { λ r. ⌜ r ≡ bytesAhead (now (these .entry)) (now (card .entry)) at ⌝ }
 {
     if at <= card.len() {
         return begins_at(card, at, these);
@@ -97,4 +100,14 @@ pub fn word_here(card: &[u8], at: usize, these: &[u8]) -> bool
         return false;
     }
     !word_at(card, at + these.len())
+}
+
+// The number of the module word with one digit.
+pub fn process_here(card: &[u8], at: usize) -> usize
+    ensures { λ r. ⌜ r ≡ processAhead (now (card .entry)) at ⌝ }
+{
+    if all_here(card, at, b"process") {
+        return last_digit(card, at + 7);
+    }
+    NO_DIGIT
 }

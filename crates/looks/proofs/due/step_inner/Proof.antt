@@ -1,46 +1,46 @@
 -- What the look found is what the step finds (proofs/Quick.antt).
-use Rattle.looks.proofs.Quick.{sign-place, sign-step, past-step}
-use native.Mathlib.Omega.{arith}
 use mathlib.Core.Path.{sym, _∙_}
+use native.Mathlib.Omega.{arith}
+use Rattle.looks.proofs.Quick.{seat-room, seat-step, past-step}
 use borrow.Author.Needs.{needs}
 use Rattle.looks.proofs.due.step_inner.Statement.{statement}
 use Rattle.looks.proofs.due.step_inner.Tie as tie
 use Rattle.looks.proofs.due.step_inner.Reads as reads
 use Rattle.looks.proofs.due.step_inner.Lts as lts
-use Rattle.marks.proofs.answer.bare.Reads as bare-reads
-use Rattle.looks.proofs.due.step_seat.Reads as step-seat-reads
+use Rattle.looks.proofs.due.step_opening.Reads as step-opening-reads
 use Rattle.looks.proofs.look.past_blank.Reads as past-blank-reads
-use Rattle.looks.proofs.look.sign_here.Reads as sign-here-reads
+use Rattle.looks.proofs.look.seat_here.Reads as seat-here-reads
+use Rattle.marks.proofs.answer.valued.Reads as valued-reads
 
 past-blank-requires : tie.Need-past-blank-requires
 past-blank-requires c κs = search needs
 
-sign-here-requires : tie.Need-sign-here-requires
-sign-here-requires c κs = search needs
+seat-here-requires : tie.Need-seat-here-requires
+seat-here-requires c κs = search needs
 
-add-bare : tie.Need-add-bare
-add-bare c = omega (arith, sign-place (c .before .before .before .before .args .card .now) (c .before .before .past-blank .result) 40 (sym (c .before .sign-here .ensures) ∙ c .if1 .taken))
+add-valued : tie.Need-add-valued
+add-valued c = omega (arith, seat-room (c .before .before .before .before .args .card .now) (c .before .before .past-blank .result) (c .before .seat-here .result) (c .before .seat-here .ensures) (c .if1 .taken))
 
-bare-requires : tie.Need-bare-requires
-bare-requires c κs = search needs
+valued-requires : tie.Need-valued-requires
+valued-requires c κs = search needs
 
 returns : tie.Need-returns
-returns c = c .bare .ensures ∙ sym (sign-step (c .before .before .before .before .before .args .card .now) (c .before .before .before .past-blank .result) 40 (sym (c .before .before .sign-here .ensures) ∙ c .before .if1 .taken)) ∙ past-step (c .before .before .before .before .before .args .card .now) (c .before .before .before .before .before .args .at) (c .before .before .before .past-blank .ensures)
+returns c = c .valued .ensures ∙ sym (seat-step (c .before .before .before .before .before .args .card .now) (c .before .before .before .past-blank .result) (c .before .before .seat-here .result) (c .before .before .seat-here .ensures) (c .before .if1 .taken)) ∙ past-step (c .before .before .before .before .before .args .card .now) (c .before .before .before .before .before .args .at) (c .before .before .before .past-blank .ensures)
 
-step-seat-requires : tie.Need-step-seat-requires
-step-seat-requires c κs = search needs
+step-opening-requires : tie.Need-step-opening-requires
+step-opening-requires c κs = search needs
 
 returns-2 : tie.Need-returns-2
-returns-2 c = c .step-seat .ensures ∙ past-step (c .before .before .before .before .before .args .card .now) (c .before .before .before .before .before .args .at) (c .before .before .before .past-blank .ensures)
+returns-2 c = c .step-opening .ensures ∙ past-step (c .before .before .before .before .before .args .card .now) (c .before .before .before .before .before .args .at) (c .before .before .before .past-blank .ensures)
 
 pub step-inner-spec : {M : Type 1} → statement M
 step-inner-spec =
     tie.close
     (tie.spec
     past-blank-requires
-    sign-here-requires
-    add-bare
-    bare-requires
+    seat-here-requires
+    add-valued
+    valued-requires
     returns
-    step-seat-requires
+    step-opening-requires
     returns-2)

@@ -1,3 +1,4 @@
+-- What the look found is what the step finds (proofs/Words.antt).
 use Rattle.looks.proofs.Words.{word-fits, keyword-step}
 use Rattle.looks.proofs.Quick.{past-line-step}
 use Rattle.card.specs.Text.{bytes}

@@ -1,11 +1,11 @@
 -- Each way out has its law (proofs/Quick.antt).
-use Rattle.looks.proofs.Quick.{digit-none, digit-low, digit-more, digit-over}
-use Rattle.marks.proofs.Runs.{begins-place}
-use Rattle.marks.specs.Marks.{isDigit}
-use borrow.Author.Tests.{not-true, not-false}
-use lib.ListN.{drop}
-use native.Mathlib.Omega.{arith}
 use mathlib.Core.Path.{sym, _∙_}
+use native.Mathlib.Omega.{arith}
+use borrow.Author.Tests.{not-true, not-false}
+use Rattle.marks.specs.Parts.{inNumber}
+use Rattle.marks.specs.Marks.{isDigit}
+use Rattle.marks.proofs.Runs.{begins-place}
+use Rattle.looks.proofs.Quick.{digit-none, digit-low, digit-more, digit-over}
 use borrow.Author.Needs.{needs}
 use Rattle.looks.proofs.look.digit_here.Statement.{statement}
 use Rattle.looks.proofs.look.digit_here.Tie as tie
@@ -19,7 +19,7 @@ digit-at-requires : tie.Need-digit-at-requires
 digit-at-requires c κs = search needs
 
 returns : tie.Need-returns
-returns c = sym (digit-none (drop (c .before .before .before .args .at) (c .before .before .before .args .card .now)) (sym (c .before .digit-at .ensures) ∙ not-true (c .before .digit-at .result) (c .if1 .taken)))
+returns c = sym (digit-none inNumber (c .before .before .before .args .card .now) (c .before .before .before .args .at) (sym (c .before .digit-at .ensures) ∙ not-true (c .before .digit-at .result) (c .if1 .taken)))
 
 add-number-at : tie.Need-add-number-at
 add-number-at c = omega (arith, begins-place isDigit (c .before .before .before .args .card .now) (c .before .before .before .args .at) (sym (c .before .digit-at .ensures) ∙ not-false (c .before .digit-at .result) (c .if1 .left)))
@@ -28,7 +28,7 @@ number-at-requires : tie.Need-number-at-requires
 number-at-requires c κs = search needs
 
 returns-2 : tie.Need-returns-2
-returns-2 c = sym (digit-more (c .before .before .before .before .before .args .card .now) (c .before .before .before .before .before .args .at) (sym (c .before .before .before .digit-at .ensures) ∙ not-false (c .before .before .before .digit-at .result) (c .before .before .if1 .left)) (sym (c .before .number-at .ensures) ∙ c .if2 .taken))
+returns-2 c = sym (digit-more inNumber (c .before .before .before .before .before .args .card .now) (c .before .before .before .before .before .args .at) (sym (c .before .number-at .ensures) ∙ c .if2 .taken))
 
 shared-slice-read-wide : tie.Need-shared-slice-read-wide
 shared-slice-read-wide c = begins-place isDigit (c .before .before .before .before .before .before .args .card .now) (c .before .before .before .before .before .before .args .at) (sym (c .before .before .before .before .digit-at .ensures) ∙ not-false (c .before .before .before .before .digit-at .result) (c .before .before .before .if1 .left))
@@ -40,7 +40,7 @@ wide-requires : tie.Need-wide-requires
 wide-requires c κs = search needs
 
 returns-3 : tie.Need-returns-3
-returns-3 c = c .wide .ensures ∙ sym (digit-over (c .before .before .before .before .before .before .before .args .card .now) (c .before .before .before .before .before .before .before .args .at) (sym (c .before .before .before .before .before .digit-at .ensures) ∙ not-false (c .before .before .before .before .before .digit-at .result) (c .before .before .before .before .if1 .left)) (sym (c .before .before .before .number-at .ensures) ∙ c .before .before .if2 .left))
+returns-3 c = c .wide .ensures ∙ sym (digit-over inNumber (c .before .before .before .before .before .before .before .args .card .now) (c .before .before .before .before .before .before .before .args .at) (sym (c .before .before .before .before .before .digit-at .ensures) ∙ not-false (c .before .before .before .before .before .digit-at .result) (c .before .before .before .before .if1 .left)) (sym (c .before .before .before .number-at .ensures) ∙ c .before .before .if2 .left))
 
 pub digit-here-spec : {M : Type 1} → statement M
 digit-here-spec =

@@ -1,3 +1,4 @@
+-- The definition's test.
 use native.Mathlib.Omega.{arith}
 use borrow.Author.Tests.{not-true}
 use mathlib.Core.Path.{refl, sym, _∙_}

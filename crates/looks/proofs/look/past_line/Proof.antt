@@ -1,3 +1,4 @@
+-- The definition's test.
 use Rattle.marks.proofs.Runs.{begins-place}
 use lib.Dec.{eqb}
 use mathlib.Core.Path.{sym, _∙_}

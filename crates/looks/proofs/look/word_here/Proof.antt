@@ -1,18 +1,15 @@
-use Rattle.marks.proofs.Runs.{begun-fits}
-use Rattle.marks.proofs.Lists.{and-left, and-right}
-use Rattle.marks.specs.Parts.{begun}
-use lib.ListN.{length, drop}
-use lib.Dec.{leb}
-use borrow.Author.Tests.{leb-true, not-true, not-false}
-use mathlib.Core.Path.{sym, ap, _∙_}
+-- The definition's two tests.
+use mathlib.Core.Path.{sym, _∙_}
 use native.Mathlib.Omega.{arith}
+use borrow.Author.Tests.{not-true, not-false}
+use Rattle.looks.proofs.Words.{bytes-fit}
 use borrow.Author.Needs.{needs}
 use Rattle.looks.proofs.look.word_here.Statement.{statement}
 use Rattle.looks.proofs.look.word_here.Tie as tie
 use Rattle.looks.proofs.look.word_here.Reads as reads
 use Rattle.looks.proofs.look.word_here.Lts as lts
-use Rattle.marks.proofs.bytes.word_at.Reads as word-at-reads
 use Rattle.looks.proofs.look.all_here.Reads as all-here-reads
+use Rattle.marks.proofs.bytes.word_at.Reads as word-at-reads
 
 all-here-requires : tie.Need-all-here-requires
 all-here-requires c κs = search needs
@@ -21,10 +18,7 @@ returns : tie.Need-returns
 returns c = rw (sym (c .before .all-here .ensures) ∙ not-true (c .before .all-here .result) (c .if1 .taken))
 
 add-word-at : tie.Need-add-word-at
-add-word-at c = let both = sym (c .before .all-here .ensures) ∙ not-false (c .before .all-here .result) (c .if1 .left) in
-    let l = leb (c .before .before .before .before .args .at) (length (c .before .before .before .before .args .card .now)) in
-    let b = begun (c .before .before .before .before .args .these .now) (drop (c .before .before .before .before .args .at) (c .before .before .before .before .args .card .now)) in
-    omega (arith, begun-fits (c .before .before .before .before .args .these .now) (c .before .before .before .before .args .card .now) (c .before .before .before .before .args .at) (leb-true (c .before .before .before .before .args .at) (length (c .before .before .before .before .args .card .now)) (and-left l b both)) (and-right l b both))
+add-word-at c = omega (arith, bytes-fit (c .before .before .before .before .args .these .now) (c .before .before .before .before .args .card .now) (c .before .before .before .before .args .at) (sym (c .before .all-here .ensures) ∙ not-false (c .before .all-here .result) (c .if1 .left)))
 
 word-at-requires : tie.Need-word-at-requires
 word-at-requires c κs = search needs
