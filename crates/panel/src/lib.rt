@@ -40,7 +40,7 @@ ghost use Rattle.meaning.specs.Panel.{moveLine};
 ghost use Rattle.rows.specs.Rows.{Holds};
 ghost use Rattle.lines.specs.PanelText.{movesText, blocksText, panelText, panelOf};
 ghost use Rattle.panel.specs.Tables.{Most, weighing, ablesOf, countsAs, enabledOf, weightPlaces, heaviest, tableOf, weightIn, weightMore, Adding, weightsOf, stayIn, choiceIf, choicesIn, panelIn, Fitting};
-ghost use Rattle.reader.specs.Statements.{arrays};
+ghost use Rattle.reader.specs.ReadingOf.{arrays};
 ghost use Rattle.reader.specs.ReadingOf.{gathered};
 ghost use Rattle.panel.specs.PanelRoom.{panelRoom};
 ghost use Rattle.panel.specs.PanelSaid.{firstDue, panelSaid};

@@ -6,12 +6,13 @@ use mathlib.Core.List.{List, [], _∷_, _++_}
 use mathlib.Core.Option.{Option, none, some}
 use native.Mathlib.Omega.{arith}
 use lib.Dec.{eqb, leb}
-use lib.ListN.{length}
-use Rattle.card.specs.Limits.{cardBytes, mostStatements, mostSeats, nodePlaces, branchPlaces, unit}
+use lib.ListN.{length, length-map}
+use Rattle.card.specs.Limits.{cardBytes, mostStatements, mostSeats, unit}
 use Rattle.card.specs.Refusals.{outsideRules, aboveTop, notDue, wrongWeight}
 use Rattle.card.specs.Card.{Mode, Card}
 use Rattle.card.specs.Weight.{cardRule, unitsOf}
-use Rattle.card.specs.Laid.{modeNumber, zeros, laid, blank}
+use Rattle.card.specs.Laid.{modeNumber}
+use Rattle.card.specs.Lent.{Lent, headOf, lentOf, noneLent}
 use Rattle.marks.specs.Marks.{placeOf}
 use Rattle.marks.specs.Step.{marksAt}
 use Rattle.reading.specs.Reader.{Place, State, at, Result, ok, stop, Reader, bind, return, the, sign, numberOf, Numbered, numbered, line}
@@ -19,7 +20,7 @@ use Rattle.reading.specs.Grammar.{cardRun}
 use Rattle.reading.specs.Shape.{StatementShape, CardShape, statement, moreStatements, moreModules, modeOf, zeroOf, top, theEnd, card}
 use Rattle.reading.specs.Guard.{isSome}
 use Rattle.reading.specs.Judgements.{Judgement, state, word, oneGroup, weight, sum, symmetric, totalUnits, placeIn, unless, broken, Verdict, fine, wrong, orElse, firstBroken}
-use Rattle.reading.specs.Checks.{judgedState, judgedWords, judgedEach, judgedStatement, judgedModules, judgedCard, seatsIn, cardIn}
+use Rattle.reading.specs.Checks.{judgedState, judgedWords, judgedEach, judgedStatement, judgedModules, judgedCard, statementIn, seatsIn, cardIn}
 use Rattle.reading.specs.Reading.{Outcome, taken, refused, firstOutside, judged, readOf}
 use Rattle.reading.proofs.Through.{none≢some}
 use Rattle.reading.proofs.Fair.{FairCard, card-fair}
@@ -32,19 +33,16 @@ use Rattle.guard.specs.Settled.{settled, verdict}
 use Rattle.guard.proofs.Settling.{judge-append, settled-first}
 use Rattle.parts.specs.declared.Took.{Took}
 use Rattle.reader.specs.declared.header.Headed.{Headed}
-use Rattle.reader.specs.declared.statements.Listed.{Listed}
-use Rattle.reader.specs.declared.Reading.{Reading}
-use Rattle.reader.specs.declared.Rough.{Rough}
-use Rattle.card.specs.declared.Verdict.the-variants.{Taken, Refused}
-use Rattle.reader.specs.ReadingOf.{readingOf, Reads, gathered, noRough}
+use Rattle.reader.specs.declared.Outline.{Outline}
+use Rattle.reader.specs.ReadingOf.{outlineOf, memoryOf, ReadsInto}
 use Rattle.reader.specs.Search.{searched}
 use Rattle.parts.specs.Parts.{from, Form, Read, Answers, tookForm, stopped}
-use Rattle.reader.specs.Statements.{Arrays, statements, noRows, withRow, withNodes, withBranches, filled, listedForm, StatementsRead}
+use Rattle.reader.specs.Statements.{statements, filled, StatementsRead}
 use Rattle.reader.specs.Ends.{HeaderShape, header, headedForm, HeaderRead, modules, ModulesRead}
 use Rattle.parts.proofs.Answers.{right, Right, onward, halted}
 use Rattle.parts.proofs.Lines.{assoc, made}
 use Rattle.reader.proofs.Outcomes.{orOutside, read-stop, read-shape}
-use Rattle.reader.proofs.FilledLaws.{card-laid}
+use Rattle.reader.proofs.FilledLaws.{card-lent}
 
 abbrev pub shapeOf : HeaderShape → List StatementShape → List (List Numbered) → CardShape
 shapeOf h xs ms = record { mode = h .mode; words = h .words; k = h .k; l = h .l; statements = xs; modules = ms }
@@ -63,16 +61,14 @@ card-parts s =
     (λ m ws k l. record { mode = m; words = ws; k = k; l = l }) shapeOf
 
 -- what the three parts say of the card's shape
-record Whole (s : List ℕ) (head : Headed) (list : Listed) (tail : Took) (was is : Arrays) (c : CardShape) : Type 0 where
+record Whole (s : List ℕ) (head : Headed) (list : Took) (tail : Took) (was is : Lent) (c : CardShape) : Type 0 where
   mode : head .mode ≡ modeNumber (c .mode)
   seats : tail .value ≡ seatsIn c
   top : head .top ≡ c .k
   start : head .start ≡ c .l .value
   late : tail .late ≡ judgeAll (length s) (c .k) (judgedCard c) noneYet
-  count : list .count ≡ length (c .statements)
-  rows : list .rows ≡ filled withRow 0 (c .statements) noRows
-  nodes : is .nodes ≡ filled withNodes 0 (c .statements) (was .nodes)
-  branches : is .branches ≡ filled withBranches 0 (c .statements) (was .branches)
+  count : list .value ≡ length (c .statements)
+  memory : is ≡ filled 0 (c .statements) was
 
 -- ---- a refusal has a number
 
@@ -101,38 +97,42 @@ no-number e n k (j ∷ js) h = go (broken n k j) refl h (no-number e n k js)
 none-so : CardShape → Took → Type 0
 none-so c r = ⊥
 
+-- reading stops so, unless a mark outside the rules stands there or further on
+pub record Stops (s : List ℕ) (n p : ℕ) : Type 0 where
+  pub outcome : readOf s ≡ orOutside n p (firstOutside (marksAt 0 s p))
+
 module _ (s : List ℕ) (short : length s ≤ cardBytes) where
-  stopped-read : (x : Result CardShape) → card (from s 0 0) ≡ x → (n q : ℕ) → (n ≡ 0 → ⊥) → Answers tookForm s none-so x (stopped n q) → readOf s ≡ orOutside n q (firstOutside (marksAt 0 s q))
+  stopped-read : (x : Result CardShape) → card (from s 0 0) ≡ x → (n q : ℕ) → (n ≡ 0 → ⊥) → Answers tookForm s none-so x (stopped n q) → Stops s n q
   stopped-read (ok c b) e n q f y = absurd (f (y .went))
   stopped-read (stop m p) e n q f y =
       let a : n ≡ m = ap (λ (r : Took). r .stop) (y .0) in
       let b : q ≡ placeOf (length s) p = ap (λ (r : Took). r .place) (y .0) in
-      rw (a, b) (read-stop s short m p e)
+      rw (a, b) (record { outcome = read-stop s short m p e })
 
   module _ (head : Headed) (hh : (n : ℕ) → HeaderRead s (header (from s 0 n)) head) where
-    pub header-stops : (head .stop ≡ 0 → ⊥) → readOf s ≡ orOutside (head .stop) (head .place) (firstOutside (marksAt 0 s (head .place)))
+    pub header-stops : (head .stop ≡ 0 → ⊥) → Stops s (head .stop) (head .place)
     header-stops e = stopped-read (card (from s 0 0)) refl (head .stop) (head .place) e
         (rw (card-parts (from s 0 0)) (halted headedForm tookForm (λ n p. (refl, refl)) s _ none-so (header (from s 0 0)) _ head (hh 0) e))
 
-    module _ (eh : head .stop ≡ 0) (list : Listed) (was is : Arrays)
+    module _ (eh : head .stop ≡ 0) (list : Took) (was is : Lent)
         (hl : (n : ℕ) → StatementsRead s (head .top) (head .late) was is (statements (mostStatements - 1) (from s (head .next) n)) list) where
-      pub statements-stop : (list .stop ≡ 0 → ⊥) → readOf s ≡ orOutside (list .stop) (list .place) (firstOutside (marksAt 0 s (list .place)))
+      pub statements-stop : (list .stop ≡ 0 → ⊥) → Stops s (list .stop) (list .place)
       statements-stop e = stopped-read (card (from s 0 0)) refl (list .stop) (list .place) e
           (rw (card-parts (from s 0 0)) (onward headedForm tookForm (λ n p. (refl, refl)) s _ none-so (header (from s 0 0)) _ head _ (hh 0) eh λ h n f.
-          halted listedForm tookForm (λ n p. (refl, refl)) s _ none-so (statements (mostStatements - 1) (from s (head .next) n)) _ list (hl n) e))
+          halted tookForm tookForm right s _ none-so (statements (mostStatements - 1) (from s (head .next) n)) _ list (hl n) e))
 
       module _ (el : list .stop ≡ 0) (tail : Took) (ht : (k n : ℕ) → ModulesRead s k (list .late) (modules (from s (list .next) n)) tail) where
-        pub modules-stop : (tail .stop ≡ 0 → ⊥) → readOf s ≡ orOutside (tail .stop) (tail .place) (firstOutside (marksAt 0 s (tail .place)))
+        pub modules-stop : (tail .stop ≡ 0 → ⊥) → Stops s (tail .stop) (tail .place)
         modules-stop e = stopped-read (card (from s 0 0)) refl (tail .stop) (tail .place) e
             (rw (card-parts (from s 0 0)) (onward headedForm tookForm (λ n p. (refl, refl)) s _ none-so (header (from s 0 0)) _ head _ (hh 0) eh λ h n f.
-            onward listedForm tookForm (λ n p. (refl, refl)) s _ none-so (statements (mostStatements - 1) (from s (head .next) n)) _ list _ (hl n) el λ xs m g.
+            onward tookForm tookForm right s _ none-so (statements (mostStatements - 1) (from s (head .next) n)) _ list _ (hl n) el λ xs m g.
             halted tookForm tookForm right s _ none-so (modules (from s (list .next) m)) _ tail (ht 0 m) e))
 
         module _ (et : tail .stop ≡ 0) where
           shape-told : Answers tookForm s (λ c r. Whole s head list tail was is c) (card (from s 0 0)) tail
           unfolding judgeAll
           shape-told = rw (card-parts (from s 0 0)) (onward headedForm tookForm (λ n p. (refl, refl)) s _ _ (header (from s 0 0)) _ head tail (hh 0) eh λ h n f.
-              onward listedForm tookForm (λ n p. (refl, refl)) s _ _ (statements (mostStatements - 1) (from s (head .next) n)) _ list tail (hl n) el λ xs m g.
+              onward tookForm tookForm right s _ _ (statements (mostStatements - 1) (from s (head .next) n)) _ list tail (hl n) el λ xs m g.
               made tookForm s _ _ (modules (from s (list .next) m)) (shapeOf h xs) tail (ht (h .k) m) λ ms j. record {
                 mode = f .mode;
                 seats = j .value;
@@ -140,14 +140,12 @@ module _ (s : List ℕ) (short : length s ≤ cardBytes) where
                 start = f .start;
                 late = j .late
                     ∙ ap (judgeAll (length s) (h .k) (judgedModules 2 ms))
-                    (g .late ∙ ap (λ (k : ℕ). judgeAll (length s) k (judgedEach judgedStatement xs) (head .late)) (f .top)
+                    (g .went .late ∙ ap (λ (k : ℕ). judgeAll (length s) k (judgedEach judgedStatement xs) (head .late)) (f .top)
                     ∙ ap (judgeAll (length s) (h .k) (judgedEach judgedStatement xs)) (f .late ∙ judge-append (length s) (h .k) (judgedWords (1 ∷ 1 ∷ []) (h .words)) (judgedState (h .l) ∷ []) noneYet))
                     ∙ sym (judge-append (length s) (h .k) (judgedWords (1 ∷ 1 ∷ []) (h .words)) (judgedState (h .l) ∷ (judgedEach judgedStatement xs ++ judgedModules 2 ms)) noneYet
                     ∙ judge-append (length s) (h .k) (judgedEach judgedStatement xs) (judgedModules 2 ms) _);
-                count = g .count;
-                rows = g .rows;
-                nodes = g .nodes;
-                branches = g .branches;
+                count = g .went .value;
+                memory = g .memory;
               })
 
           got : (x : Result CardShape) → card (from s 0 0) ≡ x → Answers tookForm s (λ c r. Whole s head list tail was is c) x tail
@@ -177,53 +175,49 @@ module _ (s : List ℕ) (short : length s ≤ cardBytes) where
                 go : (c : CardShape) × (b : State) × (card (from s 0 0) ≡ ok c b) × Whole s head list tail was is c → readOf s ≡ refused (x .number) (x .place)
                 go (c, b, e, w) = let y = by-verdict c b e w in y .1 ∙ by c (firstBroken (seatsIn c) (c .k) (judgedCard c)) (y .0)
 
-            -- the card, and the struct that holds it
-            pub taken-read : x .number ≡ 0 → was .nodes ≡ zeros nodePlaces → was .branches ≡ zeros branchPlaces
+            -- the card, its head, and the arrays that it lies in
+            pub taken-read : x .number ≡ 0 → was ≡ noneLent
                 → (c : Card) × (readOf s ≡ taken c)
-                × (record { mode = head .mode; seats = tail .value; top = head .top; start = head .start; count = list .count; statements = list .rows; nodes = is .nodes; branches = is .branches } ≡ laid c)
-            taken-read f e₁ e₂ = go (got (card (from s 0 0)) refl shape-told)
+                × (record { mode = head .mode; seats = tail .value; top = head .top; start = head .start; count = list .value } ≡ headOf c) × (is ≡ lentOf c)
+            taken-read f zeros = go (got (card (from s 0 0)) refl shape-told)
               where
                 go : (c : CardShape) × (b : State) × (card (from s 0 0) ≡ ok c b) × Whole s head list tail was is c → (c : Card) × (readOf s ≡ taken c)
-                    × (record { mode = head .mode; seats = tail .value; top = head .top; start = head .start; count = list .count; statements = list .rows; nodes = is .nodes; branches = is .branches } ≡ laid c)
+                    × (record { mode = head .mode; seats = tail .value; top = head .top; start = head .start; count = list .value } ≡ headOf c) × (is ≡ lentOf c)
                 go (c, b, e, w) =
                     let y = by-verdict c b e w in
                     let z : firstBroken (seatsIn c) (c .k) (judgedCard c) ≡ fine = no-number (length s) (seatsIn c) (c .k) (judgedCard c) (sym (ap (λ (q : Settled). q .number) (y .0)) ∙ f) in
-                    let t : readOf s ≡ taken (cardIn c) = y .1 ∙ ap (judged (length s) (cardIn c)) z in (
+                    let t : readOf s ≡ taken (cardIn c) = y .1 ∙ ap (judged (length s) (cardIn c)) z in
+                    let count : list .value ≡ length (cardIn c .statements) = w .count ∙ sym (length-map (c .statements) (statementIn (seatsIn c))) in (
                       cardIn c,
                       t,
-                      card-laid c z (read-valid s (cardIn c) t) _ (w .mode) (w .seats) (w .top) (w .start) (w .count) (w .rows)
-                          (w .nodes ∙ ap (filled withNodes 0 (c .statements)) e₁) (w .branches ∙ ap (filled withBranches 0 (c .statements)) e₂),
+                      (λ i. record { mode = w .mode i; seats = w .seats i; top = w .top i; start = w .start i; count = count i }),
+                      w .memory ∙ ap (filled 0 (c .statements)) zeros ∙ card-lent c z (read-valid s (cardIn c) t),
                     )
 
 -- ---- the contract, by the outcome
 
 -- the number of a refusal is small
-pub searched-number : (s : List ℕ) (n p : ℕ) (o : Option ℕ) → readOf s ≡ orOutside n p o → (x : Settled) → x ≡ searched n p o → x .number ≤ wrongWeight
-searched-number s n p none e x h = rw h (read-number s e)
-searched-number s n p (some q) e x h = rw h (read-number s e)
+pub searched-number : {s : List ℕ} {n p : ℕ} → Stops s n p → {x : Settled} → x ≡ searched n p (firstOutside (marksAt 0 s p)) → x .number ≤ wrongWeight
+searched-number {s} {n} {p} h {x} e = go (firstOutside (marksAt 0 s p)) (h .outcome) e
+  where
+    go : (o : Option ℕ) → readOf s ≡ orOutside n p o → x ≡ searched n p o → x .number ≤ wrongWeight
+    go none f g = rw g (read-number s f)
+    go (some q) f g = rw g (read-number s f)
 
-module _ (s : List ℕ) (r : Reading) where
-  reads : (o : Outcome) → readOf s ≡ o → r .verdict ≡ readingOf o .verdict → r .card ≡ readingOf o .card → Reads s r
-  reads o e v c = record { reading = rw e (λ i. record { verdict = v i; card = c i }); valid = read-valid s }
+module _ {s : List ℕ} {r : Outline} {x : Lent} where
+  by-outcome : (o : Outcome) → readOf s ≡ o → r ≡ outlineOf o → x ≡ memoryOf o → ReadsInto s r x
+  by-outcome o e f g = record { outline = rw e f; memory = rw e g; valid = read-valid s }
 
--- what was read and its two arrays
-module _ (s : List ℕ) (r : Rough) (is : Arrays) where
-  module _ (n : is .nodes ≡ zeros nodePlaces) (b : is .branches ≡ zeros branchPlaces) where
-    empty : (k p : ℕ) → r ≡ noRough k p → (gathered r is .verdict ≡ Refused k p) × (gathered r is .card ≡ blank)
-    unfolding blank
-    empty k p h = (
-      ap (λ (x : Rough). x .verdict) h,
-      ap (λ (x : Rough). gathered x is .card) h
-          ∙ (λ i. record { mode = 0; seats = 0; top = 0; start = 0; count = 0; statements = noRows; nodes = n i; branches = b i }),
-    )
+  pub reads-refused : {k p : ℕ} → readOf s ≡ refused k p → r ≡ outlineOf (refused k p) → x ≡ noneLent → ReadsInto s r x
+  reads-refused {k} {p} = by-outcome (refused k p)
 
-    pub reads-refused : (k p : ℕ) → readOf s ≡ refused k p → r ≡ noRough k p → Reads s (gathered r is)
-    reads-refused k p e h = reads s _ (refused k p) e (empty k p h .0) (empty k p h .1)
+  pub reads-searched : {n p : ℕ} → Stops s n p → {y : Settled} → y ≡ searched n p (firstOutside (marksAt 0 s p))
+      → r ≡ outlineOf (refused (y .number) (y .place)) → x ≡ noneLent → ReadsInto s r x
+  reads-searched {n} {p} h {y} e f = go (firstOutside (marksAt 0 s p)) (h .outcome) e
+    where
+      go : (o : Option ℕ) → readOf s ≡ orOutside n p o → y ≡ searched n p o → x ≡ noneLent → ReadsInto s r x
+      go none a b = reads-refused a (f ∙ ap (λ (z : Settled). outlineOf (refused (z .number) (z .place))) b)
+      go (some q) a b = reads-refused a (f ∙ ap (λ (z : Settled). outlineOf (refused (z .number) (z .place))) b)
 
-    pub reads-searched : (k p : ℕ) (o : Option ℕ) → readOf s ≡ orOutside k p o → (x : Settled) → x ≡ searched k p o
-        → r ≡ noRough (x .number) (x .place) → Reads s (gathered r is)
-    reads-searched k p none e x h f = reads-refused k p e (f ∙ ap (λ (y : Settled). noRough (y .number) (y .place)) h)
-    reads-searched k p (some q) e x h f = reads-refused outsideRules q e (f ∙ ap (λ (y : Settled). noRough (y .number) (y .place)) h)
-
-  pub reads-taken : (c : Card) → readOf s ≡ taken c → r .verdict ≡ Taken → gathered r is .card ≡ laid c → Reads s (gathered r is)
-  reads-taken c e v h = reads s _ (taken c) e v h
+  pub reads-taken : (c : Card) → readOf s ≡ taken c → r ≡ outlineOf (taken c) → x ≡ lentOf c → ReadsInto s r x
+  reads-taken c = by-outcome (taken c)

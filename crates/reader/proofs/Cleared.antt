@@ -5,7 +5,9 @@ use mathlib.Core.List.{List, [], _∷_, _++_, append-nil}
 use native.Mathlib.Numerals.{add-one}
 use native.Mathlib.Omega.{arith}
 use lib.ListN.{length, drop, set, drop-of-length-le}
+use Rattle.card.specs.Limits.{rowPlaces, nodePlaces, branchPlaces}
 use Rattle.card.specs.Laid.{zeros}
+use Rattle.card.specs.Lent.{lent, noneLent}
 
 abbrev pub cleared : List ℕ → ℕ → List ℕ
 cleared xs i = zeros i ++ drop i xs
@@ -27,3 +29,8 @@ pub cleared-all : (xs : List ℕ) (i : ℕ) {ys : List ℕ} → length xs ≡ i 
 cleared-all xs i h e =
     let b : length xs ≤ i = omega arith in
     e ∙ rw (drop-of-length-le xs b, append-nil, h)
+
+-- the card's three arrays, once each is cleared
+pub all-cleared : {rows nodes branches : List ℕ} {a b c : ℕ} → rows ≡ zeros a → a ≡ rowPlaces → nodes ≡ zeros b → b ≡ nodePlaces → branches ≡ zeros c → c ≡ branchPlaces
+    → lent rows nodes branches ≡ noneLent
+all-cleared e f g h i j = λ q. lent ((e ∙ ap zeros f) q) ((g ∙ ap zeros h) q) ((i ∙ ap zeros j) q)

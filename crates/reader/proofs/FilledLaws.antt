@@ -6,15 +6,17 @@ use mathlib.Core.List.{List, [], _∷_, _++_, append-assoc, append-nil, map}
 use mathlib.Core.Option.{Option, none, some}
 use native.Mathlib.Omega.{arith}
 use lib.ListN.{length, set, length-append, length-map}
-use Rattle.card.specs.Limits.{mostStatements, mostNodes, mostBranches, nodePlaces, branchPlaces, topState, numbers, unit}
+use Rattle.card.specs.Limits.{mostStatements, rowNumbers, mostNodes, mostBranches, nodePlaces, branchPlaces, topState, numbers, unit}
 use Rattle.card.specs.Card.{Formula, Guard, Branch, Statement, Card}
 use Rattle.card.specs.Valid.{Every, ValidGuard, ValidBranch, ValidStatement, ValidCard}
-use Rattle.card.specs.Laid.{packBranch, branchNumber, guardCells, guardSize, zeros, padded, rows, nodeRow, branchRow, statementRow, noStatement, statementRows, modeNumber, laid}
+use Rattle.card.specs.Laid.{branchNumber, guardCells, guardSize, zeros, padded, rows, nodeRow, branchRow, statementRow, statementRows, laid}
+use Rattle.card.specs.Rows.{rowsOf}
+use Rattle.card.specs.Lent.{Lent, lent, lentOf, noneLent}
 use Rattle.card.specs.Stored.{stored}
 use Rattle.card.specs.declared.Statement.{Statement as StatementRow}
-use Rattle.card.specs.declared.Card.{Card as CardRow}
 use Rattle.card.proofs.Packed.{packed-branch}
-use Rattle.card.proofs.Filling.{FewNodes, FewBranches, no-nodes, no-branches, fill-nodes, fill-branches, fill-statements, no-statements}
+use Rattle.card.proofs.Filling.{FewNodes, FewBranches, fill-nodes, fill-branches, fill-statements}
+use Rattle.card.proofs.LaidBack.{length-statement-rows}
 use Rattle.reading.specs.Reader.{Numbered}
 use Rattle.reading.specs.Group.{Literals}
 use Rattle.reading.specs.Judgements.{Judgement, sum, fine, firstBroken, unitsIn}
@@ -23,35 +25,45 @@ use Rattle.reading.specs.Checks.{judgedState, judgedWords, judgedOr, weightIn, 
 use Rattle.guard.specs.Late.{guardBy}
 use Rattle.guard.proofs.Settling.{fine-cons, fine-append, same-guard}
 use Rattle.branches.specs.Branches.{packedIn}
-use Rattle.reader.specs.Statements.{guardOrBy, rowBy, withRow, withNodes, withBranches, noRows, filled}
+use Rattle.reader.specs.Statements.{guardOrBy, rowBy, withStatement, filled}
 
--- ---- one lemma for each array: A is the array with these statements in it
+-- ---- the arrays with these statements in them
 
-module _ {L : Type 0} (with : ℕ → StatementShape → L → L) (A : List Statement → L) (make : StatementShape → Statement)
-    (Good : Statement → Type 0) (Fit : StatementShape → Type 0)
-    (one : (ys : List Statement) (x : StatementShape) → Every Good ys → Fit x → length ys < mostStatements → with (length ys) x (A ys) ≡ A (ys ++ make x ∷ []))
-    (keeps : (x : StatementShape) → Fit x → Good (make x)) where
-  every-more : (ys : List Statement) (y : Statement) → Every Good ys → Good y → Every Good (ys ++ y ∷ [])
-  every-more [] y h g = (g, tt)
-  every-more (z ∷ ys) y h g = (h .0, every-more ys y (h .1) g)
+abbrev arraysOf : List Statement → Lent
+arraysOf ys =
+    lent (rowsOf (statementRows mostStatements ys)) (padded nodePlaces (rows mostNodes nodeRow 0 ys)) (padded branchPlaces (rows mostBranches branchRow 0 ys))
 
-  all-filled : (xs : List StatementShape) (ys : List Statement) (i : ℕ) → i ≡ length ys → Every Good ys → Every Fit xs → length ys + length xs ≤ mostStatements
-      → filled with i xs (A ys) ≡ A (ys ++ map make xs)
-  unfolding filled
-  all-filled [] ys i e g f h = ap A (sym (append-nil ys))
-  all-filled (x ∷ xs) ys i e g f h =
-      let next : i + 1 ≡ length (ys ++ make x ∷ []) = rw (length-append ys (make x ∷ [])) (omega arith) in
-      rw (e, one ys x g (f .0) (omega arith)) (rw e at
-      (all-filled xs (ys ++ make x ∷ []) (i + 1) next (every-more ys (make x) g (keeps x (f .0))) (f .1) (rw (length-append ys (make x ∷ [])) (omega arith)))
-      ∙ ap A (append-assoc ys (make x ∷ []) (map make xs)))
+-- a number stored behind the first
+stored-behind : (a : ℕ) (xs : List ℕ) (k : ℕ) (ys : List ℕ) → stored (a ∷ xs) (suc k) ys ≡ a ∷ stored xs k ys
+unfolding stored
+stored-behind a xs k [] = refl
+stored-behind a xs k (y ∷ ys) =
+    let e : suc k + 1 ≡ suc (k + 1) = omega arith in
+    rw e (stored-behind a (set xs k y) (k + 1) ys)
+
+-- a statement's row stored is the row set
+row-stored : (xs : List StatementRow) (i : ℕ) (x : StatementRow) → i < length xs → stored (rowsOf xs) (i * rowNumbers) (rowsOf (x ∷ [])) ≡ rowsOf (set xs i x)
+unfolding rowsOf stored
+row-stored [] i x h = absurd (omega arith)
+row-stored (y ∷ xs) zero x h = refl
+row-stored (y ∷ xs) (suc i) x h =
+    let e : suc i * rowNumbers ≡ suc (suc (suc (i * rowNumbers))) = omega arith in
+    rw e
+    (stored-behind (y .own) (y .nodes ∷ y .branches ∷ rowsOf xs) (suc (suc (i * rowNumbers))) (rowsOf (x ∷ []))
+    ∙ ap (λ (l : List ℕ). y .own ∷ l) (stored-behind (y .nodes) (y .branches ∷ rowsOf xs) (suc (i * rowNumbers)) (rowsOf (x ∷ []))
+    ∙ ap (λ (l : List ℕ). y .nodes ∷ l) (stored-behind (y .branches) (rowsOf xs) (i * rowNumbers) (rowsOf (x ∷ []))
+    ∙ ap (λ (l : List ℕ). y .branches ∷ l) (row-stored xs i x (omega arith)))))
 
 -- ---- a statement of a valid card on which nothing is broken
+
+-- its nodes and branches have their places
+abbrev Few : Statement → Type 0
+Few x = FewNodes x × FewBranches x
 
 record Fits (n : ℕ) (x : StatementShape) : Type 0 where
   guard : guardOrBy (x .guard) ≡ guardOr n (x .guard)
   branches : map packedIn (x .branches) ≡ map branchNumber (map branchIn (x .branches))
-  nodes-few : FewNodes (statementIn n x)
-  branches-few : FewBranches (statementIn n x)
+  few : Few (statementIn n x)
 
 abbrev inBranches : StatementShape → List Judgement
 inBranches x = judgedEach judgedBranch (x .branches) ++ (sum (map weightIn (x .branches)) (x .close) ∷ [])
@@ -76,8 +88,7 @@ module _ (n k : ℕ) where
       record {
         guard = guard-fits (x .guard) guard;
         branches = branches-fit (x .branches) t (v .branches);
-        nodes-few = few-nodes (guardOr n (x .guard)) (v .guard);
-        branches-few = v .some .1;
+        few = (few-nodes (guardOr n (x .guard)) (v .guard), v .some .1);
       }
 
   all-fit : (xs : List StatementShape) → k ≤ topState → firstBroken n k (judgedEach judgedStatement xs) ≡ fine → Every (ValidStatement n k) (map (statementIn n) xs) → Every (Fits n) xs
@@ -86,52 +97,58 @@ module _ (n k : ℕ) where
       let both = fine-append n k (judgedStatement x) (judgedEach judgedStatement xs) h in
       (statement-fits x t (both .0) (v .0), all-fit xs t (both .1) (v .1))
 
--- ---- each array
+-- ---- statement by statement
 
-module _ (n : ℕ) (xs : List StatementShape) (fit : Every (Fits n) xs) (h : length xs ≤ mostStatements) where
-  nodes-filled : filled withNodes 0 xs (zeros nodePlaces) ≡ padded nodePlaces (rows mostNodes nodeRow 0 (map (statementIn n) xs))
-  nodes-filled =
-      rw (← no-nodes)
-      (all-filled withNodes (λ ys. padded nodePlaces (rows mostNodes nodeRow 0 ys)) (statementIn n) FewNodes (Fits n)
-      (λ ys x g f l. rw (f .guard) (fill-nodes ys (statementIn n x) (length ys) refl l g (f .nodes-few)))
-      (λ x f. f .nodes-few) xs [] 0 refl tt fit (omega arith))
+row-fits : (n : ℕ) (x : StatementShape) → Fits n x → rowBy x ≡ statementRow (statementIn n x)
+row-fits n x f = rw (f .guard, length-map (x .branches) branchIn)
 
-  branches-filled : filled withBranches 0 xs (zeros branchPlaces) ≡ padded branchPlaces (rows mostBranches branchRow 0 (map (statementIn n) xs))
-  branches-filled =
-      rw (← no-branches)
-      (all-filled withBranches (λ ys. padded branchPlaces (rows mostBranches branchRow 0 ys)) (statementIn n) FewBranches (Fits n)
-      (λ ys x g f l. rw (f .branches) (fill-branches ys (statementIn n x) (length ys) refl l g (f .branches-few)))
-      (λ x f. f .branches-few) xs [] 0 refl tt fit (omega arith))
+every-more : (ys : List Statement) (y : Statement) → Every Few ys → Few y → Every Few (ys ++ y ∷ [])
+every-more [] y h g = (g, tt)
+every-more (z ∷ ys) y h g = (h .0, every-more ys y (h .1) g)
 
-  row-fits : (x : StatementShape) → Fits n x → rowBy x ≡ statementRow (statementIn n x)
-  row-fits x f = rw (f .guard, length-map (x .branches) branchIn)
+every-nodes : (ys : List Statement) → Every Few ys → Every FewNodes ys
+every-nodes [] h = tt
+every-nodes (y ∷ ys) h = (h .0 .0, every-nodes ys (h .1))
 
-  abbrev Any : Statement → Type 0
-  Any x = Unit {0}
+every-branches : (ys : List Statement) → Every Few ys → Every FewBranches ys
+every-branches [] h = tt
+every-branches (y ∷ ys) h = (h .0 .1, every-branches ys (h .1))
 
-  rows-filled : filled withRow 0 xs noRows ≡ statementRows mostStatements (map (statementIn n) xs)
-  rows-filled =
-      rw (← no-statements mostStatements)
-      (all-filled withRow (statementRows mostStatements) (statementIn n) Any (Fits n)
-      (λ ys x g f l. rw (row-fits x f) (fill-statements ys (statementIn n x) (length ys) refl l))
-      (λ x f. tt) xs [] 0 refl tt fit (omega arith))
+statement-filled : (n : ℕ) (ys : List Statement) (x : StatementShape) → Every Few ys → Fits n x → length ys < mostStatements
+    → withStatement (length ys) x (arraysOf ys) ≡ arraysOf (ys ++ statementIn n x ∷ [])
+statement-filled n ys x h f l =
+    let i = length ys in
+    let row : stored (rowsOf (statementRows mostStatements ys)) (i * rowNumbers) (rowsOf (rowBy x ∷ [])) ≡ rowsOf (statementRows mostStatements (ys ++ statementIn n x ∷ [])) =
+    rw (row-fits n x f) (row-stored (statementRows mostStatements ys) i (statementRow (statementIn n x)) (rw (length-statement-rows mostStatements ys) l) ∙ ap rowsOf (fill-statements ys (statementIn n x) i refl l)) in
+    let nodes : stored (padded nodePlaces (rows mostNodes nodeRow 0 ys)) (i * mostNodes) (guardCells (guardOrBy (x .guard)) (i * mostNodes)) ≡ padded nodePlaces (rows mostNodes nodeRow 0 (ys ++ statementIn n x ∷ [])) =
+    rw (f .guard) (fill-nodes ys (statementIn n x) i refl l (every-nodes ys h) (f .few .0)) in
+    let branches : stored (padded branchPlaces (rows mostBranches branchRow 0 ys)) (i * mostBranches) (map packedIn (x .branches)) ≡ padded branchPlaces (rows mostBranches branchRow 0 (ys ++ statementIn n x ∷ [])) =
+    rw (f .branches) (fill-branches ys (statementIn n x) i refl l (every-branches ys h) (f .few .1)) in
+    λ q. lent (row q) (nodes q) (branches q)
 
--- ---- the card's struct
+all-filled : (n : ℕ) (xs : List StatementShape) (ys : List Statement) (i : ℕ) → i ≡ length ys → Every Few ys → Every (Fits n) xs → length ys + length xs ≤ mostStatements
+    → filled i xs (arraysOf ys) ≡ arraysOf (ys ++ map (statementIn n) xs)
+unfolding filled
+all-filled n [] ys i e g f h = ap arraysOf (sym (append-nil ys))
+all-filled n (x ∷ xs) ys i e g f h =
+    let next : i + 1 ≡ length (ys ++ statementIn n x ∷ []) = rw (length-append ys (statementIn n x ∷ [])) (omega arith) in
+    rw (e, statement-filled n ys x g (f .0) (omega arith)) (rw e at
+    (all-filled n xs (ys ++ statementIn n x ∷ []) (i + 1) next (every-more ys (statementIn n x) g (f .0 .few)) (f .1) (rw (length-append ys (statementIn n x ∷ [])) (omega arith)))
+    ∙ ap arraysOf (append-assoc ys (statementIn n x ∷ []) (map (statementIn n) xs)))
 
-same-struct : (a b : CardRow) → a .mode ≡ b .mode → a .seats ≡ b .seats → a .top ≡ b .top → a .start ≡ b .start → a .count ≡ b .count → a .statements ≡ b .statements → a .nodes ≡ b .nodes → a .branches ≡ b .branches → a ≡ b
-same-struct a b m n k l c s g d = λ i. record { mode = m i; seats = n i; top = k i; start = l i; count = c i; statements = s i; nodes = g i; branches = d i }
+none-yet : noneLent ≡ arraysOf []
+unfolding statementRows rowsOf zeros padded rows
+none-yet = refl
 
-pub card-laid : (c : CardShape) → firstBroken (seatsIn c) (c .k) (judgedCard c) ≡ fine → ValidCard (cardIn c) → (r : CardRow)
-    → r .mode ≡ modeNumber (c .mode) → r .seats ≡ seatsIn c → r .top ≡ c .k → r .start ≡ c .l .value → r .count ≡ length (c .statements)
-    → r .statements ≡ filled withRow 0 (c .statements) noRows → r .nodes ≡ filled withNodes 0 (c .statements) (zeros nodePlaces) → r .branches ≡ filled withBranches 0 (c .statements) (zeros branchPlaces)
-    → r ≡ laid (cardIn c)
+-- ---- the card's arrays
+
+pub card-lent : (c : CardShape) → firstBroken (seatsIn c) (c .k) (judgedCard c) ≡ fine → ValidCard (cardIn c) → filled 0 (c .statements) noneLent ≡ lentOf (cardIn c)
 unfolding laid
-card-laid c h v r e₁ e₂ e₃ e₄ e₅ e₆ e₇ e₈ =
+card-lent c h v =
     let n = seatsIn c in
     let body = judgedEach judgedStatement (c .statements) ++ judgedModules 2 (c .modules) in
     let words = fine-append n (c .k) (judgedWords (1 ∷ 1 ∷ []) (c .words)) (judgedState (c .l) ∷ body) h .1 in
     let each = fine-append n (c .k) (judgedEach judgedStatement (c .statements)) (judgedModules 2 (c .modules)) (fine-cons n (c .k) (judgedState (c .l)) body words .1) .0 in
     let fit = all-fit n (c .k) (c .statements) (v .top) each (v .statements) in
     let few : length (c .statements) ≤ mostStatements = rw (length-map (c .statements) (statementIn n)) at (v .some .1) in
-    let e : r .count ≡ length (map (statementIn n) (c .statements)) = e₅ ∙ sym (length-map (c .statements) (statementIn n)) in
-    same-struct r (laid (cardIn c)) e₁ e₂ e₃ e₄ e (e₆ ∙ rows-filled n (c .statements) fit few) (e₇ ∙ nodes-filled n (c .statements) fit few) (e₈ ∙ branches-filled n (c .statements) fit few)
+    ap (filled 0 (c .statements)) none-yet ∙ all-filled n (c .statements) [] 0 refl tt fit (omega arith)

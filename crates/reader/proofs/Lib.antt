@@ -8,4 +8,4 @@ pub mod Outcomes
 pub mod FilledLaws
 pub mod Cleared
 pub mod CardLaws
-pub mod Into
+pub mod Structs

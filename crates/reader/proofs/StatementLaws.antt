@@ -9,14 +9,15 @@ use native.Mathlib.Nat.{zero-add, add-zero}
 use native.Mathlib.Omega.{arith}
 use borrow.Author.Tests.{eq-eqb, ne-eqb}
 use lib.ListN.{length, set}
-use Rattle.card.specs.Limits.{mostStatements, mostNodes, mostBranches, mostDepth}
+use Rattle.card.specs.Limits.{mostStatements, rowNumbers, mostNodes, mostBranches, mostDepth}
 use Rattle.card.specs.Refusals.{outOfShape, pastLimit}
 use Rattle.card.specs.Card.{Formula, atom, neg, and, or, Guard}
 use Rattle.card.specs.Valid.{size}
 use Rattle.card.specs.Laid.{cells, guardCells, guardSize}
 use Rattle.card.specs.Stored.{stored}
 use Rattle.card.proofs.Storing.{stored-none}
-use Rattle.card.specs.declared.Statement.{Statement}
+use Rattle.card.specs.Rows.{rowsOf}
+use Rattle.card.specs.Lent.{Lent, lent}
 use Rattle.marks.specs.Marks.{placeOf}
 use Rattle.marks.specs.Kinds.{kind}
 use Rattle.marks.specs.Step.{marksAt}
@@ -30,17 +31,15 @@ use Rattle.reading.specs.Shape.{BranchShape, StatementShape, branch, moreBranch
 use Rattle.reading.specs.Checks.{judgedState, judgedWords, judgedOr, judgedEach, judgedStatement}
 use Rattle.guard.specs.declared.Late.{Late}
 use Rattle.guard.specs.declared.Guarded.{Guarded}
-use Rattle.guard.specs.Late.{noneYet, judge, judgeAll, guardBy}
+use Rattle.guard.specs.Late.{judge, judgeAll, guardBy}
 use Rattle.guard.proofs.Settling.{judge-append}
 use Rattle.guard.proofs.Spent.{Each, Spent, unary-spends, conjunction-spends}
 use Rattle.guard.specs.GuardRead as guardRead
 use Rattle.guard.specs.GuardRead.{GuardRead}
 use Rattle.parts.specs.declared.Took.{Took}
-use Rattle.reader.specs.declared.statements.Stated.{Stated}
-use Rattle.reader.specs.declared.statements.Listed.{Listed}
 use Rattle.parts.specs.Parts.{from, Form, Read, Answers, tookTo, stopped, tookForm, Went, NumberRead, SignRead, Told, Due, sign as due, seat, Sure, LineRead}
 use Rattle.branches.specs.Branches.{BranchesShape, branches, judgedBranches, packedIn, BranchesRead}
-use Rattle.reader.specs.Statements.{guarded, guardOrBy, GuardedIn, GuardedRead, rowBy, noRow, statedForm, withRow, withNodes, withBranches, Arrays, StatementIn, StatementRead, statements, noRows, noList, listedForm, filled, StatementsIn, StatementsRead}
+use Rattle.reader.specs.Statements.{guarded, guardOrBy, GuardedIn, GuardedRead, rowBy, withStatement, StatementIn, StatementRead, statements, filled, StatementsIn, StatementsRead}
 use Rattle.parts.proofs.Steps.{Next, place-seen, told}
 use Rattle.parts.proofs.Answers.{right, Right, onward, halted, handed, next-is, next-is-not, if-so, if-not}
 use Rattle.parts.proofs.Counted.{upTo, with-first, another, too-many, no-other}
@@ -158,55 +157,63 @@ from-guard : (ws : List Numbered) (j : Numbered) (s : State)
     ≡ bind (guarded s) (λ g s₁. bind (branches (mostBranches - 1) s₁) (λ x. return (stated ws j g x)))
 from-guard ws j s = in-parts (guard s) (sign "->") (sign ";") branch (moreBranches (mostBranches - 1)) (λ b bs p. record { branches = b ∷ bs; close = p }) (stated ws j)
 
-right-stated : Right statedForm
-right-stated n p = (refl, refl)
-
-module _ (s : List ℕ) (k i : ℕ) (before : Late) (was is : Arrays) (index n : ℕ) (st : State) (bracket : sign "[" st ≡ ok tt (from s i n)) where
-  abbrev StatementIs : Stated → Type 0
+module _ (s : List ℕ) (k i : ℕ) (before : Late) (was is : Lent) (index n : ℕ) (st : State) (bracket : sign "[" st ≡ ok tt (from s i n)) where
+  abbrev StatementIs : Took → Type 0
   StatementIs = StatementRead s k before was is index (statement st)
 
   module _ (a : Took) (ha : (n : ℕ) → LineRead s k before (1 ∷ []) (line statementRest (from s i n)) a) where
-    pub start-stops : (a .stop ≡ 0 → ⊥) → StatementIs (noRow (a .stop) (a .place))
-    start-stops e = rw bracket (halted tookForm statedForm right s _ _ (line statementRest (from s i n)) _ a (ha n) e)
+    pub start-stops : (a .stop ≡ 0 → ⊥) → StatementIs a
+    start-stops e = rw bracket (handed tookForm s _ _ (line statementRest (from s i n)) _ a (ha n) e)
 
     module _ (ea : a .stop ≡ 0) (j : Took) (hj : (n : ℕ) → NumberRead s k (a .late) (numbered numberOf (from s (a .next) n)) j) where
-      pub own-stops : (j .stop ≡ 0 → ⊥) → StatementIs (noRow (j .stop) (j .place))
-      own-stops e = rw bracket (onward tookForm statedForm right s _ _ (line statementRest (from s i n)) _ a _ (ha n) ea λ ws m f.
-          halted tookForm statedForm right s _ _ (numbered numberOf (from s (a .next) m)) _ j (hj m) e)
+      pub own-stops : (j .stop ≡ 0 → ⊥) → StatementIs j
+      own-stops e = rw bracket (onward tookForm tookForm right s _ _ (line statementRest (from s i n)) _ a _ (ha n) ea λ ws m f.
+          handed tookForm s _ _ (numbered numberOf (from s (a .next) m)) _ j (hj m) e)
 
       module _ (ej : j .stop ≡ 0) (g : Took)
           (hg : GuardedRead s k (j .late) (was .nodes) (is .nodes) (index * mostNodes) (guarded (from s (j .next) mostNodes)) g) where
-        behind-own : (r : Stated)
+        behind-own : (r : Took)
             → ((ws : List Numbered) (own : Numbered) → Went s k before 0 (judgedWords (1 ∷ []) ws) a → Went s k (a .late) (own .value) (judgedState own ∷ []) j
             → StatementRead s k before was is index (bind (guarded (from s (j .next) mostNodes)) (λ f s₁. bind (branches (mostBranches - 1) s₁) (λ x. return (stated ws own f x)))) r)
             → StatementIs r
-        behind-own r y = rw bracket (onward tookForm statedForm right s _ _ (line statementRest (from s i n)) _ a r (ha n) ea λ ws m f.
-            onward tookForm statedForm right s _ _ (numbered numberOf (from s (a .next) m)) _ j r (hj m) ej λ own m₁ f₁.
+        behind-own r y = rw bracket (onward tookForm tookForm right s _ _ (line statementRest (from s i n)) _ a r (ha n) ea λ ws m f.
+            onward tookForm tookForm right s _ _ (numbered numberOf (from s (a .next) m)) _ j r (hj m) ej λ own m₁ f₁.
             rw (from-guard ws own (from s (j .next) mostNodes)) (y ws own f f₁))
 
-        pub guard-stops : (g .stop ≡ 0 → ⊥) → StatementIs (noRow (g .stop) (g .place))
-        guard-stops e = behind-own _ λ ws own f f₁. halted tookForm statedForm right s _ _ (guarded (from s (j .next) mostNodes)) _ g hg e
+        pub guard-stops : (g .stop ≡ 0 → ⊥) → StatementIs g
+        guard-stops e = behind-own _ λ ws own f f₁. handed tookForm s _ _ (guarded (from s (j .next) mostNodes)) _ g hg e
 
         module _ (eg : g .stop ≡ 0) (b : Took)
             (hb : (n : ℕ) → BranchesRead s k (g .late) (was .branches) (is .branches) (index * mostBranches) (branches (mostBranches - 1) (from s (g .next) n)) b) where
-          pub branches-stop : (b .stop ≡ 0 → ⊥) → StatementIs (noRow (b .stop) (b .place))
-          branches-stop e = behind-own _ λ ws own f f₁. onward tookForm statedForm right s _ _ (guarded (from s (j .next) mostNodes)) _ g _ hg eg λ h m f₂.
-              halted tookForm statedForm right s _ _ (branches (mostBranches - 1) (from s (g .next) m)) _ b (hb m) e
+          pub branches-stop : (b .stop ≡ 0 → ⊥) → StatementIs b
+          branches-stop e = behind-own _ λ ws own f f₁. onward tookForm tookForm right s _ _ (guarded (from s (j .next) mostNodes)) _ g _ hg eg λ h m f₂.
+              handed tookForm s _ _ (branches (mostBranches - 1) (from s (g .next) m)) _ b (hb m) e
 
-          pub statement-read : b .stop ≡ 0 → StatementIs (record { stop = 0; place = 0; next = b .next; row = record { own = j .value; nodes = g .value; branches = b .value }; late = b .late })
+          -- its row, written number by number
+          row-written : (x : StatementShape) → j .value ≡ x .own .value → g .value ≡ guardSize (guardOrBy (x .guard)) → b .value ≡ length (x .branches)
+              → set (set (set (was .rows) (index * rowNumbers) (j .value)) (index * rowNumbers + 1) (g .value)) (index * rowNumbers + 2) (b .value) ≡ stored (was .rows) (index * rowNumbers) (rowsOf (rowBy x ∷ []))
+          unfolding stored rowsOf
+          row-written x e f h =
+              let to : index * rowNumbers + 2 ≡ index * rowNumbers + 1 + 1 = omega arith in
+              rw (to, e, f, h) refl
+
+          pub statement-read : b .stop ≡ 0
+              → is .rows ≡ set (set (set (was .rows) (index * rowNumbers) (j .value)) (index * rowNumbers + 1) (g .value)) (index * rowNumbers + 2) (b .value)
+              → StatementIs (tookTo (b .next) 0 (b .late))
           unfolding judgeAll
-          statement-read e = behind-own _ λ ws own f f₁. onward tookForm statedForm right s _ _ (guarded (from s (j .next) mostNodes)) _ g _ hg eg λ h m f₂.
-              onward tookForm statedForm right s _ _ (branches (mostBranches - 1) (from s (g .next) m)) _ b _ (hb m) e λ x m₁ f₃.
+          statement-read e rows = behind-own _ λ ws own f f₁. onward tookForm tookForm right s _ _ (guarded (from s (j .next) mostNodes)) _ g _ hg eg λ h m f₂.
+              onward tookForm tookForm right s _ _ (branches (mostBranches - 1) (from s (g .next) m)) _ b _ (hb m) e λ x m₁ f₃.
               record {
                 went = refl;
                 rest = refl;
                 told = record {
-                  row = rw (f₁ .value, f₂ .went .value, f₃ .went .value);
-                  late = f₃ .went .late
-                      ∙ ap (judgeAll (length s) k (judgedBranches x)) (f₂ .went .late ∙ ap (judgeAll (length s) k (judgedOr h)) (f₁ .late ∙ ap (judge (length s) k (judgedState own)) (f .late)))
-                      ∙ sym (judge-append (length s) k (judgedWords (1 ∷ []) ws) _ before ∙ judge-append (length s) k (judgedOr h) (judgedBranches x) _);
-                  nodes = f₂ .array;
-                  branches = f₃ .array;
+                  went = record {
+                    value = refl;
+                    late = f₃ .went .late
+                        ∙ ap (judgeAll (length s) k (judgedBranches x)) (f₂ .went .late ∙ ap (judgeAll (length s) k (judgedOr h)) (f₁ .late ∙ ap (judge (length s) k (judgedState own)) (f .late)))
+                        ∙ sym (judge-append (length s) k (judgedWords (1 ∷ []) ws) _ before ∙ judge-append (length s) k (judgedOr h) (judgedBranches x) _);
+                  };
+                  memory = λ q. lent ((rows ∙ row-written (stated ws own h x) (f₁ .value) (f₂ .went .value) (f₃ .went .value)) q) (f₂ .array q) (f₃ .array q);
                 };
               }
 
@@ -245,83 +252,73 @@ at-bracket zero s i x v e n = too-many "[" statement (refuse pastLimit) ends mor
 at-bracket (suc most) s i x v e n = another "[" statement (refuse pastLimit) ends more step bracket s i x v e most n
 
 -- with the statements so far counted in
-pub record Counted (s : List ℕ) (k i : ℕ) (before : Late) (were : List Statement) (was is : Arrays) (xs : List StatementShape) (r : Listed) : Type 0 where
-  pub count : r .count ≡ i + length xs
-  pub rows : r .rows ≡ filled withRow i xs were
-  pub late : r .late ≡ judgeAll (length s) k (judgedEach judgedStatement xs) before
-  pub nodes : is .nodes ≡ filled withNodes i xs (was .nodes)
-  pub branches : is .branches ≡ filled withBranches i xs (was .branches)
+pub record Counted (s : List ℕ) (k i : ℕ) (before : Late) (was is : Lent) (xs : List StatementShape) (r : Took) : Type 0 where
+  pub went : Went s k before (i + length xs) (judgedEach judgedStatement xs) r
+  pub memory : is ≡ filled i xs was
 
-abbrev pub RestRead : List ℕ → ℕ → ℕ → Late → List Statement → Arrays → Arrays → Result (List StatementShape) → Listed → Type 0
-RestRead s k i late were was is = Answers listedForm s (Counted s k i late were was is)
-
-right-listed : Right listedForm
-right-listed n p = (refl, refl)
+abbrev pub RestRead : List ℕ → ℕ → ℕ → Late → Lent → Lent → Result (List StatementShape) → Took → Type 0
+RestRead s k i late was is = Answers tookForm s (Counted s k i late was is)
 
 -- before the first statement
-pub none-counted : (s : List ℕ) (k : ℕ) (late : Late) (was is : Arrays) (x : Result (List StatementShape)) (r : Listed)
-    → RestRead s k 0 late noRows was is x r → StatementsRead s k late was is x r
+pub none-counted : (s : List ℕ) (k : ℕ) (late : Late) (was is : Lent) (x : Result (List StatementShape)) (r : Took)
+    → RestRead s k 0 late was is x r → StatementsRead s k late was is x r
 none-counted s k late was is (ok xs b) r y =
     let z = y .told in
-    record { went = y .went; rest = y .rest; told = record { count = z .count ∙ zero-add (length xs); rows = z .rows; late = z .late; nodes = z .nodes; branches = z .branches } }
+    record { went = y .went; rest = y .rest; told = record { went = record { value = z .went .value ∙ zero-add (length xs); late = z .went .late }; memory = z .memory } }
 none-counted s k late was is (stop n p) r y = y
 
--- one statement too many: its bracket stands at `at`
-pub past-statements : (s : List ℕ) (k i : ℕ) (late : Late) (were : List Statement) (was is : Arrays) (st : State) (place : ℕ) → place ≡ placeOf (length s) (st .marks)
-    → RestRead s k i late were was is (rest 0 st) (noList pastLimit place)
-past-statements s k i late were was is st place e = (ap (noList pastLimit) e, λ z. omega arith)
+-- one statement too many: its bracket stands at `place`
+pub past-statements : (s : List ℕ) (k i : ℕ) (late : Late) (was is : Lent) (st : State) (place : ℕ) → place ≡ placeOf (length s) (st .marks)
+    → RestRead s k i late was is (rest 0 st) (stopped pastLimit place)
+past-statements s k i late was is st place e = (ap (stopped pastLimit) e, λ z. omega arith)
 
-module _ (s : List ℕ) (k i : ℕ) (late : Late) (were : List Statement) (was is : Arrays) (most : ℕ) (st : State) where
-  abbrev RestIs : Listed → Type 0
-  RestIs = RestRead s k i late were was is (rest (suc most) st)
+module _ (s : List ℕ) (k i : ℕ) (late : Late) (was is : Lent) (most : ℕ) (st : State) where
+  abbrev RestIs : Took → Type 0
+  RestIs = RestRead s k i late was is (rest (suc most) st)
 
-  module _ (x : Stated) (now : Arrays) (hx : StatementRead s k late was now i (statement st) x) where
-    pub statement-stops : (x .stop ≡ 0 → ⊥) → RestIs (noList (x .stop) (x .place))
-    statement-stops e = halted statedForm listedForm right-stated s _ _ (statement st) _ x hx e
+  module _ (x : Took) (now : Lent) (hx : StatementRead s k late was now i (statement st) x) where
+    pub statement-stops : (x .stop ≡ 0 → ⊥) → RestIs x
+    statement-stops e = handed tookForm s _ _ (statement st) _ x hx e
 
     module _ (e : x .stop ≡ 0) where
-      one-counted : (r : Listed) → ((m : ℕ) → RestRead s k (i + 1) (x .late) (set were i (x .row)) now is (further most (from s (x .next) m)) r) → RestIs r
+      one-counted : (r : Took) → ((m : ℕ) → RestRead s k (i + 1) (x .late) now is (further most (from s (x .next) m)) r) → RestIs r
       unfolding judgeAll filled
-      one-counted r y = onward statedForm listedForm right-stated s _ _ (statement st) _ x r hx e λ a m g.
-          made listedForm s _ _ (further most (from s (x .next) m)) (more a) r (y m) λ xs h. record {
-            count = omega (arith, h .count);
-            rows = h .rows ∙ ap (λ (z : Statement). filled withRow (i + 1) xs (set were i z)) (g .row);
-            late = h .late ∙ ap (judgeAll (length s) k (judgedEach judgedStatement xs)) (g .late) ∙ sym (judge-append (length s) k (judgedStatement a) (judgedEach judgedStatement xs) late);
-            nodes = h .nodes ∙ ap (filled withNodes (i + 1) xs) (g .nodes);
-            branches = h .branches ∙ ap (filled withBranches (i + 1) xs) (g .branches);
+      one-counted r y = onward tookForm tookForm right s _ _ (statement st) _ x r hx e λ a m g.
+          made tookForm s _ _ (further most (from s (x .next) m)) (more a) r (y m) λ xs h. record {
+            went = record {
+              value = omega (arith, h .went .value);
+              late = h .went .late ∙ ap (judgeAll (length s) k (judgedEach judgedStatement xs)) (g .went .late) ∙ sym (judge-append (length s) k (judgedStatement a) (judgedEach judgedStatement xs) late);
+            };
+            memory = h .memory ∙ ap (filled (i + 1) xs) (g .memory);
           }
 
       module _ (y : Step) (v : Next s (x .next) y) where
-        pub one-more : y .mark .kind ≡ kind "[" → (r : Listed)
-            → ((m : ℕ) → RestRead s k (i + 1) (x .late) (set were i (x .row)) now is (rest most (from s (x .next) m)) r) → RestIs r
+        pub one-more : y .mark .kind ≡ kind "[" → (r : Took)
+            → ((m : ℕ) → RestRead s k (i + 1) (x .late) now is (rest most (from s (x .next) m)) r) → RestIs r
         one-more f r z = one-counted r λ m. rw (at-bracket most s (x .next) y v f m) (z m)
 
         module _ (d : y .mark .kind ≡ kind "[" → ⊥) where
-          last : (r : Listed) → ((m : ℕ) → RestRead s k (i + 1) (x .late) (set were i (x .row)) now is (ends [] (from s (x .next) m)) r) → RestIs r
+          last : (r : Took) → ((m : ℕ) → RestRead s k (i + 1) (x .late) now is (ends [] (from s (x .next) m)) r) → RestIs r
           last r z = one-counted r λ m. rw (no-other "[" statement (refuse pastLimit) ends more step bracket s (x .next) y v d most m) (z m)
 
-          pub list-stops : (y .mark .kind ≡ kind "endmodule" → ⊥) → RestIs (noList outOfShape (y .mark .place))
-          list-stops f = last _ λ m. sign-misses "endmodule" (told "endmodule" (omega arith)) s (x .next) listedForm _ y v m _ f
+          pub list-stops : (y .mark .kind ≡ kind "endmodule" → ⊥) → RestIs (stopped outOfShape (y .mark .place))
+          list-stops f = last _ λ m. sign-misses "endmodule" (told "endmodule" (omega arith)) s (x .next) tookForm _ y v m _ f
 
-          pub list-read : y .mark .kind ≡ kind "endmodule" → is ≡ now
-              → RestIs (record { stop = 0; place = 0; next = y .next .at; count = i + 1; rows = set were i (x .row); late = x .late })
+          pub list-read : y .mark .kind ≡ kind "endmodule" → is ≡ now → RestIs (tookTo (y .next .at) (i + 1) (x .late))
           unfolding judgeAll filled
-          list-read f z = last _ λ m. sign-fits "endmodule" (told "endmodule" (omega arith)) s (x .next) listedForm _ y v m _ _ f
-              (record { went = refl; rest = refl; told = record { count = omega arith; rows = refl; late = refl; nodes = ap (λ (a : Arrays). a .nodes) z; branches = ap (λ (a : Arrays). a .branches) z } })
+          list-read f z = last _ λ m. sign-fits "endmodule" (told "endmodule" (omega arith)) s (x .next) tookForm _ y v m _ _ f
+              (record { went = refl; rest = refl; told = record { went = record { value = omega arith; late = refl }; memory = z } })
 
 -- ---- the loop: an answer to what is left answers the whole
 
 -- the first `[` is there, or reading stops before it
-pub open-stops : (s : List ℕ) (k i : ℕ) (late : Late) (was is : Arrays) (most n : ℕ) (o : Took) → SignRead s late (sign "[" (from s i n)) o → (o .stop ≡ 0 → ⊥)
-    → StatementsRead s k late was is (statements most (from s i n)) (noList (o .stop) (o .place))
+pub open-stops : (s : List ℕ) (k i : ℕ) (late : Late) (was is : Lent) (most n : ℕ) (o : Took) → SignRead s late (sign "[" (from s i n)) o → (o .stop ≡ 0 → ⊥)
+    → StatementsRead s k late was is (statements most (from s i n)) o
 open-stops s k i late was is most n o h e = go (sign "[" (from s i n)) refl h
   where
-    go : (y : Result (Unit {0})) → sign "[" (from s i n) ≡ y → SignRead s late y o → StatementsRead s k late was is (statements most (from s i n)) (noList (o .stop) (o .place))
+    go : (y : Result (Unit {0})) → sign "[" (from s i n) ≡ y → SignRead s late y o → StatementsRead s k late was is (statements most (from s i n)) o
     go (ok u b) q h = absurd (e (h .went))
-    go (stop m p) q h =
-        let a : o .stop ≡ m = ap (λ (r : Took). r .stop) (h .0) in
-        let b : o .place ≡ placeOf (length s) p = ap (λ (r : Took). r .place) (h .0) in
-        rw (q, a, b) (refl, h .1)
+    go (stop m p) q h = rw q h
 
 opened-at : (s : List ℕ) (late : Late) (x : Result (Unit {0})) (o : Took) → SignRead s late x o → o .stop ≡ 0 → (m : ℕ) × (x ≡ ok tt (from s (o .next) m))
 opened-at s late (ok tt b) o h e = (b .nodes, ap (λ (p : Place). ok tt (at p (b .nodes))) (sym (h .rest)))
@@ -333,13 +330,13 @@ pub record Bracket (s : List ℕ) (count place next : ℕ) (st : State) : Type 0
   pub there : sign "[" st ≡ ok tt (from s next nodes)
   pub known : 0 < count → place ≡ placeOf (length s) (st .marks)
 
-pub record Going (s : List ℕ) (k : ℕ) (before : Late) (was : Arrays) (i count place : ℕ) (late : Late) (rows : List Statement) (now : Arrays) (next : ℕ) : Type 0 where
+pub record Going (s : List ℕ) (k : ℕ) (before : Late) (was : Lent) (i count place : ℕ) (late : Late) (now : Lent) (next : ℕ) : Type 0 where
   pub few : count ≤ mostStatements
-  pub whole : (r : Listed) (is : Arrays) → ((st : State) → Bracket s count place next st → RestRead s k count late rows now is (rest (mostStatements - count) st) r)
+  pub whole : (r : Took) (is : Lent) → ((st : State) → Bracket s count place next st → RestRead s k count late now is (rest (mostStatements - count) st) r)
       → (n : ℕ) → StatementsRead s k before was is (statements (mostStatements - 1) (from s i n)) r
 
-pub going-start : (s : List ℕ) (k : ℕ) (late : Late) (was : Arrays) (i place : ℕ) (o : Took) → ((n : ℕ) → SignRead s late (sign "[" (from s i n)) o) → o .stop ≡ 0
-    → Going s k late was i 0 place late noRows was (o .next)
+pub going-start : (s : List ℕ) (k : ℕ) (late : Late) (was : Lent) (i place : ℕ) (o : Took) → ((n : ℕ) → SignRead s late (sign "[" (from s i n)) o) → o .stop ≡ 0
+    → Going s k late was i 0 place late was (o .next)
 going-start s k late was i place o h e = record {
   few = omega arith;
   whole = λ r is y n.
@@ -348,42 +345,41 @@ going-start s k late was i place o h e = record {
       (rw (rest-whole (mostStatements - 1) (from s i n)) (y (from s i n) (record { nodes = b .0; there = b .1; known = λ l. omega arith })));
 }
 
-module _ (s : List ℕ) (k : ℕ) (before : Late) (was : Arrays) (i count place : ℕ) (late : Late) (rows : List Statement) (now : Arrays) (next : ℕ)
-    (g : Going s k before was i count place late rows now next) where
-  abbrev WholeIs : Arrays → Listed → Type 0
+module _ (s : List ℕ) (k : ℕ) (before : Late) (was : Lent) (i count place : ℕ) (late : Late) (now : Lent) (next : ℕ)
+    (g : Going s k before was i count place late now next) where
+  abbrev WholeIs : Lent → Took → Type 0
   WholeIs is r = (n : ℕ) → StatementsRead s k before was is (statements (mostStatements - 1) (from s i n)) r
 
-  module _ (l : count < mostStatements) (x : Stated) (new : Arrays)
+  module _ (l : count < mostStatements) (x : Took) (new : Lent)
       (hx : (st : State) (n : ℕ) → sign "[" st ≡ ok tt (from s next n) → StatementRead s k late now new count (statement st) x) where
     one-less : mostStatements - count ≡ suc (mostStatements - (count + 1))
     one-less = omega arith
 
     -- the rest as the reader of one statement and what follows
-    opened : (is : Arrays) (r : Listed)
-        → ((st : State) → StatementRead s k late now new count (statement st) x → RestRead s k count late rows now is (rest (suc (mostStatements - (count + 1))) st) r) → WholeIs is r
+    opened : (is : Lent) (r : Took)
+        → ((st : State) → StatementRead s k late now new count (statement st) x → RestRead s k count late now is (rest (suc (mostStatements - (count + 1))) st) r) → WholeIs is r
     opened is r y = g .whole r is λ st b. rw one-less (y st (hx st (b .nodes) (b .there)))
 
-    pub going-stops : (x .stop ≡ 0 → ⊥) → WholeIs new (noList (x .stop) (x .place))
-    going-stops e = opened new _ λ st h. statement-stops s k count late rows now new (mostStatements - (count + 1)) st x new h e
+    pub going-stops : (x .stop ≡ 0 → ⊥) → WholeIs new x
+    going-stops e = opened new _ λ st h. statement-stops s k count late now new (mostStatements - (count + 1)) st x new h e
 
     module _ (e : x .stop ≡ 0) (y : Step) (v : Next s (x .next) y) where
       module _ (d : y .mark .kind ≡ kind "[" → ⊥) where
-        pub going-unended : (y .mark .kind ≡ kind "endmodule" → ⊥) → WholeIs new (noList outOfShape (y .mark .place))
-        going-unended f = opened new _ λ st h. list-stops s k count late rows now new (mostStatements - (count + 1)) st x new h e y v d f
+        pub going-unended : (y .mark .kind ≡ kind "endmodule" → ⊥) → WholeIs new (stopped outOfShape (y .mark .place))
+        going-unended f = opened new _ λ st h. list-stops s k count late now new (mostStatements - (count + 1)) st x new h e y v d f
 
-        pub going-ended : y .mark .kind ≡ kind "endmodule"
-            → WholeIs new (record { stop = 0; place = 0; next = y .next .at; count = count + 1; rows = set rows count (x .row); late = x .late })
-        going-ended f = opened new _ λ st h. list-read s k count late rows now new (mostStatements - (count + 1)) st x new h e y v d f refl
+        pub going-ended : y .mark .kind ≡ kind "endmodule" → WholeIs new (tookTo (y .next .at) (count + 1) (x .late))
+        going-ended f = opened new _ λ st h. list-read s k count late now new (mostStatements - (count + 1)) st x new h e y v d f refl
 
-      pub going-more : y .mark .kind ≡ kind "[" → Going s k before was i (count + 1) (y .mark .place) (x .late) (set rows count (x .row)) new (y .next .at)
+      pub going-more : y .mark .kind ≡ kind "[" → Going s k before was i (count + 1) (y .mark .place) (x .late) new (y .next .at)
       going-more f = record {
         few = omega arith;
-        whole = λ r is z. opened is r λ st h. one-more s k count late rows now is (mostStatements - (count + 1)) st x new h e y v f r λ m.
+        whole = λ r is z. opened is r λ st h. one-more s k count late now is (mostStatements - (count + 1)) st x new h e y v f r λ m.
             z (from s (x .next) m) (record { nodes = m; there = sign-took "[" bracket s (x .next) y v f m; known = λ q. place-seen s (x .next) y v });
       }
 
   -- one statement too many
-  pub going-past : mostStatements ≤ count → WholeIs now (noList pastLimit place)
+  pub going-past : mostStatements ≤ count → WholeIs now (stopped pastLimit place)
   going-past l = g .whole _ now λ st b.
       let z : mostStatements - count ≡ 0 = omega arith in
-      rw z (past-statements s k count late rows now now st place (b .known (omega arith)))
+      rw z (past-statements s k count late now now st place (b .known (omega arith)))

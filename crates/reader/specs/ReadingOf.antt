@@ -11,7 +11,6 @@ use Rattle.card.specs.declared.Verdict.the-variants.{Taken, Refused}
 use Rattle.reader.specs.declared.Reading.{Reading}
 use Rattle.reader.specs.declared.Outline.{Outline}
 use Rattle.reader.specs.declared.Rough.{Rough}
-use Rattle.reader.specs.Statements.{Arrays, noRows}
 
 abbrev pub readingOf : Outcome → Reading
 readingOf (taken c) = record { verdict = Taken; card = laid c }
@@ -39,6 +38,13 @@ pub record ReadsInto (bytes : List ℕ) (r : Outline) (x : Lent) : Type 0 where
 
 -- ---- and with the rows as structs
 
+pub record Arrays : Type 0 where
+  pub nodes : List ℕ
+  pub branches : List ℕ
+
+abbrev pub arrays : List ℕ → List ℕ → Arrays
+arrays nodes branches = record { nodes = nodes; branches = branches }
+
 abbrev pub gathered : Rough → Arrays → Reading
 gathered r is = record {
   verdict = r .verdict;
@@ -53,6 +59,3 @@ gathered r is = record {
     branches = is .branches;
   };
 }
-
-abbrev pub noRough : ℕ → ℕ → Rough
-noRough r p = record { verdict = Refused r p; mode = 0; seats = 0; top = 0; start = 0; count = 0; statements = noRows }

@@ -28,16 +28,15 @@ use statements::statements as all_statements;
 ghost use mathlib.Core.Path.{_≡_};
 ghost use Prim.Native.Nat.{_≤_};
 ghost use lib.ListN.{length};
-ghost use Rattle.card.specs.Limits.{rowPlaces, nodePlaces, branchPlaces};
+ghost use Rattle.card.specs.Limits.{mostStatements, nodePlaces, branchPlaces};
 ghost use Rattle.card.specs.Laid.{zeros};
-ghost use Rattle.card.specs.Rows.{rowsOf};
+ghost use Rattle.card.specs.Rows.{rowsFrom};
 ghost use Rattle.card.specs.Lent.{lent, noneLent};
 ghost use Rattle.card.specs.Refusals.{wrongWeight};
 ghost use Rattle.marks.specs.Step.{marksAt};
-ghost use Rattle.reading.specs.Reading.{firstOutside};
+ghost use Rattle.reading.specs.Reading.{firstOutside, refused as refusedWith};
 ghost use Rattle.reader.specs.Search.{searched};
-ghost use Rattle.reader.specs.Statements.{arrays};
-ghost use Rattle.reader.specs.ReadingOf.{Reads, ReadsInto, gathered, noRough};
+ghost use Rattle.reader.specs.ReadingOf.{outlineOf, Reads, ReadsInto, arrays, gathered};
 
 pub struct Reading {
     pub verdict: Verdict,
@@ -101,90 +100,49 @@ fn clear(array: &mut [u32])
     }
 }
 
+// The same for rows.
+fn clear_rows(rows: &mut [usize])
+    ensures { λ r. ⌜ now (rows .exit) ≡ zeros (length (now (rows .entry))) ⌝ }
+{
+    let mut i = 0;
+    while i < rows.len() {
+        rows[i] = 0;
+        i += 1;
+    }
+}
+
 // Reading refuses with one of the first seven numbers.
-fn refused(due: Settled) -> Rough
+fn refused(due: Settled) -> Outline
     requires { ⌜ due .number ≤ wrongWeight ⌝ }
-    ensures { λ r. ⌜ r ≡ noRough (due .number) (due .place) ⌝ }
+    ensures { λ r. ⌜ r ≡ outlineOf (refusedWith (due .number) (due .place)) ⌝ }
 {
     let number = due.number;
     let verdict = Verdict::Refused(number as u8, due.place);
-    let none = no_statement();
-    let statements = [none; MOST_STATEMENTS];
-    Rough {
-        verdict,
+    let head = Head {
         mode: 0,
         seats: 0,
         top: 0,
         start: 0,
         count: 0,
-        statements,
-    }
+    };
+    Outline { verdict, head }
 }
 
-// The card that the bytes spell, or the refusal that is due; its nodes and branches go into arrays of zeros, which a refusal leaves so.
-pub fn read_rough(
-    card: &[u8],
+// The same once statements were read: their numbers go.
+fn refused_late(
+    due: Settled,
+    rows: &mut [usize; ROW_PLACES],
     nodes: &mut [u32; NODE_PLACES],
     branches: &mut [u32; BRANCH_PLACES],
-) -> Rough
-    requires { ⌜ now nodes ≡ zeros nodePlaces ⌝ }
-    requires { ⌜ now branches ≡ zeros branchPlaces ⌝ }
-    ensures { λ r. ⌜ Reads (now (card .entry)) (gathered r (arrays (now (nodes .exit)) (now (branches .exit)))) ⌝ }
+) -> Outline
+    requires { ⌜ due .number ≤ wrongWeight ⌝ }
+    ensures outline { λ r. ⌜ r ≡ outlineOf (refusedWith (due .number) (due .place)) ⌝ }
+    ensures memory { λ r. ⌜ lent (now (rows .exit)) (now (nodes .exit)) (now (branches .exit)) ≡ noneLent ⌝ }
 {
-    if card.len() > CARD_BYTES {
-        return refused(Settled {
-            number: TOO_LONG,
-            place: 0,
-        });
-    }
-    let head = beginning(card, 0);
-    if head.stop != 0 {
-        return refused(search(card, head.stop, head.place));
-    }
-    let list = all_statements(card, head.next, head.top, nodes, branches, head.late);
-    if list.stop != 0 {
-        clear(nodes);
-        clear(branches);
-        return refused(search(card, list.stop, list.place));
-    }
-    let tail = further_modules(card, list.next, list.late);
-    if tail.stop != 0 {
-        clear(nodes);
-        clear(branches);
-        return refused(search(card, tail.stop, tail.place));
-    }
-    let settled = settle(tail.late, tail.value);
-    if settled.number != 0 {
-        clear(nodes);
-        clear(branches);
-        return refused(settled);
-    }
-    let statements = list.rows;
-    Rough {
-        verdict: Verdict::Taken,
-        mode: head.mode,
-        seats: tail.value,
-        top: head.top,
-        start: head.start,
-        count: list.count,
-        statements,
-    }
-}
-
-// The rows of the statements, one behind the other.
-fn copy_rows(rows: &mut [usize; ROW_PLACES], statements: [Statement; MOST_STATEMENTS])
-    requires { ⌜ now rows ≡ zeros rowPlaces ⌝ }
-    ensures { λ r. ⌜ now (rows .exit) ≡ rowsOf statements ⌝ }
-{
-    let mut i = 0;
-    while i < MOST_STATEMENTS {
-        let x = statements[i];
-        let from = i * ROW;
-        rows[from] = x.own;
-        rows[from + 1] = x.nodes;
-        rows[from + 2] = x.branches;
-        i += 1;
-    }
+    clear_rows(rows);
+    clear(nodes);
+    clear(branches);
+    refused(due)
 }
 
 // The card that the bytes spell, or the refusal that is due; its arrays are lent as zeros, and a refusal leaves them so.
@@ -197,35 +155,111 @@ pub fn read_into(
     requires { ⌜ lent (now rows) (now nodes) (now branches) ≡ noneLent ⌝ }
     ensures { λ r. ⌜ ReadsInto (now (card .entry)) r (lent (now (rows .exit)) (now (nodes .exit)) (now (branches .exit))) ⌝ }
 {
-    let rough = read_rough(card, nodes, branches);
-    let statements = rough.statements;
-    copy_rows(rows, statements);
-    let verdict = rough.verdict;
+    if card.len() > CARD_BYTES {
+        return refused(Settled {
+            number: TOO_LONG,
+            place: 0,
+        });
+    }
+    let begun = beginning(card, 0);
+    if begun.stop != 0 {
+        return refused(search(card, begun.stop, begun.place));
+    }
+    let list = all_statements(
+        card,
+        begun.next,
+        begun.top,
+        rows,
+        nodes,
+        branches,
+        begun.late,
+    );
+    if list.stop != 0 {
+        return refused_late(search(card, list.stop, list.place), rows, nodes, branches);
+    }
+    let tail = further_modules(card, list.next, list.late);
+    if tail.stop != 0 {
+        return refused_late(search(card, tail.stop, tail.place), rows, nodes, branches);
+    }
+    let settled = settle(tail.late, tail.value);
+    if settled.number != 0 {
+        return refused_late(settled, rows, nodes, branches);
+    }
     let head = Head {
-        mode: rough.mode,
-        seats: rough.seats,
-        top: rough.top,
-        start: rough.start,
-        count: rough.count,
+        mode: begun.mode,
+        seats: tail.value,
+        top: begun.top,
+        start: begun.start,
+        count: list.value,
     };
-    Outline { verdict, head }
+    Outline {
+        verdict: Verdict::Taken,
+        head,
+    }
+}
+
+// The statements that stand in rows.
+fn statements_in(rows: &[usize; ROW_PLACES]) -> [Statement; MOST_STATEMENTS]
+    ensures { λ r. ⌜ r ≡ rowsFrom (now (rows .entry)) 0 mostStatements ⌝ }
+{
+    let none = no_statement();
+    let mut statements = [none; MOST_STATEMENTS];
+    let mut i = 0;
+    while i < MOST_STATEMENTS {
+        let row = i * ROW;
+        statements[i] = Statement {
+            own: rows[row],
+            nodes: rows[row + 1],
+            branches: rows[row + 2],
+        };
+        i += 1;
+    }
+    statements
+}
+
+// The same with the statements' rows as structs.
+pub fn read_rough(
+    card: &[u8],
+    nodes: &mut [u32; NODE_PLACES],
+    branches: &mut [u32; BRANCH_PLACES],
+) -> Rough
+    requires { ⌜ now nodes ≡ zeros nodePlaces ⌝ }
+    requires { ⌜ now branches ≡ zeros branchPlaces ⌝ }
+    ensures { λ r. ⌜ Reads (now (card .entry)) (gathered r (arrays (now (nodes .exit)) (now (branches .exit)))) ⌝ }
+{
+    let mut rows: [usize; ROW_PLACES] = [0; ROW_PLACES];
+    let outline = read_into(card, &mut rows, nodes, branches);
+    let verdict = outline.verdict;
+    let head = outline.head;
+    let statements = statements_in(&rows);
+    Rough {
+        verdict,
+        mode: head.mode,
+        seats: head.seats,
+        top: head.top,
+        start: head.start,
+        count: head.count,
+        statements,
+    }
 }
 
 // The same with the card as one struct.
 pub fn read(card: &[u8]) -> Reading
     ensures { λ r. ⌜ Reads (now (card .entry)) r ⌝ }
 {
+    let mut rows: [usize; ROW_PLACES] = [0; ROW_PLACES];
     let mut nodes: [u32; NODE_PLACES] = [0; NODE_PLACES];
     let mut branches: [u32; BRANCH_PLACES] = [0; BRANCH_PLACES];
-    let outline = read_rough(card, &mut nodes, &mut branches);
+    let outline = read_into(card, &mut rows, &mut nodes, &mut branches);
     let verdict = outline.verdict;
-    let statements = outline.statements;
+    let head = outline.head;
+    let statements = statements_in(&rows);
     let whole = Card {
-        mode: outline.mode,
-        seats: outline.seats,
-        top: outline.top,
-        start: outline.start,
-        count: outline.count,
+        mode: head.mode,
+        seats: head.seats,
+        top: head.top,
+        start: head.start,
+        count: head.count,
         statements,
         nodes,
         branches,

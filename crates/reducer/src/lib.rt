@@ -51,7 +51,7 @@ ghost use Rattle.phrases.specs.Puts.{Puts};
 ghost use Rattle.card.specs.Rows.{row, rowsFrom};
 ghost use Rattle.rows.specs.Rows.{cardIn, Holds};
 ghost use Rattle.reducer.specs.ReducedText.{counterText, testText, guardOr, updateText, outcomeText, moreOutcomes, outcomes as outcomeTexts, counterLine, counters, reducedOf};
-ghost use Rattle.reader.specs.Statements.{arrays};
+ghost use Rattle.reader.specs.ReadingOf.{arrays};
 ghost use Rattle.reader.specs.ReadingOf.{gathered};
 ghost use Rattle.reducer.specs.ReduceSaid.{reduceSaid};
 ghost use Rattle.reducer.specs.Handed.{outcomeOf, tailOf, tailPlaces, tailedCopies, copyTexts, copyNumber, allTexts, Fits};

@@ -48,7 +48,7 @@ ghost use Rattle.room.specs.Answer.{Entered};
 ghost use Rattle.phrases.specs.Phrases.{_▸_};
 ghost use Rattle.phrases.specs.Puts.{Puts};
 ghost use Rattle.writer.specs.Writing.{signText, relationText, literal, literals, groupText, guardText, guardOr, branchText, moreBranches, branches as branchTexts, statementText, statements as statementTexts, moduleText, modules, writeOf};
-ghost use Rattle.reader.specs.Statements.{arrays};
+ghost use Rattle.reader.specs.ReadingOf.{arrays};
 ghost use Rattle.reader.specs.ReadingOf.{gathered};
 ghost use Rattle.writer.specs.WriteSaid.{writeSaid};
 ghost use Rattle.writer.specs.WrittenMost.{writtenMost};

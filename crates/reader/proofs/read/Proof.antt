@@ -1,20 +1,29 @@
 use mathlib.Core.Path.{sym}
-use Rattle.card.specs.Limits.{nodePlaces, branchPlaces}
+use Rattle.card.specs.Lent.{lent}
+use Rattle.card.specs.Limits.{rowPlaces, nodePlaces, branchPlaces}
 use Rattle.card.proofs.Filling.{zeros-repeat}
+use Rattle.reader.proofs.Structs.{reads-whole}
 use borrow.Author.Needs.{needs}
 use Rattle.reader.proofs.read.Statement.{statement}
 use Rattle.reader.proofs.read.Tie as tie
 use Rattle.reader.proofs.read.Reads as reads
 use Rattle.reader.proofs.read.Lts as lts
-use Rattle.reader.proofs.read_rough.Reads as read-rough-reads
+use Rattle.reader.proofs.read_into.Reads as read-into-reads
+use Rattle.reader.proofs.statements_in.Reads as statements-in-reads
 
--- src/lib.rt:179:9
-read-rough-requires : tie.Need-read-rough-requires
-read-rough-requires c κs = (sym (zeros-repeat nodePlaces), sym (zeros-repeat branchPlaces))
+read-into-requires : tie.Need-read-into-requires
+read-into-requires c κs = λ i. lent (sym (zeros-repeat rowPlaces) i) (sym (zeros-repeat nodePlaces) i) (sym (zeros-repeat branchPlaces) i)
 
--- src/lib.rt:174:1
+statements-in-requires : tie.Need-statements-in-requires
+statements-in-requires c κs = search needs
+
 returns : tie.Need-returns
-returns c = search needs
+returns c = rw (c .statements-in .ensures) (reads-whole (c .before .before .before .read-into .ensures))
 
 pub read-spec : {M : Type 1} → statement M
-read-spec = tie.close (tie.spec read-rough-requires returns)
+read-spec =
+    tie.close
+    (tie.spec
+    read-into-requires
+    statements-in-requires
+    returns)
