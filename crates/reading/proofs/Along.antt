@@ -99,10 +99,12 @@ pub line-along : {items : List Item} {ms r : Place} {ws : List Numbered} → Lin
 line-along (ended {r}) [] = along-none strictly placeIn r
 line-along (ended {r}) (due ∷ dues) = along-none strictly placeIn r
 line-along (fixed {t} {p} {ms = ms} {r} {ws} d) dues = along-behind strictly placeIn (signAt t p) ms r (judgedWords dues ws) (line-along d dues)
-line-along (aSeat {i} {p} {ms = ms} {r} {ws} d) [] = along-behind strictly placeIn (placed (seat i) p) ms r [] (line-along d [])
+line-along (aSeat {i} {p} {ms = ms} {r} {ws} d) [] =
+    along-at placeIn (placed (seat i) p) ms r (word (suc i) i (placed (seat i) p ∷ ms)) (judgedWords [] ws) refl (line-along d [])
 line-along (aSeat {i} {p} {ms = ms} {r} {ws} d) (due ∷ dues) =
     along-at placeIn (placed (seat i) p) ms r (word due i (placed (seat i) p ∷ ms)) (judgedWords dues ws) refl (line-along d dues)
-line-along (aProcess {i} {p} {ms = ms} {r} {ws} d) [] = along-behind strictly placeIn (placed (process i) p) ms r [] (line-along d [])
+line-along (aProcess {i} {p} {ms = ms} {r} {ws} d) [] =
+    along-at placeIn (placed (process i) p) ms r (word (suc i) i (placed (process i) p ∷ ms)) (judgedWords [] ws) refl (line-along d [])
 line-along (aProcess {i} {p} {ms = ms} {r} {ws} d) (due ∷ dues) =
     along-at placeIn (placed (process i) p) ms r (word due i (placed (process i) p ∷ ms)) (judgedWords dues ws) refl (line-along d dues)
 

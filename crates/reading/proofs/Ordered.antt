@@ -11,7 +11,7 @@ use Rattle.marks.specs.Marks.{number, Placed, placed}
 use Rattle.reading.specs.Reader.{Place, Numbered}
 use Rattle.reading.specs.Group.{joint, Literals}
 use Rattle.reading.specs.Judgements.{placeIn, judgedGroup}
-use Rattle.reading.specs.Checks.{judgedBranch}
+use Rattle.reading.specs.Checks.{judgedWords, judgedBranch}
 use Rattle.reading.specs.Shape.{BranchShape, StatementShape, CardShape}
 use Rattle.reading.specs.Grammar.{Said, signAt, LineSaid, fixed, moduleRun, ManySaid, done, again, GroupSaid, Part, GuardSaid, grouped, negated, bracketed, single, further, RestSaid, nothing, guarded, aNumber, aRatio, aDecimal, BranchSaid, branch, PlusSaid, plus, StatementSaid, statement, modeWord, CardSaid, card}
 use Rattle.reading.specs.Counted.{Counted, counted, countedGuard, countedRest, countedMany, countedBranch, countedPlus, countedStatement, countedModule, countedCard}
@@ -78,7 +78,7 @@ statement-counting : (ms r : Place) (x : StatementShape) (i : ℕ) (d : Statemen
 statement-counting ms r x i (statement {j} {a} {b} {c} {ns = ns} {os} {qs} {ws = ws} {x = y} (fixed {p = p} {ms = ls} l) u d ds) =
     let own = placed (number j) a ∷ ns in
     let end = signAt ";" c ∷ r in
-    let (v, z) = along-whole strictly placeIn (signAt "[" p ∷ ls) own [] (line-along (fixed {t = "["} {p = p} l) []) in
+    let (v, z) = along-whole strictly placeIn (signAt "[" p ∷ ls) own (judgedWords [] ws) (line-along (fixed {t = "["} {p = p} l) []) in
     let branches = countedMany countedPlus 2 ds in
     let moves = countedBranch os qs y 1 d ++ branches in
     counting-at (signAt "[" p) ls r (counted i mostStatements (signAt "[" p ∷ ls)) (countedRest u ++ moves) refl
@@ -94,7 +94,7 @@ statement-counting ms r x i (statement {j} {a} {b} {c} {ns = ns} {os} {qs} {ws =
 module-counting : (ms r : Place) (ws : List Numbered) (i : ℕ) (d : LineSaid moduleRun ms ws r) → Counting ms (countedModule ms r ws i d) r
 module-counting ms r ws i (fixed {p = p} {ms = ls} l) =
     counting-at (signAt "module" p) ls r (counted i mostSeats (signAt "module" p ∷ ls)) [] refl
-    (along-whole strictly placeIn (signAt "module" p ∷ ls) r [] (line-along (fixed {t = "module"} {p = p} l) []))
+    (along-whole strictly placeIn (signAt "module" p ∷ ls) r (judgedWords [] ws) (line-along (fixed {t = "module"} {p = p} l) []))
 
 -- ---- the card
 
@@ -102,7 +102,7 @@ pub card-counting : {ms : Place} {c : CardShape} (d : CardSaid ms c) → Countin
 card-counting (card {mode} {k} {l} {a} {b} {c} {d} {e} {f} {g} {h} {i} {ms} {ns} {os} {qs} {ws} {x} {xs} {ys} w s ss t) =
     let behind = signAt "]" e ∷ signAt "init" f ∷ placed (number l) g ∷ signAt ";" h ∷ ns in
     let top = placed (number k) d ∷ behind in
-    let (u, z) = along-whole strictly placeIn ms (placed (number 0) b ∷ signAt ".." c ∷ top) [] (line-along w []) in
+    let (u, z) = along-whole strictly placeIn ms (placed (number 0) b ∷ signAt ".." c ∷ top) (judgedWords [] ws) (line-along w []) in
     let modules = countedMany countedModule 2 t in
     let further = countedMany countedStatement 2 ss ++ modules in
     let most = countedStatement ns os x 1 s ++ further in

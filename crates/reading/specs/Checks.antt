@@ -14,9 +14,10 @@ use Rattle.reading.specs.Shape.{BranchShape, StatementShape, CardShape}
 abbrev pub judgedState : Numbered → Judgement
 judgedState x = state (x .value) (x .place)
 
--- the words of a run, and the numbers due in them
+-- the words of a run, and the numbers due in them; a word beyond the last of these is not one that is due, so no word goes unjudged
 abbrev pub judgedWords : List ℕ → List Numbered → List Judgement
-judgedWords [] ws = []
+judgedWords [] [] = []
+judgedWords [] (w ∷ ws) = word (suc (w .value)) (w .value) (w .place) ∷ judgedWords [] ws
 judgedWords (due ∷ dues) [] = []
 judgedWords (due ∷ dues) (w ∷ ws) = word due (w .value) (w .place) ∷ judgedWords dues ws
 
