@@ -1,4 +1,5 @@
 pub mod Cards
+pub mod CardMarks
 pub mod Demands
 pub mod Entries
 pub mod Marks

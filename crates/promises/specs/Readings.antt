@@ -3,18 +3,22 @@
 use Prim.Native.Nat.{ℕ, _≤_}
 use mathlib.Core.Path.{_≡_}
 use mathlib.Core.Logic.{_↔_}
-use mathlib.Core.List.{List}
+use mathlib.Core.List.{List, map}
 use Rattle.card.specs.Card.{Card}
 use Rattle.card.specs.Valid.{ValidCard}
 use Rattle.card.specs.Refusals.{tooLong, outsideRules, outOfShape, pastLimit, aboveTop, notDue, wrongWeight}
+use Rattle.marks.specs.Marks.{marksOf}
 use Rattle.reading.specs.Reading.{taken, refused, readOf}
 use Rattle.reading.specs.Verdicts.{Accepted, TooLong, OutsideRules, OutOfShape, PastLimit, Broken}
+use Rattle.promises.specs.CardMarks.{markOf, CardMarks}
 
 pub record Readings : Type 0 where
   -- a card is taken exactly when its marks have the grammar's shape within the limits and keep the rules; and it is the grammar's card
   pub accepted : (s : List ℕ) (c : Card) → (readOf s ≡ taken c) ↔ Accepted s c
   -- it is then valid: within all limits, its states at most k, its groups symmetric, its weights adding up
   pub valid : (s : List ℕ) (c : Card) → readOf s ≡ taken c → ValidCard c
+  -- its marks, with the words that are due and no others
+  pub words : (s : List ℕ) (c : Card) → readOf s ≡ taken c → CardMarks c (map markOf (marksOf s))
   -- each row of the table of refusals
   pub row-1 : (s : List ℕ) (p : ℕ) → (readOf s ≡ refused tooLong p) ↔ TooLong s p
   pub row-2 : (s : List ℕ) (p : ℕ) → (readOf s ≡ refused outsideRules p) ↔ OutsideRules s p

@@ -13,7 +13,7 @@ use Rattle.reading.specs.Reader.{Place, Numbered, Item}
 use Rattle.reading.specs.Group.{joint, relation, Literal, Literals, literalsOf}
 use Rattle.reading.specs.Judgements.{Judgement, state, word, oneGroup, weight, sum, placeIn, broken, fine, wrong, firstBroken, judgedGroup, judgedGuard}
 use Rattle.reading.specs.Shape.{BranchShape, StatementShape, CardShape}
-use Rattle.reading.specs.Checks.{judgedWords, judgedBranch, judgedEach, judgedOr, weightIn, judgedStatement, judgedModules, judgedCard}
+use Rattle.reading.specs.Checks.{judgedWords, judgedBranch, judgedEach, judgedOr, weightIn, judgedStatement, moduleDues, judgedModules, judgedCard}
 use Rattle.reading.specs.Grammar.{Said, signAt, LineSaid, ended, fixed, aSeat, aProcess, moduleRun, ManySaid, done, again, LiteralSaid, literal, OthersSaid, close, next, GroupSaid, conjoined, disjoined, Part, joining, GuardSaid, grouped, negated, bracketed, single, further, RestSaid, nothing, guarded, WeightSaid, aNumber, aRatio, aDecimal, BranchSaid, branch, PlusSaid, plus, StatementSaid, statement, modeWord, CardSaid, card}
 use Rattle.reading.specs.Rules.{Kept}
 use Rattle.reading.specs.Verdicts.{In, first, later}
@@ -131,7 +131,7 @@ joined-along : (s : Sign) (ms r : Place) (g h : Formula Literals) → Judging ms
 joined-along all ms r g h k = k
 joined-along any ms r g h k = k
 
-guard-along : {v : Part} {ms r : Place} {g : Formula Literals} → GuardSaid GroupSaid v ms g r → Judging ms (judgedGuard g) r
+pub guard-along : {v : Part} {ms r : Place} {g : Formula Literals} → GuardSaid GroupSaid v ms g r → Judging ms (judgedGuard g) r
 guard-along (grouped d) = group-along d
 guard-along (negated {a} {ms} {r} {g} u) = along-behind strictly placeIn (signAt "!" a) ms r (judgedGuard g) (guard-along u)
 guard-along (bracketed {a} {b} {ms} {r} {g} f u) =
@@ -188,7 +188,7 @@ statement-along ms r x (statement {j} {a} {b} {c} {ns = ns} {os} {qs} {ws = ws} 
 modules-along : {ms r : Place} {ys : List (List Numbered)} (i : ℕ) → ManySaid (LineSaid moduleRun) ms ys r → Judging ms (judgedModules i ys) r
 modules-along i (done {r}) = along-none strictly placeIn r
 modules-along i (again {ms} {ns} {r} {x = y} {xs = ys} d ds) =
-    along-then strictly placeIn ms ns r (judgedWords (i ∷ 1 ∷ 1 ∷ i ∷ i ∷ 1 ∷ []) y) (judgedModules (suc i) ys) (line-along d (i ∷ 1 ∷ 1 ∷ i ∷ i ∷ 1 ∷ [])) (modules-along (suc i) ds)
+    along-then strictly placeIn ms ns r (judgedWords (moduleDues i) y) (judgedModules (suc i) ys) (line-along d (moduleDues i)) (modules-along (suc i) ds)
 
 pub card-along : {ms : Place} {c : CardShape} → CardSaid ms c → Judging ms (judgedCard c) []
 card-along (card {mode} {k} {l} {a} {b} {c} {d} {e} {f} {g} {h} {i} {ms} {ns} {os} {qs} {ws} {x} {xs} {ys} w s ss t) =

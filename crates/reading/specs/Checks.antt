@@ -43,10 +43,14 @@ judgedStatement x =
     ++ (judgedEach judgedBranch (x .branches)
     ++ (sum (map weightIn (x .branches)) (x .close) ∷ []))))
 
--- module processi = process1 [s1=si, si=s1] endmodule, from i on
+-- module processi = process1 [s1=si, si=s1] endmodule
+abbrev pub moduleDues : ℕ → List ℕ
+moduleDues i = i ∷ 1 ∷ 1 ∷ i ∷ i ∷ 1 ∷ []
+
+-- from i on
 abbrev pub judgedModules : ℕ → List (List Numbered) → List Judgement
 judgedModules i [] = []
-judgedModules i (m ∷ ms) = judgedWords (i ∷ 1 ∷ 1 ∷ i ∷ i ∷ 1 ∷ []) m ++ judgedModules (suc i) ms
+judgedModules i (m ∷ ms) = judgedWords (moduleDues i) m ++ judgedModules (suc i) ms
 
 abbrev pub judgedCard : CardShape → List Judgement
 judgedCard c =
