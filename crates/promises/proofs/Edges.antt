@@ -9,7 +9,7 @@ use Rattle.meaning.specs.CardA.{cardA}
 use Rattle.counting.specs.Judged.{judgedSeats, judgedFrom}
 use Rattle.panel.specs.PanelSaid.{panelSaid}
 use Rattle.program.specs.Program.{programOf, answerTo, seatsLine, cardBehind}
-use Rattle.promises.specs.Edges.{Edges, Printing}
+use Rattle.promises.specs.Edges.{Edges, RunEdges, Printing}
 
 pub edges : Edges
 unfolding panelOf panel cardA decimal unitsOf readOf
@@ -25,6 +25,19 @@ edges = record {
   two-seats = (refl, refl);
   further-digits = (refl, refl);
   any-order = (refl, refl);
+}
+
+pub run-edges : RunEdges
+unfolding decimal unitsOf readOf
+run-edges = record {
+  ends-early = (refl, refl);
+  modules-16 = refl;
+  modules-17 = refl;
+  top-states = (refl, refl);
+  depth-8 = refl;
+  depth-9 = refl;
+  bar = refl;
+  other-word = refl;
 }
 
 pub printing : Printing

@@ -1,12 +1,16 @@
 -- What entries answer: each stage's refusals and the room's, from the one theorem of stages. Assumes nothing.
-use Prim.Native.Nat.{ℕ}
-use mathlib.Core.Path.{_≡_, refl, ap, _∙_}
+use Prim.Native.Nat.{ℕ, _≤_}
+use mathlib.Core.Path.{_≡_, refl, sym, ap, _∙_}
+use mathlib.Core.Logic.{_↔_, _⊎_, inl, inr}
 use mathlib.Core.List.{List}
+use native.Mathlib.Decide.{decLe}
 use native.Mathlib.Omega.{arith}
-use Rattle.card.specs.Refusals.{wrongSeats, seatAboveTop, roomTooSmall}
+use lib.ListN.{length}
+use Rattle.card.specs.Refusals.{wrongWeight, wrongSeats, seatAboveTop, roomTooSmall}
 use Rattle.card.specs.Card.{Card}
 use Rattle.reading.specs.Reading.{Outcome, taken, refused, readOf}
 use Rattle.reading.proofs.Theorems.{read-valid}
+use Rattle.reading.proofs.Numbers.{read-number}
 use Rattle.reader.specs.declared.Reading.{Reading}
 use Rattle.card.specs.Verdict.{numberOf, placeOf}
 use Rattle.reader.specs.ReadingOf.{readingOf}
@@ -17,6 +21,7 @@ use Rattle.entry.proofs.Stages.{among-says, value}
 use Rattle.entry.proofs.Exactly.{_↔∙_}
 use Rattle.entry.proofs.Entries.{before-room, in-room}
 use Rattle.room.specs.declared.Answer.{Answer}
+use Rattle.room.specs.declared.Answer.the-variants.{Done, Refused}
 use Rattle.room.specs.Answer.{told, answerNumber, answerValue, Entered}
 use Rattle.room.proofs.Entries.{told-faithful}
 use Rattle.meaning.specs.Seats.{ValidSeating}
@@ -32,11 +37,15 @@ use Rattle.lines.specs.PanelText.{panelOf}
 use Rattle.panel.specs.PanelSaid.{panelSaid}
 use Rattle.panel.proofs.Short.{panel-fits}
 use Rattle.panel.proofs.Theorems.{said, said-card, said-count, said-seat}
-use Rattle.promises.specs.Entries.{Numbered, numberIn, placeIn, Prints, Shows, Rooms, Demand1}
-use Rattle.promises.proofs.Program.{responds, never-10}
+use Rattle.promises.specs.Entries.{InNumbers, numberIn, placeIn, Prints, Shows, Rooms, Demand1}
+use Rattle.promises.proofs.Numbers.{number-some}
+use Rattle.promises.proofs.Program.{Way, of-card as card-way, of-count, of-seat, of-panel, way, responds, never-10}
 
-numbered : (a : Answer) → Numbered a
-numbered a = record { refusal = λ number place e. (ap answerNumber e, ap answerValue e); length-told = λ long e. (ap answerNumber e, ap answerValue e) }
+in-numbers : (a : Answer) → InNumbers a
+in-numbers a = record { refusal = λ number place e. (ap answerNumber e, ap answerValue e); length-told = λ long e. (ap answerNumber e, ap answerValue e) }
+
+done≢refused : {A : Type 0} {long r p : ℕ} → Done long ≡ Refused r p → A
+done≢refused e = let z : _≡_ {A = ℕ} 0 1 = cc in absurd (omega arith)
 
 reads-number : (o : Outcome) → numberOf (readingOf o .verdict) ≡ numberIn o
 reads-number (taken c) = refl
@@ -51,21 +60,35 @@ module _ (f : Card → List ℕ) (card : List ℕ) {was is : List ℕ} {a : Answ
   printed : InRoom told (Read card) (λ w. f (w .0)) was is a
   printed = in-room told-faithful e (value (card-stage card) f) refl
 
+  wrong : (r p : ℕ) → r ≤ wrongWeight → (a ≡ Refused r p) ↔ (readOf card ≡ refused r p)
+  wrong r p l = before-room told-faithful e r p (of-card (only roomTooSmall) r l refl) ↔∙ card-first card (λ (c : Card). says (f c)) (λ c. among-says (f c)) r p l refl
+
+  other : (r p : ℕ) → a ≡ Refused r p → (o : Outcome) → readOf card ≡ o → (1 ≤ r) × ((r ≤ wrongWeight) ⊎ (r ≡ roomTooSmall))
+  other r p h (taken c) k = go (decLe (length (f c)) (length was))
+    where
+      go : Dec (length (f c) ≤ length was) → (1 ≤ r) × ((r ≤ wrongWeight) ⊎ (r ≡ roomTooSmall))
+      go (yes l) = let z = sym (printed .done (length (f c)) .1 ((c, k), l, refl)) ∙ h in done≢refused z
+      go (no l) = let z : roomTooSmall ≡ r = ap answerNumber (sym (printed .small-room (length (f c)) .1 ((c, k), omega arith, refl)) ∙ h) in (omega (arith, z), inr (sym z))
+  other r p h (refused n q) k =
+      let z : n ≡ r = ap answerNumber (sym (wrong n q (read-number card k) .1 k) ∙ h) in
+      (omega (arith, z, number-some card k), inl (omega (arith, z, read-number card k)))
+
   prints : Prints f card was is a
   prints = record {
-    wrong-card = λ r p l. before-room told-faithful e r p (of-card (only roomTooSmall) r l refl) ↔∙ card-first card (λ (c : Card). says (f c)) (λ c. among-says (f c)) r p l refl;
+    wrong-card = wrong;
     small-room = λ p. printed .small-room p ↔∙ (λ h. (h .0 .0, h .0 .1, h .1, h .2), λ h. ((h .0, h .1), h .2, h .3));
     done = λ p. printed .done p ↔∙ (λ h. (h .0 .0, h .0 .1, h .1, h .2), λ h. ((h .0, h .1), h .2, h .3));
     stands = λ c t l. printed .stands (c, t) l;
+    no-other = λ r p h. other r p h (readOf card) refl;
     untouched = printed .untouched;
-    numbered = numbered a;
+    in-numbers = in-numbers a;
   }
 
-write : (card was is : List ℕ) (a : Answer) → Entered was is (writeSaid card) a → Prints writeOf card was is a
+pub write : (card was is : List ℕ) (a : Answer) → Entered was is (writeSaid card) a → Prints writeOf card was is a
 unfolding writeSaid
 write card was is a e = prints writeOf card e
 
-reduce : (card was is : List ℕ) (a : Answer) → Entered was is (reduceSaid card) a → Prints reducedOf card was is a
+pub reduce : (card was is : List ℕ) (a : Answer) → Entered was is (reduceSaid card) a → Prints reducedOf card was is a
 unfolding reduceSaid
 reduce card was is a e = prints reducedOf card e
 
@@ -74,16 +97,36 @@ module _ (card seats was is : List ℕ) (a : Answer) (e : Entered was is (panelS
   shown : InRoom told ((w : Read card) × ValidSeating (w .0) seats) (λ z. panelOf (z .0 .0) seats) was is a
   shown = in-room told-faithful e (said card seats) refl
 
-  panel : Shows card seats was is a
+  wrong-shown : (r p : ℕ) → r ≤ wrongWeight → (a ≡ Refused r p) ↔ (readOf card ≡ refused r p)
+  wrong-shown r p l = before-room told-faithful e r p (of-card (only roomTooSmall) r l refl) ↔∙ said-card card seats r p l
+
+  other-shown : (r p : ℕ) → a ≡ Refused r p → Way card seats → (1 ≤ r) × (r ≤ roomTooSmall)
+  other-shown r p h (of-panel c k ok _) = go (decLe (length (panelOf c seats)) (length was))
+    where
+      go : Dec (length (panelOf c seats) ≤ length was) → (1 ≤ r) × (r ≤ roomTooSmall)
+      go (yes l) = done≢refused (sym (shown .done (length (panelOf c seats)) .1 (((c, k), ok), l, refl)) ∙ h)
+      go (no l) = let z : roomTooSmall ≡ r = ap answerNumber (sym (shown .small-room (length (panelOf c seats)) .1 (((c, k), ok), omega arith, refl)) ∙ h) in (omega (arith, z), omega (arith, z))
+  other-shown r p h (card-way n q k _) =
+      let z : n ≡ r = ap answerNumber (sym (wrong-shown n q (read-number card k) .1 k) ∙ h) in
+      (omega (arith, z, number-some card k), omega (arith, z, read-number card k))
+  other-shown r p h (of-count c k n _) =
+      let z : wrongSeats ≡ r = ap answerNumber (sym ((before-room told-faithful e wrongSeats 0 refl ↔∙ said-count card seats 0) .1 (c, k, n, refl)) ∙ h) in
+      (omega (arith, z), omega (arith, z))
+  other-shown r p h (of-seat c k n q f _) =
+      let z : seatAboveTop ≡ r = ap answerNumber (sym ((before-room told-faithful e seatAboveTop q refl ↔∙ said-seat card seats q) .1 (c, k, n, f)) ∙ h) in
+      (omega (arith, z), omega (arith, z))
+
+  pub panel : Shows card seats was is a
   panel = record {
-    wrong-card = λ r p l. before-room told-faithful e r p (of-card (only roomTooSmall) r l refl) ↔∙ said-card card seats r p l;
+    wrong-card = wrong-shown;
     wrong-count = λ p. before-room told-faithful e wrongSeats p refl ↔∙ said-count card seats p;
     wrong-seat = λ p. before-room told-faithful e seatAboveTop p refl ↔∙ said-seat card seats p;
     small-room = λ p. shown .small-room p ↔∙ (λ h. (h .0 .0 .0, h .0 .0 .1, h .0 .1, h .1, h .2), λ h. (((h .0, h .1), h .2), h .3, h .4));
     done = λ p. shown .done p ↔∙ (λ h. (h .0 .0 .0, h .0 .0 .1, h .0 .1, h .1, h .2), λ h. (((h .0, h .1), h .2), h .3, h .4));
     stands = λ c t ok l. shown .stands ((c, t), ok) l;
+    no-other = λ r p h. other-shown r p h (way card seats);
     untouched = shown .untouched;
-    numbered = numbered a;
+    in-numbers = in-numbers a;
   }
 
 pub rooms : Rooms

@@ -1,7 +1,10 @@
 pub mod Cards
 pub mod CardMarks
+pub mod Keeps
 pub mod Demands
 pub mod Entries
+pub mod Figures
+pub mod ForC
 pub mod Marks
 pub mod Numbers
 pub mod Program

@@ -27,7 +27,7 @@ use Rattle.promises.specs.Entries.{seatsRead, cardRead, Response, wrong-
 use Rattle.promises.proofs.Numbers.{number-some}
 
 module _ (card seats : List ℕ) where
-  data Way : Type 0 where
+  pub data Way : Type 0 where
     of-card : (number place : ℕ) → readOf card ≡ refused number place → panelSaid card seats ≡ refusal number place → Way
     of-count : (c : Card) → readOf card ≡ taken c → (length seats ≡ c .n → ⊥) → panelSaid card seats ≡ refusal wrongSeats 0 → Way
     of-seat : (c : Card) → readOf card ≡ taken c → length seats ≡ c .n → (place : ℕ) → FirstAbove (c .k) seats place → panelSaid card seats ≡ refusal seatAboveTop place → Way
@@ -36,15 +36,15 @@ module _ (card seats : List ℕ) where
   most : (r p : ℕ) → panelSaid card seats ≡ refusal r p → r ≤ seatAboveTop
   most r p e = among-up-to (cardNumbers ++ seatsNumbers) r seatAboveTop (said card seats .numbers .number r p e) refl
 
-  way : Way
+  pub way : Way
   way = go (panelSaid card seats) refl
     where
-      numbered : (r p : ℕ) → panelSaid card seats ≡ refusal r p → Dec (r ≤ wrongWeight) → Dec (r ≡ wrongSeats) → Way
-      numbered r p e (yes l) k = of-card r p (said-card card seats r p l .0 e) e
-      numbered r p e (no l) (yes k) =
+      by-number : (r p : ℕ) → panelSaid card seats ≡ refusal r p → Dec (r ≤ wrongWeight) → Dec (r ≡ wrongSeats) → Way
+      by-number r p e (yes l) k = of-card r p (said-card card seats r p l .0 e) e
+      by-number r p e (no l) (yes k) =
           let (c, t, n, z) = said-count card seats p .0 (e ∙ ap (λ (s : ℕ). refusal s p) k) in
           of-count c t n (said-count card seats 0 .1 (c, t, n, refl))
-      numbered r p e (no l) (no k) =
+      by-number r p e (no l) (no k) =
           let nine : r ≡ seatAboveTop = omega (arith, most r p e) in
           let h = e ∙ ap (λ (s : ℕ). refusal s p) nine in
           let (c, t, n, f) = said-seat card seats p .0 h in
@@ -52,7 +52,7 @@ module _ (card seats : List ℕ) where
 
       go : (s : Text) → panelSaid card seats ≡ s → Way
       go (text t) e = let (z, k) = said card seats .found .only t e in of-panel (z .0 .0) (z .0 .1) (z .1) (e ∙ ap text k)
-      go (refusal r p) e = numbered r p e (decLe r wrongWeight) (ℕ-discrete r wrongSeats)
+      go (refusal r p) e = by-number r p e (decLe r wrongWeight) (ℕ-discrete r wrongSeats)
 
   pub never-10 : (number place : ℕ) → panelSaid card seats ≡ refusal number place → (1 ≤ number) × (number ≤ seatAboveTop)
   never-10 number place e = (go (decLe number wrongWeight), most number place e)

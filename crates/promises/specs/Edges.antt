@@ -1,11 +1,12 @@
 -- The marked edges of "Both sides of the edge", as one list in document 01's order. The panels stand here as whole texts. Assumes nothing.
-use Prim.Native.Nat.{ℕ}
+use Prim.Native.Nat.{ℕ, zero, suc}
 use mathlib.Core.Path.{_≡_}
 use mathlib.Core.List.{List, [], _∷_, _++_}
 use mathlib.Core.Option.{Option, none, some}
 use Rattle.card.specs.Text.{bytes}
-use Rattle.card.specs.Card.{Mode, nondeterministic, probabilistic, others, all, any, is, group, atom, Guard, Branch, Card}
+use Rattle.card.specs.Card.{Mode, nondeterministic, probabilistic, others, all, any, is, group, atom, neg, Guard, Branch, Card}
 use Rattle.reading.specs.Reading.{Outcome, taken, refused, readOf}
+use Rattle.room.specs.Digits.{decimal}
 use Rattle.meaning.specs.CardA.{cardA}
 use Rattle.lines.specs.PanelText.{panelOf}
 use Rattle.program.specs.Program.{programOf}
@@ -69,6 +70,28 @@ pub record Edges : Type 0 where
   -- (s3=0 | s2=0), and the group of card A
   pub any-order : (readOf (head ++ bytes " & (s3=0 | s2=0) -> 1:(s1'=1);\n" ++ three) ≡ reads 3 (some (atom (group others any is 0))) (to 25200 1 ∷ []))
       × (readOf (textA probabilistic) ≡ taken (cardA probabilistic))
+
+-- ---- edges that document 01 has run, and its last slip
+
+-- so many further modules, from i on
+abbrev pub modulesFrom : ℕ → ℕ → List ℕ
+modulesFrom i zero = []
+modulesFrom i (suc more) =
+    bytes "module process" ++ (decimal i ++ (bytes " = process1 [s1=s" ++ (decimal i ++ (bytes ", s" ++ (decimal i ++ (bytes "=s1] endmodule\n" ++ modulesFrom (suc i) more))))))
+
+pub record RunEdges : Type 0 where
+  -- a card that ends early, at its length: with no byte, and behind a comment
+  pub ends-early : (readOf [] ≡ refused 3 0) × (readOf (head ++ bytes " -> 1:(s1'=1);  // no more") ≡ refused 3 83)
+  pub modules-16 : readOf (head ++ bytes " -> 1:(s1'=1);\nendmodule\n" ++ modulesFrom 2 15) ≡ reads 16 none (to 25200 1 ∷ [])
+  pub modules-17 : readOf (head ++ bytes " -> 1:(s1'=1);\nendmodule\n" ++ modulesFrom 2 16) ≡ refused 4 883
+  -- k is 7, and the card ends early; k is 8
+  pub top-states : (readOf (bytes "probabilistic module process1 s1 : [0..7") ≡ refused 3 40) × (readOf (bytes "probabilistic module process1 s1 : [0..8") ≡ refused 4 39)
+  pub depth-8 : readOf (head ++ bytes " & !!!!!!!!(s2=0) -> 1:(s1'=1);\n" ++ two) ≡ reads 2 (some (neg (neg (neg (neg (neg (neg (neg (neg (atom (group others all is 0))))))))))) (to 25200 1 ∷ [])
+  pub depth-9 : readOf (head ++ bytes " & !!!!!!!!!(s2=0) -> 1:(s1'=1);\n" ++ two) ≡ refused 4 68
+  -- `|` behind the local guard fits nowhere
+  pub bar : readOf (head ++ bytes " & (s2=0) | (s2=1) -> 1:(s1'=1);\n" ++ two) ≡ refused 3 67
+  -- a seat word that is not the one due
+  pub other-word : readOf (head ++ bytes " -> 1:(s1'=1);\nendmodule\nmodule process2 = process1 [s1=s2, s9=s5] endmodule\n") ≡ refused 6 117
 
 -- what the program prints, whole: for `001` and card A, and for a line without LF
 pub record Printing : Type 0 where

@@ -2,7 +2,7 @@
 -- with the promise that the entry's code is proved to keep: the room `was` became `is`, and `a` is its answer. Assumes nothing.
 use Prim.Native.Nat.{ℕ, _≤_, _<_}
 use mathlib.Core.Path.{_≡_}
-use mathlib.Core.Logic.{_↔_}
+use mathlib.Core.Logic.{_↔_, _⊎_}
 use mathlib.Core.List.{List, _++_, map}
 use lib.ListN.{length, take, drop}
 use Rattle.card.specs.Text.{bytes}
@@ -31,7 +31,7 @@ use Rattle.panel.specs.PanelRoom.{panelRoom}
 use Rattle.program.specs.Program.{inputBytes, seatsLine, cardBehind, seatOf, programOf, Printed}
 
 -- an answer in document 01's numbers: a refusal's number and place, and 0 with the length
-pub record Numbered (a : Answer) : Type 0 where
+pub record InNumbers (a : Answer) : Type 0 where
   pub refusal : (number place : ℕ) → a ≡ Refused number place → (answerNumber a ≡ number) × (answerValue a ≡ place)
   pub length-told : (long : ℕ) → a ≡ Done long → (answerNumber a ≡ 0) × (answerValue a ≡ long)
 
@@ -55,9 +55,11 @@ pub record Prints (f : Card → List ℕ) (card was is : List ℕ) (a : Answer) 
   pub done : (long : ℕ) → (a ≡ Done long) ↔ ((c : Card) × (readOf card ≡ taken c) × (length (f c) ≤ length was) × (long ≡ length (f c)))
   -- and the bytes past it are as they were
   pub stands : (c : Card) → readOf card ≡ taken c → length (f c) ≤ length was → is ≡ f c ++ drop (length (f c)) was
+  -- there is no other refusal
+  pub no-other : (number place : ℕ) → a ≡ Refused number place → (1 ≤ number) × ((number ≤ wrongWeight) ⊎ (number ≡ roomTooSmall))
   -- a refusal writes nothing
   pub untouched : (number place : ℕ) → a ≡ Refused number place → is ≡ was
-  pub numbered : Numbered a
+  pub in-numbers : InNumbers a
 
 -- the entry that shows the panel of a card and its seats
 pub record Shows (card seats was is : List ℕ) (a : Answer) : Type 0 where
@@ -72,8 +74,9 @@ pub record Shows (card seats was is : List ℕ) (a : Answer) : Type 0 where
       ↔ ((c : Card) × (readOf card ≡ taken c) × ValidSeating c seats × (length (panelOf c seats) ≤ length was) × (long ≡ length (panelOf c seats)))
   pub stands : (c : Card) → readOf card ≡ taken c → ValidSeating c seats → length (panelOf c seats) ≤ length was
       → is ≡ panelOf c seats ++ drop (length (panelOf c seats)) was
+  pub no-other : (number place : ℕ) → a ≡ Refused number place → (1 ≤ number) × (number ≤ roomTooSmall)
   pub untouched : (number place : ℕ) → a ≡ Refused number place → is ≡ was
-  pub numbered : Numbered a
+  pub in-numbers : InNumbers a
 
 -- lent a room of so many bytes or more, an entry never answers 10
 abbrev pub Enough : ℕ → Text → Type 0

@@ -1,0 +1,36 @@
+-- Each by computing. Assumes nothing.
+use mathlib.Core.Path.{refl}
+use Rattle.promises.specs.Figures.{Figures}
+
+pub figures : Figures
+figures = record {
+  card-bytes = refl;
+  seats = refl;
+  top-state = refl;
+  statements = refl;
+  branches = refl;
+  nodes = refl;
+  depth = refl;
+  number-digits = refl;
+  further-digits = refl;
+  word-digits = refl;
+  unit-is = refl;
+  weight-digits = refl;
+  too-long = refl;
+  outside-rules = refl;
+  out-of-shape = refl;
+  past-limit = refl;
+  above-top = refl;
+  not-due = refl;
+  wrong-weight = refl;
+  wrong-seats = refl;
+  seat-above-top = refl;
+  room-too-small = refl;
+  input-bytes = refl;
+  line-end = refl;
+  digit-0 = refl;
+  no-state = refl;
+  written-room = refl;
+  reduced-room = refl;
+  panel-room = refl;
+}

@@ -1,0 +1,24 @@
+-- Each by citing the proof of its function. Assumes nothing.
+use Rattle.reader.proofs.read.Met.{met as read-met}
+use Rattle.writer.proofs.write.Met.{met as write-met}
+use Rattle.reducer.proofs.reduce.Met.{met as reduce-met}
+use Rattle.panel.proofs.panel.Met.{met as panel-met}
+use Rattle.program.proofs.respond.Met.{met as respond-met}
+use Rattle.tablet.proofs.open_panel_judge.Met.{met as judge-for-c-met}
+use Rattle.tablet.proofs.open_panel_write.Met.{met as write-for-c-met}
+use Rattle.tablet.proofs.open_panel_reduce.Met.{met as reduce-for-c-met}
+use Rattle.tablet.proofs.open_panel_show.Met.{met as show-for-c-met}
+use Rattle.promises.specs.Keeps.{Keeps}
+
+pub keeps : Keeps
+keeps = record {
+  read = λ M. read-met;
+  write = λ M. write-met;
+  reduce = λ M. reduce-met;
+  panel = λ M. panel-met;
+  respond = λ M. respond-met;
+  judge-for-c = λ M. judge-for-c-met;
+  write-for-c = λ M. write-for-c-met;
+  reduce-for-c = λ M. reduce-for-c-met;
+  show-for-c = λ M. show-for-c-met;
+}

@@ -1,0 +1,47 @@
+-- Document 01's figures, each beside the name by which every definition and every contract speaks of it. Assumes nothing.
+use Prim.Native.Nat.{ℕ}
+use mathlib.Core.Path.{_≡_}
+use Rattle.card.specs.Limits.{cardBytes, mostSeats, topState, mostStatements, mostBranches, mostNodes, mostDepth, numberDigits, furtherDigits, wordDigits, unit, weightDigits}
+use Rattle.card.specs.Refusals.{tooLong, outsideRules, outOfShape, pastLimit, aboveTop, notDue, wrongWeight, wrongSeats, seatAboveTop, roomTooSmall}
+use Rattle.room.specs.Digits.{digit}
+use Rattle.writer.specs.WrittenMost.{writtenRoom}
+use Rattle.reducer.specs.Handed.{reducedMost}
+use Rattle.panel.specs.PanelRoom.{panelRoom}
+use Rattle.program.specs.Program.{inputBytes, lineEnd, noState}
+
+pub record Figures : Type 0 where
+  -- "What the box holds"
+  pub card-bytes : cardBytes ≡ 16384
+  pub seats : mostSeats ≡ 16
+  pub top-state : topState ≡ 7
+  pub statements : mostStatements ≡ 32
+  pub branches : mostBranches ≡ 8
+  pub nodes : mostNodes ≡ 32
+  pub depth : mostDepth ≡ 8
+  pub number-digits : numberDigits ≡ 5
+  -- "Marks on a card": digits behind a point, and in a seat or module word
+  pub further-digits : furtherDigits ≡ 5
+  pub word-digits : wordDigits ≡ 5
+  -- "Shape of a card": a weight of 1, and the digits that a decimal weight may have behind its point
+  pub unit-is : unit ≡ 25200
+  pub weight-digits : weightDigits ≡ 2
+  -- "Refusal numbers"
+  pub too-long : tooLong ≡ 1
+  pub outside-rules : outsideRules ≡ 2
+  pub out-of-shape : outOfShape ≡ 3
+  pub past-limit : pastLimit ≡ 4
+  pub above-top : aboveTop ≡ 5
+  pub not-due : notDue ≡ 6
+  pub wrong-weight : wrongWeight ≡ 7
+  pub wrong-seats : wrongSeats ≡ 8
+  pub seat-above-top : seatAboveTop ≡ 9
+  pub room-too-small : roomTooSmall ≡ 10
+  -- "Texts, byte for byte", the program: bytes that it reads, LF, the byte of digit 0, the state of what is no digit
+  pub input-bytes : inputBytes ≡ 65536
+  pub line-end : lineEnd ≡ 10
+  pub digit-0 : digit 0 ≡ 48
+  pub no-state : noState ≡ 255
+  -- rooms that every text fits into; they are the project's own figures
+  pub written-room : writtenRoom ≡ 82639
+  pub reduced-room : reducedMost ≡ 347890
+  pub panel-room : panelRoom ≡ 4101
