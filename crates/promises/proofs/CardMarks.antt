@@ -6,17 +6,17 @@ use mathlib.Core.List.{List, [], _∷_, _++_, append-assoc, map}
 use mathlib.Core.Option.{Option, none, some}
 use native.Mathlib.Omega.{arith}
 use lib.ListN.{length}
-use Rattle.card.specs.Card.{Mode, Card, Formula, Branch, Statement}
-use Rattle.card.specs.Weight.{Weight, cardRule, Worth, unitsOf}
+use Rattle.card.specs.Card.{Mode, Card, Formula}
+use Rattle.card.specs.Weight.{Weight, cardRule, Worth}
 use Rattle.card.specs.Valid.{Every}
 use Rattle.card.proofs.Laws.{units-worth}
-use Rattle.marks.specs.Marks.{Mark, seat, process, number, Placed, placed, marksOf}
+use Rattle.marks.specs.Marks.{Mark, seat, process, number, placed, marksOf}
 use Rattle.reading.specs.Reader.{Place, Numbered, Item, exactly, seatWord, processWord}
 use Rattle.reading.specs.Group.{Literals}
-use Rattle.reading.specs.Judgements.{Judgement, sum, orZero, unitsIn, placeIn, judgedGuard}
+use Rattle.reading.specs.Judgements.{Judgement, orZero, unitsIn, placeIn, judgedGuard}
 use Rattle.reading.specs.Shape.{BranchShape, StatementShape, CardShape}
 use Rattle.reading.specs.Checks.{judgedWords, judgedBranch, judgedEach, judgedOr, judgedStatement, moduleDues, judgedModules, judgedCard, branchIn, guardOr, statementIn, cardIn}
-use Rattle.reading.specs.Grammar.{Said, signAt, LineSaid, ended, fixed, aSeat, aProcess, branchRun, moduleRun, ManySaid, done as said-done, again as said-again, RestSaid, nothing as no-guard, guarded as a-guard, WeightSaid, aNumber, aRatio, aDecimal, BranchSaid, branch as said-branch, PlusSaid, plus as said-plus, StatementSaid, statement as said-statement, modeWord, CardSaid, card as said-card}
+use Rattle.reading.specs.Grammar.{Said, signAt, LineSaid, ended, fixed, aSeat, aProcess, moduleRun, ManySaid, done as said-done, again as said-again, RestSaid, nothing as no-guard, guarded as a-guard, WeightSaid, aNumber, aRatio, aDecimal, BranchSaid, branch as said-branch, PlusSaid, plus as said-plus, StatementSaid, statement as said-statement, modeWord, CardSaid, card as said-card}
 use Rattle.reading.specs.Rules.{Kept}
 use Rattle.reading.specs.Verdicts.{KeptOn}
 use Rattle.reading.specs.Reading.{taken, readOf}

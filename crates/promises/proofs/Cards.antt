@@ -1,12 +1,18 @@
 -- Weights and laid cards, by citing; card A's limits, by computing. Assumes nothing.
 use Prim.Native.Nat.{ℕ, _≤_}
-use mathlib.Core.Path.{refl}
+use mathlib.Core.Path.{_≡_, refl, ap}
+use mathlib.Core.Logic.{_↔_}
+use mathlib.Core.Option.{Option, none, some}
 use native.Mathlib.Omega.{arith}
 use Rattle.card.specs.Limits.{unit}
 use Rattle.card.specs.Card.{Mode}
 use Rattle.card.specs.Valid.{ValidBranch, ValidCard}
 use Rattle.meaning.specs.CardA.{cardA}
 use Rattle.card.proofs.Laws.{units-worth, laid-back, laid-injective, laid-falls, valid-held}
+use Rattle.card.specs.Refusals.{wrongWeight}
+use Rattle.card.specs.Weight.{cardRule, unitsOf}
+use Rattle.card.specs.Judged.{judgedOf, numberOf as weightNumber, unitsIn as weightUnits}
+use Rattle.entry.proofs.Exactly.{_↔∙_}
 use Rattle.promises.specs.Cards.{Cards}
 
 card-a-valid : (mode : Mode) → ValidCard (cardA mode)
@@ -25,8 +31,21 @@ card-a-valid mode =
       );
     }
 
+-- the units, or none
+taken-units : (o : Option ℕ) (u : ℕ) → ((weightNumber (judgedOf o) ≡ 0) × (weightUnits (judgedOf o) ≡ u)) ↔ (o ≡ some u)
+taken-units none u = (λ h. absurd (omega (arith, h .0)), λ e. let z : _≡_ {A = ℕ} 0 1 = cc in absurd (omega arith))
+taken-units (some v) u = (λ h. ap some (h .1), λ e. (refl, cc))
+
+no-units : (o : Option ℕ) → (weightNumber (judgedOf o) ≡ wrongWeight) ↔ ((u : ℕ) → o ≡ some u → ⊥)
+no-units none = (λ h u e. let z : _≡_ {A = ℕ} 0 1 = cc in absurd (omega arith), λ h. refl)
+no-units (some v) = (λ h. absurd (omega (arith, h)), λ h. absurd (h v refl))
+
 pub cards : Cards
+unfolding unitsOf
 cards = record {
+  hundredths = refl;
+  weight-taken = λ w u. taken-units (unitsOf cardRule w) u ↔∙ units-worth w u;
+  weight-refused = λ w. no-units (unitsOf cardRule w) ↔∙ (λ h u k. h u (units-worth w u .1 k), λ h u e. h u (units-worth w u .0 e));
   card-a = λ mode. card-a-valid mode;
   weights = units-worth;
   comes-back = laid-back;

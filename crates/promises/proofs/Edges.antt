@@ -9,7 +9,7 @@ use Rattle.meaning.specs.CardA.{cardA}
 use Rattle.counting.specs.Judged.{judgedSeats, judgedFrom}
 use Rattle.panel.specs.PanelSaid.{panelSaid}
 use Rattle.program.specs.Program.{programOf, answerTo, seatsLine, cardBehind}
-use Rattle.promises.specs.Edges.{Edges, RunEdges, Printing}
+use Rattle.promises.specs.Edges.{Edges, MarkEdges, RunEdges, Printing}
 
 pub edges : Edges
 unfolding panelOf panel cardA decimal unitsOf readOf
@@ -26,6 +26,9 @@ edges = record {
   further-digits = (refl, refl);
   any-order = (refl, refl);
 }
+
+pub mark-edges : MarkEdges
+mark-edges = record { range = refl; decimals = refl; words = refl; comments = refl; zero-in-front = refl; six-digits = (refl, refl); lone-point = refl }
 
 pub run-edges : RunEdges
 unfolding decimal unitsOf readOf

@@ -19,7 +19,7 @@ use Rattle.entry.specs.Numbers.{only}
 use Rattle.entry.specs.Contract.{InRoom}
 use Rattle.entry.proofs.Stages.{among-says, value}
 use Rattle.entry.proofs.Exactly.{_↔∙_}
-use Rattle.entry.proofs.Entries.{before-room, in-room}
+use Rattle.entry.proofs.Entries.{enters-unique, before-room, in-room}
 use Rattle.room.specs.declared.Answer.{Answer}
 use Rattle.room.specs.declared.Answer.the-variants.{Done, Refused}
 use Rattle.room.specs.Answer.{told, answerNumber, answerValue, Entered}
@@ -37,9 +37,9 @@ use Rattle.lines.specs.PanelText.{panelOf}
 use Rattle.panel.specs.PanelSaid.{panelSaid}
 use Rattle.panel.proofs.Short.{panel-fits}
 use Rattle.panel.proofs.Theorems.{said, said-card, said-count, said-seat}
-use Rattle.promises.specs.Entries.{InNumbers, numberIn, placeIn, Prints, Shows, Rooms, Demand1}
+use Rattle.promises.specs.Entries.{InNumbers, outcomeNumber, outcomePlace, Prints, Shows, Rooms, Unique, Demand1}
 use Rattle.promises.proofs.Numbers.{number-some}
-use Rattle.promises.proofs.Program.{Way, of-card as card-way, of-count, of-seat, of-panel, way, responds, never-10}
+use Rattle.promises.proofs.Program.{Way, of-card as card-way, of-count, of-seat, of-panel, way, input, responds, never-10}
 
 in-numbers : (a : Answer) → InNumbers a
 in-numbers a = record { refusal = λ number place e. (ap answerNumber e, ap answerValue e); length-told = λ long e. (ap answerNumber e, ap answerValue e) }
@@ -47,11 +47,11 @@ in-numbers a = record { refusal = λ number place e. (ap answerNumber e, ap answ
 done≢refused : {A : Type 0} {long r p : ℕ} → Done long ≡ Refused r p → A
 done≢refused e = let z : _≡_ {A = ℕ} 0 1 = cc in absurd (omega arith)
 
-reads-number : (o : Outcome) → numberOf (readingOf o .verdict) ≡ numberIn o
+reads-number : (o : Outcome) → numberOf (readingOf o .verdict) ≡ outcomeNumber o
 reads-number (taken c) = refl
 reads-number (refused number place) = refl
 
-reads-place : (o : Outcome) → placeOf (readingOf o .verdict) ≡ placeIn o
+reads-place : (o : Outcome) → placeOf (readingOf o .verdict) ≡ outcomePlace o
 reads-place (taken c) = refl
 reads-place (refused number place) = refl
 
@@ -136,6 +136,13 @@ rooms = record {
   shown = λ card seats was is a e l p r. let (c, t, ok, g, _) = panel card seats was is a e .small-room p .0 r in omega (arith, g, panel-fits c (read-valid card c t) seats ok);
 }
 
+unique : Unique
+unique = record {
+  read = λ card x y h k. h .reading ∙ sym (k .reading);
+  entered = λ was is₁ is₂ said a₁ a₂ h k. enters-unique h k;
+  printed = λ was is₁ is₂ t l₁ l₂ h k. (h .length-is ∙ sym (k .length-is), h .stands ∙ sym (k .stands));
+}
+
 pub demand1 : Demand1
 demand1 = record {
   read = λ card x h. (
@@ -146,7 +153,9 @@ demand1 = record {
   program = λ input was is long p. (p .stands, p .length-is);
   responds = responds;
   never-10 = never-10;
+  input = input;
   rooms = rooms;
+  unique = unique;
   write = write;
   reduce = reduce;
   panel = panel;

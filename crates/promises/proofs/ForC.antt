@@ -2,7 +2,7 @@
 -- answer. Assumes nothing.
 use Prim.Native.Nat.{ℕ, _≤_}
 use mathlib.Core.Path.{_≡_, refl, sym, ap, _∙_, subst}
-use mathlib.Core.Logic.{_↔_, _⊎_, inl, inr}
+use mathlib.Core.Logic.{_↔_, _⊎_, inl}
 use mathlib.Core.List.{List}
 use native.Mathlib.Omega.{arith}
 use Rattle.card.specs.Refusals.{wrongWeight, wrongSeats, seatAboveTop, roomTooSmall}
@@ -10,6 +10,7 @@ use Rattle.card.specs.Card.{Card}
 use Rattle.reading.specs.Reading.{Outcome, taken, refused, readOf}
 use Rattle.reading.proofs.Numbers.{read-number}
 use Rattle.entry.proofs.Exactly.{_↔∙_}
+use Rattle.entry.proofs.Entries.{enters-unique}
 use Rattle.room.specs.declared.Answer.{Answer}
 use Rattle.room.specs.declared.Answer.the-variants.{Done, Refused}
 use Rattle.room.specs.Answer.{Text, answerNumber, answerValue, answered, Entered}
@@ -109,6 +110,7 @@ judge-tells card = go (readOf card) refl
 
 pub for-c : ForC
 for-c = record {
+  unique = λ was is₁ is₂ said a₁ a₂ h k. enters-unique h k;
   judge = λ card a e. subst (JudgeTells card) (sym e) (judge-tells card);
   write = λ card was is a e. subst (TextTells writeOf card was is) (sym (e .answers)) (text-tells (answered (writeSaid card) was) (write card was is _ (entered (writeSaid card) e)));
   reduce = λ card was is a e. subst (TextTells reducedOf card was is) (sym (e .answers)) (text-tells (answered (reduceSaid card) was) (reduce card was is _ (entered (reduceSaid card) e)));

@@ -1,17 +1,23 @@
 -- What the program prints, by the four ways in which the panel entry's word of a card and its seats can go: the card's refusal, the two of
 -- seats, the panel. Assumes nothing.
-use Prim.Native.Nat.{ℕ, _≤_}
+use Prim.Native.Nat.{ℕ, _≤_, _<_}
 use mathlib.Core.Path.{_≡_, refl, ap, _∙_}
-use mathlib.Core.List.{List, _++_, map}
+use mathlib.Core.Bool.{Bool, true, false, _&&_}
+use mathlib.Core.Logic.{_⊎_, inl, inr}
+use mathlib.Core.List.{List, [], _∷_, _++_, map}
 use native.Mathlib.Decide.{ℕ-discrete, decLe}
 use native.Mathlib.Omega.{arith}
+use borrow.Author.Tests.{ne-eqb, le-leb, lt-leb}
+use lib.Dec.{leb}
 use lib.ListN.{length, take}
 use Rattle.card.specs.Refusals.{wrongWeight, wrongSeats, seatAboveTop}
 use Rattle.card.specs.Card.{Card}
-use Rattle.reading.specs.Reading.{Outcome, taken, refused, readOf}
+use Rattle.card.specs.Valid.{Every}
+use Rattle.reading.specs.Reading.{taken, refused, readOf}
 use Rattle.reading.proofs.Theorems.{read-valid}
 use Rattle.reading.proofs.Numbers.{read-number}
 use Rattle.entry.specs.Said.{says as text, refused as refusal}
+use Rattle.room.specs.Digits.{digit}
 use Rattle.room.specs.Answer.{Text}
 use Rattle.meaning.specs.Seats.{ValidSeating}
 use Rattle.counting.specs.Judged.{FirstAbove}
@@ -22,8 +28,8 @@ use Rattle.panel.specs.PanelSaid.{panelSaid}
 use Rattle.panel.proofs.Short.{panel-fits}
 use Rattle.panel.proofs.Theorems.{said, said-card, said-count, said-seat}
 use Rattle.entry.proofs.Stages.{among-up-to}
-use Rattle.program.specs.Program.{inputBytes, seatsLine, cardBehind, seatOf, printed, programOf, answerTo}
-use Rattle.promises.specs.Entries.{seatsRead, cardRead, Response, wrong-card, wrong-count, wrong-seat, the-panel}
+use Rattle.program.specs.Program.{inputBytes, lineEnd, seatsLine, cardBehind, noState, seatOf, printed, programOf, answerTo}
+use Rattle.promises.specs.Entries.{Input, seatsRead, cardRead, Response, wrong-card, wrong-count, wrong-seat, the-panel}
 use Rattle.promises.proofs.Numbers.{number-some}
 
 module _ (card seats : List ℕ) where
@@ -61,7 +67,37 @@ module _ (card seats : List ℕ) where
       go (yes l) = number-some card (said-card card seats number place l .0 e)
       go (no l) = omega arith
 
--- the program prints what is said of the card and the seats that it reads
+-- ---- the input
+
+line : (seats card : List ℕ) → Every (λ b. b ≡ lineEnd → ⊥) seats → (seatsLine (seats ++ (lineEnd ∷ card)) ≡ seats) × (cardBehind (seats ++ (lineEnd ∷ card)) ≡ card)
+unfolding seatsLine cardBehind
+line [] card h = (refl, refl)
+line (b ∷ seats) card h =
+    let (e, f) = line seats card (h .1) in
+    (rw (ne-eqb b lineEnd (h .0), e), rw (ne-eqb b lineEnd (h .0), f))
+
+no-line : (seats : List ℕ) → Every (λ b. b ≡ lineEnd → ⊥) seats → (seatsLine seats ≡ seats) × (cardBehind seats ≡ [])
+unfolding seatsLine cardBehind
+no-line [] h = (refl, refl)
+no-line (b ∷ seats) h =
+    let (e, f) = no-line seats (h .1) in
+    (rw (ne-eqb b lineEnd (h .0), e), rw (ne-eqb b lineEnd (h .0), f))
+
+and-false : (b : Bool) → (b && false) ≡ false
+and-false true = refl
+and-false false = refl
+
+digits : (d : ℕ) → d ≤ 9 → seatOf (digit d) ≡ d
+digits d h = rw (le-leb (digit 0) (digit d) (omega arith), le-leb (digit d) (digit 9) (omega arith)) (omega arith)
+
+no-digit : (b : ℕ) → (b < digit 0) ⊎ (digit 9 < b) → seatOf b ≡ noState
+no-digit b (inl h) = rw (lt-leb (digit 0) b h)
+no-digit b (inr h) = rw (lt-leb b (digit 9) h, and-false (leb (digit 0) b))
+
+pub input : Input
+input = record { line = line; no-line = no-line; digits = digits; no-digit = no-digit }
+
+-- ---- the program prints what is said of the card and the seats that it reads
 answer-printed : (s : List ℕ) → answerTo s ≡ printed (panelSaid (cardBehind s) (map seatOf (seatsLine s)))
 unfolding answerTo
 answer-printed s = refl

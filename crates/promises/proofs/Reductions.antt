@@ -7,7 +7,7 @@ use Rattle.reducer.specs.ReducedText.{programText}
 use Rattle.meaning.specs.CardA.{cardA}
 use Rattle.meaning.specs.Reduced.{reduce, copy}
 use Rattle.meaning.proofs.Within.{stays-within}
-use Rattle.promises.specs.Reductions.{Table, Reductions}
+use Rattle.promises.specs.Reductions.{Table, Translation, Reductions}
 
 table : Table
 table = record {
@@ -17,6 +17,17 @@ table = record {
   some-isnt = λ n j d. (refl, rw (eq-eqb d d refl), λ h. rw (ne-eqb j d h));
 }
 
+translation : Translation
+unfolding reduce copy
+translation = record {
+  mode = λ c. refl;
+  most = λ c. refl;
+  copies = λ c e. rw e;
+  one-copy = λ c e. rw e;
+  stays = λ n j. rw (eq-eqb j j refl);
+  moves = λ n j t h. rw (ne-eqb j t h);
+}
+
 pub reductions : Reductions
 unfolding programText reduce copy cardA decimal gcd divisor
-reductions = record { table = table; one-seat-text = refl; joined-text = refl; either-text = refl; card-a-text = refl; one-seat = refl; card-a = refl; card-a-free = refl; stays-within = stays-within }
+reductions = record { table = table; translation = translation; one-seat-text = refl; joined-text = refl; either-text = refl; card-a-text = refl; one-seat = refl; card-a = refl; card-a-free = refl; stays-within = stays-within }

@@ -7,7 +7,9 @@ use lib.ListN.{length, getD}
 use Rattle.card.specs.Limits.{mostNodes}
 use Rattle.card.specs.Card.{Mode, Statement, Card}
 use Rattle.card.specs.Valid.{ValidCard}
-use Rattle.card.specs.Weight.{Weight, cardRule, Worth, unitsOf}
+use Rattle.card.specs.Refusals.{wrongWeight}
+use Rattle.card.specs.Weight.{Weight, decimal, cardRule, Worth, unitsOf}
+use Rattle.card.specs.Judged.{judgedOf, numberOf as weightNumber, unitsIn as weightUnits}
 use Rattle.meaning.specs.CardA.{cardA}
 use Rattle.card.specs.Laid.{opOf, leftOf, rightOf, opGroup, guardSize, laid, cardOf}
 
@@ -16,6 +18,10 @@ pub record Cards : Type 0 where
   pub card-a : (mode : Mode) → ValidCard (cardA mode)
   -- a weight counts so many units exactly when it keeps its rule and is worth them
   pub weights : (w : Weight) (u : ℕ) → (unitsOf cardRule w ≡ some u) ↔ Worth cardRule w u
+  pub hundredths : unitsOf cardRule (decimal 0 2 37) ≡ some 9324
+  -- what the weights' constructors answer, in document 01's numbers: 0 with the units, or 7
+  pub weight-taken : (w : Weight) (u : ℕ) → ((weightNumber (judgedOf (unitsOf cardRule w)) ≡ 0) × (weightUnits (judgedOf (unitsOf cardRule w)) ≡ u)) ↔ Worth cardRule w u
+  pub weight-refused : (w : Weight) → (weightNumber (judgedOf (unitsOf cardRule w)) ≡ wrongWeight) ↔ ((u : ℕ) → Worth cardRule w u → ⊥)
   -- a card in its struct is the card, so two cards that lie there alike are the same
   pub comes-back : (c : Card) → ValidCard c → cardOf (laid c) ≡ c
   pub once : (c e : Card) → ValidCard c → ValidCard e → laid c ≡ laid e → c ≡ e

@@ -1,12 +1,14 @@
 -- The marked edges of "Both sides of the edge", as one list in document 01's order. The panels stand here as whole texts. Assumes nothing.
 use Prim.Native.Nat.{ℕ, zero, suc}
+use Prim.Native.String.{String}
 use mathlib.Core.Path.{_≡_}
 use mathlib.Core.List.{List, [], _∷_, _++_}
 use mathlib.Core.Option.{Option, none, some}
 use Rattle.card.specs.Text.{bytes}
-use Rattle.card.specs.Card.{Mode, nondeterministic, probabilistic, others, all, any, is, group, atom, neg, Guard, Branch, Card}
-use Rattle.reading.specs.Reading.{Outcome, taken, refused, readOf}
-use Rattle.room.specs.Digits.{decimal}
+use Rattle.card.specs.Card.{Mode, nondeterministic, probabilistic, others, all, any, is, group, atom, neg, Guard, Branch}
+use Rattle.marks.specs.Marks.{text, seat, process, number, decimal, Placed, placed, marksOf}
+use Rattle.reading.specs.Reading.{Outcome, taken, refused, firstOutside, readOf}
+use Rattle.room.specs.Digits.{decimal as digitsOf}
 use Rattle.meaning.specs.CardA.{cardA}
 use Rattle.lines.specs.PanelText.{panelOf}
 use Rattle.program.specs.Program.{programOf}
@@ -77,7 +79,23 @@ pub record Edges : Type 0 where
 abbrev pub modulesFrom : ℕ → ℕ → List ℕ
 modulesFrom i zero = []
 modulesFrom i (suc more) =
-    bytes "module process" ++ (decimal i ++ (bytes " = process1 [s1=s" ++ (decimal i ++ (bytes ", s" ++ (decimal i ++ (bytes "=s1] endmodule\n" ++ modulesFrom (suc i) more))))))
+    bytes "module process" ++ (digitsOf i ++ (bytes " = process1 [s1=s" ++ (digitsOf i ++ (bytes ", s" ++ (digitsOf i ++ (bytes "=s1] endmodule\n" ++ modulesFrom (suc i) more))))))
+
+-- a sign or word at its place
+abbrev pub textAt : String → ℕ → Placed
+textAt t p = placed (text (bytes t)) p
+
+-- how bytes fall into marks, and where the first stands that is outside the rules
+pub record MarkEdges : Type 0 where
+  -- the `0.` of a range is no decimal
+  pub range : marksOf (bytes "[0..2]") ≡ textAt "[" 0 ∷ placed (number 0) 1 ∷ textAt ".." 2 ∷ placed (number 2) 4 ∷ textAt "]" 5 ∷ []
+  pub decimals : marksOf (bytes "0.25 12345.12345") ≡ placed (decimal 0 2 25) 0 ∷ placed (decimal 12345 5 12345) 5 ∷ []
+  pub words : marksOf (bytes "s1 s01 s123456 process2 init0 init") ≡ placed (seat 1) 0 ∷ textAt "s01" 3 ∷ textAt "s123456" 7 ∷ placed (process 2) 15 ∷ textAt "init0" 24 ∷ textAt "init" 30 ∷ []
+  pub comments : marksOf (bytes "1//2\n!=!->") ≡ placed (number 1) 0 ∷ textAt "!=" 5 ∷ textAt "!" 7 ∷ textAt "->" 8 ∷ []
+  -- a zero in front, too many digits, a point without a digit behind it
+  pub zero-in-front : firstOutside (marksOf (bytes "1 007")) ≡ some 2
+  pub six-digits : (firstOutside (marksOf (bytes "123456")) ≡ some 0) × (firstOutside (marksOf (bytes "0.123456")) ≡ some 0)
+  pub lone-point : firstOutside (marksOf (bytes "1.")) ≡ some 1
 
 pub record RunEdges : Type 0 where
   -- a card that ends early, at its length: with no byte, and behind a comment

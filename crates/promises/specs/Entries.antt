@@ -3,21 +3,22 @@
 use Prim.Native.Nat.{ℕ, _≤_, _<_}
 use mathlib.Core.Path.{_≡_}
 use mathlib.Core.Logic.{_↔_, _⊎_}
-use mathlib.Core.List.{List, _++_, map}
+use mathlib.Core.List.{List, [], _∷_, _++_, map}
 use lib.ListN.{length, take, drop}
 use Rattle.card.specs.Text.{bytes}
 use Rattle.card.specs.Refusals.{wrongWeight, wrongSeats, seatAboveTop, roomTooSmall}
 use Rattle.card.specs.Card.{Card}
+use Rattle.card.specs.Valid.{Every}
 use Rattle.reading.specs.Reading.{Outcome, taken, refused, readOf}
 use Rattle.reader.specs.declared.Reading.{Reading}
 use Rattle.card.specs.Verdict.{numberOf, placeOf}
 use Rattle.reader.specs.ReadingOf.{readingOf, Reads}
 use Rattle.room.specs.declared.Answer.{Answer}
 use Rattle.room.specs.declared.Answer.the-variants.{Done, Refused}
-use Rattle.room.specs.Digits.{decimal}
+use Rattle.room.specs.Digits.{digit, decimal}
 use Rattle.entry.specs.Said.{refused as refusal}
 use Rattle.room.specs.Answer.{Text, answerNumber, answerValue, Entered}
-use Rattle.meaning.specs.Seats.{Seating, ValidSeating}
+use Rattle.meaning.specs.Seats.{ValidSeating}
 use Rattle.counting.specs.Judged.{FirstAbove}
 use Rattle.writer.specs.Writing.{writeOf}
 use Rattle.writer.specs.WrittenMost.{writtenRoom}
@@ -28,7 +29,7 @@ use Rattle.reducer.specs.ReduceSaid.{reduceSaid}
 use Rattle.lines.specs.PanelText.{panelOf}
 use Rattle.panel.specs.PanelSaid.{panelSaid}
 use Rattle.panel.specs.PanelRoom.{panelRoom}
-use Rattle.program.specs.Program.{inputBytes, seatsLine, cardBehind, seatOf, programOf, Printed}
+use Rattle.program.specs.Program.{inputBytes, lineEnd, seatsLine, cardBehind, noState, seatOf, programOf, Printed}
 
 -- an answer in document 01's numbers: a refusal's number and place, and 0 with the length
 pub record InNumbers (a : Answer) : Type 0 where
@@ -36,13 +37,13 @@ pub record InNumbers (a : Answer) : Type 0 where
   pub length-told : (long : ℕ) → a ≡ Done long → (answerNumber a ≡ 0) × (answerValue a ≡ long)
 
 -- what reading has found, in the same numbers; 0 for a card that is taken
-abbrev pub numberIn : Outcome → ℕ
-numberIn (taken c) = 0
-numberIn (refused number place) = number
+abbrev pub outcomeNumber : Outcome → ℕ
+outcomeNumber (taken c) = 0
+outcomeNumber (refused number place) = number
 
-abbrev pub placeIn : Outcome → ℕ
-placeIn (taken c) = 0
-placeIn (refused number place) = place
+abbrev pub outcomePlace : Outcome → ℕ
+outcomePlace (taken c) = 0
+outcomePlace (refused number place) = place
 
 -- an entry that prints the text f of its card
 pub record Prints (f : Card → List ℕ) (card was is : List ℕ) (a : Answer) : Type 0 where
@@ -88,7 +89,20 @@ pub record Rooms : Type 0 where
   pub reduced : (card : List ℕ) → Enough reducedMost (reduceSaid card)
   pub shown : (card seats : List ℕ) → Enough panelRoom (panelSaid card seats)
 
+-- two results that keep one contract are the same
+pub record Unique : Type 0 where
+  pub read : (card : List ℕ) (x y : Reading) → Reads card x → Reads card y → x ≡ y
+  pub entered : (was is₁ is₂ : List ℕ) (said : Text) (a₁ a₂ : Answer) → Entered was is₁ said a₁ → Entered was is₂ said a₂ → (a₁ ≡ a₂) × (is₁ ≡ is₂)
+  pub printed : (was is₁ is₂ t : List ℕ) (long₁ long₂ : ℕ) → Printed was is₁ t long₁ → Printed was is₂ t long₂ → (long₁ ≡ long₂) × (is₁ ≡ is₂)
+
 -- ---- the program
+
+-- how its input is taken: seats up to LF and the card behind it, a digit as its number and any other byte as no state
+pub record Input : Type 0 where
+  pub line : (seats card : List ℕ) → Every (λ b. b ≡ lineEnd → ⊥) seats → (seatsLine (seats ++ (lineEnd ∷ card)) ≡ seats) × (cardBehind (seats ++ (lineEnd ∷ card)) ≡ card)
+  pub no-line : (seats : List ℕ) → Every (λ b. b ≡ lineEnd → ⊥) seats → (seatsLine seats ≡ seats) × (cardBehind seats ≡ [])
+  pub digits : (d : ℕ) → d ≤ 9 → seatOf (digit d) ≡ d
+  pub no-digit : (b : ℕ) → (b < digit 0) ⊎ (digit 9 < b) → seatOf b ≡ noState
 
 -- of the input's first bytes, the seats up to LF and the card behind it
 abbrev pub seatsRead : List ℕ → List ℕ
@@ -114,7 +128,7 @@ pub data Response (input : List ℕ) : Type 0 where
 pub record Demand1 : Type 0 where
   -- the reader: its verdict in numbers, and the struct that it hands back
   pub read : (card : List ℕ) (x : Reading) → Reads card x
-      → (numberOf (x .verdict) ≡ numberIn (readOf card)) × (placeOf (x .verdict) ≡ placeIn (readOf card)) × (x .card ≡ readingOf (readOf card) .card)
+      → (numberOf (x .verdict) ≡ outcomeNumber (readOf card)) × (placeOf (x .verdict) ≡ outcomePlace (readOf card)) × (x .card ≡ readingOf (readOf card) .card)
   pub write : (card was is : List ℕ) (a : Answer) → Entered was is (writeSaid card) a → Prints writeOf card was is a
   pub reduce : (card was is : List ℕ) (a : Answer) → Entered was is (reduceSaid card) a → Prints reducedOf card was is a
   pub panel : (card seats was is : List ℕ) (a : Answer) → Entered was is (panelSaid card seats) a → Shows card seats was is a
@@ -124,5 +138,7 @@ pub record Demand1 : Type 0 where
   -- and it is the panel or a refusal 1 to 9: a 10 is never printed, for of no bytes and no seats is one said
   pub responds : (input : List ℕ) → Response input
   pub never-10 : (card seats : List ℕ) (number place : ℕ) → panelSaid card seats ≡ refusal number place → (1 ≤ number) × (number ≤ seatAboveTop)
+  pub input : Input
   -- rooms that are always enough
   pub rooms : Rooms
+  pub unique : Unique

@@ -8,6 +8,7 @@ use lib.ListN.{length, drop}
 use Rattle.card.specs.Refusals.{wrongWeight, wrongSeats, seatAboveTop, roomTooSmall}
 use Rattle.card.specs.Card.{Card}
 use Rattle.reading.specs.Reading.{taken, refused, readOf}
+use Rattle.room.specs.Answer.{Text}
 use Rattle.meaning.specs.Seats.{ValidSeating}
 use Rattle.counting.specs.Judged.{FirstAbove}
 use Rattle.writer.specs.Writing.{writeOf}
@@ -65,3 +66,5 @@ pub record ForC : Type 0 where
   pub write : (card was is : List ℕ) (a : OpenPanelAnswer) → Told was is (writeSaid card) a → TextTells writeOf card was is a
   pub reduce : (card was is : List ℕ) (a : OpenPanelAnswer) → Told was is (reduceSaid card) a → TextTells reducedOf card was is a
   pub show : (card seats was is : List ℕ) (a : OpenPanelAnswer) → Told was is (panelSaid card seats) a → PanelTells card seats was is a
+  -- two results that keep one contract are the same
+  pub unique : (was is₁ is₂ : List ℕ) (said : Text) (a₁ a₂ : OpenPanelAnswer) → Told was is₁ said a₁ → Told was is₂ said a₂ → (a₁ ≡ a₂) × (is₁ ≡ is₂)

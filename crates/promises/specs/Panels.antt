@@ -4,10 +4,12 @@ use mathlib.Core.Path.{_≡_}
 use mathlib.Core.Bool.{true}
 use mathlib.Core.List.{[], _∷_}
 use mathlib.Core.Option.{Option, none}
+use lib.Dec.{ltb}
 use lib.ListN.{length}
 use Rattle.card.specs.Limits.{mostSeats, mostStatements, unit}
-use Rattle.card.specs.Card.{probabilistic, Statement, Card}
+use Rattle.card.specs.Card.{nondeterministic, probabilistic, Statement, Card}
 use Rattle.card.specs.Valid.{Every, ValidCard}
+use Rattle.meaning.specs.Sums.{gate, sum, upto}
 use Rattle.meaning.specs.Seats.{Seating, ValidSeating, counts, mayTake, turn}
 use Rattle.meaning.specs.Panel.{panel, blockOf, blockTotal, due}
 use Rattle.meaning.specs.ByCounts.{countPanel}
@@ -20,6 +22,10 @@ fromTo a b = record { own = a; guard = none; branches = record { units = unit; e
 -- two seats, of which one moves from 0 to 2 and one from 1 to 0
 abbrev pub turning : Card
 turning = record { mode = probabilistic; n = 2; k = 2; l = 0; statements = fromTo 1 0 ∷ fromTo 0 2 ∷ [] }
+
+-- how many seats may take a statement
+abbrev pub takers : Statement → Seating → ℕ
+takers s x = sum (λ i. gate (mayTake s x i) 1) (upto (length x) (λ i. i))
 
 pub record Panels : Type 0 where
   -- it can be computed from the counts alone
@@ -34,6 +40,9 @@ pub record Panels : Type 0 where
   -- the weights add up: to the unit for each pair of a seat and a statement on a probabilistic card, to the unit in each choice on a
   -- nondeterministic one
   pub adds-up : (c : Card) → ValidCard c → (x : Seating) → ValidSeating c x → Every (λ b. blockTotal b ≡ due (c .mode) (panel c x .enabled)) (panel c x .blocks)
+  -- enabled counts the pairs of a seat and a statement that it may take; on a nondeterministic card the statements that some seat may take
+  pub enabled-pairs : (c : Card) (x : Seating) → c .mode ≡ probabilistic → panel c x .enabled ≡ sum (λ s. takers s x) (c .statements)
+  pub enabled-statements : (c : Card) (x : Seating) → c .mode ≡ nondeterministic → panel c x .enabled ≡ sum (λ s. gate (ltb 0 (takers s x)) 1) (c .statements)
   pub enabled-most : (c : Card) → ValidCard c → (x : Seating) → ValidSeating c x → panel c x .enabled ≤ mostSeats * mostStatements
   -- moves stand by old state, then by new
   pub order : panel turning (0 ∷ 1 ∷ []) .blocks ≡ record { choice = none; stay = 0; moves = record { old = 0; new = 2; weight = 25200 } ∷ record { old = 1; new = 0; weight = 25200 } ∷ [] } ∷ []

@@ -4,10 +4,14 @@ use Prim.Native.Nat.{ℕ, _≤_}
 use mathlib.Core.Path.{_≡_}
 use mathlib.Core.Logic.{_↔_}
 use mathlib.Core.List.{List, map}
-use Rattle.card.specs.Card.{Card}
+use mathlib.Core.Option.{some}
+use Rattle.card.specs.Card.{everyone, others, Card}
 use Rattle.card.specs.Valid.{ValidCard}
 use Rattle.card.specs.Refusals.{tooLong, outsideRules, outOfShape, pastLimit, aboveTop, notDue, wrongWeight}
 use Rattle.marks.specs.Marks.{marksOf}
+use Rattle.reading.specs.Group.{Literal}
+use Rattle.reading.specs.Judgements.{kindOf}
+use Rattle.reading.specs.Rules.{OnceEach}
 use Rattle.reading.specs.Reading.{taken, refused, readOf}
 use Rattle.reading.specs.Verdicts.{Accepted, TooLong, OutsideRules, OutOfShape, PastLimit, Broken}
 use Rattle.promises.specs.CardMarks.{markOf, CardMarks}
@@ -19,6 +23,9 @@ pub record Readings : Type 0 where
   pub valid : (s : List ℕ) (c : Card) → readOf s ≡ taken c → ValidCard c
   -- its marks, with the words that are due and no others
   pub words : (s : List ℕ) (c : Card) → readOf s ≡ taken c → CardMarks c (map markOf (marksOf s))
+  -- whose seats a group names: those of everyone or of the others, exactly where they stand in it once each
+  pub names-everyone : (n : ℕ) (ls : List Literal) → (kindOf n ls ≡ some everyone) ↔ OnceEach 1 n ls
+  pub names-others : (n : ℕ) (ls : List Literal) → 1 ≤ n → (kindOf n ls ≡ some others) ↔ OnceEach 2 n ls
   -- each row of the table of refusals
   pub row-1 : (s : List ℕ) (p : ℕ) → (readOf s ≡ refused tooLong p) ↔ TooLong s p
   pub row-2 : (s : List ℕ) (p : ℕ) → (readOf s ≡ refused outsideRules p) ↔ OutsideRules s p

@@ -2,7 +2,7 @@
 -- many copies there are, and where a raised counter is cut. Assumes nothing.
 use Prim.Native.Nat.{ℕ, _-_, _≤_}
 use mathlib.Core.Path.{_≡_}
-use mathlib.Core.List.{List, [], _∷_}
+use mathlib.Core.List.{List, [], _∷_, map}
 use mathlib.Core.Option.{Option, none, some}
 use Rattle.card.specs.Text.{bytes}
 use Rattle.card.specs.Card.{nondeterministic, probabilistic, Kind, everyone, others, Sign, all, any, Relation, is, isnt, group, atom, neg, and, or, Card}
@@ -10,7 +10,8 @@ use Rattle.reducer.specs.ReducedText.{reducedOf}
 use Rattle.card.specs.Valid.{Every}
 use Rattle.meaning.specs.CardA.{cardA}
 use Rattle.meaning.specs.Steps.{Step}
-use Rattle.meaning.specs.Reduced.{Bound, equalTo, moreThan, lessThan, counter, counterOf, Test, keep, shift, Outcome, Reduced, Program, reduce, reducedSteps}
+use Rattle.meaning.specs.Sums.{upto, flat}
+use Rattle.meaning.specs.Reduced.{Bound, equalTo, moreThan, lessThan, counter, counterOf, Test, keep, shift, Outcome, Reduced, updateOf, copy, reduce, reducedSteps}
 
 -- document 01's one-seat card
 abbrev pub oneSeat : Card
@@ -74,8 +75,20 @@ pub record Table : Type 0 where
   pub all-isnt : (n j d : ℕ) → becomes n j everyone all isnt d (equalTo 0) × becomes n d others all isnt d (equalTo 1) × ((j ≡ d → ⊥) → becomes n j others all isnt d (equalTo 0))
   pub some-isnt : (n j d : ℕ) → becomes n j everyone any isnt d (lessThan n) × becomes n d others any isnt d (lessThan n) × ((j ≡ d → ⊥) → becomes n j others any isnt d (lessThan (n - 1)))
 
+-- of every card: mode and range, a statement's copies, and what becomes of a branch
+pub record Translation : Type 0 where
+  pub mode : (c : Card) → reduce c .mode ≡ c .mode
+  pub most : (c : Card) → reduce c .most ≡ c .n
+  -- n copies running, from no_j>0 to no_j>n-1; or one
+  pub copies : (c : Card) → c .mode ≡ probabilistic → reduce c .statements ≡ flat (map (λ s. upto (c .n) (λ m. copy (c .n) s m)) (c .statements))
+  pub one-copy : (c : Card) → c .mode ≡ nondeterministic → reduce c .statements ≡ flat (map (λ s. copy (c .n) s 0 ∷ []) (c .statements))
+  -- a branch to j keeps every counter, any other lowers no_j and raises no_t
+  pub stays : (n j : ℕ) → updateOf n j j ≡ keep
+  pub moves : (n j t : ℕ) → (j ≡ t → ⊥) → updateOf n j t ≡ shift j t n
+
 pub record Reductions : Type 0 where
   pub table : Table
+  pub translation : Translation
   -- document 01's text of its one-seat card, letter for letter
   pub one-seat-text : reducedOf oneSeat
       ≡ bytes "nondeterministic\nmodule generic_process\nno_0 : [0..1] init 1;\nno_1 : [0..1] init 0;\n[] (no_0>0) -> 1:(no_0'=no_0-1) & (no_1'=min(no_1+1,1));\nendmodule\n"
