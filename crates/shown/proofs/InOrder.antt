@@ -1,0 +1,129 @@
+-- A panel's lines are in order: a block's moves are listed by old state and then by new state, so what stands in a later list has a larger
+-- state; and places count up along the card. Assumes nothing.
+use Prim.Native.Nat.{ℕ, zero, suc, _≤_, _<_}
+use mathlib.Core.Path.{_≡_, refl, sym, _∙_}
+use mathlib.Core.Logic.{inl, inr}
+use mathlib.Core.Bool.{Bool, true, false, not, _&&_}
+use mathlib.Core.List.{List, [], _∷_, _++_, map}
+use mathlib.Core.Option.{Option, none, some}
+use native.Mathlib.Omega.{arith}
+use lib.Dec.{eqb, ltb}
+use Rattle.card.specs.Text.{if_then_else_}
+use Rattle.card.specs.Card.{Mode, nondeterministic, probabilistic, Statement, Card}
+use Rattle.card.specs.Valid.{Every}
+use Rattle.meaning.specs.Sums.{upto, flat}
+use Rattle.meaning.specs.Steps.{Turn, weight}
+use Rattle.meaning.specs.Seats.{Seating, Choice, choice, turnsBy, choicesFrom, choices, steps}
+use Rattle.meaning.specs.Panel.{Move, moveLine, Block, goes, block, blockOf, oneOf, blocks, panel}
+use Rattle.meaning.proofs.Sums.{every-imp}
+use Rattle.shown.specs.InOrder.{Rising, Before, places, Ordered}
+
+-- ---- lists one after the other
+
+module _ {A : Type 0} where
+  every-append : (P : A → Type 0) (xs ys : List A) → Every P xs → Every P ys → Every P (xs ++ ys)
+  every-append P [] ys p q = q
+  every-append P (x ∷ xs) ys p q = (p .0, every-append P xs ys (p .1) q)
+
+  every-flat : (P : A → Type 0) (n : ℕ) (f : ℕ → List A) → ((i : ℕ) → Every P (f i)) → Every P (flat (upto n f))
+  every-flat P zero f h = tt
+  every-flat P (suc n) f h = every-append P (f 0) (flat (upto n (λ i. f (suc i)))) (h 0) (every-flat P n (λ i. f (suc i)) (λ i. h (suc i)))
+
+  every-both : {B : Type 0} (P : B → A → Type 0) (xs : List A) → ((b : B) → Every (P b) xs) → Every (λ x. (b : B) → P b x) xs
+  every-both P [] h = tt
+  every-both P (x ∷ xs) h = (λ b. h b .0, every-both P xs (λ b. h b .1))
+
+  module _ (R : A → A → Type 0) where
+    rising-append : (xs ys : List A) → Rising R xs → Rising R ys → Every (λ x. Every (R x) ys) xs → Rising R (xs ++ ys)
+    rising-append [] ys p q h = q
+    rising-append (x ∷ xs) ys p q h = (every-append (R x) xs ys (p .0) (h .0), rising-append xs ys (p .1) q (h .1))
+
+    -- lists that rise, each before the next
+    rising-flat : (n : ℕ) (f : ℕ → List A) → ((i : ℕ) → Rising R (f i)) → ((i j : ℕ) → i < j → Every (λ x. Every (R x) (f j)) (f i)) → Rising R (flat (upto n f))
+    rising-flat zero f each across = tt
+    rising-flat (suc n) f each across =
+        rising-append (f 0) (flat (upto n (λ i. f (suc i)))) (each 0)
+        (rising-flat n (λ i. f (suc i)) (λ i. each (suc i)) (λ i j l. across (suc i) (suc j) (omega arith)))
+        (every-imp (λ x. (i : ℕ) → Every (R x) (f (suc i))) (f 0) (every-both (λ i x. Every (R x) (f (suc i))) (f 0) (λ i. across 0 (suc i) (omega arith)))
+        (λ x h. every-flat (R x) n (λ i. f (suc i)) h))
+
+-- ---- moves
+
+-- a line of its two states, or none
+module _ (P : Move → Type 0) (a b w : ℕ) where
+  line-is : ((m : Move) → m .old ≡ a → m .new ≡ b → P m) → Every P (moveLine a b w)
+  line-is h = go (not (eqb a b) && ltb 0 w)
+    where
+      go : (t : Bool) → Every P (if t then record { old = a; new = b; weight = w } ∷ [] else [])
+      go true = (h (record { old = a; new = b; weight = w }) refl refl, tt)
+      go false = tt
+
+line-rises : (a b w : ℕ) → Rising Before (moveLine a b w)
+line-rises a b w = go (not (eqb a b) && ltb 0 w)
+  where
+    go : (t : Bool) → Rising Before (if t then record { old = a; new = b; weight = w } ∷ [] else [])
+    go true = (tt, tt)
+    go false = tt
+
+module _ (k : ℕ) (w : ℕ → ℕ → ℕ) where
+  abbrev row : ℕ → List Move
+  row a = flat (upto (suc k) (λ b. moveLine a b (w a b)))
+
+  row-is : (P : Move → Type 0) (a : ℕ) → ((m : Move) → m .old ≡ a → P m) → Every P (row a)
+  row-is P a h = every-flat P (suc k) (λ b. moveLine a b (w a b)) (λ b. line-is P a b (w a b) (λ m e f. h m e))
+
+  row-rises : (a : ℕ) → Rising Before (row a)
+  row-rises a = rising-flat Before (suc k) (λ b. moveLine a b (w a b)) (λ b. line-rises a b (w a b))
+      (λ i j l. line-is _ a i (w a i) (λ m e f. line-is _ a j (w a j) (λ o g h. inr (e ∙ sym g, omega arith))))
+
+  rows-rise : Rising Before (flat (upto (suc k) row))
+  rows-rise = rising-flat Before (suc k) row row-rises (λ i j l. row-is _ i (λ m e. row-is _ j (λ o g. inl (omega arith))))
+
+block-rises : (k : ℕ) (q : Option ℕ) (x : Seating) (l : Turn Seating) → Rising Before (blockOf k q x l .moves)
+unfolding blockOf block
+block-rises k q x l = rows-rise k (λ a b. weight (goes a b x) l)
+
+-- ---- choices
+
+module _ (k : ℕ) (x : Seating) where
+  abbrev blockAt : Choice → Block
+  blockAt q = blockOf k (some (q .place)) x (oneOf (q .turns))
+
+  moves-rise : (l : List Choice) → Every (λ (b : Block). Rising Before (b .moves)) (map blockAt l)
+  moves-rise [] = tt
+  moves-rise (q ∷ l) = (block-rises k (some (q .place)) x (oneOf (q .turns)), moves-rise l)
+
+  -- from place q on
+  pub record From (q : ℕ) (l : List ℕ) : Type 0 where
+    pub above : Every (λ p. q ≤ p) l
+    pub rises : Rising _<_ l
+
+  from-less : (q : ℕ) (l : List ℕ) → From (suc q) l → From q l
+  from-less q l f = record { above = every-imp (λ p. suc q ≤ p) l (f .above) (λ p h. omega arith); rises = f .rises }
+
+  from-more : (q : ℕ) (l : List ℕ) → From (suc q) l → From q (q ∷ l)
+  from-more q l f = record { above = (omega arith, from-less q l f .above); rises = (every-imp (λ p. suc q ≤ p) l (f .above) (λ p h. omega arith), f .rises) }
+
+  places-rise : (q : ℕ) (l : List Statement) → From q (places (map blockAt (choicesFrom q l x)))
+  unfolding choicesFrom blockOf block
+  places-rise q [] = record { above = tt; rises = tt }
+  places-rise q (s ∷ l) = go (turnsBy s x) (places-rise (suc q) l)
+    where
+      go : (t : List (Turn Seating)) → From (suc q) (places (map blockAt (choicesFrom (suc q) l x)))
+          → From q (places (map blockAt (choice q t ++ choicesFrom (suc q) l x)))
+      go [] f = from-less q (places (map blockAt (choicesFrom (suc q) l x))) f
+      go (t ∷ ts) f = from-more q (places (map blockAt (choicesFrom (suc q) l x))) f
+
+-- ---- the panel
+
+pub ordered : Ordered
+unfolding panel choices
+ordered c x = record { moves = moves (c .mode); choices = rise (c .mode) }
+  where
+    moves : (m : Mode) → Every (λ (b : Block). Rising Before (b .moves)) (blocks m c x)
+    moves nondeterministic = moves-rise (c .k) x (choices c x)
+    moves probabilistic = (block-rises (c .k) none x (steps c x), tt)
+
+    rise : (m : Mode) → Rising _<_ (places (blocks m c x))
+    rise nondeterministic = places-rise (c .k) x 1 (c .statements) .rises
+    rise probabilistic = tt

@@ -1,0 +1,1 @@
+// Definitions and theorems only: the lines of a panel are in order, and a panel can be read off its text.
