@@ -15,10 +15,11 @@ use lib.Seq.{drop-cons}
 use Rattle.card.specs.Card.{Card}
 use Rattle.card.specs.Valid.{Every}
 use Rattle.card.specs.Refusals.{wrongSeats, seatAboveTop}
+use Rattle.card.specs.Verdict.{numberOf, placeOf}
 use Rattle.meaning.specs.Seats.{Seating, ValidSeating}
-use Rattle.counting.specs.declared.Seated.{Seated}
-use Rattle.counting.specs.declared.Seated.the-variants.{Fine, Refused}
-use Rattle.counting.specs.Judged.{judgedFrom, judgedSeats, seatedNumber, seatedPlace, FirstAbove}
+use Rattle.card.specs.declared.Verdict.{Verdict}
+use Rattle.card.specs.declared.Verdict.the-variants.{Taken, Refused}
+use Rattle.counting.specs.Judged.{judgedFrom, judgedSeats, FirstAbove}
 
 -- ---- as a loop judges
 
@@ -40,7 +41,7 @@ module _ (k : ℕ) (x : List ℕ) (i : ℕ) where
   unfolding judgedFrom
   judged-next l h = rw (add-one i, drop-cons x i 0 l, le-ltb k (getD x i 0) h)
 
-  pub judged-end : length x ≤ i → judgedFrom k i (drop i x) ≡ Fine
+  pub judged-end : length x ≤ i → judgedFrom k i (drop i x) ≡ Taken
   unfolding judgedFrom
   judged-end h = rw (drop-of-length-le x h)
 
@@ -56,7 +57,7 @@ within-at k (a ∷ x) w (suc i) l = within-at k x (w .1) i (le-of-suc-le-suc l)
 
 -- all seats are within k, or one is the first above
 data Look (k p : ℕ) (x : List ℕ) : Type 0 where
-  below : Within k x → judgedFrom k p x ≡ Fine → Look k p x
+  below : Within k x → judgedFrom k p x ≡ Taken → Look k p x
   above : (q : ℕ) → FirstAbove k x q → judgedFrom k p x ≡ Refused seatAboveTop (p + q) → Look k p x
 
 later : (k a : ℕ) (x : List ℕ) (q : ℕ) → a ≤ k → FirstAbove k x q → FirstAbove k (a ∷ x) (suc q)
@@ -90,18 +91,18 @@ first-only k x p q f g = go (decLe p q) (decLe q p)
     go (no h) _ = absurd (omega (arith, f .first q (omega arith), g .above))
     go (yes h) (no l) = absurd (omega (arith, g .first p (omega arith), f .above))
 
-fine≢refused : {A : Type 0} {r p : ℕ} → Fine ≡ Refused r p → A
+fine≢refused : {A : Type 0} {r p : ℕ} → Taken ≡ Refused r p → A
 fine≢refused e = let z : _≡_ {A = ℕ} 0 1 = cc in absurd (omega arith)
 
 same-refusal : {r s p q : ℕ} → Refused r p ≡ Refused s q → (r ≡ s) × (p ≡ q)
-same-refusal e = (ap seatedNumber e, ap seatedPlace e)
+same-refusal e = (ap numberOf e, ap placeOf e)
 
 module _ (n k : ℕ) (x : List ℕ) where
   -- the three ways in which a judgement can go
   judged-by : {A : Type 0}
       → ((length x ≡ n → ⊥) → judgedSeats n k x ≡ Refused wrongSeats 0 → A)
       → (length x ≡ n → (p : ℕ) → FirstAbove k x p → judgedSeats n k x ≡ Refused seatAboveTop p → A)
-      → (length x ≡ n → Within k x → judgedSeats n k x ≡ Fine → A)
+      → (length x ≡ n → Within k x → judgedSeats n k x ≡ Taken → A)
       → A
   judged-by {A} other over fine = go (ℕ-discrete (length x) n)
     where
@@ -114,7 +115,7 @@ module _ (n k : ℕ) (x : List ℕ) where
           by (above q f e) = let here : 0 + q ≡ q = omega arith in over h q f (judged-start n k x h ∙ e ∙ ap (Refused seatAboveTop) here)
 
   -- fine: so many seats, each within k
-  pub fine-exactly : (judgedSeats n k x ≡ Fine) ↔ ((length x ≡ n) × Every (λ a. a ≤ k) x)
+  pub fine-exactly : (judgedSeats n k x ≡ Taken) ↔ ((length x ≡ n) × Every (λ a. a ≤ k) x)
   fine-exactly = judged-by
       (λ h e. (λ f. fine≢refused (sym f ∙ e), λ g. absurd (h (g .0))))
       (λ h p f e. (λ z. fine≢refused (sym z ∙ e), λ g. absurd (omega (arith, f .above, within-at k x (g .1) p (f .seat)))))
@@ -145,7 +146,7 @@ module _ (n k : ℕ) (x : List ℕ) where
       (λ h w e. fine≢refused (sym e ∙ z))
 
 -- so seats are fine exactly where they are a valid seating of the card
-pub valid-exactly : (c : Card) (x : Seating) → (judgedSeats (c .n) (c .k) x ≡ Fine) ↔ ValidSeating c x
+pub valid-exactly : (c : Card) (x : Seating) → (judgedSeats (c .n) (c .k) x ≡ Taken) ↔ ValidSeating c x
 valid-exactly c x =
     let f = fine-exactly (c .n) (c .k) x in
     (λ e. let g = f .0 e in record { seats = g .0; states = g .1 }, λ v. f .1 (v .seats, v .states))

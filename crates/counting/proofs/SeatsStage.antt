@@ -14,18 +14,18 @@ use Rattle.entry.specs.Numbers.{among, Among}
 use Rattle.entry.specs.Stage.{Stage}
 use Rattle.entry.proofs.Stages.{says≢refused, same-number, same-place}
 use Rattle.entry.proofs.Exactly.{_↔∙_}
-use Rattle.counting.specs.declared.Seated.{Seated}
-use Rattle.counting.specs.declared.Seated.the-variants.{Fine, Refused}
+use Rattle.card.specs.declared.Verdict.{Verdict}
+use Rattle.card.specs.declared.Verdict.the-variants.{Taken, Refused}
 use Rattle.counting.specs.Judged.{judgedSeats, FirstAbove}
-use Rattle.counting.specs.SeatsSaid.{seatedSaid, seatsSaid, seatsNumbers}
+use Rattle.counting.specs.SeatsSaid.{verdictSaid, seatsSaid, seatsNumbers}
 use Rattle.counting.proofs.Judging.{valid-exactly, wrong-seats-exactly, seat-above-exactly, judged-else}
 
-seated-refused : (s : Seated) (r p : ℕ) → (seatedSaid s ≡ refused r p) ↔ (s ≡ Refused r p)
-seated-refused Fine r p = (λ e. says≢refused e, λ e. let z : _≡_ {A = ℕ} 0 1 = cc in absurd (omega arith))
-seated-refused (Refused s q) r p = (λ e. rw (same-number e, same-place e), λ e. ap seatedSaid e)
+seated-refused : (s : Verdict) (r p : ℕ) → (verdictSaid s ≡ refused r p) ↔ (s ≡ Refused r p)
+seated-refused Taken r p = (λ e. says≢refused e, λ e. let z : _≡_ {A = ℕ} 0 1 = cc in absurd (omega arith))
+seated-refused (Refused s q) r p = (λ e. rw (same-number e, same-place e), λ e. ap verdictSaid e)
 
-seated-fine : (s : Seated) (u : Unit {0}) → seatedSaid s ≡ says u → s ≡ Fine
-seated-fine Fine u e = refl
+seated-fine : (s : Verdict) (u : Unit {0}) → verdictSaid s ≡ says u → s ≡ Taken
+seated-fine Taken u e = refl
 seated-fine (Refused s q) u e = says≢refused (sym e)
 
 module _ (seats : List ℕ) (c : Card) where
@@ -33,7 +33,7 @@ module _ (seats : List ℕ) (c : Card) where
   seats-stage = record {
     numbers = record { number = λ r p e. ⊎-elim (λ k. rw k) (λ k. rw k) (judged-else (c .n) (c .k) seats r p (seated-refused (judgedSeats (c .n) (c .k) seats) r p .0 e)) };
     found = record {
-      each = λ ok. ap seatedSaid (valid-exactly c seats .1 ok);
+      each = λ ok. ap verdictSaid (valid-exactly c seats .1 ok);
       only = λ u e. (valid-exactly c seats .0 (seated-fine (judgedSeats (c .n) (c .k) seats) u e), refl);
     };
   }

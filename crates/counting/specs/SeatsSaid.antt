@@ -5,16 +5,16 @@ use Rattle.card.specs.Refusals.{wrongSeats, seatAboveTop}
 use Rattle.card.specs.Card.{Card}
 use Rattle.entry.specs.Said.{Said, says, refused}
 use Rattle.entry.specs.Numbers.{Numbers, _to_}
-use Rattle.counting.specs.declared.Seated.{Seated}
-use Rattle.counting.specs.declared.Seated.the-variants.{Fine, Refused}
+use Rattle.card.specs.declared.Verdict.{Verdict}
+use Rattle.card.specs.declared.Verdict.the-variants.{Taken, Refused}
 use Rattle.counting.specs.Judged.{judgedSeats}
 
-abbrev pub seatedSaid : Seated → Said (Unit {0})
-seatedSaid Fine = says tt
-seatedSaid (Refused number place) = refused number place
+abbrev pub verdictSaid : Verdict → Said (Unit {0})
+verdictSaid Taken = says tt
+verdictSaid (Refused number place) = refused number place
 
 abbrev pub seatsSaid : List ℕ → Card → Said (Unit {0})
-seatsSaid seats c = seatedSaid (judgedSeats (c .n) (c .k) seats)
+seatsSaid seats c = verdictSaid (judgedSeats (c .n) (c .k) seats)
 
 abbrev pub seatsNumbers : Numbers
 seatsNumbers = (wrongSeats to seatAboveTop) ∷ []

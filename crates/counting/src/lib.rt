@@ -1,4 +1,5 @@
 // From a seating to its counts, and from counts to who may take a statement and what it weighs ("What a card means").
+use card::Verdict;
 use card::limits::MOST_BRANCHES;
 use card::limits::MOST_STATES;
 use card::node::AND;
@@ -10,13 +11,14 @@ use card::node::op_of;
 use card::node::right_of;
 use card::node::state_of;
 use card::node::units_of;
+use card::number_at;
 use card::refusals::SEAT_ABOVE_TOP;
 use card::refusals::WRONG_SEATS;
 use table::bound_of;
 ghost use mathlib.Core.Path.{_≡_};
 ghost use mathlib.Core.List.{map};
 ghost use Prim.Native.Nat.{_+_, min};
-ghost use lib.ListN.{getD, take, drop};
+ghost use lib.ListN.{take, drop};
 ghost use Rattle.card.specs.Limits.{topState, mostBranches};
 ghost use Rattle.card.specs.Laid.{groupOf, guardAt, guardOf, branchOf};
 ghost use Rattle.meaning.specs.Seats.{counts as countsOf};
@@ -25,34 +27,29 @@ ghost use Rattle.meaning.specs.ByCounts.{heldAt};
 ghost use Rattle.counting.specs.Judged.{judgedSeats};
 ghost use Rattle.counting.specs.Taking.{takers, unitsToEach};
 
-// Seats that a panel can be made for, or what is wrong with them: a refusal's number and place ("Refusal numbers").
-pub enum Seated {
-    Fine,
-    Refused(u8, usize),
-}
-
-fn wide(x: u8) -> usize
+// A byte as a number: where it stands in an array it cannot be cast.
+pub fn wide(x: u8) -> usize
     ensures { λ r. ⌜ r ≡ x ⌝ }
 {
     x as usize
 }
 
-// Seats for a card of n seats and top state `top`.
-pub fn judge_seats(seats: &[u8], n: usize, top: usize) -> Seated
+// Are they seats for a card of n seats and top state `top`?
+pub fn judge_seats(seats: &[u8], n: usize, top: usize) -> Verdict
     ensures { λ r. ⌜ r ≡ judgedSeats n top (now (seats .entry)) ⌝ }
 {
     if seats.len() != n {
-        return Seated::Refused(WRONG_SEATS, 0);
+        return Verdict::Refused(WRONG_SEATS, 0);
     }
     let mut i = 0;
     while i < seats.len() {
         let state = wide(seats[i]);
         if top < state {
-            return Seated::Refused(SEAT_ABOVE_TOP, i);
+            return Verdict::Refused(SEAT_ABOVE_TOP, i);
         }
         i += 1;
     }
-    Seated::Fine
+    Verdict::Taken
 }
 
 // How many seats are in each state that there can be; any other seat is passed over.
@@ -81,8 +78,8 @@ fn count_at(counts: &[usize], d: usize) -> usize
     0
 }
 
-// Does the group in `node` hold for a seat in state `own`, of n seats? Its counter is held against its bound in the table.
-fn passes(node: u32, own: usize, n: usize, counts: &[usize]) -> bool
+// Does the leaf in `node` hold for a seat in state `own`, of n seats? A group's counter is held against its bound in the table.
+fn leaf_holds(node: u32, own: usize, n: usize, counts: &[usize]) -> bool
     ensures { λ r. ⌜ r ≡ passesAt (now (counts .entry)) (counterOf n own (groupOf node)) ⌝ }
 {
     let d = state_of(node);
@@ -97,27 +94,17 @@ fn passes(node: u32, own: usize, n: usize, counts: &[usize]) -> bool
     no_d < bound.number
 }
 
-// Where there is no node there stands 0.
-fn node_at(nodes: &[u32], n: usize) -> u32
-    ensures { λ r. ⌜ r ≡ getD (now (nodes .entry)) n 0 ⌝ }
-{
-    if n < nodes.len() {
-        return nodes[n];
-    }
-    0
-}
-
 // Does the guard whose root is node `root` hold for a seat in state `own`, of n seats? Node numbers fall.
 pub fn held(nodes: &[u32], root: usize, own: usize, n: usize, counts: &[usize]) -> bool
     ensures { λ r. ⌜ r ≡ heldAt n own (now (counts .entry)) (guardAt (now (nodes .entry)) root) ⌝ }
 {
-    let node = node_at(nodes, root);
+    let node = number_at(nodes, root);
     let op = op_of(node);
     if root == 0 {
-        return passes(node, own, n, counts);
+        return leaf_holds(node, own, n, counts);
     }
     if op == GROUP {
-        return passes(node, own, n, counts);
+        return leaf_holds(node, own, n, counts);
     }
     let left = held(nodes, left_of(node, root), own, n, counts);
     if op == NOT {

@@ -1,1 +1,2 @@
 pub mod PanelText
+pub mod PanelIn

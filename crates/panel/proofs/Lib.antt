@@ -1,5 +1,3 @@
-pub mod Arrays
-pub mod Laws
 pub mod Shown
 pub mod Short
 pub mod Entry

@@ -16,8 +16,8 @@ use Rattle.meaning.specs.Panel.{Panel}
 use Rattle.meaning.specs.Reordered.{Reordered, done, keep, swap, then}
 use Rattle.meaning.proofs.Reorder.{reordered-length, reordered-valid, reordered-panel}
 use Rattle.meaning.proofs.Panel.{equal-counts}
-use Rattle.counting.specs.declared.Seated.{Seated}
-use Rattle.counting.specs.declared.Seated.the-variants.{Fine, Refused}
+use Rattle.card.specs.declared.Verdict.{Verdict}
+use Rattle.card.specs.declared.Verdict.the-variants.{Taken, Refused}
 use Rattle.counting.specs.Judged.{judgedSeats}
 use Rattle.counting.proofs.Judging.{valid-exactly, wrong-seats-exactly, seat-above-exactly, judged-else}
 use Rattle.lines.specs.PanelText.{panelText, panelOf}
@@ -55,8 +55,8 @@ module _ (card : List ℕ) {c : Card} (h : readOf card ≡ taken c) where
         let j′ = wrong-seats-exactly (c .n) (c .k) y p .1 (λ e. q .0 (reordered-length r ∙ e), q .1) in
         said-refused x j ∙ sym (said-refused y j′)
 
-    above-alike : (p : ℕ) → judgedSeats (c .n) (c .k) x ≡ Refused seatAboveTop p → (s : Seated) → judgedSeats (c .n) (c .k) y ≡ s → SaidAlike card x y
-    above-alike p j Fine k =
+    above-alike : (p : ℕ) → judgedSeats (c .n) (c .k) x ≡ Refused seatAboveTop p → (s : Verdict) → judgedSeats (c .n) (c .k) y ≡ s → SaidAlike card x y
+    above-alike p j Taken k =
         let ok = reordered-valid c (back r) (valid-exactly c y .0 k) in
         let z : _≡_ {A = ℕ} 0 1 = cc (valid-exactly c x .1 ok) in
         absurd (omega arith)
@@ -70,8 +70,8 @@ module _ (card : List ℕ) {c : Card} (h : readOf card ≡ taken c) where
         nine : number ≡ seatAboveTop → SaidAlike card x y
         nine e = inr (p, q, said-refused x j, said-refused y (k ∙ ap (λ (m : ℕ). Refused m q) e))
 
-    seats-alike : (s : Seated) → judgedSeats (c .n) (c .k) x ≡ s → SaidAlike card x y
-    seats-alike Fine j = inl (fine-alike (valid-exactly c x .0 j))
+    seats-alike : (s : Verdict) → judgedSeats (c .n) (c .k) x ≡ s → SaidAlike card x y
+    seats-alike Taken j = inl (fine-alike (valid-exactly c x .0 j))
     seats-alike (Refused number p) j = ⊎-elim
         (λ e. inl (wrong-alike p (j ∙ ap (λ (m : ℕ). Refused m p) e)))
         (λ e. above-alike p (j ∙ ap (λ (m : ℕ). Refused m p) e) (judgedSeats (c .n) (c .k) y) refl)

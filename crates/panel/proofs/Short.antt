@@ -27,8 +27,8 @@ use Rattle.meaning.proofs.Bounds.{Few, counts-few, units-le, stay-le, all-able-
 use Rattle.meaning.proofs.Panel.{panel-by-counts}
 use Rattle.lines.specs.PanelText.{numbers, line, movesText, stayText, blockText, blocksText, panelText, panelOf}
 use Rattle.lines.proofs.Laws.{moves-join}
+use Rattle.lines.proofs.Blocks.{own-moves}
 use Rattle.panel.specs.PanelRoom.{panelRoom}
-use Rattle.panel.proofs.Laws.{own-moves}
 
 -- ---- lines
 

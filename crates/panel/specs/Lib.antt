@@ -1,4 +1,3 @@
-pub mod Tables
 pub mod PanelSaid
 pub mod PanelRoom
 pub mod Reordering

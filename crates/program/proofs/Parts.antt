@@ -19,11 +19,11 @@ use Rattle.card.specs.Valid.{ValidCard}
 use Rattle.reading.specs.Reading.{Outcome, taken, refused as turned, readOf}
 use Rattle.entry.specs.Said.{says as text, refused, _>>=_, _>>_, return}
 use Rattle.room.specs.Answer.{Text}
-use Rattle.counting.specs.declared.Seated.{Seated}
-use Rattle.counting.specs.declared.Seated.the-variants.{Fine, Refused}
+use Rattle.card.specs.declared.Verdict.{Verdict}
+use Rattle.card.specs.declared.Verdict.the-variants.{Taken, Refused}
 use Rattle.counting.specs.Judged.{judgedSeats}
 use Rattle.rows.specs.Said.{outcomeSaid}
-use Rattle.counting.specs.SeatsSaid.{seatedSaid}
+use Rattle.counting.specs.SeatsSaid.{verdictSaid}
 use Rattle.lines.specs.PanelText.{panelOf}
 use Rattle.panel.specs.PanelSaid.{shownSaid, panelSaid}
 use Rattle.counting.proofs.Judging.{valid-exactly}
@@ -114,8 +114,8 @@ pub panel-short : (card seats : List ℕ) → Short panelRoom (panelSaid card se
 unfolding panelSaid
 panel-short card seats = go (readOf card) refl
   where
-    by-seats : (c : Card) → readOf card ≡ taken c → (s : Seated) → judgedSeats (c .n) (c .k) seats ≡ s → Short panelRoom (seatedSaid s >> return (panelOf c seats))
-    by-seats c e Fine j = panel-fits c (read-valid card c e) seats (valid-exactly c seats .0 j)
+    by-seats : (c : Card) → readOf card ≡ taken c → (s : Verdict) → judgedSeats (c .n) (c .k) seats ≡ s → Short panelRoom (verdictSaid s >> return (panelOf c seats))
+    by-seats c e Taken j = panel-fits c (read-valid card c e) seats (valid-exactly c seats .0 j)
     by-seats c e (Refused number place) j = tt
 
     go : (o : Outcome) → readOf card ≡ o → Short panelRoom (outcomeSaid o >>= shownSaid seats)

@@ -1,5 +1,6 @@
 // The panel program as a function from the bytes that it reads to the bytes that it prints ("Texts, byte for byte").
 use card::limits::MOST_SEATS;
+use counting::wide;
 use panel::PANEL_ROOM;
 use panel::panel;
 use room::Answer;
@@ -70,12 +71,6 @@ fn put_seats(line: &[u8], seats: &mut [u8]) -> usize
         i += 1;
     }
     i
-}
-
-fn wide(number: u8) -> usize
-    ensures { λ r. ⌜ r ≡ number ⌝ }
-{
-    number as usize
 }
 
 fn put_refusal(room: &mut [u8], number: u8, place: usize) -> usize

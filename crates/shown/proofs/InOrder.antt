@@ -15,19 +15,15 @@ use Rattle.meaning.specs.Sums.{upto, flat}
 use Rattle.meaning.specs.Steps.{Turn, weight}
 use Rattle.meaning.specs.Seats.{Seating, Choice, choice, turnsBy, choicesFrom, choices, steps}
 use Rattle.meaning.specs.Panel.{Move, moveLine, Block, goes, block, blockOf, oneOf, blocks, panel}
-use Rattle.meaning.proofs.Sums.{every-imp}
+use Rattle.meaning.proofs.Sums.{every-append, every-imp}
 use Rattle.shown.specs.InOrder.{Rising, Before, places, Ordered}
 
 -- ---- lists one after the other
 
 module _ {A : Type 0} where
-  every-append : (P : A → Type 0) (xs ys : List A) → Every P xs → Every P ys → Every P (xs ++ ys)
-  every-append P [] ys p q = q
-  every-append P (x ∷ xs) ys p q = (p .0, every-append P xs ys (p .1) q)
-
-  every-flat : (P : A → Type 0) (n : ℕ) (f : ℕ → List A) → ((i : ℕ) → Every P (f i)) → Every P (flat (upto n f))
-  every-flat P zero f h = tt
-  every-flat P (suc n) f h = every-append P (f 0) (flat (upto n (λ i. f (suc i)))) (h 0) (every-flat P n (λ i. f (suc i)) (λ i. h (suc i)))
+  every-flat-upto : (P : A → Type 0) (n : ℕ) (f : ℕ → List A) → ((i : ℕ) → Every P (f i)) → Every P (flat (upto n f))
+  every-flat-upto P zero f h = tt
+  every-flat-upto P (suc n) f h = every-append P (f 0) (flat (upto n (λ i. f (suc i)))) (h 0) (every-flat-upto P n (λ i. f (suc i)) (λ i. h (suc i)))
 
   every-both : {B : Type 0} (P : B → A → Type 0) (xs : List A) → ((b : B) → Every (P b) xs) → Every (λ x. (b : B) → P b x) xs
   every-both P [] h = tt
@@ -45,7 +41,7 @@ module _ {A : Type 0} where
         rising-append (f 0) (flat (upto n (λ i. f (suc i)))) (each 0)
         (rising-flat n (λ i. f (suc i)) (λ i. each (suc i)) (λ i j l. across (suc i) (suc j) (omega arith)))
         (every-imp (λ x. (i : ℕ) → Every (R x) (f (suc i))) (f 0) (every-both (λ i x. Every (R x) (f (suc i))) (f 0) (λ i. across 0 (suc i) (omega arith)))
-        (λ x h. every-flat (R x) n (λ i. f (suc i)) h))
+        (λ x h. every-flat-upto (R x) n (λ i. f (suc i)) h))
 
 -- ---- moves
 
@@ -70,7 +66,7 @@ module _ (k : ℕ) (w : ℕ → ℕ → ℕ) where
   row a = flat (upto (suc k) (λ b. moveLine a b (w a b)))
 
   row-is : (P : Move → Type 0) (a : ℕ) → ((m : Move) → m .old ≡ a → P m) → Every P (row a)
-  row-is P a h = every-flat P (suc k) (λ b. moveLine a b (w a b)) (λ b. line-is P a b (w a b) (λ m e f. h m e))
+  row-is P a h = every-flat-upto P (suc k) (λ b. moveLine a b (w a b)) (λ b. line-is P a b (w a b) (λ m e f. h m e))
 
   row-rises : (a : ℕ) → Rising Before (row a)
   row-rises a = rising-flat Before (suc k) (λ b. moveLine a b (w a b)) (λ b. line-rises a b (w a b))

@@ -10,7 +10,9 @@ count-at-requires : tie.Need-count-at-requires
 count-at-requires c κs = search needs
 
 returns : tie.Need-returns
-returns c = takers-none _ _ _ (c .before .before .before .before .args .nodes .now) (c .before .before .before .before .args .at) (c .before .before .before .before .args .size) (sym (c .before .count-at .ensures) ∙ c .if1 .taken)
+returns c =
+    let start = c .before .before .before .before in
+    takers-none _ _ _ (start .args .nodes .now) (start .args .at) (start .args .size) (sym (c .before .count-at .ensures) ∙ c .if1 .taken)
 
 returns-2 : tie.Need-returns-2
 returns-2 c = c .before .before .count-at .ensures ∙ takers-free _ _ _ _ _ _ (c .if2 .taken)
@@ -28,7 +30,9 @@ returns-3 : tie.Need-returns-3
 returns-3 c = takers-kept _ _ _ _ _ _ _ (c .before .before .before .if2 .left) (c .before .before .place-behind .ensures) (sym (not-true _ (c .if3 .taken)) ∙ c .before .held .ensures)
 
 returns-4 : tie.Need-returns-4
-returns-4 c = c .before .before .before .before .before .count-at .ensures ∙ takers-held _ _ _ _ _ _ _ (c .before .before .before .if2 .left) (c .before .before .place-behind .ensures) (sym (not-false _ (c .if3 .left)) ∙ c .before .held .ensures)
+returns-4 c =
+    let at-count-at = c .before .before .before .before .before in
+    at-count-at .count-at .ensures ∙ takers-held _ _ _ _ _ _ _ (c .before .before .before .if2 .left) (c .before .before .place-behind .ensures) (sym (not-false _ (c .if3 .left)) ∙ c .before .held .ensures)
 
 pub able-spec : {M : Type 1} → statement M
 able-spec =

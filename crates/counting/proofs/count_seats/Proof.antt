@@ -33,7 +33,10 @@ array-read-counts : tie.Need-array-read-counts Inv-loop μ-loop
 array-read-counts c = search needs
 
 add-counts : tie.Need-add-counts Inv-loop μ-loop
-add-counts c = rw (c .before .before .before .before .loop .inv .1) (omega (arith, counts-most topState (take (c .before .before .before .before .loop .i) (c .before .before .before .before .before .before .args .seats .now)) (c .before .wide .result), length-take (c .before .before .before .before .loop .i) (c .before .before .before .before .before .before .args .seats .now)))
+add-counts c =
+    let at-loop = c .before .before .before .before in
+    let start = at-loop .before .before in
+    rw (at-loop .loop .inv .1) (omega (arith, counts-most topState (take (at-loop .loop .i) (start .args .seats .now)) (c .before .wide .result), length-take (at-loop .loop .i) (start .args .seats .now)))
 
 mul-counts-2 : tie.Need-mul-counts-2 Inv-loop μ-loop
 mul-counts-2 c = search needs
@@ -49,9 +52,11 @@ loop-less c = search needs
 
 loop-again : tie.Need-loop-again Inv-loop μ-loop
 loop-again c =
-    let within = counts-next topState (c .before .before .before .before .before .before .args .seats .now) (c .before .before .before .before .loop .i) (c .before .before .before .loop-test .taken) in
-    let over = counts-over topState (c .before .before .before .before .before .before .args .seats .now) (c .before .before .before .before .loop .i) (c .before .before .before .loop-test .taken) in
-    (search needs, ⊎-elim (λ w. w .1 ∙ rw (c .before .before .before .before .loop .inv .1, c .before .wide .ensures) (within (omega (arith, w .0 .taken, c .before .wide .ensures)))) (λ w. w .1 ∙ c .before .before .before .before .loop .inv .1 ∙ over (omega (arith, w .0 .left, c .before .wide .ensures))) (c .if1 .came))
+    let at-loop = c .before .before .before .before in
+    let start = at-loop .before .before in
+    let within = counts-next topState (start .args .seats .now) (at-loop .loop .i) (c .before .before .before .loop-test .taken) in
+    let over = counts-over topState (start .args .seats .now) (at-loop .loop .i) (c .before .before .before .loop-test .taken) in
+    (search needs, ⊎-elim (λ w. w .1 ∙ rw (at-loop .loop .inv .1, c .before .wide .ensures) (within (omega (arith, w .0 .taken, c .before .wide .ensures)))) (λ w. w .1 ∙ at-loop .loop .inv .1 ∙ over (omega (arith, w .0 .left, c .before .wide .ensures))) (c .if1 .came))
 
 returns : tie.Need-returns Inv-loop μ-loop
 returns c = c .before .loop .inv .1 ∙ counts-all topState _ _ (c .loop-test .left)

@@ -28,7 +28,9 @@ wide-requires : tie.Need-wide-requires Inv-loop μ-loop
 wide-requires c κs = search needs
 
 returns-2 : tie.Need-returns-2 Inv-loop μ-loop
-returns-2 c = sym (c .before .before .before .before .loop .inv .1 ∙ judged-above _ _ _ (c .before .before .before .loop-test .taken) (omega (arith, c .before .wide .ensures)))
+returns-2 c =
+    let at-loop = c .before .before .before .before in
+    sym (at-loop .loop .inv .1 ∙ judged-above _ _ _ (c .before .before .before .loop-test .taken) (omega (arith, c .before .wide .ensures)))
 
 add-i : tie.Need-add-i Inv-loop μ-loop
 add-i c = search needs
@@ -37,7 +39,9 @@ loop-less : tie.Need-loop-less Inv-loop μ-loop
 loop-less c = search needs
 
 loop-again : tie.Need-loop-again Inv-loop μ-loop
-loop-again c = (search needs, c .before .before .before .before .loop .inv .1 ∙ judged-next _ _ _ (c .before .before .before .loop-test .taken) (omega (arith, c .before .wide .ensures)))
+loop-again c =
+    let at-loop = c .before .before .before .before in
+    (search needs, at-loop .loop .inv .1 ∙ judged-next _ _ _ (c .before .before .before .loop-test .taken) (omega (arith, c .before .wide .ensures)))
 
 returns-3 : tie.Need-returns-3 Inv-loop μ-loop
 returns-3 c = sym (c .before .loop .inv .1 ∙ judged-end _ _ _ (c .loop-test .left))

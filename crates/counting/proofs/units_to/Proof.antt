@@ -22,16 +22,23 @@ loop-holds : tie.Need-loop-holds Inv-loop μ-loop
 loop-holds c = (search needs, search needs, each-none, zeros-small mostStates)
 
 returns : tie.Need-returns Inv-loop μ-loop
-returns c = c .before .before .loop .inv .2 ∙ each-end (c .before .before .before .before .args .branches .now) (c .before .before .before .before .args .at) (c .before .before .loop .i) (min (c .before .before .before .before .args .size) mostBranches) (omega arith)
+returns c =
+    let start = c .before .before .before .before in
+    c .before .before .loop .inv .2 ∙ each-end (start .args .branches .now) (start .args .at) (c .before .before .loop .i) (min (start .args .size) mostBranches) (omega arith)
 
 returns-2 : tie.Need-returns-2 Inv-loop μ-loop
-returns-2 c = c .before .before .before .loop .inv .2 ∙ each-all (c .before .before .before .before .before .args .branches .now) (c .before .before .before .before .before .args .at) (c .before .before .before .loop .i) (min (c .before .before .before .before .before .args .size) mostBranches) (omega arith) (omega (arith, length-drop (c .before .before .before .before .before .args .at) (c .before .before .before .before .before .args .branches .now)))
+returns-2 c =
+    let start = c .before .before .before .before .before in
+    c .before .before .before .loop .inv .2 ∙ each-all (start .args .branches .now) (start .args .at) (c .before .before .before .loop .i) (min (start .args .size) mostBranches) (omega arith) (omega (arith, length-drop (start .args .at) (start .args .branches .now)))
 
 sub-if3 : tie.Need-sub-if3 Inv-loop μ-loop
 sub-if3 c = search needs
 
 returns-3 : tie.Need-returns-3 Inv-loop μ-loop
-returns-3 c = c .before .before .before .before .loop .inv .2 ∙ each-all (c .before .before .before .before .before .before .args .branches .now) (c .before .before .before .before .before .before .args .at) (c .before .before .before .before .loop .i) (min (c .before .before .before .before .before .before .args .size) mostBranches) (omega arith) (omega (arith, length-drop (c .before .before .before .before .before .before .args .at) (c .before .before .before .before .before .before .args .branches .now)))
+returns-3 c =
+    let at-loop = c .before .before .before .before in
+    let start = at-loop .before .before in
+    at-loop .loop .inv .2 ∙ each-all (start .args .branches .now) (start .args .at) (at-loop .loop .i) (min (start .args .size) mostBranches) (omega arith) (omega (arith, length-drop (start .args .at) (start .args .branches .now)))
 
 add-branch : tie.Need-add-branch Inv-loop μ-loop
 add-branch c = search needs
@@ -58,7 +65,9 @@ cast-units : tie.Need-cast-units Inv-loop μ-loop
 cast-units c = search needs
 
 add-units : tie.Need-add-units Inv-loop μ-loop
-add-units c = omega (arith, c .before .before .before .before .before .before .before .loop .inv .3 (c .before .end-of .result))
+add-units c =
+    let at-loop = c .before .before .before .before .before .before .before in
+    omega (arith, at-loop .loop .inv .3 (c .before .end-of .result))
 
 mul-units-2 : tie.Need-mul-units-2 Inv-loop μ-loop
 mul-units-2 c = search needs
@@ -74,8 +83,10 @@ loop-less c = search needs
 
 loop-again : tie.Need-loop-again Inv-loop μ-loop
 loop-again c =
-    let more = each-next (c .before .before .before .before .before .before .before .before .before .args .branches .now) (c .before .before .before .before .before .before .before .before .before .args .at) (c .before .before .before .before .before .before .before .loop .i) _ refl (omega arith) (c .before .end-of .ensures .0) (c .units-of .ensures) (c .before .end-of .ensures .1) (c .before .before .before .before .before .before .before .loop .inv .2) in
-    let small = sums-next (c .before .before .before .before .before .before .before .loop .units) (c .before .end-of .result) (c .units-of .result) (2 ^ 32) (c .before .before .before .before .before .before .before .loop .i) (c .before .before .before .before .before .before .before .loop .inv .3) (omega arith) in
+    let at-loop = c .before .before .before .before .before .before .before in
+    let start = at-loop .before .before in
+    let more = each-next (start .args .branches .now) (start .args .at) (at-loop .loop .i) _ refl (omega arith) (c .before .end-of .ensures .0) (c .units-of .ensures) (c .before .end-of .ensures .1) (at-loop .loop .inv .2) in
+    let small = sums-next (at-loop .loop .units) (c .before .end-of .result) (c .units-of .result) (2 ^ 32) (at-loop .loop .i) (at-loop .loop .inv .3) (omega arith) in
     (search needs, search needs, more, small)
 
 returns-4 : tie.Need-returns-4 Inv-loop μ-loop

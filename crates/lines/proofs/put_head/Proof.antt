@@ -1,8 +1,17 @@
 -- `lines::put_head` meets its contract: its puts, one after the other. Assumes nothing.
 use borrow.Author.Needs.{needs}
+use lib.Seq.{length-take-le}
+use mathlib.Core.Path.{refl, sym}
+use native.Mathlib.Omega.{arith}
 use Rattle.phrases.proofs.Laws.{put-first, puts-then}
 use Rattle.lines.proofs.put_head.Statement.{statement}
 use Rattle.lines.proofs.put_head.Tie as tie
+
+add-states : tie.Need-add-states
+add-states c = search needs
+
+shared-slice-read-enabled : tie.Need-shared-slice-read-enabled
+shared-slice-read-enabled c = search needs
 
 put-mode-requires : tie.Need-put-mode-requires
 put-mode-requires c κs = search needs
@@ -28,6 +37,11 @@ put-line-requires c κs = search needs
 slice-aggregate-put-line-3 : tie.Need-slice-aggregate-put-line-3
 slice-aggregate-put-line-3 c = search needs
 
+slice-aggregate-put-line-4 : tie.Need-slice-aggregate-put-line-4
+slice-aggregate-put-line-4 c =
+    let start = c .before .before .before .before .before .before .before .before .before .before .before .before .before .before .before .before .before .before .before .before .before .before .before .before .before .before in
+    sym (length-take-le _ (start .args .table .now) (omega (arith, start .pre .0, start .pre .1)))
+
 put-line-requires-2 : tie.Need-put-line-requires-2
 put-line-requires-2 c κs = search needs
 
@@ -35,12 +49,19 @@ same-length : tie.Need-same-length
 same-length c = search needs
 
 returns : tie.Need-returns
-returns c = puts-then (c .before .before .before .before .before .before .before .before .before .before .before .before .before .before .before .before .before .before .before .before .before .before .put-mode .ensures) (puts-then (put-first (c .before .before .before .before .before .before .before .before .before .before .before .before .before .before .before .before .before .put-bytes .ensures)) (puts-then (put-first (c .before .before .before .before .before .before .before .before .before .before .before .before .before .put-number .ensures)) (puts-then (c .before .before .before .before .before .before .before .put-line .ensures) (c .before .before .put-line2 .ensures))))
+returns c =
+    let at-put-line = c .before .before .before .before .before .before .before .before in
+    let at-put-number = at-put-line .before .before .before .before .before .before in
+    let at-put-bytes = at-put-number .before .before .before .before in
+    let at-put-mode = at-put-bytes .before .before .before .before .before in
+    puts-then (at-put-mode .put-mode .ensures) (puts-then (put-first (at-put-bytes .put-bytes .ensures)) (puts-then (put-first (at-put-number .put-number .ensures)) (puts-then (at-put-line .put-line .ensures) (c .before .before .put-line2 .ensures))))
 
 pub put-head-spec : {M : Type 1} → statement M
 put-head-spec =
     tie.close
     (tie.spec
+    add-states
+    shared-slice-read-enabled
     put-mode-requires
     slice-aggregate-put-bytes
     put-bytes-requires
@@ -49,6 +70,7 @@ put-head-spec =
     slice-aggregate-put-line-2
     put-line-requires
     slice-aggregate-put-line-3
+    slice-aggregate-put-line-4
     put-line-requires-2
     same-length
     returns)

@@ -17,7 +17,10 @@ same-length : tie.Need-same-length
 same-length c = search needs
 
 returns : tie.Need-returns
-returns c = puts-then (put-first (c .before .before .before .before .before .before .before .before .before .before .put-bytes .ensures)) (puts-then (c .before .before .before .before .before .before .put-numbers .ensures) (put-first (c .before .before .put-byte .ensures)))
+returns c =
+    let at-put-numbers = c .before .before .before .before .before .before in
+    let at-put-bytes = at-put-numbers .before .before .before .before in
+    puts-then (put-first (at-put-bytes .put-bytes .ensures)) (puts-then (at-put-numbers .put-numbers .ensures) (put-first (c .before .before .put-byte .ensures)))
 
 pub put-line-spec : {M : Type 1} → statement M
 put-line-spec =

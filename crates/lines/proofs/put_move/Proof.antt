@@ -15,7 +15,9 @@ place-requires-2 : tie.Need-place-requires-2
 place-requires-2 c κs = search needs
 
 returns-2 : tie.Need-returns-2
-returns-2 c = puts-as _ (λ t. move-none (c .before .before .before .before .args .old) (c .before .before .before .before .args .new) _ t (c .before .if2 .taken)) (puts-none (search needs) (c .place2 .ensures))
+returns-2 c =
+    let start = c .before .before .before .before in
+    puts-as _ (λ t. move-none (start .args .old) (start .args .new) _ t (c .before .if2 .taken)) (puts-none (search needs) (c .place2 .ensures))
 
 slice-aggregate-put-line : tie.Need-slice-aggregate-put-line
 slice-aggregate-put-line c = search needs
@@ -30,7 +32,10 @@ same-length : tie.Need-same-length
 same-length c = search needs
 
 returns-3 : tie.Need-returns-3
-returns-3 c = puts-as _ (λ t. move-some _ _ _ t (c .before .before .before .before .before .before .before .if1 .left) (c .before .before .before .before .before .before .if2 .left)) (c .before .before .put-line .ensures)
+returns-3 c =
+    let at-if2 = c .before .before .before .before .before .before in
+    let at-if1 = at-if2 .before in
+    puts-as _ (λ t. move-some _ _ _ t (at-if1 .if1 .left) (at-if2 .if2 .left)) (c .before .before .put-line .ensures)
 
 pub put-move-spec : {M : Type 1} → statement M
 put-move-spec =

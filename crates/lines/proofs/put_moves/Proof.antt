@@ -39,13 +39,18 @@ loop-less : tie.Need-loop-less Inv-loop μ-loop
 loop-less c = search needs
 
 loop-again : tie.Need-loop-again Inv-loop μ-loop
-loop-again c = (search needs, lists-next moves-join (λ b. moveLine (c .before .before .before .before .before .before .before .before .before .before .args .old) b (getD (c .before .before .before .before .before .before .before .before .before .before .args .weights .now) b 0)) (c .before .before .before .before .before .before .loop .new) (c .before .before .before .before .before .before .loop .inv .1) (c .before .before .put-move .ensures))
+loop-again c =
+    let at-loop = c .before .before .before .before .before .before in
+    let start = at-loop .before .before .before .before in
+    (search needs, lists-next moves-join (λ b. moveLine (start .args .old) b (getD (start .args .weights .now) b 0)) (at-loop .loop .new) (at-loop .loop .inv .1) (c .before .before .put-move .ensures))
 
 same-length : tie.Need-same-length Inv-loop μ-loop
 same-length c = put-length (c .before .loop .inv .1 .put)
 
 returns : tie.Need-returns Inv-loop μ-loop
-returns c = lists-end moves-join (λ b. moveLine (c .before .before .before .before .before .args .old) b (getD (c .before .before .before .before .before .args .weights .now) b 0)) (c .before .loop .new) _ (c .before .loop .inv .0) (c .loop-test .left) (c .before .loop .inv .1)
+returns c =
+    let start = c .before .before .before .before .before in
+    lists-end moves-join (λ b. moveLine (start .args .old) b (getD (start .args .weights .now) b 0)) (c .before .loop .new) _ (c .before .loop .inv .0) (c .loop-test .left) (c .before .loop .inv .1)
 
 pub put-moves-spec : {M : Type 1} → statement M
 put-moves-spec =

@@ -41,13 +41,20 @@ loop-less : tie.Need-loop-less Inv-loop μ-loop
 loop-less c = search needs
 
 loop-again : tie.Need-loop-again Inv-loop μ-loop
-loop-again c = (search needs, numbers-next (c .before .before .before .before .before .before .before .before .before .before .before .before .before .before .args .values .now) (c .before .before .before .before .before .before .before .before .before .before .loop .i) (c .before .before .before .before .before .before .before .before .before .loop-test .taken) (c .before .before .before .before .before .before .before .before .before .before .loop .inv .1) (puts-then (put-first (c .before .before .before .before .before .before .before .put-byte .ensures)) (put-first (c .before .before .put-number .ensures))))
+loop-again c =
+    let at-put-byte = c .before .before .before .before .before .before .before in
+    let at-loop-test = at-put-byte .before .before in
+    let at-loop = at-loop-test .before in
+    let start = at-loop .before .before .before .before in
+    (search needs, numbers-next (start .args .values .now) (at-loop .loop .i) (at-loop-test .loop-test .taken) (at-loop .loop .inv .1) (puts-then (put-first (at-put-byte .put-byte .ensures)) (put-first (c .before .before .put-number .ensures))))
 
 same-length : tie.Need-same-length Inv-loop μ-loop
 same-length c = put-length (c .before .loop .inv .1 .put)
 
 returns : tie.Need-returns Inv-loop μ-loop
-returns c = numbers-end (c .before .before .before .before .before .args .values .now) _ (c .loop-test .left) (c .before .loop .inv .1)
+returns c =
+    let start = c .before .before .before .before .before in
+    numbers-end (start .args .values .now) _ (c .loop-test .left) (c .before .loop .inv .1)
 
 pub put-numbers-spec : {M : Type 1} → statement M
 put-numbers-spec =

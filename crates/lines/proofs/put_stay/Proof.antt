@@ -24,7 +24,9 @@ same-length : tie.Need-same-length
 same-length c = search needs
 
 returns-2 : tie.Need-returns-2
-returns-2 c = puts-as _ (λ t. stay-some _ t (c .before .before .before .before .before .before .if1 .left)) (c .before .before .put-line .ensures)
+returns-2 c =
+    let at-if1 = c .before .before .before .before .before .before in
+    puts-as _ (λ t. stay-some _ t (at-if1 .if1 .left)) (c .before .before .put-line .ensures)
 
 pub put-stay-spec : {M : Type 1} → statement M
 put-stay-spec =

@@ -1,64 +1,81 @@
-use mathlib.Core.Path.{sym}
-use Rattle.panel.proofs.Entry.{due-holds, due-valid, due-said, due-refused}
-use Rattle.card.specs.Limits.{nodePlaces, branchPlaces}
-use Rattle.card.proofs.Filling.{zeros-repeat}
-use Rattle.room.proofs.Entries.{entered-refused}
+-- `panel::panel` meets its contract: the stages in order, then the panel that the table holds. Assumes nothing.
 use borrow.Author.Needs.{needs}
+use Rattle.panel.proofs.Entry.{arrays-none, card-refused, seats-refused, filling, entry-prints, entry-said}
+use Rattle.room.proofs.Entries.{entered-refused}
 use Rattle.panel.proofs.panel.Statement.{statement}
 use Rattle.panel.proofs.panel.Tie as tie
-use Rattle.panel.proofs.panel.Reads as reads
-use Rattle.panel.proofs.panel.Lts as lts
-use Rattle.counting.proofs.judge_seats.Reads as judge-seats-reads
-use Rattle.panel.proofs.first_due.Reads as first-due-reads
-use Rattle.panel.proofs.show.Reads as show-reads
-use Rattle.reader.proofs.read_rough.Reads as read-rough-reads
 
--- src/lib.rt:371:9
-read-rough-requires : tie.Need-read-rough-requires
-read-rough-requires c κs = (sym (zeros-repeat nodePlaces), sym (zeros-repeat branchPlaces))
+read-into-requires : tie.Need-read-into-requires
+read-into-requires c κs = arrays-none
 
--- src/lib.rt:372:9
 judge-seats-requires : tie.Need-judge-seats-requires
 judge-seats-requires c κs = search needs
 
--- src/lib.rt:374:9
-first-due-requires : tie.Need-first-due-requires
-first-due-requires c κs = search needs
+enum-known-of-card : tie.Need-enum-known-of-card
+enum-known-of-card c = search needs
 
--- src/lib.rt:376:25
-enum-known-due : tie.Need-enum-known-due
-enum-known-due c = search needs
-
--- src/lib.rt:377:13
 returns : tie.Need-returns
-returns c = entered-refused (due-refused _ (c .before .before .before .before .before .read-rough .ensures) _ (c .before .before .before .before .judge-seats .ensures) (c .before .before .before .first-due .ensures) (c .before .due .given .1))
+returns c =
+    let at-read-into = c .before .before .before .before .before in
+    entered-refused (card-refused _ (at-read-into .read-into .ensures) _ (c .before .of-card .given .1))
 
--- src/lib.rt:380:34
 enum-told : tie.Need-enum-told
 enum-told c = search needs
 
--- src/lib.rt:380:13
-show-requires : tie.Need-show-requires
-show-requires c κs = (due-holds _ (c .before .before .before .before .before .before .before .read-rough .ensures) _ (c .before .before .before .before .before .before .judge-seats .ensures) (c .before .before .before .before .before .first-due .ensures) (c .before .before .before .enum-told .given .1), due-valid _ (c .before .before .before .before .before .before .before .read-rough .ensures) _ (c .before .before .before .before .before .before .judge-seats .ensures) (c .before .before .before .before .before .first-due .ensures) (c .before .before .before .enum-told .given .1))
+enum-known-of-seats : tie.Need-enum-known-of-seats
+enum-known-of-seats c = search needs
 
--- src/lib.rt:380:13
+returns-2 : tie.Need-returns-2
+returns-2 c =
+    let at-judge-seats = c .before .before .before .before .before in
+    let at-read-into = at-judge-seats .before .before in
+    entered-refused (seats-refused _ (at-read-into .read-into .ensures) _ (at-judge-seats .judge-seats .ensures) (c .before .before .before .enum-told .given .1) (c .before .of-seats .given .1))
+
+enum-told-2 : tie.Need-enum-told-2
+enum-told-2 c = search needs
+
+fill-requires : tie.Need-fill-requires
+fill-requires c κs =
+    let at-enum-told2 = c .before .before .before .before in
+    let at-enum-told = at-enum-told2 .before .before in
+    let at-judge-seats = at-enum-told .before .before in
+    let at-read-into = at-judge-seats .before .before in
+    filling _ (at-read-into .read-into .ensures) _ (at-judge-seats .judge-seats .ensures) (at-enum-told .enum-told .given .1) (at-enum-told2 .enum-told2 .given .1)
+
+enter-panel-requires : tie.Need-enter-panel-requires
+enter-panel-requires c κs =
+    let at-fill = c .before .before .before .before in
+    let at-enum-told2 = at-fill .before .before .before .before .before in
+    let at-enum-told = at-enum-told2 .before .before in
+    let at-judge-seats = at-enum-told .before .before in
+    let at-read-into = at-judge-seats .before .before in
+    entry-prints _ (at-read-into .read-into .ensures) _ (at-judge-seats .judge-seats .ensures) (at-enum-told .enum-told .given .1) (at-enum-told2 .enum-told2 .given .1) (at-fill .fill .ensures)
+
 same-length : tie.Need-same-length
 same-length c = search needs
 
--- src/lib.rt:380:13
-returns-2 : tie.Need-returns-2
-returns-2 c = rw (due-said _ (c .before .before .before .before .before .before .before .before .before .before .read-rough .ensures) _ (c .before .before .before .before .before .before .before .before .before .judge-seats .ensures) (c .before .before .before .before .before .before .before .before .first-due .ensures) (c .before .before .before .before .before .before .enum-told .given .1)) at (c .before .before .show .ensures)
+returns-3 : tie.Need-returns-3
+returns-3 c =
+    let at-fill = c .before .before .before .before .before .before .before in
+    let at-enum-told2 = at-fill .before .before .before .before .before in
+    let at-enum-told = at-enum-told2 .before .before in
+    let at-judge-seats = at-enum-told .before .before in
+    let at-read-into = at-judge-seats .before .before in
+    rw (entry-said _ (at-read-into .read-into .ensures) _ (at-judge-seats .judge-seats .ensures) (at-enum-told .enum-told .given .1) (at-enum-told2 .enum-told2 .given .1) (at-fill .fill .ensures)) at (c .before .before .enter-panel .ensures)
 
 pub panel-spec : {M : Type 1} → statement M
 panel-spec =
     tie.close
     (tie.spec
-    read-rough-requires
+    read-into-requires
     judge-seats-requires
-    first-due-requires
-    enum-known-due
+    enum-known-of-card
     returns
     enum-told
-    show-requires
+    enum-known-of-seats
+    returns-2
+    enum-told-2
+    fill-requires
+    enter-panel-requires
     same-length
-    returns-2)
+    returns-3)

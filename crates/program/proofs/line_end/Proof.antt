@@ -1,3 +1,4 @@
+-- `program::line_end` meets its contract: what is left to look at is one byte shorter after each turn. Assumes nothing.
 use Rattle.program.proofs.Laws.{line-found, line-next, line-all}
 use Rattle.program.specs.Program.{seatsLine}
 use lib.ListN.{length, drop}
@@ -7,8 +8,6 @@ use mathlib.Core.Path.{_≡_, refl}
 use Prim.Native.Nat.{_≤_, _+_, _-_}
 use Rattle.program.proofs.line_end.Statement.{statement}
 use Rattle.program.proofs.line_end.Tie as tie
-use Rattle.program.proofs.line_end.Reads as reads
-use Rattle.program.proofs.line_end.Lts as lts
 
 abbrev Inv-loop : tie.InvT-loop
 Inv-loop input i₀ i = (i ≤ length input) × (length (seatsLine input) ≡ i + length (seatsLine (drop i input)))
@@ -16,31 +15,24 @@ Inv-loop input i₀ i = (i ≤ length input) × (length (seatsLine input) ≡ i 
 abbrev μ-loop : tie.MeasureT-loop
 μ-loop input i₀ i = length input - i
 
--- src/lib.rt:49:5
 loop-holds : tie.Need-loop-holds Inv-loop μ-loop
 loop-holds c = (search needs, omega arith)
 
--- src/lib.rt:50:12
 shared-slice-read-if1 : tie.Need-shared-slice-read-if1 Inv-loop μ-loop
 shared-slice-read-if1 c = search needs
 
--- src/lib.rt:51:13
 returns : tie.Need-returns Inv-loop μ-loop
 returns c = (line-found _ _ (c .before .before .before .loop .inv .1) (c .before .before .loop-test .taken) (c .if1 .taken), search needs)
 
--- src/lib.rt:53:9
 add-i : tie.Need-add-i Inv-loop μ-loop
 add-i c = search needs
 
--- src/lib.rt:49:5
 loop-less : tie.Need-loop-less Inv-loop μ-loop
 loop-less c = search needs
 
--- src/lib.rt:49:5
 loop-again : tie.Need-loop-again Inv-loop μ-loop
 loop-again c = (search needs, line-next _ _ (c .before .before .loop-test .taken) (c .if1 .left) (c .before .before .before .loop .inv .1))
 
--- src/lib.rt:44:1
 returns-2 : tie.Need-returns-2 Inv-loop μ-loop
 returns-2 c = (line-all _ _ (c .before .loop .inv .1) (c .loop-test .left), search needs)
 

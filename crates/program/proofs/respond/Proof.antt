@@ -1,3 +1,4 @@
+-- `program::respond` meets its contract: the input is cut after so many bytes. Assumes nothing.
 use mathlib.Core.Path.{sym}
 use lib.Seq.{length-take-le}
 use native.Mathlib.Nat.{le-of-lt}
@@ -5,27 +6,19 @@ use Rattle.program.proofs.Parts.{program-short, program-long}
 use borrow.Author.Needs.{needs}
 use Rattle.program.proofs.respond.Statement.{statement}
 use Rattle.program.proofs.respond.Tie as tie
-use Rattle.program.proofs.respond.Reads as reads
-use Rattle.program.proofs.respond.Lts as lts
-use Rattle.program.proofs.answer_to.Reads as answer-to-reads
 
--- src/lib.rt:126:26
 slice-aggregate-answer-to : tie.Need-slice-aggregate-answer-to
 slice-aggregate-answer-to c = sym (length-take-le _ (c .before .before .before .args .input .now) (le-of-lt (c .before .if1 .taken)))
 
--- src/lib.rt:126:9
 answer-to-requires : tie.Need-answer-to-requires
 answer-to-requires c κs = search needs
 
--- src/lib.rt:126:9
 returns : tie.Need-returns
 returns c = rw (program-long _) at (c .answer-to .ensures)
 
--- src/lib.rt:128:5
 answer-to-requires-2 : tie.Need-answer-to-requires-2
 answer-to-requires-2 c κs = search needs
 
--- src/lib.rt:122:1
 returns-2 : tie.Need-returns-2
 returns-2 c = rw (program-short _ (c .before .before .if1 .left)) at (c .answer-to2 .ensures)
 

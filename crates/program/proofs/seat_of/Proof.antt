@@ -1,20 +1,16 @@
+-- `program::seat_of` meets its contract: by its tests. Assumes nothing.
 use Rattle.program.proofs.Laws.{seat-before, seat-behind, seat-digit}
 use native.Mathlib.Omega.{arith}
 use borrow.Author.Needs.{needs}
 use Rattle.program.proofs.seat_of.Statement.{statement}
 use Rattle.program.proofs.seat_of.Tie as tie
-use Rattle.program.proofs.seat_of.Reads as reads
-use Rattle.program.proofs.seat_of.Lts as lts
 
--- src/lib.rt:26:9
 returns : tie.Need-returns
 returns c = seat-before _ (c .if1 .taken)
 
--- src/lib.rt:29:9
 returns-2 : tie.Need-returns-2
 returns-2 c = seat-behind _ (c .if2 .taken)
 
--- src/lib.rt:22:1
 returns-3 : tie.Need-returns-3
 returns-3 c = seat-digit _ (omega (arith, c .before .if1 .left)) (omega (arith, c .if2 .left))
 

@@ -1,0 +1,4 @@
+pub mod Stored
+pub mod Laws
+pub mod Filled
+pub mod ByCounts

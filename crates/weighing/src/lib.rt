@@ -1,0 +1,178 @@
+// All numbers of a panel, from the counts alone, in one table that is lent ("Texts, byte for byte"): each statement's guard and weights
+// are worked out once.
+use card::Head;
+use card::NONDETERMINISTIC;
+use card::limits::BRANCH_PLACES;
+use card::limits::MOST_BRANCHES;
+use card::limits::MOST_NODES;
+use card::limits::MOST_STATEMENTS;
+use card::limits::MOST_STATES;
+use card::limits::NODE_PLACES;
+use card::limits::ROW;
+use card::limits::ROW_PLACES;
+use counting::able;
+use counting::count_seats;
+use counting::units_to;
+ghost use mathlib.Core.Path.{_≡_};
+ghost use Prim.Native.Nat.{_≤_};
+ghost use lib.ListN.{getD};
+ghost use Rattle.card.specs.Limits.{mostStates, mostStatements};
+ghost use Rattle.card.specs.Card.{nondeterministic, probabilistic};
+ghost use Rattle.card.specs.Laid.{either};
+ghost use Rattle.card.specs.Lent.{lent};
+ghost use Rattle.weighing.specs.Table.{over, ablesFrom, ableAt, countsAs, enabledIn, added, weighed, stayIn, tableOf};
+ghost use Rattle.weighing.specs.Fitting.{FewAble, Adding, Weighing, Light, Filling};
+
+// The counts stand first; then the number of enabled, the weight of no change, how many seats are able to take each statement, and on a
+// probabilistic card a row of weights for each old state (specs/Table.antt).
+pub const ENABLED: usize = MOST_STATES;
+
+pub const STAY: usize = ENABLED + 1;
+
+pub const ABLES: usize = STAY + 1;
+
+pub const WEIGHTS: usize = ABLES + MOST_STATEMENTS;
+
+pub const TABLE_PLACES: usize = WEIGHTS + MOST_STATES * MOST_STATES;
+
+fn store_counts(table: &mut [usize; TABLE_PLACES], counts: &[usize; MOST_STATES])
+    ensures { λ r. ⌜ now (table .exit) ≡ over 0 mostStates (λ d. getD (now (counts .entry)) d 0) (now (table .entry)) ⌝ }
+{
+    let mut d = 0;
+    while d < MOST_STATES {
+        table[d] = counts[d];
+        d += 1;
+    }
+}
+
+// How many of the seats are able to take each statement, at counts.
+fn store_ables<'a>(
+    table: &mut [usize; TABLE_PLACES],
+    head: Head,
+    rows: &'a [usize; ROW_PLACES],
+    nodes: &'a [u32; NODE_PLACES],
+    counts: &'a [usize],
+)
+    requires { ⌜ head .count ≤ mostStatements ⌝ }
+    ensures { λ r. ⌜ now (table .exit) ≡ over ablesFrom (head .count) (ableAt (head .seats) (now (counts .entry)) (now (nodes .entry)) (now (rows .entry))) (now (table .entry)) ⌝ }
+{
+    let n = head.seats;
+    let count = head.count;
+    let mut i = 0;
+    while i < count {
+        let from = i * ROW;
+        let able = able(nodes, i * MOST_NODES, rows[from + 1], rows[from], n, counts);
+        let at = ABLES + i;
+        table[at] = able;
+        i += 1;
+    }
+}
+
+// What a statement adds to the number of enabled.
+fn counts_as(mode: usize, able: usize) -> usize
+    ensures { λ r. ⌜ r ≡ countsAs (either nondeterministic probabilistic mode) able ⌝ }
+{
+    if mode != NONDETERMINISTIC {
+        return able;
+    }
+    if able == 0 {
+        return 0;
+    }
+    1
+}
+
+fn enabled_of(mode: usize, table: &[usize; TABLE_PLACES], count: usize) -> usize
+    requires { ⌜ FewAble (now table) count ⌝ }
+    ensures { λ r. ⌜ r ≡ enabledIn (either nondeterministic probabilistic mode) (now (table .entry)) count ⌝ }
+{
+    let mut enabled = 0;
+    let mut i = 0;
+    while i < count {
+        let at = ABLES + i;
+        enabled = enabled + counts_as(mode, table[at]);
+        i += 1;
+    }
+    enabled
+}
+
+// The weights of one statement, for all seats that are able to take it.
+fn add_weights(
+    table: &mut [usize; TABLE_PLACES],
+    own: usize,
+    able: usize,
+    units: &[usize; MOST_STATES],
+)
+    requires { ⌜ Adding (now table) own able (now units) ⌝ }
+    ensures { λ r. ⌜ now (table .exit) ≡ added (now (table .entry)) own able (now (units .entry)) ⌝ }
+{
+    let from = WEIGHTS + own * MOST_STATES;
+    let mut end = 0;
+    while end < MOST_STATES {
+        let at = from + end;
+        table[at] = table[at] + able * units[end];
+        end += 1;
+    }
+}
+
+// The weights of a probabilistic card.
+fn store_weights<'a>(
+    table: &mut [usize; TABLE_PLACES],
+    head: Head,
+    rows: &'a [usize; ROW_PLACES],
+    branches: &'a [u32; BRANCH_PLACES],
+)
+    requires { ⌜ Weighing head (now rows) (now branches) (now table) ⌝ }
+    ensures { λ r. ⌜ now (table .exit) ≡ weighed (either nondeterministic probabilistic (head .mode)) (now (rows .entry)) (now (branches .entry)) (head .count) (now (table .entry)) ⌝ }
+{
+    if head.mode == NONDETERMINISTIC {
+        return;
+    }
+    let count = head.count;
+    let mut i = 0;
+    while i < count {
+        let from = i * ROW;
+        let units = units_to(branches, i * MOST_BRANCHES, rows[from + 2]);
+        let at = ABLES + i;
+        let able = table[at];
+        add_weights(table, rows[from], able, &units);
+        i += 1;
+    }
+}
+
+// The weight of no change.
+fn stay_of(table: &[usize; TABLE_PLACES]) -> usize
+    requires { ⌜ Light (now table) ⌝ }
+    ensures { λ r. ⌜ r ≡ stayIn (now (table .entry)) ⌝ }
+{
+    let mut stay = 0;
+    let mut a = 0;
+    while a < MOST_STATES {
+        let at = WEIGHTS + a * MOST_STATES + a;
+        stay = stay + table[at];
+        a += 1;
+    }
+    stay
+}
+
+// The table of a card and a seating of it.
+pub fn fill<'a>(
+    table: &mut [usize; TABLE_PLACES],
+    head: Head,
+    seats: &'a [u8],
+    rows: &'a [usize; ROW_PLACES],
+    nodes: &'a [u32; NODE_PLACES],
+    branches: &'a [u32; BRANCH_PLACES],
+)
+    requires { ⌜ Filling (now table) head (lent (now rows) (now nodes) (now branches)) (now seats) ⌝ }
+    ensures { λ r. ⌜ now (table .exit) ≡ tableOf head (lent (now (rows .entry)) (now (nodes .entry)) (now (branches .entry))) (now (seats .entry)) ⌝ }
+{
+    let counts = count_seats(seats);
+    store_counts(table, &counts);
+    let states = head.top + 1;
+    store_ables(table, head, rows, nodes, &counts[..states]);
+    let enabled = enabled_of(head.mode, table, head.count);
+    table[ENABLED] = enabled;
+    store_weights(table, head, rows, branches);
+    let stay = stay_of(table);
+    table[STAY] = stay;
+}
