@@ -6,16 +6,9 @@ use native.Mathlib.Nat.{add-zero}
 use native.Mathlib.Omega.{arith}
 use lib.ListN.{length}
 use Rattle.room.specs.Room.{cap}
+pub use Rattle.phrases.specs.Phrases.{Text, counted}
 use Rattle.phrases.specs.Puts.{Puts}
 use Rattle.phrases.proofs.Laws.{puts-then, puts-as, puts-none}
-
-abbrev pub Text : Type 0
-Text = List ℕ → List ℕ
-
--- the text of i, of i + 1 and so on, of so many
-unfoldable pub counted : (ℕ → Text) → ℕ → ℕ → Text
-counted f i zero r = r
-counted f i (suc c) r = f i (counted f (suc i) c r)
 
 module _ (f : ℕ → Text) where
   counted-more : (i c : ℕ) (r : List ℕ) → counted f i (suc c) r ≡ counted f i c (f (i + c) r)

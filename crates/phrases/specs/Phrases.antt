@@ -11,6 +11,9 @@ use Rattle.card.specs.Card.{Mode, nondeterministic, probabilistic}
 use Rattle.card.specs.Weight.{Weight, whole, decimal as point, ratio}
 use Rattle.room.specs.Digits.{decimal}
 
+abbrev pub Text : Type 0
+Text = List ℕ → List ℕ
+
 infixr 50 _▸_
 abbrev pub _▸_ : String → List ℕ → List ℕ
 t ▸ r = bytes t ++ r
@@ -25,6 +28,11 @@ modeWord probabilistic = "probabilistic"
 
 abbrev pub modeText : Mode → List ℕ → List ℕ
 modeText m r = modeWord m ▸ r
+
+-- the text of i, of i + 1 and so on, of so many
+unfoldable pub counted : (ℕ → Text) → ℕ → ℕ → Text
+counted f i zero r = r
+counted f i (suc c) r = f i (counted f (suc i) c r)
 
 -- ---- weights, `0`, `1` or a fraction in lowest terms
 

@@ -13,14 +13,21 @@ ghost use Rattle.card.specs.Laid.{either};
 ghost use Rattle.phrases.specs.Phrases.{divisor as divisorOf, num, modeText, weightText};
 ghost use Rattle.phrases.specs.Puts.{Puts};
 
+// One of two texts, by a choice's number: the second for any but 0.
+pub fn put_either<'a>(room: &mut [u8], at: usize, choice: usize, s: &'a [u8], t: &'a [u8]) -> usize
+    ensures { λ r. ⌜ Puts (now (room .entry)) (now (room .exit)) at (λ rest. either (now (s .entry)) (now (t .entry)) choice ++ rest) r ⌝ }
+{
+    if choice == 0 {
+        return put_bytes(room, at, s);
+    }
+    put_bytes(room, at, t)
+}
+
 // The mode by its number in a card's struct: 0 is nondeterministic.
 pub fn put_mode(room: &mut [u8], at: usize, mode: usize) -> usize
     ensures { λ r. ⌜ Puts (now (room .entry)) (now (room .exit)) at (modeText (either nondeterministic probabilistic mode)) r ⌝ }
 {
-    if mode == 0 {
-        return put_bytes(room, at, b"nondeterministic");
-    }
-    put_bytes(room, at, b"probabilistic")
+    put_either(room, at, mode, b"nondeterministic", b"probabilistic")
 }
 
 // A text, and a number behind it.

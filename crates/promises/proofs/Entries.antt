@@ -27,12 +27,12 @@ use Rattle.room.proofs.Entries.{told-faithful}
 use Rattle.meaning.specs.Seats.{ValidSeating}
 use Rattle.rows.specs.Said.{cardSaid, Read}
 use Rattle.rows.proofs.Theorems.{of-card, card-stage, card-first}
-use Rattle.writer.specs.Writing.{writeOf}
+use Rattle.texts.specs.Writing.{writeOf}
 use Rattle.writer.specs.WriteSaid.{writeSaid}
-use Rattle.writer.proofs.Short.{written-room}
-use Rattle.reducer.specs.ReducedText.{reducedOf}
+use Rattle.texts.proofs.WrittenShort.{written-room}
+use Rattle.texts.specs.ReducedText.{reducedOf}
 use Rattle.reducer.specs.ReduceSaid.{reduceSaid}
-use Rattle.reducer.proofs.Short.{short}
+use Rattle.texts.proofs.ReducedShort.{short}
 use Rattle.lines.specs.PanelText.{panelOf}
 use Rattle.panel.specs.PanelSaid.{panelSaid}
 use Rattle.panel.proofs.Short.{panel-fits}

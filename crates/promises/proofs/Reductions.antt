@@ -3,7 +3,7 @@ use mathlib.Core.Path.{refl}
 use borrow.Author.Tests.{eq-eqb, ne-eqb}
 use Rattle.room.specs.Digits.{decimal}
 use Rattle.phrases.specs.Phrases.{gcd, divisor}
-use Rattle.reducer.specs.ReducedText.{programText}
+use Rattle.texts.specs.ReducedText.{programText}
 use Rattle.meaning.specs.CardA.{cardA}
 use Rattle.meaning.specs.Reduced.{reduce, copy}
 use Rattle.meaning.proofs.Within.{stays-within}

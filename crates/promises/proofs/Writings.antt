@@ -5,7 +5,7 @@ use Rattle.room.specs.Digits.{decimal}
 use Rattle.meaning.specs.CardA.{cardA}
 use Rattle.phrases.specs.Phrases.{gcd, divisor}
 use Rattle.phrases.proofs.Lowest.{lowest-terms, lowest-kept}
-use Rattle.writer.specs.Writing.{writeOf}
+use Rattle.texts.specs.Writing.{writeOf}
 use Rattle.rereading.proofs.RoundTrip.{round-trip, written-once, read-again}
 use Rattle.card.specs.Card.{Mode, nondeterministic, probabilistic, Card}
 use Rattle.promises.specs.Edges.{textA}

@@ -19,9 +19,9 @@ use Rattle.reading.specs.Reading.{taken, readOf}
 use Rattle.room.specs.declared.Answer.{Answer}
 use Rattle.entry.specs.Said.{says as text}
 use Rattle.room.specs.Answer.{Entered}
-use Rattle.writer.specs.Writing.{writeOf}
+use Rattle.texts.specs.Writing.{writeOf}
 use Rattle.writer.specs.WriteSaid.{writeSaid}
-use Rattle.reducer.specs.ReducedText.{programText}
+use Rattle.texts.specs.ReducedText.{programText}
 use Rattle.reducer.specs.ReduceSaid.{reduceSaid}
 use Rattle.lines.specs.PanelText.{panelText}
 use Rattle.panel.specs.PanelSaid.{panelSaid}

@@ -20,11 +20,11 @@ use Rattle.entry.specs.Said.{refused as refusal}
 use Rattle.room.specs.Answer.{Text, answerNumber, answerValue, Entered}
 use Rattle.meaning.specs.Seats.{ValidSeating}
 use Rattle.counting.specs.Judged.{FirstAbove}
-use Rattle.writer.specs.Writing.{writeOf}
-use Rattle.writer.specs.WrittenMost.{writtenRoom}
+use Rattle.texts.specs.Writing.{writeOf}
+use Rattle.texts.specs.WrittenMost.{writtenRoom}
 use Rattle.writer.specs.WriteSaid.{writeSaid}
-use Rattle.reducer.specs.ReducedText.{reducedOf}
-use Rattle.reducer.specs.Handed.{reducedMost}
+use Rattle.texts.specs.ReducedText.{reducedOf}
+use Rattle.texts.specs.Copies.{reducedMost}
 use Rattle.reducer.specs.ReduceSaid.{reduceSaid}
 use Rattle.lines.specs.PanelText.{panelOf}
 use Rattle.panel.specs.PanelSaid.{panelSaid}

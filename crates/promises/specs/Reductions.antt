@@ -6,7 +6,7 @@ use mathlib.Core.List.{List, [], _∷_, map}
 use mathlib.Core.Option.{Option, none, some}
 use Rattle.card.specs.Text.{bytes}
 use Rattle.card.specs.Card.{nondeterministic, probabilistic, Kind, everyone, others, Sign, all, any, Relation, is, isnt, group, atom, neg, and, or, Card}
-use Rattle.reducer.specs.ReducedText.{reducedOf}
+use Rattle.texts.specs.ReducedText.{reducedOf}
 use Rattle.card.specs.Valid.{Every}
 use Rattle.meaning.specs.CardA.{cardA}
 use Rattle.meaning.specs.Steps.{Step}

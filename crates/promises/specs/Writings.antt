@@ -14,7 +14,7 @@ use Rattle.card.specs.Valid.{ValidCard}
 use Rattle.card.specs.Weight.{cardRule, unitsOf}
 use Rattle.reading.specs.Reading.{taken, readOf}
 use Rattle.phrases.specs.Phrases.{LowestTerms, divisor, lowest}
-use Rattle.writer.specs.Writing.{writeOf}
+use Rattle.texts.specs.Writing.{writeOf}
 
 -- `|` under `&`, `!` before a joined node, a right operand of its own sign
 abbrev pub bracketed : Card

@@ -1,3 +1,1 @@
-pub mod ReducedText
 pub mod ReduceSaid
-pub mod Handed

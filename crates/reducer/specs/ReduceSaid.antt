@@ -5,7 +5,7 @@ use Rattle.card.specs.Card.{Card}
 use Rattle.entry.specs.Said.{_>>=_, return}
 use Rattle.room.specs.Answer.{Text}
 use Rattle.rows.specs.Said.{cardSaid}
-use Rattle.reducer.specs.ReducedText.{reducedOf}
+use Rattle.texts.specs.ReducedText.{reducedOf}
 
 -- of a card that is taken
 abbrev pub reduceCard : Card → Text

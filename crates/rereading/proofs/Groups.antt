@@ -20,7 +20,7 @@ use Rattle.reading.specs.Judgements.{Judgement, has, hasFrom, once, kindOf, sam
 use Rattle.reading.specs.Grammar.{signAt, LiteralSaid, literal as aLiteral, OthersSaid, close, next, GroupSaid, conjoined, disjoined, GuardSaid, unary, grouped}
 use Rattle.reading.specs.Counted.{Within, countedGuard}
 use Rattle.phrases.specs.Phrases.{_▸_, num}
-use Rattle.writer.specs.Writing.{literal, literals, groupText}
+use Rattle.texts.specs.Writing.{literal, literals, groupText}
 use Rattle.rereading.proofs.Lexed.{Apart, number-mark, seat-mark}
 
 -- a judgement that is not broken

@@ -17,7 +17,8 @@ use Rattle.reading.specs.Judgements.{judgedGuard, guardIn}
 use Rattle.reading.specs.Grammar.{signAt, GroupSaid, Part, unary, joinedBy, operand, GuardSaid, negated, bracketed, single, further}
 use Rattle.reading.specs.Counted.{counted, Within, countedGuard}
 use Rattle.phrases.specs.Phrases.{_▸_}
-use Rattle.writer.specs.Writing.{groupText, opening, closing, guardText}
+use Rattle.texts.specs.Shared.{opening, closing, formulaText}
+use Rattle.texts.specs.Writing.{groupText, guardText}
 use Rattle.rereading.proofs.Groups.{Kept, GroupWritten, group-written}
 
 pub every-append : {A : Type 0} (P : A → Type 0) (xs ys : List A) → Every P xs → Every P ys → Every P (xs ++ ys)
@@ -96,26 +97,26 @@ partOf tight = unary
 module _ (n : ℕ) where
   -- no `=` after `!`
   guard-begins : (g : Guard) (r : List ℕ) → begins (eqb 61) (guardText n tight g r) ≡ false
-  unfolding guardText
+  unfolding formulaText
   guard-begins (atom (group kind s q d)) r = refl
   guard-begins (neg g) r = refl
   guard-begins (and g h) r = refl
   guard-begins (or g h) r = refl
 
   text-group : (v : Level) (a : Group) (r : List ℕ) → guardText n v (atom a) r ≡ groupText n a r
-  unfolding guardText
+  unfolding formulaText
   text-group v a r = refl
 
   text-neg : (v : Level) (g : Guard) (r : List ℕ) → guardText n v (neg g) r ≡ ("!" ▸ guardText n tight g r)
-  unfolding guardText
+  unfolding formulaText
   text-neg v g r = refl
 
   text-and : (v : Level) (g h : Guard) (r : List ℕ) → guardText n v (and g h) r ≡ opening (needsAnd v) (guardText n middle g (" & " ▸ guardText n tight h (closing (needsAnd v) r)))
-  unfolding guardText
+  unfolding formulaText
   text-and v g h r = refl
 
   text-or : (v : Level) (g h : Guard) (r : List ℕ) → guardText n v (or g h) r ≡ opening (needsOr v) (guardText n loose g (" | " ▸ guardText n middle h (closing (needsOr v) r)))
-  unfolding guardText
+  unfolding formulaText
   text-or v g h r = refl
 
 module _ (e n k : ℕ) (small-n : n < 10 ^ wordDigits) (small-k : k < 10 ^ numberDigits) where

@@ -25,7 +25,7 @@ use Rattle.reading.proofs.Follows.{Ran, came, fell, card-runs}
 use Rattle.reading.proofs.Valid.{read-valid}
 use Rattle.phrases.specs.Phrases.{_▸_, num}
 use Rattle.phrases.specs.Phrases.{modeWord as modeText}
-use Rattle.writer.specs.Writing.{statements, moduleText, modules, writeOf}
+use Rattle.texts.specs.Writing.{statements, moduleText, modules, writeOf}
 use Rattle.rereading.proofs.Lexed.{Apart, number-mark, seat-mark, process-mark}
 use Rattle.rereading.proofs.Groups.{Kept}
 use Rattle.rereading.proofs.Guards.{every-append}

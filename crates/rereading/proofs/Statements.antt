@@ -27,7 +27,8 @@ use Rattle.room.specs.Digits.{decimal, AllDigits}
 use Rattle.room.proofs.Decimal.{decimal-digits, decimal-some}
 use Rattle.phrases.specs.Phrases.{_▸_, num, lowest, spell, divisor, weightText}
 use Rattle.phrases.proofs.Lowest.{lowest-kept}
-use Rattle.writer.specs.Writing.{guardText, guardOr, branchText, moreBranches, branches, statementText, statements}
+use Rattle.texts.specs.Shared.{needed, formulaOr, more, summed}
+use Rattle.texts.specs.Writing.{groupText, guardText, branchText, statementText, statements}
 use Rattle.rereading.proofs.Lexed.{Apart, number-mark}
 use Rattle.rereading.proofs.Groups.{Kept}
 use Rattle.rereading.proofs.Guards.{every-append, GuardWritten, guard-written}
@@ -158,10 +159,10 @@ module _ (e : ℕ) where
       within = λ i h. (omega arith, u .within (suc i) (omega arith));
     }
 
-    pub more-branches-written : (bs : List Branch) (r : List ℕ) → Every (ValidBranch k) bs → BranchesWritten bs (M (moreBranches bs r)) (M r)
+    pub more-branches-written : (bs : List Branch) (r : List ℕ) → Every (ValidBranch k) bs → BranchesWritten bs (M (more branchText bs r)) (M r)
     more-branches-written [] r v = record { found = []; said = done; means = refl; kept = tt; units = refl; within = λ i h. tt }
     more-branches-written (b ∷ bs) r v =
-        branches-made b bs _ (M (branchText b (moreBranches bs r))) (M (moreBranches bs r)) (M r) (branch-written b (moreBranches bs r) (v .0)) (more-branches-written bs r (v .1))
+        branches-made b bs _ (M (branchText b (more branchText bs r))) (M (more branchText bs r)) (M r) (branch-written b (more branchText bs r) (v .0)) (more-branches-written bs r (v .1))
 
   -- ---- statements
 
@@ -182,11 +183,11 @@ module _ (e : ℕ) where
       within = w .within 0 0 (omega arith) (omega arith);
     }
 
-    rest-written : (g : Option Guard) (r : List ℕ) → ValidGuard n k g → RestWritten g (M (guardOr n g r)) (M r)
+    rest-written : (g : Option Guard) (r : List ℕ) → ValidGuard n k g → RestWritten g (M (formulaOr needed (groupText n) g r)) (M r)
     rest-written none r v = record { found = none; said = nothing; means = refl; kept = tt; within = tt }
     rest-written (some g) r v = rest-made g _ (M (guardText n middle g r)) (M r) (v .2) (v .1) (guard-written e n k small-n small-k middle g r (v .0))
 
-    rest-apart : (g : Option Guard) (r : List ℕ) → Apart (guardOr n g (" -> " ▸ r))
+    rest-apart : (g : Option Guard) (r : List ℕ) → Apart (formulaOr needed (groupText n) g (" -> " ▸ r))
     rest-apart none r = apart refl refl
     rest-apart (some g) r = apart refl refl
 
@@ -221,21 +222,21 @@ module _ (e : ℕ) where
         sum-kept : unless (eqb (totalUnits (d .found .weight ∷ map weightIn (ds .found))) unit) wrongWeight ≡ none
         sum-kept = rw (eq-eqb (totalUnits (d .found .weight ∷ map weightIn (ds .found))) unit (ap₂ _+_ (d .units) (ds .units) ∙ sums))
 
-    text-of : (x : Statement) (r : List ℕ) → statementText n x r ≡ ("[] s1=" ▸ num (x .own) (guardOr n (x .guard) (" -> " ▸ branches (x .branches) (";\n" ▸ r))))
+    text-of : (x : Statement) (r : List ℕ) → statementText n x r ≡ ("[] s1=" ▸ num (x .own) (formulaOr needed (groupText n) (x .guard) (" -> " ▸ summed branchText (x .branches) (";\n" ▸ r))))
     unfolding statementText
     text-of x r = refl
 
     parts-written : (j : ℕ) (g : Option Guard) (bs : List Branch) (r : List ℕ) → ValidStatement n k (record { own = j; guard = g; branches = bs })
-        → StatementWritten (record { own = j; guard = g; branches = bs }) (M ("[] s1=" ▸ num j (guardOr n g (" -> " ▸ branches bs (";\n" ▸ r))))) (M r)
+        → StatementWritten (record { own = j; guard = g; branches = bs }) (M ("[] s1=" ▸ num j (formulaOr needed (groupText n) g (" -> " ▸ summed branchText bs (";\n" ▸ r))))) (M r)
     parts-written j g [] r v = absurd (omega (arith, v .some .0))
     parts-written j g (b ∷ bs) r v =
-        let os = branches (b ∷ bs) (";\n" ▸ r) in
-        let ns = guardOr n g (" -> " ▸ os) in
+        let os = summed branchText (b ∷ bs) (";\n" ▸ r) in
+        let ns = formulaOr needed (groupText n) g (" -> " ▸ os) in
         let own-mark : M (num j ns) ≡ placed (number j) (e - length (num j ns)) ∷ M ns = number-mark e j ns (omega (arith, v .own)) (rest-apart g os) in
-        statement-made j g b bs _ _ _ (M ("[] s1=" ▸ num j ns)) (M ns) (M os) (M (moreBranches bs (";\n" ▸ r))) (M r) (v .own) (v .some .1) (v .sum)
+        statement-made j g b bs _ _ _ (M ("[] s1=" ▸ num j ns)) (M ns) (M os) (M (more branchText bs (";\n" ▸ r))) (M r) (v .own) (v .some .1) (v .sum)
         (subst (λ (y : Place). LineWritten statementRun (1 ∷ []) (M ("[] s1=" ▸ num j ns)) y) own-mark (statement-line (num j ns)))
         (rest-written g (" -> " ▸ os) (v .guard))
-        (branch-written n k small-k b (moreBranches bs (";\n" ▸ r)) (v .branches .0))
+        (branch-written n k small-k b (more branchText bs (";\n" ▸ r)) (v .branches .0))
         (more-branches-written n k small-k bs (";\n" ▸ r) (v .branches .1))
 
     pub statement-written : (x : Statement) (r : List ℕ) → ValidStatement n k x → StatementWritten x (M (statementText n x r)) (M r)

@@ -4,12 +4,12 @@
 use Prim.Native.Nat.{ℕ, _≤_, _<_}
 use mathlib.Core.Path.{_≡_, refl, sym, ap, _∙_}
 use mathlib.Core.Logic.{_↔_}
-use mathlib.Core.List.{List, [], _++_}
+use mathlib.Core.List.{List, [], _++_, append-nil}
 use native.Mathlib.Decide.{decLe}
 use native.Mathlib.Omega.{arith}
 use borrow.Author.Tests.{le-leb, lt-leb}
-use lib.ListN.{length, drop, length-append, length-drop}
-use lib.Seq.{drop-append-seam}
+use lib.ListN.{length, take, drop, length-append, length-drop, drop-of-length-le}
+use lib.Seq.{drop-append-seam, length-take-le}
 use Rattle.card.specs.Refusals.{roomTooSmall}
 use Rattle.room.specs.declared.Answer.{Answer}
 use Rattle.room.specs.declared.Answer.the-variants.{Done, Refused}
@@ -44,6 +44,21 @@ put-longer was t h =
       answers = rw (lt-leb (length t) (length was) h);
       leaves = rw (lt-leb (length t) (length was) h);
     }
+
+-- by the length that was told before: it is above the room's, or the text is stored into just so many bytes
+module _ {t : List ℕ} {m : ℕ} (long : m ≡ length t) where
+  pub entered-short : {room : List ℕ} {said : Text} → said ≡ text t → length room < m → Entered room room said (Refused roomTooSmall m)
+  entered-short {room} says l = rw (says, long) (put-longer room t (omega arith))
+
+  pub entered-exact : {room is : List ℕ} {said : Text} {r : ℕ} → said ≡ text t → length room < cap → m ≤ length room → Put (take m room) is 0 t r
+      → Entered room (is ++ drop m room) said (Done r)
+  entered-exact {room} {is} says small h p =
+      let there : length (take m room) ≡ m = length-take-le m room h in
+      let full : length (take m room) ≤ length t = omega arith in
+      let none : drop (length t) (take m room) ≡ [] = drop-of-length-le (take m room) full in
+      let whole : is ≡ t = p .wrote ∙ clip-start (take m room) t (omega arith) ∙ rw (none, append-nil) in
+      entered-whole says (omega arith)
+      (record { small = small; wrote = rw (whole, long) (sym (clip-start room t (omega arith))); next = p .next })
 
 -- the part of no bytes is as it was
 pub measured : {e : List ℕ} {at : ℕ} {s : List ℕ} {m : ℕ} → Put [] e at s m → e ≡ []

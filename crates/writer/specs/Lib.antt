@@ -1,4 +1,2 @@
-pub mod Writing
-pub mod WriteSaid
 pub mod Parts
-pub mod WrittenMost
+pub mod WriteSaid

@@ -5,7 +5,7 @@ use Rattle.card.specs.Card.{Card}
 use Rattle.entry.specs.Said.{_>>=_, return}
 use Rattle.room.specs.Answer.{Text}
 use Rattle.rows.specs.Said.{cardSaid}
-use Rattle.writer.specs.Writing.{writeOf}
+use Rattle.texts.specs.Writing.{writeOf}
 
 -- of a card that is taken
 abbrev pub writeCard : Card → Text

@@ -1,3 +1,4 @@
+-- `phrases::divisor` meets its contract: a round of the division keeps the greatest common divisor, and the second number falls. Assumes nothing.
 use Rattle.phrases.proofs.Lowest.{round, round-last, divisor-rounds, divisor-positive}
 use Rattle.phrases.specs.Phrases.{divisor, gcd}
 use Rattle.card.specs.Limits.{unit}

@@ -1,53 +1,38 @@
-use borrow.Author.Tests.{eq-eqb, ne-eqb}
-use Rattle.phrases.proofs.Laws.{put-first, puts-as}
+-- `phrases::put_mode` meets its contract: the two words are the texts of the choice. Assumes nothing.
+use Rattle.phrases.specs.Phrases.{modeWord}
+use Rattle.card.specs.Card.{nondeterministic, probabilistic}
+use Rattle.phrases.proofs.Laws.{puts-as, either-text}
 use borrow.Author.Needs.{needs}
 use Rattle.phrases.proofs.put_mode.Statement.{statement}
 use Rattle.phrases.proofs.put_mode.Tie as tie
 use Rattle.phrases.proofs.put_mode.Reads as reads
 use Rattle.phrases.proofs.put_mode.Lts as lts
-use Rattle.room.proofs.put_bytes.Reads as put-bytes-reads
+use Rattle.phrases.proofs.put_either.Reads as put-either-reads
 
--- src/lib.rt:19:36
-slice-aggregate-put-bytes : tie.Need-slice-aggregate-put-bytes
-slice-aggregate-put-bytes c = search needs
+slice-aggregate-put-either : tie.Need-slice-aggregate-put-either
+slice-aggregate-put-either c = search needs
 
--- src/lib.rt:19:9
-put-bytes-requires : tie.Need-put-bytes-requires
-put-bytes-requires c κs = search needs
+slice-aggregate-put-either-2 : tie.Need-slice-aggregate-put-either-2
+slice-aggregate-put-either-2 c = search needs
 
--- src/lib.rt:19:9
+put-either-requires : tie.Need-put-either-requires
+put-either-requires c κs = search needs
+
 same-length : tie.Need-same-length
 same-length c = search needs
 
--- src/lib.rt:19:9
 returns : tie.Need-returns
-returns c = puts-as _ (λ t. rw (eq-eqb _ 0 (c .before .before .before .before .before .if1 .taken))) (put-first (c .before .before .put-bytes .ensures))
-
--- src/lib.rt:21:25
-slice-aggregate-put-bytes-2 : tie.Need-slice-aggregate-put-bytes-2
-slice-aggregate-put-bytes-2 c = search needs
-
--- src/lib.rt:21:5
-put-bytes-requires-2 : tie.Need-put-bytes-requires-2
-put-bytes-requires-2 c κs = search needs
-
--- src/lib.rt:15:1
-same-length-2 : tie.Need-same-length-2
-same-length-2 c = search needs
-
--- src/lib.rt:15:1
-returns-2 : tie.Need-returns-2
-returns-2 c = puts-as _ (λ t. rw (ne-eqb _ 0 (c .before .before .before .before .before .if1 .left))) (put-first (c .before .before .put-bytes2 .ensures))
+returns c =
+    let at-put-either = c .before .before in
+    let start = at-put-either .before .before .before .before .before in
+    puts-as _ (either-text nondeterministic probabilistic modeWord (start .args .mode)) (at-put-either .put-either .ensures)
 
 pub put-mode-spec : {M : Type 1} → statement M
 put-mode-spec =
     tie.close
     (tie.spec
-    slice-aggregate-put-bytes
-    put-bytes-requires
+    slice-aggregate-put-either
+    slice-aggregate-put-either-2
+    put-either-requires
     same-length
-    returns
-    slice-aggregate-put-bytes-2
-    put-bytes-requires-2
-    same-length-2
-    returns-2)
+    returns)

@@ -3,11 +3,6 @@ use Rattle.phrases.proofs.Laws.{put-first, puts-then}
 use borrow.Author.Needs.{needs}
 use Rattle.reducer.proofs.put_counter.Statement.{statement}
 use Rattle.reducer.proofs.put_counter.Tie as tie
-use Rattle.reducer.proofs.put_counter.Reads as reads
-use Rattle.reducer.proofs.put_counter.Lts as lts
-use Rattle.phrases.proofs.put_numbered.Reads as put-numbered-reads
-use Rattle.reducer.proofs.start_of.Reads as start-of-reads
-use Rattle.room.proofs.put_bytes.Reads as put-bytes-reads
 
 start-of-requires : tie.Need-start-of-requires
 start-of-requires c κs = search needs
@@ -40,13 +35,16 @@ same-length : tie.Need-same-length
 same-length c = search needs
 
 returns : tie.Need-returns
-returns c = rw (c .before .before .before .before .before .before .before .before .before .before .before .before .before .before .before .before .before .before .before .before .start-of .ensures) at (puts-then (c .before .before .before .before .before .before .before .before .before .before .before .before .before .before .before .before .before .put-numbered .ensures) (puts-then (c .before .before .before .before .before .before .before .before .before .before .before .before .put-numbered2 .ensures) (puts-then (c .before .before .before .before .before .before .before .put-numbered3 .ensures) (put-first (c .before .before .put-bytes .ensures)))))
+returns c =
+    let at-put-bytes = c .before .before in
+    let at-put-numbered3 = at-put-bytes .before .before .before .before .before in
+    let at-put-numbered2 = at-put-numbered3 .before .before .before .before .before in
+    let at-put-numbered = at-put-numbered2 .before .before .before .before .before in
+    let at-start-of = at-put-numbered .before .before .before in
+    rw (at-start-of .start-of .ensures) at (puts-then (at-put-numbered .put-numbered .ensures) (puts-then (at-put-numbered2 .put-numbered2 .ensures) (puts-then (at-put-numbered3 .put-numbered3 .ensures) (put-first (at-put-bytes .put-bytes .ensures)))))
 
 pub put-counter-spec : {M : Type 1} → statement M
-put-counter-spec =
-    tie.close
-    (tie.spec
-    start-of-requires
+put-counter-spec = tie.close (tie.spec start-of-requires
     slice-aggregate-put-numbered
     put-numbered-requires
     slice-aggregate-put-numbered-2

@@ -1,17 +1,13 @@
 -- `reducer::put_counters` meets its contract: one counter more after each turn. Assumes nothing.
-use borrow.Author.Needs.{needs}
-use native.Mathlib.Omega.{arith}
-use Prim.Native.Nat.{_+_, _≤_, _-_}
-use Rattle.room.proofs.Laws.{put-length}
-use Rattle.phrases.specs.Puts.{Puts}
-use Rattle.phrases.proofs.Counted.{counted, counted-start, counted-next, counted-end}
 use Rattle.reducer.proofs.Laws.{nextCounter, counters-all}
+use Rattle.phrases.proofs.Counted.{counted, counted-start, counted-next, counted-end}
+use Rattle.phrases.specs.Puts.{Puts}
+use Rattle.room.proofs.Laws.{put-length}
+use Prim.Native.Nat.{_+_, _≤_, _-_}
+use native.Mathlib.Omega.{arith}
+use borrow.Author.Needs.{needs}
 use Rattle.reducer.proofs.put_counters.Statement.{statement}
 use Rattle.reducer.proofs.put_counters.Tie as tie
-use Rattle.reducer.proofs.put_counters.Reads as reads
-use Rattle.reducer.proofs.put_counters.Lts as lts
-use Rattle.reducer.proofs.put_counter.Reads as put-counter-reads
-use Rattle.room.proofs.place.Reads as place-reads
 
 abbrev Inv-loop : tie.InvT-loop
 Inv-loop room₀ at seats top start to₀ d₀ room to d = (d ≤ top + 1) × Puts room₀ room at (counted (nextCounter seats start) 0 (d - 0)) to
@@ -35,19 +31,22 @@ loop-less : tie.Need-loop-less Inv-loop μ-loop
 loop-less c = search needs
 
 loop-again : tie.Need-loop-again Inv-loop μ-loop
-loop-again c = (search needs, counted-next _ 0 _ (search needs) (c .before .before .before .before .before .loop .inv .1) (c .before .before .put-counter .ensures))
+loop-again c =
+    let at-put-counter = c .before .before in
+    let at-loop = at-put-counter .before .before .before in
+    (search needs, counted-next _ 0 _ (search needs) (at-loop .loop .inv .1) (at-put-counter .put-counter .ensures))
 
 same-length : tie.Need-same-length Inv-loop μ-loop
 same-length c = put-length (c .before .loop .inv .1 .put)
 
 returns : tie.Need-returns Inv-loop μ-loop
-returns c = counted-end _ 0 _ (c .before .before .before .before .args .top + 1) (search needs) (search needs) (counters-all (c .before .before .before .before .args .seats) (c .before .before .before .before .args .start) (c .before .before .before .before .args .top)) (c .before .loop .inv .1)
+returns c =
+    let at-loop = c .before in
+    let start = at-loop .before .before .before in
+    counted-end _ 0 _ (start .args .top + 1) (search needs) (search needs) (counters-all (start .args .seats) (start .args .start) (start .args .top)) (at-loop .loop .inv .1)
 
 pub put-counters-spec : {M : Type 1} → statement M
-put-counters-spec =
-    tie.close
-    (tie.spec
-    Inv-loop
+put-counters-spec = tie.close (tie.spec Inv-loop
     μ-loop
     place-requires
     loop-holds

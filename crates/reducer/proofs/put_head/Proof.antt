@@ -3,11 +3,6 @@ use Rattle.phrases.proofs.Laws.{put-first, puts-then}
 use borrow.Author.Needs.{needs}
 use Rattle.reducer.proofs.put_head.Statement.{statement}
 use Rattle.reducer.proofs.put_head.Tie as tie
-use Rattle.reducer.proofs.put_head.Reads as reads
-use Rattle.reducer.proofs.put_head.Lts as lts
-use Rattle.phrases.proofs.put_mode.Reads as put-mode-reads
-use Rattle.reducer.proofs.put_counters.Reads as put-counters-reads
-use Rattle.room.proofs.put_bytes.Reads as put-bytes-reads
 
 put-mode-requires : tie.Need-put-mode-requires
 put-mode-requires c κs = search needs
@@ -25,13 +20,14 @@ same-length : tie.Need-same-length
 same-length c = search needs
 
 returns : tie.Need-returns
-returns c = puts-then (c .before .before .before .before .before .before .before .before .before .before .before .put-mode .ensures) (puts-then (put-first (c .before .before .before .before .before .before .put-bytes .ensures)) (c .before .before .put-counters .ensures))
+returns c =
+    let at-put-counters = c .before .before in
+    let at-put-bytes = at-put-counters .before .before .before .before in
+    let at-put-mode = at-put-bytes .before .before .before .before .before in
+    puts-then (at-put-mode .put-mode .ensures) (puts-then (put-first (at-put-bytes .put-bytes .ensures)) (at-put-counters .put-counters .ensures))
 
 pub put-head-spec : {M : Type 1} → statement M
-put-head-spec =
-    tie.close
-    (tie.spec
-    put-mode-requires
+put-head-spec = tie.close (tie.spec put-mode-requires
     slice-aggregate-put-bytes
     put-bytes-requires
     put-counters-requires

@@ -1,20 +1,19 @@
--- `reducer::put_program` meets its contract: one put after the other is the whole text. Assumes nothing.
-use Rattle.phrases.proofs.Laws.{put-first, puts-then}
+-- `reducer::put_program` meets its contract: the parts of the program, one after the other. Assumes nothing.
 use Rattle.reducer.proofs.Laws.{program-text}
+use Rattle.phrases.proofs.Laws.{put-first, puts-then}
+use Rattle.card.proofs.HeldIn.{holds-top}
+use Rattle.card.specs.Lent.{lent, cardIn}
 use borrow.Author.Needs.{needs}
 use Rattle.reducer.proofs.put_program.Statement.{statement}
 use Rattle.reducer.proofs.put_program.Tie as tie
-use Rattle.reducer.proofs.put_program.Reads as reads
-use Rattle.reducer.proofs.put_program.Lts as lts
-use Rattle.reducer.proofs.put_head.Reads as put-head-reads
-use Rattle.reducer.proofs.put_statements.Reads as put-statements-reads
-use Rattle.room.proofs.put_bytes.Reads as put-bytes-reads
 
 put-head-requires : tie.Need-put-head-requires
-put-head-requires c κs = search needs
+put-head-requires c κs = holds-top (c .before .before .before .before .pre)
 
 put-statements-requires : tie.Need-put-statements-requires
-put-statements-requires c κs = search needs
+put-statements-requires c κs =
+    let start = c .before .before .before .before .before .before .before .before in
+    start .pre
 
 slice-aggregate-put-bytes : tie.Need-slice-aggregate-put-bytes
 slice-aggregate-put-bytes c = search needs
@@ -26,13 +25,16 @@ same-length : tie.Need-same-length
 same-length c = search needs
 
 returns : tie.Need-returns
-returns c = program-text (c .before .before .before .before .before .before .before .before .before .before .before .before .before .before .before .before .args .mode) (c .before .before .before .before .before .before .before .before .before .before .before .before .before .before .before .before .args .seats) (c .before .before .before .before .before .before .before .before .before .before .before .before .before .before .before .before .args .top) (c .before .before .before .before .before .before .before .before .before .before .before .before .before .before .before .before .args .start) _ (c .before .before .before .before .before .before .before .before .before .before .before .before .before .before .before .before .args .nodes .now) (c .before .before .before .before .before .before .before .before .before .before .before .before .before .before .before .before .args .branches .now) (puts-then (c .before .before .before .before .before .before .before .before .before .before .before .put-head .ensures) (puts-then (c .before .before .before .before .before .before .before .put-statements .ensures) (put-first (c .before .before .put-bytes .ensures))))
+returns c =
+    let at-put-bytes = c .before .before in
+    let at-put-statements = at-put-bytes .before .before .before .before .before in
+    let at-put-head = at-put-statements .before .before .before .before in
+    let start = at-put-head .before .before .before .before .before in
+    program-text (cardIn (start .args .head) (lent (start .args .rows .now) (start .args .nodes .now) (start .args .branches .now)))
+    (puts-then (at-put-head .put-head .ensures) (puts-then (at-put-statements .put-statements .ensures) (put-first (at-put-bytes .put-bytes .ensures))))
 
 pub put-program-spec : {M : Type 1} → statement M
-put-program-spec =
-    tie.close
-    (tie.spec
-    put-head-requires
+put-program-spec = tie.close (tie.spec put-head-requires
     put-statements-requires
     slice-aggregate-put-bytes
     put-bytes-requires

@@ -1,9 +1,8 @@
--- `reducer::start_of` meets its contract: by its test on the state. Assumes nothing.
+-- `reducer::start_of` meets its contract: by whether it is the starting state. Assumes nothing.
 use borrow.Author.Tests.{eq-eqb, ne-eqb}
+use borrow.Author.Needs.{needs}
 use Rattle.reducer.proofs.start_of.Statement.{statement}
 use Rattle.reducer.proofs.start_of.Tie as tie
-use Rattle.reducer.proofs.start_of.Reads as reads
-use Rattle.reducer.proofs.start_of.Lts as lts
 
 returns : tie.Need-returns
 returns c = rw (eq-eqb _ _ (c .if1 .taken))
@@ -12,4 +11,5 @@ returns-2 : tie.Need-returns-2
 returns-2 c = rw (ne-eqb _ _ (c .if1 .left))
 
 pub start-of-spec : {M : Type 1} → statement M
-start-of-spec = tie.close (tie.spec returns returns-2)
+start-of-spec = tie.close (tie.spec returns
+    returns-2)

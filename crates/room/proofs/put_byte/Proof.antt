@@ -1,3 +1,4 @@
+-- `room::put_byte` meets its contract: a byte within the room is stored, past its end it is only counted. Assumes nothing.
 -- One byte: within the room it is stored, past its end nothing is. Assumes nothing.
 use borrow.Author.Needs.{needs}
 use Rattle.room.proofs.Stores.{put-in, put-past}

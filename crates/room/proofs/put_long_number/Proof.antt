@@ -1,3 +1,4 @@
+-- `room::put_long_number` meets its contract: the digits are stored from the last on, so that after each turn those from there on stand. Assumes nothing.
 use Rattle.room.proofs.Stores.{put-past, back-none, back-more, back-past, back-all, Leads, leads-all, leads-last, leads-next}
 use Rattle.room.proofs.Decimal.{decimal-length}
 use Rattle.room.specs.Digits.{decimal}

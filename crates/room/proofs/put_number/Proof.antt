@@ -1,3 +1,4 @@
+-- `room::put_number` meets its contract: a number below ten is its one digit. Assumes nothing.
 use Rattle.room.proofs.Decimal.{decimal-one}
 use borrow.Author.Needs.{needs}
 use Rattle.room.proofs.put_number.Statement.{statement}

@@ -1,3 +1,4 @@
+-- `room::put_run` meets its contract: one byte more of the text after each turn, as far as the room has places. Assumes nothing.
 -- Any bytes: after i turns the first i bytes are stored, and those that the room has no place for would change nothing. Assumes
 -- nothing.
 use Prim.Native.Nat.{_≤_, _-_}

@@ -1,3 +1,4 @@
+-- `room::put_whole` meets its contract: one byte more of the text after each turn, each at its place. Assumes nothing.
 use Rattle.room.proofs.Stores.{clip-more, put-part}
 use Rattle.room.proofs.Laws.{clip-none}
 use Rattle.room.specs.Room.{clip}

@@ -1,84 +1,68 @@
-use lib.Seq.{length-take-le}
-use Rattle.rows.proofs.Rows.{holds-count, holds-branches, fit-rows}
-use Rattle.writer.proofs.Short.{held-seats, rows-said, rows-most, rows-short}
-use Rattle.room.proofs.Entries.{entered-whole, entered-small, entered-done}
+-- `writer::write_card` meets its contract: a text that is reckoned to fit is put at once, and any other is measured first. Assumes nothing.
+use Rattle.writer.proofs.Laws.{held-most}
+use Rattle.room.proofs.Entries.{entered-whole, entered-short, entered-exact}
+use Rattle.card.proofs.HeldIn.{holds-seats, holds-count}
+use mathlib.Core.Path.{refl, sym}
 use native.Mathlib.Omega.{arith}
-use mathlib.Core.Path.{sym}
+use lib.Seq.{length-take-le}
 use borrow.Author.Needs.{needs}
 use Rattle.writer.proofs.write_card.Statement.{statement}
 use Rattle.writer.proofs.write_card.Tie as tie
-use Rattle.writer.proofs.write_card.Reads as reads
-use Rattle.writer.proofs.write_card.Lts as lts
-use Rattle.rows.proofs.rows_of.Reads as rows-of-reads
-use Rattle.writer.proofs.put_card.Reads as put-card-reads
-use Rattle.writer.proofs.written_most.Reads as written-most-reads
 
--- src/lib.rt:380:16
-rows-of-requires : tie.Need-rows-of-requires
-rows-of-requires c κs = search needs
-
--- src/lib.rt:382:9
 written-most-requires : tie.Need-written-most-requires
-written-most-requires c κs = (held-seats (c .before .before .before .pre), holds-count (c .before .before .before .pre))
+written-most-requires c κs = (holds-seats (c .before .pre), holds-count (c .before .pre))
 
--- src/lib.rt:384:29
 put-card-requires : tie.Need-put-card-requires
-put-card-requires c κs = (fit-rows (c .before .before .before .before .before .before .before .before .before .pre) (c .before .before .before .before .before .before .rows-of .ensures), holds-branches (c .before .before .before .before .before .before .before .before .before .pre))
+put-card-requires c κs = c .before .before .before .before .before .before .pre
 
--- src/lib.rt:384:9
 same-length : tie.Need-same-length
 same-length c = search needs
 
--- src/lib.rt:384:9
 returns : tie.Need-returns
-returns c = entered-whole (rows-said (c .before .before .before .before .before .before .before .before .before .before .before .before .pre) (c .before .before .before .before .before .before .before .before .before .rows-of .ensures)) (omega (arith, rows-most (c .before .before .before .before .before .before .before .before .before .before .before .before .pre) (c .before .before .before .before .before .before .before .before .before .rows-of .ensures), c .before .before .before .before .before .before .before .before .written-most .ensures, c .before .before .before .before .before .before .before .if1 .taken)) (c .before .before .put-card .ensures)
+returns c =
+    let at-put-card = c .before .before in
+    let at-if1 = at-put-card .before .before .before .before in
+    let at-written-most = at-if1 .before in
+    let start = at-written-most .before .before in
+    entered-whole refl (omega (arith, held-most (start .pre), at-written-most .written-most .ensures, at-if1 .if1 .taken)) (at-put-card .put-card .ensures)
 
--- src/lib.rt:399:9
+written-length-requires : tie.Need-written-length-requires
+written-length-requires c κs = c .before .before .before .before .before .pre
+
+returns-2 : tie.Need-returns-2
+returns-2 c = entered-short (c .before .written-length .ensures) refl (c .if2 .taken)
+
 slice-relend-prefix-put-card : tie.Need-slice-relend-prefix-put-card
 slice-relend-prefix-put-card c = search needs
 
--- src/lib.rt:399:9
 slice-aggregate-put-card : tie.Need-slice-aggregate-put-card
-slice-aggregate-put-card c = sym (length-take-le _ (c .before .before .before .before .before .before .args .room .now) (search needs))
+slice-aggregate-put-card c =
+    let start = c .before .before .before .before .before .before .before .before in
+    sym (length-take-le _ (start .args .room .now) (search needs))
 
--- src/lib.rt:398:9
 put-card-requires-2 : tie.Need-put-card-requires-2
-put-card-requires-2 c κs = (fit-rows (c .before .before .before .before .before .before .before .before .before .pre) (c .before .before .before .before .before .before .rows-of .ensures), holds-branches (c .before .before .before .before .before .before .before .before .before .pre))
+put-card-requires-2 c κs =
+    let start = c .before .before .before .before .before .before .before .before .before .before in
+    start .pre
 
--- src/lib.rt:411:9
 same-length-2 : tie.Need-same-length-2
 same-length-2 c = search needs
 
--- src/lib.rt:411:9
-returns-2 : tie.Need-returns-2
-returns-2 c = entered-small (rows-said (c .before .before .before .before .before .before .before .before .before .before .before .before .before .pre) (c .before .before .before .before .before .before .before .before .before .before .rows-of .ensures)) (c .before .before .before .put-card2 .ensures) (rows-short (c .before .before .before .before .before .before .before .before .before .before .before .before .before .pre) (c .before .before .before .before .before .before .before .before .before .before .rows-of .ensures)) (c .if2 .taken)
-
--- src/lib.rt:413:18
-put-card-requires-3 : tie.Need-put-card-requires-3
-put-card-requires-3 c κs = (fit-rows (c .before .before .before .before .before .before .before .before .before .before .before .before .before .before .before .before .before .pre) (c .before .before .before .before .before .before .before .before .before .before .before .before .before .before .rows-of .ensures), holds-branches (c .before .before .before .before .before .before .before .before .before .before .before .before .before .before .before .before .before .pre))
-
--- src/lib.rt:370:1
-same-length-3 : tie.Need-same-length-3
-same-length-3 c = search needs
-
--- src/lib.rt:370:1
 returns-3 : tie.Need-returns-3
-returns-3 c = entered-done (rows-said (c .before .before .before .before .before .before .before .before .before .before .before .before .before .before .before .before .before .before .before .before .pre) (c .before .before .before .before .before .before .before .before .before .before .before .before .before .before .before .before .before .rows-of .ensures)) (c .before .before .before .before .before .before .before .before .before .before .put-card2 .ensures) (c .before .before .before .before .before .before .before .if2 .left) (c .before .before .put-card3 .ensures)
+returns-3 c =
+    let at-put-card2 = c .before .before in
+    let at-written-length = at-put-card2 .before .before .before .before .before in
+    entered-exact (at-written-length .written-length .ensures) refl (search needs) (search needs) (at-put-card2 .put-card2 .ensures)
 
 pub write-card-spec : {M : Type 1} → statement M
-write-card-spec =
-    tie.close
-    (tie.spec
-    rows-of-requires
-    written-most-requires
+write-card-spec = tie.close (tie.spec written-most-requires
     put-card-requires
     same-length
     returns
+    written-length-requires
+    returns-2
     slice-relend-prefix-put-card
     slice-aggregate-put-card
     put-card-requires-2
     same-length-2
-    returns-2
-    put-card-requires-3
-    same-length-3
     returns-3)

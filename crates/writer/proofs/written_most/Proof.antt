@@ -1,41 +1,37 @@
-use Rattle.writer.specs.WrittenMost.{statementMost}
-use native.Mathlib.Nat.{mul-le-mul-right}
+-- `writer::written_most` meets its contract: the sum stays small, since seats and statements are few. Assumes nothing.
+use Rattle.texts.specs.WrittenMost.{statementMost}
 use native.Mathlib.Omega.{arith}
+use native.Mathlib.Nat.{mul-le-mul-right}
 use borrow.Author.Needs.{needs}
 use Rattle.writer.proofs.written_most.Statement.{statement}
 use Rattle.writer.proofs.written_most.Tie as tie
-use Rattle.writer.proofs.written_most.Reads as reads
-use Rattle.writer.proofs.written_most.Lts as lts
 
--- src/lib.rt:363:33
 mul-statement : tie.Need-mul-statement
 mul-statement c = search needs
 
--- src/lib.rt:363:21
 add-statement : tie.Need-add-statement
 add-statement c = search needs
 
--- src/lib.rt:364:17
 mul-result : tie.Need-mul-result
 mul-result c = omega (arith, mul-le-mul-right (statementMost (c .args .seats)) (c .pre .1), c .pre .0)
 
--- src/lib.rt:364:5
 add-result : tie.Need-add-result
 add-result c = omega (arith, mul-le-mul-right (statementMost (c .args .seats)) (c .pre .1), c .pre .0)
 
--- src/lib.rt:364:37
 mul-result-2 : tie.Need-mul-result-2
 mul-result-2 c = search needs
 
--- src/lib.rt:364:5
 add-result-2 : tie.Need-add-result-2
 add-result-2 c = omega (arith, mul-le-mul-right (statementMost (c .args .seats)) (c .pre .1), c .pre .0)
 
--- src/lib.rt:358:1
 returns : tie.Need-returns
 returns c = search needs
 
 pub written-most-spec : {M : Type 1} → statement M
-written-most-spec =
-    tie.close
-    (tie.spec mul-statement add-statement mul-result add-result mul-result-2 add-result-2 returns)
+written-most-spec = tie.close (tie.spec mul-statement
+    add-statement
+    mul-result
+    add-result
+    mul-result-2
+    add-result-2
+    returns)

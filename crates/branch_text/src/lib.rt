@@ -1,0 +1,77 @@
+// A statement's branches put as text, in either of the two texts.
+use card::node::end_of;
+use card::node::units_of;
+use leaf_text::Style;
+use leaf_text::WRITTEN;
+use phrases::put_numbered;
+use phrases::put_weight;
+use room::place;
+use room::put_byte;
+use room::put_bytes;
+ghost use mathlib.Core.List.{map};
+ghost use Rattle.card.specs.Laid.{branchOf};
+ghost use Rattle.meaning.specs.Reduced.{updateOf};
+ghost use Rattle.phrases.specs.Puts.{Puts};
+ghost use Rattle.texts.specs.Shared.{more, summed};
+ghost use Rattle.texts.specs.ReducedText.{updateText};
+ghost use Rattle.branch_text.specs.Branches.{endText, branchText};
+
+// What a branch to `end` does to the counters.
+fn put_update(room: &mut [u8], at: usize, own: usize, end: usize, seats: usize) -> usize
+    ensures { λ r. ⌜ Puts (now (room .entry)) (now (room .exit)) at (updateText (updateOf seats own end)) r ⌝ }
+{
+    if own == end {
+        return put_bytes(room, at, b"true");
+    }
+    let a = put_numbered(room, at, b"(no_", own);
+    let b = put_numbered(room, a, b"'=no_", own);
+    let c = put_numbered(room, b, b"-1) & (no_", end);
+    let d = put_numbered(room, c, b"'=min(no_", end);
+    let e = put_numbered(room, d, b"+1,", seats);
+    put_bytes(room, e, b"))")
+}
+
+// A branch behind its weight.
+fn put_end(room: &mut [u8], at: usize, end: usize, style: Style) -> usize
+    ensures { λ r. ⌜ Puts (now (room .entry)) (now (room .exit)) at (endText style end) r ⌝ }
+{
+    if style.text == WRITTEN {
+        let a = put_numbered(room, at, b":(s1'=", end);
+        return put_byte(room, a, b')');
+    }
+    let a = put_byte(room, at, b':');
+    put_update(room, a, style.own, end, style.seats)
+}
+
+fn put_branch(room: &mut [u8], at: usize, branch: u32, style: Style) -> usize
+    ensures { λ r. ⌜ Puts (now (room .entry)) (now (room .exit)) at (branchText style (branchOf branch)) r ⌝ }
+{
+    let units = units_of(branch);
+    let end = end_of(branch);
+    let a = put_weight(room, at, units);
+    put_end(room, a, end, style)
+}
+
+// The branches behind the first.
+fn put_more(room: &mut [u8], at: usize, branches: &[u32], style: Style) -> usize
+    ensures { λ r. ⌜ Puts (now (room .entry)) (now (room .exit)) at (more (branchText style) (map branchOf (now (branches .entry)))) r ⌝ }
+{
+    let mut to = place(at);
+    let mut i = 0;
+    while i < branches.len() {
+        let a = put_bytes(room, to, b" + ");
+        to = put_branch(room, a, branches[i], style);
+        i += 1;
+    }
+    to
+}
+
+pub fn put_branches(room: &mut [u8], at: usize, branches: &[u32], style: Style) -> usize
+    ensures { λ r. ⌜ Puts (now (room .entry)) (now (room .exit)) at (summed (branchText style) (map branchOf (now (branches .entry)))) r ⌝ }
+{
+    if branches.len() == 0 {
+        return place(at);
+    }
+    let a = put_branch(room, at, branches[0], style);
+    put_more(room, a, &branches[1..], style)
+}

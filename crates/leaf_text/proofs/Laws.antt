@@ -1,0 +1,82 @@
+-- A leaf's texts in the form in which the code puts them: literals one after the other, a literal of two digits byte for byte, and the
+-- parts of a node that are read one by one. Assumes nothing.
+use Prim.Native.Nat.{ℕ, zero, suc, _+_, _-_, _<_}
+use mathlib.Core.Path.{_≡_, refl, ap, _∙_}
+use mathlib.Core.Bool.{Bool, true, false}
+use mathlib.Core.List.{List, _∷_}
+use native.Mathlib.Numerals.{add-one}
+use native.Mathlib.Omega.{arith}
+use borrow.Author.Tests.{eq-eqb, ne-eqb}
+use lib.Dec.{eqb}
+use Rattle.card.specs.Text.{if_then_else_}
+use Rattle.card.specs.Card.{everyone, others, Sign, all, any, Relation, is, isnt}
+use Rattle.card.specs.Valid.{firstSeat}
+use Rattle.card.specs.Laid.{either, kindPart, signPart, relationPart, statePart, groupOf}
+use Rattle.meaning.specs.Reduced.{Bound, equalTo, moreThan, lessThan, counterOf}
+use Rattle.table.specs.declared.Bound.{Bound as BoundRow}
+use Rattle.table.specs.Bounds.{boundRow, boundOf}
+use Rattle.room.specs.Digits.{digit}
+use Rattle.room.proofs.Decimal.{decimal-one}
+use Rattle.phrases.specs.Phrases.{Text, _▸_, num, counted}
+use Rattle.texts.specs.Writing.{signText, relationText, literal, literals, groupText}
+use Rattle.texts.specs.ReducedText.{boundText, counterText}
+
+-- ---- literals
+
+-- the relation is put by its number
+pub literal-text : (q d i : ℕ) (r : List ℕ) → "s" ▸ num i (relationText (either is isnt q) ▸ num d r) ≡ literal (either is isnt q) d i r
+literal-text q d i r = refl
+
+-- a sign and a literal, byte for byte
+module _ (sign relation d i : ℕ) (hi : i < 10) (hd : d < 10) where
+  abbrev Further : Text → Type 0
+  Further f = (r : List ℕ) → f r ≡ signText (either all any sign) ▸ literal (either is isnt relation) d i r
+
+  signed : (t : Bool) (r : List ℕ) → 32 ∷ (if t then 38 else 124) ∷ 32 ∷ r ≡ signText (if t then all else any) ▸ r
+  signed true r = refl
+  signed false r = refl
+
+  module _ {joint : ℕ} (e : joint ≡ either 38 124 sign) where
+    pub further-is : relation ≡ 0 → Further (λ r. 32 ∷ joint ∷ 32 ∷ 115 ∷ digit i ∷ 61 ∷ digit d ∷ r)
+    further-is q r = rw (e, eq-eqb relation 0 q, decimal-one i hi, decimal-one d hd) (signed (eqb sign 0) _)
+
+    pub further-isnt : (relation ≡ 0 → ⊥) → Further (λ r. 32 ∷ joint ∷ 32 ∷ 115 ∷ digit i ∷ 33 ∷ 61 ∷ digit d ∷ r)
+    further-isnt q r = rw (e, ne-eqb relation 0 q, decimal-one i hi, decimal-one d hd) (signed (eqb sign 0) _)
+
+-- those behind the first
+module _ (s : Sign) (q : Relation) (d : ℕ) where
+  abbrev pub nextLiteral : ℕ → Text
+  nextLiteral i r = signText s ▸ literal q d (i + 1) r
+
+  pub literals-counted : (i c : ℕ) (r : List ℕ) → counted nextLiteral i c r ≡ literals s q d i c r
+  unfolding counted
+  literals-counted i zero r = refl
+  literals-counted i (suc c) r = rw (add-one, literals-counted (suc i) c r)
+
+-- ---- a group as its literals
+
+first-seat : (k : ℕ) → k < 2 → firstSeat (either everyone others k) ≡ k + 1
+first-seat zero h = refl
+first-seat (suc zero) h = refl
+first-seat (suc (suc k)) h = absurd (omega arith)
+
+module _ (x n : ℕ) {s q d k first : ℕ} (es : s ≡ signPart x) (eq : q ≡ relationPart x) (ed : d ≡ statePart x) (ek : k ≡ kindPart x) (h : k < 2) (ef : first ≡ k + 1) where
+  pub group-text : (r : List ℕ)
+      → "(" ▸ literal (either is isnt q) d first (literals (either all any s) (either is isnt q) d first (n - first) (")" ▸ r)) ≡ groupText n (groupOf x) r
+  unfolding groupOf
+  group-text r = rw (← es, ← eq, ← ed, ← ek, first-seat k h, ef)
+
+-- ---- and as its counter test
+
+bound-text : (b : Bound) (r : List ℕ) → boundRow b .sign ∷ num (boundRow b .number) r ≡ boundText b r
+bound-text (equalTo m) r = refl
+bound-text (moreThan m) r = refl
+bound-text (lessThan m) r = refl
+
+pub counter-text : (n j x : ℕ) {d : ℕ} {b : BoundRow} → d ≡ statePart x → b ≡ boundRow (boundOf (counterOf n j (groupOf x))) → (r : List ℕ)
+    → "(no_" ▸ num d (b .sign ∷ num (b .number) (")" ▸ r)) ≡ counterText (counterOf n j (groupOf x)) r
+unfolding groupOf
+counter-text n j x {d} {b} ed eb r =
+    ap (λ (y : BoundRow). "(no_" ▸ num d (y .sign ∷ num (y .number) (")" ▸ r))) eb
+    ∙ rw ed
+    (ap (λ (l : List ℕ). "(no_" ▸ num (statePart x) l) (bound-text (boundOf (counterOf n j (groupOf x))) (")" ▸ r)))

@@ -1,0 +1,63 @@
+-- `leaf_text::put_group` meets its contract: the parts of the node, put one after the other. Assumes nothing.
+use Rattle.leaf_text.proofs.Laws.{group-text}
+use Rattle.phrases.proofs.Laws.{put-first, puts-then, puts-as}
+use mathlib.Core.Path.{refl}
+use borrow.Author.Needs.{needs}
+use Rattle.leaf_text.proofs.put_group.Statement.{statement}
+use Rattle.leaf_text.proofs.put_group.Tie as tie
+
+sign-of-requires : tie.Need-sign-of-requires
+sign-of-requires c κs = search needs
+
+relation-of-requires : tie.Need-relation-of-requires
+relation-of-requires c κs = search needs
+
+state-of-requires : tie.Need-state-of-requires
+state-of-requires c κs = search needs
+
+kind-of-requires : tie.Need-kind-of-requires
+kind-of-requires c κs = search needs
+
+add-first : tie.Need-add-first
+add-first c = search needs
+
+put-byte-requires : tie.Need-put-byte-requires
+put-byte-requires c κs = search needs
+
+put-literal-requires : tie.Need-put-literal-requires
+put-literal-requires c κs = search needs
+
+put-literals-requires : tie.Need-put-literals-requires
+put-literals-requires c κs = search needs
+
+put-byte-requires-2 : tie.Need-put-byte-requires-2
+put-byte-requires-2 c κs = search needs
+
+same-length : tie.Need-same-length
+same-length c = search needs
+
+returns : tie.Need-returns
+returns c =
+    let at-put-byte2 = c .before .before in
+    let at-put-literals = at-put-byte2 .before .before .before .before in
+    let at-put-literal = at-put-literals .before .before .before .before in
+    let at-put-byte = at-put-literal .before .before .before .before in
+    let at-kind-of = at-put-byte .before .before in
+    let at-state-of = at-kind-of .before in
+    let at-relation-of = at-state-of .before in
+    let at-sign-of = at-relation-of .before in
+    puts-as _ (group-text _ _ (at-sign-of .sign-of .ensures .0) (at-relation-of .relation-of .ensures .0) (at-state-of .state-of .ensures .0) (at-kind-of .kind-of .ensures .0) (at-kind-of .kind-of .ensures .1) refl)
+    (puts-then (put-first (at-put-byte .put-byte .ensures)) (puts-then (at-put-literal .put-literal .ensures) (puts-then (at-put-literals .put-literals .ensures) (put-first (at-put-byte2 .put-byte2 .ensures)))))
+
+pub put-group-spec : {M : Type 1} → statement M
+put-group-spec = tie.close (tie.spec sign-of-requires
+    relation-of-requires
+    state-of-requires
+    kind-of-requires
+    add-first
+    put-byte-requires
+    put-literal-requires
+    put-literals-requires
+    put-byte-requires-2
+    same-length
+    returns)

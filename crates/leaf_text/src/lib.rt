@@ -1,0 +1,138 @@
+// How a leaf of a guard is put, in the written card and in the reduced program ("Texts, byte for byte").
+use card::node::IS;
+use card::node::kind_of;
+use card::node::relation_of;
+use card::node::sign_of;
+use card::node::state_of;
+use phrases::put_either;
+use phrases::put_numbered;
+use room::place;
+use room::put_byte;
+use room::put_bytes;
+use room::put_number;
+use table::bound_of;
+ghost use mathlib.Core.Path.{_≡_};
+ghost use Prim.Native.Nat.{_-_};
+ghost use Rattle.card.specs.Card.{all, any, is, isnt};
+ghost use Rattle.card.specs.Laid.{either, groupOf};
+ghost use Rattle.meaning.specs.Reduced.{counterOf};
+ghost use Rattle.phrases.specs.Phrases.{_▸_};
+ghost use Rattle.phrases.specs.Puts.{Puts};
+ghost use Rattle.texts.specs.Writing.{signText, literal, literals, groupText};
+ghost use Rattle.texts.specs.ReducedText.{counterText};
+ghost use Rattle.leaf_text.specs.Style.{leafText};
+
+// which of the two texts
+pub const WRITTEN: usize = 0;
+
+pub const REDUCED: usize = 1;
+
+// How a statement is put: in which text, with which local state, for how many seats, and in how many copies.
+pub struct Style {
+    pub text: usize,
+    pub own: usize,
+    pub seats: usize,
+    pub copies: usize,
+}
+
+fn put_literal(room: &mut [u8], at: usize, relation: usize, state: usize, seat: usize) -> usize
+    ensures { λ r. ⌜ Puts (now (room .entry)) (now (room .exit)) at (literal (either is isnt relation) state seat) r ⌝ }
+{
+    let a = put_numbered(room, at, b"s", seat);
+    let b = put_either(room, a, relation, b"=", b"!=");
+    put_number(room, b, state)
+}
+
+// The byte of the sign that joins a group's literals.
+fn joint_of(sign: usize) -> u8
+    ensures { λ r. ⌜ r ≡ either 38 124 sign ⌝ }
+{
+    if sign == 0 {
+        return b'&';
+    }
+    b'|'
+}
+
+// The sign and a literal behind it; of one digit each, as one text.
+fn put_further(
+    room: &mut [u8],
+    at: usize,
+    sign: usize,
+    relation: usize,
+    state: usize,
+    seat: usize,
+) -> usize
+    ensures { λ r. ⌜ Puts (now (room .entry)) (now (room .exit)) at (λ t. signText (either all any sign) ▸ literal (either is isnt relation) state seat t) r ⌝ }
+{
+    if seat < 10 {
+        if state < 10 {
+            let joint = joint_of(sign);
+            let i = b'0' + seat as u8;
+            let d = b'0' + state as u8;
+            if relation == IS {
+                let s = [b' ', joint, b' ', b's', i, b'=', d];
+                return put_bytes(room, at, &s);
+            }
+            let s = [b' ', joint, b' ', b's', i, b'!', b'=', d];
+            return put_bytes(room, at, &s);
+        }
+    }
+    let a = put_either(room, at, sign, b" & ", b" | ");
+    put_literal(room, a, relation, state, seat)
+}
+
+// The literals of a group behind its first.
+fn put_literals(
+    room: &mut [u8],
+    at: usize,
+    sign: usize,
+    relation: usize,
+    state: usize,
+    first: usize,
+    seats: usize,
+) -> usize
+    ensures { λ r. ⌜ Puts (now (room .entry)) (now (room .exit)) at (literals (either all any sign) (either is isnt relation) state first (seats - first)) r ⌝ }
+{
+    let mut to = place(at);
+    let mut i = first;
+    while i < seats {
+        i += 1;
+        to = put_further(room, to, sign, relation, state, i);
+    }
+    to
+}
+
+// A group as its literals.
+fn put_group(room: &mut [u8], at: usize, node: u32, seats: usize) -> usize
+    ensures { λ r. ⌜ Puts (now (room .entry)) (now (room .exit)) at (groupText seats (groupOf node)) r ⌝ }
+{
+    let sign = sign_of(node);
+    let relation = relation_of(node);
+    let state = state_of(node);
+    let first = kind_of(node) + 1;
+    let a = put_byte(room, at, b'(');
+    let b = put_literal(room, a, relation, state, first);
+    let c = put_literals(room, b, sign, relation, state, first, seats);
+    put_byte(room, c, b')')
+}
+
+// A group as its counter test.
+fn put_counter(room: &mut [u8], at: usize, node: u32, own: usize, seats: usize) -> usize
+    ensures { λ r. ⌜ Puts (now (room .entry)) (now (room .exit)) at (counterText (counterOf seats own (groupOf node))) r ⌝ }
+{
+    let d = state_of(node);
+    let bound = bound_of(node, own, seats);
+    let a = put_numbered(room, at, b"(no_", d);
+    let b = put_byte(room, a, bound.sign);
+    let c = put_number(room, b, bound.number);
+    put_byte(room, c, b')')
+}
+
+pub fn put_leaf(room: &mut [u8], at: usize, node: u32, style: Style) -> usize
+    ensures { λ r. ⌜ Puts (now (room .entry)) (now (room .exit)) at (leafText style (groupOf node)) r ⌝ }
+{
+    if style.text == WRITTEN {
+        return put_group(room, at, node, style.seats);
+    }
+    put_counter(room, at, node, style.own, style.seats)
+}

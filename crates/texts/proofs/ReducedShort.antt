@@ -1,0 +1,170 @@
+-- How long the reduced text of a valid card can be: states have one digit, numbers of seats two, and of all that repeats there is at most
+-- so much. Assumes nothing.
+use Prim.Native.Nat.{ℕ, zero, suc, _+_, _-_, _*_, _≤_}
+use mathlib.Core.Path.{_≡_}
+use mathlib.Core.Bool.{Bool, true, false}
+use mathlib.Core.List.{List, [], _∷_, map}
+use native.Mathlib.Nat.{mul-le-mul-right, le-trans}
+use native.Mathlib.Omega.{arith}
+use lib.Dec.{eqb}
+use lib.ListN.{length}
+use Rattle.card.specs.Limits.{mostSeats, topState}
+use Rattle.card.specs.Text.{if_then_else_}
+use Rattle.card.specs.Card.{Mode, nondeterministic, probabilistic, Kind, everyone, others, Sign, all, any, Relation, is, isnt, Group, group, Branch, Statement, Card}
+use Rattle.card.specs.Valid.{Every, ValidGroup, ValidBranch, ValidStatement, ValidCard}
+use Rattle.meaning.specs.Sums.{gate, upto, flat}
+use Rattle.meaning.specs.Reduced.{Bound, equalTo, moreThan, lessThan, counterOf, table, Update, keep, shift, updateOf, copy, copies, reduce}
+use Rattle.phrases.specs.Phrases.{Text, _▸_, num, modeText}
+use Rattle.phrases.proofs.Adds.{Adds, adds-then, adds-up, adds-none, adds-bytes, adds-state, adds-seats, weightMost, adds-weight, adds-mode}
+use Rattle.texts.specs.Shared.{always}
+use Rattle.texts.specs.ReducedText.{boundText, counterText, updateText, outcomeText, reducedText, statements, counters, programText, reducedOf}
+use Rattle.texts.specs.Copies.{outcomeOf, reducedCopies, tailPlaces, reducedMost}
+use Rattle.texts.proofs.Adding.{adds-as, adds-counted, adds-tail}
+use Rattle.texts.proofs.Copies.{reducedRest, copy-text, copies-text, statements-append}
+
+-- ---- tests
+
+abbrev numberIn : Bound → ℕ
+numberIn (equalTo m) = m
+numberIn (moreThan m) = m
+numberIn (lessThan m) = m
+
+adds-bound : (b : Bound) → numberIn b ≤ mostSeats → Adds 3 (boundText b)
+adds-bound (equalTo m) h = adds-then (adds-bytes "=") (adds-seats m h)
+adds-bound (moreThan m) h = adds-then (adds-bytes ">") (adds-seats m h)
+adds-bound (lessThan m) h = adds-then (adds-bytes "<") (adds-seats m h)
+
+-- no number in the table is above n or 1
+table-small : (n : ℕ) → n ≤ mostSeats → (kind : Kind) (e : Bool) (s : Sign) (q : Relation) → numberIn (table n kind e s q) ≤ mostSeats
+table-small n h everyone e all is = h
+table-small n h everyone e any is = omega arith
+table-small n h everyone e all isnt = omega arith
+table-small n h everyone e any isnt = h
+table-small n h others true all is = h
+table-small n h others true any is = omega arith
+table-small n h others true all isnt = omega arith
+table-small n h others true any isnt = h
+table-small n h others false all is = omega arith
+table-small n h others false any is = omega arith
+table-small n h others false all isnt = omega arith
+table-small n h others false any isnt = omega arith
+
+module _ (n k j : ℕ) (h : n ≤ mostSeats) (l : k ≤ topState) where
+  adds-group : (g : Group) → ValidGroup n k g → Adds 9 (counterText (counterOf n j g))
+  adds-group (group kind s q d) v =
+      adds-then (adds-bytes "(no_")
+      (adds-then (adds-state d (le-trans (v .1) l))
+      (adds-then (adds-bound (table n kind (eqb j d) s q) (table-small n h kind (eqb j d) s q)) (adds-bytes ")")))
+
+  -- ---- branches
+
+  abbrev updateMost : ℕ
+  updateMost = 39
+
+  adds-choice : (b : Bool) (x y : Update) → Adds updateMost (updateText x) → Adds updateMost (updateText y) → Adds updateMost (updateText (if b then x else y))
+  adds-choice true x y p q = p
+  adds-choice false x y p q = q
+
+  adds-shift : (t : ℕ) → j ≤ k → t ≤ k → Adds updateMost (updateText (shift j t n))
+  adds-shift t e f =
+      let low : Adds 1 (num j) = adds-state j (le-trans e l) in
+      let raised : Adds 1 (num t) = adds-state t (le-trans f l) in
+      adds-then (adds-bytes "(no_")
+      (adds-then low
+      (adds-then (adds-bytes "'=no_")
+      (adds-then low
+      (adds-then (adds-bytes "-1) & (no_")
+      (adds-then raised
+      (adds-then (adds-bytes "'=min(no_")
+      (adds-then raised (adds-then (adds-bytes "+1,") (adds-then (adds-seats n h) (adds-bytes "))"))))))))))
+
+  adds-update : (t : ℕ) → j ≤ k → t ≤ k → Adds updateMost (updateText (updateOf n j t))
+  adds-update t e f = adds-choice (eqb j t) keep (shift j t n) (adds-up updateMost (omega arith) (adds-bytes "true")) (adds-shift t e f)
+
+  abbrev outcomeMost : ℕ
+  outcomeMost = 1 + weightMost + updateMost
+
+  adds-outcome : j ≤ k → (b : Branch) → ValidBranch k b → Adds outcomeMost (outcomeText (outcomeOf n j b))
+  adds-outcome own b v =
+      adds-up outcomeMost (omega arith)
+      (adds-then (adds-weight (b .units)) (adds-then (adds-bytes ":") (adds-update (b .end) own (v .end))))
+
+-- ---- statements
+
+-- a copy, with its first test
+abbrev copyMost : ℕ
+copyMost = 11 + tailPlaces
+
+module _ (n k : ℕ) (h : n ≤ mostSeats) (l : k ≤ topState) (s : Statement) (v : ValidStatement n k s) where
+  adds-rest : Adds (tailPlaces - 10) (reducedRest n s)
+  adds-rest =
+      adds-up (tailPlaces - 10) (omega arith)
+      (adds-tail n k always (λ a. counterText (counterOf n (s .own) a)) 8 (adds-group n k (s .own) h l) (λ b. outcomeText (outcomeOf n (s .own) b)) _
+      (adds-outcome n k (s .own) h l (v .own)) (s .guard) (s .branches) (v .guard) (v .some .1) (v .branches))
+
+  pub short-rest : length (reducedRest n s []) ≤ tailPlaces
+  short-rest = omega (arith, adds-rest .long [])
+
+  adds-copy : (m : ℕ) → m ≤ mostSeats → Adds copyMost (reducedText (copy n s m))
+  adds-copy m f =
+      adds-up copyMost (omega arith)
+      (adds-as (copy-text n s m)
+      (adds-then (adds-bytes "[] (no_")
+      (adds-then (adds-state (s .own) (le-trans (v .own) l))
+      (adds-then (adds-bytes ">") (adds-then (adds-seats m f) (adds-then (adds-bytes ")") adds-rest))))))
+
+  number-small : (mode : Mode) → reducedCopies mode n ≤ mostSeats
+  number-small nondeterministic = omega arith
+  number-small probabilistic = h
+
+  adds-statement : (mode : Mode) → Adds (mostSeats * copyMost) (statements (copies mode n s))
+  adds-statement mode =
+      adds-up (mostSeats * copyMost) (mul-le-mul-right copyMost (number-small mode))
+      (adds-as (copies-text n s mode)
+      (adds-counted (λ m. reducedText (copy n s m)) copyMost 0 (reducedCopies mode n) (λ m f. adds-copy m (omega (arith, number-small mode)))))
+
+abbrev copied : Mode → ℕ → List Statement → Text
+copied mode n xs r = statements (flat (map (copies mode n) xs)) r
+
+module _ (n k : ℕ) (h : n ≤ mostSeats) (l : k ≤ topState) where
+  adds-statements : (mode : Mode) (xs : List Statement) → Every (ValidStatement n k) xs → Adds (length xs * (mostSeats * copyMost)) (copied mode n xs)
+  adds-statements mode [] v = adds-up _ (omega arith) adds-none
+  adds-statements mode (x ∷ xs) v =
+      adds-up (length (x ∷ xs) * (mostSeats * copyMost)) (omega arith)
+      (adds-as (statements-append (copies mode n x) (flat (map (copies mode n) xs)))
+      (adds-then (adds-statement n k h l x (v .0) mode) (adds-statements mode xs (v .1))))
+
+-- ---- the program
+
+gate-small : (b : Bool) (n : ℕ) → n ≤ mostSeats → gate b n ≤ mostSeats
+gate-small true n h = h
+gate-small false n h = omega arith
+
+abbrev counterMost : ℕ
+counterMost = 24
+
+adds-counters : (n d c : ℕ) (f : ℕ → ℕ) → n ≤ mostSeats → d + c ≤ suc topState → ((j : ℕ) → f j ≤ mostSeats) → Adds (c * counterMost) (counters n d (upto c f))
+adds-counters n d zero f h l e = adds-up _ (omega arith) adds-none
+adds-counters n d (suc c) f h l e =
+    adds-up (suc c * counterMost) (omega arith)
+    (adds-then (adds-bytes "no_")
+    (adds-then (adds-state d (omega arith))
+    (adds-then (adds-bytes " : [0..")
+    (adds-then (adds-seats n h)
+    (adds-then (adds-bytes "] init ")
+    (adds-then (adds-seats (f 0) (e 0))
+    (adds-then (adds-bytes ";\n") (adds-counters n (suc d) c (λ i. f (suc i)) h (omega arith) (λ j. e (suc j))))))))))
+
+adds-program : (c : Card) → ValidCard c → Adds reducedMost (λ r. modeText (c .mode) ("\nmodule generic_process\n"
+    ▸ counters (c .n) 0 (upto (suc (c .k)) (λ d. gate (eqb (c .l) d) (c .n))) (copied (c .mode) (c .n) (c .statements) ("endmodule\n" ▸ r))))
+adds-program c v =
+    adds-up reducedMost (omega (arith, v .top, mul-le-mul-right (mostSeats * copyMost) (v .some .1)))
+    (adds-then (adds-mode (c .mode))
+    (adds-then (adds-bytes "\nmodule generic_process\n")
+    (adds-then (adds-counters (c .n) 0 (suc (c .k)) (λ d. gate (eqb (c .l) d) (c .n)) (v .seats-most) (omega (arith, v .top)) (λ d. gate-small (eqb (c .l) d) (c .n) (v .seats-most)))
+    (adds-then (adds-statements (c .n) (c .k) (v .seats-most) (v .top) (c .mode) (c .statements) (v .statements)) (adds-bytes "endmodule\n")))))
+
+-- no reduced text of a valid card is longer than this
+pub short : (c : Card) → ValidCard c → length (reducedOf c) ≤ reducedMost
+unfolding programText reduce
+short c v = omega (arith, adds-program c v .long [])
