@@ -8,6 +8,7 @@ use Rattle.card.specs.Limits.{unit}
 use Rattle.card.specs.Card.{Mode}
 use Rattle.card.specs.Valid.{ValidBranch, ValidCard}
 use Rattle.meaning.specs.CardA.{cardA}
+use Rattle.card.proofs.HeldIn.{lent-back}
 use Rattle.card.proofs.Laws.{units-worth, laid-back, laid-injective, laid-falls, valid-held}
 use Rattle.card.specs.Refusals.{wrongWeight}
 use Rattle.card.specs.Weight.{cardRule, unitsOf}
@@ -50,5 +51,6 @@ cards = record {
   weights = units-worth;
   comes-back = laid-back;
   once = laid-injective;
+  lent-comes-back = λ c v. lent-back c (valid-held c v);
   falls = λ c v i h d j l x e. let f = laid-falls c (valid-held c v) i h d j l in rw e (λ z. (f .left z, f .right z));
 }

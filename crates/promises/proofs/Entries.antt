@@ -12,8 +12,9 @@ use Rattle.reading.specs.Reading.{Outcome, taken, refused, readOf}
 use Rattle.reading.proofs.Theorems.{read-valid}
 use Rattle.reading.proofs.Numbers.{read-number}
 use Rattle.reader.specs.declared.Reading.{Reading}
+use Rattle.reader.specs.declared.Outline.{Outline}
 use Rattle.card.specs.Verdict.{numberOf, placeOf}
-use Rattle.reader.specs.ReadingOf.{readingOf}
+use Rattle.reader.specs.ReadingOf.{readingOf, outlineOf, memoryOf}
 use Rattle.entry.specs.Said.{says, _>>=_}
 use Rattle.entry.specs.Numbers.{only}
 use Rattle.entry.specs.Contract.{InRoom}
@@ -54,6 +55,14 @@ reads-number (refused number place) = refl
 reads-place : (o : Outcome) → placeOf (readingOf o .verdict) ≡ outcomePlace o
 reads-place (taken c) = refl
 reads-place (refused number place) = refl
+
+outline-number : (o : Outcome) → numberOf (outlineOf o .verdict) ≡ outcomeNumber o
+outline-number (taken c) = refl
+outline-number (refused number place) = refl
+
+outline-place : (o : Outcome) → placeOf (outlineOf o .verdict) ≡ outcomePlace o
+outline-place (taken c) = refl
+outline-place (refused number place) = refl
 
 -- a text of a card
 module _ (f : Card → List ℕ) (card : List ℕ) {was is : List ℕ} {a : Answer} (e : Entered was is (cardSaid card >>= (λ (c : Card). says (f c))) a) where
@@ -139,6 +148,7 @@ rooms = record {
 unique : Unique
 unique = record {
   read = λ card x y h k. h .reading ∙ sym (k .reading);
+  read-into = λ card x y m n h k. (h .outline ∙ sym (k .outline), h .memory ∙ sym (k .memory));
   entered = λ was is₁ is₂ said a₁ a₂ h k. enters-unique h k;
   printed = λ was is₁ is₂ t l₁ l₂ h k. (h .length-is ∙ sym (k .length-is), h .stands ∙ sym (k .stands));
 }
@@ -149,6 +159,11 @@ demand1 = record {
     ap (λ (y : Reading). numberOf (y .verdict)) (h .reading) ∙ reads-number (readOf card),
     ap (λ (y : Reading). placeOf (y .verdict)) (h .reading) ∙ reads-place (readOf card),
     ap (λ (y : Reading). y .card) (h .reading),
+  );
+  read-into = λ card x m h. (
+    ap (λ (y : Outline). numberOf (y .verdict)) (h .outline) ∙ outline-number (readOf card),
+    ap (λ (y : Outline). placeOf (y .verdict)) (h .outline) ∙ outline-place (readOf card),
+    λ c e. (ap (λ (y : Outline). y .head) (h .outline ∙ ap outlineOf e), h .memory ∙ ap memoryOf e),
   );
   program = λ input was is long p. (p .stands, p .length-is);
   responds = responds;

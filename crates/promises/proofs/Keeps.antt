@@ -1,5 +1,6 @@
 -- Each by citing the proof of its function. Assumes nothing.
 use Rattle.reader.proofs.read.Met.{met as read-met}
+use Rattle.reader.proofs.read_into.Met.{met as read-into-met}
 use Rattle.writer.proofs.write.Met.{met as write-met}
 use Rattle.reducer.proofs.reduce.Met.{met as reduce-met}
 use Rattle.panel.proofs.panel.Met.{met as panel-met}
@@ -13,6 +14,7 @@ use Rattle.promises.specs.Keeps.{Keeps}
 pub keeps : Keeps
 keeps = record {
   read = λ M. read-met;
+  read-into = λ M. read-into-met;
   write = λ M. write-met;
   reduce = λ M. reduce-met;
   panel = λ M. panel-met;

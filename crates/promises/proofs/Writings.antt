@@ -4,6 +4,7 @@ use Rattle.reading.specs.Reading.{taken}
 use Rattle.room.specs.Digits.{decimal}
 use Rattle.meaning.specs.CardA.{cardA}
 use Rattle.phrases.specs.Phrases.{gcd, divisor}
+use Rattle.room.proofs.Decimal.{decimal-exactly}
 use Rattle.phrases.proofs.Lowest.{lowest-terms, lowest-kept}
 use Rattle.texts.specs.Writing.{writeOf}
 use Rattle.rereading.proofs.RoundTrip.{round-trip, written-once, read-again}
@@ -29,6 +30,7 @@ writings = record {
   round-trip = round-trip;
   canonical = λ c d v w. ((λ e. ap writeOf e), written-once c d v w);
   settled = λ s c d e h f. ap writeOf (sym (same-taken c d (sym (read-again s c e h) ∙ f)));
+  numerals = decimal-exactly;
   lowest-terms = lowest-terms;
   worth = lowest-kept;
 }

@@ -10,6 +10,7 @@ use Rattle.card.specs.Valid.{ValidCard}
 use Rattle.card.specs.Refusals.{wrongWeight}
 use Rattle.card.specs.Weight.{Weight, decimal, cardRule, Worth, unitsOf}
 use Rattle.card.specs.Judged.{judgedOf, numberOf as weightNumber, unitsIn as weightUnits}
+use Rattle.card.specs.Lent.{headOf, lentOf, cardIn}
 use Rattle.meaning.specs.CardA.{cardA}
 use Rattle.card.specs.Laid.{opOf, leftOf, rightOf, opGroup, guardSize, laid, cardOf}
 
@@ -25,6 +26,8 @@ pub record Cards : Type 0 where
   -- a card in its struct is the card, so two cards that lie there alike are the same
   pub comes-back : (c : Card) → ValidCard c → cardOf (laid c) ≡ c
   pub once : (c e : Card) → ValidCard c → ValidCard e → laid c ≡ laid e → c ≡ e
+  -- and so is one in lent arrays, beside its head
+  pub lent-comes-back : (c : Card) → ValidCard c → cardIn (headOf c) (lentOf c) ≡ c
   -- the children of node j of statement i have smaller numbers than it has
   pub falls : (c : Card) → ValidCard c → (i : ℕ) → i < length (c .statements) → (d : Statement) (j : ℕ) → j < guardSize (getD (c .statements) i d .guard)
       → (x : ℕ) → x ≡ getD (laid c .nodes) (i * mostNodes + j) 0

@@ -11,8 +11,10 @@ use Rattle.card.specs.Card.{Card}
 use Rattle.card.specs.Valid.{Every}
 use Rattle.reading.specs.Reading.{Outcome, taken, refused, readOf}
 use Rattle.reader.specs.declared.Reading.{Reading}
+use Rattle.reader.specs.declared.Outline.{Outline}
+use Rattle.card.specs.Lent.{Lent, headOf, lentOf}
 use Rattle.card.specs.Verdict.{numberOf, placeOf}
-use Rattle.reader.specs.ReadingOf.{readingOf, Reads}
+use Rattle.reader.specs.ReadingOf.{readingOf, Reads, ReadsInto}
 use Rattle.room.specs.declared.Answer.{Answer}
 use Rattle.room.specs.declared.Answer.the-variants.{Done, Refused}
 use Rattle.room.specs.Digits.{digit, decimal}
@@ -80,18 +82,19 @@ pub record Shows (card seats was is : List ℕ) (a : Answer) : Type 0 where
   pub in-numbers : InNumbers a
 
 -- lent a room of so many bytes or more, an entry never answers 10
-abbrev pub Enough : ℕ → Text → Type 0
-Enough room said = (was is : List ℕ) (a : Answer) → Entered was is said a → room ≤ length was → (place : ℕ) → a ≡ Refused roomTooSmall place → ⊥
+abbrev pub RoomEnough : ℕ → Text → Type 0
+RoomEnough room said = (was is : List ℕ) (a : Answer) → Entered was is said a → room ≤ length was → (place : ℕ) → a ≡ Refused roomTooSmall place → ⊥
 
 -- rooms that every text fits into, whatever the card and the seats
 pub record Rooms : Type 0 where
-  pub written : (card : List ℕ) → Enough writtenRoom (writeSaid card)
-  pub reduced : (card : List ℕ) → Enough reducedMost (reduceSaid card)
-  pub shown : (card seats : List ℕ) → Enough panelRoom (panelSaid card seats)
+  pub written : (card : List ℕ) → RoomEnough writtenRoom (writeSaid card)
+  pub reduced : (card : List ℕ) → RoomEnough reducedMost (reduceSaid card)
+  pub shown : (card seats : List ℕ) → RoomEnough panelRoom (panelSaid card seats)
 
 -- two results that keep one contract are the same
 pub record Unique : Type 0 where
   pub read : (card : List ℕ) (x y : Reading) → Reads card x → Reads card y → x ≡ y
+  pub read-into : (card : List ℕ) (x y : Outline) (m n : Lent) → ReadsInto card x m → ReadsInto card y n → (x ≡ y) × (m ≡ n)
   pub entered : (was is₁ is₂ : List ℕ) (said : Text) (a₁ a₂ : Answer) → Entered was is₁ said a₁ → Entered was is₂ said a₂ → (a₁ ≡ a₂) × (is₁ ≡ is₂)
   pub printed : (was is₁ is₂ t : List ℕ) (long₁ long₂ : ℕ) → Printed was is₁ t long₁ → Printed was is₂ t long₂ → (long₁ ≡ long₂) × (is₁ ≡ is₂)
 
@@ -129,6 +132,10 @@ pub record Demand1 : Type 0 where
   -- the reader: its verdict in numbers, and the struct that it hands back
   pub read : (card : List ℕ) (x : Reading) → Reads card x
       → (numberOf (x .verdict) ≡ outcomeNumber (readOf card)) × (placeOf (x .verdict) ≡ outcomePlace (readOf card)) × (x .card ≡ readingOf (readOf card) .card)
+  -- into lent arrays: the same verdict, and the card that is taken beside its head
+  pub read-into : (card : List ℕ) (x : Outline) (m : Lent) → ReadsInto card x m
+      → (numberOf (x .verdict) ≡ outcomeNumber (readOf card)) × (placeOf (x .verdict) ≡ outcomePlace (readOf card))
+      × ((c : Card) → readOf card ≡ taken c → (x .head ≡ headOf c) × (m ≡ lentOf c))
   pub write : (card was is : List ℕ) (a : Answer) → Entered was is (writeSaid card) a → Prints writeOf card was is a
   pub reduce : (card was is : List ℕ) (a : Answer) → Entered was is (reduceSaid card) a → Prints reducedOf card was is a
   pub panel : (card seats was is : List ℕ) (a : Answer) → Entered was is (panelSaid card seats) a → Shows card seats was is a

@@ -2,6 +2,7 @@
 -- routine meets what its source declares, for every memory that it may be called in. What the contracts say (`Reads`, `Entered`, `Printed`,
 -- `Told`) is in `Entries.antt` and `ForC.antt`. Assumes nothing.
 use Rattle.reader.proofs.read.Statement.{statement as readKeeps}
+use Rattle.reader.proofs.read_into.Statement.{statement as readIntoKeeps}
 use Rattle.writer.proofs.write.Statement.{statement as writeKeeps}
 use Rattle.reducer.proofs.reduce.Statement.{statement as reduceKeeps}
 use Rattle.panel.proofs.panel.Statement.{statement as panelKeeps}
@@ -13,6 +14,7 @@ use Rattle.tablet.proofs.open_panel_show.Statement.{statement as showForCKeeps}
 
 pub record Keeps : Type 2 where
   pub read : (M : Type 1) → readKeeps M
+  pub read-into : (M : Type 1) → readIntoKeeps M
   pub write : (M : Type 1) → writeKeeps M
   pub reduce : (M : Type 1) → reduceKeeps M
   pub panel : (M : Type 1) → panelKeeps M

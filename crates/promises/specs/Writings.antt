@@ -13,6 +13,7 @@ use Rattle.promises.specs.Edges.{textA}
 use Rattle.card.specs.Valid.{ValidCard}
 use Rattle.card.specs.Weight.{cardRule, unitsOf}
 use Rattle.reading.specs.Reading.{taken, readOf}
+use Rattle.room.specs.Digits.{decimal, Numeral, value}
 use Rattle.phrases.specs.Phrases.{LowestTerms, divisor, lowest}
 use Rattle.texts.specs.Writing.{writeOf}
 
@@ -60,6 +61,8 @@ pub record Writings : Type 0 where
   pub canonical : (c d : Card) → ValidCard c → ValidCard d → (c ≡ d) ↔ (writeOf c ≡ writeOf d)
   -- the written form of what a written form is read as is itself
   pub settled : (s : List ℕ) (c d : Card) → readOf s ≡ taken c → length (writeOf c) ≤ cardBytes → readOf (writeOf c) ≡ taken d → writeOf d ≡ writeOf c
+  -- a number is written in decimal: digits without a zero in front, and no others, stand for it
+  pub numerals : (v : ℕ) (s : List ℕ) → (s ≡ decimal v) ↔ (Numeral s × (value s ≡ v))
   -- a weight is written in lowest terms, and what is written is worth its units
   pub lowest-terms : (u : ℕ) → u ≤ unit → LowestTerms u (u / divisor u) (unit / divisor u)
   pub worth : (u : ℕ) → u ≤ unit → unitsOf cardRule (lowest u) ≡ some u
