@@ -11,18 +11,18 @@ use lib.Seq.{getD-append-add}
 use Rattle.card.specs.Limits.{mostNodes, nodePlaces}
 use Rattle.card.specs.Card.{Guard, atom, neg, and, or, Statement, Card}
 use Rattle.card.specs.Valid.{size}
-use Rattle.card.specs.Laid.{opGroup, opNot, opAnd, opOr, packNode, opOf, leftOf, rightOf, groupNumber, below, cells, guardCells, guardSize, laid}
-use Rattle.card.proofs.Packed.{left-back, right-back, group-number-op}
+use Rattle.card.specs.Laid.{opLeaf, opNot, opAnd, opOr, packNode, opOf, leftOf, rightOf, leafNumber, below, cells, guardCells, guardSize, laid}
+use Rattle.card.proofs.Packed.{left-back, right-back, leaf-op}
 use Rattle.card.proofs.Storing.{size-below, length-cells}
 use Rattle.card.proofs.Filling.{length-guard-cells}
 use Rattle.card.proofs.Held.{States, GuardStates, Held, HeldCard, every-at}
 use Rattle.card.proofs.Standing.{each-stands}
 use Rattle.card.proofs.LaidBack.{nodes-stand}
 
--- x stands at node n: unless it is a group, its children have lower numbers
+-- x stands at node n: unless it is a leaf, its children have lower numbers
 pub record Falls (x n : ℕ) : Type 0 where
-  pub left : (opOf x ≡ opGroup → ⊥) → leftOf x < n
-  pub right : (opOf x ≡ opGroup → ⊥) → rightOf x < n
+  pub left : (opOf x ≡ opLeaf → ⊥) → leftOf x < n
+  pub right : (opOf x ≡ opLeaf → ⊥) → rightOf x < n
 
 abbrev pub Falling : List ℕ → ℕ → Type 0
 Falling s at = (i : ℕ) → i < length s → Falls (getD s i 0) (at + i)
@@ -44,8 +44,8 @@ falling-one : (x at : ℕ) → Falls x at → Falling (x ∷ []) at
 falling-one x at f zero h = rw (add-zero at) f
 falling-one x at f (suc i) h = absurd (omega arith)
 
-falls-group : (x n : ℕ) → opOf x ≡ opGroup → Falls x n
-falls-group x n e = record { left = λ z. absurd (z e); right = λ z. absurd (z e) }
+falls-leaf : (x n : ℕ) → opOf x ≡ opLeaf → Falls x n
+falls-leaf x n e = record { left = λ z. absurd (z e); right = λ z. absurd (z e) }
 
 falls-node : (op left right n : ℕ) → n < nodePlaces → left < n → right < n → Falls (packNode op left right) n
 falls-node op left right n h l r = record {
@@ -67,7 +67,7 @@ pair-fall op g h at l p q =
 -- every node of a guard
 pub cells-fall : (g : Guard) (at : ℕ) → States g → at + size g ≤ nodePlaces → Falling (cells g at) at
 unfolding cells
-cells-fall (atom a) at t h = falling-one (groupNumber a) at (falls-group (groupNumber a) at (group-number-op a (omega arith)))
+cells-fall (atom a) at t h = falling-one (leafNumber a) at (falls-leaf (leafNumber a) at (leaf-op a t))
 cells-fall (neg g) at t h =
     let root = falls-node opNot (at + below g) 0 (at + size g) (omega arith) (omega (arith, size-below g)) (omega (arith, size-below g)) in
     falling-append (cells g at) (packNode opNot (at + below g) 0 ∷ []) at (cells-fall g at t (omega arith))

@@ -9,14 +9,14 @@ use native.Mathlib.Omega.{arith}
 use borrow.Author.Tests.{eq-eqb, ne-eqb}
 use lib.ListN.{getD}
 use Rattle.card.specs.Card.{atom, neg, and, or}
-use Rattle.card.specs.Laid.{opGroup, opNot, opAnd, opOf, leftOf, rightOf, groupOf, nodeOf, guardFrom, guardAt, guardOf}
+use Rattle.card.specs.Laid.{opLeaf, opNot, opAnd, opOf, leftOf, rightOf, leafOf, nodeOf, guardFrom, guardAt, guardOf}
 
 zero-or-not : (n : ℕ) → (n ≡ 0) ⊎ (n ≡ 0 → ⊥)
 zero-or-not zero = inl refl
 zero-or-not (suc n) = inr (λ e. omega arith)
 
 module _ (nodes : List ℕ) where
-  from-zero : (fuel n : ℕ) → n ≡ 0 → guardFrom fuel nodes n ≡ atom (groupOf (getD nodes n 0))
+  from-zero : (fuel n : ℕ) → n ≡ 0 → guardFrom fuel nodes n ≡ atom (leafOf (getD nodes n 0))
   unfolding guardFrom
   from-zero zero n e = refl
   from-zero (suc fuel) n e = rw (eq-eqb n 0 e)
@@ -41,7 +41,7 @@ module _ (nodes : List ℕ) where
       (zero-or-not n)
 
   module _ (n x : ℕ) (is : x ≡ getD nodes n 0) where
-    at-zero : n ≡ 0 → guardAt nodes n ≡ atom (groupOf x)
+    at-zero : n ≡ 0 → guardAt nodes n ≡ atom (leafOf x)
     unfolding guardAt
     at-zero h = from-zero n n h ∙ rw is
 
@@ -52,10 +52,10 @@ module _ (nodes : List ℕ) where
       enough n (min (rightOf x) (n - 1)) (min (rightOf x) (n - 1)) (omega arith) (omega arith),
     )
 
-    pub guard-at-group : (opOf x ≡ opGroup) ⊎ (n ≡ 0) → guardAt nodes n ≡ atom (groupOf x)
+    pub guard-at-leaf : (opOf x ≡ opLeaf) ⊎ (n ≡ 0) → guardAt nodes n ≡ atom (leafOf x)
     unfolding nodeOf
-    guard-at-group h =
-        ⊎-elim at-zero (λ z. ⊎-elim (λ e. at-more z ∙ rw (eq-eqb (opOf x) opGroup e)) (λ e. at-zero e) h) (zero-or-not n)
+    guard-at-leaf h =
+        ⊎-elim at-zero (λ z. ⊎-elim (λ e. at-more z ∙ rw (eq-eqb (opOf x) opLeaf e)) (λ e. at-zero e) h) (zero-or-not n)
 
     module _ (h : n ≡ 0 → ⊥) where
       pub guard-at-not : opOf x ≡ opNot → guardAt nodes n ≡ neg (guardAt nodes (min (leftOf x) (n - 1)))
@@ -67,10 +67,10 @@ module _ (nodes : List ℕ) where
       unfolding nodeOf
       guard-at-and e = at-more h ∙ rw e
 
-      pub guard-at-or : (opOf x ≡ opGroup → ⊥) → (opOf x ≡ opNot → ⊥) → (opOf x ≡ opAnd → ⊥)
+      pub guard-at-or : (opOf x ≡ opLeaf → ⊥) → (opOf x ≡ opNot → ⊥) → (opOf x ≡ opAnd → ⊥)
           → guardAt nodes n ≡ or (guardAt nodes (min (leftOf x) (n - 1))) (guardAt nodes (min (rightOf x) (n - 1)))
       unfolding nodeOf
-      guard-at-or e f g = at-more h ∙ rw (ne-eqb (opOf x) opGroup e, ne-eqb (opOf x) opNot f, ne-eqb (opOf x) opAnd g)
+      guard-at-or e f g = at-more h ∙ rw (ne-eqb (opOf x) opLeaf e, ne-eqb (opOf x) opNot f, ne-eqb (opOf x) opAnd g)
 
 -- ---- a statement's guard: of m nodes from `at` on, the last is the root
 

@@ -5,18 +5,17 @@ use mathlib.Core.Option.{Option, none, some}
 use native.Mathlib.Nat.{le-trans, not-suc-le-zero, le-of-suc-le-suc}
 use lib.ListN.{length, getD}
 use Rattle.card.specs.Limits.{topState, mostStatements, mostNodes, mostBranches}
-use Rattle.card.specs.Card.{Group, group, Guard, atom, neg, and, or, Branch, Statement, Card}
-use Rattle.card.specs.Valid.{Every, ValidGroup, ValidGroups, ValidGuard, ValidStatement, ValidCard}
+use Rattle.card.specs.Card.{Leaf, group, Guard, Branch, Statement, Card}
+use Rattle.card.specs.Valid.{Every, ValidLeaf, ValidGuard, ValidStatement, ValidCard}
+use Rattle.card.specs.Formulas.{EveryAtom}
 use Rattle.card.specs.Laid.{guardSize, nodeRow, branchRow}
-use Rattle.card.proofs.Packed.{stateOf}
+use Rattle.card.proofs.Packed.{HeldLeaf}
+use Rattle.card.proofs.Atoms.{every-atom}
 use Rattle.card.proofs.Filling.{FewNodes, FewBranches, Narrow, narrow-nodes, narrow-branches}
 
--- each group of a guard has a state that there can be
+-- each leaf of a guard has a state that there can be
 abbrev pub States : Guard → Type 0
-States (atom a) = stateOf a ≤ topState
-States (neg g) = States g
-States (and g h) = States g × States h
-States (or g h) = States g × States h
+States g = EveryAtom HeldLeaf g
 
 abbrev pub GuardStates : Option Guard → Type 0
 GuardStates none = Unit {0}
@@ -57,18 +56,12 @@ held-branches c v = narrow-branches (c .statements) (every-map (λ x w. w .branc
 -- ---- a valid card is held
 
 module _ (n k : ℕ) (top : k ≤ topState) where
-  valid-state : (a : Group) → ValidGroup n k a → stateOf a ≤ topState
-  valid-state (group kind s q d) v = le-trans (v .1) top
-
-  valid-states : (g : Guard) → ValidGroups n k g → States g
-  valid-states (atom a) v = valid-state a v
-  valid-states (neg g) v = valid-states g v
-  valid-states (and g h) v = (valid-states g (v .0), valid-states h (v .1))
-  valid-states (or g h) v = (valid-states g (v .0), valid-states h (v .1))
+  valid-leaf : (a : Leaf) → ValidLeaf n k a → HeldLeaf a
+  valid-leaf (group kind s q d) v = le-trans (v .1) top
 
   valid-guard : (g : Option Guard) → ValidGuard n k g → GuardStates g
   valid-guard none v = tt
-  valid-guard (some g) v = valid-states g (v .0)
+  valid-guard (some g) v = every-atom valid-leaf g (v .0)
 
   valid-nodes : (x : Statement) → ValidStatement n k x → FewNodes x
   valid-nodes x v = go (x .guard) (v .guard)

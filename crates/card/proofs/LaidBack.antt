@@ -12,10 +12,10 @@ use lib.Seq.{getD-take}
 use Rattle.card.specs.Limits.{mostStatements, mostNodes, mostBranches, nodePlaces, branchPlaces}
 use Rattle.card.specs.Card.{Mode, nondeterministic, probabilistic, Guard, atom, neg, and, or, Branch, Statement, Card}
 use Rattle.card.specs.Valid.{size, Every, ValidCard}
-use Rattle.card.specs.Laid.{modeNumber, either, opNot, opAnd, opOr, packNode, opOf, leftOf, rightOf, groupNumber, branchNumber, branchOf, unitsPart, endPart, below, cells, guardCells, guardSize, padded, rows, nodeRow, branchRow, statementRow, noStatement, statementRows, laid, guardAt, guardOf, statementOf, statementsOf, cardOf}
+use Rattle.card.specs.Laid.{modeNumber, either, opNot, opAnd, opOr, packNode, opOf, leftOf, rightOf, leafNumber, branchNumber, branchOf, unitsPart, endPart, below, cells, guardCells, guardSize, padded, rows, nodeRow, branchRow, statementRow, noStatement, statementRows, laid, guardAt, guardOf, statementOf, statementsOf, cardOf}
 use Rattle.card.specs.declared.Statement.{Statement as StatementRow}
-use Rattle.card.proofs.Packed.{op-back, left-back, right-back, group-number-op, group-back, branch-back}
-use Rattle.card.proofs.GuardAt.{guard-at-group, guard-at-not, guard-at-and, guard-at-or}
+use Rattle.card.proofs.Packed.{op-back, left-back, right-back, leaf-op, leaf-back, branch-back}
+use Rattle.card.proofs.GuardAt.{guard-at-leaf, guard-at-not, guard-at-and, guard-at-or}
 use Rattle.card.proofs.Storing.{size-below, length-cells}
 use Rattle.card.proofs.Held.{States, GuardStates, EndsThere, Held, HeldCard, every-at, held-nodes, held-branches, valid-held}
 use Rattle.card.proofs.Standing.{Stands, first-stands, second-stands, one-stands, each-stands, part-stands, row-stands}
@@ -68,7 +68,7 @@ module _ (nodes : List ℕ) where
   unfolding cells
   cells-back (atom a) at s t h =
       let e : at + 0 ≡ at = omega arith in
-      rw e (guard-at-group nodes at (groupNumber a) (sym (one-stands (groupNumber a) s)) (inl (group-number-op a (omega arith))) ∙ rw (group-back a t))
+      rw e (guard-at-leaf nodes at (leafNumber a) (sym (one-stands (leafNumber a) s)) (inl (leaf-op a t)) ∙ rw (leaf-back a t))
   cells-back (neg g) at s t h =
       let z = size-below g in
       let k = second-stands (cells g at) (packNode opNot (at + below g) 0 ∷ []) s in

@@ -4,12 +4,12 @@
 pub use Rattle.card.proofs.Weights.{Sound, units-worth-under, units-most, card-rule, units-worth}
 -- what the answer of a judged weight says
 pub use Rattle.card.proofs.Judging.{judged-units, judged-broken}
--- a node, a group and a branch come back from their number, and fit it; in range a packer takes its arguments as they are
-pub use Rattle.card.proofs.Packed.{words, op-back, left-back, right-back, node-fits, stateOf, group-number-op, group-number-fits, group-back, branch-fits, branch-back, packed-node, packed-group, packed-branch}
+-- a node, a leaf and a branch come back from their number, and fit it; in range a packer takes its arguments as they are
+pub use Rattle.card.proofs.Packed.{words, op-back, left-back, right-back, node-fits, HeldLeaf, leaf-op, leaf-fits, leaf-back, branch-fits, branch-back, packed-node, packed-group, packed-branch}
 -- the guard at a node, by what stands there
-pub use Rattle.card.proofs.GuardAt.{guard-at-group, guard-at-not, guard-at-and, guard-at-or, guard-of-none, guard-of-some}
+pub use Rattle.card.proofs.GuardAt.{guard-at-leaf, guard-at-not, guard-at-and, guard-at-or, guard-of-none, guard-of-some}
 -- numbers stored in an array piece by piece, and a guard's nodes so
-pub use Rattle.card.proofs.Storing.{stored-none, stored-one, stored-append, stored-more, length-stored, stored-fits, size-below, length-cells, stored-group, stored-not, stored-and, stored-or}
+pub use Rattle.card.proofs.Storing.{stored-none, stored-one, stored-append, stored-more, length-stored, stored-fits, size-below, length-cells, stored-leaf, stored-not, stored-and, stored-or}
 -- a card's arrays filled statement by statement
 pub use Rattle.card.proofs.Filling.{zeros-repeat, padded-none, FewNodes, FewBranches, length-guard-cells, no-nodes, no-branches, no-statements, fill-nodes, fill-branches, branch-more, fill-statements}
 -- what the arrays can hold, as every valid card is

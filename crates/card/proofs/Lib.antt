@@ -1,4 +1,5 @@
 pub mod Laws
+pub mod Atoms
 pub mod Weights
 pub mod Judging
 pub mod Packed

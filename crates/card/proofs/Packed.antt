@@ -1,10 +1,10 @@
 -- A node and a branch come back from their number: each part is below what the part left of it is multiplied by. Assumes nothing.
-use Prim.Native.Nat.{ℕ, _-_, _≤_, _<_, _^_, min}
+use Prim.Native.Nat.{ℕ, _-_, _*_, _≤_, _<_, _^_, min}
 use mathlib.Core.Path.{_≡_, refl}
 use native.Mathlib.Omega.{arith}
 use Rattle.card.specs.Limits.{topState, nodePlaces, numbers, unit}
-use Rattle.card.specs.Card.{Kind, everyone, others, Sign, all, any, Relation, is, isnt, Group, group, Branch}
-use Rattle.card.specs.Laid.{kindNumber, signNumber, relationNumber, either, opGroup, opOr, packNode, opOf, leftOf, rightOf, packGroup, groupNumber, kindPart, signPart, relationPart, statePart, groupOf, packBranch, unitsPart, endPart, branchNumber, branchOf}
+use Rattle.card.specs.Card.{Kind, everyone, others, Sign, all, any, Relation, is, isnt, Leaf, group, Branch}
+use Rattle.card.specs.Laid.{kindNumber, signNumber, relationNumber, either, opLeaf, opOr, packNode, opOf, leftOf, rightOf, packGroup, kindPart, signPart, relationPart, statePart, groupOf, leafNumber, leafOf, packBranch, unitsPart, endPart, branchNumber, branchOf}
 
 -- what a u32 holds is below this
 abbrev pub words : ℕ
@@ -31,12 +31,8 @@ module _ (op left right : ℕ) (g : left < nodePlaces) (h : right < nodePlaces) 
 
 -- ---- a group
 
--- the state of a group
-abbrev pub stateOf : Group → ℕ
-stateOf (group kind s q d) = d
-
 module _ (kind s q d : ℕ) (hk : kind ≤ 1) (hs : s ≤ 1) (hq : q ≤ 1) where
-  pub group-op : d ≤ numbers → opOf (packGroup kind s q d) ≡ opGroup
+  pub group-op : d ≤ numbers → opOf (packGroup kind s q d) ≡ opLeaf
   unfolding packGroup packNode opOf
   group-op h = omega arith
 
@@ -84,16 +80,23 @@ relation-again : (q : Relation) → either is isnt (relationNumber q) ≡ q
 relation-again is = refl
 relation-again isnt = refl
 
-pub group-number-op : (a : Group) → stateOf a ≤ numbers → opOf (groupNumber a) ≡ opGroup
-group-number-op (group k s q d) h = group-op (kindNumber k) (signNumber s) (relationNumber q) d (kind-small k) (sign-small s) (relation-small q) h
+-- ---- a leaf, by what it is
 
-pub group-number-fits : (a : Group) → stateOf a ≤ numbers → groupNumber a < words
-group-number-fits (group k s q d) h =
-    group-fits (kindNumber k) (signNumber s) (relationNumber q) d (kind-small k) (sign-small s) (relation-small q) h
+-- its state is one that there can be
+abbrev pub HeldLeaf : Leaf → Type 0
+HeldLeaf (group k s q d) = d ≤ topState
 
-pub group-back : (a : Group) → stateOf a ≤ topState → groupOf (groupNumber a) ≡ a
+pub leaf-op : (a : Leaf) → HeldLeaf a → opOf (leafNumber a) ≡ opLeaf
+leaf-op (group k s q d) h =
+    group-op (kindNumber k) (signNumber s) (relationNumber q) d (kind-small k) (sign-small s) (relation-small q) (omega arith)
+
+pub leaf-fits : (a : Leaf) → HeldLeaf a → leafNumber a < words
+leaf-fits (group k s q d) h =
+    group-fits (kindNumber k) (signNumber s) (relationNumber q) d (kind-small k) (sign-small s) (relation-small q) (omega arith)
+
+pub leaf-back : (a : Leaf) → HeldLeaf a → leafOf (leafNumber a) ≡ a
 unfolding groupOf
-group-back (group k s q d) h =
+leaf-back (group k s q d) h =
     let hk = kind-small k in
     let hs = sign-small s in
     let hq = relation-small q in
@@ -118,7 +121,8 @@ module _ (units end : ℕ) where
   unfolding packBranch endPart
   end-back h = omega arith
 
-  pub branch-fits : units ≤ unit → end ≤ numbers → packBranch units end < words
+  -- a unit eleven times as large ("Eleven-seat tables need elevenths") would fit too
+  pub branch-fits : units ≤ 11 * unit → end ≤ 10 * numbers → packBranch units end < words
   unfolding packBranch
   branch-fits g h = omega arith
 

@@ -10,7 +10,7 @@ use Rattle.card.specs.Limits.{topState, mostStatements, mostNodes, mostB
 use Rattle.card.specs.Card.{Guard, atom, neg, and, or, Branch, Statement, Card}
 use Rattle.card.specs.Valid.{size, Every, ValidBranch, ValidCard}
 use Rattle.card.specs.Laid.{opNot, opAnd, opOr, packNode, branchNumber, below, cells, guardCells, guardSize, zeros, padded, rows, nodeRow, branchRow, laid}
-use Rattle.card.proofs.Packed.{words, node-fits, group-number-fits, branch-fits}
+use Rattle.card.proofs.Packed.{words, node-fits, leaf-fits, branch-fits}
 use Rattle.card.proofs.Storing.{size-below}
 use Rattle.card.proofs.Filling.{Narrow, length-padded, length-rows, rows-none, rows-one}
 use Rattle.card.proofs.Held.{States, GuardStates, Held, HeldCard, every-map, held-nodes, held-branches}
@@ -85,7 +85,7 @@ pair-small op g h at k l p q =
 
 cells-small : (g : Guard) (at : ℕ) → States g → at + size g ≤ nodePlaces → Every Small (cells g at)
 unfolding cells
-cells-small (atom a) at t h = (group-number-fits a (omega arith), tt)
+cells-small (atom a) at t h = (leaf-fits a t, tt)
 cells-small (neg g) at t h =
     small-append (cells g at) (packNode opNot (at + below g) 0 ∷ []) (cells-small g at t (omega arith))
     (node-fits opNot (at + below g) 0 (omega (arith, size-below g)) (omega arith) (omega arith), tt)
@@ -104,7 +104,7 @@ small-nodes x v at h = go (x .guard) (v .states) (v .nodes)
 small-branches : (k : ℕ) → k ≤ topState → (bs : List Branch) → Every (ValidBranch k) bs → Every Small (map branchNumber bs)
 small-branches k top [] v = tt
 small-branches k top (b ∷ bs) v =
-    (branch-fits (b .units) (b .end) (v .0 .units) (omega (arith, v .0 .end)), small-branches k top bs (v .1))
+    (branch-fits (b .units) (b .end) (omega (arith, v .0 .units)) (omega (arith, v .0 .end)), small-branches k top bs (v .1))
 
 module _ (c : Card) where
   pub nodes-small : HeldCard c → (i : ℕ) → getD (laid c .nodes) i 0 < words

@@ -7,9 +7,9 @@ use native.Mathlib.Numerals.{add-one}
 use native.Mathlib.Omega.{arith}
 use lib.ListN.{length, take, drop, set, length-set, length-append}
 use lib.Seq.{sets, sets-eq}
-use Rattle.card.specs.Card.{Guard, Formula, atom, neg, and, or, Group}
+use Rattle.card.specs.Card.{Guard, Formula, atom, neg, and, or, Leaf}
 use Rattle.card.specs.Valid.{size}
-use Rattle.card.specs.Laid.{opNot, opAnd, opOr, packNode, groupNumber, below, cells}
+use Rattle.card.specs.Laid.{opNot, opAnd, opOr, packNode, leafNumber, below, cells}
 use Rattle.card.specs.Stored.{stored}
 
 pub stored-none : (array : List ℕ) (at : ℕ) → stored array at [] ≡ array
@@ -73,9 +73,9 @@ stored-pair : (array : List ℕ) (at : ℕ) (s t : List ℕ) (x : ℕ)
 stored-pair array at s t x = stored-append array at s (t ++ x ∷ []) ∙ stored-more (stored array at s) (at + length s) t x
 
 module _ (array : List ℕ) (at : ℕ) where
-  pub stored-group : (a : Group) → stored array at (cells (atom a) at) ≡ set array at (groupNumber a)
+  pub stored-leaf : (a : Leaf) → stored array at (cells (atom a) at) ≡ set array at (leafNumber a)
   unfolding cells
-  stored-group a = stored-one array at (groupNumber a)
+  stored-leaf a = stored-one array at (leafNumber a)
 
   pub stored-not : (g : Guard)
       → stored array at (cells (neg g) at) ≡ set (stored array at (cells g at)) (at + size g) (packNode opNot (at + below g) 0)

@@ -18,9 +18,12 @@ pub data Sign : Type 0 where
 pub data Relation : Type 0 where
   is isnt : Relation
 
--- the last is d
-pub data Group : Type 0 where
-  group : Kind → Sign → Relation → ℕ → Group
+-- what a guard tests: a group, whose last is d
+pub data Leaf : Type 0 where
+  group : Kind → Sign → Relation → ℕ → Leaf
+
+abbrev pub Group : Type 0
+Group = Leaf
 
 -- `!`, `&` and `|` over atoms
 pub data Formula (A : Type 0) : Type 0 where
@@ -29,7 +32,7 @@ pub data Formula (A : Type 0) : Type 0 where
   and or : Formula A → Formula A → Formula A
 
 abbrev pub Guard : Type 0
-Guard = Formula Group
+Guard = Formula Leaf
 
 -- weight:(s1'=end)
 pub record Branch : Type 0 where

@@ -1,14 +1,14 @@
 -- How a card lies in the struct's arrays, and the card that a struct holds ("What the box holds"). A guard's nodes stand left part,
--- right part, root; a node is one number, of an operator and two children or of an operator and a group. Assumes nothing.
+-- right part, root; a node is one number, of an operator and two children or of an operator and a leaf. Assumes nothing.
 use Prim.Native.Nat.{ℕ, zero, suc, _+_, _-_, _*_, _/_, _%_, min}
 use mathlib.Core.Bool.{Bool, true, false}
 use mathlib.Core.List.{List, [], _∷_, _++_, map}
 use mathlib.Core.Option.{Option, none, some}
 use lib.Dec.{eqb}
 use lib.ListN.{length, getD, take, drop}
-use Rattle.card.specs.Limits.{mostStates, mostStatements, mostBranches, mostNodes, nodePlaces, branchPlaces}
+use Rattle.card.specs.Limits.{mostStates, mostStatements, mostBranches, mostNodes, nodePlaces, branchPlaces, freePlace}
 use Rattle.card.specs.Text.{if_then_else_}
-use Rattle.card.specs.Card.{Mode, nondeterministic, probabilistic, Kind, everyone, others, Sign, all, any, Relation, is, isnt, Group, group, Formula, atom, neg, and, or, Guard, Branch, Statement, Card}
+use Rattle.card.specs.Card.{Mode, nondeterministic, probabilistic, Kind, everyone, others, Sign, all, any, Relation, is, isnt, Leaf, group, Formula, atom, neg, and, or, Guard, Branch, Statement, Card}
 use Rattle.card.specs.Valid.{size}
 use Rattle.card.specs.declared.Statement.{Statement as StatementRow}
 use Rattle.card.specs.declared.Card.{Card as CardRow}
@@ -37,8 +37,8 @@ either a b v = if eqb v 0 then a else b
 
 -- ---- a node and a branch as one number
 
-abbrev pub opGroup : ℕ
-opGroup = 0
+abbrev pub opLeaf : ℕ
+opLeaf = 0
 
 abbrev pub opNot : ℕ
 opNot = 1
@@ -63,12 +63,9 @@ rightOf x = x % nodePlaces
 
 unfoldable pub packGroup : ℕ → ℕ → ℕ → ℕ → ℕ
 unfolding packNode
-packGroup kind sign relation d = packNode opGroup 0 (((kind * 2 + sign) * 2 + relation) * mostStates + d)
+packGroup kind sign relation d = packNode opLeaf 0 (((kind * 2 + sign) * 2 + relation) * mostStates + d)
 
-abbrev pub groupNumber : Group → ℕ
-groupNumber (group kind s q d) = packGroup (kindNumber kind) (signNumber s) (relationNumber q) d
-
--- its parts back
+-- the parts of a group back
 unfoldable pub kindPart : ℕ → ℕ
 kindPart x = x / (4 * mostStates) % 2
 
@@ -81,15 +78,23 @@ relationPart x = x / mostStates % 2
 unfoldable pub statePart : ℕ → ℕ
 statePart x = x % mostStates
 
-unfoldable pub groupOf : ℕ → Group
+unfoldable pub groupOf : ℕ → Leaf
 unfolding kindPart signPart relationPart statePart
 groupOf x = group (either everyone others (kindPart x)) (either all any (signPart x)) (either is isnt (relationPart x)) (statePart x)
 
+-- a leaf, by what it is, and back
+abbrev pub leafNumber : Leaf → ℕ
+leafNumber (group kind s q d) = packGroup (kindNumber kind) (signNumber s) (relationNumber q) d
+
+abbrev pub leafOf : ℕ → Leaf
+leafOf x = groupOf x
+
+-- a branch: the place between its two parts is free
 unfoldable pub packBranch : ℕ → ℕ → ℕ
-packBranch units end = units * mostStates + end
+packBranch units end = units * (freePlace * mostStates) + end
 
 unfoldable pub unitsPart : ℕ → ℕ
-unitsPart x = x / mostStates
+unitsPart x = x / (freePlace * mostStates)
 
 unfoldable pub endPart : ℕ → ℕ
 endPart x = x % mostStates
@@ -113,7 +118,7 @@ below (or g h) = size g + size h
 -- a guard's nodes, the first of which has the number `at`
 unfoldable pub cells : Guard → ℕ → List ℕ
 unfolding packNode packGroup
-cells (atom a) at = groupNumber a ∷ []
+cells (atom a) at = leafNumber a ∷ []
 cells (neg g) at = cells g at ++ packNode opNot (at + below g) 0 ∷ []
 cells (and g h) at = cells g at ++ (cells h (at + size g) ++ packNode opAnd (at + below g) (at + size g + below h) ∷ [])
 cells (or g h) at = cells g at ++ (cells h (at + size g) ++ packNode opOr (at + below g) (at + size g + below h) ∷ [])
@@ -192,7 +197,7 @@ blank = record {
 unfoldable pub nodeOf : ℕ → Guard → Guard → Guard
 unfolding groupOf opOf
 nodeOf x g h =
-    if eqb (opOf x) opGroup then atom (groupOf x)
+    if eqb (opOf x) opLeaf then atom (leafOf x)
     else (if eqb (opOf x) opNot then neg g
     else (if eqb (opOf x) opAnd then and g h
     else or g h))
@@ -201,10 +206,10 @@ nodeOf x g h =
 -- node 0 has no children
 unfoldable pub guardFrom : ℕ → List ℕ → ℕ → Guard
 unfolding nodeOf groupOf leftOf rightOf
-guardFrom zero nodes n = atom (groupOf (getD nodes n 0))
+guardFrom zero nodes n = atom (leafOf (getD nodes n 0))
 guardFrom (suc fuel) nodes n =
     let x = getD nodes n 0 in
-    if eqb n 0 then atom (groupOf x)
+    if eqb n 0 then atom (leafOf x)
     else nodeOf x (guardFrom fuel nodes (min (leftOf x) (n - 1))) (guardFrom fuel nodes (min (rightOf x) (n - 1)))
 
 unfoldable pub guardAt : List ℕ → ℕ → Guard

@@ -1,6 +1,7 @@
 pub mod Limits
 pub mod Text
 pub mod Card
+pub mod Formulas
 pub mod Weight
 pub mod Valid
 pub mod Laid

@@ -58,6 +58,10 @@ nodePlaces = mostStatements * mostNodes
 abbrev pub branchPlaces : ℕ
 branchPlaces = mostStatements * mostBranches
 
+-- a branch's number leaves a place free for one of the states, or none ("Day and night")
+abbrev pub freePlace : ℕ
+freePlace = suc mostStates
+
 -- a statement's row has so many numbers: its own state, how many nodes, how many branches
 abbrev pub rowNumbers : ℕ
 rowNumbers = 3

@@ -7,7 +7,8 @@ use mathlib.Core.List.{List, [], _∷_}
 use mathlib.Core.Option.{Option, none, some}
 use lib.ListN.{length}
 use Rattle.card.specs.Limits.{mostSeats, topState, mostStatements, mostBranches, mostNodes, mostDepth, unit}
-use Rattle.card.specs.Card.{Kind, everyone, others, Sign, all, any, Group, group, Formula, atom, neg, and, or, Guard, Branch, Statement, Card}
+use Rattle.card.specs.Card.{Kind, everyone, others, Sign, all, any, Leaf, group, Formula, atom, neg, and, or, Guard, Branch, Statement, Card}
+use Rattle.card.specs.Formulas.{EveryAtom}
 
 -- the first seat that a group names
 abbrev pub firstSeat : Kind → ℕ
@@ -19,14 +20,11 @@ abbrev pub Enough : Sign → Kind → ℕ → Type 0
 Enough all kind n = firstSeat kind ≤ n
 Enough any kind n = firstSeat kind < n
 
-abbrev pub ValidGroup : ℕ → ℕ → Group → Type 0
-ValidGroup n k (group kind s q d) = Enough s kind n × (d ≤ k)
+abbrev pub ValidLeaf : ℕ → ℕ → Leaf → Type 0
+ValidLeaf n k (group kind s q d) = Enough s kind n × (d ≤ k)
 
-abbrev pub ValidGroups : ℕ → ℕ → Guard → Type 0
-ValidGroups n k (atom a) = ValidGroup n k a
-ValidGroups n k (neg g) = ValidGroups n k g
-ValidGroups n k (and g h) = ValidGroups n k g × ValidGroups n k h
-ValidGroups n k (or g h) = ValidGroups n k g × ValidGroups n k h
+abbrev pub ValidLeaves : ℕ → ℕ → Guard → Type 0
+ValidLeaves n k g = EveryAtom (ValidLeaf n k) g
 
 -- ---- nodes and depth
 
@@ -64,7 +62,7 @@ depth v (or g h) = bracketed (needsOr v) (max (depth loose g) (depth middle h))
 
 abbrev pub ValidGuard : ℕ → ℕ → Option Guard → Type 0
 ValidGuard n k none = Unit {0}
-ValidGuard n k (some g) = ValidGroups n k g × (depth middle g ≤ mostDepth) × (size g ≤ mostNodes)
+ValidGuard n k (some g) = ValidLeaves n k g × (depth middle g ≤ mostDepth) × (size g ≤ mostNodes)
 
 -- ---- statements
 

@@ -31,6 +31,9 @@ pub const NODE_PLACES: usize = MOST_STATEMENTS * MOST_NODES;
 
 pub const BRANCH_PLACES: usize = MOST_STATEMENTS * MOST_BRANCHES;
 
+// a branch's number leaves a place free for one of the states, or none ("Day and night")
+pub const FREE_PLACE: usize = MOST_STATES + 1;
+
 // a statement's row: its own state, how many nodes, how many branches
 pub const ROW: usize = 3;
 

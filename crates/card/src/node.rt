@@ -1,5 +1,6 @@
 // A node and a branch as one number each ("What the box holds"). A packer takes an argument that is too large as the largest that it
 // takes; a reader of a packed number takes any.
+use crate::limits::FREE_PLACE;
 use crate::limits::MOST_STATES;
 use crate::limits::NODE_PLACES;
 use crate::limits::NUMBERS;
@@ -10,7 +11,7 @@ ghost use Rattle.card.specs.Limits.{mostStates, nodePlaces, numbers, uni
 ghost use Rattle.card.specs.Laid.{opOr, packNode, packGroup, packBranch, opOf, leftOf, rightOf, kindPart, signPart, relationPart, statePart, unitsPart, endPart};
 
 // what a node is: its operator
-pub const GROUP: usize = 0;
+pub const LEAF: usize = 0;
 
 pub const NOT: usize = 1;
 
@@ -18,7 +19,7 @@ pub const AND: usize = 2;
 
 pub const OR: usize = 3;
 
-// and of a group its kind, its sign and its relation
+// and of a leaf that is a group its kind, its sign and its relation
 pub const EVERYONE: usize = 0;
 
 pub const OTHERS: usize = 1;
@@ -30,6 +31,9 @@ pub const ANY: usize = 1;
 pub const IS: usize = 0;
 
 pub const ISNT: usize = 1;
+
+// a branch's units stand above the free place and its end
+const BELOW_UNITS: usize = FREE_PLACE * MOST_STATES;
 
 // the smaller of the two
 fn at_most(x: usize, most: usize) -> usize
@@ -65,7 +69,7 @@ pub fn pack_branch(units: u32, end: usize) -> u32
 {
     let units = at_most(units as usize, Weight::UNIT as usize);
     let end = at_most(end, NUMBERS);
-    (units * MOST_STATES + end) as u32
+    (units * BELOW_UNITS + end) as u32
 }
 
 // what a packed node or branch holds, part by part
@@ -127,7 +131,7 @@ pub fn state_of(node: u32) -> usize
 pub fn units_of(branch: u32) -> u32
     ensures { λ r. ⌜ r ≡ unitsPart branch ⌝ }
 {
-    branch / (MOST_STATES as u32)
+    branch / (BELOW_UNITS as u32)
 }
 
 pub fn end_of(branch: u32) -> usize

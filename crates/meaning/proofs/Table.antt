@@ -12,9 +12,10 @@ use native.Mathlib.Omega.{arith}
 use borrow.Author.Tests.{ne-eqb, le-leb}
 use lib.Dec.{eqb, leb·zero, leb·suc-zero, leb·suc-suc, eqb·suc-suc, eqb·suc-zero, eqb·zero-suc}
 use lib.ListN.{length}
-use Rattle.card.specs.Card.{Kind, everyone, others, Sign, all, any, Relation, is, isnt, Group, group, Formula, atom, neg, and, or, Guard}
+use Rattle.card.specs.Card.{Kind, everyone, others, Sign, all, any, Relation, is, isnt, Leaf, group, Formula, atom, neg, and, or, Guard}
+use Rattle.card.specs.Formulas.{over}
 use Rattle.meaning.specs.Sums.{gate}
-use Rattle.meaning.specs.Formulas.{value, valueOr, over}
+use Rattle.meaning.specs.Formulas.{value, valueOr}
 use Rattle.meaning.specs.Seats.{Seating, state, without, count, counts, literal, joined, holds}
 use Rattle.meaning.specs.Reduced.{table, meets, passes, counterOf, testOf}
 use Rattle.meaning.specs.ByCounts.{heldOr}
@@ -79,11 +80,11 @@ module _ (k : ℕ) (x : Seating) (w : Within k x) (i : ℕ) (l : i < length x) w
       let b = eqb (state x i) d in
       rw (length-without x i l, count-without d x i l) (joined-right b s q d (without x i) ∙ but-one b s q b (count d (without x i)) (length (without x i)))
 
-  pub group-right : (a : Group) → holds x i a ≡ passes (counts k x) (counterOf (length x) (state x i) a)
-  group-right (group kind s q d) = rw (no-count k x w d) (by-count kind s q d)
+  pub leaf-right : (a : Leaf) → holds x i a ≡ passes (counts k x) (counterOf (length x) (state x i) a)
+  leaf-right (group kind s q d) = rw (no-count k x w d) (by-count kind s q d)
 
   pub guard-right : (g : Option Guard) → valueOr (holds x i) g ≡ heldOr (length x) (state x i) (counts k x) g
-  guard-right g = ap (λ (p : Group → Bool). valueOr p g) (fun-ext group-right)
+  guard-right g = ap (λ (p : Leaf → Bool). valueOr p g) (fun-ext leaf-right)
 
 -- the translated guard's value
 value-over : {A B : Type 0} (p : B → Bool) (f : A → B) (g : Formula A) → value p (over f g) ≡ value (λ a. p (f a)) g

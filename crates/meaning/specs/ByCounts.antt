@@ -13,7 +13,7 @@ use Rattle.meaning.specs.Panel.{Block, Panel, block}
 
 -- ---- one statement, at counts v of n seats
 
--- a guard, each group by its counter test
+-- a guard, each leaf by its counter test
 abbrev pub heldAt : ℕ → ℕ → List ℕ → Guard → Bool
 heldAt n j v g = value (λ a. passes v (counterOf n j a)) g
 

@@ -13,14 +13,3 @@ value p (or g h) = value p g || value p h
 abbrev pub valueOr : {A : Type 0} → (A → Bool) → Option (Formula A) → Bool
 valueOr p none = true
 valueOr p (some g) = value p g
-
--- the same formula over other atoms
-abbrev pub over : {A B : Type 0} → (A → B) → Formula A → Formula B
-over f (atom a) = atom (f a)
-over f (neg g) = neg (over f g)
-over f (and g h) = and (over f g) (over f h)
-over f (or g h) = or (over f g) (over f h)
-
-abbrev pub overOr : {A B : Type 0} → (A → B) → Option (Formula A) → Option (Formula B)
-overOr f none = none
-overOr f (some g) = some (over f g)

@@ -7,9 +7,10 @@ use lib.Dec.{eqb, ltb}
 use lib.ListN.{getD, set}
 use Rattle.card.specs.Text.{if_then_else_}
 use Rattle.card.specs.Card.{Mode, nondeterministic, probabilistic, Kind, everyone, others, Sign, all, any, Relation, is, isnt}
-use Rattle.card.specs.Card.{Group, group, Formula, Guard, Branch, Statement, Card}
+use Rattle.card.specs.Card.{Leaf, group, Formula, Guard, Branch, Statement, Card}
+use Rattle.card.specs.Formulas.{overOr}
 use Rattle.meaning.specs.Sums.{gate, upto, those, flat}
-use Rattle.meaning.specs.Formulas.{valueOr, overOr}
+use Rattle.meaning.specs.Formulas.{valueOr}
 use Rattle.meaning.specs.Steps.{Step, Turn}
 
 -- ---- the program
@@ -64,7 +65,8 @@ table n others false any is = moreThan 0
 table n others false all isnt = equalTo 0
 table n others false any isnt = lessThan (n - 1)
 
-abbrev pub counterOf : ℕ → ℕ → Group → Counter
+-- what a leaf becomes
+abbrev pub counterOf : ℕ → ℕ → Leaf → Counter
 counterOf n j (group kind s q d) = counter d (table n kind (eqb j d) s q)
 
 abbrev pub testOf : ℕ → ℕ → Option Guard → Option Test

@@ -6,7 +6,7 @@ use mathlib.Core.Bool.{Bool, true, false, not, _&&_, _||_}
 use mathlib.Core.List.{List, [], _∷_, _++_, map}
 use lib.Dec.{eqb}
 use lib.ListN.{length, getD, set}
-use Rattle.card.specs.Card.{Kind, everyone, others, Sign, all, any, Relation, is, isnt, Group, group, Branch, Statement, Card}
+use Rattle.card.specs.Card.{Kind, everyone, others, Sign, all, any, Relation, is, isnt, Leaf, group, Branch, Statement, Card}
 use Rattle.card.specs.Valid.{Every}
 use Rattle.meaning.specs.Sums.{gate, sum, upto, those, flat}
 use Rattle.meaning.specs.Formulas.{valueOr}
@@ -59,8 +59,8 @@ joined any q d [] = false
 joined all q d (a ∷ x) = literal q (eqb a d) && joined all q d x
 joined any q d (a ∷ x) = literal q (eqb a d) || joined any q d x
 
--- does the group hold for seat i?
-abbrev pub holds : Seating → ℕ → Group → Bool
+-- does a leaf hold for seat i?
+abbrev pub holds : Seating → ℕ → Leaf → Bool
 holds x i (group kind s q d) = joined s q d (named kind x i)
 
 -- seat i is in the local state, and the guard holds for it

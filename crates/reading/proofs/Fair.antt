@@ -7,6 +7,7 @@ use native.Mathlib.Omega.{arith}
 use lib.ListN.{length}
 use Rattle.card.specs.Limits.{mostSeats, topState, mostStatements, mostBranches, mostNodes, mostDepth}
 use Rattle.card.specs.Card.{Sign, all, any, Formula, atom, neg, and, or}
+use Rattle.card.specs.Formulas.{EveryAtom}
 use Rattle.card.specs.Valid.{size, Level, loose, middle, tight, depth, Every, Some}
 use Rattle.reading.specs.Reader.{Place}
 use Rattle.reading.specs.Group.{Literal, Literals}
@@ -34,12 +35,6 @@ group-fair (disjoined d o) = omega arith
 
 -- ---- guards
 
-abbrev pub Atoms : {A : Type 0} → (A → Type 0) → Formula A → Type 0
-Atoms P (atom a) = P a
-Atoms P (neg g) = Atoms P g
-Atoms P (and g h) = Atoms P g × Atoms P h
-Atoms P (or g h) = Atoms P g × Atoms P h
-
 -- where a part of a guard stands
 abbrev levelOf : Part → Level
 levelOf unary = tight
@@ -50,7 +45,7 @@ levelOf (joinedBy any) = loose
 record Fits (v : Level) (d n : ℕ) (g : Formula Literals) : Type 0 where
   deep : depth v g ≤ d
   large : size g ≤ n
-  fair : Atoms FairGroup g
+  fair : EveryAtom FairGroup g
 
 loosen : {A : Type 0} (g : Formula A) → (depth loose g ≤ depth middle g) × (depth middle g ≤ depth tight g) × (depth tight g ≤ suc (depth loose g))
 loosen (atom a) = (omega arith, omega arith, omega arith)
@@ -84,7 +79,7 @@ guard-fits (further {s} {g = g} {h} us u) nodes around w =
 
 abbrev pub FairGuard : Option (Formula Literals) → Type 0
 FairGuard none = Unit {0}
-FairGuard (some g) = (depth middle g ≤ mostDepth) × Atoms FairGroup g × (size g ≤ mostNodes)
+FairGuard (some g) = (depth middle g ≤ mostDepth) × EveryAtom FairGroup g × (size g ≤ mostNodes)
 
 rest-fair : {ms r : Place} {g : Option (Formula Literals)} (u : RestSaid ms g r) → Every Within (countedRest u) → FairGuard g
 rest-fair nothing w = tt

@@ -13,7 +13,9 @@ use Rattle.card.specs.Limits.{unit}
 use Rattle.card.specs.Text.{if_then_else_}
 use Rattle.card.specs.Card.{Kind, everyone, others, Sign, all, any, group, Formula, atom, neg, and, or, Card}
 use Rattle.card.specs.Weight.{Weight, whole, decimal, ratio, cardRule, shifted, given, unitsOf}
-use Rattle.card.specs.Valid.{Enough, ValidGroup, ValidGroups, size, Level, loose, middle, tight, depth, ValidGuard, Every, total, ValidBranch, ValidStatement, ValidCard}
+use Rattle.card.specs.Valid.{Enough, ValidLeaf, ValidLeaves, middle, ValidGuard, Every, total, ValidBranch, ValidStatement, ValidCard}
+use Rattle.card.specs.Formulas.{EveryAtom}
+use Rattle.card.proofs.Atoms.{size-over, depth-over}
 use Rattle.reading.specs.Guard.{isSome}
 use Rattle.reading.specs.Group.{Literal, Literals}
 use Rattle.reading.specs.Judgements.{once, kindOf, alike, symmetric, Judgement, sum, orZero, unitsIn, totalUnits, firstState, judgedGuard, orEveryone, groupIn, guardIn}
@@ -23,7 +25,7 @@ use Rattle.reading.specs.Reading.{taken, readOf}
 use Rattle.reading.specs.Rules.{Kept}
 use Rattle.reading.specs.Verdicts.{Accepted}
 use Rattle.reading.proofs.Through.{and-true, none≢some}
-use Rattle.reading.proofs.Fair.{every-append, Fair, FairGroup, Atoms, FairGuard, FairStatement, FairCard, card-fair}
+use Rattle.reading.proofs.Fair.{every-append, Fair, FairGroup, FairGuard, FairStatement, FairCard, card-fair}
 use Rattle.reading.proofs.Symmetry.{is-symmetric}
 use Rattle.reading.proofs.Reasons.{accepted}
 
@@ -48,36 +50,23 @@ enough s kind n ls f e = go (once 1 n ls) (once 2 (n - 1) ls) refl refl e
     go false true p q e = second s (count 2 (n - 1) q) f cc
     go false false p q e = none≢some e
 
-group-valid : (n k : ℕ) (s : Sign) (ls : List Literal) → Fair s ls → symmetric n ls ≡ true → Every (Kept n k) (firstState ls) → ValidGroup n k (groupIn n s ls)
+group-valid : (n k : ℕ) (s : Sign) (ls : List Literal) → Fair s ls → symmetric n ls ≡ true → Every (Kept n k) (firstState ls) → ValidLeaf n k (groupIn n s ls)
 group-valid n k s [] f y e = absurd (false≢true y)
 group-valid n k s (l ∷ ls) f y e = go (kindOf n (l ∷ ls)) refl (and-true (alike l ls) (isSome (kindOf n (l ∷ ls))) y .1)
   where
-    go : (o : Option Kind) → kindOf n (l ∷ ls) ≡ o → isSome o ≡ true → ValidGroup n k (group (orEveryone o) s (l .relation) (l .d))
+    go : (o : Option Kind) → kindOf n (l ∷ ls) ≡ o → isSome o ≡ true → ValidLeaf n k (group (orEveryone o) s (l .relation) (l .d))
     go none q z = absurd (false≢true z)
     go (some kind) q z = (enough s kind n (l ∷ ls) f q, e .0)
 
-guard-valid : (n k : ℕ) (g : Formula Literals) → Atoms FairGroup g → Every (Kept n k) (judgedGuard g) → ValidGroups n k (guardIn n g)
+guard-valid : (n k : ℕ) (g : Formula Literals) → EveryAtom FairGroup g → Every (Kept n k) (judgedGuard g) → ValidLeaves n k (guardIn n g)
 guard-valid n k (atom a) f e = group-valid n k (a .sign) (a .literals) f (is-symmetric n (a .literals) (e .0)) (e .1)
 guard-valid n k (neg g) f e = guard-valid n k g f e
 guard-valid n k (and g h) f e = let q = every-append (Kept n k) (judgedGuard g) (judgedGuard h) e in (guard-valid n k g (f .0) (q .0), guard-valid n k h (f .1) (q .1))
 guard-valid n k (or g h) f e = let q = every-append (Kept n k) (judgedGuard g) (judgedGuard h) e in (guard-valid n k g (f .0) (q .0), guard-valid n k h (f .1) (q .1))
 
--- a guard is as deep and as large as what stands there
-pub guard-depth : (n : ℕ) (g : Formula Literals) (v : Level) → depth v (guardIn n g) ≡ depth v g
-guard-depth n (atom a) v = refl
-guard-depth n (neg g) v = ap suc (guard-depth n g tight)
-guard-depth n (and g h) v = rw (guard-depth n g middle, guard-depth n h tight)
-guard-depth n (or g h) v = rw (guard-depth n g loose, guard-depth n h middle)
-
-pub guard-size : (n : ℕ) (g : Formula Literals) → size (guardIn n g) ≡ size g
-guard-size n (atom a) = refl
-guard-size n (neg g) = ap suc (guard-size n g)
-guard-size n (and g h) = rw (guard-size n g, guard-size n h)
-guard-size n (or g h) = rw (guard-size n g, guard-size n h)
-
 guard-or-valid : (n k : ℕ) (g : Option (Formula Literals)) → FairGuard g → Every (Kept n k) (judgedOr g) → ValidGuard n k (guardOr n g)
 guard-or-valid n k none f e = tt
-guard-or-valid n k (some g) f e = (guard-valid n k g (f .1) e, rw (guard-depth n g middle) (f .0), rw (guard-size n g) (f .2))
+guard-or-valid n k (some g) f e = (guard-valid n k g (f .1) e, rw (depth-over (λ x. groupIn n (x .sign) (x .literals)) middle g) (f .0), rw (size-over (λ x. groupIn n (x .sign) (x .literals)) g) (f .2))
 
 -- ---- branches
 

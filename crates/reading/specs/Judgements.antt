@@ -8,7 +8,8 @@ use lib.ListN.{length}
 use Rattle.card.specs.Limits.{unit}
 use Rattle.card.specs.Refusals.{aboveTop, notDue, wrongWeight}
 use Rattle.card.specs.Text.{if_then_else_}
-use Rattle.card.specs.Card.{Kind, everyone, others, Sign, all, any, Relation, is, isnt, Group, group, Formula, atom, neg, and, or, Guard}
+use Rattle.card.specs.Card.{Kind, everyone, others, Sign, all, any, Relation, is, isnt, Leaf, group, Formula, Guard}
+use Rattle.card.specs.Formulas.{over, eachAtom}
 use Rattle.card.specs.Weight.{Weight, cardRule, unitsOf}
 use Rattle.reading.specs.Reader.{Place}
 use Rattle.reading.specs.Guard.{isSome}
@@ -101,7 +102,7 @@ abbrev pub firstBroken : ℕ → ℕ → List Judgement → Verdict
 firstBroken n k [] = fine
 firstBroken n k (j ∷ js) = orElse (broken n k j) (placeIn j) (firstBroken n k js)
 
--- ---- of a guard, in the order of the text: each group, then its first d
+-- ---- of a guard, in the order of the text: each group of literals, then its first d
 
 abbrev pub firstState : List Literal → List Judgement
 firstState [] = []
@@ -111,10 +112,7 @@ abbrev pub judgedGroup : Literals → List Judgement
 judgedGroup g = oneGroup g ∷ firstState (g .literals)
 
 abbrev pub judgedGuard : Formula Literals → List Judgement
-judgedGuard (atom g) = judgedGroup g
-judgedGuard (neg g) = judgedGuard g
-judgedGuard (and g h) = judgedGuard g ++ judgedGuard h
-judgedGuard (or g h) = judgedGuard g ++ judgedGuard h
+judgedGuard g = eachAtom judgedGroup g
 
 -- ---- and the guard itself, once nothing is broken
 
@@ -122,12 +120,9 @@ abbrev pub orEveryone : Option Kind → Kind
 orEveryone none = everyone
 orEveryone (some kind) = kind
 
-abbrev pub groupIn : ℕ → Sign → List Literal → Group
+abbrev pub groupIn : ℕ → Sign → List Literal → Leaf
 groupIn n s [] = group everyone s is 0
 groupIn n s (l ∷ ls) = group (orEveryone (kindOf n (l ∷ ls))) s (l .relation) (l .d)
 
 abbrev pub guardIn : ℕ → Formula Literals → Guard
-guardIn n (atom g) = atom (groupIn n (g .sign) (g .literals))
-guardIn n (neg g) = neg (guardIn n g)
-guardIn n (and g h) = and (guardIn n g) (guardIn n h)
-guardIn n (or g h) = or (guardIn n g) (guardIn n h)
+guardIn n g = over (λ x. groupIn n (x .sign) (x .literals)) g
