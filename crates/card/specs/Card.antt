@@ -22,9 +22,6 @@ pub data Relation : Type 0 where
 pub data Leaf : Type 0 where
   group : Kind → Sign → Relation → ℕ → Leaf
 
-abbrev pub Group : Type 0
-Group = Leaf
-
 -- `!`, `&` and `|` over atoms
 pub data Formula (A : Type 0) : Type 0 where
   atom : A → Formula A

@@ -11,8 +11,8 @@ use native.Mathlib.Omega.{arith}
 use lib.Dec.{eqb, ltb}
 use lib.ListN.{length, getD, List·getD-eq-default}
 use Rattle.card.specs.Card.{Guard, Statement}
-use Rattle.card.specs.Laid.{opGroup, opNot, opAnd, opOf, leftOf, rightOf, statePart, groupOf, guardAt, guardOf}
-use Rattle.card.proofs.GuardAt.{guard-at-group, guard-at-not, guard-at-and, guard-at-or, guard-of-none, guard-of-some}
+use Rattle.card.specs.Laid.{opLeaf, opNot, opAnd, opOf, leftOf, rightOf, statePart, groupOf, guardAt, guardOf}
+use Rattle.card.proofs.GuardAt.{guard-at-leaf, guard-at-not, guard-at-and, guard-at-or, guard-of-none, guard-of-some}
 use Rattle.meaning.specs.Sums.{gate}
 use Rattle.meaning.specs.Reduced.{Bound, equalTo, moreThan, lessThan, counterOf, noOf, meets, passes}
 use Rattle.meaning.specs.ByCounts.{heldAt, heldOr, able}
@@ -58,8 +58,8 @@ module _ (v : List ℕ) (n j x : ℕ) {d a : ℕ} {b : BoundRow}
 -- ---- a guard
 
 module _ (nodes : List ℕ) (root own n : ℕ) (v : List ℕ) (x : ℕ) (is : x ≡ getD nodes root 0) where
-  pub held-group : (opOf x ≡ opGroup) ⊎ (root ≡ 0) → passes v (counterOf n own (groupOf x)) ≡ heldAt n own v (guardAt nodes root)
-  held-group h = rw (guard-at-group nodes root x is h)
+  pub held-group : (opOf x ≡ opLeaf) ⊎ (root ≡ 0) → passes v (counterOf n own (groupOf x)) ≡ heldAt n own v (guardAt nodes root)
+  held-group h = rw (guard-at-leaf nodes root x is h)
 
   module _ (z : root ≡ 0 → ⊥) {left : ℕ} (at : left ≡ min (leftOf x) (root - 1)) where
     pub held-not : {a : Bool} → opOf x ≡ opNot → a ≡ heldAt n own v (guardAt nodes left) → not a ≡ heldAt n own v (guardAt nodes root)
@@ -73,7 +73,7 @@ module _ (nodes : List ℕ) (root own n : ℕ) (v : List ℕ) (x : ℕ) (is : x 
       pub held-not-and : false ≡ heldAt n own v (guardAt nodes left) → false ≡ heldAt n own v (guardAt nodes root)
       held-not-and h = rw (guard-at-and nodes root x is z e, ← at, ← h)
 
-    module _ (e : opOf x ≡ opGroup → ⊥) (f : opOf x ≡ opNot → ⊥) (g : opOf x ≡ opAnd → ⊥) where
+    module _ (e : opOf x ≡ opLeaf → ⊥) (f : opOf x ≡ opNot → ⊥) (g : opOf x ≡ opAnd → ⊥) where
       pub held-or : true ≡ heldAt n own v (guardAt nodes left) → true ≡ heldAt n own v (guardAt nodes root)
       held-or h = rw (guard-at-or nodes root x is z e f g, ← at, ← h)
 
@@ -88,7 +88,7 @@ guard-behind : (nodes : List ℕ) (p : ℕ) → length nodes ≤ p → guardAt n
 unfolding opOf
 guard-behind nodes p h =
     let none : (q : ℕ) → length nodes ≤ q → 0 ≡ getD nodes q 0 = λ q l. sym (List·getD-eq-default nodes 0 l) in
-    guard-at-group nodes p 0 (none p h) (inl refl) ∙ sym (guard-at-group nodes (length nodes) 0 (none (length nodes) (omega arith)) (inl refl))
+    guard-at-leaf nodes p 0 (none p h) (inl refl) ∙ sym (guard-at-leaf nodes (length nodes) 0 (none (length nodes) (omega arith)) (inl refl))
 
 same-guard : (nodes : List ℕ) (p q : ℕ) → min p (length nodes) ≡ min q (length nodes) → guardAt nodes p ≡ guardAt nodes q
 same-guard nodes p q e = go (decLt p (length nodes)) (decLt q (length nodes))

@@ -3,7 +3,7 @@ use card::Verdict;
 use card::limits::MOST_BRANCHES;
 use card::limits::MOST_STATES;
 use card::node::AND;
-use card::node::GROUP;
+use card::node::LEAF;
 use card::node::NOT;
 use card::node::end_of;
 use card::node::left_of;
@@ -103,7 +103,7 @@ pub fn held(nodes: &[u32], root: usize, own: usize, n: usize, counts: &[usize]) 
     if root == 0 {
         return leaf_holds(node, own, n, counts);
     }
-    if op == GROUP {
+    if op == LEAF {
         return leaf_holds(node, own, n, counts);
     }
     let left = held(nodes, left_of(node, root), own, n, counts);

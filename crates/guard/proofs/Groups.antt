@@ -14,7 +14,7 @@ use Rattle.card.specs.Limits.{mostSeats, numbers}
 use Rattle.card.specs.Refusals.{outOfShape}
 use Rattle.card.specs.Text.{if_then_else_}
 use Rattle.card.specs.Card.{Kind, everyone, others as othersKind, Sign, all, any, Relation, is as eq, isnt as ne}
-use Rattle.card.specs.Laid.{kindNumber, signNumber, relationNumber, packGroup, groupNumber}
+use Rattle.card.specs.Laid.{kindNumber, signNumber, relationNumber, packGroup, leafNumber}
 use Rattle.card.proofs.Packed.{packed-group}
 use Rattle.marks.specs.Marks.{Mark, Placed, placed, seat, placeOf}
 use Rattle.marks.specs.Kinds.{kEnd, kSeat, kind, kindOf}

@@ -21,7 +21,7 @@ use Rattle.marks.specs.Step.{stepAt, marksAt}
 use Rattle.marks.specs.declared.Step.{Step}
 use Rattle.marks.proofs.Next.{Meet, meet}
 use Rattle.marks.proofs.Laws.{part-of-card}
-use Rattle.card.proofs.Storing.{stored-group}
+use Rattle.card.proofs.Storing.{stored-leaf}
 use Rattle.reading.specs.Reader.{Place, State, at, Result, ok, stop, Reader, bind, _>>=_, _>>_, return, refuse, refuseAt, nextIs, ifNext, sign, here, spend, node}
 use Rattle.reading.specs.Guard.{seatNext, ifSeat, chain, conjunction, expression, grouped, unary}
 use Rattle.reading.specs.Group.{Literals, group}
@@ -159,7 +159,7 @@ module _ (part : List ℕ) (from v q p left k : ℕ) (was : List ℕ) (used : �
               ∙ same-late (g .d) k (q + g .first) (placeOf (length s) (h .numeral)) (g .want) (wantOf (a .literals)) p (placeOf (length s) (a .place)) before
               (sym (card-place s (h .numeral) (g .first) l e (h .first))) (h .want) (sym place ∙ ap (placeOf (length s)) (sym (h .bracket)))
               ∙ sym (judged-group (length s) k a (g .d) (h .numeral) before (h .states));
-          nodes = ap (set was used) (h .node) ∙ sym (stored-group was used (groupBy (a .sign) (a .literals)));
+          nodes = ap (set was used) (h .node) ∙ sym (stored-leaf was used (groupBy (a .sign) (a .literals)));
         }
         go (stop m ms) h = absurd (omega (arith, z, ap (λ (u : Grouped). u .stop) (h .answer)))
 

@@ -5,7 +5,7 @@ use mathlib.Core.Path.{_≡_}
 use mathlib.Core.List.{List, [], _∷_}
 use lib.ListN.{length}
 use Rattle.card.specs.Refusals.{outOfShape}
-use Rattle.card.specs.Laid.{groupNumber}
+use Rattle.card.specs.Laid.{leafNumber}
 use Rattle.marks.specs.Marks.{placeOf}
 use Rattle.marks.specs.Step.{marksAt}
 use Rattle.reading.specs.Reader.{Place, State, Result, ok, stop}
@@ -25,7 +25,7 @@ pub record ReadGroup (o : ℕ) (s : List ℕ) (n : ℕ) (p : Place) (g : Literal
   pub left : behind .nodes ≡ n
   pub bracket : g .place ≡ p
   pub want : r .want ≡ wantOf (g .literals)
-  pub node : r .node ≡ groupNumber (groupBy (g .sign) (g .literals))
+  pub node : r .node ≡ leafNumber (groupBy (g .sign) (g .literals))
   -- its first d, and where that stands
   pub numeral : Place
   pub states : firstState (g .literals) ≡ state (r .d) numeral ∷ []

@@ -10,7 +10,7 @@ use lib.ListN.{length}
 use Rattle.card.specs.Limits.{mostSeats}
 use Rattle.card.specs.Refusals.{notDue}
 use Rattle.card.specs.Text.{if_then_else_}
-use Rattle.card.specs.Card.{Kind, everyone, others, Sign, Group, group, is, Formula, atom, neg, and, or, Guard}
+use Rattle.card.specs.Card.{Kind, everyone, others, Sign, Leaf, group, is, Formula, atom, neg, and, or, Guard}
 use Rattle.marks.specs.Marks.{placeOf}
 use Rattle.reading.specs.Reader.{Place}
 use Rattle.reading.specs.Group.{Literal, Literals}
@@ -35,7 +35,7 @@ wantOf (l ∷ ls) =
 abbrev pub kindBy : List Literal → Kind
 kindBy ls = if has 1 ls then everyone else others
 
-abbrev pub groupBy : Sign → List Literal → Group
+abbrev pub groupBy : Sign → List Literal → Leaf
 groupBy s [] = group everyone s is 0
 groupBy s (l ∷ ls) = group (kindBy (l ∷ ls)) s (l .relation) (l .d)
 

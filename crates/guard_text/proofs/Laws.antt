@@ -10,10 +10,10 @@ use borrow.Author.Tests.{le-leb, eqb-true, eqb-false}
 use lib.Dec.{eqb, leb}
 use lib.ListN.{getD}
 use Rattle.card.specs.Text.{if_then_else_}
-use Rattle.card.specs.Card.{all, any, Group}
+use Rattle.card.specs.Card.{all, any, Leaf}
 use Rattle.card.specs.Valid.{middle, tight, needsAnd, needsOr}
-use Rattle.card.specs.Laid.{signNumber, either, opGroup, opNot, opAnd, opOf, leftOf, rightOf, groupOf, guardAt, guardOf}
-use Rattle.card.proofs.Laws.{guard-at-group, guard-at-not, guard-at-and, guard-at-or, guard-of-none, guard-of-some}
+use Rattle.card.specs.Laid.{signNumber, either, opLeaf, opNot, opAnd, opOf, leftOf, rightOf, groupOf, guardAt, guardOf}
+use Rattle.card.proofs.Laws.{guard-at-leaf, guard-at-not, guard-at-and, guard-at-or, guard-of-none, guard-of-some}
 use Rattle.phrases.specs.Phrases.{Text, _▸_}
 use Rattle.texts.specs.Shared.{Brackets, needed, always, hasAnd, hasOr, opening, closing, formulaText, formulaOr}
 use Rattle.texts.specs.Writing.{signText}
@@ -56,7 +56,7 @@ closes false r = refl
 
 -- ---- node m, at which x stands; `text` is 0 for the written card
 
-module _ (text : ℕ) (leaf : Group → Text) (v : ℕ) (nodes : List ℕ) (m x : ℕ) (at : x ≡ getD nodes m 0) where
+module _ (text : ℕ) (leaf : Leaf → Text) (v : ℕ) (nodes : List ℕ) (m x : ℕ) (at : x ≡ getD nodes m 0) where
   abbrev brackets : Brackets
   brackets = either needed always text
 
@@ -68,12 +68,12 @@ module _ (text : ℕ) (leaf : Group → Text) (v : ℕ) (nodes : List ℕ) (m x 
 
   pub text-first : m ≡ 0 → Here (leaf (groupOf x))
   unfolding formulaText
-  text-first h r = rw (guard-at-group nodes m x at (inr h))
+  text-first h r = rw (guard-at-leaf nodes m x at (inr h))
 
   module _ {op : ℕ} (o : op ≡ opOf x) where
-    pub text-leaf : op ≡ opGroup → Here (leaf (groupOf x))
+    pub text-leaf : op ≡ opLeaf → Here (leaf (groupOf x))
     unfolding formulaText
-    text-leaf e r = rw (guard-at-group nodes m x at (inl (sym o ∙ e)))
+    text-leaf e r = rw (guard-at-leaf nodes m x at (inl (sym o ∙ e)))
 
     module _ (h : m ≡ 0 → ⊥) {a : ℕ} (l : a ≡ min (leftOf x) (m - 1)) where
       pub text-not : op ≡ opNot → Here (λ r. "!" ▸ part 2 a r)
@@ -92,11 +92,11 @@ module _ (text : ℕ) (leaf : Group → Text) (v : ℕ) (nodes : List ℕ) (m x 
           unfolding formulaText
           text-and e r = rw (guard-at-and nodes m x at h (sym o ∙ e), has-and v (eqb text 0), k, opens, closes, l, g)
 
-          text-or : (op ≡ opGroup → ⊥) → (op ≡ opNot → ⊥) → (op ≡ opAnd → ⊥) → Here (joined 1 b)
+          text-or : (op ≡ opLeaf → ⊥) → (op ≡ opNot → ⊥) → (op ≡ opAnd → ⊥) → Here (joined 1 b)
           unfolding formulaText
           text-or c d e r = rw (guard-at-or nodes m x at h (λ z. c (o ∙ z)) (λ z. d (o ∙ z)) (λ z. e (o ∙ z)), has-or v (eqb text 0), k, opens, closes, l, g)
 
-          pub text-joined : {s : ℕ} → (op ≡ opGroup → ⊥) → (op ≡ opNot → ⊥) → s ≡ (if eqb op opAnd then signNumber all else signNumber any) → Here (joined s b)
+          pub text-joined : {s : ℕ} → (op ≡ opLeaf → ⊥) → (op ≡ opNot → ⊥) → s ≡ (if eqb op opAnd then signNumber all else signNumber any) → Here (joined s b)
           text-joined {s} c d e = go (eqb op opAnd) refl
             where
               go : (t : Bool) → eqb op opAnd ≡ t → Here (joined s b)
@@ -105,7 +105,7 @@ module _ (text : ℕ) (leaf : Group → Text) (v : ℕ) (nodes : List ℕ) (m x 
 
 -- ---- a statement's guard
 
-module _ (k : Brackets) (leaf : Group → Text) (nodes : List ℕ) (from m : ℕ) where
+module _ (k : Brackets) (leaf : Leaf → Text) (nodes : List ℕ) (from m : ℕ) where
   pub test-none : m ≡ 0 → (r : List ℕ) → r ≡ formulaOr k leaf (guardOf nodes from m) r
   test-none e r = rw (guard-of-none nodes from m e)
 

@@ -2,7 +2,7 @@
 use card::node::ALL;
 use card::node::AND;
 use card::node::ANY;
-use card::node::GROUP;
+use card::node::LEAF;
 use card::node::NOT;
 use card::node::left_of;
 use card::node::op_of;
@@ -80,7 +80,7 @@ fn put_guard(
         return put_leaf(room, at, x, style);
     }
     let op = op_of(x);
-    if op == GROUP {
+    if op == LEAF {
         return put_leaf(room, at, x, style);
     }
     let left = left_of(x, n);

@@ -1,6 +1,6 @@
 -- The two texts by a number, 0 for the written card: what a leaf is put as, and how joined parts are bracketed. Assumes nothing.
 use Prim.Native.Nat.{ℕ}
-use Rattle.card.specs.Card.{Group}
+use Rattle.card.specs.Card.{Leaf}
 use Rattle.card.specs.Laid.{either}
 use Rattle.meaning.specs.Reduced.{counterOf}
 use Rattle.phrases.specs.Phrases.{Text}
@@ -15,5 +15,5 @@ styleOf text own seats copies = record { text = text; own = own; seats = seats; 
 abbrev pub bracketsOf : Style → Brackets
 bracketsOf s = either needed always (s .text)
 
-abbrev pub leafText : Style → Group → Text
+abbrev pub leafText : Style → Leaf → Text
 leafText s g r = either (groupText (s .seats) g r) (counterText (counterOf (s .seats) (s .own) g) r) (s .text)

@@ -12,7 +12,7 @@ use Rattle.card.specs.Weight.{Weight, decimal, cardRule, Worth, unitsOf}
 use Rattle.card.specs.Judged.{judgedOf, numberOf as weightNumber, unitsIn as weightUnits}
 use Rattle.card.specs.Lent.{headOf, lentOf, cardIn}
 use Rattle.meaning.specs.CardA.{cardA}
-use Rattle.card.specs.Laid.{opOf, leftOf, rightOf, opGroup, guardSize, laid, cardOf}
+use Rattle.card.specs.Laid.{opOf, leftOf, rightOf, opLeaf, guardSize, laid, cardOf}
 
 pub record Cards : Type 0 where
   -- there are valid cards: card A, in either mode
@@ -31,4 +31,4 @@ pub record Cards : Type 0 where
   -- the children of node j of statement i have smaller numbers than it has
   pub falls : (c : Card) → ValidCard c → (i : ℕ) → i < length (c .statements) → (d : Statement) (j : ℕ) → j < guardSize (getD (c .statements) i d .guard)
       → (x : ℕ) → x ≡ getD (laid c .nodes) (i * mostNodes + j) 0
-      → (opOf x ≡ opGroup → ⊥) → (leftOf x < i * mostNodes + j) × (rightOf x < i * mostNodes + j)
+      → (opOf x ≡ opLeaf → ⊥) → (leftOf x < i * mostNodes + j) × (rightOf x < i * mostNodes + j)

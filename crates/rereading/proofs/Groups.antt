@@ -11,8 +11,8 @@ use borrow.Author.Tests.{le-leb, eq-eqb, ne-eqb}
 use lib.Dec.{eqb}
 use lib.ListN.{length}
 use Rattle.card.specs.Limits.{numberDigits, wordDigits, mostNodes}
-use Rattle.card.specs.Card.{Kind, everyone, others, Sign, all, any, Relation, is, isnt, Group, group, atom}
-use Rattle.card.specs.Valid.{firstSeat, Enough, ValidGroup, Every}
+use Rattle.card.specs.Card.{Kind, everyone, others, Sign, all, any, Relation, is, isnt, Leaf, group, atom}
+use Rattle.card.specs.Valid.{firstSeat, Enough, ValidLeaf, Every}
 use Rattle.marks.specs.Marks.{seat, marks}
 use Rattle.reading.specs.Reader.{Place}
 use Rattle.reading.specs.Group.{relation, Literal, literalOf, Literals, literalsOf}
@@ -124,7 +124,7 @@ module _ (e : ℕ) where
 
   -- ---- the group
 
-  pub record GroupWritten (n k : ℕ) (a : Group) (ms rest : Place) : Type 0 where
+  pub record GroupWritten (n k : ℕ) (a : Leaf) (ms rest : Place) : Type 0 where
     pub found : Literals
     pub said : GuardSaid GroupSaid unary ms (atom found) rest
     pub means : groupIn n (found .sign) (found .literals) ≡ a
@@ -161,7 +161,7 @@ module _ (e : ℕ) where
   some-more q d i (suc c) p l w h [] r o = absurd r
   some-more q d i (suc c) p l w h (x ∷ ls) r o = disjoined w o
 
-  pub group-written : (n k : ℕ) → n < 10 ^ wordDigits → k < 10 ^ numberDigits → (a : Group) (r : List ℕ) → ValidGroup n k a → GroupWritten n k a (M (groupText n a r)) (M r)
+  pub group-written : (n k : ℕ) → n < 10 ^ wordDigits → k < 10 ^ numberDigits → (a : Leaf) (r : List ℕ) → ValidLeaf n k a → GroupWritten n k a (M (groupText n a r)) (M r)
   group-written n k small-n small-k (group kind all q d) r v =
       let w = literal-written q d (firstSeat kind) (literals all q d (firstSeat kind) (n - firstSeat kind) (")" ▸ r)) (omega arith) (omega arith) (apart all q d (firstSeat kind) (n - firstSeat kind) r) in
       let o = others-written all q d (firstSeat kind) (n - firstSeat kind) r (omega arith) (omega arith) in

@@ -8,8 +8,8 @@ use native.Mathlib.Omega.{arith}
 use lib.Dec.{eqb}
 use lib.ListN.{length}
 use Rattle.card.specs.Limits.{numberDigits, wordDigits, mostNodes, mostDepth}
-use Rattle.card.specs.Card.{Sign, all, any, Group, group, Formula, atom, neg, and, or, Guard}
-use Rattle.card.specs.Valid.{ValidGroups, Every, size, Level, loose, middle, tight, needsAnd, needsOr, depth}
+use Rattle.card.specs.Card.{Sign, all, any, Leaf, group, Formula, atom, neg, and, or, Guard}
+use Rattle.card.specs.Valid.{ValidLeaves, Every, size, Level, loose, middle, tight, needsAnd, needsOr, depth}
 use Rattle.marks.specs.Marks.{begins, marks}
 use Rattle.reading.specs.Reader.{Place}
 use Rattle.reading.specs.Group.{Literals}
@@ -103,7 +103,7 @@ module _ (n : ℕ) where
   guard-begins (and g h) r = refl
   guard-begins (or g h) r = refl
 
-  text-group : (v : Level) (a : Group) (r : List ℕ) → guardText n v (atom a) r ≡ groupText n a r
+  text-group : (v : Level) (a : Leaf) (r : List ℕ) → guardText n v (atom a) r ≡ groupText n a r
   unfolding formulaText
   text-group v a r = refl
 
@@ -135,7 +135,7 @@ module _ (e n k : ℕ) (small-n : n < 10 ^ wordDigits) (small-k : k < 10 ^ numbe
   at-level middle deep g t r w = alone all w
   at-level loose deep g t r w = alone any (alone all w)
 
-  one-group : (a : Group) (r : List ℕ) → GroupWritten e n k a (M (groupText n a r)) (M r) → Written unary 0 (atom a) (groupText n a r) r
+  one-group : (a : Leaf) (r : List ℕ) → GroupWritten e n k a (M (groupText n a r)) (M r) → Written unary 0 (atom a) (groupText n a r) r
   one-group a r w = record {
     found = atom (w .found);
     said = w .said;
@@ -166,7 +166,7 @@ module _ (e n k : ℕ) (small-n : n < 10 ^ wordDigits) (small-k : k < 10 ^ numbe
   or-written middle g h r p q = alone all (bracket (join-any (p (" | " ▸ guardText n middle h (")" ▸ r))) (q (")" ▸ r))))
   or-written loose g h r p q = join-any (p (" | " ▸ guardText n middle h r)) (q r)
 
-  pub guard-written : (v : Level) (g : Guard) (r : List ℕ) → ValidGroups n k g → Written (partOf v) (depth v g) g (guardText n v g r) r
+  pub guard-written : (v : Level) (g : Guard) (r : List ℕ) → ValidLeaves n k g → Written (partOf v) (depth v g) g (guardText n v g r) r
   guard-written v (atom a) r w =
       as-text (partOf v) 0 (atom a) _ _ r (text-group n v a r) (at-level v 0 (atom a) (groupText n a r) r (one-group a r (group-written e n k small-n small-k a r w)))
   guard-written v (neg g) r w =

@@ -9,8 +9,8 @@ use native.Mathlib.Nat.{add-mul, suc-mul, mul-le-mul-right}
 use native.Mathlib.Omega.{arith}
 use lib.ListN.{length}
 use Rattle.card.specs.Limits.{mostBranches}
-use Rattle.card.specs.Card.{Group, atom, neg, and, or, Guard, Branch}
-use Rattle.card.specs.Valid.{Level, loose, middle, tight, size, Every, ValidGroup, ValidGroups, ValidGuard, ValidBranch}
+use Rattle.card.specs.Card.{Leaf, atom, neg, and, or, Guard, Branch}
+use Rattle.card.specs.Valid.{Level, loose, middle, tight, size, Every, ValidLeaf, ValidLeaves, ValidGuard, ValidBranch}
 use Rattle.phrases.specs.Phrases.{Text, _▸_, counted}
 use Rattle.phrases.proofs.Adds.{Adds, adds-then, adds-up, adds-none, adds-bytes}
 use Rattle.texts.specs.Shared.{Brackets, hasAnd, hasOr, opening, closing, formulaText, formulaOr, more, summed, tailText}
@@ -56,11 +56,11 @@ formulaMost further joints nodes = further + joints * (further + 4) + nodes
 abbrev pub testMost : ℕ → ℕ
 testMost further = 3 + (further + 15 * (further + 4) + 32)
 
-module _ (n k : ℕ) (kind : Brackets) (leaf : Group → Text) (further : ℕ) (fits : (a : Group) → ValidGroup n k a → Adds (suc further) (leaf a)) where
+module _ (n k : ℕ) (kind : Brackets) (leaf : Leaf → Text) (further : ℕ) (fits : (a : Leaf) → ValidLeaf n k a → Adds (suc further) (leaf a)) where
   joining : (a b x y : ℕ) → formulaMost further a x + (formulaMost further b y + 5) ≤ formulaMost further (suc (a + b)) (suc (x + y))
   joining a b x y = omega (arith, suc-mul (a + b) (further + 4), add-mul a b (further + 4))
 
-  adds-formula : (v : Level) (g : Guard) → ValidGroups n k g → Adds (formulaMost further (joined g) (size g)) (formulaText kind leaf v g)
+  adds-formula : (v : Level) (g : Guard) → ValidLeaves n k g → Adds (formulaMost further (joined g) (size g)) (formulaText kind leaf v g)
   unfolding formulaText
   adds-formula v (atom a) w = adds-up (formulaMost further 0 1) (omega arith) (fits a w)
   adds-formula v (neg g) w = adds-up (formulaMost further (joined g) (suc (size g))) (omega arith) (adds-then (adds-bytes "!") (adds-formula tight g w))
@@ -102,7 +102,7 @@ module _ (k : ℕ) (branch : Branch → Text) (most : ℕ) (fits : (b : Branch) 
 abbrev pub tailMost : ℕ → ℕ → ℕ
 tailMost further most = testMost further + 4 + branchesMost most + 2
 
-module _ (n k : ℕ) (kind : Brackets) (leaf : Group → Text) (further : ℕ) (leaves : (a : Group) → ValidGroup n k a → Adds (suc further) (leaf a))
+module _ (n k : ℕ) (kind : Brackets) (leaf : Leaf → Text) (further : ℕ) (leaves : (a : Leaf) → ValidLeaf n k a → Adds (suc further) (leaf a))
     (branch : Branch → Text) (most : ℕ) (ends : (b : Branch) → ValidBranch k b → Adds most (branch b)) where
   pub adds-tail : (g : Option Guard) (bs : List Branch) → ValidGuard n k g → length bs ≤ mostBranches → Every (ValidBranch k) bs
       → Adds (tailMost further most) (tailText kind leaf branch g bs)

@@ -9,7 +9,7 @@ use native.Mathlib.Omega.{arith}
 use Rattle.card.specs.Card.{Mode, nondeterministic, probabilistic, Formula, atom, neg, and, or, Guard, Branch, Statement}
 use Rattle.card.specs.Valid.{Level, loose, middle, tight, needsAnd, needsOr}
 use Rattle.meaning.specs.Sums.{upto}
-use Rattle.meaning.specs.Formulas.{over, overOr}
+use Rattle.card.specs.Formulas.{over, overOr}
 use Rattle.meaning.specs.Reduced.{counterOf, testOf, moreThan, counter, Outcome, Reduced, copy, copies}
 use Rattle.phrases.specs.Phrases.{Text, _▸_, num, counted}
 use Rattle.texts.specs.Shared.{Brackets, always, hasAnd, hasOr, opening, closing, formulaText, formulaOr, more, summed, tailText}

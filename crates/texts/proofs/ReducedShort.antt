@@ -10,8 +10,8 @@ use lib.Dec.{eqb}
 use lib.ListN.{length}
 use Rattle.card.specs.Limits.{mostSeats, topState}
 use Rattle.card.specs.Text.{if_then_else_}
-use Rattle.card.specs.Card.{Mode, nondeterministic, probabilistic, Kind, everyone, others, Sign, all, any, Relation, is, isnt, Group, group, Branch, Statement, Card}
-use Rattle.card.specs.Valid.{Every, ValidGroup, ValidBranch, ValidStatement, ValidCard}
+use Rattle.card.specs.Card.{Mode, nondeterministic, probabilistic, Kind, everyone, others, Sign, all, any, Relation, is, isnt, Leaf, group, Branch, Statement, Card}
+use Rattle.card.specs.Valid.{Every, ValidLeaf, ValidBranch, ValidStatement, ValidCard}
 use Rattle.meaning.specs.Sums.{gate, upto, flat}
 use Rattle.meaning.specs.Reduced.{Bound, equalTo, moreThan, lessThan, counterOf, table, Update, keep, shift, updateOf, copy, copies, reduce}
 use Rattle.phrases.specs.Phrases.{Text, _▸_, num, modeText}
@@ -50,7 +50,7 @@ table-small n h others false all isnt = omega arith
 table-small n h others false any isnt = omega arith
 
 module _ (n k j : ℕ) (h : n ≤ mostSeats) (l : k ≤ topState) where
-  adds-group : (g : Group) → ValidGroup n k g → Adds 9 (counterText (counterOf n j g))
+  adds-group : (g : Leaf) → ValidLeaf n k g → Adds 9 (counterText (counterOf n j g))
   adds-group (group kind s q d) v =
       adds-then (adds-bytes "(no_")
       (adds-then (adds-state d (le-trans (v .1) l))

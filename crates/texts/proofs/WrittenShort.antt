@@ -7,8 +7,8 @@ use native.Mathlib.Nat.{suc-mul, mul-le-mul-right, le-trans}
 use native.Mathlib.Omega.{arith}
 use lib.ListN.{length}
 use Rattle.card.specs.Limits.{mostSeats, topState, mostStatements}
-use Rattle.card.specs.Card.{Kind, everyone, others, Sign, all, any, Relation, is, isnt, Group, group, Branch, Statement, Card}
-use Rattle.card.specs.Valid.{firstSeat, Enough, Every, ValidGroup, ValidBranch, ValidStatement, ValidCard}
+use Rattle.card.specs.Card.{Kind, everyone, others, Sign, all, any, Relation, is, isnt, Leaf, group, Branch, Statement, Card}
+use Rattle.card.specs.Valid.{firstSeat, Enough, Every, ValidLeaf, ValidBranch, ValidStatement, ValidCard}
 use Rattle.room.specs.Room.{cap}
 use Rattle.phrases.specs.Phrases.{_▸_, num, modeText}
 use Rattle.phrases.proofs.Adds.{Adds, adds-then, adds-up, adds-none, adds-bytes, adds-state, adds-seats, weightMost, adds-weight, adds-mode}
@@ -48,7 +48,7 @@ enough-seats any kind n h = omega arith
 abbrev groupMost : ℕ → ℕ
 groupMost n = 9 * n - 1
 
-adds-group : (n k : ℕ) (g : Group) → n ≤ mostSeats → k ≤ topState → ValidGroup n k g → Adds (groupMost n) (groupText n g)
+adds-group : (n k : ℕ) (g : Leaf) → n ≤ mostSeats → k ≤ topState → ValidLeaf n k g → Adds (groupMost n) (groupText n g)
 adds-group n k (group kind s q d) h l v =
     let f = firstSeat kind in
     let low : 1 ≤ f = first-seat kind in
@@ -70,7 +70,7 @@ adds-branch k l b v =
     (adds-then (adds-weight (b .units)) (adds-then (adds-bytes ":(s1'=") (adds-then (adds-state (b .end) (le-trans (v .end) l)) (adds-bytes ")"))))
 
 module _ (n k : ℕ) (low : 1 ≤ n) (h : n ≤ mostSeats) (l : k ≤ topState) where
-  adds-leaf : (a : Group) → ValidGroup n k a → Adds (suc (9 * n - 2)) (groupText n a)
+  adds-leaf : (a : Leaf) → ValidLeaf n k a → Adds (suc (9 * n - 2)) (groupText n a)
   adds-leaf a v = adds-up (suc (9 * n - 2)) (omega arith) (adds-group n k a h l v)
 
   adds-statement : (x : Statement) → ValidStatement n k x → Adds (statementMost n) (statementText n x)
