@@ -1,5 +1,5 @@
 -- What holds of every atom of a formula, and what a formula over other atoms keeps: clause by clause. Assumes nothing.
-use Prim.Native.Nat.{ℕ, suc}
+use Prim.Native.Nat.{suc}
 use mathlib.Core.Path.{_≡_, refl, ap}
 use Rattle.card.specs.Card.{Formula, atom, neg, and, or}
 use Rattle.card.specs.Valid.{size, Level, loose, middle, tight, depth}

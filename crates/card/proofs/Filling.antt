@@ -2,19 +2,19 @@
 -- row with its own zeros behind it. Assumes nothing.
 use Prim.Native.Nat.{ℕ, zero, suc, _+_, _-_, _*_, _≤_, _<_}
 use mathlib.Core.Path.{_≡_, refl, sym, ap, _∙_}
-use mathlib.Core.List.{List, [], _∷_, _++_, append-assoc, append-nil, map, map-append}
+use mathlib.Core.List.{List, [], _∷_, _++_, append-assoc, append-nil, map}
 use mathlib.Core.Option.{Option, none, some}
 use native.Mathlib.Nat.{zero-add, suc-add, suc-mul, sub-zero, zero-sub, suc-sub-suc, add-comm, not-suc-le-zero, le-of-suc-le-suc}
 use native.Mathlib.Omega.{arith}
 use lib.ListN.{length, drop, set, replicate, length-append, length-map}
 use lib.Seq.{take-append-seam, drop-append-add}
 use Rattle.card.specs.Limits.{mostStatements, mostNodes, mostBranches, nodePlaces, branchPlaces}
-use Rattle.card.specs.Card.{Guard, Branch, Statement}
+use Rattle.card.specs.Card.{Guard, Statement}
 use Rattle.card.specs.Valid.{Every}
 use Rattle.card.specs.Laid.{zeros, padded, rows, guardCells, guardSize, nodeRow, branchRow, branchNumber, statementRow, noStatement, statementRows}
 use Rattle.card.specs.declared.Statement.{Statement as StatementRow}
 use Rattle.card.specs.Stored.{stored}
-use Rattle.card.proofs.Storing.{stored-more, stored-fits, length-cells}
+use Rattle.card.proofs.Storing.{stored-fits, length-cells}
 
 -- ---- zeros
 
@@ -45,10 +45,6 @@ drop-zeros (suc k) (suc n) = rw suc-sub-suc (drop-zeros k n)
 pub length-padded : (most : ℕ) (s : List ℕ) → length s ≤ most → length (padded most s) ≡ most
 unfolding padded
 length-padded most s h = simp (length-append, length-zeros) (omega arith)
-
-pub padded-none : (most : ℕ) → padded most [] ≡ zeros most
-unfolding padded
-padded-none most = rw sub-zero
 
 -- stored where the zeros begin
 stored-behind : (p z s : List ℕ) → length s ≤ length z → stored (p ++ z) (length p) s ≡ (p ++ s) ++ drop (length s) z
@@ -126,13 +122,6 @@ pub narrow-branches : (xs : List Statement) → Every FewBranches xs → Narrow 
 narrow-branches [] h = tt
 narrow-branches (x ∷ xs) h = ((λ at. rw (length-map (x .branches) branchNumber) (h .0)), narrow-branches xs (h .1))
 
--- before the first statement
-pub no-nodes : padded nodePlaces (rows mostNodes nodeRow 0 []) ≡ zeros nodePlaces
-no-nodes = rw rows-none (padded-none nodePlaces)
-
-pub no-branches : padded branchPlaces (rows mostBranches branchRow 0 []) ≡ zeros branchPlaces
-no-branches = rw rows-none (padded-none branchPlaces)
-
 module _ (xs : List Statement) (x : Statement) (i : ℕ) (e : length xs ≡ i) (h : i < mostStatements) where
   pub fill-nodes : Every FewNodes xs → FewNodes x
       → stored (padded nodePlaces (rows mostNodes nodeRow 0 xs)) (i * mostNodes) (guardCells (x .guard) (i * mostNodes))
@@ -147,11 +136,6 @@ module _ (xs : List Statement) (x : Statement) (i : ℕ) (e : length xs ≡ i) (
   fill-branches n g =
       fill mostBranches branchRow branchPlaces xs x (i * mostBranches) (rw e) (narrow-branches xs n)
       (rw (length-map (x .branches) branchNumber) g) (omega arith)
-
--- one branch more of a statement
-pub branch-more : (array : List ℕ) (at : ℕ) (bs : List Branch) (b : Branch)
-    → stored array at (map branchNumber (bs ++ b ∷ [])) ≡ set (stored array at (map branchNumber bs)) (at + length bs) (branchNumber b)
-branch-more array at bs b = rw (map-append, stored-more, length-map bs branchNumber)
 
 set-row : (most : ℕ) (xs : List Statement) (x : Statement) → length xs < most
     → set (statementRows most xs) (length xs) (statementRow x) ≡ statementRows most (xs ++ x ∷ [])

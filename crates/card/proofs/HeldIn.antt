@@ -2,19 +2,18 @@
 -- statements', and nodes and branches come back as from the struct. Assumes nothing.
 use Prim.Native.Nat.{ℕ, _≤_, _<_}
 use mathlib.Core.Path.{_≡_, refl, ap, _∙_}
-use mathlib.Core.List.{List, []}
+use mathlib.Core.List.{[]}
 use mathlib.Core.Option.{none}
 use native.Mathlib.Omega.{arith}
 use lib.ListN.{length, getD}
 use Rattle.card.specs.Limits.{mostSeats, topState, mostStatements, rowPlaces, nodePlaces, branchPlaces}
 use Rattle.card.specs.Card.{Statement, Card}
-use Rattle.card.specs.Laid.{noStatement, statementRow, laid, cardOf}
+use Rattle.card.specs.Laid.{statementRow, laid, cardOf}
 use Rattle.card.specs.Rows.{rowOf, rowsOf, FitsRow, FitRows}
 use Rattle.card.specs.Lent.{Lent, headOf, lentOf, cardIn, HoldsIn}
-use Rattle.card.specs.declared.Statement.{Statement as StatementRow}
 use Rattle.card.specs.declared.Head.{Head}
 use Rattle.card.proofs.Held.{Held, HeldCard, every-at, valid-held}
-use Rattle.card.proofs.LaidBack.{laid-is, statement-row, held-back}
+use Rattle.card.proofs.LaidBack.{statement-row, held-back}
 use Rattle.card.proofs.Rows.{rows-row, rows-taken, length-rows-of}
 use Rattle.card.proofs.Sized.{statements-long, nodes-long, branches-long}
 

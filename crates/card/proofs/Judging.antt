@@ -1,15 +1,12 @@
 -- What a weight's judgement comes to, test by test, in the form in which the code tests it. Assumes nothing.
 use Prim.Native.Nat.{ℕ, _+_, _*_, _/_, _%_, _^_, _≤_, _<_, min}
-use mathlib.Core.Path.{_≡_, refl, sym, ap, _∙_}
-use mathlib.Core.Option.{Option, none, some}
+use mathlib.Core.Path.{_≡_, sym, ap, _∙_}
+use mathlib.Core.Option.{none, some}
 use native.Mathlib.Nat.{mul-le-mul-right}
 use native.Mathlib.Omega.{arith}
 use borrow.Author.Tests.{le-leb, lt-leb, eq-eqb, ne-eqb}
 use Rattle.card.specs.Limits.{unit, weightDigits}
-use Rattle.card.specs.Weight.{Weight, decimal, ratio, cardRule, unitsOf}
-use Rattle.card.specs.Judged.{judgedOf}
-use Rattle.card.specs.declared.weight.Weight.{Weight as WeightRow}
-use Rattle.card.specs.declared.weight.Judged.the-variants.{Units, Broken}
+use Rattle.card.specs.Weight.{decimal, ratio, cardRule, unitsOf}
 use Rattle.card.proofs.Weights.{tens-least, tens-most}
 
 -- ---- a decimal; one is what its digits count in
@@ -69,19 +66,3 @@ module _ (a b : ℕ) where
       pub ratio-kept : a ≤ b → unitsOf cardRule (ratio a b) ≡ some (a * (unit / b))
       unfolding unitsOf
       ratio-kept k = rw (le-leb 1 b (omega arith), eq-eqb (unit % b) 0 h, le-leb a b k)
-
--- ---- and what an answer says
-
-units-said : (o : Option ℕ) (a : WeightRow) → judgedOf o ≡ Units a → o ≡ some (a .units)
-units-said none a e = let z : _≡_ {A = ℕ} 0 1 = cc in absurd (omega arith)
-units-said (some u) a e = let z : _≡_ {A = WeightRow} (record { units = u }) a = cc in ap (λ (x : WeightRow). some (x .units)) z
-
-broken-said : (o : Option ℕ) → judgedOf o ≡ Broken → o ≡ none
-broken-said none e = refl
-broken-said (some u) e = let z : _≡_ {A = ℕ} 0 1 = cc in absurd (omega arith)
-
-pub judged-units : (w : Weight) (a : WeightRow) → judgedOf (unitsOf cardRule w) ≡ Units a → unitsOf cardRule w ≡ some (a .units)
-judged-units w a e = units-said (unitsOf cardRule w) a e
-
-pub judged-broken : (w : Weight) → judgedOf (unitsOf cardRule w) ≡ Broken → unitsOf cardRule w ≡ none
-judged-broken w e = broken-said (unitsOf cardRule w) e

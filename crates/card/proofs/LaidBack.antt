@@ -12,13 +12,13 @@ use lib.Seq.{getD-take}
 use Rattle.card.specs.Limits.{mostStatements, mostNodes, mostBranches, nodePlaces, branchPlaces}
 use Rattle.card.specs.Card.{Mode, nondeterministic, probabilistic, Guard, atom, neg, and, or, Branch, Statement, Card}
 use Rattle.card.specs.Valid.{size, Every, ValidCard}
-use Rattle.card.specs.Laid.{modeNumber, either, opNot, opAnd, opOr, packNode, opOf, leftOf, rightOf, leafNumber, branchNumber, branchOf, unitsPart, endPart, below, cells, guardCells, guardSize, padded, rows, nodeRow, branchRow, statementRow, noStatement, statementRows, laid, guardAt, guardOf, statementOf, statementsOf, cardOf}
+use Rattle.card.specs.Laid.{modeNumber, either, opNot, opAnd, opOr, packNode, opOf, leftOf, rightOf, leafNumber, branchNumber, branchOf, below, cells, guardCells, guardSize, padded, rows, nodeRow, branchRow, statementRow, noStatement, statementRows, laid, guardAt, guardOf, statementOf, statementsOf, cardOf}
 use Rattle.card.specs.declared.Statement.{Statement as StatementRow}
 use Rattle.card.proofs.Packed.{op-back, left-back, right-back, leaf-op, leaf-back, branch-back}
 use Rattle.card.proofs.GuardAt.{guard-at-leaf, guard-at-not, guard-at-and, guard-at-or}
 use Rattle.card.proofs.Storing.{size-below, length-cells}
 use Rattle.card.proofs.Held.{States, GuardStates, EndsThere, Held, HeldCard, every-at, held-nodes, held-branches, valid-held}
-use Rattle.card.proofs.Standing.{Stands, first-stands, second-stands, one-stands, each-stands, part-stands, row-stands}
+use Rattle.card.proofs.Standing.{Stands, first-stands, second-stands, one-stands, part-stands, row-stands}
 
 -- ---- guards
 
@@ -103,11 +103,6 @@ numbers-back : (bs : List Branch) → Every EndsThere bs → map branchOf (map b
 numbers-back [] h = refl
 numbers-back (b ∷ bs) h = ap₂ (λ (a : Branch) (r : List Branch). a ∷ r) (branch-back b (h .0)) (numbers-back bs (h .1))
 
-pub number-at : (bs : List Branch) (j : ℕ) (e : Branch) → j < length bs → getD (map branchNumber bs) j 0 ≡ branchNumber (getD bs j e)
-number-at [] j e h = absurd (not-suc-le-zero h)
-number-at (b ∷ bs) zero e h = refl
-number-at (b ∷ bs) (suc j) e h = number-at bs j e (le-of-suc-le-suc h)
-
 pub branches-back : (branches : List ℕ) (at : ℕ) (bs : List Branch) → Stands branches at (map branchNumber bs) → Every EndsThere bs
     → map branchOf (take (length bs) (drop at branches)) ≡ bs
 branches-back branches at bs s h =
@@ -184,24 +179,6 @@ module _ (c : Card) where
     pub statement-back : statementOf (laid c .nodes) (laid c .branches) (getD (laid c .statements) i noStatement) i ≡ getD (c .statements) i d
     unfolding statementOf
     statement-back = rw statement-row (same-statement _ _ refl statement-guard statement-branches)
-
-    -- branch j of it
-    pub branch-at : (j : ℕ) (e : Branch) → j < length (getD (c .statements) i d .branches)
-        → branchOf (getD (laid c .branches) (i * mostBranches + j) 0) ≡ getD (getD (c .statements) i d .branches) j e
-    branch-at j e l =
-        let bs = getD (c .statements) i d .branches in
-        rw (each-stands (map branchNumber bs) j (rw (length-map bs branchNumber) l) branches-stand, number-at bs j e l)
-        (branch-back (getD bs j e) (every-at EndsThere bs j e l (held .ends)))
-
-    pub branch-units : (j : ℕ) (e : Branch) → j < length (getD (c .statements) i d .branches)
-        → unitsPart (getD (laid c .branches) (i * mostBranches + j) 0) ≡ getD (getD (c .statements) i d .branches) j e .units
-    unfolding branchOf
-    branch-units j e l = ap (λ (b : Branch). b .units) (branch-at j e l)
-
-    pub branch-end : (j : ℕ) (e : Branch) → j < length (getD (c .statements) i d .branches)
-        → endPart (getD (laid c .branches) (i * mostBranches + j) 0) ≡ getD (getD (c .statements) i d .branches) j e .end
-    unfolding branchOf
-    branch-end j e l = ap (λ (b : Branch). b .end) (branch-at j e l)
 
 -- ---- the card
 

@@ -2,8 +2,6 @@
 
 -- the units of a weight are those that it is worth, and no more than the rule's unit
 pub use Rattle.card.proofs.Weights.{Sound, units-worth-under, units-most, card-rule, units-worth}
--- what the answer of a judged weight says
-pub use Rattle.card.proofs.Judging.{judged-units, judged-broken}
 -- a node, a leaf and a branch come back from their number, and fit it; in range a packer takes its arguments as they are
 pub use Rattle.card.proofs.Packed.{words, op-back, left-back, right-back, node-fits, HeldLeaf, leaf-op, leaf-fits, leaf-back, branch-fits, branch-back, packed-node, packed-group, packed-branch}
 -- the guard at a node, by what stands there
@@ -11,11 +9,11 @@ pub use Rattle.card.proofs.GuardAt.{guard-at-leaf, guard-at-not, guard-
 -- numbers stored in an array piece by piece, and a guard's nodes so
 pub use Rattle.card.proofs.Storing.{stored-none, stored-one, stored-append, stored-more, length-stored, stored-fits, size-below, length-cells, stored-leaf, stored-not, stored-and, stored-or}
 -- a card's arrays filled statement by statement
-pub use Rattle.card.proofs.Filling.{zeros-repeat, padded-none, FewNodes, FewBranches, length-guard-cells, no-nodes, no-branches, no-statements, fill-nodes, fill-branches, branch-more, fill-statements}
+pub use Rattle.card.proofs.Filling.{zeros-repeat, FewNodes, FewBranches, length-guard-cells, no-statements, fill-nodes, fill-branches, fill-statements}
 -- what the arrays can hold, as every valid card is
 pub use Rattle.card.proofs.Held.{States, GuardStates, EndsThere, Held, HeldCard, valid-held, every-map, every-at}
 -- a laid card, its statements one by one, and that it comes back
-pub use Rattle.card.proofs.LaidBack.{laid-is, laid-statements, laid-nodes, laid-branches, statement-row, statement-guard, statement-branches, statement-back, branch-at, branch-units, branch-end, held-back, laid-back, laid-injective}
+pub use Rattle.card.proofs.LaidBack.{laid-is, laid-statements, laid-nodes, laid-branches, statement-row, statement-guard, statement-branches, statement-back, held-back, laid-back, laid-injective}
 -- node numbers fall from parent to child
 pub use Rattle.card.proofs.Falls.{Falls, Falling, cells-fall, laid-falls}
 -- the arrays' lengths, and that each number fits

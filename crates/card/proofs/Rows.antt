@@ -72,9 +72,6 @@ module _ (xs : List StatementRow) where
           (stored-third rows (i * rowNumbers) (x .own) (x .nodes) (x .branches) k)
           ∙ is)
 
-  pub filled-end : {rows : List ℕ} (i : ℕ) {count : ℕ} → i ≤ count → count ≤ i → Filled xs rows i → Filled xs rows count
-  filled-end i {count} g h f = let e : count ≡ i = omega arith in rw e f
-
 -- behind the first row stand the others
 pub row-next : (a b c : ℕ) (rows : List ℕ) (j : ℕ) → rowOf (a ∷ b ∷ c ∷ rows) (suc j) ≡ rowOf rows j
 row-next a b c rows j = same-row (at (suc j * rowNumbers) (j * rowNumbers) (omega arith)) (at (suc j * rowNumbers + 1) (j * rowNumbers + 1) (omega arith)) (at (suc j * rowNumbers + 2) (j * rowNumbers + 2) (omega arith))

@@ -6,7 +6,7 @@ use mathlib.Core.Option.{Option, none, some}
 use native.Mathlib.Nat.{suc-mul, le-trans, mul-le-mul-right}
 use native.Mathlib.Omega.{arith}
 use lib.ListN.{length, getD}
-use Rattle.card.specs.Limits.{topState, mostStatements, mostNodes, mostBranches, nodePlaces, branchPlaces, numbers}
+use Rattle.card.specs.Limits.{topState, mostStatements, mostNodes, mostBranches, nodePlaces, branchPlaces}
 use Rattle.card.specs.Card.{Guard, atom, neg, and, or, Branch, Statement, Card}
 use Rattle.card.specs.Valid.{size, Every, ValidBranch, ValidCard}
 use Rattle.card.specs.Laid.{opNot, opAnd, opOr, packNode, branchNumber, below, cells, guardCells, guardSize, zeros, padded, rows, nodeRow, branchRow, laid}

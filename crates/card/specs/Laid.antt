@@ -1,7 +1,6 @@
 -- How a card lies in the struct's arrays, and the card that a struct holds ("What the box holds"). A guard's nodes stand left part,
 -- right part, root; a node is one number, of an operator and two children or of an operator and a leaf. Assumes nothing.
 use Prim.Native.Nat.{ℕ, zero, suc, _+_, _-_, _*_, _/_, _%_, min}
-use mathlib.Core.Bool.{Bool, true, false}
 use mathlib.Core.List.{List, [], _∷_, _++_, map}
 use mathlib.Core.Option.{Option, none, some}
 use lib.Dec.{eqb}

@@ -1,6 +1,6 @@
 -- A card within all limits, whose states are at most k, whose groups are symmetric for n and whose weights add up to the unit
 -- ("What the box holds", "Shape of a card"). Assumes nothing.
-use Prim.Native.Nat.{ℕ, zero, suc, _+_, _≤_, _<_, max}
+use Prim.Native.Nat.{ℕ, suc, _+_, _≤_, _<_, max}
 use mathlib.Core.Path.{_≡_}
 use mathlib.Core.Bool.{Bool, true, false}
 use mathlib.Core.List.{List, [], _∷_}

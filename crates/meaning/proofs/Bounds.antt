@@ -12,12 +12,11 @@ use Rattle.card.specs.Card.{Mode, nondeterministic, probabilistic, Branch, Stat
 use Rattle.meaning.specs.Sums.{gate, sum}
 use Rattle.meaning.specs.Seats.{Seating, ValidSeating, counts}
 use Rattle.meaning.specs.Reduced.{noOf}
-use Rattle.meaning.specs.Panel.{Move, panel, blockTotal, due}
+use Rattle.meaning.specs.Panel.{panel}
 use Rattle.meaning.specs.ByCounts.{heldOr, able, unitsTo, stayOf, moveOf, allAble, allStay, allMove, countEnabled, countPanel}
-use Rattle.meaning.proofs.Sums.{gate-le, sum-mono, sum-times, every-imp}
+use Rattle.meaning.proofs.Sums.{gate-le, sum-mono, sum-times}
 use Rattle.meaning.proofs.Counting.{count-le, no-count}
 use Rattle.meaning.proofs.Panel.{panel-by-counts}
-use Rattle.meaning.proofs.AddUp.{adds-up}
 
 -- ---- by counts
 
@@ -88,10 +87,6 @@ module _ (n : ℕ) (v : List ℕ) (few : Few n v) where
 
 -- ---- of the panel of a valid card
 
-line-le : (l : List Move) (r : ℕ) → sum (λ (m : Move). m .weight) l ≤ r → Every (λ m. m .weight ≤ r) l
-line-le [] r h = tt
-line-le (m ∷ l) r h = (omega arith, line-le l r (omega arith))
-
 module _ (c : Card) (valid : ValidCard c) (x : Seating) (ok : ValidSeating c x) where
   pub panel-enabled-le : panel c x .enabled ≤ c .n * length (c .statements)
   unfolding countPanel
@@ -100,8 +95,3 @@ module _ (c : Card) (valid : ValidCard c) (x : Seating) (ok : ValidSeating c x) 
 
   pub panel-enabled-most : panel c x .enabled ≤ mostSeats * mostStatements
   panel-enabled-most = le-trans panel-enabled-le (mul-le-mul (valid .seats-most) (valid .some .1))
-
-  -- each line is a part of what its block adds up to
-  pub panel-weights-le : Every (λ b. (b .stay ≤ due (c .mode) (panel c x .enabled)) × Every (λ m. m .weight ≤ due (c .mode) (panel c x .enabled)) (b .moves)) (panel c x .blocks)
-  unfolding blockTotal
-  panel-weights-le = every-imp _ (panel c x .blocks) (adds-up c valid x ok) (λ b e. (omega arith, line-le (b .moves) _ (omega arith)))

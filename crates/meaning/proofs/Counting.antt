@@ -16,7 +16,7 @@ use Rattle.card.specs.Text.{if_then_else_}
 use Rattle.card.specs.Valid.{Every}
 use Rattle.meaning.specs.Sums.{gate}
 use Rattle.meaning.specs.Seats.{Seating, state, without, count, counts}
-use Rattle.meaning.specs.Reduced.{noOf, keep, shift, updateOf, updated}
+use Rattle.meaning.specs.Reduced.{noOf, keep, shift, updateOf, raised, updated}
 use Rattle.meaning.proofs.Sums.{gate-le, length-upto, getD-upto, sumBelow}
 
 abbrev pub Within : ℕ → Seating → Type 0
@@ -121,17 +121,17 @@ module _ (k : ℕ) (x : Seating) (w : Within k x) (i : ℕ) (l : i < length x) (
       let v = counts k x in
       let u = set v j (noOf v j - 1) in
       let l₁ : t < length u = rw (length-set, length-counts k x, ← p) h in
-      rw (p, getD-set-same u t (min (noOf v t + 1) (length x)) 0 l₁, no-count k x w t, count-set t x i t l, was t, ne-eqb j t ne, eq-eqb t t refl)
+      rw (p, getD-set-same u t (raised (length x) (noOf v t)) 0 l₁, no-count k x w t, count-set t x i t l, was t, ne-eqb j t ne, eq-eqb t t refl)
       (omega (arith, count-le t (without x i), length-without x i l))
   shifted d h ne (no q) (yes p) =
       let v = counts k x in
       let l₁ : j < length v = rw (length-counts k x, ← p) h in
-      rw (getD-set-other (set v j (noOf v j - 1)) t d (min (noOf v t + 1) (length x)) 0 q, p, getD-set-same v j (noOf v j - 1) 0 l₁)
+      rw (getD-set-other (set v j (noOf v j - 1)) t d (raised (length x) (noOf v t)) 0 q, p, getD-set-same v j (noOf v j - 1) 0 l₁)
       (rw (no-count k x w j, count-set j x i t l, was j, ne-eqb t j (λ e. ne (sym e)), eq-eqb j j refl)
       (omega arith))
   shifted d h ne (no q) (no r) =
       let v = counts k x in
-      rw (getD-set-other (set v j (noOf v j - 1)) t d (min (noOf v t + 1) (length x)) 0 q, getD-set-other v j d (noOf v j - 1) 0 r)
+      rw (getD-set-other (set v j (noOf v j - 1)) t d (raised (length x) (noOf v t)) 0 q, getD-set-other v j d (noOf v j - 1) 0 r)
       (rw (no-count k x w d, count-set d x i t l, was d, ne-eqb t d (λ e. q (sym e)), ne-eqb j d (λ e. r (sym e))))
 
   pub moved-counts : counts k (set x i t) ≡ updated (counts k x) (updateOf (length x) j t)

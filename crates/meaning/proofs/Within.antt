@@ -1,17 +1,17 @@
 -- A reduced program keeps its counters between 0 and their most: a lowered counter only falls, and a raised one is cut at n.
 use Prim.Native.Nat.{ℕ, zero, suc, _+_, _-_, _≤_, min}
-use mathlib.Core.Path.{_≡_, refl}
+use mathlib.Core.Path.{_≡_}
 use mathlib.Core.Bool.{Bool, true, false}
 use mathlib.Core.List.{List, [], _∷_, map}
 use native.Mathlib.Omega.{arith}
 use lib.Dec.{eqb}
-use lib.ListN.{set, getD}
+use lib.ListN.{set}
 use Rattle.card.specs.Text.{if_then_else_}
 use Rattle.card.specs.Card.{Mode, nondeterministic, probabilistic, Branch, Statement, Card}
 use Rattle.card.specs.Valid.{Every}
-use Rattle.meaning.specs.Sums.{upto, those, flat}
+use Rattle.meaning.specs.Sums.{those, flat}
 use Rattle.meaning.specs.Steps.{Step}
-use Rattle.meaning.specs.Reduced.{Update, keep, shift, updateOf, Outcome, Reduced, copy, copies, Program, reduce, noOf, updated, canTake, reducedTurn, reducedTurns, reducedSteps}
+use Rattle.meaning.specs.Reduced.{keep, shift, updateOf, Outcome, Reduced, copy, copies, reduce, noOf, raised, updated, canTake, reducedTurn, reducedTurns, reducedSteps}
 use Rattle.meaning.proofs.Sums.{every-flat, every-map, every-those, every-upto, every-imp}
 
 abbrev pub Few : ℕ → List ℕ → Type 0
@@ -33,7 +33,7 @@ updated-few n j t v w = go (eqb j t)
   where
     go : (b : Bool) → Few n (updated v (if b then keep else shift j t n))
     go true = w
-    go false = set-few n (set v j (noOf v j - 1)) t (min (noOf v t + 1) n) (set-few n v j (noOf v j - 1) w (omega (arith, no-few n v j w))) (omega arith)
+    go false = set-few n (set v j (noOf v j - 1)) t (raised n (noOf v t)) (set-few n v j (noOf v j - 1) w (omega (arith, no-few n v j w))) (omega arith)
 
 -- a step's next counters
 abbrev Next : ℕ → Step (List ℕ) → Type 0

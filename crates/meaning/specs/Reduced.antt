@@ -115,9 +115,13 @@ passes v (counter d b) = meets b (noOf v d)
 unfoldable pub canTake : List ℕ → Reduced → Bool
 canTake v r = ltb (r .least) (noOf v (r .own)) && valueOr (passes v) (r .guard)
 
+-- a counter is raised to n at most
+abbrev pub raised : ℕ → ℕ → ℕ
+raised n a = min (a + 1) n
+
 abbrev pub updated : List ℕ → Update → List ℕ
 updated v keep = v
-updated v (shift j t n) = set (set v j (noOf v j - 1)) t (min (noOf v t + 1) n)
+updated v (shift j t n) = set (set v j (noOf v j - 1)) t (raised n (noOf v t))
 
 unfoldable pub reducedTurn : List ℕ → Reduced → Turn (List ℕ)
 reducedTurn v r = map (λ (o : Outcome). record { units = o .units; next = updated v (o .update) }) (r .outcomes)

@@ -80,12 +80,6 @@ pub record PastIn {C Look : Type 0} (Said : Place → C → Type 0) (counts : (m
 abbrev pub countsOf : (ms : Place) (c : CardShape) → CardSaid ms c → List Counted
 countsOf ms c d = countedCard d
 
-abbrev pub Completable : Place → Type 0
-Completable ms = CompletableIn CardSaid ms
-
-abbrev pub Hopeless : Place → Place → Type 0
-Hopeless before r = HopelessIn CardSaid before r
-
 abbrev pub UnfitAt : Place → Place → Type 0
 UnfitAt ms r = UnfitIn CardSaid ms r
 

@@ -10,7 +10,6 @@ use Rattle.card.specs.Laid.{laid, cardOf}
 use Rattle.card.proofs.LaidBack.{laid-back}
 use Rattle.reading.specs.Reading.{Outcome, taken, refused as turned, readOf}
 use Rattle.reader.specs.ReadingOf.{readingOf, Reads}
-use Rattle.card.specs.declared.Verdict.{Verdict}
 use Rattle.card.specs.declared.Verdict.the-variants.{Taken, Refused}
 use Rattle.reader.specs.declared.Reading.{Reading}
 use Rattle.entry.specs.Said.{Said, refused, _>>=_}

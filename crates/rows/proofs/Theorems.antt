@@ -12,7 +12,7 @@ use Rattle.reading.specs.Reading.{Outcome, taken, refused as turned, readOf}
 use Rattle.reading.proofs.Numbers.{read-number}
 use Rattle.entry.specs.Said.{Said, says, refused, _>>=_}
 use Rattle.entry.specs.Numbers.{Numbers, among, apart, Among}
-use Rattle.entry.specs.Stage.{Passes, Stage}
+use Rattle.entry.specs.Stage.{Stage}
 use Rattle.entry.proofs.Stages.{says≢refused, same-number, same-place, same-said, in-span, apart-out, its}
 use Rattle.entry.proofs.Exactly.{_↔∙_}
 use Rattle.rows.specs.Said.{outcomeSaid, cardSaid, cardNumbers, Read}

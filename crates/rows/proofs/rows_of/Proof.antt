@@ -1,5 +1,5 @@
+-- `rows::rows_of` meets its contract: each turn stores one row more (card/proofs/Rows.antt). Assumes nothing.
 use borrow.Author.Needs.{needs}
-use native.Mathlib.Omega.{arith}
 use mathlib.Core.Path.{refl}
 use Prim.Native.Nat.{_≤_, _-_}
 use Rattle.card.specs.Limits.{mostStatements}
