@@ -18,6 +18,8 @@ use Rattle.meaning.proofs.Panel.{seat-block, panel-by-counts, equal-counts}
 use Rattle.meaning.proofs.Reorder.{reordered-valid, reordered-panel}
 use Rattle.meaning.proofs.AddUp.{adds-up}
 use Rattle.meaning.proofs.Bounds.{panel-enabled-most}
+use Rattle.shown.proofs.InOrder.{ordered}
+use Rattle.shown.proofs.Telling.{telling}
 use Rattle.promises.specs.Panels.{takers, Panels}
 
 -- a turn for each seat that may take the statement
@@ -61,5 +63,7 @@ panels = record {
   enabled-pairs = λ c x e. ap (λ (m : Mode). enabled m c x) e ∙ pairs c x;
   enabled-statements = λ c x e. ap (λ (m : Mode). enabled m c x) e ∙ able c x;
   enabled-most = panel-enabled-most;
+  in-order = ordered;
   order = refl;
+  read-off = telling .same-data;
 }

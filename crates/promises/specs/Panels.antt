@@ -14,6 +14,8 @@ use Rattle.meaning.specs.Seats.{Seating, ValidSeating, counts, mayTake, turn}
 use Rattle.meaning.specs.Panel.{panel, blockOf, blockTotal, due}
 use Rattle.meaning.specs.ByCounts.{countPanel}
 use Rattle.meaning.specs.Reordered.{Reordered}
+use Rattle.lines.specs.PanelText.{panelOf}
+use Rattle.shown.specs.InOrder.{InOrder}
 
 -- a seat in state a moves to state b, whatever the others are in
 abbrev pub fromTo : ℕ → ℕ → Statement
@@ -44,5 +46,8 @@ pub record Panels : Type 0 where
   pub enabled-pairs : (c : Card) (x : Seating) → c .mode ≡ probabilistic → panel c x .enabled ≡ sum (λ s. takers s x) (c .statements)
   pub enabled-statements : (c : Card) (x : Seating) → c .mode ≡ nondeterministic → panel c x .enabled ≡ sum (λ s. gate (ltb 0 (takers s x)) 1) (c .statements)
   pub enabled-most : (c : Card) → ValidCard c → (x : Seating) → ValidSeating c x → panel c x .enabled ≤ mostSeats * mostStatements
-  -- moves stand by old state, then by new
+  -- moves stand by old state, then by new, choices by their place on the card; and an example
+  pub in-order : (c : Card) (x : Seating) → InOrder (panel c x)
   pub order : panel turning (0 ∷ 1 ∷ []) .blocks ≡ record { choice = none; stay = 0; moves = record { old = 0; new = 2; weight = 25200 } ∷ record { old = 1; new = 0; weight = 25200 } ∷ [] } ∷ []
+  -- all that a panel shows can be read off its text
+  pub read-off : (c d : Card) (x y : Seating) → panelOf c x ≡ panelOf d y → panel c x ≡ panel d y
