@@ -14,9 +14,9 @@ use Rattle.entry.proofs.Entries.{enters-unique}
 use Rattle.room.specs.declared.Answer.{Answer}
 use Rattle.room.specs.declared.Answer.the-variants.{Done, Refused}
 use Rattle.room.specs.Answer.{Text, answerNumber, answerValue, answered, Entered}
-use Rattle.writer.specs.Writing.{writeOf}
+use Rattle.texts.specs.Writing.{writeOf}
 use Rattle.writer.specs.WriteSaid.{writeSaid}
-use Rattle.reducer.specs.ReducedText.{reducedOf}
+use Rattle.texts.specs.ReducedText.{reducedOf}
 use Rattle.reducer.specs.ReduceSaid.{reduceSaid}
 use Rattle.panel.specs.PanelSaid.{panelSaid}
 use Rattle.tablet.specs.declared.OpenPanelAnswer.{OpenPanelAnswer}

@@ -3,8 +3,8 @@ use mathlib.Core.Path.{_≡_}
 use Rattle.card.specs.Limits.{cardBytes, mostSeats, topState, mostStatements, mostBranches, mostNodes, mostDepth, numberDigits, furtherDigits, wordDigits, unit, weightDigits}
 use Rattle.card.specs.Refusals.{tooLong, outsideRules, outOfShape, pastLimit, aboveTop, notDue, wrongWeight, wrongSeats, seatAboveTop, roomTooSmall}
 use Rattle.room.specs.Digits.{digit}
-use Rattle.writer.specs.WrittenMost.{writtenRoom}
-use Rattle.reducer.specs.Handed.{reducedMost}
+use Rattle.texts.specs.WrittenMost.{writtenRoom}
+use Rattle.texts.specs.Copies.{reducedMost}
 use Rattle.panel.specs.PanelRoom.{panelRoom}
 use Rattle.program.specs.Program.{inputBytes, lineEnd, noState}
 

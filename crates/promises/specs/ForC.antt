@@ -11,9 +11,9 @@ use Rattle.reading.specs.Reading.{taken, refused, readOf}
 use Rattle.room.specs.Answer.{Text}
 use Rattle.meaning.specs.Seats.{ValidSeating}
 use Rattle.counting.specs.Judged.{FirstAbove}
-use Rattle.writer.specs.Writing.{writeOf}
+use Rattle.texts.specs.Writing.{writeOf}
 use Rattle.writer.specs.WriteSaid.{writeSaid}
-use Rattle.reducer.specs.ReducedText.{reducedOf}
+use Rattle.texts.specs.ReducedText.{reducedOf}
 use Rattle.reducer.specs.ReduceSaid.{reduceSaid}
 use Rattle.lines.specs.PanelText.{panelOf}
 use Rattle.panel.specs.PanelSaid.{panelSaid}
