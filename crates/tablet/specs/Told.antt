@@ -2,20 +2,26 @@
 -- Assumes nothing.
 use Prim.Native.Nat.{ℕ}
 use mathlib.Core.List.{List}
-use Rattle.reading.specs.Reading.{Outcome, taken, refused}
+use Rattle.card.specs.Verdict.{numberOf, placeOf}
+use Rattle.card.specs.declared.Verdict.{Verdict}
+use Rattle.reading.specs.Reading.{Outcome}
+use Rattle.reader.specs.ReadingOf.{outlineOf}
 use Rattle.room.specs.declared.Answer.{Answer}
 use Rattle.room.specs.Answer.{Text, told, answerNumber, answerValue}
 use Rattle.entry.specs.Said.{Said}
 use Rattle.entry.specs.Contract.{Enters, inRoom}
 use Rattle.tablet.specs.declared.OpenPanelAnswer.{OpenPanelAnswer}
 
+-- the two numbers of an answer
 abbrev pub numbers : Answer → OpenPanelAnswer
 numbers a = record { number = answerNumber a; value = answerValue a }
 
--- 0 and 0 for a card that is taken
+-- and of a verdict; 0 and 0 for a card that is taken
+abbrev pub verdictNumbers : Verdict → OpenPanelAnswer
+verdictNumbers v = record { number = numberOf v; value = placeOf v }
+
 abbrev pub judged : Outcome → OpenPanelAnswer
-judged (taken c) = record { number = 0; value = 0 }
-judged (refused r p) = record { number = r; value = p }
+judged o = verdictNumbers (outlineOf o .verdict)
 
 -- the room `was` became `is`
 abbrev pub Told : (was is : List ℕ) → Text → OpenPanelAnswer → Type 0

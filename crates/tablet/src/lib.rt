@@ -2,8 +2,9 @@
 use card::Verdict;
 use card::limits::BRANCH_PLACES;
 use card::limits::NODE_PLACES;
+use card::limits::ROW_PLACES;
 use panel::panel;
-use reader::read_rough;
+use reader::read_into;
 use reducer::reduce;
 use room::Answer;
 use writer::write;
@@ -12,7 +13,7 @@ ghost use Rattle.reading.specs.Reading.{readOf};
 ghost use Rattle.writer.specs.WriteSaid.{writeSaid};
 ghost use Rattle.reducer.specs.ReduceSaid.{reduceSaid};
 ghost use Rattle.panel.specs.PanelSaid.{panelSaid};
-ghost use Rattle.tablet.specs.Told.{numbers, judged, Told};
+ghost use Rattle.tablet.specs.Told.{numbers, verdictNumbers, judged, Told};
 
 // Number 0: the value is the text's length. Else the refusal's number, and the value is its place.
 #[repr(C)]
@@ -40,15 +41,9 @@ fn in_numbers(answer: Answer) -> OpenPanelAnswer
     }
 }
 
-// Is it a card? A card that is taken answers 0 and 0.
-#[no_mangle]
-pub extern "C" fn open_panel_judge(card: &[u8]) -> OpenPanelAnswer
-    ensures { λ r. ⌜ r ≡ judged (readOf (now (card .entry))) ⌝ }
+fn verdict_in_numbers(verdict: Verdict) -> OpenPanelAnswer
+    ensures { λ r. ⌜ r ≡ verdictNumbers verdict ⌝ }
 {
-    let mut nodes: [u32; NODE_PLACES] = [0; NODE_PLACES];
-    let mut branches: [u32; BRANCH_PLACES] = [0; BRANCH_PLACES];
-    let outline = read_rough(card, &mut nodes, &mut branches);
-    let verdict = outline.verdict;
     match verdict {
         Verdict::Taken => {
             return OpenPanelAnswer {
@@ -63,6 +58,19 @@ pub extern "C" fn open_panel_judge(card: &[u8]) -> OpenPanelAnswer
             };
         }
     }
+}
+
+// Is it a card? A card that is taken answers 0 and 0.
+#[no_mangle]
+pub extern "C" fn open_panel_judge(card: &[u8]) -> OpenPanelAnswer
+    ensures { λ r. ⌜ r ≡ judged (readOf (now (card .entry))) ⌝ }
+{
+    let mut rows: [usize; ROW_PLACES] = [0; ROW_PLACES];
+    let mut nodes: [u32; NODE_PLACES] = [0; NODE_PLACES];
+    let mut branches: [u32; BRANCH_PLACES] = [0; BRANCH_PLACES];
+    let outline = read_into(card, &mut rows, &mut nodes, &mut branches);
+    let verdict = outline.verdict;
+    verdict_in_numbers(verdict)
 }
 
 // The written card.
