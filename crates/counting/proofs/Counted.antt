@@ -1,22 +1,20 @@
 -- A seat more adds one to its state's count and to no other. Assumes nothing.
 use Prim.Native.Nat.{ℕ, suc, _+_, _≤_, _<_}
 use mathlib.Core.Path.{_≡_, refl, sym, ap, _∙_}
-use mathlib.Core.Bool.{Bool, true, false}
 use mathlib.Core.List.{List, []}
 use native.Mathlib.Numerals.{add-one}
 use native.Mathlib.Decide.{ℕ-discrete, decLe}
 use native.Mathlib.Omega.{arith}
 use borrow.Author.Tests.{eq-eqb, ne-eqb}
 use lib.Dec.{eqb}
-use lib.ListN.{length, getD, take, set, replicate, length-set, length-take, List·getD-eq-default}
+use lib.ListN.{length, getD, take, set, replicate, length-set, List·getD-eq-default}
 use lib.Seq.{getD-set-same, getD-set-other, take-all}
 use Rattle.card.specs.Limits.{topState, mostStates}
-use Rattle.card.specs.Valid.{Every}
 use Rattle.meaning.specs.Sums.{gate}
 use Rattle.meaning.specs.Seats.{Seating, count, counts}
 use Rattle.meaning.specs.Reduced.{noOf}
-use Rattle.meaning.proofs.Sums.{getD-upto, sum-take, every-imp}
-use Rattle.meaning.proofs.Counting.{Within, count-le, length-counts, no-count, are-counts}
+use Rattle.meaning.proofs.Sums.{getD-upto, sum-take}
+use Rattle.meaning.proofs.Counting.{count-le, length-counts, are-counts}
 
 pub counts-none : replicate mostStates 0 ≡ counts topState []
 unfolding counts
@@ -71,12 +69,3 @@ module _ (k : ℕ) (x : Seating) (i : ℕ) (l : i < length x) where
 
 pub counts-all : (k i : ℕ) (x : Seating) → length x ≤ i → counts k (take i x) ≡ counts k x
 counts-all k i x h = ap (counts k) (take-all i x h)
-
--- ---- counts of all states that there can be, for a card whose top state is k
-
-within-more : (k m : ℕ) → k ≤ m → (x : Seating) → Within k x → Within m x
-within-more k m h x w = every-imp (λ a. a ≤ k) x w (λ a l. omega arith)
-
--- the same to every test of a counter
-pub counts-same : (k : ℕ) → k ≤ topState → (x : Seating) → Within k x → (d : ℕ) → noOf (counts topState x) d ≡ noOf (counts k x) d
-counts-same k h x w d = no-count topState x (within-more k topState h x w) d ∙ sym (no-count k x w d)

@@ -2,15 +2,13 @@
 use Prim.Native.Nat.{ℕ}
 use mathlib.Core.Path.{_≡_, refl, sym, ap, _∙_}
 use mathlib.Core.Logic.{_↔_, ⊎-elim}
-use mathlib.Core.Bool.{true}
 use mathlib.Core.List.{List}
 use native.Mathlib.Omega.{arith}
 use lib.ListN.{length}
 use Rattle.card.specs.Refusals.{wrongSeats, seatAboveTop}
 use Rattle.card.specs.Card.{Card}
 use Rattle.meaning.specs.Seats.{ValidSeating}
-use Rattle.entry.specs.Said.{Said, says, refused}
-use Rattle.entry.specs.Numbers.{among, Among}
+use Rattle.entry.specs.Said.{says, refused}
 use Rattle.entry.specs.Stage.{Stage}
 use Rattle.entry.proofs.Stages.{says≢refused, same-number, same-place}
 use Rattle.entry.proofs.Exactly.{_↔∙_}

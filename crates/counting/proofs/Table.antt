@@ -2,7 +2,7 @@
 -- do, and the children of a node have lower numbers. Assumes nothing.
 use Prim.Native.Nat.{ℕ, _+_, _-_, _≤_, _<_, min}
 use mathlib.Core.Path.{_≡_, refl, sym, ap, _∙_}
-use mathlib.Core.Logic.{_⊎_, inl, inr, ⊎-elim}
+use mathlib.Core.Logic.{_⊎_, inl}
 use mathlib.Core.Bool.{Bool, true, false, not}
 use mathlib.Core.List.{List}
 use mathlib.Core.Option.{none, some}
@@ -10,12 +10,11 @@ use native.Mathlib.Decide.{decLt}
 use native.Mathlib.Omega.{arith}
 use lib.Dec.{eqb, ltb}
 use lib.ListN.{length, getD, List·getD-eq-default}
-use Rattle.card.specs.Card.{Guard, Statement}
 use Rattle.card.specs.Laid.{opLeaf, opNot, opAnd, opOf, leftOf, rightOf, statePart, groupOf, guardAt, guardOf}
 use Rattle.card.proofs.GuardAt.{guard-at-leaf, guard-at-not, guard-at-and, guard-at-or, guard-of-none, guard-of-some}
 use Rattle.meaning.specs.Sums.{gate}
 use Rattle.meaning.specs.Reduced.{Bound, equalTo, moreThan, lessThan, counterOf, noOf, meets, passes}
-use Rattle.meaning.specs.ByCounts.{heldAt, heldOr, able}
+use Rattle.meaning.specs.ByCounts.{heldAt, heldOr}
 use Rattle.table.specs.declared.Bound.{Bound as BoundRow}
 use Rattle.table.specs.Bounds.{boundRow, boundOf}
 use Rattle.counting.specs.Taking.{takers}
@@ -123,8 +122,3 @@ module _ (n : ℕ) (v : List ℕ) (own : ℕ) where
     pub takers-kept : false ≡ heldAt n own v (guardAt nodes root) → 0 ≡ takers n v own (guardOf nodes at size)
     unfolding takers
     takers-kept h = rw (guard-is, ← h)
-
--- of a whole statement
-pub takers-able : (n : ℕ) (v : List ℕ) (s : Statement) → takers n v (s .own) (s .guard) ≡ able n v s
-unfolding takers able
-takers-able n v s = refl

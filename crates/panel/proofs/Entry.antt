@@ -1,13 +1,12 @@
 -- What the panel entry says, stage by stage: the card's refusal, the seats', or the panel that its table holds. Assumes nothing.
 use Prim.Native.Nat.{ℕ, _≤_, _<_}
-use mathlib.Core.Path.{_≡_, refl, sym, ap, _∙_}
+use mathlib.Core.Path.{_≡_, sym, ap, _∙_}
 use mathlib.Core.List.{List, [], _++_, append-nil}
 use native.Mathlib.Omega.{arith}
 use borrow.Author.Tests.{le-leb, lt-leb}
 use lib.ListN.{length, take, drop, replicate, drop-of-length-le}
 use lib.Seq.{length-take-le}
 use Rattle.card.specs.Refusals.{roomTooSmall}
-use Rattle.card.specs.Card.{Card}
 use Rattle.card.specs.Valid.{ValidCard}
 use Rattle.card.specs.Limits.{rowPlaces, nodePlaces, branchPlaces}
 use Rattle.card.specs.Lent.{Lent, lent, noneLent, cardIn, HoldsIn}
@@ -17,12 +16,12 @@ use Rattle.card.specs.declared.Head.{Head}
 use Rattle.card.proofs.Filling.{zeros-repeat}
 use Rattle.card.proofs.HeldIn.{holds-card}
 use Rattle.entry.specs.Said.{says as text, refused}
-use Rattle.room.specs.Room.{cap, Put}
-use Rattle.room.specs.Answer.{Text, Entered}
+use Rattle.room.specs.Room.{Put}
+use Rattle.room.specs.Answer.{Entered}
 use Rattle.room.specs.declared.Answer.the-variants.{Done, Refused as Turned}
 use Rattle.room.proofs.Laws.{clip-start}
 use Rattle.meaning.specs.Seats.{Seating, ValidSeating}
-use Rattle.meaning.specs.Panel.{Panel, panel}
+use Rattle.meaning.specs.Panel.{panel}
 use Rattle.counting.specs.Judged.{judgedSeats}
 use Rattle.counting.proofs.Judging.{valid-exactly}
 use Rattle.reader.specs.declared.Outline.{Outline}
@@ -38,10 +37,7 @@ use Rattle.panel.specs.PanelSaid.{shownSaid, panelSaid}
 use Rattle.panel.proofs.Shown.{is-panel}
 use Rattle.panel.proofs.Short.{panel-fits}
 
--- ---- a text that is measured, and stored in as long a part of the room
-
-pub measured : {was is t : List ℕ} {r : ℕ} → length t ≤ panelRoom → Put was is 0 t r → r ≡ length t
-measured h p = omega (arith, p .next)
+-- ---- a text of which the length is known, and stored in as long a part of the room
 
 module _ {was t : List ℕ} {need : ℕ} (same : need ≡ length t) where
   pub entered-small : length was < need → Entered was was (text t) (Turned roomTooSmall need)

@@ -6,8 +6,6 @@ use mathlib.Core.List.{List, [], _∷_, _++_}
 use mathlib.Core.Option.{Option, none}
 use native.Mathlib.Nat.{add-zero, zero-add}
 use native.Mathlib.Omega.{arith}
-use lib.ListN.{getD}
-use Rattle.card.specs.Limits.{mostStates}
 use Rattle.card.specs.Card.{Mode, nondeterministic, probabilistic, Statement}
 use Rattle.card.specs.Laid.{statementOf, statementsOf}
 use Rattle.card.specs.Rows.{rowsFrom}
@@ -20,7 +18,7 @@ use Rattle.meaning.specs.Panel.{Move, moveLine, Block, block, panel}
 use Rattle.meaning.specs.ByCounts.{able, stayOf, moveOf, choiceBlocks, countBlocks, countPanel}
 use Rattle.meaning.proofs.Sums.{upto-cong}
 use Rattle.meaning.proofs.Panel.{panel-by-counts}
-use Rattle.weighing.specs.Table.{stayPlace, ableIn, weightIn, weighingRow, modeIn, tableOf}
+use Rattle.weighing.specs.Table.{ableIn, weighingRow, modeIn, tableOf}
 use Rattle.weighing.proofs.Filled.{at, statements-upto, table-counts}
 use Rattle.weighing.proofs.ByCounts.{able-row, enabled-row, move-row, stay-row}
 use Rattle.lines.specs.PanelIn.{choiceIf, choiceAt, choicesIn, blocksIn, panelIn}

@@ -9,7 +9,7 @@ use lib.ListN.{length}
 use Rattle.card.specs.Refusals.{wrongWeight, wrongSeats, seatAboveTop}
 use Rattle.card.specs.Card.{Card}
 use Rattle.reading.specs.Reading.{taken, refused as turned, readOf}
-use Rattle.entry.specs.Said.{Said, says, refused, _>>=_}
+use Rattle.entry.specs.Said.{refused, _>>=_}
 use Rattle.entry.specs.Numbers.{among}
 use Rattle.entry.specs.Stage.{Stage}
 use Rattle.entry.proofs.Stages.{value, followed, beyond, last}
@@ -18,7 +18,7 @@ use Rattle.meaning.specs.Seats.{ValidSeating}
 use Rattle.counting.specs.Judged.{FirstAbove}
 use Rattle.counting.specs.SeatsSaid.{seatsSaid, seatsNumbers}
 use Rattle.counting.proofs.SeatsStage.{seats-stage, wrong-count, wrong-seat}
-use Rattle.rows.specs.Said.{cardSaid, cardNumbers, Read}
+use Rattle.rows.specs.Said.{cardNumbers, Read}
 use Rattle.rows.proofs.Theorems.{card-stage, card-first}
 use Rattle.lines.specs.PanelText.{panelOf}
 use Rattle.panel.specs.PanelSaid.{shownSaid, panelSaid}

@@ -1,13 +1,13 @@
 -- The input in the parts that the code lends: the line of seats ends where it was found, the card begins behind LF, and of a line of more
 -- seats than any card has the first few are refused as all of them are. Assumes nothing.
-use Prim.Native.Nat.{ℕ, zero, suc, _+_, _-_, _≤_, _<_, min}
+use Prim.Native.Nat.{ℕ, suc, _+_, _-_, _≤_, _<_, min}
 use mathlib.Core.Path.{_≡_, refl, sym, ap, _∙_}
 use mathlib.Core.Bool.{Bool, true, false}
-use mathlib.Core.List.{List, [], _∷_, _++_, map}
+use mathlib.Core.List.{List, [], _∷_, map}
 use native.Mathlib.Decide.{decLe}
 use native.Mathlib.Numerals.{add-one}
 use native.Mathlib.Omega.{arith}
-use borrow.Author.Tests.{eqb-true, eqb-false, ne-eqb}
+use borrow.Author.Tests.{ne-eqb}
 use lib.Dec.{eqb}
 use lib.ListN.{length, take, drop, length-drop, length-map}
 use lib.Seq.{length-take-le, take-all, take-at}
@@ -15,10 +15,8 @@ use Rattle.card.specs.Limits.{mostSeats}
 use Rattle.card.specs.Refusals.{wrongSeats}
 use Rattle.card.specs.Text.{if_then_else_}
 use Rattle.card.specs.Card.{Card}
-use Rattle.card.specs.Valid.{ValidCard}
 use Rattle.reading.specs.Reading.{Outcome, taken, refused as turned, readOf}
-use Rattle.entry.specs.Said.{says as text, refused, _>>=_, _>>_, return}
-use Rattle.room.specs.Answer.{Text}
+use Rattle.entry.specs.Said.{refused, _>>=_, _>>_, return}
 use Rattle.card.specs.declared.Verdict.{Verdict}
 use Rattle.card.specs.declared.Verdict.the-variants.{Taken, Refused}
 use Rattle.counting.specs.Judged.{judgedSeats}

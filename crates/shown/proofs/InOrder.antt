@@ -9,7 +9,7 @@ use mathlib.Core.Option.{Option, none, some}
 use native.Mathlib.Omega.{arith}
 use lib.Dec.{eqb, ltb}
 use Rattle.card.specs.Text.{if_then_else_}
-use Rattle.card.specs.Card.{Mode, nondeterministic, probabilistic, Statement, Card}
+use Rattle.card.specs.Card.{Mode, nondeterministic, probabilistic, Statement}
 use Rattle.card.specs.Valid.{Every}
 use Rattle.meaning.specs.Sums.{upto, flat}
 use Rattle.meaning.specs.Steps.{Turn, weight}

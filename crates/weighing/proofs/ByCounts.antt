@@ -1,16 +1,16 @@
 -- The numbers of the table are those of the panel by counts: sums over a card's statements are sums over its rows, and no change is a move
 -- from each state to itself. Assumes nothing.
-use Prim.Native.Nat.{ℕ, zero, suc, _+_, _*_, _≤_, _<_}
-use mathlib.Core.Path.{_≡_, refl, sym, ap, _∙_}
+use Prim.Native.Nat.{ℕ, zero, suc, _+_, _*_, _<_}
+use mathlib.Core.Path.{_≡_, sym, ap, _∙_}
 use mathlib.Core.List.{List}
 use native.Mathlib.Nat.{mul-add}
 use native.Mathlib.Omega.{arith}
 use lib.Dec.{ltb}
 use lib.ListN.{getD}
-use Rattle.card.specs.Limits.{mostStates, mostStatements}
+use Rattle.card.specs.Limits.{mostStates}
 use Rattle.card.specs.Card.{Mode, nondeterministic, probabilistic, Statement}
 use Rattle.card.specs.Laid.{statementOf, statementsOf}
-use Rattle.card.specs.Rows.{rowOf, rowsFrom}
+use Rattle.card.specs.Rows.{rowsFrom}
 use Rattle.card.specs.Lent.{Lent, cardIn, HoldsIn}
 use Rattle.card.specs.declared.Head.{Head}
 use Rattle.card.proofs.HeldIn.{holds-top}
@@ -19,7 +19,7 @@ use Rattle.meaning.specs.Seats.{Seating, ValidSeating, counts}
 use Rattle.meaning.specs.ByCounts.{able, unitsTo, stayOf, moveOf, allAble, allStay, allMove, countEnabled}
 use Rattle.meaning.proofs.Sums.{sumBelow, sum-upto, below-cong, below-exchange, below-pick}
 use Rattle.counting.specs.Taking.{takers}
-use Rattle.weighing.specs.Table.{enabledPlace, stayPlace, ableIn, weightIn, total, countsAs, enabledIn, weighingRow, stayIn, modeIn, abled, enabledSet, weighedSet, tableOf}
+use Rattle.weighing.specs.Table.{enabledPlace, stayPlace, ableIn, weightIn, total, enabledIn, weighingRow, stayIn, modeIn, abled, enabledSet, weighedSet, tableOf}
 use Rattle.weighing.proofs.Filled.{at, statements-upto, fitting, table-weight, table-stay, table-enabled, table-able, enabled-able, set-able, table-move}
 
 below-times : (c n : ℕ) (f : ℕ → ℕ) → sumBelow n (λ a. c * f a) ≡ c * sumBelow n f

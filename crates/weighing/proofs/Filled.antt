@@ -3,17 +3,17 @@
 use Prim.Native.Nat.{ℕ, zero, suc, _+_, _*_, _≤_, _<_}
 use mathlib.Core.Path.{_≡_, refl, sym, ap, ap₂, _∙_}
 use mathlib.Core.Logic.{inl, inr}
-use mathlib.Core.List.{List, [], _∷_}
+use mathlib.Core.List.{List, _∷_}
 use mathlib.Core.Option.{Option}
 use native.Mathlib.Nat.{add-zero, zero-add, not-suc-le-zero, le-of-suc-le-suc}
 use native.Mathlib.Numerals.{add-one}
 use native.Mathlib.Omega.{arith}
 use lib.ListN.{length, getD, set, take, length-set}
 use lib.Seq.{getD-set-same, getD-set-other}
-use Rattle.card.specs.Limits.{mostSeats, topState, mostStates, mostStatements}
-use Rattle.card.specs.Card.{Mode, nondeterministic, probabilistic, Guard, Statement, Card}
+use Rattle.card.specs.Limits.{mostSeats, topState, mostStates}
+use Rattle.card.specs.Card.{Mode, nondeterministic, probabilistic, Guard, Statement}
 use Rattle.card.specs.Valid.{Every, ValidStatement}
-use Rattle.card.specs.Laid.{either, zeros, statementOf, statementsOf}
+use Rattle.card.specs.Laid.{zeros, statementOf, statementsOf}
 use Rattle.card.specs.Rows.{rowOf, rowsFrom}
 use Rattle.card.specs.Lent.{Lent, cardIn, HoldsIn}
 use Rattle.card.specs.declared.Head.{Head}
@@ -28,7 +28,7 @@ use Rattle.meaning.proofs.Counting.{length-counts}
 use Rattle.meaning.proofs.Bounds.{units-le}
 use Rattle.counting.specs.Taking.{takers}
 use Rattle.counting.proofs.Counted.{counts-most}
-use Rattle.weighing.specs.Table.{enabledPlace, stayPlace, ablesFrom, weightsFrom, tablePlaces, ableIn, weightIn, over, total, ableAt, enabledIn, weighingRow, weighedTo, weighed, stayIn, modeIn, counted, abled, enabledSet, weighedSet, tableOf}
+use Rattle.weighing.specs.Table.{enabledPlace, stayPlace, ablesFrom, weightsFrom, tablePlaces, ableIn, weightIn, over, total, ableAt, enabledIn, weighingRow, weighed, stayIn, modeIn, counted, abled, enabledSet, weighedSet, tableOf}
 use Rattle.weighing.specs.Fitting.{heaviest, FewAble, Light, Fitting, Weighing, Filling}
 use Rattle.weighing.proofs.Stored.{over-else, over-at, over-long, take-is, upto-take}
 use Rattle.weighing.proofs.Laws.{weighed-long, weighed-before, weighed-at, weighed-most}

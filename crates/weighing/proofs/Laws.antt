@@ -1,7 +1,7 @@
 -- What the table holds after each turn of a loop. A statement's weights are added in the row of its own state; so after i statements each
 -- weight is the sum over them, and the ables are as they were. Assumes nothing.
 use Prim.Native.Nat.{ℕ, zero, suc, _+_, _*_, _≤_, _<_, min}
-use mathlib.Core.Path.{_≡_, refl, sym, ap, ap₂, _∙_}
+use mathlib.Core.Path.{_≡_, refl, sym, ap₂, _∙_}
 use mathlib.Core.Logic.{inl, inr}
 use mathlib.Core.Bool.{Bool, true, false}
 use mathlib.Core.List.{List, map}
@@ -12,17 +12,17 @@ use native.Mathlib.Omega.{arith}
 use borrow.Author.Tests.{eq-eqb, ne-eqb, lt-ltb}
 use lib.Dec.{eqb, ltb}
 use lib.ListN.{length, getD, take, drop, List·getD-eq-default}
-use Rattle.card.specs.Limits.{mostSeats, topState, mostStates, mostStatements, mostBranches, unit}
+use Rattle.card.specs.Limits.{mostSeats, mostStates, mostStatements, mostBranches, unit}
 use Rattle.card.specs.Card.{Mode, nondeterministic, probabilistic, Branch}
 use Rattle.card.specs.Laid.{either, branchOf}
 use Rattle.card.specs.Rows.{rowOf}
 use Rattle.card.specs.declared.Head.{Head}
 use Rattle.meaning.specs.Sums.{gate}
 use Rattle.meaning.specs.ByCounts.{unitsTo, moveOf}
-use Rattle.meaning.proofs.Sums.{gate-le, gate-zero}
+use Rattle.meaning.proofs.Sums.{gate-le}
 use Rattle.counting.specs.Taking.{unitsToEach}
 use Rattle.counting.proofs.Weighed.{each-at, length-each}
-use Rattle.weighing.specs.Table.{ablesFrom, weightsFrom, tablePlaces, ableIn, weightIn, over, total, countsAs, enabledIn, weighing, weighingRow, added, weighedTo, weighed}
+use Rattle.weighing.specs.Table.{ablesFrom, weightsFrom, tablePlaces, ableIn, weightIn, over, total, countsAs, enabledIn, weighingRow, added, weighedTo, weighed}
 use Rattle.weighing.specs.Fitting.{Most, heaviest, FewAble, Adding, Fitting, Weighing}
 use Rattle.weighing.proofs.Stored.{over-else, over-at, over-long, total-suc, total-more, total-most}
 

@@ -1,7 +1,6 @@
 -- `lines::put_choices` meets its contract: after i turns the blocks of the first i statements are put. Assumes nothing.
 use Prim.Native.Nat.{_≤_, _-_}
 use borrow.Author.Needs.{needs}
-use native.Mathlib.Omega.{arith}
 use Rattle.lines.proofs.Laws.{blocks-join, lists-start, lists-next, lists-end}
 use Rattle.lines.specs.PanelIn.{choiceAt, choicesIn}
 use Rattle.lines.specs.PanelText.{blocksText}

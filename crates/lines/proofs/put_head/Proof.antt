@@ -1,7 +1,7 @@
 -- `lines::put_head` meets its contract: its puts, one after the other. Assumes nothing.
 use borrow.Author.Needs.{needs}
 use lib.Seq.{length-take-le}
-use mathlib.Core.Path.{refl, sym}
+use mathlib.Core.Path.{sym}
 use native.Mathlib.Omega.{arith}
 use Rattle.phrases.proofs.Laws.{put-first, puts-then}
 use Rattle.lines.proofs.put_head.Statement.{statement}

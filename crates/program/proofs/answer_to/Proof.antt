@@ -2,7 +2,6 @@
 use Rattle.program.proofs.Parts.{handed-count, answer-said, card-from, card-left}
 use mathlib.Core.Path.{refl, sym}
 use lib.Seq.{length-take-le}
-use native.Mathlib.Omega.{arith}
 use borrow.Author.Needs.{needs}
 use Rattle.program.proofs.answer_to.Statement.{statement}
 use Rattle.program.proofs.answer_to.Tie as tie

@@ -4,7 +4,7 @@ use Rattle.program.specs.Program.{seatsLine}
 use lib.ListN.{length, drop}
 use borrow.Author.Needs.{needs}
 use native.Mathlib.Omega.{arith}
-use mathlib.Core.Path.{_≡_, refl}
+use mathlib.Core.Path.{_≡_}
 use Prim.Native.Nat.{_≤_, _+_, _-_}
 use Rattle.program.proofs.line_end.Statement.{statement}
 use Rattle.program.proofs.line_end.Tie as tie

@@ -1,11 +1,9 @@
 -- `program::put_seats` meets its contract: after i turns the first i seats are stored. Assumes nothing.
 use Rattle.program.proofs.Laws.{sown, sown-next}
-use Rattle.card.specs.Limits.{mostSeats}
 use lib.ListN.{length}
 use borrow.Author.Needs.{needs}
-use native.Mathlib.Omega.{arith}
 use mathlib.Core.Path.{_≡_, refl}
-use Prim.Native.Nat.{_≤_, _+_, _-_}
+use Prim.Native.Nat.{_≤_, _-_}
 use Rattle.program.proofs.put_seats.Statement.{statement}
 use Rattle.program.proofs.put_seats.Tie as tie
 

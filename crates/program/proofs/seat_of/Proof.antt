@@ -1,7 +1,6 @@
 -- `program::seat_of` meets its contract: by its tests. Assumes nothing.
 use Rattle.program.proofs.Laws.{seat-before, seat-behind, seat-digit}
 use native.Mathlib.Omega.{arith}
-use borrow.Author.Needs.{needs}
 use Rattle.program.proofs.seat_of.Statement.{statement}
 use Rattle.program.proofs.seat_of.Tie as tie
 

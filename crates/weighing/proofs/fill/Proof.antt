@@ -1,7 +1,7 @@
 -- `weighing::fill` meets its contract: each step stores what the definition stores. Assumes nothing.
 use borrow.Author.Needs.{needs}
 use lib.Seq.{length-take-le}
-use mathlib.Core.Path.{refl, sym}
+use mathlib.Core.Path.{sym}
 use native.Mathlib.Omega.{arith}
 use Rattle.card.proofs.HeldIn.{holds-top, holds-count}
 use Rattle.weighing.proofs.Filled.{prefix-fits, able-fits, weighing-fits, stay-fits, filled}

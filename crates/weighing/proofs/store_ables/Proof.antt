@@ -2,7 +2,6 @@
 use Prim.Native.Nat.{_≤_, _-_}
 use borrow.Author.Needs.{needs}
 use mathlib.Core.Path.{_≡_, refl, _∙_}
-use native.Mathlib.Omega.{arith}
 use Rattle.weighing.proofs.Stored.{over-start, over-next, over-end}
 use Rattle.weighing.specs.Table.{over, ablesFrom, ableAt}
 use Rattle.weighing.proofs.store_ables.Statement.{statement}
