@@ -10,7 +10,7 @@ use native.Mathlib.Decide.{decLt}
 use native.Mathlib.Omega.{arith}
 use lib.Dec.{eqb, ltb}
 use lib.ListN.{length, getD, List·getD-eq-default}
-use Rattle.card.specs.Laid.{opLeaf, opNot, opAnd, opOf, leftOf, rightOf, statePart, groupOf, guardAt, guardOf}
+use Rattle.card.specs.Laid.{opLeaf, opNot, opAnd, opOf, leftOf, rightOf, statePart, groupOf, leafOf, guardAt, guardOf}
 use Rattle.card.proofs.GuardAt.{guard-at-leaf, guard-at-not, guard-at-and, guard-at-or, guard-of-none, guard-of-some}
 use Rattle.meaning.specs.Sums.{gate}
 use Rattle.meaning.specs.Reduced.{Bound, equalTo, moreThan, lessThan, counterOf, noOf, meets, passes}
@@ -57,8 +57,8 @@ module _ (v : List ℕ) (n j x : ℕ) {d a : ℕ} {b : BoundRow}
 -- ---- a guard
 
 module _ (nodes : List ℕ) (root own n : ℕ) (v : List ℕ) (x : ℕ) (is : x ≡ getD nodes root 0) where
-  pub held-group : (opOf x ≡ opLeaf) ⊎ (root ≡ 0) → passes v (counterOf n own (groupOf x)) ≡ heldAt n own v (guardAt nodes root)
-  held-group h = rw (guard-at-leaf nodes root x is h)
+  pub held-leaf : (opOf x ≡ opLeaf) ⊎ (root ≡ 0) → passes v (counterOf n own (leafOf x)) ≡ heldAt n own v (guardAt nodes root)
+  held-leaf h = rw (guard-at-leaf nodes root x is h)
 
   module _ (z : root ≡ 0 → ⊥) {left : ℕ} (at : left ≡ min (leftOf x) (root - 1)) where
     pub held-not : {a : Bool} → opOf x ≡ opNot → a ≡ heldAt n own v (guardAt nodes left) → not a ≡ heldAt n own v (guardAt nodes root)

@@ -14,25 +14,19 @@ use card::node::units_of;
 use card::number_at;
 use card::refusals::SEAT_ABOVE_TOP;
 use card::refusals::WRONG_SEATS;
+use marks::bytes::wide;
 use table::bound_of;
 ghost use mathlib.Core.Path.{_≡_};
 ghost use mathlib.Core.List.{map};
 ghost use Prim.Native.Nat.{_+_, min};
 ghost use lib.ListN.{take, drop};
 ghost use Rattle.card.specs.Limits.{topState, mostBranches};
-ghost use Rattle.card.specs.Laid.{groupOf, guardAt, guardOf, branchOf};
+ghost use Rattle.card.specs.Laid.{leafOf, guardAt, guardOf, branchOf};
 ghost use Rattle.meaning.specs.Seats.{counts as countsOf};
 ghost use Rattle.meaning.specs.Reduced.{noOf, counterOf, passes as passesAt};
 ghost use Rattle.meaning.specs.ByCounts.{heldAt};
 ghost use Rattle.counting.specs.Judged.{judgedSeats};
 ghost use Rattle.counting.specs.Taking.{takers, unitsToEach};
-
-// A byte as a number: where it stands in an array it cannot be cast.
-pub fn wide(x: u8) -> usize
-    ensures { λ r. ⌜ r ≡ x ⌝ }
-{
-    x as usize
-}
 
 // Are they seats for a card of n seats and top state `top`?
 pub fn judge_seats(seats: &[u8], n: usize, top: usize) -> Verdict
@@ -80,7 +74,7 @@ fn count_at(counts: &[usize], d: usize) -> usize
 
 // Does the leaf in `node` hold for a seat in state `own`, of n seats? A group's counter is held against its bound in the table.
 fn leaf_holds(node: u32, own: usize, n: usize, counts: &[usize]) -> bool
-    ensures { λ r. ⌜ r ≡ passesAt (now (counts .entry)) (counterOf n own (groupOf node)) ⌝ }
+    ensures { λ r. ⌜ r ≡ passesAt (now (counts .entry)) (counterOf n own (leafOf node)) ⌝ }
 {
     let d = state_of(node);
     let no_d = count_at(counts, d);

@@ -9,7 +9,7 @@ use borrow.Fn.PlainCycle.{Measures, is, falls, and}
 use Rattle.card.proofs.node.left_of.Reads as left-of-reads
 use Rattle.card.proofs.node.op_of.Reads as op-of-reads
 use Rattle.card.proofs.node.right_of.Reads as right-of-reads
-use Rattle.counting.proofs.Table.{held-group, held-not, held-and, held-not-and, held-or, held-else}
+use Rattle.counting.proofs.Table.{held-leaf, held-not, held-and, held-not-and, held-or, held-else}
 use Rattle.counting.proofs.held.Reads as held
 use Rattle.counting.proofs.held.Kinds as held-kinds
 use Rattle.counting.proofs.+held.Lts-held as held-lts
@@ -40,7 +40,7 @@ held-leaf-holds-requires : (t : ℕ) → held-lts.Need-leaf-holds-requires (held
 held-leaf-holds-requires t c κs = search needs
 
 held-returns : (t : ℕ) → held-lts.Need-returns (held-R t) (held-at t) held.Post
-held-returns t c = c .leaf-holds .ensures ∙ held-group _ _ _ _ _ _ (c .before .before .before .number-at .ensures) (inr (c .before .if1 .taken))
+held-returns t c = c .leaf-holds .ensures ∙ held-leaf _ _ _ _ _ _ (c .before .before .before .number-at .ensures) (inr (c .before .if1 .taken))
 
 held-leaf-holds-requires-2 : (t : ℕ) → held-lts.Need-leaf-holds-requires-2 (held-R t) (held-at t) held.Post
 held-leaf-holds-requires-2 t c κs = search needs
@@ -48,7 +48,7 @@ held-leaf-holds-requires-2 t c κs = search needs
 held-returns-2 : (t : ℕ) → held-lts.Need-returns-2 (held-R t) (held-at t) held.Post
 held-returns-2 t c =
     let at-number-at = c .before .before .before .before in
-    c .leaf-holds2 .ensures ∙ held-group _ _ _ _ _ _ (at-number-at .number-at .ensures) (inl (sym (c .before .before .before .op-of .ensures) ∙ c .before .if2 .taken))
+    c .leaf-holds2 .ensures ∙ held-leaf _ _ _ _ _ _ (at-number-at .number-at .ensures) (inl (sym (c .before .before .before .op-of .ensures) ∙ c .before .if2 .taken))
 
 held-left-of-requires : (t : ℕ) → held-lts.Need-left-of-requires (held-R t) (held-at t) held.Post
 held-left-of-requires t c κs = search needs
