@@ -4,6 +4,7 @@
 #   CRATE/must-fail/EDIT                        an edit; behind it, or in a column "Kept as", bare words are further edits of that crate
 #   CRATE::NAME, MODULE::NAME, TYPE::NAME       something that the code names so
 #   statement : Type                            in `promises`
+#   Record.field                                of a record there
 #   a bare word in a column "Function"          a function or a crate
 # A link leads to a file or a folder.
 # The README's table of crates is crates.txt. What stands in a block of code, and docs/landings (history), is not looked at.
@@ -46,6 +47,7 @@ named=$(awk '
                 was_edit = 0
                 if (word ~ /^[A-Za-z0-9_]+(::[A-Za-z0-9_]+)+$/) say("code", word)
                 else if (word ~ /^[a-z][A-Za-z0-9-]+ : [A-Z][A-Za-z0-9-]+$/) say("statement", word)
+                else if (word ~ /^[A-Z][A-Za-z0-9-]*\.[a-z][a-z0-9-]*$/ && word !~ /\.(antt|md|rt)$/) say("field", word)
                 else if (word ~ /^target\//) continue
                 else if (word ~ /^[A-Za-z0-9_.-]+(\/[A-Za-z0-9_.-]+)*\/?$/ && word ~ /[A-Za-z_.-][A-Za-z_-]/ &&
                     (word ~ /\// || word ~ /[a-z]\.(antt|rt|edit|rs|toml|sh|mjs|c|h|md|txt|cases|expected|index)$/)) say("path", word)
@@ -77,6 +79,7 @@ found() { # KIND WORD PAGE
             fi
             ;;
         statement) grep -qEs "\b${2% : *} : ${2#* : }" crates/promises/proofs/*.antt && grep -qEs "\b${2#* : }\b" crates/promises/specs/*.antt ;;
+        field) awk -v r="${2%%.*}" -v f="${2#*.}" '/^pub record / { on = $3 == r } on && $1 == "pub" && $2 == f { ok = 1 } END { exit !ok }' crates/promises/specs/*.antt ;;
         function) [ -d "crates/$2" ] || coded "$2" crates/*/src/*.rt ;;
     esac
 }
