@@ -1,49 +1,46 @@
--- The line of seats as a loop finds it, and its seats as a loop stores them: what is left to look at is one byte shorter after each turn.
--- Assumes nothing.
+-- The line of seats is the run of bytes up to LF, and its seats are stored one by one. Assumes nothing.
 use Prim.Native.Nat.{ℕ, zero, suc, _+_, _-_, _≤_, _<_}
 use mathlib.Core.Path.{_≡_, refl, sym, ap, _∙_}
-use mathlib.Core.Bool.{Bool, true, false, _&&_}
+use mathlib.Core.Bool.{Bool, true, false, not, _&&_}
 use mathlib.Core.List.{List, [], _∷_, _++_, map}
+use native.Mathlib.Nat.{zero-add}
 use native.Mathlib.Numerals.{add-one}
 use native.Mathlib.Omega.{arith}
-use borrow.Author.Tests.{le-leb, lt-leb, eq-eqb, ne-eqb}
-use lib.Dec.{leb}
+use borrow.Author.Tests.{le-leb, lt-leb}
+use lib.Dec.{eqb, leb}
 use lib.ListN.{length, getD, set, take, drop}
 use Rattle.card.specs.Text.{if_then_else_}
+use Rattle.marks.specs.Marks.{notLF, run}
+use Rattle.marks.specs.Parts.{runEnd}
 use Rattle.room.specs.Digits.{digit}
 use Rattle.program.specs.Program.{lineEnd, seatsLine, noState, seatOf}
 
 -- ---- the line
 
-line-here : (s : List ℕ) (i : ℕ) → i < length s → getD s i 0 ≡ lineEnd → length (seatsLine (drop i s)) ≡ 0
+run-line : (s : List ℕ) → run notLF s ≡ seatsLine s
 unfolding seatsLine
-line-here [] i h e = absurd (omega arith)
-line-here (b ∷ s) zero h e = rw (eq-eqb b lineEnd e)
-line-here (b ∷ s) (suc i) h e = line-here s i (omega arith) e
-
-line-suc : (s : List ℕ) (i : ℕ) → i < length s → (getD s i 0 ≡ lineEnd → ⊥) → length (seatsLine (drop i s)) ≡ suc (length (seatsLine (drop (suc i) s)))
-unfolding seatsLine
-line-suc [] i h e = absurd (omega arith)
-line-suc (b ∷ s) zero h e = rw (ne-eqb b lineEnd e)
-line-suc (b ∷ s) (suc i) h e = line-suc s i (omega arith) e
-
-pub line-next : (s : List ℕ) (i : ℕ) → i < length s → (getD s i 0 ≡ lineEnd → ⊥)
-    → length (seatsLine s) ≡ i + length (seatsLine (drop i s)) → length (seatsLine s) ≡ i + 1 + length (seatsLine (drop (i + 1) s))
-line-next s i h e k = rw add-one (omega (arith, k, line-suc s i h e))
-
-line-over : (s : List ℕ) (i : ℕ) → length s ≤ i → length (seatsLine (drop i s)) ≡ 0
-unfolding seatsLine
-line-over [] zero h = refl
-line-over [] (suc i) h = refl
-line-over (b ∷ s) zero h = absurd (omega arith)
-line-over (b ∷ s) (suc i) h = line-over s i (omega arith)
+run-line [] = refl
+run-line (b ∷ s) = go (eqb b lineEnd) (run-line s)
+  where
+    go : (x : Bool) → run notLF s ≡ seatsLine s → (if not x then b ∷ run notLF s else []) ≡ (if x then [] else b ∷ seatsLine s)
+    go true e = refl
+    go false e = ap (λ (l : List ℕ). b ∷ l) e
 
 -- the line ends at LF, or where nothing is left
-pub line-found : (s : List ℕ) (i : ℕ) → length (seatsLine s) ≡ i + length (seatsLine (drop i s)) → i < length s → getD s i 0 ≡ lineEnd → i ≡ length (seatsLine s)
-line-found s i k h e = omega (arith, k, line-here s i h e)
+pub line-found : (s : List ℕ) {r : ℕ} → r ≡ runEnd notLF s 0 → r ≡ length (seatsLine s)
+line-found s e = e ∙ zero-add (length (run notLF s)) ∙ ap length (run-line s)
 
-pub line-all : (s : List ℕ) (i : ℕ) → length (seatsLine s) ≡ i + length (seatsLine (drop i s)) → length s ≤ i → i ≡ length (seatsLine s)
-line-all s i k h = omega (arith, k, line-over s i h)
+line-within : (s : List ℕ) → length (seatsLine s) ≤ length s
+unfolding seatsLine
+line-within [] = omega arith
+line-within (b ∷ s) = go (eqb b lineEnd) (line-within s)
+  where
+    go : (x : Bool) → length (seatsLine s) ≤ length s → length (if x then [] else b ∷ seatsLine s) ≤ suc (length s)
+    go true h = omega arith
+    go false h = omega arith
+
+pub found-within : (s : List ℕ) {r : ℕ} → r ≡ runEnd notLF s 0 → r ≤ length s
+found-within s e = omega (arith, line-found s e, line-within s)
 
 -- ---- a seat
 

@@ -1,6 +1,7 @@
 // The panel program as a function from the bytes that it reads to the bytes that it prints ("Texts, byte for byte").
 use card::limits::MOST_SEATS;
-use counting::wide;
+use marks::bytes::line_end;
+use marks::bytes::wide;
 use panel::PANEL_ROOM;
 use panel::panel;
 use room::Answer;
@@ -15,15 +16,13 @@ ghost use Rattle.room.specs.Room.{Put};
 ghost use Rattle.entry.specs.Said.{refused};
 ghost use Rattle.panel.specs.PanelSaid.{panelSaid};
 ghost use Rattle.panel.specs.PanelRoom.{panelRoom};
-ghost use Rattle.program.specs.Program.{seatsLine, seatOf, printed, refusalMost, answerTo, programOf, Printed};
+ghost use Rattle.program.specs.Program.{seatOf, printed, refusalMost, answerTo, programOf, Printed};
 
 // Bytes behind these are not read.
 pub const INPUT_BYTES: usize = 65536;
 
 // Enough for every panel and every refusal, so that none is refused for its length.
 pub const OUTPUT_BYTES: usize = PANEL_ROOM;
-
-const LINE_END: u8 = b'\n';
 
 const NO_STATE: u8 = 255;
 
@@ -40,21 +39,6 @@ fn seat_of(b: u8) -> u8
         return NO_STATE;
     }
     b - b'0'
-}
-
-// Where the line of seats ends.
-fn line_end(input: &[u8]) -> usize
-    ensures end { λ r. ⌜ r ≡ length (seatsLine (now (input .entry))) ⌝ }
-    ensures within { λ r. ⌜ r ≤ length (now (input .entry)) ⌝ }
-{
-    let mut i = 0;
-    while i < input.len() {
-        if input[i] == LINE_END {
-            return i;
-        }
-        i += 1;
-    }
-    i
 }
 
 // The first seats of a line, as many as there are places for.
@@ -106,7 +90,7 @@ fn answer_to(input: &[u8], room: &mut [u8]) -> usize
     ensures { λ r. ⌜ Printed (now (room .entry)) (now (room .exit)) (answerTo (now (input .entry))) r ⌝ }
 {
     let mut seats: [u8; SEAT_PLACES] = [0; SEAT_PLACES];
-    let end = line_end(input);
+    let end = line_end(input, 0);
     let count = put_seats(&input[..end], &mut seats);
     if end < input.len() {
         let from = end + 1;

@@ -1,8 +1,10 @@
 -- `program::answer_to` meets its contract: the line of seats ends where it was found, and the card is what stands behind it. Assumes nothing.
-use Rattle.program.proofs.Parts.{handed-count, answer-said, card-from, card-left}
-use mathlib.Core.Path.{refl, sym}
-use lib.Seq.{length-take-le}
 use borrow.Author.Needs.{needs}
+use lib.Seq.{length-take-le}
+use mathlib.Core.Path.{refl, sym}
+use native.Mathlib.Omega.{arith}
+use Rattle.program.proofs.Laws.{line-found, found-within}
+use Rattle.program.proofs.Parts.{handed-count, answer-said, card-from, card-left}
 use Rattle.program.proofs.answer_to.Statement.{statement}
 use Rattle.program.proofs.answer_to.Tie as tie
 
@@ -10,7 +12,9 @@ line-end-requires : tie.Need-line-end-requires
 line-end-requires c κs = search needs
 
 slice-aggregate-put-seats : tie.Need-slice-aggregate-put-seats
-slice-aggregate-put-seats c = sym (length-take-le _ _ (c .before .line-end .ensures .1))
+slice-aggregate-put-seats c =
+    let start = c .before .before .before .before in
+    sym (length-take-le _ _ (found-within (start .args .input .now) (c .before .line-end .ensures)))
 
 slice-aggregate-put-seats-2 : tie.Need-slice-aggregate-put-seats-2
 slice-aggregate-put-seats-2 c = search needs
@@ -49,16 +53,26 @@ returns c =
     let at-if1 = c .before .before .before .before .before .before in
     let at-put-seats = at-if1 .before .before in
     let at-line-end = at-put-seats .before .before .before in
-    rw (answer-said _ _ _ (at-line-end .line-end .ensures .0) (search needs) (at-put-seats .put-seats .ensures .0) (at-put-seats .put-seats .ensures .1) (card-from _ (at-line-end .line-end .ensures .0) (at-if1 .if1 .taken) refl)) at (c .before .before .print .ensures)
+    let start = at-line-end .before .before .before in
+    rw (answer-said _ _ _ (line-found (start .args .input .now) (at-line-end .line-end .ensures)) (search needs) (at-put-seats .put-seats .ensures .0) (at-put-seats .put-seats .ensures .1) (card-from _ (line-found (start .args .input .now) (at-line-end .line-end .ensures)) (at-if1 .if1 .taken) refl)) at (c .before .before .print .ensures)
 
 sub-print-2 : tie.Need-sub-print-2
-sub-print-2 c = search needs
+sub-print-2 c =
+    let at-line-end = c .before .before .before .before .before in
+    let start = at-line-end .before .before .before in
+    omega (arith, found-within (start .args .input .now) (at-line-end .line-end .ensures))
 
 part-print-start-2 : tie.Need-part-print-start-2
-part-print-start-2 c = search needs
+part-print-start-2 c =
+    let at-line-end = c .before .before .before .before .before in
+    let start = at-line-end .before .before .before in
+    omega (arith, found-within (start .args .input .now) (at-line-end .line-end .ensures))
 
 part-print-end-2 : tie.Need-part-print-end-2
-part-print-end-2 c = search needs
+part-print-end-2 c =
+    let at-line-end = c .before .before .before .before .before in
+    let start = at-line-end .before .before .before in
+    omega (arith, found-within (start .args .input .now) (at-line-end .line-end .ensures))
 
 array-share-prefix-seats-2 : tie.Need-array-share-prefix-seats-2
 array-share-prefix-seats-2 c = search needs
@@ -79,7 +93,8 @@ returns-2 c =
     let at-if1 = c .before .before .before .before .before .before in
     let at-put-seats = at-if1 .before .before in
     let at-line-end = at-put-seats .before .before .before in
-    rw (answer-said _ _ _ (at-line-end .line-end .ensures .0) (search needs) (at-put-seats .put-seats .ensures .0) (at-put-seats .put-seats .ensures .1) (card-left _ (at-line-end .line-end .ensures .0) (at-if1 .if1 .left))) at (c .before .before .print2 .ensures)
+    let start = at-line-end .before .before .before in
+    rw (answer-said _ _ _ (line-found (start .args .input .now) (at-line-end .line-end .ensures)) (search needs) (at-put-seats .put-seats .ensures .0) (at-put-seats .put-seats .ensures .1) (card-left _ (line-found (start .args .input .now) (at-line-end .line-end .ensures)) (at-if1 .if1 .left))) at (c .before .before .print2 .ensures)
 
 pub answer-to-spec : {M : Type 1} → statement M
 answer-to-spec =
