@@ -14,7 +14,7 @@ use card::node::units_of;
 use card::number_at;
 use card::refusals::SEAT_ABOVE_TOP;
 use card::refusals::WRONG_SEATS;
-use marks::bytes::wide;
+use letters::bytes::wide;
 use table::bound_of;
 ghost use mathlib.Core.Path.{_≡_};
 ghost use mathlib.Core.List.{map};

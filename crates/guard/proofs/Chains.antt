@@ -22,7 +22,7 @@ use Rattle.marks.specs.Step.{stepAt, marksAt}
 use Rattle.marks.specs.Parts.{bareOf}
 use Rattle.looks.specs.Quick.{signAhead}
 use Rattle.marks.specs.declared.Step.{Step}
-use Rattle.marks.proofs.Lists.{and-left, and-right}
+use Rattle.letters.proofs.Lists.{and-left, and-right}
 use Rattle.looks.proofs.Quick.{sign-step}
 use Rattle.reading.specs.Reader.{Place, State, at, Result, ok, stop, Reader, bind, _>>=_, _>>_, return, nextIs, sign, spend}
 use Rattle.reading.specs.Guard.{chain, conjunction, expression, unary}

@@ -19,8 +19,7 @@ use Rattle.marks.specs.Marks.{Placed, placed, seat, placeOf}
 use Rattle.marks.specs.Kinds.{kSeat, kind}
 use Rattle.marks.specs.Step.{stepAt, marksAt}
 use Rattle.marks.specs.declared.Step.{Step}
-use Rattle.marks.proofs.Next.{Meet, meet}
-use Rattle.marks.proofs.Laws.{part-of-card}
+use Rattle.marks.proofs.Next.{Meet, meet, part-of-card}
 use Rattle.card.proofs.Storing.{stored-leaf}
 use Rattle.reading.specs.Reader.{Place, State, at, Result, ok, stop, Reader, bind, _>>=_, _>>_, return, refuse, refuseAt, nextIs, ifNext, sign, here, spend, node}
 use Rattle.reading.specs.Guard.{seatNext, ifSeat, chain, conjunction, expression, grouped, unary}

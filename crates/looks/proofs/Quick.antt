@@ -1,9 +1,9 @@
 -- Where a quick look finds a mark, the step finds the same: the look says which bytes stand there, and what starts with them is known
--- (proofs/Starts.antt).
-use Prim.Native.Nat.{ℕ, zero, suc, _+_, _-_, _*_, _≤_, _<_}
+-- (proofs/Words.antt, proofs/Starts.antt of marks).
+use Prim.Native.Nat.{ℕ, _+_, _-_, _≤_, _<_}
 use mathlib.Core.Path.{_≡_, refl, sym, ap, _∙_}
 use mathlib.Core.Bool.{Bool, true, false, not, _&&_, _||_, and-false}
-use mathlib.Core.List.{List, [], _∷_}
+use mathlib.Core.List.{List, [], _∷_, _++_}
 use native.Mathlib.Decide.{decLt}
 use native.Mathlib.Nat.{add-zero, zero-add}
 use native.Mathlib.Omega.{arith}
@@ -13,15 +13,19 @@ use lib.ListN.{length, getD, drop, drop-of-length-le}
 use lib.Seq.{drop-drop, getD-drop}
 use Rattle.card.specs.Limits.{wordDigits}
 use Rattle.card.specs.Text.{bytes, if_then_else_}
-use Rattle.marks.specs.Marks.{seat, isDigit, isBlank, isSign, inWord, begins, run, valueFrom, plain, word, startAt}
-use Rattle.marks.specs.Kinds.{kNumber, kSeat}
+use Rattle.letters.specs.Bytes.{isDigit, isLetter, isBlank, isSign, inWord, begins, run, every, begun, isAlone, inNumber}
+use Rattle.letters.specs.Digits.{plain}
+use Rattle.marks.specs.Marks.{startAt, wordMark}
+use Rattle.marks.specs.Kinds.{kNumber, kSeat, kProcess}
 use Rattle.marks.specs.Step.{stepTo, stepped, stepFrom, stepAt}
-use Rattle.marks.specs.Parts.{bareOf, valuedOf, isAlone, inNumber, shortSeat, gapOf}
-use Rattle.looks.specs.Quick.{signAhead, noDigit, oneDigit, digitAhead, lastDigit, seatAhead, pastBlank, pastLine}
+use Rattle.marks.specs.Parts.{bareOf, valuedOf, gapOf}
+use Rattle.looks.specs.Quick.{signAhead, noDigit, oneDigit, digitAhead, lastDigit, seatAhead, pastBlank, pastLine, bytesAhead, processAhead}
 use Rattle.marks.specs.declared.Step.{Step}
-use Rattle.marks.proofs.Lists.{cases, not-both, and-left, and-right, drop-at}
-use Rattle.marks.proofs.Runs.{run-on, run-empty, begins-at, begins-place, eqb-sym}
-use Rattle.marks.proofs.Starts.{among, sign-kind, alone-step, gap-blank, gap-none, step-gap, numeral-single, digit-starts, letter-starts, digit-in-word, seat-place, seat-single, step-at}
+use Rattle.letters.proofs.Lists.{cases, not-both, and-left, and-right, drop-at}
+use Rattle.letters.proofs.Runs.{begins-at, begins-place, eqb-sym, run-on, run-empty}
+use Rattle.letters.proofs.Numbers.{one-digit}
+use Rattle.marks.proofs.Starts.{among, sign-kind, alone-step, gap-blank, gap-none, step-gap, numeral-single, digit-starts, digit-in-word, step-at}
+use Rattle.looks.proofs.Words.{run-of, whole, bytes-stand}
 
 -- ---- what a look answers, test by test
 
@@ -172,25 +176,63 @@ module _ (s : List ℕ) (i : ℕ) where
         step-at s i digit-place ∙ ap (λ x. stepped i x on) (digit-starts b t d) ∙ numeral-single b t i on d (digit-ends inNumber s i v is small)
         ∙ ap (λ (u : ℕ). valuedOf kNumber u i (i + 1)) (sym (digit-is inNumber s i v is small))
 
+  -- a word t, which begins with the letter b, and one digit
+  module _ (b : ℕ) (t : List ℕ) (l : isLetter b ≡ true) (w : every inWord (b ∷ t) ≡ true) (e : begun (b ∷ t) (drop i s) ≡ true) (v : ℕ) (is : v ≡ lastDigit (drop (i + length (b ∷ t)) s)) (small : v < noDigit) where
+    abbrev last : ℕ
+    last = i + length (b ∷ t)
+
+    pub last-place : last < length s
+    last-place = begins-place isDigit s last (digit-there inWord s last v is small)
+
+    pub last-digit : isDigit (getD s last 0) ≡ true
+    last-digit = sym (begins-at isDigit s last last-place) ∙ digit-there inWord s last v is small
+
+    pub last-step : stepAt s i ≡ stepTo (wordMark (b ∷ t ++ (getD s last 0 ∷ []))) i (i + length (b ∷ t ++ (getD s last 0 ∷ [])))
+    last-step =
+        let d = getD s last 0 in
+        let end : run inWord (drop (length (b ∷ t)) (drop i s)) ≡ d ∷ [] =
+        ap (run inWord) (drop-drop (length (b ∷ t)) i s) ∙ run-on inWord s last last-place (digit-in-word d last-digit)
+        ∙ ap (λ (u : List ℕ). d ∷ u) (run-empty inWord (drop (last + 1) s) (digit-ends inWord s last v is small)) in
+        whole s i b (t ++ (d ∷ [])) l (omega (arith, last-place)) (run-of inWord (b ∷ t) (drop i s) w e ∙ ap (λ (u : List ℕ). b ∷ t ++ u) end)
+
   module _ (v : ℕ) (is : v ≡ seatAhead (drop i s)) (small : v < noDigit) where
     seat-s : begins (eqb 115) (drop i s) ≡ true
     seat-s = cases (begins (eqb 115) (drop i s)) (λ y. y) (λ n. absurd (omega (arith, is ∙ seat-none s i n)))
 
+    seat-begins : begun (bytes "s") (drop i s) ≡ true
+    seat-begins = one (drop i s) seat-s
+      where
+        one : (u : List ℕ) → begins (eqb 115) u ≡ true → begun (115 ∷ []) u ≡ true
+        one [] e = e
+        one (b ∷ u) e = rw e
+
     seat-last : v ≡ lastDigit (drop (i + 1) s)
     seat-last = is ∙ seat-begun s i seat-s
 
-    seat-before : i < length s
-    seat-before = begins-place (eqb 115) s i seat-s
-
     pub seat-room : i + 1 < length s
-    seat-room = begins-place isDigit s (i + 1) (digit-there inWord s (i + 1) v seat-last small)
-
-    seat-short : shortSeat (drop i s) ≡ true
-    seat-short = rw (drop-at s i seat-before, drop-drop 1 (i + 1) s, stood 115 seat-s, digit-there inWord s (i + 1) v seat-last small, digit-ends inWord s (i + 1) v seat-last small)
+    seat-room = last-place 115 [] refl refl seat-begins v seat-last small
 
     pub seat-step : stepAt s i ≡ valuedOf kSeat v i (i + 2)
     seat-step =
-        let b = getD s i 0 in
-        let two : i + 1 + 1 ≡ i + 2 = omega arith in
-        step-at s i seat-before ∙ ap (λ x. stepped i x on) (letter-starts b (drop (i + 1) s) (rw (stood 115 seat-s))) ∙ seat-single s i seat-before seat-short on
-        ∙ rw (two, ← digit-is inWord s (i + 1) v seat-last small)
+        let d = getD s (i + 1) 0 in
+        let y : plain wordDigits (d ∷ []) ≡ true = one-digit wordDigits (d ∷ []) (rw (last-digit 115 [] refl refl seat-begins v seat-last small)) refl (omega arith) in
+        last-step 115 [] refl refl seat-begins v seat-last small ∙ rw (y, zero-add, ← digit-is inWord s (i + 1) v seat-last small)
+
+  module _ (v : ℕ) (is : v ≡ processAhead s i) (small : v < noDigit) where
+    process-so : bytesAhead (bytes "process") s i ≡ true
+    process-so = cases (bytesAhead (bytes "process") s i) (λ y. y) (λ n. let none : v ≡ noDigit = is ∙ rw n in absurd (omega arith))
+
+    process-begins : begun (bytes "process") (drop i s) ≡ true
+    process-begins = bytes-stand (bytes "process") s i process-so
+
+    process-last : v ≡ lastDigit (drop (i + 7) s)
+    process-last = is ∙ rw process-so
+
+    pub process-room : i + 7 < length s
+    process-room = last-place 112 (bytes "rocess") refl refl process-begins v process-last small
+
+    pub process-step : stepAt s i ≡ valuedOf kProcess v i (i + 8)
+    process-step =
+        let d = getD s (i + 7) 0 in
+        let y : plain wordDigits (d ∷ []) ≡ true = one-digit wordDigits (d ∷ []) (rw (last-digit 112 (bytes "rocess") refl refl process-begins v process-last small)) refl (omega arith) in
+        last-step 112 (bytes "rocess") refl refl process-begins v process-last small ∙ rw (y, zero-add, ← digit-is inWord s (i + 7) v process-last small)

@@ -1,30 +1,25 @@
 -- A keyword or a module word whose bytes stand right there: no word goes on behind them, so the step finds it.
-use Prim.Native.Nat.{ℕ, _+_, _-_, _≤_, _<_}
+use Prim.Native.Nat.{ℕ, _+_, _≤_, _<_}
 use mathlib.Core.Path.{_≡_, refl, sym, ap, _∙_}
-use mathlib.Core.Bool.{Bool, true, false, not, _&&_}
+use mathlib.Core.Bool.{Bool, true, false, not}
 use mathlib.Core.List.{List, [], _∷_, _++_}
-use native.Mathlib.Nat.{add-zero, zero-add}
+use native.Mathlib.Nat.{add-zero}
 use native.Mathlib.Omega.{arith}
 use borrow.Author.Tests.{eqb-true, leb-true, not-true}
 use lib.Dec.{eqb, leb}
 use lib.ListN.{length, getD, drop}
 use lib.Seq.{drop-drop, getD-drop}
-use Rattle.card.specs.Limits.{wordDigits}
-use Rattle.card.specs.Text.{bytes}
-use Rattle.marks.specs.Marks.{text, process, isDigit, isLetter, inWord, begins, run, every, plain, wordMark}
-use Rattle.marks.specs.Kinds.{kProcess}
+use Rattle.letters.specs.Bytes.{isLetter, inWord, begins, run, every, begun}
+use Rattle.marks.specs.Marks.{wordMark}
 use Rattle.marks.specs.Step.{stepTo, stepped, stepFrom, stepAt}
-use Rattle.marks.specs.Parts.{begun, valuedOf}
-use Rattle.looks.specs.Quick.{noDigit, lastDigit, bytesAhead, wordAhead, processAhead}
+use Rattle.looks.specs.Quick.{bytesAhead, wordAhead}
 use Rattle.marks.specs.declared.Step.{Step}
-use Rattle.marks.proofs.Lists.{cases, not-both, and-left, and-right}
-use Rattle.marks.proofs.Runs.{run-on, run-empty, run-first, begins-at, begins-place, begun-fits}
-use Rattle.marks.proofs.Numbers.{one-digit}
-use Rattle.looks.proofs.Quick.{digit-there, digit-ends, digit-is}
-use Rattle.marks.proofs.Starts.{letter-starts, digit-in-word, word-step, step-at}
+use Rattle.letters.proofs.Lists.{cases, not-both, and-left, and-right}
+use Rattle.letters.proofs.Runs.{run-empty, run-first, begun-fits}
+use Rattle.marks.proofs.Starts.{letter-starts, word-step, step-at}
 
 -- a run that begins with these bytes
-run-of : (p : ℕ → Bool) (t s : List ℕ) → every p t ≡ true → begun t s ≡ true → run p s ≡ t ++ run p (drop (length t) s)
+pub run-of : (p : ℕ → Bool) (t s : List ℕ) → every p t ≡ true → begun t s ≡ true → run p s ≡ t ++ run p (drop (length t) s)
 run-of p [] s w e = refl
 run-of p (a ∷ t) [] w e = not-both false e refl
 run-of p (a ∷ t) (b ∷ s) w e = cases (eqb a b)
@@ -47,7 +42,7 @@ module _ (s : List ℕ) (i : ℕ) where
   on = λ more. stepFrom (length s) more (drop (i + 1) s)
 
   -- a word whose first byte is a letter
-  whole : (b : ℕ) (u : List ℕ) → isLetter b ≡ true → i < length s → run inWord (drop i s) ≡ b ∷ u → stepAt s i ≡ stepTo (wordMark (b ∷ u)) i (i + length (b ∷ u))
+  pub whole : (b : ℕ) (u : List ℕ) → isLetter b ≡ true → i < length s → run inWord (drop i s) ≡ b ∷ u → stepAt s i ≡ stepTo (wordMark (b ∷ u)) i (i + length (b ∷ u))
   whole b u l h w =
       let some-byte : 0 < length (run inWord (drop i s)) = omega (arith, ap length w) in
       let first : getD s i 0 ≡ b = ap (λ (n : ℕ). getD s n 0) (sym (add-zero i)) ∙ sym (getD-drop i s 0 0) ∙ sym (run-first inWord (drop i s) some-byte) ∙ ap (λ (v : List ℕ). getD v 0 0) w in
@@ -71,29 +66,3 @@ module _ (s : List ℕ) (i : ℕ) where
     keyword-step w l =
         whole b (t ++ []) l (omega (arith, word-fits))
         (run-of inWord (b ∷ t) (drop i s) w (bytes-stand (b ∷ t) s i there) ∙ ap (λ (u : List ℕ). b ∷ t ++ u) (run-empty inWord (drop (length (b ∷ t)) (drop i s)) over))
-
-  -- a module word with one digit
-  module _ (v : ℕ) (is : v ≡ processAhead s i) (small : v < noDigit) where
-    begun-so : bytesAhead (bytes "process") s i ≡ true
-    begun-so = cases (bytesAhead (bytes "process") s i) (λ y. y) (λ n. let none : v ≡ noDigit = is ∙ rw n in absurd (omega arith))
-
-    last : v ≡ lastDigit (drop (i + 7) s)
-    last = is ∙ rw begun-so
-
-    a-digit : begins isDigit (drop (i + 7) s) ≡ true
-    a-digit = digit-there inWord s (i + 7) v last small
-
-    pub process-room : i + 7 < length s
-    process-room = begins-place isDigit s (i + 7) a-digit
-
-    pub process-step : stepAt s i ≡ valuedOf kProcess v i (i + 8)
-    process-step =
-        let b = getD s (i + 7) 0 in
-        let d : isDigit b ≡ true = sym (begins-at isDigit s (i + 7) process-room) ∙ a-digit in
-        let end : run inWord (drop 7 (drop i s)) ≡ b ∷ [] =
-        ap (run inWord) (drop-drop 7 i s) ∙ run-on inWord s (i + 7) process-room (digit-in-word b d)
-        ∙ ap (λ (u : List ℕ). b ∷ u) (run-empty inWord (drop (i + 7 + 1) s) (digit-ends inWord s (i + 7) v last small)) in
-        let w : run inWord (drop i s) ≡ bytes "process" ++ (b ∷ []) =
-        run-of inWord (bytes "process") (drop i s) refl (bytes-stand (bytes "process") s i begun-so) ∙ ap (λ (u : List ℕ). bytes "process" ++ u) end in
-        let y : plain wordDigits (b ∷ []) ≡ true = one-digit wordDigits (b ∷ []) (rw d) refl (omega arith) in
-        whole 112 (bytes "rocess" ++ (b ∷ [])) refl (omega (arith, process-room)) w ∙ rw (y, zero-add, ← digit-is inWord s (i + 7) v last small)

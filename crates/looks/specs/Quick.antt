@@ -1,12 +1,11 @@
 -- Marks that stand right at the front of a text, told from their first bytes. Assumes nothing.
 use Prim.Native.Nat.{ℕ, _+_, _-_}
-use mathlib.Core.Bool.{Bool, true, false, not, _&&_}
+use mathlib.Core.Bool.{Bool, false, not, _&&_}
 use mathlib.Core.List.{List, [], _∷_}
 use lib.Dec.{eqb, leb}
 use lib.ListN.{length, drop}
 use Rattle.card.specs.Text.{bytes, if_then_else_}
-use Rattle.marks.specs.Marks.{isDigit, inWord, begins}
-use Rattle.marks.specs.Parts.{isAlone, inNumber, begun}
+use Rattle.letters.specs.Bytes.{isDigit, inWord, begins, isAlone, inNumber, begun}
 
 -- a sign of one kind that begins no other mark
 abbrev pub signAhead : ℕ → List ℕ → Bool

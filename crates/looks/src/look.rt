@@ -2,13 +2,13 @@
 ghost use mathlib.Core.Path.{_≡_};
 ghost use lib.ListN.{drop};
 ghost use Rattle.looks.specs.Quick.{signAhead, digitAhead, lastDigit, seatAhead, processAhead, pastBlank, pastLine, bytesAhead, wordAhead};
-use marks::bytes::begins_at;
-use marks::bytes::digit_at;
-use marks::bytes::is_alone;
-use marks::bytes::number_at;
-use marks::bytes::stands;
-use marks::bytes::wide;
-use marks::bytes::word_at;
+use letters::bytes::begins_at;
+use letters::bytes::digit_at;
+use letters::bytes::is_alone;
+use letters::bytes::number_at;
+use letters::bytes::stands;
+use letters::bytes::wide;
+use letters::bytes::word_at;
 
 // The place behind one blank, where one stands: most marks that are set off are so by one.
 pub fn past_blank(card: &[u8], at: usize) -> usize

@@ -1,6 +1,6 @@
 -- The kind of a word, by the keyword that it begins with: no two keywords begin with the same letter, so a word that goes on behind one is
 -- no other.
-use Prim.Native.Nat.{ℕ, zero, suc, _+_, _≤_, _<_}
+use Prim.Native.Nat.{ℕ, suc, _+_, _≤_, _<_}
 use mathlib.Core.Path.{_≡_, refl, sym, ap, _∙_}
 use mathlib.Core.Bool.{Bool, true, false, not, _&&_, _||_}
 use mathlib.Core.List.{List, [], _∷_}
@@ -9,13 +9,13 @@ use borrow.Author.Tests.{eqb-true, eqb-false, eq-eqb, leb-true, not-true}
 use lib.Dec.{eqb, leb}
 use lib.ListN.{length, getD, drop}
 use lib.Seq.{drop-drop}
-use Rattle.card.specs.Text.{same, if_then_else_}
-use Rattle.marks.specs.Marks.{isLetter, inWord, run, begins, every}
+use Rattle.card.specs.Text.{same}
+use Rattle.letters.specs.Bytes.{isLetter, inWord, run, begins, every, begun}
 use Rattle.marks.specs.Kinds.{Known, knowns, kindIn, kWord}
-use Rattle.marks.specs.Parts.{begun, lettered, begunIn}
+use Rattle.marks.specs.Parts.{lettered, begunIn}
 use Rattle.marks.specs.declared.word.Keyword.{Keyword}
-use Rattle.marks.proofs.Lists.{cases, not-both, and-left, and-right, or-true, or-left, or-right}
-use Rattle.marks.proofs.Runs.{eqb-sym, run-on, run-empty, run-begun, same-begun, begun-fits}
+use Rattle.letters.proofs.Lists.{cases, not-both, and-left, and-right, or-true, or-left, or-right}
+use Rattle.letters.proofs.Runs.{eqb-sym, run-on, run-empty, run-begun, same-begun, begun-fits}
 use Rattle.marks.proofs.Starts.{letter-in-word}
 
 same-length : (w t : List ℕ) → same w t ≡ true → length w ≡ length t

@@ -13,17 +13,14 @@ use lib.ListN.{length}
 use Rattle.card.specs.Text.{bytes, same, if_then_else_}
 use Rattle.marks.specs.Marks.{Mark, text, seat, process, number, decimal, outside}
 use Rattle.marks.specs.Kinds.{kEnd, kOutside, kNumber, kDecimal, kSeat, kProcess, kWord, Known, knowns, kindIn, kind, kindOf}
+use Rattle.letters.proofs.Lists.{and-left, and-right}
 use Rattle.marks.specs.Step.{valueOf, digitsOf, furtherOf}
-
-and-true : (a b : Bool) → (a && b) ≡ true → (a ≡ true) × (b ≡ true)
-and-true true b e = (refl, e)
-and-true false b e = absurd (false≢true e)
 
 pub same-eq : (s t : List ℕ) → same s t ≡ true → s ≡ t
 same-eq [] [] e = refl
 same-eq [] (b ∷ t) e = absurd (false≢true e)
 same-eq (a ∷ s) [] e = absurd (false≢true e)
-same-eq (a ∷ s) (b ∷ t) e = let (p, q) = and-true (eqb a b) (same s t) e in ap₂ _∷_ (eqb-true a b p) (same-eq s t q)
+same-eq (a ∷ s) (b ∷ t) e = ap₂ _∷_ (eqb-true a b (and-left (eqb a b) (same s t) e)) (same-eq s t (and-right (eqb a b) (same s t) e))
 
 -- all spellings of a kind
 abbrev pub spellings : ℕ → List Known → List (List ℕ)
@@ -53,7 +50,7 @@ allAbove (x ∷ xs) = leb kWord (x .kind) && allAbove xs
 above : (xs : List Known) (s : List ℕ) → allAbove xs ≡ true → kWord ≤ kindIn xs s
 unfolding allAbove
 above [] s e = omega arith
-above (x ∷ xs) s e = let (p, q) = and-true (leb kWord (x .kind)) (allAbove xs) e in go (same s (x .spelt)) p (above xs s q)
+above (x ∷ xs) s e = go (same s (x .spelt)) (and-left (leb kWord (x .kind)) (allAbove xs) e) (above xs s (and-right (leb kWord (x .kind)) (allAbove xs) e))
   where
     go : (b : Bool) → leb kWord (x .kind) ≡ true → kWord ≤ kindIn xs s → kWord ≤ (if b then x .kind else kindIn xs s)
     go true p r = leb-true kWord (x .kind) p
@@ -81,7 +78,9 @@ onePer all (x ∷ xs) = eqb (length (spellings (x .kind) all)) 1 && onePer all x
 one-per : (all xs : List Known) → onePer all xs ≡ true → (s : List ℕ) (v : ℕ) → v ≢ kWord → kindIn xs s ≡ v → length (spellings v all) ≡ 1
 unfolding onePer
 one-per all [] e s v h q = absurd (h (sym q))
-one-per all (x ∷ xs) e s v h q = let (p, r) = and-true (eqb (length (spellings (x .kind) all)) 1) (onePer all xs) e in go (same s (x .spelt)) p (one-per all xs r s v h) q
+one-per all (x ∷ xs) e s v h q =
+    let one = eqb (length (spellings (x .kind) all)) 1 in
+    go (same s (x .spelt)) (and-left one (onePer all xs) e) (one-per all xs (and-right one (onePer all xs) e) s v h) q
   where
     go : (b : Bool) → eqb (length (spellings (x .kind) all)) 1 ≡ true → (kindIn xs s ≡ v → length (spellings v all) ≡ 1) → (if b then x .kind else kindIn xs s) ≡ v → length (spellings v all) ≡ 1
     go true p f q = rw (← q) (eqb-true (length (spellings (x .kind) all)) 1 p)
@@ -155,10 +154,3 @@ kind-some (process i) e = omega arith
 kind-some (number v) e = omega arith
 kind-some (decimal v n f) e = omega arith
 kind-some outside e = omega arith
-
--- as they are used
-open-bracket : (m : Mark) → kindOf m ≡ 40 → m ≡ text (bytes "(")
-open-bracket = kind-is "(" 40 (omega arith) refl
-
-the-module : (m : Mark) → (kindOf m ≡ kind "module") ↔ (m ≡ text (bytes "module"))
-the-module = kind-tells "module" (omega arith)

@@ -1,11 +1,6 @@
 pub mod KindLaws
 pub mod Values
 pub mod Next
-pub mod Lists
-pub mod Runs
-pub mod Ranges
-pub mod Numbers
 pub mod Starts
-pub mod Seats
 pub mod Keywords
-pub mod Laws
+pub mod Words

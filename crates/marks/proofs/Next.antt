@@ -1,7 +1,7 @@
 -- What a step of the cursor says of the marks from its place on, for a part of a card that begins at any place o of it. A step and
 -- the list of marks walk over the same bytes, so they meet at the same mark.
 use Prim.Native.Nat.{ℕ, zero, suc, _+_, _-_, _≤_, _<_}
-use mathlib.Core.Path.{_≡_, refl, sym, ap, ap₂, _∙_}
+use mathlib.Core.Path.{_≡_, refl, sym, ap, _∙_}
 use mathlib.Core.Bool.{Bool, true, false, _&&_}
 use mathlib.Core.List.{List, [], _∷_}
 use mathlib.Core.Option.{Option, none, some}
@@ -13,7 +13,11 @@ use lib.ListN.{length, drop, length-drop, drop-of-length-le}
 use lib.Seq.{drop-drop, drop-length}
 use Rattle.card.specs.Limits.{furtherDigits, numberDigits}
 use Rattle.card.specs.Text.{if_then_else_}
-use Rattle.marks.specs.Marks.{Mark, text, seat, process, number, decimal, outside, Placed, placed, notLF, run, begins, isDigit, inWord, isLetter, isBlank, isSign, second, numberOf, Start, blank, mark, pointed, decimalMark, numeralMark, numeral, word, sign1, sign2, sign, comment, startAt, emit, marks, marksOf, placeOf}
+use Rattle.letters.specs.Bytes.{notLF, run, begins, isDigit, inWord, isLetter, isBlank, isSign}
+use Rattle.letters.specs.Digits.{numberOf, pointed}
+use Rattle.marks.specs.Marks.{Mark, text, number, decimal, outside, Placed, placed, second, Start, blank, mark, decimalMark, numeralMark, numeral, word, sign1, sign2, sign, comment, startAt, emit, marks, marksOf}
+use Rattle.letters.proofs.Lists.{cases}
+use Rattle.letters.proofs.Runs.{run-length}
 use Rattle.marks.proofs.Values.{Small, SmallStart, start-small}
 use Rattle.marks.specs.Step.{stepTo, stepEnd, stepped, stepFrom, stepAt, marksAt}
 
@@ -22,14 +26,6 @@ use Rattle.marks.specs.Step.{stepTo, stepEnd, stepped, stepFrom, stepAt,
 moreOf : Start → ℕ
 moreOf (blank more) = more
 moreOf (mark m more) = more
-
-either : {P : Type 0} (b : Bool) → (b ≡ true → P) → (b ≡ false → P) → P
-either true p q = p refl
-either false p q = q refl
-
-run-fits : (p : ℕ → Bool) (s : List ℕ) → length (run p s) ≤ length s
-run-fits p [] = omega arith
-run-fits p (b ∷ s) = either (p b) (λ e. rw e (omega (arith, run-fits p s))) (λ e. rw e (omega arith))
 
 begins-some : (p : ℕ → Bool) (s : List ℕ) → begins p s ≡ true → 0 < length s
 begins-some p [] e = absurd (mathlib.Core.Bool.false≢true e)
@@ -50,7 +46,7 @@ numeral-fits s (a ∷ z) more (some v) h =
     choose s (pointed (a ∷ z)) (decimalMark v more (run isDigit z)) (mark (number v) more)
     (λ e.
     choose s (leb (length (run isDigit z)) furtherDigits) (mark (decimal v _ _) (more + 1 + length (run isDigit z))) (mark outside 0)
-    (λ f. omega (arith, run-fits isDigit z)) (λ f. omega arith))
+    (λ f. omega (arith, run-length isDigit z)) (λ f. omega arith))
     (λ e. omega arith)
 
 sign-fits : (a : ℕ) (s : List ℕ) → Fits s (sign a s)
@@ -69,10 +65,10 @@ start-fits : (b : ℕ) (s : List ℕ) → Fits s (startAt b s)
 unfolding Fits moreOf
 start-fits b s =
     choose s (isBlank b) (blank 0) _ (λ e. omega arith) λ e.
-    choose s (eqb b 47 && begins (eqb 47) s) (comment s) _ (λ e. run-fits notLF s) λ e.
-    choose s (isLetter b) (word b s) _ (λ e. run-fits inWord s) λ e.
+    choose s (eqb b 47 && begins (eqb 47) s) (comment s) _ (λ e. run-length notLF s) λ e.
+    choose s (isLetter b) (word b s) _ (λ e. run-length inWord s) λ e.
     choose s (isDigit b) (numeral b s) (sign b s)
-    (λ e. numeral-fits s (drop (length (run isDigit s)) s) (length (run isDigit s)) (numberOf numberDigits (b ∷ run isDigit s)) (omega (arith, length-drop (length (run isDigit s)) s, run-fits isDigit s)))
+    (λ e. numeral-fits s (drop (length (run isDigit s)) s) (length (run isDigit s)) (numberOf numberDigits (b ∷ run isDigit s)) (omega (arith, length-drop (length (run isDigit s)) s, run-length isDigit s)))
     (λ e. sign-fits b s)
 
 -- ---- skipped bytes are dropped
@@ -116,7 +112,7 @@ module _ (o : ℕ) (s : List ℕ) where
   meet i = walk zero (drop i s) (omega (arith, length-drop i s)) (there i)
     where
       there : (i : ℕ) → drop (length s - length (drop i s)) s ≡ drop i s
-      there i = rw length-drop (either (leb i (length s))
+      there i = rw length-drop (cases (leb i (length s))
           (λ e. let n : length s - (length s - i) ≡ i = omega (arith, leb-true i (length s) e) in ap (λ (k : ℕ). drop k s) n)
           (λ e.
           let l : length s ≤ i = omega (arith, leb-false i (length s) e) in
@@ -125,10 +121,14 @@ module _ (o : ℕ) (s : List ℕ) where
 
 -- ---- a part of a part
 
-pub marks-part : (o o′ : ℕ) (s : List ℕ) (i : ℕ) → o′ ≤ length s → marksAt (o + o′) (drop o′ s) i ≡ marksAt o s (o′ + i)
+marks-part : (o o′ : ℕ) (s : List ℕ) (i : ℕ) → o′ ≤ length s → marksAt (o + o′) (drop o′ s) i ≡ marksAt o s (o′ + i)
 marks-part o o′ s i h =
     let e : o + o′ + length (drop o′ s) ≡ o + length s = omega (arith, length-drop o′ s) in
     rw (e, drop-drop i o′ s)
+
+-- of the card itself
+pub part-of-card : (o : ℕ) (s : List ℕ) (i : ℕ) → o ≤ length s → marksAt o (drop o s) i ≡ marksAt 0 s (o + i)
+part-of-card o s i h = sym (ap (λ (n : ℕ). marksAt n (drop o s) i) (zero-add o)) ∙ marks-part 0 o s i h
 
 pub marks-whole : (s : List ℕ) → marksOf s ≡ marksAt 0 s 0
 marks-whole s = rw zero-add

@@ -5,24 +5,25 @@ use mathlib.Core.Path.{_≡_, refl, sym, ap, ap₂, _∙_}
 use mathlib.Core.Bool.{Bool, true, false, not, _&&_, _||_}
 use mathlib.Core.List.{List, [], _∷_}
 use mathlib.Core.Option.{Option, none, some}
-use native.Mathlib.Nat.{add-zero, zero-add, add-assoc}
-use native.Mathlib.Numerals.{add-one}
+use native.Mathlib.Nat.{add-zero, zero-add}
 use native.Mathlib.Omega.{arith}
 use lib.Dec.{eqb, leb}
 use lib.ListN.{length, getD, drop, length-drop, drop-of-length-le}
 use lib.Seq.{drop-drop}
-use borrow.Author.Tests.{le-leb, lt-leb, leb-true, eqb-true, eqb-false, eq-eqb, ne-eqb, not-true}
+use borrow.Author.Tests.{le-leb, lt-leb, leb-true, eqb-true, eq-eqb, ne-eqb, not-true}
 use Rattle.card.specs.Limits.{numberDigits, furtherDigits, wordDigits}
-use Rattle.card.specs.Text.{bytes, same, if_then_else_}
-use Rattle.marks.specs.Marks.{Mark, text, seat, process, number, decimal, outside, within, isDigit, isLetter, inWord, isBlank, isSign, oneOf, second, notLF, run, begins, every, after, valueFrom, plain, numberOf, Start, blank, mark, made, numbered, wordMark, word, pointed, decimalMark, numeralMark, numeral, sign1, sign2, sign, comment, startAt}
-use Rattle.marks.specs.Kinds.{Known, knowns, kindIn, kWord}
+use Rattle.card.specs.Text.{bytes, if_then_else_}
+use Rattle.letters.specs.Bytes.{within, isDigit, isLetter, inWord, isBlank, isSign, oneOf, notLF, run, begins, every, after, isAlone, inNumber, begun}
+use Rattle.letters.specs.Digits.{valueFrom, plain, numberOf, pointed, heldDigits, Counted}
+use Rattle.marks.specs.Marks.{Mark, text, number, decimal, outside, second, Start, blank, mark, wordMark, word, decimalMark, numeralMark, numeral, sign1, sign2, sign, startAt}
+use Rattle.marks.specs.Kinds.{knowns, kindIn}
 use Rattle.marks.specs.Step.{stepTo, stepEnd, stepped, stepFrom, stepAt}
-use Rattle.marks.specs.Parts.{isAlone, inNumber, shortSeat, begun, heldDigits, Counted, gapOf, Numbered}
-use Rattle.marks.specs.declared.number.Digits.{Digits}
+use Rattle.marks.specs.Parts.{gapOf, Numbered}
+use Rattle.letters.specs.declared.digits.Digits.{Digits}
 use Rattle.marks.specs.declared.Step.{Step}
-use Rattle.marks.proofs.Lists.{cases, not-both, and-left, and-right, or-true, or-left, or-right, drop-at}
-use Rattle.marks.proofs.Runs.{same-begun, run-on, run-empty, run-length, run-passes, run-stops, run-narrow, run-same, after-run, after-not, run-begun, begins-at, begins-place}
-use Rattle.marks.proofs.Numbers.{one-digit, plain-short, plain-digits}
+use Rattle.letters.proofs.Lists.{cases, not-both, and-left, and-right, or-true, or-left, or-right, drop-at}
+use Rattle.letters.proofs.Runs.{run-on, run-empty, run-length, run-stops, run-narrow, run-same, after-run, after-not, run-begun}
+use Rattle.letters.proofs.Numbers.{one-digit, plain-short, plain-digits}
 
 -- ---- numbers and decimals
 
@@ -107,14 +108,14 @@ letter-in-word b e = cases (isDigit b) (λ d. rw d) (λ d. rw (d, e))
 
 -- the bytes behind a word's beginning are a number exactly if its digits are one and the word ends with them
 module _ (most : ℕ) (r : List ℕ) where
-  pub word-unplain : plain most (run isDigit r) ≡ false → plain most (run inWord r) ≡ false
+  word-unplain : plain most (run isDigit r) ≡ false → plain most (run inWord r) ≡ false
   word-unplain e = cases (plain most (run inWord r))
       (λ y.
       let same-run : run isDigit r ≡ run inWord r = run-narrow isDigit inWord digit-in-word r (plain-digits most (run inWord r) y .0) in
       not-both (plain most (run inWord r)) y (rw (← same-run) e))
       (λ n. n)
 
-  pub word-longer : begins inWord (drop (length (run isDigit r)) r) ≡ true → plain most (run inWord r) ≡ false
+  word-longer : begins inWord (drop (length (run isDigit r)) r) ≡ true → plain most (run inWord r) ≡ false
   word-longer e = cases (plain most (run inWord r))
       (λ y.
       let same-run : run isDigit r ≡ run inWord r = run-narrow isDigit inWord digit-in-word r (plain-digits most (run inWord r) y .0) in
@@ -129,8 +130,11 @@ module _ (t s : List ℕ) (i : ℕ) where
     behind-it : after t (run inWord (drop i s)) ≡ some (run inWord (drop (i + length t) s))
     behind-it = after-run inWord t (drop i s) w e ∙ ap (λ (x : List ℕ). some (run inWord x)) (drop-drop (length t) i s)
 
-    pub numbered-no : plain wordDigits (run inWord (drop (i + length t) s)) ≡ false → Numbered t (run inWord (drop i s)) (record { count = 0; value = 0 })
+    numbered-no : plain wordDigits (run inWord (drop (i + length t) s)) ≡ false → Numbered t (run inWord (drop i s)) (record { count = 0; value = 0 })
     numbered-no n = record { long = λ z. absurd (z refl); is-one = λ z. absurd (z refl); is-none = λ z f other. rw (behind-it, n) }
+
+    pub numbered-unplain : plain wordDigits (run isDigit (drop (i + length t) s)) ≡ false → Numbered t (run inWord (drop i s)) (record { count = 0; value = 0 })
+    numbered-unplain n = numbered-no (word-unplain wordDigits (drop (i + length t) s) n)
 
     -- the digits as the code has counted them
     module _ (a : Digits) (counted : Counted (drop (i + length t) s) a) where
@@ -163,32 +167,6 @@ module _ (s : List ℕ) (i : ℕ) (h : i < length s) (l : isLetter (getD s i 0) 
 
   pub word-step : (m : Mark) → wordMark (run inWord (drop i s)) ≡ m → stepped i (word (getD s i 0) (drop (i + 1) s)) k ≡ stepTo m i (i + length (run inWord (drop i s)))
   word-step m e = rw (← e, word-run, word-size, word-run)
-
--- a seat word with one digit
-module _ (s : List ℕ) (i : ℕ) (h : i < length s) (e : shortSeat (drop i s) ≡ true) where
-  seat-parts : (eqb (getD s i 0) 115 && begins isDigit (drop (i + 1) s) && not (begins inWord (drop 1 (drop (i + 1) s)))) ≡ true
-  seat-parts = rw (drop-at s i h) at e
-
-  digit-behind : begins isDigit (drop (i + 1) s) ≡ true
-  digit-behind = and-right (eqb (getD s i 0) 115) (begins isDigit (drop (i + 1) s)) (and-left _ _ seat-parts)
-
-  pub seat-place : i + 1 < length s
-  seat-place = begins-place isDigit s (i + 1) digit-behind
-
-  pub seat-digit : isDigit (getD s (i + 1) 0) ≡ true
-  seat-digit = sym (begins-at isDigit s (i + 1) seat-place) ∙ digit-behind
-
-  seat-rest : run inWord (drop (i + 1) s) ≡ getD s (i + 1) 0 ∷ []
-  seat-rest =
-      let n : begins inWord (drop 1 (drop (i + 1) s)) ≡ false = not-true (begins inWord (drop 1 (drop (i + 1) s))) (and-right (eqb (getD s i 0) 115 && begins isDigit (drop (i + 1) s)) (not (begins inWord (drop 1 (drop (i + 1) s)))) seat-parts) in
-      run-on inWord s (i + 1) seat-place (digit-in-word (getD s (i + 1) 0) seat-digit)
-      ∙ ap (λ (t : List ℕ). getD s (i + 1) 0 ∷ t) (run-empty inWord (drop (i + 1 + 1) s) (ap (begins inWord) (sym (drop-drop 1 (i + 1) s)) ∙ n))
-
-  pub seat-single : (k : ℕ → Step) → stepped i (word (getD s i 0) (drop (i + 1) s)) k ≡ stepTo (seat (getD s (i + 1) 0 - 48)) i (i + 1 + 1)
-  seat-single k =
-      let b : getD s i 0 ≡ 115 = eqb-true (getD s i 0) 115 (and-left _ _ (and-left _ _ seat-parts)) in
-      let y : plain wordDigits (getD s (i + 1) 0 ∷ []) ≡ true = one-digit wordDigits (getD s (i + 1) 0 ∷ []) (rw seat-digit) refl (omega arith) in
-      rw (b, seat-rest, y, zero-add)
 
 -- ---- signs
 

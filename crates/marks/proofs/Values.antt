@@ -1,17 +1,22 @@
 -- The numbers in marks are small: a number of so many digits is below that power of 10.
-use Prim.Native.Nat.{ℕ, zero, suc, _+_, _-_, _*_, _^_, _≤_, _<_}
-use mathlib.Core.Path.{_≡_, refl, sym, ap, _∙_}
-use mathlib.Core.Bool.{Bool, true, false, not, _&&_, _||_, false≢true}
+use Prim.Native.Nat.{ℕ, suc, _+_, _-_, _*_, _^_, _≤_, _<_}
+use mathlib.Core.Path.{_≡_, refl}
+use mathlib.Core.Bool.{Bool, true, false, _&&_}
 use mathlib.Core.List.{List, [], _∷_}
 use mathlib.Core.Option.{Option, none, some}
-use native.Mathlib.Nat.{pow-suc, pow-le-pow-right, mul-le-mul-right, mul-assoc, le-trans}
+use native.Mathlib.Nat.{pow-suc, pow-le-pow-right, mul-le-mul-right, mul-assoc}
 use native.Mathlib.Omega.{arith}
 use borrow.Author.Tests.{leb-true}
 use lib.Dec.{eqb, leb}
 use lib.ListN.{length, drop}
 use Rattle.card.specs.Limits.{numberDigits, furtherDigits, wordDigits}
-use Rattle.card.specs.Text.{bytes, same, if_then_else_}
-use Rattle.marks.specs.Marks.{Mark, text, seat, process, number, decimal, outside, isDigit, isLetter, isBlank, isSign, inWord, second, run, begins, every, after, valueFrom, plain, numberOf, Start, blank, mark, made, numbered, wordMark, word, pointed, decimalMark, numeralMark, numeral, sign1, sign2, sign, comment, startAt}
+use Rattle.card.specs.Text.{bytes, if_then_else_}
+use Rattle.letters.specs.Bytes.{isDigit, isLetter, isBlank, isSign, inWord, run, begins, every, after}
+use Rattle.letters.specs.Digits.{valueFrom, plain, numberOf, pointed}
+use Rattle.letters.proofs.Lists.{and-left, and-right}
+use Rattle.letters.proofs.Runs.{run-passes}
+use Rattle.letters.proofs.Numbers.{plain-short, plain-digits}
+use Rattle.marks.specs.Marks.{Mark, text, seat, process, number, decimal, outside, second, Start, blank, mark, made, numbered, word, decimalMark, numeralMark, numeral, sign1, sign2, sign, comment, startAt}
 
 -- the numbers in a mark have so many digits at most
 abbrev pub Small : Mark → Type 0
@@ -22,37 +27,19 @@ Small (number v) = v < 10 ^ numberDigits
 Small (decimal v n f) = (v < 10 ^ numberDigits) × (n ≤ furtherDigits) × (f < 10 ^ n)
 Small outside = Unit {0}
 
-and-true : (a b : Bool) → (a && b) ≡ true → (a ≡ true) × (b ≡ true)
-and-true true b e = (refl, e)
-and-true false b e = absurd (false≢true e)
-
 value-below : (v : ℕ) (s : List ℕ) → every isDigit s ≡ true → valueFrom v s < suc v * 10 ^ length s
 value-below v [] e = omega arith
 value-below v (b ∷ s) e =
-    let (d, r) = and-true (isDigit b) (every isDigit s) e in
-    let (lo, hi) = and-true (leb 48 b) (leb b 57) d in
-    let next = value-below (v * 10 + (b - 48)) s r in
+    let next = value-below (v * 10 + (b - 48)) s (and-right (isDigit b) (every isDigit s) e) in
+    let hi = and-right (leb 48 b) (leb b 57) (and-left (isDigit b) (every isDigit s) e) in
     let top : suc (v * 10 + (b - 48)) ≤ suc v * 10 = omega (arith, leb-true b 57 hi) in
     let grown = mul-le-mul-right (10 ^ length s) top in
     let power : suc v * 10 * 10 ^ length s ≡ suc v * (10 * 10 ^ length s) = mul-assoc (suc v) 10 (10 ^ length s) in
     let last : 10 ^ suc (length s) ≡ 10 * 10 ^ length s = omega (arith, pow-suc 10 (length s)) in
     rw last (omega (arith, next, grown, power))
 
-run-digits : (p : ℕ → Bool) (s : List ℕ) → every p (run p s) ≡ true
-run-digits p [] = refl
-run-digits p (b ∷ s) = go (p b) refl (run-digits p s)
-  where
-    go : (t : Bool) → p b ≡ t → every p (run p s) ≡ true → every p (if t then b ∷ run p s else []) ≡ true
-    go true e r = rw (e, r)
-    go false e r = refl
-
 plain-below : (most : ℕ) (s : List ℕ) → plain most s ≡ true → valueFrom 0 s < 10 ^ most
-plain-below most [] e = absurd (false≢true e)
-plain-below most (b ∷ s) e =
-    let (x, short) = and-true (every isDigit (b ∷ s) && (not (eqb b 48) || same s [])) (leb (length (b ∷ s)) most) e in
-    let (ds, y) = and-true (every isDigit (b ∷ s)) (not (eqb b 48) || same s []) x in
-    let fits : length (b ∷ s) ≤ most = leb-true (length (b ∷ s)) most short in
-    omega (arith, value-below 0 (b ∷ s) ds, pow-le-pow-right {n = 10} (omega arith) fits)
+plain-below most s e = omega (arith, value-below 0 s (plain-digits most s e .0), pow-le-pow-right {n = 10} (omega arith) (plain-short most s e))
 
 number-below : (most : ℕ) (s : List ℕ) (v : ℕ) → numberOf most s ≡ some v → v < 10 ^ most
 number-below most s v e = go (plain most s) refl e
@@ -89,7 +76,7 @@ decimal-small v more f h d = go (leb (length f) furtherDigits) refl
 numeral-small : (more : ℕ) (z : List ℕ) (o : Option ℕ) → ((v : ℕ) → o ≡ some v → v < 10 ^ numberDigits) → SmallStart (numeralMark o more z)
 numeral-small more z none h = tt
 numeral-small more z (some v) h =
-    choose (pointed z) (decimalMark v more (run isDigit (drop 1 z))) (mark (number v) more) (decimal-small v more (run isDigit (drop 1 z)) (h v refl) (run-digits isDigit (drop 1 z))) (h v refl)
+    choose (pointed z) (decimalMark v more (run isDigit (drop 1 z))) (mark (number v) more) (decimal-small v more (run isDigit (drop 1 z)) (h v refl) (run-passes isDigit (drop 1 z))) (h v refl)
 
 sign-small : (a : ℕ) (s : List ℕ) → SmallStart (sign a s)
 sign-small a s = two (second a)

@@ -1,7 +1,6 @@
 -- The kinds of marks as numbers, for the code. A sign of one byte has that byte for its kind. Assumes nothing.
 use Prim.Native.Nat.{ℕ}
 use Prim.Native.String.{String}
-use mathlib.Core.Bool.{Bool, true, false}
 use mathlib.Core.List.{List, [], _∷_}
 use Rattle.card.specs.Text.{bytes, same, if_then_else_}
 use Rattle.marks.specs.Marks.{Mark, text, seat, process, number, decimal, outside}

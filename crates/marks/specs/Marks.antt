@@ -1,12 +1,14 @@
 -- The marks of a card, each with its place ("Marks on a card"). Assumes nothing.
-use Prim.Native.Nat.{ℕ, zero, suc, _+_, _-_, _*_}
-use mathlib.Core.Bool.{Bool, true, false, not, _&&_, _||_}
+use Prim.Native.Nat.{ℕ, zero, suc, _+_, _-_}
+use mathlib.Core.Bool.{_&&_}
 use mathlib.Core.List.{List, [], _∷_}
 use mathlib.Core.Option.{Option, none, some}
 use lib.Dec.{eqb, leb}
 use lib.ListN.{length, drop}
 use Rattle.card.specs.Limits.{numberDigits, furtherDigits, wordDigits}
-use Rattle.card.specs.Text.{bytes, same, if_then_else_}
+use Rattle.card.specs.Text.{bytes, if_then_else_}
+use Rattle.letters.specs.Bytes.{isDigit, isLetter, inWord, isBlank, isSign, notLF, run, begins, after}
+use Rattle.letters.specs.Digits.{valueFrom, numberOf, pointed}
 
 pub data Mark : Type 0 where
   text : List ℕ → Mark  -- a sign, a keyword or another word: its bytes
@@ -17,73 +19,6 @@ pub data Mark : Type 0 where
 -- a mark and the place of its first byte
 pub data Placed : Type 0 where
   placed : Mark → ℕ → Placed
-
--- ---- bytes
-
-abbrev pub within : ℕ → ℕ → ℕ → Bool
-within a z b = leb a b && leb b z
-
-abbrev pub isDigit : ℕ → Bool
-isDigit = within 48 57
-
-abbrev pub isLetter : ℕ → Bool
-isLetter b = within 65 90 b || within 97 122 b
-
-abbrev pub inWord : ℕ → Bool
-inWord b = isDigit b || isLetter b || eqb b 95
-
-abbrev pub oneOf : List ℕ → ℕ → Bool
-oneOf [] b = false
-oneOf (a ∷ s) b = eqb b a || oneOf s b
-
-abbrev pub isBlank : ℕ → Bool
-isBlank = oneOf (bytes " \t\r\n")
-
-abbrev pub isSign : ℕ → Bool
-isSign = oneOf (bytes "[]:;=!&|()+',/")
-
--- the second byte of `..`, `->`, `!=`
-abbrev pub second : ℕ → Option ℕ
-second a = if eqb a 46 then some 46 else (if eqb a 45 then some 62 else (if eqb a 33 then some 61 else none))
-
-abbrev pub notLF : ℕ → Bool
-notLF b = not (eqb b 10)
-
--- the bytes at the front that pass a test
-abbrev pub run : (ℕ → Bool) → List ℕ → List ℕ
-run p [] = []
-run p (b ∷ s) =
-    let t = b ∷ run p s in
-    if p b then t else []
-
--- does the text begin with a byte that passes the test?
-abbrev pub begins : (ℕ → Bool) → List ℕ → Bool
-begins p [] = false
-begins p (b ∷ s) = p b
-
-abbrev pub every : (ℕ → Bool) → List ℕ → Bool
-every p [] = true
-every p (b ∷ s) = p b && every p s
-
--- what follows a beginning
-abbrev pub after : List ℕ → List ℕ → Option (List ℕ)
-after [] s = some s
-after (a ∷ t) [] = none
-after (a ∷ t) (b ∷ s) = if eqb a b then after t s else none
-
--- ---- numbers
-
-abbrev pub valueFrom : ℕ → List ℕ → ℕ
-valueFrom v [] = v
-valueFrom v (b ∷ s) = valueFrom (v * 10 + (b - 48)) s
-
--- digits: `0` or without a leading zero, and at most so many
-abbrev pub plain : ℕ → List ℕ → Bool
-plain most [] = false
-plain most (b ∷ s) = every isDigit (b ∷ s) && (not (eqb b 48) || same s []) && leb (length (b ∷ s)) most
-
-abbrev pub numberOf : ℕ → List ℕ → Option ℕ
-numberOf most s = if plain most s then some (valueFrom 0 s) else none
 
 -- ---- what starts at a byte, with the number of its further bytes
 
@@ -106,11 +41,6 @@ wordMark w = numbered seat (after (bytes "s") w) (numbered process (after (bytes
 abbrev pub word : ℕ → List ℕ → Start
 word b s = let t = run inWord s in mark (wordMark (b ∷ t)) (length t)
 
--- a point and a digit
-abbrev pub pointed : List ℕ → Bool
-pointed [] = false
-pointed (a ∷ s) = eqb a 46 && begins isDigit s
-
 abbrev pub decimalMark : ℕ → ℕ → List ℕ → Start
 decimalMark v more f = if leb (length f) furtherDigits then mark (decimal v (length f) (valueFrom 0 f)) (more + 1 + length f) else mark outside 0
 
@@ -120,6 +50,10 @@ numeralMark (some v) more z = if pointed z then decimalMark v more (run isDigit 
 
 abbrev pub numeral : ℕ → List ℕ → Start
 numeral b s = let t = run isDigit s in numeralMark (numberOf numberDigits (b ∷ t)) (length t) (drop (length t) s)
+
+-- the second byte of `..`, `->`, `!=`
+abbrev pub second : ℕ → Option ℕ
+second a = if eqb a 46 then some 46 else (if eqb a 45 then some 62 else (if eqb a 33 then some 61 else none))
 
 abbrev pub sign1 : ℕ → Start
 sign1 a = if isSign a then mark (text (a ∷ [])) 0 else mark outside 0

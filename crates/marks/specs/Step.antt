@@ -4,7 +4,6 @@ use mathlib.Core.List.{List, [], _∷_}
 use lib.ListN.{length, drop}
 use Rattle.marks.specs.Marks.{Mark, text, seat, process, number, decimal, outside, Placed, Start, blank, mark, startAt, marks}
 use Rattle.marks.specs.Kinds.{kindOf, kEnd}
-use Rattle.marks.specs.declared.Cursor.{Cursor}
 use Rattle.marks.specs.declared.Found.{Found}
 use Rattle.marks.specs.declared.Step.{Step}
 

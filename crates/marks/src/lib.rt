@@ -1,6 +1,5 @@
 // A cursor by value over the bytes of a card: its step hands back the next mark and the cursor behind it.
 pub mod answer;
-pub mod bytes;
 pub mod kinds;
 mod number;
 mod sign;
@@ -14,11 +13,11 @@ ghost use Rattle.marks.specs.Step.{stepped, stepAt};
 ghost use Rattle.marks.specs.Parts.{gapOf};
 ghost use Rattle.marks.specs.declared.Step as steps;
 use answer::bare;
-use bytes::is_alone;
-use bytes::is_digit;
-use bytes::is_letter;
-use bytes::wide;
 use kinds::END;
+use letters::bytes::is_alone;
+use letters::bytes::is_digit;
+use letters::bytes::is_letter;
+use letters::bytes::wide;
 use number::numeral;
 use sign::gap;
 use sign::sign;

@@ -4,20 +4,15 @@ ghost use mathlib.Core.Bool.{true, _||_};
 ghost use lib.Dec.{eqb};
 ghost use Prim.Native.Nat.{ℕ, _+_, _<_, _≤_};
 ghost use lib.ListN.{length, drop, getD};
-ghost use Rattle.marks.specs.Marks.{run, begins, inWord, isLetter, every, word as wordOf};
+ghost use Rattle.letters.specs.Bytes.{run, begins, inWord, isLetter, every};
+ghost use Rattle.marks.specs.Marks.{word as wordOf};
 ghost use Rattle.marks.specs.Kinds.{knowns};
 ghost use Rattle.marks.specs.Step.{stepped};
-ghost use Rattle.marks.specs.Parts.{shortSeat, longSeat, lettered, begunIn, Numbered};
+ghost use Rattle.marks.specs.Parts.{lettered, begunIn, Numbered};
 ghost use Rattle.marks.specs.declared.Step as step;
 use crate::Step;
 use crate::answer::bare;
 use crate::answer::valued;
-use crate::bytes::begins_at;
-use crate::bytes::digit_at;
-use crate::bytes::stands;
-use crate::bytes::wide;
-use crate::bytes::word_at;
-use crate::bytes::word_end;
 use crate::kinds::ENDMODULE;
 use crate::kinds::INIT;
 use crate::kinds::MODULE;
@@ -26,10 +21,13 @@ use crate::kinds::PROBABILISTIC;
 use crate::kinds::PROCESS;
 use crate::kinds::SEAT;
 use crate::kinds::WORD;
-use crate::number::Digits;
-use crate::number::digits_from;
-use crate::number::is_plain;
 use card::limits::WORD_DIGITS;
+use letters::bytes::begins_at;
+use letters::bytes::word_at;
+use letters::bytes::word_end;
+use letters::digits::Digits;
+use letters::digits::digits_from;
+use letters::digits::is_plain;
 
 // Is the word at a place this beginning and a number? Then its length and the number, and otherwise 0.
 fn numbered_at(card: &[u8], at: usize, these: &[u8]) -> Digits
@@ -113,7 +111,7 @@ fn is_other(card: &[u8], at: usize, size: usize) -> bool
 }
 
 // The mark that starts with the letter at a place.
-fn long_word(card: &[u8], at: usize) -> Step
+pub fn word(card: &[u8], at: usize) -> Step
     requires { ⌜ (at < length (now card)) × (isLetter (getD (now card) at 0) ≡ true) ⌝ }
     ensures { λ r. ⌜ ((k : ℕ → step.Step) → r ≡ stepped at (wordOf (getD (now (card .entry)) at 0) (drop (at + 1) (now (card .entry)))) k) ⌝ }
 {
@@ -134,69 +132,4 @@ fn long_word(card: &[u8], at: usize) -> Step
         return bare(WORD, at, end);
     }
     bare(known.kind, at, at + size)
-}
-
-// Is the word at a place a seat word with one digit?
-fn is_short_seat(card: &[u8], at: usize) -> bool
-    requires { ⌜ at < length (now card) ⌝ }
-    ensures { λ r. ⌜ r ≡ shortSeat (drop at (now (card .entry))) ⌝ }
-{
-    if card[at] != 115 {
-        return false;
-    }
-    let next = at + 1;
-    if !digit_at(card, next) {
-        return false;
-    }
-    !word_at(card, next + 1)
-}
-
-// Is the word at a place a seat word with two digits?
-fn is_long_seat(card: &[u8], at: usize) -> bool
-    requires { ⌜ at < length (now card) ⌝ }
-    ensures { λ r. ⌜ r ≡ longSeat (drop at (now (card .entry))) ⌝ }
-{
-    if card[at] != 115 {
-        return false;
-    }
-    let first = at + 1;
-    if !digit_at(card, first) {
-        return false;
-    }
-    if stands(card, first, 48) {
-        return false;
-    }
-    let second = first + 1;
-    if !digit_at(card, second) {
-        return false;
-    }
-    !word_at(card, second + 1)
-}
-
-// The same where it is no seat word with one digit; most of these have two.
-fn longer_word(card: &[u8], at: usize) -> Step
-    requires { ⌜ (at < length (now card)) × (isLetter (getD (now card) at 0) ≡ true) ⌝ }
-    ensures { λ r. ⌜ ((k : ℕ → step.Step) → r ≡ stepped at (wordOf (getD (now (card .entry)) at 0) (drop (at + 1) (now (card .entry)))) k) ⌝ }
-{
-    if !is_long_seat(card, at) {
-        return long_word(card, at);
-    }
-    let first = at + 1;
-    let tens = wide(card[first] - 48);
-    let second = first + 1;
-    let ones = wide(card[second] - 48);
-    valued(SEAT, tens * 10 + ones, at, second + 1)
-}
-
-// The same; most words are seat words with one digit.
-pub fn word(card: &[u8], at: usize) -> Step
-    requires { ⌜ (at < length (now card)) × (isLetter (getD (now card) at 0) ≡ true) ⌝ }
-    ensures { λ r. ⌜ ((k : ℕ → step.Step) → r ≡ stepped at (wordOf (getD (now (card .entry)) at 0) (drop (at + 1) (now (card .entry)))) k) ⌝ }
-{
-    if !is_short_seat(card, at) {
-        return longer_word(card, at);
-    }
-    let next = at + 1;
-    let value = wide(card[next] - 48);
-    valued(SEAT, value, at, next + 1)
 }

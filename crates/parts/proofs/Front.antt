@@ -8,13 +8,13 @@ use native.Mathlib.Omega.{arith}
 use lib.Dec.{eqb}
 use borrow.Author.Tests.{eqb-true}
 use lib.ListN.{length, getD, drop, drop-of-length-le}
-use Rattle.marks.specs.Marks.{isDigit, inWord, begins}
+use Rattle.letters.specs.Bytes.{isDigit, inWord, begins, isAlone, begun}
 use Rattle.marks.specs.Kinds.{kSeat}
 use Rattle.marks.specs.Step.{stepAt}
-use Rattle.marks.specs.Parts.{bareOf, valuedOf, isAlone, begun}
+use Rattle.marks.specs.Parts.{bareOf, valuedOf}
 use Rattle.looks.specs.Quick.{signAhead, seatAhead}
-use Rattle.marks.proofs.Lists.{cases, not-both, drop-at}
-use Rattle.marks.proofs.Runs.{begins-at}
+use Rattle.letters.proofs.Lists.{cases, not-both, drop-at}
+use Rattle.letters.proofs.Runs.{begins-at}
 use Rattle.looks.proofs.Quick.{sign-at, sign-step, seat-at, seat-step}
 
 -- the first of some bytes, and the others behind it

@@ -12,7 +12,9 @@ use lib.ListN.{length, getD}
 use lib.Seq.{drop-append-seam}
 use Rattle.card.specs.Limits.{numberDigits, wordDigits}
 use Rattle.card.specs.Text.{same}
-use Rattle.marks.specs.Marks.{text, seat, process, number, Placed, placed, isDigit, inWord, run, begins, every, valueFrom, plain, numberOf, pointed, startAt, numeral, marks}
+use Rattle.letters.specs.Bytes.{isDigit, inWord, run, begins, every}
+use Rattle.letters.specs.Digits.{valueFrom, plain, numberOf, pointed}
+use Rattle.marks.specs.Marks.{text, seat, process, number, Placed, placed, startAt, numeral, marks}
 use Rattle.room.specs.Digits.{decimal, AllDigits}
 use Rattle.room.proofs.Decimal.{decimal-digits, decimal-some, decimal-front, decimal-length, decimal-read}
 use Rattle.phrases.specs.Phrases.{_▸_, num}

@@ -11,20 +11,20 @@ use lib.ListN.{length}
 use Rattle.card.specs.Limits.{cardBytes, numberDigits, wordDigits, mostSeats, topState, mostStatements}
 use Rattle.card.specs.Card.{Mode, nondeterministic, probabilistic, Statement, Card}
 use Rattle.card.specs.Valid.{Every, ValidCard}
-use Rattle.marks.specs.Marks.{text, number, placed, isDigit, begins, pointed, marks, marksOf}
+use Rattle.letters.specs.Bytes.{isDigit, begins}
+use Rattle.letters.specs.Digits.{pointed}
+use Rattle.marks.specs.Marks.{text, number, placed, marks, marksOf}
 use Rattle.reading.specs.Reader.{Place, at, Result, ok, Numbered, Item}
 use Rattle.reading.specs.Group.{Literal, Literals}
 use Rattle.reading.specs.Judgements.{Judgement, fine, broken, firstBroken}
-use Rattle.reading.specs.Shape.{BranchShape, StatementShape, CardShape}
-use Rattle.reading.specs.Shape.{card as readCard}
+use Rattle.reading.specs.Shape.{BranchShape, StatementShape, CardShape, card as readCard}
 use Rattle.reading.specs.Checks.{judgedWords, judgedEach, judgedStatement, judgedModules, judgedCard, statementIn, seatsIn, cardIn}
 use Rattle.reading.specs.Reading.{taken, firstOutside, shaped, readOf}
 use Rattle.reading.specs.Grammar.{Said, signAt, valued, LineSaid, ended, fixed, aSeat, aProcess, cardRun, moduleRun, ManySaid, done, again, LiteralSaid, literal, OthersSaid, close, next, GroupSaid, conjoined, disjoined, GuardSaid, grouped, negated, bracketed, single, further, RestSaid, nothing, guarded, WeightSaid, aNumber, aRatio, aDecimal, BranchSaid, branch, PlusSaid, plus, StatementSaid, statement, modeWord, CardSaid, card}
 use Rattle.reading.specs.Counted.{Counted, Within, Past, FirstPast, countedMany, countedModule, countedStatement, countedCard}
 use Rattle.reading.proofs.Follows.{Ran, came, fell, card-runs}
 use Rattle.reading.proofs.Valid.{read-valid}
-use Rattle.phrases.specs.Phrases.{_▸_, num}
-use Rattle.phrases.specs.Phrases.{modeWord as modeText}
+use Rattle.phrases.specs.Phrases.{_▸_, num, modeWord as modeText}
 use Rattle.texts.specs.Writing.{statements, moduleText, modules, writeOf}
 use Rattle.rereading.proofs.Lexed.{Apart, number-mark, seat-mark, process-mark}
 use Rattle.rereading.proofs.Groups.{Kept}

@@ -13,7 +13,9 @@ use Rattle.card.specs.Limits.{numberDigits, wordDigits, unit, mostStatements, m
 use Rattle.card.specs.Card.{all, Formula, Guard, Branch, Statement}
 use Rattle.card.specs.Valid.{Every, total, size, middle, depth, ValidGuard, ValidBranch, ValidStatement}
 use Rattle.card.specs.Weight.{Weight, whole, ratio, cardRule, unitsOf}
-use Rattle.marks.specs.Marks.{number, placed, isDigit, begins, pointed, marks}
+use Rattle.letters.specs.Bytes.{isDigit, begins}
+use Rattle.letters.specs.Digits.{pointed}
+use Rattle.marks.specs.Marks.{number, placed, marks}
 use Rattle.reading.specs.Reader.{Place, Numbered, Item}
 use Rattle.reading.specs.Guard.{isSome}
 use Rattle.card.specs.Refusals.{wrongWeight}

@@ -12,8 +12,10 @@ use lib.Dec.{eqb, leb}
 use lib.ListN.{length, drop, length-append}
 use lib.Seq.{drop-append-seam}
 use Rattle.card.specs.Text.{bytes, same, if_then_else_}
-use Rattle.marks.specs.Marks.{Mark, within, isDigit, isLetter, inWord, isBlank, isSign, second, run, begins, every, pointed}
-use Rattle.marks.proofs.Lists.{cases, not-both, and-left, and-right, or-true}
+use Rattle.letters.specs.Bytes.{within, isDigit, isLetter, inWord, isBlank, isSign, run, begins, every}
+use Rattle.letters.specs.Digits.{pointed}
+use Rattle.marks.specs.Marks.{Mark, second}
+use Rattle.letters.proofs.Lists.{cases, not-both, and-left, and-right, or-true}
 use Rattle.marks.proofs.KindLaws.{same-eq}
 use Rattle.marks.proofs.Starts.{digit-in-word, among as of-bytes}
 use Rattle.spelling.specs.Spells.{signs, keywords, OneOf, this, later, Numeral, Word, word, Stray, Spells, sign, keyword, seatWord, moduleWord, otherWord, aNumber, aDecimal, wrongNumber, wrongWhole, wrongFurther, stray}

@@ -10,8 +10,9 @@ use borrow.Author.Tests.{eqb-true, eqb-false, leb-true, le-leb, not-true}
 use lib.Dec.{eqb, leb}
 use lib.ListN.{length}
 use Rattle.card.specs.Text.{same}
-use Rattle.marks.specs.Marks.{isDigit, every, valueFrom, plain, numberOf}
-use Rattle.marks.proofs.Lists.{cases, not-both, and-left, and-right, or-true, none-left}
+use Rattle.letters.specs.Bytes.{isDigit, every}
+use Rattle.letters.specs.Digits.{valueFrom, plain, numberOf}
+use Rattle.letters.proofs.Lists.{cases, not-both, and-left, and-right, or-true, none-left}
 use Rattle.marks.proofs.KindLaws.{same-eq}
 use Rattle.spelling.specs.Spells.{Digits, none as noDigit, digit, Numeral, Number}
 

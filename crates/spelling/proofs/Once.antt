@@ -11,8 +11,10 @@ use lib.ListN.{length, drop}
 use lib.Seq.{drop-append-seam, drop-length}
 use Rattle.card.specs.Limits.{numberDigits, furtherDigits, wordDigits}
 use Rattle.card.specs.Text.{bytes, same}
-use Rattle.marks.specs.Marks.{Mark, text, seat, process, number, decimal, outside, isDigit, inWord, isSign, second, begins, every, after, numberOf, Start, blank, mark, made, numbered, pointed, numeralMark, numeral, sign1, sign2, startAt}
-use Rattle.marks.proofs.Lists.{cases, not-both, and-left, and-right}
+use Rattle.letters.specs.Bytes.{isDigit, inWord, isSign, begins, every, after}
+use Rattle.letters.specs.Digits.{numberOf, pointed}
+use Rattle.marks.specs.Marks.{Mark, text, seat, process, number, decimal, outside, second, Start, blank, mark, made, numbered, numeralMark, numeral, sign1, sign2, startAt}
+use Rattle.letters.proofs.Lists.{cases, not-both, and-left, and-right}
 use Rattle.marks.proofs.KindLaws.{same-eq}
 use Rattle.marks.proofs.Starts.{letter-starts, digit-starts}
 use Rattle.spelling.specs.Spells.{signs, keywords, OneOf, Numeral, Number, Word, word as aWord, Numbered, Stray, Spells, sign as aSign, keyword, seatWord, moduleWord, otherWord, aNumber, aDecimal, wrongNumber, wrongWhole, wrongFurther, stray}

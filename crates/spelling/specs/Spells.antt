@@ -7,7 +7,8 @@ use mathlib.Core.List.{List, [], _∷_, _++_}
 use lib.ListN.{length}
 use Rattle.card.specs.Limits.{numberDigits, furtherDigits, wordDigits}
 use Rattle.card.specs.Text.{bytes}
-use Rattle.marks.specs.Marks.{Mark, text, seat, process, number, decimal, outside, isDigit, isLetter, inWord, isBlank, every}
+use Rattle.letters.specs.Bytes.{isDigit, isLetter, inWord, isBlank, every}
+use Rattle.marks.specs.Marks.{Mark, text, seat, process, number, decimal, outside}
 
 -- ---- signs and keywords, by their bytes
 

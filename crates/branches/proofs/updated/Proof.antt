@@ -1,7 +1,7 @@
 -- The bytes that stand right there pass the run at once (proofs/Updates.antt); else it goes mark by mark.
 use Rattle.branches.proofs.Updates.{update-place, update-passed}
-use Rattle.marks.proofs.Lists.{and-right}
-use Rattle.marks.specs.Parts.{begun}
+use Rattle.letters.proofs.Lists.{and-right}
+use Rattle.letters.specs.Bytes.{begun}
 use Rattle.card.specs.Text.{bytes}
 use denote.Ref.{now}
 use lib.ListN.{length, drop}

@@ -6,8 +6,9 @@ use lib.Dec.{eqb}
 use lib.ListN.{drop}
 use Rattle.marks.specs.Parts.{bareOf}
 use Rattle.marks.specs.Step.{stepped}
-use Rattle.marks.specs.Marks.{isDigit, isLetter, isSign, word, numeral, sign, Start}
-use Rattle.marks.proofs.Lists.{and-left}
+use Rattle.letters.specs.Bytes.{isDigit, isLetter, isSign}
+use Rattle.marks.specs.Marks.{word, numeral, sign, Start}
+use Rattle.letters.proofs.Lists.{and-left}
 use Rattle.marks.proofs.Starts.{alone-step, letter-starts, digit-starts, sign-starts, sign-kind}
 use borrow.Author.Needs.{needs}
 use Rattle.marks.proofs.start.Statement.{statement}
@@ -15,10 +16,10 @@ use Rattle.marks.proofs.start.Tie as tie
 use Rattle.marks.proofs.start.Reads as reads
 use Rattle.marks.proofs.start.Lts as lts
 use Rattle.marks.proofs.answer.bare.Reads as bare-reads
-use Rattle.marks.proofs.bytes.is_alone.Reads as is-alone-reads
-use Rattle.marks.proofs.bytes.is_digit.Reads as is-digit-reads
-use Rattle.marks.proofs.bytes.is_letter.Reads as is-letter-reads
-use Rattle.marks.proofs.bytes.wide.Reads as wide-reads
+use Rattle.letters.proofs.bytes.is_alone.Reads as is-alone-reads
+use Rattle.letters.proofs.bytes.is_digit.Reads as is-digit-reads
+use Rattle.letters.proofs.bytes.is_letter.Reads as is-letter-reads
+use Rattle.letters.proofs.bytes.wide.Reads as wide-reads
 use Rattle.marks.proofs.number.numeral.Reads as numeral-reads
 use Rattle.marks.proofs.sign.sign.Reads as sign-reads
 use Rattle.marks.proofs.word.word.Reads as word-reads

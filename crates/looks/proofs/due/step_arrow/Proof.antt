@@ -3,7 +3,7 @@ use mathlib.Core.Path.{sym, _∙_}
 use native.Mathlib.Omega.{arith}
 use Prim.Native.Nat.{_+_}
 use lib.Dec.{eqb}
-use Rattle.marks.proofs.Runs.{begins-place}
+use Rattle.letters.proofs.Runs.{begins-place}
 use Rattle.looks.proofs.Quick.{arrow-step, past-step}
 use borrow.Author.Needs.{needs}
 use Rattle.looks.proofs.due.step_arrow.Statement.{statement}
@@ -11,7 +11,7 @@ use Rattle.looks.proofs.due.step_arrow.Tie as tie
 use Rattle.looks.proofs.due.step_arrow.Reads as reads
 use Rattle.looks.proofs.due.step_arrow.Lts as lts
 use Rattle.marks.proofs.answer.bare.Reads as bare-reads
-use Rattle.marks.proofs.bytes.stands.Reads as stands-reads
+use Rattle.letters.proofs.bytes.stands.Reads as stands-reads
 use Rattle.looks.proofs.due.step_from.Reads as step-from-reads
 use Rattle.looks.proofs.look.past_blank.Reads as past-blank-reads
 

@@ -1,8 +1,7 @@
--- What the look found is what the step finds (proofs/Words.antt).
+-- What the look found is what the step finds (proofs/Quick.antt).
 use mathlib.Core.Path.{sym, _∙_}
 use native.Mathlib.Omega.{arith}
-use Rattle.looks.proofs.Quick.{past-step}
-use Rattle.looks.proofs.Words.{process-room, process-step}
+use Rattle.looks.proofs.Quick.{process-room, process-step, past-step}
 use borrow.Author.Needs.{needs}
 use Rattle.looks.proofs.due.step_process.Statement.{statement}
 use Rattle.looks.proofs.due.step_process.Tie as tie

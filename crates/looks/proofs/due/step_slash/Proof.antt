@@ -1,6 +1,6 @@
 -- What the look found is what the step finds (proofs/Quick.antt).
 use Rattle.looks.proofs.Quick.{slash-step, past-step}
-use Rattle.marks.proofs.Runs.{begins-place}
+use Rattle.letters.proofs.Runs.{begins-place}
 use borrow.Author.Tests.{not-true}
 use lib.Dec.{eqb}
 use native.Mathlib.Omega.{arith}
@@ -13,7 +13,7 @@ use Rattle.looks.proofs.due.step_slash.Lts as lts
 use Rattle.looks.proofs.due.step_sign.Reads as step-sign-reads
 use Rattle.looks.proofs.look.past_blank.Reads as past-blank-reads
 use Rattle.marks.proofs.answer.bare.Reads as bare-reads
-use Rattle.marks.proofs.bytes.stands.Reads as stands-reads
+use Rattle.letters.proofs.bytes.stands.Reads as stands-reads
 
 past-blank-requires : tie.Need-past-blank-requires
 past-blank-requires c κs = search needs

@@ -6,7 +6,7 @@ use Rattle.looks.proofs.look.all_here.Statement.{statement}
 use Rattle.looks.proofs.look.all_here.Tie as tie
 use Rattle.looks.proofs.look.all_here.Reads as reads
 use Rattle.looks.proofs.look.all_here.Lts as lts
-use Rattle.marks.proofs.bytes.begins_at.Reads as begins-at-reads
+use Rattle.letters.proofs.bytes.begins_at.Reads as begins-at-reads
 
 begins-at-requires : tie.Need-begins-at-requires
 begins-at-requires c κs = search needs

@@ -2,17 +2,17 @@
 use mathlib.Core.Path.{sym, _∙_}
 use native.Mathlib.Omega.{arith}
 use borrow.Author.Tests.{not-true, not-false}
-use Rattle.marks.specs.Marks.{isDigit, inWord}
-use Rattle.marks.proofs.Runs.{begins-place}
+use Rattle.letters.specs.Bytes.{isDigit, inWord}
+use Rattle.letters.proofs.Runs.{begins-place}
 use Rattle.looks.proofs.Quick.{digit-none, digit-low, digit-more, digit-over}
 use borrow.Author.Needs.{needs}
 use Rattle.looks.proofs.look.last_digit.Statement.{statement}
 use Rattle.looks.proofs.look.last_digit.Tie as tie
 use Rattle.looks.proofs.look.last_digit.Reads as reads
 use Rattle.looks.proofs.look.last_digit.Lts as lts
-use Rattle.marks.proofs.bytes.digit_at.Reads as digit-at-reads
-use Rattle.marks.proofs.bytes.wide.Reads as wide-reads
-use Rattle.marks.proofs.bytes.word_at.Reads as word-at-reads
+use Rattle.letters.proofs.bytes.digit_at.Reads as digit-at-reads
+use Rattle.letters.proofs.bytes.wide.Reads as wide-reads
+use Rattle.letters.proofs.bytes.word_at.Reads as word-at-reads
 
 digit-at-requires : tie.Need-digit-at-requires
 digit-at-requires c κs = search needs

@@ -1,15 +1,14 @@
 -- The definition's test.
 use native.Mathlib.Omega.{arith}
-use borrow.Author.Tests.{not-true}
-use mathlib.Core.Path.{refl, sym, _∙_}
+use mathlib.Core.Path.{sym, _∙_}
 use lib.Dec.{eqb}
-use Rattle.marks.proofs.Runs.{begins-place}
+use Rattle.letters.proofs.Runs.{begins-place}
 use borrow.Author.Needs.{needs}
 use Rattle.looks.proofs.look.past_blank.Statement.{statement}
 use Rattle.looks.proofs.look.past_blank.Tie as tie
 use Rattle.looks.proofs.look.past_blank.Reads as reads
 use Rattle.looks.proofs.look.past_blank.Lts as lts
-use Rattle.marks.proofs.bytes.stands.Reads as stands-reads
+use Rattle.letters.proofs.bytes.stands.Reads as stands-reads
 
 stands-requires : tie.Need-stands-requires
 stands-requires c κs = search needs

@@ -1,5 +1,5 @@
 -- The definition's test.
-use Rattle.marks.proofs.Runs.{begins-place}
+use Rattle.letters.proofs.Runs.{begins-place}
 use lib.Dec.{eqb}
 use mathlib.Core.Path.{sym, _∙_}
 use native.Mathlib.Omega.{arith}
@@ -8,7 +8,7 @@ use Rattle.looks.proofs.look.past_line.Statement.{statement}
 use Rattle.looks.proofs.look.past_line.Tie as tie
 use Rattle.looks.proofs.look.past_line.Reads as reads
 use Rattle.looks.proofs.look.past_line.Lts as lts
-use Rattle.marks.proofs.bytes.stands.Reads as stands-reads
+use Rattle.letters.proofs.bytes.stands.Reads as stands-reads
 use Rattle.looks.proofs.look.past_blank.Reads as past-blank-reads
 
 stands-requires : tie.Need-stands-requires

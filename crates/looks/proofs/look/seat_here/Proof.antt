@@ -2,7 +2,7 @@
 use mathlib.Core.Path.{sym, _∙_}
 use native.Mathlib.Omega.{arith}
 use lib.Dec.{eqb}
-use Rattle.marks.proofs.Runs.{begins-place}
+use Rattle.letters.proofs.Runs.{begins-place}
 use Rattle.looks.proofs.Quick.{seat-none, seat-begun}
 use borrow.Author.Needs.{needs}
 use Rattle.looks.proofs.look.seat_here.Statement.{statement}
@@ -10,7 +10,7 @@ use Rattle.looks.proofs.look.seat_here.Tie as tie
 use Rattle.looks.proofs.look.seat_here.Reads as reads
 use Rattle.looks.proofs.look.seat_here.Lts as lts
 use Rattle.looks.proofs.look.last_digit.Reads as last-digit-reads
-use Rattle.marks.proofs.bytes.stands.Reads as stands-reads
+use Rattle.letters.proofs.bytes.stands.Reads as stands-reads
 
 stands-requires : tie.Need-stands-requires
 stands-requires c κs = search needs

@@ -2,14 +2,14 @@
 use Rattle.looks.proofs.Quick.{sign-none, sign-at}
 use borrow.Author.Tests.{eq-eqb, ne-eqb}
 use lib.ListN.{getD}
-use mathlib.Core.Path.{sym, ap, _∙_}
+use mathlib.Core.Path.{sym, _∙_}
 use borrow.Author.Needs.{needs}
 use Rattle.looks.proofs.look.sign_here.Statement.{statement}
 use Rattle.looks.proofs.look.sign_here.Tie as tie
 use Rattle.looks.proofs.look.sign_here.Reads as reads
 use Rattle.looks.proofs.look.sign_here.Lts as lts
-use Rattle.marks.proofs.bytes.is_alone.Reads as is-alone-reads
-use Rattle.marks.proofs.bytes.wide.Reads as wide-reads
+use Rattle.letters.proofs.bytes.is_alone.Reads as is-alone-reads
+use Rattle.letters.proofs.bytes.wide.Reads as wide-reads
 
 shared-slice-read-b : tie.Need-shared-slice-read-b
 shared-slice-read-b c = search needs

@@ -9,7 +9,7 @@ use Rattle.looks.proofs.look.word_here.Tie as tie
 use Rattle.looks.proofs.look.word_here.Reads as reads
 use Rattle.looks.proofs.look.word_here.Lts as lts
 use Rattle.looks.proofs.look.all_here.Reads as all-here-reads
-use Rattle.marks.proofs.bytes.word_at.Reads as word-at-reads
+use Rattle.letters.proofs.bytes.word_at.Reads as word-at-reads
 
 all-here-requires : tie.Need-all-here-requires
 all-here-requires c κs = search needs

@@ -5,16 +5,16 @@ use native.Mathlib.Omega.{arith}
 use lib.Dec.{eqb}
 use lib.ListN.{drop}
 use borrow.Author.Tests.{ne-eqb}
-use Rattle.marks.proofs.Lists.{and-off}
+use Rattle.letters.proofs.Lists.{and-off}
 use Rattle.marks.proofs.Starts.{not-blank, gap-blank, gap-comment, gap-none}
 use borrow.Author.Needs.{needs}
 use Rattle.marks.proofs.sign.gap.Statement.{statement}
 use Rattle.marks.proofs.sign.gap.Tie as tie
 use Rattle.marks.proofs.sign.gap.Reads as reads
 use Rattle.marks.proofs.sign.gap.Lts as lts
-use Rattle.marks.proofs.bytes.is_blank.Reads as is-blank-reads
-use Rattle.marks.proofs.bytes.line_end.Reads as line-end-reads
-use Rattle.marks.proofs.bytes.stands.Reads as stands-reads
+use Rattle.letters.proofs.bytes.is_blank.Reads as is-blank-reads
+use Rattle.letters.proofs.bytes.line_end.Reads as line-end-reads
+use Rattle.letters.proofs.bytes.stands.Reads as stands-reads
 
 returns : tie.Need-returns
 returns c = sym (gap-blank (c .before .before .args .b) (drop (c .before .before .args .at + 1) (c .before .before .args .card .now)) (rw (c .if1 .taken)))

@@ -10,9 +10,9 @@ use Rattle.marks.proofs.sign.sign.Tie as tie
 use Rattle.marks.proofs.sign.sign.Reads as reads
 use Rattle.marks.proofs.sign.sign.Lts as lts
 use Rattle.marks.proofs.answer.bare.Reads as bare-reads
-use Rattle.marks.proofs.bytes.is_sign.Reads as is-sign-reads
-use Rattle.marks.proofs.bytes.stands.Reads as stands-reads
-use Rattle.marks.proofs.bytes.wide.Reads as wide-reads
+use Rattle.letters.proofs.bytes.is_sign.Reads as is-sign-reads
+use Rattle.letters.proofs.bytes.stands.Reads as stands-reads
+use Rattle.letters.proofs.bytes.wide.Reads as wide-reads
 
 add-next : tie.Need-add-next
 add-next c = search needs

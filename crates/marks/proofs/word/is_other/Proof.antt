@@ -5,7 +5,7 @@ use Rattle.marks.proofs.word.is_other.Statement.{statement}
 use Rattle.marks.proofs.word.is_other.Tie as tie
 use Rattle.marks.proofs.word.is_other.Reads as reads
 use Rattle.marks.proofs.word.is_other.Lts as lts
-use Rattle.marks.proofs.bytes.word_at.Reads as word-at-reads
+use Rattle.letters.proofs.bytes.word_at.Reads as word-at-reads
 
 returns : tie.Need-returns
 returns c = rw (eq-eqb (c .before .before .args .size) 0 (c .if1 .taken))

@@ -4,7 +4,7 @@ use Rattle.marks.proofs.word.keyword_begun.Statement.{statement}
 use Rattle.marks.proofs.word.keyword_begun.Tie as tie
 use Rattle.marks.proofs.word.keyword_begun.Reads as reads
 use Rattle.marks.proofs.word.keyword_begun.Lts as lts
-use Rattle.marks.proofs.bytes.begins_at.Reads as begins-at-reads
+use Rattle.letters.proofs.bytes.begins_at.Reads as begins-at-reads
 
 slice-aggregate-begins-at : tie.Need-slice-aggregate-begins-at
 slice-aggregate-begins-at c = search needs

@@ -1,22 +1,21 @@
 -- Each exit has its law (proofs/Starts.antt), over the digits as they were counted.
-use Rattle.marks.proofs.Starts.{numbered-off, numbered-no, numbered-more, numbered-yes, word-unplain}
-use Rattle.marks.proofs.Runs.{run-length, begun-fits}
-use Rattle.marks.specs.Marks.{isDigit}
-use Rattle.card.specs.Limits.{wordDigits}
+use Rattle.marks.proofs.Starts.{numbered-off, numbered-unplain, numbered-more, numbered-yes}
+use Rattle.letters.proofs.Runs.{begun-fits}
 use borrow.Author.Tests.{not-true, not-false}
-use lib.ListN.{length, drop, length-drop}
 use native.Mathlib.Omega.{arith}
 use mathlib.Core.Path.{sym, _∙_}
+use Rattle.letters.proofs.Numbers.{counted-fits}
+use lib.ListN.{length}
 use Prim.Native.Nat.{_+_}
 use borrow.Author.Needs.{needs}
 use Rattle.marks.proofs.word.numbered_at.Statement.{statement}
 use Rattle.marks.proofs.word.numbered_at.Tie as tie
 use Rattle.marks.proofs.word.numbered_at.Reads as reads
 use Rattle.marks.proofs.word.numbered_at.Lts as lts
-use Rattle.marks.proofs.bytes.begins_at.Reads as begins-at-reads
-use Rattle.marks.proofs.bytes.word_at.Reads as word-at-reads
-use Rattle.marks.proofs.number.digits_from.Reads as digits-from-reads
-use Rattle.marks.proofs.number.is_plain.Reads as is-plain-reads
+use Rattle.letters.proofs.bytes.begins_at.Reads as begins-at-reads
+use Rattle.letters.proofs.bytes.word_at.Reads as word-at-reads
+use Rattle.letters.proofs.digits.digits_from.Reads as digits-from-reads
+use Rattle.letters.proofs.digits.is_plain.Reads as is-plain-reads
 
 begins-at-requires : tie.Need-begins-at-requires
 begins-at-requires c κs = search needs
@@ -34,10 +33,12 @@ is-plain-requires : tie.Need-is-plain-requires
 is-plain-requires c κs = c .digits-from .ensures .count-is
 
 returns-2 : tie.Need-returns-2
-returns-2 c = numbered-no (c .before .before .before .before .before .before .before .args .these .now) (c .before .before .before .before .before .before .before .args .card .now) (c .before .before .before .before .before .before .before .args .at) (c .before .before .before .before .before .before .before .pre .1) (sym (c .before .before .before .before .begins-at .ensures) ∙ not-false (c .before .before .before .before .begins-at .result) (c .before .before .before .if1 .left)) (word-unplain wordDigits (drop (c .before .before .before .before .before .before .before .args .at + length (c .before .before .before .before .before .before .before .args .these .now)) (c .before .before .before .before .before .before .before .args .card .now)) (sym (c .before .is-plain .ensures) ∙ not-true (c .before .is-plain .result) (c .if2 .taken)))
+returns-2 c = numbered-unplain (c .before .before .before .before .before .before .before .args .these .now) (c .before .before .before .before .before .before .before .args .card .now) (c .before .before .before .before .before .before .before .args .at) (c .before .before .before .before .before .before .before .pre .1) (sym (c .before .before .before .before .begins-at .ensures) ∙ not-false (c .before .before .before .before .begins-at .result) (c .before .before .before .if1 .left)) (sym (c .before .is-plain .ensures) ∙ not-true (c .before .is-plain .result) (c .if2 .taken))
 
 add-word-at : tie.Need-add-word-at
-add-word-at c = omega (arith, begun-fits (c .before .before .before .before .before .before .before .args .these .now) (c .before .before .before .before .before .before .before .args .card .now) (c .before .before .before .before .before .before .before .args .at) (c .before .before .before .before .before .before .before .pre .0) (sym (c .before .before .before .before .begins-at .ensures) ∙ not-false (c .before .before .before .before .begins-at .result) (c .before .before .before .if1 .left)), c .before .before .digits-from .ensures .count-is, run-length isDigit (drop (c .before .before .before .before .before .before .before .args .at + length (c .before .before .before .before .before .before .before .args .these .now)) (c .before .before .before .before .before .before .before .args .card .now)), length-drop (c .before .before .before .before .before .before .before .args .at + length (c .before .before .before .before .before .before .before .args .these .now)) (c .before .before .before .before .before .before .before .args .card .now), c .before .before .before .before .before .before .before .good .0)
+add-word-at c =
+    let behind = begun-fits (c .before .before .before .before .before .before .before .args .these .now) (c .before .before .before .before .before .before .before .args .card .now) (c .before .before .before .before .before .before .before .args .at) (c .before .before .before .before .before .before .before .pre .0) (sym (c .before .before .before .before .begins-at .ensures) ∙ not-false (c .before .before .before .before .begins-at .result) (c .before .before .before .if1 .left)) in
+    omega (arith, counted-fits (c .before .before .before .before .before .before .before .args .card .now) (c .before .before .before .before .before .before .before .args .at + length (c .before .before .before .before .before .before .before .args .these .now)) behind (c .before .before .digits-from .result) (c .before .before .digits-from .ensures), c .before .before .before .before .before .before .before .good .0)
 
 word-at-requires : tie.Need-word-at-requires
 word-at-requires c κs = search needs
@@ -46,7 +47,9 @@ returns-3 : tie.Need-returns-3
 returns-3 c = numbered-more (c .before .before .before .before .before .before .before .before .before .args .these .now) (c .before .before .before .before .before .before .before .before .before .args .card .now) (c .before .before .before .before .before .before .before .before .before .args .at) (c .before .before .before .before .before .before .before .before .before .pre .1) (sym (c .before .before .before .before .before .before .begins-at .ensures) ∙ not-false (c .before .before .before .before .before .before .begins-at .result) (c .before .before .before .before .before .if1 .left)) (c .before .before .before .before .digits-from .result) (c .before .before .before .before .digits-from .ensures) (sym (c .before .word-at .ensures) ∙ c .if3 .taken)
 
 add-t11 : tie.Need-add-t11
-add-t11 c = omega (arith, begun-fits (c .before .before .before .before .before .before .before .before .before .args .these .now) (c .before .before .before .before .before .before .before .before .before .args .card .now) (c .before .before .before .before .before .before .before .before .before .args .at) (c .before .before .before .before .before .before .before .before .before .pre .0) (sym (c .before .before .before .before .before .before .begins-at .ensures) ∙ not-false (c .before .before .before .before .before .before .begins-at .result) (c .before .before .before .before .before .if1 .left)), c .before .before .before .before .digits-from .ensures .count-is, run-length isDigit (drop (c .before .before .before .before .before .before .before .before .before .args .at + length (c .before .before .before .before .before .before .before .before .before .args .these .now)) (c .before .before .before .before .before .before .before .before .before .args .card .now)), length-drop (c .before .before .before .before .before .before .before .before .before .args .at + length (c .before .before .before .before .before .before .before .before .before .args .these .now)) (c .before .before .before .before .before .before .before .before .before .args .card .now), c .before .before .before .before .before .before .before .before .before .good .0)
+add-t11 c =
+    let behind = begun-fits (c .before .before .before .before .before .before .before .before .before .args .these .now) (c .before .before .before .before .before .before .before .before .before .args .card .now) (c .before .before .before .before .before .before .before .before .before .args .at) (c .before .before .before .before .before .before .before .before .before .pre .0) (sym (c .before .before .before .before .before .before .begins-at .ensures) ∙ not-false (c .before .before .before .before .before .before .begins-at .result) (c .before .before .before .before .before .if1 .left)) in
+    omega (arith, counted-fits (c .before .before .before .before .before .before .before .before .before .args .card .now) (c .before .before .before .before .before .before .before .before .before .args .at + length (c .before .before .before .before .before .before .before .before .before .args .these .now)) behind (c .before .before .before .before .digits-from .result) (c .before .before .before .before .digits-from .ensures), c .before .before .before .before .before .before .before .before .before .good .0)
 
 returns-4 : tie.Need-returns-4
 returns-4 c = numbered-yes (c .before .before .before .before .before .before .before .before .before .args .these .now) (c .before .before .before .before .before .before .before .before .before .args .card .now) (c .before .before .before .before .before .before .before .before .before .args .at) (c .before .before .before .before .before .before .before .before .before .pre .1) (sym (c .before .before .before .before .before .before .begins-at .ensures) ∙ not-false (c .before .before .before .before .before .before .begins-at .result) (c .before .before .before .before .before .if1 .left)) (c .before .before .before .before .digits-from .result) (c .before .before .before .before .digits-from .ensures) (sym (c .before .before .before .is-plain .ensures) ∙ not-false (c .before .before .before .is-plain .result) (c .before .before .if2 .left)) (sym (c .before .word-at .ensures) ∙ c .if3 .left)

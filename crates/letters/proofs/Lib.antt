@@ -1,0 +1,4 @@
+pub mod Lists
+pub mod Runs
+pub mod Ranges
+pub mod Numbers
