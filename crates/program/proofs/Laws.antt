@@ -10,8 +10,7 @@ use borrow.Author.Tests.{le-leb, lt-leb}
 use lib.Dec.{eqb, leb}
 use lib.ListN.{length, getD, set, take, drop}
 use Rattle.card.specs.Text.{if_then_else_}
-use Rattle.marks.specs.Marks.{notLF, run}
-use Rattle.marks.specs.Parts.{runEnd}
+use Rattle.letters.specs.Bytes.{notLF, run, runEnd}
 use Rattle.room.specs.Digits.{digit}
 use Rattle.program.specs.Program.{lineEnd, seatsLine, noState, seatOf}
 

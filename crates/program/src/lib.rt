@@ -1,7 +1,7 @@
 // The panel program as a function from the bytes that it reads to the bytes that it prints ("Texts, byte for byte").
 use card::limits::MOST_SEATS;
-use marks::bytes::line_end;
-use marks::bytes::wide;
+use letters::bytes::line_end;
+use letters::bytes::wide;
 use panel::PANEL_ROOM;
 use panel::panel;
 use room::Answer;
