@@ -18,14 +18,10 @@ use Rattle.table.specs.Bounds.{boundRow, boundOf}
 use Rattle.room.specs.Digits.{digit}
 use Rattle.room.proofs.Decimal.{decimal-one}
 use Rattle.phrases.specs.Phrases.{Text, _▸_, num, counted}
-use Rattle.texts.specs.Writing.{signText, relationText, literal, literals, groupText}
+use Rattle.texts.specs.Writing.{signText, literal, literals, groupText}
 use Rattle.texts.specs.ReducedText.{boundText, counterText}
 
 -- ---- literals
-
--- the relation is put by its number
-pub literal-text : (q d i : ℕ) (r : List ℕ) → "s" ▸ num i (relationText (either is isnt q) ▸ num d r) ≡ literal (either is isnt q) d i r
-literal-text q d i r = refl
 
 -- a sign and a literal, byte for byte
 module _ (sign relation d i : ℕ) (hi : i < 10) (hd : d < 10) where

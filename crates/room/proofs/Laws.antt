@@ -1,18 +1,14 @@
 -- Puts one after the other. A text clipped behind another is both texts clipped at once, and past the end of the room nothing is
 -- stored, so that it does not matter that places stop at the cap; all else follows from that. Assumes nothing.
-use Prim.Native.Nat.{ℕ, zero, suc, _+_, _*_, _≤_, _<_, min}
+use Prim.Native.Nat.{ℕ, suc, _+_, _≤_, _<_, min}
 use mathlib.Core.Path.{_≡_, refl, sym, ap, _∙_}
-use mathlib.Core.Bool.{Bool, true, false}
-use mathlib.Core.List.{List, [], _∷_, _++_, append-assoc, append-nil}
+use mathlib.Core.List.{List, [], _∷_, _++_}
 use native.Mathlib.Decide.{decLe}
 use native.Mathlib.Nat.{add-zero, zero-add}
-use native.Mathlib.Numerals.{add-one}
 use native.Mathlib.Omega.{arith}
-use lib.ListN.{length, getD, take, drop, set, length-append}
-use lib.Seq.{sets, sets-eq, length-sets, set-out, take-suc, take-all}
-use Rattle.card.specs.Text.{if_then_else_ as choice}
+use lib.ListN.{length, take, drop, set, length-append}
+use lib.Seq.{sets, sets-eq, length-sets, set-out}
 use Rattle.room.specs.Room.{clip, cap, Put}
-use Rattle.room.specs.Pieces.{pieces, flat}
 
 -- ---- clip
 
@@ -81,104 +77,7 @@ module _ {a b : List ℕ} {at : ℕ} {s : List ℕ} {m : ℕ} where
   pub put-length : Put a b at s m → length b ≡ length a
   put-length p = ap length (p .wrote) ∙ length-clip a at s
 
-  -- a put has one outcome
-  pub put-unique : {c : List ℕ} {r : ℕ} → Put a b at s m → Put a c at s r → (b ≡ c) × (m ≡ r)
-  put-unique p q = (p .wrote ∙ sym (q .wrote), p .next ∙ sym (q .next))
-
 -- no text: the place after it is the one that `place` answers
 pub put-none : {room : List ℕ} {at r : ℕ} → length room < cap → r ≡ min at cap → Put room room at [] r
 unfolding clip
 put-none h e = record { small = h; wrote = refl; next = omega arith }
-
--- ---- one of two texts, by a test
-
-module _ {a b : List ℕ} {at : ℕ} {test : Bool} {r : ℕ} where
-  pub put-true : {s : List ℕ} (t : List ℕ) → test ≡ true → Put a b at s r → Put a b at (choice test s t) r
-  put-true t e p = rw e p
-
-  pub put-false : (s : List ℕ) {t : List ℕ} → test ≡ false → Put a b at t r → Put a b at (choice test s t) r
-  put-false s e p = rw e p
-
--- ---- a piece for each number below n: a loop starts at `place`, adds a piece in each turn, and ends at n
-
-pub pieces-none : (f : ℕ → List ℕ) → pieces 0 f ≡ []
-unfolding pieces
-pieces-none f = refl
-
-pub pieces-suc : (n : ℕ) (f : ℕ → List ℕ) → pieces (suc n) f ≡ pieces n f ++ f n
-unfolding pieces
-pieces-suc n f = refl
-
--- the first piece stands in front
-pub pieces-first : (n : ℕ) (f : ℕ → List ℕ) → pieces (suc n) f ≡ f 0 ++ pieces n (λ i. f (suc i))
-unfolding pieces
-pieces-first zero f = sym (append-nil (f 0))
-pieces-first (suc n) f =
-    ap (λ (l : List ℕ). l ++ f (suc n)) (pieces-first n f) ∙ append-assoc (f 0) (pieces n (λ i. f (suc i))) (f (suc n))
-
--- only the pieces below n count
-pub pieces-same : (n : ℕ) (f g : ℕ → List ℕ) → ((i : ℕ) → i < n → f i ≡ g i) → pieces n f ≡ pieces n g
-unfolding pieces
-pieces-same zero f g h = refl
-pieces-same (suc n) f g h = rw (pieces-same n f g (λ i l. h i (omega arith)), h n (omega arith))
-
--- so long at most
-pub length-pieces : (n : ℕ) (f : ℕ → List ℕ) (most : ℕ) → ((i : ℕ) → i < n → length (f i) ≤ most) → length (pieces n f) ≤ n * most
-unfolding pieces
-length-pieces zero f most h = omega arith
-length-pieces (suc n) f most h =
-    omega (arith, length-append (pieces n f) (f n), length-pieces n f most (λ i l. h i (omega arith)), h n (omega arith))
-
-pub pieces-start : (f : ℕ → List ℕ) {a : List ℕ} {at r : ℕ} → length a < cap → r ≡ min at cap → Put a a at (pieces 0 f) r
-unfolding pieces
-pieces-start f h e = put-none h e
-
-module _ (f : ℕ → List ℕ) (i : ℕ) {a b : List ℕ} {at m : ℕ} where
-  pub pieces-next : {c : List ℕ} {r : ℕ} → Put a b at (pieces i f) m → Put b c m (f i) r → Put a c at (pieces (i + 1) f) r
-  pieces-next p q = rw (add-one, pieces-suc) (then p q)
-
-  pub pieces-end : (n : ℕ) → i ≤ n → n ≤ i → Put a b at (pieces i f) m → Put a b at (pieces n f) m
-  pieces-end n h l p = let e : n ≡ i = omega arith in rw e p
-
--- ---- a piece for each element of a list: a loop starts at `place`, adds a piece in each turn, and ends with the list
-
-module _ {A : Type 0} (f : A → List ℕ) where
-  pub flat-none : flat f [] ≡ []
-  unfolding flat
-  flat-none = refl
-
-  pub flat-cons : (x : A) (xs : List A) → flat f (x ∷ xs) ≡ f x ++ flat f xs
-  unfolding flat
-  flat-cons x xs = refl
-
-  pub flat-one : (x : A) → flat f (x ∷ []) ≡ f x
-  unfolding flat
-  flat-one x = append-nil (f x)
-
-  pub flat-append : (xs ys : List A) → flat f (xs ++ ys) ≡ flat f xs ++ flat f ys
-  unfolding flat
-  flat-append [] ys = refl
-  flat-append (x ∷ xs) ys = rw (flat-append xs ys) (sym (append-assoc (f x) (flat f xs) (flat f ys)))
-
-  -- by numbers
-  pub flat-pieces : (xs : List A) (d : A) → flat f xs ≡ pieces (length xs) (λ i. f (getD xs i d))
-  unfolding flat
-  flat-pieces [] d = sym (pieces-none (λ i. f (getD [] i d)))
-  flat-pieces (x ∷ xs) d =
-      ap (λ (l : List ℕ). f x ++ l) (flat-pieces xs d) ∙ sym (pieces-first (length xs) (λ i. f (getD (x ∷ xs) i d)))
-
-  pub length-flat : (xs : List A) (d : A) (most : ℕ) → ((i : ℕ) → i < length xs → length (f (getD xs i d)) ≤ most)
-      → length (flat f xs) ≤ length xs * most
-  length-flat xs d most h = rw (flat-pieces xs d) (length-pieces (length xs) (λ i. f (getD xs i d)) most h)
-
-  pub flat-start : {a : List ℕ} {at r : ℕ} → length a < cap → r ≡ min at cap → Put a a at (flat f []) r
-  unfolding flat
-  flat-start h e = put-none h e
-
-  module _ (xs : List A) (i : ℕ) {a b : List ℕ} {at m : ℕ} where
-    pub flat-next : (d : A) {c : List ℕ} {r : ℕ} → i < length xs → Put a b at (flat f (take i xs)) m → Put b c m (f (getD xs i d)) r
-        → Put a c at (flat f (take (i + 1) xs)) r
-    flat-next d h p q = rw (add-one, take-suc xs i d h, flat-append, flat-one) (then p q)
-
-    pub flat-end : length xs ≤ i → Put a b at (flat f (take i xs)) m → Put a b at (flat f xs) m
-    flat-end h p = rw (take-all i xs h) at p

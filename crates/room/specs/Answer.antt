@@ -1,7 +1,6 @@
 -- What an entry with a text has to say, its answer, and the lent room afterwards ("Refusal numbers"). Assumes nothing.
-use Prim.Native.Nat.{ℕ, _<_}
+use Prim.Native.Nat.{ℕ}
 use mathlib.Core.List.{List}
-use lib.ListN.{length}
 use Rattle.entry.specs.Said.{Said, says, refused}
 use Rattle.entry.specs.Contract.{valued, left, Enters, inRoom}
 use Rattle.room.specs.declared.Answer.{Answer}
@@ -35,8 +34,3 @@ roomAfter said was = left was (inRoom was said)
 -- what an entry promises: the room `was` became `is`
 abbrev pub Entered : (was is : List ℕ) → Text → Answer → Type 0
 Entered was is said answer = Enters inRoom told was is said answer
-
--- is there a text that is longer than the room?
-abbrev pub Longer : Text → List ℕ → Type 0
-Longer (says t) was = length was < length t
-Longer (refused number place) was = ⊥

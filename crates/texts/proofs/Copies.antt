@@ -1,18 +1,18 @@
 -- The reduced statements by the card's own: a formula over other leaves is put as the formula with the other leaves' texts, so that all
 -- copies end alike and differ in their first test alone. Assumes nothing.
 use Prim.Native.Nat.{ℕ, zero, suc, _+_}
-use mathlib.Core.Path.{_≡_, refl, sym, ap, _∙_}
+use mathlib.Core.Path.{_≡_, refl, ap, _∙_}
 use mathlib.Core.List.{List, [], _∷_, _++_, map}
 use mathlib.Core.Option.{Option, none, some}
 use native.Mathlib.Nat.{zero-add}
 use native.Mathlib.Omega.{arith}
-use Rattle.card.specs.Card.{Mode, nondeterministic, probabilistic, Formula, atom, neg, and, or, Guard, Branch, Statement}
-use Rattle.card.specs.Valid.{Level, loose, middle, tight, needsAnd, needsOr}
+use Rattle.card.specs.Card.{Mode, nondeterministic, probabilistic, Formula, atom, neg, and, or, Statement}
+use Rattle.card.specs.Valid.{Level, loose, middle, tight}
 use Rattle.meaning.specs.Sums.{upto}
 use Rattle.card.specs.Formulas.{over, overOr}
-use Rattle.meaning.specs.Reduced.{counterOf, testOf, moreThan, counter, Outcome, Reduced, copy, copies}
-use Rattle.phrases.specs.Phrases.{Text, _▸_, num, counted}
-use Rattle.texts.specs.Shared.{Brackets, always, hasAnd, hasOr, opening, closing, formulaText, formulaOr, more, summed, tailText}
+use Rattle.meaning.specs.Reduced.{counterOf, moreThan, counter, Reduced, copy, copies}
+use Rattle.phrases.specs.Phrases.{Text, _▸_, counted}
+use Rattle.texts.specs.Shared.{Brackets, always, hasAnd, hasOr, closing, formulaText, formulaOr, more, summed, tailText}
 use Rattle.texts.specs.ReducedText.{counterText, outcomeText, reducedText, statements}
 use Rattle.texts.specs.Copies.{outcomeOf, reducedCopies}
 

@@ -1,7 +1,7 @@
 -- Two valid cards with the same reduced text have the same reduced program: the statements of a valid card have branches, whose weights are
 -- weights, and so have all their copies. Assumes nothing.
 use Prim.Native.Nat.{ℕ, zero, suc, _≤_}
-use mathlib.Core.Path.{_≡_, refl}
+use mathlib.Core.Path.{_≡_}
 use mathlib.Core.List.{List, [], _∷_, _++_, map}
 use native.Mathlib.Omega.{arith}
 use lib.ListN.{length}

@@ -5,7 +5,7 @@ use Prim.Native.Nat.{ℕ, suc, _/_, _≤_}
 use mathlib.Core.Path.{_≡_, refl, sym, ap, ap₂, subst, _∙_}
 use mathlib.Core.Logic.{_⊎_, inl, inr}
 use mathlib.Core.Bool.{Bool, true, false, not, _&&_, false≢true}
-use mathlib.Core.List.{List, [], _∷_, _++_, map}
+use mathlib.Core.List.{List, [], _∷_, _++_}
 use mathlib.Core.Option.{Option, none, some}
 use native.Mathlib.Omega.{arith}
 use borrow.Author.Tests.{le-leb}
@@ -21,7 +21,7 @@ use Rattle.room.specs.Digits.{decimal, AllDigits}
 use Rattle.room.proofs.Decimal.{decimal-digits, decimal-injective}
 use Rattle.phrases.specs.Phrases.{_▸_, num, modeText, divisor, lowest, spell, weightText}
 use Rattle.phrases.proofs.Lowest.{lowest-kept}
-use Rattle.texts.specs.Shared.{always, formulaText, formulaOr, more, summed, tailText}
+use Rattle.texts.specs.Shared.{always, formulaText, formulaOr, more, summed}
 use Rattle.texts.specs.ReducedText.{boundText, counterText, testText, updateText, outcomeText, reducedText, statements, counterLine, counters, programText}
 
 -- a piece of text is told: from the text, before any rest, the piece and the rest

@@ -1,6 +1,5 @@
 -- What the written card and the reduced program have in common, over the texts of a guard's leaves and of a branch: how a formula is
 -- joined and bracketed, and how a statement goes on behind its first test ("Texts, byte for byte"). Assumes nothing.
-use Prim.Native.Nat.{ℕ}
 use mathlib.Core.Bool.{Bool, true, false}
 use mathlib.Core.List.{List, [], _∷_}
 use mathlib.Core.Option.{Option, none, some}

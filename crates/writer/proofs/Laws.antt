@@ -1,11 +1,10 @@
 -- The written card in the form in which the code puts it: one module more after each turn of a loop, the parts of the card one after the
 -- other, and no more bytes than are reckoned. Assumes nothing.
 use Prim.Native.Nat.{ℕ, zero, suc, _+_, _-_, _≤_}
-use mathlib.Core.Path.{_≡_, refl, sym, ap, subst, _∙_}
+use mathlib.Core.Path.{_≡_, refl, sym, ap, subst}
 use mathlib.Core.List.{List, []}
 use native.Mathlib.Numerals.{add-one}
 use native.Mathlib.Nat.{le-trans}
-use native.Mathlib.Omega.{arith}
 use lib.ListN.{length}
 use Rattle.card.specs.Card.{Card}
 use Rattle.card.specs.Lent.{Lent, cardIn, HoldsIn}
@@ -16,7 +15,7 @@ use Rattle.room.proofs.Laws.{put-as}
 use Rattle.phrases.specs.Phrases.{Text, _▸_, counted}
 use Rattle.phrases.specs.Puts.{Puts}
 use Rattle.texts.specs.Writing.{moduleText, modules, writeOf}
-use Rattle.texts.specs.WrittenMost.{writtenMost, writtenRoom}
+use Rattle.texts.specs.WrittenMost.{writtenMost}
 use Rattle.texts.proofs.WrittenShort.{written-short, written-cap, room-cap}
 use Rattle.statement_text.specs.Statements.{statementsText}
 use Rattle.statement_text.proofs.Both.{written-each}

@@ -1,6 +1,5 @@
 -- `guard_text::bracket_level` meets its contract: by which text it is. Assumes nothing.
 use borrow.Author.Tests.{eq-eqb, ne-eqb}
-use borrow.Author.Needs.{needs}
 use Rattle.guard_text.proofs.bracket_level.Statement.{statement}
 use Rattle.guard_text.proofs.bracket_level.Tie as tie
 

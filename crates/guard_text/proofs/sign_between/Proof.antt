@@ -1,7 +1,6 @@
 -- `guard_text::sign_between` meets its contract: by the operator's number. Assumes nothing.
 use native.Mathlib.Omega.{arith}
 use borrow.Author.Tests.{eq-eqb, ne-eqb}
-use borrow.Author.Needs.{needs}
 use Rattle.guard_text.proofs.sign_between.Statement.{statement}
 use Rattle.guard_text.proofs.sign_between.Tie as tie
 

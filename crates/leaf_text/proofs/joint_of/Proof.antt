@@ -1,6 +1,5 @@
 -- `leaf_text::joint_of` meets its contract: by the sign's number. Assumes nothing.
 use borrow.Author.Tests.{eq-eqb, ne-eqb}
-use borrow.Author.Needs.{needs}
 use Rattle.leaf_text.proofs.joint_of.Statement.{statement}
 use Rattle.leaf_text.proofs.joint_of.Tie as tie
 

@@ -4,7 +4,6 @@ use Rattle.phrases.proofs.Counted.{counted, counted-start, counted-next, counte
 use Rattle.phrases.specs.Puts.{Puts}
 use Rattle.room.proofs.Laws.{put-length}
 use Prim.Native.Nat.{_+_, _≤_, _-_}
-use native.Mathlib.Omega.{arith}
 use borrow.Author.Needs.{needs}
 use Rattle.reducer.proofs.put_counters.Statement.{statement}
 use Rattle.reducer.proofs.put_counters.Tie as tie

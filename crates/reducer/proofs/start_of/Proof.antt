@@ -1,6 +1,5 @@
 -- `reducer::start_of` meets its contract: by whether it is the starting state. Assumes nothing.
 use borrow.Author.Tests.{eq-eqb, ne-eqb}
-use borrow.Author.Needs.{needs}
 use Rattle.reducer.proofs.start_of.Statement.{statement}
 use Rattle.reducer.proofs.start_of.Tie as tie
 

@@ -1,6 +1,5 @@
 -- `statement_text::copies_of` meets its contract: by the text's number and the mode's. Assumes nothing.
 use borrow.Author.Tests.{eq-eqb, ne-eqb}
-use borrow.Author.Needs.{needs}
 use Rattle.statement_text.proofs.copies_of.Statement.{statement}
 use Rattle.statement_text.proofs.copies_of.Tie as tie
 

@@ -4,7 +4,6 @@ use Rattle.phrases.proofs.Counted.{counted, counted-start, counted-next, counte
 use Rattle.phrases.proofs.Laws.{put-first, puts-then}
 use Rattle.phrases.specs.Puts.{Puts}
 use Rattle.room.proofs.Laws.{put-length}
-use mathlib.Core.Path.{refl}
 use native.Mathlib.Nat.{sub-zero}
 use Prim.Native.Nat.{_≤_, _-_}
 use borrow.Author.Needs.{needs}
