@@ -7,6 +7,7 @@ use Rattle.texts.specs.ReducedText.{programText}
 use Rattle.meaning.specs.CardA.{cardA}
 use Rattle.meaning.specs.Reduced.{reduce, copy}
 use Rattle.meaning.proofs.Within.{stays-within}
+use Rattle.texts.proofs.Reductions.{reduced-once}
 use Rattle.promises.specs.Reductions.{Table, Translation, Reductions}
 
 table : Table
@@ -30,4 +31,4 @@ translation = record {
 
 pub reductions : Reductions
 unfolding programText reduce copy cardA decimal gcd divisor
-reductions = record { table = table; translation = translation; one-seat-text = refl; joined-text = refl; either-text = refl; card-a-text = refl; one-seat = refl; card-a = refl; card-a-free = refl; stays-within = stays-within }
+reductions = record { table = table; translation = translation; one-seat-text = refl; joined-text = refl; either-text = refl; card-a-text = refl; one-seat = refl; card-a = refl; card-a-free = refl; read-off = reduced-once; stays-within = stays-within }

@@ -7,7 +7,7 @@ use mathlib.Core.Option.{Option, none, some}
 use Rattle.card.specs.Text.{bytes}
 use Rattle.card.specs.Card.{nondeterministic, probabilistic, Kind, everyone, others, Sign, all, any, Relation, is, isnt, group, atom, neg, and, or, Card}
 use Rattle.texts.specs.ReducedText.{reducedOf}
-use Rattle.card.specs.Valid.{Every}
+use Rattle.card.specs.Valid.{Every, ValidCard}
 use Rattle.meaning.specs.CardA.{cardA}
 use Rattle.meaning.specs.Steps.{Step}
 use Rattle.meaning.specs.Sums.{upto, flat}
@@ -104,5 +104,7 @@ pub record Reductions : Type 0 where
   pub card-a : reduce (cardA probabilistic)
       ≡ record { mode = probabilistic; most = 3; start = 3 ∷ 0 ∷ 0 ∷ []; statements = first 0 ∷ first 1 ∷ first 2 ∷ second 0 ∷ second 1 ∷ second 2 ∷ [] }
   pub card-a-free : reduce (cardA nondeterministic) ≡ record { mode = nondeterministic; most = 3; start = 3 ∷ 0 ∷ 0 ∷ []; statements = first 0 ∷ second 0 ∷ [] }
+  -- all of a reduced program can be read off its text
+  pub read-off : (c d : Card) → ValidCard c → ValidCard d → reducedOf c ≡ reducedOf d → reduce c ≡ reduce d
   -- from counters in their range every step leads to counters in their range
   pub stays-within : (c : Card) (v : List ℕ) → Every (λ a. a ≤ c .n) v → Every (λ (s : Step (List ℕ)). Every (λ a. a ≤ reduce c .most) (s .next)) (reducedSteps (reduce c) v)
