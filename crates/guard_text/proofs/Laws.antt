@@ -12,7 +12,7 @@ use lib.ListN.{getD}
 use Rattle.card.specs.Text.{if_then_else_}
 use Rattle.card.specs.Card.{all, any, Leaf}
 use Rattle.card.specs.Valid.{middle, tight, needsAnd, needsOr}
-use Rattle.card.specs.Laid.{signNumber, either, opLeaf, opNot, opAnd, opOf, leftOf, rightOf, groupOf, guardAt, guardOf}
+use Rattle.card.specs.Laid.{signNumber, either, opLeaf, opNot, opAnd, opOf, leftOf, rightOf, leafOf, guardAt, guardOf}
 use Rattle.card.proofs.Laws.{guard-at-leaf, guard-at-not, guard-at-and, guard-at-or, guard-of-none, guard-of-some}
 use Rattle.phrases.specs.Phrases.{Text, _▸_}
 use Rattle.texts.specs.Shared.{Brackets, needed, always, hasAnd, hasOr, opening, closing, formulaText, formulaOr}
@@ -66,12 +66,12 @@ module _ (text : ℕ) (leaf : Leaf → Text) (v : ℕ) (nodes : List ℕ) (m x :
   abbrev Here : Text → Type 0
   Here f = (r : List ℕ) → f r ≡ part v m r
 
-  pub text-first : m ≡ 0 → Here (leaf (groupOf x))
+  pub text-first : m ≡ 0 → Here (leaf (leafOf x))
   unfolding formulaText
   text-first h r = rw (guard-at-leaf nodes m x at (inr h))
 
   module _ {op : ℕ} (o : op ≡ opOf x) where
-    pub text-leaf : op ≡ opLeaf → Here (leaf (groupOf x))
+    pub text-leaf : op ≡ opLeaf → Here (leaf (leafOf x))
     unfolding formulaText
     text-leaf e r = rw (guard-at-leaf nodes m x at (inl (sym o ∙ e)))
 

@@ -14,7 +14,7 @@ use table::bound_of;
 ghost use mathlib.Core.Path.{_≡_};
 ghost use Prim.Native.Nat.{_-_};
 ghost use Rattle.card.specs.Card.{all, any, is, isnt};
-ghost use Rattle.card.specs.Laid.{either, groupOf};
+ghost use Rattle.card.specs.Laid.{either, groupOf, leafOf};
 ghost use Rattle.meaning.specs.Reduced.{counterOf};
 ghost use Rattle.phrases.specs.Phrases.{_▸_};
 ghost use Rattle.phrases.specs.Puts.{Puts};
@@ -129,7 +129,7 @@ fn put_counter(room: &mut [u8], at: usize, node: u32, own: usize, seats: usize) 
 }
 
 pub fn put_leaf(room: &mut [u8], at: usize, node: u32, style: Style) -> usize
-    ensures { λ r. ⌜ Puts (now (room .entry)) (now (room .exit)) at (leafText style (groupOf node)) r ⌝ }
+    ensures { λ r. ⌜ Puts (now (room .entry)) (now (room .exit)) at (leafText style (leafOf node)) r ⌝ }
 {
     if style.text == WRITTEN {
         return put_group(room, at, node, style.seats);

@@ -1,4 +1,2 @@
-pub mod Rows
-pub mod Entry
 pub mod ReadInto
 pub mod Theorems

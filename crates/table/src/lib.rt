@@ -11,7 +11,7 @@ ghost use mathlib.Core.Bool.{Bool};
 ghost use Prim.Native.Nat.{_-_};
 ghost use lib.Dec.{eqb};
 ghost use Rattle.card.specs.Card.{everyone, others, all, any, is, isnt};
-ghost use Rattle.card.specs.Laid.{either, groupOf};
+ghost use Rattle.card.specs.Laid.{either, leafOf};
 ghost use Rattle.meaning.specs.Reduced.{equalTo, moreThan, lessThan, table, counterOf};
 ghost use Rattle.table.specs.Bounds.{boundRow, boundOf};
 
@@ -102,9 +102,9 @@ fn others_bound(sign: usize, relation: usize, own: usize, d: usize, n: usize) ->
     less_than(less)
 }
 
-// The test that the group in `node` becomes in a statement of local state `own`.
+// The test that the leaf in `node` becomes in a statement of local state `own`.
 pub fn bound_of(node: u32, own: usize, seats: usize) -> Bound
-    ensures { λ r. ⌜ r ≡ boundRow (boundOf (counterOf seats own (groupOf node))) ⌝ }
+    ensures { λ r. ⌜ r ≡ boundRow (boundOf (counterOf seats own (leafOf node))) ⌝ }
 {
     let kind = kind_of(node);
     let sign = sign_of(node);
