@@ -9,7 +9,7 @@ use native.Mathlib.Omega.{arith}
 use lib.Dec.{eqb}
 use lib.ListN.{length}
 use Rattle.card.specs.Text.{if_then_else_}
-use Rattle.card.specs.Card.{nondeterministic, probabilistic, Statement, Card}
+use Rattle.card.specs.Card.{Statement, Card}
 use Rattle.card.specs.Valid.{Every, ValidStatement}
 use Rattle.card.specs.Laid.{either, statementOf, statementsOf}
 use Rattle.card.specs.Rows.{rowOf, rowsFrom}
@@ -25,7 +25,7 @@ use Rattle.texts.specs.ReducedText.{counterText, updateText}
 use Rattle.texts.specs.Copies.{tailPlaces}
 use Rattle.texts.proofs.ReducedShort.{short-rest}
 use Rattle.leaf_text.specs.Style.{styleOf}
-use Rattle.statement_text.specs.Statements.{restText, copyNumber, Fits, KeepsTail}
+use Rattle.statement_text.specs.Statements.{restText, Fits, KeepsTail}
 
 -- what holds of each statement holds of the one at a row
 module _ (nodes bs rows : List ℕ) (P : Statement → Type 0) where
@@ -65,10 +65,9 @@ module _ {head : Head} {nodes bs rows : List ℕ} (v : HoldsIn head (lent rows n
         subst (λ (y : StatementRow). Fits bs y i) (sym e)
         (record { early = omega (arith, holds-rows v .few); nodes = f .nodes; few = f .branches; long = holds-branches v })
 
-    pub keeps-at : (text : ℕ) {c : ℕ} → c ≡ copyNumber text (either nondeterministic probabilistic (head .mode)) (head .seats)
-        → KeepsTail (styleOf text (x .own) (head .seats) c) (statementOf nodes bs x i)
+    pub keeps-at : (text : ℕ) {c : ℕ} (m : ℕ) → c ≡ either 1 m text → KeepsTail (styleOf text (x .own) (head .seats) c) (statementOf nodes bs x i)
     unfolding statementOf
-    keeps-at text {c} k =
+    keeps-at text {c} m k =
         subst (λ (y : StatementRow). KeepsTail (styleOf text (y .own) (head .seats) c) (statementOf nodes bs y i)) (sym e)
-        (rest-kept (head .seats) (rowOf rows i .own) (statementOf nodes bs (rowOf rows i) i) text c _ k
+        (rest-kept (head .seats) (rowOf rows i .own) (statementOf nodes bs (rowOf rows i) i) text c m k
         (short-rest (head .seats) (head .top) (holds-seats v) (holds-top v) (statementOf nodes bs (rowOf rows i) i) valid-at))

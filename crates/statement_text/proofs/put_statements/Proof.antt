@@ -40,7 +40,7 @@ put-statement-requires c κs =
     let at-loop-test = at-row-at .before in
     let at-copies-of = at-loop-test .before .before .before in
     let start = at-copies-of .before .before .before .before in
-    (fits-at (start .pre) (at-loop-test .loop-test .taken) (at-row-at .row-at .ensures), keeps-at (start .pre) (at-loop-test .loop-test .taken) (at-row-at .row-at .ensures) (start .args .text) (at-copies-of .copies-of .ensures))
+    (fits-at (start .pre) (at-loop-test .loop-test .taken) (at-row-at .row-at .ensures), keeps-at (start .pre) (at-loop-test .loop-test .taken) (at-row-at .row-at .ensures) (start .args .text) _ (at-copies-of .copies-of .ensures))
 
 add-i : tie.Need-add-i Inv-loop μ-loop
 add-i c = search needs
