@@ -1,12 +1,4 @@
-pub mod Keeping
-pub mod Symmetric
-pub mod Settling
-pub mod Signs
-pub mod Ahead
 pub mod Spent
 pub mod Building
-pub mod Literals
-pub mod Seats
-pub mod Groups
 pub mod Ways
 pub mod Chains

@@ -4,6 +4,7 @@ use Prim.Native.String.{String}
 use mathlib.Core.Path.{_≡_, refl, sym, ap, _∙_}
 use mathlib.Core.Bool.{Bool, true, false}
 use mathlib.Core.List.{List, [], _∷_}
+use mathlib.Core.Option.{Option}
 use native.Mathlib.Nat.{zero-add, add-zero}
 use native.Mathlib.Numerals.{sub-one}
 use native.Mathlib.Omega.{arith}
@@ -25,18 +26,18 @@ use Rattle.reading.specs.Reader.{Place, State, at, Result, ok, stop, Reader, bi
 use Rattle.reading.specs.Guard.{seatNext, ifSeat, chain, conjunction, expression, grouped, unary}
 use Rattle.reading.specs.Group.{Literals, group}
 use Rattle.reading.specs.Judgements.{state, oneGroup, unless, firstState, judgedGroup}
-use Rattle.guard.specs.declared.Late.{Late}
-use Rattle.guard.specs.declared.Guarded.{Guarded}
-use Rattle.guard.specs.declared.group.Grouped.{Grouped}
-use Rattle.guard.specs.Late.{wantOf, groupBy, blame, blamed, grouped as groupedLate, judgeAll}
-use Rattle.guard.specs.GroupRead.{GroupRead}
-use Rattle.guard.specs.GuardRead.{stopped, Read, GuardRead}
-use Rattle.guard.specs.Pieces.{joinOf, joiner, operandOf, chained, thenNot, thenClose, bracketOf, Refusing, Onward, Joined, GroupedAt, Bracketed}
-use Rattle.guard.proofs.Signs.{Known}
-use Rattle.guard.proofs.Ahead.{fits, unfit, next-is, sign-next, seat-next, place-next, next-within}
-use Rattle.guard.proofs.Spent.{Each, Spent, unary-spends, conjunction-spends, expression-spends}
-use Rattle.guard.proofs.Groups.{seat-marks, whole, Answers}
-use Rattle.guard.proofs.Building.{goes-wrong, went-well, read-as}
+use Rattle.group.specs.declared.Grouped.{Grouped}
+use Rattle.group.specs.Late.{Late, wantOf, groupBy, blame, blamed, grouped as groupedLate, judgeAll}
+use Rattle.group.specs.Settled.{refusal}
+use Rattle.group.specs.State.{atLeft, atFree, Sized, leftIn, freeIn, lateIn, refusalIn, withLate, After, after, Halted}
+use Rattle.group.specs.GroupRead.{GroupRead}
+use Rattle.guard.specs.GuardRead.{Read, GuardRead}
+use Rattle.guard.specs.Pieces.{joinOf, joiner, operandOf, chained, thenNot, thenClose, bracketOf, Onward, GroupedAt, Bracketed}
+use Rattle.group.proofs.Signs.{Known}
+use Rattle.group.proofs.Ahead.{fits, unfit, next-is, sign-next, seat-next, place-next, next-within, next-past}
+use Rattle.group.proofs.StateLaws.{late-sized, set-sized, left-set, free-set, late-set, free-left, left-free, left-late, free-late}
+use Rattle.group.proofs.Groups.{seat-marks, whole, Answers}
+use Rattle.guard.proofs.Building.{went-well, read-as, spending, grown}
 
 -- ---- marks of the whole card
 
@@ -60,37 +61,43 @@ module _ (t : String) (known : Known t) (s : List ℕ) (i n : ℕ) where
   pub next-no : (stepAt s i .mark .kind ≡ kind t → ⊥) → nextIs t (marksAt 0 s i) ≡ false
   next-no h = next-is 0 s t known (stepAt s i) (marksAt 0 s i) (meet 0 s i) ∙ ne-eqb (stepAt s i .mark .kind) (kind t) h
 
+-- reading stopped at the mark ahead
+halted-at : (s : List ℕ) (i m : ℕ) (r : After) → Halted m (stepAt s i .mark .place) r → Halted m (placeOf (length s) (marksAt 0 s i)) r
+halted-at s i m r h = rw (place-here s i) h
+
 -- ---- the closing bracket
 
 close-known : Known ")"
 close-known = record { above = omega arith; alone = refl; same = refl }
 
-module _ (s : List ℕ) (g : Guarded) (z : g .stop ≡ 0) where
-  close-unfit : (stepAt s (g .next) .mark .kind ≡ kind ")" → ⊥) → (k : ℕ) (nodes : List ℕ) → Onward s k nodes nodes g thenClose (stopped outOfShape (stepAt s (g .next) .mark .place))
-  close-unfit h k nodes was used before x refusing e =
-      went-well s k was nodes used before g x refusing e z
-      (λ f b i d. read-as s k was nodes used before (stopped outOfShape (stepAt s (g .next) .mark .place))
-      (ap (λ y. bind y thenClose) i ∙ ap (λ y. bind (sign ")" y) (λ _. return f)) (state-is b (marksAt 0 s (g .next)) (b .nodes) (d .rest) refl)
-      ∙ ap (λ y. bind y (λ _. return f)) (sign-unfit ")" close-known s (g .next) (b .nodes) h))
-      (ap (stopped outOfShape) (sym (place-here s (g .next)))))
+-- behind what was read so far, at the place q and the nodes left
+module _ (s : List ℕ) (g : After) (z : g .next ≡ 0 → ⊥) (a : Step) (step : a ≡ stepAt s (g .next)) where
+  closing : (f : Formula Literals) (b : State) (x : Result (Formula Literals)) → x ≡ ok f b → marksAt 0 s (g .next) ≡ b .marks
+      → bind x thenClose ≡ bind (sign ")" (at (marksAt 0 s (g .next)) (b .nodes))) (λ _. return f)
+  closing f b x i rest = ap (λ y. bind y thenClose) i ∙ ap (λ y. bind (sign ")" y) (λ _. return f)) (state-is b (marksAt 0 s (g .next)) (b .nodes) rest refl)
 
-  close-fits : stepAt s (g .next) .mark .kind ≡ kind ")" → (k : ℕ) (nodes : List ℕ)
-      → Onward s k nodes nodes g thenClose (record { stop = 0; place = 0; next = stepAt s (g .next) .next .at; root = g .root; left = g .left; late = g .late })
-  close-fits h k nodes was used before x refusing e =
-      went-well s k was nodes used before g x refusing e z
-      (λ f b i d. read-as s k was nodes used before _
-      (ap (λ y. bind y thenClose) i ∙ ap (λ y. bind (sign ")" y) (λ _. return f)) (state-is b (marksAt 0 s (g .next)) (b .nodes) (d .rest) refl)
-      ∙ ap (λ y. bind y (λ _. return f)) (sign-fits ")" close-known s (g .next) (b .nodes) h))
-      (record { went = refl; rest = refl; root = d .root; left = d .left; late = d .late; nodes = d .nodes }))
+  pub close-wrong : (a .mark .kind ≡ kind ")" → ⊥) → (r : After) → Halted outOfShape (a .mark .place) r → (k : ℕ) (nodes : List ℕ) → Onward s k nodes nodes g thenClose r
+  close-wrong h r halted k nodes was used before x e =
+      went-well s k was nodes used before g x e z
+      (λ f b i d. read-as s k was nodes used before r
+      (closing f b x i (d .rest) ∙ ap (λ y. bind y (λ _. return f)) (sign-unfit ")" close-known s (g .next) (b .nodes) (λ u. h (ap (λ (m : Step). m .mark .kind) step ∙ u))))
+      (halted-at s (g .next) outOfShape r (rw step at halted)))
 
--- the same of what the code has
-module _ (s : List ℕ) (g : Guarded) (z : g .stop ≡ 0) (a : Step) where
-  pub close-wrong : a ≡ stepAt s (g .next) → (a .mark .kind ≡ kind ")" → ⊥) → (k : ℕ) (nodes : List ℕ) → Onward s k nodes nodes g thenClose (stopped outOfShape (a .mark .place))
-  close-wrong e = rw e (close-unfit s g z)
-
-  pub close-well : a ≡ stepAt s (g .next) → a .mark .kind ≡ kind ")" → (k : ℕ) (nodes : List ℕ)
-      → Onward s k nodes nodes g thenClose (record { stop = 0; place = 0; next = a .next .at; root = g .root; left = g .left; late = g .late })
-  close-well e = rw e (close-fits s g z)
+  pub close-well : a .mark .kind ≡ kind ")" → (k : ℕ) (nodes : List ℕ) → Onward s k nodes nodes g thenClose (after (g .state) (a .next .at))
+  close-well h k nodes was used before x e =
+      went-well s k was nodes used before g x e z
+      (λ f b i d. read-as s k was nodes used before (after (g .state) (a .next .at))
+      (closing f b x i (d .rest) ∙ ap (λ y. bind y (λ _. return f)) (sign-fits ")" close-known s (g .next) (b .nodes) (ap (λ (m : Step). m .mark .kind) (sym step) ∙ h)
+      ∙ ap (λ (m : Step). ok tt (at (marksAt 0 s (m .next .at)) (b .nodes))) (sym step)))
+      (record {
+        went = λ n. next-past 0 s (stepAt s (g .next)) (marksAt 0 s (g .next)) (meet 0 s (g .next)) (λ y. omega (arith, h, ap (λ (m : Step). m .mark .kind) step)) (ap (λ (m : Step). m .next .at) (sym step) ∙ n);
+        rest = refl;
+        free = d .free;
+        left = d .left;
+        late = d .late;
+        nodes = d .nodes;
+        sized = d .sized;
+      }))
 
 -- ---- a group behind its bracket
 
@@ -113,18 +120,54 @@ same-late d k i j m n p r before e f h = rw (e, f, h)
 abbrev thenAtom : Literals → Reader (Formula Literals)
 thenAtom a = return (atom a)
 
-module _ (part : List ℕ) (from v q p left k : ℕ) (was : List ℕ) (used : ℕ) (before : Late) where
-  pub group-full : left ≡ 0 → (is : List ℕ) → GroupedAt part from v q p left k was is used before (stopped pastLimit p)
-  group-full h is s bracket x l e place marks =
-      read-as s k was is used before (stopped pastLimit p) (none-left bracket (marksAt 0 s q) left (group bracket >>= thenAtom) h) (ap (stopped pastLimit) (sym place))
+-- the state behind a group: one node fewer is left, one more is stored, and the group is judged
+pub record Judged (state : List ℕ) (due : Late) (is : List ℕ) : Type 0 where
+  pub free : freeIn is ≡ freeIn state + 1
+  pub left : leftIn is ≡ leftIn state - 1
+  pub late : lateIn is ≡ due
+  pub sized : Sized is
 
-  module _ (some : left ≡ 0 → ⊥) (g : Grouped) (answers : Answers part from v g) where
+module _ (state : List ℕ) (sized : Sized state) where
+  -- whatever number was written
+  module _ (v : ℕ) (one : List ℕ) (e : one ≡ grown (set state atLeft v)) where
+    pub stored-sized : Sized one
+    stored-sized = rw e (set-sized (set state atLeft v) (set-sized state sized atLeft v) atFree (freeIn (set state atLeft v) + 1))
+
+    pub grouped-sized : (two : List ℕ) (x : Late) → two ≡ withLate one x → Sized two
+    grouped-sized two x f = rw f (late-sized one stored-sized x)
+
+  module _ (one : List ℕ) (e : one ≡ grown (spending state)) where
+    pub judged : (m p : ℕ) (o : Option ℕ) (q : ℕ) (two three : List ℕ) → two ≡ withLate one (groupedLate m p (lateIn one)) → three ≡ withLate two (blamed o q (lateIn two))
+        → Judged state (blamed o q (groupedLate m p (lateIn state))) three
+    judged m p o q two three f g = record {
+      free =
+          ap freeIn g ∙ free-late two (blamed o q (lateIn two)) ∙ ap freeIn f ∙ free-late one (groupedLate m p (lateIn one)) ∙ ap freeIn e
+          ∙ free-set (spending state) (set-sized state sized atLeft (leftIn state - 1)) (freeIn (spending state) + 1) ∙ ap (λ n. n + 1) (free-left state (leftIn state - 1));
+      left =
+          ap leftIn g ∙ left-late two (blamed o q (lateIn two)) ∙ ap leftIn f ∙ left-late one (groupedLate m p (lateIn one)) ∙ ap leftIn e
+          ∙ left-free (spending state) (freeIn (spending state) + 1) ∙ left-set state sized (leftIn state - 1);
+      late =
+          ap lateIn g
+          ∙ ap (blamed o q) (ap lateIn f
+          ∙ ap (groupedLate m p) (ap lateIn e ∙ late-set (spending state) atFree (freeIn (spending state) + 1) (omega arith) ∙ late-set state atLeft (leftIn state - 1) (omega arith)));
+      sized = rw g (late-sized two (grouped-sized (leftIn state - 1) one e two (groupedLate m p (lateIn one)) f) (blamed o q (lateIn two)));
+    }
+
+module _ (part : List ℕ) (from v q p k : ℕ) (was : List ℕ) (state : List ℕ) where
+  abbrev Grouping : List ℕ → After → Type 0
+  Grouping is r = GroupedAt part from v q p (leftIn state) k was is (freeIn state) (lateIn state) r
+
+  pub group-full : leftIn state ≡ 0 → (is : List ℕ) (r : After) → Halted pastLimit p r → Grouping is r
+  group-full h is r halted s bracket x l e place marks =
+      read-as s k was is (freeIn state) (lateIn state) r (none-left bracket (marksAt 0 s q) (leftIn state) (group bracket >>= thenAtom) h) (rw place halted)
+
+  module _ (some : leftIn state ≡ 0 → ⊥) (g : Grouped) (answers : Answers part from v g) where
     -- the group, read
     abbrev one : Place → ℕ → Result Literals
-    one bracket x = whole part from v q (left - 1) x bracket
+    one bracket x = whole part from v q (leftIn state - 1) x bracket
 
-    opened : (s : List ℕ) (bracket : Place) (x : ℕ) → marksAt 0 s q ≡ placed (seat v) x ∷ marksAt q part from → grouped group bracket (at (marksAt 0 s q) left) ≡ bind (one bracket x) thenAtom
-    opened s bracket x marks = spent bracket (marksAt 0 s q) left (group bracket >>= thenAtom) some ∙ ap (λ ms. bind (group bracket (at ms (left - 1))) thenAtom) marks
+    opened : (s : List ℕ) (bracket : Place) (x : ℕ) → marksAt 0 s q ≡ placed (seat v) x ∷ marksAt q part from → grouped group bracket (at (marksAt 0 s q) (leftIn state)) ≡ bind (one bracket x) thenAtom
+    opened s bracket x marks = spent bracket (marksAt 0 s q) (leftIn state) (group bracket >>= thenAtom) some ∙ ap (λ ms. bind (group bracket (at ms (leftIn state - 1))) thenAtom) marks
 
     card-long : (s : List ℕ) → q ≤ length s → part ≡ drop q s → q + length part ≡ length s
     card-long s l e = omega (arith, ap length e, length-drop q s)
@@ -132,33 +175,33 @@ module _ (part : List ℕ) (from v q p left k : ℕ) (was : List ℕ) (used : �
     card-place : (s : List ℕ) (ms : Place) (i : ℕ) → q ≤ length s → part ≡ drop q s → placeOf (q + length part) ms ≡ q + i → placeOf (length s) ms ≡ q + i
     card-place s ms i l e h = ap (λ n. placeOf n ms) (sym (card-long s l e)) ∙ h
 
-    pub group-wrong : (g .stop ≡ 0 → ⊥) → (is : List ℕ) → GroupedAt part from v q p left k was is used before (stopped outOfShape (q + g .place))
-    group-wrong z is s bracket x l e place marks =
-        read-as s k was is used before (stopped outOfShape (q + g .place)) (opened s bracket x marks) (go (one bracket x) (answers q (left - 1) x bracket))
+    pub group-wrong : (g .stop ≡ 0 → ⊥) → (is : List ℕ) (r : After) → Halted outOfShape (q + g .place) r → Grouping is r
+    group-wrong z is r halted s bracket x l e place marks =
+        read-as s k was is (freeIn state) (lateIn state) r (opened s bracket x marks) (go (one bracket x) (answers q (leftIn state - 1) x bracket))
       where
-        go : (y : Result Literals) → GroupRead q part (left - 1) bracket y g → GuardRead s k was is used before (bind y thenAtom) (stopped outOfShape (q + g .place))
+        go : (y : Result Literals) → GroupRead q part (leftIn state - 1) bracket y g → GuardRead s k was is (freeIn state) (lateIn state) (bind y thenAtom) r
         go (ok a b) h = absurd (z (h .went))
-        go (stop m ms) h = rw (h .number) (ap (stopped outOfShape) (sym (card-place s ms (g .place) l e (h .place))))
+        go (stop m ms) h = rw (h .number, card-place s ms (g .place) l e (h .place)) halted
 
-    pub group-well : g .stop ≡ 0 → (late : Late) → late ≡ blamed (unless (leb (g .d) k) aboveTop) (q + g .first) (groupedLate (g .want) p before)
-        → GroupedAt part from v q p left k was (set was used (g .node)) used before (record { stop = 0; place = 0; next = q + g .next; root = used; left = left - 1; late = late })
-    group-well z late judged s bracket x l e place marks =
-        read-as s k was (set was used (g .node)) used before (record { stop = 0; place = 0; next = q + g .next; root = used; left = left - 1; late = late })
-        (opened s bracket x marks) (go (one bracket x) (answers q (left - 1) x bracket))
+    pub group-well : g .stop ≡ 0 → (is : List ℕ) → Judged state (blamed (unless (leb (g .d) k) aboveTop) (q + g .first) (groupedLate (g .want) p (lateIn state))) is
+        → Grouping (set was (freeIn state) (g .node)) (after is (q + g .next))
+    group-well z is judged s bracket x l e place marks =
+        read-as s k was (set was (freeIn state) (g .node)) (freeIn state) (lateIn state) (after is (q + g .next)) (opened s bracket x marks) (go (one bracket x) (answers q (leftIn state - 1) x bracket))
       where
-        go : (y : Result Literals) → GroupRead q part (left - 1) bracket y g
-            → GuardRead s k was (set was used (g .node)) used before (bind y thenAtom) (record { stop = 0; place = 0; next = q + g .next; root = used; left = left - 1; late = late })
+        go : (y : Result Literals) → GroupRead q part (leftIn state - 1) bracket y g
+            → GuardRead s k was (set was (freeIn state) (g .node)) (freeIn state) (lateIn state) (bind y thenAtom) (after is (q + g .next))
         go (ok a b) h = record {
-          went = refl;
+          went = λ n. h .past (omega arith);
           rest = sym (part-of-card q s (g .next) l) ∙ ap (λ u. marksAt q u (g .next)) (sym e) ∙ h .rest;
-          root = omega arith;
-          left = sym (h .left);
+          free = judged .free;
+          left = judged .left ∙ sym (h .left);
           late =
-              judged
-              ∙ same-late (g .d) k (q + g .first) (placeOf (length s) (h .numeral)) (g .want) (wantOf (a .literals)) p (placeOf (length s) (a .place)) before
+              judged .late
+              ∙ same-late (g .d) k (q + g .first) (placeOf (length s) (h .numeral)) (g .want) (wantOf (a .literals)) p (placeOf (length s) (a .place)) (lateIn state)
               (sym (card-place s (h .numeral) (g .first) l e (h .first))) (h .want) (sym place ∙ ap (placeOf (length s)) (sym (h .bracket)))
-              ∙ sym (judged-group (length s) k a (g .d) (h .numeral) before (h .states));
-          nodes = ap (set was used) (h .node) ∙ sym (stored-leaf was used (groupBy (a .sign) (a .literals)));
+              ∙ sym (judged-group (length s) k a (g .d) (h .numeral) (lateIn state) (h .states));
+          nodes = ap (set was (freeIn state)) (h .node) ∙ sym (stored-leaf was (freeIn state) (groupBy (a .sign) (a .literals)));
+          sized = judged .sized;
         }
         go (stop m ms) h = absurd (omega (arith, z, ap (λ (u : Grouped). u .stop) (h .answer)))
 
@@ -252,39 +295,39 @@ module _ (s : List ℕ) (q : ℕ) (l : q ≤ length s) where
         go zero f = absurd (f refl)
         go (suc d) f = rw (seat-no h, sub-one (suc d))
 
--- a refusal has a number, since each of those that a reader spends or keeps nodes with has one
-pub each-refusing : {A : Type 0} (P : A → State → Type 0) (x : Result A) → Each P x → Refusing x
-each-refusing P (ok a b) h = tt
-each-refusing P (stop r p) h = h
-
 module _ (s : List ℕ) (q p left depth k : ℕ) (l : q ≤ length s) (was is : List ℕ) (used : ℕ) (before : Late) (part : List ℕ) (same : part ≡ drop q s) (w : Step) (step : w ≡ stepAt part 0) where
+  abbrev Brackets : After → Type 0
+  Brackets r = Bracketed s q p left depth k was is used before r
+
   step-there : w ≡ stepAt (drop q s) 0
   step-there = step ∙ ap (λ u. stepAt u 0) same
 
   kind-there : (v : ℕ) → w .mark .kind ≡ v → stepAt (drop q s) 0 .mark .kind ≡ v
   kind-there v h = ap (λ (u : Step). u .mark .kind) (sym step-there) ∙ h
 
-  pub bracket-groups : (r : Guarded) → w .mark .kind ≡ kSeat → GroupedAt part (w .next .at) (w .mark .value) q p left k was is used before r → Bracketed s q p left depth k was is used before r
+  pub bracket-groups : (r : After) → w .mark .kind ≡ kSeat → GroupedAt part (w .next .at) (w .mark .value) q p left k was is used before r → Brackets r
   bracket-groups r h g bracket e =
       read-as s k was is used before r (bracket-group s q l depth left bracket (kind-there kSeat h))
       (g s bracket (q + w .mark .place) l same e
       (rw (step-there, same) (seat-marks q (drop q s) (stepAt (drop q s) 0) (marksAt 0 s q) (word-meet s q l) (kind-there kSeat h))))
 
-  pub bracket-stops : (w .mark .kind ≡ kSeat → ⊥) → depth ≡ 0 → Bracketed s q p left depth k was is used before (stopped pastLimit p)
-  bracket-stops h e bracket f =
-      read-as s k was is used before (stopped pastLimit p) (bracket-deep s q l depth left bracket (λ z. h (ap (λ (u : Step). u .mark .kind) step-there ∙ z)) e) (ap (stopped pastLimit) (sym f))
+  module _ (h : w .mark .kind ≡ kSeat → ⊥) where
+    other : stepAt (drop q s) 0 .mark .kind ≡ kSeat → ⊥
+    other z = h (ap (λ (u : Step). u .mark .kind) step-there ∙ z)
 
-  pub bracket-closes : (w .mark .kind ≡ kSeat → ⊥) → (depth ≡ 0 → ⊥) → (g r : Guarded) → GuardRead s k was is used before (expression (unary group (depth - 1)) (at (marksAt 0 s q) left)) g
-      → ((top : ℕ) (nodes : List ℕ) → Onward s top nodes nodes g thenClose r) → Bracketed s q p left depth k was is used before r
-  bracket-closes h e g r d onward bracket f =
-      read-as s k was is used before r (bracket-inner s q l depth left bracket (λ z. h (ap (λ (u : Step). u .mark .kind) step-there ∙ z)) e)
-      (onward k is was used before (expression (unary group (depth - 1)) (at (marksAt 0 s q) left))
-      (each-refusing (Spent left) (expression (unary group (depth - 1)) (at (marksAt 0 s q) left)) (expression-spends (unary group (depth - 1)) (unary-spends (depth - 1)) (at (marksAt 0 s q) left))) d)
+    pub bracket-stops : depth ≡ 0 → (r : After) → Halted pastLimit p r → Brackets r
+    bracket-stops e r halted bracket f = read-as s k was is used before r (bracket-deep s q l depth left bracket other e) (rw f halted)
+
+    pub bracket-closes : (depth ≡ 0 → ⊥) → (g r : After) → GuardRead s k was is used before (expression (unary group (depth - 1)) (at (marksAt 0 s q) left)) g
+        → ((top : ℕ) (nodes : List ℕ) → Onward s top nodes nodes g thenClose r) → Brackets r
+    bracket-closes e g r d onward bracket f =
+        read-as s k was is used before r (bracket-inner s q l depth left bracket other e)
+        (onward k is was used before (expression (unary group (depth - 1)) (at (marksAt 0 s q) left)) d)
 
 -- ---- a unary, as the code has it
 
 module _ (s : List ℕ) (i left depth k : ℕ) (was is : List ℕ) (used : ℕ) (before : Late) (a : Step) (step : a ≡ stepAt s i) where
-  abbrev Reads : Guarded → Type 0
+  abbrev Reads : After → Type 0
   Reads r = GuardRead s k was is used before (unary group depth (at (marksAt 0 s i) left)) r
 
   kind-here : (v : ℕ) → a .mark .kind ≡ v → stepAt s i .mark .kind ≡ v
@@ -296,33 +339,32 @@ module _ (s : List ℕ) (i left depth k : ℕ) (was is : List ℕ) (used : ℕ) 
   place-there : placeOf (length s) (marksAt 0 s i) ≡ a .mark .place
   place-there = place-here s i ∙ ap (λ (u : Step). u .mark .place) (sym step)
 
-  stops : (m : ℕ) → unary group depth (at (marksAt 0 s i) left) ≡ stop m (marksAt 0 s i) → Reads (stopped m (a .mark .place))
-  stops m e = read-as s k was is used before (stopped m (a .mark .place)) e (ap (stopped m) (sym place-there))
+  stops : (m : ℕ) (r : After) → unary group depth (at (marksAt 0 s i) left) ≡ stop m (marksAt 0 s i) → Halted m (a .mark .place) r → Reads r
+  stops m r e halted = read-as s k was is used before r e (rw place-there halted)
 
-  pub reads-bracket : a .mark .kind ≡ kind "(" → (r : Guarded) → Bracketed s (a .next .at) (a .mark .place) left depth k was is used before r → Reads r
+  pub reads-bracket : a .mark .kind ≡ kind "(" → (r : After) → Bracketed s (a .next .at) (a .mark .place) left depth k was is used before r → Reads r
   reads-bracket h r b =
       read-as s k was is used before r
       (unary-open s i depth left (kind-here (kind "(") h) ∙ ap (λ (u : Step). bracketOf depth (marksAt 0 s i) (at (marksAt 0 s (u .next .at)) left)) (sym step))
       (b (marksAt 0 s i) place-there)
 
-  pub reads-unfit : (a .mark .kind ≡ kind "(" → ⊥) → (a .mark .kind ≡ kind "!" → ⊥) → Reads (stopped outOfShape (a .mark .place))
-  reads-unfit h e = stops outOfShape (unary-unfit s i depth left (unkind-here (kind "(") h) (unkind-here (kind "!") e))
+  pub reads-unfit : (a .mark .kind ≡ kind "(" → ⊥) → (a .mark .kind ≡ kind "!" → ⊥) → (r : After) → Halted outOfShape (a .mark .place) r → Reads r
+  reads-unfit h e r halted = stops outOfShape r (unary-unfit s i depth left (unkind-here (kind "(") h) (unkind-here (kind "!") e)) halted
 
   module _ (h : a .mark .kind ≡ kind "!") where
-    pub reads-deep : depth ≡ 0 → Reads (stopped pastLimit (a .mark .place))
-    reads-deep e = stops pastLimit (unary-deep s i depth left (kind-here (kind "!") h) e)
+    pub reads-deep : depth ≡ 0 → (r : After) → Halted pastLimit (a .mark .place) r → Reads r
+    reads-deep e r halted = stops pastLimit r (unary-deep s i depth left (kind-here (kind "!") h) e) halted
 
-    pub reads-full : (depth ≡ 0 → ⊥) → left ≡ 0 → Reads (stopped pastLimit (a .mark .place))
-    reads-full f e = stops pastLimit (unary-full s i depth left (kind-here (kind "!") h) f e)
+    pub reads-full : (depth ≡ 0 → ⊥) → left ≡ 0 → (r : After) → Halted pastLimit (a .mark .place) r → Reads r
+    reads-full f e r halted = stops pastLimit r (unary-full s i depth left (kind-here (kind "!") h) f e) halted
 
-    pub reads-not : (depth ≡ 0 → ⊥) → (left ≡ 0 → ⊥) → (mid : List ℕ) (g r : Guarded)
+    pub reads-not : (depth ≡ 0 → ⊥) → (left ≡ 0 → ⊥) → (mid : List ℕ) (g r : After)
         → GuardRead s k was mid used before (unary group (depth - 1) (at (marksAt 0 s (a .next .at)) (left - 1))) g
         → ((t : List ℕ) (top : ℕ) → Onward t top mid is g thenNot r) → Reads r
     reads-not f e mid g r d onward =
         read-as s k was is used before r
         (unary-not s i depth left (kind-here (kind "!") h) f e ∙ ap (λ (u : Step). bind (unary group (depth - 1) (at (marksAt 0 s (u .next .at)) (left - 1))) thenNot) (sym step))
-        (onward s k was used before (unary group (depth - 1) (at (marksAt 0 s (a .next .at)) (left - 1)))
-        (each-refusing (Spent (left - 1)) (unary group (depth - 1) (at (marksAt 0 s (a .next .at)) (left - 1))) (unary-spends (depth - 1) (at (marksAt 0 s (a .next .at)) (left - 1)))) d)
+        (onward s k was used before (unary group (depth - 1) (at (marksAt 0 s (a .next .at)) (left - 1))) d)
 
 -- ---- what the code's calls ask
 

@@ -1,15 +1,23 @@
--- The readers of a guard call each other, with a measure of eight steps for each bracket and `!` left. The chain's invariant: the
--- guard is what was read so far and the chain behind it make (Chaining); its measure is how many nodes are left.
+-- The readers of a guard call each other, with a measure of eight steps for each bracket, `!` and node left. The chain's invariant:
+-- the guard is what was read so far and the chain behind it make (Chaining); its measure is how many nodes are left. Assumes nothing.
+use Prim.Native.Nat.{ℕ, _<_, _+_, _*_, _-_}
 use mathlib.Core.Path.{sym, _∙_}
-use Rattle.guard.proofs.Chains.{three, Chaining, chain-begins, chain-wrong, chain-done, chain-stops, operand-room, chain-falls, chain-turns, unary-room, conjunction-room, unary-chained, conjunction-chained, unary-alone, conjunction-alone}
-use Rattle.guard.proofs.Ways.{step-within, part-is, part-long, bracket-groups, bracket-stops, bracket-closes, reads-bracket, reads-unfit, reads-deep, reads-full, reads-not}
-use lib.ListN.{length, take, drop}
-use Rattle.card.specs.Limits.{nodePlaces}
-use Rattle.card.specs.Text.{if_then_else_}
+use mathlib.Core.Bool.{true, false}
 use native.Mathlib.Omega.{arith}
 use borrow.Author.Needs.{needs}
 use denote.Ref.{now}
-use Prim.Native.Nat.{ℕ, _<_, _+_, _*_, _-_}
+use lib.ListN.{length, take, drop}
+use Rattle.card.specs.Text.{if_then_else_}
+use Rattle.marks.specs.Step.{marksAt}
+use Rattle.reading.specs.Reader.{at}
+use Rattle.reading.specs.Guard as grammar
+use Rattle.reading.specs.Group as groups
+use Rattle.group.specs.State.{leftIn, freeIn, lateIn, after}
+use Rattle.group.proofs.StateLaws.{left-set}
+use Rattle.guard.specs.Pieces.{chained, thenNot, thenClose}
+use Rattle.guard.proofs.Building.{goes-wrong, goes-on-wrong, not-well, still-sized, spending-ready, read-spending}
+use Rattle.guard.proofs.Ways.{step-within, part-is, part-long, close-wrong, close-well, bracket-groups, bracket-stops, bracket-closes, reads-bracket, reads-unfit, reads-deep, reads-full, reads-not}
+use Rattle.guard.proofs.Chains.{three, Chaining, chain-begins, chain-done, chain-stops, chain-wrong, roomy, store-room, chain-falls, chain-turns, unary-begun, conjunction-begun, unary-alone, conjunction-alone, behind-not}
 use borrow.Fn.Kinds.{In}
 use borrow.Fn.PlainCycle.{Measures, is, falls, and}
 use Rattle.guard.proofs.bracket.Reads as bracket
@@ -30,94 +38,95 @@ use Rattle.guard.proofs.+bracket+chain+conjunction+expression+operand+u
 use Rattle.guard.proofs.unary.Reads as unary
 use Rattle.guard.proofs.unary.Kinds as unary-kinds
 use Rattle.guard.proofs.+bracket+chain+conjunction+expression+operand+unary.Lts-unary as unary-lts
-use Rattle.guard.proofs.closed.Reads as closed-reads
+use Rattle.card.proofs.node.pack_node.Reads as pack-node-reads
+use Rattle.group.proofs.joint.Reads as joint-reads
+use Rattle.group.proofs.late.stop.Reads as stop-reads
 use Rattle.guard.proofs.grouping.Reads as grouping-reads
-use Rattle.guard.proofs.joined.Reads as joined-reads
-use Rattle.guard.proofs.is_closed.Reads as is-closed-reads
-use Rattle.guard.proofs.joint.Reads as joint-reads
-use Rattle.guard.proofs.negated.Reads as negated-reads
-use Rattle.guard.proofs.stopped.Reads as stopped-reads
+use Rattle.guard.proofs.operator.Reads as operator-reads
+use Rattle.guard.proofs.store.Reads as store-reads
 use Rattle.looks.proofs.due.step_after.Reads as step-after-reads
 use Rattle.looks.proofs.due.step_inner.Reads as step-inner-reads
 use Rattle.looks.proofs.due.step_opening.Reads as step-opening-reads
+use Rattle.looks.proofs.due.step_sign.Reads as step-sign-reads
+use Rattle.looks.proofs.look.sign_here.Reads as sign-here-reads
 use Rattle.guard.proofs.+bracket+chain+conjunction+expression+operand+unary.{statement}
 use Rattle.guard.proofs.+bracket+chain+conjunction+expression+operand+unary.Tie.{close}
 
-abbrev μ-bracket : Measures 2 bracket-kinds.ps ℕ
-μ-bracket κs a = (a .1 .1 .1 .1 .1 .1 .0 + a .1 .1 .1 .1 .1 .0) * 8
+abbrev μ-bracket : Measures 3 bracket-kinds.ps ℕ
+μ-bracket κs a = (a .1 .1 .1 .1 .1 .0 + leftIn (now (a .1 .1 .1 .1 .0))) * 8
 
-abbrev μ-chain : Measures 2 chain-kinds.ps ℕ
-μ-chain κs a = (a .1 .1 .1 .0 + a .1 .1 .0 .left) * 8 + 3 + (if a .1 .1 .1 .1 .1 .0 then 3 else 0)
+abbrev μ-chain : Measures 3 chain-kinds.ps ℕ
+μ-chain κs a = (a .1 .1 .1 .1 .0 + leftIn (now (a .1 .1 .1 .0))) * 8 + 3 + (if a .1 .1 .1 .1 .1 .1 .0 then 3 else 0)
 
-abbrev μ-conjunction : Measures 2 conjunction-kinds.ps ℕ
-μ-conjunction κs a = (a .1 .1 .1 .1 .1 .0 + a .1 .1 .1 .1 .0) * 8 + 4
+abbrev μ-conjunction : Measures 3 conjunction-kinds.ps ℕ
+μ-conjunction κs a = (a .1 .1 .1 .1 .0 + leftIn (now (a .1 .1 .1 .0))) * 8 + 4
 
-abbrev μ-expression : Measures 2 expression-kinds.ps ℕ
-μ-expression κs a = (a .1 .1 .1 .1 .1 .0 + a .1 .1 .1 .1 .0) * 8 + 7
+abbrev μ-expression : Measures 3 expression-kinds.ps ℕ
+μ-expression κs a = (a .1 .1 .1 .1 .0 + leftIn (now (a .1 .1 .1 .0))) * 8 + 7
 
-abbrev μ-operand : Measures 2 operand-kinds.ps ℕ
-μ-operand κs a = (a .1 .1 .1 .1 .1 .0 + a .1 .1 .1 .1 .0) * 8 + 2 + (if a .1 .1 .1 .1 .1 .1 .1 .1 .0 then 3 else 0)
+abbrev μ-operand : Measures 3 operand-kinds.ps ℕ
+μ-operand κs a = (a .1 .1 .1 .1 .0 + leftIn (now (a .1 .1 .1 .0))) * 8 + 2 + (if a .1 .1 .1 .1 .1 .1 .0 then 3 else 0)
 
-abbrev μ-unary : Measures 2 unary-kinds.ps ℕ
-μ-unary κs a = (a .1 .1 .1 .1 .1 .0 + a .1 .1 .1 .1 .0) * 8 + 1
+abbrev μ-unary : Measures 3 unary-kinds.ps ℕ
+μ-unary κs a = (a .1 .1 .1 .1 .0 + leftIn (now (a .1 .1 .1 .0))) * 8 + 1
 
-abbrev bracket-at : ℕ → In 2 bracket-kinds.ps
-bracket-at t = and 2 bracket-kinds.ps (is 2 bracket-kinds.ps μ-bracket t) bracket.Pre
+abbrev bracket-at : ℕ → In 3 bracket-kinds.ps
+bracket-at t = and 3 bracket-kinds.ps (is 3 bracket-kinds.ps μ-bracket t) bracket.Pre
 
-abbrev bracket-below : ℕ → In 2 bracket-kinds.ps
-bracket-below t = and 2 bracket-kinds.ps (falls 2 bracket-kinds.ps _<_ μ-bracket t) bracket.Pre
+abbrev bracket-below : ℕ → In 3 bracket-kinds.ps
+bracket-below t = and 3 bracket-kinds.ps (falls 3 bracket-kinds.ps _<_ μ-bracket t) bracket.Pre
 
-abbrev chain-at : ℕ → In 2 chain-kinds.ps
-chain-at t = and 2 chain-kinds.ps (is 2 chain-kinds.ps μ-chain t) chain.Pre
+abbrev chain-at : ℕ → In 3 chain-kinds.ps
+chain-at t = and 3 chain-kinds.ps (is 3 chain-kinds.ps μ-chain t) chain.Pre
 
-abbrev chain-below : ℕ → In 2 chain-kinds.ps
-chain-below t = and 2 chain-kinds.ps (falls 2 chain-kinds.ps _<_ μ-chain t) chain.Pre
+abbrev chain-below : ℕ → In 3 chain-kinds.ps
+chain-below t = and 3 chain-kinds.ps (falls 3 chain-kinds.ps _<_ μ-chain t) chain.Pre
 
-abbrev conjunction-at : ℕ → In 2 conjunction-kinds.ps
+abbrev conjunction-at : ℕ → In 3 conjunction-kinds.ps
 conjunction-at t =
-    and 2 conjunction-kinds.ps (is 2 conjunction-kinds.ps μ-conjunction t) conjunction.Pre
+    and 3 conjunction-kinds.ps (is 3 conjunction-kinds.ps μ-conjunction t) conjunction.Pre
 
-abbrev conjunction-below : ℕ → In 2 conjunction-kinds.ps
+abbrev conjunction-below : ℕ → In 3 conjunction-kinds.ps
 conjunction-below t =
-    and 2 conjunction-kinds.ps (falls 2 conjunction-kinds.ps _<_ μ-conjunction t) conjunction.Pre
+    and 3 conjunction-kinds.ps (falls 3 conjunction-kinds.ps _<_ μ-conjunction t) conjunction.Pre
 
-abbrev expression-at : ℕ → In 2 expression-kinds.ps
+abbrev expression-at : ℕ → In 3 expression-kinds.ps
 expression-at t =
-    and 2 expression-kinds.ps (is 2 expression-kinds.ps μ-expression t) expression.Pre
+    and 3 expression-kinds.ps (is 3 expression-kinds.ps μ-expression t) expression.Pre
 
-abbrev expression-below : ℕ → In 2 expression-kinds.ps
+abbrev expression-below : ℕ → In 3 expression-kinds.ps
 expression-below t =
-    and 2 expression-kinds.ps (falls 2 expression-kinds.ps _<_ μ-expression t) expression.Pre
+    and 3 expression-kinds.ps (falls 3 expression-kinds.ps _<_ μ-expression t) expression.Pre
 
-abbrev operand-at : ℕ → In 2 operand-kinds.ps
-operand-at t = and 2 operand-kinds.ps (is 2 operand-kinds.ps μ-operand t) operand.Pre
+abbrev operand-at : ℕ → In 3 operand-kinds.ps
+operand-at t = and 3 operand-kinds.ps (is 3 operand-kinds.ps μ-operand t) operand.Pre
 
-abbrev operand-below : ℕ → In 2 operand-kinds.ps
-operand-below t = and 2 operand-kinds.ps (falls 2 operand-kinds.ps _<_ μ-operand t) operand.Pre
+abbrev operand-below : ℕ → In 3 operand-kinds.ps
+operand-below t = and 3 operand-kinds.ps (falls 3 operand-kinds.ps _<_ μ-operand t) operand.Pre
 
-abbrev unary-at : ℕ → In 2 unary-kinds.ps
-unary-at t = and 2 unary-kinds.ps (is 2 unary-kinds.ps μ-unary t) unary.Pre
+abbrev unary-at : ℕ → In 3 unary-kinds.ps
+unary-at t = and 3 unary-kinds.ps (is 3 unary-kinds.ps μ-unary t) unary.Pre
 
-abbrev unary-below : ℕ → In 2 unary-kinds.ps
-unary-below t = and 2 unary-kinds.ps (falls 2 unary-kinds.ps _<_ μ-unary t) unary.Pre
+abbrev unary-below : ℕ → In 3 unary-kinds.ps
+unary-below t = and 3 unary-kinds.ps (falls 3 unary-kinds.ps _<_ μ-unary t) unary.Pre
 
 abbrev bracket-R : ℕ → bracket-lts.Claims
-bracket-R t = (step-inner-reads.Asked, step-inner-reads.Learnt, grouping-reads.Asked, grouping-reads.Learnt, stopped-reads.Asked, stopped-reads.Learnt, expression-below t, expression.Post, closed-reads.Asked, closed-reads.Learnt)
+bracket-R t = (step-inner-reads.Asked, step-inner-reads.Learnt, grouping-reads.Asked, grouping-reads.Learnt, stop-reads.Asked, stop-reads.Learnt, expression-below t, expression.Post, step-sign-reads.Asked, step-sign-reads.Learnt)
 
 abbrev chain-R : ℕ → chain-lts.Claims
-chain-R t = (joint-reads.Asked, joint-reads.Learnt, step-after-reads.Asked, step-after-reads.Learnt, stopped-reads.Asked, stopped-reads.Learnt, operand-below t, operand.Post, joined-reads.Asked, joined-reads.Learnt)
+chain-R t = (joint-reads.Asked, joint-reads.Learnt, step-after-reads.Asked, step-after-reads.Learnt, stop-reads.Asked, stop-reads.Learnt, operand-below t, operand.Post, operator-reads.Asked, operator-reads.Learnt, pack-node-reads.Asked, pack-node-reads.Learnt, store-reads.Asked, store-reads.Learnt)
 
 abbrev conjunction-R : ℕ → conjunction-lts.Claims
-conjunction-R t = (unary-below t, unary.Post, is-closed-reads.Asked, is-closed-reads.Learnt, chain-below t, chain.Post)
+conjunction-R t = (unary-below t, unary.Post, sign-here-reads.Asked, sign-here-reads.Learnt, chain-below t, chain.Post)
 
 abbrev expression-R : ℕ → expression-lts.Claims
-expression-R t = (conjunction-below t, conjunction.Post, is-closed-reads.Asked, is-closed-reads.Learnt, chain-below t, chain.Post)
+expression-R t = (conjunction-below t, conjunction.Post, sign-here-reads.Asked, sign-here-reads.Learnt, chain-below t, chain.Post)
 
 abbrev operand-R : ℕ → operand-lts.Claims
 operand-R t = (conjunction-below t, conjunction.Post, unary-below t, unary.Post)
 
 abbrev unary-R : ℕ → unary-lts.Claims
-unary-R t = (step-opening-reads.Asked, step-opening-reads.Learnt, bracket-below t, bracket.Post, stopped-reads.Asked, stopped-reads.Learnt, unary-below t, unary.Post, negated-reads.Asked, negated-reads.Learnt)
+unary-R t = (step-opening-reads.Asked, step-opening-reads.Learnt, bracket-below t, bracket.Post, stop-reads.Asked, stop-reads.Learnt, unary-below t, unary.Post, pack-node-reads.Asked, pack-node-reads.Learnt, store-reads.Asked, store-reads.Learnt)
 
 bracket-sub-part : (t : ℕ) → bracket-lts.Need-sub-part (bracket-R t) (bracket-at t) bracket.Post
 bracket-sub-part t c = search needs
@@ -132,159 +141,500 @@ bracket-step-inner-requires : (t : ℕ) → bracket-lts.Need-step-inner-requires
 bracket-step-inner-requires t c κs = tt
 
 bracket-grouping-requires : (t : ℕ) → bracket-lts.Need-grouping-requires (bracket-R t) (bracket-at t) bracket.Post
-bracket-grouping-requires t c κs = (c .before .before .before .before .before .before .pre .1 .0, omega (arith, part-long (now (c .before .before .before .before .before .before .args .card)) (c .before .before .before .before .before .before .args .begin) (c .before .before .before .before .before .before .pre .1 .2), c .before .before .before .before .before .before .good .0 .0))
+bracket-grouping-requires t c κs =
+    let entry = c .before .before .before .before .before .before .before in
+    (entry .pre .1 .0, omega (arith, part-long (now (entry .args .card)) (entry .args .begin) (entry .pre .1 .1), entry .good .0 .0))
 
 bracket-returns : (t : ℕ) → bracket-lts.Need-returns (bracket-R t) (bracket-at t) bracket.Post
-bracket-returns t c = bracket-groups (now (c .before .before .before .before .before .before .before .args .card)) (c .before .before .before .before .before .before .before .args .begin) (c .before .before .before .before .before .before .before .args .place) (c .before .before .before .before .before .before .before .args .left) (c .before .before .before .before .before .before .before .args .depth) (c .before .before .before .before .before .before .before .args .top) (c .before .before .before .before .before .before .before .pre .1 .2) (now (c .before .before .before .before .before .before .before .args .nodes)) (c .grouping .last .1 .1 .1 .1 .1 .0) (c .before .before .before .before .before .before .before .args .used) (c .before .before .before .before .before .before .before .args .late) (take (length (now (c .before .before .before .before .before .before .before .args .card)) - c .before .before .before .before .before .before .before .args .begin) (drop (c .before .before .before .before .before .before .before .args .begin) (now (c .before .before .before .before .before .before .before .args .card)))) (part-is (now (c .before .before .before .before .before .before .before .args .card)) (c .before .before .before .before .before .before .before .args .begin) (c .before .before .before .before .before .before .before .pre .1 .2)) (c .before .before .before .before .step-inner .result) (c .before .before .before .before .step-inner .ensures) (c .grouping .result) (c .before .before .if1 .taken) (c .grouping .ensures)
+bracket-returns t c =
+    let at-if1 = c .before .before .before in
+    let at-step-inner = at-if1 .before .before in
+    let entry = at-step-inner .before .before .before in
+    let a = entry .args in
+    bracket-groups (now (a .card)) (a .begin) (a .place) (leftIn (now (a .state))) (a .depth) (a .top) (entry .pre .1 .1) (now (a .nodes)) (c .grouping .last .1 .1 .1 .1 .1 .0) (freeIn (now (a .state))) (lateIn (now (a .state)))
+    (take (length (now (a .card)) - a .begin) (drop (a .begin) (now (a .card)))) (part-is (now (a .card)) (a .begin) (entry .pre .1 .1)) (at-step-inner .step-inner .result) (at-step-inner .step-inner .ensures)
+    (after (c .grouping .last .1 .1 .1 .1 .1 .1 .0) (c .grouping .result)) (at-if1 .if1 .taken) (c .grouping .ensures)
 
-bracket-stopped-requires : (t : ℕ) → bracket-lts.Need-stopped-requires (bracket-R t) (bracket-at t) bracket.Post
-bracket-stopped-requires t c κs = tt
+bracket-stop-requires : (t : ℕ) → bracket-lts.Need-stop-requires (bracket-R t) (bracket-at t) bracket.Post
+bracket-stop-requires t c κs =
+    let entry = c .before .before .before .before .before .before .before in
+    entry .pre .1 .0 .sized
 
 bracket-returns-2 : (t : ℕ) → bracket-lts.Need-returns-2 (bracket-R t) (bracket-at t) bracket.Post
-bracket-returns-2 t c = rw (c .stopped .ensures) (bracket-stops (now (c .before .before .before .before .before .before .before .args .card)) (c .before .before .before .before .before .before .before .args .begin) (c .before .before .before .before .before .before .before .args .place) (c .before .before .before .before .before .before .before .args .left) (c .before .before .before .before .before .before .before .args .depth) (c .before .before .before .before .before .before .before .args .top) (c .before .before .before .before .before .before .before .pre .1 .2) (now (c .before .before .before .before .before .before .before .args .nodes)) (now (c .before .before .before .before .before .before .before .args .nodes)) (c .before .before .before .before .before .before .before .args .used) (c .before .before .before .before .before .before .before .args .late) (take (length (now (c .before .before .before .before .before .before .before .args .card)) - c .before .before .before .before .before .before .before .args .begin) (drop (c .before .before .before .before .before .before .before .args .begin) (now (c .before .before .before .before .before .before .before .args .card)))) (part-is (now (c .before .before .before .before .before .before .before .args .card)) (c .before .before .before .before .before .before .before .args .begin) (c .before .before .before .before .before .before .before .pre .1 .2)) (c .before .before .before .before .step-inner .result) (c .before .before .before .before .step-inner .ensures) (c .before .before .if1 .left) (c .before .if2 .taken))
+bracket-returns-2 t c =
+    let at-if2 = c .before .before in
+    let at-if1 = at-if2 .before in
+    let at-step-inner = at-if1 .before .before in
+    let entry = at-step-inner .before .before .before in
+    let a = entry .args in
+    bracket-stops (now (a .card)) (a .begin) (a .place) (leftIn (now (a .state))) (a .depth) (a .top) (entry .pre .1 .1) (now (a .nodes)) (now (a .nodes)) (freeIn (now (a .state))) (lateIn (now (a .state)))
+    (take (length (now (a .card)) - a .begin) (drop (a .begin) (now (a .card)))) (part-is (now (a .card)) (a .begin) (entry .pre .1 .1)) (at-step-inner .step-inner .result) (at-step-inner .step-inner .ensures)
+    (at-if1 .if1 .left) (at-if2 .if2 .taken) (after (c .stop .last .0) (c .stop .result)) (c .stop .ensures .0)
 
 bracket-sub-expression : (t : ℕ) → bracket-lts.Need-sub-expression (bracket-R t) (bracket-at t) bracket.Post
 bracket-sub-expression t c = search needs
 
 bracket-expression-requires : (t : ℕ) → bracket-lts.Need-expression-requires (bracket-R t) (bracket-at t) bracket.Post
-bracket-expression-requires t c κs = (omega arith, (c .before .before .before .before .before .before .before .pre .1 .0, c .before .before .before .before .before .before .before .pre .1 .1))
-
-bracket-closed-requires : (t : ℕ) → bracket-lts.Need-closed-requires (bracket-R t) (bracket-at t) bracket.Post
-bracket-closed-requires t c κs = tt
+bracket-expression-requires t c κs =
+    let entry = c .before .before .before .before .before .before .before .before in
+    (omega arith, entry .pre .1 .0)
 
 bracket-returns-3 : (t : ℕ) → bracket-lts.Need-returns-3 (bracket-R t) (bracket-at t) bracket.Post
-bracket-returns-3 t c = bracket-closes (now (c .before .before .before .before .before .before .before .before .before .args .card)) (c .before .before .before .before .before .before .before .before .before .args .begin) (c .before .before .before .before .before .before .before .before .before .args .place) (c .before .before .before .before .before .before .before .before .before .args .left) (c .before .before .before .before .before .before .before .before .before .args .depth) (c .before .before .before .before .before .before .before .before .before .args .top) (c .before .before .before .before .before .before .before .before .before .pre .1 .2) (now (c .before .before .before .before .before .before .before .before .before .args .nodes)) (c .before .expression .last .1 .1 .0) (c .before .before .before .before .before .before .before .before .before .args .used) (c .before .before .before .before .before .before .before .before .before .args .late) (take (length (now (c .before .before .before .before .before .before .before .before .before .args .card)) - c .before .before .before .before .before .before .before .before .before .args .begin) (drop (c .before .before .before .before .before .before .before .before .before .args .begin) (now (c .before .before .before .before .before .before .before .before .before .args .card)))) (part-is (now (c .before .before .before .before .before .before .before .before .before .args .card)) (c .before .before .before .before .before .before .before .before .before .args .begin) (c .before .before .before .before .before .before .before .before .before .pre .1 .2)) (c .before .before .before .before .before .before .step-inner .result) (c .before .before .before .before .before .before .step-inner .ensures) (c .before .before .before .before .if1 .left) (c .before .before .before .if2 .left) (c .before .expression .result) (c .closed .result) (c .before .expression .ensures) (c .closed .ensures)
+bracket-returns-3 t c =
+    let at-if2 = c .before .before .before .before in
+    let at-if1 = at-if2 .before in
+    let at-step-inner = at-if1 .before .before in
+    let entry = at-step-inner .before .before .before in
+    let a = entry .args in
+    let g = after (c .before .expression .last .1 .1 .1 .0) (c .before .expression .result) in
+    bracket-closes (now (a .card)) (a .begin) (a .place) (leftIn (now (a .state))) (a .depth) (a .top) (entry .pre .1 .1) (now (a .nodes)) (c .before .expression .last .1 .1 .0) (freeIn (now (a .state))) (lateIn (now (a .state)))
+    (take (length (now (a .card)) - a .begin) (drop (a .begin) (now (a .card)))) (part-is (now (a .card)) (a .begin) (entry .pre .1 .1)) (at-step-inner .step-inner .result) (at-step-inner .step-inner .ensures)
+    (at-if1 .if1 .left) (at-if2 .if2 .left) g (after (g .state) 0) (c .before .expression .ensures) (λ top nodes. goes-on-wrong nodes g thenClose (c .if3 .taken) (now (a .card)) top)
+
+bracket-step-sign-requires : (t : ℕ) → bracket-lts.Need-step-sign-requires (bracket-R t) (bracket-at t) bracket.Post
+bracket-step-sign-requires t c κs = tt
+
+bracket-stop-requires-2 : (t : ℕ) → bracket-lts.Need-stop-requires-2 (bracket-R t) (bracket-at t) bracket.Post
+bracket-stop-requires-2 t c κs =
+    let at-expression = c .before .before .before .before .before in
+    let entry = at-expression .before .before .before .before .before .before .before .before .before in
+    let a = entry .args in
+    still-sized (now (a .card)) (a .top) (now (a .nodes)) (at-expression .expression .last .1 .1 .0) (freeIn (now (a .state))) (lateIn (now (a .state)))
+    (grammar.expression (grammar.unary groups.group (a .depth - 1)) (at (marksAt 0 (now (a .card)) (a .begin)) (leftIn (now (a .state))))) (after (at-expression .expression .last .1 .1 .1 .0) (at-expression .expression .result)) (at-expression .expression .ensures)
+
+bracket-returns-4 : (t : ℕ) → bracket-lts.Need-returns-4 (bracket-R t) (bracket-at t) bracket.Post
+bracket-returns-4 t c =
+    let at-if4 = c .before .before in
+    let at-step-sign = at-if4 .before .before in
+    let at-if3 = at-step-sign .before in
+    let at-expression = at-if3 .before in
+    let at-if2 = at-expression .before .before .before in
+    let at-if1 = at-if2 .before in
+    let at-step-inner = at-if1 .before .before in
+    let entry = at-step-inner .before .before .before in
+    let a = entry .args in
+    let g = after (at-expression .expression .last .1 .1 .1 .0) (at-expression .expression .result) in
+    let r = after (c .stop2 .last .0) (c .stop2 .result) in
+    bracket-closes (now (a .card)) (a .begin) (a .place) (leftIn (now (a .state))) (a .depth) (a .top) (entry .pre .1 .1) (now (a .nodes)) (at-expression .expression .last .1 .1 .0) (freeIn (now (a .state))) (lateIn (now (a .state)))
+    (take (length (now (a .card)) - a .begin) (drop (a .begin) (now (a .card)))) (part-is (now (a .card)) (a .begin) (entry .pre .1 .1)) (at-step-inner .step-inner .result) (at-step-inner .step-inner .ensures)
+    (at-if1 .if1 .left) (at-if2 .if2 .left) g r (at-expression .expression .ensures) (close-wrong (now (a .card)) g (at-if3 .if3 .left) (at-step-sign .step-sign .result) (at-step-sign .step-sign .ensures) (at-if4 .if4 .taken) r (c .stop2 .ensures .0))
+
+bracket-returns-5 : (t : ℕ) → bracket-lts.Need-returns-5 (bracket-R t) (bracket-at t) bracket.Post
+bracket-returns-5 t c =
+    let at-step-sign = c .before .before in
+    let at-if3 = at-step-sign .before in
+    let at-expression = at-if3 .before in
+    let at-if2 = at-expression .before .before .before in
+    let at-if1 = at-if2 .before in
+    let at-step-inner = at-if1 .before .before in
+    let entry = at-step-inner .before .before .before in
+    let a = entry .args in
+    let g = after (at-expression .expression .last .1 .1 .1 .0) (at-expression .expression .result) in
+    bracket-closes (now (a .card)) (a .begin) (a .place) (leftIn (now (a .state))) (a .depth) (a .top) (entry .pre .1 .1) (now (a .nodes)) (at-expression .expression .last .1 .1 .0) (freeIn (now (a .state))) (lateIn (now (a .state)))
+    (take (length (now (a .card)) - a .begin) (drop (a .begin) (now (a .card)))) (part-is (now (a .card)) (a .begin) (entry .pre .1 .1)) (at-step-inner .step-inner .result) (at-step-inner .step-inner .ensures)
+    (at-if1 .if1 .left) (at-if2 .if2 .left) g (after (g .state) (at-step-sign .step-sign .result .next .at)) (at-expression .expression .ensures) (close-well (now (a .card)) g (at-if3 .if3 .left) (at-step-sign .step-sign .result) (at-step-sign .step-sign .ensures) (c .if4 .left))
 
 abbrev chain-Inv-loop : chain-lts.InvT-loop
-chain-Inv-loop card nodes₀ depth top any g₀ kind nodes g = Chaining card top nodes₀ nodes depth any g₀ g
+chain-Inv-loop card first nodes₀ state₀ depth top any kind next₀ nodes state next = Chaining card top nodes₀ nodes depth any (after state₀ first) (after state next)
 
 abbrev chain-μ-loop : chain-lts.MeasureT-loop
-chain-μ-loop card nodes₀ depth top any g₀ kind nodes g = g .left
+chain-μ-loop card first nodes₀ state₀ depth top any kind next₀ nodes state next = leftIn state
 
 chain-joint-requires : (t : ℕ) → chain-lts.Need-joint-requires (chain-R t) (chain-at t) chain.Post chain-Inv-loop chain-μ-loop
 chain-joint-requires t c κs = tt
 
 chain-loop-holds : (t : ℕ) → chain-lts.Need-loop-holds (chain-R t) (chain-at t) chain.Post chain-Inv-loop chain-μ-loop
-chain-loop-holds t c = chain-begins (now (c .before .before .args .card)) (c .before .before .args .top) (now (c .before .before .args .nodes)) (c .before .before .args .depth) (c .before .before .args .any) (c .before .before .args .first) (c .before .before .pre .1 .0) (c .before .before .pre .1 .1)
+chain-loop-holds t c =
+    let entry = c .before .before in
+    let a = entry .args in
+    chain-begins (now (a .card)) (a .top) (now (a .nodes)) (a .depth) (a .any) (after (now (a .state)) (a .first)) (entry .pre .1)
 
 chain-step-after-requires : (t : ℕ) → chain-lts.Need-step-after-requires (chain-R t) (chain-at t) chain.Post chain-Inv-loop chain-μ-loop
 chain-step-after-requires t c κs = tt
 
 chain-returns : (t : ℕ) → chain-lts.Need-returns (chain-R t) (chain-at t) chain.Post chain-Inv-loop chain-μ-loop
-chain-returns t c = chain-done (now (c .before .before .before .before .before .before .before .before .args .card)) (c .before .before .before .before .before .before .before .before .args .top) (now (c .before .before .before .before .before .before .before .before .args .nodes)) (c .before .before .before .before .before .before .before .before .args .depth) (c .before .before .before .before .before .before .before .before .args .any) (c .before .before .before .before .before .before .before .before .args .first) (c .before .before .before .before .before .loop .nodes) (c .before .before .before .before .before .loop .g) (c .before .before .before .before .before .loop .inv) (c .before .before .before .if1 .taken) (c .before .before .step-after .result) (c .before .before .step-after .ensures) (c .before .before .before .before .before .before .joint .result) (c .before .before .before .before .before .before .joint .ensures) (c .if2 .taken)
+chain-returns t c =
+    let at-step-after = c .before .before in
+    let at-loop = at-step-after .before .before in
+    let at-joint = at-loop .before in
+    let entry = at-joint .before .before in
+    let a = entry .args in
+    chain-done (now (a .card)) (a .top) (now (a .nodes)) (a .depth) (a .any) (after (now (a .state)) (a .first)) (at-loop .loop .nodes) (after (at-loop .loop .state) (at-loop .loop .next)) (at-loop .loop .inv)
+    (at-step-after .step-after .result) (at-step-after .step-after .ensures) (at-joint .joint .result) (at-joint .joint .ensures) (c .if1 .taken)
 
-chain-stopped-requires : (t : ℕ) → chain-lts.Need-stopped-requires (chain-R t) (chain-at t) chain.Post chain-Inv-loop chain-μ-loop
-chain-stopped-requires t c κs = tt
+chain-element-copy-out-left : (t : ℕ) → chain-lts.Need-element-copy-out-left (chain-R t) (chain-at t) chain.Post chain-Inv-loop chain-μ-loop
+chain-element-copy-out-left t c = search needs
+
+chain-stop-requires : (t : ℕ) → chain-lts.Need-stop-requires (chain-R t) (chain-at t) chain.Post chain-Inv-loop chain-μ-loop
+chain-stop-requires t c κs =
+    let at-loop = c .before .before .before .before .before .before .before in
+    at-loop .loop .inv .begun .ready .sized
 
 chain-returns-2 : (t : ℕ) → chain-lts.Need-returns-2 (chain-R t) (chain-at t) chain.Post chain-Inv-loop chain-μ-loop
-chain-returns-2 t c = rw (c .stopped .ensures) (chain-stops (now (c .before .before .before .before .before .before .before .before .before .before .before .args .card)) (c .before .before .before .before .before .before .before .before .before .before .before .args .top) (now (c .before .before .before .before .before .before .before .before .before .before .before .args .nodes)) (c .before .before .before .before .before .before .before .before .before .before .before .args .depth) (c .before .before .before .before .before .before .before .before .before .before .before .args .any) (c .before .before .before .before .before .before .before .before .before .before .before .args .first) (c .before .before .before .before .before .before .before .before .loop .nodes) (c .before .before .before .before .before .before .before .before .loop .g) (c .before .before .before .before .before .before .before .before .loop .inv) (c .before .before .before .before .before .before .if1 .taken) (c .before .before .before .before .before .step-after .result) (c .before .before .before .before .before .step-after .ensures) (c .before .before .before .before .before .before .before .before .before .joint .result) (c .before .before .before .before .before .before .before .before .before .joint .ensures) (c .before .before .before .if2 .left) (c .before .if3 .taken))
+chain-returns-2 t c =
+    let at-if2 = c .before .before in
+    let at-if1 = at-if2 .before .before in
+    let at-step-after = at-if1 .before .before in
+    let at-loop = at-step-after .before .before in
+    let at-joint = at-loop .before in
+    let entry = at-joint .before .before in
+    let a = entry .args in
+    chain-stops (now (a .card)) (a .top) (now (a .nodes)) (a .depth) (a .any) (after (now (a .state)) (a .first)) (at-loop .loop .nodes) (after (at-loop .loop .state) (at-loop .loop .next)) (at-loop .loop .inv)
+    (at-step-after .step-after .result) (at-step-after .step-after .ensures) (at-joint .joint .result) (at-joint .joint .ensures) (at-if1 .if1 .left) (at-if2 .if2 .taken) (after (c .stop .last .0) (c .stop .result)) (c .stop .ensures .0)
 
-chain-add-operand : (t : ℕ) → chain-lts.Need-add-operand (chain-R t) (chain-at t) chain.Post chain-Inv-loop chain-μ-loop
-chain-add-operand t c = omega (arith, c .before .before .before .before .before .before .before .before .before .before .loop .inv .fits)
+chain-element-copy-out-first-root : (t : ℕ) → chain-lts.Need-element-copy-out-first-root (chain-R t) (chain-at t) chain.Post chain-Inv-loop chain-μ-loop
+chain-element-copy-out-first-root t c = search needs
 
-chain-sub-operand : (t : ℕ) → chain-lts.Need-sub-operand (chain-R t) (chain-at t) chain.Post chain-Inv-loop chain-μ-loop
-chain-sub-operand t c = search needs
+chain-sub-first-root : (t : ℕ) → chain-lts.Need-sub-first-root (chain-R t) (chain-at t) chain.Post chain-Inv-loop chain-μ-loop
+chain-sub-first-root t c =
+    let at-loop = c .before .before .before .before .before .before .before in
+    omega (arith, at-loop .loop .inv .begun .stored)
+
+chain-sub-state : (t : ℕ) → chain-lts.Need-sub-state (chain-R t) (chain-at t) chain.Post chain-Inv-loop chain-μ-loop
+chain-sub-state t c = search needs
+
+chain-element-write-state : (t : ℕ) → chain-lts.Need-element-write-state (chain-R t) (chain-at t) chain.Post chain-Inv-loop chain-μ-loop
+chain-element-write-state t c = search needs
 
 chain-operand-requires : (t : ℕ) → chain-lts.Need-operand-requires (chain-R t) (chain-at t) chain.Post chain-Inv-loop chain-μ-loop
-chain-operand-requires t c κs = (omega (arith, c .before .before .before .before .before .before .before .before .before .before .before .before .before .before .pre .0, c .before .before .before .before .before .before .before .before .before .before .before .loop .inv .fewer), (omega (arith, c .before .before .before .before .before .before .before .before .before .before .before .loop .inv .fits), omega (arith, c .before .before .before .before .before .before .before .before .before .before .before .loop .inv .most)))
-
-chain-joined-requires : (t : ℕ) → chain-lts.Need-joined-requires (chain-R t) (chain-at t) chain.Post chain-Inv-loop chain-μ-loop
-chain-joined-requires t c κs = (omega (arith, c .before .before .before .before .before .before .before .before .before .before .before .before .before .loop .inv .fits), omega (arith, operand-room (now (c .before .before .before .before .before .before .before .before .before .before .before .before .before .before .before .before .args .card)) (c .before .before .before .before .before .before .before .before .before .before .before .before .before .before .before .before .args .top) (now (c .before .before .before .before .before .before .before .before .before .before .before .before .before .before .before .before .args .nodes)) (c .before .before .before .before .before .before .before .before .before .before .before .before .before .before .before .before .args .depth) (c .before .before .before .before .before .before .before .before .before .before .before .before .before .before .before .before .args .any) (c .before .before .before .before .before .before .before .before .before .before .before .before .before .before .before .before .args .first) (c .before .before .before .before .before .before .before .before .before .before .before .before .before .loop .nodes) (c .before .before .before .before .before .before .before .before .before .before .before .before .before .loop .g) (c .before .before .before .before .before .before .before .before .before .before .before .before .before .loop .inv) (c .before .before .before .before .before .before .before .before .before .before .before .if1 .taken) (c .before .before .before .before .before .before .before .before .before .before .step-after .result) (c .before .before .before .before .before .before .before .before .before .before .step-after .ensures) (c .before .before .before .before .before .before .before .before .before .before .before .before .before .before .joint .result) (c .before .before .before .before .before .before .before .before .before .before .before .before .before .before .joint .ensures) (c .before .before .before .before .before .before .before .before .if2 .left) (c .before .before .before .before .before .before .if3 .left) (c .before .operand .last .1 .1 .0) (c .before .operand .result) (c .before .operand .ensures) .fits))
-
-chain-loop-less : (t : ℕ) → chain-lts.Need-loop-less (chain-R t) (chain-at t) chain.Post chain-Inv-loop chain-μ-loop
-chain-loop-less t c = chain-falls (now (c .before .before .before .before .before .before .before .before .before .before .before .before .before .before .before .before .before .args .card)) (c .before .before .before .before .before .before .before .before .before .before .before .before .before .before .before .before .before .args .top) (now (c .before .before .before .before .before .before .before .before .before .before .before .before .before .before .before .before .before .args .nodes)) (c .before .before .before .before .before .before .before .before .before .before .before .before .before .before .before .before .before .args .depth) (c .before .before .before .before .before .before .before .before .before .before .before .before .before .before .before .before .before .args .any) (c .before .before .before .before .before .before .before .before .before .before .before .before .before .before .before .before .before .args .first) (c .before .before .before .before .before .before .before .before .before .before .before .before .before .before .loop .nodes) (c .before .before .before .before .before .before .before .before .before .before .before .before .before .before .loop .g) (c .before .before .before .before .before .before .before .before .before .before .before .before .before .before .loop .inv) (c .before .before .before .before .before .before .before .before .before .before .before .before .if1 .taken) (c .before .before .before .before .before .before .before .before .before .before .before .step-after .result) (c .before .before .before .before .before .before .before .before .before .before .before .step-after .ensures) (c .before .before .before .before .before .before .before .before .before .before .before .before .before .before .before .joint .result) (c .before .before .before .before .before .before .before .before .before .before .before .before .before .before .before .joint .ensures) (c .before .before .before .before .before .before .before .before .before .if2 .left) (c .before .before .before .before .before .before .before .if3 .left) (c .before .before .operand .last .1 .1 .0) (c .before .before .operand .result) (c .before .before .operand .ensures) (c .joined .result) (c .joined .ensures .1 .1)
-
-chain-loop-again : (t : ℕ) → chain-lts.Need-loop-again (chain-R t) (chain-at t) chain.Post chain-Inv-loop chain-μ-loop
-chain-loop-again t c = chain-turns (now (c .before .before .before .before .before .before .before .before .before .before .before .before .before .before .before .before .before .args .card)) (c .before .before .before .before .before .before .before .before .before .before .before .before .before .before .before .before .before .args .top) (now (c .before .before .before .before .before .before .before .before .before .before .before .before .before .before .before .before .before .args .nodes)) (c .before .before .before .before .before .before .before .before .before .before .before .before .before .before .before .before .before .args .depth) (c .before .before .before .before .before .before .before .before .before .before .before .before .before .before .before .before .before .args .any) (c .before .before .before .before .before .before .before .before .before .before .before .before .before .before .before .before .before .args .first) (c .before .before .before .before .before .before .before .before .before .before .before .before .before .before .loop .nodes) (c .before .before .before .before .before .before .before .before .before .before .before .before .before .before .loop .g) (c .before .before .before .before .before .before .before .before .before .before .before .before .before .before .loop .inv) (c .before .before .before .before .before .before .before .before .before .before .before .before .if1 .taken) (c .before .before .before .before .before .before .before .before .before .before .before .step-after .result) (c .before .before .before .before .before .before .before .before .before .before .before .step-after .ensures) (c .before .before .before .before .before .before .before .before .before .before .before .before .before .before .before .joint .result) (c .before .before .before .before .before .before .before .before .before .before .before .before .before .before .before .joint .ensures) (c .before .before .before .before .before .before .before .before .before .if2 .left) (c .before .before .before .before .before .before .before .if3 .left) (c .before .before .operand .last .1 .1 .0) (c .before .before .operand .result) (c .before .before .operand .ensures) (c .joined .last .0) (c .joined .result) (c .joined .ensures .0) (c .joined .ensures .1)
+chain-operand-requires t c κs =
+    let at-if2 = c .before .before .before in
+    let at-loop = at-if2 .before .before .before .before .before .before in
+    let st = at-loop .loop .state in
+    (omega (arith, left-set st (at-loop .loop .inv .begun .ready .sized) (leftIn st - 1), at-loop .loop .inv .fewer, at-if2 .if2 .left), spending-ready st (at-loop .loop .inv .begun .ready) (at-if2 .if2 .left))
 
 chain-returns-3 : (t : ℕ) → chain-lts.Need-returns-3 (chain-R t) (chain-at t) chain.Post chain-Inv-loop chain-μ-loop
-chain-returns-3 t c = chain-wrong (now (c .before .before .before .before .before .args .card)) (c .before .before .before .before .before .args .top) (now (c .before .before .before .before .before .args .nodes)) (c .before .before .before .before .before .args .depth) (c .before .before .before .before .before .args .any) (c .before .before .before .before .before .args .first) (c .before .before .loop .nodes) (c .before .before .loop .g) (c .before .before .loop .inv) (c .if1 .left)
+chain-returns-3 t c =
+    let at-if2 = c .before .before .before .before .before in
+    let at-if1 = at-if2 .before .before in
+    let at-step-after = at-if1 .before .before in
+    let at-loop = at-step-after .before .before in
+    let at-joint = at-loop .before in
+    let entry = at-joint .before .before in
+    let a = entry .args in
+    chain-wrong (now (a .card)) (a .top) (now (a .nodes)) (a .depth) (a .any) (after (now (a .state)) (a .first)) (at-loop .loop .nodes) (after (at-loop .loop .state) (at-loop .loop .next)) (at-loop .loop .inv)
+    (at-step-after .step-after .result) (at-step-after .step-after .ensures) (at-joint .joint .result) (at-joint .joint .ensures) (at-if1 .if1 .left) (at-if2 .if2 .left)
+    (c .before .operand .last .1 .1 .0) (after (c .before .operand .last .1 .1 .1 .0) (c .before .operand .result)) (c .before .operand .ensures) (c .if3 .taken)
+
+chain-element-copy-out-second-root : (t : ℕ) → chain-lts.Need-element-copy-out-second-root (chain-R t) (chain-at t) chain.Post chain-Inv-loop chain-μ-loop
+chain-element-copy-out-second-root t c = search needs
+
+chain-sub-second-root : (t : ℕ) → chain-lts.Need-sub-second-root (chain-R t) (chain-at t) chain.Post chain-Inv-loop chain-μ-loop
+chain-sub-second-root t c =
+    let at-operand = c .before .before in
+    let at-if2 = at-operand .before .before .before .before in
+    let at-if1 = at-if2 .before .before in
+    let at-step-after = at-if1 .before .before in
+    let at-loop = at-step-after .before .before in
+    let at-joint = at-loop .before in
+    let entry = at-joint .before .before in
+    let a = entry .args in
+    omega (
+      arith,
+      roomy (now (a .card)) (a .top) (now (a .nodes)) (a .depth) (a .any) (after (now (a .state)) (a .first)) (at-loop .loop .nodes) (after (at-loop .loop .state) (at-loop .loop .next)) (at-loop .loop .inv)
+          (at-step-after .step-after .result) (at-step-after .step-after .ensures) (at-joint .joint .result) (at-joint .joint .ensures) (at-if1 .if1 .left) (at-if2 .if2 .left)
+          (at-operand .operand .last .1 .1 .0) (after (at-operand .operand .last .1 .1 .1 .0) (at-operand .operand .result)) (at-operand .operand .ensures) (c .before .if3 .left) .1,
+    )
+
+chain-operator-requires : (t : ℕ) → chain-lts.Need-operator-requires (chain-R t) (chain-at t) chain.Post chain-Inv-loop chain-μ-loop
+chain-operator-requires t c κs = tt
+
+chain-pack-node-requires : (t : ℕ) → chain-lts.Need-pack-node-requires (chain-R t) (chain-at t) chain.Post chain-Inv-loop chain-μ-loop
+chain-pack-node-requires t c κs = tt
+
+chain-store-requires : (t : ℕ) → chain-lts.Need-store-requires (chain-R t) (chain-at t) chain.Post chain-Inv-loop chain-μ-loop
+chain-store-requires t c κs =
+    let at-if3 = c .before .before .before .before .before in
+    let at-operand = at-if3 .before in
+    let at-if2 = at-operand .before .before .before .before in
+    let at-if1 = at-if2 .before .before in
+    let at-step-after = at-if1 .before .before in
+    let at-loop = at-step-after .before .before in
+    let at-joint = at-loop .before in
+    let entry = at-joint .before .before in
+    let a = entry .args in
+    store-room (now (a .card)) (a .top) (now (a .nodes)) (a .depth) (a .any) (after (now (a .state)) (a .first)) (at-loop .loop .nodes) (after (at-loop .loop .state) (at-loop .loop .next)) (at-loop .loop .inv)
+    (at-step-after .step-after .result) (at-step-after .step-after .ensures) (at-joint .joint .result) (at-joint .joint .ensures) (at-if1 .if1 .left) (at-if2 .if2 .left)
+    (at-operand .operand .last .1 .1 .0) (after (at-operand .operand .last .1 .1 .1 .0) (at-operand .operand .result)) (at-operand .operand .ensures) (at-if3 .if3 .left)
+
+chain-loop-less : (t : ℕ) → chain-lts.Need-loop-less (chain-R t) (chain-at t) chain.Post chain-Inv-loop chain-μ-loop
+chain-loop-less t c =
+    let at-if3 = c .before .before .before .before .before .before in
+    let at-operand = at-if3 .before in
+    let at-if2 = at-operand .before .before .before .before in
+    let at-if1 = at-if2 .before .before in
+    let at-step-after = at-if1 .before .before in
+    let at-loop = at-step-after .before .before in
+    let at-joint = at-loop .before in
+    let entry = at-joint .before .before in
+    let a = entry .args in
+    rw (c .store .ensures .1)
+    (chain-falls (now (a .card)) (a .top) (now (a .nodes)) (a .depth) (a .any) (after (now (a .state)) (a .first)) (at-loop .loop .nodes) (after (at-loop .loop .state) (at-loop .loop .next)) (at-loop .loop .inv)
+    (at-step-after .step-after .result) (at-step-after .step-after .ensures) (at-joint .joint .result) (at-joint .joint .ensures) (at-if1 .if1 .left) (at-if2 .if2 .left)
+    (at-operand .operand .last .1 .1 .0) (after (at-operand .operand .last .1 .1 .1 .0) (at-operand .operand .result)) (at-operand .operand .ensures) (at-if3 .if3 .left))
+
+chain-loop-again : (t : ℕ) → chain-lts.Need-loop-again (chain-R t) (chain-at t) chain.Post chain-Inv-loop chain-μ-loop
+chain-loop-again t c =
+    let at-operator = c .before .before in
+    let at-if3 = at-operator .before .before .before .before in
+    let at-operand = at-if3 .before in
+    let at-if2 = at-operand .before .before .before .before in
+    let at-if1 = at-if2 .before .before in
+    let at-step-after = at-if1 .before .before in
+    let at-loop = at-step-after .before .before in
+    let at-joint = at-loop .before in
+    let entry = at-joint .before .before in
+    let a = entry .args in
+    rw (c .store .ensures .0, c .store .ensures .1)
+    (chain-turns (now (a .card)) (a .top) (now (a .nodes)) (a .depth) (a .any) (after (now (a .state)) (a .first)) (at-loop .loop .nodes) (after (at-loop .loop .state) (at-loop .loop .next)) (at-loop .loop .inv)
+    (at-step-after .step-after .result) (at-step-after .step-after .ensures) (at-joint .joint .result) (at-joint .joint .ensures) (at-if1 .if1 .left) (at-if2 .if2 .left)
+    (at-operand .operand .last .1 .1 .0) (after (at-operand .operand .last .1 .1 .1 .0) (at-operand .operand .result)) (at-operand .operand .ensures) (at-if3 .if3 .left)
+    (at-operator .operator .result) (c .before .pack-node .result) (at-operator .operator .ensures) (c .before .pack-node .ensures))
+
+chain-returns-4 : (t : ℕ) → chain-lts.Need-returns-4 (chain-R t) (chain-at t) chain.Post chain-Inv-loop chain-μ-loop
+chain-returns-4 t c = absurd (c .before .loop .inv .begun .some (c .loop-test .left))
 
 conjunction-unary-requires : (t : ℕ) → conjunction-lts.Need-unary-requires (conjunction-R t) (conjunction-at t) conjunction.Post
-conjunction-unary-requires t c κs = (omega arith, (c .before .before .pre .1 .0, c .before .before .pre .1 .1))
-
-conjunction-is-closed-requires : (t : ℕ) → conjunction-lts.Need-is-closed-requires (conjunction-R t) (conjunction-at t) conjunction.Post
-conjunction-is-closed-requires t c κs = tt
+conjunction-unary-requires t c κs = (omega arith, c .before .before .before .pre .1)
 
 conjunction-returns : (t : ℕ) → conjunction-lts.Need-returns (conjunction-R t) (conjunction-at t) conjunction.Post
-conjunction-returns t c = unary-alone (now (c .before .before .before .before .before .args .card)) (c .before .before .before .before .before .args .top) (now (c .before .before .before .before .before .args .nodes)) (c .before .before .unary .last .1 .1 .0) (c .before .before .before .before .before .args .used) (c .before .before .before .before .before .args .late) (c .before .before .before .before .before .args .at) (c .before .before .before .before .before .args .left) (c .before .before .before .before .before .args .depth) (c .before .before .unary .result) (sym (c .before .is-closed .ensures) ∙ c .if1 .taken) (c .before .before .before .before .before .pre .1 .0) (c .before .before .before .before .before .pre .1 .1) (c .before .before .unary .ensures)
+conjunction-returns t c =
+    let entry = c .before .before .before .before .before in
+    let a = entry .args in
+    goes-wrong (now (a .card)) (a .top) (now (a .nodes)) (c .before .unary .last .1 .1 .0) (freeIn (now (a .state))) (lateIn (now (a .state))) (now (a .nodes)) (c .before .unary .last .1 .1 .0) (freeIn (now (a .state))) (lateIn (now (a .state)))
+    (after (c .before .unary .last .1 .1 .1 .0) (c .before .unary .result)) (chained false (a .depth)) (grammar.unary groups.group (a .depth) (at (marksAt 0 (now (a .card)) (a .at)) (leftIn (now (a .state))))) (c .before .unary .ensures) (c .if1 .taken)
 
-conjunction-chain-requires : (t : ℕ) → conjunction-lts.Need-chain-requires (conjunction-R t) (conjunction-at t) conjunction.Post
-conjunction-chain-requires t c κs = let r = unary-room (now (c .before .before .before .before .before .before .args .card)) (c .before .before .before .before .before .before .args .top) (now (c .before .before .before .before .before .before .args .nodes)) (c .before .before .before .unary .last .1 .1 .0) (c .before .before .before .before .before .before .args .used) (c .before .before .before .before .before .before .args .late) (c .before .before .before .before .before .before .args .at) (c .before .before .before .before .before .before .args .left) (c .before .before .before .before .before .before .args .depth) (c .before .before .before .unary .result) (c .before .before .before .unary .ensures) nodePlaces (omega arith) (c .before .before .before .before .before .before .pre .1 .0) in
-    (omega (arith, r .less, c .before .before .before .before .before .before .pre .0), (r .fits, omega (arith, r .less, c .before .before .before .before .before .before .pre .1 .1)))
+conjunction-sign-here-requires : (t : ℕ) → conjunction-lts.Need-sign-here-requires (conjunction-R t) (conjunction-at t) conjunction.Post
+conjunction-sign-here-requires t c κs = tt
 
 conjunction-returns-2 : (t : ℕ) → conjunction-lts.Need-returns-2 (conjunction-R t) (conjunction-at t) conjunction.Post
-conjunction-returns-2 t c = unary-chained (now (c .before .before .before .before .before .before .before .args .card)) (c .before .before .before .before .before .before .before .args .top) (now (c .before .before .before .before .before .before .before .args .nodes)) (c .before .before .before .before .unary .last .1 .1 .0) (c .before .before .before .before .before .before .before .args .used) (c .before .before .before .before .before .before .before .args .late) (c .before .before .before .before .before .before .before .args .at) (c .before .before .before .before .before .before .before .args .left) (c .before .before .before .before .before .before .before .args .depth) (c .before .before .before .before .unary .result) (c .chain .last .1 .0) (c .chain .result) (c .before .before .before .before .unary .ensures) (c .chain .ensures)
+conjunction-returns-2 t c =
+    let at-if1 = c .before .before in
+    let at-unary = at-if1 .before in
+    let entry = at-unary .before .before .before .before in
+    let a = entry .args in
+    unary-alone (now (a .card)) (a .top) (now (a .nodes)) (at-unary .unary .last .1 .1 .0) (now (a .state)) (entry .pre .1) (a .at) (a .depth) (after (at-unary .unary .last .1 .1 .1 .0) (at-unary .unary .result)) (at-if1 .if1 .left)
+    (sym (c .before .sign-here .ensures) ∙ c .if2 .taken) (at-unary .unary .ensures)
+
+conjunction-chain-requires : (t : ℕ) → conjunction-lts.Need-chain-requires (conjunction-R t) (conjunction-at t) conjunction.Post
+conjunction-chain-requires t c κs =
+    let at-if1 = c .before .before .before .before in
+    let at-unary = at-if1 .before in
+    let entry = at-unary .before .before .before .before in
+    let a = entry .args in
+    let q = unary-begun (now (a .card)) (a .top) (now (a .nodes)) (at-unary .unary .last .1 .1 .0) (now (a .state)) (entry .pre .1) (a .at) (a .depth) (after (at-unary .unary .last .1 .1 .1 .0) (at-unary .unary .result)) (at-if1 .if1 .left) (at-unary .unary .ensures) in
+    (omega (arith, q .1, entry .pre .0), q .0)
+
+conjunction-returns-3 : (t : ℕ) → conjunction-lts.Need-returns-3 (conjunction-R t) (conjunction-at t) conjunction.Post
+conjunction-returns-3 t c =
+    let at-unary = c .before .before .before .before .before .before in
+    let entry = at-unary .before .before .before .before in
+    let a = entry .args in
+    c .chain .ensures (now (a .nodes)) (freeIn (now (a .state))) (lateIn (now (a .state))) (grammar.unary groups.group (a .depth) (at (marksAt 0 (now (a .card)) (a .at)) (leftIn (now (a .state))))) (at-unary .unary .ensures)
 
 expression-conjunction-requires : (t : ℕ) → expression-lts.Need-conjunction-requires (expression-R t) (expression-at t) expression.Post
-expression-conjunction-requires t c κs = (omega arith, (c .before .before .pre .1 .0, c .before .before .pre .1 .1))
-
-expression-is-closed-requires : (t : ℕ) → expression-lts.Need-is-closed-requires (expression-R t) (expression-at t) expression.Post
-expression-is-closed-requires t c κs = tt
+expression-conjunction-requires t c κs = (omega arith, c .before .before .before .pre .1)
 
 expression-returns : (t : ℕ) → expression-lts.Need-returns (expression-R t) (expression-at t) expression.Post
-expression-returns t c = conjunction-alone (now (c .before .before .before .before .before .args .card)) (c .before .before .before .before .before .args .top) (now (c .before .before .before .before .before .args .nodes)) (c .before .before .conjunction .last .1 .1 .0) (c .before .before .before .before .before .args .used) (c .before .before .before .before .before .args .late) (c .before .before .before .before .before .args .at) (c .before .before .before .before .before .args .left) (c .before .before .before .before .before .args .depth) (c .before .before .conjunction .result) (sym (c .before .is-closed .ensures) ∙ c .if1 .taken) (c .before .before .before .before .before .pre .1 .0) (c .before .before .before .before .before .pre .1 .1) (c .before .before .conjunction .ensures)
+expression-returns t c =
+    let entry = c .before .before .before .before .before in
+    let a = entry .args in
+    goes-wrong (now (a .card)) (a .top) (now (a .nodes)) (c .before .conjunction .last .1 .1 .0) (freeIn (now (a .state))) (lateIn (now (a .state))) (now (a .nodes)) (c .before .conjunction .last .1 .1 .0) (freeIn (now (a .state))) (lateIn (now (a .state)))
+    (after (c .before .conjunction .last .1 .1 .1 .0) (c .before .conjunction .result)) (chained true (a .depth)) (grammar.conjunction (grammar.unary groups.group (a .depth)) (at (marksAt 0 (now (a .card)) (a .at)) (leftIn (now (a .state))))) (c .before .conjunction .ensures) (c .if1 .taken)
 
-expression-chain-requires : (t : ℕ) → expression-lts.Need-chain-requires (expression-R t) (expression-at t) expression.Post
-expression-chain-requires t c κs = let r = conjunction-room (now (c .before .before .before .before .before .before .args .card)) (c .before .before .before .before .before .before .args .top) (now (c .before .before .before .before .before .before .args .nodes)) (c .before .before .before .conjunction .last .1 .1 .0) (c .before .before .before .before .before .before .args .used) (c .before .before .before .before .before .before .args .late) (c .before .before .before .before .before .before .args .at) (c .before .before .before .before .before .before .args .left) (c .before .before .before .before .before .before .args .depth) (c .before .before .before .conjunction .result) (c .before .before .before .conjunction .ensures) nodePlaces (omega arith) (c .before .before .before .before .before .before .pre .1 .0) in
-    (omega (arith, r .less, c .before .before .before .before .before .before .pre .0), (r .fits, omega (arith, r .less, c .before .before .before .before .before .before .pre .1 .1)))
+expression-sign-here-requires : (t : ℕ) → expression-lts.Need-sign-here-requires (expression-R t) (expression-at t) expression.Post
+expression-sign-here-requires t c κs = tt
 
 expression-returns-2 : (t : ℕ) → expression-lts.Need-returns-2 (expression-R t) (expression-at t) expression.Post
-expression-returns-2 t c = conjunction-chained (now (c .before .before .before .before .before .before .before .args .card)) (c .before .before .before .before .before .before .before .args .top) (now (c .before .before .before .before .before .before .before .args .nodes)) (c .before .before .before .before .conjunction .last .1 .1 .0) (c .before .before .before .before .before .before .before .args .used) (c .before .before .before .before .before .before .before .args .late) (c .before .before .before .before .before .before .before .args .at) (c .before .before .before .before .before .before .before .args .left) (c .before .before .before .before .before .before .before .args .depth) (c .before .before .before .before .conjunction .result) (c .chain .last .1 .0) (c .chain .result) (c .before .before .before .before .conjunction .ensures) (c .chain .ensures)
+expression-returns-2 t c =
+    let at-if1 = c .before .before in
+    let at-conjunction = at-if1 .before in
+    let entry = at-conjunction .before .before .before .before in
+    let a = entry .args in
+    conjunction-alone (now (a .card)) (a .top) (now (a .nodes)) (at-conjunction .conjunction .last .1 .1 .0) (now (a .state)) (entry .pre .1) (a .at) (a .depth) (after (at-conjunction .conjunction .last .1 .1 .1 .0) (at-conjunction .conjunction .result)) (at-if1 .if1 .left)
+    (sym (c .before .sign-here .ensures) ∙ c .if2 .taken) (at-conjunction .conjunction .ensures)
+
+expression-chain-requires : (t : ℕ) → expression-lts.Need-chain-requires (expression-R t) (expression-at t) expression.Post
+expression-chain-requires t c κs =
+    let at-if1 = c .before .before .before .before in
+    let at-conjunction = at-if1 .before in
+    let entry = at-conjunction .before .before .before .before in
+    let a = entry .args in
+    let q = conjunction-begun (now (a .card)) (a .top) (now (a .nodes)) (at-conjunction .conjunction .last .1 .1 .0) (now (a .state)) (entry .pre .1) (a .at) (a .depth) (after (at-conjunction .conjunction .last .1 .1 .1 .0) (at-conjunction .conjunction .result)) (at-if1 .if1 .left) (at-conjunction .conjunction .ensures) in
+    (omega (arith, q .1, entry .pre .0), q .0)
+
+expression-returns-3 : (t : ℕ) → expression-lts.Need-returns-3 (expression-R t) (expression-at t) expression.Post
+expression-returns-3 t c =
+    let at-conjunction = c .before .before .before .before .before .before in
+    let entry = at-conjunction .before .before .before .before in
+    let a = entry .args in
+    c .chain .ensures (now (a .nodes)) (freeIn (now (a .state))) (lateIn (now (a .state))) (grammar.conjunction (grammar.unary groups.group (a .depth)) (at (marksAt 0 (now (a .card)) (a .at)) (leftIn (now (a .state))))) (at-conjunction .conjunction .ensures)
 
 operand-conjunction-requires : (t : ℕ) → operand-lts.Need-conjunction-requires (operand-R t) (operand-at t) operand.Post
-operand-conjunction-requires t c κs = (omega (arith, three (c .before .before .before .args .any) (c .before .if1 .taken)), (c .before .before .before .pre .1 .0, c .before .before .before .pre .1 .1))
+operand-conjunction-requires t c κs =
+    let at-if1 = c .before .before in
+    let entry = at-if1 .before .before in
+    (omega (arith, three (entry .args .any) (at-if1 .if1 .taken)), entry .pre .1)
 
 operand-returns : (t : ℕ) → operand-lts.Need-returns (operand-R t) (operand-at t) operand.Post
-operand-returns t c = rw (c .before .before .if1 .taken) (c .conjunction .ensures)
+operand-returns t c =
+    let at-if1 = c .before .before .before in
+    rw (at-if1 .if1 .taken) (c .conjunction .ensures)
 
 operand-unary-requires : (t : ℕ) → operand-lts.Need-unary-requires (operand-R t) (operand-at t) operand.Post
-operand-unary-requires t c κs = (omega arith, (c .before .before .before .pre .1 .0, c .before .before .before .pre .1 .1))
+operand-unary-requires t c κs = (omega arith, c .before .before .before .before .pre .1)
 
 operand-returns-2 : (t : ℕ) → operand-lts.Need-returns-2 (operand-R t) (operand-at t) operand.Post
-operand-returns-2 t c = rw (c .before .before .if1 .left) (c .unary .ensures)
+operand-returns-2 t c =
+    let at-if1 = c .before .before .before in
+    rw (at-if1 .if1 .left) (c .unary .ensures)
 
 unary-step-opening-requires : (t : ℕ) → unary-lts.Need-step-opening-requires (unary-R t) (unary-at t) unary.Post
 unary-step-opening-requires t c κs = tt
 
 unary-bracket-requires : (t : ℕ) → unary-lts.Need-bracket-requires (unary-R t) (unary-at t) unary.Post
-unary-bracket-requires t c κs = (omega arith, (c .before .before .before .before .before .pre .1 .0, c .before .before .before .before .before .pre .1 .1, step-within (now (c .before .before .before .before .before .args .card)) (c .before .before .before .before .before .args .at) (c .before .before .before .step-opening .result) (c .before .before .before .step-opening .ensures)))
+unary-bracket-requires t c κs =
+    let at-step-opening = c .before .before .before .before in
+    let entry = at-step-opening .before .before in
+    (omega arith, (entry .pre .1, step-within (now (entry .args .card)) (entry .args .at) (at-step-opening .step-opening .result) (at-step-opening .step-opening .ensures)))
 
 unary-returns : (t : ℕ) → unary-lts.Need-returns (unary-R t) (unary-at t) unary.Post
-unary-returns t c = reads-bracket (now (c .before .before .before .before .before .before .args .card)) (c .before .before .before .before .before .before .args .at) (c .before .before .before .before .before .before .args .left) (c .before .before .before .before .before .before .args .depth) (c .before .before .before .before .before .before .args .top) (now (c .before .before .before .before .before .before .args .nodes)) (c .bracket .last .1 .1 .1 .0) (c .before .before .before .before .before .before .args .used) (c .before .before .before .before .before .before .args .late) (c .before .before .before .before .step-opening .result) (c .before .before .before .before .step-opening .ensures) (c .before .before .if1 .taken) (c .bracket .result) (c .bracket .ensures)
+unary-returns t c =
+    let at-if1 = c .before .before .before in
+    let at-step-opening = at-if1 .before .before in
+    let entry = at-step-opening .before .before in
+    let a = entry .args in
+    reads-bracket (now (a .card)) (a .at) (leftIn (now (a .state))) (a .depth) (a .top) (now (a .nodes)) (c .bracket .last .1 .1 .1 .0) (freeIn (now (a .state))) (lateIn (now (a .state))) (at-step-opening .step-opening .result) (at-step-opening .step-opening .ensures)
+    (at-if1 .if1 .taken) (after (c .bracket .last .1 .1 .1 .1 .0) (c .bracket .result)) (c .bracket .ensures)
 
-unary-stopped-requires : (t : ℕ) → unary-lts.Need-stopped-requires (unary-R t) (unary-at t) unary.Post
-unary-stopped-requires t c κs = tt
+unary-stop-requires : (t : ℕ) → unary-lts.Need-stop-requires (unary-R t) (unary-at t) unary.Post
+unary-stop-requires t c κs =
+    let entry = c .before .before .before .before .before .before .before in
+    entry .pre .1 .sized
 
 unary-returns-2 : (t : ℕ) → unary-lts.Need-returns-2 (unary-R t) (unary-at t) unary.Post
-unary-returns-2 t c = rw (c .stopped .ensures) (reads-unfit (now (c .before .before .before .before .before .before .before .args .card)) (c .before .before .before .before .before .before .before .args .at) (c .before .before .before .before .before .before .before .args .left) (c .before .before .before .before .before .before .before .args .depth) (c .before .before .before .before .before .before .before .args .top) (now (c .before .before .before .before .before .before .before .args .nodes)) (now (c .before .before .before .before .before .before .before .args .nodes)) (c .before .before .before .before .before .before .before .args .used) (c .before .before .before .before .before .before .before .args .late) (c .before .before .before .before .before .step-opening .result) (c .before .before .before .before .before .step-opening .ensures) (c .before .before .before .if1 .left) (c .before .if2 .taken))
+unary-returns-2 t c =
+    let at-if2 = c .before .before in
+    let at-if1 = at-if2 .before .before in
+    let at-step-opening = at-if1 .before .before in
+    let entry = at-step-opening .before .before in
+    let a = entry .args in
+    reads-unfit (now (a .card)) (a .at) (leftIn (now (a .state))) (a .depth) (a .top) (now (a .nodes)) (now (a .nodes)) (freeIn (now (a .state))) (lateIn (now (a .state))) (at-step-opening .step-opening .result) (at-step-opening .step-opening .ensures)
+    (at-if1 .if1 .left) (at-if2 .if2 .taken) (after (c .stop .last .0) (c .stop .result)) (c .stop .ensures .0)
 
-unary-stopped-requires-2 : (t : ℕ) → unary-lts.Need-stopped-requires-2 (unary-R t) (unary-at t) unary.Post
-unary-stopped-requires-2 t c κs = tt
+unary-stop-requires-2 : (t : ℕ) → unary-lts.Need-stop-requires-2 (unary-R t) (unary-at t) unary.Post
+unary-stop-requires-2 t c κs =
+    let entry = c .before .before .before .before .before .before .before .before in
+    entry .pre .1 .sized
 
 unary-returns-3 : (t : ℕ) → unary-lts.Need-returns-3 (unary-R t) (unary-at t) unary.Post
-unary-returns-3 t c = rw (c .stopped2 .ensures) (reads-deep (now (c .before .before .before .before .before .before .before .before .args .card)) (c .before .before .before .before .before .before .before .before .args .at) (c .before .before .before .before .before .before .before .before .args .left) (c .before .before .before .before .before .before .before .before .args .depth) (c .before .before .before .before .before .before .before .before .args .top) (now (c .before .before .before .before .before .before .before .before .args .nodes)) (now (c .before .before .before .before .before .before .before .before .args .nodes)) (c .before .before .before .before .before .before .before .before .args .used) (c .before .before .before .before .before .before .before .before .args .late) (c .before .before .before .before .before .before .step-opening .result) (c .before .before .before .before .before .before .step-opening .ensures) (c .before .before .if2 .left) (c .before .if3 .taken))
+unary-returns-3 t c =
+    let at-if3 = c .before .before in
+    let at-if2 = at-if3 .before in
+    let at-step-opening = at-if2 .before .before .before .before in
+    let entry = at-step-opening .before .before in
+    let a = entry .args in
+    reads-deep (now (a .card)) (a .at) (leftIn (now (a .state))) (a .depth) (a .top) (now (a .nodes)) (now (a .nodes)) (freeIn (now (a .state))) (lateIn (now (a .state))) (at-step-opening .step-opening .result) (at-step-opening .step-opening .ensures)
+    (at-if2 .if2 .left) (at-if3 .if3 .taken) (after (c .stop2 .last .0) (c .stop2 .result)) (c .stop2 .ensures .0)
 
-unary-stopped-requires-3 : (t : ℕ) → unary-lts.Need-stopped-requires-3 (unary-R t) (unary-at t) unary.Post
-unary-stopped-requires-3 t c κs = tt
+unary-element-copy-out-left : (t : ℕ) → unary-lts.Need-element-copy-out-left (unary-R t) (unary-at t) unary.Post
+unary-element-copy-out-left t c = search needs
+
+unary-stop-requires-3 : (t : ℕ) → unary-lts.Need-stop-requires-3 (unary-R t) (unary-at t) unary.Post
+unary-stop-requires-3 t c κs =
+    let entry = c .before .before .before .before .before .before .before .before .before .before in
+    entry .pre .1 .sized
 
 unary-returns-4 : (t : ℕ) → unary-lts.Need-returns-4 (unary-R t) (unary-at t) unary.Post
-unary-returns-4 t c = rw (c .stopped3 .ensures) (reads-full (now (c .before .before .before .before .before .before .before .before .before .args .card)) (c .before .before .before .before .before .before .before .before .before .args .at) (c .before .before .before .before .before .before .before .before .before .args .left) (c .before .before .before .before .before .before .before .before .before .args .depth) (c .before .before .before .before .before .before .before .before .before .args .top) (now (c .before .before .before .before .before .before .before .before .before .args .nodes)) (now (c .before .before .before .before .before .before .before .before .before .args .nodes)) (c .before .before .before .before .before .before .before .before .before .args .used) (c .before .before .before .before .before .before .before .before .before .args .late) (c .before .before .before .before .before .before .before .step-opening .result) (c .before .before .before .before .before .before .before .step-opening .ensures) (c .before .before .before .if2 .left) (c .before .before .if3 .left) (c .before .if4 .taken))
+unary-returns-4 t c =
+    let at-if4 = c .before .before in
+    let at-if3 = at-if4 .before .before in
+    let at-if2 = at-if3 .before in
+    let at-step-opening = at-if2 .before .before .before .before in
+    let entry = at-step-opening .before .before in
+    let a = entry .args in
+    reads-full (now (a .card)) (a .at) (leftIn (now (a .state))) (a .depth) (a .top) (now (a .nodes)) (now (a .nodes)) (freeIn (now (a .state))) (lateIn (now (a .state))) (at-step-opening .step-opening .result) (at-step-opening .step-opening .ensures)
+    (at-if2 .if2 .left) (at-if3 .if3 .left) (at-if4 .if4 .taken) (after (c .stop3 .last .0) (c .stop3 .result)) (c .stop3 .ensures .0)
 
-unary-sub-deeper : (t : ℕ) → unary-lts.Need-sub-deeper (unary-R t) (unary-at t) unary.Post
-unary-sub-deeper t c = search needs
+unary-sub-state : (t : ℕ) → unary-lts.Need-sub-state (unary-R t) (unary-at t) unary.Post
+unary-sub-state t c = search needs
+
+unary-element-write-state : (t : ℕ) → unary-lts.Need-element-write-state (unary-R t) (unary-at t) unary.Post
+unary-element-write-state t c = search needs
 
 unary-sub-unary : (t : ℕ) → unary-lts.Need-sub-unary (unary-R t) (unary-at t) unary.Post
 unary-sub-unary t c = search needs
 
 unary-unary-requires : (t : ℕ) → unary-lts.Need-unary-requires (unary-R t) (unary-at t) unary.Post
-unary-unary-requires t c κs = (omega arith, (omega arith, omega arith))
-
-unary-negated-requires : (t : ℕ) → unary-lts.Need-negated-requires (unary-R t) (unary-at t) unary.Post
-unary-negated-requires t c κs = omega (arith, unary-room (now (c .before .before .before .before .before .before .before .before .before .before .before .args .card)) (c .before .before .before .before .before .before .before .before .before .before .before .args .top) (now (c .before .before .before .before .before .before .before .before .before .before .before .args .nodes)) (c .before .unary .last .1 .1 .0) (c .before .before .before .before .before .before .before .before .before .before .before .args .used) (c .before .before .before .before .before .before .before .before .before .before .before .args .late) (c .before .before .before .before .before .before .before .before .before .step-opening .result .next .at) (c .before .before .before .before .before .before .before .before .before .before .before .args .left - 1) (c .before .before .before .before .before .before .before .before .before .before .before .args .depth - 1) (c .before .unary .result) (c .before .unary .ensures) (nodePlaces - 1) (omega arith) (omega arith) .fits)
+unary-unary-requires t c κs =
+    let at-if4 = c .before .before in
+    let at-if3 = at-if4 .before .before in
+    let entry = at-if3 .before .before .before .before .before .before .before in
+    let st = now (entry .args .state) in
+    (omega (arith, left-set st (entry .pre .1 .sized) (leftIn st - 1), entry .pre .0, at-if4 .if4 .left, at-if3 .if3 .left), spending-ready st (entry .pre .1) (at-if4 .if4 .left))
 
 unary-returns-5 : (t : ℕ) → unary-lts.Need-returns-5 (unary-R t) (unary-at t) unary.Post
-unary-returns-5 t c = reads-not (now (c .before .before .before .before .before .before .before .before .before .before .before .before .args .card)) (c .before .before .before .before .before .before .before .before .before .before .before .before .args .at) (c .before .before .before .before .before .before .before .before .before .before .before .before .args .left) (c .before .before .before .before .before .before .before .before .before .before .before .before .args .depth) (c .before .before .before .before .before .before .before .before .before .before .before .before .args .top) (now (c .before .before .before .before .before .before .before .before .before .before .before .before .args .nodes)) (c .negated .last .0) (c .before .before .before .before .before .before .before .before .before .before .before .before .args .used) (c .before .before .before .before .before .before .before .before .before .before .before .before .args .late) (c .before .before .before .before .before .before .before .before .before .before .step-opening .result) (c .before .before .before .before .before .before .before .before .before .before .step-opening .ensures) (c .before .before .before .before .before .before .if2 .left) (c .before .before .before .before .before .if3 .left) (c .before .before .before .before .if4 .left) (c .before .before .unary .last .1 .1 .0) (c .before .before .unary .result) (c .negated .result) (c .before .before .unary .ensures) (c .negated .ensures)
+unary-returns-5 t c =
+    let at-if4 = c .before .before .before .before in
+    let at-if3 = at-if4 .before .before in
+    let at-if2 = at-if3 .before in
+    let at-step-opening = at-if2 .before .before .before .before in
+    let entry = at-step-opening .before .before in
+    let a = entry .args in
+    let g = after (c .before .unary .last .1 .1 .1 .0) (c .before .unary .result) in
+    reads-not (now (a .card)) (a .at) (leftIn (now (a .state))) (a .depth) (a .top) (now (a .nodes)) (c .before .unary .last .1 .1 .0) (freeIn (now (a .state))) (lateIn (now (a .state))) (at-step-opening .step-opening .result) (at-step-opening .step-opening .ensures)
+    (at-if2 .if2 .left) (at-if3 .if3 .left) (at-if4 .if4 .left) (c .before .unary .last .1 .1 .0) g (after (g .state) 0)
+    (read-spending (now (a .state)) (now (a .card)) (a .top) (now (a .nodes)) (c .before .unary .last .1 .1 .0) (grammar.unary groups.group (a .depth - 1)) (marksAt 0 (now (a .card)) (at-step-opening .step-opening .result .next .at)) g (entry .pre .1 .sized) (c .before .unary .ensures))
+    (goes-on-wrong (c .before .unary .last .1 .1 .0) g thenNot (c .if5 .taken))
+
+unary-element-copy-out-root : (t : ℕ) → unary-lts.Need-element-copy-out-root (unary-R t) (unary-at t) unary.Post
+unary-element-copy-out-root t c = search needs
+
+unary-sub-root : (t : ℕ) → unary-lts.Need-sub-root (unary-R t) (unary-at t) unary.Post
+unary-sub-root t c =
+    let at-unary = c .before .before in
+    let at-if4 = at-unary .before .before .before in
+    let at-step-opening = at-if4 .before .before .before .before .before .before .before in
+    let entry = at-step-opening .before .before in
+    let a = entry .args in
+    omega (
+      arith,
+      behind-not (now (a .card)) (a .top) (now (a .nodes)) (at-unary .unary .last .1 .1 .0) (now (a .state)) (entry .pre .1) (at-if4 .if4 .left) (at-step-opening .step-opening .result .next .at) (a .depth - 1)
+          (after (at-unary .unary .last .1 .1 .1 .0) (at-unary .unary .result)) (c .before .if5 .left) (at-unary .unary .ensures) .0,
+    )
+
+unary-pack-node-requires : (t : ℕ) → unary-lts.Need-pack-node-requires (unary-R t) (unary-at t) unary.Post
+unary-pack-node-requires t c κs = tt
+
+unary-store-requires : (t : ℕ) → unary-lts.Need-store-requires (unary-R t) (unary-at t) unary.Post
+unary-store-requires t c κs =
+    let at-if5 = c .before .before .before .before in
+    let at-unary = at-if5 .before in
+    let at-if4 = at-unary .before .before .before in
+    let at-step-opening = at-if4 .before .before .before .before .before .before .before in
+    let entry = at-step-opening .before .before in
+    let a = entry .args in
+    behind-not (now (a .card)) (a .top) (now (a .nodes)) (at-unary .unary .last .1 .1 .0) (now (a .state)) (entry .pre .1) (at-if4 .if4 .left) (at-step-opening .step-opening .result .next .at) (a .depth - 1)
+    (after (at-unary .unary .last .1 .1 .1 .0) (at-unary .unary .result)) (at-if5 .if5 .left) (at-unary .unary .ensures) .1
+
+unary-returns-6 : (t : ℕ) → unary-lts.Need-returns-6 (unary-R t) (unary-at t) unary.Post
+unary-returns-6 t c =
+    let at-if5 = c .before .before .before .before .before in
+    let at-unary = at-if5 .before in
+    let at-if4 = at-unary .before .before .before in
+    let at-if3 = at-if4 .before .before in
+    let at-if2 = at-if3 .before in
+    let at-step-opening = at-if2 .before .before .before .before in
+    let entry = at-step-opening .before .before in
+    let a = entry .args in
+    let mid = at-unary .unary .last .1 .1 .0 in
+    let g = after (at-unary .unary .last .1 .1 .1 .0) (at-unary .unary .result) in
+    let fits = behind-not (now (a .card)) (a .top) (now (a .nodes)) mid (now (a .state)) (entry .pre .1) (at-if4 .if4 .left) (at-step-opening .step-opening .result .next .at) (a .depth - 1) g (at-if5 .if5 .left) (at-unary .unary .ensures) .1 in
+    rw (c .store .ensures .0, c .store .ensures .1)
+    (reads-not (now (a .card)) (a .at) (leftIn (now (a .state))) (a .depth) (a .top) (now (a .nodes)) _ (freeIn (now (a .state))) (lateIn (now (a .state))) (at-step-opening .step-opening .result) (at-step-opening .step-opening .ensures)
+    (at-if2 .if2 .left) (at-if3 .if3 .left) (at-if4 .if4 .left) mid g _
+    (read-spending (now (a .state)) (now (a .card)) (a .top) (now (a .nodes)) mid (grammar.unary groups.group (a .depth - 1)) (marksAt 0 (now (a .card)) (at-step-opening .step-opening .result .next .at)) g (entry .pre .1 .sized) (at-unary .unary .ensures))
+    (not-well mid g (c .before .pack-node .result) (at-if5 .if5 .left) fits (c .before .pack-node .ensures)))
 
 pub +bracket+chain+conjunction+expression+operand+unary-spec : {M : Type 1} → statement M
 +bracket+chain+conjunction+expression+operand+unary-spec =
@@ -293,12 +643,12 @@ pub +bracket+chain+conjunction+expression+operand+unary-spec : {M : Type 1} → 
       step-inner-reads.Learnt,
       grouping-reads.Asked,
       grouping-reads.Learnt,
-      stopped-reads.Asked,
-      stopped-reads.Learnt,
+      stop-reads.Asked,
+      stop-reads.Learnt,
       expression-below t,
       expression.Post,
-      closed-reads.Asked,
-      closed-reads.Learnt,
+      step-sign-reads.Asked,
+      step-sign-reads.Learnt,
     )
     (bracket-at t)
     bracket.Post
@@ -308,23 +658,30 @@ pub +bracket+chain+conjunction+expression+operand+unary-spec : {M : Type 1} → 
     (bracket-step-inner-requires t)
     (bracket-grouping-requires t)
     (bracket-returns t)
-    (bracket-stopped-requires t)
+    (bracket-stop-requires t)
     (bracket-returns-2 t)
     (bracket-sub-expression t)
     (bracket-expression-requires t)
-    (bracket-closed-requires t)
-    (bracket-returns-3 t))
+    (bracket-returns-3 t)
+    (bracket-step-sign-requires t)
+    (bracket-stop-requires-2 t)
+    (bracket-returns-4 t)
+    (bracket-returns-5 t))
     (λ t. chain-lts.spec (
       joint-reads.Asked,
       joint-reads.Learnt,
       step-after-reads.Asked,
       step-after-reads.Learnt,
-      stopped-reads.Asked,
-      stopped-reads.Learnt,
+      stop-reads.Asked,
+      stop-reads.Learnt,
       operand-below t,
       operand.Post,
-      joined-reads.Asked,
-      joined-reads.Learnt,
+      operator-reads.Asked,
+      operator-reads.Learnt,
+      pack-node-reads.Asked,
+      pack-node-reads.Learnt,
+      store-reads.Asked,
+      store-reads.Learnt,
     )
     (chain-at t)
     chain.Post
@@ -334,33 +691,55 @@ pub +bracket+chain+conjunction+expression+operand+unary-spec : {M : Type 1} → 
     (chain-loop-holds t)
     (chain-step-after-requires t)
     (chain-returns t)
-    (chain-stopped-requires t)
+    (chain-element-copy-out-left t)
+    (chain-stop-requires t)
     (chain-returns-2 t)
-    (chain-add-operand t)
-    (chain-sub-operand t)
+    (chain-element-copy-out-first-root t)
+    (chain-sub-first-root t)
+    (chain-sub-state t)
+    (chain-element-write-state t)
     (chain-operand-requires t)
-    (chain-joined-requires t)
+    (chain-returns-3 t)
+    (chain-element-copy-out-second-root t)
+    (chain-sub-second-root t)
+    (chain-operator-requires t)
+    (chain-pack-node-requires t)
+    (chain-store-requires t)
     (chain-loop-less t)
     (chain-loop-again t)
-    (chain-returns-3 t))
-    (λ t. conjunction-lts.spec
-    (unary-below t, unary.Post, is-closed-reads.Asked, is-closed-reads.Learnt, chain-below t, chain.Post)
+    (chain-returns-4 t))
+    (λ t. conjunction-lts.spec (
+      unary-below t,
+      unary.Post,
+      sign-here-reads.Asked,
+      sign-here-reads.Learnt,
+      chain-below t,
+      chain.Post,
+    )
     (conjunction-at t)
     conjunction.Post
     (conjunction-unary-requires t)
-    (conjunction-is-closed-requires t)
     (conjunction-returns t)
+    (conjunction-sign-here-requires t)
+    (conjunction-returns-2 t)
     (conjunction-chain-requires t)
-    (conjunction-returns-2 t))
-    (λ t. expression-lts.spec
-    (conjunction-below t, conjunction.Post, is-closed-reads.Asked, is-closed-reads.Learnt, chain-below t, chain.Post)
+    (conjunction-returns-3 t))
+    (λ t. expression-lts.spec (
+      conjunction-below t,
+      conjunction.Post,
+      sign-here-reads.Asked,
+      sign-here-reads.Learnt,
+      chain-below t,
+      chain.Post,
+    )
     (expression-at t)
     expression.Post
     (expression-conjunction-requires t)
-    (expression-is-closed-requires t)
     (expression-returns t)
+    (expression-sign-here-requires t)
+    (expression-returns-2 t)
     (expression-chain-requires t)
-    (expression-returns-2 t))
+    (expression-returns-3 t))
     (λ t. operand-lts.spec
     (conjunction-below t, conjunction.Post, unary-below t, unary.Post)
     (operand-at t)
@@ -374,26 +753,34 @@ pub +bracket+chain+conjunction+expression+operand+unary-spec : {M : Type 1} → 
       step-opening-reads.Learnt,
       bracket-below t,
       bracket.Post,
-      stopped-reads.Asked,
-      stopped-reads.Learnt,
+      stop-reads.Asked,
+      stop-reads.Learnt,
       unary-below t,
       unary.Post,
-      negated-reads.Asked,
-      negated-reads.Learnt,
+      pack-node-reads.Asked,
+      pack-node-reads.Learnt,
+      store-reads.Asked,
+      store-reads.Learnt,
     )
     (unary-at t)
     unary.Post
     (unary-step-opening-requires t)
     (unary-bracket-requires t)
     (unary-returns t)
-    (unary-stopped-requires t)
+    (unary-stop-requires t)
     (unary-returns-2 t)
-    (unary-stopped-requires-2 t)
+    (unary-stop-requires-2 t)
     (unary-returns-3 t)
-    (unary-stopped-requires-3 t)
+    (unary-element-copy-out-left t)
+    (unary-stop-requires-3 t)
     (unary-returns-4 t)
-    (unary-sub-deeper t)
+    (unary-sub-state t)
+    (unary-element-write-state t)
     (unary-sub-unary t)
     (unary-unary-requires t)
-    (unary-negated-requires t)
     (unary-returns-5 t)
+    (unary-element-copy-out-root t)
+    (unary-sub-root t)
+    (unary-pack-node-requires t)
+    (unary-store-requires t)
+    (unary-returns-6 t)

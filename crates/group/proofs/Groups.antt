@@ -1,0 +1,394 @@
+-- A group, literal by literal. While the code reads on, the group is what the literals so far and the others behind them make; the
+-- definition's fuel, the number of marks left, is never met, since each further literal takes marks and one of the fuel.
+use Prim.Native.Nat.{ℕ, zero, suc, _+_, _≤_, _<_, min}
+use Prim.Native.String.{String}
+use mathlib.Core.Path.{_≡_, refl, sym, ap, _∙_}
+use mathlib.Core.Bool.{Bool, true, false, not, _&&_}
+use mathlib.Core.List.{List, [], _∷_, _++_, append-assoc, append-nil}
+use native.Mathlib.Omega.{arith}
+use borrow.Author.Tests.{eq-eqb, ne-eqb}
+use lib.Dec.{eqb}
+use lib.ListN.{length, getD, drop}
+use lib.Seq.{drop-length}
+use Rattle.card.specs.Limits.{mostSeats, numbers}
+use Rattle.card.specs.Refusals.{outOfShape}
+use Rattle.card.specs.Text.{if_then_else_}
+use Rattle.card.specs.Card.{Kind, everyone, others as othersKind, Sign, all, any, Relation, is as eq, isnt as ne}
+use Rattle.card.specs.Laid.{kindNumber, signNumber, relationNumber, packGroup, leafNumber}
+use Rattle.card.proofs.Packed.{packed-group}
+use Rattle.marks.specs.Marks.{Mark, Placed, placed, seat, placeOf}
+use Rattle.marks.specs.Kinds.{kEnd, kSeat, kind, kindOf}
+use Rattle.marks.specs.Step.{valueOf, stepAt, marksAt}
+use Rattle.marks.specs.declared.Step.{Step}
+use Rattle.marks.proofs.KindLaws.{kind-seat}
+use Rattle.marks.proofs.Next.{Meet, over, met, meet}
+use Rattle.reading.specs.Reader.{Place, State, at, Result, ok, stop, Reader, bind, _>>=_, return, the, is, nextIs, ifNext, sign, seatOf, numberOf, here}
+use Rattle.reading.specs.Group.{Literal, literalOf, Literals, literalsOf, relationOf, joint, literal, others, group}
+use Rattle.reading.specs.Judgements.{state, alike}
+use Rattle.group.specs.declared.Grouped.{Grouped}
+use Rattle.group.specs.declared.literal.Tail.{Tail}
+use Rattle.group.specs.Late.{wantOf, kindBy, groupBy}
+use Rattle.group.specs.GroupRead.{noGroup, ReadGroup, StoppedGroup, GroupRead}
+use Rattle.group.specs.LiteralRead.{noTail, ReadLiteral, StoppedLiteral, LiteralRead, noted, oneMore, wantIn, kindIn, signIn}
+use Rattle.group.proofs.Signs.{Known}
+use Rattle.group.proofs.Ahead.{fits, unfit, next-is, sign-next, the-seat, place-next, place-within, next-within, next-past, one-less}
+use Rattle.group.proofs.Literals.{Reads}
+use Rattle.group.proofs.Seats.{noSeats, Seen, seen-first, seen-more-seats, long-more, one-counted, alike-so, kind-seen, want-seen}
+
+-- ---- the signs are known
+
+pub joint-known : (a : Bool) → Known (joint (signIn a))
+joint-known false = record { above = omega arith; alone = refl; same = refl }
+joint-known true = record { above = omega arith; alone = refl; same = refl }
+
+close-known : Known ")"
+close-known = record { above = omega arith; alone = refl; same = refl }
+
+-- ---- the others, opened
+
+others-more : (t : String) (fuel : ℕ) (s : State) → nextIs t (s .marks) ≡ true
+    → others t (suc fuel) s ≡ bind (sign t s) (λ _ b. bind (literal b) (λ l c. bind (others t fuel c) (λ ls. return (l ∷ ls))))
+others-more t fuel s e = rw e
+
+others-end : (t : String) (fuel : ℕ) (s : State) → nextIs t (s .marks) ≡ false → others t fuel s ≡ bind (sign ")" s) (λ _. return [])
+others-end t zero s e = rw e
+others-end t (suc fuel) s e = rw e
+
+-- what follows a group's first literal
+abbrev behindFirst : Place → Literal → Reader Literals
+behindFirst p l = λ b. bind (ifNext (joint any) (return any) (return all) b) (λ s c. bind (others (joint s) (length (b .marks)) c) (λ ls. return (literalsOf p s (l ∷ ls))))
+
+behind-first : (p : Place) (l : Literal) (b : State) (a : Bool) → nextIs (joint any) (b .marks) ≡ a
+    → behindFirst p l b ≡ bind (others (joint (signIn a)) (length (b .marks)) b) (λ ls. return (literalsOf p (signIn a) (l ∷ ls)))
+behind-first p l b true e = rw e
+behind-first p l b false e = rw e
+
+opened : (p : Place) (s : State) → group p s ≡ bind (literal s) (behindFirst p)
+opened p s = refl
+
+-- ---- a literal that was read, or not
+
+module _ (o : ℕ) (s : List ℕ) (from n i : ℕ) (t : Tail) where
+  read-well : {C : Type 0} (x : Result Literal) → LiteralRead o s from n i x t → t .stop ≡ 0 → ((l : Literal) (b : State) → x ≡ ok l b → ReadLiteral o s from n i l b t → C) → C
+  read-well (ok l b) h z c = c l b refl h
+  read-well (stop m q) h z c = absurd (omega (arith, z, ap (λ (u : Tail). u .stop) (h .answer)))
+
+  read-wrong : (p : Place) (x : Result Literal) (f : Literal → Reader Literals) → LiteralRead o s from n i x t → (t .stop ≡ 0 → ⊥) → GroupRead o s n p (bind x f) (noGroup (t .place))
+  read-wrong p (ok l b) f h z = absurd (z (h .went))
+  read-wrong p (stop m q) f h z = record { number = h .number; answer = refl; place = h .place; within = h .within }
+
+group-as : (o : ℕ) (s : List ℕ) (n : ℕ) (p : Place) {x y : Result Literals} (r : Grouped) → x ≡ y → GroupRead o s n p y r → GroupRead o s n p x r
+group-as o s n p r e h = rw e h
+
+-- ---- so far
+
+-- the group of the part s whose first seat word has the number i, and `from` stands behind it
+abbrev pub whole : List ℕ → ℕ → ℕ → ℕ → ℕ → ℕ → Place → Result Literals
+whole s from i o n x p = group p (at (placed (seat i) x ∷ marksAt o s from) n)
+
+abbrev behindMore : Place → Sign → List Literal → List Literal → Reader Literals
+behindMore p g ls rest = return (literalsOf p g (ls ++ rest))
+
+pub record SoFar (s : List ℕ) (from i : ℕ) (first : Tail) (a : Bool) (seen : List ℕ) (count : ℕ) (same : Bool) (c o n x : ℕ) (p : Place) : Type 0 where
+  pub head : Literal
+  pub more : List Literal
+  pub fuel : ℕ
+  pub enough : length (marksAt o s c) ≤ fuel
+  pub goes : whole s from i o n x p ≡ bind (others (joint (signIn a)) fuel (at (marksAt o s c) n)) (behindMore p (signIn a) (head ∷ more))
+  pub behind : State
+  pub read : ReadLiteral o s from n i head behind first
+  pub marked : Seen seen (head ∷ more)
+  pub counted : count ≡ min (length (head ∷ more)) (suc mostSeats)
+  pub alikes : same ≡ alike head more
+
+module _ (s : List ℕ) (from i : ℕ) (first : Tail) (reads : Reads s from first) where
+  -- the first literal was not read
+  pub first-wrong : (first .stop ≡ 0 → ⊥) → (o n x : ℕ) (p : Place) → GroupRead o s n p (whole s from i o n x p) (noGroup (first .place))
+  first-wrong z o n x p = read-wrong o s from n i first p (literal (at (placed (seat i) x ∷ marksAt o s from) n)) (behindFirst p) (reads o n i x) z
+
+  -- it was, and the mark ahead says what joins the others
+  pub first-read : first .stop ≡ 0 → (a : Bool) (ahead : Step) → ahead ≡ stepAt s (first .next) → a ≡ eqb (ahead .mark .kind) (kind (joint any))
+      → (seen : List ℕ) → seen ≡ noted (noSeats (suc mostSeats)) i → (o n x : ℕ) (p : Place) → SoFar s from i first a seen 1 true (first .next) o n x p
+  first-read z a ahead step e seen f o n x p =
+      read-well o s from n i first (literal (at (placed (seat i) x ∷ marksAt o s from) n)) (reads o n i x) z
+      (λ l b g h. record {
+        head = l;
+        more = [];
+        fuel = length (marksAt o s (first .next));
+        enough = omega arith;
+        goes =
+            ap (λ y. bind y (behindFirst p)) g ∙ ap (behindFirst p l) (h .rest)
+            ∙ behind-first p l (at (marksAt o s (first .next)) n) a (next-is o s (joint any) (joint-known true) (stepAt s (first .next)) (marksAt o s (first .next)) (meet o s (first .next)) ∙ ap (λ (u : Step). eqb (u .mark .kind) (kind (joint any))) (sym step) ∙ sym e);
+        behind = b;
+        read = h;
+        marked = λ j k. seen-first i l (h .seat) j k ∙ ap (λ u. not (eqb (getD u j 0) 0)) (sym f);
+        counted = refl;
+        alikes = refl;
+      })
+
+-- ---- one turn: the sign, a seat word, and the rest of a literal
+
+bind-assoc : {A B C : Type 0} (x : Result A) (f : A → Reader B) (g : B → Reader C) → bind (bind x f) g ≡ bind x (λ a s. bind (f a s) g)
+bind-assoc (ok a s) f g = refl
+bind-assoc (stop r p) f g = refl
+
+-- a literal more at the end of those so far
+bind-more : (x : Result (List Literal)) (p : Place) (g : Sign) (ls : List Literal) (l : Literal)
+    → bind (bind x (λ more. return (l ∷ more))) (behindMore p g ls) ≡ bind x (behindMore p g (ls ++ (l ∷ [])))
+bind-more (ok more s) p g ls l = ap (λ u. ok (literalsOf p g u) s) (sym (append-assoc ls (l ∷ []) more))
+bind-more (stop r q) p g ls l = refl
+
+pub seat-marks : (o : ℕ) (s : List ℕ) (x : Step) (ms : Place) → Meet o s x ms → x .mark .kind ≡ kSeat → ms ≡ placed (seat (x .mark .value)) (o + x .mark .place) ∷ marksAt o s (x .next .at)
+seat-marks o s x ms over e = absurd (omega arith)
+seat-marks o s x ms (met m p next small l h) e = ap (λ u. placed u (o + p) ∷ marksAt o s next) (kind-seat m e)
+
+abbrev afterSign : String → ℕ → Literal → Reader (List Literal)
+afterSign t fuel l = λ c. bind (others t fuel c) (λ ls. return (l ∷ ls))
+
+module _ (o : ℕ) (s : List ℕ) (c n : ℕ) (t : String) (known : Known t) (joined : stepAt s c .mark .kind ≡ kind t) where
+  abbrev next : ℕ
+  next = stepAt s c .next .at
+
+  shorter : suc (length (marksAt o s next)) ≡ length (marksAt o s c)
+  shorter = one-less o s (stepAt s c) (marksAt o s c) (meet o s c) (λ z. omega (arith, known .above))
+
+  turned : {C : Type 0} (fuel : ℕ) → length (marksAt o s c) ≤ fuel
+      → ((less : ℕ) → length (marksAt o s next) ≤ less → others t fuel (at (marksAt o s c) n) ≡ bind (literal (at (marksAt o s next) n)) (afterSign t less) → C) → C
+  turned zero h k = absurd (omega (arith, shorter))
+  turned (suc less) h k =
+      k less (omega (arith, shorter))
+      (others-more t less (at (marksAt o s c) n) (next-is o s t known (stepAt s c) (marksAt o s c) (meet o s c) ∙ eq-eqb (stepAt s c .mark .kind) (kind t) joined)
+      ∙ ap (λ y. bind y (λ _ b. bind (literal b) (afterSign t less))) (sign-next o s t known (stepAt s c) (marksAt o s c) n (meet o s c) ∙ fits tt o s (stepAt s c) (marksAt o s c) n (kind t) joined))
+
+  -- no seat word
+  no-word : (stepAt s next .mark .kind ≡ kSeat → ⊥) → literal (at (marksAt o s next) n) ≡ stop outOfShape (marksAt o s next)
+  no-word h =
+      ap (λ y. bind y (λ j b. bind (the relationOf b) (λ q d. bind (the numberOf d) (λ v. return (literalOf j q v (d .marks))))))
+      (the-seat o s (stepAt s next) (marksAt o s next) n (meet o s next) ∙ unfit (stepAt s next .mark .value) o s (stepAt s next) (marksAt o s next) n kSeat h)
+
+-- its node
+kind-small : (k : Kind) → kindNumber k ≤ 1
+kind-small everyone = omega arith
+kind-small othersKind = omega arith
+
+sign-small : (g : Sign) → signNumber g ≤ 1
+sign-small all = omega arith
+sign-small any = omega arith
+
+relation-small : (q : Relation) → relationNumber q ≤ 1
+relation-small eq = omega arith
+relation-small ne = omega arith
+
+packed : (k g q d : ℕ) (kind : Kind) (sign : Sign) (relation : Relation) (e : ℕ) → k ≡ kindNumber kind → g ≡ signNumber sign → q ≡ relationNumber relation → d ≡ e → d < numbers
+    → packGroup (min k 1) (min g 1) (min q 1) (min d numbers) ≡ packGroup (kindNumber kind) (signNumber sign) (relationNumber relation) e
+packed k g q d kind sign relation e ke ge qe de l =
+    rw (ke, ge, qe, de)
+    (packed-group (kindNumber kind) (signNumber sign) (relationNumber relation) e (kind-small kind) (sign-small sign) (relation-small relation) (omega arith))
+
+-- the group stops where the mark ahead does not fit
+stops-here : (o : ℕ) (s : List ℕ) (n : ℕ) (p : Place) (c : ℕ) → GroupRead o s n p (stop outOfShape (marksAt o s c)) (noGroup (stepAt s c .mark .place))
+stops-here o s n p c = record {
+  number = refl;
+  answer = refl;
+  place = place-next o s (stepAt s c) (marksAt o s c) (meet o s c);
+  within = place-within o s (stepAt s c) (marksAt o s c) (meet o s c);
+}
+
+module _ (s : List ℕ) (from i : ℕ) (first : Tail) (a : Bool) (seen : List ℕ) (count : ℕ) (same : Bool) (c : ℕ) where
+  module _ (joined : stepAt s c .mark .kind ≡ kind (joint (signIn a))) (o n x : ℕ) (p : Place) (so : SoFar s from i first a seen count same c o n x p) where
+    abbrev word : Step
+    word = stepAt s (stepAt s c .next .at)
+
+    no-seat : (word .mark .kind ≡ kSeat → ⊥) → GroupRead o s n p (whole s from i o n x p) (noGroup (word .mark .place))
+    no-seat h =
+        turned o s c n (joint (signIn a)) (joint-known a) joined (so .fuel) (so .enough)
+        (λ less l e. group-as o s n p (noGroup (word .mark .place))
+        (so .goes ∙ ap (λ y. bind y (behindMore p (signIn a) (so .head ∷ so .more))) (e ∙ ap (λ y. bind y (afterSign (joint (signIn a)) less)) (no-word o s c n (joint (signIn a)) (joint-known a) joined h)))
+        (stops-here o s n p (stepAt s c .next .at)))
+
+    module _ (h : word .mark .kind ≡ kSeat) (more : Tail) (reads : Reads s (word .next .at) more) where
+      -- the literal behind the word
+      one : Result Literal
+      one = literal (at (placed (seat (word .mark .value)) (o + word .mark .place) ∷ marksAt o s (word .next .at)) n)
+
+      one-reads : LiteralRead o s (word .next .at) n (word .mark .value) one more
+      unfolding one
+      one-reads = reads o n (word .mark .value) (o + word .mark .place)
+
+      worded : literal (at (marksAt o s (stepAt s c .next .at)) n) ≡ one
+      unfolding one
+      worded = ap (λ ms. literal (at ms n)) (seat-marks o s word (marksAt o s (stepAt s c .next .at)) (meet o s (stepAt s c .next .at)) h)
+
+      whole-more : (less : ℕ) → others (joint (signIn a)) (so .fuel) (at (marksAt o s c) n) ≡ bind (literal (at (marksAt o s (stepAt s c .next .at)) n)) (afterSign (joint (signIn a)) less)
+          → whole s from i o n x p ≡ bind one (λ l b. bind (afterSign (joint (signIn a)) less l b) (behindMore p (signIn a) (so .head ∷ so .more)))
+      whole-more less e =
+          so .goes ∙ ap (λ y. bind y (behindMore p (signIn a) (so .head ∷ so .more))) (e ∙ ap (λ y. bind y (afterSign (joint (signIn a)) less)) worded)
+          ∙ bind-assoc one (afterSign (joint (signIn a)) less) (behindMore p (signIn a) (so .head ∷ so .more))
+
+      no-literal : (more .stop ≡ 0 → ⊥) → GroupRead o s n p (whole s from i o n x p) (noGroup (more .place))
+      no-literal z =
+          turned o s c n (joint (signIn a)) (joint-known a) joined (so .fuel) (so .enough)
+          (λ less l e. group-as o s n p (noGroup (more .place)) (whole-more less e)
+          (read-wrong o s (word .next .at) n (word .mark .value) more p one (λ l b. bind (afterSign (joint (signIn a)) less l b) (behindMore p (signIn a) (so .head ∷ so .more))) one-reads z))
+
+      one-further : more .stop ≡ 0 → length seen ≡ suc mostSeats
+          → SoFar s from i first a (noted seen (word .mark .value)) (oneMore count) (same && (eqb (first .relation) (more .relation) && eqb (first .d) (more .d))) (more .next) o n x p
+      one-further z long =
+          turned o s c n (joint (signIn a)) (joint-known a) joined (so .fuel) (so .enough)
+          (λ less enough e. read-well o s (word .next .at) n (word .mark .value) more one one-reads z
+          (λ l b g r. record {
+            head = so .head;
+            more = so .more ++ (l ∷ []);
+            fuel = less;
+            enough = omega (arith, r .fewer, one-less o s word (marksAt o s (stepAt s c .next .at)) (meet o s (stepAt s c .next .at)) (λ k. omega arith));
+            goes =
+                whole-more less e
+                ∙ ap (λ y. bind y (λ l b. bind (afterSign (joint (signIn a)) less l b) (behindMore p (signIn a) (so .head ∷ so .more)))) g
+                ∙ ap (λ b. bind (afterSign (joint (signIn a)) less l b) (behindMore p (signIn a) (so .head ∷ so .more))) (r .rest)
+                ∙ bind-more (others (joint (signIn a)) less (at (marksAt o s (more .next)) n)) p (signIn a) (so .head ∷ so .more) l;
+            behind = so .behind;
+            read = so .read;
+            marked = seen-more-seats seen (word .mark .value) (so .head ∷ so .more) l long (r .seat) (so .marked);
+            counted = one-counted count (so .head ∷ so .more) l (so .counted);
+            alikes = alike-so same (so .head) l (so .more) (first .relation) (more .relation) (first .d) (more .d) (so .alikes) (so .read .relation) (r .relation) (so .read .d) (r .d);
+          }))
+
+  -- ---- the end: another mark than the sign
+
+  module _ (other : stepAt s c .mark .kind ≡ kind (joint (signIn a)) → ⊥) (o n x : ℕ) (p : Place) (so : SoFar s from i first a seen count same c o n x p) where
+    closing : whole s from i o n x p ≡ bind (bind (sign ")" (at (marksAt o s c) n)) (λ _. return [])) (behindMore p (signIn a) (so .head ∷ so .more))
+    closing =
+        so .goes
+        ∙ ap (λ y. bind y (behindMore p (signIn a) (so .head ∷ so .more)))
+        (others-end (joint (signIn a)) (so .fuel) (at (marksAt o s c) n) (next-is o s (joint (signIn a)) (joint-known a) (stepAt s c) (marksAt o s c) (meet o s c) ∙ ne-eqb (stepAt s c .mark .kind) (kind (joint (signIn a))) other))
+
+    not-closed : (stepAt s c .mark .kind ≡ kind ")" → ⊥) → GroupRead o s n p (whole s from i o n x p) (noGroup (stepAt s c .mark .place))
+    not-closed h =
+        group-as o s n p (noGroup (stepAt s c .mark .place))
+        (closing ∙ ap (λ y. bind (bind y (λ _. return [])) (behindMore p (signIn a) (so .head ∷ so .more))) (sign-next o s ")" close-known (stepAt s c) (marksAt o s c) n (meet o s c) ∙ unfit tt o s (stepAt s c) (marksAt o s c) n (kind ")") h))
+        (stops-here o s n p c)
+
+    closed : stepAt s c .mark .kind ≡ kind ")" → (w node k g : ℕ) → w ≡ wantIn seen count same → k ≡ kindIn seen → g ≡ signNumber (signIn a)
+        → node ≡ packGroup (min k 1) (min g 1) (min (first .relation) 1) (min (first .d) numbers)
+        → GroupRead o s n p (whole s from i o n x p) (record { stop = 0; place = 0; next = stepAt s c .next .at; want = w; node = node; d = first .d; first = first .first })
+    closed h w node k g we ke ge pe =
+        group-as o s n p _
+        (closing
+        ∙ ap (λ y. bind (bind y (λ _. return [])) (behindMore p (signIn a) (so .head ∷ so .more))) (sign-next o s ")" close-known (stepAt s c) (marksAt o s c) n (meet o s c) ∙ fits tt o s (stepAt s c) (marksAt o s c) n (kind ")") h)
+        ∙ ap (λ ls. ok (literalsOf p (signIn a) (so .head ∷ ls)) (at (marksAt o s (stepAt s c .next .at)) n)) (append-nil (so .more)))
+        (record {
+          went = refl;
+          place = refl;
+          rest = refl;
+          left = refl;
+          bracket = refl;
+          past = next-past o s (stepAt s c) (marksAt o s c) (meet o s c) (λ z. omega arith);
+          next-within = next-within o s (stepAt s c) (marksAt o s c) (meet o s c);
+          want = we ∙ want-seen seen count (so .head) (so .more) (so .marked) (so .counted) same (so .alikes);
+          node =
+              pe
+              ∙ packed k g (first .relation) (first .d) (kindBy (so .head ∷ so .more)) (signIn a) (so .head .relation) (so .head .d)
+              (ke ∙ kind-seen seen count (so .head) (so .more) (so .marked) (so .counted)) ge (so .read .relation) (so .read .d) (so .read .small);
+          numeral = so .head .place;
+          states = ap (λ d. state d (so .head .place) ∷ []) (sym (so .read .d));
+          first = so .read .first;
+          first-within = so .read .first-within;
+        })
+
+next-fewer : (o : ℕ) (s : List ℕ) (x : Step) (ms : Place) → Meet o s x ms → length (marksAt o s (x .next .at)) ≤ length ms
+next-fewer o s x ms over = rw (drop-length s) (omega arith)
+next-fewer o s x ms (met m p next small l h) = omega arith
+
+-- ---- the same of what the code has, wherever the part begins
+
+pub record Turning (s : List ℕ) (from i : ℕ) (first : Tail) (a : Bool) (seen : List ℕ) (count : ℕ) (same : Bool) (ahead : Step) : Type 0 where
+  pub c : ℕ
+  pub step : ahead ≡ stepAt s c
+  pub long : length seen ≡ suc mostSeats
+  pub so : (o n x : ℕ) (p : Place) → SoFar s from i first a seen count same c o n x p
+
+abbrev pub Answers : List ℕ → ℕ → ℕ → Grouped → Type 0
+Answers s from i r = (o n x : ℕ) (p : Place) → GroupRead o s n p (whole s from i o n x p) r
+
+module _ (s : List ℕ) (from i : ℕ) (first : Tail) (a : Bool) (j : ℕ) (sign : j ≡ kind (joint (signIn a))) where
+  pub begins : Reads s from first → first .stop ≡ 0 → (ahead : Step) → ahead ≡ stepAt s (first .next) → a ≡ eqb (ahead .mark .kind) (kind (joint any))
+      → (seen : List ℕ) → seen ≡ noted (noSeats (suc mostSeats)) i → Turning s from i first a seen 1 true ahead
+  begins reads z ahead step e seen f = record {
+    c = first .next;
+    step = step;
+    long = ap length f ∙ long-more (noSeats (suc mostSeats)) i refl;
+    so = first-read s from i first reads z a ahead step e seen f;
+  }
+
+  module _ (seen : List ℕ) (count : ℕ) (same : Bool) (ahead : Step) (t : Turning s from i first a seen count same ahead) where
+    module _ (joined : ahead .mark .kind ≡ j) (word : Step) (found : word ≡ stepAt s (ahead .next .at)) where
+      joined-there : stepAt s (t .c) .mark .kind ≡ kind (joint (signIn a))
+      joined-there = ap (λ (u : Step). u .mark .kind) (sym (t .step)) ∙ joined ∙ sign
+
+      word-there : word ≡ stepAt s (stepAt s (t .c) .next .at)
+      word-there = found ∙ ap (λ (u : Step). stepAt s (u .next .at)) (t .step)
+
+      pub turn-word : (word .mark .kind ≡ kSeat → ⊥) → Answers s from i (noGroup (word .mark .place))
+      turn-word h o n x p = rw word-there (no-seat s from i first a seen count same (t .c) joined-there o n x p (t .so o n x p) (rw word-there at h))
+
+      module _ (h : word .mark .kind ≡ kSeat) (more : Tail) (reads : Reads s (word .next .at) more) where
+        seat-there : stepAt s (stepAt s (t .c) .next .at) .mark .kind ≡ kSeat
+        seat-there = ap (λ (u : Step). u .mark .kind) (sym word-there) ∙ h
+
+        reads-there : Reads s (stepAt s (stepAt s (t .c) .next .at) .next .at) more
+        reads-there = rw word-there at reads
+
+        pub turn-literal : (more .stop ≡ 0 → ⊥) → Answers s from i (noGroup (more .place))
+        turn-literal z o n x p = no-literal s from i first a seen count same (t .c) joined-there o n x p (t .so o n x p) seat-there more reads-there z
+
+        module _ (z : more .stop ≡ 0) (last : Step) (step : last ≡ stepAt s (more .next)) where
+          pub turn-on : (seen2 : List ℕ) → seen2 ≡ noted seen (word .mark .value) → (count2 : ℕ) → count2 ≡ oneMore count → (same2 : Bool) → same2 ≡ (same && (eqb (first .relation) (more .relation) && eqb (first .d) (more .d)))
+              → Turning s from i first a seen2 count2 same2 last
+          turn-on seen2 e count2 f same2 g = rw (e, f, g) (record {
+            c = more .next;
+            step = step;
+            long = long-more seen (word .mark .value) (t .long);
+            so = λ o n x p. rw (ap (λ (u : Step). u .mark .value) word-there) (one-further s from i first a seen count same (t .c) joined-there o n x p (t .so o n x p) seat-there more reads-there z (t .long));
+          })
+
+          -- fewer marks are left
+          pub turn-less : length (marksAt 0 s (last .next .at)) < length (marksAt 0 s (ahead .next .at))
+          turn-less =
+              read-well 0 s (word .next .at) 0 (word .mark .value) more (literal (at (placed (seat (word .mark .value)) 0 ∷ marksAt 0 s (word .next .at)) 0)) (reads 0 0 (word .mark .value) 0) z
+              (λ l b g r. omega (arith, r .fewer, behind-word, behind-last))
+            where
+              behind-word : suc (length (marksAt 0 s (word .next .at))) ≡ length (marksAt 0 s (ahead .next .at))
+              behind-word = rw found (one-less 0 s (stepAt s (ahead .next .at)) (marksAt 0 s (ahead .next .at)) (meet 0 s (ahead .next .at)) (λ k. omega (arith, ap (λ (u : Step). u .mark .kind) found)))
+
+              behind-last : length (marksAt 0 s (last .next .at)) ≤ length (marksAt 0 s (more .next))
+              behind-last = rw step (next-fewer 0 s (stepAt s (more .next)) (marksAt 0 s (more .next)) (meet 0 s (more .next)))
+
+    module _ (other : ahead .mark .kind ≡ j → ⊥) where
+      other-there : stepAt s (t .c) .mark .kind ≡ kind (joint (signIn a)) → ⊥
+      other-there e = other (ap (λ (u : Step). u .mark .kind) (t .step) ∙ e ∙ sym sign)
+
+      pub ends-open : (ahead .mark .kind ≡ kind ")" → ⊥) → Answers s from i (noGroup (ahead .mark .place))
+      ends-open h o n x p = rw (t .step) (not-closed s from i first a seen count same (t .c) other-there o n x p (t .so o n x p) (rw (t .step) at h))
+
+      pub ends-closed : ahead .mark .kind ≡ kind ")" → (w node k g : ℕ) → w ≡ wantIn seen count same → k ≡ kindIn seen → g ≡ signNumber (signIn a)
+          → node ≡ packGroup (min k 1) (min g 1) (min (first .relation) 1) (min (first .d) numbers)
+          → Answers s from i (record { stop = 0; place = 0; next = ahead .next .at; want = w; node = node; d = first .d; first = first .first })
+      ends-closed h w node k g we ke ge pe o n x p = rw (t .step) (closed s from i first a seen count same (t .c) other-there o n x p (t .so o n x p) (rw (t .step) at h) w node k g we ke ge pe)
+
+-- ---- the places in an answer lie in the part
+
+pub record Inside (s : List ℕ) (r : Grouped) : Type 0 where
+  pub place : r .place ≤ length s
+  pub next : r .next ≤ length s
+  pub first : r .first ≤ length s
+
+inside-answer : (o : ℕ) (s : List ℕ) (n : ℕ) (p : Place) (x : Result Literals) (r : Grouped) → GroupRead o s n p x r → Inside s r
+inside-answer o s n p (ok g b) r h = record { place = omega (arith, h .place); next = h .next-within; first = h .first-within }
+inside-answer o s n p (stop m q) r h = record {
+  place = h .within;
+  next = omega (arith, ap (λ (u : Grouped). u .next) (h .answer));
+  first = omega (arith, ap (λ (u : Grouped). u .first) (h .answer));
+}
+
+pub inside : (s : List ℕ) (from i : ℕ) (r : Grouped) → Answers s from i r → Inside s r
+inside s from i r h = inside-answer 0 s 0 [] (whole s from i 0 0 0 []) r (h 0 0 0 [])

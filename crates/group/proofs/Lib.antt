@@ -1,0 +1,9 @@
+pub mod StateLaws
+pub mod Keeping
+pub mod Symmetric
+pub mod Settling
+pub mod Signs
+pub mod Ahead
+pub mod Literals
+pub mod Seats
+pub mod Groups

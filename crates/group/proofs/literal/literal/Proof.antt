@@ -1,0 +1,59 @@
+-- The quick way has the two steps by their looks (proofs/Quick.antt of marks).
+use Rattle.group.proofs.Literals.{literal-whole}
+use Rattle.looks.proofs.Quick.{sign-place, sign-step, digit-place, digit-step}
+use Rattle.marks.specs.Parts.{bareOf, valuedOf}
+use Rattle.marks.specs.Kinds.{kNumber}
+use denote.Ref.{now}
+use borrow.Author.Tests.{not-false}
+use native.Mathlib.Omega.{arith}
+use mathlib.Core.Path.{refl, sym, _∙_}
+use Prim.Native.Nat.{_+_}
+use borrow.Author.Needs.{needs}
+use Rattle.group.proofs.literal.literal.Statement.{statement}
+use Rattle.group.proofs.literal.literal.Tie as tie
+use Rattle.group.proofs.literal.literal.Reads as reads
+use Rattle.group.proofs.literal.literal.Lts as lts
+use Rattle.group.proofs.literal.long_literal.Reads as long-literal-reads
+use Rattle.looks.proofs.look.digit_here.Reads as digit-here-reads
+use Rattle.looks.proofs.look.sign_here.Reads as sign-here-reads
+
+sign-here-requires : tie.Need-sign-here-requires
+sign-here-requires c κs = search needs
+
+long-literal-requires : tie.Need-long-literal-requires
+long-literal-requires c κs = search needs
+
+returns : tie.Need-returns
+returns c = search needs
+
+add-first : tie.Need-add-first
+add-first c = omega (arith, sign-place (c .before .before .before .args .part .now) (c .before .before .before .args .at) 61 (sym (c .before .sign-here .ensures) ∙ not-false (c .before .sign-here .result) (c .if1 .left)))
+
+digit-here-requires : tie.Need-digit-here-requires
+digit-here-requires c κs = search needs
+
+long-literal-requires-2 : tie.Need-long-literal-requires-2
+long-literal-requires-2 c κs = search needs
+
+returns-2 : tie.Need-returns-2
+returns-2 c = search needs
+
+add-t7 : tie.Need-add-t7
+add-t7 c = omega (arith, digit-place (c .before .before .before .before .before .args .part .now) (c .before .before .before .before .before .args .at + 1) (c .before .digit-here .result) (c .before .digit-here .ensures) (c .if2 .left))
+
+returns-3 : tie.Need-returns-3
+returns-3 c = literal-whole (now (c .before .before .before .before .before .args .part)) (c .before .before .before .before .before .args .at) 0 (bareOf 61 (c .before .before .before .before .before .args .at) (c .before .before .before .before .before .args .at + 1)) (valuedOf kNumber (c .before .digit-here .result) (c .before .before .before .before .before .args .at + 1) (c .before .before .before .before .before .args .at + 1 + 1)) (sym (sign-step (c .before .before .before .before .before .args .part .now) (c .before .before .before .before .before .args .at) 61 (sym (c .before .before .before .sign-here .ensures) ∙ not-false (c .before .before .before .sign-here .result) (c .before .before .if1 .left)))) (sym (digit-step (c .before .before .before .before .before .args .part .now) (c .before .before .before .before .before .args .at + 1) (c .before .digit-here .result) (c .before .digit-here .ensures) (c .if2 .left))) refl (λ z. omega arith) refl
+
+pub literal-spec : {M : Type 1} → statement M
+literal-spec =
+    tie.close
+    (tie.spec
+    sign-here-requires
+    long-literal-requires
+    returns
+    add-first
+    digit-here-requires
+    long-literal-requires-2
+    returns-2
+    add-t7
+    returns-3)

@@ -1,0 +1,54 @@
+-- Invariant: the seats still to look at decide. The measure is how many they are.
+use Rattle.group.proofs.Seats.{seen-start, seen-more, seen-end}
+use Rattle.group.specs.LiteralRead.{seenFrom}
+use Prim.Native.Nat.{_+_, _-_}
+use mathlib.Core.Path.{_≡_, sym, _∙_}
+use borrow.Author.Tests.{eq-eqb, ne-eqb}
+use borrow.Author.Needs.{needs}
+use Rattle.group.proofs.seen.all_seen.Statement.{statement}
+use Rattle.group.proofs.seen.all_seen.Tie as tie
+
+abbrev Inv-loop : tie.InvT-loop
+Inv-loop seen first count i₀ i = seenFrom seen first count ≡ seenFrom seen (first + i) (count - i)
+
+abbrev μ-loop : tie.MeasureT-loop
+μ-loop seen first count i₀ i = count - i
+
+loop-holds : tie.Need-loop-holds Inv-loop μ-loop
+loop-holds c = seen-start (c .args .seen .now) (c .args .first) (c .args .count)
+
+add-if1 : tie.Need-add-if1 Inv-loop μ-loop
+add-if1 c = search needs
+
+element-copy-out-if1 : tie.Need-element-copy-out-if1 Inv-loop μ-loop
+element-copy-out-if1 c = search needs
+
+returns : tie.Need-returns Inv-loop μ-loop
+returns c = sym (c .before .before .before .loop .inv ∙ seen-more (c .before .before .before .before .args .seen .now) (c .before .before .before .before .args .first) (c .before .before .before .before .args .count) (c .before .before .before .loop .i) (c .before .before .loop-test .taken) ∙ rw (eq-eqb _ _ (c .if1 .taken)))
+
+add-i : tie.Need-add-i Inv-loop μ-loop
+add-i c = search needs
+
+loop-less : tie.Need-loop-less Inv-loop μ-loop
+loop-less c = search needs
+
+loop-again : tie.Need-loop-again Inv-loop μ-loop
+loop-again c = c .before .before .before .loop .inv ∙ seen-more (c .before .before .before .before .args .seen .now) (c .before .before .before .before .args .first) (c .before .before .before .before .args .count) (c .before .before .before .loop .i) (c .before .before .loop-test .taken) ∙ rw (ne-eqb _ _ (c .if1 .left))
+
+returns-2 : tie.Need-returns-2 Inv-loop μ-loop
+returns-2 c = sym (c .before .loop .inv ∙ seen-end (c .before .before .args .seen .now) (c .before .before .args .first) (c .before .before .args .count) (c .before .loop .i) (c .loop-test .left))
+
+pub all-seen-spec : {M : Type 1} → statement M
+all-seen-spec =
+    tie.close
+    (tie.spec
+    Inv-loop
+    μ-loop
+    loop-holds
+    add-if1
+    element-copy-out-if1
+    returns
+    add-i
+    loop-less
+    loop-again
+    returns-2)

@@ -1,0 +1,55 @@
+-- By whether the literals are alike, seat 1 is among them, and they are few enough.
+use Rattle.group.proofs.Seats.{want-unlike, others-many, others-want, others-none, everyone-many, everyone-want, everyone-none}
+use borrow.Author.Tests.{not-true, not-false}
+use borrow.Author.Needs.{needs}
+use Rattle.group.proofs.seen.want.Statement.{statement}
+use Rattle.group.proofs.seen.want.Tie as tie
+
+returns : tie.Need-returns
+returns c = want-unlike (c .before .args .seen .now) (c .before .args .count) (c .before .args .alike) (not-true (c .before .args .alike) (c .if1 .taken))
+
+element-copy-out-if2 : tie.Need-element-copy-out-if2
+element-copy-out-if2 c = search needs
+
+returns-2 : tie.Need-returns-2
+returns-2 c = others-many (c .before .before .before .before .args .seen .now) (c .before .before .before .before .args .count) (c .before .before .before .before .args .alike) (not-false (c .before .before .before .before .args .alike) (c .before .before .before .if1 .left)) (c .before .if2 .taken) (c .if3 .taken)
+
+all-seen-requires : tie.Need-all-seen-requires
+all-seen-requires c κs = search needs
+
+add-result : tie.Need-add-result
+add-result c = search needs
+
+returns-3 : tie.Need-returns-3
+returns-3 c = others-want (c .before .before .before .before .before .before .args .seen .now) (c .before .before .before .before .before .before .args .count) (c .before .before .before .before .before .before .args .alike) (not-false (c .before .before .before .before .before .before .args .alike) (c .before .before .before .before .before .if1 .left)) (c .before .before .before .if2 .taken) (c .before .all-seen .result) (c .before .before .if3 .left) (c .before .all-seen .ensures) (c .if4 .taken)
+
+returns-4 : tie.Need-returns-4
+returns-4 c = others-none (c .before .before .before .before .before .before .args .seen .now) (c .before .before .before .before .before .before .args .count) (c .before .before .before .before .before .before .args .alike) (not-false (c .before .before .before .before .before .before .args .alike) (c .before .before .before .before .before .if1 .left)) (c .before .before .before .if2 .taken) (c .before .all-seen .result) (c .before .before .if3 .left) (c .before .all-seen .ensures) (c .if4 .left)
+
+returns-5 : tie.Need-returns-5
+returns-5 c = everyone-many (c .before .before .before .before .args .seen .now) (c .before .before .before .before .args .count) (c .before .before .before .before .args .alike) (not-false (c .before .before .before .before .args .alike) (c .before .before .before .if1 .left)) (c .before .if2 .left) (c .if5 .taken)
+
+all-seen-requires-2 : tie.Need-all-seen-requires-2
+all-seen-requires-2 c κs = search needs
+
+returns-6 : tie.Need-returns-6
+returns-6 c = everyone-want (c .before .before .before .before .before .before .args .seen .now) (c .before .before .before .before .before .before .args .count) (c .before .before .before .before .before .before .args .alike) (not-false (c .before .before .before .before .before .before .args .alike) (c .before .before .before .before .before .if1 .left)) (c .before .before .before .if2 .left) (c .before .all-seen2 .result) (c .before .before .if5 .left) (c .before .all-seen2 .ensures) (c .if6 .taken)
+
+returns-7 : tie.Need-returns-7
+returns-7 c = everyone-none (c .before .before .before .before .before .before .args .seen .now) (c .before .before .before .before .before .before .args .count) (c .before .before .before .before .before .before .args .alike) (not-false (c .before .before .before .before .before .before .args .alike) (c .before .before .before .before .before .if1 .left)) (c .before .before .before .if2 .left) (c .before .all-seen2 .result) (c .before .before .if5 .left) (c .before .all-seen2 .ensures) (c .if6 .left)
+
+pub want-spec : {M : Type 1} → statement M
+want-spec =
+    tie.close
+    (tie.spec
+    returns
+    element-copy-out-if2
+    returns-2
+    all-seen-requires
+    add-result
+    returns-3
+    returns-4
+    returns-5
+    all-seen-requires-2
+    returns-6
+    returns-7)

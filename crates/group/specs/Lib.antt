@@ -1,0 +1,5 @@
+pub mod Late
+pub mod Settled
+pub mod State
+pub mod LiteralRead
+pub mod GroupRead

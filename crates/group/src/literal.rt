@@ -1,0 +1,100 @@
+// A literal, read from a part of the card.
+use card::refusals::OUT_OF_SHAPE;
+use looks::due::step_number;
+use looks::due::step_relation;
+use looks::look::NO_DIGIT;
+use looks::look::digit_here;
+use looks::look::sign_here;
+use marks::kinds;
+ghost use mathlib.Core.Path.{_≡_};
+ghost use mathlib.Core.List.{_∷_};
+ghost use Prim.Native.Nat.{ℕ};
+ghost use Rattle.marks.specs.Marks.{placed, seat as seatWord};
+ghost use Rattle.marks.specs.Step.{marksAt};
+ghost use Rattle.reading.specs.Reader.{at as from};
+ghost use Rattle.reading.specs.Group.{literal as literalOf};
+ghost use Rattle.group.specs.LiteralRead.{relationBy, noTail, LiteralRead};
+
+// What stands behind a seat word: stop 0, the next cursor, the relation, d and where d stands; or the number of a refusal and its
+// place.
+pub struct Tail {
+    pub stop: usize,
+    pub place: usize,
+    pub next: usize,
+    pub relation: usize,
+    pub d: usize,
+    pub first: usize,
+}
+
+fn no_tail(place: usize) -> Tail
+    ensures { λ r. ⌜ r ≡ noTail place ⌝ }
+{
+    Tail {
+        stop: OUT_OF_SHAPE as usize,
+        place: place,
+        next: 0,
+        relation: 0,
+        d: 0,
+        first: 0,
+    }
+}
+
+const NO_RELATION: usize = 2;
+
+fn relation(kind: usize) -> usize
+    ensures { λ r. ⌜ r ≡ relationBy kind ⌝ }
+{
+    if kind == kinds::EQUAL {
+        return 0;
+    }
+    if kind == kinds::NOT_EQUAL {
+        return 1;
+    }
+    NO_RELATION
+}
+
+// A literal from behind its seat word on.
+fn long_literal(part: &[u8], at: usize) -> Tail
+    ensures { λ r. ⌜ ((o n i x : ℕ) → LiteralRead o (now (part .entry)) at n i (literalOf (from (placed (seatWord i) x ∷ marksAt o (now (part .entry)) at) n)) r) ⌝ }
+{
+    let sign = step_relation(part, at);
+    let relation = relation(sign.mark.kind);
+    if relation == NO_RELATION {
+        return no_tail(sign.mark.place);
+    }
+    let behind = sign.next;
+    let number = step_number(part, behind.at);
+    if number.mark.kind != kinds::NUMBER {
+        return no_tail(number.mark.place);
+    }
+    Tail {
+        stop: 0,
+        place: 0,
+        next: number.next.at,
+        relation: relation,
+        d: number.mark.value,
+        first: number.mark.place,
+    }
+}
+
+// The same; most literals are `=` and one digit.
+pub fn literal(part: &[u8], at: usize) -> Tail
+    ensures { λ r. ⌜ ((o n i x : ℕ) → LiteralRead o (now (part .entry)) at n i (literalOf (from (placed (seatWord i) x ∷ marksAt o (now (part .entry)) at) n)) r) ⌝ }
+{
+    if !sign_here(part, at, kinds::EQUAL) {
+        return long_literal(part, at);
+    }
+    let first = at + 1;
+    let d = digit_here(part, first);
+    if NO_DIGIT <= d {
+        return long_literal(part, at);
+    }
+    Tail {
+        stop: 0,
+        place: 0,
+        next: first + 1,
+        relation: 0,
+        d: d,
+        first: first,
+    }
+}
