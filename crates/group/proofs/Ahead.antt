@@ -1,7 +1,7 @@
 -- Each small reader, at the marks from a place on, is a test of the numbers that a step of the cursor finds there.
 use Prim.Native.Nat.{ℕ, suc, _+_, _≤_, _<_}
 use Prim.Native.String.{String}
-use mathlib.Core.Path.{_≡_, refl, sym, ap, _∙_}
+use mathlib.Core.Path.{_≡_, refl, sym}
 use mathlib.Core.Bool.{Bool, true, false}
 use mathlib.Core.List.{List, [], _∷_}
 use mathlib.Core.Option.{Option, none, some}
@@ -12,15 +12,14 @@ use lib.ListN.{length}
 use Rattle.card.specs.Limits.{numbers}
 use Rattle.card.specs.Refusals.{outOfShape}
 use Rattle.card.specs.Text.{if_then_else_}
-use Rattle.card.specs.Card.{Relation, is as eq, isnt as ne}
-use Rattle.marks.specs.Marks.{Mark, Placed, placed, placeOf}
+use Rattle.card.specs.Card.{is as eq, isnt as ne}
+use Rattle.marks.specs.Marks.{Mark, placed, placeOf}
 use Rattle.marks.specs.Kinds.{kEnd, kSeat, kNumber, kind, kindOf}
-use Rattle.marks.specs.Step.{valueOf, stepAt, marksAt}
+use Rattle.marks.specs.Step.{valueOf, marksAt}
 use Rattle.marks.specs.declared.Step.{Step}
-use Rattle.marks.proofs.KindLaws.{kind-some, kind-number}
-use Rattle.marks.proofs.Values.{Small}
+use Rattle.marks.proofs.KindLaws.{kind-number}
 use Rattle.marks.proofs.Next.{Meet, over, met}
-use Rattle.reading.specs.Reader.{Place, State, at, Result, ok, stop, took, the, nextIs, given, sign, seatOf, numberOf}
+use Rattle.reading.specs.Reader.{Place, at, Result, ok, stop, took, the, nextIs, given, sign, seatOf, numberOf}
 use Rattle.reading.specs.Guard.{isSome, seatNext}
 use Rattle.reading.specs.Group.{relationOf}
 use Rattle.group.proofs.Signs.{Known, is-kind, valued, seat-kind, number-kind, relation-kind}

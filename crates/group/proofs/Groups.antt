@@ -8,28 +8,27 @@ use mathlib.Core.List.{List, [], _∷_, _++_, append-assoc, append-nil}
 use native.Mathlib.Omega.{arith}
 use borrow.Author.Tests.{eq-eqb, ne-eqb}
 use lib.Dec.{eqb}
-use lib.ListN.{length, getD, drop}
+use lib.ListN.{length, getD}
 use lib.Seq.{drop-length}
 use Rattle.card.specs.Limits.{mostSeats, numbers}
 use Rattle.card.specs.Refusals.{outOfShape}
-use Rattle.card.specs.Text.{if_then_else_}
 use Rattle.card.specs.Card.{Kind, everyone, others as othersKind, Sign, all, any, Relation, is as eq, isnt as ne}
-use Rattle.card.specs.Laid.{kindNumber, signNumber, relationNumber, packGroup, leafNumber}
+use Rattle.card.specs.Laid.{kindNumber, signNumber, relationNumber, packGroup}
 use Rattle.card.proofs.Packed.{packed-group}
-use Rattle.marks.specs.Marks.{Mark, Placed, placed, seat, placeOf}
-use Rattle.marks.specs.Kinds.{kEnd, kSeat, kind, kindOf}
-use Rattle.marks.specs.Step.{valueOf, stepAt, marksAt}
+use Rattle.marks.specs.Marks.{placed, seat}
+use Rattle.marks.specs.Kinds.{kSeat, kind}
+use Rattle.marks.specs.Step.{stepAt, marksAt}
 use Rattle.marks.specs.declared.Step.{Step}
 use Rattle.marks.proofs.KindLaws.{kind-seat}
 use Rattle.marks.proofs.Next.{Meet, over, met, meet}
-use Rattle.reading.specs.Reader.{Place, State, at, Result, ok, stop, Reader, bind, _>>=_, return, the, is, nextIs, ifNext, sign, seatOf, numberOf, here}
+use Rattle.reading.specs.Reader.{Place, State, at, Result, ok, stop, Reader, bind, return, the, is, nextIs, ifNext, sign, numberOf}
 use Rattle.reading.specs.Group.{Literal, literalOf, Literals, literalsOf, relationOf, joint, literal, others, group}
 use Rattle.reading.specs.Judgements.{state, alike}
 use Rattle.group.specs.declared.Grouped.{Grouped}
 use Rattle.group.specs.declared.literal.Tail.{Tail}
-use Rattle.group.specs.Late.{wantOf, kindBy, groupBy}
-use Rattle.group.specs.GroupRead.{noGroup, ReadGroup, StoppedGroup, GroupRead}
-use Rattle.group.specs.LiteralRead.{noTail, ReadLiteral, StoppedLiteral, LiteralRead, noted, oneMore, wantIn, kindIn, signIn}
+use Rattle.group.specs.Late.{kindBy}
+use Rattle.group.specs.GroupRead.{noGroup, GroupRead}
+use Rattle.group.specs.LiteralRead.{ReadLiteral, LiteralRead, noted, oneMore, wantIn, kindIn, signIn}
 use Rattle.group.proofs.Signs.{Known}
 use Rattle.group.proofs.Ahead.{fits, unfit, next-is, sign-next, the-seat, place-next, place-within, next-within, next-past, one-less}
 use Rattle.group.proofs.Literals.{Reads}

@@ -1,14 +1,14 @@
 -- What the tests of the code say of the first refusal so far: each choice of specs/Late.antt, once its test is known.
 use Prim.Native.Nat.{ℕ, _≤_, _<_}
-use mathlib.Core.Path.{_≡_, refl, sym, ap}
-use mathlib.Core.Bool.{Bool, true, false, not, _&&_, and-false}
+use mathlib.Core.Path.{_≡_, ap}
+use mathlib.Core.Bool.{false, not, _&&_, and-false}
 use mathlib.Core.Logic.{_⊎_, ⊎-elim}
 use lib.Dec.{eqb, leb}
 use borrow.Author.Tests.{eq-eqb, ne-eqb, le-leb, lt-leb}
 use Rattle.card.specs.Refusals.{aboveTop, notDue}
 use Rattle.reading.specs.Judgements.{unless}
 use Rattle.group.specs.Late.{Late, blame, blamed, splitAt, wants, grouped}
-use Rattle.group.specs.Settled.{Refusal, refusal, settled}
+use Rattle.group.specs.Settled.{refusal, settled}
 
 module _ (r p : ℕ) (x : Late) where
   pub blame-known : (x .number ≡ 0 → ⊥) → x ≡ blame r p x

@@ -1,27 +1,25 @@
 -- A literal from behind its seat word on: the relation's sign, then d. Each way out of the code is a way through the definition,
 -- whatever place of the card the part begins at.
-use Prim.Native.Nat.{ℕ, suc, _+_, _≤_, _<_}
+use Prim.Native.Nat.{ℕ}
 use mathlib.Core.Path.{_≡_, refl, sym, ap, _∙_}
 use mathlib.Core.Bool.{Bool, true, false}
 use mathlib.Core.List.{List, [], _∷_}
 use native.Mathlib.Omega.{arith}
 use borrow.Author.Tests.{eqb-true}
 use lib.Dec.{eqb}
-use lib.ListN.{length}
-use Rattle.card.specs.Limits.{numbers}
 use Rattle.card.specs.Refusals.{outOfShape}
 use Rattle.card.specs.Text.{if_then_else_}
 use Rattle.card.specs.Card.{Relation, is as eq, isnt as ne}
 use Rattle.card.specs.Laid.{relationNumber, either}
-use Rattle.marks.specs.Marks.{Placed, placed, seat, placeOf}
+use Rattle.marks.specs.Marks.{placed, seat}
 use Rattle.marks.specs.Kinds.{kEnd, kNumber, kind}
 use Rattle.marks.specs.Step.{stepAt, marksAt}
 use Rattle.marks.specs.declared.Step.{Step}
-use Rattle.marks.proofs.Next.{Meet, meet}
-use Rattle.reading.specs.Reader.{Place, State, at, Result, ok, stop, bind, return, the, numberOf}
+use Rattle.marks.proofs.Next.{meet}
+use Rattle.reading.specs.Reader.{at, Result, ok, stop, bind, return, the, numberOf}
 use Rattle.reading.specs.Group.{Literal, literalOf, relationOf, literal}
 use Rattle.group.specs.declared.literal.Tail.{Tail}
-use Rattle.group.specs.LiteralRead.{noRelation, relationBy, noTail, ReadLiteral, StoppedLiteral, LiteralRead}
+use Rattle.group.specs.LiteralRead.{noRelation, relationBy, noTail, LiteralRead}
 use Rattle.group.proofs.Ahead.{fits, unfit, the-number, the-relation, place-next, place-within, one-less, number-small}
 
 -- ---- the relation

@@ -12,7 +12,7 @@ use lib.ListN.{length, getD, set, replicate, length-set, length-append}
 use lib.Seq.{getD-set-same, getD-set-other}
 use Rattle.card.specs.Limits.{mostSeats}
 use Rattle.card.specs.Text.{if_then_else_}
-use Rattle.card.specs.Card.{Kind, everyone, others, Relation, is, isnt}
+use Rattle.card.specs.Card.{everyone, others, Relation, is, isnt}
 use Rattle.card.specs.Laid.{kindNumber, relationNumber}
 use Rattle.reading.specs.Group.{Literal}
 use Rattle.reading.specs.Judgements.{has, hasFrom, sameRelation, alike}

@@ -11,7 +11,7 @@ use lib.Dec.{eqb, leb}
 use Rattle.card.specs.Limits.{mostSeats, unit}
 use Rattle.card.specs.Refusals.{aboveTop, notDue, wrongWeight}
 use Rattle.card.specs.Text.{if_then_else_}
-use Rattle.card.specs.Card.{Sign, group, Formula, atom, neg, and, or, Guard}
+use Rattle.card.specs.Card.{Sign, group, Formula, atom, neg, and, or}
 use Rattle.card.specs.Weight.{cardRule, unitsOf}
 use Rattle.marks.specs.Marks.{placeOf}
 use Rattle.reading.specs.Reader.{Place}

@@ -3,13 +3,13 @@ use Prim.Native.Nat.{ℕ, _<_}
 use Prim.Native.String.{String}
 use mathlib.Core.Path.{_≡_, refl, sym, ap, _∙_}
 use mathlib.Core.Bool.{Bool, true, false}
-use mathlib.Core.List.{List, [], _∷_}
+use mathlib.Core.List.{[], _∷_}
 use mathlib.Core.Option.{Option, none, some}
 use native.Mathlib.Omega.{arith}
-use borrow.Author.Tests.{eqb-true, eqb-false, ne-eqb}
+use borrow.Author.Tests.{eqb-true, eqb-false}
 use lib.Dec.{eqb}
 use Rattle.card.specs.Text.{bytes, same, if_then_else_}
-use Rattle.card.specs.Card.{Relation, is as eq, isnt as ne}
+use Rattle.card.specs.Card.{is as eq, isnt as ne}
 use Rattle.marks.specs.Marks.{Mark, text, seat, process, number, decimal, outside}
 use Rattle.marks.specs.Kinds.{kWord, kSeat, kNumber, knowns, kind, kindOf}
 use Rattle.marks.specs.Step.{valueOf}

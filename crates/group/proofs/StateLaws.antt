@@ -1,14 +1,14 @@
 -- The lent array of the state: what is written into one place is read there and nowhere else. What is judged late stands in the first
 -- six places, so that the array is opened into these and the rest. Assumes nothing.
-use Prim.Native.Nat.{ℕ, _+_, _≤_, _<_}
-use mathlib.Core.Path.{_≡_, refl, sym, ap, _∙_}
+use Prim.Native.Nat.{ℕ, _≤_, _<_}
+use mathlib.Core.Path.{_≡_, refl, ap, _∙_}
 use mathlib.Core.List.{List, [], _∷_}
 use native.Mathlib.Omega.{arith}
-use lib.ListN.{length, getD, drop, set, length-drop, length-set}
+use lib.ListN.{length, getD, set, length-drop, length-set}
 use lib.Seq.{getD-set-same, getD-set-other, getD-drop}
 use Rattle.group.specs.Late.{Late, splitAt}
 use Rattle.group.specs.Settled.{Refusal, refusal, settled}
-use Rattle.group.specs.State.{atLate, atLatePlace, atWant, atFirst, atSplit, atSecond, atStop, atStopPlace, atLeft, atFree, atValue, statePlaces, Sized, lateIn, refusalIn, leftIn, freeIn, valueIn, withLate, withRefusal, after, Halted}
+use Rattle.group.specs.State.{atLate, atLatePlace, atWant, atFirst, atSplit, atSecond, atStop, atStopPlace, atLeft, atFree, atValue, Sized, lateIn, refusalIn, leftIn, freeIn, valueIn, withLate, withRefusal, after, Halted}
 
 -- ---- opened
 

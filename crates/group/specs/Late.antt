@@ -1,8 +1,8 @@
 -- The refusals 5, 6 and 7 on the way: reading goes on after the first of them, since a 3 or 4 further on goes before it, and whether
 -- a group is symmetric is known only once the modules are counted. So the first refusal so far is kept in numbers, and how many
 -- seats the groups before it want. Assumes nothing.
-use Prim.Native.Nat.{ℕ, zero, suc}
-use mathlib.Core.Bool.{Bool, true, false, _&&_}
+use Prim.Native.Nat.{ℕ, suc}
+use mathlib.Core.Bool.{Bool, _&&_}
 use mathlib.Core.List.{List, [], _∷_}
 use mathlib.Core.Option.{Option, none, some}
 use lib.Dec.{eqb, leb}
@@ -13,9 +13,8 @@ use Rattle.card.specs.Text.{if_then_else_}
 use Rattle.card.specs.Card.{Kind, everyone, others, Sign, Leaf, group, is, Formula, Guard}
 use Rattle.card.specs.Formulas.{over}
 use Rattle.marks.specs.Marks.{placeOf}
-use Rattle.reading.specs.Reader.{Place}
 use Rattle.reading.specs.Group.{Literal, Literals}
-use Rattle.reading.specs.Judgements.{Judgement, state, word, oneGroup, weight, sum, has, hasFrom, alike, broken, placeIn}
+use Rattle.reading.specs.Judgements.{Judgement, state, word, oneGroup, weight, sum, has, hasFrom, alike, broken}
 
 -- ---- how many seats a group wants: its seats are 1 to m, or 2 to m, once each; 0 where it is symmetric for no card
 

@@ -2,19 +2,19 @@
 use Prim.Native.Nat.{ℕ, zero, suc, _+_, _≤_, _<_}
 use mathlib.Core.Path.{_≡_}
 use mathlib.Core.Bool.{Bool, true, false, not, _&&_}
-use mathlib.Core.List.{List, [], _∷_}
+use mathlib.Core.List.{List, []}
 use lib.Dec.{eqb, leb}
 use lib.ListN.{length, getD, set}
 use Rattle.card.specs.Limits.{mostSeats, numbers}
 use Rattle.card.specs.Text.{if_then_else_}
-use Rattle.card.specs.Card.{everyone, others, Sign, all, any, Relation, is, isnt}
+use Rattle.card.specs.Card.{everyone, others, Sign, all, any, is, isnt}
 use Rattle.card.specs.Laid.{kindNumber, relationNumber}
 use Rattle.marks.specs.Marks.{placeOf}
 use Rattle.marks.specs.Kinds.{kind}
 use Rattle.marks.specs.Step.{marksAt}
 use Rattle.card.specs.Refusals.{outOfShape}
 use Rattle.reading.specs.Reader.{Place, State, at, Result, ok, stop}
-use Rattle.reading.specs.Group.{Literal, literalOf}
+use Rattle.reading.specs.Group.{Literal}
 use Rattle.group.specs.declared.literal.Tail.{Tail}
 use Rattle.group.specs.Late.{upToMost}
 

@@ -1,6 +1,6 @@
 -- The first refusal of 5, 6 and 7, once the modules are counted ("Refusal numbers"). Assumes nothing.
 use Prim.Native.Nat.{ℕ}
-use mathlib.Core.Bool.{Bool, true, false, not, _&&_}
+use mathlib.Core.Bool.{not, _&&_}
 use lib.Dec.{eqb}
 use Rattle.card.specs.Refusals.{notDue}
 use Rattle.card.specs.Text.{if_then_else_}

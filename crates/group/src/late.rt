@@ -47,7 +47,8 @@ pub fn blame(state: &mut [usize; STATE], number: u8, place: usize)
     requires { ⌜ Sized (now state) ⌝ }
     ensures { λ r. ⌜ now (state .exit) ≡ withLate (now (state .entry)) (blameAt number place (lateIn (now (state .entry)))) ⌝ }
 {
-    if state[LATE] != 0 {
+    let known = state[LATE];
+    if known != 0 {
         return;
     }
     state[LATE] = wide(number);

@@ -14,11 +14,11 @@ use Rattle.card.specs.Stored.{stored}
 use Rattle.card.proofs.Atoms.{size-over}
 use Rattle.card.proofs.Packed.{packed-node}
 use Rattle.card.proofs.Storing.{size-below, stored-not, stored-and, stored-or}
-use Rattle.reading.specs.Reader.{Place, State, at, Result, ok, stop, Reader, bind, return}
+use Rattle.reading.specs.Reader.{Place, State, at, Result, ok, stop, Reader, bind}
 use Rattle.reading.specs.Group.{Literals}
 use Rattle.reading.specs.Judgements.{judgedGuard}
 use Rattle.group.specs.Late.{Late, judgeAll, groupBy, guardBy}
-use Rattle.group.specs.State.{atLeft, atFree, Sized, leftIn, freeIn, lateIn, After, after, Halted}
+use Rattle.group.specs.State.{atLeft, atFree, Sized, leftIn, freeIn, lateIn, After, after}
 use Rattle.group.proofs.Settling.{judge-append}
 use Rattle.group.proofs.StateLaws.{set-sized, left-set, free-left, free-set, left-free, late-set}
 use Rattle.guard.specs.GuardRead.{Ready, Read, GuardRead}

@@ -1,28 +1,24 @@
 -- A chain of operands: what was read so far, and the chain behind it. Its fuel is never met: each sign spends a node, and there are
 -- no more of them than fuel. And what was read leaves room in the array for what may follow.
 use Prim.Native.Nat.{ℕ, zero, suc, _+_, _-_, _≤_, _<_, min}
-use Prim.Native.String.{String}
 use mathlib.Core.Path.{_≡_, refl, sym, ap, _∙_}
 use mathlib.Core.Bool.{Bool, true, false}
 use mathlib.Core.List.{List}
-use native.Mathlib.Numerals.{sub-one}
 use native.Mathlib.Omega.{arith}
-use lib.ListN.{length, drop, set}
+use lib.ListN.{drop, set}
 use Rattle.card.specs.Limits.{nodePlaces, mostNodes}
 use Rattle.card.specs.Refusals.{pastLimit}
 use Rattle.card.specs.Text.{if_then_else_}
-use Rattle.card.specs.Card.{Formula, and, or}
+use Rattle.card.specs.Card.{Formula, and}
 use Rattle.card.specs.Laid.{opOr, packNode}
-use Rattle.card.specs.Valid.{size}
 use Rattle.card.proofs.Storing.{size-below}
-use Rattle.marks.specs.Marks.{placeOf}
 use Rattle.marks.specs.Kinds.{kind}
 use Rattle.marks.specs.Step.{stepAt, marksAt}
 use Rattle.marks.specs.Parts.{bareOf}
 use Rattle.looks.specs.Quick.{signAhead}
 use Rattle.marks.specs.declared.Step.{Step}
 use Rattle.looks.proofs.Quick.{sign-step}
-use Rattle.reading.specs.Reader.{Place, State, at, Result, ok, stop, Reader, bind, _>>=_, _>>_, return, nextIs, sign, spend}
+use Rattle.reading.specs.Reader.{State, at, Result, ok, stop, Reader, bind, _>>=_, _>>_, return, sign}
 use Rattle.reading.specs.Guard.{chain, conjunction, expression, unary}
 use Rattle.reading.specs.Group.{Literals, group}
 use Rattle.group.specs.Late.{Late}

@@ -9,7 +9,7 @@ use native.Mathlib.Omega.{arith}
 use lib.ListN.{length}
 use Rattle.card.specs.Limits.{mostNodes}
 use Rattle.card.specs.Text.{if_then_else_}
-use Rattle.card.specs.Card.{Sign, all, any, Formula, atom, neg, and, or}
+use Rattle.card.specs.Card.{all, any, Formula, atom, neg, and, or}
 use Rattle.card.specs.Valid.{size}
 use Rattle.marks.specs.Marks.{Mark, Placed, placed}
 use Rattle.card.specs.Refusals.{pastLimit}

@@ -1,38 +1,35 @@
 -- The ways through the definition of a guard, opened one mark at a time: each way out of the code is one of them.
-use Prim.Native.Nat.{ℕ, zero, suc, _+_, _-_, _≤_, _<_}
+use Prim.Native.Nat.{ℕ, zero, suc, _+_, _-_, _≤_}
 use Prim.Native.String.{String}
 use mathlib.Core.Path.{_≡_, refl, sym, ap, _∙_}
-use mathlib.Core.Bool.{Bool, true, false}
+use mathlib.Core.Bool.{true, false}
 use mathlib.Core.List.{List, [], _∷_}
 use mathlib.Core.Option.{Option}
 use native.Mathlib.Nat.{zero-add, add-zero}
 use native.Mathlib.Numerals.{sub-one}
 use native.Mathlib.Omega.{arith}
 use borrow.Author.Tests.{eq-eqb, ne-eqb}
-use lib.Dec.{eqb, leb}
+use lib.Dec.{leb}
 use lib.ListN.{length, take, drop, set, length-drop}
 use lib.Seq.{take-all}
-use Rattle.card.specs.Limits.{nodePlaces}
 use Rattle.card.specs.Refusals.{outOfShape, pastLimit, aboveTop}
-use Rattle.card.specs.Text.{if_then_else_}
-use Rattle.card.specs.Card.{Formula, atom, neg, and, or}
-use Rattle.marks.specs.Marks.{Placed, placed, seat, placeOf}
+use Rattle.card.specs.Card.{Formula, atom, and}
+use Rattle.marks.specs.Marks.{placed, seat, placeOf}
 use Rattle.marks.specs.Kinds.{kSeat, kind}
 use Rattle.marks.specs.Step.{stepAt, marksAt}
 use Rattle.marks.specs.declared.Step.{Step}
 use Rattle.marks.proofs.Next.{Meet, meet, part-of-card}
 use Rattle.card.proofs.Storing.{stored-leaf}
-use Rattle.reading.specs.Reader.{Place, State, at, Result, ok, stop, Reader, bind, _>>=_, _>>_, return, refuse, refuseAt, nextIs, ifNext, sign, here, spend, node}
-use Rattle.reading.specs.Guard.{seatNext, ifSeat, chain, conjunction, expression, grouped, unary}
+use Rattle.reading.specs.Reader.{Place, State, at, Result, ok, stop, Reader, bind, _>>=_, _>>_, return, nextIs, sign, here, spend, node}
+use Rattle.reading.specs.Guard.{seatNext, expression, grouped, unary}
 use Rattle.reading.specs.Group.{Literals, group}
 use Rattle.reading.specs.Judgements.{state, oneGroup, unless, firstState, judgedGroup}
 use Rattle.group.specs.declared.Grouped.{Grouped}
-use Rattle.group.specs.Late.{Late, wantOf, groupBy, blame, blamed, grouped as groupedLate, judgeAll}
-use Rattle.group.specs.Settled.{refusal}
-use Rattle.group.specs.State.{atLeft, atFree, Sized, leftIn, freeIn, lateIn, refusalIn, withLate, After, after, Halted}
+use Rattle.group.specs.Late.{Late, wantOf, groupBy, blamed, grouped as groupedLate, judgeAll}
+use Rattle.group.specs.State.{atLeft, atFree, Sized, leftIn, freeIn, lateIn, withLate, After, after, Halted}
 use Rattle.group.specs.GroupRead.{GroupRead}
-use Rattle.guard.specs.GuardRead.{Read, GuardRead}
-use Rattle.guard.specs.Pieces.{joinOf, joiner, operandOf, chained, thenNot, thenClose, bracketOf, Onward, GroupedAt, Bracketed}
+use Rattle.guard.specs.GuardRead.{GuardRead}
+use Rattle.guard.specs.Pieces.{thenNot, thenClose, bracketOf, Onward, GroupedAt, Bracketed}
 use Rattle.group.proofs.Signs.{Known}
 use Rattle.group.proofs.Ahead.{fits, unfit, next-is, sign-next, seat-next, place-next, next-within, next-past}
 use Rattle.group.proofs.StateLaws.{late-sized, set-sized, left-set, free-set, late-set, free-left, left-free, left-late, free-late}

@@ -11,7 +11,7 @@ use Rattle.card.specs.Card.{Formula, neg, and, or}
 use Rattle.card.specs.Laid.{opAnd, opOr}
 use Rattle.marks.specs.Marks.{placed, seat, placeOf}
 use Rattle.marks.specs.Step.{marksAt}
-use Rattle.reading.specs.Reader.{Place, State, at as from, Result, ok, stop, Reader, bind, _>>=_, _>>_, return, refuseAt, sign}
+use Rattle.reading.specs.Reader.{Place, at as from, Result, Reader, bind, _>>=_, _>>_, return, refuseAt, sign}
 use Rattle.reading.specs.Guard.{ifSeat, chain, conjunction, expression, grouped, unary}
 use Rattle.reading.specs.Group.{Literals, joint, group}
 use Rattle.group.specs.Late.{Late}

@@ -13,13 +13,6 @@ use Rattle.guard.proofs.Ways.{group-full, group-wrong, group-well, stor
 use borrow.Author.Needs.{needs}
 use Rattle.guard.proofs.grouping.Statement.{statement}
 use Rattle.guard.proofs.grouping.Tie as tie
-use Rattle.guard.proofs.grouping.Reads as reads
-use Rattle.guard.proofs.grouping.Lts as lts
-use Rattle.group.proofs.group.Reads as group-reads
-use Rattle.group.proofs.late.grouped.Reads as grouped-reads
-use Rattle.group.proofs.late.judge_state.Reads as judge-state-reads
-use Rattle.group.proofs.late.stop.Reads as stop-reads
-use Rattle.guard.proofs.store.Reads as store-reads
 
 element-copy-out-left : tie.Need-element-copy-out-left
 element-copy-out-left c = search needs

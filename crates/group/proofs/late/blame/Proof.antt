@@ -7,8 +7,8 @@ use Rattle.group.proofs.StateLaws.{late-same, late-blamed}
 use Rattle.group.proofs.late.blame.Statement.{statement}
 use Rattle.group.proofs.late.blame.Tie as tie
 
-element-copy-out-if1 : tie.Need-element-copy-out-if1
-element-copy-out-if1 c = search needs
+element-copy-out-known : tie.Need-element-copy-out-known
+element-copy-out-known c = search needs
 
 returns : tie.Need-returns
 returns c =
@@ -31,4 +31,4 @@ returns-2 c =
     ∙ ap (withLate (a .state .now)) (blame-first (a .number) (a .place) (lateIn (a .state .now)) (c .before .if1 .left)))
 
 pub blame-spec : {M : Type 1} → statement M
-blame-spec = tie.close (tie.spec element-copy-out-if1 returns wide-requires element-write-state element-write-state-2 returns-2)
+blame-spec = tie.close (tie.spec element-copy-out-known returns wide-requires element-write-state element-write-state-2 returns-2)

@@ -11,11 +11,6 @@ use Prim.Native.Nat.{_+_}
 use borrow.Author.Needs.{needs}
 use Rattle.group.proofs.literal.literal.Statement.{statement}
 use Rattle.group.proofs.literal.literal.Tie as tie
-use Rattle.group.proofs.literal.literal.Reads as reads
-use Rattle.group.proofs.literal.literal.Lts as lts
-use Rattle.group.proofs.literal.long_literal.Reads as long-literal-reads
-use Rattle.looks.proofs.look.digit_here.Reads as digit-here-reads
-use Rattle.looks.proofs.look.sign_here.Reads as sign-here-reads
 
 sign-here-requires : tie.Need-sign-here-requires
 sign-here-requires c κs = search needs

@@ -1,14 +1,7 @@
 use denote.Ref.{now}
 use Rattle.group.proofs.Literals.{literal-sign, literal-number, literal-whole}
-use borrow.Author.Needs.{needs}
 use Rattle.group.proofs.literal.long_literal.Statement.{statement}
 use Rattle.group.proofs.literal.long_literal.Tie as tie
-use Rattle.group.proofs.literal.long_literal.Reads as reads
-use Rattle.group.proofs.literal.long_literal.Lts as lts
-use Rattle.group.proofs.literal.no_tail.Reads as no-tail-reads
-use Rattle.group.proofs.literal.relation.Reads as relation-reads
-use Rattle.looks.proofs.due.step_number.Reads as step-number-reads
-use Rattle.looks.proofs.due.step_relation.Reads as step-relation-reads
 
 step-relation-requires : tie.Need-step-relation-requires
 step-relation-requires c κs = tt
