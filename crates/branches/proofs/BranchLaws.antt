@@ -11,7 +11,7 @@ use native.Mathlib.Omega.{arith}
 use borrow.Author.Tests.{eq-eqb, ne-eqb, eqb-true, eqb-false}
 use lib.Dec.{eqb}
 use lib.ListN.{length, set}
-use Rattle.card.specs.Limits.{mostBranches, unit}
+use Rattle.card.specs.Limits.{mostBranches, numbers, unit}
 use Rattle.card.specs.Refusals.{outOfShape, pastLimit, wrongWeight}
 use Rattle.card.specs.Text.{if_then_else_}
 use Rattle.card.specs.Laid.{packBranch}
@@ -31,127 +31,202 @@ use Rattle.reading.specs.Judgements.{Judgement, weight as judgedWeight, sum, un
 use Rattle.reading.specs.Shape.{BranchShape, weightOf, over, weight, branch, nextBranch, pastBranches}
 use Rattle.reading.specs.Checks.{judgedState, judgedWords, weightIn, judgedBranch, judgedEach}
 use Rattle.reading.proofs.Valid.{units-most}
-use Rattle.guard.specs.declared.Late.{Late}
-use Rattle.guard.specs.Late.{blame, judge, judgeAll}
-use Rattle.guard.proofs.Settling.{judge-append}
-use Rattle.parts.specs.declared.Took.{Took}
-use Rattle.parts.specs.Parts.{from, Form, Read, Answers, tookTo, stopped, tookForm, Went, NumberRead, SignRead, Told, Due, sign as due, seat, Sure, LineRead}
-use Rattle.branches.specs.Branches.{weightBy, weighedTo, WeightRead, packedIn, Branched, BranchRead, BranchesShape, branches, judgedBranches, sumBy, closedTo, pastBy, BranchesIn, BranchesRead}
-use Rattle.parts.proofs.Steps.{Next, place-seen, Shown, valueBy, number-shown, weightBy as markWeight, weight-shown, told}
-use Rattle.parts.proofs.Answers.{right, onward, handed, fits, misses, next-is, next-is-not}
+use Rattle.group.specs.Late.{Late, blame, judge, judgeAll}
+use Rattle.group.specs.State.{atValue, Sized, lateIn, valueIn, withLate, After, after, Halted}
+use Rattle.group.proofs.Settling.{judge-append}
+use Rattle.group.proofs.StateLaws.{set-sized, value-set, late-set}
+use Rattle.parts.specs.Parts.{from, Read, Answers, Went, NumberFrom, SignRead, SignFrom, Told, Sure, LineRead}
+use Rattle.branches.specs.Branches.{weightBy, Weighed, WeightRead, WeightFrom, updateDue, UpdateFrom, packedIn, Branched, BranchRead, BranchFrom, BranchesShape, branches, judgedBranches, sumBy, ClosedBy, PastBy, BranchesIn, BranchesRead, BranchesFrom}
+use Rattle.parts.proofs.Steps.{Next, place-seen, behind, Shown, valueBy, number-shown, weightBy as markWeight, weight-shown, told}
+use Rattle.parts.proofs.Answers.{onward, halted, made, fits, misses, next-is, next-is-not}
 use Rattle.parts.proofs.Counted.{upTo, with-first, another, too-many, no-other}
-use Rattle.parts.proofs.Lines.{made, sign-took, sign-fits, sign-misses}
+use Rattle.parts.proofs.Lines.{valued, valued-late, valued-sized, sign-took, sign-behind, sign-fits, sign-misses}
+
+slash : Told "/"
+slash = told "/" (omega arith)
+
+semicolon : Told ";"
+semicolon = told ";" (omega arith)
 
 -- ---- a weight
 
-module _ (o : Option ℕ) (next p : ℕ) (late : Late) where
-  pub units-weighed : (w : WeightRow) → Judged.Units w ≡ judgedOf o → tookTo next (w .units) late ≡ weighedTo next o p late
-  units-weighed w e = go o e
+module _ (was : List ℕ) (sized : Sized was) where
+  pub units-weighed : {judged : Judged} {u p : ℕ} (w : WeightRow) → judged ≡ Judged.Units w → u ≡ w .units → Weighed judged p was (set was atValue u)
+  units-weighed {judged} {u} {p} w e f = record {
+    value = λ o g. value-set was sized u ∙ f ∙ go o (sym e ∙ g);
+    late = λ o g. late-set was atValue u (omega arith) ∙ kept o (sym e ∙ g);
+    sized = set-sized was sized atValue u;
+  }
     where
-      go : (o : Option ℕ) → Judged.Units w ≡ judgedOf o → tookTo next (w .units) late ≡ weighedTo next o p late
+      go : (o : Option ℕ) → Judged.Units w ≡ judgedOf o → w .units ≡ orZero o
       go none e = let z : _≡_ {A = ℕ} 0 1 = cc in absurd (omega arith)
-      go (some u) e = let z : w ≡ record { units = u } = cc in ap (λ (x : WeightRow). tookTo next (x .units) late) z
+      go (some u) e = let z : w ≡ record { units = u } = cc in ap (λ (x : WeightRow). x .units) z
 
-  pub broken-weighed : Judged.Broken ≡ judgedOf o → tookTo next 0 (blame wrongWeight p late) ≡ weighedTo next o p late
-  broken-weighed e = go o e
+      kept : (o : Option ℕ) → Judged.Units w ≡ judgedOf o → lateIn was ≡ weightBy o p (lateIn was)
+      kept none e = let z : _≡_ {A = ℕ} 0 1 = cc in absurd (omega arith)
+      kept (some u) e = refl
+
+  pub broken-weighed : {judged : Judged} {is : List ℕ} {p : ℕ} → judged ≡ Judged.Broken → is ≡ withLate was (blame wrongWeight p (lateIn was)) → Weighed judged p was (set is atValue 0)
+  broken-weighed {judged} {is} {p} e f = record {
+    value = λ o g. valued was sized f 0 ∙ go o (sym e ∙ g);
+    late = λ o g. valued-late was sized f 0 ∙ kept o (sym e ∙ g);
+    sized = valued-sized was sized f 0;
+  }
     where
-      go : (o : Option ℕ) → Judged.Broken ≡ judgedOf o → tookTo next 0 (blame wrongWeight p late) ≡ weighedTo next o p late
+      go : (o : Option ℕ) → Judged.Broken ≡ judgedOf o → 0 ≡ orZero o
       go none e = refl
       go (some u) e = let z : _≡_ {A = ℕ} 0 1 = cc in absurd (omega arith)
 
-module _ (s : List ℕ) (k i : ℕ) (before : Late) (x : Step) (v : Next s i x) (n : ℕ) where
-  abbrev WeightIs : Took → Type 0
-  WeightIs = WeightRead s k before (marksAt 0 s i) (weight (from s i n))
+      kept : (o : Option ℕ) → Judged.Broken ≡ judgedOf o → blame wrongWeight p (lateIn was) ≡ weightBy o p (lateIn was)
+      kept none e = refl
+      kept (some u) e = let z : _≡_ {A = ℕ} 0 1 = cc in absurd (omega arith)
 
-  -- the last mark of a weight was read, and a cursor stands behind it
-  weighed : (w : Weight) (next : ℕ) (st : State) → marksAt 0 s next ≡ st .marks → WeightRead s k before (marksAt 0 s i) (ok w st) (weighedTo next (unitsOf cardRule w) (x .mark .place) before)
-  unfolding judgeAll
-  weighed w next st e = record { went = refl; rest = e; told = record { value = refl; late = rw (place-seen s i x v) } }
+module _ {s : List ℕ} {i : ℕ} {x : Step} (v : Next s i x) where
+  pub weight-stops : {before : Late} {r : After} → (x .mark .kind ≡ kDecimal → ⊥) → (x .mark .kind ≡ kNumber → ⊥) → Halted outOfShape (x .mark .place) r → WeightFrom s i before r
+  weight-stops d e h = record {
+    answers = λ k n. misses s _ weightOf markWeight weight-shown i x v n (rw (ne-eqb _ _ d, ne-eqb _ _ e)) _ _ h;
+    sized = h .sized;
+  }
 
-  pub decimal-fits : x .mark .kind ≡ kDecimal
-      → WeightIs (weighedTo (x .next .at) (unitsOf cardRule (point (x .mark .value) (x .mark .digits) (x .mark .further))) (x .mark .place) before)
-  decimal-fits e =
-      fits tookForm s _ weightOf markWeight weight-shown i x v n (point (x .mark .value) (x .mark .digits) (x .mark .further)) (rw (e)) _ _
-      (weighed (point (x .mark .value) (x .mark .digits) (x .mark .further)) (x .next .at) _ refl)
+  module _ (was : List ℕ) {is : List ℕ} {judged : Judged} (y : Weighed judged (x .mark .place) was is) where
+    -- the last mark of a weight was read, and a cursor stands behind it
+    weighed : (w : Weight) → judged ≡ judgedOf (unitsOf cardRule w) → (next : ℕ) → (next ≡ 0 → ⊥) → (st : State) → marksAt 0 s next ≡ st .marks → (k : ℕ)
+        → WeightRead s k (lateIn was) (marksAt 0 s i) (ok w st) (after is next)
+    unfolding judgeAll
+    weighed w e next there st f k = record {
+      went = there;
+      rest = f;
+      told = record { value = y .value (unitsOf cardRule w) e; late = y .late (unitsOf cardRule w) e ∙ ap (λ (p : ℕ). weightBy (unitsOf cardRule w) p (lateIn was)) (place-seen s i x v) };
+    }
 
-  pub weight-misses : (x .mark .kind ≡ kDecimal → ⊥) → (x .mark .kind ≡ kNumber → ⊥) → WeightIs (stopped outOfShape (x .mark .place))
-  weight-misses d e = misses tookForm s _ weightOf markWeight weight-shown i x v n (rw (ne-eqb _ _ d, ne-eqb _ _ e)) _
+    pub decimal-read : x .mark .kind ≡ kDecimal → judged ≡ judgedOf (unitsOf cardRule (point (x .mark .value) (x .mark .digits) (x .mark .further))) → WeightFrom s i (lateIn was) (after is (x .next .at))
+    decimal-read e f = record {
+      answers = λ k n.
+          fits s _ weightOf markWeight weight-shown i x v n (point (x .mark .value) (x .mark .digits) (x .mark .further)) (rw e) _ _
+          (weighed (point (x .mark .value) (x .mark .digits) (x .mark .further)) f (x .next .at) (behind s i x v (λ z. omega (arith, e, z))) _ refl k);
+      sized = y .sized;
+    }
 
-  module _ (e : x .mark .kind ≡ kNumber) (y : Step) (z : Next s (x .next .at) y) where
-    number-first : (r : Took) → WeightRead s k before (marksAt 0 s i) (over (whole (x .mark .value)) (from s (x .next .at) n)) r → WeightIs r
-    number-first r g = fits tookForm s _ weightOf markWeight weight-shown i x v n (whole (x .mark .value)) (rw (eq-eqb _ _ e)) _ r g
+    module _ (e : x .mark .kind ≡ kNumber) {z : Step} (u : Next s (x .next .at) z) where
+      pub whole-read : (z .mark .kind ≡ kind "/" → ⊥) → judged ≡ judgedOf (unitsOf cardRule (whole (x .mark .value))) → WeightFrom s i (lateIn was) (after is (x .next .at))
+      whole-read d f = record {
+        answers = λ k n.
+            fits s _ weightOf markWeight weight-shown i x v n (whole (x .mark .value)) (rw (eq-eqb _ _ e)) _ _
+            (next-is-not s _ "/" slash _ (return (whole (x .mark .value))) (x .next .at) z u n _ d
+            (weighed (whole (x .mark .value)) f (x .next .at) (behind s i x v (λ z. omega (arith, e, z))) _ refl k));
+        sized = y .sized;
+      }
 
-    pub whole-fits : (y .mark .kind ≡ kind "/" → ⊥) → WeightIs (weighedTo (x .next .at) (unitsOf cardRule (whole (x .mark .value))) (x .mark .place) before)
-    whole-fits d =
-        number-first _ (next-is-not tookForm s _ "/" (told "/" (omega arith)) _ (return (whole (x .mark .value))) (x .next .at) y z n _ d
-        (weighed (whole (x .mark .value)) (x .next .at) _ refl))
+      pub ratio-read : z .mark .kind ≡ kind "/" → {w : Step} (t : Next s (z .next .at) w) → w .mark .kind ≡ kNumber
+          → judged ≡ judgedOf (unitsOf cardRule (ratio (x .mark .value) (w .mark .value))) → WeightFrom s i (lateIn was) (after is (w .next .at))
+      ratio-read d {w} t g f = record {
+        answers = λ k n.
+            fits s _ weightOf markWeight weight-shown i x v n (whole (x .mark .value)) (rw (eq-eqb _ _ e)) _ _
+            (next-is s _ "/" slash _ (return (whole (x .mark .value))) (x .next .at) z u n _ d
+            (sign-fits "/" slash s (x .next .at) _ z u n _ _ d
+            (fits s _ numberOf (valueBy kNumber) number-shown (z .next .at) w t n (w .mark .value) (rw (eq-eqb _ _ g)) _ _
+            (weighed (ratio (x .mark .value) (w .mark .value)) f (w .next .at) (behind s (z .next .at) w t (λ z. omega (arith, g, z))) _ refl k))));
+        sized = y .sized;
+      }
 
-    module _ (d : y .mark .kind ≡ kind "/") (w : Step) (u : Next s (y .next .at) w) where
-      slashed : (r : Took)
-          → WeightRead s k before (marksAt 0 s i) (bind (the numberOf (from s (y .next .at) n)) (λ b. return (ratio (x .mark .value) b))) r → WeightIs r
-      slashed r g =
-          number-first r (next-is tookForm s _ "/" (told "/" (omega arith)) _ (return (whole (x .mark .value))) (x .next .at) y z n r d
-          (sign-fits "/" (told "/" (omega arith)) s (x .next .at) tookForm _ y z n _ r d g))
+  pub ratio-stops : {before : Late} {r : After} → x .mark .kind ≡ kNumber → {z : Step} (u : Next s (x .next .at) z) → z .mark .kind ≡ kind "/"
+      → {w : Step} (t : Next s (z .next .at) w) → (w .mark .kind ≡ kNumber → ⊥) → Halted outOfShape (w .mark .place) r → WeightFrom s i before r
+  ratio-stops e {z} u d {w} t g h = record {
+    answers = λ k n.
+        fits s _ weightOf markWeight weight-shown i x v n (whole (x .mark .value)) (rw (eq-eqb _ _ e)) _ _
+        (next-is s _ "/" slash _ (return (whole (x .mark .value))) (x .next .at) z u n _ d
+        (sign-fits "/" slash s (x .next .at) _ z u n _ _ d
+        (misses s _ numberOf (valueBy kNumber) number-shown (z .next .at) w t n (rw (ne-eqb _ _ g)) _ _ h)));
+    sized = h .sized;
+  }
 
-      pub ratio-misses : (w .mark .kind ≡ kNumber → ⊥) → WeightIs (stopped outOfShape (w .mark .place))
-      ratio-misses f = slashed _ (misses tookForm s _ numberOf (valueBy kNumber) number-shown (y .next .at) w u n (rw (ne-eqb _ _ f)) _)
-
-      pub ratio-fits : w .mark .kind ≡ kNumber → WeightIs (weighedTo (w .next .at) (unitsOf cardRule (ratio (x .mark .value) (w .mark .value))) (x .mark .place) before)
-      ratio-fits f =
-          slashed _ (fits tookForm s _ numberOf (valueBy kNumber) number-shown (y .next .at) w u n (w .mark .value) (rw (eq-eqb _ _ f)) _ _
-          (weighed (ratio (x .mark .value) (w .mark .value)) (w .next .at) _ refl))
-
-pub weight-few : (s : List ℕ) (k : ℕ) (before : Late) (p : Place) (x : Result Weight) (r : Took) → WeightRead s k before p x r → r .value ≤ unit
-weight-few s k before p (ok w b) r y = omega (arith, y .told .value, units-most w)
-weight-few s k before p (stop n q) r y = rw (y .0) (omega arith)
+pub weight-few : {s : List ℕ} {i : ℕ} {before : Late} (state : List ℕ) {next : ℕ} → WeightFrom s i before (after state next) → (next ≡ 0 → ⊥) → valueIn state ≤ unit
+weight-few {s} {i} {before} state {next} h e = go (weight (from s i 0)) (h .answers 0 0)
+  where
+    go : (x : Result Weight) → WeightRead s 0 before (marksAt 0 s i) x (after state next) → valueIn state ≤ unit
+    go (ok w b) y = omega (arith, y .told .value, units-most w)
+    go (stop n p) y = absurd (e (y .none))
 
 -- ---- a branch
-
--- what is due between a branch's weight and its end
-abbrev pub updateDue : List Due
-updateDue = due ":" ∷ due "(" ∷ seat 1 ∷ due "'" ∷ due "=" ∷ []
 
 pub update-sure : Sure updateDue
 update-sure = (told ":" (omega arith), (told "(" (omega arith), (told "'" (omega arith), (told "=" (omega arith), tt))))
 
-module _ (s : List ℕ) (k i : ℕ) (before : Late) (was is : List ℕ) (place n : ℕ) where
-  abbrev BranchIs : Took → Type 0
-  BranchIs = BranchRead s k before was is place (branch (from s i n))
+close : Told ")"
+close = told ")" (omega arith)
 
-  module _ (w : Took) (hw : (n : ℕ) → WeightRead s k before (marksAt 0 s i) (weight (from s i n)) w) where
-    pub weight-stops : (w .stop ≡ 0 → ⊥) → BranchIs w
-    weight-stops e = handed tookForm s _ _ (weight (from s i n)) _ w (hw n) e
+module _ (s : List ℕ) (i k : ℕ) (before : Late) (was is : List ℕ) (place : ℕ) where
+  abbrev BranchIs : After → Type 0
+  BranchIs = BranchFrom s i k before was is place
 
-    module _ (ew : w .stop ≡ 0) (u : Took) (hu : (n : ℕ) → LineRead s k (w .late) (1 ∷ []) (line branchRun (from s (w .next) n)) u) where
-      pub update-stops : (u .stop ≡ 0 → ⊥) → BranchIs u
-      update-stops e = onward tookForm tookForm right s _ _ (weight (from s i n)) _ w u (hw n) ew λ a m g.
-          handed tookForm s _ _ (line branchRun (from s (w .next) m)) _ u (hu m) e
+  module _ (a : List ℕ) {w : ℕ} (hw : WeightFrom s i before (after a w)) where
+    pub weight-halts : w ≡ 0 → BranchIs (after a 0)
+    weight-halts e = record { answers = λ n. halted s _ _ (weight (from s i n)) _ a w (hw .answers k n) e; sized = hw .sized }
 
-      module _ (eu : u .stop ≡ 0) (t : Took) (ht : (n : ℕ) → NumberRead s k (u .late) (numbered numberOf (from s (u .next) n)) t) where
-        pub end-stops : (t .stop ≡ 0 → ⊥) → BranchIs t
-        end-stops e = onward tookForm tookForm right s _ _ (weight (from s i n)) _ w t (hw n) ew λ a m g.
-            onward tookForm tookForm right s _ _ (line branchRun (from s (w .next) m)) _ u t (hu m) eu λ ws m₁ g₁.
-            handed tookForm s _ _ (numbered numberOf (from s (u .next) m₁)) _ t (ht m₁) e
+    module _ (ew : w ≡ 0 → ⊥) (b : List ℕ) {u : ℕ} (hu : UpdateFrom s w (lateIn a) (after b u)) where
+      updated : (n : ℕ) → LineRead s k (lateIn a) (1 ∷ []) (line branchRun (from s w n)) (after b u)
+      updated n = hu .answers updateDue update-sure refl refl k n
 
-        module _ (et : t .stop ≡ 0) (c : Took) (hc : (n : ℕ) → SignRead s (t .late) (sign ")" (from s (t .next) n)) c) where
-          closing : (r : Took)
-              → ((b : BranchShape) (m : ℕ) → w .value ≡ unitsIn (b .weight) → t .value ≡ b .end .value → t .late ≡ judgeAll (length s) k (judgedBranch b) before
-              → BranchRead s k before was is place (bind (sign ")" (from s (t .next) m)) (λ u. return b)) r)
-              → BranchIs r
+      pub update-halts : u ≡ 0 → BranchIs (after b 0)
+      update-halts e = record {
+        answers = λ n. onward s _ _ (weight (from s i n)) _ a w _ (hw .answers k n) ew λ x m g.
+            halted s _ _ (line branchRun (from s w m)) _ b u (updated m) e;
+        sized = hu .sized;
+      }
+
+      module _ (eu : u ≡ 0 → ⊥) (c : List ℕ) {t : ℕ} (ht : NumberFrom s u k (lateIn b) (after c t)) where
+        pub end-halts : t ≡ 0 → BranchIs (after c 0)
+        end-halts e = record {
+          answers = λ n. onward s _ _ (weight (from s i n)) _ a w _ (hw .answers k n) ew λ x m g.
+              onward s _ _ (line branchRun (from s w m)) _ b u _ (updated m) eu λ ws m₁ g₁.
+              halted s _ _ (numbered numberOf (from s u m₁)) _ c t (ht .answers m₁) e;
+          sized = ht .sized;
+        }
+
+        module _ (et : t ≡ 0 → ⊥) (d : List ℕ) {f : ℕ} (hf : SignFrom s t (kind ")") c (after d f)) where
+          closed : (n : ℕ) → SignRead s c (sign ")" (from s t n)) (after d f)
+          closed n = hf .answers ")" close refl n
+
+          closing : (r : After) (n : ℕ)
+              → ((b : BranchShape) (m : ℕ) → valueIn a ≡ unitsIn (b .weight) → valueIn c ≡ b .end .value → lateIn c ≡ judgeAll (length s) k (judgedBranch b) before
+              → BranchRead s k before was is place (bind (sign ")" (from s t m)) (λ u. return b)) r)
+              → BranchRead s k before was is place (branch (from s i n)) r
           unfolding judgeAll
-          closing r f = onward tookForm tookForm right s _ _ (weight (from s i n)) _ w r (hw n) ew λ a m g.
-              onward tookForm tookForm right s _ _ (line branchRun (from s (w .next) m)) _ u r (hu m) eu λ ws m₁ g₁.
-              onward tookForm tookForm right s _ _ (numbered numberOf (from s (u .next) m₁)) _ t r (ht m₁) et λ e m₂ g₂.
-              f (record { place = marksAt 0 s i; weight = a; words = ws; end = e }) m₂ (g .value) (g₂ .value)
-              (g₂ .late ∙ ap (judge (length s) k (judgedState e)) (g₁ .late ∙ ap (judgeAll (length s) k (judgedWords (1 ∷ []) ws)) (g .late))
-              ∙ sym (judge-append (length s) k (judgedWords (1 ∷ []) ws) (judgedState e ∷ []) (judge (length s) k (judgedWeight a (marksAt 0 s i)) before)))
+          closing r n h = onward s _ _ (weight (from s i n)) _ a w r (hw .answers k n) ew λ x m g.
+              onward s _ _ (line branchRun (from s w m)) _ b u r (updated m) eu λ ws m₁ g₁.
+              onward s _ _ (numbered numberOf (from s u m₁)) _ c t r (ht .answers m₁) et λ e m₂ g₂.
+              h (record { place = marksAt 0 s i; weight = x; words = ws; end = e }) m₂ (g .value) (g₂ .value)
+              (g₂ .late ∙ ap (judge (length s) k (judgedState e)) (g₁ ∙ ap (judgeAll (length s) k (judgedWords (1 ∷ []) ws)) (g .late))
+              ∙ sym (judge-append (length s) k (judgedWords (1 ∷ []) ws) (judgedState e ∷ []) (judge (length s) k (judgedWeight x (marksAt 0 s i)) before)))
 
-          pub close-stops : (c .stop ≡ 0 → ⊥) → BranchIs c
-          close-stops e = closing c λ b m g h j. handed tookForm s _ _ (sign ")" (from s (t .next) m)) _ c (hc m) e
+          pub close-halts : f ≡ 0 → BranchIs (after d 0)
+          close-halts e = record { answers = λ n. closing _ n λ b m g h j. halted s _ _ (sign ")" (from s t m)) _ d f (closed m) e; sized = hf .sized }
 
-          pub branch-read : c .stop ≡ 0 → is ≡ set was place (packBranch (min (w .value) unit) (min (t .value) Rattle.card.specs.Limits.numbers)) → BranchIs (tookTo (c .next) (w .value) (c .late))
-          branch-read e a = closing _ λ b m g h j. onward tookForm tookForm right s _ _ (sign ")" (from s (t .next) m)) _ c _ (hc m) e λ y m₁ z.
-              record { went = refl; rest = refl; told = record { went = record { value = g; late = z ∙ j }; array = a ∙ cc } }
+          pub branch-read : (f ≡ 0 → ⊥) → is ≡ set was place (packBranch (min (valueIn a) unit) (min (valueIn d) numbers)) → BranchIs (after (set d atValue (valueIn a)) f)
+          branch-read e array = record {
+            answers = λ n. closing _ n λ b m g h j. onward s _ _ (sign ")" (from s t m)) _ d f _ (closed m) e λ y m₁ z.
+                record {
+                  went = e;
+                  rest = refl;
+                  told = record {
+                    went = record { value = value-set d (hf .sized) (valueIn a) ∙ g; late = late-set d atValue (valueIn a) (omega arith) ∙ ap lateIn z ∙ j };
+                    array = array ∙ packed b g (ap valueIn z ∙ h);
+                  };
+                };
+            sized = set-sized d (hf .sized) atValue (valueIn a);
+          }
+            where
+              packed : (b : BranchShape) → valueIn a ≡ unitsIn (b .weight) → valueIn d ≡ b .end .value
+                  → set was place (packBranch (min (valueIn a) unit) (min (valueIn d) numbers)) ≡ set was place (packedIn b)
+              packed b g h = rw (g, h)
+
+pub branch-few : {s : List ℕ} {i k : ℕ} {before : Late} {was is : List ℕ} {place : ℕ} (state : List ℕ) {next : ℕ} → BranchFrom s i k before was is place (after state next)
+    → (next ≡ 0 → ⊥) → valueIn state ≤ unit
+branch-few {s} {i} {k} {before} {was} {is} {place} state {next} h e = go (branch (from s i 0)) (h .answers 0)
+  where
+    go : (x : Result BranchShape) → BranchRead s k before was is place x (after state next) → valueIn state ≤ unit
+    go (ok b t) y = omega (arith, y .told .went .value, units-most (b .weight))
+    go (stop n p) y = absurd (e (y .none))
 
 -- ---- the branches
 
@@ -198,16 +273,16 @@ behind-plus (suc most) s i x v e n =
     ∙ ap (λ (y : Result (Unit {0})). bind (bind y (λ u. branch)) (λ a s₁. bind (further most s₁) (λ x. return (more a x)))) (sign-took "+" plus s i x v e n)
 
 -- with the branches so far counted in
-pub record Counted (s : List ℕ) (k first count total : ℕ) (before : Late) (was is : List ℕ) (x : BranchesShape) (r : Took) : Type 0 where
-  pub value : r .value ≡ count + length (x .branches)
-  pub late : r .late ≡ sumBy (total + totalUnits (map weightIn (x .branches))) (placeOf (length s) (x .close)) (judgeAll (length s) k (judgedEach judgedBranch (x .branches)) before)
+pub record Counted (s : List ℕ) (k first count total : ℕ) (before : Late) (was is : List ℕ) (x : BranchesShape) (state : List ℕ) : Type 0 where
+  pub value : valueIn state ≡ count + length (x .branches)
+  pub late : lateIn state ≡ sumBy (total + totalUnits (map weightIn (x .branches))) (placeOf (length s) (x .close)) (judgeAll (length s) k (judgedEach judgedBranch (x .branches)) before)
   pub array : is ≡ stored was (first + count) (map packedIn (x .branches))
 
-abbrev pub RestRead : List ℕ → ℕ → ℕ → ℕ → ℕ → Late → List ℕ → List ℕ → Result BranchesShape → Took → Type 0
-RestRead s k first count total late was is = Answers tookForm s (Counted s k first count total late was is)
+abbrev pub RestRead : List ℕ → ℕ → ℕ → ℕ → ℕ → Late → List ℕ → List ℕ → Result BranchesShape → After → Type 0
+RestRead s k first count total late was is = Answers s (Counted s k first count total late was is)
 
 -- before the first branch
-pub none-counted : (s : List ℕ) (k first : ℕ) (late : Late) (was is : List ℕ) (x : Result BranchesShape) (r : Took) → RestRead s k first 0 0 late was is x r → BranchesRead s k late was is first x r
+pub none-counted : (s : List ℕ) (k first : ℕ) (late : Late) (was is : List ℕ) (x : Result BranchesShape) (r : After) → RestRead s k first 0 0 late was is x r → BranchesRead s k late was is first x r
 unfolding judgeAll
 none-counted s k first late was is (ok x b) r y =
     let z = y .told in
@@ -226,121 +301,155 @@ none-counted s k first late was is (ok x b) r y =
 none-counted s k first late was is (stop n p) r y = y
 
 module _ (s : List ℕ) (k first count total : ℕ) (late : Late) (was is : List ℕ) (i most n : ℕ) where
-  abbrev RestIs : Took → Type 0
+  abbrev RestIs : After → Type 0
   RestIs = RestRead s k first count total late was is (rest (suc most) (from s i n))
 
-  module _ (b : Took) (now : List ℕ) (hb : (n : ℕ) → BranchRead s k late was now (first + count) (branch (from s i n)) b) where
-    pub branch-stops : (b .stop ≡ 0 → ⊥) → RestIs b
-    branch-stops e = handed tookForm s _ _ (branch (from s i n)) _ b (hb n) e
+  module _ (state : List ℕ) (b : ℕ) (now : List ℕ) (hb : (n : ℕ) → BranchRead s k late was now (first + count) (branch (from s i n)) (after state b)) where
+    pub branch-stops : b ≡ 0 → RestIs (after state 0)
+    branch-stops e = halted s _ _ (branch (from s i n)) _ state b (hb n) e
 
-    module _ (e : b .stop ≡ 0) where
+    module _ (e : b ≡ 0 → ⊥) where
       -- one branch is counted, and the rest is read behind it
-      one-counted : (r : Took) → ((m : ℕ) → RestRead s k first (count + 1) (total + b .value) (b .late) now is (further most (from s (b .next) m)) r) → RestIs r
+      one-counted : (r : After) → ((m : ℕ) → RestRead s k first (count + 1) (total + valueIn state) (lateIn state) now is (further most (from s b m)) r) → RestIs r
       unfolding judgeAll stored
-      one-counted r y = onward tookForm tookForm right s _ _ (branch (from s i n)) _ b r (hb n) e λ a m g.
-          made tookForm s _ _ (further most (from s (b .next) m)) (more a) r (y m) λ z h.
-          let units : total + b .value + totalUnits (map weightIn (z .branches)) ≡ total + (unitsIn (a .weight) + totalUnits (map weightIn (z .branches))) = omega (arith, g .went .value) in
+      one-counted r y = onward s _ _ (branch (from s i n)) _ state b r (hb n) e λ a m g.
+          made s _ _ (further most (from s b m)) (more a) r (y m) λ z h.
+          let units : total + valueIn state + totalUnits (map weightIn (z .branches)) ≡ total + (unitsIn (a .weight) + totalUnits (map weightIn (z .branches))) = omega (arith, g .went .value) in
           let place : first + (count + 1) ≡ first + count + 1 = omega arith in
           record {
             value = omega (arith, h .value);
             late = h .late
-                ∙ ap (λ (u : ℕ). sumBy u (placeOf (length s) (z .close)) (judgeAll (length s) k (judgedEach judgedBranch (z .branches)) (b .late))) units
+                ∙ ap (λ (u : ℕ). sumBy u (placeOf (length s) (z .close)) (judgeAll (length s) k (judgedEach judgedBranch (z .branches)) (lateIn state))) units
                 ∙ ap (λ (l : Late). sumBy (total + (unitsIn (a .weight) + totalUnits (map weightIn (z .branches)))) (placeOf (length s) (z .close)) l)
                 (ap (judgeAll (length s) k (judgedEach judgedBranch (z .branches))) (g .went .late) ∙ sym (judge-append (length s) k (judgedBranch a) (judgedEach judgedBranch (z .branches)) late));
             array = h .array ∙ rw (g .array) (ap (λ (u : ℕ). stored (set was (first + count) (packedIn a)) u (map packedIn (z .branches))) place);
           }
 
-      module _ (x : Step) (v : Next s (b .next) x) where
-        pub one-more : x .mark .kind ≡ kind "+" → (r : Took) → ((m : ℕ) → RestRead s k first (count + 1) (total + b .value) (b .late) now is (rest most (from s (x .next .at) m)) r) → RestIs r
-        one-more f r y = one-counted r λ m. rw (behind-plus most s (b .next) x v f m) (y m)
+      module _ (x : Step) (v : Next s b x) where
+        pub one-more : x .mark .kind ≡ kind "+" → (r : After)
+            → ((m : ℕ) → RestRead s k first (count + 1) (total + valueIn state) (lateIn state) now is (rest most (from s (x .next .at) m)) r) → RestIs r
+        one-more f r y = one-counted r λ m. rw (behind-plus most s b x v f m) (y m)
 
         module _ (d : x .mark .kind ≡ kind "+" → ⊥) where
-          last : (r : Took) → ((m : ℕ) → RestRead s k first (count + 1) (total + b .value) (b .late) now is (ends [] (from s (b .next) m)) r) → RestIs r
-          last r y = one-counted r λ m. rw (no-other "+" nextBranch pastBranches ends more step plus s (b .next) x v d most m) (y m)
+          last : (r : After) → ((m : ℕ) → RestRead s k first (count + 1) (total + valueIn state) (lateIn state) now is (ends [] (from s b m)) r) → RestIs r
+          last r y = one-counted r λ m. rw (no-other "+" nextBranch pastBranches ends more step plus s b x v d most m) (y m)
 
-          pub sum-stops : (x .mark .kind ≡ kind ";" → ⊥) → RestIs (stopped outOfShape (x .mark .place))
-          sum-stops f = last _ λ m. sign-misses ";" (told ";" (omega arith)) s (b .next) tookForm _ x v m _ f
+          pub sum-stops : (x .mark .kind ≡ kind ";" → ⊥) → (r : After) → Halted outOfShape (x .mark .place) r → RestIs r
+          sum-stops f r h = last r λ m. sign-misses ";" semicolon s b _ x v m _ r f h
 
-          pub sum-read : x .mark .kind ≡ kind ";" → is ≡ now → RestIs (tookTo (x .next .at) (count + 1) (sumBy (total + b .value) (x .mark .place) (b .late)))
+          pub sum-read : x .mark .kind ≡ kind ";" → is ≡ now → (end : List ℕ) → valueIn end ≡ count + 1 → lateIn end ≡ sumBy (total + valueIn state) (x .mark .place) (lateIn state)
+              → RestIs (after end (x .next .at))
           unfolding judgeAll stored
-          sum-read f z = last _ λ m. sign-fits ";" (told ";" (omega arith)) s (b .next) tookForm _ x v m _ _ f
-              (record { went = refl; rest = refl; told = record { value = omega arith; late = rw (place-seen s (b .next) x v, add-zero (total + b .value)); array = z } })
+          sum-read f z end g h = last _ λ m. sign-fits ";" semicolon s b _ x v m _ _ f
+              (record { went = sign-behind ";" semicolon s b x v f; rest = refl; told = record { value = omega (arith, g); late = h ∙ rw (place-seen s b x v, add-zero (total + valueIn state)); array = z } })
+
+-- the mark behind the last branch, and where one branch too many begins
+pub close-stops : {m : Found} {next count total : ℕ} {late : Late} {r : After} → (m .kind ≡ kind ";" → ⊥) → Halted outOfShape (m .place) r → ClosedBy m next count total late r
+close-stops e h = record { closes = λ f. absurd (e f); stops = λ f. h; sized = h .sized }
+
+pub close-read : {m : Found} {next count total : ℕ} (was : List ℕ) {is : List ℕ} → m .kind ≡ kind ";" → Sized was → is ≡ withLate was (sumBy total (m .place) (lateIn was))
+    → ClosedBy m next count total (lateIn was) (after (set is atValue count) next)
+close-read {count = count} was e sized h = record {
+  closes = λ f. (refl, valued was sized h count, valued-late was sized h count);
+  stops = λ f. absurd (f e);
+  sized = valued-sized was sized h count;
+}
+
+pub sum-fine : (total p : ℕ) (late : Late) → total ≡ unit → late ≡ sumBy total p late
+sum-fine total p late e = rw (eq-eqb total unit e)
+
+pub sum-wrong : (total p : ℕ) (late : Late) → (total ≡ unit → ⊥) → blame wrongWeight p late ≡ sumBy total p late
+sum-wrong total p late e = rw (ne-eqb total unit e)
+
+module _ (m : Found) {r : After} where
+  pub number-past : m .kind ≡ kNumber → Halted pastLimit (m .place) r → PastBy m r
+  number-past e h = rw e h
+
+  pub decimal-past : m .kind ≡ kDecimal → Halted pastLimit (m .place) r → PastBy m r
+  decimal-past e h = rw e h
+
+  pub none-past : (m .kind ≡ kNumber → ⊥) → (m .kind ≡ kDecimal → ⊥) → Halted outOfShape (m .place) r → PastBy m r
+  none-past d e h = rw (ne-eqb (m .kind) kNumber d, ne-eqb (m .kind) kDecimal e) h
 
 -- one branch too many
-module _ (s : List ℕ) (k first count total : ℕ) (late : Late) (was is : List ℕ) (i n : ℕ) (x : Step) (v : Next s i x) where
-  abbrev PastIs : Took → Type 0
-  PastIs = RestRead s k first count total late was is (rest 0 (from s i n))
+module _ (s : List ℕ) (k first count total : ℕ) (late : Late) (was is : List ℕ) (i n : ℕ) (x : Step) (v : Next s i x) (r : After) where
+  abbrev PastIs : Type 0
+  PastIs = RestRead s k first count total late was is (rest 0 (from s i n)) r
 
-  past-weight : (w : Weight) → markWeight (x .mark) ≡ some w → PastIs (stopped pastLimit (x .mark .place))
-  past-weight w e = fits tookForm s _ weightOf markWeight weight-shown i x v n w e _ _ (rw (place-seen s i x v) (refl, λ z. omega arith))
+  past-weight : (w : Weight) → markWeight (x .mark) ≡ some w → Halted pastLimit (x .mark .place) r → PastIs
+  past-weight w e h = fits s _ weightOf markWeight weight-shown i x v n w e _ _ (rw (← place-seen s i x v) h)
 
-  pub past-number : x .mark .kind ≡ kNumber → PastIs (stopped pastLimit (x .mark .place))
+  pub past-number : x .mark .kind ≡ kNumber → Halted pastLimit (x .mark .place) r → PastIs
   past-number e = past-weight (whole (x .mark .value)) (rw (eq-eqb _ _ e))
 
-  pub past-decimal : x .mark .kind ≡ kDecimal → PastIs (stopped pastLimit (x .mark .place))
+  pub past-decimal : x .mark .kind ≡ kDecimal → Halted pastLimit (x .mark .place) r → PastIs
   past-decimal e = past-weight (point (x .mark .value) (x .mark .digits) (x .mark .further)) (rw e)
 
-  pub past-misses : (x .mark .kind ≡ kDecimal → ⊥) → (x .mark .kind ≡ kNumber → ⊥) → PastIs (stopped outOfShape (x .mark .place))
-  past-misses d e = misses tookForm s _ weightOf markWeight weight-shown i x v n (rw (ne-eqb _ _ d, ne-eqb _ _ e)) _
+  pub past-misses : (x .mark .kind ≡ kDecimal → ⊥) → (x .mark .kind ≡ kNumber → ⊥) → Halted outOfShape (x .mark .place) r → PastIs
+  past-misses d e h = misses s _ weightOf markWeight weight-shown i x v n (rw (ne-eqb _ _ d, ne-eqb _ _ e)) _ r h
 
 -- ---- the loop: an answer to what is left answers the whole
 
-pub record Going (s : List ℕ) (k first : ℕ) (before : Late) (was : List ℕ) (i count total : ℕ) (late : Late) (now : List ℕ) (next : ℕ) : Type 0 where
+pub record Going (s : List ℕ) (k first : ℕ) (before : Late) (was : List ℕ) (i count total : ℕ) (now : List ℕ) (next : ℕ) (state : List ℕ) : Type 0 where
   pub few : count ≤ mostBranches
   pub small : total ≤ count * unit
-  pub whole : (r : Took) (is : List ℕ) → ((m : ℕ) → RestRead s k first count total late now is (rest (mostBranches - count) (from s next m)) r)
+  pub sized : Sized state
+  pub whole : (r : After) (is : List ℕ) → ((m : ℕ) → RestRead s k first count total (lateIn state) now is (rest (mostBranches - count) (from s next m)) r)
       → (n : ℕ) → BranchesRead s k before was is first (branches (mostBranches - 1) (from s i n)) r
 
-pub going-start : (s : List ℕ) (k first : ℕ) (late : Late) (was : List ℕ) (i : ℕ) → Going s k first late was i 0 0 late was i
-going-start s k first late was i = record {
+pub going-start : {s : List ℕ} {k first : ℕ} {was : List ℕ} {i : ℕ} (state : List ℕ) → Sized state → Going s k first (lateIn state) was i 0 0 was i state
+going-start {s} {k} {first} {was} {i} state sized = record {
   few = omega arith;
   small = omega arith;
-  whole = λ r is y n. none-counted s k first late was is (branches (mostBranches - 1) (from s i n)) r (rw (rest-whole (mostBranches - 1) (from s i n)) (y n));
+  sized = sized;
+  whole = λ r is y n. none-counted s k first (lateIn state) was is (branches (mostBranches - 1) (from s i n)) r (rw (rest-whole (mostBranches - 1) (from s i n)) (y n));
 }
 
-pub branch-few : (s : List ℕ) (k : ℕ) (late : Late) (was is : List ℕ) (place : ℕ) (x : Result BranchShape) (r : Took) → BranchRead s k late was is place x r → r .value ≤ unit
-branch-few s k late was is place (ok b t) r y = omega (arith, y .told .went .value, units-most (b .weight))
-branch-few s k late was is place (stop n q) r y = rw (y .0) (omega arith)
-
-module _ (s : List ℕ) (k first : ℕ) (before : Late) (was : List ℕ) (i count total : ℕ) (late : Late) (now : List ℕ) (next : ℕ) (g : Going s k first before was i count total late now next) where
-  abbrev WholeIs : List ℕ → Took → Type 0
-  WholeIs is r = (n : ℕ) → BranchesRead s k before was is first (branches (mostBranches - 1) (from s i n)) r
-
-  module _ (l : count < mostBranches) (b : Took) (new : List ℕ) (hb : (n : ℕ) → BranchRead s k late now new (first + count) (branch (from s next n)) b) where
+module _ {s : List ℕ} {k first : ℕ} {before : Late} {was : List ℕ} {i count total : ℕ} {now : List ℕ} {next : ℕ} {state : List ℕ} (g : Going s k first before was i count total now next state) where
+  module _ (l : count < mostBranches) {new : List ℕ} (after-one : List ℕ) {b : ℕ} (hb : BranchFrom s next k (lateIn state) now new (first + count) (after after-one b)) where
     one-less : mostBranches - count ≡ suc (mostBranches - (count + 1))
     one-less = omega arith
 
     -- the rest as the reader of one branch and what follows
-    opened : (is : List ℕ) (r : Took) → ((m : ℕ) → RestRead s k first count total late now is (rest (suc (mostBranches - (count + 1))) (from s next m)) r) → WholeIs is r
+    opened : (is : List ℕ) (r : After) → ((m : ℕ) → RestRead s k first count total (lateIn state) now is (rest (suc (mostBranches - (count + 1))) (from s next m)) r)
+        → (n : ℕ) → BranchesRead s k before was is first (branches (mostBranches - 1) (from s i n)) r
     opened is r y = g .whole r is λ m. rw one-less (y m)
 
-    pub going-stops : (b .stop ≡ 0 → ⊥) → WholeIs new b
-    going-stops e = opened new b λ m. branch-stops s k first count total late now new next (mostBranches - (count + 1)) m b new hb e
+    pub going-stops : b ≡ 0 → BranchesFrom s i k before was new first (after after-one 0)
+    going-stops e = record {
+      answers = opened new _ λ m. branch-stops s k first count total (lateIn state) now new next (mostBranches - (count + 1)) m after-one b new (hb .answers) e;
+      sized = hb .sized;
+    }
 
-    module _ (e : b .stop ≡ 0) (x : Step) (v : Next s (b .next) x) where
-      pub going-closed : (x .mark .kind ≡ kind "+" → ⊥) → WholeIs new (closedTo (x .mark) (x .next .at) (count + 1) (total + b .value) (b .late))
-      going-closed d = opened new _ λ m. by m (eqb (x .mark .kind) (kind ";")) refl
+    module _ (e : b ≡ 0 → ⊥) {x : Step} (v : Next s b x) where
+      pub going-closed : (x .mark .kind ≡ kind "+" → ⊥) → {r : After} → ClosedBy (x .mark) (x .next .at) (count + 1) (total + valueIn after-one) (lateIn after-one) r
+          → BranchesFrom s i k before was new first r
+      going-closed d {r} c = record { answers = opened new r λ m. by m (eqb (x .mark .kind) (kind ";")) refl; sized = c .sized }
         where
-          by : (m : ℕ) (t : Bool) → eqb (x .mark .kind) (kind ";") ≡ t
-              → RestRead s k first count total late now new (rest (suc (mostBranches - (count + 1))) (from s next m))
-              (if t then tookTo (x .next .at) (count + 1) (sumBy (total + b .value) (x .mark .place) (b .late)) else stopped outOfShape (x .mark .place))
-          by m true f = sum-read s k first count total late now new next (mostBranches - (count + 1)) m b new hb e x v d (eqb-true _ _ f) refl
-          by m false f = sum-stops s k first count total late now new next (mostBranches - (count + 1)) m b new hb e x v d (eqb-false _ _ f)
+          by : (m : ℕ) (t : Bool) → eqb (x .mark .kind) (kind ";") ≡ t → RestRead s k first count total (lateIn state) now new (rest (suc (mostBranches - (count + 1))) (from s next m)) r
+          by m true f =
+              let h = c .closes (eqb-true _ _ f) in
+              let same : r ≡ after (r .state) (x .next .at) = λ q. after (r .state) (h .0 q) in
+              rw same (sum-read s k first count total (lateIn state) now new next (mostBranches - (count + 1)) m after-one b new (hb .answers) e x v d (eqb-true _ _ f) refl (r .state) (h .1) (h .2))
+          by m false f = sum-stops s k first count total (lateIn state) now new next (mostBranches - (count + 1)) m after-one b new (hb .answers) e x v d (eqb-false _ _ f) r (c .stops (eqb-false _ _ f))
 
-      pub going-more : x .mark .kind ≡ kind "+" → Going s k first before was i (count + 1) (total + b .value) (b .late) new (x .next .at)
+      pub going-more : x .mark .kind ≡ kind "+" → Going s k first before was i (count + 1) (total + valueIn after-one) new (x .next .at) after-one
       going-more f = record {
         few = omega arith;
-        small = omega (arith, g .small, branch-few s k late now new (first + count) (branch (from s next 0)) b (hb 0));
-        whole = λ r is y. opened is r λ m. one-more s k first count total late now is next (mostBranches - (count + 1)) m b new hb e x v f r y;
+        small = omega (arith, g .small, branch-few after-one hb e);
+        sized = hb .sized;
+        whole = λ r is y. opened is r λ m. one-more s k first count total (lateIn state) now is next (mostBranches - (count + 1)) m after-one b new (hb .answers) e x v f r y;
       }
 
-  pub going-past : mostBranches ≤ count → (x : Step) → Next s next x → WholeIs now (pastBy (x .mark))
-  going-past l x v = g .whole _ now λ m.
-      let z : mostBranches - count ≡ 0 = omega arith in
-      rw z (by m (eqb (x .mark .kind) kNumber) refl (eqb (x .mark .kind) kDecimal) refl)
+  pub going-past : mostBranches ≤ count → {x : Step} → Next s next x → {r : After} → PastBy (x .mark) r → BranchesFrom s i k before was now first r
+  going-past l {x} v {r} h = record {
+    answers = g .whole r now λ m.
+        let z : mostBranches - count ≡ 0 = omega arith in
+        rw z (by m (eqb (x .mark .kind) kNumber) refl (eqb (x .mark .kind) kDecimal) refl);
+    sized = h .sized;
+  }
     where
-      by : (m : ℕ) (t : Bool) → eqb (x .mark .kind) kNumber ≡ t → (u : Bool) → eqb (x .mark .kind) kDecimal ≡ u
-          → RestRead s k first count total late now now (rest 0 (from s next m)) (if t || u then stopped pastLimit (x .mark .place) else stopped outOfShape (x .mark .place))
-      by m true e u f = past-number s k first count total late now now next m x v (eqb-true _ _ e)
-      by m false e true f = past-decimal s k first count total late now now next m x v (eqb-true _ _ f)
-      by m false e false f = past-misses s k first count total late now now next m x v (eqb-false _ _ f) (eqb-false _ _ e)
+      by : (m : ℕ) (t : Bool) → eqb (x .mark .kind) kNumber ≡ t → (u : Bool) → eqb (x .mark .kind) kDecimal ≡ u → RestRead s k first count total (lateIn state) now now (rest 0 (from s next m)) r
+      by m true e u f = past-number s k first count total (lateIn state) now now next m x v r (eqb-true _ _ e) (rw e at h)
+      by m false e true f = past-decimal s k first count total (lateIn state) now now next m x v r (eqb-true _ _ f) (rw (e, f) at h)
+      by m false e false f = past-misses s k first count total (lateIn state) now now next m x v r (eqb-false _ _ f) (eqb-false _ _ e) (rw (e, f) at h)

@@ -1,4 +1,4 @@
--- What the code hands back for a weight, a branch, and the branches of a statement. Assumes nothing.
+-- What reading a weight, a branch, and the branches of a statement leaves behind it. Assumes nothing.
 use Prim.Native.Nat.{ℕ, _-_, min}
 use mathlib.Core.Path.{_≡_}
 use mathlib.Core.Bool.{_||_}
@@ -14,7 +14,7 @@ use Rattle.card.specs.Stored.{stored}
 use Rattle.card.specs.Weight.{Weight}
 use Rattle.card.specs.Judged.{judgedOf}
 use Rattle.card.specs.declared.weight.Judged.{Judged}
-use Rattle.marks.specs.Kinds.{kNumber, kDecimal, kSeat, kind}
+use Rattle.marks.specs.Kinds.{kNumber, kDecimal, kind}
 use Rattle.marks.specs.declared.Found.{Found}
 use Rattle.marks.specs.Step.{marksAt}
 use Rattle.reading.specs.Reader.{Place, State, Result, Reader, bind, _>>=_, _>>_, return, sign, here}
@@ -22,47 +22,51 @@ use Rattle.reading.specs.Guard.{isSome}
 use Rattle.reading.specs.Judgements.{Judgement, weight, sum, unless, orZero, unitsIn}
 use Rattle.reading.specs.Shape.{BranchShape, weight as readWeight, branch, moreBranches}
 use Rattle.reading.specs.Checks.{weightIn, judgedBranch, judgedEach}
-use Rattle.guard.specs.declared.Late.{Late}
-use Rattle.guard.specs.Late.{blamed, judgeAll}
-use Rattle.parts.specs.declared.Took.{Took}
-use Rattle.parts.specs.Parts.{from, Answers, tookTo, stopped, tookForm, Went, RunFrom}
+use Rattle.group.specs.Late.{Late, blamed, judgeAll}
+use Rattle.group.specs.State.{Sized, lateIn, valueIn, After, Halted}
+use Rattle.parts.specs.Parts.{from, Answers, Went, Due, sign as due, seat, kindsIn, numbersIn, RunFrom}
 
 -- ---- a weight: its units, or 0 and a late refusal where it breaks its rule
 
 abbrev pub weightBy : Option ℕ → ℕ → Late → Late
 weightBy o p late = blamed (unless (isSome o) wrongWeight) p late
 
-abbrev pub weighedTo : ℕ → Option ℕ → ℕ → Late → Took
-weighedTo next o p late = tookTo next (orZero o) (weightBy o p late)
+-- what was judged, told in the state
+pub record Weighed (judged : Judged) (p : ℕ) (was is : List ℕ) : Type 0 where
+  pub value : (o : Option ℕ) → judged ≡ judgedOf o → valueIn is ≡ orZero o
+  pub late : (o : Option ℕ) → judged ≡ judgedOf o → lateIn is ≡ weightBy o p (lateIn was)
+  pub sized : Sized is
 
-abbrev pub WeighedTo : Judged → ℕ → ℕ → Late → Took → Type 0
-WeighedTo judged next p late r = (o : Option ℕ) → judged ≡ judgedOf o → r ≡ weighedTo next o p late
+abbrev pub WeightRead : List ℕ → ℕ → Late → Place → Result Weight → After → Type 0
+WeightRead s k before p = Answers s (λ w. Went s k before (unitsIn w) (weight w p ∷ []))
 
-abbrev pub WeightRead : List ℕ → ℕ → Late → Place → Result Weight → Took → Type 0
-WeightRead s k before p = Answers tookForm s (λ w. Went s k before (unitsIn w) (weight w p ∷ []))
+pub record WeightFrom (s : List ℕ) (i : ℕ) (before : Late) (r : After) : Type 0 where
+  pub answers : (k n : ℕ) → WeightRead s k before (marksAt 0 s i) (readWeight (from s i n)) r
+  pub sized : Sized (r .state)
 
-abbrev pub WeightFrom : List ℕ → ℕ → Late → Took → Type 0
-WeightFrom s i before r = (k n : ℕ) → WeightRead s k before (marksAt 0 s i) (readWeight (from s i n)) r
+-- ---- between a branch's weight and its state
 
--- ---- between a branch's weight and its state, in kinds and numbers due: `:(s1'=`
+abbrev pub updateDue : List Due
+updateDue = due ":" ∷ due "(" ∷ seat 1 ∷ due "'" ∷ due "=" ∷ []
 
-abbrev pub UpdateFrom : List ℕ → ℕ → Late → Took → Type 0
-UpdateFrom s i late r = RunFrom s i (kind ":" ∷ kind "(" ∷ kSeat ∷ kind "'" ∷ kind "=" ∷ []) (0 ∷ 0 ∷ 1 ∷ 0 ∷ 0 ∷ []) late r
+abbrev pub UpdateFrom : List ℕ → ℕ → Late → After → Type 0
+UpdateFrom s i late r = RunFrom s i (kindsIn updateDue) (numbersIn updateDue) late r
 
 -- ---- a branch, in the array as the packer makes it
 
 abbrev pub packedIn : BranchShape → ℕ
 packedIn b = packBranch (min (unitsIn (b .weight)) unit) (min (b .end .value) numbers)
 
-pub record Branched (s : List ℕ) (k : ℕ) (before : Late) (was is : List ℕ) (place : ℕ) (b : BranchShape) (r : Took) : Type 0 where
-  pub went : Went s k before (unitsIn (b .weight)) (judgedBranch b) r
+pub record Branched (s : List ℕ) (k : ℕ) (before : Late) (was is : List ℕ) (place : ℕ) (b : BranchShape) (state : List ℕ) : Type 0 where
+  pub went : Went s k before (unitsIn (b .weight)) (judgedBranch b) state
   pub array : is ≡ set was place (packedIn b)
 
-abbrev pub BranchRead : List ℕ → ℕ → Late → List ℕ → List ℕ → ℕ → Result BranchShape → Took → Type 0
-BranchRead s k before was is place = Answers tookForm s (Branched s k before was is place)
+abbrev pub BranchRead : List ℕ → ℕ → Late → List ℕ → List ℕ → ℕ → Result BranchShape → After → Type 0
+BranchRead s k before was is place = Answers s (Branched s k before was is place)
 
-abbrev pub BranchFrom : List ℕ → ℕ → ℕ → Late → List ℕ → List ℕ → ℕ → Took → Type 0
-BranchFrom s i k before was is place r = (n : ℕ) → BranchRead s k before was is place (branch (from s i n)) r
+pub record BranchFrom (s : List ℕ) (i k : ℕ) (before : Late) (was is : List ℕ) (place : ℕ) (r : After) : Type 0 where
+  pub answers : (n : ℕ) → BranchRead s k before was is place (branch (from s i n)) r
+  pub sized : Sized (r .state)
 
 -- ---- the branches of a statement, with the `;`
 
@@ -87,19 +91,22 @@ abbrev pub sumBy : ℕ → ℕ → Late → Late
 sumBy total p late = blamed (unless (eqb total unit) wrongWeight) p late
 
 -- by the mark behind the last branch
-abbrev pub closedTo : Found → ℕ → ℕ → ℕ → Late → Took
-closedTo m next count total late = if eqb (m .kind) (kind ";") then tookTo next count (sumBy total (m .place) late) else stopped outOfShape (m .place)
+pub record ClosedBy (m : Found) (next count total : ℕ) (late : Late) (r : After) : Type 0 where
+  pub closes : m .kind ≡ kind ";" → (r .next ≡ next) × (valueIn (r .state) ≡ count) × (lateIn (r .state) ≡ sumBy total (m .place) late)
+  pub stops : (m .kind ≡ kind ";" → ⊥) → Halted outOfShape (m .place) r
+  pub sized : Sized (r .state)
 
 -- by the mark where one branch too many begins
-abbrev pub pastBy : Found → Took
-pastBy m = if eqb (m .kind) kNumber || eqb (m .kind) kDecimal then stopped pastLimit (m .place) else stopped outOfShape (m .place)
+abbrev pub PastBy : Found → After → Type 0
+PastBy m r = Halted (if eqb (m .kind) kNumber || eqb (m .kind) kDecimal then pastLimit else outOfShape) (m .place) r
 
-pub record BranchesIn (s : List ℕ) (k : ℕ) (before : Late) (was is : List ℕ) (first : ℕ) (x : BranchesShape) (r : Took) : Type 0 where
-  pub went : Went s k before (length (x .branches)) (judgedBranches x) r
+pub record BranchesIn (s : List ℕ) (k : ℕ) (before : Late) (was is : List ℕ) (first : ℕ) (x : BranchesShape) (state : List ℕ) : Type 0 where
+  pub went : Went s k before (length (x .branches)) (judgedBranches x) state
   pub array : is ≡ stored was first (map packedIn (x .branches))
 
-abbrev pub BranchesRead : List ℕ → ℕ → Late → List ℕ → List ℕ → ℕ → Result BranchesShape → Took → Type 0
-BranchesRead s k before was is first = Answers tookForm s (BranchesIn s k before was is first)
+abbrev pub BranchesRead : List ℕ → ℕ → Late → List ℕ → List ℕ → ℕ → Result BranchesShape → After → Type 0
+BranchesRead s k before was is first = Answers s (BranchesIn s k before was is first)
 
-abbrev pub BranchesFrom : List ℕ → ℕ → ℕ → Late → List ℕ → List ℕ → ℕ → Took → Type 0
-BranchesFrom s i k before was is first r = (n : ℕ) → BranchesRead s k before was is first (branches (mostBranches - 1) (from s i n)) r
+pub record BranchesFrom (s : List ℕ) (i k : ℕ) (before : Late) (was is : List ℕ) (first : ℕ) (r : After) : Type 0 where
+  pub answers : (n : ℕ) → BranchesRead s k before was is first (branches (mostBranches - 1) (from s i n)) r
+  pub sized : Sized (r .state)

@@ -5,7 +5,7 @@ use mathlib.Core.Bool.{Bool, true, false, _&&_}
 use mathlib.Core.List.{List, [], _∷_}
 use native.Mathlib.Decide.{decLt}
 use native.Mathlib.Omega.{arith}
-use lib.Dec.{eqb}
+use lib.Dec.{eqb, leb}
 use borrow.Author.Tests.{eqb-true}
 use lib.ListN.{length, getD, drop, drop-of-length-le}
 use Rattle.letters.specs.Bytes.{isDigit, inWord, begins, isAlone, begun}
@@ -13,9 +13,13 @@ use Rattle.marks.specs.Kinds.{kSeat}
 use Rattle.marks.specs.Step.{stepAt}
 use Rattle.marks.specs.Parts.{bareOf, valuedOf}
 use Rattle.looks.specs.Quick.{signAhead, seatAhead}
-use Rattle.letters.proofs.Lists.{cases, not-both, drop-at}
+use Rattle.letters.proofs.Lists.{cases, not-both, and-right, drop-at}
 use Rattle.letters.proofs.Runs.{begins-at}
 use Rattle.looks.proofs.Quick.{sign-at, sign-step, seat-at, seat-step}
+
+-- as the look says
+pub here : (s : List ℕ) (i : ℕ) (t : List ℕ) {b : Bool} → b ≡ (leb i (length s) && begun t (drop i s)) → b ≡ true → begun t (drop i s) ≡ true
+here s i t e f = and-right (leb i (length s)) (begun t (drop i s)) (sym e ∙ f)
 
 -- the first of some bytes, and the others behind it
 pub record Front (b : ℕ) (t s : List ℕ) (i : ℕ) : Type 0 where

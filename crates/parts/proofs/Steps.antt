@@ -31,18 +31,23 @@ use Rattle.parts.specs.Parts.{Told}
 
 pub data Next (s : List ℕ) (i : ℕ) : Step → Type 0 where
   end : marksAt 0 s i ≡ [] → Next s i (stepEnd (length s))
-  one : (m : Mark) (p next : ℕ) → marksAt 0 s i ≡ placed m p ∷ marksAt 0 s next → Next s i (stepTo m p next)
+  one : (m : Mark) (p next : ℕ) → p < next → marksAt 0 s i ≡ placed m p ∷ marksAt 0 s next → Next s i (stepTo m p next)
 
 pub place-seen : (s : List ℕ) (i : ℕ) (x : Step) → Next s i x → x .mark .place ≡ placeOf (length s) (marksAt 0 s i)
 place-seen s i _ (end e) = rw e
-place-seen s i _ (one m p next e) = rw e
+place-seen s i _ (one m p next l e) = rw e
 
 pub next-at : (s : List ℕ) (i : ℕ) (x : Step) → x ≡ stepAt s i → Next s i x
 next-at s i x h = rw h (go (stepAt s i) (marksAt 0 s i) refl (meet 0 s i))
   where
     go : (y : Step) (ms : List Placed) → marksAt 0 s i ≡ ms → Meet 0 s y ms → Next s i y
     go _ _ e over = end e
-    go _ _ e (met m p next small l k) = one m p next (rw (zero-add p) at e)
+    go _ _ e (met m p next small l k) = one m p next l (rw (zero-add p) at e)
+
+-- behind a mark there is a place
+pub behind : (s : List ℕ) (i : ℕ) (x : Step) → Next s i x → (x .mark .kind ≡ kEnd → ⊥) → x .next .at ≡ 0 → ⊥
+behind s i _ (end e) h = absurd (h refl)
+behind s i _ (one m p next l e) h = λ z. omega arith
 
 -- ---- a sign or keyword by its kind
 
@@ -73,11 +78,11 @@ took-shown (some a) m p ms n = refl
 pub seen : {A : Type 0} (f : Mark → Option A) (g : Found → Option A) → Shown f g → (s : List ℕ) (i : ℕ) (x : Step) → Next s i x → (n : ℕ)
     → first f (marksAt 0 s i) n ≡ shown (g (x .mark)) (marksAt 0 s i) (marksAt 0 s (x .next .at)) n
 seen f g h s i _ (end e) n = rw (e, h .not-the-end (length s))
-seen f g h s i _ (one m p next e) n = rw (e, took-shown (f m) m p (marksAt 0 s next) n, h .by-numbers m p)
+seen f g h s i _ (one m p next l e) n = rw (e, took-shown (f m) m p (marksAt 0 s next) n, h .by-numbers m p)
 
 pub next-seen : (t : String) → Told t → (s : List ℕ) (i : ℕ) (x : Step) → Next s i x → nextIs t (marksAt 0 s i) ≡ eqb (x .mark .kind) (kind t)
 next-seen t h s i _ (end e) = rw e (sym (h .end))
-next-seen t h s i _ (one m p next e) = rw e (h .mark m)
+next-seen t h s i _ (one m p next l e) = rw e (h .mark m)
 
 -- ---- which are of that kind
 

@@ -6,7 +6,7 @@ use mathlib.Core.List.{List, [], _∷_, _++_}
 use mathlib.Core.Option.{Option, none, some}
 use native.Mathlib.Omega.{arith}
 use lib.Dec.{eqb, leb}
-use lib.ListN.{length, length-map}
+use lib.ListN.{length, getD, length-map}
 use Rattle.card.specs.Limits.{cardBytes, mostStatements, mostSeats, unit}
 use Rattle.card.specs.Refusals.{outsideRules, aboveTop, notDue, wrongWeight}
 use Rattle.card.specs.Card.{Mode, Card}
@@ -27,20 +27,19 @@ use Rattle.reading.proofs.Fair.{FairCard, card-fair}
 use Rattle.reading.proofs.Numbers.{read-number}
 use Rattle.reading.proofs.Shaping.{read-shape as shape-of}
 use Rattle.reading.proofs.Valid.{read-valid}
-use Rattle.guard.specs.declared.Settled.{Settled}
-use Rattle.guard.specs.Late.{noneYet, judgeAll}
-use Rattle.guard.specs.Settled.{settled, verdict}
-use Rattle.guard.proofs.Settling.{judge-append, settled-first}
-use Rattle.parts.specs.declared.Took.{Took}
-use Rattle.reader.specs.declared.header.Headed.{Headed}
+use Rattle.group.specs.Late.{noneYet, judgeAll}
+use Rattle.group.specs.Settled.{Refusal, settled, verdict}
+use Rattle.group.specs.State.{atStop, atStopPlace, atMode, atTop, atStart, lateIn, refusalIn, valueIn, after}
+use Rattle.group.proofs.Settling.{judge-append, settled-first}
+use Rattle.parts.specs.Parts.{from, Read, Answers}
+use Rattle.frame.specs.Frame.{HeaderShape, header, HeaderFrom, modules, ModulesFrom}
+use Rattle.reader.specs.declared.Due.{Due}
 use Rattle.reader.specs.declared.Outline.{Outline}
 use Rattle.reader.specs.ReadingOf.{outlineOf, memoryOf, ReadsInto}
 use Rattle.reader.specs.Search.{searched}
-use Rattle.parts.specs.Parts.{from, Form, Read, Answers, tookForm, stopped}
-use Rattle.reader.specs.Statements.{statements, filled, StatementsRead}
-use Rattle.reader.specs.Ends.{HeaderShape, header, headedForm, HeaderRead, modules, ModulesRead}
-use Rattle.parts.proofs.Answers.{right, Right, onward, halted}
-use Rattle.parts.proofs.Lines.{assoc, made}
+use Rattle.reader.specs.Statements.{statements, filled, StatementsFrom}
+use Rattle.parts.proofs.Answers.{onward, halted, made}
+use Rattle.parts.proofs.Lines.{assoc}
 use Rattle.reader.proofs.Outcomes.{orOutside, read-stop, read-shape}
 use Rattle.reader.proofs.FilledLaws.{card-lent}
 
@@ -60,14 +59,14 @@ card-parts s =
     regroup (the modeOf s) (line cardRun) (the zeroOf) (sign "..") top (sign "]") (sign "init") (sign ";") (numbered numberOf) statement (moreStatements (mostStatements - 1)) (sign "endmodule") (moreModules (mostSeats - 1)) theEnd
     (λ m ws k l. record { mode = m; words = ws; k = k; l = l }) shapeOf
 
--- what the three parts say of the card's shape
-record Whole (s : List ℕ) (head : Headed) (list : Took) (tail : Took) (was is : Lent) (c : CardShape) : Type 0 where
-  mode : head .mode ≡ modeNumber (c .mode)
-  seats : tail .value ≡ seatsIn c
-  top : head .top ≡ c .k
-  start : head .start ≡ c .l .value
-  late : tail .late ≡ judgeAll (length s) (c .k) (judgedCard c) noneYet
-  count : list .value ≡ length (c .statements)
+-- what the three parts say of the card's shape: the states behind them are h, l and t
+record Whole (s : List ℕ) (h l t : List ℕ) (was is : Lent) (c : CardShape) : Type 0 where
+  mode : getD h atMode 0 ≡ modeNumber (c .mode)
+  seats : valueIn t ≡ seatsIn c
+  top : getD h atTop 0 ≡ c .k
+  start : getD h atStart 0 ≡ c .l .value
+  late : lateIn t ≡ judgeAll (length s) (c .k) (judgedCard c) noneYet
+  count : valueIn l ≡ length (c .statements)
   memory : is ≡ filled 0 (c .statements) was
 
 -- ---- a refusal has a number
@@ -94,110 +93,113 @@ no-number e n k (j ∷ js) h = go (broken n k j) refl h (no-number e n k js)
 
 -- ---- a stop anywhere is a stop of the whole card
 
-none-so : CardShape → Took → Type 0
-none-so c r = ⊥
-
 -- reading stops so, unless a mark outside the rules stands there or further on
 pub record Stops (s : List ℕ) (n p : ℕ) : Type 0 where
   pub outcome : readOf s ≡ orOutside n p (firstOutside (marksAt 0 s p))
 
+abbrev StopsAs : List ℕ → List ℕ → Type 0
+StopsAs s now = Stops s (getD now atStop 0) (getD now atStopPlace 0)
+
+abbrev none-so : CardShape → List ℕ → Type 0
+none-so c r = ⊥
+
 module _ (s : List ℕ) (short : length s ≤ cardBytes) where
-  stopped-read : (x : Result CardShape) → card (from s 0 0) ≡ x → (n q : ℕ) → (n ≡ 0 → ⊥) → Answers tookForm s none-so x (stopped n q) → Stops s n q
-  stopped-read (ok c b) e n q f y = absurd (f (y .went))
-  stopped-read (stop m p) e n q f y =
-      let a : n ≡ m = ap (λ (r : Took). r .stop) (y .0) in
-      let b : q ≡ placeOf (length s) p = ap (λ (r : Took). r .place) (y .0) in
+  stopped-read : (x : Result CardShape) → card (from s 0 0) ≡ x → (now : List ℕ) → Answers s none-so x (after now 0) → StopsAs s now
+  stopped-read (ok c b) e now y = absurd (y .told)
+  stopped-read (stop m p) e now y =
+      let a : getD now atStop 0 ≡ m = ap (λ (r : Refusal). r .number) (y .refused) in
+      let b : getD now atStopPlace 0 ≡ placeOf (length s) p = ap (λ (r : Refusal). r .place) (y .refused) in
       rw (a, b) (record { outcome = read-stop s short m p e })
 
-  module _ (head : Headed) (hh : (n : ℕ) → HeaderRead s (header (from s 0 n)) head) where
-    pub header-stops : (head .stop ≡ 0 → ⊥) → Stops s (head .stop) (head .place)
-    header-stops e = stopped-read (card (from s 0 0)) refl (head .stop) (head .place) e
-        (rw (card-parts (from s 0 0)) (halted headedForm tookForm (λ n p. (refl, refl)) s _ none-so (header (from s 0 0)) _ head (hh 0) e))
+  module _ (h : List ℕ) {a : ℕ} (hh : HeaderFrom s 0 noneYet (after h a)) where
+    pub header-stops : a ≡ 0 → StopsAs s h
+    header-stops e = stopped-read (card (from s 0 0)) refl h
+        (rw (card-parts (from s 0 0)) (halted s _ none-so (header (from s 0 0)) _ h a (hh .answers 0) e))
 
-    module _ (eh : head .stop ≡ 0) (list : Took) (was is : Lent)
-        (hl : (n : ℕ) → StatementsRead s (head .top) (head .late) was is (statements (mostStatements - 1) (from s (head .next) n)) list) where
-      pub statements-stop : (list .stop ≡ 0 → ⊥) → Stops s (list .stop) (list .place)
-      statements-stop e = stopped-read (card (from s 0 0)) refl (list .stop) (list .place) e
-          (rw (card-parts (from s 0 0)) (onward headedForm tookForm (λ n p. (refl, refl)) s _ none-so (header (from s 0 0)) _ head _ (hh 0) eh λ h n f.
-          halted tookForm tookForm right s _ none-so (statements (mostStatements - 1) (from s (head .next) n)) _ list (hl n) e))
+    module _ (ea : a ≡ 0 → ⊥) (was is : Lent) (l : List ℕ) {b : ℕ} (hl : StatementsFrom s a (getD h atTop 0) (lateIn h) was is (after l b)) where
+      pub statements-stop : b ≡ 0 → StopsAs s l
+      statements-stop e = stopped-read (card (from s 0 0)) refl l
+          (rw (card-parts (from s 0 0)) (onward s _ none-so (header (from s 0 0)) _ h a _ (hh .answers 0) ea λ x n f.
+          halted s _ none-so (statements (mostStatements - 1) (from s a n)) _ l b (hl .answers n) e))
 
-      module _ (el : list .stop ≡ 0) (tail : Took) (ht : (k n : ℕ) → ModulesRead s k (list .late) (modules (from s (list .next) n)) tail) where
-        pub modules-stop : (tail .stop ≡ 0 → ⊥) → Stops s (tail .stop) (tail .place)
-        modules-stop e = stopped-read (card (from s 0 0)) refl (tail .stop) (tail .place) e
-            (rw (card-parts (from s 0 0)) (onward headedForm tookForm (λ n p. (refl, refl)) s _ none-so (header (from s 0 0)) _ head _ (hh 0) eh λ h n f.
-            onward tookForm tookForm right s _ none-so (statements (mostStatements - 1) (from s (head .next) n)) _ list _ (hl n) el λ xs m g.
-            halted tookForm tookForm right s _ none-so (modules (from s (list .next) m)) _ tail (ht 0 m) e))
+      module _ (eb : b ≡ 0 → ⊥) (t : List ℕ) {c : ℕ} (ht : ModulesFrom s b (lateIn l) (after t c)) where
+        pub modules-stop : c ≡ 0 → StopsAs s t
+        modules-stop e = stopped-read (card (from s 0 0)) refl t
+            (rw (card-parts (from s 0 0)) (onward s _ none-so (header (from s 0 0)) _ h a _ (hh .answers 0) ea λ x n f.
+            onward s _ none-so (statements (mostStatements - 1) (from s a n)) _ l b _ (hl .answers n) eb λ xs m g.
+            halted s _ none-so (modules (from s b m)) _ t c (ht .answers 0 m) e))
 
-        module _ (et : tail .stop ≡ 0) where
-          shape-told : Answers tookForm s (λ c r. Whole s head list tail was is c) (card (from s 0 0)) tail
+        module _ (ec : c ≡ 0 → ⊥) where
+          shape-told : Answers s (λ x r. Whole s h l t was is x) (card (from s 0 0)) (after t c)
           unfolding judgeAll
-          shape-told = rw (card-parts (from s 0 0)) (onward headedForm tookForm (λ n p. (refl, refl)) s _ _ (header (from s 0 0)) _ head tail (hh 0) eh λ h n f.
-              onward tookForm tookForm right s _ _ (statements (mostStatements - 1) (from s (head .next) n)) _ list tail (hl n) el λ xs m g.
-              made tookForm s _ _ (modules (from s (list .next) m)) (shapeOf h xs) tail (ht (h .k) m) λ ms j. record {
+          shape-told = rw (card-parts (from s 0 0)) (onward s _ _ (header (from s 0 0)) _ h a _ (hh .answers 0) ea λ x n f.
+              onward s _ _ (statements (mostStatements - 1) (from s a n)) _ l b _ (hl .answers n) eb λ xs m g.
+              made s _ _ (modules (from s b m)) (shapeOf x xs) (after t c) (ht .answers (x .k) m) λ ms j. record {
                 mode = f .mode;
                 seats = j .value;
                 top = f .top;
                 start = f .start;
                 late = j .late
-                    ∙ ap (judgeAll (length s) (h .k) (judgedModules 2 ms))
-                    (g .went .late ∙ ap (λ (k : ℕ). judgeAll (length s) k (judgedEach judgedStatement xs) (head .late)) (f .top)
-                    ∙ ap (judgeAll (length s) (h .k) (judgedEach judgedStatement xs)) (f .late ∙ judge-append (length s) (h .k) (judgedWords (1 ∷ 1 ∷ []) (h .words)) (judgedState (h .l) ∷ []) noneYet))
-                    ∙ sym (judge-append (length s) (h .k) (judgedWords (1 ∷ 1 ∷ []) (h .words)) (judgedState (h .l) ∷ (judgedEach judgedStatement xs ++ judgedModules 2 ms)) noneYet
-                    ∙ judge-append (length s) (h .k) (judgedEach judgedStatement xs) (judgedModules 2 ms) _);
+                    ∙ ap (judgeAll (length s) (x .k) (judgedModules 2 ms))
+                    (g .went .late ∙ ap (λ (k : ℕ). judgeAll (length s) k (judgedEach judgedStatement xs) (lateIn h)) (f .top)
+                    ∙ ap (judgeAll (length s) (x .k) (judgedEach judgedStatement xs)) (f .late ∙ judge-append (length s) (x .k) (judgedWords (1 ∷ 1 ∷ []) (x .words)) (judgedState (x .l) ∷ []) noneYet))
+                    ∙ sym (judge-append (length s) (x .k) (judgedWords (1 ∷ 1 ∷ []) (x .words)) (judgedState (x .l) ∷ (judgedEach judgedStatement xs ++ judgedModules 2 ms)) noneYet
+                    ∙ judge-append (length s) (x .k) (judgedEach judgedStatement xs) (judgedModules 2 ms) _);
                 count = g .went .value;
                 memory = g .memory;
               })
 
-          got : (x : Result CardShape) → card (from s 0 0) ≡ x → Answers tookForm s (λ c r. Whole s head list tail was is c) x tail
-              → (c : CardShape) × (b : State) × (card (from s 0 0) ≡ ok c b) × Whole s head list tail was is c
-          got (ok c b) e y = (c, b, e, y .told)
-          got (stop n p) e y = absurd (y .1 (sym (ap (λ (r : Took). r .stop) (y .0)) ∙ et))
+          got : (x : Result CardShape) → card (from s 0 0) ≡ x → Answers s (λ x r. Whole s h l t was is x) x (after t c)
+              → (x : CardShape) × (b : State) × (card (from s 0 0) ≡ ok x b) × Whole s h l t was is x
+          got (ok x b) e y = (x, b, e, y .told)
+          got (stop n p) e y = absurd (ec (y .none))
 
-          module _ (x : Settled) (hx : x ≡ settled (tail .value) (tail .late)) where
+          -- z: the state once what is due is settled
+          module _ (z : List ℕ) (hz : refusalIn z ≡ settled (valueIn t) (lateIn t)) where
             -- what is settled is the first broken judgement, and reading hangs on it
-            by-verdict : (c : CardShape) (b : State) → card (from s 0 0) ≡ ok c b → Whole s head list tail was is c
-                → (x ≡ verdict (length s) (firstBroken (seatsIn c) (c .k) (judgedCard c))) × (readOf s ≡ judged (length s) (cardIn c) (firstBroken (seatsIn c) (c .k) (judgedCard c)))
-            by-verdict c b e w =
-                let g = shape-of (marksAt 0 s 0) c b e in
+            by-verdict : (x : CardShape) (b : State) → card (from s 0 0) ≡ ok x b → Whole s h l t was is x
+                → (refusalIn z ≡ verdict (length s) (firstBroken (seatsIn x) (x .k) (judgedCard x))) × (readOf s ≡ judged (length s) (cardIn x) (firstBroken (seatsIn x) (x .k) (judgedCard x)))
+            by-verdict x b e w =
+                let g = shape-of (marksAt 0 s 0) x b e in
                 let f = card-fair (g .0) (g .1) in (
-                  hx ∙ ap (settled (tail .value)) (w .late) ∙ ap (λ (n : ℕ). settled n (judgeAll (length s) (c .k) (judgedCard c) noneYet)) (w .seats)
-                      ∙ settled-first (length s) (c .k) (seatsIn c) (omega arith) (omega (arith, f .modules)) (judgedCard c),
-                  read-shape s short c b e,
+                  hz ∙ ap (settled (valueIn t)) (w .late) ∙ ap (λ (n : ℕ). settled n (judgeAll (length s) (x .k) (judgedCard x) noneYet)) (w .seats)
+                      ∙ settled-first (length s) (x .k) (seatsIn x) (omega arith) (omega (arith, f .modules)) (judgedCard x),
+                  read-shape s short x b e,
                 )
 
-            pub late-read : (x .number ≡ 0 → ⊥) → readOf s ≡ refused (x .number) (x .place)
+            pub late-read : (getD z atStop 0 ≡ 0 → ⊥) → readOf s ≡ refused (getD z atStop 0) (getD z atStopPlace 0)
             late-read f = go (got (card (from s 0 0)) refl shape-told)
               where
-                by : (c : CardShape) (v : Verdict) → x ≡ verdict (length s) v → judged (length s) (cardIn c) v ≡ refused (x .number) (x .place)
-                by c fine e = absurd (f (ap (λ (y : Settled). y .number) e))
-                by c (wrong r p) e = sym (ap (λ (y : Settled). refused (y .number) (y .place)) e)
+                by : (x : CardShape) (v : Verdict) → refusalIn z ≡ verdict (length s) v → judged (length s) (cardIn x) v ≡ refused (getD z atStop 0) (getD z atStopPlace 0)
+                by x fine e = absurd (f (ap (λ (y : Refusal). y .number) e))
+                by x (wrong r p) e = sym (ap (λ (y : Refusal). refused (y .number) (y .place)) e)
 
-                go : (c : CardShape) × (b : State) × (card (from s 0 0) ≡ ok c b) × Whole s head list tail was is c → readOf s ≡ refused (x .number) (x .place)
-                go (c, b, e, w) = let y = by-verdict c b e w in y .1 ∙ by c (firstBroken (seatsIn c) (c .k) (judgedCard c)) (y .0)
+                go : (x : CardShape) × (b : State) × (card (from s 0 0) ≡ ok x b) × Whole s h l t was is x → readOf s ≡ refused (getD z atStop 0) (getD z atStopPlace 0)
+                go (x, b, e, w) = let y = by-verdict x b e w in y .1 ∙ by x (firstBroken (seatsIn x) (x .k) (judgedCard x)) (y .0)
 
             -- the card, its head, and the arrays that it lies in
-            pub taken-read : x .number ≡ 0 → was ≡ noneLent
+            pub taken-read : getD z atStop 0 ≡ 0 → was ≡ noneLent
                 → (c : Card) × (readOf s ≡ taken c)
-                × (record { mode = head .mode; seats = tail .value; top = head .top; start = head .start; count = list .value } ≡ headOf c) × (is ≡ lentOf c)
+                × (record { mode = getD h atMode 0; seats = valueIn t; top = getD h atTop 0; start = getD h atStart 0; count = valueIn l } ≡ headOf c) × (is ≡ lentOf c)
             taken-read f zeros = go (got (card (from s 0 0)) refl shape-told)
               where
-                go : (c : CardShape) × (b : State) × (card (from s 0 0) ≡ ok c b) × Whole s head list tail was is c → (c : Card) × (readOf s ≡ taken c)
-                    × (record { mode = head .mode; seats = tail .value; top = head .top; start = head .start; count = list .value } ≡ headOf c) × (is ≡ lentOf c)
-                go (c, b, e, w) =
-                    let y = by-verdict c b e w in
-                    let z : firstBroken (seatsIn c) (c .k) (judgedCard c) ≡ fine = no-number (length s) (seatsIn c) (c .k) (judgedCard c) (sym (ap (λ (q : Settled). q .number) (y .0)) ∙ f) in
-                    let t : readOf s ≡ taken (cardIn c) = y .1 ∙ ap (judged (length s) (cardIn c)) z in
-                    let count : list .value ≡ length (cardIn c .statements) = w .count ∙ sym (length-map (c .statements) (statementIn (seatsIn c))) in (
-                      cardIn c,
+                go : (x : CardShape) × (b : State) × (card (from s 0 0) ≡ ok x b) × Whole s h l t was is x → (c : Card) × (readOf s ≡ taken c)
+                    × (record { mode = getD h atMode 0; seats = valueIn t; top = getD h atTop 0; start = getD h atStart 0; count = valueIn l } ≡ headOf c) × (is ≡ lentOf c)
+                go (x, b, e, w) =
+                    let y = by-verdict x b e w in
+                    let v : firstBroken (seatsIn x) (x .k) (judgedCard x) ≡ fine = no-number (length s) (seatsIn x) (x .k) (judgedCard x) (sym (ap (λ (q : Refusal). q .number) (y .0)) ∙ f) in
+                    let t : readOf s ≡ taken (cardIn x) = y .1 ∙ ap (judged (length s) (cardIn x)) v in
+                    let count : valueIn l ≡ length (cardIn x .statements) = w .count ∙ sym (length-map (x .statements) (statementIn (seatsIn x))) in (
+                      cardIn x,
                       t,
                       (λ i. record { mode = w .mode i; seats = w .seats i; top = w .top i; start = w .start i; count = count i }),
-                      w .memory ∙ ap (filled 0 (c .statements)) zeros ∙ card-lent c z (read-valid s (cardIn c) t),
+                      w .memory ∙ ap (filled 0 (x .statements)) zeros ∙ card-lent x v (read-valid s (cardIn x) t),
                     )
 
 -- ---- the contract, by the outcome
 
 -- the number of a refusal is small
-pub searched-number : {s : List ℕ} {n p : ℕ} → Stops s n p → {x : Settled} → x ≡ searched n p (firstOutside (marksAt 0 s p)) → x .number ≤ wrongWeight
+pub searched-number : {s : List ℕ} {n p : ℕ} → Stops s n p → {x : Due} → x ≡ searched n p (firstOutside (marksAt 0 s p)) → x .number ≤ wrongWeight
 searched-number {s} {n} {p} h {x} e = go (firstOutside (marksAt 0 s p)) (h .outcome) e
   where
     go : (o : Option ℕ) → readOf s ≡ orOutside n p o → x ≡ searched n p o → x .number ≤ wrongWeight
@@ -211,13 +213,13 @@ module _ {s : List ℕ} {r : Outline} {x : Lent} where
   pub reads-refused : {k p : ℕ} → readOf s ≡ refused k p → r ≡ outlineOf (refused k p) → x ≡ noneLent → ReadsInto s r x
   reads-refused {k} {p} = by-outcome (refused k p)
 
-  pub reads-searched : {n p : ℕ} → Stops s n p → {y : Settled} → y ≡ searched n p (firstOutside (marksAt 0 s p))
+  pub reads-searched : {n p : ℕ} → Stops s n p → {y : Due} → y ≡ searched n p (firstOutside (marksAt 0 s p))
       → r ≡ outlineOf (refused (y .number) (y .place)) → x ≡ noneLent → ReadsInto s r x
   reads-searched {n} {p} h {y} e f = go (firstOutside (marksAt 0 s p)) (h .outcome) e
     where
       go : (o : Option ℕ) → readOf s ≡ orOutside n p o → y ≡ searched n p o → x ≡ noneLent → ReadsInto s r x
-      go none a b = reads-refused a (f ∙ ap (λ (z : Settled). outlineOf (refused (z .number) (z .place))) b)
-      go (some q) a b = reads-refused a (f ∙ ap (λ (z : Settled). outlineOf (refused (z .number) (z .place))) b)
+      go none a b = reads-refused a (f ∙ ap (λ (z : Due). outlineOf (refused (z .number) (z .place))) b)
+      go (some q) a b = reads-refused a (f ∙ ap (λ (z : Due). outlineOf (refused (z .number) (z .place))) b)
 
   pub reads-taken : (c : Card) → readOf s ≡ taken c → r ≡ outlineOf (taken c) → x ≡ lentOf c → ReadsInto s r x
   reads-taken c = by-outcome (taken c)

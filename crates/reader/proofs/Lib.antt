@@ -1,8 +1,6 @@
 pub mod Passed
 pub mod Owned
 pub mod StatementLaws
-pub mod ModuleLaws
-pub mod HeaderLaws
 pub mod Places
 pub mod Outcomes
 pub mod FilledLaws

@@ -65,7 +65,7 @@ module _ (s : List ℕ) where
     where
       go : (x : Step) → Next s i x → Reached ms
       go _ (end h) = let z : _≡_ {A = ℕ} 0 1 = cc (h, f) in absurd (omega arith)
-      go _ (one n p next h) = let z : marksAt 0 s next ≡ ms = cc (h, f) in (next, z, rw e at g)
+      go _ (one n p next l h) = let z : marksAt 0 s next ≡ ms = cc (h, f) in (next, z, rw e at g)
 
   pub outside-behind : (p : Place) → Reached p → firstOutside (marksAt 0 s 0) ≡ firstOutside (marksAt 0 s (placeOf (length s) p))
   outside-behind p (i, f, g) = sym g ∙ ap firstOutside (sym (rw f at (same-place i)))
@@ -81,11 +81,11 @@ search-over s i h = rw (drop-of-length-le s h)
 module _ (s : List ℕ) (i : ℕ) where
   pub search-end : (x : Step) → Next s i x → x .mark .kind ≡ kEnd → firstOutside (marksAt 0 s i) ≡ none
   search-end _ (end e) z = none-outside s i e
-  search-end _ (one m p next e) z = absurd (kind-some m z)
+  search-end _ (one m p next l e) z = absurd (kind-some m z)
 
   pub search-found : (x : Step) → Next s i x → x .mark .kind ≡ kOutside → firstOutside (marksAt 0 s i) ≡ some (x .mark .place)
   search-found _ (end e) z = absurd (omega arith)
-  search-found _ (one m p next e) z = rw (e, kind-outside m z)
+  search-found _ (one m p next l e) z = rw (e, kind-outside m z)
 
   inside : (m : Mark) → (kindOf m ≡ kOutside → ⊥) → isOutside m ≡ false
   inside (text t) h = refl
@@ -99,4 +99,4 @@ module _ (s : List ℕ) (i : ℕ) where
   pub search-more : (x : Step) → Next s i x → (x .mark .kind ≡ kEnd → ⊥) → (x .mark .kind ≡ kOutside → ⊥)
       → (firstOutside (marksAt 0 s i) ≡ firstOutside (marksAt 0 s (x .next .at))) × (length (marksAt 0 s (x .next .at)) < length (marksAt 0 s i))
   search-more _ (end e) z o = absurd (z refl)
-  search-more _ (one m p next e) z o = (rw (e, inside m o), rw e (omega arith))
+  search-more _ (one m p next l e) z o = (rw (e, inside m o), rw e (omega arith))

@@ -2,14 +2,14 @@
 -- same reader with one statement less. Assumes nothing.
 use Prim.Native.Nat.{ℕ, zero, suc, _+_, _-_, _*_, _≤_, _<_}
 use Prim.Native.String.{String}
-use mathlib.Core.Path.{_≡_, refl, sym, ap, _∙_}
+use mathlib.Core.Path.{_≡_, refl, sym, ap, _∙_, subst}
 use mathlib.Core.List.{List, [], _∷_, _++_, map}
 use mathlib.Core.Option.{Option, none, some}
 use native.Mathlib.Nat.{zero-add, add-zero}
 use native.Mathlib.Omega.{arith}
 use borrow.Author.Tests.{eq-eqb, ne-eqb}
 use lib.ListN.{length, set}
-use Rattle.card.specs.Limits.{mostStatements, rowNumbers, mostNodes, mostBranches, mostDepth}
+use Rattle.card.specs.Limits.{mostStatements, rowNumbers, mostNodes, mostBranches, mostDepth, nodePlaces}
 use Rattle.card.specs.Refusals.{outOfShape, pastLimit}
 use Rattle.card.specs.Card.{Formula, atom, neg, and, or, Guard}
 use Rattle.card.specs.Valid.{size}
@@ -29,40 +29,33 @@ use Rattle.reading.specs.Grammar.{statementRun}
 use Rattle.reading.specs.Judgements.{Judgement, judgedGuard}
 use Rattle.reading.specs.Shape.{BranchShape, StatementShape, branch, moreBranches, guard, statement, moreStatements}
 use Rattle.reading.specs.Checks.{judgedState, judgedWords, judgedOr, judgedEach, judgedStatement}
-use Rattle.guard.specs.declared.Late.{Late}
-use Rattle.guard.specs.declared.Guarded.{Guarded}
-use Rattle.guard.specs.Late.{judge, judgeAll, guardBy}
-use Rattle.guard.proofs.Settling.{judge-append}
+use Rattle.group.specs.Late.{Late, judge, judgeAll, guardBy}
+use Rattle.group.specs.State.{atLeft, atFree, atValue, Sized, lateIn, leftIn, freeIn, valueIn, After, after, Halted}
+use Rattle.group.proofs.Settling.{judge-append}
+use Rattle.group.proofs.StateLaws.{set-sized, left-set, free-set, value-set, late-set, left-free}
 use Rattle.guard.proofs.Spent.{Each, Spent, unary-spends, conjunction-spends}
-use Rattle.guard.specs.GuardRead as guardRead
-use Rattle.guard.specs.GuardRead.{GuardRead}
-use Rattle.parts.specs.declared.Took.{Took}
-use Rattle.parts.specs.Parts.{from, Form, Read, Answers, tookTo, stopped, tookForm, Went, NumberRead, SignRead, Told, Due, sign as due, seat, Sure, LineRead}
-use Rattle.branches.specs.Branches.{BranchesShape, branches, judgedBranches, packedIn, BranchesRead}
-use Rattle.reader.specs.Statements.{guarded, guardOrBy, GuardedIn, GuardedRead, rowBy, withStatement, StatementIn, StatementRead, statements, filled, StatementsIn, StatementsRead}
+use Rattle.guard.specs.GuardRead.{Ready, GuardRead}
+use Rattle.parts.specs.Parts.{from, Read, Answers, Kept, Went, NumberFrom, SignRead, SignFrom, Told, Due, Sure, LineRead}
+use Rattle.branches.specs.Branches.{BranchesShape, branches, judgedBranches, packedIn, BranchesFrom}
+use Rattle.reader.specs.Statements.{statementDue, OwnFrom, guarded, guardOrBy, GuardedIn, GuardedRead, GuardedFrom, rowBy, withStatement, StatementIn, StatementRead, StatementFrom, statements, filled, StatementsIn, StatementsRead, StatementsFrom}
 use Rattle.parts.proofs.Steps.{Next, place-seen, told}
-use Rattle.parts.proofs.Answers.{right, Right, onward, halted, handed, next-is, next-is-not, if-so, if-not}
+use Rattle.parts.proofs.Answers.{onward, halted, made, if-so, if-not}
 use Rattle.parts.proofs.Counted.{upTo, with-first, another, too-many, no-other}
-use Rattle.parts.proofs.Lines.{made, assoc, sign-took, sign-fits, sign-misses}
+use Rattle.parts.proofs.Lines.{assoc, sign-took, sign-behind, sign-fits, sign-misses}
 
 -- ---- a guard
 
-abbrev guardForm : Form Guarded
-guardForm = record { halt = λ r. r .stop; place = λ r. r .place; next = λ r. r .next; stopped = guardRead.stopped }
-
-right-guard : Right guardForm
-right-guard n p = (refl, refl)
-
-record GuardIs (s : List ℕ) (k : ℕ) (before : Late) (was is : List ℕ) (used n : ℕ) (g : Formula Literals) (r : Guarded) : Type 0 where
-  left : size g + r .left ≡ n
-  late : r .late ≡ judgeAll (length s) k (judgedGuard g) before
+record GuardIs (s : List ℕ) (k : ℕ) (before : Late) (was is : List ℕ) (used n : ℕ) (g : Formula Literals) (state : List ℕ) : Type 0 where
+  left : size g + leftIn state ≡ n
+  late : lateIn state ≡ judgeAll (length s) k (judgedGuard g) before
   nodes : is ≡ stored was used (cells (guardBy g) used)
+  sized : Sized state
 
--- as many nodes are left as the guard has not spent, and a stop has a number
-guard-answers : (s : List ℕ) (k : ℕ) (before : Late) (was is : List ℕ) (used n : ℕ) (x : Result (Formula Literals)) (r : Guarded)
-    → Each (Spent n) x → GuardRead s k was is used before x r → Answers guardForm s (GuardIs s k before was is used n) x r
-guard-answers s k before was is used n (ok g b) r h y = record { went = y .went; rest = y .rest; told = record { left = omega (arith, h, y .left); late = y .late; nodes = y .nodes } }
-guard-answers s k before was is used n (stop m p) r h y = (y, h)
+-- as many nodes are left as the guard has not spent
+guard-answers : (s : List ℕ) (k : ℕ) (before : Late) (was is : List ℕ) (used n : ℕ) (x : Result (Formula Literals)) (r : After)
+    → Each (Spent n) x → GuardRead s k was is used before x r → Answers s (GuardIs s k before was is used n) x r
+guard-answers s k before was is used n (ok g b) r h y = record { went = y .went; rest = y .rest; told = record { left = omega (arith, h, y .left); late = y .late; nodes = y .nodes; sized = y .sized } }
+guard-answers s k before was is used n (stop m p) r h y = y
 
 size-by : (g : Formula Literals) → size (guardBy g) ≡ size g
 size-by (atom a) = refl
@@ -79,63 +72,106 @@ ampersand = told "&" (omega arith)
 arrow : Told "->"
 arrow = told "->" (omega arith)
 
-module _ (s : List ℕ) (k i : ℕ) (before : Late) (was is : List ℕ) (used : ℕ) (x : Step) (v : Next s i x) (n : ℕ) where
-  abbrev GuardedIs : Took → Type 0
-  GuardedIs = GuardedRead s k before was is used (guarded (from s i n))
+-- the nodes that are left, and where the first one goes, are written into the state
+abbrev begun : List ℕ → ℕ → List ℕ
+begun state used = set (set state atLeft mostNodes) atFree used
 
+module _ (state : List ℕ) (sized : Sized state) (used : ℕ) where
+  begun-left : leftIn (begun state used) ≡ mostNodes
+  begun-left = left-free (set state atLeft mostNodes) used ∙ left-set state sized mostNodes
+
+  begun-free : freeIn (begun state used) ≡ used
+  begun-free = free-set (set state atLeft mostNodes) (set-sized state sized atLeft mostNodes) used
+
+  begun-late : lateIn (begun state used) ≡ lateIn state
+  begun-late = late-set (set state atLeft mostNodes) atFree used (omega arith) ∙ late-set state atLeft mostNodes (omega arith)
+
+  pub guard-ready : used + mostNodes ≤ nodePlaces → Ready (begun state used)
+  guard-ready h = record {
+    sized = set-sized (set state atLeft mostNodes) (set-sized state sized atLeft mostNodes) atFree used;
+    fits = omega (arith, begun-free, begun-left);
+    most = omega (arith, begun-left);
+  }
+
+module _ (s : List ℕ) (k i : ℕ) (was is : List ℕ) (used : ℕ) (x : Step) (v : Next s i x) where
   module _ (d : x .mark .kind ≡ kind "&" → ⊥) where
-    no-guard : guard (from s i n) ≡ ok none (from s i n)
-    no-guard = if-not "&" ampersand s i x v d _ (return none) n
+    no-guard : (n : ℕ) → guard (from s i n) ≡ ok none (from s i n)
+    no-guard n = if-not "&" ampersand s i x v d _ (return none) n
 
-    pub none-read : x .mark .kind ≡ kind "->" → is ≡ was → GuardedIs (tookTo (x .next .at) 0 before)
+    pub none-read : x .mark .kind ≡ kind "->" → is ≡ was → (state : List ℕ) → Sized state → GuardedFrom s i k (lateIn state) was is used (after (set state atValue 0) (x .next .at))
     unfolding judgeAll
-    none-read e a = rw no-guard (sign-fits "->" arrow s i tookForm _ x v n _ _ e
-        (record { went = refl; rest = refl; told = record { went = record { value = refl; late = refl }; array = a ∙ sym (stored-none was used) } }))
-
-    pub none-stops : (x .mark .kind ≡ kind "->" → ⊥) → GuardedIs (stopped outOfShape (x .mark .place))
-    none-stops e = rw no-guard (sign-misses "->" arrow s i tookForm _ x v n _ e)
-
-  module _ (e : x .mark .kind ≡ kind "&") (g : Guarded)
-      (hg : GuardRead s k was is used before (readGuard (from s (x .next .at) n)) g) where
-    answered : Answers guardForm s (GuardIs s k before was is used n) (readGuard (from s (x .next .at) n)) g
-    answered = guard-answers s k before was is used n (readGuard (from s (x .next .at) n)) g (conjunction-spends (unary group mostDepth) (unary-spends mostDepth) (from s (x .next .at) n)) hg
-
-    pub left-few : n ≡ mostNodes → g .left ≤ mostNodes
-    left-few e = go (readGuard (from s (x .next .at) n)) answered
-      where
-        go : (y : Result (Formula Literals)) → Answers guardForm s (GuardIs s k before was is used n) y g → g .left ≤ mostNodes
-        go (ok h b) y = omega (arith, y .told .left)
-        go (stop m p) y = rw (y .0) (omega arith)
-
-    some-guard : guarded (from s i n) ≡ bind (readGuard (from s (x .next .at) n)) (λ f s₁. bind (sign "->" s₁) (λ u. return (some f)))
-    some-guard =
-        ap (λ (y : Result (Option (Formula Literals))). bind y (λ f s₁. bind (sign "->" s₁) (λ u. return f))) (if-so "&" ampersand s i x v e _ (return none) n)
-        ∙ ap (λ (y : Result (Unit {0})). bind (bind y (λ u s₁. bind (readGuard s₁) (λ f. return (some f)))) (λ f s₁. bind (sign "->" s₁) (λ u. return f))) (sign-took "&" ampersand s i x v e n)
-        ∙ assoc (readGuard (from s (x .next .at) n)) (λ f. return (some f)) (λ f s₁. bind (sign "->" s₁) (λ u. return f))
-
-    pub some-stops : (g .stop ≡ 0 → ⊥) → GuardedIs (stopped (g .stop) (g .place))
-    some-stops f = rw some-guard (halted guardForm tookForm right-guard s _ _ (readGuard (from s (x .next .at) n)) _ g answered f)
-
-    module _ (f : g .stop ≡ 0) (y : Step) (z : Next s (g .next) y) where
-      behind : (r : Took) → ((h : Formula Literals) (m : ℕ) → GuardIs s k before was is used n h g → GuardedRead s k before was is used (bind (sign "->" (from s (g .next) m)) (λ u. return (some h))) r) → GuardedIs r
-      behind r j = rw some-guard (onward guardForm tookForm right-guard s _ _ (readGuard (from s (x .next .at) n)) _ g r answered f j)
-
-      pub arrow-stops : (y .mark .kind ≡ kind "->" → ⊥) → GuardedIs (stopped outOfShape (y .mark .place))
-      arrow-stops d = behind _ λ h m j. sign-misses "->" arrow s (g .next) tookForm _ y z m _ d
-
-      pub some-read : y .mark .kind ≡ kind "->" → GuardedIs (tookTo (y .next .at) (n - g .left) (g .late))
-      some-read d = behind _ λ h m j. sign-fits "->" arrow s (g .next) tookForm _ y z m _ _ d
+    none-read e a state sized = record {
+      answers = rw (no-guard mostNodes) (sign-fits "->" arrow s i _ x v mostNodes _ _ e
           (record {
-            went = refl;
+            went = sign-behind "->" arrow s i x v e;
             rest = refl;
-            told = record { went = record { value = omega (arith, j .left, size-by h); late = j .late }; array = j .nodes };
-          })
+            told = record { went = record { value = value-set state sized 0; late = late-set state atValue 0 (omega arith) }; array = a ∙ sym (stored-none was used) };
+          }));
+      sized = set-sized state sized atValue 0;
+    }
+
+    pub none-stops : (x .mark .kind ≡ kind "->" → ⊥) → {before : Late} {r : After} → Halted outOfShape (x .mark .place) r → GuardedFrom s i k before was is used r
+    none-stops e h = record { answers = rw (no-guard mostNodes) (sign-misses "->" arrow s i _ x v mostNodes _ _ e h); sized = h .sized }
+
+  module _ (e : x .mark .kind ≡ kind "&") (state : List ℕ) (sized : Sized state) where
+    module _ (a : List ℕ) (g : ℕ)
+        (hg : GuardRead s k was is (freeIn (begun state used)) (lateIn (begun state used)) (readGuard (from s (x .next .at) (leftIn (begun state used)))) (after a g)) where
+      answered : Answers s (GuardIs s k (lateIn state) was is used mostNodes) (readGuard (from s (x .next .at) mostNodes)) (after a g)
+      answered = guard-answers s k (lateIn state) was is used mostNodes (readGuard (from s (x .next .at) mostNodes)) (after a g)
+          (conjunction-spends (unary group mostDepth) (unary-spends mostDepth) (from s (x .next .at) mostNodes)) (rw (begun-free state sized used, begun-late state sized used, begun-left state sized used) at hg)
+
+      guard-is : (P : List ℕ → Type 0) → (g ≡ 0 → ⊥) → ((f : Formula Literals) → GuardIs s k (lateIn state) was is used mostNodes f a → P a) → P a
+      guard-is P f h = go (readGuard (from s (x .next .at) mostNodes)) answered
+        where
+          go : (y : Result (Formula Literals)) → Answers s (GuardIs s k (lateIn state) was is used mostNodes) y (after a g) → P a
+          go (ok f₁ b) y = h f₁ (y .told)
+          go (stop m p) y = absurd (f (y .none))
+
+      pub left-few : (g ≡ 0 → ⊥) → leftIn a ≤ mostNodes
+      left-few f = guard-is (λ a. leftIn a ≤ mostNodes) f (λ h y. omega (arith, y .left))
+
+      pub left-sized : (g ≡ 0 → ⊥) → Sized a
+      left-sized f = guard-is Sized f (λ h y. y .sized)
+
+      some-guard : guarded (from s i mostNodes) ≡ bind (readGuard (from s (x .next .at) mostNodes)) (λ f s₁. bind (sign "->" s₁) (λ u. return (some f)))
+      some-guard =
+          ap (λ (y : Result (Option (Formula Literals))). bind y (λ f s₁. bind (sign "->" s₁) (λ u. return f))) (if-so "&" ampersand s i x v e _ (return none) mostNodes)
+          ∙ ap (λ (y : Result (Unit {0})). bind (bind y (λ u s₁. bind (readGuard s₁) (λ f. return (some f)))) (λ f s₁. bind (sign "->" s₁) (λ u. return f))) (sign-took "&" ampersand s i x v e mostNodes)
+          ∙ assoc (readGuard (from s (x .next .at) mostNodes)) (λ f. return (some f)) (λ f s₁. bind (sign "->" s₁) (λ u. return f))
+
+      pub some-stops : g ≡ 0 → GuardedFrom s i k (lateIn state) was is used (after a 0)
+      some-stops f = record {
+        answers = rw some-guard (halted s _ _ (readGuard (from s (x .next .at) mostNodes)) _ a g answered f);
+        sized = go (readGuard (from s (x .next .at) mostNodes)) answered;
+      }
+        where
+          go : (y : Result (Formula Literals)) → Answers s (GuardIs s k (lateIn state) was is used mostNodes) y (after a g) → Sized a
+          go (ok h b) y = y .told .sized
+          go (stop m p) y = y .sized
+
+      module _ (f : g ≡ 0 → ⊥) {y : Step} (z : Next s g y) where
+        behind-guard : (r : After) → ((h : Formula Literals) (m : ℕ) → GuardIs s k (lateIn state) was is used mostNodes h a
+            → GuardedRead s k (lateIn state) was is used (bind (sign "->" (from s g m)) (λ u. return (some h))) r) → GuardedRead s k (lateIn state) was is used (guarded (from s i mostNodes)) r
+        behind-guard r j = rw some-guard (onward s _ _ (readGuard (from s (x .next .at) mostNodes)) _ a g r answered f j)
+
+        pub arrow-stops : (y .mark .kind ≡ kind "->" → ⊥) → {r : After} → Halted outOfShape (y .mark .place) r → GuardedFrom s i k (lateIn state) was is used r
+        arrow-stops d {r} q = record { answers = behind-guard r λ h m j. sign-misses "->" arrow s g _ y z m _ r d q; sized = q .sized }
+
+        pub some-read : y .mark .kind ≡ kind "->" → GuardedFrom s i k (lateIn state) was is used (after (set a atValue (mostNodes - leftIn a)) (y .next .at))
+        some-read d = record {
+          answers = behind-guard _ λ h m j. sign-fits "->" arrow s g _ y z m _ _ d
+              (record {
+                went = sign-behind "->" arrow s g y z d;
+                rest = refl;
+                told = record {
+                  went = record { value = value-set a (j .sized) (mostNodes - leftIn a) ∙ omega (arith, j .left, size-by h); late = late-set a atValue (mostNodes - leftIn a) (omega arith) ∙ j .late };
+                  array = j .nodes;
+                };
+              });
+          sized = set-sized a (left-sized f) atValue (mostNodes - leftIn a);
+        }
 
 -- ---- a statement, behind its opening bracket
-
--- what is due there
-abbrev pub statementDue : List Due
-statementDue = due "]" ∷ seat 1 ∷ due "=" ∷ []
 
 pub statement-sure : Sure statementDue
 statement-sure = (told "]" (omega arith), (told "=" (omega arith), tt))
@@ -157,65 +193,72 @@ from-guard : (ws : List Numbered) (j : Numbered) (s : State)
     ≡ bind (guarded s) (λ g s₁. bind (branches (mostBranches - 1) s₁) (λ x. return (stated ws j g x)))
 from-guard ws j s = in-parts (guard s) (sign "->") (sign ";") branch (moreBranches (mostBranches - 1)) (λ b bs p. record { branches = b ∷ bs; close = p }) (stated ws j)
 
-module _ (s : List ℕ) (k i : ℕ) (before : Late) (was is : Lent) (index n : ℕ) (st : State) (bracket : sign "[" st ≡ ok tt (from s i n)) where
-  abbrev StatementIs : Took → Type 0
-  StatementIs = StatementRead s k before was is index (statement st)
+module _ (s : List ℕ) (i k : ℕ) (before : Late) (was is : Lent) (index : ℕ) where
+  abbrev StatementIs : After → Type 0
+  StatementIs = StatementFrom s i k before was is index
 
-  module _ (a : Took) (ha : (n : ℕ) → LineRead s k before (1 ∷ []) (line statementRest (from s i n)) a) where
-    pub start-stops : (a .stop ≡ 0 → ⊥) → StatementIs a
-    start-stops e = rw bracket (handed tookForm s _ _ (line statementRest (from s i n)) _ a (ha n) e)
+  module _ (a : List ℕ) {w : ℕ} (hw : OwnFrom s i before (after a w)) where
+    owned : (n : ℕ) → LineRead s k before (1 ∷ []) (line statementRest (from s i n)) (after a w)
+    owned n = hw .answers statementDue statement-sure refl refl k n
 
-    module _ (ea : a .stop ≡ 0) (j : Took) (hj : (n : ℕ) → NumberRead s k (a .late) (numbered numberOf (from s (a .next) n)) j) where
-      pub own-stops : (j .stop ≡ 0 → ⊥) → StatementIs j
-      own-stops e = rw bracket (onward tookForm tookForm right s _ _ (line statementRest (from s i n)) _ a _ (ha n) ea λ ws m f.
-          handed tookForm s _ _ (numbered numberOf (from s (a .next) m)) _ j (hj m) e)
+    pub words-halt : w ≡ 0 → StatementIs (after a 0)
+    words-halt e = record { answers = λ st n b. rw b (halted s _ _ (line statementRest (from s i n)) _ a w (owned n) e); sized = hw .sized }
 
-      module _ (ej : j .stop ≡ 0) (g : Took)
-          (hg : GuardedRead s k (j .late) (was .nodes) (is .nodes) (index * mostNodes) (guarded (from s (j .next) mostNodes)) g) where
-        behind-own : (r : Took)
-            → ((ws : List Numbered) (own : Numbered) → Went s k before 0 (judgedWords (1 ∷ []) ws) a → Went s k (a .late) (own .value) (judgedState own ∷ []) j
-            → StatementRead s k before was is index (bind (guarded (from s (j .next) mostNodes)) (λ f s₁. bind (branches (mostBranches - 1) s₁) (λ x. return (stated ws own f x)))) r)
-            → StatementIs r
-        behind-own r y = rw bracket (onward tookForm tookForm right s _ _ (line statementRest (from s i n)) _ a r (ha n) ea λ ws m f.
-            onward tookForm tookForm right s _ _ (numbered numberOf (from s (a .next) m)) _ j r (hj m) ej λ own m₁ f₁.
-            rw (from-guard ws own (from s (j .next) mostNodes)) (y ws own f f₁))
+    module _ (ew : w ≡ 0 → ⊥) (c : List ℕ) {j : ℕ} (hj : NumberFrom s w k (lateIn a) (after c j)) where
+      pub own-halts : j ≡ 0 → StatementIs (after c 0)
+      own-halts e = record {
+        answers = λ st n b. rw b (onward s _ _ (line statementRest (from s i n)) _ a w _ (owned n) ew λ ws m f.
+            halted s _ _ (numbered numberOf (from s w m)) _ c j (hj .answers m) e);
+        sized = hj .sized;
+      }
 
-        pub guard-stops : (g .stop ≡ 0 → ⊥) → StatementIs g
-        guard-stops e = behind-own _ λ ws own f f₁. handed tookForm s _ _ (guarded (from s (j .next) mostNodes)) _ g hg e
+      module _ (ej : j ≡ 0 → ⊥) (d : List ℕ) {g : ℕ} (hg : GuardedFrom s j k (lateIn c) (was .nodes) (is .nodes) (index * mostNodes) (after d g)) where
+        behind-own : (r : After) (st : State) (n : ℕ) → sign "[" st ≡ ok tt (from s i n)
+            → ((ws : List Numbered) (own : Numbered) → Kept s k before (judgedWords (1 ∷ []) ws) a → Went s k (lateIn a) (own .value) (judgedState own ∷ []) c
+            → StatementRead s k before was is index (bind (guarded (from s j mostNodes)) (λ f s₁. bind (branches (mostBranches - 1) s₁) (λ x. return (stated ws own f x)))) r)
+            → StatementRead s k before was is index (statement st) r
+        behind-own r st n b y = rw b (onward s _ _ (line statementRest (from s i n)) _ a w r (owned n) ew λ ws m f.
+            onward s _ _ (numbered numberOf (from s w m)) _ c j r (hj .answers m) ej λ own m₁ f₁.
+            rw (from-guard ws own (from s j mostNodes)) (y ws own f f₁))
 
-        module _ (eg : g .stop ≡ 0) (b : Took)
-            (hb : (n : ℕ) → BranchesRead s k (g .late) (was .branches) (is .branches) (index * mostBranches) (branches (mostBranches - 1) (from s (g .next) n)) b) where
-          pub branches-stop : (b .stop ≡ 0 → ⊥) → StatementIs b
-          branches-stop e = behind-own _ λ ws own f f₁. onward tookForm tookForm right s _ _ (guarded (from s (j .next) mostNodes)) _ g _ hg eg λ h m f₂.
-              handed tookForm s _ _ (branches (mostBranches - 1) (from s (g .next) m)) _ b (hb m) e
+        pub guard-halts : g ≡ 0 → StatementIs (after d 0)
+        guard-halts e = record { answers = λ st n b. behind-own _ st n b λ ws own f f₁. halted s _ _ (guarded (from s j mostNodes)) _ d g (hg .answers) e; sized = hg .sized }
+
+        module _ (eg : g ≡ 0 → ⊥) (o : List ℕ) {l : ℕ} (hl : BranchesFrom s g k (lateIn d) (was .branches) (is .branches) (index * mostBranches) (after o l)) where
+          pub branches-halt : l ≡ 0 → StatementIs (after o 0)
+          branches-halt e = record {
+            answers = λ st n b. behind-own _ st n b λ ws own f f₁. onward s _ _ (guarded (from s j mostNodes)) _ d g _ (hg .answers) eg λ h m f₂.
+                halted s _ _ (branches (mostBranches - 1) (from s g m)) _ o l (hl .answers m) e;
+            sized = hl .sized;
+          }
 
           -- its row, written number by number
-          row-written : (x : StatementShape) → j .value ≡ x .own .value → g .value ≡ guardSize (guardOrBy (x .guard)) → b .value ≡ length (x .branches)
-              → set (set (set (was .rows) (index * rowNumbers) (j .value)) (index * rowNumbers + 1) (g .value)) (index * rowNumbers + 2) (b .value) ≡ stored (was .rows) (index * rowNumbers) (rowsOf (rowBy x ∷ []))
+          row-written : (x : StatementShape) → valueIn c ≡ x .own .value → valueIn d ≡ guardSize (guardOrBy (x .guard)) → valueIn o ≡ length (x .branches)
+              → set (set (set (was .rows) (index * rowNumbers) (valueIn c)) (index * rowNumbers + 1) (valueIn d)) (index * rowNumbers + 2) (valueIn o) ≡ stored (was .rows) (index * rowNumbers) (rowsOf (rowBy x ∷ []))
           unfolding stored rowsOf
           row-written x e f h =
               let to : index * rowNumbers + 2 ≡ index * rowNumbers + 1 + 1 = omega arith in
               rw (to, e, f, h) refl
 
-          pub statement-read : b .stop ≡ 0
-              → is .rows ≡ set (set (set (was .rows) (index * rowNumbers) (j .value)) (index * rowNumbers + 1) (g .value)) (index * rowNumbers + 2) (b .value)
-              → StatementIs (tookTo (b .next) 0 (b .late))
+          pub statement-read : (l ≡ 0 → ⊥)
+              → is .rows ≡ set (set (set (was .rows) (index * rowNumbers) (valueIn c)) (index * rowNumbers + 1) (valueIn d)) (index * rowNumbers + 2) (valueIn o)
+              → StatementIs (after o l)
           unfolding judgeAll
-          statement-read e rows = behind-own _ λ ws own f f₁. onward tookForm tookForm right s _ _ (guarded (from s (j .next) mostNodes)) _ g _ hg eg λ h m f₂.
-              onward tookForm tookForm right s _ _ (branches (mostBranches - 1) (from s (g .next) m)) _ b _ (hb m) e λ x m₁ f₃.
-              record {
-                went = refl;
-                rest = refl;
-                told = record {
-                  went = record {
-                    value = refl;
+          statement-read e rows = record {
+            answers = λ st n b. behind-own _ st n b λ ws own f f₁. onward s _ _ (guarded (from s j mostNodes)) _ d g _ (hg .answers) eg λ h m f₂.
+                onward s _ _ (branches (mostBranches - 1) (from s g m)) _ o l _ (hl .answers m) e λ x m₁ f₃.
+                record {
+                  went = e;
+                  rest = refl;
+                  told = record {
                     late = f₃ .went .late
-                        ∙ ap (judgeAll (length s) k (judgedBranches x)) (f₂ .went .late ∙ ap (judgeAll (length s) k (judgedOr h)) (f₁ .late ∙ ap (judge (length s) k (judgedState own)) (f .late)))
+                        ∙ ap (judgeAll (length s) k (judgedBranches x)) (f₂ .went .late ∙ ap (judgeAll (length s) k (judgedOr h)) (f₁ .late ∙ ap (judge (length s) k (judgedState own)) f))
                         ∙ sym (judge-append (length s) k (judgedWords (1 ∷ []) ws) _ before ∙ judge-append (length s) k (judgedOr h) (judgedBranches x) _);
+                    memory = λ q. lent ((rows ∙ row-written (stated ws own h x) (f₁ .value) (f₂ .went .value) (f₃ .went .value)) q) (f₂ .array q) (f₃ .array q);
                   };
-                  memory = λ q. lent ((rows ∙ row-written (stated ws own h x) (f₁ .value) (f₂ .went .value) (f₃ .went .value)) q) (f₂ .array q) (f₃ .array q);
                 };
-              }
+            sized = hl .sized;
+          }
 
 -- ---- the statements
 
@@ -235,6 +278,9 @@ step x xs s = go (sign "endmodule" s)
 bracket : Told "["
 bracket = told "[" (omega arith)
 
+keyword : Told "endmodule"
+keyword = told "endmodule" (omega arith)
+
 -- behind a statement
 abbrev pub further : ℕ → Reader (List StatementShape)
 further = upTo "[" statement (refuse pastLimit) ends
@@ -252,15 +298,15 @@ at-bracket zero s i x v e n = too-many "[" statement (refuse pastLimit) ends mor
 at-bracket (suc most) s i x v e n = another "[" statement (refuse pastLimit) ends more step bracket s i x v e most n
 
 -- with the statements so far counted in
-pub record Counted (s : List ℕ) (k i : ℕ) (before : Late) (was is : Lent) (xs : List StatementShape) (r : Took) : Type 0 where
-  pub went : Went s k before (i + length xs) (judgedEach judgedStatement xs) r
+pub record Counted (s : List ℕ) (k i : ℕ) (before : Late) (was is : Lent) (xs : List StatementShape) (state : List ℕ) : Type 0 where
+  pub went : Went s k before (i + length xs) (judgedEach judgedStatement xs) state
   pub memory : is ≡ filled i xs was
 
-abbrev pub RestRead : List ℕ → ℕ → ℕ → Late → Lent → Lent → Result (List StatementShape) → Took → Type 0
-RestRead s k i late was is = Answers tookForm s (Counted s k i late was is)
+abbrev pub RestRead : List ℕ → ℕ → ℕ → Late → Lent → Lent → Result (List StatementShape) → After → Type 0
+RestRead s k i late was is = Answers s (Counted s k i late was is)
 
 -- before the first statement
-pub none-counted : (s : List ℕ) (k : ℕ) (late : Late) (was is : Lent) (x : Result (List StatementShape)) (r : Took)
+pub none-counted : (s : List ℕ) (k : ℕ) (late : Late) (was is : Lent) (x : Result (List StatementShape)) (r : After)
     → RestRead s k 0 late was is x r → StatementsRead s k late was is x r
 none-counted s k late was is (ok xs b) r y =
     let z = y .told in
@@ -268,61 +314,72 @@ none-counted s k late was is (ok xs b) r y =
 none-counted s k late was is (stop n p) r y = y
 
 -- one statement too many: its bracket stands at `place`
-pub past-statements : (s : List ℕ) (k i : ℕ) (late : Late) (was is : Lent) (st : State) (place : ℕ) → place ≡ placeOf (length s) (st .marks)
-    → RestRead s k i late was is (rest 0 st) (stopped pastLimit place)
-past-statements s k i late was is st place e = (ap (stopped pastLimit) e, λ z. omega arith)
+pub past-statements : (s : List ℕ) (k i : ℕ) (late : Late) (was is : Lent) (st : State) (place : ℕ) (r : After) → place ≡ placeOf (length s) (st .marks)
+    → Halted pastLimit place r → RestRead s k i late was is (rest 0 st) r
+past-statements s k i late was is st place r e h = rw (← e) h
 
 module _ (s : List ℕ) (k i : ℕ) (late : Late) (was is : Lent) (most : ℕ) (st : State) where
-  abbrev RestIs : Took → Type 0
+  abbrev RestIs : After → Type 0
   RestIs = RestRead s k i late was is (rest (suc most) st)
 
-  module _ (x : Took) (now : Lent) (hx : StatementRead s k late was now i (statement st) x) where
-    pub statement-stops : (x .stop ≡ 0 → ⊥) → RestIs x
-    statement-stops e = handed tookForm s _ _ (statement st) _ x hx e
+  module _ (state : List ℕ) (x : ℕ) (now : Lent) (hx : StatementRead s k late was now i (statement st) (after state x)) where
+    pub statement-stops : x ≡ 0 → RestIs (after state 0)
+    statement-stops e = halted s _ _ (statement st) _ state x hx e
 
-    module _ (e : x .stop ≡ 0) where
-      one-counted : (r : Took) → ((m : ℕ) → RestRead s k (i + 1) (x .late) now is (further most (from s (x .next) m)) r) → RestIs r
+    module _ (e : x ≡ 0 → ⊥) where
+      one-counted : (r : After) → ((m : ℕ) → RestRead s k (i + 1) (lateIn state) now is (further most (from s x m)) r) → RestIs r
       unfolding judgeAll filled
-      one-counted r y = onward tookForm tookForm right s _ _ (statement st) _ x r hx e λ a m g.
-          made tookForm s _ _ (further most (from s (x .next) m)) (more a) r (y m) λ xs h. record {
+      one-counted r y = onward s _ _ (statement st) _ state x r hx e λ a m g.
+          made s _ _ (further most (from s x m)) (more a) r (y m) λ xs h. record {
             went = record {
               value = omega (arith, h .went .value);
-              late = h .went .late ∙ ap (judgeAll (length s) k (judgedEach judgedStatement xs)) (g .went .late) ∙ sym (judge-append (length s) k (judgedStatement a) (judgedEach judgedStatement xs) late);
+              late = h .went .late ∙ ap (judgeAll (length s) k (judgedEach judgedStatement xs)) (g .late) ∙ sym (judge-append (length s) k (judgedStatement a) (judgedEach judgedStatement xs) late);
             };
             memory = h .memory ∙ ap (filled (i + 1) xs) (g .memory);
           }
 
-      module _ (y : Step) (v : Next s (x .next) y) where
-        pub one-more : y .mark .kind ≡ kind "[" → (r : Took)
-            → ((m : ℕ) → RestRead s k (i + 1) (x .late) now is (rest most (from s (x .next) m)) r) → RestIs r
-        one-more f r z = one-counted r λ m. rw (at-bracket most s (x .next) y v f m) (z m)
+      module _ (y : Step) (v : Next s x y) where
+        pub one-more : y .mark .kind ≡ kind "[" → (r : After)
+            → ((m : ℕ) → RestRead s k (i + 1) (lateIn state) now is (rest most (from s x m)) r) → RestIs r
+        one-more f r z = one-counted r λ m. rw (at-bracket most s x y v f m) (z m)
 
         module _ (d : y .mark .kind ≡ kind "[" → ⊥) where
-          last : (r : Took) → ((m : ℕ) → RestRead s k (i + 1) (x .late) now is (ends [] (from s (x .next) m)) r) → RestIs r
-          last r z = one-counted r λ m. rw (no-other "[" statement (refuse pastLimit) ends more step bracket s (x .next) y v d most m) (z m)
+          last : (r : After) → ((m : ℕ) → RestRead s k (i + 1) (lateIn state) now is (ends [] (from s x m)) r) → RestIs r
+          last r z = one-counted r λ m. rw (no-other "[" statement (refuse pastLimit) ends more step bracket s x y v d most m) (z m)
 
-          pub list-stops : (y .mark .kind ≡ kind "endmodule" → ⊥) → RestIs (stopped outOfShape (y .mark .place))
-          list-stops f = last _ λ m. sign-misses "endmodule" (told "endmodule" (omega arith)) s (x .next) tookForm _ y v m _ f
+          pub list-stops : (y .mark .kind ≡ kind "endmodule" → ⊥) → (r : After) → Halted outOfShape (y .mark .place) r → RestIs r
+          list-stops f r h = last r λ m. sign-misses "endmodule" keyword s x _ y v m _ r f h
 
-          pub list-read : y .mark .kind ≡ kind "endmodule" → is ≡ now → RestIs (tookTo (y .next .at) (i + 1) (x .late))
+          pub list-read : y .mark .kind ≡ kind "endmodule" → is ≡ now → Sized state → RestIs (after (set state atValue (i + 1)) (y .next .at))
           unfolding judgeAll filled
-          list-read f z = last _ λ m. sign-fits "endmodule" (told "endmodule" (omega arith)) s (x .next) tookForm _ y v m _ _ f
-              (record { went = refl; rest = refl; told = record { went = record { value = omega arith; late = refl }; memory = z } })
+          list-read f z sized = last _ λ m. sign-fits "endmodule" keyword s x _ y v m _ _ f
+              (record {
+                went = sign-behind "endmodule" keyword s x y v f;
+                rest = refl;
+                told = record { went = record { value = value-set state sized (i + 1) ∙ omega arith; late = late-set state atValue (i + 1) (omega arith) }; memory = z };
+              })
 
 -- ---- the loop: an answer to what is left answers the whole
 
 -- the first `[` is there, or reading stops before it
-pub open-stops : (s : List ℕ) (k i : ℕ) (late : Late) (was is : Lent) (most n : ℕ) (o : Took) → SignRead s late (sign "[" (from s i n)) o → (o .stop ≡ 0 → ⊥)
-    → StatementsRead s k late was is (statements most (from s i n)) o
-open-stops s k i late was is most n o h e = go (sign "[" (from s i n)) refl h
+pub open-stops : {s : List ℕ} {k i : ℕ} {was is : Lent} (state now : List ℕ) {o : ℕ} → SignFrom s i (kind "[") state (after now o) → o ≡ 0
+    → StatementsFrom s i k (lateIn state) was is (after now 0)
+open-stops {s} {k} {i} {was} {is} state now {o} h e = record { answers = λ n. go n (sign "[" (from s i n)) refl (h .answers "[" bracket refl n); sized = h .sized }
   where
-    go : (y : Result (Unit {0})) → sign "[" (from s i n) ≡ y → SignRead s late y o → StatementsRead s k late was is (statements most (from s i n)) o
-    go (ok u b) q h = absurd (e (h .went))
-    go (stop m p) q h = rw q h
+    go : (n : ℕ) (y : Result (Unit {0})) → sign "[" (from s i n) ≡ y → SignRead s state y (after now o) → StatementsRead s k (lateIn state) was is (statements (mostStatements - 1) (from s i n)) (after now 0)
+    go n (ok u b) q h = absurd (h .went e)
+    go n (stop m p) q h = rw q (record { none = refl; refused = h .refused; sized = h .sized })
 
-opened-at : (s : List ℕ) (late : Late) (x : Result (Unit {0})) (o : Took) → SignRead s late x o → o .stop ≡ 0 → (m : ℕ) × (x ≡ ok tt (from s (o .next) m))
-opened-at s late (ok tt b) o h e = (b .nodes, ap (λ (p : Place). ok tt (at p (b .nodes))) (sym (h .rest)))
-opened-at s late (stop n p) o h e = absurd (h .1 (sym (ap (λ (r : Took). r .stop) (h .0)) ∙ e))
+opened-at : (s : List ℕ) (state now : List ℕ) (x : Result (Unit {0})) (o : ℕ) → SignRead s state x (after now o) → (o ≡ 0 → ⊥) → (m : ℕ) × (x ≡ ok tt (from s o m)) × (now ≡ state)
+opened-at s state now (ok tt b) o h e = (b .nodes, ap (λ (p : Place). ok tt (at p (b .nodes))) (sym (h .rest)), h .told)
+opened-at s state now (stop n p) o h e = absurd (e (h .none))
+
+-- behind the first `[` the state is as it was
+pub opened-as : {s : List ℕ} {k i : ℕ} {was is : Lent} {r : After} (state now : List ℕ) {o : ℕ} → SignFrom s i (kind "[") state (after now o) → (o ≡ 0 → ⊥)
+    → StatementsFrom s i k (lateIn now) was is r → StatementsFrom s i k (lateIn state) was is r
+opened-as {s} {k} {i} {was} {is} {r} state now {o} h e y =
+    let b = opened-at s state now (sign "[" (from s i 0)) o (h .answers "[" bracket refl 0) e in
+    subst (λ (x : List ℕ). StatementsFrom s i k (lateIn x) was is r) (b .2) y
 
 -- where a `[` stands right before the cursor; once there is a statement, its place is known
 pub record Bracket (s : List ℕ) (count place next : ℕ) (st : State) : Type 0 where
@@ -330,56 +387,68 @@ pub record Bracket (s : List ℕ) (count place next : ℕ) (st : State) : Type 0
   pub there : sign "[" st ≡ ok tt (from s next nodes)
   pub known : 0 < count → place ≡ placeOf (length s) (st .marks)
 
-pub record Going (s : List ℕ) (k : ℕ) (before : Late) (was : Lent) (i count place : ℕ) (late : Late) (now : Lent) (next : ℕ) : Type 0 where
+pub record Going (s : List ℕ) (k : ℕ) (before : Late) (was : Lent) (i count place : ℕ) (now : Lent) (next : ℕ) (state : List ℕ) : Type 0 where
   pub few : count ≤ mostStatements
-  pub whole : (r : Took) (is : Lent) → ((st : State) → Bracket s count place next st → RestRead s k count late now is (rest (mostStatements - count) st) r)
+  pub sized : Sized state
+  pub whole : (r : After) (is : Lent) → ((st : State) → Bracket s count place next st → RestRead s k count (lateIn state) now is (rest (mostStatements - count) st) r)
       → (n : ℕ) → StatementsRead s k before was is (statements (mostStatements - 1) (from s i n)) r
 
-pub going-start : (s : List ℕ) (k : ℕ) (late : Late) (was : Lent) (i place : ℕ) (o : Took) → ((n : ℕ) → SignRead s late (sign "[" (from s i n)) o) → o .stop ≡ 0
-    → Going s k late was i 0 place late was (o .next)
-going-start s k late was i place o h e = record {
+pub going-start : {s : List ℕ} {k : ℕ} {was : Lent} {i place : ℕ} (state now : List ℕ) {o : ℕ} → SignFrom s i (kind "[") state (after now o) → (o ≡ 0 → ⊥)
+    → Going s k (lateIn now) was i 0 place was o now
+going-start {s} {k} {was} {i} {place} state now {o} h e = record {
   few = omega arith;
+  sized = h .sized;
   whole = λ r is y n.
-      let b = opened-at s late (sign "[" (from s i n)) o (h n) e in
-      none-counted s k late was is (statements (mostStatements - 1) (from s i n)) r
+      let b = opened-at s state now (sign "[" (from s i n)) o (h .answers "[" bracket refl n) e in
+      none-counted s k (lateIn now) was is (statements (mostStatements - 1) (from s i n)) r
       (rw (rest-whole (mostStatements - 1) (from s i n)) (y (from s i n) (record { nodes = b .0; there = b .1; known = λ l. omega arith })));
 }
 
-module _ (s : List ℕ) (k : ℕ) (before : Late) (was : Lent) (i count place : ℕ) (late : Late) (now : Lent) (next : ℕ)
-    (g : Going s k before was i count place late now next) where
-  abbrev WholeIs : Lent → Took → Type 0
-  WholeIs is r = (n : ℕ) → StatementsRead s k before was is (statements (mostStatements - 1) (from s i n)) r
-
-  module _ (l : count < mostStatements) (x : Took) (new : Lent)
-      (hx : (st : State) (n : ℕ) → sign "[" st ≡ ok tt (from s next n) → StatementRead s k late now new count (statement st) x) where
+module _ {s : List ℕ} {k : ℕ} {before : Late} {was : Lent} {i count place : ℕ} {now : Lent} {next : ℕ} {state : List ℕ} (g : Going s k before was i count place now next state) where
+  module _ (l : count < mostStatements) {new : Lent} (after-one : List ℕ) {x : ℕ} (hx : StatementFrom s next k (lateIn state) now new count (after after-one x)) where
     one-less : mostStatements - count ≡ suc (mostStatements - (count + 1))
     one-less = omega arith
 
     -- the rest as the reader of one statement and what follows
-    opened : (is : Lent) (r : Took)
-        → ((st : State) → StatementRead s k late now new count (statement st) x → RestRead s k count late now is (rest (suc (mostStatements - (count + 1))) st) r) → WholeIs is r
-    opened is r y = g .whole r is λ st b. rw one-less (y st (hx st (b .nodes) (b .there)))
+    opened : (is : Lent) (r : After)
+        → ((st : State) → StatementRead s k (lateIn state) now new count (statement st) (after after-one x)
+        → RestRead s k count (lateIn state) now is (rest (suc (mostStatements - (count + 1))) st) r)
+        → (n : ℕ) → StatementsRead s k before was is (statements (mostStatements - 1) (from s i n)) r
+    opened is r y = g .whole r is λ st b. rw one-less (y st (hx .answers st (b .nodes) (b .there)))
 
-    pub going-stops : (x .stop ≡ 0 → ⊥) → WholeIs new x
-    going-stops e = opened new _ λ st h. statement-stops s k count late now new (mostStatements - (count + 1)) st x new h e
+    pub going-stops : x ≡ 0 → StatementsFrom s i k before was new (after after-one 0)
+    going-stops e = record {
+      answers = opened new _ λ st h. statement-stops s k count (lateIn state) now new (mostStatements - (count + 1)) st after-one x new h e;
+      sized = hx .sized;
+    }
 
-    module _ (e : x .stop ≡ 0) (y : Step) (v : Next s (x .next) y) where
+    module _ (e : x ≡ 0 → ⊥) {y : Step} (v : Next s x y) where
       module _ (d : y .mark .kind ≡ kind "[" → ⊥) where
-        pub going-unended : (y .mark .kind ≡ kind "endmodule" → ⊥) → WholeIs new (stopped outOfShape (y .mark .place))
-        going-unended f = opened new _ λ st h. list-stops s k count late now new (mostStatements - (count + 1)) st x new h e y v d f
+        pub going-unended : (y .mark .kind ≡ kind "endmodule" → ⊥) → {r : After} → Halted outOfShape (y .mark .place) r → StatementsFrom s i k before was new r
+        going-unended f {r} q = record {
+          answers = opened new r λ st h. list-stops s k count (lateIn state) now new (mostStatements - (count + 1)) st after-one x new h e y v d f r q;
+          sized = q .sized;
+        }
 
-        pub going-ended : y .mark .kind ≡ kind "endmodule" → WholeIs new (tookTo (y .next .at) (count + 1) (x .late))
-        going-ended f = opened new _ λ st h. list-read s k count late now new (mostStatements - (count + 1)) st x new h e y v d f refl
+        pub going-ended : y .mark .kind ≡ kind "endmodule" → StatementsFrom s i k before was new (after (set after-one atValue (count + 1)) (y .next .at))
+        going-ended f = record {
+          answers = opened new _ λ st h. list-read s k count (lateIn state) now new (mostStatements - (count + 1)) st after-one x new h e y v d f refl (hx .sized);
+          sized = set-sized after-one (hx .sized) atValue (count + 1);
+        }
 
-      pub going-more : y .mark .kind ≡ kind "[" → Going s k before was i (count + 1) (y .mark .place) (x .late) new (y .next .at)
+      pub going-more : y .mark .kind ≡ kind "[" → Going s k before was i (count + 1) (y .mark .place) new (y .next .at) after-one
       going-more f = record {
         few = omega arith;
-        whole = λ r is z. opened is r λ st h. one-more s k count late now is (mostStatements - (count + 1)) st x new h e y v f r λ m.
-            z (from s (x .next) m) (record { nodes = m; there = sign-took "[" bracket s (x .next) y v f m; known = λ q. place-seen s (x .next) y v });
+        sized = hx .sized;
+        whole = λ r is z. opened is r λ st h. one-more s k count (lateIn state) now is (mostStatements - (count + 1)) st after-one x new h e y v f r λ m.
+            z (from s x m) (record { nodes = m; there = sign-took "[" bracket s x y v f m; known = λ q. place-seen s x y v });
       }
 
   -- one statement too many
-  pub going-past : mostStatements ≤ count → WholeIs now (stopped pastLimit place)
-  going-past l = g .whole _ now λ st b.
-      let z : mostStatements - count ≡ 0 = omega arith in
-      rw z (past-statements s k count late now now st place (b .known (omega arith)))
+  pub going-past : mostStatements ≤ count → {r : After} → Halted pastLimit place r → StatementsFrom s i k before was now r
+  going-past l {r} h = record {
+    answers = g .whole r now λ st b.
+        let z : mostStatements - count ≡ 0 = omega arith in
+        rw z (past-statements s k count (lateIn state) now now st place r (b .known (omega arith)) h);
+    sized = h .sized;
+  }

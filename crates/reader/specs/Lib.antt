@@ -1,4 +1,3 @@
 pub mod Statements
-pub mod Ends
 pub mod Search
 pub mod ReadingOf

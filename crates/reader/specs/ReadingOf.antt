@@ -10,7 +10,6 @@ use Rattle.card.specs.Lent.{Lent, headOf, noHead, lentOf, noneLent}
 use Rattle.card.specs.declared.Verdict.the-variants.{Taken, Refused}
 use Rattle.reader.specs.declared.Reading.{Reading}
 use Rattle.reader.specs.declared.Outline.{Outline}
-use Rattle.reader.specs.declared.Rough.{Rough}
 
 abbrev pub readingOf : Outcome → Reading
 readingOf (taken c) = record { verdict = Taken; card = laid c }
@@ -35,27 +34,3 @@ pub record ReadsInto (bytes : List ℕ) (r : Outline) (x : Lent) : Type 0 where
   pub outline : r ≡ outlineOf (readOf bytes)
   pub memory : x ≡ memoryOf (readOf bytes)
   pub valid : (c : Card) → readOf bytes ≡ taken c → ValidCard c
-
--- ---- and with the rows as structs
-
-pub record Arrays : Type 0 where
-  pub nodes : List ℕ
-  pub branches : List ℕ
-
-abbrev pub arrays : List ℕ → List ℕ → Arrays
-arrays nodes branches = record { nodes = nodes; branches = branches }
-
-abbrev pub gathered : Rough → Arrays → Reading
-gathered r is = record {
-  verdict = r .verdict;
-  card = record {
-    mode = r .mode;
-    seats = r .seats;
-    top = r .top;
-    start = r .start;
-    count = r .count;
-    statements = r .statements;
-    nodes = is .nodes;
-    branches = is .branches;
-  };
-}

@@ -3,8 +3,8 @@
 use Prim.Native.Nat.{ℕ}
 use mathlib.Core.Option.{Option, none, some}
 use Rattle.card.specs.Refusals.{outsideRules}
-use Rattle.guard.specs.declared.Settled.{Settled}
+use Rattle.reader.specs.declared.Due.{Due}
 
-abbrev pub searched : ℕ → ℕ → Option ℕ → Settled
+abbrev pub searched : ℕ → ℕ → Option ℕ → Due
 searched r p none = record { number = r; place = p }
 searched r p (some o) = record { number = outsideRules; place = o }

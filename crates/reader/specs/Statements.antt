@@ -1,4 +1,4 @@
--- What the code hands back for a guard, a statement, and the statements of a card. Assumes nothing.
+-- What reading a guard, a statement, and the statements of a card leaves behind it. Assumes nothing.
 use Prim.Native.Nat.{ℕ, _+_, _-_, _*_}
 use mathlib.Core.Path.{_≡_}
 use mathlib.Core.List.{List, [], _∷_, map}
@@ -11,21 +11,22 @@ use Rattle.card.specs.Rows.{rowsOf}
 use Rattle.card.specs.Lent.{Lent, lent}
 use Rattle.card.specs.Stored.{stored}
 use Rattle.card.specs.declared.Statement.{Statement}
-use Rattle.marks.specs.Kinds.{kSeat, kind}
 use Rattle.reading.specs.Reader.{State, Result, ok, Reader, bind, _>>=_, _>>_, return, sign}
 use Rattle.reading.specs.Group.{Literals}
 use Rattle.reading.specs.Shape.{StatementShape, guard, statement, moreStatements}
 use Rattle.reading.specs.Checks.{judgedOr, judgedStatement, judgedEach}
-use Rattle.guard.specs.declared.Late.{Late}
-use Rattle.guard.specs.Late.{guardBy}
-use Rattle.parts.specs.declared.Took.{Took}
-use Rattle.parts.specs.Parts.{from, Answers, tookForm, Went, RunFrom}
+use Rattle.group.specs.Late.{Late, guardBy}
+use Rattle.group.specs.State.{Sized, After}
+use Rattle.parts.specs.Parts.{from, Answers, Kept, Went, Due, sign as due, seat, kindsIn, numbersIn, RunFrom}
 use Rattle.branches.specs.Branches.{packedIn}
 
--- ---- before a statement's own state, in kinds and numbers due: `]s1=`
+-- ---- before a statement's own state
 
-abbrev pub OwnFrom : List ℕ → ℕ → Late → Took → Type 0
-OwnFrom s i late r = RunFrom s i (kind "]" ∷ kSeat ∷ kind "=" ∷ []) (0 ∷ 1 ∷ 0 ∷ []) late r
+abbrev pub statementDue : List Due
+statementDue = due "]" ∷ seat 1 ∷ due "=" ∷ []
+
+abbrev pub OwnFrom : List ℕ → ℕ → Late → After → Type 0
+OwnFrom s i late r = RunFrom s i (kindsIn statementDue) (numbersIn statementDue) late r
 
 -- ---- the guard, with the arrow behind it; its number is that of its nodes, which stand from `used` on
 
@@ -39,16 +40,17 @@ abbrev pub guardOrBy : Option (Formula Literals) → Option Guard
 guardOrBy none = none
 guardOrBy (some g) = some (guardBy g)
 
-pub record GuardedIn (s : List ℕ) (k : ℕ) (before : Late) (was is : List ℕ) (used : ℕ) (g : Option (Formula Literals)) (r : Took) : Type 0 where
-  pub went : Went s k before (guardSize (guardOrBy g)) (judgedOr g) r
+pub record GuardedIn (s : List ℕ) (k : ℕ) (before : Late) (was is : List ℕ) (used : ℕ) (g : Option (Formula Literals)) (state : List ℕ) : Type 0 where
+  pub went : Went s k before (guardSize (guardOrBy g)) (judgedOr g) state
   pub array : is ≡ stored was used (guardCells (guardOrBy g) used)
 
-abbrev pub GuardedRead : List ℕ → ℕ → Late → List ℕ → List ℕ → ℕ → Result (Option (Formula Literals)) → Took → Type 0
-GuardedRead s k before was is used = Answers tookForm s (GuardedIn s k before was is used)
+abbrev pub GuardedRead : List ℕ → ℕ → Late → List ℕ → List ℕ → ℕ → Result (Option (Formula Literals)) → After → Type 0
+GuardedRead s k before was is used = Answers s (GuardedIn s k before was is used)
 
 -- in a statement that may have all its nodes yet
-abbrev pub GuardedFrom : List ℕ → ℕ → ℕ → Late → List ℕ → List ℕ → ℕ → Took → Type 0
-GuardedFrom s i k before was is used r = GuardedRead s k before was is used (guarded (from s i mostNodes)) r
+pub record GuardedFrom (s : List ℕ) (i k : ℕ) (before : Late) (was is : List ℕ) (used : ℕ) (r : After) : Type 0 where
+  pub answers : GuardedRead s k before was is used (guarded (from s i mostNodes)) r
+  pub sized : Sized (r .state)
 
 -- ---- a statement
 
@@ -62,17 +64,17 @@ withStatement i x a =
     (stored (a .nodes) (i * mostNodes) (guardCells (guardOrBy (x .guard)) (i * mostNodes)))
     (stored (a .branches) (i * mostBranches) (map packedIn (x .branches)))
 
-pub record StatementIn (s : List ℕ) (k : ℕ) (before : Late) (was is : Lent) (index : ℕ) (x : StatementShape) (r : Took) : Type 0 where
-  pub went : Went s k before 0 (judgedStatement x) r
+pub record StatementIn (s : List ℕ) (k : ℕ) (before : Late) (was is : Lent) (index : ℕ) (x : StatementShape) (state : List ℕ) : Type 0 where
+  pub late : Kept s k before (judgedStatement x) state
   pub memory : is ≡ withStatement index x was
 
-abbrev pub StatementRead : List ℕ → ℕ → Late → Lent → Lent → ℕ → Result StatementShape → Took → Type 0
-StatementRead s k before was is index = Answers tookForm s (StatementIn s k before was is index)
+abbrev pub StatementRead : List ℕ → ℕ → Late → Lent → Lent → ℕ → Result StatementShape → After → Type 0
+StatementRead s k before was is index = Answers s (StatementIn s k before was is index)
 
 -- the cursor stands behind the statement's first mark
-abbrev pub StatementFrom : List ℕ → ℕ → ℕ → Late → Lent → Lent → ℕ → Took → Type 0
-StatementFrom s i k before was is index r =
-    (st : State) (n : ℕ) → sign "[" st ≡ ok tt (from s i n) → StatementRead s k before was is index (statement st) r
+pub record StatementFrom (s : List ℕ) (i k : ℕ) (before : Late) (was is : Lent) (index : ℕ) (r : After) : Type 0 where
+  pub answers : (st : State) (n : ℕ) → sign "[" st ≡ ok tt (from s i n) → StatementRead s k before was is index (statement st) r
+  pub sized : Sized (r .state)
 
 -- ---- the statements, with the keyword behind them
 
@@ -89,12 +91,13 @@ filled i [] a = a
 filled i (x ∷ xs) a = filled (i + 1) xs (withStatement i x a)
 
 -- the number is that of the statements
-pub record StatementsIn (s : List ℕ) (k : ℕ) (before : Late) (was is : Lent) (xs : List StatementShape) (r : Took) : Type 0 where
-  pub went : Went s k before (length xs) (judgedEach judgedStatement xs) r
+pub record StatementsIn (s : List ℕ) (k : ℕ) (before : Late) (was is : Lent) (xs : List StatementShape) (state : List ℕ) : Type 0 where
+  pub went : Went s k before (length xs) (judgedEach judgedStatement xs) state
   pub memory : is ≡ filled 0 xs was
 
-abbrev pub StatementsRead : List ℕ → ℕ → Late → Lent → Lent → Result (List StatementShape) → Took → Type 0
-StatementsRead s k before was is = Answers tookForm s (StatementsIn s k before was is)
+abbrev pub StatementsRead : List ℕ → ℕ → Late → Lent → Lent → Result (List StatementShape) → After → Type 0
+StatementsRead s k before was is = Answers s (StatementsIn s k before was is)
 
-abbrev pub StatementsFrom : List ℕ → ℕ → ℕ → Late → Lent → Lent → Took → Type 0
-StatementsFrom s i k before was is r = (n : ℕ) → StatementsRead s k before was is (statements (mostStatements - 1) (from s i n)) r
+pub record StatementsFrom (s : List ℕ) (i k : ℕ) (before : Late) (was is : Lent) (r : After) : Type 0 where
+  pub answers : (n : ℕ) → StatementsRead s k before was is (statements (mostStatements - 1) (from s i n)) r
+  pub sized : Sized (r .state)

@@ -1,7 +1,5 @@
 // A card, from its bytes, in one pass: each mark of a card that is taken is read once, and only where reading stops is the rest searched
 // for a mark outside the rules.
-mod header;
-mod modules;
 mod statements;
 
 use card::Card;
@@ -15,20 +13,26 @@ use card::limits::NODE_PLACES;
 use card::limits::ROW;
 use card::limits::ROW_PLACES;
 use card::no_statement;
-use guard::Settled;
-use guard::refusals::OUTSIDE_RULES;
-use guard::refusals::TOO_LONG;
-use guard::settle;
-use header::header as beginning;
+use card::refusals::OUTSIDE_RULES;
+use card::refusals::TOO_LONG;
+use frame::header::header as beginning;
+use frame::modules::modules as further_modules;
+use group::late::settle;
+use group::state::MODE;
+use group::state::START;
+use group::state::STATE;
+use group::state::STOP;
+use group::state::STOP_PLACE;
+use group::state::TOP;
+use group::state::VALUE;
 use marks::Cursor;
 use marks::kinds::END;
 use marks::kinds::OUTSIDE;
-use modules::modules as further_modules;
 use statements::statements as all_statements;
 ghost use mathlib.Core.Path.{_≡_};
 ghost use Prim.Native.Nat.{_≤_};
 ghost use lib.ListN.{length};
-ghost use Rattle.card.specs.Limits.{mostStatements, nodePlaces, branchPlaces};
+ghost use Rattle.card.specs.Limits.{mostStatements};
 ghost use Rattle.card.specs.Laid.{zeros};
 ghost use Rattle.card.specs.Rows.{rowsFrom};
 ghost use Rattle.card.specs.Lent.{lent, noneLent};
@@ -36,7 +40,7 @@ ghost use Rattle.card.specs.Refusals.{wrongWeight};
 ghost use Rattle.marks.specs.Step.{marksAt};
 ghost use Rattle.reading.specs.Reading.{firstOutside, refused as refusedWith};
 ghost use Rattle.reader.specs.Search.{searched};
-ghost use Rattle.reader.specs.ReadingOf.{outlineOf, Reads, ReadsInto, arrays, gathered};
+ghost use Rattle.reader.specs.ReadingOf.{outlineOf, Reads, ReadsInto};
 
 pub struct Reading {
     pub verdict: Verdict,
@@ -49,19 +53,14 @@ pub struct Outline {
     pub head: Head,
 }
 
-// The same with the statements' rows as structs.
-pub struct Rough {
-    pub verdict: Verdict,
-    pub mode: usize,
-    pub seats: usize,
-    pub top: usize,
-    pub start: usize,
-    pub count: usize,
-    pub statements: [Statement; MOST_STATEMENTS],
+// A refusal that is due: its number and its place.
+struct Due {
+    number: usize,
+    place: usize,
 }
 
 // A stop at a place, unless a mark outside the rules stands there or further on.
-fn search(card: &[u8], stop: usize, place: usize) -> Settled
+fn search(card: &[u8], stop: usize, place: usize) -> Due
     ensures { λ r. ⌜ r ≡ searched stop place (firstOutside (marksAt 0 (now (card .entry)) place)) ⌝ }
 {
     let mut next = place;
@@ -70,21 +69,21 @@ fn search(card: &[u8], stop: usize, place: usize) -> Settled
         let step = cursor.step(card);
         let mark = step.mark;
         if mark.kind == END {
-            return Settled {
+            return Due {
                 number: stop,
                 place,
             };
         }
         if mark.kind == OUTSIDE {
-            return Settled {
-                number: OUTSIDE_RULES,
+            return Due {
+                number: OUTSIDE_RULES as usize,
                 place: mark.place,
             };
         }
         let behind = step.next;
         next = behind.at;
     }
-    Settled {
+    Due {
         number: stop,
         place,
     }
@@ -112,7 +111,7 @@ fn clear_rows(rows: &mut [usize])
 }
 
 // Reading refuses with one of the first seven numbers.
-fn refused(due: Settled) -> Outline
+fn refused(due: Due) -> Outline
     requires { ⌜ due .number ≤ wrongWeight ⌝ }
     ensures { λ r. ⌜ r ≡ outlineOf (refusedWith (due .number) (due .place)) ⌝ }
 {
@@ -130,7 +129,7 @@ fn refused(due: Settled) -> Outline
 
 // The same once statements were read: their numbers go.
 fn refused_late(
-    due: Settled,
+    due: Due,
     rows: &mut [usize; ROW_PLACES],
     nodes: &mut [u32; NODE_PLACES],
     branches: &mut [u32; BRANCH_PLACES],
@@ -156,41 +155,45 @@ pub fn read_into(
     ensures { λ r. ⌜ ReadsInto (now (card .entry)) r (lent (now (rows .exit)) (now (nodes .exit)) (now (branches .exit))) ⌝ }
 {
     if card.len() > CARD_BYTES {
-        return refused(Settled {
-            number: TOO_LONG,
+        return refused(Due {
+            number: TOO_LONG as usize,
             place: 0,
         });
     }
-    let begun = beginning(card, 0);
-    if begun.stop != 0 {
-        return refused(search(card, begun.stop, begun.place));
+    let mut state: [usize; STATE] = [0; STATE];
+    let begun = beginning(card, 0, &mut state);
+    if begun == 0 {
+        return refused(search(card, state[STOP], state[STOP_PLACE]));
     }
-    let list = all_statements(
-        card,
-        begun.next,
-        begun.top,
-        rows,
-        nodes,
-        branches,
-        begun.late,
-    );
-    if list.stop != 0 {
-        return refused_late(search(card, list.stop, list.place), rows, nodes, branches);
+    let mode = state[MODE];
+    let top = state[TOP];
+    let start = state[START];
+    let list = all_statements(card, begun, top, rows, nodes, branches, &mut state);
+    if list == 0 {
+        let due = search(card, state[STOP], state[STOP_PLACE]);
+        return refused_late(due, rows, nodes, branches);
     }
-    let tail = further_modules(card, list.next, list.late);
-    if tail.stop != 0 {
-        return refused_late(search(card, tail.stop, tail.place), rows, nodes, branches);
+    let count = state[VALUE];
+    let tail = further_modules(card, list, &mut state);
+    if tail == 0 {
+        let due = search(card, state[STOP], state[STOP_PLACE]);
+        return refused_late(due, rows, nodes, branches);
     }
-    let settled = settle(tail.late, tail.value);
-    if settled.number != 0 {
-        return refused_late(settled, rows, nodes, branches);
+    let seats = state[VALUE];
+    settle(&mut state, seats);
+    let due = Due {
+        number: state[STOP],
+        place: state[STOP_PLACE],
+    };
+    if due.number != 0 {
+        return refused_late(due, rows, nodes, branches);
     }
     let head = Head {
-        mode: begun.mode,
-        seats: tail.value,
-        top: begun.top,
-        start: begun.start,
-        count: list.value,
+        mode,
+        seats,
+        top,
+        start,
+        count,
     };
     Outline {
         verdict: Verdict::Taken,
@@ -215,32 +218,6 @@ fn statements_in(rows: &[usize; ROW_PLACES]) -> [Statement; MOST_STATEMENTS]
         i += 1;
     }
     statements
-}
-
-// The same with the statements' rows as structs.
-pub fn read_rough(
-    card: &[u8],
-    nodes: &mut [u32; NODE_PLACES],
-    branches: &mut [u32; BRANCH_PLACES],
-) -> Rough
-    requires { ⌜ now nodes ≡ zeros nodePlaces ⌝ }
-    requires { ⌜ now branches ≡ zeros branchPlaces ⌝ }
-    ensures { λ r. ⌜ Reads (now (card .entry)) (gathered r (arrays (now (nodes .exit)) (now (branches .exit)))) ⌝ }
-{
-    let mut rows: [usize; ROW_PLACES] = [0; ROW_PLACES];
-    let outline = read_into(card, &mut rows, nodes, branches);
-    let verdict = outline.verdict;
-    let head = outline.head;
-    let statements = statements_in(&rows);
-    Rough {
-        verdict,
-        mode: head.mode,
-        seats: head.seats,
-        top: head.top,
-        start: head.start,
-        count: head.count,
-        statements,
-    }
 }
 
 // The same with the card as one struct.

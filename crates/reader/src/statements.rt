@@ -8,10 +8,14 @@ use card::limits::MOST_STATEMENTS;
 use card::limits::NODE_PLACES;
 use card::limits::ROW;
 use card::limits::ROW_PLACES;
-use guard::Late;
+use card::refusals::OUT_OF_SHAPE;
+use card::refusals::PAST_LIMIT;
+use group::late::stop;
+use group::state::FREE;
+use group::state::LEFT;
+use group::state::STATE;
+use group::state::VALUE;
 use guard::conjunction;
-use guard::refusals::OUT_OF_SHAPE;
-use guard::refusals::PAST_LIMIT;
 use looks::due::step_arrow;
 use looks::due::step_sign;
 use looks::due::step_square;
@@ -23,71 +27,66 @@ use marks::kinds::EQUAL;
 use marks::kinds::SEAT;
 use marks::kinds::SQUARE_CLOSE;
 use marks::kinds::SQUARE_OPEN;
-use parts::Took;
 use parts::number;
-use parts::passed;
 use parts::run;
 use parts::sign;
-use parts::stopped;
 ghost use mathlib.Core.Path.{_≡_};
 ghost use Prim.Native.Nat.{_+_, _≤_, _<_};
 ghost use Rattle.card.specs.Limits.{mostStatements, mostNodes, nodePlaces};
 ghost use Rattle.card.specs.Lent.{lent};
+ghost use Rattle.group.specs.State.{Sized, lateIn, after};
 ghost use Rattle.reader.specs.Statements.{OwnFrom, GuardedFrom, StatementFrom, StatementsFrom};
 
-// The guard, if there is one, and the arrow; the number handed back is that of the guard's nodes, which stand from `used` on.
+// The guard, if there is one, and the arrow. The guard's nodes stand from `used` on; their number becomes the value.
 fn guarded(
     card: &[u8],
     at: usize,
     top: usize,
     nodes: &mut [u32; NODE_PLACES],
     used: usize,
-    late: Late,
-) -> Took
+    state: &mut [usize; STATE],
+) -> usize
+    requires { ⌜ Sized (now state) ⌝ }
     requires { ⌜ used + mostNodes ≤ nodePlaces ⌝ }
-    ensures { λ r. ⌜ GuardedFrom (now (card .entry)) at top late (now (nodes .entry)) (now (nodes .exit)) used r ⌝ }
+    ensures { λ r. ⌜ GuardedFrom (now (card .entry)) at top (lateIn (now (state .entry))) (now (nodes .entry)) (now (nodes .exit)) used (after (now (state .exit)) r) ⌝ }
 {
     let step = step_sign(card, at, AND);
     let mark = step.mark;
     let next = step.next;
     if mark.kind != AND {
         if mark.kind != ARROW {
-            return stopped(OUT_OF_SHAPE, mark.place);
+            return stop(state, OUT_OF_SHAPE, mark.place);
         }
-        return passed(next.at, 0, late);
+        state[VALUE] = 0;
+        return next.at;
     }
-    let guard = conjunction(
-        card,
-        next.at,
-        nodes,
-        used,
-        MOST_NODES,
-        MOST_DEPTH,
-        top,
-        late,
-    );
-    if guard.stop != 0 {
-        return stopped(guard.stop, guard.place);
+    state[LEFT] = MOST_NODES;
+    state[FREE] = used;
+    let read = conjunction(card, next.at, nodes, state, MOST_DEPTH, top);
+    if read == 0 {
+        return 0;
     }
-    let after = step_arrow(card, guard.next);
-    let arrow = after.mark;
-    let end = after.next;
+    let behind = step_arrow(card, read);
+    let arrow = behind.mark;
+    let end = behind.next;
     if arrow.kind != ARROW {
-        return stopped(OUT_OF_SHAPE, arrow.place);
+        return stop(state, OUT_OF_SHAPE, arrow.place);
     }
-    passed(end.at, MOST_NODES - guard.left, guard.late)
+    state[VALUE] = MOST_NODES - state[LEFT];
+    end.at
 }
 
 // ]s1= mark by mark, unless it stands right there.
-fn owned(card: &[u8], at: usize, late: Late) -> Took
-    ensures { λ r. ⌜ OwnFrom (now (card .entry)) at late r ⌝ }
+fn owned(card: &[u8], at: usize, state: &mut [usize; STATE]) -> usize
+    requires { ⌜ Sized (now state) ⌝ }
+    ensures { λ r. ⌜ OwnFrom (now (card .entry)) at (lateIn (now (state .entry))) (after (now (state .exit)) r) ⌝ }
 {
     if all_here(card, at, b"]s1=") {
-        return passed(at + 4, 0, late);
+        return at + 4;
     }
     let kinds = [SQUARE_CLOSE, SEAT, EQUAL];
     let dues = [0, 1, 0];
-    run(card, at, &kinds, &dues, late)
+    run(card, at, &kinds, &dues, state)
 }
 
 // A statement behind its `[`, the one at `index` on the card: its row, its nodes and its branches go to its places in the arrays.
@@ -99,42 +98,36 @@ fn statement(
     nodes: &mut [u32; NODE_PLACES],
     branches: &mut [u32; BRANCH_PLACES],
     index: usize,
-    late: Late,
-) -> Took
+    state: &mut [usize; STATE],
+) -> usize
+    requires { ⌜ Sized (now state) ⌝ }
     requires { ⌜ index < mostStatements ⌝ }
-    ensures { λ r. ⌜ StatementFrom (now (card .entry)) at top late (lent (now (rows .entry)) (now (nodes .entry)) (now (branches .entry))) (lent (now (rows .exit)) (now (nodes .exit)) (now (branches .exit))) index r ⌝ }
+    ensures { λ r. ⌜ StatementFrom (now (card .entry)) at top (lateIn (now (state .entry))) (lent (now (rows .entry)) (now (nodes .entry)) (now (branches .entry))) (lent (now (rows .exit)) (now (nodes .exit)) (now (branches .exit))) index (after (now (state .exit)) r) ⌝ }
 {
-    let words = owned(card, at, late);
-    if words.stop != 0 {
-        return words;
-    }
-    let own = number(card, words.next, top, words.late);
-    if own.stop != 0 {
-        return own;
-    }
-    let guard = guarded(card, own.next, top, nodes, index * MOST_NODES, own.late);
-    if guard.stop != 0 {
-        return guard;
-    }
-    let list = all_branches(
-        card,
-        guard.next,
-        top,
-        branches,
-        index * MOST_BRANCHES,
-        guard.late,
-    );
-    if list.stop != 0 {
-        return list;
-    }
     let row = index * ROW;
-    rows[row] = own.value;
-    rows[row + 1] = guard.value;
-    rows[row + 2] = list.value;
-    passed(list.next, 0, list.late)
+    let words = owned(card, at, state);
+    if words == 0 {
+        return 0;
+    }
+    let own = number(card, words, top, state);
+    if own == 0 {
+        return 0;
+    }
+    rows[row] = state[VALUE];
+    let guard = guarded(card, own, top, nodes, index * MOST_NODES, state);
+    if guard == 0 {
+        return 0;
+    }
+    rows[row + 1] = state[VALUE];
+    let list = all_branches(card, guard, top, branches, index * MOST_BRANCHES, state);
+    if list == 0 {
+        return 0;
+    }
+    rows[row + 2] = state[VALUE];
+    list
 }
 
-// All statements, and the keyword behind them; the number handed back is that of the statements.
+// All statements, and the keyword behind them; the number of statements becomes the value.
 pub fn statements(
     card: &[u8],
     at: usize,
@@ -142,36 +135,35 @@ pub fn statements(
     rows: &mut [usize; ROW_PLACES],
     nodes: &mut [u32; NODE_PLACES],
     branches: &mut [u32; BRANCH_PLACES],
-    late: Late,
-) -> Took
-    ensures { λ r. ⌜ StatementsFrom (now (card .entry)) at top late (lent (now (rows .entry)) (now (nodes .entry)) (now (branches .entry))) (lent (now (rows .exit)) (now (nodes .exit)) (now (branches .exit))) r ⌝ }
+    state: &mut [usize; STATE],
+) -> usize
+    requires { ⌜ Sized (now state) ⌝ }
+    ensures { λ r. ⌜ StatementsFrom (now (card .entry)) at top (lateIn (now (state .entry))) (lent (now (rows .entry)) (now (nodes .entry)) (now (branches .entry))) (lent (now (rows .exit)) (now (nodes .exit)) (now (branches .exit))) (after (now (state .exit)) r) ⌝ }
 {
-    let open = sign(card, at, SQUARE_OPEN, late);
-    if open.stop != 0 {
-        return open;
+    let mut next = sign(card, at, SQUARE_OPEN, state);
+    if next == 0 {
+        return 0;
     }
-    let mut next = open.next;
-    let mut kept = late;
     let mut place = at;
     let mut count = 0;
     while count < MOST_STATEMENTS {
-        let read = statement(card, next, top, rows, nodes, branches, count, kept);
-        if read.stop != 0 {
-            return read;
+        let read = statement(card, next, top, rows, nodes, branches, count, state);
+        if read == 0 {
+            return 0;
         }
         count += 1;
-        let step = step_square(card, read.next);
+        let step = step_square(card, read);
         let mark = step.mark;
         let behind = step.next;
-        kept = read.late;
         if mark.kind != SQUARE_OPEN {
             if mark.kind != ENDMODULE {
-                return stopped(OUT_OF_SHAPE, mark.place);
+                return stop(state, OUT_OF_SHAPE, mark.place);
             }
-            return passed(behind.at, count, kept);
+            state[VALUE] = count;
+            return behind.at;
         }
         place = mark.place;
         next = behind.at;
     }
-    stopped(PAST_LIMIT, place)
+    stop(state, PAST_LIMIT, place)
 }

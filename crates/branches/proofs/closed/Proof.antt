@@ -1,34 +1,33 @@
-use Rattle.marks.specs.Kinds.{kind}
-use borrow.Author.Tests.{eq-eqb, ne-eqb}
+use Rattle.branches.proofs.BranchLaws.{close-stops, close-read}
 use borrow.Author.Needs.{needs}
 use Rattle.branches.proofs.closed.Statement.{statement}
 use Rattle.branches.proofs.closed.Tie as tie
 use Rattle.branches.proofs.closed.Reads as reads
 use Rattle.branches.proofs.closed.Lts as lts
 use Rattle.branches.proofs.judge_sum.Reads as judge-sum-reads
-use Rattle.parts.proofs.passed.Reads as passed-reads
-use Rattle.parts.proofs.stopped.Reads as stopped-reads
+use Rattle.group.proofs.late.stop.Reads as stop-reads
 
--- src/lib.rt:126:9
-stopped-requires : tie.Need-stopped-requires
-stopped-requires c κs = search needs
+stop-requires : tie.Need-stop-requires
+stop-requires c κs = c .before .before .before .pre
 
--- src/lib.rt:126:9
 returns : tie.Need-returns
-returns c = rw (ne-eqb (c .before .before .before .args .mark .kind) (kind ";") (c .before .if1 .taken)) (c .stopped .ensures)
+returns c = close-stops (c .before .before .if1 .taken) (c .stop .ensures .0)
 
--- src/lib.rt:128:9
 judge-sum-requires : tie.Need-judge-sum-requires
-judge-sum-requires c κs = search needs
+judge-sum-requires c κs = c .before .before .before .pre
 
--- src/lib.rt:129:5
-passed-requires : tie.Need-passed-requires
-passed-requires c κs = search needs
+element-write-state : tie.Need-element-write-state
+element-write-state c = search needs
 
--- src/lib.rt:122:1
 returns-2 : tie.Need-returns-2
-returns-2 c = rw (eq-eqb (c .before .before .before .before .args .mark .kind) (kind ";") (c .before .before .if1 .left), ← c .before .judge-sum .ensures) (c .passed .ensures)
+returns-2 c = close-read (c .before .before .before .before .args .state .now) (c .before .before .if1 .left) (c .before .before .before .before .pre) (c .judge-sum .ensures)
 
 pub closed-spec : {M : Type 1} → statement M
 closed-spec =
-    tie.close (tie.spec stopped-requires returns judge-sum-requires passed-requires returns-2)
+    tie.close
+    (tie.spec
+    stop-requires
+    returns
+    judge-sum-requires
+    element-write-state
+    returns-2)

@@ -1,45 +1,35 @@
 use Rattle.branches.proofs.BranchLaws.{units-weighed, broken-weighed}
-use mathlib.Core.Path.{_∙_, sym}
 use borrow.Author.Needs.{needs}
 use Rattle.branches.proofs.weighed.Statement.{statement}
 use Rattle.branches.proofs.weighed.Tie as tie
 use Rattle.branches.proofs.weighed.Reads as reads
 use Rattle.branches.proofs.weighed.Lts as lts
-use Rattle.guard.proofs.blame.Reads as blame-reads
 use Rattle.branches.proofs.wide.Reads as wide-reads
-use Rattle.parts.proofs.passed.Reads as passed-reads
+use Rattle.group.proofs.late.blame.Reads as blame-reads
 
--- src/lib.rt:47:23
 enum-known-judged : tie.Need-enum-known-judged
 enum-known-judged c = search needs
 
--- src/lib.rt:47:47
 wide-requires : tie.Need-wide-requires
 wide-requires c κs = search needs
 
--- src/lib.rt:47:34
-passed-requires : tie.Need-passed-requires
-passed-requires c κs = search needs
+element-write-state : tie.Need-element-write-state
+element-write-state c = search needs
 
--- src/lib.rt:48:43
 enum-told : tie.Need-enum-told
 enum-told c = search needs
 
--- src/lib.rt:48:43
 blame-requires : tie.Need-blame-requires
-blame-requires c κs = search needs
+blame-requires c κs = c .before .before .before .pre
 
--- src/lib.rt:48:27
-passed-requires-2 : tie.Need-passed-requires-2
-passed-requires-2 c κs = search needs
+element-write-state-2 : tie.Need-element-write-state-2
+element-write-state-2 c = search needs
 
--- src/lib.rt:43:1
 returns : tie.Need-returns
-returns c = λ o e. rw (c .passed .ensures, c .before .wide .ensures) (units-weighed o (c .before .before .before .before .before .args .next) (c .before .before .before .before .before .args .place) (c .before .before .before .before .before .args .late) (c .before .before .before .judged .given .0 .0) (sym (c .before .before .before .judged .given .1) ∙ e))
+returns c = units-weighed (c .before .before .before .before .args .state .now) (c .before .before .before .before .pre) (c .before .before .judged .given .0 .0) (c .before .before .judged .given .1) (c .wide .ensures)
 
--- src/lib.rt:43:1
 returns-2 : tie.Need-returns-2
-returns-2 c = λ o e. rw (c .passed2 .ensures, c .before .blame .ensures) (broken-weighed o (c .before .before .before .before .args .next) (c .before .before .before .before .args .place) (c .before .before .before .before .args .late) (sym (c .before .before .enum-told .given .1) ∙ e))
+returns-2 c = broken-weighed (c .before .before .before .before .args .state .now) (c .before .before .before .before .pre) (c .before .before .enum-told .given .1) (c .blame .ensures)
 
 pub weighed-spec : {M : Type 1} → statement M
 weighed-spec =
@@ -47,9 +37,9 @@ weighed-spec =
     (tie.spec
     enum-known-judged
     wide-requires
-    passed-requires
+    element-write-state
     enum-told
     blame-requires
-    passed-requires-2
+    element-write-state-2
     returns
     returns-2)

@@ -1,93 +1,63 @@
--- Invariant: an answer to what is left of the run answers the whole (Left).
-use borrow.Author.Needs.{needs}
-use denote.Ref.{now}
-use Prim.Native.Nat.{ℕ, _≤_, _-_}
-use mathlib.Core.Path.{_≡_}
-use mathlib.Core.List.{List}
+-- Invariant: an answer to what is left of the run answers the whole (Going, proofs/Lines.antt). Assumes nothing.
+use Prim.Native.Nat.{_-_}
 use native.Mathlib.Omega.{arith}
-use lib.ListN.{length, drop}
-use Rattle.reading.specs.Reader.{line}
-use Rattle.parts.specs.Parts.{from, Due, Sure, kindsIn, numbersIn, itemsIn, duesIn, LineRead}
+use lib.ListN.{length}
+use Rattle.group.specs.State.{lateIn}
+use Rattle.parts.proofs.Lines.{Going, going-start, going-end, going-stops, going-more}
 use Rattle.parts.proofs.Steps.{next-at}
-use Rattle.parts.proofs.Lines.{Left, run-end-at, run-stops-at, run-more-at}
+use borrow.Author.Needs.{needs}
 use Rattle.parts.proofs.run.Statement.{statement}
 use Rattle.parts.proofs.run.Tie as tie
 use Rattle.parts.proofs.run.Reads as reads
 use Rattle.parts.proofs.run.Lts as lts
+use Rattle.group.proofs.late.stop.Reads as stop-reads
 use Rattle.looks.proofs.due.step_kind.Reads as step-kind-reads
 use Rattle.parts.proofs.judge_word.Reads as judge-word-reads
-use Rattle.parts.proofs.passed.Reads as passed-reads
-use Rattle.parts.proofs.stopped.Reads as stopped-reads
 
 abbrev Inv-loop : tie.InvT-loop
-Inv-loop card at kinds dues next₀ kept₀ i₀ next kept i = (i ≤ length kinds) × ((run : List Due) → Sure run → kinds ≡ kindsIn run → dues ≡ numbersIn run → (k n : ℕ) → Left card k n next kept (drop i kinds) (drop i dues) (LineRead card k kept₀ (duesIn run) (line (itemsIn run) (from card next₀ n))))
+Inv-loop card at kinds dues state₀ next₀ i₀ state next i = Going card next₀ kinds dues (lateIn state₀) i next state
 
 abbrev μ-loop : tie.MeasureT-loop
-μ-loop card at kinds dues next₀ kept₀ i₀ next kept i = length kinds - i
+μ-loop card at kinds dues state₀ next₀ i₀ state next i = length kinds - i
 
--- src/lib.rt:106:5
 loop-holds : tie.Need-loop-holds Inv-loop μ-loop
-loop-holds c = (omega arith, λ run h e f k n. record { rest = run; sure = h; kinds-left = e; dues-left = f; answered = λ r y. y })
+loop-holds c = going-start (c .before .before .before .args .state .now) (c .before .before .before .pre .0)
 
--- src/lib.rt:107:20
 mul-kind : tie.Need-mul-kind Inv-loop μ-loop
 mul-kind c = search needs
 
--- src/lib.rt:107:20
 shared-slice-read-kind : tie.Need-shared-slice-read-kind Inv-loop μ-loop
 shared-slice-read-kind c = search needs
 
--- src/lib.rt:108:13
 step-kind-requires : tie.Need-step-kind-requires Inv-loop μ-loop
 step-kind-requires c κs = search needs
 
--- src/lib.rt:111:13
-stopped-requires : tie.Need-stopped-requires Inv-loop μ-loop
-stopped-requires c κs = search needs
+stop-requires : tie.Need-stop-requires Inv-loop μ-loop
+stop-requires c κs = c .before .before .before .before .before .before .before .loop .inv .sized
 
--- src/lib.rt:111:13
 returns : tie.Need-returns Inv-loop μ-loop
-returns c = λ run h e f k n. rw (c .stopped .ensures)
-    (run-stops-at (now (c .before .before .before .before .before .before .before .before .before .before .before .args .card)) k n (c .before .before .before .before .before .before .before .loop .next) (c .before .before .before .before .before .before .before .loop .kept) _ (now (c .before .before .before .before .before .before .before .before .before .before .before .args .kinds)) (now (c .before .before .before .before .before .before .before .before .before .before .before .args .dues)) (c .before .before .before .before .before .before .before .loop .i) (c .before .before .before .before .before .before .loop-test .taken)
-    (c .before .before .before .before .step-kind .result) (next-at (now (c .before .before .before .before .before .before .before .before .before .before .before .args .card)) (c .before .before .before .before .before .before .before .loop .next) (c .before .before .before .before .step-kind .result) (c .before .before .before .before .step-kind .ensures)) (c .before .before .before .before .before .before .before .loop .inv .1 run h e f k n) (c .before .if1 .taken))
+returns c = going-stops (c .before .before .before .before .before .before .before .before .loop .inv) (c .before .before .before .before .before .before .before .loop-test .taken) (next-at (c .before .before .before .before .before .before .before .before .before .before .before .before .args .card .now) (c .before .before .before .before .before .before .before .before .loop .next) (c .before .before .before .before .before .step-kind .result) (c .before .before .before .before .before .step-kind .ensures)) (c .before .before .if1 .taken) (c .stop .ensures .0)
 
--- src/lib.rt:113:27
 mul-judge-word : tie.Need-mul-judge-word Inv-loop μ-loop
 mul-judge-word c = search needs
 
--- src/lib.rt:113:27
 shared-slice-read-judge-word : tie.Need-shared-slice-read-judge-word Inv-loop μ-loop
-shared-slice-read-judge-word c = search needs
+shared-slice-read-judge-word c = omega (arith, c .before .before .before .before .before .before .before .before .before .before .before .pre .1, c .before .before .before .before .before .before .loop-test .taken)
 
--- src/lib.rt:113:9
 judge-word-requires : tie.Need-judge-word-requires Inv-loop μ-loop
-judge-word-requires c κs = search needs
+judge-word-requires c κs = c .before .before .before .before .before .before .before .before .loop .inv .sized
 
--- src/lib.rt:116:9
 add-i : tie.Need-add-i Inv-loop μ-loop
 add-i c = search needs
 
--- src/lib.rt:106:5
 loop-less : tie.Need-loop-less Inv-loop μ-loop
 loop-less c = search needs
 
--- src/lib.rt:106:5
 loop-again : tie.Need-loop-again Inv-loop μ-loop
-loop-again c = (
-  omega arith,
-  λ run h e f k n. rw (c .before .judge-word .ensures)
-      (run-more-at (now (c .before .before .before .before .before .before .before .before .before .before .before .before .before .args .card)) k n (c .before .before .before .before .before .before .before .before .before .loop .next) (c .before .before .before .before .before .before .before .before .before .loop .kept) _ (now (c .before .before .before .before .before .before .before .before .before .before .before .before .before .args .kinds)) (now (c .before .before .before .before .before .before .before .before .before .before .before .before .before .args .dues)) (c .before .before .before .before .before .before .before .before .before .loop .i) (c .before .before .before .before .before .before .before .before .loop-test .taken)
-      (c .before .before .before .before .before .before .step-kind .result) (next-at (now (c .before .before .before .before .before .before .before .before .before .before .before .before .before .args .card)) (c .before .before .before .before .before .before .before .before .before .loop .next) (c .before .before .before .before .before .before .step-kind .result) (c .before .before .before .before .before .before .step-kind .ensures)) (omega (arith, c .before .before .before .before .before .before .before .before .before .before .before .before .before .pre)) (c .before .before .before .before .before .before .before .before .before .loop .inv .1 run h e f k n) (c .before .before .before .if1 .left)),
-)
+loop-again c = going-more (c .before .before .before .before .before .before .before .before .before .before .loop .inv) (c .before .before .before .before .before .before .before .before .before .loop-test .taken) (next-at (c .before .before .before .before .before .before .before .before .before .before .before .before .before .before .args .card .now) (c .before .before .before .before .before .before .before .before .before .before .loop .next) (c .before .before .before .before .before .before .before .step-kind .result) (c .before .before .before .before .before .before .before .step-kind .ensures)) (omega (arith, c .before .before .before .before .before .before .before .before .before .before .before .before .before .before .pre .1, c .before .before .before .before .before .before .before .before .before .loop-test .taken)) (c .before .before .before .before .if1 .left) (c .before .judge-word .ensures)
 
--- src/lib.rt:118:5
-passed-requires : tie.Need-passed-requires Inv-loop μ-loop
-passed-requires c κs = search needs
-
--- src/lib.rt:99:1
 returns-2 : tie.Need-returns-2 Inv-loop μ-loop
-returns-2 c = λ run h e f k n. rw (c .passed .ensures)
-    (run-end-at (now (c .before .before .before .before .before .before .args .card)) k n (c .before .before .loop .next) (c .before .before .loop .kept) _ (now (c .before .before .before .before .before .before .args .kinds)) (now (c .before .before .before .before .before .before .args .dues)) (c .before .before .loop .i) (c .before .loop-test .left) (c .before .before .loop .inv .1 run h e f k n))
+returns-2 c = going-end (c .before .loop .inv) (c .before .before .before .before .before .pre .1 .0) (c .loop-test .left)
 
 pub run-spec : {M : Type 1} → statement M
 run-spec =
@@ -99,7 +69,7 @@ run-spec =
     mul-kind
     shared-slice-read-kind
     step-kind-requires
-    stopped-requires
+    stop-requires
     returns
     mul-judge-word
     shared-slice-read-judge-word
@@ -107,5 +77,4 @@ run-spec =
     add-i
     loop-less
     loop-again
-    passed-requires
     returns-2)

@@ -1,5 +1,6 @@
 -- A way out for each part of a card, in the order of the parts (proofs/CardLaws.antt). Assumes nothing.
-use mathlib.Core.Path.{ap}
+use mathlib.Core.Path.{refl, ap}
+use native.Mathlib.Omega.{arith}
 use Rattle.card.specs.declared.Head.{Head}
 use Rattle.card.specs.declared.Verdict.the-variants.{Taken}
 use Rattle.reading.proofs.Numbers.{read-number}
@@ -10,13 +11,16 @@ use Rattle.reader.proofs.read_into.Statement.{statement}
 use Rattle.reader.proofs.read_into.Tie as tie
 use Rattle.reader.proofs.read_into.Reads as reads
 use Rattle.reader.proofs.read_into.Lts as lts
-use Rattle.guard.proofs.settle.Reads as settle-reads
-use Rattle.reader.proofs.header.header.Reads as header-reads
-use Rattle.reader.proofs.modules.modules.Reads as modules-reads
+use Rattle.frame.proofs.header.header.Reads as header-reads
+use Rattle.frame.proofs.modules.modules.Reads as modules-reads
+use Rattle.group.proofs.late.settle.Reads as settle-reads
 use Rattle.reader.proofs.refused.Reads as refused-reads
 use Rattle.reader.proofs.refused_late.Reads as refused-late-reads
 use Rattle.reader.proofs.search.Reads as search-reads
 use Rattle.reader.proofs.statements.statements.Reads as statements-reads
+
+cast-t20 : tie.Need-cast-t20
+cast-t20 c = search needs
 
 refused-requires : tie.Need-refused-requires
 refused-requires c κs = search needs
@@ -25,73 +29,126 @@ returns : tie.Need-returns
 returns c = reads-refused (read-long _ (c .before .if1 .taken)) (c .refused .ensures) (c .before .before .before .pre)
 
 header-requires : tie.Need-header-requires
-header-requires c κs = search needs
+header-requires c κs = refl
+
+array-read-search : tie.Need-array-read-search
+array-read-search c = search needs
+
+array-read-search-2 : tie.Need-array-read-search-2
+array-read-search-2 c = search needs
 
 search-requires : tie.Need-search-requires
 search-requires c κs = search needs
 
 refused-requires-2 : tie.Need-refused-requires-2
-refused-requires-2 c κs = searched-number (header-stops _ (c .before .before .before .before .if1 .left) (c .before .before .before .header .result) (c .before .before .before .header .ensures) (c .before .if2 .taken)) (c .search .ensures)
+refused-requires-2 c κs = searched-number (header-stops _ (c .before .before .before .before .if1 .left) _ (c .before .before .header .ensures) (c .before .if2 .taken)) (c .search .ensures)
 
 returns-2 : tie.Need-returns-2
-returns-2 c = reads-searched (header-stops _ (c .before .before .before .before .before .if1 .left) (c .before .before .before .before .header .result) (c .before .before .before .before .header .ensures) (c .before .before .if2 .taken)) (c .before .search .ensures) (c .refused2 .ensures) (c .before .before .before .before .before .before .before .pre)
+returns-2 c = reads-searched (header-stops _ (c .before .before .before .before .before .if1 .left) _ (c .before .before .before .header .ensures) (c .before .before .if2 .taken)) (c .before .search .ensures) (c .refused2 .ensures) (c .before .before .before .before .before .before .before .pre)
+
+array-read-mode : tie.Need-array-read-mode
+array-read-mode c = search needs
+
+array-read-top : tie.Need-array-read-top
+array-read-top c = search needs
+
+array-read-start : tie.Need-array-read-start
+array-read-start c = search needs
 
 statements-requires : tie.Need-statements-requires
-statements-requires c κs = search needs
+statements-requires c κs = c .before .before .before .before .before .header .ensures .sized
+
+array-read-search-3 : tie.Need-array-read-search-3
+array-read-search-3 c = search needs
+
+array-read-search-4 : tie.Need-array-read-search-4
+array-read-search-4 c = search needs
 
 search-requires-2 : tie.Need-search-requires-2
 search-requires-2 c κs = search needs
 
 refused-late-requires : tie.Need-refused-late-requires
-refused-late-requires c κs = searched-number (statements-stop _ (c .before .before .before .before .before .before .before .before .before .before .before .before .before .if1 .left) (c .before .before .before .before .before .before .before .before .before .before .before .before .header .result) (c .before .before .before .before .before .before .before .before .before .before .before .before .header .ensures) (c .before .before .before .before .before .before .before .before .before .before .if2 .left) (c .before .before .before .before .before .before .statements .result) _ _ (c .before .before .before .before .before .before .statements .ensures) (c .before .before .before .before .if3 .taken)) (c .before .before .before .search2 .ensures)
+refused-late-requires c κs = searched-number (statements-stop _ (c .before .before .before .before .before .before .before .before .before .before .before .before .before .if1 .left) _ (c .before .before .before .before .before .before .before .before .before .before .before .header .ensures) (c .before .before .before .before .before .before .before .before .before .before .if2 .left) _ _ _ (c .before .before .before .before .before .statements .ensures) (c .before .before .before .before .if3 .taken)) (c .before .before .before .search2 .ensures)
 
 returns-3 : tie.Need-returns-3
-returns-3 c = reads-searched (statements-stop _ (c .before .before .before .before .before .before .before .before .before .before .before .before .before .before .if1 .left) (c .before .before .before .before .before .before .before .before .before .before .before .before .before .header .result) (c .before .before .before .before .before .before .before .before .before .before .before .before .before .header .ensures) (c .before .before .before .before .before .before .before .before .before .before .before .if2 .left) (c .before .before .before .before .before .before .before .statements .result) _ _ (c .before .before .before .before .before .before .before .statements .ensures) (c .before .before .before .before .before .if3 .taken)) (c .before .before .before .before .search2 .ensures) (c .refused-late .ensures .0) (c .refused-late .ensures .1)
+returns-3 c = reads-searched (statements-stop _ (c .before .before .before .before .before .before .before .before .before .before .before .before .before .before .if1 .left) _ (c .before .before .before .before .before .before .before .before .before .before .before .before .header .ensures) (c .before .before .before .before .before .before .before .before .before .before .before .if2 .left) _ _ _ (c .before .before .before .before .before .before .statements .ensures) (c .before .before .before .before .before .if3 .taken)) (c .before .before .before .before .search2 .ensures) (c .refused-late .ensures .0) (c .refused-late .ensures .1)
+
+array-read-count : tie.Need-array-read-count
+array-read-count c = search needs
 
 modules-requires : tie.Need-modules-requires
-modules-requires c κs = search needs
+modules-requires c κs = (c .before .before .statements .ensures .sized, c .before .if3 .left)
+
+array-read-search-5 : tie.Need-array-read-search-5
+array-read-search-5 c = search needs
+
+array-read-search-6 : tie.Need-array-read-search-6
+array-read-search-6 c = search needs
 
 search-requires-3 : tie.Need-search-requires-3
 search-requires-3 c κs = search needs
 
 refused-late-requires-2 : tie.Need-refused-late-requires-2
-refused-late-requires-2 c κs = searched-number (modules-stop _ (c .before .before .before .before .before .before .before .before .before .before .before .before .before .before .before .before .if1 .left) (c .before .before .before .before .before .before .before .before .before .before .before .before .before .before .before .header .result) (c .before .before .before .before .before .before .before .before .before .before .before .before .before .before .before .header .ensures) (c .before .before .before .before .before .before .before .before .before .before .before .before .before .if2 .left) (c .before .before .before .before .before .before .before .before .before .statements .result) _ _ (c .before .before .before .before .before .before .before .before .before .statements .ensures) (c .before .before .before .before .before .before .before .if3 .left) (c .before .before .before .before .before .before .modules .result) (c .before .before .before .before .before .before .modules .ensures) (c .before .before .before .before .if4 .taken)) (c .before .before .before .search3 .ensures)
+refused-late-requires-2 c κs = searched-number (modules-stop _ (c .before .before .before .before .before .before .before .before .before .before .before .before .before .before .before .before .if1 .left) _ (c .before .before .before .before .before .before .before .before .before .before .before .before .before .before .header .ensures) (c .before .before .before .before .before .before .before .before .before .before .before .before .before .if2 .left) _ _ _ (c .before .before .before .before .before .before .before .before .statements .ensures) (c .before .before .before .before .before .before .before .if3 .left) _ (c .before .before .before .before .before .modules .ensures) (c .before .before .before .before .if4 .taken)) (c .before .before .before .search3 .ensures)
 
 returns-4 : tie.Need-returns-4
-returns-4 c = reads-searched (modules-stop _ (c .before .before .before .before .before .before .before .before .before .before .before .before .before .before .before .before .before .if1 .left) (c .before .before .before .before .before .before .before .before .before .before .before .before .before .before .before .before .header .result) (c .before .before .before .before .before .before .before .before .before .before .before .before .before .before .before .before .header .ensures) (c .before .before .before .before .before .before .before .before .before .before .before .before .before .before .if2 .left) (c .before .before .before .before .before .before .before .before .before .before .statements .result) _ _ (c .before .before .before .before .before .before .before .before .before .before .statements .ensures) (c .before .before .before .before .before .before .before .before .if3 .left) (c .before .before .before .before .before .before .before .modules .result) (c .before .before .before .before .before .before .before .modules .ensures) (c .before .before .before .before .before .if4 .taken)) (c .before .before .before .before .search3 .ensures) (c .refused-late2 .ensures .0) (c .refused-late2 .ensures .1)
+returns-4 c = reads-searched (modules-stop _ (c .before .before .before .before .before .before .before .before .before .before .before .before .before .before .before .before .before .if1 .left) _ (c .before .before .before .before .before .before .before .before .before .before .before .before .before .before .before .header .ensures) (c .before .before .before .before .before .before .before .before .before .before .before .before .before .before .if2 .left) _ _ _ (c .before .before .before .before .before .before .before .before .before .statements .ensures) (c .before .before .before .before .before .before .before .before .if3 .left) _ (c .before .before .before .before .before .before .modules .ensures) (c .before .before .before .before .before .if4 .taken)) (c .before .before .before .before .search3 .ensures) (c .refused-late2 .ensures .0) (c .refused-late2 .ensures .1)
+
+array-read-seats : tie.Need-array-read-seats
+array-read-seats c = search needs
 
 settle-requires : tie.Need-settle-requires
-settle-requires c κs = search needs
+settle-requires c κs = c .before .before .modules .ensures .sized
+
+array-read-t18 : tie.Need-array-read-t18
+array-read-t18 c = search needs
+
+array-read-t69 : tie.Need-array-read-t69
+array-read-t69 c = search needs
 
 refused-late-requires-3 : tie.Need-refused-late-requires-3
-refused-late-requires-3 c κs = read-number _ (late-read _ (c .before .before .before .before .before .before .before .before .before .before .before .before .before .before .before .before .before .before .if1 .left) (c .before .before .before .before .before .before .before .before .before .before .before .before .before .before .before .before .before .header .result) (c .before .before .before .before .before .before .before .before .before .before .before .before .before .before .before .before .before .header .ensures) (c .before .before .before .before .before .before .before .before .before .before .before .before .before .before .before .if2 .left) (c .before .before .before .before .before .before .before .before .before .before .before .statements .result) _ _ (c .before .before .before .before .before .before .before .before .before .before .before .statements .ensures) (c .before .before .before .before .before .before .before .before .before .if3 .left) (c .before .before .before .before .before .before .before .before .modules .result) (c .before .before .before .before .before .before .before .before .modules .ensures) (c .before .before .before .before .before .before .if4 .left) (c .before .before .before .before .before .settle .result) (c .before .before .before .before .before .settle .ensures) (c .before .before .before .if5 .taken))
+refused-late-requires-3 c κs = read-number _ (late-read _ (c .before .before .before .before .before .before .before .before .before .before .before .before .before .before .before .before .before .before .before .if1 .left) _ (c .before .before .before .before .before .before .before .before .before .before .before .before .before .before .before .before .before .header .ensures) (c .before .before .before .before .before .before .before .before .before .before .before .before .before .before .before .before .if2 .left) _ _ _ (c .before .before .before .before .before .before .before .before .before .before .before .statements .ensures) (c .before .before .before .before .before .before .before .before .before .before .if3 .left) _ (c .before .before .before .before .before .before .before .before .modules .ensures) (c .before .before .before .before .before .before .before .if4 .left) (c .before .before .before .before .before .settle .last .0) (c .before .before .before .before .before .settle .ensures .0) (c .before .before .before .if5 .taken))
 
 returns-5 : tie.Need-returns-5
-returns-5 c = reads-refused (late-read _ (c .before .before .before .before .before .before .before .before .before .before .before .before .before .before .before .before .before .before .before .if1 .left) (c .before .before .before .before .before .before .before .before .before .before .before .before .before .before .before .before .before .before .header .result) (c .before .before .before .before .before .before .before .before .before .before .before .before .before .before .before .before .before .before .header .ensures) (c .before .before .before .before .before .before .before .before .before .before .before .before .before .before .before .before .if2 .left) (c .before .before .before .before .before .before .before .before .before .before .before .before .statements .result) _ _ (c .before .before .before .before .before .before .before .before .before .before .before .before .statements .ensures) (c .before .before .before .before .before .before .before .before .before .before .if3 .left) (c .before .before .before .before .before .before .before .before .before .modules .result) (c .before .before .before .before .before .before .before .before .before .modules .ensures) (c .before .before .before .before .before .before .before .if4 .left) (c .before .before .before .before .before .before .settle .result) (c .before .before .before .before .before .before .settle .ensures) (c .before .before .before .before .if5 .taken)) (c .refused-late3 .ensures .0) (c .refused-late3 .ensures .1)
+returns-5 c = reads-refused (late-read _ (c .before .before .before .before .before .before .before .before .before .before .before .before .before .before .before .before .before .before .before .before .if1 .left) _ (c .before .before .before .before .before .before .before .before .before .before .before .before .before .before .before .before .before .before .header .ensures) (c .before .before .before .before .before .before .before .before .before .before .before .before .before .before .before .before .before .if2 .left) _ _ _ (c .before .before .before .before .before .before .before .before .before .before .before .before .statements .ensures) (c .before .before .before .before .before .before .before .before .before .before .before .if3 .left) _ (c .before .before .before .before .before .before .before .before .before .modules .ensures) (c .before .before .before .before .before .before .before .before .if4 .left) (c .before .before .before .before .before .before .settle .last .0) (c .before .before .before .before .before .before .settle .ensures .0) (c .before .before .before .before .if5 .taken)) (c .refused-late3 .ensures .0) (c .refused-late3 .ensures .1)
 
 returns-6 : tie.Need-returns-6
-returns-6 c = let t = taken-read _ (c .before .before .before .before .before .before .before .before .before .before .before .before .before .before .before .if1 .left) (c .before .before .before .before .before .before .before .before .before .before .before .before .before .before .header .result) (c .before .before .before .before .before .before .before .before .before .before .before .before .before .before .header .ensures) (c .before .before .before .before .before .before .before .before .before .before .before .before .if2 .left) (c .before .before .before .before .before .before .before .before .statements .result) _ _ (c .before .before .before .before .before .before .before .before .statements .ensures) (c .before .before .before .before .before .before .if3 .left) (c .before .before .before .before .before .modules .result) (c .before .before .before .before .before .modules .ensures) (c .before .before .before .if4 .left) (c .before .before .settle .result) (c .before .before .settle .ensures) (c .if5 .left) (c .before .before .before .before .before .before .before .before .before .before .before .before .before .before .before .before .before .pre) in
+returns-6 c = let t = taken-read _ (c .before .before .before .before .before .before .before .before .before .before .before .before .before .before .before .before .if1 .left) _ (c .before .before .before .before .before .before .before .before .before .before .before .before .before .before .header .ensures) (c .before .before .before .before .before .before .before .before .before .before .before .before .before .if2 .left) _ _ _ (c .before .before .before .before .before .before .before .before .statements .ensures) (c .before .before .before .before .before .before .before .if3 .left) _ (c .before .before .before .before .before .modules .ensures) (c .before .before .before .before .if4 .left) (c .before .before .settle .last .0) (c .before .before .settle .ensures .0) (c .if5 .left) (c .before .before .before .before .before .before .before .before .before .before .before .before .before .before .before .before .before .before .pre) in
     reads-taken (t .0) (t .1) (ap (λ (h : Head). record { verdict = Taken; head = h }) (t .2)) (t .3)
 
 pub read-into-spec : {M : Type 1} → statement M
 read-into-spec =
     tie.close
     (tie.spec
+    cast-t20
     refused-requires
     returns
     header-requires
+    array-read-search
+    array-read-search-2
     search-requires
     refused-requires-2
     returns-2
+    array-read-mode
+    array-read-top
+    array-read-start
     statements-requires
+    array-read-search-3
+    array-read-search-4
     search-requires-2
     refused-late-requires
     returns-3
+    array-read-count
     modules-requires
+    array-read-search-5
+    array-read-search-6
     search-requires-3
     refused-late-requires-2
     returns-4
+    array-read-seats
     settle-requires
+    array-read-t18
+    array-read-t69
     refused-late-requires-3
     returns-5
     returns-6)

@@ -32,6 +32,9 @@ step-requires c κs = search needs
 returns : tie.Need-returns Inv-loop μ-loop
 returns c = sym (ap (searched (c .before .before .before .before .before .before .before .args .stop) (c .before .before .before .before .before .before .before .args .place)) (c .before .before .before .before .before .loop .inv ∙ search-end (now (c .before .before .before .before .before .before .before .args .card)) (c .before .before .before .before .before .loop .next) (c .before .before .before .step .result) (next-at (now (c .before .before .before .before .before .before .before .args .card)) (c .before .before .before .before .before .loop .next) (c .before .before .before .step .result) (c .before .before .before .step .ensures)) (c .if1 .taken)))
 
+cast-t11 : tie.Need-cast-t11 Inv-loop μ-loop
+cast-t11 c = search needs
+
 -- src/lib.rt:54:13
 returns-2 : tie.Need-returns-2 Inv-loop μ-loop
 returns-2 c = sym (ap (searched (c .before .before .before .before .before .before .before .before .before .args .stop) (c .before .before .before .before .before .before .before .before .before .args .place)) (c .before .before .before .before .before .before .before .loop .inv ∙ search-found (now (c .before .before .before .before .before .before .before .before .before .args .card)) (c .before .before .before .before .before .before .before .loop .next) (c .before .before .before .before .before .step .result) (next-at (now (c .before .before .before .before .before .before .before .before .before .args .card)) (c .before .before .before .before .before .before .before .loop .next) (c .before .before .before .before .before .step .result) (c .before .before .before .before .before .step .ensures)) (c .if2 .taken)))
@@ -57,6 +60,7 @@ search-spec =
     loop-holds
     step-requires
     returns
+    cast-t11
     returns-2
     loop-less
     loop-again

@@ -1,0 +1,28 @@
+use Rattle.frame.proofs.ModuleLaws.{end-stops, end-read}
+use borrow.Author.Needs.{needs}
+use Rattle.frame.proofs.modules.ended.Statement.{statement}
+use Rattle.frame.proofs.modules.ended.Tie as tie
+use Rattle.frame.proofs.modules.ended.Reads as reads
+use Rattle.frame.proofs.modules.ended.Lts as lts
+use Rattle.group.proofs.late.stop.Reads as stop-reads
+
+stop-requires : tie.Need-stop-requires
+stop-requires c κs = c .before .before .before .pre
+
+returns : tie.Need-returns
+returns c = end-stops (c .before .before .if1 .taken) (c .stop .ensures .0)
+
+element-write-state : tie.Need-element-write-state
+element-write-state c = search needs
+
+returns-2 : tie.Need-returns-2
+returns-2 c = end-read (c .before .before .args .state .now) (c .if1 .left) (c .before .before .pre)
+
+pub ended-spec : {M : Type 1} → statement M
+ended-spec =
+    tie.close
+    (tie.spec
+    stop-requires
+    returns
+    element-write-state
+    returns-2)

@@ -1,0 +1,117 @@
+-- What reading the beginning of a card, up to its statements, and its further modules, up to its end, leaves behind it. Assumes nothing.
+use Prim.Native.Nat.{ℕ, suc, _-_}
+use mathlib.Core.Path.{_≡_}
+use mathlib.Core.List.{List, [], _∷_, _++_}
+use lib.ListN.{length, getD}
+use Rattle.card.specs.Limits.{mostSeats}
+use Rattle.card.specs.Refusals.{outOfShape}
+use Rattle.card.specs.Card.{Mode}
+use Rattle.card.specs.Laid.{modeNumber}
+use Rattle.marks.specs.Kinds.{kEnd}
+use Rattle.marks.specs.declared.Found.{Found}
+use Rattle.reading.specs.Reader.{State, Result, Reader, bind, _>>=_, _>>_, return, the, sign, numberOf, Numbered, numbered, line}
+use Rattle.reading.specs.Grammar.{cardRun}
+use Rattle.reading.specs.Judgements.{Judgement}
+use Rattle.reading.specs.Shape.{modeOf, zeroOf, top, moreModules, theEnd}
+use Rattle.reading.specs.Checks.{judgedState, judgedWords, judgedModules}
+use Rattle.group.specs.Late.{Late, judgeAll}
+use Rattle.group.specs.State.{atMode, atTop, atStart, Sized, lateIn, valueIn, After, Halted}
+use Rattle.parts.specs.Parts.{from, Answers, Kept, Went, Due, sign as due, seat, process, kindsIn, numbersIn, RunFrom}
+
+-- ---- the mode, and the top state
+
+-- a number that is not judged
+pub record Valued (before : Late) (v : ℕ) (state : List ℕ) : Type 0 where
+  pub value : valueIn state ≡ v
+  pub late : lateIn state ≡ before
+
+abbrev pub ModeRead : List ℕ → Late → Result Mode → After → Type 0
+ModeRead s before = Answers s (λ m. Valued before (modeNumber m))
+
+pub record ModeFrom (s : List ℕ) (i : ℕ) (before : Late) (r : After) : Type 0 where
+  pub answers : (n : ℕ) → ModeRead s before (the modeOf (from s i n)) r
+  pub sized : Sized (r .state)
+
+abbrev pub range : Reader ℕ
+range = do
+  z ← the zeroOf
+  sign ".."
+  top
+
+abbrev pub RangeRead : List ℕ → Late → Result ℕ → After → Type 0
+RangeRead s before = Answers s (Valued before)
+
+pub record RangeFrom (s : List ℕ) (i : ℕ) (before : Late) (r : After) : Type 0 where
+  pub answers : (n : ℕ) → RangeRead s before (range (from s i n)) r
+  pub sized : Sized (r .state)
+
+-- ---- the beginning
+
+-- what is due behind the mode
+abbrev pub cardDue : List Due
+cardDue = due "module" ∷ process 1 ∷ seat 1 ∷ due ":" ∷ due "[" ∷ []
+
+pub record HeaderShape : Type 0 where
+  pub mode : Mode
+  pub words : List Numbered
+  pub k : ℕ
+  pub l : Numbered
+
+abbrev pub header : Reader HeaderShape
+header = do
+  mode ← the modeOf
+  ws ← line cardRun
+  k ← range
+  sign "]"
+  sign "init"
+  l ← numbered numberOf
+  sign ";"
+  return (record { mode = mode; words = ws; k = k; l = l })
+
+abbrev pub judgedHeader : HeaderShape → List Judgement
+judgedHeader h = judgedWords (1 ∷ 1 ∷ []) (h .words) ++ (judgedState (h .l) ∷ [])
+
+pub record HeaderIn (s : List ℕ) (before : Late) (h : HeaderShape) (state : List ℕ) : Type 0 where
+  pub mode : getD state atMode 0 ≡ modeNumber (h .mode)
+  pub top : getD state atTop 0 ≡ h .k
+  pub start : getD state atStart 0 ≡ h .l .value
+  pub late : Kept s (h .k) before (judgedHeader h) state
+
+abbrev pub HeaderRead : List ℕ → Late → Result HeaderShape → After → Type 0
+HeaderRead s before = Answers s (HeaderIn s before)
+
+pub record HeaderFrom (s : List ℕ) (i : ℕ) (before : Late) (r : After) : Type 0 where
+  pub answers : (n : ℕ) → HeaderRead s before (header (from s i n)) r
+  pub sized : Sized (r .state)
+
+-- ---- a further module for seat i, behind its keyword
+
+abbrev pub moduleDue : ℕ → List Due
+moduleDue i =
+    process i ∷ due "=" ∷ process 1
+    ∷ due "[" ∷ seat 1 ∷ due "=" ∷ seat i ∷ due "," ∷ seat i ∷ due "=" ∷ seat 1 ∷ due "]"
+    ∷ due "endmodule" ∷ []
+
+abbrev pub ModuleFrom : List ℕ → ℕ → ℕ → Late → After → Type 0
+ModuleFrom s at i late r = RunFrom s at (kindsIn (moduleDue i)) (numbersIn (moduleDue i)) late r
+
+-- ---- the further modules: the number is that of the seats
+
+-- by the mark behind the last module
+pub record EndedBy (m : Found) (at seats : ℕ) (late : Late) (r : After) : Type 0 where
+  pub ends : m .kind ≡ kEnd → (r .next ≡ at) × Valued late seats (r .state)
+  pub stops : (m .kind ≡ kEnd → ⊥) → Halted outOfShape (m .place) r
+  pub sized : Sized (r .state)
+
+abbrev pub modules : Reader (List (List Numbered))
+modules = do
+  ms ← moreModules (mostSeats - 1)
+  theEnd
+  return ms
+
+abbrev pub ModulesRead : List ℕ → ℕ → Late → Result (List (List Numbered)) → After → Type 0
+ModulesRead s k before = Answers s (λ ms. Went s k before (suc (length ms)) (judgedModules 2 ms))
+
+pub record ModulesFrom (s : List ℕ) (i : ℕ) (before : Late) (r : After) : Type 0 where
+  pub answers : (k n : ℕ) → ModulesRead s k before (modules (from s i n)) r
+  pub sized : Sized (r .state)
