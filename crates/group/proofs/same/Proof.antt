@@ -12,7 +12,11 @@ returns-2 : tie.Need-returns-2
 returns-2 c = rw (ne-eqb _ _ (c .if2 .taken)) (sym (and-false (c .before .before .before .before .args .alike)))
 
 returns-3 : tie.Need-returns-3
-returns-3 c = rw (not-false (c .before .before .before .before .before .before .args .alike) (c .before .before .before .before .before .if1 .left), eq-eqb _ _ (c .before .before .if2 .left))
+returns-3 c =
+    let at-if2 = c .before .before in
+    let at-if1 = at-if2 .before .before .before in
+    let entry = at-if1 .before in
+    rw (not-false (entry .args .alike) (at-if1 .if1 .left), eq-eqb _ _ (at-if2 .if2 .left))
 
 pub same-spec : {M : Type 1} → statement M
 same-spec = tie.close (tie.spec returns returns-2 returns-3)

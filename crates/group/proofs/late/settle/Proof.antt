@@ -18,7 +18,9 @@ wide-requires : tie.Need-wide-requires
 wide-requires c κs = tt
 
 refuse-requires : tie.Need-refuse-requires
-refuse-requires c κs = c .before .before .before .before .before .before .pre
+refuse-requires c κs =
+    let entry = c .before .before .before .before .before .before in
+    entry .pre
 
 returns : tie.Need-returns
 returns c =
@@ -35,7 +37,9 @@ wide-requires-2 : tie.Need-wide-requires-2
 wide-requires-2 c κs = tt
 
 refuse-requires-2 : tie.Need-refuse-requires-2
-refuse-requires-2 c κs = c .before .before .before .before .before .before .before .pre
+refuse-requires-2 c κs =
+    let entry = c .before .before .before .before .before .before .before in
+    entry .pre
 
 returns-2 : tie.Need-returns-2
 returns-2 c =
@@ -49,7 +53,9 @@ element-copy-out-place : tie.Need-element-copy-out-place
 element-copy-out-place c = search needs
 
 refuse-requires-3 : tie.Need-refuse-requires-3
-refuse-requires-3 c κs = c .before .before .before .before .before .before .before .pre
+refuse-requires-3 c κs =
+    let entry = c .before .before .before .before .before .before .before in
+    entry .pre
 
 returns-3 : tie.Need-returns-3
 returns-3 c =

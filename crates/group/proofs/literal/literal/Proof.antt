@@ -22,7 +22,9 @@ returns : tie.Need-returns
 returns c = search needs
 
 add-first : tie.Need-add-first
-add-first c = omega (arith, sign-place (c .before .before .before .args .part .now) (c .before .before .before .args .at) 61 (sym (c .before .sign-here .ensures) ∙ not-false (c .before .sign-here .result) (c .if1 .left)))
+add-first c =
+    let entry = c .before .before .before in
+    omega (arith, sign-place (entry .args .part .now) (entry .args .at) 61 (sym (c .before .sign-here .ensures) ∙ not-false (c .before .sign-here .result) (c .if1 .left)))
 
 digit-here-requires : tie.Need-digit-here-requires
 digit-here-requires c κs = search needs
@@ -34,10 +36,16 @@ returns-2 : tie.Need-returns-2
 returns-2 c = search needs
 
 add-t7 : tie.Need-add-t7
-add-t7 c = omega (arith, digit-place (c .before .before .before .before .before .args .part .now) (c .before .before .before .before .before .args .at + 1) (c .before .digit-here .result) (c .before .digit-here .ensures) (c .if2 .left))
+add-t7 c =
+    let entry = c .before .before .before .before .before in
+    omega (arith, digit-place (entry .args .part .now) (entry .args .at + 1) (c .before .digit-here .result) (c .before .digit-here .ensures) (c .if2 .left))
 
 returns-3 : tie.Need-returns-3
-returns-3 c = literal-whole (now (c .before .before .before .before .before .args .part)) (c .before .before .before .before .before .args .at) 0 (bareOf 61 (c .before .before .before .before .before .args .at) (c .before .before .before .before .before .args .at + 1)) (valuedOf kNumber (c .before .digit-here .result) (c .before .before .before .before .before .args .at + 1) (c .before .before .before .before .before .args .at + 1 + 1)) (sym (sign-step (c .before .before .before .before .before .args .part .now) (c .before .before .before .before .before .args .at) 61 (sym (c .before .before .before .sign-here .ensures) ∙ not-false (c .before .before .before .sign-here .result) (c .before .before .if1 .left)))) (sym (digit-step (c .before .before .before .before .before .args .part .now) (c .before .before .before .before .before .args .at + 1) (c .before .digit-here .result) (c .before .digit-here .ensures) (c .if2 .left))) refl (λ z. omega arith) refl
+returns-3 c =
+    let at-if1 = c .before .before in
+    let at-sign-here = at-if1 .before in
+    let entry = at-sign-here .before .before in
+    literal-whole (now (entry .args .part)) (entry .args .at) 0 (bareOf 61 (entry .args .at) (entry .args .at + 1)) (valuedOf kNumber (c .before .digit-here .result) (entry .args .at + 1) (entry .args .at + 1 + 1)) (sym (sign-step (entry .args .part .now) (entry .args .at) 61 (sym (at-sign-here .sign-here .ensures) ∙ not-false (at-sign-here .sign-here .result) (at-if1 .if1 .left)))) (sym (digit-step (entry .args .part .now) (entry .args .at + 1) (c .before .digit-here .result) (c .before .digit-here .ensures) (c .if2 .left))) refl (λ z. omega arith) refl
 
 pub literal-spec : {M : Type 1} → statement M
 literal-spec =

@@ -13,7 +13,11 @@ no-tail-requires : tie.Need-no-tail-requires
 no-tail-requires c κs = tt
 
 returns : tie.Need-returns
-returns c = rw (c .no-tail .ensures) (literal-sign (now (c .before .before .before .before .before .args .part)) (c .before .before .before .before .before .args .at) (c .before .before .relation .result) (c .before .before .before .step-relation .result) (c .before .before .before .step-relation .ensures) (c .before .before .relation .ensures) (c .before .if1 .taken))
+returns c =
+    let at-relation = c .before .before in
+    let at-step-relation = at-relation .before in
+    let entry = at-step-relation .before .before in
+    rw (c .no-tail .ensures) (literal-sign (now (entry .args .part)) (entry .args .at) (at-relation .relation .result) (at-step-relation .step-relation .result) (at-step-relation .step-relation .ensures) (at-relation .relation .ensures) (c .before .if1 .taken))
 
 step-number-requires : tie.Need-step-number-requires
 step-number-requires c κs = tt
@@ -22,10 +26,22 @@ no-tail-requires-2 : tie.Need-no-tail-requires-2
 no-tail-requires-2 c κs = tt
 
 returns-2 : tie.Need-returns-2
-returns-2 c = rw (c .no-tail2 .ensures) (literal-number (now (c .before .before .before .before .before .before .before .before .before .args .part)) (c .before .before .before .before .before .before .before .before .before .args .at) (c .before .before .before .before .before .before .relation .result) (c .before .before .before .before .before .before .before .step-relation .result) (c .before .before .before .step-number .result) (c .before .before .before .before .before .before .before .step-relation .ensures) (c .before .before .before .step-number .ensures) (c .before .before .before .before .before .before .relation .ensures) (c .before .before .before .before .before .if1 .left) (c .before .if2 .taken))
+returns-2 c =
+    let at-step-number = c .before .before .before in
+    let at-if1 = at-step-number .before .before in
+    let at-relation = at-if1 .before in
+    let at-step-relation = at-relation .before in
+    let entry = at-step-relation .before .before in
+    rw (c .no-tail2 .ensures) (literal-number (now (entry .args .part)) (entry .args .at) (at-relation .relation .result) (at-step-relation .step-relation .result) (at-step-number .step-number .result) (at-step-relation .step-relation .ensures) (at-step-number .step-number .ensures) (at-relation .relation .ensures) (at-if1 .if1 .left) (c .before .if2 .taken))
 
 returns-3 : tie.Need-returns-3
-returns-3 c = literal-whole (now (c .before .before .before .before .before .before .before .before .args .part)) (c .before .before .before .before .before .before .before .before .args .at) (c .before .before .before .before .before .relation .result) (c .before .before .before .before .before .before .step-relation .result) (c .before .before .step-number .result) (c .before .before .before .before .before .before .step-relation .ensures) (c .before .before .step-number .ensures) (c .before .before .before .before .before .relation .ensures) (c .before .before .before .before .if1 .left) (c .if2 .left)
+returns-3 c =
+    let at-step-number = c .before .before in
+    let at-if1 = at-step-number .before .before in
+    let at-relation = at-if1 .before in
+    let at-step-relation = at-relation .before in
+    let entry = at-step-relation .before .before in
+    literal-whole (now (entry .args .part)) (entry .args .at) (at-relation .relation .result) (at-step-relation .step-relation .result) (at-step-number .step-number .result) (at-step-relation .step-relation .ensures) (at-step-number .step-number .ensures) (at-relation .relation .ensures) (at-if1 .if1 .left) (c .if2 .left)
 
 pub long-literal-spec : {M : Type 1} → statement M
 long-literal-spec =

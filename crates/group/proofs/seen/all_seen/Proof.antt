@@ -24,7 +24,11 @@ element-copy-out-if1 : tie.Need-element-copy-out-if1 Inv-loop μ-loop
 element-copy-out-if1 c = search needs
 
 returns : tie.Need-returns Inv-loop μ-loop
-returns c = sym (c .before .before .before .loop .inv ∙ seen-more (c .before .before .before .before .args .seen .now) (c .before .before .before .before .args .first) (c .before .before .before .before .args .count) (c .before .before .before .loop .i) (c .before .before .loop-test .taken) ∙ rw (eq-eqb _ _ (c .if1 .taken)))
+returns c =
+    let at-loop-test = c .before .before in
+    let at-loop = at-loop-test .before in
+    let entry = at-loop .before in
+    sym (at-loop .loop .inv ∙ seen-more (entry .args .seen .now) (entry .args .first) (entry .args .count) (at-loop .loop .i) (at-loop-test .loop-test .taken) ∙ rw (eq-eqb _ _ (c .if1 .taken)))
 
 add-i : tie.Need-add-i Inv-loop μ-loop
 add-i c = search needs
@@ -33,10 +37,16 @@ loop-less : tie.Need-loop-less Inv-loop μ-loop
 loop-less c = search needs
 
 loop-again : tie.Need-loop-again Inv-loop μ-loop
-loop-again c = c .before .before .before .loop .inv ∙ seen-more (c .before .before .before .before .args .seen .now) (c .before .before .before .before .args .first) (c .before .before .before .before .args .count) (c .before .before .before .loop .i) (c .before .before .loop-test .taken) ∙ rw (ne-eqb _ _ (c .if1 .left))
+loop-again c =
+    let at-loop-test = c .before .before in
+    let at-loop = at-loop-test .before in
+    let entry = at-loop .before in
+    at-loop .loop .inv ∙ seen-more (entry .args .seen .now) (entry .args .first) (entry .args .count) (at-loop .loop .i) (at-loop-test .loop-test .taken) ∙ rw (ne-eqb _ _ (c .if1 .left))
 
 returns-2 : tie.Need-returns-2 Inv-loop μ-loop
-returns-2 c = sym (c .before .loop .inv ∙ seen-end (c .before .before .args .seen .now) (c .before .before .args .first) (c .before .before .args .count) (c .before .loop .i) (c .loop-test .left))
+returns-2 c =
+    let entry = c .before .before in
+    sym (c .before .loop .inv ∙ seen-end (entry .args .seen .now) (entry .args .first) (entry .args .count) (c .before .loop .i) (c .loop-test .left))
 
 pub all-seen-spec : {M : Type 1} → statement M
 all-seen-spec =

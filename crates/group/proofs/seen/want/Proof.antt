@@ -12,7 +12,10 @@ element-copy-out-if2 : tie.Need-element-copy-out-if2
 element-copy-out-if2 c = search needs
 
 returns-2 : tie.Need-returns-2
-returns-2 c = others-many (c .before .before .before .before .args .seen .now) (c .before .before .before .before .args .count) (c .before .before .before .before .args .alike) (not-false (c .before .before .before .before .args .alike) (c .before .before .before .if1 .left)) (c .before .if2 .taken) (c .if3 .taken)
+returns-2 c =
+    let at-if1 = c .before .before .before in
+    let entry = at-if1 .before in
+    others-many (entry .args .seen .now) (entry .args .count) (entry .args .alike) (not-false (entry .args .alike) (at-if1 .if1 .left)) (c .before .if2 .taken) (c .if3 .taken)
 
 all-seen-requires : tie.Need-all-seen-requires
 all-seen-requires c κs = search needs
@@ -21,22 +24,45 @@ add-result : tie.Need-add-result
 add-result c = search needs
 
 returns-3 : tie.Need-returns-3
-returns-3 c = others-want (c .before .before .before .before .before .before .args .seen .now) (c .before .before .before .before .before .before .args .count) (c .before .before .before .before .before .before .args .alike) (not-false (c .before .before .before .before .before .before .args .alike) (c .before .before .before .before .before .if1 .left)) (c .before .before .before .if2 .taken) (c .before .all-seen .result) (c .before .before .if3 .left) (c .before .all-seen .ensures) (c .if4 .taken)
+returns-3 c =
+    let at-if3 = c .before .before in
+    let at-if2 = at-if3 .before in
+    let at-if1 = at-if2 .before .before in
+    let entry = at-if1 .before in
+    others-want (entry .args .seen .now) (entry .args .count) (entry .args .alike) (not-false (entry .args .alike) (at-if1 .if1 .left)) (at-if2 .if2 .taken) (c .before .all-seen .result) (at-if3 .if3 .left) (c .before .all-seen .ensures) (c .if4 .taken)
 
 returns-4 : tie.Need-returns-4
-returns-4 c = others-none (c .before .before .before .before .before .before .args .seen .now) (c .before .before .before .before .before .before .args .count) (c .before .before .before .before .before .before .args .alike) (not-false (c .before .before .before .before .before .before .args .alike) (c .before .before .before .before .before .if1 .left)) (c .before .before .before .if2 .taken) (c .before .all-seen .result) (c .before .before .if3 .left) (c .before .all-seen .ensures) (c .if4 .left)
+returns-4 c =
+    let at-if3 = c .before .before in
+    let at-if2 = at-if3 .before in
+    let at-if1 = at-if2 .before .before in
+    let entry = at-if1 .before in
+    others-none (entry .args .seen .now) (entry .args .count) (entry .args .alike) (not-false (entry .args .alike) (at-if1 .if1 .left)) (at-if2 .if2 .taken) (c .before .all-seen .result) (at-if3 .if3 .left) (c .before .all-seen .ensures) (c .if4 .left)
 
 returns-5 : tie.Need-returns-5
-returns-5 c = everyone-many (c .before .before .before .before .args .seen .now) (c .before .before .before .before .args .count) (c .before .before .before .before .args .alike) (not-false (c .before .before .before .before .args .alike) (c .before .before .before .if1 .left)) (c .before .if2 .left) (c .if5 .taken)
+returns-5 c =
+    let at-if1 = c .before .before .before in
+    let entry = at-if1 .before in
+    everyone-many (entry .args .seen .now) (entry .args .count) (entry .args .alike) (not-false (entry .args .alike) (at-if1 .if1 .left)) (c .before .if2 .left) (c .if5 .taken)
 
 all-seen-requires-2 : tie.Need-all-seen-requires-2
 all-seen-requires-2 c κs = search needs
 
 returns-6 : tie.Need-returns-6
-returns-6 c = everyone-want (c .before .before .before .before .before .before .args .seen .now) (c .before .before .before .before .before .before .args .count) (c .before .before .before .before .before .before .args .alike) (not-false (c .before .before .before .before .before .before .args .alike) (c .before .before .before .before .before .if1 .left)) (c .before .before .before .if2 .left) (c .before .all-seen2 .result) (c .before .before .if5 .left) (c .before .all-seen2 .ensures) (c .if6 .taken)
+returns-6 c =
+    let at-if5 = c .before .before in
+    let at-if2 = at-if5 .before in
+    let at-if1 = at-if2 .before .before in
+    let entry = at-if1 .before in
+    everyone-want (entry .args .seen .now) (entry .args .count) (entry .args .alike) (not-false (entry .args .alike) (at-if1 .if1 .left)) (at-if2 .if2 .left) (c .before .all-seen2 .result) (at-if5 .if5 .left) (c .before .all-seen2 .ensures) (c .if6 .taken)
 
 returns-7 : tie.Need-returns-7
-returns-7 c = everyone-none (c .before .before .before .before .before .before .args .seen .now) (c .before .before .before .before .before .before .args .count) (c .before .before .before .before .before .before .args .alike) (not-false (c .before .before .before .before .before .before .args .alike) (c .before .before .before .before .before .if1 .left)) (c .before .before .before .if2 .left) (c .before .all-seen2 .result) (c .before .before .if5 .left) (c .before .all-seen2 .ensures) (c .if6 .left)
+returns-7 c =
+    let at-if5 = c .before .before in
+    let at-if2 = at-if5 .before in
+    let at-if1 = at-if2 .before .before in
+    let entry = at-if1 .before in
+    everyone-none (entry .args .seen .now) (entry .args .count) (entry .args .alike) (not-false (entry .args .alike) (at-if1 .if1 .left)) (at-if2 .if2 .left) (c .before .all-seen2 .result) (at-if5 .if5 .left) (c .before .all-seen2 .ensures) (c .if6 .left)
 
 pub want-spec : {M : Type 1} → statement M
 want-spec =
