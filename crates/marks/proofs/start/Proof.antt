@@ -41,7 +41,8 @@ returns c =
     let b = c .before .before .before .before .before .args .b in
     let i = c .before .before .before .before .before .args .at in
     let y = sym (c .before .before .before .is-alone .ensures) ∙ c .before .before .if1 .taken in
-    λ k. c .bare .ensures ∙ ap (λ (v : ℕ). bareOf v i (i + 1)) (c .before .wide .ensures ∙ sym (sign-kind b (and-left (isSign b) (not (eqb b 33 || eqb b 47)) y))) ∙ sym (alone-step b (drop (i + 1) (c .before .before .before .before .before .args .card .now)) i k y (c .before .before .before .before .before .pre .2))
+    λ k. c .bare .ensures ∙ ap (λ (v : ℕ). bareOf v i (i + 1)) (c .before .wide .ensures ∙ sym (sign-kind b (and-left (isSign b) (not (eqb b 33 || eqb b 47)) y))) ∙ sym
+    (alone-step b (drop (i + 1) (c .before .before .before .before .before .args .card .now)) i k y (c .before .before .before .before .before .pre .2))
 
 is-digit-requires : tie.Need-is-digit-requires
 is-digit-requires c κs = search needs
@@ -54,20 +55,26 @@ returns-2 c =
     let b = c .before .before .before .before .before .before .args .b in
     let i = c .before .before .before .before .before .before .args .at in
     let s = drop (i + 1) (c .before .before .before .before .before .before .args .card .now) in
-    λ k. c .numeral .ensures k ∙ ap (λ (x : ℕ). stepped i (numeral x s) k) (sym (c .before .before .before .before .before .before .pre .1)) ∙ ap (λ (x : Start). stepped i x k) (sym (digit-starts b s (sym (c .before .before .is-digit .ensures) ∙ c .before .if2 .taken)))
+    λ k. c .numeral .ensures k ∙ ap (λ (x : ℕ). stepped i (numeral x s) k) (sym (c .before .before .before .before .before .before .pre .1)) ∙ ap
+    (λ (x : Start). stepped i x k) (sym (digit-starts b s (sym (c .before .before .is-digit .ensures) ∙ c .before .if2 .taken)))
 
 is-letter-requires : tie.Need-is-letter-requires
 is-letter-requires c κs = search needs
 
 word-requires : tie.Need-word-requires
-word-requires c κs = (c .before .before .before .before .before .before .before .pre .0, ap isLetter (sym (c .before .before .before .before .before .before .before .pre .1)) ∙ sym (c .before .is-letter .ensures) ∙ c .if3 .taken)
+word-requires c κs = (
+  c .before .before .before .before .before .before .before .pre .0,
+  ap isLetter (sym (c .before .before .before .before .before .before .before .pre .1)) ∙ sym
+      (c .before .is-letter .ensures) ∙ c .if3 .taken,
+)
 
 returns-3 : tie.Need-returns-3
 returns-3 c =
     let b = c .before .before .before .before .before .before .before .before .args .b in
     let i = c .before .before .before .before .before .before .before .before .args .at in
     let s = drop (i + 1) (c .before .before .before .before .before .before .before .before .args .card .now) in
-    λ k. c .word .ensures k ∙ ap (λ (x : ℕ). stepped i (word x s) k) (sym (c .before .before .before .before .before .before .before .before .pre .1)) ∙ ap (λ (x : Start). stepped i x k) (sym (letter-starts b s (sym (c .before .before .is-letter .ensures) ∙ c .before .if3 .taken)))
+    λ k. c .word .ensures k ∙ ap (λ (x : ℕ). stepped i (word x s) k) (sym (c .before .before .before .before .before .before .before .before .pre .1)) ∙ ap
+    (λ (x : Start). stepped i x k) (sym (letter-starts b s (sym (c .before .before .is-letter .ensures) ∙ c .before .if3 .taken)))
 
 sign-requires : tie.Need-sign-requires
 sign-requires c κs = search needs
@@ -77,7 +84,11 @@ returns-4 c =
     let b = c .before .before .before .before .before .before .before .before .args .b in
     let i = c .before .before .before .before .before .before .before .before .args .at in
     let s = drop (i + 1) (c .before .before .before .before .before .before .before .before .args .card .now) in
-    λ k. c .sign .ensures k ∙ ap (λ (x : Start). stepped i x k) (sym (sign-starts b s (sym (c .before .before .is-letter .ensures) ∙ c .before .if3 .left) (sym (c .before .before .before .before .is-digit .ensures) ∙ c .before .before .before .if2 .left) (c .before .before .before .before .before .before .before .before .pre .2)))
+    λ k. c .sign .ensures k ∙ ap (λ (x : Start). stepped i x k)
+    (sym
+    (sign-starts b s (sym (c .before .before .is-letter .ensures) ∙ c .before .if3 .left)
+    (sym (c .before .before .before .before .is-digit .ensures) ∙ c .before .before .before .if2 .left)
+    (c .before .before .before .before .before .before .before .before .pre .2)))
 
 pub start-spec : {M : Type 1} → statement M
 start-spec =

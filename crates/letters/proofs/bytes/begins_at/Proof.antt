@@ -37,7 +37,11 @@ shared-slice-read-if2-2 : tie.Need-shared-slice-read-if2-2 Inv-loop μ-loop
 shared-slice-read-if2-2 c = search needs
 
 returns-2 : tie.Need-returns-2 Inv-loop μ-loop
-returns-2 c = sym (c .before .before .before .before .loop .inv .2 ∙ begun-off (c .before .before .before .before .before .before .args .these .now) (c .before .before .before .before .before .before .args .card .now) (c .before .before .before .before .loop .i) (c .before .before .before .before .before .before .args .at + c .before .before .before .before .loop .i) (omega arith) (omega arith) (c .if2 .taken))
+returns-2 c =
+    sym
+    (c .before .before .before .before .loop .inv .2 ∙ begun-off (c .before .before .before .before .before .before .args .these .now)
+    (c .before .before .before .before .before .before .args .card .now) (c .before .before .before .before .loop .i)
+    (c .before .before .before .before .before .before .args .at + c .before .before .before .before .loop .i) (omega arith) (omega arith) (c .if2 .taken))
 
 add-i : tie.Need-add-i Inv-loop μ-loop
 add-i c = search needs
@@ -46,10 +50,22 @@ loop-less : tie.Need-loop-less Inv-loop μ-loop
 loop-less c = search needs
 
 loop-again : tie.Need-loop-again Inv-loop μ-loop
-loop-again c = (omega arith, omega arith, c .before .before .before .before .loop .inv .2 ∙ begun-on (c .before .before .before .before .before .before .args .these .now) (c .before .before .before .before .before .before .args .card .now) (c .before .before .before .before .loop .i) (c .before .before .before .before .before .before .args .at + c .before .before .before .before .loop .i) (omega arith) (omega arith) (c .if2 .left) ∙ ap (λ (j : ℕ). begun (drop (c .before .before .before .before .loop .i + 1) (c .before .before .before .before .before .before .args .these .now)) (drop j (c .before .before .before .before .before .before .args .card .now))) (add-assoc (c .before .before .before .before .before .before .args .at) (c .before .before .before .before .loop .i) 1))
+loop-again c = (
+  omega arith,
+  omega arith,
+  c .before .before .before .before .loop .inv .2 ∙ begun-on (c .before .before .before .before .before .before .args .these .now)
+      (c .before .before .before .before .before .before .args .card .now) (c .before .before .before .before .loop .i)
+      (c .before .before .before .before .before .before .args .at + c .before .before .before .before .loop .i) (omega arith) (omega arith) (c .if2 .left) ∙ ap
+      (λ (j : ℕ). begun (drop (c .before .before .before .before .loop .i + 1) (c .before .before .before .before .before .before .args .these .now))
+      (drop j (c .before .before .before .before .before .before .args .card .now)))
+      (add-assoc (c .before .before .before .before .before .before .args .at) (c .before .before .before .before .loop .i) 1),
+)
 
 returns-3 : tie.Need-returns-3 Inv-loop μ-loop
-returns-3 c = sym (c .before .loop .inv .2 ∙ begun-all (c .before .before .before .args .these .now) (c .before .before .before .args .card .now) (c .before .loop .i) (c .before .before .before .args .at + c .before .loop .i) (omega arith))
+returns-3 c =
+    sym
+    (c .before .loop .inv .2 ∙ begun-all (c .before .before .before .args .these .now) (c .before .before .before .args .card .now) (c .before .loop .i)
+    (c .before .before .before .args .at + c .before .loop .i) (omega arith))
 
 pub begins-at-spec : {M : Type 1} → statement M
 begins-at-spec =

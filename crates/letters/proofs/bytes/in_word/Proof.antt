@@ -27,7 +27,10 @@ is-letter-requires : tie.Need-is-letter-requires
 is-letter-requires c κs = search needs
 
 returns-3 : tie.Need-returns-3
-returns-3 c = c .is-letter .ensures ∙ sym (ap (λ (t : Bool). t || isLetter (c .before .before .before .args .b)) (ne-eqb (c .before .before .before .args .b) 95 (c .before .if2 .left))) ∙ agree (λ b. eqb b 95 || isLetter b) inWord 191 65 refl (c .before .before .before .args .b) (omega arith) (omega arith)
+returns-3 c =
+    c .is-letter .ensures ∙ sym
+    (ap (λ (t : Bool). t || isLetter (c .before .before .before .args .b)) (ne-eqb (c .before .before .before .args .b) 95 (c .before .if2 .left))) ∙ agree
+    (λ b. eqb b 95 || isLetter b) inWord 191 65 refl (c .before .before .before .args .b) (omega arith) (omega arith)
 
 pub in-word-spec : {M : Type 1} → statement M
 in-word-spec =

@@ -12,16 +12,32 @@ use Rattle.letters.proofs.bytes.is_sign.Reads as reads
 use Rattle.letters.proofs.bytes.is_sign.Lts as lts
 
 returns : tie.Need-returns
-returns c = sym (not-true (isSign (c .before .before .args .b)) (but-keys (λ b. not (isSign b)) (33 ∷ 47 ∷ 61 ∷ 91 ∷ 93 ∷ 124 ∷ []) 38 0 refl (c .before .before .args .b) (omega arith) (omega arith) (c .before .match .rest .1)))
+returns c =
+    sym
+    (not-true (isSign (c .before .before .args .b))
+    (but-keys (λ b. not (isSign b)) (33 ∷ 47 ∷ 61 ∷ 91 ∷ 93 ∷ 124 ∷ []) 38 0 refl (c .before .before .args .b) (omega arith) (omega arith)
+    (c .before .match .rest .1)))
 
 returns-2 : tie.Need-returns-2
-returns-2 c = sym (not-true (isSign (c .before .before .before .before .args .b)) (but-keys (λ b. not (isSign b)) (33 ∷ 47 ∷ 61 ∷ 91 ∷ 93 ∷ 124 ∷ []) 1 42 refl (c .before .before .before .before .args .b) (omega arith) (omega arith) (c .before .before .before .match .rest .1)))
+returns-2 c =
+    sym
+    (not-true (isSign (c .before .before .before .before .args .b))
+    (but-keys (λ b. not (isSign b)) (33 ∷ 47 ∷ 61 ∷ 91 ∷ 93 ∷ 124 ∷ []) 1 42 refl (c .before .before .before .before .args .b) (omega arith) (omega arith)
+    (c .before .before .before .match .rest .1)))
 
 returns-3 : tie.Need-returns-3
-returns-3 c = sym (not-true (isSign (c .before .before .before .before .before .before .args .b)) (but-keys (λ b. not (isSign b)) (33 ∷ 47 ∷ 61 ∷ 91 ∷ 93 ∷ 124 ∷ []) 13 45 refl (c .before .before .before .before .before .before .args .b) (omega arith) (omega arith) (c .before .before .before .before .before .match .rest .1)))
+returns-3 c =
+    sym
+    (not-true (isSign (c .before .before .before .before .before .before .args .b))
+    (but-keys (λ b. not (isSign b)) (33 ∷ 47 ∷ 61 ∷ 91 ∷ 93 ∷ 124 ∷ []) 13 45 refl (c .before .before .before .before .before .before .args .b) (omega arith)
+    (omega arith) (c .before .before .before .before .before .match .rest .1)))
 
 returns-4 : tie.Need-returns-4
-returns-4 c = sym (not-true (isSign (c .before .before .before .before .before .before .before .args .b)) (but-keys (λ b. not (isSign b)) (33 ∷ 47 ∷ 61 ∷ 91 ∷ 93 ∷ 124 ∷ []) 196 60 refl (c .before .before .before .before .before .before .before .args .b) (omega arith) (omega arith) (c .before .before .before .before .before .before .match .rest .1)))
+returns-4 c =
+    sym
+    (not-true (isSign (c .before .before .before .before .before .before .before .args .b))
+    (but-keys (λ b. not (isSign b)) (33 ∷ 47 ∷ 61 ∷ 91 ∷ 93 ∷ 124 ∷ []) 196 60 refl (c .before .before .before .before .before .before .before .args .b)
+    (omega arith) (omega arith) (c .before .before .before .before .before .before .match .rest .1)))
 
 returns-5 : tie.Need-returns-5
 returns-5 c = sym (of-keys isSign (33 ∷ 47 ∷ 61 ∷ 91 ∷ 93 ∷ 124 ∷ []) refl (c .before .args .b) (c .match .keys1))

@@ -25,7 +25,10 @@ shared-slice-read-if1 : tie.Need-shared-slice-read-if1 Inv-loop μ-loop
 shared-slice-read-if1 c = search needs
 
 returns : tie.Need-returns Inv-loop μ-loop
-returns c = sym (c .before .before .before .loop .inv ∙ end-off notLF (c .before .before .before .before .args .card .now) (c .before .before .before .loop .at) (c .before .before .loop-test .taken) (ap not (eq-eqb _ _ (c .if1 .taken))))
+returns c =
+    sym
+    (c .before .before .before .loop .inv ∙ end-off notLF (c .before .before .before .before .args .card .now) (c .before .before .before .loop .at)
+    (c .before .before .loop-test .taken) (ap not (eq-eqb _ _ (c .if1 .taken))))
 
 add-at : tie.Need-add-at Inv-loop μ-loop
 add-at c = search needs
@@ -34,7 +37,9 @@ loop-less : tie.Need-loop-less Inv-loop μ-loop
 loop-less c = search needs
 
 loop-again : tie.Need-loop-again Inv-loop μ-loop
-loop-again c = c .before .before .before .loop .inv ∙ end-on notLF (c .before .before .before .before .args .card .now) (c .before .before .before .loop .at) (c .before .before .loop-test .taken) (ap not (ne-eqb _ _ (c .if1 .left)))
+loop-again c =
+    c .before .before .before .loop .inv ∙ end-on notLF (c .before .before .before .before .args .card .now) (c .before .before .before .loop .at)
+    (c .before .before .loop-test .taken) (ap not (ne-eqb _ _ (c .if1 .left)))
 
 returns-2 : tie.Need-returns-2 Inv-loop μ-loop
 returns-2 c = sym (c .before .loop .inv ∙ end-none notLF (c .before .before .args .card .now) (c .before .loop .at) (c .loop-test .left))

@@ -22,7 +22,14 @@ is-digit-requires : tie.Need-is-digit-requires
 is-digit-requires c κs = search needs
 
 returns-2 : tie.Need-returns-2
-returns-2 c = sym (begins-at inNumber (c .before .before .before .before .before .args .card .now) (c .before .before .before .before .before .args .at) (c .before .before .before .if1 .taken) ∙ rw (ne-eqb (getD (c .before .before .before .before .before .args .card .now) (c .before .before .before .before .before .args .at) 0) 46 (c .before .if2 .left), or-false) (sym (c .is-digit .ensures)))
+returns-2 c =
+    sym
+    (begins-at inNumber (c .before .before .before .before .before .args .card .now) (c .before .before .before .before .before .args .at)
+    (c .before .before .before .if1 .taken) ∙ rw (
+      ne-eqb (getD (c .before .before .before .before .before .args .card .now) (c .before .before .before .before .before .args .at) 0) 46 (c .before .if2 .left),
+      or-false,
+    )
+    (sym (c .is-digit .ensures)))
 
 returns-3 : tie.Need-returns-3
 returns-3 c = sym (begins-none inNumber (c .before .before .args .card .now) (c .before .before .args .at) (c .if1 .left))

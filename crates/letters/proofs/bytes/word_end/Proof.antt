@@ -28,7 +28,11 @@ in-word-requires : tie.Need-in-word-requires Inv-loop μ-loop
 in-word-requires c κs = search needs
 
 returns : tie.Need-returns Inv-loop μ-loop
-returns c = sym (c .before .before .before .before .loop .inv ∙ end-off inWord (c .before .before .before .before .before .before .args .card .now) (c .before .before .before .before .loop .at) (c .before .before .before .loop-test .taken) (sym (c .before .in-word .ensures) ∙ not-true (c .before .in-word .result) (c .if1 .taken)))
+returns c =
+    sym
+    (c .before .before .before .before .loop .inv ∙ end-off inWord (c .before .before .before .before .before .before .args .card .now)
+    (c .before .before .before .before .loop .at) (c .before .before .before .loop-test .taken)
+    (sym (c .before .in-word .ensures) ∙ not-true (c .before .in-word .result) (c .if1 .taken)))
 
 add-at : tie.Need-add-at Inv-loop μ-loop
 add-at c = search needs
@@ -37,7 +41,10 @@ loop-less : tie.Need-loop-less Inv-loop μ-loop
 loop-less c = search needs
 
 loop-again : tie.Need-loop-again Inv-loop μ-loop
-loop-again c = c .before .before .before .before .loop .inv ∙ end-on inWord (c .before .before .before .before .before .before .args .card .now) (c .before .before .before .before .loop .at) (c .before .before .before .loop-test .taken) (sym (c .before .in-word .ensures) ∙ not-false (c .before .in-word .result) (c .if1 .left))
+loop-again c =
+    c .before .before .before .before .loop .inv ∙ end-on inWord (c .before .before .before .before .before .before .args .card .now)
+    (c .before .before .before .before .loop .at) (c .before .before .before .loop-test .taken)
+    (sym (c .before .in-word .ensures) ∙ not-false (c .before .in-word .result) (c .if1 .left))
 
 returns-2 : tie.Need-returns-2 Inv-loop μ-loop
 returns-2 c = sym (c .before .loop .inv ∙ end-none inWord (c .before .before .before .args .card .now) (c .before .loop .at) (c .loop-test .left))

@@ -34,7 +34,11 @@ sub-t11 : tie.Need-sub-t11 Inv-loop μ-loop
 sub-t11 c = omega (arith, c .before .before .before .before .loop .inv .begun)
 
 returns : tie.Need-returns Inv-loop μ-loop
-returns c = held-all (c .before .before .before .before .before .before .args .card .now) (c .before .before .before .before .before .before .args .from) (c .before .before .before .before .loop .at) (c .before .before .before .before .loop .value) (c .before .before .before .before .loop .inv) (end-off isDigit (c .before .before .before .before .before .before .args .card .now) (c .before .before .before .before .loop .at) (c .before .before .before .loop-test .taken) (sym (c .before .is-digit .ensures) ∙ not-true (c .before .is-digit .result) (c .if1 .taken)))
+returns c =
+    held-all (c .before .before .before .before .before .before .args .card .now) (c .before .before .before .before .before .before .args .from)
+    (c .before .before .before .before .loop .at) (c .before .before .before .before .loop .value) (c .before .before .before .before .loop .inv)
+    (end-off isDigit (c .before .before .before .before .before .before .args .card .now) (c .before .before .before .before .loop .at)
+    (c .before .before .before .loop-test .taken) (sym (c .before .is-digit .ensures) ∙ not-true (c .before .is-digit .result) (c .if1 .taken)))
 
 grown-requires : tie.Need-grown-requires Inv-loop μ-loop
 grown-requires c κs = sym (c .before .is-digit .ensures) ∙ not-false (c .before .is-digit .result) (c .if1 .left)
@@ -46,13 +50,24 @@ loop-less : tie.Need-loop-less Inv-loop μ-loop
 loop-less c = search needs
 
 loop-again : tie.Need-loop-again Inv-loop μ-loop
-loop-again c = subst (λ v. Held (c .before .before .before .before .before .before .before .args .card .now) (c .before .before .before .before .before .before .before .args .from) (c .before .before .before .before .before .loop .at + 1) v) (sym (c .grown .ensures)) (held-next (c .before .before .before .before .before .before .before .args .card .now) (c .before .before .before .before .before .before .before .args .from) (c .before .before .before .before .before .loop .at) (c .before .before .before .before .before .loop .value) (c .before .before .before .before .loop-test .taken) (sym (c .before .before .is-digit .ensures) ∙ not-false (c .before .before .is-digit .result) (c .before .if1 .left)) (c .before .before .before .before .before .loop .inv))
+loop-again c =
+    subst
+    (λ v. Held (c .before .before .before .before .before .before .before .args .card .now) (c .before .before .before .before .before .before .before .args .from)
+    (c .before .before .before .before .before .loop .at + 1) v)
+    (sym (c .grown .ensures))
+    (held-next (c .before .before .before .before .before .before .before .args .card .now) (c .before .before .before .before .before .before .before .args .from)
+    (c .before .before .before .before .before .loop .at) (c .before .before .before .before .before .loop .value)
+    (c .before .before .before .before .loop-test .taken)
+    (sym (c .before .before .is-digit .ensures) ∙ not-false (c .before .before .is-digit .result) (c .before .if1 .left))
+    (c .before .before .before .before .before .loop .inv))
 
 sub-t12 : tie.Need-sub-t12 Inv-loop μ-loop
 sub-t12 c = omega (arith, c .before .loop .inv .begun)
 
 returns-2 : tie.Need-returns-2 Inv-loop μ-loop
-returns-2 c = held-all (c .before .before .before .args .card .now) (c .before .before .before .args .from) (c .before .loop .at) (c .before .loop .value) (c .before .loop .inv) (end-none isDigit (c .before .before .before .args .card .now) (c .before .loop .at) (c .loop-test .left))
+returns-2 c =
+    held-all (c .before .before .before .args .card .now) (c .before .before .before .args .from) (c .before .loop .at) (c .before .loop .value) (c .before .loop .inv)
+    (end-none isDigit (c .before .before .before .args .card .now) (c .before .loop .at) (c .loop-test .left))
 
 pub digits-from-spec : {M : Type 1} → statement M
 digits-from-spec =

@@ -22,15 +22,29 @@ returns-2 : tie.Need-returns-2
 returns-2 c = sym (plain-many (c .before .before .args .most) (drop (c .before .before .args .from) (c .before .before .args .card .now)) (omega (arith, c .before .before .pre)))
 
 returns-3 : tie.Need-returns-3
-returns-3 c = sym (plain-one (c .before .before .before .args .most) (drop (c .before .before .before .args .from) (c .before .before .before .args .card .now)) (omega (arith, c .before .before .before .pre)) (omega arith))
+returns-3 c =
+    sym
+    (plain-one (c .before .before .before .args .most) (drop (c .before .before .before .args .from) (c .before .before .before .args .card .now))
+    (omega (arith, c .before .before .before .pre)) (omega arith))
 
 shared-slice-read-result : tie.Need-shared-slice-read-result
-shared-slice-read-result c = omega (arith, c .before .before .before .before .pre, run-length isDigit (drop (c .before .before .before .before .args .from) (c .before .before .before .before .args .card .now)), length-drop (c .before .before .before .before .args .from) (c .before .before .before .before .args .card .now))
+shared-slice-read-result c =
+    omega (
+      arith,
+      c .before .before .before .before .pre,
+      run-length isDigit
+          (drop (c .before .before .before .before .args .from) (c .before .before .before .before .args .card .now)),
+      length-drop
+          (c .before .before .before .before .args .from) (c .before .before .before .before .args .card .now),
+    )
 
 returns-4 : tie.Need-returns-4
 returns-4 c =
     let first = getD-drop (c .before .before .before .before .args .from) (c .before .before .before .before .args .card .now) 0 0 ∙ ap (λ (i : ℕ). getD (c .before .before .before .before .args .card .now) i 0) (add-zero (c .before .before .before .before .args .from)) in
-    sym (plain-more (c .before .before .before .before .args .most) (drop (c .before .before .before .before .args .from) (c .before .before .before .before .args .card .now)) (omega (arith, c .before .before .before .before .pre)) (omega (arith, c .before .before .before .before .pre)) ∙ ap (λ (b : ℕ). not (eqb b 48)) first)
+    sym
+    (plain-more (c .before .before .before .before .args .most)
+    (drop (c .before .before .before .before .args .from) (c .before .before .before .before .args .card .now))
+    (omega (arith, c .before .before .before .before .pre)) (omega (arith, c .before .before .before .before .pre)) ∙ ap (λ (b : ℕ). not (eqb b 48)) first)
 
 pub is-plain-spec : {M : Type 1} → statement M
 is-plain-spec = tie.close (tie.spec returns returns-2 returns-3 shared-slice-read-result returns-4)

@@ -28,13 +28,24 @@ stands-requires-2 : tie.Need-stands-requires-2
 stands-requires-2 c κs = search needs
 
 add-bare : tie.Need-add-bare
-add-bare c = omega (arith, begins-place (eqb 62) (c .before .before .before .before .before .before .args .card .now) (c .before .before .before .before .past-blank .result + 1) (sym (c .before .stands2 .ensures) ∙ c .if2 .taken))
+add-bare c =
+    omega (
+      arith,
+      begins-place (eqb 62) (c .before .before .before .before .before .before .args .card .now) (c .before .before .before .before .past-blank .result + 1)
+          (sym (c .before .stands2 .ensures) ∙ c .if2 .taken),
+    )
 
 bare-requires : tie.Need-bare-requires
 bare-requires c κs = search needs
 
 returns : tie.Need-returns
-returns c = c .bare .ensures ∙ sym (arrow-step (c .before .before .before .before .before .before .before .args .card .now) (c .before .before .before .before .before .past-blank .result) (sym (c .before .before .before .before .stands .ensures) ∙ c .before .before .before .if1 .taken) (sym (c .before .before .stands2 .ensures) ∙ c .before .if2 .taken)) ∙ past-step (c .before .before .before .before .before .before .before .args .card .now) (c .before .before .before .before .before .before .before .args .at) (c .before .before .before .before .before .past-blank .ensures)
+returns c =
+    c .bare .ensures ∙ sym
+    (arrow-step (c .before .before .before .before .before .before .before .args .card .now) (c .before .before .before .before .before .past-blank .result)
+    (sym (c .before .before .before .before .stands .ensures) ∙ c .before .before .before .if1 .taken)
+    (sym (c .before .before .stands2 .ensures) ∙ c .before .if2 .taken))
+    ∙ past-step (c .before .before .before .before .before .before .before .args .card .now) (c .before .before .before .before .before .before .before .args .at)
+    (c .before .before .before .before .before .past-blank .ensures)
 
 step-from-requires : tie.Need-step-from-requires
 step-from-requires c κs = search needs

@@ -24,19 +24,31 @@ word-here-requires : tie.Need-word-here-requires
 word-here-requires c κs = search needs
 
 add-bare : tie.Need-add-bare
-add-bare c = omega (arith, word-fits (c .before .before .before .before .before .args .card .now) (c .before .before .before .past-blank .result) 101 (bytes "ndmodule") (sym (c .before .word-here .ensures) ∙ c .if1 .taken))
+add-bare c =
+    omega (
+      arith,
+      word-fits (c .before .before .before .before .before .args .card .now) (c .before .before .before .past-blank .result) 101 (bytes "ndmodule")
+          (sym (c .before .word-here .ensures) ∙ c .if1 .taken),
+    )
 
 bare-requires : tie.Need-bare-requires
 bare-requires c κs = search needs
 
 returns : tie.Need-returns
-returns c = c .bare .ensures ∙ sym (keyword-step (c .before .before .before .before .before .before .args .card .now) (c .before .before .before .before .past-blank .result) 101 (bytes "ndmodule") (sym (c .before .before .word-here .ensures) ∙ c .before .if1 .taken) refl refl) ∙ past-step (c .before .before .before .before .before .before .args .card .now) (c .before .before .before .before .before .before .args .at) (c .before .before .before .before .past-blank .ensures)
+returns c =
+    c .bare .ensures ∙ sym
+    (keyword-step (c .before .before .before .before .before .before .args .card .now) (c .before .before .before .before .past-blank .result) 101 (bytes "ndmodule")
+    (sym (c .before .before .word-here .ensures) ∙ c .before .if1 .taken) refl refl)
+    ∙ past-step (c .before .before .before .before .before .before .args .card .now) (c .before .before .before .before .before .before .args .at)
+    (c .before .before .before .before .past-blank .ensures)
 
 step-from-requires : tie.Need-step-from-requires
 step-from-requires c κs = search needs
 
 returns-2 : tie.Need-returns-2
-returns-2 c = c .step-from .ensures ∙ past-step (c .before .before .before .before .before .before .args .card .now) (c .before .before .before .before .before .before .args .at) (c .before .before .before .before .past-blank .ensures)
+returns-2 c =
+    c .step-from .ensures ∙ past-step (c .before .before .before .before .before .before .args .card .now) (c .before .before .before .before .before .before .args .at)
+    (c .before .before .before .before .past-blank .ensures)
 
 pub step-endmodule-spec : {M : Type 1} → statement M
 step-endmodule-spec =

@@ -25,25 +25,42 @@ bare-requires : tie.Need-bare-requires
 bare-requires c κs = search needs
 
 returns : tie.Need-returns
-returns c = c .bare .ensures ∙ sym (sign-step (c .before .before .before .before .before .args .card .now) (c .before .before .before .past-blank .result) 124 (sym (c .before .before .sign-here .ensures) ∙ c .before .if1 .taken)) ∙ past-step (c .before .before .before .before .before .args .card .now) (c .before .before .before .before .before .args .at) (c .before .before .before .past-blank .ensures)
+returns c =
+    c .bare .ensures ∙ sym
+    (sign-step (c .before .before .before .before .before .args .card .now) (c .before .before .before .past-blank .result) 124
+    (sym (c .before .before .sign-here .ensures) ∙ c .before .if1 .taken))
+    ∙ past-step (c .before .before .before .before .before .args .card .now) (c .before .before .before .before .before .args .at)
+    (c .before .before .before .past-blank .ensures)
 
 sign-here-requires-2 : tie.Need-sign-here-requires-2
 sign-here-requires-2 c κs = search needs
 
 add-bare-2 : tie.Need-add-bare-2
-add-bare-2 c = omega (arith, sign-place (c .before .before .before .before .before .before .args .card .now) (c .before .before .before .before .past-blank .result) 38 (sym (c .before .sign-here2 .ensures) ∙ c .if2 .taken))
+add-bare-2 c =
+    omega (
+      arith,
+      sign-place (c .before .before .before .before .before .before .args .card .now) (c .before .before .before .before .past-blank .result) 38
+          (sym (c .before .sign-here2 .ensures) ∙ c .if2 .taken),
+    )
 
 bare-requires-2 : tie.Need-bare-requires-2
 bare-requires-2 c κs = search needs
 
 returns-2 : tie.Need-returns-2
-returns-2 c = c .bare2 .ensures ∙ sym (sign-step (c .before .before .before .before .before .before .before .args .card .now) (c .before .before .before .before .before .past-blank .result) 38 (sym (c .before .before .sign-here2 .ensures) ∙ c .before .if2 .taken)) ∙ past-step (c .before .before .before .before .before .before .before .args .card .now) (c .before .before .before .before .before .before .before .args .at) (c .before .before .before .before .before .past-blank .ensures)
+returns-2 c =
+    c .bare2 .ensures ∙ sym
+    (sign-step (c .before .before .before .before .before .before .before .args .card .now) (c .before .before .before .before .before .past-blank .result) 38
+    (sym (c .before .before .sign-here2 .ensures) ∙ c .before .if2 .taken))
+    ∙ past-step (c .before .before .before .before .before .before .before .args .card .now) (c .before .before .before .before .before .before .before .args .at)
+    (c .before .before .before .before .before .past-blank .ensures)
 
 step-sign-requires : tie.Need-step-sign-requires
 step-sign-requires c κs = search needs
 
 returns-3 : tie.Need-returns-3
-returns-3 c = c .step-sign .ensures ∙ past-step (c .before .before .before .before .before .before .before .args .card .now) (c .before .before .before .before .before .before .before .args .at) (c .before .before .before .before .before .past-blank .ensures)
+returns-3 c =
+    c .step-sign .ensures ∙ past-step (c .before .before .before .before .before .before .before .args .card .now)
+    (c .before .before .before .before .before .before .before .args .at) (c .before .before .before .before .before .past-blank .ensures)
 
 pub step-joint-spec : {M : Type 1} → statement M
 step-joint-spec =

@@ -30,13 +30,20 @@ bare-requires : tie.Need-bare-requires
 bare-requires c κs = search needs
 
 returns : tie.Need-returns
-returns c = c .bare .ensures ∙ sym (keyword-step (c .before .before .before .before .before .before .args .card .now) (c .before .before .before .before .past-line .result) 109 (bytes "odule") (sym (c .before .before .word-here .ensures) ∙ c .before .if1 .taken) refl refl) ∙ past-line-step (c .before .before .before .before .before .before .args .card .now) (c .before .before .before .before .before .before .args .at) (c .before .before .before .before .past-line .ensures)
+returns c =
+    c .bare .ensures ∙ sym
+    (keyword-step (c .before .before .before .before .before .before .args .card .now) (c .before .before .before .before .past-line .result) 109 (bytes "odule")
+    (sym (c .before .before .word-here .ensures) ∙ c .before .if1 .taken) refl refl)
+    ∙ past-line-step (c .before .before .before .before .before .before .args .card .now) (c .before .before .before .before .before .before .args .at)
+    (c .before .before .before .before .past-line .ensures)
 
 step-from-requires : tie.Need-step-from-requires
 step-from-requires c κs = search needs
 
 returns-2 : tie.Need-returns-2
-returns-2 c = c .step-from .ensures ∙ past-line-step (c .before .before .before .before .before .before .args .card .now) (c .before .before .before .before .before .before .args .at) (c .before .before .before .before .past-line .ensures)
+returns-2 c =
+    c .step-from .ensures ∙ past-line-step (c .before .before .before .before .before .before .args .card .now)
+    (c .before .before .before .before .before .before .args .at) (c .before .before .before .before .past-line .ensures)
 
 pub step-module-spec : {M : Type 1} → statement M
 step-module-spec =

@@ -25,7 +25,12 @@ valued-requires : tie.Need-valued-requires
 valued-requires c κs = search needs
 
 returns : tie.Need-returns
-returns c = c .valued .ensures ∙ sym (digit-step (c .before .before .before .before .before .args .card .now) (c .before .before .before .past-blank .result) (c .before .before .digit-here .result) (c .before .before .digit-here .ensures) (c .before .if1 .taken)) ∙ past-step (c .before .before .before .before .before .args .card .now) (c .before .before .before .before .before .args .at) (c .before .before .before .past-blank .ensures)
+returns c =
+    c .valued .ensures ∙ sym
+    (digit-step (c .before .before .before .before .before .args .card .now) (c .before .before .before .past-blank .result) (c .before .before .digit-here .result)
+    (c .before .before .digit-here .ensures) (c .before .if1 .taken))
+    ∙ past-step (c .before .before .before .before .before .args .card .now) (c .before .before .before .before .before .args .at)
+    (c .before .before .before .past-blank .ensures)
 
 step-from-requires : tie.Need-step-from-requires
 step-from-requires c κs = search needs

@@ -29,13 +29,23 @@ bare-requires : tie.Need-bare-requires
 bare-requires c κs = search needs
 
 returns : tie.Need-returns
-returns c = c .bare .ensures ∙ sym (sign-step (c .before .before .before .before .before .args .card .now) (c .before .before .before .past-blank .result) 40 (sym (c .before .before .sign-here .ensures) ∙ c .before .if1 .taken)) ∙ past-step (c .before .before .before .before .before .args .card .now) (c .before .before .before .before .before .args .at) (c .before .before .before .past-blank .ensures)
+returns c =
+    c .bare .ensures ∙ sym
+    (sign-step (c .before .before .before .before .before .args .card .now) (c .before .before .before .past-blank .result) 40
+    (sym (c .before .before .sign-here .ensures) ∙ c .before .if1 .taken))
+    ∙ past-step (c .before .before .before .before .before .args .card .now) (c .before .before .before .before .before .args .at)
+    (c .before .before .before .past-blank .ensures)
 
 stands-requires : tie.Need-stands-requires
 stands-requires c κs = search needs
 
 add-next : tie.Need-add-next
-add-next c = omega (arith, begins-place (eqb 33) (c .before .before .before .before .before .before .args .card .now) (c .before .before .before .before .past-blank .result) (sym (c .before .stands .ensures) ∙ c .if2 .taken))
+add-next c =
+    omega (
+      arith,
+      begins-place (eqb 33) (c .before .before .before .before .before .before .args .card .now) (c .before .before .before .before .past-blank .result)
+          (sym (c .before .stands .ensures) ∙ c .if2 .taken),
+    )
 
 stands-requires-2 : tie.Need-stands-requires-2
 stands-requires-2 c κs = search needs
@@ -44,13 +54,22 @@ bare-requires-2 : tie.Need-bare-requires-2
 bare-requires-2 c κs = search needs
 
 returns-2 : tie.Need-returns-2
-returns-2 c = c .bare2 .ensures ∙ sym (not-step (c .before .before .before .before .before .before .before .before .before .args .card .now) (c .before .before .before .before .before .before .before .past-blank .result) (sym (c .before .before .before .before .stands .ensures) ∙ c .before .before .before .if2 .taken) (sym (c .before .before .stands2 .ensures) ∙ not-true (c .before .before .stands2 .result) (c .before .if3 .taken))) ∙ past-step (c .before .before .before .before .before .before .before .before .before .args .card .now) (c .before .before .before .before .before .before .before .before .before .args .at) (c .before .before .before .before .before .before .before .past-blank .ensures)
+returns-2 c =
+    c .bare2 .ensures ∙ sym
+    (not-step (c .before .before .before .before .before .before .before .before .before .args .card .now)
+    (c .before .before .before .before .before .before .before .past-blank .result)
+    (sym (c .before .before .before .before .stands .ensures) ∙ c .before .before .before .if2 .taken)
+    (sym (c .before .before .stands2 .ensures) ∙ not-true (c .before .before .stands2 .result) (c .before .if3 .taken)))
+    ∙ past-step (c .before .before .before .before .before .before .before .before .before .args .card .now)
+    (c .before .before .before .before .before .before .before .before .before .args .at) (c .before .before .before .before .before .before .before .past-blank .ensures)
 
 step-from-requires : tie.Need-step-from-requires
 step-from-requires c κs = search needs
 
 returns-3 : tie.Need-returns-3
-returns-3 c = c .step-from .ensures ∙ past-step (c .before .before .before .before .before .before .before .args .card .now) (c .before .before .before .before .before .before .before .args .at) (c .before .before .before .before .before .past-blank .ensures)
+returns-3 c =
+    c .step-from .ensures ∙ past-step (c .before .before .before .before .before .before .before .args .card .now)
+    (c .before .before .before .before .before .before .before .args .at) (c .before .before .before .before .before .past-blank .ensures)
 
 pub step-opening-spec : {M : Type 1} → statement M
 step-opening-spec =

@@ -19,13 +19,23 @@ sign-here-requires : tie.Need-sign-here-requires
 sign-here-requires c κs = search needs
 
 add-bare : tie.Need-add-bare
-add-bare c = omega (arith, sign-place (c .before .before .before .before .args .card .now) (c .before .before .past-blank .result) (c .before .before .before .before .args .kind) (sym (c .before .sign-here .ensures) ∙ c .if1 .taken))
+add-bare c =
+    omega (
+      arith,
+      sign-place (c .before .before .before .before .args .card .now) (c .before .before .past-blank .result) (c .before .before .before .before .args .kind)
+          (sym (c .before .sign-here .ensures) ∙ c .if1 .taken),
+    )
 
 bare-requires : tie.Need-bare-requires
 bare-requires c κs = search needs
 
 returns : tie.Need-returns
-returns c = c .bare .ensures ∙ sym (sign-step (c .before .before .before .before .before .args .card .now) (c .before .before .before .past-blank .result) (c .before .before .before .before .before .args .kind) (sym (c .before .before .sign-here .ensures) ∙ c .before .if1 .taken)) ∙ past-step (c .before .before .before .before .before .args .card .now) (c .before .before .before .before .before .args .at) (c .before .before .before .past-blank .ensures)
+returns c =
+    c .bare .ensures ∙ sym
+    (sign-step (c .before .before .before .before .before .args .card .now) (c .before .before .before .past-blank .result)
+    (c .before .before .before .before .before .args .kind) (sym (c .before .before .sign-here .ensures) ∙ c .before .if1 .taken))
+    ∙ past-step (c .before .before .before .before .before .args .card .now) (c .before .before .before .before .before .args .at)
+    (c .before .before .before .past-blank .ensures)
 
 step-from-requires : tie.Need-step-from-requires
 step-from-requires c κs = search needs

@@ -31,7 +31,13 @@ bare-requires : tie.Need-bare-requires
 bare-requires c κs = search needs
 
 returns : tie.Need-returns
-returns c = c .bare .ensures ∙ sym (slash-step (c .before .before .before .before .before .before .before .args .card .now) (c .before .before .before .before .before .past-blank .result) (sym (c .before .before .before .before .stands .ensures) ∙ c .before .before .before .if1 .taken) (sym (c .before .before .stands2 .ensures) ∙ not-true (c .before .before .stands2 .result) (c .before .if2 .taken))) ∙ past-step (c .before .before .before .before .before .before .before .args .card .now) (c .before .before .before .before .before .before .before .args .at) (c .before .before .before .before .before .past-blank .ensures)
+returns c =
+    c .bare .ensures ∙ sym
+    (slash-step (c .before .before .before .before .before .before .before .args .card .now) (c .before .before .before .before .before .past-blank .result)
+    (sym (c .before .before .before .before .stands .ensures) ∙ c .before .before .before .if1 .taken)
+    (sym (c .before .before .stands2 .ensures) ∙ not-true (c .before .before .stands2 .result) (c .before .if2 .taken)))
+    ∙ past-step (c .before .before .before .before .before .before .before .args .card .now) (c .before .before .before .before .before .before .before .args .at)
+    (c .before .before .before .before .before .past-blank .ensures)
 
 step-sign-requires : tie.Need-step-sign-requires
 step-sign-requires c κs = search needs

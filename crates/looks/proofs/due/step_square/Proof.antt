@@ -25,7 +25,12 @@ bare-requires : tie.Need-bare-requires
 bare-requires c κs = search needs
 
 returns : tie.Need-returns
-returns c = c .bare .ensures ∙ sym (sign-step (c .before .before .before .before .before .args .card .now) (c .before .before .before .past-line .result) 91 (sym (c .before .before .sign-here .ensures) ∙ c .before .if1 .taken)) ∙ past-line-step (c .before .before .before .before .before .args .card .now) (c .before .before .before .before .before .args .at) (c .before .before .before .past-line .ensures)
+returns c =
+    c .bare .ensures ∙ sym
+    (sign-step (c .before .before .before .before .before .args .card .now) (c .before .before .before .past-line .result) 91
+    (sym (c .before .before .sign-here .ensures) ∙ c .before .if1 .taken))
+    ∙ past-line-step (c .before .before .before .before .before .args .card .now) (c .before .before .before .before .before .args .at)
+    (c .before .before .before .past-line .ensures)
 
 step-from-requires : tie.Need-step-from-requires
 step-from-requires c κs = search needs

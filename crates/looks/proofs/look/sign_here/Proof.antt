@@ -21,10 +21,20 @@ is-alone-requires : tie.Need-is-alone-requires
 is-alone-requires c κs = search needs
 
 returns : tie.Need-returns
-returns c = c .is-alone .ensures ∙ sym (sign-at (c .before .before .before .before .before .before .args .kind) (c .before .before .before .before .before .before .args .card .now) (c .before .before .before .before .before .before .args .at) (c .before .before .before .before .if1 .taken) ∙ rw (eq-eqb (getD (c .before .before .before .before .before .before .args .card .now) (c .before .before .before .before .before .before .args .at) 0) (c .before .before .before .before .before .before .args .kind) (sym (c .before .before .wide .ensures) ∙ c .before .if2 .taken)))
+returns c =
+    c .is-alone .ensures ∙ sym
+    (sign-at (c .before .before .before .before .before .before .args .kind) (c .before .before .before .before .before .before .args .card .now)
+    (c .before .before .before .before .before .before .args .at) (c .before .before .before .before .if1 .taken) ∙ rw
+    (eq-eqb (getD (c .before .before .before .before .before .before .args .card .now) (c .before .before .before .before .before .before .args .at) 0)
+    (c .before .before .before .before .before .before .args .kind) (sym (c .before .before .wide .ensures) ∙ c .before .if2 .taken)))
 
 returns-2 : tie.Need-returns-2
-returns-2 c = sym (sign-at (c .before .before .before .before .before .args .kind) (c .before .before .before .before .before .args .card .now) (c .before .before .before .before .before .args .at) (c .before .before .before .if1 .taken) ∙ rw (ne-eqb (getD (c .before .before .before .before .before .args .card .now) (c .before .before .before .before .before .args .at) 0) (c .before .before .before .before .before .args .kind) (λ q. c .if2 .left (c .before .wide .ensures ∙ q))))
+returns-2 c =
+    sym
+    (sign-at (c .before .before .before .before .before .args .kind) (c .before .before .before .before .before .args .card .now)
+    (c .before .before .before .before .before .args .at) (c .before .before .before .if1 .taken) ∙ rw
+    (ne-eqb (getD (c .before .before .before .before .before .args .card .now) (c .before .before .before .before .before .args .at) 0)
+    (c .before .before .before .before .before .args .kind) (λ q. c .if2 .left (c .before .wide .ensures ∙ q))))
 
 returns-3 : tie.Need-returns-3
 returns-3 c = sym (sign-none (c .before .before .args .kind) (c .before .before .args .card .now) (c .before .before .args .at) (c .if1 .left))

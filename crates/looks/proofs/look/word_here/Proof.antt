@@ -18,7 +18,12 @@ returns : tie.Need-returns
 returns c = rw (sym (c .before .all-here .ensures) ∙ not-true (c .before .all-here .result) (c .if1 .taken))
 
 add-word-at : tie.Need-add-word-at
-add-word-at c = omega (arith, bytes-fit (c .before .before .before .before .args .these .now) (c .before .before .before .before .args .card .now) (c .before .before .before .before .args .at) (sym (c .before .all-here .ensures) ∙ not-false (c .before .all-here .result) (c .if1 .left)))
+add-word-at c =
+    omega (
+      arith,
+      bytes-fit (c .before .before .before .before .args .these .now) (c .before .before .before .before .args .card .now)
+          (c .before .before .before .before .args .at) (sym (c .before .all-here .ensures) ∙ not-false (c .before .all-here .result) (c .if1 .left)),
+    )
 
 word-at-requires : tie.Need-word-at-requires
 word-at-requires c κs = search needs

@@ -52,7 +52,8 @@ loop-again : tie.Need-loop-again Inv-loop μ-loop
 loop-again c =
     let s = c .before .before .before .before .before .before .args .card .now in
     let i = c .before .before .before .before .loop .at in
-    c .before .before .before .before .loop .inv ∙ step-gap s i (c .before .before .before .loop-test .taken) (λ z. c .if1 .left (c .before .gap .ensures ∙ z)) ∙ ap (λ (n : ℕ). stepAt s (i + n)) (sym (c .before .gap .ensures))
+    c .before .before .before .before .loop .inv ∙ step-gap s i (c .before .before .before .loop-test .taken) (λ z. c .if1 .left (c .before .gap .ensures ∙ z)) ∙ ap
+    (λ (n : ℕ). stepAt s (i + n)) (sym (c .before .gap .ensures))
 
 bare-requires : tie.Need-bare-requires Inv-loop μ-loop
 bare-requires c κs = search needs

@@ -30,10 +30,20 @@ bare-requires : tie.Need-bare-requires
 bare-requires c κs = search needs
 
 returns : tie.Need-returns
-returns c = λ k. c .bare .ensures ∙ sym (numeral-outside (c .before .before .before .before .before .args .card .now) (c .before .before .before .before .before .args .at) (c .before .before .before .before .before .pre .0) (c .before .before .before .before .before .pre .1) k (sym (c .before .before .is-plain .ensures) ∙ not-true (c .before .before .is-plain .result) (c .before .if1 .taken)))
+returns c =
+    λ k. c .bare .ensures ∙ sym
+    (numeral-outside (c .before .before .before .before .before .args .card .now) (c .before .before .before .before .before .args .at)
+    (c .before .before .before .before .before .pre .0) (c .before .before .before .before .before .pre .1) k
+    (sym (c .before .before .is-plain .ensures) ∙ not-true (c .before .before .is-plain .result) (c .before .if1 .taken)))
 
 add-point : tie.Need-add-point
-add-point c = omega (arith, counted-fits (c .before .before .before .before .args .card .now) (c .before .before .before .before .args .at) (omega (arith, c .before .before .before .before .pre .0)) (c .before .before .digits-from .result) (c .before .before .digits-from .ensures), c .before .before .before .before .good .0)
+add-point c =
+    omega (
+      arith,
+      counted-fits (c .before .before .before .before .args .card .now) (c .before .before .before .before .args .at)
+          (omega (arith, c .before .before .before .before .pre .0)) (c .before .before .digits-from .result) (c .before .before .digits-from .ensures),
+      c .before .before .before .before .good .0,
+    )
 
 is-pointed-requires : tie.Need-is-pointed-requires
 is-pointed-requires c κs = search needs
@@ -42,10 +52,24 @@ valued-requires : tie.Need-valued-requires
 valued-requires c κs = search needs
 
 returns-2 : tie.Need-returns-2
-returns-2 c = λ k. c .valued .ensures ∙ sym (read-number (c .before .before .before .before .before .before .before .args .card .now) (c .before .before .before .before .before .before .before .args .at) (c .before .before .before .before .before .before .before .pre .0) (c .before .before .before .before .before .before .before .pre .1) k (c .before .before .before .before .before .digits-from .result) (c .before .before .before .before .before .digits-from .ensures) (sym (c .before .before .before .before .is-plain .ensures) ∙ not-false (c .before .before .before .before .is-plain .result) (c .before .before .before .if1 .left)) (sym (c .before .before .is-pointed .ensures) ∙ not-true (c .before .before .is-pointed .result) (c .before .if2 .taken)))
+returns-2 c =
+    λ k. c .valued .ensures ∙ sym
+    (read-number (c .before .before .before .before .before .before .before .args .card .now) (c .before .before .before .before .before .before .before .args .at)
+    (c .before .before .before .before .before .before .before .pre .0) (c .before .before .before .before .before .before .before .pre .1) k
+    (c .before .before .before .before .before .digits-from .result) (c .before .before .before .before .before .digits-from .ensures)
+    (sym (c .before .before .before .before .is-plain .ensures) ∙ not-false (c .before .before .before .before .is-plain .result)
+    (c .before .before .before .if1 .left))
+    (sym (c .before .before .is-pointed .ensures) ∙ not-true (c .before .before .is-pointed .result) (c .before .if2 .taken)))
 
 add-from : tie.Need-add-from
-add-from c = omega (arith, pointed-place (c .before .before .before .before .before .before .args .card .now) (c .before .before .before .before .before .before .args .at + c .before .before .before .before .digits-from .result .count) (sym (c .before .is-pointed .ensures) ∙ not-false (c .before .is-pointed .result) (c .if2 .left)), c .before .before .before .before .before .before .good .0)
+add-from c =
+    omega (
+      arith,
+      pointed-place (c .before .before .before .before .before .before .args .card .now)
+          (c .before .before .before .before .before .before .args .at + c .before .before .before .before .digits-from .result .count)
+          (sym (c .before .is-pointed .ensures) ∙ not-false (c .before .is-pointed .result) (c .if2 .left)),
+      c .before .before .before .before .before .before .good .0,
+    )
 
 digits-from-requires-2 : tie.Need-digits-from-requires-2
 digits-from-requires-2 c κs = search needs
@@ -57,15 +81,46 @@ bare-requires-2 : tie.Need-bare-requires-2
 bare-requires-2 c κs = search needs
 
 returns-3 : tie.Need-returns-3
-returns-3 c = λ k. c .bare2 .ensures ∙ sym (read-long (c .before .before .before .before .before .before .before .before .before .args .card .now) (c .before .before .before .before .before .before .before .before .before .args .at) (c .before .before .before .before .before .before .before .before .before .pre .0) (c .before .before .before .before .before .before .before .before .before .pre .1) k (c .before .before .before .before .before .before .before .digits-from .result) (c .before .before .before .before .before .before .before .digits-from .ensures) (c .before .before .digits-from2 .result) (c .before .before .digits-from2 .ensures) (sym (c .before .before .before .before .before .before .is-plain .ensures) ∙ not-false (c .before .before .before .before .before .before .is-plain .result) (c .before .before .before .before .before .if1 .left)) (sym (c .before .before .before .before .is-pointed .ensures) ∙ not-false (c .before .before .before .before .is-pointed .result) (c .before .before .before .if2 .left)) (c .before .if3 .taken))
+returns-3 c =
+    λ k. c .bare2 .ensures ∙ sym
+    (read-long (c .before .before .before .before .before .before .before .before .before .args .card .now)
+    (c .before .before .before .before .before .before .before .before .before .args .at)
+    (c .before .before .before .before .before .before .before .before .before .pre .0)
+    (c .before .before .before .before .before .before .before .before .before .pre .1) k
+    (c .before .before .before .before .before .before .before .digits-from .result) (c .before .before .before .before .before .before .before .digits-from .ensures)
+    (c .before .before .digits-from2 .result) (c .before .before .digits-from2 .ensures)
+    (sym (c .before .before .before .before .before .before .is-plain .ensures) ∙ not-false (c .before .before .before .before .before .before .is-plain .result)
+    (c .before .before .before .before .before .if1 .left))
+    (sym (c .before .before .before .before .is-pointed .ensures) ∙ not-false (c .before .before .before .before .is-pointed .result)
+    (c .before .before .before .if2 .left))
+    (c .before .if3 .taken))
 
 add-t14 : tie.Need-add-t14
 add-t14 c =
-    let point : c .before .before .before .before .before .before .before .before .args .at + c .before .before .before .before .before .before .digits-from .result .count + 1 < length (c .before .before .before .before .before .before .before .before .args .card .now) = pointed-place (c .before .before .before .before .before .before .before .before .args .card .now) (c .before .before .before .before .before .before .before .before .args .at + c .before .before .before .before .before .before .digits-from .result .count) (sym (c .before .before .before .is-pointed .ensures) ∙ not-false (c .before .before .before .is-pointed .result) (c .before .before .if2 .left)) in
-    omega (arith, counted-fits (c .before .before .before .before .before .before .before .before .args .card .now) (c .before .before .before .before .before .before .before .before .args .at + c .before .before .before .before .before .before .digits-from .result .count + 1) (omega arith) (c .before .digits-from2 .result) (c .before .digits-from2 .ensures), c .before .before .before .before .before .before .before .before .good .0)
+    let point :
+    c .before .before .before .before .before .before .before .before .args .at + c .before .before .before .before .before .before .digits-from .result .count + 1 <
+    length (c .before .before .before .before .before .before .before .before .args .card .now) =
+    pointed-place (c .before .before .before .before .before .before .before .before .args .card .now)
+    (c .before .before .before .before .before .before .before .before .args .at + c .before .before .before .before .before .before .digits-from .result .count)
+    (sym (c .before .before .before .is-pointed .ensures) ∙ not-false (c .before .before .before .is-pointed .result) (c .before .before .if2 .left)) in
+    omega (
+      arith,
+      counted-fits (c .before .before .before .before .before .before .before .before .args .card .now)
+          (c .before .before .before .before .before .before .before .before .args .at + c .before .before .before .before .before .before .digits-from .result .count + 1)
+          (omega arith) (c .before .digits-from2 .result) (c .before .digits-from2 .ensures),
+      c .before .before .before .before .before .before .before .before .good .0,
+    )
 
 returns-4 : tie.Need-returns-4
-returns-4 c = λ k. sym (read-decimal (c .before .before .before .before .before .before .before .before .args .card .now) (c .before .before .before .before .before .before .before .before .args .at) (c .before .before .before .before .before .before .before .before .pre .0) (c .before .before .before .before .before .before .before .before .pre .1) k (c .before .before .before .before .before .before .digits-from .result) (c .before .before .before .before .before .before .digits-from .ensures) (c .before .digits-from2 .result) (c .before .digits-from2 .ensures) (sym (c .before .before .before .before .before .is-plain .ensures) ∙ not-false (c .before .before .before .before .before .is-plain .result) (c .before .before .before .before .if1 .left)) (sym (c .before .before .before .is-pointed .ensures) ∙ not-false (c .before .before .before .is-pointed .result) (c .before .before .if2 .left)) (c .if3 .left))
+returns-4 c =
+    λ k. sym
+    (read-decimal (c .before .before .before .before .before .before .before .before .args .card .now)
+    (c .before .before .before .before .before .before .before .before .args .at) (c .before .before .before .before .before .before .before .before .pre .0)
+    (c .before .before .before .before .before .before .before .before .pre .1) k (c .before .before .before .before .before .before .digits-from .result)
+    (c .before .before .before .before .before .before .digits-from .ensures) (c .before .digits-from2 .result) (c .before .digits-from2 .ensures)
+    (sym (c .before .before .before .before .before .is-plain .ensures) ∙ not-false (c .before .before .before .before .before .is-plain .result)
+    (c .before .before .before .before .if1 .left))
+    (sym (c .before .before .before .is-pointed .ensures) ∙ not-false (c .before .before .before .is-pointed .result) (c .before .before .if2 .left)) (c .if3 .left))
 
 pub numeral-spec : {M : Type 1} → statement M
 numeral-spec =

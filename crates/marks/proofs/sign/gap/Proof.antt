@@ -20,7 +20,10 @@ returns : tie.Need-returns
 returns c = sym (gap-blank (c .before .before .args .b) (drop (c .before .before .args .at + 1) (c .before .before .args .card .now)) (rw (c .if1 .taken)))
 
 returns-2 : tie.Need-returns-2
-returns-2 c = sym (gap-none (c .before .before .before .args .b) (drop (c .before .before .before .args .at + 1) (c .before .before .before .args .card .now)) (not-blank (c .before .before .before .args .b) (omega arith)) (rw (ne-eqb (c .before .before .before .args .b) 47 (λ q. omega arith))))
+returns-2 c =
+    sym
+    (gap-none (c .before .before .before .args .b) (drop (c .before .before .before .args .at + 1) (c .before .before .before .args .card .now))
+    (not-blank (c .before .before .before .args .b) (omega arith)) (rw (ne-eqb (c .before .before .before .args .b) 47 (λ q. omega arith))))
 
 add-next : tie.Need-add-next
 add-next c = search needs
@@ -35,22 +38,49 @@ sub-result : tie.Need-sub-result
 sub-result c = omega (arith, c .line-end .ensures)
 
 returns-3 : tie.Need-returns-3
-returns-3 c = omega (arith, c .line-end .ensures, gap-comment (c .before .before .before .before .before .before .before .args .b) (drop (c .before .before .before .before .before .before .before .args .at + 1) (c .before .before .before .before .before .before .before .args .card .now)) (not-blank (c .before .before .before .before .before .before .before .args .b) (omega arith)) (c .before .before .before .if3 .taken) (sym (c .before .before .stands .ensures) ∙ c .before .if4 .taken))
+returns-3 c =
+    omega (
+      arith,
+      c .line-end .ensures,
+      gap-comment (c .before .before .before .before .before .before .before .args .b)
+          (drop (c .before .before .before .before .before .before .before .args .at + 1) (c .before .before .before .before .before .before .before .args .card .now))
+          (not-blank (c .before .before .before .before .before .before .before .args .b) (omega arith)) (c .before .before .before .if3 .taken)
+          (sym (c .before .before .stands .ensures) ∙ c .before .if4 .taken),
+    )
 
 returns-4 : tie.Need-returns-4
-returns-4 c = sym (gap-none (c .before .before .before .before .before .before .args .b) (drop (c .before .before .before .before .before .before .args .at + 1) (c .before .before .before .before .before .before .args .card .now)) (not-blank (c .before .before .before .before .before .before .args .b) (omega arith)) (and-off (eqb (c .before .before .before .before .before .before .args .b) 47) _ (sym (c .before .stands .ensures) ∙ c .if4 .left)))
+returns-4 c =
+    sym
+    (gap-none (c .before .before .before .before .before .before .args .b)
+    (drop (c .before .before .before .before .before .before .args .at + 1) (c .before .before .before .before .before .before .args .card .now))
+    (not-blank (c .before .before .before .before .before .before .args .b) (omega arith))
+    (and-off (eqb (c .before .before .before .before .before .before .args .b) 47) _ (sym (c .before .stands .ensures) ∙ c .if4 .left)))
 
 returns-5 : tie.Need-returns-5
-returns-5 c = sym (gap-none (c .before .before .before .before .before .args .b) (drop (c .before .before .before .before .before .args .at + 1) (c .before .before .before .before .before .args .card .now)) (not-blank (c .before .before .before .before .before .args .b) (omega arith)) (rw (ne-eqb (c .before .before .before .before .before .args .b) 47 (c .before .if3 .left))))
+returns-5 c =
+    sym
+    (gap-none (c .before .before .before .before .before .args .b)
+    (drop (c .before .before .before .before .before .args .at + 1) (c .before .before .before .before .before .args .card .now))
+    (not-blank (c .before .before .before .before .before .args .b) (omega arith))
+    (rw (ne-eqb (c .before .before .before .before .before .args .b) 47 (c .before .if3 .left))))
 
 is-blank-requires : tie.Need-is-blank-requires
 is-blank-requires c κs = search needs
 
 returns-6 : tie.Need-returns-6
-returns-6 c = sym (gap-blank (c .before .before .before .before .before .before .before .args .b) (drop (c .before .before .before .before .before .before .before .args .at + 1) (c .before .before .before .before .before .before .before .args .card .now)) (sym (c .before .is-blank .ensures) ∙ c .if6 .taken))
+returns-6 c =
+    sym
+    (gap-blank (c .before .before .before .before .before .before .before .args .b)
+    (drop (c .before .before .before .before .before .before .before .args .at + 1) (c .before .before .before .before .before .before .before .args .card .now))
+    (sym (c .before .is-blank .ensures) ∙ c .if6 .taken))
 
 returns-7 : tie.Need-returns-7
-returns-7 c = sym (gap-none (c .before .before .before .before .before .before .before .args .b) (drop (c .before .before .before .before .before .before .before .args .at + 1) (c .before .before .before .before .before .before .before .args .card .now)) (sym (c .before .is-blank .ensures) ∙ c .if6 .left) (rw (ne-eqb (c .before .before .before .before .before .before .before .args .b) 47 (c .before .before .before .if3 .left))))
+returns-7 c =
+    sym
+    (gap-none (c .before .before .before .before .before .before .before .args .b)
+    (drop (c .before .before .before .before .before .before .before .args .at + 1) (c .before .before .before .before .before .before .before .args .card .now))
+    (sym (c .before .is-blank .ensures) ∙ c .if6 .left)
+    (rw (ne-eqb (c .before .before .before .before .before .before .before .args .b) 47 (c .before .before .before .if3 .left))))
 
 pub gap-spec : {M : Type 1} → statement M
 gap-spec =

@@ -31,7 +31,15 @@ begins-at-requires-3 : tie.Need-begins-at-requires-3
 begins-at-requires-3 c κs = search needs
 
 returns-3 : tie.Need-returns-3
-returns-3 c = rw (← c .before .before .before .before .before .before .before .begins-at .ensures, c .before .before .before .before .before .before .if1 .left, ← c .before .before .before .before .begins-at2 .ensures, c .before .before .before .if2 .left, ← c .before .begins-at3 .ensures, c .if3 .taken)
+returns-3 c =
+    rw (
+      ← c .before .before .before .before .before .before .before .begins-at .ensures,
+      c .before .before .before .before .before .before .if1 .left,
+      ← c .before .before .before .before .begins-at2 .ensures,
+      c .before .before .before .if2 .left,
+      ← c .before .begins-at3 .ensures,
+      c .if3 .taken,
+    )
 
 slice-aggregate-begins-at-4 : tie.Need-slice-aggregate-begins-at-4
 slice-aggregate-begins-at-4 c = search needs
@@ -40,7 +48,17 @@ begins-at-requires-4 : tie.Need-begins-at-requires-4
 begins-at-requires-4 c κs = search needs
 
 returns-4 : tie.Need-returns-4
-returns-4 c = rw (← c .before .before .before .before .before .before .before .before .before .before .begins-at .ensures, c .before .before .before .before .before .before .before .before .before .if1 .left, ← c .before .before .before .before .before .before .before .begins-at2 .ensures, c .before .before .before .before .before .before .if2 .left, ← c .before .before .before .before .begins-at3 .ensures, c .before .before .before .if3 .left, ← c .before .begins-at4 .ensures, c .if4 .taken)
+returns-4 c =
+    rw (
+      ← c .before .before .before .before .before .before .before .before .before .before .begins-at .ensures,
+      c .before .before .before .before .before .before .before .before .before .if1 .left,
+      ← c .before .before .before .before .before .before .before .begins-at2 .ensures,
+      c .before .before .before .before .before .before .if2 .left,
+      ← c .before .before .before .before .begins-at3 .ensures,
+      c .before .before .before .if3 .left,
+      ← c .before .begins-at4 .ensures,
+      c .if4 .taken,
+    )
 
 slice-aggregate-begins-at-5 : tie.Need-slice-aggregate-begins-at-5
 slice-aggregate-begins-at-5 c = search needs
@@ -49,10 +67,34 @@ begins-at-requires-5 : tie.Need-begins-at-requires-5
 begins-at-requires-5 c κs = search needs
 
 returns-5 : tie.Need-returns-5
-returns-5 c = rw (← c .before .before .before .before .before .before .before .before .before .before .before .before .before .begins-at .ensures, c .before .before .before .before .before .before .before .before .before .before .before .before .if1 .left, ← c .before .before .before .before .before .before .before .before .before .before .begins-at2 .ensures, c .before .before .before .before .before .before .before .before .before .if2 .left, ← c .before .before .before .before .before .before .before .begins-at3 .ensures, c .before .before .before .before .before .before .if3 .left, ← c .before .before .before .before .begins-at4 .ensures, c .before .before .before .if4 .left, ← c .before .begins-at5 .ensures, c .if5 .taken)
+returns-5 c =
+    rw (
+      ← c .before .before .before .before .before .before .before .before .before .before .before .before .before .begins-at .ensures,
+      c .before .before .before .before .before .before .before .before .before .before .before .before .if1 .left,
+      ← c .before .before .before .before .before .before .before .before .before .before .begins-at2 .ensures,
+      c .before .before .before .before .before .before .before .before .before .if2 .left,
+      ← c .before .before .before .before .before .before .before .begins-at3 .ensures,
+      c .before .before .before .before .before .before .if3 .left,
+      ← c .before .before .before .before .begins-at4 .ensures,
+      c .before .before .before .if4 .left,
+      ← c .before .begins-at5 .ensures,
+      c .if5 .taken,
+    )
 
 returns-6 : tie.Need-returns-6
-returns-6 c = rw (← c .before .before .before .before .before .before .before .before .before .before .before .before .before .begins-at .ensures, c .before .before .before .before .before .before .before .before .before .before .before .before .if1 .left, ← c .before .before .before .before .before .before .before .before .before .before .begins-at2 .ensures, c .before .before .before .before .before .before .before .before .before .if2 .left, ← c .before .before .before .before .before .before .before .begins-at3 .ensures, c .before .before .before .before .before .before .if3 .left, ← c .before .before .before .before .begins-at4 .ensures, c .before .before .before .if4 .left, ← c .before .begins-at5 .ensures, c .if5 .left)
+returns-6 c =
+    rw (
+      ← c .before .before .before .before .before .before .before .before .before .before .before .before .before .begins-at .ensures,
+      c .before .before .before .before .before .before .before .before .before .before .before .before .if1 .left,
+      ← c .before .before .before .before .before .before .before .before .before .before .begins-at2 .ensures,
+      c .before .before .before .before .before .before .before .before .before .if2 .left,
+      ← c .before .before .before .before .before .before .before .begins-at3 .ensures,
+      c .before .before .before .before .before .before .if3 .left,
+      ← c .before .before .before .before .begins-at4 .ensures,
+      c .before .before .before .if4 .left,
+      ← c .before .begins-at5 .ensures,
+      c .if5 .left,
+    )
 
 pub keyword-begun-spec : {M : Type 1} → statement M
 keyword-begun-spec =

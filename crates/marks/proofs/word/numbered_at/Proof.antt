@@ -21,10 +21,19 @@ begins-at-requires : tie.Need-begins-at-requires
 begins-at-requires c κs = search needs
 
 returns : tie.Need-returns
-returns c = numbered-off (c .before .before .before .before .args .these .now) (c .before .before .before .before .args .card .now) (c .before .before .before .before .args .at) (sym (c .before .begins-at .ensures) ∙ not-true (c .before .begins-at .result) (c .if1 .taken))
+returns c =
+    numbered-off (c .before .before .before .before .args .these .now) (c .before .before .before .before .args .card .now) (c .before .before .before .before .args .at)
+    (sym (c .before .begins-at .ensures) ∙ not-true (c .before .begins-at .result) (c .if1 .taken))
 
 add-from : tie.Need-add-from
-add-from c = omega (arith, begun-fits (c .before .before .before .before .args .these .now) (c .before .before .before .before .args .card .now) (c .before .before .before .before .args .at) (c .before .before .before .before .pre .0) (sym (c .before .begins-at .ensures) ∙ not-false (c .before .begins-at .result) (c .if1 .left)), c .before .before .before .before .good .0)
+add-from c =
+    omega (
+      arith,
+      begun-fits (c .before .before .before .before .args .these .now) (c .before .before .before .before .args .card .now)
+          (c .before .before .before .before .args .at) (c .before .before .before .before .pre .0)
+          (sym (c .before .begins-at .ensures) ∙ not-false (c .before .begins-at .result) (c .if1 .left)),
+      c .before .before .before .before .good .0,
+    )
 
 digits-from-requires : tie.Need-digits-from-requires
 digits-from-requires c κs = search needs
@@ -33,26 +42,72 @@ is-plain-requires : tie.Need-is-plain-requires
 is-plain-requires c κs = c .digits-from .ensures .count-is
 
 returns-2 : tie.Need-returns-2
-returns-2 c = numbered-unplain (c .before .before .before .before .before .before .before .args .these .now) (c .before .before .before .before .before .before .before .args .card .now) (c .before .before .before .before .before .before .before .args .at) (c .before .before .before .before .before .before .before .pre .1) (sym (c .before .before .before .before .begins-at .ensures) ∙ not-false (c .before .before .before .before .begins-at .result) (c .before .before .before .if1 .left)) (sym (c .before .is-plain .ensures) ∙ not-true (c .before .is-plain .result) (c .if2 .taken))
+returns-2 c =
+    numbered-unplain (c .before .before .before .before .before .before .before .args .these .now)
+    (c .before .before .before .before .before .before .before .args .card .now) (c .before .before .before .before .before .before .before .args .at)
+    (c .before .before .before .before .before .before .before .pre .1)
+    (sym (c .before .before .before .before .begins-at .ensures) ∙ not-false (c .before .before .before .before .begins-at .result)
+    (c .before .before .before .if1 .left))
+    (sym (c .before .is-plain .ensures) ∙ not-true (c .before .is-plain .result) (c .if2 .taken))
 
 add-word-at : tie.Need-add-word-at
 add-word-at c =
-    let behind = begun-fits (c .before .before .before .before .before .before .before .args .these .now) (c .before .before .before .before .before .before .before .args .card .now) (c .before .before .before .before .before .before .before .args .at) (c .before .before .before .before .before .before .before .pre .0) (sym (c .before .before .before .before .begins-at .ensures) ∙ not-false (c .before .before .before .before .begins-at .result) (c .before .before .before .if1 .left)) in
-    omega (arith, counted-fits (c .before .before .before .before .before .before .before .args .card .now) (c .before .before .before .before .before .before .before .args .at + length (c .before .before .before .before .before .before .before .args .these .now)) behind (c .before .before .digits-from .result) (c .before .before .digits-from .ensures), c .before .before .before .before .before .before .before .good .0)
+    let behind =
+    begun-fits (c .before .before .before .before .before .before .before .args .these .now)
+    (c .before .before .before .before .before .before .before .args .card .now) (c .before .before .before .before .before .before .before .args .at)
+    (c .before .before .before .before .before .before .before .pre .0)
+    (sym (c .before .before .before .before .begins-at .ensures) ∙ not-false (c .before .before .before .before .begins-at .result)
+    (c .before .before .before .if1 .left)) in
+    omega (
+      arith,
+      counted-fits (c .before .before .before .before .before .before .before .args .card .now)
+          (c .before .before .before .before .before .before .before .args .at + length (c .before .before .before .before .before .before .before .args .these .now))
+          behind (c .before .before .digits-from .result) (c .before .before .digits-from .ensures),
+      c .before .before .before .before .before .before .before .good .0,
+    )
 
 word-at-requires : tie.Need-word-at-requires
 word-at-requires c κs = search needs
 
 returns-3 : tie.Need-returns-3
-returns-3 c = numbered-more (c .before .before .before .before .before .before .before .before .before .args .these .now) (c .before .before .before .before .before .before .before .before .before .args .card .now) (c .before .before .before .before .before .before .before .before .before .args .at) (c .before .before .before .before .before .before .before .before .before .pre .1) (sym (c .before .before .before .before .before .before .begins-at .ensures) ∙ not-false (c .before .before .before .before .before .before .begins-at .result) (c .before .before .before .before .before .if1 .left)) (c .before .before .before .before .digits-from .result) (c .before .before .before .before .digits-from .ensures) (sym (c .before .word-at .ensures) ∙ c .if3 .taken)
+returns-3 c =
+    numbered-more (c .before .before .before .before .before .before .before .before .before .args .these .now)
+    (c .before .before .before .before .before .before .before .before .before .args .card .now)
+    (c .before .before .before .before .before .before .before .before .before .args .at)
+    (c .before .before .before .before .before .before .before .before .before .pre .1)
+    (sym (c .before .before .before .before .before .before .begins-at .ensures) ∙ not-false (c .before .before .before .before .before .before .begins-at .result)
+    (c .before .before .before .before .before .if1 .left))
+    (c .before .before .before .before .digits-from .result) (c .before .before .before .before .digits-from .ensures) (sym (c .before .word-at .ensures) ∙ c .if3 .taken)
 
 add-t11 : tie.Need-add-t11
 add-t11 c =
-    let behind = begun-fits (c .before .before .before .before .before .before .before .before .before .args .these .now) (c .before .before .before .before .before .before .before .before .before .args .card .now) (c .before .before .before .before .before .before .before .before .before .args .at) (c .before .before .before .before .before .before .before .before .before .pre .0) (sym (c .before .before .before .before .before .before .begins-at .ensures) ∙ not-false (c .before .before .before .before .before .before .begins-at .result) (c .before .before .before .before .before .if1 .left)) in
-    omega (arith, counted-fits (c .before .before .before .before .before .before .before .before .before .args .card .now) (c .before .before .before .before .before .before .before .before .before .args .at + length (c .before .before .before .before .before .before .before .before .before .args .these .now)) behind (c .before .before .before .before .digits-from .result) (c .before .before .before .before .digits-from .ensures), c .before .before .before .before .before .before .before .before .before .good .0)
+    let behind =
+    begun-fits (c .before .before .before .before .before .before .before .before .before .args .these .now)
+    (c .before .before .before .before .before .before .before .before .before .args .card .now)
+    (c .before .before .before .before .before .before .before .before .before .args .at)
+    (c .before .before .before .before .before .before .before .before .before .pre .0)
+    (sym (c .before .before .before .before .before .before .begins-at .ensures) ∙ not-false (c .before .before .before .before .before .before .begins-at .result)
+    (c .before .before .before .before .before .if1 .left)) in
+    omega (
+      arith,
+      counted-fits (c .before .before .before .before .before .before .before .before .before .args .card .now)
+          (c .before .before .before .before .before .before .before .before .before .args .at + length
+          (c .before .before .before .before .before .before .before .before .before .args .these .now))
+          behind (c .before .before .before .before .digits-from .result) (c .before .before .before .before .digits-from .ensures),
+      c .before .before .before .before .before .before .before .before .before .good .0,
+    )
 
 returns-4 : tie.Need-returns-4
-returns-4 c = numbered-yes (c .before .before .before .before .before .before .before .before .before .args .these .now) (c .before .before .before .before .before .before .before .before .before .args .card .now) (c .before .before .before .before .before .before .before .before .before .args .at) (c .before .before .before .before .before .before .before .before .before .pre .1) (sym (c .before .before .before .before .before .before .begins-at .ensures) ∙ not-false (c .before .before .before .before .before .before .begins-at .result) (c .before .before .before .before .before .if1 .left)) (c .before .before .before .before .digits-from .result) (c .before .before .before .before .digits-from .ensures) (sym (c .before .before .before .is-plain .ensures) ∙ not-false (c .before .before .before .is-plain .result) (c .before .before .if2 .left)) (sym (c .before .word-at .ensures) ∙ c .if3 .left)
+returns-4 c =
+    numbered-yes (c .before .before .before .before .before .before .before .before .before .args .these .now)
+    (c .before .before .before .before .before .before .before .before .before .args .card .now)
+    (c .before .before .before .before .before .before .before .before .before .args .at)
+    (c .before .before .before .before .before .before .before .before .before .pre .1)
+    (sym (c .before .before .before .before .before .before .begins-at .ensures) ∙ not-false (c .before .before .before .before .before .before .begins-at .result)
+    (c .before .before .before .before .before .if1 .left))
+    (c .before .before .before .before .digits-from .result) (c .before .before .before .before .digits-from .ensures)
+    (sym (c .before .before .before .is-plain .ensures) ∙ not-false (c .before .before .before .is-plain .result) (c .before .before .if2 .left))
+    (sym (c .before .word-at .ensures) ∙ c .if3 .left)
 
 pub numbered-at-spec : {M : Type 1} → statement M
 numbered-at-spec =
