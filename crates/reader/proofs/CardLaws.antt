@@ -37,7 +37,7 @@ use Rattle.reader.specs.declared.Due.{Due}
 use Rattle.reader.specs.declared.Outline.{Outline}
 use Rattle.reader.specs.ReadingOf.{outlineOf, memoryOf, ReadsInto}
 use Rattle.reader.specs.Search.{searched}
-use Rattle.reader.specs.Statements.{statements, filled, StatementsFrom}
+use Rattle.statements.specs.Statements.{statements, filled, StatementsFrom}
 use Rattle.parts.proofs.Answers.{onward, halted, made}
 use Rattle.parts.proofs.Lines.{assoc}
 use Rattle.reader.proofs.Outcomes.{orOutside, read-stop, read-shape}

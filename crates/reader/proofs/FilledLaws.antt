@@ -25,7 +25,7 @@ use Rattle.reading.specs.Checks.{judgedState, judgedWords, judgedOr, weightIn, 
 use Rattle.group.specs.Late.{guardBy}
 use Rattle.group.proofs.Settling.{fine-cons, fine-append, same-guard}
 use Rattle.branches.specs.Branches.{packedIn}
-use Rattle.reader.specs.Statements.{guardOrBy, rowBy, withStatement, filled}
+use Rattle.statements.specs.Statements.{guardOrBy, rowBy, withStatement, filled}
 
 -- ---- the arrays with these statements in them
 

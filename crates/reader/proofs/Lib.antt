@@ -1,6 +1,4 @@
 pub mod Passed
-pub mod Owned
-pub mod StatementLaws
 pub mod Places
 pub mod Outcomes
 pub mod FilledLaws

@@ -1,3 +1,2 @@
-pub mod Statements
 pub mod Search
 pub mod ReadingOf

@@ -1,7 +1,5 @@
 // A card, from its bytes, in one pass: each mark of a card that is taken is read once, and only where reading stops is the rest searched
 // for a mark outside the rules.
-mod statements;
-
 use card::Card;
 use card::Head;
 use card::Statement;

@@ -17,7 +17,7 @@ use Rattle.group.proofs.late.settle.Reads as settle-reads
 use Rattle.reader.proofs.refused.Reads as refused-reads
 use Rattle.reader.proofs.refused_late.Reads as refused-late-reads
 use Rattle.reader.proofs.search.Reads as search-reads
-use Rattle.reader.proofs.statements.statements.Reads as statements-reads
+use Rattle.statements.proofs.statements.Reads as statements-reads
 
 cast-t20 : tie.Need-cast-t20
 cast-t20 c = search needs

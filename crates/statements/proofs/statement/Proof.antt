@@ -1,16 +1,16 @@
 -- A way out for each part of a statement, in the order of the parts (proofs/StatementLaws.antt). Assumes nothing.
 use mathlib.Core.Path.{refl}
 use native.Mathlib.Omega.{arith}
-use Rattle.reader.proofs.StatementLaws.{words-halt, own-halts, guard-halts, branches-halt, statement-read}
+use Rattle.statements.proofs.StatementLaws.{words-halt, own-halts, guard-halts, branches-halt, statement-read}
 use borrow.Author.Needs.{needs}
-use Rattle.reader.proofs.statements.statement.Statement.{statement}
-use Rattle.reader.proofs.statements.statement.Tie as tie
-use Rattle.reader.proofs.statements.statement.Reads as reads
-use Rattle.reader.proofs.statements.statement.Lts as lts
+use Rattle.statements.proofs.statement.Statement.{statement}
+use Rattle.statements.proofs.statement.Tie as tie
+use Rattle.statements.proofs.statement.Reads as reads
+use Rattle.statements.proofs.statement.Lts as lts
 use Rattle.branches.proofs.branches.Reads as branches-reads
 use Rattle.parts.proofs.number.Reads as number-reads
-use Rattle.reader.proofs.statements.guarded.Reads as guarded-reads
-use Rattle.reader.proofs.statements.owned.Reads as owned-reads
+use Rattle.statements.proofs.guarded.Reads as guarded-reads
+use Rattle.statements.proofs.owned.Reads as owned-reads
 
 mul-row : tie.Need-mul-row
 mul-row c = omega (arith, c .before .pre .1)

@@ -12,7 +12,7 @@ use Rattle.marks.specs.Parts.{bareOf, valuedOf}
 use Rattle.reading.specs.Reader.{line}
 use Rattle.group.specs.State.{Sized, lateIn, after}
 use Rattle.parts.specs.Parts.{from, Due, Sure, itemsIn, duesIn, kindsIn, numbersIn, LineRead}
-use Rattle.reader.specs.Statements.{OwnFrom}
+use Rattle.statements.specs.Statements.{OwnFrom}
 use Rattle.parts.proofs.Steps.{next-at}
 use Rattle.parts.proofs.Lines.{Left, run-end, run-more}
 use Rattle.parts.proofs.Front.{Front, front, sign-by, word-by}

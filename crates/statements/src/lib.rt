@@ -35,7 +35,7 @@ ghost use Prim.Native.Nat.{_+_, _≤_, _<_};
 ghost use Rattle.card.specs.Limits.{mostStatements, mostNodes, nodePlaces};
 ghost use Rattle.card.specs.Lent.{lent};
 ghost use Rattle.group.specs.State.{Sized, lateIn, after};
-ghost use Rattle.reader.specs.Statements.{OwnFrom, GuardedFrom, StatementFrom, StatementsFrom};
+ghost use Rattle.statements.specs.Statements.{OwnFrom, GuardedFrom, StatementFrom, StatementsFrom};
 
 // The guard, if there is one, and the arrow. The guard's nodes stand from `used` on; their number becomes the value.
 fn guarded(

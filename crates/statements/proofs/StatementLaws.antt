@@ -37,7 +37,7 @@ use Rattle.guard.proofs.Spent.{Each, Spent, unary-spends, conjunction-spends}
 use Rattle.guard.specs.GuardRead.{Ready, GuardRead}
 use Rattle.parts.specs.Parts.{from, Read, Answers, Kept, Went, NumberFrom, SignRead, SignFrom, Told, Due, Sure, LineRead}
 use Rattle.branches.specs.Branches.{BranchesShape, branches, judgedBranches, packedIn, BranchesFrom}
-use Rattle.reader.specs.Statements.{statementDue, OwnFrom, guarded, guardOrBy, GuardedIn, GuardedRead, GuardedFrom, rowBy, withStatement, StatementIn, StatementRead, StatementFrom, statements, filled, StatementsIn, StatementsRead, StatementsFrom}
+use Rattle.statements.specs.Statements.{statementDue, OwnFrom, guarded, guardOrBy, GuardedIn, GuardedRead, GuardedFrom, rowBy, withStatement, StatementIn, StatementRead, StatementFrom, statements, filled, StatementsIn, StatementsRead, StatementsFrom}
 use Rattle.parts.proofs.Steps.{Next, place-seen, told}
 use Rattle.parts.proofs.Answers.{onward, halted, made, if-so, if-not}
 use Rattle.parts.proofs.Counted.{upTo, with-first, another, too-many, no-other}

@@ -1,13 +1,13 @@
--- The bytes that stand right there pass the run at once (proofs/Owned.antt); else it goes mark by mark. Assumes nothing.
+-- The bytes that stand right there pass the run at once (proofs/OwnPassed.antt); else it goes mark by mark. Assumes nothing.
 use native.Mathlib.Omega.{arith}
 use Rattle.card.specs.Text.{bytes}
 use Rattle.parts.proofs.Front.{here}
-use Rattle.reader.proofs.Owned.{own-place, own-passed}
+use Rattle.statements.proofs.OwnPassed.{own-place, own-passed}
 use borrow.Author.Needs.{needs}
-use Rattle.reader.proofs.statements.owned.Statement.{statement}
-use Rattle.reader.proofs.statements.owned.Tie as tie
-use Rattle.reader.proofs.statements.owned.Reads as reads
-use Rattle.reader.proofs.statements.owned.Lts as lts
+use Rattle.statements.proofs.owned.Statement.{statement}
+use Rattle.statements.proofs.owned.Tie as tie
+use Rattle.statements.proofs.owned.Reads as reads
+use Rattle.statements.proofs.owned.Lts as lts
 use Rattle.looks.proofs.look.all_here.Reads as all-here-reads
 use Rattle.parts.proofs.run.Reads as run-reads
 

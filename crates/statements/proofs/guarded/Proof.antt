@@ -2,12 +2,12 @@
 use mathlib.Core.Path.{refl}
 use native.Mathlib.Omega.{arith}
 use Rattle.parts.proofs.Steps.{next-at}
-use Rattle.reader.proofs.StatementLaws.{none-read, none-stops, guard-ready, left-few, left-sized, some-stops, arrow-stops, some-read}
+use Rattle.statements.proofs.StatementLaws.{none-read, none-stops, guard-ready, left-few, left-sized, some-stops, arrow-stops, some-read}
 use borrow.Author.Needs.{needs}
-use Rattle.reader.proofs.statements.guarded.Statement.{statement}
-use Rattle.reader.proofs.statements.guarded.Tie as tie
-use Rattle.reader.proofs.statements.guarded.Reads as reads
-use Rattle.reader.proofs.statements.guarded.Lts as lts
+use Rattle.statements.proofs.guarded.Statement.{statement}
+use Rattle.statements.proofs.guarded.Tie as tie
+use Rattle.statements.proofs.guarded.Reads as reads
+use Rattle.statements.proofs.guarded.Lts as lts
 use Rattle.group.proofs.late.stop.Reads as stop-reads
 use Rattle.guard.proofs.conjunction.Reads as conjunction-reads
 use Rattle.looks.proofs.due.step_arrow.Reads as step-arrow-reads

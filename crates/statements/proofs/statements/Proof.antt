@@ -5,16 +5,16 @@ use Rattle.card.specs.Limits.{mostStatements}
 use Rattle.card.specs.Lent.{lent}
 use Rattle.group.specs.State.{lateIn}
 use Rattle.parts.proofs.Steps.{next-at}
-use Rattle.reader.proofs.StatementLaws.{open-stops, Going, going-start, going-stops, going-unended, going-ended, going-more, going-past, opened-as}
+use Rattle.statements.proofs.StatementLaws.{open-stops, Going, going-start, going-stops, going-unended, going-ended, going-more, going-past, opened-as}
 use borrow.Author.Needs.{needs}
-use Rattle.reader.proofs.statements.statements.Statement.{statement}
-use Rattle.reader.proofs.statements.statements.Tie as tie
-use Rattle.reader.proofs.statements.statements.Reads as reads
-use Rattle.reader.proofs.statements.statements.Lts as lts
+use Rattle.statements.proofs.statements.Statement.{statement}
+use Rattle.statements.proofs.statements.Tie as tie
+use Rattle.statements.proofs.statements.Reads as reads
+use Rattle.statements.proofs.statements.Lts as lts
 use Rattle.group.proofs.late.stop.Reads as stop-reads
 use Rattle.looks.proofs.due.step_square.Reads as step-square-reads
 use Rattle.parts.proofs.sign.Reads as sign-reads
-use Rattle.reader.proofs.statements.statement.Reads as statement-reads
+use Rattle.statements.proofs.statement.Reads as statement-reads
 
 abbrev Inv-loop : tie.InvT-loop
 Inv-loop card at top rows₀ nodes₀ branches₀ state₀ next₀ place₀ count₀ rows nodes branches state next place count =
