@@ -40,6 +40,10 @@ run-edges = record {
   depth-8 = refl;
   depth-9 = refl;
   bar = refl;
+  uneven = (refl, refl, refl);
+  above = (refl, refl);
+  sum = refl;
+  outside-first = refl;
   other-word = refl;
 }
 

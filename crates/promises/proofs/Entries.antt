@@ -143,6 +143,9 @@ rooms = record {
   written = λ card was is a e l p r. let (c, t, g, _) = write card was is a e .small-room p .0 r in omega (arith, g, written-room c (read-valid card c t));
   reduced = λ card was is a e l p r. let (c, t, g, _) = reduce card was is a e .small-room p .0 r in omega (arith, g, short c (read-valid card c t));
   shown = λ card seats was is a e l p r. let (c, t, ok, g, _) = panel card seats was is a e .small-room p .0 r in omega (arith, g, panel-fits c (read-valid card c t) seats ok);
+  written-most = written-room;
+  reduced-most = short;
+  shown-most = panel-fits;
 }
 
 unique : Unique
@@ -164,6 +167,7 @@ demand1 = record {
     ap (λ (y : Outline). numberOf (y .verdict)) (h .outline) ∙ outline-number (readOf card),
     ap (λ (y : Outline). placeOf (y .verdict)) (h .outline) ∙ outline-place (readOf card),
     λ c e. (ap (λ (y : Outline). y .head) (h .outline ∙ ap outlineOf e), h .memory ∙ ap memoryOf e),
+    λ r p e. (ap (λ (y : Outline). y .head) (h .outline ∙ ap outlineOf e), h .memory ∙ ap memoryOf e),
   );
   program = λ input was is long p. (p .stands, p .length-is);
   responds = responds;

@@ -25,6 +25,7 @@ translation = record {
   most = λ c. refl;
   copies = λ c e. rw e;
   one-copy = λ c e. rw e;
+  guard = λ n s m. refl;
   stays = λ n j. rw (eq-eqb j j refl);
   moves = λ n j t h. rw (ne-eqb j t h);
 }

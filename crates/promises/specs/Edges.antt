@@ -108,6 +108,17 @@ pub record RunEdges : Type 0 where
   pub depth-9 : readOf (head ++ bytes " & !!!!!!!!!(s2=0) -> 1:(s1'=1);\n" ++ two) ≡ refused 4 68
   -- `|` behind the local guard fits nowhere
   pub bar : readOf (head ++ bytes " & (s2=0) | (s2=1) -> 1:(s1'=1);\n" ++ two) ≡ refused 3 67
+  -- one group has one relation, one state and each of its seats once
+  pub uneven : (readOf (head ++ bytes " & (s2=0 | s3=1) -> 1:(s1'=1);\n" ++ three) ≡ refused 6 60)
+      × (readOf (head ++ bytes " & (s2=0 | s3!=0) -> 1:(s1'=1);\n" ++ three) ≡ refused 6 60)
+      × (readOf (head ++ bytes " & (s2=0 | s2=0) -> 1:(s1'=1);\n" ++ three) ≡ refused 6 60)
+  -- a state above k: where a branch ends, and in a group
+  pub above : (readOf (head ++ bytes " -> 1:(s1'=3);\nendmodule\n") ≡ refused 5 68)
+      × (readOf (head ++ bytes " & (s2=3 | s3=3) -> 1:(s1'=1);\n" ++ three) ≡ refused 5 64)
+  -- weights that do not come to 1, at the `;`
+  pub sum : readOf (head ++ bytes " -> 1/2:(s1'=1) + 1/3:(s1'=2);\nendmodule\n") ≡ refused 7 86
+  -- a mark outside the rules before a mark out of shape that stands earlier
+  pub outside-first : readOf (bytes "module ?") ≡ refused 2 7
   -- a seat word that is not the one due
   pub other-word : readOf (head ++ bytes " -> 1:(s1'=1);\nendmodule\nmodule process2 = process1 [s1=s2, s9=s5] endmodule\n") ≡ refused 6 117
 

@@ -8,11 +8,11 @@ use lib.ListN.{length, take, drop}
 use Rattle.card.specs.Text.{bytes}
 use Rattle.card.specs.Refusals.{wrongWeight, wrongSeats, seatAboveTop, roomTooSmall}
 use Rattle.card.specs.Card.{Card}
-use Rattle.card.specs.Valid.{Every}
+use Rattle.card.specs.Valid.{Every, ValidCard}
 use Rattle.reading.specs.Reading.{Outcome, taken, refused, readOf}
 use Rattle.reader.specs.declared.Reading.{Reading}
 use Rattle.reader.specs.declared.Outline.{Outline}
-use Rattle.card.specs.Lent.{Lent, headOf, lentOf}
+use Rattle.card.specs.Lent.{Lent, headOf, lentOf, noHead, noneLent}
 use Rattle.card.specs.Verdict.{numberOf, placeOf}
 use Rattle.reader.specs.ReadingOf.{readingOf, Reads, ReadsInto}
 use Rattle.room.specs.declared.Answer.{Answer}
@@ -90,6 +90,10 @@ pub record Rooms : Type 0 where
   pub written : (card : List ℕ) → RoomEnough writtenRoom (writeSaid card)
   pub reduced : (card : List ℕ) → RoomEnough reducedMost (reduceSaid card)
   pub shown : (card seats : List ℕ) → RoomEnough panelRoom (panelSaid card seats)
+  -- because no text is longer
+  pub written-most : (c : Card) → ValidCard c → length (writeOf c) ≤ writtenRoom
+  pub reduced-most : (c : Card) → ValidCard c → length (reducedOf c) ≤ reducedMost
+  pub shown-most : (c : Card) → ValidCard c → (seats : List ℕ) → ValidSeating c seats → length (panelOf c seats) ≤ panelRoom
 
 -- two results that keep one contract are the same
 pub record Unique : Type 0 where
@@ -132,10 +136,11 @@ pub record Demand1 : Type 0 where
   -- the reader: its verdict in numbers, and the struct that it hands back
   pub read : (card : List ℕ) (x : Reading) → Reads card x
       → (numberOf (x .verdict) ≡ outcomeNumber (readOf card)) × (placeOf (x .verdict) ≡ outcomePlace (readOf card)) × (x .card ≡ readingOf (readOf card) .card)
-  -- into lent arrays: the same verdict, and the card that is taken beside its head
+  -- into lent arrays: the same verdict, and the card that is taken beside its head, or zeros in all of them
   pub read-into : (card : List ℕ) (x : Outline) (m : Lent) → ReadsInto card x m
       → (numberOf (x .verdict) ≡ outcomeNumber (readOf card)) × (placeOf (x .verdict) ≡ outcomePlace (readOf card))
       × ((c : Card) → readOf card ≡ taken c → (x .head ≡ headOf c) × (m ≡ lentOf c))
+      × ((number place : ℕ) → readOf card ≡ refused number place → (x .head ≡ noHead) × (m ≡ noneLent))
   pub write : (card was is : List ℕ) (a : Answer) → Entered was is (writeSaid card) a → Prints writeOf card was is a
   pub reduce : (card was is : List ℕ) (a : Answer) → Entered was is (reduceSaid card) a → Prints reducedOf card was is a
   pub panel : (card seats was is : List ℕ) (a : Answer) → Entered was is (panelSaid card seats) a → Shows card seats was is a

@@ -5,8 +5,9 @@ use mathlib.Core.Path.{_≡_}
 use mathlib.Core.List.{List, [], _∷_, map}
 use mathlib.Core.Option.{Option, none, some}
 use Rattle.card.specs.Text.{bytes}
-use Rattle.card.specs.Card.{nondeterministic, probabilistic, Kind, everyone, others, Sign, all, any, Relation, is, isnt, group, atom, neg, and, or, Card}
+use Rattle.card.specs.Card.{nondeterministic, probabilistic, Kind, everyone, others, Sign, all, any, Relation, is, isnt, group, atom, neg, and, or, Statement, Card}
 use Rattle.texts.specs.ReducedText.{reducedOf}
+use Rattle.card.specs.Formulas.{overOr}
 use Rattle.card.specs.Valid.{Every, ValidCard}
 use Rattle.meaning.specs.CardA.{cardA}
 use Rattle.meaning.specs.Steps.{Step}
@@ -82,6 +83,8 @@ pub record Translation : Type 0 where
   -- n copies running, from no_j>0 to no_j>n-1; or one
   pub copies : (c : Card) → c .mode ≡ probabilistic → reduce c .statements ≡ flat (map (λ s. upto (c .n) (λ m. copy (c .n) s m)) (c .statements))
   pub one-copy : (c : Card) → c .mode ≡ nondeterministic → reduce c .statements ≡ flat (map (λ s. copy (c .n) s 0 ∷ []) (c .statements))
+  -- each leaf of the guard by its test in the table
+  pub guard : (n : ℕ) (s : Statement) (m : ℕ) → copy n s m .guard ≡ overOr (counterOf n (s .own)) (s .guard)
   -- a branch to j keeps every counter, any other lowers no_j and raises no_t
   pub stays : (n j : ℕ) → updateOf n j j ≡ keep
   pub moves : (n j t : ℕ) → (j ≡ t → ⊥) → updateOf n j t ≡ shift j t n
