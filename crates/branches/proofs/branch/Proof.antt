@@ -6,13 +6,6 @@ use Rattle.branches.proofs.BranchLaws.{weight-halts, update-halts, end-
 use borrow.Author.Needs.{needs}
 use Rattle.branches.proofs.branch.Statement.{statement}
 use Rattle.branches.proofs.branch.Tie as tie
-use Rattle.branches.proofs.branch.Reads as reads
-use Rattle.branches.proofs.branch.Lts as lts
-use Rattle.branches.proofs.updated.Reads as updated-reads
-use Rattle.branches.proofs.weight.Reads as weight-reads
-use Rattle.card.proofs.node.pack_branch.Reads as pack-branch-reads
-use Rattle.parts.proofs.number.Reads as number-reads
-use Rattle.parts.proofs.sign.Reads as sign-reads
 
 weight-requires : tie.Need-weight-requires
 weight-requires c κs = c .before .before .pre .0
@@ -27,22 +20,45 @@ updated-requires : tie.Need-updated-requires
 updated-requires c κs = c .before .before .before .weight .ensures .sized
 
 returns-2 : tie.Need-returns-2
-returns-2 c = update-halts _ _ _ _ _ _ _ _ (c .before .before .before .before .before .weight .ensures) (c .before .before .before .before .if1 .left) _ (c .before .updated .ensures) (c .if2 .taken)
+returns-2 c =
+    let at-updated = c .before in
+    let at-if1 = at-updated .before .before .before in
+    let at-weight = at-if1 .before in
+    update-halts _ _ _ _ _ _ _ _ (at-weight .weight .ensures) (at-if1 .if1 .left) _ (at-updated .updated .ensures) (c .if2 .taken)
 
 number-requires : tie.Need-number-requires
 number-requires c κs = c .before .before .updated .ensures .sized
 
 returns-3 : tie.Need-returns-3
-returns-3 c = end-halts _ _ _ _ _ _ _ _ (c .before .before .before .before .before .before .before .before .weight .ensures) (c .before .before .before .before .before .before .before .if1 .left) _ (c .before .before .before .before .updated .ensures) (c .before .before .before .if2 .left) _ (c .before .number .ensures) (c .if3 .taken)
+returns-3 c =
+    let at-number = c .before in
+    let at-if2 = at-number .before .before in
+    let at-updated = at-if2 .before in
+    let at-if1 = at-updated .before .before .before in
+    let at-weight = at-if1 .before in
+    end-halts _ _ _ _ _ _ _ _ (at-weight .weight .ensures) (at-if1 .if1 .left) _ (at-updated .updated .ensures) (at-if2 .if2 .left) _
+    (at-number .number .ensures) (c .if3 .taken)
 
 sign-requires : tie.Need-sign-requires
 sign-requires c κs = c .before .before .number .ensures .sized
 
 returns-4 : tie.Need-returns-4
-returns-4 c = close-halts _ _ _ _ _ _ _ _ (c .before .before .before .before .before .before .before .before .before .before .before .weight .ensures) (c .before .before .before .before .before .before .before .before .before .before .if1 .left) _ (c .before .before .before .before .before .before .before .updated .ensures) (c .before .before .before .before .before .before .if2 .left) _ (c .before .before .before .before .number .ensures) (c .before .before .before .if3 .left) _ (c .before .sign .ensures) (c .if4 .taken)
+returns-4 c =
+    let at-sign = c .before in
+    let at-if3 = at-sign .before .before in
+    let at-number = at-if3 .before in
+    let at-if2 = at-number .before .before in
+    let at-updated = at-if2 .before in
+    let at-if1 = at-updated .before .before .before in
+    let at-weight = at-if1 .before in
+    close-halts _ _ _ _ _ _ _ _ (at-weight .weight .ensures) (at-if1 .if1 .left) _ (at-updated .updated .ensures) (at-if2 .if2 .left) _
+    (at-number .number .ensures) (at-if3 .if3 .left) _ (at-sign .sign .ensures) (c .if4 .taken)
 
 cast-pack-branch : tie.Need-cast-pack-branch
-cast-pack-branch c = omega (arith, weight-few _ (c .before .before .before .before .before .before .before .before .before .before .before .weight .ensures) (c .before .before .before .before .before .before .before .before .before .before .if1 .left))
+cast-pack-branch c =
+    let at-if1 = c .before .before .before .before .before .before .before .before .before .before in
+    let at-weight = at-if1 .before in
+    omega (arith, weight-few _ (at-weight .weight .ensures) (at-if1 .if1 .left))
 
 element-copy-out-pack-branch : tie.Need-element-copy-out-pack-branch
 element-copy-out-pack-branch c = search needs
@@ -51,17 +67,33 @@ pack-branch-requires : tie.Need-pack-branch-requires
 pack-branch-requires c κs = search needs
 
 mul-branches : tie.Need-mul-branches
-mul-branches c = omega (arith, c .before .before .before .before .before .before .before .before .before .before .before .before .before .before .before .before .pre .1)
+mul-branches c =
+    let entry = c .before .before .before .before .before .before .before .before .before .before .before .before .before .before .before .before in
+    omega (arith, entry .pre .1)
 
 element-write-branches : tie.Need-element-write-branches
-element-write-branches c = omega (arith, c .before .before .before .before .before .before .before .before .before .before .before .before .before .before .before .before .pre .1)
+element-write-branches c =
+    let entry = c .before .before .before .before .before .before .before .before .before .before .before .before .before .before .before .before in
+    omega (arith, entry .pre .1)
 
 element-write-state : tie.Need-element-write-state
 element-write-state c = search needs
 
 returns-5 : tie.Need-returns-5
-returns-5 c = branch-read _ _ _ _ _ _ _ _ (c .before .before .before .before .before .before .before .before .before .before .before .before .before .weight .ensures) (c .before .before .before .before .before .before .before .before .before .before .before .before .if1 .left) _ (c .before .before .before .before .before .before .before .before .before .updated .ensures) (c .before .before .before .before .before .before .before .before .if2 .left) _ (c .before .before .before .before .before .before .number .ensures) (c .before .before .before .before .before .if3 .left) _ (c .before .before .before .sign .ensures) (c .before .before .if4 .left)
-    (ap (set (c .before .before .before .before .before .before .before .before .before .before .before .before .before .before .before .before .args .branches .now) (c .before .before .before .before .before .before .before .before .before .before .before .before .before .before .before .before .args .place)) (c .pack-branch .ensures))
+returns-5 c =
+    let at-if4 = c .before .before in
+    let at-sign = at-if4 .before in
+    let at-if3 = at-sign .before .before in
+    let at-number = at-if3 .before in
+    let at-if2 = at-number .before .before in
+    let at-updated = at-if2 .before in
+    let at-if1 = at-updated .before .before .before in
+    let at-weight = at-if1 .before in
+    let entry = at-weight .before .before .before in
+    let a = entry .args in
+    branch-read _ _ _ _ _ _ _ _ (at-weight .weight .ensures) (at-if1 .if1 .left) _ (at-updated .updated .ensures) (at-if2 .if2 .left) _
+    (at-number .number .ensures) (at-if3 .if3 .left) _ (at-sign .sign .ensures) (at-if4 .if4 .left)
+    (ap (set (a .branches .now) (a .place)) (c .pack-branch .ensures))
 
 pub branch-spec : {M : Type 1} → statement M
 branch-spec =

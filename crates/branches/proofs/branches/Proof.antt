@@ -8,13 +8,6 @@ use Rattle.branches.proofs.BranchLaws.{Going, going-start, going-stops,
 use borrow.Author.Needs.{needs}
 use Rattle.branches.proofs.branches.Statement.{statement}
 use Rattle.branches.proofs.branches.Tie as tie
-use Rattle.branches.proofs.branches.Reads as reads
-use Rattle.branches.proofs.branches.Lts as lts
-use Rattle.branches.proofs.branch.Reads as branch-reads
-use Rattle.branches.proofs.closed.Reads as closed-reads
-use Rattle.branches.proofs.past.Reads as past-reads
-use Rattle.looks.proofs.due.step_further.Reads as step-further-reads
-use Rattle.marks.proofs.Cursor.step.Reads as step-reads
 
 abbrev Inv-loop : tie.InvT-loop
 Inv-loop card at top array₀ first state₀ next₀ total₀ count₀ array state next total count =
@@ -24,16 +17,29 @@ abbrev μ-loop : tie.MeasureT-loop
 μ-loop card at top array₀ first state₀ next₀ total₀ count₀ array state next total count = mostBranches - count
 
 loop-holds : tie.Need-loop-holds Inv-loop μ-loop
-loop-holds c = going-start (c .before .args .state .now) (c .before .pre .0)
+loop-holds c =
+    let entry = c .before in
+    going-start (entry .args .state .now) (entry .pre .0)
 
 add-branch : tie.Need-add-branch Inv-loop μ-loop
-add-branch c = omega (arith, c .before .before .before .before .pre .1, c .before .loop-test .taken)
+add-branch c =
+    let at-loop-test = c .before in
+    let entry = at-loop-test .before .before .before in
+    omega (arith, entry .pre .1, at-loop-test .loop-test .taken)
 
 branch-requires : tie.Need-branch-requires Inv-loop μ-loop
-branch-requires c κs = (c .before .before .before .loop .inv .sized, omega (arith, c .before .before .before .before .before .pre .1, c .before .before .loop-test .taken))
+branch-requires c κs =
+    let at-loop-test = c .before .before in
+    let at-loop = at-loop-test .before in
+    let entry = at-loop .before .before in
+    (at-loop .loop .inv .sized, omega (arith, entry .pre .1, at-loop-test .loop-test .taken))
 
 returns : tie.Need-returns Inv-loop μ-loop
-returns c = going-stops (c .before .before .before .before .before .loop .inv) (c .before .before .before .before .loop-test .taken) _ (c .before .branch .ensures) (c .if1 .taken)
+returns c =
+    let at-branch = c .before in
+    let at-loop-test = at-branch .before .before .before in
+    let at-loop = at-loop-test .before in
+    going-stops (at-loop .loop .inv) (at-loop-test .loop-test .taken) _ (at-branch .branch .ensures) (c .if1 .taken)
 
 add-count : tie.Need-add-count Inv-loop μ-loop
 add-count c = omega (arith, c .before .before .before .before .loop-test .taken)
@@ -42,22 +48,50 @@ element-copy-out-total : tie.Need-element-copy-out-total Inv-loop μ-loop
 element-copy-out-total c = search needs
 
 add-total : tie.Need-add-total Inv-loop μ-loop
-add-total c = omega (arith, branch-few _ (c .before .before .branch .ensures) (c .before .if1 .left), c .before .before .before .before .before .before .loop .inv .small, c .before .before .before .before .before .loop-test .taken)
+add-total c =
+    let at-if1 = c .before in
+    let at-branch = at-if1 .before in
+    let at-loop-test = at-branch .before .before .before in
+    let at-loop = at-loop-test .before in
+    omega (arith, branch-few _ (at-branch .branch .ensures) (at-if1 .if1 .left), at-loop .loop .inv .small, at-loop-test .loop-test .taken)
 
 step-further-requires : tie.Need-step-further-requires Inv-loop μ-loop
 step-further-requires c κs = search needs
 
 closed-requires : tie.Need-closed-requires Inv-loop μ-loop
-closed-requires c κs = c .before .before .before .before .before .before .before .before .branch .ensures .sized
+closed-requires c κs =
+    let at-branch = c .before .before .before .before .before .before .before .before in
+    at-branch .branch .ensures .sized
 
 returns-2 : tie.Need-returns-2 Inv-loop μ-loop
-returns-2 c = going-closed (c .before .before .before .before .before .before .before .before .before .before .before .before .before .loop .inv) (c .before .before .before .before .before .before .before .before .before .before .before .before .loop-test .taken) _ (c .before .before .before .before .before .before .before .before .before .branch .ensures) (c .before .before .before .before .before .before .before .before .if1 .left) (next-at (c .before .before .before .before .before .before .before .before .before .before .before .before .before .before .before .args .card .now) (c .before .before .before .before .before .before .before .before .before .branch .result) (c .before .before .before .before .before .before .step-further .result) (c .before .before .before .before .before .before .step-further .ensures)) (c .before .before .if2 .taken) (c .closed .ensures)
+returns-2 c =
+    let at-if2 = c .before .before in
+    let at-step-further = at-if2 .before .before .before .before in
+    let at-if1 = at-step-further .before .before in
+    let at-branch = at-if1 .before in
+    let at-loop-test = at-branch .before .before .before in
+    let at-loop = at-loop-test .before in
+    let entry = at-loop .before .before in
+    going-closed (at-loop .loop .inv) (at-loop-test .loop-test .taken) _ (at-branch .branch .ensures) (at-if1 .if1 .left)
+    (next-at (entry .args .card .now) (at-branch .branch .result) (at-step-further .step-further .result) (at-step-further .step-further .ensures))
+    (at-if2 .if2 .taken) (c .closed .ensures)
 
 loop-less : tie.Need-loop-less Inv-loop μ-loop
-loop-less c = omega (arith, c .before .before .before .before .before .before .before .before .before .before .loop-test .taken)
+loop-less c =
+    let at-loop-test = c .before .before .before .before .before .before .before .before .before .before in
+    omega (arith, at-loop-test .loop-test .taken)
 
 loop-again : tie.Need-loop-again Inv-loop μ-loop
-loop-again c = going-more (c .before .before .before .before .before .before .before .before .before .before .before .loop .inv) (c .before .before .before .before .before .before .before .before .before .before .loop-test .taken) _ (c .before .before .before .before .before .before .before .branch .ensures) (c .before .before .before .before .before .before .if1 .left) (next-at (c .before .before .before .before .before .before .before .before .before .before .before .before .before .args .card .now) (c .before .before .before .before .before .before .before .branch .result) (c .before .before .before .before .step-further .result) (c .before .before .before .before .step-further .ensures)) (c .if2 .left)
+loop-again c =
+    let at-step-further = c .before .before .before .before in
+    let at-if1 = at-step-further .before .before in
+    let at-branch = at-if1 .before in
+    let at-loop-test = at-branch .before .before .before in
+    let at-loop = at-loop-test .before in
+    let entry = at-loop .before .before in
+    going-more (at-loop .loop .inv) (at-loop-test .loop-test .taken) _ (at-branch .branch .ensures) (at-if1 .if1 .left)
+    (next-at (entry .args .card .now) (at-branch .branch .result) (at-step-further .step-further .result) (at-step-further .step-further .ensures))
+    (c .if2 .left)
 
 step-requires : tie.Need-step-requires Inv-loop μ-loop
 step-requires c κs = search needs
@@ -66,7 +100,13 @@ past-requires : tie.Need-past-requires Inv-loop μ-loop
 past-requires c κs = c .before .before .before .loop .inv .sized
 
 returns-3 : tie.Need-returns-3 Inv-loop μ-loop
-returns-3 c = going-past (c .before .before .before .before .loop .inv) (c .before .before .before .loop-test .left) (next-at (c .before .before .before .before .before .before .args .card .now) (c .before .before .before .before .loop .next) (c .before .before .step .result) (c .before .before .step .ensures)) (c .past .ensures)
+returns-3 c =
+    let at-step = c .before .before in
+    let at-loop-test = at-step .before in
+    let at-loop = at-loop-test .before in
+    let entry = at-loop .before .before in
+    going-past (at-loop .loop .inv) (at-loop-test .loop-test .left)
+    (next-at (entry .args .card .now) (at-loop .loop .next) (at-step .step .result) (at-step .step .ensures)) (c .past .ensures)
 
 pub branches-spec : {M : Type 1} → statement M
 branches-spec =

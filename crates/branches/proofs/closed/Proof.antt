@@ -2,10 +2,6 @@ use Rattle.branches.proofs.BranchLaws.{close-stops, close-read}
 use borrow.Author.Needs.{needs}
 use Rattle.branches.proofs.closed.Statement.{statement}
 use Rattle.branches.proofs.closed.Tie as tie
-use Rattle.branches.proofs.closed.Reads as reads
-use Rattle.branches.proofs.closed.Lts as lts
-use Rattle.branches.proofs.judge_sum.Reads as judge-sum-reads
-use Rattle.group.proofs.late.stop.Reads as stop-reads
 
 stop-requires : tie.Need-stop-requires
 stop-requires c κs = c .before .before .before .pre
@@ -20,7 +16,10 @@ element-write-state : tie.Need-element-write-state
 element-write-state c = search needs
 
 returns-2 : tie.Need-returns-2
-returns-2 c = close-read (c .before .before .before .before .args .state .now) (c .before .before .if1 .left) (c .before .before .before .before .pre) (c .judge-sum .ensures)
+returns-2 c =
+    let at-if1 = c .before .before in
+    let entry = at-if1 .before .before in
+    close-read (entry .args .state .now) (at-if1 .if1 .left) (entry .pre) (c .judge-sum .ensures)
 
 pub closed-spec : {M : Type 1} → statement M
 closed-spec =

@@ -6,22 +6,29 @@ use Rattle.branches.proofs.BranchLaws.{sum-fine, sum-wrong}
 use borrow.Author.Needs.{needs}
 use Rattle.branches.proofs.judge_sum.Statement.{statement}
 use Rattle.branches.proofs.judge_sum.Tie as tie
-use Rattle.branches.proofs.judge_sum.Reads as reads
-use Rattle.branches.proofs.judge_sum.Lts as lts
-use Rattle.branches.proofs.wide.Reads as wide-reads
-use Rattle.group.proofs.late.blame.Reads as blame-reads
 
 wide-requires : tie.Need-wide-requires
 wide-requires c κs = search needs
 
 returns : tie.Need-returns
-returns c = late-same (c .before .before .args .state .now) (c .before .before .pre) ∙ ap (withLate (c .before .before .args .state .now)) (sum-fine (c .before .before .args .total) (c .before .before .args .place) (lateIn (c .before .before .args .state .now)) (c .if1 .taken ∙ c .before .wide .ensures))
+returns c =
+    let at-wide = c .before in
+    let entry = at-wide .before in
+    let a = entry .args in
+    late-same (a .state .now) (entry .pre) ∙ ap (withLate (a .state .now))
+    (sum-fine (a .total) (a .place) (lateIn (a .state .now)) (c .if1 .taken ∙ at-wide .wide .ensures))
 
 blame-requires : tie.Need-blame-requires
 blame-requires c κs = c .before .before .before .pre
 
 returns-2 : tie.Need-returns-2
-returns-2 c = c .blame .ensures ∙ ap (withLate (c .before .before .before .before .args .state .now)) (sum-wrong (c .before .before .before .before .args .total) (c .before .before .before .before .args .place) (lateIn (c .before .before .before .before .args .state .now)) (λ e. c .before .before .if1 .left (e ∙ sym (c .before .before .before .wide .ensures))))
+returns-2 c =
+    let at-if1 = c .before .before in
+    let at-wide = at-if1 .before in
+    let entry = at-wide .before in
+    let a = entry .args in
+    c .blame .ensures ∙ ap (withLate (a .state .now))
+    (sum-wrong (a .total) (a .place) (lateIn (a .state .now)) (λ e. at-if1 .if1 .left (e ∙ sym (at-wide .wide .ensures))))
 
 pub judge-sum-spec : {M : Type 1} → statement M
 judge-sum-spec =

@@ -2,10 +2,6 @@ use Rattle.branches.proofs.BranchLaws.{units-weighed, broken-weighed}
 use borrow.Author.Needs.{needs}
 use Rattle.branches.proofs.weighed.Statement.{statement}
 use Rattle.branches.proofs.weighed.Tie as tie
-use Rattle.branches.proofs.weighed.Reads as reads
-use Rattle.branches.proofs.weighed.Lts as lts
-use Rattle.branches.proofs.wide.Reads as wide-reads
-use Rattle.group.proofs.late.blame.Reads as blame-reads
 
 enum-known-judged : tie.Need-enum-known-judged
 enum-known-judged c = search needs
@@ -26,10 +22,16 @@ element-write-state-2 : tie.Need-element-write-state-2
 element-write-state-2 c = search needs
 
 returns : tie.Need-returns
-returns c = units-weighed (c .before .before .before .before .args .state .now) (c .before .before .before .before .pre) (c .before .before .judged .given .0 .0) (c .before .before .judged .given .1) (c .wide .ensures)
+returns c =
+    let at-judged = c .before .before in
+    let entry = at-judged .before .before in
+    units-weighed (entry .args .state .now) (entry .pre) (at-judged .judged .given .0 .0) (at-judged .judged .given .1) (c .wide .ensures)
 
 returns-2 : tie.Need-returns-2
-returns-2 c = broken-weighed (c .before .before .before .before .args .state .now) (c .before .before .before .before .pre) (c .before .before .enum-told .given .1) (c .blame .ensures)
+returns-2 c =
+    let at-enum-told = c .before .before in
+    let entry = at-enum-told .before .before in
+    broken-weighed (entry .args .state .now) (entry .pre) (at-enum-told .enum-told .given .1) (c .blame .ensures)
 
 pub weighed-spec : {M : Type 1} → statement M
 weighed-spec =

@@ -8,18 +8,23 @@ use Rattle.parts.proofs.Lines.{word-due, word-not-due}
 use borrow.Author.Needs.{needs}
 use Rattle.parts.proofs.judge_word.Statement.{statement}
 use Rattle.parts.proofs.judge_word.Tie as tie
-use Rattle.parts.proofs.judge_word.Reads as reads
-use Rattle.parts.proofs.judge_word.Lts as lts
-use Rattle.group.proofs.late.blame.Reads as blame-reads
 
 returns : tie.Need-returns
-returns c = late-same (c .before .args .state .now) (c .before .pre) ∙ ap (withLate (c .before .args .state .now)) (word-due (c .before .args .due) (c .before .args .number) (c .before .args .place) (lateIn (c .before .args .state .now)) (c .if1 .taken))
+returns c =
+    let entry = c .before in
+    let a = entry .args in
+    late-same (a .state .now) (entry .pre) ∙ ap (withLate (a .state .now))
+    (word-due (a .due) (a .number) (a .place) (lateIn (a .state .now)) (c .if1 .taken))
 
 blame-requires : tie.Need-blame-requires
 blame-requires c κs = c .before .before .pre
 
 returns-2 : tie.Need-returns-2
-returns-2 c = c .blame .ensures ∙ ap (withLate (c .before .before .before .args .state .now)) (word-not-due (c .before .before .before .args .due) (c .before .before .before .args .number) (c .before .before .before .args .place) (lateIn (c .before .before .before .args .state .now)) (c .before .before .if1 .left))
+returns-2 c =
+    let at-if1 = c .before .before in
+    let entry = at-if1 .before in
+    let a = entry .args in
+    c .blame .ensures ∙ ap (withLate (a .state .now)) (word-not-due (a .due) (a .number) (a .place) (lateIn (a .state .now)) (at-if1 .if1 .left))
 
 pub judge-word-spec : {M : Type 1} → statement M
 judge-word-spec =

@@ -8,11 +8,6 @@ use Rattle.parts.proofs.Steps.{next-at}
 use borrow.Author.Needs.{needs}
 use Rattle.parts.proofs.run.Statement.{statement}
 use Rattle.parts.proofs.run.Tie as tie
-use Rattle.parts.proofs.run.Reads as reads
-use Rattle.parts.proofs.run.Lts as lts
-use Rattle.group.proofs.late.stop.Reads as stop-reads
-use Rattle.looks.proofs.due.step_kind.Reads as step-kind-reads
-use Rattle.parts.proofs.judge_word.Reads as judge-word-reads
 
 abbrev Inv-loop : tie.InvT-loop
 Inv-loop card at kinds dues state₀ next₀ i₀ state next i = Going card next₀ kinds dues (lateIn state₀) i next state
@@ -21,7 +16,9 @@ abbrev μ-loop : tie.MeasureT-loop
 μ-loop card at kinds dues state₀ next₀ i₀ state next i = length kinds - i
 
 loop-holds : tie.Need-loop-holds Inv-loop μ-loop
-loop-holds c = going-start (c .before .before .before .args .state .now) (c .before .before .before .pre .0)
+loop-holds c =
+    let entry = c .before .before .before in
+    going-start (entry .args .state .now) (entry .pre .0)
 
 mul-kind : tie.Need-mul-kind Inv-loop μ-loop
 mul-kind c = search needs
@@ -33,19 +30,34 @@ step-kind-requires : tie.Need-step-kind-requires Inv-loop μ-loop
 step-kind-requires c κs = search needs
 
 stop-requires : tie.Need-stop-requires Inv-loop μ-loop
-stop-requires c κs = c .before .before .before .before .before .before .before .loop .inv .sized
+stop-requires c κs =
+    let at-loop = c .before .before .before .before .before .before .before in
+    at-loop .loop .inv .sized
 
 returns : tie.Need-returns Inv-loop μ-loop
-returns c = going-stops (c .before .before .before .before .before .before .before .before .loop .inv) (c .before .before .before .before .before .before .before .loop-test .taken) (next-at (c .before .before .before .before .before .before .before .before .before .before .before .before .args .card .now) (c .before .before .before .before .before .before .before .before .loop .next) (c .before .before .before .before .before .step-kind .result) (c .before .before .before .before .before .step-kind .ensures)) (c .before .before .if1 .taken) (c .stop .ensures .0)
+returns c =
+    let at-if1 = c .before .before in
+    let at-step-kind = at-if1 .before .before .before in
+    let at-loop-test = at-step-kind .before .before in
+    let at-loop = at-loop-test .before in
+    let entry = at-loop .before .before .before .before in
+    going-stops (at-loop .loop .inv) (at-loop-test .loop-test .taken)
+    (next-at (entry .args .card .now) (at-loop .loop .next) (at-step-kind .step-kind .result) (at-step-kind .step-kind .ensures)) (at-if1 .if1 .taken)
+    (c .stop .ensures .0)
 
 mul-judge-word : tie.Need-mul-judge-word Inv-loop μ-loop
 mul-judge-word c = search needs
 
 shared-slice-read-judge-word : tie.Need-shared-slice-read-judge-word Inv-loop μ-loop
-shared-slice-read-judge-word c = omega (arith, c .before .before .before .before .before .before .before .before .before .before .before .pre .1, c .before .before .before .before .before .before .loop-test .taken)
+shared-slice-read-judge-word c =
+    let at-loop-test = c .before .before .before .before .before .before in
+    let entry = at-loop-test .before .before .before .before .before in
+    omega (arith, entry .pre .1, at-loop-test .loop-test .taken)
 
 judge-word-requires : tie.Need-judge-word-requires Inv-loop μ-loop
-judge-word-requires c κs = c .before .before .before .before .before .before .before .before .loop .inv .sized
+judge-word-requires c κs =
+    let at-loop = c .before .before .before .before .before .before .before .before in
+    at-loop .loop .inv .sized
 
 add-i : tie.Need-add-i Inv-loop μ-loop
 add-i c = search needs
@@ -54,10 +66,22 @@ loop-less : tie.Need-loop-less Inv-loop μ-loop
 loop-less c = search needs
 
 loop-again : tie.Need-loop-again Inv-loop μ-loop
-loop-again c = going-more (c .before .before .before .before .before .before .before .before .before .before .loop .inv) (c .before .before .before .before .before .before .before .before .before .loop-test .taken) (next-at (c .before .before .before .before .before .before .before .before .before .before .before .before .before .before .args .card .now) (c .before .before .before .before .before .before .before .before .before .before .loop .next) (c .before .before .before .before .before .before .before .step-kind .result) (c .before .before .before .before .before .before .before .step-kind .ensures)) (omega (arith, c .before .before .before .before .before .before .before .before .before .before .before .before .before .before .pre .1, c .before .before .before .before .before .before .before .before .before .loop-test .taken)) (c .before .before .before .before .if1 .left) (c .before .judge-word .ensures)
+loop-again c =
+    let at-judge-word = c .before in
+    let at-if1 = at-judge-word .before .before .before in
+    let at-step-kind = at-if1 .before .before .before in
+    let at-loop-test = at-step-kind .before .before in
+    let at-loop = at-loop-test .before in
+    let entry = at-loop .before .before .before .before in
+    going-more (at-loop .loop .inv) (at-loop-test .loop-test .taken)
+    (next-at (entry .args .card .now) (at-loop .loop .next) (at-step-kind .step-kind .result) (at-step-kind .step-kind .ensures))
+    (omega (arith, entry .pre .1, at-loop-test .loop-test .taken)) (at-if1 .if1 .left) (at-judge-word .judge-word .ensures)
 
 returns-2 : tie.Need-returns-2 Inv-loop μ-loop
-returns-2 c = going-end (c .before .loop .inv) (c .before .before .before .before .before .pre .1 .0) (c .loop-test .left)
+returns-2 c =
+    let at-loop = c .before in
+    let entry = at-loop .before .before .before .before in
+    going-end (at-loop .loop .inv) (entry .pre .1 .0) (c .loop-test .left)
 
 pub run-spec : {M : Type 1} → statement M
 run-spec =

@@ -6,13 +6,10 @@ use Rattle.reader.proofs.Structs.{reads-whole}
 use borrow.Author.Needs.{needs}
 use Rattle.reader.proofs.read.Statement.{statement}
 use Rattle.reader.proofs.read.Tie as tie
-use Rattle.reader.proofs.read.Reads as reads
-use Rattle.reader.proofs.read.Lts as lts
-use Rattle.reader.proofs.read_into.Reads as read-into-reads
-use Rattle.reader.proofs.statements_in.Reads as statements-in-reads
 
 read-into-requires : tie.Need-read-into-requires
-read-into-requires c κs = λ i. lent (sym (zeros-repeat rowPlaces) i) (sym (zeros-repeat nodePlaces) i) (sym (zeros-repeat branchPlaces) i)
+read-into-requires c κs =
+    λ i. lent (sym (zeros-repeat rowPlaces) i) (sym (zeros-repeat nodePlaces) i) (sym (zeros-repeat branchPlaces) i)
 
 statements-in-requires : tie.Need-statements-in-requires
 statements-in-requires c κs = search needs

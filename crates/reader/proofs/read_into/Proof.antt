@@ -9,15 +9,6 @@ use Rattle.reader.proofs.CardLaws.{header-stops, statements-stop, modul
 use borrow.Author.Needs.{needs}
 use Rattle.reader.proofs.read_into.Statement.{statement}
 use Rattle.reader.proofs.read_into.Tie as tie
-use Rattle.reader.proofs.read_into.Reads as reads
-use Rattle.reader.proofs.read_into.Lts as lts
-use Rattle.frame.proofs.header.header.Reads as header-reads
-use Rattle.frame.proofs.modules.modules.Reads as modules-reads
-use Rattle.group.proofs.late.settle.Reads as settle-reads
-use Rattle.reader.proofs.refused.Reads as refused-reads
-use Rattle.reader.proofs.refused_late.Reads as refused-late-reads
-use Rattle.reader.proofs.search.Reads as search-reads
-use Rattle.statements.proofs.statements.Reads as statements-reads
 
 cast-t20 : tie.Need-cast-t20
 cast-t20 c = search needs
@@ -26,7 +17,10 @@ refused-requires : tie.Need-refused-requires
 refused-requires c κs = search needs
 
 returns : tie.Need-returns
-returns c = reads-refused (read-long _ (c .before .if1 .taken)) (c .refused .ensures) (c .before .before .before .pre)
+returns c =
+    let at-if1 = c .before in
+    let entry = at-if1 .before .before in
+    reads-refused (read-long _ (at-if1 .if1 .taken)) (c .refused .ensures) (entry .pre)
 
 header-requires : tie.Need-header-requires
 header-requires c κs = refl
@@ -41,10 +35,21 @@ search-requires : tie.Need-search-requires
 search-requires c κs = search needs
 
 refused-requires-2 : tie.Need-refused-requires-2
-refused-requires-2 c κs = searched-number (header-stops _ (c .before .before .before .before .if1 .left) _ (c .before .before .header .ensures) (c .before .if2 .taken)) (c .search .ensures)
+refused-requires-2 c κs =
+    let at-if2 = c .before in
+    let at-header = at-if2 .before in
+    let at-if1 = at-header .before .before in
+    searched-number (header-stops _ (at-if1 .if1 .left) _ (at-header .header .ensures) (at-if2 .if2 .taken)) (c .search .ensures)
 
 returns-2 : tie.Need-returns-2
-returns-2 c = reads-searched (header-stops _ (c .before .before .before .before .before .if1 .left) _ (c .before .before .before .header .ensures) (c .before .before .if2 .taken)) (c .before .search .ensures) (c .refused2 .ensures) (c .before .before .before .before .before .before .before .pre)
+returns-2 c =
+    let at-search = c .before in
+    let at-if2 = at-search .before in
+    let at-header = at-if2 .before in
+    let at-if1 = at-header .before .before in
+    let entry = at-if1 .before .before in
+    reads-searched (header-stops _ (at-if1 .if1 .left) _ (at-header .header .ensures) (at-if2 .if2 .taken)) (at-search .search .ensures)
+    (c .refused2 .ensures) (entry .pre)
 
 array-read-mode : tie.Need-array-read-mode
 array-read-mode c = search needs
@@ -68,16 +73,35 @@ search-requires-2 : tie.Need-search-requires-2
 search-requires-2 c κs = search needs
 
 refused-late-requires : tie.Need-refused-late-requires
-refused-late-requires c κs = searched-number (statements-stop _ (c .before .before .before .before .before .before .before .before .before .before .before .before .before .if1 .left) _ (c .before .before .before .before .before .before .before .before .before .before .before .header .ensures) (c .before .before .before .before .before .before .before .before .before .before .if2 .left) _ _ _ (c .before .before .before .before .before .statements .ensures) (c .before .before .before .before .if3 .taken)) (c .before .before .before .search2 .ensures)
+refused-late-requires c κs =
+    let at-search2 = c .before .before .before in
+    let at-if3 = at-search2 .before in
+    let at-statements = at-if3 .before in
+    let at-if2 = at-statements .before .before .before .before .before in
+    let at-header = at-if2 .before in
+    let at-if1 = at-header .before .before in
+    searched-number (statements-stop _ (at-if1 .if1 .left) _ (at-header .header .ensures) (at-if2 .if2 .left) _ _ _ (at-statements .statements .ensures)
+    (at-if3 .if3 .taken)) (at-search2 .search2 .ensures)
 
 returns-3 : tie.Need-returns-3
-returns-3 c = reads-searched (statements-stop _ (c .before .before .before .before .before .before .before .before .before .before .before .before .before .before .if1 .left) _ (c .before .before .before .before .before .before .before .before .before .before .before .before .header .ensures) (c .before .before .before .before .before .before .before .before .before .before .before .if2 .left) _ _ _ (c .before .before .before .before .before .before .statements .ensures) (c .before .before .before .before .before .if3 .taken)) (c .before .before .before .before .search2 .ensures) (c .refused-late .ensures .0) (c .refused-late .ensures .1)
+returns-3 c =
+    let at-search2 = c .before .before .before .before in
+    let at-if3 = at-search2 .before in
+    let at-statements = at-if3 .before in
+    let at-if2 = at-statements .before .before .before .before .before in
+    let at-header = at-if2 .before in
+    let at-if1 = at-header .before .before in
+    reads-searched (statements-stop _ (at-if1 .if1 .left) _ (at-header .header .ensures) (at-if2 .if2 .left) _ _ _ (at-statements .statements .ensures)
+    (at-if3 .if3 .taken)) (at-search2 .search2 .ensures) (c .refused-late .ensures .0) (c .refused-late .ensures .1)
 
 array-read-count : tie.Need-array-read-count
 array-read-count c = search needs
 
 modules-requires : tie.Need-modules-requires
-modules-requires c κs = (c .before .before .statements .ensures .sized, c .before .if3 .left)
+modules-requires c κs =
+    let at-if3 = c .before in
+    let at-statements = at-if3 .before in
+    (at-statements .statements .ensures .sized, at-if3 .if3 .left)
 
 array-read-search-5 : tie.Need-array-read-search-5
 array-read-search-5 c = search needs
@@ -89,10 +113,31 @@ search-requires-3 : tie.Need-search-requires-3
 search-requires-3 c κs = search needs
 
 refused-late-requires-2 : tie.Need-refused-late-requires-2
-refused-late-requires-2 c κs = searched-number (modules-stop _ (c .before .before .before .before .before .before .before .before .before .before .before .before .before .before .before .before .if1 .left) _ (c .before .before .before .before .before .before .before .before .before .before .before .before .before .before .header .ensures) (c .before .before .before .before .before .before .before .before .before .before .before .before .before .if2 .left) _ _ _ (c .before .before .before .before .before .before .before .before .statements .ensures) (c .before .before .before .before .before .before .before .if3 .left) _ (c .before .before .before .before .before .modules .ensures) (c .before .before .before .before .if4 .taken)) (c .before .before .before .search3 .ensures)
+refused-late-requires-2 c κs =
+    let at-search3 = c .before .before .before in
+    let at-if4 = at-search3 .before in
+    let at-modules = at-if4 .before in
+    let at-if3 = at-modules .before .before in
+    let at-statements = at-if3 .before in
+    let at-if2 = at-statements .before .before .before .before .before in
+    let at-header = at-if2 .before in
+    let at-if1 = at-header .before .before in
+    searched-number (modules-stop _ (at-if1 .if1 .left) _ (at-header .header .ensures) (at-if2 .if2 .left) _ _ _ (at-statements .statements .ensures)
+    (at-if3 .if3 .left) _ (at-modules .modules .ensures) (at-if4 .if4 .taken)) (at-search3 .search3 .ensures)
 
 returns-4 : tie.Need-returns-4
-returns-4 c = reads-searched (modules-stop _ (c .before .before .before .before .before .before .before .before .before .before .before .before .before .before .before .before .before .if1 .left) _ (c .before .before .before .before .before .before .before .before .before .before .before .before .before .before .before .header .ensures) (c .before .before .before .before .before .before .before .before .before .before .before .before .before .before .if2 .left) _ _ _ (c .before .before .before .before .before .before .before .before .before .statements .ensures) (c .before .before .before .before .before .before .before .before .if3 .left) _ (c .before .before .before .before .before .before .modules .ensures) (c .before .before .before .before .before .if4 .taken)) (c .before .before .before .before .search3 .ensures) (c .refused-late2 .ensures .0) (c .refused-late2 .ensures .1)
+returns-4 c =
+    let at-search3 = c .before .before .before .before in
+    let at-if4 = at-search3 .before in
+    let at-modules = at-if4 .before in
+    let at-if3 = at-modules .before .before in
+    let at-statements = at-if3 .before in
+    let at-if2 = at-statements .before .before .before .before .before in
+    let at-header = at-if2 .before in
+    let at-if1 = at-header .before .before in
+    reads-searched (modules-stop _ (at-if1 .if1 .left) _ (at-header .header .ensures) (at-if2 .if2 .left) _ _ _ (at-statements .statements .ensures)
+    (at-if3 .if3 .left) _ (at-modules .modules .ensures) (at-if4 .if4 .taken)) (at-search3 .search3 .ensures) (c .refused-late2 .ensures .0)
+    (c .refused-late2 .ensures .1)
 
 array-read-seats : tie.Need-array-read-seats
 array-read-seats c = search needs
@@ -107,13 +152,49 @@ array-read-t69 : tie.Need-array-read-t69
 array-read-t69 c = search needs
 
 refused-late-requires-3 : tie.Need-refused-late-requires-3
-refused-late-requires-3 c κs = read-number _ (late-read _ (c .before .before .before .before .before .before .before .before .before .before .before .before .before .before .before .before .before .before .before .if1 .left) _ (c .before .before .before .before .before .before .before .before .before .before .before .before .before .before .before .before .before .header .ensures) (c .before .before .before .before .before .before .before .before .before .before .before .before .before .before .before .before .if2 .left) _ _ _ (c .before .before .before .before .before .before .before .before .before .before .before .statements .ensures) (c .before .before .before .before .before .before .before .before .before .before .if3 .left) _ (c .before .before .before .before .before .before .before .before .modules .ensures) (c .before .before .before .before .before .before .before .if4 .left) (c .before .before .before .before .before .settle .last .0) (c .before .before .before .before .before .settle .ensures .0) (c .before .before .before .if5 .taken))
+refused-late-requires-3 c κs =
+    let at-if5 = c .before .before .before in
+    let at-settle = at-if5 .before .before in
+    let at-if4 = at-settle .before .before in
+    let at-modules = at-if4 .before in
+    let at-if3 = at-modules .before .before in
+    let at-statements = at-if3 .before in
+    let at-if2 = at-statements .before .before .before .before .before in
+    let at-header = at-if2 .before in
+    let at-if1 = at-header .before .before in
+    read-number _ (late-read _ (at-if1 .if1 .left) _ (at-header .header .ensures) (at-if2 .if2 .left) _ _ _ (at-statements .statements .ensures)
+    (at-if3 .if3 .left) _ (at-modules .modules .ensures) (at-if4 .if4 .left) (at-settle .settle .last .0) (at-settle .settle .ensures .0)
+    (at-if5 .if5 .taken))
 
 returns-5 : tie.Need-returns-5
-returns-5 c = reads-refused (late-read _ (c .before .before .before .before .before .before .before .before .before .before .before .before .before .before .before .before .before .before .before .before .if1 .left) _ (c .before .before .before .before .before .before .before .before .before .before .before .before .before .before .before .before .before .before .header .ensures) (c .before .before .before .before .before .before .before .before .before .before .before .before .before .before .before .before .before .if2 .left) _ _ _ (c .before .before .before .before .before .before .before .before .before .before .before .before .statements .ensures) (c .before .before .before .before .before .before .before .before .before .before .before .if3 .left) _ (c .before .before .before .before .before .before .before .before .before .modules .ensures) (c .before .before .before .before .before .before .before .before .if4 .left) (c .before .before .before .before .before .before .settle .last .0) (c .before .before .before .before .before .before .settle .ensures .0) (c .before .before .before .before .if5 .taken)) (c .refused-late3 .ensures .0) (c .refused-late3 .ensures .1)
+returns-5 c =
+    let at-if5 = c .before .before .before .before in
+    let at-settle = at-if5 .before .before in
+    let at-if4 = at-settle .before .before in
+    let at-modules = at-if4 .before in
+    let at-if3 = at-modules .before .before in
+    let at-statements = at-if3 .before in
+    let at-if2 = at-statements .before .before .before .before .before in
+    let at-header = at-if2 .before in
+    let at-if1 = at-header .before .before in
+    reads-refused (late-read _ (at-if1 .if1 .left) _ (at-header .header .ensures) (at-if2 .if2 .left) _ _ _ (at-statements .statements .ensures)
+    (at-if3 .if3 .left) _ (at-modules .modules .ensures) (at-if4 .if4 .left) (at-settle .settle .last .0) (at-settle .settle .ensures .0)
+    (at-if5 .if5 .taken)) (c .refused-late3 .ensures .0) (c .refused-late3 .ensures .1)
 
 returns-6 : tie.Need-returns-6
-returns-6 c = let t = taken-read _ (c .before .before .before .before .before .before .before .before .before .before .before .before .before .before .before .before .if1 .left) _ (c .before .before .before .before .before .before .before .before .before .before .before .before .before .before .header .ensures) (c .before .before .before .before .before .before .before .before .before .before .before .before .before .if2 .left) _ _ _ (c .before .before .before .before .before .before .before .before .statements .ensures) (c .before .before .before .before .before .before .before .if3 .left) _ (c .before .before .before .before .before .modules .ensures) (c .before .before .before .before .if4 .left) (c .before .before .settle .last .0) (c .before .before .settle .ensures .0) (c .if5 .left) (c .before .before .before .before .before .before .before .before .before .before .before .before .before .before .before .before .before .before .pre) in
+returns-6 c =
+    let at-settle = c .before .before in
+    let at-if4 = at-settle .before .before in
+    let at-modules = at-if4 .before in
+    let at-if3 = at-modules .before .before in
+    let at-statements = at-if3 .before in
+    let at-if2 = at-statements .before .before .before .before .before in
+    let at-header = at-if2 .before in
+    let at-if1 = at-header .before .before in
+    let entry = at-if1 .before .before in
+    let t = taken-read _ (at-if1 .if1 .left) _ (at-header .header .ensures) (at-if2 .if2 .left) _ _ _ (at-statements .statements .ensures)
+    (at-if3 .if3 .left) _ (at-modules .modules .ensures) (at-if4 .if4 .left) (at-settle .settle .last .0) (at-settle .settle .ensures .0) (c .if5 .left)
+    (entry .pre) in
     reads-taken (t .0) (t .1) (ap (λ (h : Head). record { verdict = Taken; head = h }) (t .2)) (t .3)
 
 pub read-into-spec : {M : Type 1} → statement M

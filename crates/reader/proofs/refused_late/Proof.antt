@@ -2,11 +2,6 @@ use Rattle.reader.proofs.Cleared.{all-cleared}
 use borrow.Author.Needs.{needs}
 use Rattle.reader.proofs.refused_late.Statement.{statement}
 use Rattle.reader.proofs.refused_late.Tie as tie
-use Rattle.reader.proofs.refused_late.Reads as reads
-use Rattle.reader.proofs.refused_late.Lts as lts
-use Rattle.reader.proofs.clear.Reads as clear-reads
-use Rattle.reader.proofs.clear_rows.Reads as clear-rows-reads
-use Rattle.reader.proofs.refused.Reads as refused-reads
 
 clear-rows-requires : tie.Need-clear-rows-requires
 clear-rows-requires c κs = search needs
@@ -21,7 +16,14 @@ refused-requires : tie.Need-refused-requires
 refused-requires c κs = search needs
 
 returns : tie.Need-returns
-returns c = (c .refused .ensures, all-cleared (c .before .before .before .before .before .clear-rows .ensures) (search needs) (c .before .before .before .clear .ensures) (search needs) (c .before .clear2 .ensures) (search needs))
+returns c =
+    let at-clear2 = c .before in
+    let at-clear = at-clear2 .before .before in
+    let at-clear-rows = at-clear .before .before in (
+      c .refused .ensures,
+      all-cleared (at-clear-rows .clear-rows .ensures) (search needs) (at-clear .clear .ensures) (search needs)
+          (at-clear2 .clear2 .ensures) (search needs),
+    )
 
 pub refused-late-spec : {M : Type 1} → statement M
 refused-late-spec =

@@ -1,3 +1,4 @@
+-- Invariant: the first mark outside the rules from the place on is the first from the cursor on (proofs/Places.antt). Assumes nothing.
 use Rattle.reader.proofs.Places.{search-over, search-end, search-found, search-more}
 use Rattle.parts.proofs.Steps.{next-at}
 use Rattle.reader.specs.Search.{searched}
@@ -10,9 +11,6 @@ use mathlib.Core.Path.{_≡_, refl, ap, _∙_, sym}
 use denote.Ref.{now}
 use Rattle.reader.proofs.search.Statement.{statement}
 use Rattle.reader.proofs.search.Tie as tie
-use Rattle.reader.proofs.search.Reads as reads
-use Rattle.reader.proofs.search.Lts as lts
-use Rattle.marks.proofs.Cursor.step.Reads as step-reads
 
 abbrev Inv-loop : tie.InvT-loop
 Inv-loop card stop place next₀ next = firstOutside (marksAt 0 card place) ≡ firstOutside (marksAt 0 card next)
@@ -20,36 +18,61 @@ Inv-loop card stop place next₀ next = firstOutside (marksAt 0 card place) ≡ 
 abbrev μ-loop : tie.MeasureT-loop
 μ-loop card stop place next₀ next = length (marksAt 0 card next)
 
--- src/lib.rt:46:5
 loop-holds : tie.Need-loop-holds Inv-loop μ-loop
 loop-holds c = refl
 
--- src/lib.rt:48:13
 step-requires : tie.Need-step-requires Inv-loop μ-loop
 step-requires c κs = search needs
 
--- src/lib.rt:51:13
 returns : tie.Need-returns Inv-loop μ-loop
-returns c = sym (ap (searched (c .before .before .before .before .before .before .before .args .stop) (c .before .before .before .before .before .before .before .args .place)) (c .before .before .before .before .before .loop .inv ∙ search-end (now (c .before .before .before .before .before .before .before .args .card)) (c .before .before .before .before .before .loop .next) (c .before .before .before .step .result) (next-at (now (c .before .before .before .before .before .before .before .args .card)) (c .before .before .before .before .before .loop .next) (c .before .before .before .step .result) (c .before .before .before .step .ensures)) (c .if1 .taken)))
+returns c =
+    let at-step = c .before .before .before in
+    let at-loop = at-step .before .before in
+    let entry = at-loop .before .before in
+    let a = entry .args in
+    sym (ap (searched (a .stop) (a .place)) (at-loop .loop .inv ∙ search-end (now (a .card)) (at-loop .loop .next) (at-step .step .result)
+    (next-at (now (a .card)) (at-loop .loop .next) (at-step .step .result) (at-step .step .ensures)) (c .if1 .taken)))
 
 cast-t11 : tie.Need-cast-t11 Inv-loop μ-loop
 cast-t11 c = search needs
 
--- src/lib.rt:54:13
 returns-2 : tie.Need-returns-2 Inv-loop μ-loop
-returns-2 c = sym (ap (searched (c .before .before .before .before .before .before .before .before .before .args .stop) (c .before .before .before .before .before .before .before .before .before .args .place)) (c .before .before .before .before .before .before .before .loop .inv ∙ search-found (now (c .before .before .before .before .before .before .before .before .before .args .card)) (c .before .before .before .before .before .before .before .loop .next) (c .before .before .before .before .before .step .result) (next-at (now (c .before .before .before .before .before .before .before .before .before .args .card)) (c .before .before .before .before .before .before .before .loop .next) (c .before .before .before .before .before .step .result) (c .before .before .before .before .before .step .ensures)) (c .if2 .taken)))
+returns-2 c =
+    let at-step = c .before .before .before .before .before in
+    let at-loop = at-step .before .before in
+    let entry = at-loop .before .before in
+    let a = entry .args in
+    sym (ap (searched (a .stop) (a .place)) (at-loop .loop .inv ∙ search-found (now (a .card)) (at-loop .loop .next) (at-step .step .result)
+    (next-at (now (a .card)) (at-loop .loop .next) (at-step .step .result) (at-step .step .ensures)) (c .if2 .taken)))
 
--- src/lib.rt:46:5
 loop-less : tie.Need-loop-less Inv-loop μ-loop
-loop-less c = search-more (now (c .before .before .before .before .before .before .before .before .before .before .args .card)) (c .before .before .before .before .before .before .before .before .loop .next) (c .before .before .before .before .before .before .step .result) (next-at (now (c .before .before .before .before .before .before .before .before .before .before .args .card)) (c .before .before .before .before .before .before .before .before .loop .next) (c .before .before .before .before .before .before .step .result) (c .before .before .before .before .before .before .step .ensures)) (c .before .before .before .if1 .left) (c .before .if2 .left) .1
+loop-less c =
+    let at-if2 = c .before in
+    let at-if1 = at-if2 .before .before in
+    let at-step = at-if1 .before .before .before in
+    let at-loop = at-step .before .before in
+    let entry = at-loop .before .before in
+    let a = entry .args in
+    search-more (now (a .card)) (at-loop .loop .next) (at-step .step .result)
+    (next-at (now (a .card)) (at-loop .loop .next) (at-step .step .result) (at-step .step .ensures)) (at-if1 .if1 .left) (at-if2 .if2 .left) .1
 
--- src/lib.rt:46:5
 loop-again : tie.Need-loop-again Inv-loop μ-loop
-loop-again c = c .before .before .before .before .before .before .before .before .loop .inv ∙ search-more (now (c .before .before .before .before .before .before .before .before .before .before .args .card)) (c .before .before .before .before .before .before .before .before .loop .next) (c .before .before .before .before .before .before .step .result) (next-at (now (c .before .before .before .before .before .before .before .before .before .before .args .card)) (c .before .before .before .before .before .before .before .before .loop .next) (c .before .before .before .before .before .before .step .result) (c .before .before .before .before .before .before .step .ensures)) (c .before .before .before .if1 .left) (c .before .if2 .left) .0
+loop-again c =
+    let at-if2 = c .before in
+    let at-if1 = at-if2 .before .before in
+    let at-step = at-if1 .before .before .before in
+    let at-loop = at-step .before .before in
+    let entry = at-loop .before .before in
+    let a = entry .args in
+    at-loop .loop .inv ∙ search-more (now (a .card)) (at-loop .loop .next) (at-step .step .result)
+    (next-at (now (a .card)) (at-loop .loop .next) (at-step .step .result) (at-step .step .ensures)) (at-if1 .if1 .left) (at-if2 .if2 .left) .0
 
--- src/lib.rt:42:1
 returns-3 : tie.Need-returns-3 Inv-loop μ-loop
-returns-3 c = sym (ap (searched (c .before .before .before .args .stop) (c .before .before .before .args .place)) (c .before .loop .inv ∙ search-over (now (c .before .before .before .args .card)) (c .before .loop .next) (c .loop-test .left)))
+returns-3 c =
+    let at-loop = c .before in
+    let entry = at-loop .before .before in
+    let a = entry .args in
+    sym (ap (searched (a .stop) (a .place)) (at-loop .loop .inv ∙ search-over (now (a .card)) (at-loop .loop .next) (c .loop-test .left)))
 
 pub search-spec : {M : Type 1} → statement M
 search-spec =

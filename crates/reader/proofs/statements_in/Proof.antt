@@ -6,9 +6,6 @@ use Rattle.reader.proofs.Structs.{Made, made-start, made-next, made-all
 use borrow.Author.Needs.{needs}
 use Rattle.reader.proofs.statements_in.Statement.{statement}
 use Rattle.reader.proofs.statements_in.Tie as tie
-use Rattle.reader.proofs.statements_in.Reads as reads
-use Rattle.reader.proofs.statements_in.Lts as lts
-use Rattle.card.proofs.no_statement.Reads as no-statement-reads
 
 abbrev Inv-loop : tie.InvT-loop
 Inv-loop rows statements₀ i₀ statements i = Made rows statements i
@@ -62,7 +59,10 @@ loop-less : tie.Need-loop-less Inv-loop μ-loop
 loop-less c = omega (arith, c .before .before .before .loop-test .taken)
 
 loop-again : tie.Need-loop-again Inv-loop μ-loop
-loop-again c = made-next (c .before .before .before .before .loop .inv) (c .before .before .before .loop-test .taken)
+loop-again c =
+    let at-loop-test = c .before .before .before in
+    let at-loop = at-loop-test .before in
+    made-next (at-loop .loop .inv) (at-loop-test .loop-test .taken)
 
 returns : tie.Need-returns Inv-loop μ-loop
 returns c = made-all (c .before .loop .inv) (c .loop-test .left)

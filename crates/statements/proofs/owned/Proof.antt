@@ -6,10 +6,6 @@ use Rattle.statements.proofs.OwnPassed.{own-place, own-passed}
 use borrow.Author.Needs.{needs}
 use Rattle.statements.proofs.owned.Statement.{statement}
 use Rattle.statements.proofs.owned.Tie as tie
-use Rattle.statements.proofs.owned.Reads as reads
-use Rattle.statements.proofs.owned.Lts as lts
-use Rattle.looks.proofs.look.all_here.Reads as all-here-reads
-use Rattle.parts.proofs.run.Reads as run-reads
 
 slice-aggregate-all-here : tie.Need-slice-aggregate-all-here
 slice-aggregate-all-here c = search needs
@@ -18,10 +14,19 @@ all-here-requires : tie.Need-all-here-requires
 all-here-requires c κs = search needs
 
 add-result : tie.Need-add-result
-add-result c = omega (arith, own-place (c .before .before .before .before .args .card .now) (c .before .before .before .before .args .at) (here (c .before .before .before .before .args .card .now) (c .before .before .before .before .args .at) (bytes "]s1=") (c .before .all-here .ensures) (c .if1 .taken)))
+add-result c =
+    let at-all-here = c .before in
+    let entry = at-all-here .before .before .before in
+    let a = entry .args in
+    omega (arith, own-place (a .card .now) (a .at) (here (a .card .now) (a .at) (bytes "]s1=") (at-all-here .all-here .ensures) (c .if1 .taken)))
 
 returns : tie.Need-returns
-returns c = own-passed (c .before .before .before .before .args .card .now) (c .before .before .before .before .args .at) (here (c .before .before .before .before .args .card .now) (c .before .before .before .before .args .at) (bytes "]s1=") (c .before .all-here .ensures) (c .if1 .taken)) (c .before .before .before .before .args .state .now) (c .before .before .before .before .pre)
+returns c =
+    let at-all-here = c .before in
+    let entry = at-all-here .before .before .before in
+    let a = entry .args in
+    own-passed (a .card .now) (a .at) (here (a .card .now) (a .at) (bytes "]s1=") (at-all-here .all-here .ensures) (c .if1 .taken)) (a .state .now)
+    (entry .pre)
 
 slice-aggregate-run : tie.Need-slice-aggregate-run
 slice-aggregate-run c = search needs
@@ -30,7 +35,9 @@ slice-aggregate-run-2 : tie.Need-slice-aggregate-run-2
 slice-aggregate-run-2 c = search needs
 
 run-requires : tie.Need-run-requires
-run-requires c κs = (c .before .before .before .before .before .before .before .pre, (omega arith, omega arith))
+run-requires c κs =
+    let entry = c .before .before .before .before .before .before .before in
+    (entry .pre, (omega arith, omega arith))
 
 returns-2 : tie.Need-returns-2
 returns-2 c = c .run .ensures

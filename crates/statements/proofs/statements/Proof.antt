@@ -9,12 +9,6 @@ use Rattle.statements.proofs.StatementLaws.{open-stops, Going, going-st
 use borrow.Author.Needs.{needs}
 use Rattle.statements.proofs.statements.Statement.{statement}
 use Rattle.statements.proofs.statements.Tie as tie
-use Rattle.statements.proofs.statements.Reads as reads
-use Rattle.statements.proofs.statements.Lts as lts
-use Rattle.group.proofs.late.stop.Reads as stop-reads
-use Rattle.looks.proofs.due.step_square.Reads as step-square-reads
-use Rattle.parts.proofs.sign.Reads as sign-reads
-use Rattle.statements.proofs.statement.Reads as statement-reads
 
 abbrev Inv-loop : tie.InvT-loop
 Inv-loop card at top rows₀ nodes₀ branches₀ state₀ next₀ place₀ count₀ rows nodes branches state next place count =
@@ -27,17 +21,33 @@ sign-requires : tie.Need-sign-requires Inv-loop μ-loop
 sign-requires c κs = c .before .before .pre
 
 returns : tie.Need-returns Inv-loop μ-loop
-returns c = open-stops (c .before .before .before .before .args .state .now) _ (c .before .sign .ensures) (c .if1 .taken)
+returns c =
+    let at-sign = c .before in
+    let entry = at-sign .before .before .before in
+    open-stops (entry .args .state .now) _ (at-sign .sign .ensures) (c .if1 .taken)
 
 loop-holds : tie.Need-loop-holds Inv-loop μ-loop
-loop-holds c = going-start (c .before .before .before .before .args .state .now) _ (c .before .sign .ensures) (c .if1 .left)
+loop-holds c =
+    let at-sign = c .before in
+    let entry = at-sign .before .before .before in
+    going-start (entry .args .state .now) _ (at-sign .sign .ensures) (c .if1 .left)
 
 statement-requires : tie.Need-statement-requires Inv-loop μ-loop
-statement-requires c κs = (c .before .before .before .before .before .loop .inv .sized, omega (arith, c .before .before .before .before .loop-test .taken))
+statement-requires c κs =
+    let at-loop-test = c .before .before .before .before in
+    let at-loop = at-loop-test .before in
+    (at-loop .loop .inv .sized, omega (arith, at-loop-test .loop-test .taken))
 
 returns-2 : tie.Need-returns-2 Inv-loop μ-loop
-returns-2 c = opened-as (c .before .before .before .before .before .before .before .before .before .before .before .before .args .state .now) _ (c .before .before .before .before .before .before .before .before .before .sign .ensures) (c .before .before .before .before .before .before .before .before .if1 .left)
-    (going-stops (c .before .before .before .before .before .before .before .loop .inv) (c .before .before .before .before .before .before .loop-test .taken) _ (c .before .statement .ensures) (c .if2 .taken))
+returns-2 c =
+    let at-statement = c .before in
+    let at-loop-test = at-statement .before .before .before .before .before in
+    let at-loop = at-loop-test .before in
+    let at-if1 = at-loop .before in
+    let at-sign = at-if1 .before in
+    let entry = at-sign .before .before .before in
+    opened-as (entry .args .state .now) _ (at-sign .sign .ensures) (at-if1 .if1 .left)
+    (going-stops (at-loop .loop .inv) (at-loop-test .loop-test .taken) _ (at-statement .statement .ensures) (c .if2 .taken))
 
 add-count : tie.Need-add-count Inv-loop μ-loop
 add-count c = omega (arith, c .before .before .before .before .before .before .loop-test .taken)
@@ -46,31 +56,77 @@ step-square-requires : tie.Need-step-square-requires Inv-loop μ-loop
 step-square-requires c κs = search needs
 
 stop-requires : tie.Need-stop-requires Inv-loop μ-loop
-stop-requires c κs = c .before .before .before .before .before .before .before .before .before .statement .ensures .sized
+stop-requires c κs =
+    let at-statement = c .before .before .before .before .before .before .before .before .before in
+    at-statement .statement .ensures .sized
 
 returns-3 : tie.Need-returns-3 Inv-loop μ-loop
-returns-3 c = opened-as (c .before .before .before .before .before .before .before .before .before .before .before .before .before .before .before .before .before .before .before .before .before .args .state .now) _ (c .before .before .before .before .before .before .before .before .before .before .before .before .before .before .before .before .before .before .sign .ensures) (c .before .before .before .before .before .before .before .before .before .before .before .before .before .before .before .before .before .if1 .left)
-    (going-unended (c .before .before .before .before .before .before .before .before .before .before .before .before .before .before .before .before .loop .inv) (c .before .before .before .before .before .before .before .before .before .before .before .before .before .before .before .loop-test .taken) _ (c .before .before .before .before .before .before .before .before .before .before .statement .ensures) (c .before .before .before .before .before .before .before .before .before .if2 .left) (next-at (c .before .before .before .before .before .before .before .before .before .before .before .before .before .before .before .before .before .before .before .before .before .args .card .now) (c .before .before .before .before .before .before .before .before .before .before .statement .result) (c .before .before .before .before .before .before .before .before .step-square .result) (c .before .before .before .before .before .before .before .before .step-square .ensures)) (c .before .before .before .before .if3 .taken) (c .before .before .if4 .taken) (c .stop .ensures .0))
+returns-3 c =
+    let at-if4 = c .before .before in
+    let at-if3 = at-if4 .before .before in
+    let at-step-square = at-if3 .before .before .before .before in
+    let at-if2 = at-step-square .before in
+    let at-statement = at-if2 .before in
+    let at-loop-test = at-statement .before .before .before .before .before in
+    let at-loop = at-loop-test .before in
+    let at-if1 = at-loop .before in
+    let at-sign = at-if1 .before in
+    let entry = at-sign .before .before .before in
+    let a = entry .args in
+    opened-as (a .state .now) _ (at-sign .sign .ensures) (at-if1 .if1 .left)
+    (going-unended (at-loop .loop .inv) (at-loop-test .loop-test .taken) _ (at-statement .statement .ensures) (at-if2 .if2 .left)
+    (next-at (a .card .now) (at-statement .statement .result) (at-step-square .step-square .result) (at-step-square .step-square .ensures))
+    (at-if3 .if3 .taken) (at-if4 .if4 .taken) (c .stop .ensures .0))
 
 element-write-state : tie.Need-element-write-state Inv-loop μ-loop
 element-write-state c = search needs
 
 returns-4 : tie.Need-returns-4 Inv-loop μ-loop
-returns-4 c = opened-as (c .before .before .before .before .before .before .before .before .before .before .before .before .before .before .before .before .before .before .before .args .state .now) _ (c .before .before .before .before .before .before .before .before .before .before .before .before .before .before .before .before .sign .ensures) (c .before .before .before .before .before .before .before .before .before .before .before .before .before .before .before .if1 .left)
-    (going-ended (c .before .before .before .before .before .before .before .before .before .before .before .before .before .before .loop .inv) (c .before .before .before .before .before .before .before .before .before .before .before .before .before .loop-test .taken) _ (c .before .before .before .before .before .before .before .before .statement .ensures) (c .before .before .before .before .before .before .before .if2 .left) (next-at (c .before .before .before .before .before .before .before .before .before .before .before .before .before .before .before .before .before .before .before .args .card .now) (c .before .before .before .before .before .before .before .before .statement .result) (c .before .before .before .before .before .before .step-square .result) (c .before .before .before .before .before .before .step-square .ensures)) (c .before .before .if3 .taken) (c .if4 .left))
+returns-4 c =
+    let at-if3 = c .before .before in
+    let at-step-square = at-if3 .before .before .before .before in
+    let at-if2 = at-step-square .before in
+    let at-statement = at-if2 .before in
+    let at-loop-test = at-statement .before .before .before .before .before in
+    let at-loop = at-loop-test .before in
+    let at-if1 = at-loop .before in
+    let at-sign = at-if1 .before in
+    let entry = at-sign .before .before .before in
+    let a = entry .args in
+    opened-as (a .state .now) _ (at-sign .sign .ensures) (at-if1 .if1 .left)
+    (going-ended (at-loop .loop .inv) (at-loop-test .loop-test .taken) _ (at-statement .statement .ensures) (at-if2 .if2 .left)
+    (next-at (a .card .now) (at-statement .statement .result) (at-step-square .step-square .result) (at-step-square .step-square .ensures))
+    (at-if3 .if3 .taken) (c .if4 .left))
 
 loop-less : tie.Need-loop-less Inv-loop μ-loop
-loop-less c = omega (arith, c .before .before .before .before .before .before .before .before .before .before .before .loop-test .taken)
+loop-less c =
+    let at-loop-test = c .before .before .before .before .before .before .before .before .before .before .before in
+    omega (arith, at-loop-test .loop-test .taken)
 
 loop-again : tie.Need-loop-again Inv-loop μ-loop
-loop-again c = going-more (c .before .before .before .before .before .before .before .before .before .before .before .before .loop .inv) (c .before .before .before .before .before .before .before .before .before .before .before .loop-test .taken) _ (c .before .before .before .before .before .before .statement .ensures) (c .before .before .before .before .before .if2 .left) (next-at (c .before .before .before .before .before .before .before .before .before .before .before .before .before .before .before .before .before .args .card .now) (c .before .before .before .before .before .before .statement .result) (c .before .before .before .before .step-square .result) (c .before .before .before .before .step-square .ensures)) (c .if3 .left)
+loop-again c =
+    let at-step-square = c .before .before .before .before in
+    let at-if2 = at-step-square .before in
+    let at-statement = at-if2 .before in
+    let at-loop-test = at-statement .before .before .before .before .before in
+    let at-loop = at-loop-test .before in
+    let entry = at-loop .before .before .before .before .before in
+    going-more (at-loop .loop .inv) (at-loop-test .loop-test .taken) _ (at-statement .statement .ensures) (at-if2 .if2 .left)
+    (next-at (entry .args .card .now) (at-statement .statement .result) (at-step-square .step-square .result) (at-step-square .step-square .ensures))
+    (c .if3 .left)
 
 stop-requires-2 : tie.Need-stop-requires-2 Inv-loop μ-loop
 stop-requires-2 c κs = c .before .before .loop .inv .sized
 
 returns-5 : tie.Need-returns-5 Inv-loop μ-loop
-returns-5 c = opened-as (c .before .before .before .before .before .before .before .before .args .state .now) _ (c .before .before .before .before .before .sign .ensures) (c .before .before .before .before .if1 .left)
-    (going-past (c .before .before .before .loop .inv) (c .before .before .loop-test .left) (c .stop2 .ensures .0))
+returns-5 c =
+    let at-loop-test = c .before .before in
+    let at-loop = at-loop-test .before in
+    let at-if1 = at-loop .before in
+    let at-sign = at-if1 .before in
+    let entry = at-sign .before .before .before in
+    opened-as (entry .args .state .now) _ (at-sign .sign .ensures) (at-if1 .if1 .left)
+    (going-past (at-loop .loop .inv) (at-loop-test .loop-test .left) (c .stop2 .ensures .0))
 
 pub statements-spec : {M : Type 1} → statement M
 statements-spec =

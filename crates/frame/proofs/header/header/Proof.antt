@@ -4,13 +4,6 @@ use Rattle.frame.proofs.HeaderLaws.{mode-halts, words-halt, range-halts
 use borrow.Author.Needs.{needs}
 use Rattle.frame.proofs.header.header.Statement.{statement}
 use Rattle.frame.proofs.header.header.Tie as tie
-use Rattle.frame.proofs.header.header.Reads as reads
-use Rattle.frame.proofs.header.header.Lts as lts
-use Rattle.frame.proofs.header.mode.Reads as mode-reads
-use Rattle.frame.proofs.header.range.Reads as range-reads
-use Rattle.parts.proofs.number.Reads as number-reads
-use Rattle.parts.proofs.run.Reads as run-reads
-use Rattle.parts.proofs.sign.Reads as sign-reads
 
 mode-requires : tie.Need-mode-requires
 mode-requires c κs = c .before .before .pre
@@ -31,13 +24,24 @@ run-requires : tie.Need-run-requires
 run-requires c κs = (c .before .before .before .before .before .mode .ensures .sized, (omega arith, omega arith))
 
 returns-2 : tie.Need-returns-2
-returns-2 c = words-halt _ _ _ _ (c .before .before .before .before .before .before .before .mode .ensures) (c .before .before .before .before .before .before .if1 .left) _ (c .before .run .ensures) (c .if2 .taken)
+returns-2 c =
+    let at-run = c .before in
+    let at-if1 = at-run .before .before .before .before .before in
+    let at-mode = at-if1 .before in
+    words-halt _ _ _ _ (at-mode .mode .ensures) (at-if1 .if1 .left) _ (at-run .run .ensures) (c .if2 .taken)
 
 range-requires : tie.Need-range-requires
 range-requires c κs = c .before .before .run .ensures .sized
 
 returns-3 : tie.Need-returns-3
-returns-3 c = range-halts _ _ _ _ (c .before .before .before .before .before .before .before .before .before .before .mode .ensures) (c .before .before .before .before .before .before .before .before .before .if1 .left) _ (c .before .before .before .before .run .ensures) (c .before .before .before .if2 .left) _ (c .before .range .ensures) (c .if3 .taken)
+returns-3 c =
+    let at-range = c .before in
+    let at-if2 = at-range .before .before in
+    let at-run = at-if2 .before in
+    let at-if1 = at-run .before .before .before .before .before in
+    let at-mode = at-if1 .before in
+    range-halts _ _ _ _ (at-mode .mode .ensures) (at-if1 .if1 .left) _ (at-run .run .ensures) (at-if2 .if2 .left) _ (at-range .range .ensures)
+    (c .if3 .taken)
 
 element-copy-out-top : tie.Need-element-copy-out-top
 element-copy-out-top c = search needs
@@ -46,19 +50,53 @@ sign-requires : tie.Need-sign-requires
 sign-requires c κs = c .before .before .before .range .ensures .sized
 
 returns-4 : tie.Need-returns-4
-returns-4 c = square-halts _ _ _ _ (c .before .before .before .before .before .before .before .before .before .before .before .before .before .before .mode .ensures) (c .before .before .before .before .before .before .before .before .before .before .before .before .before .if1 .left) _ (c .before .before .before .before .before .before .before .before .run .ensures) (c .before .before .before .before .before .before .before .if2 .left) _ (c .before .before .before .before .before .range .ensures) (c .before .before .before .before .if3 .left) _ (c .before .sign .ensures) (c .if4 .taken)
+returns-4 c =
+    let at-sign = c .before in
+    let at-if3 = at-sign .before .before .before in
+    let at-range = at-if3 .before in
+    let at-if2 = at-range .before .before in
+    let at-run = at-if2 .before in
+    let at-if1 = at-run .before .before .before .before .before in
+    let at-mode = at-if1 .before in
+    square-halts _ _ _ _ (at-mode .mode .ensures) (at-if1 .if1 .left) _ (at-run .run .ensures) (at-if2 .if2 .left) _ (at-range .range .ensures)
+    (at-if3 .if3 .left) _ (at-sign .sign .ensures) (c .if4 .taken)
 
 sign-requires-2 : tie.Need-sign-requires-2
 sign-requires-2 c κs = c .before .before .sign .ensures .sized
 
 returns-5 : tie.Need-returns-5
-returns-5 c = init-halts _ _ _ _ (c .before .before .before .before .before .before .before .before .before .before .before .before .before .before .before .before .before .mode .ensures) (c .before .before .before .before .before .before .before .before .before .before .before .before .before .before .before .before .if1 .left) _ (c .before .before .before .before .before .before .before .before .before .before .before .run .ensures) (c .before .before .before .before .before .before .before .before .before .before .if2 .left) _ (c .before .before .before .before .before .before .before .before .range .ensures) (c .before .before .before .before .before .before .before .if3 .left) _ (c .before .before .before .before .sign .ensures) (c .before .before .before .if4 .left) _ (c .before .sign2 .ensures) (c .if5 .taken)
+returns-5 c =
+    let at-sign2 = c .before in
+    let at-if4 = at-sign2 .before .before in
+    let at-sign = at-if4 .before in
+    let at-if3 = at-sign .before .before .before in
+    let at-range = at-if3 .before in
+    let at-if2 = at-range .before .before in
+    let at-run = at-if2 .before in
+    let at-if1 = at-run .before .before .before .before .before in
+    let at-mode = at-if1 .before in
+    init-halts _ _ _ _ (at-mode .mode .ensures) (at-if1 .if1 .left) _ (at-run .run .ensures) (at-if2 .if2 .left) _ (at-range .range .ensures)
+    (at-if3 .if3 .left) _ (at-sign .sign .ensures) (at-if4 .if4 .left) _ (at-sign2 .sign2 .ensures) (c .if5 .taken)
 
 number-requires : tie.Need-number-requires
 number-requires c κs = c .before .before .sign2 .ensures .sized
 
 returns-6 : tie.Need-returns-6
-returns-6 c = start-halts _ _ _ _ (c .before .before .before .before .before .before .before .before .before .before .before .before .before .before .before .before .before .before .before .before .mode .ensures) (c .before .before .before .before .before .before .before .before .before .before .before .before .before .before .before .before .before .before .before .if1 .left) _ (c .before .before .before .before .before .before .before .before .before .before .before .before .before .before .run .ensures) (c .before .before .before .before .before .before .before .before .before .before .before .before .before .if2 .left) _ (c .before .before .before .before .before .before .before .before .before .before .before .range .ensures) (c .before .before .before .before .before .before .before .before .before .before .if3 .left) _ (c .before .before .before .before .before .before .before .sign .ensures) (c .before .before .before .before .before .before .if4 .left) _ (c .before .before .before .before .sign2 .ensures) (c .before .before .before .if5 .left) _ (c .before .number .ensures) (c .if6 .taken)
+returns-6 c =
+    let at-number = c .before in
+    let at-if5 = at-number .before .before in
+    let at-sign2 = at-if5 .before in
+    let at-if4 = at-sign2 .before .before in
+    let at-sign = at-if4 .before in
+    let at-if3 = at-sign .before .before .before in
+    let at-range = at-if3 .before in
+    let at-if2 = at-range .before .before in
+    let at-run = at-if2 .before in
+    let at-if1 = at-run .before .before .before .before .before in
+    let at-mode = at-if1 .before in
+    start-halts _ _ _ _ (at-mode .mode .ensures) (at-if1 .if1 .left) _ (at-run .run .ensures) (at-if2 .if2 .left) _ (at-range .range .ensures)
+    (at-if3 .if3 .left) _ (at-sign .sign .ensures) (at-if4 .if4 .left) _ (at-sign2 .sign2 .ensures) (at-if5 .if5 .left) _ (at-number .number .ensures)
+    (c .if6 .taken)
 
 element-copy-out-start : tie.Need-element-copy-out-start
 element-copy-out-start c = search needs
@@ -67,7 +105,23 @@ sign-requires-3 : tie.Need-sign-requires-3
 sign-requires-3 c κs = c .before .before .before .number .ensures .sized
 
 returns-7 : tie.Need-returns-7
-returns-7 c = semicolon-halts _ _ _ _ (c .before .before .before .before .before .before .before .before .before .before .before .before .before .before .before .before .before .before .before .before .before .before .before .before .mode .ensures) (c .before .before .before .before .before .before .before .before .before .before .before .before .before .before .before .before .before .before .before .before .before .before .before .if1 .left) _ (c .before .before .before .before .before .before .before .before .before .before .before .before .before .before .before .before .before .before .run .ensures) (c .before .before .before .before .before .before .before .before .before .before .before .before .before .before .before .before .before .if2 .left) _ (c .before .before .before .before .before .before .before .before .before .before .before .before .before .before .before .range .ensures) (c .before .before .before .before .before .before .before .before .before .before .before .before .before .before .if3 .left) _ (c .before .before .before .before .before .before .before .before .before .before .before .sign .ensures) (c .before .before .before .before .before .before .before .before .before .before .if4 .left) _ (c .before .before .before .before .before .before .before .before .sign2 .ensures) (c .before .before .before .before .before .before .before .if5 .left) _ (c .before .before .before .before .before .number .ensures) (c .before .before .before .before .if6 .left) _ (c .before .sign3 .ensures) (c .if7 .taken)
+returns-7 c =
+    let at-sign3 = c .before in
+    let at-if6 = at-sign3 .before .before .before in
+    let at-number = at-if6 .before in
+    let at-if5 = at-number .before .before in
+    let at-sign2 = at-if5 .before in
+    let at-if4 = at-sign2 .before .before in
+    let at-sign = at-if4 .before in
+    let at-if3 = at-sign .before .before .before in
+    let at-range = at-if3 .before in
+    let at-if2 = at-range .before .before in
+    let at-run = at-if2 .before in
+    let at-if1 = at-run .before .before .before .before .before in
+    let at-mode = at-if1 .before in
+    semicolon-halts _ _ _ _ (at-mode .mode .ensures) (at-if1 .if1 .left) _ (at-run .run .ensures) (at-if2 .if2 .left) _ (at-range .range .ensures)
+    (at-if3 .if3 .left) _ (at-sign .sign .ensures) (at-if4 .if4 .left) _ (at-sign2 .sign2 .ensures) (at-if5 .if5 .left) _ (at-number .number .ensures)
+    (at-if6 .if6 .left) _ (at-sign3 .sign3 .ensures) (c .if7 .taken)
 
 element-write-state : tie.Need-element-write-state
 element-write-state c = search needs
@@ -79,7 +133,23 @@ element-write-state-3 : tie.Need-element-write-state-3
 element-write-state-3 c = search needs
 
 returns-8 : tie.Need-returns-8
-returns-8 c = header-read _ _ _ _ (c .before .before .before .before .before .before .before .before .before .before .before .before .before .before .before .before .before .before .before .before .before .before .before .before .mode .ensures) (c .before .before .before .before .before .before .before .before .before .before .before .before .before .before .before .before .before .before .before .before .before .before .before .if1 .left) _ (c .before .before .before .before .before .before .before .before .before .before .before .before .before .before .before .before .before .before .run .ensures) (c .before .before .before .before .before .before .before .before .before .before .before .before .before .before .before .before .before .if2 .left) _ (c .before .before .before .before .before .before .before .before .before .before .before .before .before .before .before .range .ensures) (c .before .before .before .before .before .before .before .before .before .before .before .before .before .before .if3 .left) _ (c .before .before .before .before .before .before .before .before .before .before .before .sign .ensures) (c .before .before .before .before .before .before .before .before .before .before .if4 .left) _ (c .before .before .before .before .before .before .before .before .sign2 .ensures) (c .before .before .before .before .before .before .before .if5 .left) _ (c .before .before .before .before .before .number .ensures) (c .before .before .before .before .if6 .left) _ (c .before .sign3 .ensures) (c .if7 .left)
+returns-8 c =
+    let at-sign3 = c .before in
+    let at-if6 = at-sign3 .before .before .before in
+    let at-number = at-if6 .before in
+    let at-if5 = at-number .before .before in
+    let at-sign2 = at-if5 .before in
+    let at-if4 = at-sign2 .before .before in
+    let at-sign = at-if4 .before in
+    let at-if3 = at-sign .before .before .before in
+    let at-range = at-if3 .before in
+    let at-if2 = at-range .before .before in
+    let at-run = at-if2 .before in
+    let at-if1 = at-run .before .before .before .before .before in
+    let at-mode = at-if1 .before in
+    header-read _ _ _ _ (at-mode .mode .ensures) (at-if1 .if1 .left) _ (at-run .run .ensures) (at-if2 .if2 .left) _ (at-range .range .ensures)
+    (at-if3 .if3 .left) _ (at-sign .sign .ensures) (at-if4 .if4 .left) _ (at-sign2 .sign2 .ensures) (at-if5 .if5 .left) _ (at-number .number .ensures)
+    (at-if6 .if6 .left) _ (at-sign3 .sign3 .ensures) (c .if7 .left)
 
 pub header-spec : {M : Type 1} → statement M
 header-spec =

@@ -4,10 +4,6 @@ use Rattle.frame.proofs.HeaderLaws.{mode-first, mode-second, mode-neith
 use borrow.Author.Needs.{needs}
 use Rattle.frame.proofs.header.mode.Statement.{statement}
 use Rattle.frame.proofs.header.mode.Tie as tie
-use Rattle.frame.proofs.header.mode.Reads as reads
-use Rattle.frame.proofs.header.mode.Lts as lts
-use Rattle.group.proofs.late.stop.Reads as stop-reads
-use Rattle.marks.proofs.Cursor.step.Reads as step-reads
 
 step-requires : tie.Need-step-requires
 step-requires c κs = search needs
@@ -16,19 +12,38 @@ element-write-state : tie.Need-element-write-state
 element-write-state c = search needs
 
 returns : tie.Need-returns
-returns c = mode-first (next-at (c .before .before .before .before .before .before .args .card .now) (c .before .before .before .before .before .before .args .at) (c .before .before .before .before .step .result) (c .before .before .before .before .step .ensures)) (c .if1 .taken) (c .before .before .before .before .before .before .args .state .now) (c .before .before .before .before .before .before .pre)
+returns c =
+    let at-step = c .before .before .before .before in
+    let entry = at-step .before .before in
+    let a = entry .args in
+    mode-first (next-at (a .card .now) (a .at) (at-step .step .result) (at-step .step .ensures)) (c .if1 .taken) (a .state .now) (entry .pre)
 
 element-write-state-2 : tie.Need-element-write-state-2
 element-write-state-2 c = search needs
 
 returns-2 : tie.Need-returns-2
-returns-2 c = mode-second (next-at (c .before .before .before .before .before .before .before .before .args .card .now) (c .before .before .before .before .before .before .before .before .args .at) (c .before .before .before .before .before .before .step .result) (c .before .before .before .before .before .before .step .ensures)) (c .before .before .if1 .left) (c .if2 .taken) (c .before .before .before .before .before .before .before .before .args .state .now) (c .before .before .before .before .before .before .before .before .pre)
+returns-2 c =
+    let at-if1 = c .before .before in
+    let at-step = at-if1 .before .before .before .before in
+    let entry = at-step .before .before in
+    let a = entry .args in
+    mode-second (next-at (a .card .now) (a .at) (at-step .step .result) (at-step .step .ensures)) (at-if1 .if1 .left) (c .if2 .taken) (a .state .now)
+    (entry .pre)
 
 stop-requires : tie.Need-stop-requires
-stop-requires c κs = c .before .before .before .before .before .before .before .before .before .pre
+stop-requires c κs =
+    let entry = c .before .before .before .before .before .before .before .before .before in
+    entry .pre
 
 returns-3 : tie.Need-returns-3
-returns-3 c = mode-neither (next-at (c .before .before .before .before .before .before .before .before .before .before .args .card .now) (c .before .before .before .before .before .before .before .before .before .before .args .at) (c .before .before .before .before .before .before .before .before .step .result) (c .before .before .before .before .before .before .before .before .step .ensures)) (c .before .before .before .before .if1 .left) (c .before .before .if2 .left) (c .stop .ensures .0)
+returns-3 c =
+    let at-if2 = c .before .before in
+    let at-if1 = at-if2 .before .before in
+    let at-step = at-if1 .before .before .before .before in
+    let entry = at-step .before .before in
+    let a = entry .args in
+    mode-neither (next-at (a .card .now) (a .at) (at-step .step .result) (at-step .step .ensures)) (at-if1 .if1 .left) (at-if2 .if2 .left)
+    (c .stop .ensures .0)
 
 pub mode-spec : {M : Type 1} → statement M
 mode-spec =

@@ -2,9 +2,6 @@ use native.Mathlib.Omega.{arith}
 use borrow.Author.Needs.{needs}
 use Rattle.frame.proofs.modules.copy.Statement.{statement}
 use Rattle.frame.proofs.modules.copy.Tie as tie
-use Rattle.frame.proofs.modules.copy.Reads as reads
-use Rattle.frame.proofs.modules.copy.Lts as lts
-use Rattle.parts.proofs.run.Reads as run-reads
 
 slice-aggregate-run : tie.Need-slice-aggregate-run
 slice-aggregate-run c = search needs

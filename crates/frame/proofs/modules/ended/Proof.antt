@@ -2,9 +2,6 @@ use Rattle.frame.proofs.ModuleLaws.{end-stops, end-read}
 use borrow.Author.Needs.{needs}
 use Rattle.frame.proofs.modules.ended.Statement.{statement}
 use Rattle.frame.proofs.modules.ended.Tie as tie
-use Rattle.frame.proofs.modules.ended.Reads as reads
-use Rattle.frame.proofs.modules.ended.Lts as lts
-use Rattle.group.proofs.late.stop.Reads as stop-reads
 
 stop-requires : tie.Need-stop-requires
 stop-requires c κs = c .before .before .before .pre
@@ -16,7 +13,9 @@ element-write-state : tie.Need-element-write-state
 element-write-state c = search needs
 
 returns-2 : tie.Need-returns-2
-returns-2 c = end-read (c .before .before .args .state .now) (c .if1 .left) (c .before .before .pre)
+returns-2 c =
+    let entry = c .before .before in
+    end-read (entry .args .state .now) (c .if1 .left) (entry .pre)
 
 pub ended-spec : {M : Type 1} → statement M
 ended-spec =

@@ -8,13 +8,6 @@ use Rattle.frame.proofs.ModuleLaws.{Going, going-start, going-ended, go
 use borrow.Author.Needs.{needs}
 use Rattle.frame.proofs.modules.modules.Statement.{statement}
 use Rattle.frame.proofs.modules.modules.Tie as tie
-use Rattle.frame.proofs.modules.modules.Reads as reads
-use Rattle.frame.proofs.modules.modules.Lts as lts
-use Rattle.frame.proofs.modules.copy.Reads as copy-reads
-use Rattle.frame.proofs.modules.ended.Reads as ended-reads
-use Rattle.group.proofs.late.stop.Reads as stop-reads
-use Rattle.looks.proofs.due.step_module.Reads as step-module-reads
-use Rattle.marks.proofs.Cursor.step.Reads as step-reads
 
 abbrev Inv-loop : tie.InvT-loop
 Inv-loop card at state₀ next₀ seats₀ state next seats = Going card (lateIn state₀) next₀ seats next state
@@ -23,31 +16,61 @@ abbrev μ-loop : tie.MeasureT-loop
 μ-loop card at state₀ next₀ seats₀ state next seats = mostSeats - seats
 
 loop-holds : tie.Need-loop-holds Inv-loop μ-loop
-loop-holds c = going-start (c .before .args .state .now) (c .before .pre .0) (c .before .pre .1)
+loop-holds c =
+    let entry = c .before in
+    going-start (entry .args .state .now) (entry .pre .0) (entry .pre .1)
 
 step-module-requires : tie.Need-step-module-requires Inv-loop μ-loop
 step-module-requires c κs = search needs
 
 ended-requires : tie.Need-ended-requires Inv-loop μ-loop
-ended-requires c κs = c .before .before .before .before .before .before .before .loop .inv .sized
+ended-requires c κs =
+    let at-loop = c .before .before .before .before .before .before .before in
+    at-loop .loop .inv .sized
 
 returns : tie.Need-returns Inv-loop μ-loop
-returns c = going-ended (c .before .before .before .before .before .before .before .before .loop .inv) (next-at (c .before .before .before .before .before .before .before .before .before .before .args .card .now) (c .before .before .before .before .before .before .before .before .loop .next) (c .before .before .before .before .before .before .step-module .result) (c .before .before .before .before .before .before .step-module .ensures)) (c .before .before .if1 .taken) (c .ended .ensures)
+returns c =
+    let at-if1 = c .before .before in
+    let at-step-module = at-if1 .before .before .before .before in
+    let at-loop = at-step-module .before .before in
+    let entry = at-loop .before .before in
+    going-ended (at-loop .loop .inv) (next-at (entry .args .card .now) (at-loop .loop .next) (at-step-module .step-module .result)
+    (at-step-module .step-module .ensures)) (at-if1 .if1 .taken) (c .ended .ensures)
 
 add-seats : tie.Need-add-seats Inv-loop μ-loop
 add-seats c = omega (arith, c .before .before .before .before .before .loop-test .taken)
 
 copy-requires : tie.Need-copy-requires Inv-loop μ-loop
-copy-requires c κs = c .before .before .before .before .before .before .before .loop .inv .sized
+copy-requires c κs =
+    let at-loop = c .before .before .before .before .before .before .before in
+    at-loop .loop .inv .sized
 
 returns-2 : tie.Need-returns-2 Inv-loop μ-loop
-returns-2 c = going-stops (c .before .before .before .before .before .before .before .before .before .loop .inv) (next-at (c .before .before .before .before .before .before .before .before .before .before .before .args .card .now) (c .before .before .before .before .before .before .before .before .before .loop .next) (c .before .before .before .before .before .before .before .step-module .result) (c .before .before .before .before .before .before .before .step-module .ensures)) (c .before .before .before .if1 .left) (c .before .before .before .before .before .before .before .before .loop-test .taken) _ (c .before .copy .ensures) (c .if2 .taken)
+returns-2 c =
+    let at-copy = c .before in
+    let at-if1 = at-copy .before .before in
+    let at-step-module = at-if1 .before .before .before .before in
+    let at-loop-test = at-step-module .before in
+    let at-loop = at-loop-test .before in
+    let entry = at-loop .before .before in
+    going-stops (at-loop .loop .inv) (next-at (entry .args .card .now) (at-loop .loop .next) (at-step-module .step-module .result)
+    (at-step-module .step-module .ensures)) (at-if1 .if1 .left) (at-loop-test .loop-test .taken) _ (at-copy .copy .ensures) (c .if2 .taken)
 
 loop-less : tie.Need-loop-less Inv-loop μ-loop
-loop-less c = omega (arith, c .before .before .before .before .before .before .before .before .loop-test .taken)
+loop-less c =
+    let at-loop-test = c .before .before .before .before .before .before .before .before in
+    omega (arith, at-loop-test .loop-test .taken)
 
 loop-again : tie.Need-loop-again Inv-loop μ-loop
-loop-again c = going-more (c .before .before .before .before .before .before .before .before .before .loop .inv) (next-at (c .before .before .before .before .before .before .before .before .before .before .before .args .card .now) (c .before .before .before .before .before .before .before .before .before .loop .next) (c .before .before .before .before .before .before .before .step-module .result) (c .before .before .before .before .before .before .before .step-module .ensures)) (c .before .before .before .if1 .left) (c .before .before .before .before .before .before .before .before .loop-test .taken) _ (c .before .copy .ensures) (c .if2 .left)
+loop-again c =
+    let at-copy = c .before in
+    let at-if1 = at-copy .before .before in
+    let at-step-module = at-if1 .before .before .before .before in
+    let at-loop-test = at-step-module .before in
+    let at-loop = at-loop-test .before in
+    let entry = at-loop .before .before in
+    going-more (at-loop .loop .inv) (next-at (entry .args .card .now) (at-loop .loop .next) (at-step-module .step-module .result)
+    (at-step-module .step-module .ensures)) (at-if1 .if1 .left) (at-loop-test .loop-test .taken) _ (at-copy .copy .ensures) (c .if2 .left)
 
 step-requires : tie.Need-step-requires Inv-loop μ-loop
 step-requires c κs = search needs
@@ -56,13 +79,26 @@ stop-requires : tie.Need-stop-requires Inv-loop μ-loop
 stop-requires c κs = c .before .before .before .before .before .before .loop .inv .sized
 
 returns-3 : tie.Need-returns-3 Inv-loop μ-loop
-returns-3 c = going-past (c .before .before .before .before .before .before .before .loop .inv) (next-at (c .before .before .before .before .before .before .before .before .before .args .card .now) (c .before .before .before .before .before .before .before .loop .next) (c .before .before .before .before .before .step .result) (c .before .before .before .before .before .step .ensures)) (c .before .before .if3 .taken) (c .before .before .before .before .before .before .loop-test .left) (c .stop .ensures .0)
+returns-3 c =
+    let at-if3 = c .before .before in
+    let at-step = at-if3 .before .before .before in
+    let at-loop-test = at-step .before in
+    let at-loop = at-loop-test .before in
+    let entry = at-loop .before .before in
+    going-past (at-loop .loop .inv) (next-at (entry .args .card .now) (at-loop .loop .next) (at-step .step .result) (at-step .step .ensures))
+    (at-if3 .if3 .taken) (at-loop-test .loop-test .left) (c .stop .ensures .0)
 
 ended-requires-2 : tie.Need-ended-requires-2 Inv-loop μ-loop
 ended-requires-2 c κs = c .before .before .before .before .before .before .loop .inv .sized
 
 returns-4 : tie.Need-returns-4 Inv-loop μ-loop
-returns-4 c = going-ended (c .before .before .before .before .before .before .before .loop .inv) (next-at (c .before .before .before .before .before .before .before .before .before .args .card .now) (c .before .before .before .before .before .before .before .loop .next) (c .before .before .before .before .before .step .result) (c .before .before .before .before .before .step .ensures)) (c .before .before .if3 .left) (c .ended2 .ensures)
+returns-4 c =
+    let at-if3 = c .before .before in
+    let at-step = at-if3 .before .before .before in
+    let at-loop = at-step .before .before in
+    let entry = at-loop .before .before in
+    going-ended (at-loop .loop .inv) (next-at (entry .args .card .now) (at-loop .loop .next) (at-step .step .result) (at-step .step .ensures))
+    (at-if3 .if3 .left) (c .ended2 .ensures)
 
 pub modules-spec : {M : Type 1} → statement M
 modules-spec =
