@@ -17,7 +17,7 @@ use group::state::STATE;
 use group::state::VALUE;
 use guard::conjunction;
 use looks::due::step_arrow;
-use looks::due::step_sign;
+use looks::due::step_guard;
 use looks::due::step_square;
 use looks::look::all_here;
 use marks::kinds::AND;
@@ -50,7 +50,7 @@ fn guarded(
     requires { ⌜ used + mostNodes ≤ nodePlaces ⌝ }
     ensures { λ r. ⌜ GuardedFrom (now (card .entry)) at top (lateIn (now (state .entry))) (now (nodes .entry)) (now (nodes .exit)) used (after (now (state .exit)) r) ⌝ }
 {
-    let step = step_sign(card, at, AND);
+    let step = step_guard(card, at);
     let mark = step.mark;
     let next = step.next;
     if mark.kind != AND {

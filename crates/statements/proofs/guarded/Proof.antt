@@ -7,8 +7,8 @@ use borrow.Author.Needs.{needs}
 use Rattle.statements.proofs.guarded.Statement.{statement}
 use Rattle.statements.proofs.guarded.Tie as tie
 
-step-sign-requires : tie.Need-step-sign-requires
-step-sign-requires c κs = search needs
+step-guard-requires : tie.Need-step-guard-requires
+step-guard-requires c κs = search needs
 
 stop-requires : tie.Need-stop-requires
 stop-requires c κs =
@@ -19,11 +19,11 @@ returns : tie.Need-returns
 returns c =
     let at-if2 = c .before .before in
     let at-if1 = at-if2 .before .before in
-    let at-step-sign = at-if1 .before .before .before .before in
-    let entry = at-step-sign .before .before in
+    let at-step-guard = at-if1 .before .before .before .before in
+    let entry = at-step-guard .before .before in
     let a = entry .args in
-    none-stops _ _ _ _ _ _ (at-step-sign .step-sign .result)
-    (next-at (a .card .now) (a .at) (at-step-sign .step-sign .result) (at-step-sign .step-sign .ensures)) (at-if1 .if1 .taken) (at-if2 .if2 .taken)
+    none-stops _ _ _ _ _ _ (at-step-guard .step-guard .result)
+    (next-at (a .card .now) (a .at) (at-step-guard .step-guard .result) (at-step-guard .step-guard .ensures)) (at-if1 .if1 .taken) (at-if2 .if2 .taken)
     (c .stop .ensures .0)
 
 element-write-state : tie.Need-element-write-state
@@ -32,11 +32,11 @@ element-write-state c = search needs
 returns-2 : tie.Need-returns-2
 returns-2 c =
     let at-if1 = c .before .before in
-    let at-step-sign = at-if1 .before .before .before .before in
-    let entry = at-step-sign .before .before in
+    let at-step-guard = at-if1 .before .before .before .before in
+    let entry = at-step-guard .before .before in
     let a = entry .args in
-    none-read _ _ _ _ _ _ (at-step-sign .step-sign .result)
-    (next-at (a .card .now) (a .at) (at-step-sign .step-sign .result) (at-step-sign .step-sign .ensures)) (at-if1 .if1 .taken) (c .if2 .left) refl
+    none-read _ _ _ _ _ _ (at-step-guard .step-guard .result)
+    (next-at (a .card .now) (a .at) (at-step-guard .step-guard .result) (at-step-guard .step-guard .ensures)) (at-if1 .if1 .taken) (c .if2 .left) refl
     (a .state .now) (entry .pre .0)
 
 element-write-state-2 : tie.Need-element-write-state-2
@@ -55,11 +55,11 @@ returns-3 : tie.Need-returns-3
 returns-3 c =
     let at-conjunction = c .before in
     let at-if1 = at-conjunction .before .before .before in
-    let at-step-sign = at-if1 .before .before .before .before in
-    let entry = at-step-sign .before .before in
+    let at-step-guard = at-if1 .before .before .before .before in
+    let entry = at-step-guard .before .before in
     let a = entry .args in
-    some-stops _ _ _ _ _ _ (at-step-sign .step-sign .result)
-    (next-at (a .card .now) (a .at) (at-step-sign .step-sign .result) (at-step-sign .step-sign .ensures)) (at-if1 .if1 .left) (a .state .now)
+    some-stops _ _ _ _ _ _ (at-step-guard .step-guard .result)
+    (next-at (a .card .now) (a .at) (at-step-guard .step-guard .result) (at-step-guard .step-guard .ensures)) (at-if1 .if1 .left) (a .state .now)
     (entry .pre .0) _ (at-conjunction .conjunction .result) (at-conjunction .conjunction .ensures) (c .if3 .taken)
 
 step-arrow-requires : tie.Need-step-arrow-requires
@@ -70,11 +70,11 @@ stop-requires-2 c κs =
     let at-if3 = c .before .before .before .before .before .before in
     let at-conjunction = at-if3 .before in
     let at-if1 = at-conjunction .before .before .before in
-    let at-step-sign = at-if1 .before .before .before .before in
-    let entry = at-step-sign .before .before in
+    let at-step-guard = at-if1 .before .before .before .before in
+    let entry = at-step-guard .before .before in
     let a = entry .args in
-    left-sized _ _ _ _ _ _ (at-step-sign .step-sign .result)
-    (next-at (a .card .now) (a .at) (at-step-sign .step-sign .result) (at-step-sign .step-sign .ensures)) (at-if1 .if1 .left) (a .state .now)
+    left-sized _ _ _ _ _ _ (at-step-guard .step-guard .result)
+    (next-at (a .card .now) (a .at) (at-step-guard .step-guard .result) (at-step-guard .step-guard .ensures)) (at-if1 .if1 .left) (a .state .now)
     (entry .pre .0) _ (at-conjunction .conjunction .result) (at-conjunction .conjunction .ensures) (at-if3 .if3 .left)
 
 returns-4 : tie.Need-returns-4
@@ -84,11 +84,11 @@ returns-4 c =
     let at-if3 = at-step-arrow .before in
     let at-conjunction = at-if3 .before in
     let at-if1 = at-conjunction .before .before .before in
-    let at-step-sign = at-if1 .before .before .before .before in
-    let entry = at-step-sign .before .before in
+    let at-step-guard = at-if1 .before .before .before .before in
+    let entry = at-step-guard .before .before in
     let a = entry .args in
-    arrow-stops _ _ _ _ _ _ (at-step-sign .step-sign .result)
-    (next-at (a .card .now) (a .at) (at-step-sign .step-sign .result) (at-step-sign .step-sign .ensures)) (at-if1 .if1 .left) (a .state .now)
+    arrow-stops _ _ _ _ _ _ (at-step-guard .step-guard .result)
+    (next-at (a .card .now) (a .at) (at-step-guard .step-guard .result) (at-step-guard .step-guard .ensures)) (at-if1 .if1 .left) (a .state .now)
     (entry .pre .0) _ (at-conjunction .conjunction .result) (at-conjunction .conjunction .ensures) (at-if3 .if3 .left)
     (next-at (a .card .now) (at-conjunction .conjunction .result) (at-step-arrow .step-arrow .result) (at-step-arrow .step-arrow .ensures))
     (at-if4 .if4 .taken) (c .stop2 .ensures .0)
@@ -101,11 +101,11 @@ sub-state c =
     let at-if3 = c .before .before .before .before .before .before in
     let at-conjunction = at-if3 .before in
     let at-if1 = at-conjunction .before .before .before in
-    let at-step-sign = at-if1 .before .before .before .before in
-    let entry = at-step-sign .before .before in
+    let at-step-guard = at-if1 .before .before .before .before in
+    let entry = at-step-guard .before .before in
     let a = entry .args in
-    left-few _ _ _ _ _ _ (at-step-sign .step-sign .result)
-    (next-at (a .card .now) (a .at) (at-step-sign .step-sign .result) (at-step-sign .step-sign .ensures)) (at-if1 .if1 .left) (a .state .now)
+    left-few _ _ _ _ _ _ (at-step-guard .step-guard .result)
+    (next-at (a .card .now) (a .at) (at-step-guard .step-guard .result) (at-step-guard .step-guard .ensures)) (at-if1 .if1 .left) (a .state .now)
     (entry .pre .0) _ (at-conjunction .conjunction .result) (at-conjunction .conjunction .ensures) (at-if3 .if3 .left)
 
 element-write-state-4 : tie.Need-element-write-state-4
@@ -118,11 +118,11 @@ returns-5 c =
     let at-if3 = at-step-arrow .before in
     let at-conjunction = at-if3 .before in
     let at-if1 = at-conjunction .before .before .before in
-    let at-step-sign = at-if1 .before .before .before .before in
-    let entry = at-step-sign .before .before in
+    let at-step-guard = at-if1 .before .before .before .before in
+    let entry = at-step-guard .before .before in
     let a = entry .args in
-    some-read _ _ _ _ _ _ (at-step-sign .step-sign .result)
-    (next-at (a .card .now) (a .at) (at-step-sign .step-sign .result) (at-step-sign .step-sign .ensures)) (at-if1 .if1 .left) (a .state .now)
+    some-read _ _ _ _ _ _ (at-step-guard .step-guard .result)
+    (next-at (a .card .now) (a .at) (at-step-guard .step-guard .result) (at-step-guard .step-guard .ensures)) (at-if1 .if1 .left) (a .state .now)
     (entry .pre .0) _ (at-conjunction .conjunction .result) (at-conjunction .conjunction .ensures) (at-if3 .if3 .left)
     (next-at (a .card .now) (at-conjunction .conjunction .result) (at-step-arrow .step-arrow .result) (at-step-arrow .step-arrow .ensures))
     (at-if4 .if4 .left)
@@ -131,7 +131,7 @@ pub guarded-spec : {M : Type 1} → statement M
 guarded-spec =
     tie.close
     (tie.spec
-    step-sign-requires
+    step-guard-requires
     stop-requires
     returns
     element-write-state
