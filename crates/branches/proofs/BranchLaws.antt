@@ -84,16 +84,16 @@ module _ (was : List ℕ) (sized : Sized was) where
 module _ {s : List ℕ} {i : ℕ} {x : Step} (v : Next s i x) where
   pub weight-stops : {before : Late} {r : After} → (x .mark .kind ≡ kDecimal → ⊥) → (x .mark .kind ≡ kNumber → ⊥) → Halted outOfShape (x .mark .place) r → WeightFrom s i before r
   weight-stops d e h = record {
-    answers = λ k n. misses s _ weightOf markWeight weight-shown i x v n (rw (ne-eqb _ _ d, ne-eqb _ _ e)) _ _ h;
+    answers = λ n. misses s _ weightOf markWeight weight-shown i x v n (rw (ne-eqb _ _ d, ne-eqb _ _ e)) _ _ h;
     sized = h .sized;
   }
 
   module _ (was : List ℕ) {is : List ℕ} {judged : Judged} (y : Weighed judged (x .mark .place) was is) where
     -- the last mark of a weight was read, and a cursor stands behind it
-    weighed : (w : Weight) → judged ≡ judgedOf (unitsOf cardRule w) → (next : ℕ) → (next ≡ 0 → ⊥) → (st : State) → marksAt 0 s next ≡ st .marks → (k : ℕ)
-        → WeightRead s k (lateIn was) (marksAt 0 s i) (ok w st) (after is next)
+    weighed : (w : Weight) → judged ≡ judgedOf (unitsOf cardRule w) → (next : ℕ) → (next ≡ 0 → ⊥) → (st : State) → marksAt 0 s next ≡ st .marks
+        → WeightRead s (lateIn was) (marksAt 0 s i) (ok w st) (after is next)
     unfolding judgeAll
-    weighed w e next there st f k = record {
+    weighed w e next there st f = record {
       went = there;
       rest = f;
       told = record { value = y .value (unitsOf cardRule w) e; late = y .late (unitsOf cardRule w) e ∙ ap (λ (p : ℕ). weightBy (unitsOf cardRule w) p (lateIn was)) (place-seen s i x v) };
@@ -101,38 +101,38 @@ module _ {s : List ℕ} {i : ℕ} {x : Step} (v : Next s i x) where
 
     pub decimal-read : x .mark .kind ≡ kDecimal → judged ≡ judgedOf (unitsOf cardRule (point (x .mark .value) (x .mark .digits) (x .mark .further))) → WeightFrom s i (lateIn was) (after is (x .next .at))
     decimal-read e f = record {
-      answers = λ k n.
+      answers = λ n.
           fits s _ weightOf markWeight weight-shown i x v n (point (x .mark .value) (x .mark .digits) (x .mark .further)) (rw e) _ _
-          (weighed (point (x .mark .value) (x .mark .digits) (x .mark .further)) f (x .next .at) (behind s i x v (λ z. omega (arith, e, z))) _ refl k);
+          (weighed (point (x .mark .value) (x .mark .digits) (x .mark .further)) f (x .next .at) (behind s i x v (λ z. omega (arith, e, z))) _ refl);
       sized = y .sized;
     }
 
     module _ (e : x .mark .kind ≡ kNumber) {z : Step} (u : Next s (x .next .at) z) where
       pub whole-read : (z .mark .kind ≡ kind "/" → ⊥) → judged ≡ judgedOf (unitsOf cardRule (whole (x .mark .value))) → WeightFrom s i (lateIn was) (after is (x .next .at))
       whole-read d f = record {
-        answers = λ k n.
+        answers = λ n.
             fits s _ weightOf markWeight weight-shown i x v n (whole (x .mark .value)) (rw (eq-eqb _ _ e)) _ _
             (next-is-not s _ "/" slash _ (return (whole (x .mark .value))) (x .next .at) z u n _ d
-            (weighed (whole (x .mark .value)) f (x .next .at) (behind s i x v (λ z. omega (arith, e, z))) _ refl k));
+            (weighed (whole (x .mark .value)) f (x .next .at) (behind s i x v (λ z. omega (arith, e, z))) _ refl));
         sized = y .sized;
       }
 
       pub ratio-read : z .mark .kind ≡ kind "/" → {w : Step} (t : Next s (z .next .at) w) → w .mark .kind ≡ kNumber
           → judged ≡ judgedOf (unitsOf cardRule (ratio (x .mark .value) (w .mark .value))) → WeightFrom s i (lateIn was) (after is (w .next .at))
       ratio-read d {w} t g f = record {
-        answers = λ k n.
+        answers = λ n.
             fits s _ weightOf markWeight weight-shown i x v n (whole (x .mark .value)) (rw (eq-eqb _ _ e)) _ _
             (next-is s _ "/" slash _ (return (whole (x .mark .value))) (x .next .at) z u n _ d
             (sign-fits "/" slash s (x .next .at) _ z u n _ _ d
             (fits s _ numberOf (valueBy kNumber) number-shown (z .next .at) w t n (w .mark .value) (rw (eq-eqb _ _ g)) _ _
-            (weighed (ratio (x .mark .value) (w .mark .value)) f (w .next .at) (behind s (z .next .at) w t (λ z. omega (arith, g, z))) _ refl k))));
+            (weighed (ratio (x .mark .value) (w .mark .value)) f (w .next .at) (behind s (z .next .at) w t (λ z. omega (arith, g, z))) _ refl))));
         sized = y .sized;
       }
 
   pub ratio-stops : {before : Late} {r : After} → x .mark .kind ≡ kNumber → {z : Step} (u : Next s (x .next .at) z) → z .mark .kind ≡ kind "/"
       → {w : Step} (t : Next s (z .next .at) w) → (w .mark .kind ≡ kNumber → ⊥) → Halted outOfShape (w .mark .place) r → WeightFrom s i before r
   ratio-stops e {z} u d {w} t g h = record {
-    answers = λ k n.
+    answers = λ n.
         fits s _ weightOf markWeight weight-shown i x v n (whole (x .mark .value)) (rw (eq-eqb _ _ e)) _ _
         (next-is s _ "/" slash _ (return (whole (x .mark .value))) (x .next .at) z u n _ d
         (sign-fits "/" slash s (x .next .at) _ z u n _ _ d
@@ -141,9 +141,9 @@ module _ {s : List ℕ} {i : ℕ} {x : Step} (v : Next s i x) where
   }
 
 pub weight-few : {s : List ℕ} {i : ℕ} {before : Late} (state : List ℕ) {next : ℕ} → WeightFrom s i before (after state next) → (next ≡ 0 → ⊥) → valueIn state ≤ unit
-weight-few {s} {i} {before} state {next} h e = go (weight (from s i 0)) (h .answers 0 0)
+weight-few {s} {i} {before} state {next} h e = go (weight (from s i 0)) (h .answers 0)
   where
-    go : (x : Result Weight) → WeightRead s 0 before (marksAt 0 s i) x (after state next) → valueIn state ≤ unit
+    go : (x : Result Weight) → WeightRead s before (marksAt 0 s i) x (after state next) → valueIn state ≤ unit
     go (ok w b) y = omega (arith, y .told .value, units-most w)
     go (stop n p) y = absurd (e (y .none))
 
@@ -161,15 +161,15 @@ module _ (s : List ℕ) (i k : ℕ) (before : Late) (was is : List ℕ) (place :
 
   module _ (a : List ℕ) {w : ℕ} (hw : WeightFrom s i before (after a w)) where
     pub weight-halts : w ≡ 0 → BranchIs (after a 0)
-    weight-halts e = record { answers = λ n. halted s _ _ (weight (from s i n)) _ a w (hw .answers k n) e; sized = hw .sized }
+    weight-halts e = record { answers = λ n. halted s _ _ (weight (from s i n)) _ a w (hw .answers n) e; sized = hw .sized }
 
     module _ (ew : w ≡ 0 → ⊥) (b : List ℕ) {u : ℕ} (hu : UpdateFrom s w (lateIn a) (after b u)) where
-      updated : (n : ℕ) → LineRead s k (lateIn a) (1 ∷ []) (line branchRun (from s w n)) (after b u)
-      updated n = hu .answers updateDue update-sure refl refl k n
+      updated : (n : ℕ) → LineRead s (lateIn a) (1 ∷ []) (line branchRun (from s w n)) (after b u)
+      updated n = hu .answers updateDue update-sure refl refl n
 
       pub update-halts : u ≡ 0 → BranchIs (after b 0)
       update-halts e = record {
-        answers = λ n. onward s _ _ (weight (from s i n)) _ a w _ (hw .answers k n) ew λ x m g.
+        answers = λ n. onward s _ _ (weight (from s i n)) _ a w _ (hw .answers n) ew λ x m g.
             halted s _ _ (line branchRun (from s w m)) _ b u (updated m) e;
         sized = hu .sized;
       }
@@ -177,7 +177,7 @@ module _ (s : List ℕ) (i k : ℕ) (before : Late) (was is : List ℕ) (place :
       module _ (eu : u ≡ 0 → ⊥) (c : List ℕ) {t : ℕ} (ht : NumberFrom s u k (lateIn b) (after c t)) where
         pub end-halts : t ≡ 0 → BranchIs (after c 0)
         end-halts e = record {
-          answers = λ n. onward s _ _ (weight (from s i n)) _ a w _ (hw .answers k n) ew λ x m g.
+          answers = λ n. onward s _ _ (weight (from s i n)) _ a w _ (hw .answers n) ew λ x m g.
               onward s _ _ (line branchRun (from s w m)) _ b u _ (updated m) eu λ ws m₁ g₁.
               halted s _ _ (numbered numberOf (from s u m₁)) _ c t (ht .answers m₁) e;
           sized = ht .sized;
@@ -188,16 +188,16 @@ module _ (s : List ℕ) (i k : ℕ) (before : Late) (was is : List ℕ) (place :
           closed n = hf .answers ")" close refl n
 
           closing : (r : After) (n : ℕ)
-              → ((b : BranchShape) (m : ℕ) → valueIn a ≡ unitsIn (b .weight) → valueIn c ≡ b .end .value → lateIn c ≡ judgeAll (length s) k (judgedBranch b) before
+              → ((b : BranchShape) (m : ℕ) → valueIn a ≡ unitsIn (b .weight) → valueIn c ≡ b .end .value → lateIn c ≡ judgeAll (length s) (judgedBranch k b) before
               → BranchRead s k before was is place (bind (sign ")" (from s t m)) (λ u. return b)) r)
               → BranchRead s k before was is place (branch (from s i n)) r
           unfolding judgeAll
-          closing r n h = onward s _ _ (weight (from s i n)) _ a w r (hw .answers k n) ew λ x m g.
+          closing r n h = onward s _ _ (weight (from s i n)) _ a w r (hw .answers n) ew λ x m g.
               onward s _ _ (line branchRun (from s w m)) _ b u r (updated m) eu λ ws m₁ g₁.
               onward s _ _ (numbered numberOf (from s u m₁)) _ c t r (ht .answers m₁) et λ e m₂ g₂.
               h (record { place = marksAt 0 s i; weight = x; words = ws; end = e }) m₂ (g .value) (g₂ .value)
-              (g₂ .late ∙ ap (judge (length s) k (judgedState e)) (g₁ ∙ ap (judgeAll (length s) k (judgedWords (1 ∷ []) ws)) (g .late))
-              ∙ sym (judge-append (length s) k (judgedWords (1 ∷ []) ws) (judgedState e ∷ []) (judge (length s) k (judgedWeight x (marksAt 0 s i)) before)))
+              (g₂ .late ∙ ap (judge (length s) (judgedState k e)) (g₁ ∙ ap (judgeAll (length s) (judgedWords (1 ∷ []) ws)) (g .late))
+              ∙ sym (judge-append (length s) (judgedWords (1 ∷ []) ws) (judgedState k e ∷ []) (judge (length s) (judgedWeight x (marksAt 0 s i)) before)))
 
           pub close-halts : f ≡ 0 → BranchIs (after d 0)
           close-halts e = record { answers = λ n. closing _ n λ b m g h j. halted s _ _ (sign ")" (from s t m)) _ d f (closed m) e; sized = hf .sized }
@@ -275,7 +275,7 @@ behind-plus (suc most) s i x v e n =
 -- with the branches so far counted in
 pub record Counted (s : List ℕ) (k first count total : ℕ) (before : Late) (was is : List ℕ) (x : BranchesShape) (state : List ℕ) : Type 0 where
   pub value : valueIn state ≡ count + length (x .branches)
-  pub late : lateIn state ≡ sumBy (total + totalUnits (map weightIn (x .branches))) (placeOf (length s) (x .close)) (judgeAll (length s) k (judgedEach judgedBranch (x .branches)) before)
+  pub late : lateIn state ≡ sumBy (total + totalUnits (map weightIn (x .branches))) (placeOf (length s) (x .close)) (judgeAll (length s) (judgedEach (judgedBranch k) (x .branches)) before)
   pub array : is ≡ stored was (first + count) (map packedIn (x .branches))
 
 abbrev pub RestRead : List ℕ → ℕ → ℕ → ℕ → ℕ → Late → List ℕ → List ℕ → Result BranchesShape → After → Type 0
@@ -292,8 +292,8 @@ none-counted s k first late was is (ok x b) r y =
       told = record {
         went = record {
           value = z .value ∙ zero-add (length (x .branches));
-          late = z .late ∙ ap (λ (t : ℕ). sumBy t (placeOf (length s) (x .close)) (judgeAll (length s) k (judgedEach judgedBranch (x .branches)) late)) (zero-add (totalUnits (map weightIn (x .branches))))
-              ∙ sym (judge-append (length s) k (judgedEach judgedBranch (x .branches)) (sum (map weightIn (x .branches)) (x .close) ∷ []) late);
+          late = z .late ∙ ap (λ (t : ℕ). sumBy t (placeOf (length s) (x .close)) (judgeAll (length s) (judgedEach (judgedBranch k) (x .branches)) late)) (zero-add (totalUnits (map weightIn (x .branches))))
+              ∙ sym (judge-append (length s) (judgedEach (judgedBranch k) (x .branches)) (sum (map weightIn (x .branches)) (x .close) ∷ []) late);
         };
         array = z .array ∙ ap (λ (f : ℕ). stored was f (map packedIn (x .branches))) (add-zero first);
       };
@@ -319,9 +319,9 @@ module _ (s : List ℕ) (k first count total : ℕ) (late : Late) (was is : List
           record {
             value = omega (arith, h .value);
             late = h .late
-                ∙ ap (λ (u : ℕ). sumBy u (placeOf (length s) (z .close)) (judgeAll (length s) k (judgedEach judgedBranch (z .branches)) (lateIn state))) units
+                ∙ ap (λ (u : ℕ). sumBy u (placeOf (length s) (z .close)) (judgeAll (length s) (judgedEach (judgedBranch k) (z .branches)) (lateIn state))) units
                 ∙ ap (λ (l : Late). sumBy (total + (unitsIn (a .weight) + totalUnits (map weightIn (z .branches)))) (placeOf (length s) (z .close)) l)
-                (ap (judgeAll (length s) k (judgedEach judgedBranch (z .branches))) (g .went .late) ∙ sym (judge-append (length s) k (judgedBranch a) (judgedEach judgedBranch (z .branches)) late));
+                (ap (judgeAll (length s) (judgedEach (judgedBranch k) (z .branches))) (g .went .late) ∙ sym (judge-append (length s) (judgedBranch k a) (judgedEach (judgedBranch k) (z .branches)) late));
             array = h .array ∙ rw (g .array) (ap (λ (u : ℕ). stored (set was (first + count) (packedIn a)) u (map packedIn (z .branches))) place);
           }
 

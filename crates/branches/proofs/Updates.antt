@@ -43,16 +43,16 @@ module _ (s : List ℕ) (i : ℕ) (e : begun (bytes ":(s1'=") (drop i s) ≡ tru
   pub update-passed : (state : List ℕ) → Sized state → UpdateFrom s i (lateIn state) (after state (i + 6))
   update-passed state sized = record { answers = passed; sized = sized }
     where
-      passed : (run : List Due) → Sure run → kind ":" ∷ kind "(" ∷ kSeat ∷ kind "'" ∷ kind "=" ∷ [] ≡ kindsIn run → 0 ∷ 0 ∷ 1 ∷ 0 ∷ 0 ∷ [] ≡ numbersIn run → (k n : ℕ) → LineRead s k (lateIn state) (duesIn run) (line (itemsIn run) (from s i n)) (after state (i + 6))
-      passed run h kinds dues k n =
+      passed : (run : List Due) → Sure run → kind ":" ∷ kind "(" ∷ kSeat ∷ kind "'" ∷ kind "=" ∷ [] ≡ kindsIn run → 0 ∷ 0 ∷ 1 ∷ 0 ∷ 0 ∷ [] ≡ numbersIn run → (n : ℕ) → LineRead s (lateIn state) (duesIn run) (line (itemsIn run) (from s i n)) (after state (i + 6))
+      passed run h kinds dues n =
           let to : i + 1 + 1 + 1 + 1 + 1 + 1 ≡ i + 6 = omega arith in
           let p2 = i + 1 + 1 in
           let p4 = i + 1 + 1 + 1 + 1 in
           let p5 = i + 1 + 1 + 1 + 1 + 1 in
-          run-end s k n (i + 6) (lateIn state) _ []
-          (run-more s k n p5 (lateIn state) (bareOf 61 p5 (i + 6)) (next-at s p5 (bareOf 61 p5 (i + 6)) (sym (sign-by s 61 p5 (i + 6) (sym to) refl refl (at-equal .place) (at-equal .byte)))) _ (kind "=") [] 0 []
-          (run-more s k n p4 (lateIn state) (bareOf 39 p4 p5) (next-at s p4 (bareOf 39 p4 p5) (sym (sign-by s 39 p4 p5 refl refl refl (at-prime .place) (at-prime .byte)))) _ (kind "'") (kind "=" ∷ []) 0 (0 ∷ [])
-          (run-more s k n p2 (lateIn state) (valuedOf kSeat 1 p2 p4) (next-at s p2 (valuedOf kSeat 1 p2 p4) (sym (word-by s p2 (at-word .place) (at-word .byte) (at-digit .place) (at-digit .byte) (at-prime .place) (ap inWord (at-prime .byte))))) _ kSeat (kind "'" ∷ kind "=" ∷ []) 1 (0 ∷ 0 ∷ [])
-          (run-more s k n (i + 1) (lateIn state) (bareOf 40 (i + 1) p2) (next-at s (i + 1) (bareOf 40 (i + 1) p2) (sym (sign-by s 40 (i + 1) p2 refl refl refl (at-open .place) (at-open .byte)))) _ (kind "(") (kSeat ∷ kind "'" ∷ kind "=" ∷ []) 0 (1 ∷ 0 ∷ 0 ∷ [])
-          (run-more s k n i (lateIn state) (bareOf 58 i (i + 1)) (next-at s i (bareOf 58 i (i + 1)) (sym (sign-by s 58 i (i + 1) refl refl refl (at-colon .place) (at-colon .byte)))) _ (kind ":") (kind "(" ∷ kSeat ∷ kind "'" ∷ kind "=" ∷ []) 0 (0 ∷ 1 ∷ 0 ∷ 0 ∷ [])
+          run-end s n (i + 6) (lateIn state) _ []
+          (run-more s n p5 (lateIn state) (bareOf 61 p5 (i + 6)) (next-at s p5 (bareOf 61 p5 (i + 6)) (sym (sign-by s 61 p5 (i + 6) (sym to) refl refl (at-equal .place) (at-equal .byte)))) _ (kind "=") [] 0 []
+          (run-more s n p4 (lateIn state) (bareOf 39 p4 p5) (next-at s p4 (bareOf 39 p4 p5) (sym (sign-by s 39 p4 p5 refl refl refl (at-prime .place) (at-prime .byte)))) _ (kind "'") (kind "=" ∷ []) 0 (0 ∷ [])
+          (run-more s n p2 (lateIn state) (valuedOf kSeat 1 p2 p4) (next-at s p2 (valuedOf kSeat 1 p2 p4) (sym (word-by s p2 (at-word .place) (at-word .byte) (at-digit .place) (at-digit .byte) (at-prime .place) (ap inWord (at-prime .byte))))) _ kSeat (kind "'" ∷ kind "=" ∷ []) 1 (0 ∷ 0 ∷ [])
+          (run-more s n (i + 1) (lateIn state) (bareOf 40 (i + 1) p2) (next-at s (i + 1) (bareOf 40 (i + 1) p2) (sym (sign-by s 40 (i + 1) p2 refl refl refl (at-open .place) (at-open .byte)))) _ (kind "(") (kSeat ∷ kind "'" ∷ kind "=" ∷ []) 0 (1 ∷ 0 ∷ 0 ∷ [])
+          (run-more s n i (lateIn state) (bareOf 58 i (i + 1)) (next-at s i (bareOf 58 i (i + 1)) (sym (sign-by s 58 i (i + 1) refl refl refl (at-colon .place) (at-colon .byte)))) _ (kind ":") (kind "(" ∷ kSeat ∷ kind "'" ∷ kind "=" ∷ []) 0 (0 ∷ 1 ∷ 0 ∷ 0 ∷ [])
           (record { rest = run; sure = h; kinds-left = kinds; dues-left = dues; answered = λ r y. y }) refl) refl) refl) refl) refl) (λ z. omega arith) state refl

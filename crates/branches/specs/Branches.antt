@@ -37,11 +37,11 @@ pub record Weighed (judged : Judged) (p : ℕ) (was is : List ℕ) : Type 0 wher
   pub late : (o : Option ℕ) → judged ≡ judgedOf o → lateIn is ≡ weightBy o p (lateIn was)
   pub sized : Sized is
 
-abbrev pub WeightRead : List ℕ → ℕ → Late → Place → Result Weight → After → Type 0
-WeightRead s k before p = Answers s (λ w. Went s k before (unitsIn w) (weight w p ∷ []))
+abbrev pub WeightRead : List ℕ → Late → Place → Result Weight → After → Type 0
+WeightRead s before p = Answers s (λ w. Went s before (unitsIn w) (weight w p ∷ []))
 
 pub record WeightFrom (s : List ℕ) (i : ℕ) (before : Late) (r : After) : Type 0 where
-  pub answers : (k n : ℕ) → WeightRead s k before (marksAt 0 s i) (readWeight (from s i n)) r
+  pub answers : (n : ℕ) → WeightRead s before (marksAt 0 s i) (readWeight (from s i n)) r
   pub sized : Sized (r .state)
 
 -- ---- between a branch's weight and its state
@@ -58,7 +58,7 @@ abbrev pub packedIn : BranchShape → ℕ
 packedIn b = packBranch (min (unitsIn (b .weight)) unit) (min (b .end .value) numbers)
 
 pub record Branched (s : List ℕ) (k : ℕ) (before : Late) (was is : List ℕ) (place : ℕ) (b : BranchShape) (state : List ℕ) : Type 0 where
-  pub went : Went s k before (unitsIn (b .weight)) (judgedBranch b) state
+  pub went : Went s before (unitsIn (b .weight)) (judgedBranch k b) state
   pub array : is ≡ set was place (packedIn b)
 
 abbrev pub BranchRead : List ℕ → ℕ → Late → List ℕ → List ℕ → ℕ → Result BranchShape → After → Type 0
@@ -83,8 +83,8 @@ branches most = do
   sign ";"
   return (record { branches = b ∷ bs; close = p })
 
-abbrev pub judgedBranches : BranchesShape → List Judgement
-judgedBranches x = judgedEach judgedBranch (x .branches) ++ (sum (map weightIn (x .branches)) (x .close) ∷ [])
+abbrev pub judgedBranches : ℕ → BranchesShape → List Judgement
+judgedBranches k x = judgedEach (judgedBranch k) (x .branches) ++ (sum (map weightIn (x .branches)) (x .close) ∷ [])
 
 -- a sum of units that is not the unit is a late refusal
 abbrev pub sumBy : ℕ → ℕ → Late → Late
@@ -101,7 +101,7 @@ abbrev pub PastBy : Found → After → Type 0
 PastBy m r = Halted (if eqb (m .kind) kNumber || eqb (m .kind) kDecimal then pastLimit else outOfShape) (m .place) r
 
 pub record BranchesIn (s : List ℕ) (k : ℕ) (before : Late) (was is : List ℕ) (first : ℕ) (x : BranchesShape) (state : List ℕ) : Type 0 where
-  pub went : Went s k before (length (x .branches)) (judgedBranches x) state
+  pub went : Went s before (length (x .branches)) (judgedBranches k x) state
   pub array : is ≡ stored was first (map packedIn (x .branches))
 
 abbrev pub BranchesRead : List ℕ → ℕ → Late → List ℕ → List ℕ → ℕ → Result BranchesShape → After → Type 0

@@ -1,12 +1,12 @@
 -- What a head and three lent arrays hold is the card that lies there: the head's numbers are the card's, the first rows are its
 -- statements', and nodes and branches come back as from the struct. Assumes nothing.
 use Prim.Native.Nat.{ℕ, _≤_, _<_}
-use mathlib.Core.Path.{_≡_, refl, ap, _∙_}
+use mathlib.Core.Path.{_≡_, ap, _∙_}
 use mathlib.Core.List.{[]}
 use mathlib.Core.Option.{none}
 use native.Mathlib.Omega.{arith}
 use lib.ListN.{length, getD}
-use Rattle.card.specs.Limits.{mostSeats, topState, mostStatements, rowPlaces, nodePlaces, branchPlaces}
+use Rattle.card.specs.Limits.{mostSeats, topState, mostStatements, branchPlaces}
 use Rattle.card.specs.Card.{Statement, Card}
 use Rattle.card.specs.Laid.{statementRow, laid, cardOf}
 use Rattle.card.specs.Rows.{rowOf, rowsOf, FitsRow, FitRows}
@@ -14,8 +14,8 @@ use Rattle.card.specs.Lent.{Lent, headOf, lentOf, cardIn, HoldsIn}
 use Rattle.card.specs.declared.Head.{Head}
 use Rattle.card.proofs.Held.{Held, HeldCard, every-at, valid-held}
 use Rattle.card.proofs.LaidBack.{statement-row, held-back}
-use Rattle.card.proofs.Rows.{rows-row, rows-taken, length-rows-of}
-use Rattle.card.proofs.Sized.{statements-long, nodes-long, branches-long}
+use Rattle.card.proofs.Rows.{rows-row, rows-taken}
+use Rattle.card.proofs.Sized.{statements-long, branches-long}
 
 -- no statement of any card
 no-more : Statement
@@ -47,14 +47,8 @@ module _ {h : Head} {x : Lent} (v : HoldsIn h x) where
   pub holds-seats : h .seats ≤ mostSeats
   holds-seats = let e = ap (λ (h : Head). h .seats) (v .head) in omega (arith, v .valid .seats-most)
 
-  pub holds-a-seat : 1 ≤ h .seats
-  holds-a-seat = let e = ap (λ (h : Head). h .seats) (v .head) in omega (arith, v .valid .seats)
-
   pub holds-top : h .top ≤ topState
   holds-top = let e = ap (λ (h : Head). h .top) (v .head) in omega (arith, v .valid .top)
-
-  pub holds-start : h .start ≤ h .top
-  holds-start = let e = ap (λ (h : Head). h .top) (v .head) in let f = ap (λ (h : Head). h .start) (v .head) in omega (arith, v .valid .init)
 
   pub holds-count : h .count ≤ mostStatements
   holds-count = let e = ap (λ (h : Head). h .count) (v .head) in omega (arith, held .few)
@@ -62,13 +56,6 @@ module _ {h : Head} {x : Lent} (v : HoldsIn h x) where
   -- the arrays
   pub holds-rows : FitRows (x .rows) (h .count)
   holds-rows = rw (ap (λ (x : Lent). x .rows) (v .lies), ap (λ (h : Head). h .count) (v .head)) (fit-rows (v .card) held)
-
-  pub rows-long : length (x .rows) ≡ rowPlaces
-  rows-long =
-      ap (λ (x : Lent). length (x .rows)) (v .lies) ∙ length-rows-of (laid (v .card) .statements) ∙ rw (statements-long (v .card)) refl
-
-  pub holds-nodes : length (x .nodes) ≡ nodePlaces
-  holds-nodes = ap (λ (x : Lent). length (x .nodes)) (v .lies) ∙ nodes-long (v .card) held
 
   pub holds-branches : length (x .branches) ≡ branchPlaces
   holds-branches = ap (λ (x : Lent). length (x .branches)) (v .lies) ∙ branches-long (v .card) held

@@ -123,20 +123,6 @@ row-at (suc most) (x ∷ xs) (suc i) d h l = row-at most xs i d (le-of-suc-le-su
 same-statement : (a b : Statement) → a .own ≡ b .own → a .guard ≡ b .guard → a .branches ≡ b .branches → a ≡ b
 same-statement a b p q r = λ i. record { own = p i; guard = q i; branches = r i }
 
--- a laid card, field by field
-pub laid-is : (c : Card) → laid c ≡ record {
-  mode = modeNumber (c .mode);
-  seats = c .n;
-  top = c .k;
-  start = c .l;
-  count = length (c .statements);
-  statements = statementRows mostStatements (c .statements);
-  nodes = padded nodePlaces (rows mostNodes nodeRow 0 (c .statements));
-  branches = padded branchPlaces (rows mostBranches branchRow 0 (c .statements));
-}
-unfolding laid
-laid-is c = refl
-
 module _ (c : Card) where
   pub laid-statements : laid c .statements ≡ statementRows mostStatements (c .statements)
   unfolding laid

@@ -13,12 +13,12 @@ pub use Rattle.card.proofs.Filling.{zeros-repeat, FewNodes, FewBranches
 -- what the arrays can hold, as every valid card is
 pub use Rattle.card.proofs.Held.{States, GuardStates, EndsThere, Held, HeldCard, valid-held, every-map, every-at}
 -- a laid card, its statements one by one, and that it comes back
-pub use Rattle.card.proofs.LaidBack.{laid-is, laid-statements, laid-nodes, laid-branches, statement-row, statement-guard, statement-branches, statement-back, held-back, laid-back, laid-injective}
+pub use Rattle.card.proofs.LaidBack.{laid-statements, laid-nodes, laid-branches, statement-row, statement-guard, statement-branches, statement-back, held-back, laid-back, laid-injective}
 -- node numbers fall from parent to child
 pub use Rattle.card.proofs.Falls.{Falls, Falling, cells-fall, laid-falls}
 -- the arrays' lengths, and that each number fits
 pub use Rattle.card.proofs.Sized.{statements-long, nodes-long, branches-long, nodes-small, branches-small}
 -- rows stored one by one, and read
-pub use Rattle.card.proofs.Rows.{Filled, filled-start, filled-next, filled-rows, rows-row, rows-taken, length-rows-of}
+pub use Rattle.card.proofs.Rows.{Filled, filled-start, filled-next, filled-rows, rows-row, rows-taken}
 -- what a head and the lent arrays hold
-pub use Rattle.card.proofs.HeldIn.{lent-back, holds-card, holds-seats, holds-a-seat, holds-top, holds-start, holds-count, holds-rows, rows-long, holds-nodes, holds-branches}
+pub use Rattle.card.proofs.HeldIn.{lent-back, holds-card, holds-seats, holds-top, holds-count, holds-rows, holds-branches}

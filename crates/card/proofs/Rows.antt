@@ -119,8 +119,3 @@ rows-list rows (x ∷ xs) i (suc c) h f =
 -- the first of the rows that were stored
 pub rows-taken : (xs : List StatementRow) (count : ℕ) → count ≤ length xs → rowsFrom (rowsOf xs) 0 count ≡ take count xs
 rows-taken xs count h = rows-list (rowsOf xs) xs 0 count h (λ j l. rw (zero-add j) (rows-row xs j (omega arith)))
-
-pub length-rows-of : (xs : List StatementRow) → length (rowsOf xs) ≡ length xs * rowNumbers
-unfolding rowsOf
-length-rows-of [] = refl
-length-rows-of (x ∷ xs) = let e = length-rows-of xs in omega arith

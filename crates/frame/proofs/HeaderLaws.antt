@@ -159,13 +159,13 @@ module _ (s : List ℕ) (i : ℕ) (before : Late) where
     mode-halts e = record { answers = λ n. halted s _ _ (the modeOf (from s i n)) _ a m (hm .answers n) e; sized = hm .sized }
 
     module _ (em : m ≡ 0 → ⊥) (b : List ℕ) {w : ℕ} (hw : RunFrom s m (kindsIn cardDue) (numbersIn cardDue) (lateIn a) (after b w)) where
-      worded : (k n : ℕ) → LineRead s k (lateIn a) (1 ∷ 1 ∷ []) (line cardRun (from s m n)) (after b w)
-      worded k n = hw .answers cardDue card-sure refl refl k n
+      worded : (n : ℕ) → LineRead s (lateIn a) (1 ∷ 1 ∷ []) (line cardRun (from s m n)) (after b w)
+      worded n = hw .answers cardDue card-sure refl refl n
 
       pub words-halt : w ≡ 0 → HeaderIs (after b 0)
       words-halt e = record {
         answers = λ n. onward s _ _ (the modeOf (from s i n)) _ a m _ (hm .answers n) em λ mode n₁ f.
-            halted s _ _ (line cardRun (from s m n₁)) _ b w (worded 0 n₁) e;
+            halted s _ _ (line cardRun (from s m n₁)) _ b w (worded n₁) e;
         sized = hw .sized;
       }
 
@@ -173,7 +173,7 @@ module _ (s : List ℕ) (i : ℕ) (before : Late) where
         pub range-halts : t ≡ 0 → HeaderIs (after c 0)
         range-halts e = record {
           answers = λ n. onward s _ _ (the modeOf (from s i n)) _ a m _ (hm .answers n) em λ mode n₁ f.
-              onward s _ _ (line cardRun (from s m n₁)) _ b w _ (worded 0 n₁) ew λ ws n₂ f₁.
+              onward s _ _ (line cardRun (from s m n₁)) _ b w _ (worded n₁) ew λ ws n₂ f₁.
               halted s _ _ (range (from s w n₂)) _ c t (ht .answers n₂) e;
           sized = ht .sized;
         }
@@ -182,15 +182,14 @@ module _ (s : List ℕ) (i : ℕ) (before : Late) where
           closed : (n : ℕ) → SignRead s c (sign "]" (from s t n)) (after d q)
           closed n = hq .answers "]" (told "]" (omega arith)) refl n
 
-          -- the words are judged alike for every top state, so for the one that was read
           behind-range : (r : After) (n : ℕ)
-              → ((mode : Mode) (ws : List Numbered) (n : ℕ) → valueIn a ≡ modeNumber mode → lateIn c ≡ judgeAll (length s) (valueIn c) (judgedWords (1 ∷ 1 ∷ []) ws) before
+              → ((mode : Mode) (ws : List Numbered) (n : ℕ) → valueIn a ≡ modeNumber mode → lateIn c ≡ judgeAll (length s) (judgedWords (1 ∷ 1 ∷ []) ws) before
               → HeaderRead s before (bind (sign "]" (from s t n)) (λ u s₁. bind (sign "init" s₁) (λ u₁ s₂. bind (numbered numberOf s₂) (λ l s₃. bind (sign ";" s₃) (λ u₂. return (record { mode = mode; words = ws; k = valueIn c; l = l })))))) r)
               → HeaderRead s before (header (from s i n)) r
           behind-range r n y = onward s _ _ (the modeOf (from s i n)) _ a m r (hm .answers n) em λ mode n₁ f.
-              onward s _ _ (line cardRun (from s m n₁)) _ b w r (worded (valueIn c) n₁) ew λ ws n₂ f₁.
+              onward s _ _ (line cardRun (from s m n₁)) _ b w r (worded n₁) ew λ ws n₂ f₁.
               onward s _ _ (range (from s w n₂)) _ c t r (ht .answers n₂) et λ k n₃ f₂.
-              rw (← f₂ .value) (y mode ws n₃ (f .value) (f₂ .late ∙ f₁ ∙ ap (judgeAll (length s) (valueIn c) (judgedWords (1 ∷ 1 ∷ []) ws)) (f .late)))
+              rw (← f₂ .value) (y mode ws n₃ (f .value) (f₂ .late ∙ f₁ ∙ ap (judgeAll (length s) (judgedWords (1 ∷ 1 ∷ []) ws)) (f .late)))
 
           pub square-halts : q ≡ 0 → HeaderIs (after d 0)
           square-halts e = record { answers = λ n. behind-range _ n λ mode ws n₁ f f₁. halted s _ _ (sign "]" (from s t n₁)) _ d q (closed n₁) e; sized = hq .sized }
@@ -208,7 +207,7 @@ module _ (s : List ℕ) (i : ℕ) (before : Late) where
 
             module _ (eo : o ≡ 0 → ⊥) (g : List ℕ) {l : ℕ} (hl : NumberFrom s o (valueIn c) (lateIn e) (after g l)) where
               behind-init : (r : After) (n : ℕ)
-                  → ((mode : Mode) (ws : List Numbered) (n : ℕ) → valueIn a ≡ modeNumber mode → lateIn e ≡ judgeAll (length s) (valueIn c) (judgedWords (1 ∷ 1 ∷ []) ws) before
+                  → ((mode : Mode) (ws : List Numbered) (n : ℕ) → valueIn a ≡ modeNumber mode → lateIn e ≡ judgeAll (length s) (judgedWords (1 ∷ 1 ∷ []) ws) before
                   → HeaderRead s before (bind (numbered numberOf (from s o n)) (λ l s₃. bind (sign ";" s₃) (λ u₂. return (record { mode = mode; words = ws; k = valueIn c; l = l })))) r)
                   → HeaderRead s before (header (from s i n)) r
               behind-init r n y = behind-range r n λ mode ws n₁ f f₁. onward s _ _ (sign "]" (from s t n₁)) _ d q r (closed n₁) eq λ u n₂ f₂.
@@ -240,8 +239,8 @@ module _ (s : List ℕ) (i : ℕ) (before : Late) where
                           mode = written-mode h (hz .sized) (valueIn a) (valueIn c) (valueIn g) ∙ f;
                           top = written-top h (hz .sized) (valueIn a) (valueIn c) (valueIn g);
                           start = written-start h (hz .sized) (valueIn a) (valueIn c) (valueIn g) ∙ f₂ .value;
-                          late = written-late h (hz .sized) (valueIn a) (valueIn c) (valueIn g) ∙ ap lateIn f₃ ∙ f₂ .late ∙ ap (judge (length s) (valueIn c) (judgedState x)) f₁
-                              ∙ sym (judge-append (length s) (valueIn c) (judgedWords (1 ∷ 1 ∷ []) ws) (judgedState x ∷ []) before);
+                          late = written-late h (hz .sized) (valueIn a) (valueIn c) (valueIn g) ∙ ap lateIn f₃ ∙ f₂ .late ∙ ap (judge (length s) (judgedState (valueIn c) x)) f₁
+                              ∙ sym (judge-append (length s) (judgedWords (1 ∷ 1 ∷ []) ws) (judgedState (valueIn c) x ∷ []) before);
                         };
                       };
                   sized = written-sized h (hz .sized) (valueIn a) (valueIn c) (valueIn g);

@@ -69,51 +69,51 @@ keyword = told "module" (omega arith)
 abbrev pub further : ℕ → Reader (List (List Numbered))
 further = upTo "module" copy (refuse pastLimit) ends
 
-abbrev pub RestRead : List ℕ → ℕ → ℕ → Late → Result (List (List Numbered)) → After → Type 0
-RestRead s k seats late = Answers s (λ ms. Went s k late (seats + length ms) (judgedModules (seats + 1) ms))
+abbrev pub RestRead : List ℕ → ℕ → Late → Result (List (List Numbered)) → After → Type 0
+RestRead s seats late = Answers s (λ ms. Went s late (seats + length ms) (judgedModules (seats + 1) ms))
 
 -- what stands behind the keyword
 abbrev moduleRest : List Item
 moduleRest = itemsIn (moduleDue 0)
 
-module _ (s : List ℕ) (k seats : ℕ) (late : Late) (i n : ℕ) (x : Step) (v : Next s i x) (r : After) where
+module _ (s : List ℕ) (seats : ℕ) (late : Late) (i n : ℕ) (x : Step) (v : Next s i x) (r : After) where
   module _ (d : x .mark .kind ≡ kind "module" → ⊥) (most : ℕ) where
-    pub modules-stop : (x .mark .kind ≡ kEnd → ⊥) → Halted outOfShape (x .mark .place) r → RestRead s k seats late (further most (from s i n)) r
+    pub modules-stop : (x .mark .kind ≡ kEnd → ⊥) → Halted outOfShape (x .mark .place) r → RestRead s seats late (further most (from s i n)) r
     modules-stop e h =
         rw (no-other "module" copy (refuse pastLimit) ends more step keyword s i x v d most n, end-misses s i x v e n, ← place-seen s i x v) h
 
-    pub modules-end : x .mark .kind ≡ kEnd → (i ≡ 0 → ⊥) → r .next ≡ i → Valued late seats (r .state) → RestRead s k seats late (further most (from s i n)) r
+    pub modules-end : x .mark .kind ≡ kEnd → (i ≡ 0 → ⊥) → r .next ≡ i → Valued late seats (r .state) → RestRead s seats late (further most (from s i n)) r
     unfolding judgeAll
     modules-end e there f h =
         rw (no-other "module" copy (refuse pastLimit) ends more step keyword s i x v d most n, end-fits s i x v e n)
         (record { went = λ z. there (sym f ∙ z); rest = ap (marksAt 0 s) f; told = record { value = h .value ∙ omega arith; late = h .late } })
 
   module _ (d : x .mark .kind ≡ kind "module") where
-    pub past-modules : Halted pastLimit (x .mark .place) r → RestRead s k seats late (further 0 (from s i n)) r
+    pub past-modules : Halted pastLimit (x .mark .place) r → RestRead s seats late (further 0 (from s i n)) r
     past-modules h = rw (too-many "module" copy (refuse pastLimit) ends more step keyword s i x v d n, ← place-seen s i x v) h
 
-    module _ (most : ℕ) (state : List ℕ) (c : ℕ) (hc : (n : ℕ) → LineRead s k late (duesIn (moduleDue (seats + 1))) (line moduleRest (from s (x .next .at) n)) (after state c)) where
+    module _ (most : ℕ) (state : List ℕ) (c : ℕ) (hc : (n : ℕ) → LineRead s late (duesIn (moduleDue (seats + 1))) (line moduleRest (from s (x .next .at) n)) (after state c)) where
       opened : further (suc most) (from s i n) ≡ bind (line moduleRest (from s (x .next .at) n)) (λ m s₁. bind (further most s₁) (λ ms. return (more m ms)))
       opened =
           another "module" copy (refuse pastLimit) ends more step keyword s i x v d most n
           ∙ ap (λ (y : Result (Unit {0})). bind (bind y (λ u. line moduleRest)) (λ m s₁. bind (further most s₁) (λ ms. return (more m ms)))) (sign-took "module" keyword s i x v d n)
 
-      pub module-stops : c ≡ 0 → r ≡ after state 0 → RestRead s k seats late (further (suc most) (from s i n)) r
+      pub module-stops : c ≡ 0 → r ≡ after state 0 → RestRead s seats late (further (suc most) (from s i n)) r
       module-stops e f = rw (opened, f) (halted s _ _ (line moduleRest (from s (x .next .at) n)) _ state c (hc n) e)
 
-      pub one-more : (c ≡ 0 → ⊥) → ((m : ℕ) → RestRead s k (seats + 1) (lateIn state) (further most (from s c m)) r) → RestRead s k seats late (further (suc most) (from s i n)) r
+      pub one-more : (c ≡ 0 → ⊥) → ((m : ℕ) → RestRead s (seats + 1) (lateIn state) (further most (from s c m)) r) → RestRead s seats late (further (suc most) (from s i n)) r
       unfolding judgeAll
       one-more e y = rw opened (onward s _ _ (line moduleRest (from s (x .next .at) n)) _ state c r (hc n) e λ m n₁ g.
           made s _ _ (further most (from s c n₁)) (more m) r (y n₁) λ ms h.
           record {
             value = omega (arith, h .value);
-            late = h .late ∙ ap (judgeAll (length s) k (judgedModules (seats + 1 + 1) ms)) g ∙ sym (judge-append (length s) k (judgedWords (duesIn (moduleDue (seats + 1))) m) (judgedModules (seats + 1 + 1) ms) late) ∙ rw (add-one (seats + 1));
+            late = h .late ∙ ap (judgeAll (length s) (judgedModules (seats + 1 + 1) ms)) g ∙ sym (judge-append (length s) (judgedWords (duesIn (moduleDue (seats + 1))) m) (judgedModules (seats + 1 + 1) ms) late) ∙ rw (add-one (seats + 1));
           })
 
 -- before the first module
-pub none-counted : (s : List ℕ) (k : ℕ) (late : Late) (x : Result (List (List Numbered))) (r : After) → RestRead s k 1 late x r → ModulesRead s k late x r
-none-counted s k late (ok ms b) r y = record { went = y .went; rest = y .rest; told = record { value = omega (arith, y .told .value); late = y .told .late } }
-none-counted s k late (stop n p) r y = y
+pub none-counted : (s : List ℕ) (late : Late) (x : Result (List (List Numbered))) (r : After) → RestRead s 1 late x r → ModulesRead s late x r
+none-counted s late (ok ms b) r y = record { went = y .went; rest = y .rest; told = record { value = omega (arith, y .told .value); late = y .told .late } }
+none-counted s late (stop n p) r y = y
 
 -- ---- the loop: an answer to what is left answers the whole
 
@@ -121,14 +121,14 @@ pub record Going (s : List ℕ) (before : Late) (i seats next : ℕ) (state : Li
   pub few : seats ≤ mostSeats
   pub there : next ≡ 0 → ⊥
   pub sized : Sized state
-  pub whole : (r : After) (k : ℕ) → ((m : ℕ) → RestRead s k seats (lateIn state) (further (mostSeats - seats) (from s next m)) r) → (n : ℕ) → ModulesRead s k before (modules (from s i n)) r
+  pub whole : (r : After) → ((m : ℕ) → RestRead s seats (lateIn state) (further (mostSeats - seats) (from s next m)) r) → (n : ℕ) → ModulesRead s before (modules (from s i n)) r
 
 pub going-start : {s : List ℕ} {i : ℕ} (state : List ℕ) → Sized state → (i ≡ 0 → ⊥) → Going s (lateIn state) i 1 i state
 going-start {s} {i} state sized there = record {
   few = omega arith;
   there = there;
   sized = sized;
-  whole = λ r k y n. none-counted s k (lateIn state) (modules (from s i n)) r (y n);
+  whole = λ r y n. none-counted s (lateIn state) (modules (from s i n)) r (y n);
 }
 
 -- the mark behind the last module
@@ -144,20 +144,20 @@ end-read {seats = seats} was e sized = record {
 
 module _ {s : List ℕ} {before : Late} {i seats next : ℕ} {state : List ℕ} (g : Going s before i seats next state) {x : Step} (v : Next s next x) where
   pub going-ended : (x .mark .kind ≡ kind "module" → ⊥) → {r : After} → EndedBy (x .mark) next seats (lateIn state) r → ModulesFrom s i before r
-  going-ended d {r} h = record { answers = λ k. g .whole r k λ m. by k m (eqb (x .mark .kind) kEnd) refl; sized = h .sized }
+  going-ended d {r} h = record { answers = g .whole r λ m. by m (eqb (x .mark .kind) kEnd) refl; sized = h .sized }
     where
-      by : (k m : ℕ) (t : Bool) → eqb (x .mark .kind) kEnd ≡ t → RestRead s k seats (lateIn state) (further (mostSeats - seats) (from s next m)) r
-      by k m true e =
+      by : (m : ℕ) (t : Bool) → eqb (x .mark .kind) kEnd ≡ t → RestRead s seats (lateIn state) (further (mostSeats - seats) (from s next m)) r
+      by m true e =
           let y = h .ends (eqb-true _ _ e) in
-          modules-end s k seats (lateIn state) next m x v r d (mostSeats - seats) (eqb-true _ _ e) (g .there) (y .0) (y .1)
-      by k m false e = modules-stop s k seats (lateIn state) next m x v r d (mostSeats - seats) (eqb-false _ _ e) (h .stops (eqb-false _ _ e))
+          modules-end s seats (lateIn state) next m x v r d (mostSeats - seats) (eqb-true _ _ e) (g .there) (y .0) (y .1)
+      by m false e = modules-stop s seats (lateIn state) next m x v r d (mostSeats - seats) (eqb-false _ _ e) (h .stops (eqb-false _ _ e))
 
   module _ (d : x .mark .kind ≡ kind "module") where
     pub going-past : mostSeats ≤ seats → {r : After} → Halted pastLimit (x .mark .place) r → ModulesFrom s i before r
     going-past l {r} h = record {
-      answers = λ k. g .whole r k λ m.
+      answers = g .whole r λ m.
           let z : mostSeats - seats ≡ 0 = omega arith in
-          rw z (past-modules s k seats (lateIn state) next m x v r d h);
+          rw z (past-modules s seats (lateIn state) next m x v r d h);
       sized = h .sized;
     }
 
@@ -165,12 +165,12 @@ module _ {s : List ℕ} {before : Late} {i seats next : ℕ} {state : List ℕ} 
       one-less : mostSeats - seats ≡ suc (mostSeats - (seats + 1))
       one-less = omega arith
 
-      line-read : (k n : ℕ) → LineRead s k (lateIn state) (duesIn (moduleDue (seats + 1))) (line moduleRest (from s (x .next .at) n)) (after after-one c)
-      line-read k n = hc .answers (moduleDue (seats + 1)) (module-sure (seats + 1)) refl refl k n
+      line-read : (n : ℕ) → LineRead s (lateIn state) (duesIn (moduleDue (seats + 1))) (line moduleRest (from s (x .next .at) n)) (after after-one c)
+      line-read n = hc .answers (moduleDue (seats + 1)) (module-sure (seats + 1)) refl refl n
 
       pub going-stops : c ≡ 0 → ModulesFrom s i before (after after-one 0)
       going-stops e = record {
-        answers = λ k. g .whole _ k λ m. rw one-less (module-stops s k seats (lateIn state) next m x v _ d (mostSeats - (seats + 1)) after-one c (line-read k) e refl);
+        answers = g .whole _ λ m. rw one-less (module-stops s seats (lateIn state) next m x v _ d (mostSeats - (seats + 1)) after-one c line-read e refl);
         sized = hc .sized;
       }
 
@@ -179,5 +179,5 @@ module _ {s : List ℕ} {before : Late} {i seats next : ℕ} {state : List ℕ} 
         few = omega arith;
         there = e;
         sized = hc .sized;
-        whole = λ r k y. g .whole r k λ m. rw one-less (one-more s k seats (lateIn state) next m x v r d (mostSeats - (seats + 1)) after-one c (line-read k) e y);
+        whole = λ r y. g .whole r λ m. rw one-less (one-more s seats (lateIn state) next m x v r d (mostSeats - (seats + 1)) after-one c line-read e y);
       }

@@ -69,13 +69,13 @@ header = do
   return (record { mode = mode; words = ws; k = k; l = l })
 
 abbrev pub judgedHeader : HeaderShape → List Judgement
-judgedHeader h = judgedWords (1 ∷ 1 ∷ []) (h .words) ++ (judgedState (h .l) ∷ [])
+judgedHeader h = judgedWords (1 ∷ 1 ∷ []) (h .words) ++ (judgedState (h .k) (h .l) ∷ [])
 
 pub record HeaderIn (s : List ℕ) (before : Late) (h : HeaderShape) (state : List ℕ) : Type 0 where
   pub mode : getD state atMode 0 ≡ modeNumber (h .mode)
   pub top : getD state atTop 0 ≡ h .k
   pub start : getD state atStart 0 ≡ h .l .value
-  pub late : Kept s (h .k) before (judgedHeader h) state
+  pub late : Kept s before (judgedHeader h) state
 
 abbrev pub HeaderRead : List ℕ → Late → Result HeaderShape → After → Type 0
 HeaderRead s before = Answers s (HeaderIn s before)
@@ -109,9 +109,9 @@ modules = do
   theEnd
   return ms
 
-abbrev pub ModulesRead : List ℕ → ℕ → Late → Result (List (List Numbered)) → After → Type 0
-ModulesRead s k before = Answers s (λ ms. Went s k before (suc (length ms)) (judgedModules 2 ms))
+abbrev pub ModulesRead : List ℕ → Late → Result (List (List Numbered)) → After → Type 0
+ModulesRead s before = Answers s (λ ms. Went s before (suc (length ms)) (judgedModules 2 ms))
 
 pub record ModulesFrom (s : List ℕ) (i : ℕ) (before : Late) (r : After) : Type 0 where
-  pub answers : (k n : ℕ) → ModulesRead s k before (modules (from s i n)) r
+  pub answers : (n : ℕ) → ModulesRead s before (modules (from s i n)) r
   pub sized : Sized (r .state)

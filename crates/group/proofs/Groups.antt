@@ -289,7 +289,7 @@ module _ (s : List ℕ) (from i : ℕ) (first : Tail) (a : Bool) (seen : List �
               ∙ packed k g (first .relation) (first .d) (kindBy (so .head ∷ so .more)) (signIn a) (so .head .relation) (so .head .d)
               (ke ∙ kind-seen seen count (so .head) (so .more) (so .marked) (so .counted)) ge (so .read .relation) (so .read .d) (so .read .small);
           numeral = so .head .place;
-          states = ap (λ d. state d (so .head .place) ∷ []) (sym (so .read .d));
+          states = λ k. ap (λ d. state k d (so .head .place) ∷ []) (sym (so .read .d));
           first = so .read .first;
           first-within = so .read .first-within;
         })

@@ -23,10 +23,10 @@ use Rattle.group.specs.Settled.{Refusal, refusal, settled, verdict}
 use Rattle.group.proofs.Symmetric.{symmetric-want, symmetric-kind}
 
 -- the judgements of two lists, one after the other
-pub judge-append : (e k : ℕ) (xs ys : List Judgement) (x : Late) → judgeAll e k (xs ++ ys) x ≡ judgeAll e k ys (judgeAll e k xs x)
+pub judge-append : (e : ℕ) (xs ys : List Judgement) (x : Late) → judgeAll e (xs ++ ys) x ≡ judgeAll e ys (judgeAll e xs x)
 unfolding judgeAll
-judge-append e k [] ys x = refl
-judge-append e k (j ∷ js) ys x = judge-append e k js ys (judge e k j x)
+judge-append e [] ys x = refl
+judge-append e (j ∷ js) ys x = judge-append e js ys (judge e j x)
 
 -- ---- the first of two refusals
 
@@ -80,12 +80,12 @@ sound-blamed : (b : Bool) (r p : ℕ) (x : Late) → (r ≡ 0 → ⊥) → Sound
 sound-blamed true r p x f s = s
 sound-blamed false r p x f s = sound-blame r p x f s
 
-sound-judge : (e k : ℕ) (j : Judgement) (x : Late) → Sound x → Sound (judge e k j x)
-sound-judge e k (state v p) x s = sound-blamed (leb v k) aboveTop (placeOf e p) x (λ z. omega arith) s
-sound-judge e k (word due was p) x s = sound-blamed (eqb was due) notDue (placeOf e p) x (λ z. omega arith) s
-sound-judge e k (oneGroup g) x s = sound-grouped (wantOf (g .literals)) (placeOf e (g .place)) x s
-sound-judge e k (weight w p) x s = sound-blamed (isSome (unitsOf cardRule w)) wrongWeight (placeOf e p) x (λ z. omega arith) s
-sound-judge e k (sum ws p) x s = sound-blamed (eqb (totalUnits ws) unit) wrongWeight (placeOf e p) x (λ z. omega arith) s
+sound-judge : (e : ℕ) (j : Judgement) (x : Late) → Sound x → Sound (judge e j x)
+sound-judge e (state bound v p) x s = sound-blamed (leb v bound) aboveTop (placeOf e p) x (λ z. omega arith) s
+sound-judge e (word due was p) x s = sound-blamed (eqb was due) notDue (placeOf e p) x (λ z. omega arith) s
+sound-judge e (oneGroup g) x s = sound-grouped (wantOf (g .literals)) (placeOf e (g .place)) x s
+sound-judge e (weight w p) x s = sound-blamed (isSome (unitsOf cardRule w)) wrongWeight (placeOf e p) x (λ z. omega arith) s
+sound-judge e (sum ws p) x s = sound-blamed (eqb (totalUnits ws) unit) wrongWeight (placeOf e p) x (λ z. omega arith) s
 
 -- ---- one judgement more, for n seats
 
@@ -178,16 +178,16 @@ module _ (n : ℕ) (x : Late) where
           go true e = rw (ne-eqb m n (λ z. omega (arith, eqb-true m 0 e))) (settled-blame notDue p)
           go false e = settled-wants (eqb-false m 0 e)
 
-module _ (e k n : ℕ) (least : 1 ≤ n) (most : n ≤ mostSeats) where
+module _ (e n : ℕ) (least : 1 ≤ n) (most : n ≤ mostSeats) where
   abbrev one : Judgement → Refusal
-  one j = verdict e (orElse (broken n k j) (placeIn j) fine)
+  one j = verdict e (orElse (broken n j) (placeIn j) fine)
 
-  one-test : (b : Bool) (r : ℕ) (j : Judgement) → broken n k j ≡ unless b r → (if b then refusal 0 0 else refusal r (placeOf e (placeIn j))) ≡ one j
+  one-test : (b : Bool) (r : ℕ) (j : Judgement) → broken n j ≡ unless b r → (if b then refusal 0 0 else refusal r (placeOf e (placeIn j))) ≡ one j
   one-test true r j h = rw h
   one-test false r j h = rw h
 
-  settled-judge : (j : Judgement) (x : Late) → Sound x → settled n (judge e k j x) ≡ orNext (settled n x) (one j)
-  settled-judge (state v p) x s = settled-blamed n x s (leb v k) aboveTop (placeOf e p) ∙ ap (orNext (settled n x)) (one-test (leb v k) aboveTop (state v p) refl)
+  settled-judge : (j : Judgement) (x : Late) → Sound x → settled n (judge e j x) ≡ orNext (settled n x) (one j)
+  settled-judge (state bound v p) x s = settled-blamed n x s (leb v bound) aboveTop (placeOf e p) ∙ ap (orNext (settled n x)) (one-test (leb v bound) aboveTop (state bound v p) refl)
   settled-judge (word due was p) x s = settled-blamed n x s (eqb was due) notDue (placeOf e p) ∙ ap (orNext (settled n x)) (one-test (eqb was due) notDue (word due was p) refl)
   settled-judge (oneGroup g) x s =
       settled-grouped n x s (wantOf (g .literals)) (placeOf e (g .place)) least
@@ -203,37 +203,37 @@ module _ (e k n : ℕ) (least : 1 ≤ n) (most : n ≤ mostSeats) where
   tested true r p v f = refl
   tested false r p v f = rw (ne-eqb r 0 f)
 
-  one-more : (j : Judgement) (v : Verdict) → orNext (one j) (verdict e v) ≡ verdict e (orElse (broken n k j) (placeIn j) v)
-  one-more (state a p) v = tested (leb a k) aboveTop p v (λ z. omega arith)
+  one-more : (j : Judgement) (v : Verdict) → orNext (one j) (verdict e v) ≡ verdict e (orElse (broken n j) (placeIn j) v)
+  one-more (state bound a p) v = tested (leb a bound) aboveTop p v (λ z. omega arith)
   one-more (word due was p) v = tested (eqb was due) notDue p v (λ z. omega arith)
   one-more (oneGroup g) v = tested (symmetric n (g .literals)) notDue (g .place) v (λ z. omega arith)
   one-more (weight w p) v = tested (isSome (unitsOf cardRule w)) wrongWeight p v (λ z. omega arith)
   one-more (sum ws p) v = tested (eqb (totalUnits ws) unit) wrongWeight p v (λ z. omega arith)
 
-  settled-all : (js : List Judgement) (x : Late) → Sound x → settled n (judgeAll e k js x) ≡ orNext (settled n x) (verdict e (firstBroken n k js))
+  settled-all : (js : List Judgement) (x : Late) → Sound x → settled n (judgeAll e js x) ≡ orNext (settled n x) (verdict e (firstBroken n js))
   unfolding judgeAll
   settled-all [] x s = settled-fine n x s
   settled-all (j ∷ js) x s =
-      settled-all js (judge e k j x) (sound-judge e k j x s)
-      ∙ ap (λ a. orNext a (verdict e (firstBroken n k js))) (settled-judge j x s)
-      ∙ or-assoc (settled n x) (one j) (verdict e (firstBroken n k js))
-      ∙ ap (orNext (settled n x)) (one-more j (firstBroken n k js))
+      settled-all js (judge e j x) (sound-judge e j x s)
+      ∙ ap (λ a. orNext a (verdict e (firstBroken n js))) (settled-judge j x s)
+      ∙ or-assoc (settled n x) (one j) (verdict e (firstBroken n js))
+      ∙ ap (orNext (settled n x)) (one-more j (firstBroken n js))
 
   -- what is settled in the end is the first broken judgement
-  pub settled-first : (js : List Judgement) → settled n (judgeAll e k js noneYet) ≡ verdict e (firstBroken n k js)
+  pub settled-first : (js : List Judgement) → settled n (judgeAll e js noneYet) ≡ verdict e (firstBroken n js)
   settled-first js = settled-all js noneYet (record { none = λ z. refl; unsplit = λ z. refl })
 
 -- ---- where nothing is broken
 
-module _ (n k : ℕ) where
+module _ (n : ℕ) where
   fine-tail : (b : Option ℕ) (p : Place) (v : Verdict) → orElse b p v ≡ fine → (b ≡ none) × (v ≡ fine)
   fine-tail none p v h = (refl, h)
   fine-tail (some r) p v h = let z : _≡_ {A = ℕ} 0 1 = cc in absurd (omega arith)
 
-  pub fine-cons : (j : Judgement) (js : List Judgement) → firstBroken n k (j ∷ js) ≡ fine → (broken n k j ≡ none) × (firstBroken n k js ≡ fine)
-  fine-cons j js h = fine-tail (broken n k j) (placeIn j) (firstBroken n k js) h
+  pub fine-cons : (j : Judgement) (js : List Judgement) → firstBroken n (j ∷ js) ≡ fine → (broken n j ≡ none) × (firstBroken n js ≡ fine)
+  fine-cons j js h = fine-tail (broken n j) (placeIn j) (firstBroken n js) h
 
-  pub fine-append : (xs ys : List Judgement) → firstBroken n k (xs ++ ys) ≡ fine → (firstBroken n k xs ≡ fine) × (firstBroken n k ys ≡ fine)
+  pub fine-append : (xs ys : List Judgement) → firstBroken n (xs ++ ys) ≡ fine → (firstBroken n xs ≡ fine) × (firstBroken n ys ≡ fine)
   fine-append [] ys h = (refl, h)
   fine-append (j ∷ js) ys h =
       let both = fine-cons j (js ++ ys) h in
@@ -249,13 +249,13 @@ module _ (n k : ℕ) where
   same-group s [] h = refl
   same-group s (l ∷ ls) h = ap (λ kind. group kind s (l .relation) (l .d)) (symmetric-kind n l ls h)
 
-  pub same-guard : (g : Formula Literals) → firstBroken n k (judgedGuard g) ≡ fine → guardBy g ≡ guardIn n g
-  same-guard (atom g) h =
-      ap atom (same-group (g .sign) (g .literals) (not-broken (symmetric n (g .literals)) notDue (fine-cons (oneGroup g) (firstState (g .literals)) h .0)))
-  same-guard (neg g) h = ap neg (same-guard g h)
-  same-guard (and g i) h =
-      let both = fine-append (judgedGuard g) (judgedGuard i) h in
-      rw (same-guard g (both .0), same-guard i (both .1))
-  same-guard (or g i) h =
-      let both = fine-append (judgedGuard g) (judgedGuard i) h in
-      rw (same-guard g (both .0), same-guard i (both .1))
+  pub same-guard : (k : ℕ) (g : Formula Literals) → firstBroken n (judgedGuard k g) ≡ fine → guardBy g ≡ guardIn n g
+  same-guard k (atom g) h =
+      ap atom (same-group (g .sign) (g .literals) (not-broken (symmetric n (g .literals)) notDue (fine-cons (oneGroup g) (firstState k (g .literals)) h .0)))
+  same-guard k (neg g) h = ap neg (same-guard k g h)
+  same-guard k (and g i) h =
+      let both = fine-append (judgedGuard k g) (judgedGuard k i) h in
+      rw (same-guard k g (both .0), same-guard k i (both .1))
+  same-guard k (or g i) h =
+      let both = fine-append (judgedGuard k g) (judgedGuard k i) h in
+      rw (same-guard k g (both .0), same-guard k i (both .1))

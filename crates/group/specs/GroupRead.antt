@@ -28,7 +28,7 @@ pub record ReadGroup (o : ℕ) (s : List ℕ) (n : ℕ) (p : Place) (g : Literal
   pub node : r .node ≡ leafNumber (groupBy (g .sign) (g .literals))
   -- its first d, and where that stands
   pub numeral : Place
-  pub states : firstState (g .literals) ≡ state (r .d) numeral ∷ []
+  pub states : (k : ℕ) → firstState k (g .literals) ≡ state k (r .d) numeral ∷ []
   pub first : placeOf (o + length s) numeral ≡ o + r .first
   pub past : r .next ≡ 0 → ⊥
   pub next-within : r .next ≤ length s

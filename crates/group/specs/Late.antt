@@ -80,13 +80,13 @@ blamed none p x = x
 blamed (some r) p x = blame r p x
 
 -- one judgement more, on a card that ends at place e; all but those of groups are the same for every number of seats
-abbrev pub judge : ℕ → ℕ → Judgement → Late → Late
-judge e k (state v p) x = blamed (broken 0 k (state v p)) (placeOf e p) x
-judge e k (word due was p) x = blamed (broken 0 k (word due was p)) (placeOf e p) x
-judge e k (oneGroup g) x = grouped (wantOf (g .literals)) (placeOf e (g .place)) x
-judge e k (weight w p) x = blamed (broken 0 k (weight w p)) (placeOf e p) x
-judge e k (sum ws p) x = blamed (broken 0 k (sum ws p)) (placeOf e p) x
+abbrev pub judge : ℕ → Judgement → Late → Late
+judge e (state most v p) x = blamed (broken 0 (state most v p)) (placeOf e p) x
+judge e (word due was p) x = blamed (broken 0 (word due was p)) (placeOf e p) x
+judge e (oneGroup g) x = grouped (wantOf (g .literals)) (placeOf e (g .place)) x
+judge e (weight w p) x = blamed (broken 0 (weight w p)) (placeOf e p) x
+judge e (sum ws p) x = blamed (broken 0 (sum ws p)) (placeOf e p) x
 
-unfoldable pub judgeAll : ℕ → ℕ → List Judgement → Late → Late
-judgeAll e k [] x = x
-judgeAll e k (j ∷ js) x = judgeAll e k js (judge e k j x)
+unfoldable pub judgeAll : ℕ → List Judgement → Late → Late
+judgeAll e [] x = x
+judgeAll e (j ∷ js) x = judgeAll e js (judge e j x)

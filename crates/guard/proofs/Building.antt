@@ -106,8 +106,8 @@ module _ (s : List ℕ) (k : ℕ) (was mid : List ℕ) (used : ℕ) (before : La
   }
 
   module _ (now : List ℕ) (h : After) (f i : Formula Literals) (b c : State) (d : Read s k was mid used before f b g) (n : Read s k mid now (freeIn (g .state)) (lateIn (g .state)) i c h) where
-    both-late : judgeAll (length s) k (judgedGuard i) (lateIn (g .state)) ≡ judgeAll (length s) k (judgedGuard f ++ judgedGuard i) before
-    both-late = ap (judgeAll (length s) k (judgedGuard i)) (d .late) ∙ sym (judge-append (length s) k (judgedGuard f) (judgedGuard i) before)
+    both-late : judgeAll (length s) (judgedGuard k i) (lateIn (g .state)) ≡ judgeAll (length s) (judgedGuard k f ++ judgedGuard k i) before
+    both-late = ap (judgeAll (length s) (judgedGuard k i)) (d .late) ∙ sym (judge-append (length s) (judgedGuard k f) (judgedGuard k i) before)
 
     both-by : freeIn (h .state) ≡ used + size (guardBy f) + size (guardBy i)
     both-by = omega (arith, next-by used (freeIn (g .state)) f (d .free), next-by (freeIn (g .state)) (freeIn (h .state)) i (n .free))
@@ -126,7 +126,7 @@ module _ (s : List ℕ) (k : ℕ) (was mid : List ℕ) (used : ℕ) (before : La
         ∙ ap (λ r. packNode op r (freeIn (h .state) - 1)) (root-by used (freeIn (g .state)) f (d .free))
         ∙ ap (packNode op (used + below (guardBy f))) (root-by (freeIn (g .state)) (freeIn (h .state)) i (n .free) ∙ ap (λ at. at + below (guardBy i)) (next-by used (freeIn (g .state)) f (d .free)))
 
-    grows : (j : Formula Literals) (v : ℕ) → size j ≡ suc (size f + size i) → judgedGuard j ≡ judgedGuard f ++ judgedGuard i
+    grows : (j : Formula Literals) (v : ℕ) → size j ≡ suc (size f + size i) → judgedGuard k j ≡ judgedGuard k f ++ judgedGuard k i
         → set now (freeIn (h .state)) v ≡ stored was used (cells (guardBy j) used)
         → Read s k was (set now (freeIn (h .state)) v) used before j c (after (grown (h .state)) (h .next))
     grows j v e judged nodes = record {
@@ -134,7 +134,7 @@ module _ (s : List ℕ) (k : ℕ) (was mid : List ℕ) (used : ℕ) (before : La
       rest = n .rest;
       free = free-set (h .state) (n .sized) (freeIn (h .state) + 1) ∙ omega (arith, d .free, n .free, e);
       left = left-free (h .state) (freeIn (h .state) + 1) ∙ n .left;
-      late = late-set (h .state) atFree (freeIn (h .state) + 1) (omega arith) ∙ n .late ∙ both-late ∙ ap (λ js. judgeAll (length s) k js before) (sym judged);
+      late = late-set (h .state) atFree (freeIn (h .state) + 1) (omega arith) ∙ n .late ∙ both-late ∙ ap (λ js. judgeAll (length s) js before) (sym judged);
       nodes = nodes;
       sized = set-sized (h .state) (n .sized) atFree (freeIn (h .state) + 1);
     }

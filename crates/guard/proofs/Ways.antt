@@ -105,10 +105,10 @@ spent p ms (suc left) f h = ap (λ n. f (at ms n)) (sym (sub-one (suc left)))
 pub none-left : {A : Type 0} (p ms : Place) (left : ℕ) (f : Reader A) → left ≡ 0 → bind (spend p ms left) (λ _. f) ≡ stop pastLimit p
 none-left p ms left f h = rw h
 
-judged-group : (e k : ℕ) (a : Literals) (d : ℕ) (m : Place) (before : Late) → firstState (a .literals) ≡ state d m ∷ []
-    → judgeAll e k (judgedGroup a) before ≡ blamed (unless (leb d k) aboveTop) (placeOf e m) (groupedLate (wantOf (a .literals)) (placeOf e (a .place)) before)
+judged-group : (e k : ℕ) (a : Literals) (d : ℕ) (m : Place) (before : Late) → firstState k (a .literals) ≡ state k d m ∷ []
+    → judgeAll e (judgedGroup k a) before ≡ blamed (unless (leb d k) aboveTop) (placeOf e m) (groupedLate (wantOf (a .literals)) (placeOf e (a .place)) before)
 unfolding judgeAll
-judged-group e k a d m before h = ap (λ js. judgeAll e k (oneGroup a ∷ js) before) h
+judged-group e k a d m before h = ap (λ js. judgeAll e (oneGroup a ∷ js) before) h
 
 same-late : (d k i j m n p r : ℕ) (before : Late) → i ≡ j → m ≡ n → p ≡ r
     → blamed (unless (leb d k) aboveTop) i (groupedLate m p before) ≡ blamed (unless (leb d k) aboveTop) j (groupedLate n r before)
@@ -196,7 +196,7 @@ module _ (part : List ℕ) (from v q p k : ℕ) (was : List ℕ) (state : List �
               judged .late
               ∙ same-late (g .d) k (q + g .first) (placeOf (length s) (h .numeral)) (g .want) (wantOf (a .literals)) p (placeOf (length s) (a .place)) (lateIn state)
               (sym (card-place s (h .numeral) (g .first) l e (h .first))) (h .want) (sym place ∙ ap (placeOf (length s)) (sym (h .bracket)))
-              ∙ sym (judged-group (length s) k a (g .d) (h .numeral) (lateIn state) (h .states));
+              ∙ sym (judged-group (length s) k a (g .d) (h .numeral) (lateIn state) (h .states k));
           nodes = ap (set was (freeIn state)) (h .node) ∙ sym (stored-leaf was (freeIn state) (groupBy (a .sign) (a .literals)));
           sized = judged .sized;
         }

@@ -29,7 +29,7 @@ pub record Read (s : List ℕ) (k : ℕ) (was is : List ℕ) (used : ℕ) (befor
   pub rest : marksAt 0 s (r .next) ≡ behind .marks
   pub free : freeIn (r .state) ≡ used + size g
   pub left : leftIn (r .state) ≡ behind .nodes
-  pub late : lateIn (r .state) ≡ judgeAll (length s) k (judgedGuard g) before
+  pub late : lateIn (r .state) ≡ judgeAll (length s) (judgedGuard k g) before
   pub nodes : is ≡ stored was used (cells (guardBy g) used)
   pub sized : Sized (r .state)
 

@@ -132,20 +132,20 @@ nothing : {B : Type 0} {a : ℕ} {l : List ℕ} → [] ≡ a ∷ l → B
 nothing e = let z : _≡_ {A = ℕ} 0 1 = cc in absurd (omega arith)
 
 -- what is left of a run, whose kinds and numbers these are: an answer to it, from a cursor on, answers the whole
-pub record Left (s : List ℕ) (k n next : ℕ) (late : Late) (kinds dues : List ℕ) (whole : After → Type 0) : Type 0 where
+pub record Left (s : List ℕ) (n next : ℕ) (late : Late) (kinds dues : List ℕ) (whole : After → Type 0) : Type 0 where
   pub rest : List Due
   pub sure : Sure rest
   pub kinds-left : kinds ≡ kindsIn rest
   pub dues-left : dues ≡ numbersIn rest
-  pub answered : (r : After) → LineRead s k late (duesIn rest) (line (itemsIn rest) (from s next n)) r → whole r
+  pub answered : (r : After) → LineRead s late (duesIn rest) (line (itemsIn rest) (from s next n)) r → whole r
 
-module _ (s : List ℕ) (k n i : ℕ) (late : Late) where
+module _ (s : List ℕ) (n i : ℕ) (late : Late) where
   -- nothing is left
-  pub run-end : (whole : After → Type 0) (dues : List ℕ) → Left s k n i late [] dues whole → (i ≡ 0 → ⊥) → (state : List ℕ) → lateIn state ≡ late → whole (after state i)
+  pub run-end : (whole : After → Type 0) (dues : List ℕ) → Left s n i late [] dues whole → (i ≡ 0 → ⊥) → (state : List ℕ) → lateIn state ≡ late → whole (after state i)
   unfolding judgeAll
   run-end whole dues l there state kept = go (l .rest) (l .kinds-left) (l .answered)
     where
-      go : (run : List Due) → [] ≡ kindsIn run → ((r : After) → LineRead s k late (duesIn run) (line (itemsIn run) (from s i n)) r → whole r) → whole (after state i)
+      go : (run : List Due) → [] ≡ kindsIn run → ((r : After) → LineRead s late (duesIn run) (line (itemsIn run) (from s i n)) r → whole r) → whole (after state i)
       go [] e f = f _ (record { went = there; rest = refl; told = kept })
       go (sign t ∷ run) e f = nothing e
       go (seat j ∷ run) e f = nothing e
@@ -154,23 +154,23 @@ module _ (s : List ℕ) (k n i : ℕ) (late : Late) where
   module _ (x : Step) (v : Next s i x) where
     -- a word: its number is judged
     worded : (f : Mark → Option ℕ) (w : ℕ) → Shown f (valueBy w) → x .mark .kind ≡ w → (due : ℕ) (run : List Due) (r : After)
-        → LineRead s k (wordBy due (x .mark .value) (x .mark .place) late) (duesIn run) (line (itemsIn run) (from s (x .next .at) n)) r
-        → LineRead s k late (due ∷ duesIn run) (bind (numbered f (from s i n)) (λ w. keep w (line (itemsIn run)))) r
+        → LineRead s (wordBy due (x .mark .value) (x .mark .place) late) (duesIn run) (line (itemsIn run) (from s (x .next .at) n)) r
+        → LineRead s late (due ∷ duesIn run) (bind (numbered f (from s i n)) (λ w. keep w (line (itemsIn run)))) r
     unfolding judgeAll
     worded f w h e due run r y =
         rw (assoc (the f (from s i n)) _ (λ w. keep w (line (itemsIn run))))
         (fits s _ f (valueBy w) h i x v n (x .mark .value) (rw (eq-eqb _ _ e)) _ r
         (made s _ _ (line (itemsIn run) (from s (x .next .at) n)) _ r y
-        (λ ws g. g ∙ ap (λ (p : ℕ). judgeAll (length s) k (judgedWords (duesIn run) ws) (wordBy due (x .mark .value) p late)) (place-seen s i x v))))
+        (λ ws g. g ∙ ap (λ (p : ℕ). judgeAll (length s) (judgedWords (duesIn run) ws) (wordBy due (x .mark .value) p late)) (place-seen s i x v))))
 
     -- one mark of it
-    pub run-more : (whole : After → Type 0) (w : ℕ) (kinds : List ℕ) (due : ℕ) (dues : List ℕ) → Left s k n i late (w ∷ kinds) (due ∷ dues) whole → x .mark .kind ≡ w
-        → Left s k n (x .next .at) (wordBy due (x .mark .value) (x .mark .place) late) kinds dues whole
+    pub run-more : (whole : After → Type 0) (w : ℕ) (kinds : List ℕ) (due : ℕ) (dues : List ℕ) → Left s n i late (w ∷ kinds) (due ∷ dues) whole → x .mark .kind ≡ w
+        → Left s n (x .next .at) (wordBy due (x .mark .value) (x .mark .place) late) kinds dues whole
     run-more whole w kinds due dues l e = go (l .rest) (l .sure) (l .kinds-left) (l .dues-left) (l .answered)
       where
         go : (run : List Due) → Sure run → w ∷ kinds ≡ kindsIn run → due ∷ dues ≡ numbersIn run
-            → ((r : After) → LineRead s k late (duesIn run) (line (itemsIn run) (from s i n)) r → whole r)
-            → Left s k n (x .next .at) (wordBy due (x .mark .value) (x .mark .place) late) kinds dues whole
+            → ((r : After) → LineRead s late (duesIn run) (line (itemsIn run) (from s i n)) r → whole r)
+            → Left s n (x .next .at) (wordBy due (x .mark .value) (x .mark .place) late) kinds dues whole
         go [] h a b f = nothing (sym a)
         go (sign t ∷ run) h a b f =
             let z : x .mark .kind ≡ kind t = e ∙ cc in
@@ -193,7 +193,7 @@ module _ (s : List ℕ) (k n i : ℕ) (late : Late) where
             record { rest = run; sure = h; kinds-left = cc; dues-left = cc; answered = λ r g. f r (worded processOf kProcess process-shown z j run r (rw d at g)) }
 
     -- there is a place behind it
-    pub run-there : {whole : After → Type 0} (w : ℕ) (kinds dues : List ℕ) → Left s k n i late (w ∷ kinds) dues whole → x .mark .kind ≡ w → x .next .at ≡ 0 → ⊥
+    pub run-there : {whole : After → Type 0} (w : ℕ) (kinds dues : List ℕ) → Left s n i late (w ∷ kinds) dues whole → x .mark .kind ≡ w → x .next .at ≡ 0 → ⊥
     run-there w kinds dues l e = go (l .rest) (l .sure) (l .kinds-left)
       where
         word : (j : ℕ) → kEnd < j → w ≡ j → x .next .at ≡ 0 → ⊥
@@ -206,18 +206,18 @@ module _ (s : List ℕ) (k n i : ℕ) (late : Late) where
         go (process j ∷ run) h a = word kProcess (omega arith) cc
 
     -- a mark that does not fit
-    pub run-stops : (whole : After → Type 0) (w : ℕ) (kinds : List ℕ) (dues : List ℕ) → Left s k n i late (w ∷ kinds) dues whole → (x .mark .kind ≡ w → ⊥)
+    pub run-stops : (whole : After → Type 0) (w : ℕ) (kinds : List ℕ) (dues : List ℕ) → Left s n i late (w ∷ kinds) dues whole → (x .mark .kind ≡ w → ⊥)
         → (r : After) → Halted outOfShape (x .mark .place) r → whole r
     run-stops whole w kinds dues l e out stop-at = go (l .rest) (l .sure) (l .kinds-left) (l .answered)
       where
         missed : (f : Mark → Option ℕ) (d : ℕ) → Shown f (valueBy d) → w ≡ d → (due : ℕ) (run : List Due)
-            → LineRead s k late (due ∷ duesIn run) (bind (numbered f (from s i n)) (λ w. keep w (line (itemsIn run)))) out
+            → LineRead s late (due ∷ duesIn run) (bind (numbered f (from s i n)) (λ w. keep w (line (itemsIn run)))) out
         missed f d h z due run =
             rw (assoc (the f (from s i n)) _ (λ w. keep w (line (itemsIn run))))
             (misses s _ f (valueBy d) h i x v n (rw (ne-eqb (x .mark .kind) d (λ y. e (y ∙ sym z)))) _ out stop-at)
 
         go : (run : List Due) → Sure run → w ∷ kinds ≡ kindsIn run
-            → ((r : After) → LineRead s k late (duesIn run) (line (itemsIn run) (from s i n)) r → whole r) → whole out
+            → ((r : After) → LineRead s late (duesIn run) (line (itemsIn run) (from s i n)) r → whole r) → whole out
         go [] h a f = nothing (sym a)
         go (sign t ∷ run) h a f =
             let z : w ≡ kind t = cc in
@@ -228,21 +228,21 @@ module _ (s : List ℕ) (k n i : ℕ) (late : Late) where
 -- ---- the same at an index of the tables
 
 -- what is left from the j-th mark on; once there was a mark, there is a place behind it
-pub record Onward (s : List ℕ) (k n i : ℕ) (kinds dues : List ℕ) (j next : ℕ) (late : Late) (whole : After → Type 0) : Type 0 where
-  pub left : Left s k n next late (drop j kinds) (drop j dues) whole
+pub record Onward (s : List ℕ) (n i : ℕ) (kinds dues : List ℕ) (j next : ℕ) (late : Late) (whole : After → Type 0) : Type 0 where
+  pub left : Left s n next late (drop j kinds) (drop j dues) whole
   pub there : 0 < j → next ≡ 0 → ⊥
 
 pub record Going (s : List ℕ) (i : ℕ) (kinds dues : List ℕ) (before : Late) (j next : ℕ) (state : List ℕ) : Type 0 where
   pub few : j ≤ length kinds
   pub sized : Sized state
-  pub onward : (run : List Due) → Sure run → kinds ≡ kindsIn run → dues ≡ numbersIn run → (k n : ℕ)
-      → Onward s k n i kinds dues j next (lateIn state) (LineRead s k before (duesIn run) (line (itemsIn run) (from s i n)))
+  pub onward : (run : List Due) → Sure run → kinds ≡ kindsIn run → dues ≡ numbersIn run → (n : ℕ)
+      → Onward s n i kinds dues j next (lateIn state) (LineRead s before (duesIn run) (line (itemsIn run) (from s i n)))
 
 pub going-start : {s : List ℕ} {i : ℕ} {kinds dues : List ℕ} (state : List ℕ) → Sized state → Going s i kinds dues (lateIn state) 0 i state
 going-start state sized = record {
   few = omega arith;
   sized = sized;
-  onward = λ run h e f k n. record {
+  onward = λ run h e f n. record {
     left = record { rest = run; sure = h; kinds-left = e; dues-left = f; answered = λ r y. y };
     there = λ h z. omega arith;
   };
@@ -251,17 +251,17 @@ going-start state sized = record {
 module _ {s : List ℕ} {i : ℕ} {kinds dues : List ℕ} {before : Late} {j next : ℕ} {state : List ℕ} (g : Going s i kinds dues before j next state) where
   pub going-end : 0 < length kinds → length kinds ≤ j → RunFrom s i kinds dues before (after state next)
   going-end any h = record {
-    answers = λ run y e f k n.
-        let o = g .onward run y e f k n in
-        run-end s k n next (lateIn state) _ (drop j dues) (rw (drop-of-length-le kinds h) at (o .left)) (o .there (omega arith)) state refl;
+    answers = λ run y e f n.
+        let o = g .onward run y e f n in
+        run-end s n next (lateIn state) _ (drop j dues) (rw (drop-of-length-le kinds h) at (o .left)) (o .there (omega arith)) state refl;
     sized = g .sized;
   }
 
   module _ (h : j < length kinds) {x : Step} (v : Next s next x) where
     pub going-stops : {r : After} → (x .mark .kind ≡ getD kinds j 0 → ⊥) → Halted outOfShape (x .mark .place) r → RunFrom s i kinds dues before r
     going-stops {r} d y = record {
-      answers = λ run z e f k n.
-          run-stops s k n next (lateIn state) x v _ (getD kinds j 0) (drop (suc j) kinds) (drop j dues) (rw (drop-cons kinds j 0 h) at (g .onward run z e f k n .left)) d r y;
+      answers = λ run z e f n.
+          run-stops s n next (lateIn state) x v _ (getD kinds j 0) (drop (suc j) kinds) (drop j dues) (rw (drop-cons kinds j 0 h) at (g .onward run z e f n .left)) d r y;
       sized = y .sized;
     }
 
@@ -270,11 +270,11 @@ module _ {s : List ℕ} {i : ℕ} {kinds dues : List ℕ} {before : Late} {j nex
     going-more {now} l d e = record {
       few = omega arith;
       sized = ap length e ∙ late-sized state (g .sized) (wordBy (getD dues j 0) (x .mark .value) (x .mark .place) (lateIn state));
-      onward = λ run z a b k n.
-          let o = rw (drop-cons kinds j 0 h, drop-cons dues j 0 l) at (g .onward run z a b k n .left) in
+      onward = λ run z a b n.
+          let o = rw (drop-cons kinds j 0 h, drop-cons dues j 0 l) at (g .onward run z a b n .left) in
           rw (add-one j, ap lateIn e)
           (record {
-            left = run-more s k n next (lateIn state) x v _ (getD kinds j 0) (drop (suc j) kinds) (getD dues j 0) (drop (suc j) dues) o d;
-            there = λ y. run-there s k n next (lateIn state) x v (getD kinds j 0) (drop (suc j) kinds) (getD dues j 0 ∷ drop (suc j) dues) o d;
+            left = run-more s n next (lateIn state) x v _ (getD kinds j 0) (drop (suc j) kinds) (getD dues j 0) (drop (suc j) dues) o d;
+            there = λ y. run-there s n next (lateIn state) x v (getD kinds j 0) (drop (suc j) kinds) (getD dues j 0 ∷ drop (suc j) dues) o d;
           });
     }

@@ -32,14 +32,14 @@ Answers s so (stop n p) r = Halted n (placeOf (length s) p) r
 
 -- ---- a part with a number
 
--- what is judged in a part, with the top state k
-abbrev pub Kept : List ℕ → ℕ → Late → List Judgement → List ℕ → Type 0
-Kept s k before js state = lateIn state ≡ judgeAll (length s) k js before
+-- what is judged in a part
+abbrev pub Kept : List ℕ → Late → List Judgement → List ℕ → Type 0
+Kept s before js state = lateIn state ≡ judgeAll (length s) js before
 
 -- its number too
-pub record Went (s : List ℕ) (k : ℕ) (before : Late) (v : ℕ) (js : List Judgement) (state : List ℕ) : Type 0 where
+pub record Went (s : List ℕ) (before : Late) (v : ℕ) (js : List Judgement) (state : List ℕ) : Type 0 where
   pub value : valueIn state ≡ v
-  pub late : Kept s k before js state
+  pub late : Kept s before js state
 
 -- a state above k, and a word's number that is not due, are late refusals
 abbrev pub stateBy : ℕ → ℕ → ℕ → Late → Late
@@ -49,7 +49,7 @@ abbrev pub wordBy : ℕ → ℕ → ℕ → Late → Late
 wordBy due v p late = blamed (unless (eqb v due) notDue) p late
 
 abbrev pub NumberRead : List ℕ → ℕ → Late → Result Numbered → After → Type 0
-NumberRead s k before = Answers s (λ x. Went s k before (x .value) (judgedState x ∷ []))
+NumberRead s k before = Answers s (λ x. Went s before (x .value) (judgedState k x ∷ []))
 
 -- from place i of the card on, however many guard nodes are left; the state keeps its places
 pub record NumberFrom (s : List ℕ) (i k : ℕ) (before : Late) (r : After) : Type 0 where
@@ -109,10 +109,10 @@ Sure (sign t ∷ run) = Told t × Sure run
 Sure (seat i ∷ run) = Sure run
 Sure (process i ∷ run) = Sure run
 
-abbrev pub LineRead : List ℕ → ℕ → Late → List ℕ → Result (List Numbered) → After → Type 0
-LineRead s k before dues = Answers s (λ ws. Kept s k before (judgedWords dues ws))
+abbrev pub LineRead : List ℕ → Late → List ℕ → Result (List Numbered) → After → Type 0
+LineRead s before dues = Answers s (λ ws. Kept s before (judgedWords dues ws))
 
 pub record RunFrom (s : List ℕ) (i : ℕ) (kinds dues : List ℕ) (late : Late) (r : After) : Type 0 where
   pub answers : (run : List Due) → Sure run → kinds ≡ kindsIn run → dues ≡ numbersIn run
-      → (k n : ℕ) → LineRead s k late (duesIn run) (line (itemsIn run) (from s i n)) r
+      → (n : ℕ) → LineRead s late (duesIn run) (line (itemsIn run) (from s i n)) r
   pub sized : Sized (r .state)

@@ -40,7 +40,7 @@ filled (processWord ∷ items) (due ∷ dues) = process due ∷ filled items due
 
 module _ (n k : ℕ) where
   abbrev Holds : List Judgement → Type 0
-  Holds = Every (Kept n k)
+  Holds = Every (Kept n)
 
   line-marks : {items : List Item} {ms r : Place} {ws : List Numbered} → LineSaid items ms ws r → (dues : List ℕ) → Holds (judgedWords dues ws)
       → marks ms ≡ filled items dues ++ marks r
@@ -69,13 +69,13 @@ module _ (n k : ℕ) where
   abbrev behindWeight : ℕ → List Mark
   behindWeight t = sign ":" ∷ sign "(" ∷ seat 1 ∷ sign "'" ∷ sign "=" ∷ number t ∷ sign ")" ∷ []
 
-  branch-marks : (ms r : Place) (x : BranchShape) → BranchSaid ms x r → Holds (judgedBranch x) → Front BranchMarks (branchIn x) ms r
+  branch-marks : (ms r : Place) (x : BranchShape) → BranchSaid ms x r → Holds (judgedBranch k x) → Front BranchMarks (branchIn x) ms r
   branch-marks ms r x (said-branch {t} {w = w} {ws} d l) h =
       let (u, worth) = h .0 in
-      let (due, end) = every-append (Kept n k) (judgedWords (1 ∷ []) ws) _ (h .1) in
+      let (due, end) = every-append (Kept n) (judgedWords (1 ∷ []) ws) _ (h .1) in
       (weightMarks w ++ behindWeight t, rw (units-in w u worth) (branch w worth), weight-marks d ∙ ap (λ (y : List Mark). weightMarks w ++ y) (line-marks l (1 ∷ []) due) ∙ sym (append-assoc (weightMarks w) (behindWeight t) (marks r)))
 
-  plus-marks : (ms r : Place) (x : BranchShape) → PlusSaid ms x r → Holds (judgedBranch x) → Front PlusMarks (branchIn x) ms r
+  plus-marks : (ms r : Place) (x : BranchShape) → PlusSaid ms x r → Holds (judgedBranch k x) → Front PlusMarks (branchIn x) ms r
   plus-marks ms r x (said-plus {ms = ns} d) h =
       let (front, b, e) = branch-marks ns r x d h in
       (sign "+" ∷ front, plus b, ap (λ (y : List Mark). sign "+" ∷ y) e)
@@ -87,7 +87,7 @@ module _ (n k : ℕ) where
       → {ms r : Place} {xs : List S} → ManySaid Each ms xs r → Holds (judgedEach judged xs) → Front (Repeated One) (map to xs) ms r
   many-marks judged to One each said-done h = ([], done, refl)
   many-marks judged to One each (said-again {ms} {ns} {r} {x} {xs} d ds) h =
-      let (a, b) = every-append (Kept n k) (judged x) (judgedEach judged xs) h in
+      let (a, b) = every-append (Kept n) (judged x) (judgedEach judged xs) h in
       let (front, o, e) = each ms ns x d a in
       let (rest, os, es) = many-marks judged to One each ds b in
       (front ++ rest, again o os, e ∙ ap (λ (y : List Mark). front ++ y) es ∙ sym (append-assoc front rest (marks r)))
@@ -101,7 +101,7 @@ module _ (n k : ℕ) where
   rest-marks : (ms r : Place) (g : Option (Formula Literals)) → RestSaid ms g r → Front GuardMarks (guardOr n g) ms r
   rest-marks ms r none no-guard = ([], nothing, refl)
   rest-marks ms r (some g) (a-guard {ms = ns} u) =
-      let (v, e) = along-whole strictly placeIn ns r (judgedGuard g) (guard-along u) in
+      let (v, e) = along-whole strictly placeIn ns r (judgedGuard k g) (guard-along k u) in
       (sign "&" ∷ marks v, guarded, ap (λ (y : List Mark). sign "&" ∷ y) (ap marks e ∙ append-marks v r))
 
   -- [] s1=j
@@ -111,15 +111,15 @@ module _ (n k : ℕ) where
   ends : (gs bs ps rest : List Mark) → (gs ++ (sign "->" ∷ (bs ++ (ps ++ (sign ";" ∷ []))))) ++ rest ≡ gs ++ (sign "->" ∷ (bs ++ (ps ++ (sign ";" ∷ rest))))
   ends gs bs ps rest = rw (append-assoc gs (sign "->" ∷ (bs ++ (ps ++ (sign ";" ∷ [])))) rest, append-assoc bs (ps ++ (sign ";" ∷ [])) rest, append-assoc ps (sign ";" ∷ []) rest)
 
-  statement-marks : (ms r : Place) (x : StatementShape) → StatementSaid ms x r → Holds (judgedStatement x) → Front StatementMarks (statementIn n x) ms r
+  statement-marks : (ms r : Place) (x : StatementShape) → StatementSaid ms x r → Holds (judgedStatement k x) → Front StatementMarks (statementIn n x) ms r
   statement-marks ms r x (said-statement {j} {a} {b} {c} {ns = ns} {os} {qs} {ws = ws} {g} {x = y} {xs = ys} l u d ds) h =
-      let (due, h₁) = every-append (Kept n k) (judgedWords (1 ∷ []) ws) _ h in
-      let (_, h₂) = every-append (Kept n k) (judgedOr g) _ (h₁ .1) in
-      let (h₃, _) = every-append (Kept n k) (judgedEach judgedBranch (y ∷ ys)) _ h₂ in
-      let (h₄, h₅) = every-append (Kept n k) (judgedBranch y) (judgedEach judgedBranch ys) h₃ in
+      let (due, h₁) = every-append (Kept n) (judgedWords (1 ∷ []) ws) _ h in
+      let (_, h₂) = every-append (Kept n) (judgedOr k g) _ (h₁ .1) in
+      let (h₃, _) = every-append (Kept n) (judgedEach (judgedBranch k) (y ∷ ys)) _ h₂ in
+      let (h₄, h₅) = every-append (Kept n) (judgedBranch k y) (judgedEach (judgedBranch k) ys) h₃ in
       let (gs, guard, e₁) = rest-marks ns (signAt "->" b ∷ os) g u in
       let (bs, first, e₂) = branch-marks os qs y d h₄ in
-      let (ps, more, e₃) = many-marks judgedBranch branchIn PlusMarks plus-marks ds h₅ in (
+      let (ps, more, e₃) = many-marks (judgedBranch k) branchIn PlusMarks plus-marks ds h₅ in (
         begins j (gs ++ (sign "->" ∷ (bs ++ (ps ++ (sign ";" ∷ []))))),
         statement guard first more,
         line-marks l (1 ∷ []) due ∙ ap (begins j) (e₁ ∙ ap (λ (z : List Mark). gs ++ (sign "->" ∷ z)) (e₂ ∙ ap (λ (z : List Mark). bs ++ z) e₃) ∙ sym (ends gs bs ps (marks r))),
@@ -130,7 +130,7 @@ module _ (n k : ℕ) where
   modules-marks : (i : ℕ) {ms : Place} {ys : List (List Numbered)} → ManySaid (LineSaid moduleRun) ms ys [] → Holds (judgedModules i ys) → marks ms ≡ copies i (length ys)
   modules-marks i said-done h = refl
   modules-marks i (said-again {x = y} {xs = ys} d ds) h =
-      let (due, rest) = every-append (Kept n k) (judgedWords (moduleDues i) y) (judgedModules (suc i) ys) h in
+      let (due, rest) = every-append (Kept n) (judgedWords (moduleDues i) y) (judgedModules (suc i) ys) h in
       line-marks d (moduleDues i) due ∙ ap (λ (z : List Mark). copyMarks i ++ z) (modules-marks (suc i) ds rest)
 
 -- ---- the card
@@ -144,11 +144,11 @@ opens mode k l rest =
 card-marks : {ms : Place} {c : CardShape} → CardSaid ms c → Every (KeptOn c) (judgedCard c) → CardMarks (cardIn c) (marks ms)
 card-marks (said-card {mode} {k} {l} {i = i} {ms = ms} {ns} {os} {qs} {ws} {x} {xs} {ys} w s ss ts) h =
     let n = suc (length ys) in
-    let (due, h₁) = every-append (Kept n k) (judgedWords (1 ∷ 1 ∷ []) ws) _ h in
-    let (h₂, h₃) = every-append (Kept n k) (judgedEach judgedStatement (x ∷ xs)) (judgedModules 2 ys) (h₁ .1) in
-    let (h₄, h₅) = every-append (Kept n k) (judgedStatement x) (judgedEach judgedStatement xs) h₂ in
+    let (due, h₁) = every-append (Kept n) (judgedWords (1 ∷ 1 ∷ []) ws) _ h in
+    let (h₂, h₃) = every-append (Kept n) (judgedEach (judgedStatement k) (x ∷ xs)) (judgedModules 2 ys) (h₁ .1) in
+    let (h₄, h₅) = every-append (Kept n) (judgedStatement k x) (judgedEach (judgedStatement k) xs) h₂ in
     let (fs, first, e₁) = statement-marks n k ns os x s h₄ in
-    let (gs, more, e₂) = many-marks n k judgedStatement (statementIn n) StatementMarks (statement-marks n k) ss h₅ in
+    let (gs, more, e₂) = many-marks n k (judgedStatement k) (statementIn n) StatementMarks (statement-marks n k) ss h₅ in
     let e : marks (signAt (modeWord mode) 0 ∷ ms) ≡ opens mode k l (fs ++ (gs ++ (sign "endmodule" ∷ copies 2 (length ys)))) =
     ap (λ (z : List Mark). sign (modeWord mode) ∷ z) (line-marks n k w (1 ∷ 1 ∷ []) due)
     ∙ ap (opens mode k l) (e₁ ∙ ap (λ (z : List Mark). fs ++ z) (e₂ ∙ ap (λ (z : List Mark). gs ++ (sign "endmodule" ∷ z)) (modules-marks n k 2 ts h₃))) in

@@ -9,7 +9,7 @@ use Rattle.card.specs.Card.{Mode}
 use Rattle.card.specs.Valid.{ValidBranch, ValidCard}
 use Rattle.meaning.specs.CardA.{cardA}
 use Rattle.card.proofs.HeldIn.{lent-back}
-use Rattle.card.proofs.Laws.{units-worth, laid-back, laid-injective, laid-falls, valid-held}
+use Rattle.card.proofs.Laws.{units-worth, laid-back, laid-injective, laid-falls, valid-held, statements-long, nodes-long, branches-long, nodes-small, branches-small}
 use Rattle.card.specs.Refusals.{wrongWeight}
 use Rattle.card.specs.Weight.{cardRule, unitsOf}
 use Rattle.card.specs.Judged.{judgedOf, numberOf as weightNumber, unitsIn as weightUnits}
@@ -49,6 +49,9 @@ cards = record {
   weight-refused = λ w. no-units (unitsOf cardRule w) ↔∙ (λ h u k. h u (units-worth w u .1 k), λ h u e. h u (units-worth w u .0 e));
   card-a = λ mode. card-a-valid mode;
   weights = units-worth;
+  fits = λ c v.
+      let held = valid-held c v in
+      record { statements = statements-long c; nodes = nodes-long c held; branches = branches-long c held; node = nodes-small c held; branch = branches-small c v };
   comes-back = laid-back;
   once = laid-injective;
   lent-comes-back = λ c v. lent-back c (valid-held c v);

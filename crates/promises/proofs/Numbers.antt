@@ -32,12 +32,12 @@ some-unless : (b : Bool) (r : ℕ) → 1 ≤ r → SomeNumber (unless b r)
 some-unless true r h = tt
 some-unless false r h = h
 
-some-broken : (n k : ℕ) (j : Judgement) → SomeNumber (broken n k j)
-some-broken n k (state v p) = some-unless (leb v k) aboveTop (omega arith)
-some-broken n k (word due was p) = some-unless (eqb was due) notDue (omega arith)
-some-broken n k (oneGroup g) = some-unless (symmetric n (g .literals)) notDue (omega arith)
-some-broken n k (weight w p) = some-unless (isSome (unitsOf cardRule w)) wrongWeight (omega arith)
-some-broken n k (sum ws p) = some-unless (eqb (totalUnits ws) unit) wrongWeight (omega arith)
+some-broken : (n : ℕ) (j : Judgement) → SomeNumber (broken n j)
+some-broken n (state most v p) = some-unless (leb v most) aboveTop (omega arith)
+some-broken n (word due was p) = some-unless (eqb was due) notDue (omega arith)
+some-broken n (oneGroup g) = some-unless (symmetric n (g .literals)) notDue (omega arith)
+some-broken n (weight w p) = some-unless (isSome (unitsOf cardRule w)) wrongWeight (omega arith)
+some-broken n (sum ws p) = some-unless (eqb (totalUnits ws) unit) wrongWeight (omega arith)
 
 abbrev SomeVerdict : Verdict → Type 0
 SomeVerdict fine = Unit {0}
@@ -47,9 +47,9 @@ some-else : (o : Option ℕ) (p : Place) (v : Verdict) → SomeNumber o → Some
 some-else none p v h k = k
 some-else (some r) p v h k = h
 
-some-first : (n k : ℕ) (js : List Judgement) → SomeVerdict (firstBroken n k js)
-some-first n k [] = tt
-some-first n k (j ∷ js) = some-else (broken n k j) (placeIn j) (firstBroken n k js) (some-broken n k j) (some-first n k js)
+some-first : (n : ℕ) (js : List Judgement) → SomeVerdict (firstBroken n js)
+some-first n [] = tt
+some-first n (j ∷ js) = some-else (broken n j) (placeIn j) (firstBroken n js) (some-broken n j) (some-first n js)
 
 -- ---- reading
 
@@ -62,7 +62,7 @@ some-judged e c fine h = tt
 some-judged e c (wrong r p) h = h
 
 some-shaped : (e : ℕ) (ms : Place) (x : Result CardShape) → card (at ms zero) ≡ x → SomeOutcome (shaped e x)
-some-shaped e ms (ok c s) h = some-judged e (cardIn c) (firstBroken (seatsIn c) (c .k) (judgedCard c)) (some-first (seatsIn c) (c .k) (judgedCard c))
+some-shaped e ms (ok c s) h = some-judged e (cardIn c) (firstBroken (seatsIn c) (judgedCard c)) (some-first (seatsIn c) (judgedCard c))
 some-shaped e ms (stop r p) h = go (card-stops ms zero r p h .cause)
   where
     go : {pre : Place} → CardCause pre r p → 1 ≤ r

@@ -1,10 +1,10 @@
 -- What holds of weights and of cards in their struct ("Shape of a card", "What the box holds"). Assumes nothing.
-use Prim.Native.Nat.{ℕ, _+_, _*_, _<_}
+use Prim.Native.Nat.{ℕ, _+_, _*_, _^_, _<_}
 use mathlib.Core.Path.{_≡_}
 use mathlib.Core.Logic.{_↔_}
 use mathlib.Core.Option.{some}
 use lib.ListN.{length, getD}
-use Rattle.card.specs.Limits.{mostNodes}
+use Rattle.card.specs.Limits.{mostStatements, mostNodes, nodePlaces, branchPlaces}
 use Rattle.card.specs.Card.{Mode, Statement, Card}
 use Rattle.card.specs.Valid.{ValidCard}
 use Rattle.card.specs.Refusals.{wrongWeight}
@@ -13,6 +13,14 @@ use Rattle.card.specs.Judged.{judgedOf, numberOf as weightNumber, unitsIn as we
 use Rattle.card.specs.Lent.{headOf, lentOf, cardIn}
 use Rattle.meaning.specs.CardA.{cardA}
 use Rattle.card.specs.Laid.{opOf, leftOf, rightOf, opLeaf, guardSize, laid, cardOf}
+
+-- the struct's arrays can hold a card: they are as long as it lies there, and each of its numbers fits 32 bits
+pub record Fits (c : Card) : Type 0 where
+  pub statements : length (laid c .statements) ≡ mostStatements
+  pub nodes : length (laid c .nodes) ≡ nodePlaces
+  pub branches : length (laid c .branches) ≡ branchPlaces
+  pub node : (i : ℕ) → getD (laid c .nodes) i 0 < 2 ^ 32
+  pub branch : (i : ℕ) → getD (laid c .branches) i 0 < 2 ^ 32
 
 pub record Cards : Type 0 where
   -- there are valid cards: card A, in either mode
@@ -23,6 +31,8 @@ pub record Cards : Type 0 where
   -- what the weights' constructors answer, in document 01's numbers: 0 with the units, or 7
   pub weight-taken : (w : Weight) (u : ℕ) → ((weightNumber (judgedOf (unitsOf cardRule w)) ≡ 0) × (weightUnits (judgedOf (unitsOf cardRule w)) ≡ u)) ↔ Worth cardRule w u
   pub weight-refused : (w : Weight) → (weightNumber (judgedOf (unitsOf cardRule w)) ≡ wrongWeight) ↔ ((u : ℕ) → Worth cardRule w u → ⊥)
+  -- every valid card has its struct
+  pub fits : (c : Card) → ValidCard c → Fits c
   -- a card in its struct is the card, so two cards that lie there alike are the same
   pub comes-back : (c : Card) → ValidCard c → cardOf (laid c) ≡ c
   pub once : (c e : Card) → ValidCard c → ValidCard e → laid c ≡ laid e → c ≡ e

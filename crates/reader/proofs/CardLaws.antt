@@ -65,7 +65,7 @@ record Whole (s : List ℕ) (h l t : List ℕ) (was is : Lent) (c : CardShape) :
   seats : valueIn t ≡ seatsIn c
   top : getD h atTop 0 ≡ c .k
   start : getD h atStart 0 ≡ c .l .value
-  late : lateIn t ≡ judgeAll (length s) (c .k) (judgedCard c) noneYet
+  late : lateIn t ≡ judgeAll (length s) (judgedCard c) noneYet
   count : valueIn l ≡ length (c .statements)
   memory : is ≡ filled 0 (c .statements) was
 
@@ -75,21 +75,21 @@ unless-number : (b : Bool) (a r : ℕ) → (a ≡ 0 → ⊥) → unless b a ≡ 
 unless-number true a r f e z = none≢some e
 unless-number false a r f e z = let y : a ≡ r = cc in f (y ∙ z)
 
-some-number : (n k : ℕ) (j : Judgement) (r : ℕ) → broken n k j ≡ some r → r ≡ 0 → ⊥
-some-number n k (state v p) r = unless-number (leb v k) aboveTop r (λ e. omega arith)
-some-number n k (word due was p) r = unless-number (eqb was due) notDue r (λ e. omega arith)
-some-number n k (oneGroup g) r = unless-number (symmetric n (g .literals)) notDue r (λ e. omega arith)
-some-number n k (weight w p) r = unless-number (isSome (unitsOf cardRule w)) wrongWeight r (λ e. omega arith)
-some-number n k (sum ws p) r = unless-number (eqb (totalUnits ws) unit) wrongWeight r (λ e. omega arith)
+some-number : (n : ℕ) (j : Judgement) (r : ℕ) → broken n j ≡ some r → r ≡ 0 → ⊥
+some-number n (state most v p) r = unless-number (leb v most) aboveTop r (λ e. omega arith)
+some-number n (word due was p) r = unless-number (eqb was due) notDue r (λ e. omega arith)
+some-number n (oneGroup g) r = unless-number (symmetric n (g .literals)) notDue r (λ e. omega arith)
+some-number n (weight w p) r = unless-number (isSome (unitsOf cardRule w)) wrongWeight r (λ e. omega arith)
+some-number n (sum ws p) r = unless-number (eqb (totalUnits ws) unit) wrongWeight r (λ e. omega arith)
 
-no-number : (e n k : ℕ) (js : List Judgement) → verdict e (firstBroken n k js) .number ≡ 0 → firstBroken n k js ≡ fine
-no-number e n k [] h = refl
-no-number e n k (j ∷ js) h = go (broken n k j) refl h (no-number e n k js)
+no-number : (e n : ℕ) (js : List Judgement) → verdict e (firstBroken n js) .number ≡ 0 → firstBroken n js ≡ fine
+no-number e n [] h = refl
+no-number e n (j ∷ js) h = go (broken n j) refl h (no-number e n js)
   where
-    go : (o : Option ℕ) → broken n k j ≡ o → verdict e (orElse o (placeIn j) (firstBroken n k js)) .number ≡ 0
-        → (verdict e (firstBroken n k js) .number ≡ 0 → firstBroken n k js ≡ fine) → orElse o (placeIn j) (firstBroken n k js) ≡ fine
+    go : (o : Option ℕ) → broken n j ≡ o → verdict e (orElse o (placeIn j) (firstBroken n js)) .number ≡ 0
+        → (verdict e (firstBroken n js) .number ≡ 0 → firstBroken n js ≡ fine) → orElse o (placeIn j) (firstBroken n js) ≡ fine
     go none q h f = f h
-    go (some r) q h f = absurd (some-number n k j r q h)
+    go (some r) q h f = absurd (some-number n j r q h)
 
 -- ---- a stop anywhere is a stop of the whole card
 
@@ -127,24 +127,24 @@ module _ (s : List ℕ) (short : length s ≤ cardBytes) where
         modules-stop e = stopped-read (card (from s 0 0)) refl t
             (rw (card-parts (from s 0 0)) (onward s _ none-so (header (from s 0 0)) _ h a _ (hh .answers 0) ea λ x n f.
             onward s _ none-so (statements (mostStatements - 1) (from s a n)) _ l b _ (hl .answers n) eb λ xs m g.
-            halted s _ none-so (modules (from s b m)) _ t c (ht .answers 0 m) e))
+            halted s _ none-so (modules (from s b m)) _ t c (ht .answers m) e))
 
         module _ (ec : c ≡ 0 → ⊥) where
           shape-told : Answers s (λ x r. Whole s h l t was is x) (card (from s 0 0)) (after t c)
           unfolding judgeAll
           shape-told = rw (card-parts (from s 0 0)) (onward s _ _ (header (from s 0 0)) _ h a _ (hh .answers 0) ea λ x n f.
               onward s _ _ (statements (mostStatements - 1) (from s a n)) _ l b _ (hl .answers n) eb λ xs m g.
-              made s _ _ (modules (from s b m)) (shapeOf x xs) (after t c) (ht .answers (x .k) m) λ ms j. record {
+              made s _ _ (modules (from s b m)) (shapeOf x xs) (after t c) (ht .answers m) λ ms j. record {
                 mode = f .mode;
                 seats = j .value;
                 top = f .top;
                 start = f .start;
                 late = j .late
-                    ∙ ap (judgeAll (length s) (x .k) (judgedModules 2 ms))
-                    (g .went .late ∙ ap (λ (k : ℕ). judgeAll (length s) k (judgedEach judgedStatement xs) (lateIn h)) (f .top)
-                    ∙ ap (judgeAll (length s) (x .k) (judgedEach judgedStatement xs)) (f .late ∙ judge-append (length s) (x .k) (judgedWords (1 ∷ 1 ∷ []) (x .words)) (judgedState (x .l) ∷ []) noneYet))
-                    ∙ sym (judge-append (length s) (x .k) (judgedWords (1 ∷ 1 ∷ []) (x .words)) (judgedState (x .l) ∷ (judgedEach judgedStatement xs ++ judgedModules 2 ms)) noneYet
-                    ∙ judge-append (length s) (x .k) (judgedEach judgedStatement xs) (judgedModules 2 ms) _);
+                    ∙ ap (judgeAll (length s) (judgedModules 2 ms))
+                    (g .went .late ∙ ap (λ (k : ℕ). judgeAll (length s) (judgedEach (judgedStatement k) xs) (lateIn h)) (f .top)
+                    ∙ ap (judgeAll (length s) (judgedEach (judgedStatement (x .k)) xs)) (f .late ∙ judge-append (length s) (judgedWords (1 ∷ 1 ∷ []) (x .words)) (judgedState (x .k) (x .l) ∷ []) noneYet))
+                    ∙ sym (judge-append (length s) (judgedWords (1 ∷ 1 ∷ []) (x .words)) (judgedState (x .k) (x .l) ∷ (judgedEach (judgedStatement (x .k)) xs ++ judgedModules 2 ms)) noneYet
+                    ∙ judge-append (length s) (judgedEach (judgedStatement (x .k)) xs) (judgedModules 2 ms) _);
                 count = g .went .value;
                 memory = g .memory;
               })
@@ -158,12 +158,12 @@ module _ (s : List ℕ) (short : length s ≤ cardBytes) where
           module _ (z : List ℕ) (hz : refusalIn z ≡ settled (valueIn t) (lateIn t)) where
             -- what is settled is the first broken judgement, and reading hangs on it
             by-verdict : (x : CardShape) (b : State) → card (from s 0 0) ≡ ok x b → Whole s h l t was is x
-                → (refusalIn z ≡ verdict (length s) (firstBroken (seatsIn x) (x .k) (judgedCard x))) × (readOf s ≡ judged (length s) (cardIn x) (firstBroken (seatsIn x) (x .k) (judgedCard x)))
+                → (refusalIn z ≡ verdict (length s) (firstBroken (seatsIn x) (judgedCard x))) × (readOf s ≡ judged (length s) (cardIn x) (firstBroken (seatsIn x) (judgedCard x)))
             by-verdict x b e w =
                 let g = shape-of (marksAt 0 s 0) x b e in
                 let f = card-fair (g .0) (g .1) in (
-                  hz ∙ ap (settled (valueIn t)) (w .late) ∙ ap (λ (n : ℕ). settled n (judgeAll (length s) (x .k) (judgedCard x) noneYet)) (w .seats)
-                      ∙ settled-first (length s) (x .k) (seatsIn x) (omega arith) (omega (arith, f .modules)) (judgedCard x),
+                  hz ∙ ap (settled (valueIn t)) (w .late) ∙ ap (λ (n : ℕ). settled n (judgeAll (length s) (judgedCard x) noneYet)) (w .seats)
+                      ∙ settled-first (length s) (seatsIn x) (omega arith) (omega (arith, f .modules)) (judgedCard x),
                   read-shape s short x b e,
                 )
 
@@ -175,7 +175,7 @@ module _ (s : List ℕ) (short : length s ≤ cardBytes) where
                 by x (wrong r p) e = sym (ap (λ (y : Refusal). refused (y .number) (y .place)) e)
 
                 go : (x : CardShape) × (b : State) × (card (from s 0 0) ≡ ok x b) × Whole s h l t was is x → readOf s ≡ refused (getD z atStop 0) (getD z atStopPlace 0)
-                go (x, b, e, w) = let y = by-verdict x b e w in y .1 ∙ by x (firstBroken (seatsIn x) (x .k) (judgedCard x)) (y .0)
+                go (x, b, e, w) = let y = by-verdict x b e w in y .1 ∙ by x (firstBroken (seatsIn x) (judgedCard x)) (y .0)
 
             -- the card, its head, and the arrays that it lies in
             pub taken-read : getD z atStop 0 ≡ 0 → was ≡ noneLent
@@ -187,7 +187,7 @@ module _ (s : List ℕ) (short : length s ≤ cardBytes) where
                     × (record { mode = getD h atMode 0; seats = valueIn t; top = getD h atTop 0; start = getD h atStart 0; count = valueIn l } ≡ headOf c) × (is ≡ lentOf c)
                 go (x, b, e, w) =
                     let y = by-verdict x b e w in
-                    let v : firstBroken (seatsIn x) (x .k) (judgedCard x) ≡ fine = no-number (length s) (seatsIn x) (x .k) (judgedCard x) (sym (ap (λ (q : Refusal). q .number) (y .0)) ∙ f) in
+                    let v : firstBroken (seatsIn x) (judgedCard x) ≡ fine = no-number (length s) (seatsIn x) (judgedCard x) (sym (ap (λ (q : Refusal). q .number) (y .0)) ∙ f) in
                     let t : readOf s ≡ taken (cardIn x) = y .1 ∙ ap (judged (length s) (cardIn x)) v in
                     let count : valueIn l ≡ length (cardIn x .statements) = w .count ∙ sym (length-map (x .statements) (statementIn (seatsIn x))) in (
                       cardIn x,

@@ -65,11 +65,11 @@ record Fits (n : ℕ) (x : StatementShape) : Type 0 where
   branches : map packedIn (x .branches) ≡ map branchNumber (map branchIn (x .branches))
   few : Few (statementIn n x)
 
-abbrev inBranches : StatementShape → List Judgement
-inBranches x = judgedEach judgedBranch (x .branches) ++ (sum (map weightIn (x .branches)) (x .close) ∷ [])
+abbrev inBranches : ℕ → StatementShape → List Judgement
+inBranches k x = judgedEach (judgedBranch k) (x .branches) ++ (sum (map weightIn (x .branches)) (x .close) ∷ [])
 
 module _ (n k : ℕ) where
-  guard-fits : (g : Option (Formula Literals)) → firstBroken n k (judgedOr g) ≡ fine → guardOrBy g ≡ guardOr n g
+  guard-fits : (g : Option (Formula Literals)) → firstBroken n (judgedOr k g) ≡ fine → guardOrBy g ≡ guardOr n g
   guard-fits none h = refl
   guard-fits (some g) h = ap some (same-guard n k g h)
 
@@ -81,20 +81,20 @@ module _ (n k : ℕ) where
   few-nodes none h = omega arith
   few-nodes (some g) h = h .2
 
-  statement-fits : (x : StatementShape) → k ≤ topState → firstBroken n k (judgedStatement x) ≡ fine → ValidStatement n k (statementIn n x) → Fits n x
+  statement-fits : (x : StatementShape) → k ≤ topState → firstBroken n (judgedStatement k x) ≡ fine → ValidStatement n k (statementIn n x) → Fits n x
   statement-fits x t h v =
-      let own = fine-append n k (judgedWords (1 ∷ []) (x .words)) (judgedState (x .own) ∷ (judgedOr (x .guard) ++ inBranches x)) h .1 in
-      let guard = fine-append n k (judgedOr (x .guard)) (inBranches x) (fine-cons n k (judgedState (x .own)) (judgedOr (x .guard) ++ inBranches x) own .1) .0 in
+      let own = fine-append n (judgedWords (1 ∷ []) (x .words)) (judgedState k (x .own) ∷ (judgedOr k (x .guard) ++ inBranches k x)) h .1 in
+      let guard = fine-append n (judgedOr k (x .guard)) (inBranches k x) (fine-cons n (judgedState k (x .own)) (judgedOr k (x .guard) ++ inBranches k x) own .1) .0 in
       record {
         guard = guard-fits (x .guard) guard;
         branches = branches-fit (x .branches) t (v .branches);
         few = (few-nodes (guardOr n (x .guard)) (v .guard), v .some .1);
       }
 
-  all-fit : (xs : List StatementShape) → k ≤ topState → firstBroken n k (judgedEach judgedStatement xs) ≡ fine → Every (ValidStatement n k) (map (statementIn n) xs) → Every (Fits n) xs
+  all-fit : (xs : List StatementShape) → k ≤ topState → firstBroken n (judgedEach (judgedStatement k) xs) ≡ fine → Every (ValidStatement n k) (map (statementIn n) xs) → Every (Fits n) xs
   all-fit [] t h v = tt
   all-fit (x ∷ xs) t h v =
-      let both = fine-append n k (judgedStatement x) (judgedEach judgedStatement xs) h in
+      let both = fine-append n (judgedStatement k x) (judgedEach (judgedStatement k) xs) h in
       (statement-fits x t (both .0) (v .0), all-fit xs t (both .1) (v .1))
 
 -- ---- statement by statement
@@ -142,13 +142,13 @@ none-yet = refl
 
 -- ---- the card's arrays
 
-pub card-lent : (c : CardShape) → firstBroken (seatsIn c) (c .k) (judgedCard c) ≡ fine → ValidCard (cardIn c) → filled 0 (c .statements) noneLent ≡ lentOf (cardIn c)
+pub card-lent : (c : CardShape) → firstBroken (seatsIn c) (judgedCard c) ≡ fine → ValidCard (cardIn c) → filled 0 (c .statements) noneLent ≡ lentOf (cardIn c)
 unfolding laid
 card-lent c h v =
     let n = seatsIn c in
-    let body = judgedEach judgedStatement (c .statements) ++ judgedModules 2 (c .modules) in
-    let words = fine-append n (c .k) (judgedWords (1 ∷ 1 ∷ []) (c .words)) (judgedState (c .l) ∷ body) h .1 in
-    let each = fine-append n (c .k) (judgedEach judgedStatement (c .statements)) (judgedModules 2 (c .modules)) (fine-cons n (c .k) (judgedState (c .l)) body words .1) .0 in
+    let body = judgedEach (judgedStatement (c .k)) (c .statements) ++ judgedModules 2 (c .modules) in
+    let words = fine-append n (judgedWords (1 ∷ 1 ∷ []) (c .words)) (judgedState (c .k) (c .l) ∷ body) h .1 in
+    let each = fine-append n (judgedEach (judgedStatement (c .k)) (c .statements)) (judgedModules 2 (c .modules)) (fine-cons n (judgedState (c .k) (c .l)) body words .1) .0 in
     let fit = all-fit n (c .k) (c .statements) (v .top) each (v .statements) in
     let few : length (c .statements) ≤ mostStatements = rw (length-map (c .statements) (statementIn n)) at (v .some .1) in
     ap (filled 0 (c .statements)) none-yet ∙ all-filled n (c .statements) [] 0 refl tt fit (omega arith)

@@ -60,7 +60,7 @@ module _ (s : List ℕ) where
         let r : Reached s p = subst (λ (x : Result CardShape). Held (Reached s) (reached-next s) x) e held .0 in
         read-short ∙ ap (marked (length s) (marksAt 0 s 0)) (outside-behind s p r) ∙ by-search n p (firstOutside (marksAt 0 s (placeOf (length s) p))) e
 
-    pub read-shape : (c : CardShape) (b : State) → card (from s 0 0) ≡ ok c b → readOf s ≡ judged (length s) (cardIn c) (firstBroken (seatsIn c) (c .k) (judgedCard c))
+    pub read-shape : (c : CardShape) (b : State) → card (from s 0 0) ≡ ok c b → readOf s ≡ judged (length s) (cardIn c) (firstBroken (seatsIn c) (judgedCard c))
     read-shape c b e =
         let r : Reached s (b .marks) = subst (λ (x : Result CardShape). Held (Reached s) (reached-next s) x) e held in
         let o : firstOutside (marksAt 0 s 0) ≡ none = sym (r .2) ∙ ap firstOutside (shape-ends (from s 0 0) c b e) in

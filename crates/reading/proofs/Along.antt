@@ -110,42 +110,42 @@ line-along (aProcess {i} {p} {ms = ms} {r} {ws} d) (due ∷ dues) =
 
 -- ---- guards
 
-literal-along : {ms r : Place} {l : Literal} → LiteralSaid ms l r → Judging ms (state (l .d) (l .place) ∷ []) r
-literal-along (literal {i} {d} {a} {b} {c} {q} {r}) = (placed (seat i) a ∷ signAt (relation q) b ∷ [], placed (number d) c, r, refl, refl, along-none strictly placeIn r)
+literal-along : (most : ℕ) {ms r : Place} {l : Literal} → LiteralSaid ms l r → Judging ms (state most (l .d) (l .place) ∷ []) r
+literal-along most (literal {i} {d} {a} {b} {c} {q} {r}) = (placed (seat i) a ∷ signAt (relation q) b ∷ [], placed (number d) c, r, refl, refl, along-none strictly placeIn r)
 
 others-along : {s : Sign} {ms r : Place} {ls : List Literal} → OthersSaid s ms ls r → Judging ms [] r
 others-along (close {a} {r}) = along-behind strictly placeIn (signAt ")" a) r r [] (along-none strictly placeIn r)
 others-along {s} (next {a} {ms} {ns} {r} {l} d o) =
     along-behind strictly placeIn (signAt (joint s) a) ms r []
-    (along-then strictly placeIn ms ns r [] [] (along-whole strictly placeIn ms ns (state (l .d) (l .place) ∷ []) (literal-along d)) (others-along o))
+    (along-then strictly placeIn ms ns r [] [] (along-whole strictly placeIn ms ns (state 0 (l .d) (l .place) ∷ []) (literal-along 0 d)) (others-along o))
 
-pub group-along : {a : ℕ} {ms r : Place} {x : Literals} → GroupSaid (signAt "(" a ∷ ms) ms x r → Judging (signAt "(" a ∷ ms) (judgedGroup x) r
-group-along {a} (conjoined {ms} {ns} {r} {l} {ls} d o) =
-    along-at placeIn (signAt "(" a) ms r (oneGroup (literalsOf (signAt "(" a ∷ ms) all (l ∷ ls))) (state (l .d) (l .place) ∷ []) refl
-    (along-then strictly placeIn ms ns r (state (l .d) (l .place) ∷ []) [] (literal-along d) (others-along o))
-group-along {a} (disjoined {ms} {ns} {r} {l} {k} {ls} d o) =
-    along-at placeIn (signAt "(" a) ms r (oneGroup (literalsOf (signAt "(" a ∷ ms) any (l ∷ k ∷ ls))) (state (l .d) (l .place) ∷ []) refl
-    (along-then strictly placeIn ms ns r (state (l .d) (l .place) ∷ []) [] (literal-along d) (others-along o))
+pub group-along : (most : ℕ) {a : ℕ} {ms r : Place} {x : Literals} → GroupSaid (signAt "(" a ∷ ms) ms x r → Judging (signAt "(" a ∷ ms) (judgedGroup most x) r
+group-along most {a} (conjoined {ms} {ns} {r} {l} {ls} d o) =
+    along-at placeIn (signAt "(" a) ms r (oneGroup (literalsOf (signAt "(" a ∷ ms) all (l ∷ ls))) (state most (l .d) (l .place) ∷ []) refl
+    (along-then strictly placeIn ms ns r (state most (l .d) (l .place) ∷ []) [] (literal-along most d) (others-along o))
+group-along most {a} (disjoined {ms} {ns} {r} {l} {k} {ls} d o) =
+    along-at placeIn (signAt "(" a) ms r (oneGroup (literalsOf (signAt "(" a ∷ ms) any (l ∷ k ∷ ls))) (state most (l .d) (l .place) ∷ []) refl
+    (along-then strictly placeIn ms ns r (state most (l .d) (l .place) ∷ []) [] (literal-along most d) (others-along o))
 
-joined-along : (s : Sign) (ms r : Place) (g h : Formula Literals) → Judging ms (judgedGuard g ++ judgedGuard h) r → Judging ms (judgedGuard (joining s g h)) r
-joined-along all ms r g h k = k
-joined-along any ms r g h k = k
+joined-along : (most : ℕ) (s : Sign) (ms r : Place) (g h : Formula Literals) → Judging ms (judgedGuard most g ++ judgedGuard most h) r → Judging ms (judgedGuard most (joining s g h)) r
+joined-along most all ms r g h k = k
+joined-along most any ms r g h k = k
 
-pub guard-along : {v : Part} {ms r : Place} {g : Formula Literals} → GuardSaid GroupSaid v ms g r → Judging ms (judgedGuard g) r
-guard-along (grouped d) = group-along d
-guard-along (negated {a} {ms} {r} {g} u) = along-behind strictly placeIn (signAt "!" a) ms r (judgedGuard g) (guard-along u)
-guard-along (bracketed {a} {b} {ms} {r} {g} f u) =
-    along-behind strictly placeIn (signAt "(" a) ms r (judgedGuard g)
-    (along-before strictly placeIn ms (signAt ")" b ∷ r) r (judgedGuard g) (guard-along u) (signAt ")" b ∷ []) refl)
-guard-along (single u) = guard-along u
-guard-along (further {s} {a} {ms} {ns} {r} {g} {h} us u) =
-    joined-along s ms r g h
-    (along-then strictly placeIn ms (signAt (joint s) a ∷ ns) r (judgedGuard g) (judgedGuard h) (guard-along us)
-    (along-behind strictly placeIn (signAt (joint s) a) ns r (judgedGuard h) (guard-along u)))
+pub guard-along : (most : ℕ) {v : Part} {ms r : Place} {g : Formula Literals} → GuardSaid GroupSaid v ms g r → Judging ms (judgedGuard most g) r
+guard-along most (grouped d) = group-along most d
+guard-along most (negated {a} {ms} {r} {g} u) = along-behind strictly placeIn (signAt "!" a) ms r (judgedGuard most g) (guard-along most u)
+guard-along most (bracketed {a} {b} {ms} {r} {g} f u) =
+    along-behind strictly placeIn (signAt "(" a) ms r (judgedGuard most g)
+    (along-before strictly placeIn ms (signAt ")" b ∷ r) r (judgedGuard most g) (guard-along most u) (signAt ")" b ∷ []) refl)
+guard-along most (single u) = guard-along most u
+guard-along most (further {s} {a} {ms} {ns} {r} {g} {h} us u) =
+    joined-along most s ms r g h
+    (along-then strictly placeIn ms (signAt (joint s) a ∷ ns) r (judgedGuard most g) (judgedGuard most h) (guard-along most us)
+    (along-behind strictly placeIn (signAt (joint s) a) ns r (judgedGuard most h) (guard-along most u)))
 
-rest-along : {ms r : Place} {g : Option (Formula Literals)} → RestSaid ms g r → Judging ms (judgedOr g) r
-rest-along (nothing {r}) = along-none strictly placeIn r
-rest-along (guarded {a} {ms} {r} {g} u) = along-behind strictly placeIn (signAt "&" a) ms r (judgedGuard g) (guard-along u)
+rest-along : (most : ℕ) {ms r : Place} {g : Option (Formula Literals)} → RestSaid ms g r → Judging ms (judgedOr most g) r
+rest-along most (nothing {r}) = along-none strictly placeIn r
+rest-along most (guarded {a} {ms} {r} {g} u) = along-behind strictly placeIn (signAt "&" a) ms r (judgedGuard most g) (guard-along most u)
 
 -- ---- branches
 
@@ -154,15 +154,15 @@ weight-along (aNumber {v} {a} {r}) = ([], placed (number v) a, r, refl, refl, al
 weight-along (aRatio {v} {w} {a} {b} {c} {r}) = ([], placed (number v) a, signAt "/" b ∷ placed (number w) c ∷ r, refl, refl, (signAt "/" b ∷ placed (number w) c ∷ [], refl))
 weight-along (aDecimal {v} {n} {f} {a} {r}) = ([], placed (decimal v n f) a, r, refl, refl, along-none strictly placeIn r)
 
-pub branch-along : {ms r : Place} {x : BranchShape} → BranchSaid ms x r → Judging ms (judgedBranch x) r
-branch-along (branch {t} {a} {b} {ms} {ns} {r} {w} {ws} d l) =
+pub branch-along : (most : ℕ) {ms r : Place} {x : BranchShape} → BranchSaid ms x r → Judging ms (judgedBranch most x) r
+branch-along most (branch {t} {a} {b} {ms} {ns} {r} {w} {ws} d l) =
     let end = placed (number t) a ∷ signAt ")" b ∷ r in
-    along-then strictly placeIn ms ns r (weight w ms ∷ []) (judgedWords (1 ∷ []) ws ++ (state t end ∷ [])) (weight-along d)
-    (along-then strictly placeIn ns end r (judgedWords (1 ∷ []) ws) (state t end ∷ []) (line-along l (1 ∷ []))
-    (along-at placeIn (placed (number t) a) (signAt ")" b ∷ r) r (state t end) [] refl (along-behind strictly placeIn (signAt ")" b) r r [] (along-none strictly placeIn r))))
+    along-then strictly placeIn ms ns r (weight w ms ∷ []) (judgedWords (1 ∷ []) ws ++ (state most t end ∷ [])) (weight-along d)
+    (along-then strictly placeIn ns end r (judgedWords (1 ∷ []) ws) (state most t end ∷ []) (line-along l (1 ∷ []))
+    (along-at placeIn (placed (number t) a) (signAt ")" b ∷ r) r (state most t end) [] refl (along-behind strictly placeIn (signAt ")" b) r r [] (along-none strictly placeIn r))))
 
-plus-along : (ms r : Place) (x : BranchShape) → PlusSaid ms x r → Judging ms (judgedBranch x) r
-plus-along ms r x (plus {a} {ms = ns} d) = along-behind strictly placeIn (signAt "+" a) ns r (judgedBranch x) (branch-along d)
+plus-along : (most : ℕ) (ms r : Place) (x : BranchShape) → PlusSaid ms x r → Judging ms (judgedBranch most x) r
+plus-along most ms r x (plus {a} {ms = ns} d) = along-behind strictly placeIn (signAt "+" a) ns r (judgedBranch most x) (branch-along most d)
 
 many-along : {A : Type 0} {One : Said A} (f : A → List Judgement) → ((ms r : Place) (x : A) → One ms x r → Judging ms (f x) r)
     → {ms r : Place} {xs : List A} → ManySaid One ms xs r → Judging ms (judgedEach f xs) r
@@ -171,18 +171,18 @@ many-along f h (again {ms} {ns} {r} {x} {xs} d ds) = along-then strictly placeIn
 
 -- ---- statements and the card
 
-statement-along : (ms r : Place) (x : StatementShape) → StatementSaid ms x r → Judging ms (judgedStatement x) r
-statement-along ms r x (statement {j} {a} {b} {c} {ns = ns} {os} {qs} {ws = ws} {g} {x = y} {xs = ys} l u d ds) =
+statement-along : (most : ℕ) (ms r : Place) (x : StatementShape) → StatementSaid ms x r → Judging ms (judgedStatement most x) r
+statement-along most ms r x (statement {j} {a} {b} {c} {ns = ns} {os} {qs} {ws = ws} {g} {x = y} {xs = ys} l u d ds) =
     let own = placed (number j) a ∷ ns in
     let end = signAt ";" c ∷ r in
     let total : List Judgement = sum (map weightIn (y ∷ ys)) end ∷ [] in
-    let moves = judgedEach judgedBranch (y ∷ ys) ++ total in
-    along-then strictly placeIn ms own r (judgedWords (1 ∷ []) ws) (state j own ∷ (judgedOr g ++ moves)) (line-along l (1 ∷ []))
-    (along-at placeIn (placed (number j) a) ns r (state j own) (judgedOr g ++ moves) refl
-    (along-then strictly placeIn ns (signAt "->" b ∷ os) r (judgedOr g) moves (rest-along u)
+    let moves = judgedEach (judgedBranch most) (y ∷ ys) ++ total in
+    along-then strictly placeIn ms own r (judgedWords (1 ∷ []) ws) (state most j own ∷ (judgedOr most g ++ moves)) (line-along l (1 ∷ []))
+    (along-at placeIn (placed (number j) a) ns r (state most j own) (judgedOr most g ++ moves) refl
+    (along-then strictly placeIn ns (signAt "->" b ∷ os) r (judgedOr most g) moves (rest-along most u)
     (along-behind strictly placeIn (signAt "->" b) os r moves
-    (along-then strictly placeIn os end r (judgedEach judgedBranch (y ∷ ys)) total
-    (along-then strictly placeIn os qs end (judgedBranch y) (judgedEach judgedBranch ys) (branch-along d) (many-along judgedBranch plus-along ds))
+    (along-then strictly placeIn os end r (judgedEach (judgedBranch most) (y ∷ ys)) total
+    (along-then strictly placeIn os qs end (judgedBranch most y) (judgedEach (judgedBranch most) ys) (branch-along most d) (many-along (judgedBranch most) (plus-along most) ds))
     (along-at placeIn (signAt ";" c) r r (sum (map weightIn (y ∷ ys)) end) [] refl (along-none strictly placeIn r))))))
 
 modules-along : {ms r : Place} {ys : List (List Numbered)} (i : ℕ) → ManySaid (LineSaid moduleRun) ms ys r → Judging ms (judgedModules i ys) r
@@ -195,15 +195,15 @@ card-along (card {mode} {k} {l} {a} {b} {c} {d} {e} {f} {g} {h} {i} {ms} {ns} {o
     let start = placed (number l) g ∷ signAt ";" h ∷ ns in
     let top = placed (number 0) b ∷ signAt ".." c ∷ placed (number k) d ∷ signAt "]" e ∷ signAt "init" f ∷ start in
     let modules = judgedModules 2 ys in
-    let most = judgedEach judgedStatement (x ∷ xs) ++ modules in
-    along-behind strictly placeIn (signAt (modeWord mode) a) ms [] (judgedWords (1 ∷ 1 ∷ []) ws ++ (state l start ∷ most))
-    (along-then strictly placeIn ms top [] (judgedWords (1 ∷ 1 ∷ []) ws) (state l start ∷ most) (line-along w (1 ∷ 1 ∷ []))
-    (along-from strictly placeIn (placed (number 0) b ∷ signAt ".." c ∷ placed (number k) d ∷ signAt "]" e ∷ signAt "init" f ∷ []) start [] (state l start ∷ most)
-    (along-at placeIn (placed (number l) g) (signAt ";" h ∷ ns) [] (state l start) most refl
-    (along-behind strictly placeIn (signAt ";" h) ns [] most
-    (along-then strictly placeIn ns (signAt "endmodule" i ∷ qs) [] (judgedEach judgedStatement (x ∷ xs)) modules
-    (along-then strictly placeIn ns os (signAt "endmodule" i ∷ qs) (judgedStatement x) (judgedEach judgedStatement xs) (statement-along ns os x s)
-    (many-along judgedStatement statement-along ss))
+    let rest = judgedEach (judgedStatement k) (x ∷ xs) ++ modules in
+    along-behind strictly placeIn (signAt (modeWord mode) a) ms [] (judgedWords (1 ∷ 1 ∷ []) ws ++ (state k l start ∷ rest))
+    (along-then strictly placeIn ms top [] (judgedWords (1 ∷ 1 ∷ []) ws) (state k l start ∷ rest) (line-along w (1 ∷ 1 ∷ []))
+    (along-from strictly placeIn (placed (number 0) b ∷ signAt ".." c ∷ placed (number k) d ∷ signAt "]" e ∷ signAt "init" f ∷ []) start [] (state k l start ∷ rest)
+    (along-at placeIn (placed (number l) g) (signAt ";" h ∷ ns) [] (state k l start) rest refl
+    (along-behind strictly placeIn (signAt ";" h) ns [] rest
+    (along-then strictly placeIn ns (signAt "endmodule" i ∷ qs) [] (judgedEach (judgedStatement k) (x ∷ xs)) modules
+    (along-then strictly placeIn ns os (signAt "endmodule" i ∷ qs) (judgedStatement k x) (judgedEach (judgedStatement k) xs) (statement-along k ns os x s)
+    (many-along (judgedStatement k) (statement-along k) ss))
     (along-behind strictly placeIn (signAt "endmodule" i) qs [] modules (modules-along 2 t)))))))
 
 -- ---- so the first is the earliest
@@ -228,68 +228,68 @@ along-later a e m q r (x ∷ js) (u, o, t, z, i, k) h j (later y) =
     let l₁ = along-later b e o t r js k p j y in
     omega arith
 
-module _ (n k e : ℕ) where
+module _ (n e : ℕ) where
   -- the first that is broken, of a list along the text
   pub record Earliest (js : List Judgement) (r : ℕ) (p : Place) : Type 0 where
     pub judgement : Judgement
     pub judged : In judgement js
     pub number : refusalOf judgement ≡ r
     pub place : placeIn judgement ≡ p
-    pub broken : Kept n k judgement → ⊥
-    pub earlier : (j : Judgement) → In j js → placeOf e (placeIn j) < placeOf e (placeIn judgement) → Kept n k j
+    pub broken : Kept n judgement → ⊥
+    pub earlier : (j : Judgement) → In j js → placeOf e (placeIn j) < placeOf e (placeIn judgement) → Kept n j
 
   found : (x : Judgement) (js : List Judgement) (i : ℕ) (p : Place) → ((j : Judgement) → In j js → placeOf e (placeIn x) < placeOf e (placeIn j))
-      → firstBroken n k (x ∷ js) ≡ wrong i p → (firstBroken n k js ≡ wrong i p → Earliest js i p) → Ruled n k x → Earliest (x ∷ js) i p
+      → firstBroken n (x ∷ js) ≡ wrong i p → (firstBroken n js ≡ wrong i p → Earliest js i p) → Ruled n x → Earliest (x ∷ js) i p
   found x js i p h z f (failed y c) =
       let w : wrong (refusalOf x) (placeIn x) ≡ wrong i p = rw y at z in
       record { judgement = x; judged = first; number = wrong-number w; place = wrong-place w; broken = c; earlier = earlier }
     where
-      earlier : (j : Judgement) → In j (x ∷ js) → placeOf e (placeIn j) < placeOf e (placeIn x) → Kept n k j
+      earlier : (j : Judgement) → In j (x ∷ js) → placeOf e (placeIn j) < placeOf e (placeIn x) → Kept n j
       earlier _ first l = absurd (omega arith)
       earlier j (later o) l = absurd (omega (arith, h j o))
   found x js i p h z f (kept y c) = let w = f (rw y at z) in
       record { judgement = w .judgement; judged = later (w .judged); number = w .number; place = w .place; broken = w .broken; earlier = earlier w }
     where
-      earlier : (w : Earliest js i p) (j : Judgement) → In j (x ∷ js) → placeOf e (placeIn j) < placeOf e (placeIn (w .judgement)) → Kept n k j
+      earlier : (w : Earliest js i p) (j : Judgement) → In j (x ∷ js) → placeOf e (placeIn j) < placeOf e (placeIn (w .judgement)) → Kept n j
       earlier w _ first l = c
       earlier w j (later o) l = w .earlier j o l
 
-  pub earliest : (ms r : Place) (a : ℕ) (js : List Judgement) → Judging ms js r → Rises a e ms → (i : ℕ) (p : Place) → firstBroken n k js ≡ wrong i p
+  pub earliest : (ms r : Place) (a : ℕ) (js : List Judgement) → Judging ms js r → Rises a e ms → (i : ℕ) (p : Place) → firstBroken n js ≡ wrong i p
       → Earliest js i p
   earliest ms r a [] l h i p z = fine≢wrong z
   earliest ms r a (x ∷ js) (u, m, q, y, o, l) h i p z =
       let (b, _, h₁) = rises-part a e u (m ∷ q) (rw y at h) in
       let (c, _, h₂) = rises-part b e (m ∷ []) q h₁ in
-      found x js i p (λ j y. rw o (along-later b e m q r js l h₁ j y)) z (earliest q r c js l h₂ i p) (ruled n k x)
+      found x js i p (λ j y. rw o (along-later b e m q r js l h₁ j y)) z (earliest q r c js l h₂ i p) (ruled n x)
 
-  pub broken-first : (ms r : Place) (a : ℕ) (js : List Judgement) → Judging ms js r → Rises a e ms → (j : Judgement) → In j js → (Kept n k j → ⊥)
-      → ((i : Judgement) → In i js → placeOf e (placeIn i) < placeOf e (placeIn j) → Kept n k i) → firstBroken n k js ≡ wrong (refusalOf j) (placeIn j)
-  broken-first ms r a (x ∷ js) (u, m, q, y, o, l) h _ first c f = go (ruled n k x)
+  pub broken-first : (ms r : Place) (a : ℕ) (js : List Judgement) → Judging ms js r → Rises a e ms → (j : Judgement) → In j js → (Kept n j → ⊥)
+      → ((i : Judgement) → In i js → placeOf e (placeIn i) < placeOf e (placeIn j) → Kept n i) → firstBroken n js ≡ wrong (refusalOf j) (placeIn j)
+  broken-first ms r a (x ∷ js) (u, m, q, y, o, l) h _ first c f = go (ruled n x)
     where
-      go : Ruled n k x → firstBroken n k (x ∷ js) ≡ wrong (refusalOf x) (placeIn x)
+      go : Ruled n x → firstBroken n (x ∷ js) ≡ wrong (refusalOf x) (placeIn x)
       go (kept z d) = absurd (c d)
       go (failed z d) = rw z
   broken-first ms r a (x ∷ js) (u, m, q, y, o, l) h j (later i) c f =
       let (b, _, h₁) = rises-part a e u (m ∷ q) (rw y at h) in
       let (d, _, h₂) = rises-part b e (m ∷ []) q h₁ in
-      go (f x first (rw o (along-later b e m q r js l h₁ j i))) (broken-first q r d js l h₂ j i c (λ i y. f i (later y))) (ruled n k x)
+      go (f x first (rw o (along-later b e m q r js l h₁ j i))) (broken-first q r d js l h₂ j i c (λ i y. f i (later y))) (ruled n x)
     where
-      go : Kept n k x → firstBroken n k js ≡ wrong (refusalOf j) (placeIn j) → Ruled n k x → firstBroken n k (x ∷ js) ≡ wrong (refusalOf j) (placeIn j)
+      go : Kept n x → firstBroken n js ≡ wrong (refusalOf j) (placeIn j) → Ruled n x → firstBroken n (x ∷ js) ≡ wrong (refusalOf j) (placeIn j)
       go d w (kept z _) = rw z w
       go d w (failed z g) = absurd (g d)
 
-  pub none-broken : (js : List Judgement) → firstBroken n k js ≡ fine → Every (Kept n k) js
+  pub none-broken : (js : List Judgement) → firstBroken n js ≡ fine → Every (Kept n) js
   none-broken [] z = tt
-  none-broken (x ∷ js) z = go (ruled n k x) (none-broken js)
+  none-broken (x ∷ js) z = go (ruled n x) (none-broken js)
     where
-      go : Ruled n k x → (firstBroken n k js ≡ fine → Every (Kept n k) js) → Every (Kept n k) (x ∷ js)
+      go : Ruled n x → (firstBroken n js ≡ fine → Every (Kept n) js) → Every (Kept n) (x ∷ js)
       go (kept y c) f = (c, f (rw y at z))
       go (failed y c) f = let w : fine ≡ wrong (refusalOf x) (placeIn x) = sym (rw y at z) in fine≢wrong w
 
-  pub all-kept : (js : List Judgement) → Every (Kept n k) js → firstBroken n k js ≡ fine
+  pub all-kept : (js : List Judgement) → Every (Kept n) js → firstBroken n js ≡ fine
   all-kept [] w = refl
-  all-kept (x ∷ js) w = go (ruled n k x) (all-kept js (w .1))
+  all-kept (x ∷ js) w = go (ruled n x) (all-kept js (w .1))
     where
-      go : Ruled n k x → firstBroken n k js ≡ fine → firstBroken n k (x ∷ js) ≡ fine
+      go : Ruled n x → firstBroken n js ≡ fine → firstBroken n (x ∷ js) ≡ fine
       go (kept y c) f = rw y f
       go (failed y c) f = absurd (c (w .0))

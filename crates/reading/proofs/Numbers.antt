@@ -214,12 +214,12 @@ small-unless : (b : Bool) (r : ℕ) → r ≤ wrongWeight → SmallOr (unless b 
 small-unless true r h = tt
 small-unless false r h = h
 
-small-broken : (n k : ℕ) (j : Judgement) → SmallOr (broken n k j)
-small-broken n k (state v p) = small-unless (leb v k) aboveTop (omega arith)
-small-broken n k (word due was p) = small-unless (eqb was due) notDue (omega arith)
-small-broken n k (oneGroup g) = small-unless (symmetric n (g .literals)) notDue (omega arith)
-small-broken n k (judgedWeight w p) = small-unless (isSome (unitsOf cardRule w)) wrongWeight (omega arith)
-small-broken n k (sum ws p) = small-unless (eqb (totalUnits ws) unit) wrongWeight (omega arith)
+small-broken : (n : ℕ) (j : Judgement) → SmallOr (broken n j)
+small-broken n (state most v p) = small-unless (leb v most) aboveTop (omega arith)
+small-broken n (word due was p) = small-unless (eqb was due) notDue (omega arith)
+small-broken n (oneGroup g) = small-unless (symmetric n (g .literals)) notDue (omega arith)
+small-broken n (judgedWeight w p) = small-unless (isSome (unitsOf cardRule w)) wrongWeight (omega arith)
+small-broken n (sum ws p) = small-unless (eqb (totalUnits ws) unit) wrongWeight (omega arith)
 
 abbrev SmallVerdict : Verdict → Type 0
 SmallVerdict fine = Unit {0}
@@ -229,9 +229,9 @@ small-else : (o : Option ℕ) (p : Place) (v : Verdict) → SmallOr o → SmallV
 small-else none p v h k = k
 small-else (some r) p v h k = h
 
-small-first : (n k : ℕ) (js : List Judgement) → SmallVerdict (firstBroken n k js)
-small-first n k [] = tt
-small-first n k (j ∷ js) = small-else (broken n k j) (placeIn j) (firstBroken n k js) (small-broken n k j) (small-first n k js)
+small-first : (n : ℕ) (js : List Judgement) → SmallVerdict (firstBroken n js)
+small-first n [] = tt
+small-first n (j ∷ js) = small-else (broken n j) (placeIn j) (firstBroken n js) (small-broken n j) (small-first n js)
 
 -- ---- reading
 
@@ -244,7 +244,7 @@ small-judged e c fine h = tt
 small-judged e c (wrong r p) h = h
 
 small-shaped : (e : ℕ) (x : Result CardShape) → Small x → SmallOutcome (shaped e x)
-small-shaped e (ok c s) h = small-judged e (cardIn c) (firstBroken (seatsIn c) (c .k) (judgedCard c)) (small-first (seatsIn c) (c .k) (judgedCard c))
+small-shaped e (ok c s) h = small-judged e (cardIn c) (firstBroken (seatsIn c) (judgedCard c)) (small-first (seatsIn c) (judgedCard c))
 small-shaped e (stop r p) h = h
 
 small-marked : (e : ℕ) (ms : List Placed) (o : Option ℕ) → SmallOutcome (marked e ms o)

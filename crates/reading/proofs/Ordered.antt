@@ -31,7 +31,7 @@ counting-at m ms r c cs e k = ([], m, ms, refl, e, k)
 
 guard-counting : {v : Part} {ms r : Place} {g : Formula Literals} (u : GuardSaid GroupSaid v ms g r) (nodes around : ℕ) → Counting ms (countedGuard nodes around u) r
 guard-counting (grouped {a} {ms} {r} {x} d) nodes around =
-    counting-at (signAt "(" a) ms r (counted (suc nodes) mostNodes (signAt "(" a ∷ ms)) [] refl (along-whole strictly placeIn (signAt "(" a ∷ ms) r (judgedGroup x) (group-along d))
+    counting-at (signAt "(" a) ms r (counted (suc nodes) mostNodes (signAt "(" a ∷ ms)) [] refl (along-whole strictly placeIn (signAt "(" a ∷ ms) r (judgedGroup 0 x) (group-along 0 d))
 guard-counting (negated {a} {ms} {r} u) nodes around =
     let cs = countedGuard (suc nodes) (suc around) u in
     let c = counted (suc around) mostDepth (signAt "!" a ∷ ms) in
@@ -64,7 +64,7 @@ many-counting each h i (again {ms} {ns} {r} {x} d ds) =
 -- ---- branches and statements
 
 branch-counting : (ms r : Place) (x : BranchShape) (i : ℕ) (d : BranchSaid ms x r) → Counting ms (countedBranch ms r x i d) r
-branch-counting ms r x i d = let (m, q, z) = starts d in ([], m, q, z, z, rw (← z) (along-whole strictly placeIn ms r (judgedBranch x) (branch-along d)))
+branch-counting ms r x i d = let (m, q, z) = starts d in ([], m, q, z, z, rw (← z) (along-whole strictly placeIn ms r (judgedBranch 0 x) (branch-along 0 d)))
   where
     starts : {ms : Place} {x : BranchShape} → BranchSaid ms x r → (m : Placed) × (q : Place) × (ms ≡ m ∷ q)
     starts (branch aNumber l) = (_, _, refl)

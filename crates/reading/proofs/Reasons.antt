@@ -94,7 +94,7 @@ module _ (s : List ℕ) where
   read-clean : Clean s → readOf s ≡ shaped (length s) (card (at (marksOf s) zero))
   read-clean c = read-short (c .short) ∙ ap (marked (length s) (marksOf s)) (inside-none (marksOf s) (c .inside))
 
-  read-shaped : (h : Shaped s) → readOf s ≡ judged (length s) (cardIn (h .shape)) (firstBroken (seatsIn (h .shape)) (h .shape .k) (judgedCard (h .shape)))
+  read-shaped : (h : Shaped s) → readOf s ≡ judged (length s) (cardIn (h .shape)) (firstBroken (seatsIn (h .shape)) (judgedCard (h .shape)))
   read-shaped h = let (n, e) = shape-read (h .said) (h .within) in read-clean (h .clean) ∙ ap (shaped (length s)) e
 
   -- ---- each reason leads to its outcome
@@ -102,7 +102,7 @@ module _ (s : List ℕ) where
   taken-back : (c : Card) → Accepted s c → readOf s ≡ taken c
   taken-back c h =
       let d = h .shaped .shape in
-      read-shaped (h .shaped) ∙ ap (judged (length s) (cardIn d)) (all-kept (seatsIn d) (d .k) (length s) (judgedCard d) (h .kept)) ∙ ap taken (sym (h .card))
+      read-shaped (h .shaped) ∙ ap (judged (length s) (cardIn d)) (all-kept (seatsIn d) (length s) (judgedCard d) (h .kept)) ∙ ap taken (sym (h .card))
 
   long-back : (p : ℕ) → TooLong s p → readOf s ≡ refused tooLong p
   long-back p h = read-long (h .long) ∙ ap (refused tooLong) (sym (h .place))
@@ -131,9 +131,9 @@ module _ (s : List ℕ) where
   broken-back : (r p : ℕ) → Broken r s p → readOf s ≡ refused r p
   broken-back r p h =
       let c = h .shaped .shape in
-      let (z, d) = broken-not-kept (seatsIn c) (c .k) r (h .judgement) (h .broken) in
+      let (z, d) = broken-not-kept (seatsIn c) r (h .judgement) (h .broken) in
       let along = card-along (h .shaped .said) in
-      let e = broken-first (seatsIn c) (c .k) (length s) (marksOf s) [] 0 (judgedCard c) along (marks-rise s) (h .judgement) (h .judged) d
+      let e = broken-first (seatsIn c) (length s) (marksOf s) [] 0 (judgedCard c) along (marks-rise s) (h .judgement) (h .judged) d
       (λ i y l. h .earlier i y (rw (h .place) at l)) in
       read-shaped (h .shaped)
       ∙ ap (judged (length s) (cardIn c)) e
@@ -153,24 +153,24 @@ Meaning s (taken c) = Accepted s c
 Meaning s (refused r p) = Why r s p
 
 late-number : (j : Judgement) → aboveTop ≤ refusalOf j
-late-number (state v p) = omega arith
+late-number (state most v p) = omega arith
 late-number (word d w p) = omega arith
 late-number (oneGroup g) = omega arith
 late-number (weight w p) = omega arith
 late-number (sum ws p) = omega arith
 
 module _ (s : List ℕ) where
-  judged-means : (h : Shaped s) (v : Verdict) → firstBroken (seatsIn (h .shape)) (h .shape .k) (judgedCard (h .shape)) ≡ v
+  judged-means : (h : Shaped s) (v : Verdict) → firstBroken (seatsIn (h .shape)) (judgedCard (h .shape)) ≡ v
       → Meaning s (judged (length s) (cardIn (h .shape)) v)
-  judged-means h fine e = record { shaped = h; kept = none-broken (seatsIn (h .shape)) (h .shape .k) (length s) (judgedCard (h .shape)) e; card = refl }
+  judged-means h fine e = record { shaped = h; kept = none-broken (seatsIn (h .shape)) (length s) (judgedCard (h .shape)) e; card = refl }
   judged-means h (wrong r p) e =
       let c = h .shape in
-      let w = earliest (seatsIn c) (c .k) (length s) (marksOf s) [] 0 (judgedCard c) (card-along (h .said)) (marks-rise s) r p e in
+      let w = earliest (seatsIn c) (length s) (marksOf s) [] 0 (judgedCard c) (card-along (h .said)) (marks-rise s) r p e in
       rule (rw (← (w .number)) (late-number (w .judgement))) (record {
         shaped = h;
         judgement = w .judgement;
         judged = w .judged;
-        broken = rw (w .number) at (breaks (seatsIn c) (c .k) (w .judgement) (w .broken));
+        broken = rw (w .number) at (breaks (seatsIn c) (w .judgement) (w .broken));
         place = ap (placeOf (length s)) (w .place);
         earlier = λ j y l. w .earlier j y (rw (w .place) l);
       })
@@ -178,7 +178,7 @@ module _ (s : List ℕ) where
   shaped-means : Clean s → (x : Result CardShape) → card (at (marksOf s) zero) ≡ x → Meaning s (shaped (length s) x)
   shaped-means c (ok d st) e =
       let (t, w) = read-shape (marksOf s) d st e in
-      judged-means (record { clean = c; shape = d; said = t; within = w }) (firstBroken (seatsIn d) (d .k) (judgedCard d)) refl
+      judged-means (record { clean = c; shape = d; said = t; within = w }) (firstBroken (seatsIn d) (judgedCard d)) refl
   shaped-means c (stop n r) e = go (stop-numbers (marksOf s) n r e)
     where
       go : (n ≡ outOfShape) ⊎ (n ≡ pastLimit) → Why n s (placeOf (length s) r)

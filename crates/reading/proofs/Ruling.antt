@@ -65,41 +65,41 @@ worth-weight (ratio a b) u k =
 
 -- the refusal due to it
 abbrev pub refusalOf : Judgement → ℕ
-refusalOf (state v p) = aboveTop
+refusalOf (state most v p) = aboveTop
 refusalOf (word due was p) = notDue
 refusalOf (oneGroup g) = notDue
 refusalOf (weight w p) = wrongWeight
 refusalOf (sum ws p) = wrongWeight
 
-pub breaks : (n k : ℕ) (j : Judgement) → (Kept n k j → ⊥) → Breaks n k (refusalOf j) j
-breaks n k (state v p) h = above {v = v} (omega arith)
-breaks n k (word due was p) h = other h
-breaks n k (oneGroup g) h = uneven h
-breaks n k (weight w p) h = worthless (λ u x. h (u, x))
-breaks n k (sum ws p) h = unequal h
+pub breaks : (n : ℕ) (j : Judgement) → (Kept n j → ⊥) → Breaks n (refusalOf j) j
+breaks n (state most v p) h = above {most = most} {v = v} (omega arith)
+breaks n (word due was p) h = other h
+breaks n (oneGroup g) h = uneven h
+breaks n (weight w p) h = worthless (λ u x. h (u, x))
+breaks n (sum ws p) h = unequal h
 
-pub broken-not-kept : (n k r : ℕ) (j : Judgement) → Breaks n k r j → (refusalOf j ≡ r) × (Kept n k j → ⊥)
-broken-not-kept n k r j (above h) = (refl, λ l. omega arith)
-broken-not-kept n k r j (other h) = (refl, h)
-broken-not-kept n k r j (uneven h) = (refl, h)
-broken-not-kept n k r j (worthless h) = (refl, λ (u, x). h u x)
-broken-not-kept n k r j (unequal h) = (refl, h)
+pub broken-not-kept : (n r : ℕ) (j : Judgement) → Breaks n r j → (refusalOf j ≡ r) × (Kept n j → ⊥)
+broken-not-kept n r j (above h) = (refl, λ l. omega arith)
+broken-not-kept n r j (other h) = (refl, h)
+broken-not-kept n r j (uneven h) = (refl, h)
+broken-not-kept n r j (worthless h) = (refl, λ (u, x). h u x)
+broken-not-kept n r j (unequal h) = (refl, h)
 
 -- not broken and kept; or broken, and not kept
-pub data Ruled (n k : ℕ) (j : Judgement) : Type 0 where
-  kept : broken n k j ≡ none → Kept n k j → Ruled n k j
-  failed : broken n k j ≡ some (refusalOf j) → (Kept n k j → ⊥) → Ruled n k j
+pub data Ruled (n : ℕ) (j : Judgement) : Type 0 where
+  kept : broken n j ≡ none → Kept n j → Ruled n j
+  failed : broken n j ≡ some (refusalOf j) → (Kept n j → ⊥) → Ruled n j
 
-by-test : (n k : ℕ) (j : Judgement) (b : Bool) → broken n k j ≡ unless b (refusalOf j) → (b ≡ true → Kept n k j) → (b ≡ false → Kept n k j → ⊥) → Ruled n k j
-by-test n k j true e f g = kept e (f refl)
-by-test n k j false e f g = failed e (g refl)
+by-test : (n : ℕ) (j : Judgement) (b : Bool) → broken n j ≡ unless b (refusalOf j) → (b ≡ true → Kept n j) → (b ≡ false → Kept n j → ⊥) → Ruled n j
+by-test n j true e f g = kept e (f refl)
+by-test n j false e f g = failed e (g refl)
 
 true≢ : {b : Bool} → b ≡ false → b ≡ true → ⊥
 true≢ e h = false≢true (sym e ∙ h)
 
-pub ruled : (n k : ℕ) (j : Judgement) → Ruled n k j
-ruled n k (state v p) = by-test n k (state v p) (leb v k) refl (leb-true v k) (λ e h. true≢ e (le-leb v k h))
-ruled n k (word due was p) = by-test n k (word due was p) (eqb was due) refl (eqb-true was due) (λ e h. true≢ e (eq-eqb was due h))
-ruled n k (oneGroup g) = by-test n k (oneGroup g) (symmetric n (g .literals)) refl (symmetric-is n (g .literals)) (λ e h. true≢ e (is-symmetric n (g .literals) h))
-ruled n k (weight w p) = by-test n k (weight w p) (isSome (unitsOf cardRule w)) refl (weight-worth w) (λ e (u, h). true≢ e (worth-weight w u h))
-ruled n k (sum ws p) = by-test n k (sum ws p) (eqb (totalUnits ws) unit) refl (eqb-true (totalUnits ws) unit) (λ e h. true≢ e (eq-eqb (totalUnits ws) unit h))
+pub ruled : (n : ℕ) (j : Judgement) → Ruled n j
+ruled n (state most v p) = by-test n (state most v p) (leb v most) refl (leb-true v most) (λ e h. true≢ e (le-leb v most h))
+ruled n (word due was p) = by-test n (word due was p) (eqb was due) refl (eqb-true was due) (λ e h. true≢ e (eq-eqb was due h))
+ruled n (oneGroup g) = by-test n (oneGroup g) (symmetric n (g .literals)) refl (symmetric-is n (g .literals)) (λ e h. true≢ e (is-symmetric n (g .literals) h))
+ruled n (weight w p) = by-test n (weight w p) (isSome (unitsOf cardRule w)) refl (weight-worth w) (λ e (u, h). true≢ e (worth-weight w u h))
+ruled n (sum ws p) = by-test n (sum ws p) (eqb (totalUnits ws) unit) refl (eqb-true (totalUnits ws) unit) (λ e h. true≢ e (eq-eqb (totalUnits ws) unit h))

@@ -18,7 +18,7 @@ use Rattle.card.specs.Formulas.{EveryAtom}
 use Rattle.card.proofs.Atoms.{size-over, depth-over}
 use Rattle.reading.specs.Guard.{isSome}
 use Rattle.reading.specs.Group.{Literal, Literals}
-use Rattle.reading.specs.Judgements.{once, kindOf, alike, symmetric, Judgement, sum, orZero, unitsIn, totalUnits, firstState, judgedGuard, orEveryone, groupIn, guardIn}
+use Rattle.reading.specs.Judgements.{once, kindOf, alike, symmetric, Judgement, sum, orZero, unitsIn, totalUnits, firstState, judgedGuard, orEveryone, groupIn, leafIn, guardIn}
 use Rattle.reading.specs.Shape.{BranchShape, StatementShape, CardShape}
 use Rattle.reading.specs.Checks.{judgedState, judgedWords, judgedBranch, judgedEach, judgedOr, weightIn, judgedStatement, judgedModules, judgedCard, branchIn, guardOr, statementIn, seatsIn, cardIn}
 use Rattle.reading.specs.Reading.{taken, readOf}
@@ -50,7 +50,7 @@ enough s kind n ls f e = go (once 1 n ls) (once 2 (n - 1) ls) refl refl e
     go false true p q e = second s (count 2 (n - 1) q) f cc
     go false false p q e = none≢some e
 
-group-valid : (n k : ℕ) (s : Sign) (ls : List Literal) → Fair s ls → symmetric n ls ≡ true → Every (Kept n k) (firstState ls) → ValidLeaf n k (groupIn n s ls)
+group-valid : (n k : ℕ) (s : Sign) (ls : List Literal) → Fair s ls → symmetric n ls ≡ true → Every (Kept n) (firstState k ls) → ValidLeaf n k (groupIn n s ls)
 group-valid n k s [] f y e = absurd (false≢true y)
 group-valid n k s (l ∷ ls) f y e = go (kindOf n (l ∷ ls)) refl (and-true (alike l ls) (isSome (kindOf n (l ∷ ls))) y .1)
   where
@@ -58,15 +58,15 @@ group-valid n k s (l ∷ ls) f y e = go (kindOf n (l ∷ ls)) refl (and-true (al
     go none q z = absurd (false≢true z)
     go (some kind) q z = (enough s kind n (l ∷ ls) f q, e .0)
 
-guard-valid : (n k : ℕ) (g : Formula Literals) → EveryAtom FairGroup g → Every (Kept n k) (judgedGuard g) → ValidLeaves n k (guardIn n g)
+guard-valid : (n k : ℕ) (g : Formula Literals) → EveryAtom FairGroup g → Every (Kept n) (judgedGuard k g) → ValidLeaves n k (guardIn n g)
 guard-valid n k (atom a) f e = group-valid n k (a .sign) (a .literals) f (is-symmetric n (a .literals) (e .0)) (e .1)
 guard-valid n k (neg g) f e = guard-valid n k g f e
-guard-valid n k (and g h) f e = let q = every-append (Kept n k) (judgedGuard g) (judgedGuard h) e in (guard-valid n k g (f .0) (q .0), guard-valid n k h (f .1) (q .1))
-guard-valid n k (or g h) f e = let q = every-append (Kept n k) (judgedGuard g) (judgedGuard h) e in (guard-valid n k g (f .0) (q .0), guard-valid n k h (f .1) (q .1))
+guard-valid n k (and g h) f e = let q = every-append (Kept n) (judgedGuard k g) (judgedGuard k h) e in (guard-valid n k g (f .0) (q .0), guard-valid n k h (f .1) (q .1))
+guard-valid n k (or g h) f e = let q = every-append (Kept n) (judgedGuard k g) (judgedGuard k h) e in (guard-valid n k g (f .0) (q .0), guard-valid n k h (f .1) (q .1))
 
-guard-or-valid : (n k : ℕ) (g : Option (Formula Literals)) → FairGuard g → Every (Kept n k) (judgedOr g) → ValidGuard n k (guardOr n g)
+guard-or-valid : (n k : ℕ) (g : Option (Formula Literals)) → FairGuard g → Every (Kept n) (judgedOr k g) → ValidGuard n k (guardOr n g)
 guard-or-valid n k none f e = tt
-guard-or-valid n k (some g) f e = (guard-valid n k g (f .1) e, rw (depth-over (λ x. groupIn n (x .sign) (x .literals)) middle g) (f .0), rw (size-over (λ x. groupIn n (x .sign) (x .literals)) g) (f .2))
+guard-or-valid n k (some g) f e = (guard-valid n k g (f .1) e, rw (depth-over (leafIn n) middle g) (f .0), rw (size-over (leafIn n) g) (f .2))
 
 -- ---- branches
 
@@ -88,17 +88,17 @@ units-most (ratio a b) = given-most (leb 1 b && eqb (unit % b) 0 && leb a b) (a 
     let h = and-true (leb 1 b && eqb (unit % b) 0) (leb a b) e in
     quotient-most a b unit (leb-true a b (h .1))
 
-branch-valid : (n k : ℕ) (b : BranchShape) → Every (Kept n k) (judgedBranch b) → ValidBranch k (branchIn b)
+branch-valid : (n k : ℕ) (b : BranchShape) → Every (Kept n) (judgedBranch k b) → ValidBranch k (branchIn b)
 branch-valid n k b e =
-    let q = every-append (Kept n k) (judgedWords (1 ∷ []) (b .words)) (judgedState (b .end) ∷ []) (e .1) in
+    let q = every-append (Kept n) (judgedWords (1 ∷ []) (b .words)) (judgedState k (b .end) ∷ []) (e .1) in
     record { units = units-most (b .weight); end = q .1 .0 }
 
-each-valid : {A B : Type 0} (n k : ℕ) (j : A → List Judgement) (f : A → B) (P : A → Type 0) (Q : B → Type 0) → ((x : A) → P x → Every (Kept n k) (j x) → Q (f x))
-    → (xs : List A) → Every P xs → Every (Kept n k) (judgedEach j xs) → Every Q (map f xs)
-each-valid n k j f P Q h [] p e = tt
-each-valid n k j f P Q h (x ∷ xs) p e =
-    let q = every-append (Kept n k) (j x) (judgedEach j xs) e in
-    (h x (p .0) (q .0), each-valid n k j f P Q h xs (p .1) (q .1))
+each-valid : {A B : Type 0} (n : ℕ) (j : A → List Judgement) (f : A → B) (P : A → Type 0) (Q : B → Type 0) → ((x : A) → P x → Every (Kept n) (j x) → Q (f x))
+    → (xs : List A) → Every P xs → Every (Kept n) (judgedEach j xs) → Every Q (map f xs)
+each-valid n j f P Q h [] p e = tt
+each-valid n j f P Q h (x ∷ xs) p e =
+    let q = every-append (Kept n) (j x) (judgedEach j xs) e in
+    (h x (p .0) (q .0), each-valid n j f P Q h xs (p .1) (q .1))
 
 abbrev True : {A : Type 0} → A → Type 0
 True a = Unit {0}
@@ -113,32 +113,32 @@ total-units (b ∷ bs) = ap (λ (x : ℕ). unitsIn (b .weight) + x) (total-units
 
 -- ---- statements and the card
 
-statement-valid : (n k : ℕ) (x : StatementShape) → FairStatement x → Every (Kept n k) (judgedStatement x) → ValidStatement n k (statementIn n x)
+statement-valid : (n k : ℕ) (x : StatementShape) → FairStatement x → Every (Kept n) (judgedStatement k x) → ValidStatement n k (statementIn n x)
 statement-valid n k x f e =
     let total : List Judgement = sum (map weightIn (x .branches)) (x .close) ∷ [] in
-    let e₁ = every-append (Kept n k) (judgedWords (1 ∷ []) (x .words)) (judgedState (x .own) ∷ (judgedOr (x .guard) ++ (judgedEach judgedBranch (x .branches) ++ total))) e .1 in
-    let e₂ = every-append (Kept n k) (judgedOr (x .guard)) (judgedEach judgedBranch (x .branches) ++ total) (e₁ .1) in
-    let e₃ = every-append (Kept n k) (judgedEach judgedBranch (x .branches)) total (e₂ .1) in
+    let e₁ = every-append (Kept n) (judgedWords (1 ∷ []) (x .words)) (judgedState k (x .own) ∷ (judgedOr k (x .guard) ++ (judgedEach (judgedBranch k) (x .branches) ++ total))) e .1 in
+    let e₂ = every-append (Kept n) (judgedOr k (x .guard)) (judgedEach (judgedBranch k) (x .branches) ++ total) (e₁ .1) in
+    let e₃ = every-append (Kept n) (judgedEach (judgedBranch k) (x .branches)) total (e₂ .1) in
     record {
       own = e₁ .0;
       guard = guard-or-valid n k (x .guard) (f .guard) (e₂ .0);
       some = rw (length-map (x .branches) branchIn) (f .some);
-      branches = each-valid n k judgedBranch branchIn True (ValidBranch k) (λ b _. branch-valid n k b) (x .branches) (every-true (x .branches)) (e₃ .0);
+      branches = each-valid n (judgedBranch k) branchIn True (ValidBranch k) (λ b _. branch-valid n k b) (x .branches) (every-true (x .branches)) (e₃ .0);
       sum = total-units (x .branches) ∙ e₃ .1 .0;
     }
 
-card-valid : (c : CardShape) → FairCard c → Every (Kept (seatsIn c) (c .k)) (judgedCard c) → ValidCard (cardIn c)
+card-valid : (c : CardShape) → FairCard c → Every (Kept (seatsIn c)) (judgedCard c) → ValidCard (cardIn c)
 card-valid c f e =
     let n = seatsIn c in
-    let e₁ = every-append (Kept n (c .k)) (judgedWords (1 ∷ 1 ∷ []) (c .words)) (judgedState (c .l) ∷ (judgedEach judgedStatement (c .statements) ++ judgedModules 2 (c .modules))) e .1 in
-    let e₂ = every-append (Kept n (c .k)) (judgedEach judgedStatement (c .statements)) (judgedModules 2 (c .modules)) (e₁ .1) in
+    let e₁ = every-append (Kept n) (judgedWords (1 ∷ 1 ∷ []) (c .words)) (judgedState (c .k) (c .l) ∷ (judgedEach (judgedStatement (c .k)) (c .statements) ++ judgedModules 2 (c .modules))) e .1 in
+    let e₂ = every-append (Kept n) (judgedEach (judgedStatement (c .k)) (c .statements)) (judgedModules 2 (c .modules)) (e₁ .1) in
     record {
       seats = omega arith;
       seats-most = omega (arith, f .modules);
       top = f .top;
       init = e₁ .0;
       some = rw (length-map (c .statements) (statementIn n)) (f .some);
-      statements = each-valid n (c .k) judgedStatement (statementIn n) FairStatement (ValidStatement n (c .k)) (statement-valid n (c .k)) (c .statements) (f .statements) (e₂ .0);
+      statements = each-valid n (judgedStatement (c .k)) (statementIn n) FairStatement (ValidStatement n (c .k)) (statement-valid n (c .k)) (c .statements) (f .statements) (e₂ .0);
     }
 
 -- ---- reading

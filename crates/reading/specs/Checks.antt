@@ -11,8 +11,9 @@ use Rattle.reading.specs.Group.{Literals}
 use Rattle.reading.specs.Judgements.{Judgement, state, word, weight, sum, unitsIn, judgedGuard, guardIn}
 use Rattle.reading.specs.Shape.{BranchShape, StatementShape, CardShape}
 
-abbrev pub judgedState : Numbered → Judgement
-judgedState x = state (x .value) (x .place)
+-- a state that may be k at most
+abbrev pub judgedState : ℕ → Numbered → Judgement
+judgedState k x = state k (x .value) (x .place)
 
 -- the words of a run, and the numbers due in them; a word beyond the last of these is not one that is due, so no word goes unjudged
 abbrev pub judgedWords : List ℕ → List Numbered → List Judgement
@@ -21,26 +22,26 @@ judgedWords [] (w ∷ ws) = word (suc (w .value)) (w .value) (w .place) ∷ judg
 judgedWords (due ∷ dues) [] = []
 judgedWords (due ∷ dues) (w ∷ ws) = word due (w .value) (w .place) ∷ judgedWords dues ws
 
-abbrev pub judgedBranch : BranchShape → List Judgement
-judgedBranch b = weight (b .weight) (b .place) ∷ (judgedWords (1 ∷ []) (b .words) ++ (judgedState (b .end) ∷ []))
+abbrev pub judgedBranch : ℕ → BranchShape → List Judgement
+judgedBranch k b = weight (b .weight) (b .place) ∷ (judgedWords (1 ∷ []) (b .words) ++ (judgedState k (b .end) ∷ []))
 
 abbrev pub judgedEach : {A : Type 0} → (A → List Judgement) → List A → List Judgement
 judgedEach f [] = []
 judgedEach f (x ∷ xs) = f x ++ judgedEach f xs
 
-abbrev pub judgedOr : Option (Formula Literals) → List Judgement
-judgedOr none = []
-judgedOr (some g) = judgedGuard g
+abbrev pub judgedOr : ℕ → Option (Formula Literals) → List Judgement
+judgedOr k none = []
+judgedOr k (some g) = judgedGuard k g
 
 abbrev pub weightIn : BranchShape → Weight
 weightIn b = b .weight
 
-abbrev pub judgedStatement : StatementShape → List Judgement
-judgedStatement x =
+abbrev pub judgedStatement : ℕ → StatementShape → List Judgement
+judgedStatement k x =
     judgedWords (1 ∷ []) (x .words)
-    ++ (judgedState (x .own)
-    ∷ (judgedOr (x .guard)
-    ++ (judgedEach judgedBranch (x .branches)
+    ++ (judgedState k (x .own)
+    ∷ (judgedOr k (x .guard)
+    ++ (judgedEach (judgedBranch k) (x .branches)
     ++ (sum (map weightIn (x .branches)) (x .close) ∷ []))))
 
 -- module processi = process1 [s1=si, si=s1] endmodule
@@ -55,8 +56,8 @@ judgedModules i (m ∷ ms) = judgedWords (moduleDues i) m ++ judgedModules (suc 
 abbrev pub judgedCard : CardShape → List Judgement
 judgedCard c =
     judgedWords (1 ∷ 1 ∷ []) (c .words)
-    ++ (judgedState (c .l)
-    ∷ (judgedEach judgedStatement (c .statements)
+    ++ (judgedState (c .k) (c .l)
+    ∷ (judgedEach (judgedStatement (c .k)) (c .statements)
     ++ judgedModules 2 (c .modules)))
 
 -- ---- the card

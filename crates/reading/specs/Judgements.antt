@@ -52,14 +52,14 @@ symmetric n (l ∷ ls) = alike l ls && isSome (kindOf n (l ∷ ls))
 -- ---- what is judged, and where
 
 pub data Judgement : Type 0 where
-  state : ℕ → Place → Judgement  -- l, j, d or t
+  state : ℕ → ℕ → Place → Judgement  -- the most that l, j, d or t may be, and what stands there
   word : ℕ → ℕ → Place → Judgement  -- the number due in a word, and the one that stands there
   oneGroup : Literals → Judgement
   weight : Weight → Place → Judgement
   sum : List Weight → Place → Judgement  -- a statement's weights; its `;`
 
 abbrev pub placeIn : Judgement → Place
-placeIn (state v p) = p
+placeIn (state most v p) = p
 placeIn (word due was p) = p
 placeIn (oneGroup g) = g .place
 placeIn (weight w p) = p
@@ -81,13 +81,13 @@ abbrev pub unless : Bool → ℕ → Option ℕ
 unless true r = none
 unless false r = some r
 
--- the refusal due to it on a card of n seats with top state k, if any
-abbrev pub broken : ℕ → ℕ → Judgement → Option ℕ
-broken n k (state v p) = unless (leb v k) aboveTop
-broken n k (word due was p) = unless (eqb was due) notDue
-broken n k (oneGroup g) = unless (symmetric n (g .literals)) notDue
-broken n k (weight w p) = unless (isSome (unitsOf cardRule w)) wrongWeight
-broken n k (sum ws p) = unless (eqb (totalUnits ws) unit) wrongWeight
+-- the refusal due to it on a card of n seats, if any
+abbrev pub broken : ℕ → Judgement → Option ℕ
+broken n (state most v p) = unless (leb v most) aboveTop
+broken n (word due was p) = unless (eqb was due) notDue
+broken n (oneGroup g) = unless (symmetric n (g .literals)) notDue
+broken n (weight w p) = unless (isSome (unitsOf cardRule w)) wrongWeight
+broken n (sum ws p) = unless (eqb (totalUnits ws) unit) wrongWeight
 
 -- the first that is broken: its refusal and its place
 pub data Verdict : Type 0 where
@@ -98,21 +98,21 @@ abbrev pub orElse : Option ℕ → Place → Verdict → Verdict
 orElse none p v = v
 orElse (some r) p v = wrong r p
 
-abbrev pub firstBroken : ℕ → ℕ → List Judgement → Verdict
-firstBroken n k [] = fine
-firstBroken n k (j ∷ js) = orElse (broken n k j) (placeIn j) (firstBroken n k js)
+abbrev pub firstBroken : ℕ → List Judgement → Verdict
+firstBroken n [] = fine
+firstBroken n (j ∷ js) = orElse (broken n j) (placeIn j) (firstBroken n js)
 
--- ---- of a guard, in the order of the text: each group of literals, then its first d
+-- ---- of a guard, in the order of the text: each group of literals, then its first d, which may be the top state k
 
-abbrev pub firstState : List Literal → List Judgement
-firstState [] = []
-firstState (l ∷ ls) = state (l .d) (l .place) ∷ []
+abbrev pub firstState : ℕ → List Literal → List Judgement
+firstState k [] = []
+firstState k (l ∷ ls) = state k (l .d) (l .place) ∷ []
 
-abbrev pub judgedGroup : Literals → List Judgement
-judgedGroup g = oneGroup g ∷ firstState (g .literals)
+abbrev pub judgedGroup : ℕ → Literals → List Judgement
+judgedGroup k g = oneGroup g ∷ firstState k (g .literals)
 
-abbrev pub judgedGuard : Formula Literals → List Judgement
-judgedGuard g = eachAtom judgedGroup g
+abbrev pub judgedGuard : ℕ → Formula Literals → List Judgement
+judgedGuard k g = eachAtom (judgedGroup k) g
 
 -- ---- and the guard itself, once nothing is broken
 
@@ -124,5 +124,9 @@ abbrev pub groupIn : ℕ → Sign → List Literal → Leaf
 groupIn n s [] = group everyone s is 0
 groupIn n s (l ∷ ls) = group (orEveryone (kindOf n (l ∷ ls))) s (l .relation) (l .d)
 
+-- the leaf that stands there
+abbrev pub leafIn : ℕ → Literals → Leaf
+leafIn n x = groupIn n (x .sign) (x .literals)
+
 abbrev pub guardIn : ℕ → Formula Literals → Guard
-guardIn n g = over (λ x. groupIn n (x .sign) (x .literals)) g
+guardIn n g = over (leafIn n) g

@@ -38,7 +38,7 @@ judged e c fine = taken c
 judged e c (wrong r p) = refused r (placeOf e p)
 
 abbrev pub shaped : ℕ → Result CardShape → Outcome
-shaped e (ok c _) = judged e (cardIn c) (firstBroken (seatsIn c) (c .k) (judgedCard c))
+shaped e (ok c _) = judged e (cardIn c) (firstBroken (seatsIn c) (judgedCard c))
 shaped e (stop r p) = refused r (placeOf e p)
 
 abbrev pub marked : ℕ → List Placed → Option ℕ → Outcome

@@ -37,20 +37,20 @@ pub record Symmetric (n : ℕ) (ls : List Literal) : Type 0 where
   pub ds : Every (λ l. l .d ≡ d) ls
   pub seats : OnceEach 1 n ls ⊎ OnceEach 2 n ls
 
--- ---- each judgement, on a card of n seats with top state k
+-- ---- each judgement, on a card of n seats
 
 -- in a sum a weight that breaks its own rule counts nothing: it stands before the sum
-abbrev pub Kept : ℕ → ℕ → Judgement → Type 0
-Kept n k (state v p) = v ≤ k
-Kept n k (word due was p) = was ≡ due
-Kept n k (oneGroup g) = Symmetric n (g .literals)
-Kept n k (weight w p) = (u : ℕ) × Worth cardRule w u
-Kept n k (sum ws p) = totalUnits ws ≡ unit
+abbrev pub Kept : ℕ → Judgement → Type 0
+Kept n (state most v p) = v ≤ most
+Kept n (word due was p) = was ≡ due
+Kept n (oneGroup g) = Symmetric n (g .literals)
+Kept n (weight w p) = (u : ℕ) × Worth cardRule w u
+Kept n (sum ws p) = totalUnits ws ≡ unit
 
 -- the rows of the table: how a rule is broken, and the refusal that is due
-pub data Breaks (n k : ℕ) : ℕ → Judgement → Type 0 where
-  above : {v : ℕ} {p : Place} → k < v → Breaks n k aboveTop (state v p)
-  other : {due was : ℕ} {p : Place} → (was ≡ due → ⊥) → Breaks n k notDue (word due was p)
-  uneven : {g : Literals} → (Symmetric n (g .literals) → ⊥) → Breaks n k notDue (oneGroup g)
-  worthless : {w : Weight} {p : Place} → ((u : ℕ) → Worth cardRule w u → ⊥) → Breaks n k wrongWeight (weight w p)
-  unequal : {ws : List Weight} {p : Place} → (totalUnits ws ≡ unit → ⊥) → Breaks n k wrongWeight (sum ws p)
+pub data Breaks (n : ℕ) : ℕ → Judgement → Type 0 where
+  above : {most v : ℕ} {p : Place} → most < v → Breaks n aboveTop (state most v p)
+  other : {due was : ℕ} {p : Place} → (was ≡ due → ⊥) → Breaks n notDue (word due was p)
+  uneven : {g : Literals} → (Symmetric n (g .literals) → ⊥) → Breaks n notDue (oneGroup g)
+  worthless : {w : Weight} {p : Place} → ((u : ℕ) → Worth cardRule w u → ⊥) → Breaks n wrongWeight (weight w p)
+  unequal : {ws : List Weight} {p : Place} → (totalUnits ws ≡ unit → ⊥) → Breaks n wrongWeight (sum ws p)

@@ -111,7 +111,7 @@ pub record Shaped (s : List ℕ) : Type 0 where
 
 -- on a card of this shape
 abbrev pub KeptOn : CardShape → Judgement → Type 0
-KeptOn c j = Kept (seatsIn c) (c .k) j
+KeptOn c j = Kept (seatsIn c) j
 
 -- ---- 5, 6 and 7
 
@@ -124,7 +124,7 @@ pub record Broken (r : ℕ) (s : List ℕ) (p : ℕ) : Type 0 where
   pub shaped : Shaped s
   pub judgement : Judgement
   pub judged : In judgement (judgedCard (shaped .shape))
-  pub broken : Breaks (seatsIn (shaped .shape)) (shaped .shape .k) r judgement
+  pub broken : Breaks (seatsIn (shaped .shape)) r judgement
   pub place : placeOf (length s) (placeIn judgement) ≡ p
   pub earlier : (j : Judgement) → In j (judgedCard (shaped .shape)) → placeOf (length s) (placeIn j) < p → KeptOn (shaped .shape) j
 

@@ -24,8 +24,8 @@ use Rattle.texts.specs.Writing.{literal, literals, groupText}
 use Rattle.rereading.proofs.Lexed.{Apart, number-mark, seat-mark}
 
 -- a judgement that is not broken
-abbrev pub Kept : ℕ → ℕ → Judgement → Type 0
-Kept n k j = broken n k j ≡ none
+abbrev pub Kept : ℕ → Judgement → Type 0
+Kept n j = broken n j ≡ none
 
 -- ---- literals of the seats from i on, c of them
 
@@ -128,7 +128,7 @@ module _ (e : ℕ) where
     pub found : Literals
     pub said : GuardSaid GroupSaid unary ms (atom found) rest
     pub means : groupIn n (found .sign) (found .literals) ≡ a
-    pub kept : Every (Kept n k) (judgedGroup found)
+    pub kept : Every (Kept n) (judgedGroup k found)
     pub within : (nodes around : ℕ) → suc nodes ≤ mostNodes → Every Within (countedGuard nodes around said)
 
   module _ (n k : ℕ) (kind : Kind) (s : Sign) (q : Relation) (d : ℕ) (h : firstSeat kind ≤ n) (v : d ≤ k) where
@@ -141,7 +141,7 @@ module _ (e : ℕ) where
     means-there : (p : Place) (ls : List Literal) → Run q d (suc (firstSeat kind)) (n - firstSeat kind) ls → groupIn n s (literalOf (firstSeat kind) q d p ∷ ls) ≡ group kind s q d
     means-there p ls r = rw (kind-is q d kind n (literalOf (firstSeat kind) q d p ∷ ls) h (refl, refl, refl, r))
 
-    kept-there : (at p : Place) (ls : List Literal) → Run q d (suc (firstSeat kind)) (n - firstSeat kind) ls → Every (Kept n k) (judgedGroup (literalsOf at s (literalOf (firstSeat kind) q d p ∷ ls)))
+    kept-there : (at p : Place) (ls : List Literal) → Run q d (suc (firstSeat kind)) (n - firstSeat kind) ls → Every (Kept n) (judgedGroup k (literalsOf at s (literalOf (firstSeat kind) q d p ∷ ls)))
     kept-there at p ls r = (rw (symmetric-there p ls r), (rw (le-leb d k v), tt))
 
     -- behind the bracket at a

@@ -31,7 +31,7 @@ pub record GuardWritten (n k : ℕ) (v : Part) (deep : ℕ) (g : Guard) (ms rest
   pub found : Formula Literals
   pub said : GuardSaid GroupSaid v ms found rest
   pub means : guardIn n found ≡ g
-  pub kept : Every (Kept n k) (judgedGuard found)
+  pub kept : Every (Kept n) (judgedGuard k found)
   pub large : size found ≡ size g
   pub within : (nodes around : ℕ) → nodes + size g ≤ mostNodes → around + deep ≤ mostDepth → Every Within (countedGuard nodes around said)
 
@@ -65,7 +65,7 @@ module _ {n k : ℕ} where
     found = and (w .found) (u .found);
     said = further (w .said) (u .said);
     means = ap₂ and (w .means) (u .means);
-    kept = every-append (Kept n k) (judgedGuard (w .found)) (judgedGuard (u .found)) (w .kept) (u .kept);
+    kept = every-append (Kept n) (judgedGuard k (w .found)) (judgedGuard k (u .found)) (w .kept) (u .kept);
     large = omega (arith, w .large, u .large);
     within = λ nodes around l m.
         let later : Every Within (counted (suc (nodes + size (w .found))) mostNodes (signAt "&" a ∷ ns) ∷ countedGuard (suc (nodes + size (w .found))) around (u .said))
@@ -79,7 +79,7 @@ module _ {n k : ℕ} where
     found = or (w .found) (u .found);
     said = further (w .said) (u .said);
     means = ap₂ or (w .means) (u .means);
-    kept = every-append (Kept n k) (judgedGuard (w .found)) (judgedGuard (u .found)) (w .kept) (u .kept);
+    kept = every-append (Kept n) (judgedGuard k (w .found)) (judgedGuard k (u .found)) (w .kept) (u .kept);
     large = omega (arith, w .large, u .large);
     within = λ nodes around l m.
         let later : Every Within (counted (suc (nodes + size (w .found))) mostNodes (signAt "|" a ∷ ns) ∷ countedGuard (suc (nodes + size (w .found))) around (u .said))

@@ -53,7 +53,7 @@ module _ (e : ℕ) where
     found : List (List Numbered)
     said : ManySaid (LineSaid moduleRun) ms found rest
     many : length found ≡ c
-    kept : Every (Kept n k) (judgedModules i found)
+    kept : Every (Kept n) (judgedModules i found)
     within : i + c ≤ suc mostSeats → Every Within (countedMany countedModule i said)
 
   modules-made : (n k i c : ℕ) (ms ns rest : Place) → LineWritten moduleRun (dues i) ms ns → ModulesWritten n k (suc i) c ns rest → ModulesWritten n k i (suc c) ms rest
@@ -61,7 +61,7 @@ module _ (e : ℕ) where
     found = l .found ∷ w .found;
     said = again (l .said) (w .said);
     many = ap suc (w .many);
-    kept = every-append (Kept n k) (judgedWords (dues i) (l .found)) (judgedModules (suc i) (w .found)) (line-kept n k (dues i) (l .found) (l .due)) (w .kept);
+    kept = every-append (Kept n) (judgedWords (dues i) (l .found)) (judgedModules (suc i) (w .found)) (line-kept n (dues i) (l .found) (l .due)) (w .kept);
     within = λ h. (omega arith, w .within (omega arith));
   }
 
@@ -88,7 +88,7 @@ module _ (e : ℕ) where
     seats : seatsIn found ≡ c .n
     top : found .k ≡ c .k
     means : cardIn found ≡ c
-    kept : Every (Kept (c .n) (c .k)) (judgedCard found)
+    kept : Every (Kept (c .n)) (judgedCard found)
     within : Every Within (countedCard said)
 
   same-card : (mode : Mode) (n m k l : ℕ) (ss : List StatementShape) (xs : List Statement) → m ≡ n → map (statementIn n) ss ≡ xs
@@ -108,10 +108,10 @@ module _ (e : ℕ) where
     seats = all-seats;
     top = refl;
     means = same-card mode n (suc (length (ys .found))) k l (s .found ∷ ss .found) (x ∷ xs) all-seats (ap₂ _∷_ (s .means) (ss .means));
-    kept = every-append (Kept n k) (judgedWords (1 ∷ 1 ∷ []) (w .found)) _ (line-kept n k (1 ∷ 1 ∷ []) (w .found) (w .due)) (
+    kept = every-append (Kept n) (judgedWords (1 ∷ 1 ∷ []) (w .found)) _ (line-kept n (1 ∷ 1 ∷ []) (w .found) (w .due)) (
       rw (le-leb l k init),
-      every-append (Kept n k) (judgedStatement (s .found) ++ judgedEach judgedStatement (ss .found)) (judgedModules 2 (ys .found))
-          (every-append (Kept n k) (judgedStatement (s .found)) (judgedEach judgedStatement (ss .found)) (s .kept) (ss .kept))
+      every-append (Kept n) (judgedStatement k (s .found) ++ judgedEach (judgedStatement k) (ss .found)) (judgedModules 2 (ys .found))
+          (every-append (Kept n) (judgedStatement k (s .found)) (judgedEach (judgedStatement k) (ss .found)) (s .kept) (ss .kept))
           (ys .kept),
     );
     within = (
@@ -216,11 +216,11 @@ none-past cs q w f = go (f .before) (f .first) (f .after) (subst (Every Within) 
     go [] c ys w p = omega (arith, w .0)
     go (x ∷ xs) c ys w p = go xs c ys (w .1) p
 
-none-broken : (n k : ℕ) (js : List Judgement) → Every (Kept n k) js → firstBroken n k js ≡ fine
-none-broken n k [] w = refl
-none-broken n k (j ∷ js) w = rw (w .0) (none-broken n k js (w .1))
+none-broken : (n : ℕ) (js : List Judgement) → Every (Kept n) js → firstBroken n js ≡ fine
+none-broken n [] w = refl
+none-broken n (j ∷ js) w = rw (w .0) (none-broken n js (w .1))
 
-said-read : (ms : Place) (x : CardShape) (d : CardSaid ms x) → Every Within (countedCard d) → (e : ℕ) (c : Card) → cardIn x ≡ c → firstBroken (seatsIn x) (x .k) (judgedCard x) ≡ fine
+said-read : (ms : Place) (x : CardShape) (d : CardSaid ms x) → Every Within (countedCard d) → (e : ℕ) (c : Card) → cardIn x ≡ c → firstBroken (seatsIn x) (judgedCard x) ≡ fine
     → shaped e (readCard (at ms 0)) ≡ taken c
 said-read ms x d w e c m b = go (card-runs d 0)
   where
@@ -232,7 +232,7 @@ said-read ms x d w e c m b = go (card-runs d 0)
 marks-mean : (c : Card) → ValidCard c → shaped (length (writeOf c)) (readCard (at (marksOf (writeOf c)) 0)) ≡ taken c
 marks-mean c v =
     let w = card-written (length (writeOf c)) c v in
-    let b : firstBroken (seatsIn (w .found)) (w .found .k) (judgedCard (w .found)) ≡ fine = rw (w .seats, w .top) (none-broken (c .n) (c .k) (judgedCard (w .found)) (w .kept)) in
+    let b : firstBroken (seatsIn (w .found)) (judgedCard (w .found)) ≡ fine = rw (w .seats) (none-broken (c .n) (judgedCard (w .found)) (w .kept)) in
     said-read (marksOf (writeOf c)) (w .found) (w .said) (w .within) (length (writeOf c)) c (w .means) b
 
 -- an accepted card written out and read again is the same card

@@ -52,11 +52,11 @@ pub record LineWritten (items : List Item) (dues : List ℕ) (ms rest : Place) :
   pub said : LineSaid items ms found rest
   pub due : Due dues found
 
-pub line-kept : (n k : ℕ) (dues : List ℕ) (ws : List Numbered) → Due dues ws → Every (Kept n k) (judgedWords dues ws)
-line-kept n k [] [] h = tt
-line-kept n k [] (w ∷ ws) h = absurd h
-line-kept n k (d ∷ ds) [] h = absurd h
-line-kept n k (d ∷ ds) (w ∷ ws) h = (rw (eq-eqb (w .value) d (h .0)), line-kept n k ds ws (h .1))
+pub line-kept : (n : ℕ) (dues : List ℕ) (ws : List Numbered) → Due dues ws → Every (Kept n) (judgedWords dues ws)
+line-kept n [] [] h = tt
+line-kept n [] (w ∷ ws) h = absurd h
+line-kept n (d ∷ ds) [] h = absurd h
+line-kept n (d ∷ ds) (w ∷ ws) h = (rw (eq-eqb (w .value) d (h .0)), line-kept n ds ws (h .1))
 
 -- ---- weights
 
@@ -114,7 +114,7 @@ module _ (e : ℕ) where
     pub found : BranchShape
     pub said : BranchSaid ms found rest
     pub means : branchIn found ≡ b
-    pub kept : Every (Kept n k) (judgedBranch found)
+    pub kept : Every (Kept n) (judgedBranch k found)
     pub units : unitsIn (found .weight) ≡ b .units
 
   module _ (n k : ℕ) (small-k : k < 10 ^ numberDigits) where
@@ -124,7 +124,7 @@ module _ (e : ℕ) where
       found = record { place = ms; weight = lowest (b .units); words = l .found; end = valued (b .end) (placed (number (b .end)) a ∷ signAt ")" c ∷ rest) };
       said = branch w (l .said);
       means = ap (λ (u : ℕ). record { units = u; end = b .end }) (ap orZero worth);
-      kept = (weighs (unitsOf cardRule (lowest (b .units))) worth, every-append (Kept n k) (judgedWords (1 ∷ []) (l .found)) _ (line-kept n k (1 ∷ []) (l .found) (l .due)) (rw (le-leb (b .end) k (v .end)), tt));
+      kept = (weighs (unitsOf cardRule (lowest (b .units))) worth, every-append (Kept n) (judgedWords (1 ∷ []) (l .found)) _ (line-kept n (1 ∷ []) (l .found) (l .due)) (rw (le-leb (b .end) k (v .end)), tt));
       units = ap orZero worth;
     }
       where
@@ -147,7 +147,7 @@ module _ (e : ℕ) where
       pub found : List BranchShape
       pub said : ManySaid PlusSaid ms found rest
       pub means : map branchIn found ≡ bs
-      pub kept : Every (Kept n k) (judgedEach judgedBranch found)
+      pub kept : Every (Kept n) (judgedEach (judgedBranch k) found)
       pub units : totalUnits (map weightIn found) ≡ total bs
       pub within : (i : ℕ) → i + length bs ≤ suc mostBranches → Every Within (countedMany countedPlus i said)
 
@@ -156,7 +156,7 @@ module _ (e : ℕ) where
       found = w .found ∷ u .found;
       said = again (plus (w .said)) (u .said);
       means = ap₂ _∷_ (w .means) (u .means);
-      kept = every-append (Kept n k) (judgedBranch (w .found)) (judgedEach judgedBranch (u .found)) (w .kept) (u .kept);
+      kept = every-append (Kept n) (judgedBranch k (w .found)) (judgedEach (judgedBranch k) (u .found)) (w .kept) (u .kept);
       units = ap₂ _+_ (w .units) (u .units);
       within = λ i h. (omega arith, u .within (suc i) (omega arith));
     }
@@ -173,7 +173,7 @@ module _ (e : ℕ) where
       found : Option (Formula Literals)
       said : RestSaid ms found rest
       means : guardIn′ n found ≡ g
-      kept : Every (Kept n k) (judgedOr found)
+      kept : Every (Kept n) (judgedOr k found)
       within : Every Within (countedRest said)
 
     rest-made : (g : Guard) (a : ℕ) (ms rest : Place) → size g ≤ mostNodes → depth middle g ≤ mostDepth → GuardWritten n k (joinedBy all) (depth middle g) g ms rest → RestWritten (some g) (signAt "&" a ∷ ms) rest
@@ -197,7 +197,7 @@ module _ (e : ℕ) where
       pub found : StatementShape
       pub said : StatementSaid ms found rest
       pub means : statementIn n found ≡ x
-      pub kept : Every (Kept n k) (judgedStatement found)
+      pub kept : Every (Kept n) (judgedStatement k found)
       pub within : (i : ℕ) → i ≤ mostStatements → Every Within (countedStatement ms rest found i said)
 
     statement-made : (j : ℕ) (g : Option Guard) (b : Branch) (bs : List Branch) (a p c : ℕ) (ms ns os qs rest : Place)
@@ -211,11 +211,11 @@ module _ (e : ℕ) where
       found = record { words = l .found; own = valued j (placed (number j) a ∷ ns); guard = w .found; branches = d .found ∷ ds .found; close = signAt ";" c ∷ rest };
       said = statement (l .said) (w .said) (d .said) (ds .said);
       means = ap₂ (λ (y : Option Guard) (z : List Branch). record { own = j; guard = y; branches = z }) (w .means) (ap₂ _∷_ (d .means) (ds .means));
-      kept = every-append (Kept n k) (judgedWords (1 ∷ []) (l .found)) _ (line-kept n k (1 ∷ []) (l .found) (l .due)) (
+      kept = every-append (Kept n) (judgedWords (1 ∷ []) (l .found)) _ (line-kept n (1 ∷ []) (l .found) (l .due)) (
         rw (le-leb j k h),
-        every-append (Kept n k) (judgedOr (w .found)) _ (w .kept)
-            (every-append (Kept n k) (judgedBranch (d .found) ++ judgedEach judgedBranch (ds .found)) _
-            (every-append (Kept n k) (judgedBranch (d .found)) (judgedEach judgedBranch (ds .found)) (d .kept) (ds .kept))
+        every-append (Kept n) (judgedOr k (w .found)) _ (w .kept)
+            (every-append (Kept n) (judgedBranch k (d .found) ++ judgedEach (judgedBranch k) (ds .found)) _
+            (every-append (Kept n) (judgedBranch k (d .found)) (judgedEach (judgedBranch k) (ds .found)) (d .kept) (ds .kept))
             (sum-kept, tt)),
       );
       within = λ i m. (m, every-append Within (countedRest (w .said)) _ (w .within) (omega (arith, few), ds .within 2 (omega arith)));
@@ -249,7 +249,7 @@ module _ (e : ℕ) where
       pub found : List StatementShape
       pub said : ManySaid StatementSaid ms found rest
       pub means : map (statementIn n) found ≡ xs
-      pub kept : Every (Kept n k) (judgedEach judgedStatement found)
+      pub kept : Every (Kept n) (judgedEach (judgedStatement k) found)
       pub within : (i : ℕ) → i + length xs ≤ suc mostStatements → Every Within (countedMany countedStatement i said)
 
     statements-made : (x : Statement) (xs : List Statement) (ms ns rest : Place) → StatementWritten x ms ns → StatementsWritten xs ns rest → StatementsWritten (x ∷ xs) ms rest
@@ -257,7 +257,7 @@ module _ (e : ℕ) where
       found = w .found ∷ u .found;
       said = again (w .said) (u .said);
       means = ap₂ _∷_ (w .means) (u .means);
-      kept = every-append (Kept n k) (judgedStatement (w .found)) (judgedEach judgedStatement (u .found)) (w .kept) (u .kept);
+      kept = every-append (Kept n) (judgedStatement k (w .found)) (judgedEach (judgedStatement k) (u .found)) (w .kept) (u .kept);
       within = λ i h. every-append Within (countedStatement ms ns (w .found) i (w .said)) (countedMany countedStatement (suc i) (u .said)) (w .within i (omega arith)) (u .within (suc i) (omega arith));
     }
 

@@ -37,13 +37,13 @@ module _ (s : List ℕ) (i : ℕ) (e : begun (bytes "]s1=") (drop i s) ≡ true)
   pub own-passed : (state : List ℕ) → Sized state → OwnFrom s i (lateIn state) (after state (i + 4))
   own-passed state sized = record { answers = passed; sized = sized }
     where
-      passed : (run : List Due) → Sure run → kind "]" ∷ kSeat ∷ kind "=" ∷ [] ≡ kindsIn run → 0 ∷ 1 ∷ 0 ∷ [] ≡ numbersIn run → (k n : ℕ) → LineRead s k (lateIn state) (duesIn run) (line (itemsIn run) (from s i n)) (after state (i + 4))
-      passed run h kinds dues k n =
+      passed : (run : List Due) → Sure run → kind "]" ∷ kSeat ∷ kind "=" ∷ [] ≡ kindsIn run → 0 ∷ 1 ∷ 0 ∷ [] ≡ numbersIn run → (n : ℕ) → LineRead s (lateIn state) (duesIn run) (line (itemsIn run) (from s i n)) (after state (i + 4))
+      passed run h kinds dues n =
           let to : i + 1 + 1 + 1 + 1 ≡ i + 4 = omega arith in
           let p1 = i + 1 in
           let p3 = i + 1 + 1 + 1 in
-          run-end s k n (i + 4) (lateIn state) _ []
-          (run-more s k n p3 (lateIn state) (bareOf 61 p3 (i + 4)) (next-at s p3 (bareOf 61 p3 (i + 4)) (sym (sign-by s 61 p3 (i + 4) (sym to) refl refl (own-equal .place) (own-equal .byte)))) _ (kind "=") [] 0 []
-          (run-more s k n p1 (lateIn state) (valuedOf kSeat 1 p1 p3) (next-at s p1 (valuedOf kSeat 1 p1 p3) (sym (word-by s p1 (own-word .place) (own-word .byte) (own-digit .place) (own-digit .byte) (own-equal .place) (ap inWord (own-equal .byte))))) _ kSeat (kind "=" ∷ []) 1 (0 ∷ [])
-          (run-more s k n i (lateIn state) (bareOf 93 i p1) (next-at s i (bareOf 93 i p1) (sym (sign-by s 93 i p1 refl refl refl (own-bracket .place) (own-bracket .byte)))) _ (kind "]") (kSeat ∷ kind "=" ∷ []) 0 (1 ∷ 0 ∷ [])
+          run-end s n (i + 4) (lateIn state) _ []
+          (run-more s n p3 (lateIn state) (bareOf 61 p3 (i + 4)) (next-at s p3 (bareOf 61 p3 (i + 4)) (sym (sign-by s 61 p3 (i + 4) (sym to) refl refl (own-equal .place) (own-equal .byte)))) _ (kind "=") [] 0 []
+          (run-more s n p1 (lateIn state) (valuedOf kSeat 1 p1 p3) (next-at s p1 (valuedOf kSeat 1 p1 p3) (sym (word-by s p1 (own-word .place) (own-word .byte) (own-digit .place) (own-digit .byte) (own-equal .place) (ap inWord (own-equal .byte))))) _ kSeat (kind "=" ∷ []) 1 (0 ∷ [])
+          (run-more s n i (lateIn state) (bareOf 93 i p1) (next-at s i (bareOf 93 i p1) (sym (sign-by s 93 i p1 refl refl refl (own-bracket .place) (own-bracket .byte)))) _ (kind "]") (kSeat ∷ kind "=" ∷ []) 0 (1 ∷ 0 ∷ [])
           (record { rest = run; sure = h; kinds-left = kinds; dues-left = dues; answered = λ r y. y }) refl) refl) refl) (λ z. omega arith) state refl

@@ -47,7 +47,7 @@ use Rattle.parts.proofs.Lines.{assoc, sign-took, sign-behind, sign-fits, sign-m
 
 record GuardIs (s : List ℕ) (k : ℕ) (before : Late) (was is : List ℕ) (used n : ℕ) (g : Formula Literals) (state : List ℕ) : Type 0 where
   left : size g + leftIn state ≡ n
-  late : lateIn state ≡ judgeAll (length s) k (judgedGuard g) before
+  late : lateIn state ≡ judgeAll (length s) (judgedGuard k g) before
   nodes : is ≡ stored was used (cells (guardBy g) used)
   sized : Sized state
 
@@ -198,8 +198,8 @@ module _ (s : List ℕ) (i k : ℕ) (before : Late) (was is : Lent) (index : ℕ
   StatementIs = StatementFrom s i k before was is index
 
   module _ (a : List ℕ) {w : ℕ} (hw : OwnFrom s i before (after a w)) where
-    owned : (n : ℕ) → LineRead s k before (1 ∷ []) (line statementRest (from s i n)) (after a w)
-    owned n = hw .answers statementDue statement-sure refl refl k n
+    owned : (n : ℕ) → LineRead s before (1 ∷ []) (line statementRest (from s i n)) (after a w)
+    owned n = hw .answers statementDue statement-sure refl refl n
 
     pub words-halt : w ≡ 0 → StatementIs (after a 0)
     words-halt e = record { answers = λ st n b. rw b (halted s _ _ (line statementRest (from s i n)) _ a w (owned n) e); sized = hw .sized }
@@ -214,7 +214,7 @@ module _ (s : List ℕ) (i k : ℕ) (before : Late) (was is : Lent) (index : ℕ
 
       module _ (ej : j ≡ 0 → ⊥) (d : List ℕ) {g : ℕ} (hg : GuardedFrom s j k (lateIn c) (was .nodes) (is .nodes) (index * mostNodes) (after d g)) where
         behind-own : (r : After) (st : State) (n : ℕ) → sign "[" st ≡ ok tt (from s i n)
-            → ((ws : List Numbered) (own : Numbered) → Kept s k before (judgedWords (1 ∷ []) ws) a → Went s k (lateIn a) (own .value) (judgedState own ∷ []) c
+            → ((ws : List Numbered) (own : Numbered) → Kept s before (judgedWords (1 ∷ []) ws) a → Went s (lateIn a) (own .value) (judgedState k own ∷ []) c
             → StatementRead s k before was is index (bind (guarded (from s j mostNodes)) (λ f s₁. bind (branches (mostBranches - 1) s₁) (λ x. return (stated ws own f x)))) r)
             → StatementRead s k before was is index (statement st) r
         behind-own r st n b y = rw b (onward s _ _ (line statementRest (from s i n)) _ a w r (owned n) ew λ ws m f.
@@ -252,8 +252,8 @@ module _ (s : List ℕ) (i k : ℕ) (before : Late) (was is : Lent) (index : ℕ
                   rest = refl;
                   told = record {
                     late = f₃ .went .late
-                        ∙ ap (judgeAll (length s) k (judgedBranches x)) (f₂ .went .late ∙ ap (judgeAll (length s) k (judgedOr h)) (f₁ .late ∙ ap (judge (length s) k (judgedState own)) f))
-                        ∙ sym (judge-append (length s) k (judgedWords (1 ∷ []) ws) _ before ∙ judge-append (length s) k (judgedOr h) (judgedBranches x) _);
+                        ∙ ap (judgeAll (length s) (judgedBranches k x)) (f₂ .went .late ∙ ap (judgeAll (length s) (judgedOr k h)) (f₁ .late ∙ ap (judge (length s) (judgedState k own)) f))
+                        ∙ sym (judge-append (length s) (judgedWords (1 ∷ []) ws) _ before ∙ judge-append (length s) (judgedOr k h) (judgedBranches k x) _);
                     memory = λ q. lent ((rows ∙ row-written (stated ws own h x) (f₁ .value) (f₂ .went .value) (f₃ .went .value)) q) (f₂ .array q) (f₃ .array q);
                   };
                 };
@@ -299,7 +299,7 @@ at-bracket (suc most) s i x v e n = another "[" statement (refuse pastLimit) end
 
 -- with the statements so far counted in
 pub record Counted (s : List ℕ) (k i : ℕ) (before : Late) (was is : Lent) (xs : List StatementShape) (state : List ℕ) : Type 0 where
-  pub went : Went s k before (i + length xs) (judgedEach judgedStatement xs) state
+  pub went : Went s before (i + length xs) (judgedEach (judgedStatement k) xs) state
   pub memory : is ≡ filled i xs was
 
 abbrev pub RestRead : List ℕ → ℕ → ℕ → Late → Lent → Lent → Result (List StatementShape) → After → Type 0
@@ -333,7 +333,7 @@ module _ (s : List ℕ) (k i : ℕ) (late : Late) (was is : Lent) (most : ℕ) (
           made s _ _ (further most (from s x m)) (more a) r (y m) λ xs h. record {
             went = record {
               value = omega (arith, h .went .value);
-              late = h .went .late ∙ ap (judgeAll (length s) k (judgedEach judgedStatement xs)) (g .late) ∙ sym (judge-append (length s) k (judgedStatement a) (judgedEach judgedStatement xs) late);
+              late = h .went .late ∙ ap (judgeAll (length s) (judgedEach (judgedStatement k) xs)) (g .late) ∙ sym (judge-append (length s) (judgedStatement k a) (judgedEach (judgedStatement k) xs) late);
             };
             memory = h .memory ∙ ap (filled (i + 1) xs) (g .memory);
           }

@@ -41,7 +41,7 @@ guardOrBy none = none
 guardOrBy (some g) = some (guardBy g)
 
 pub record GuardedIn (s : List ℕ) (k : ℕ) (before : Late) (was is : List ℕ) (used : ℕ) (g : Option (Formula Literals)) (state : List ℕ) : Type 0 where
-  pub went : Went s k before (guardSize (guardOrBy g)) (judgedOr g) state
+  pub went : Went s before (guardSize (guardOrBy g)) (judgedOr k g) state
   pub array : is ≡ stored was used (guardCells (guardOrBy g) used)
 
 abbrev pub GuardedRead : List ℕ → ℕ → Late → List ℕ → List ℕ → ℕ → Result (Option (Formula Literals)) → After → Type 0
@@ -65,7 +65,7 @@ withStatement i x a =
     (stored (a .branches) (i * mostBranches) (map packedIn (x .branches)))
 
 pub record StatementIn (s : List ℕ) (k : ℕ) (before : Late) (was is : Lent) (index : ℕ) (x : StatementShape) (state : List ℕ) : Type 0 where
-  pub late : Kept s k before (judgedStatement x) state
+  pub late : Kept s before (judgedStatement k x) state
   pub memory : is ≡ withStatement index x was
 
 abbrev pub StatementRead : List ℕ → ℕ → Late → Lent → Lent → ℕ → Result StatementShape → After → Type 0
@@ -92,7 +92,7 @@ filled i (x ∷ xs) a = filled (i + 1) xs (withStatement i x a)
 
 -- the number is that of the statements
 pub record StatementsIn (s : List ℕ) (k : ℕ) (before : Late) (was is : Lent) (xs : List StatementShape) (state : List ℕ) : Type 0 where
-  pub went : Went s k before (length xs) (judgedEach judgedStatement xs) state
+  pub went : Went s before (length xs) (judgedEach (judgedStatement k) xs) state
   pub memory : is ≡ filled 0 xs was
 
 abbrev pub StatementsRead : List ℕ → ℕ → Late → Lent → Lent → Result (List StatementShape) → After → Type 0
