@@ -5,15 +5,12 @@ cd "$(dirname "${BASH_SOURCE[0]}")/.."
 seen=0
 wrong=0
 
-# proved NAME: the number that a definition in some crate's specs/ gives the name, written out or reckoned from other such names
+# proved NAME: the number that the promises give the name, by computation
 proved() {
-    local given name
-    given=$(sed -n "s/^$1 = //p" crates/*/specs/*.antt)
-    for name in $(grep -oE '[A-Za-z]+' <<<"$given" | sort -u); do
-        given=$(sed "s/\b$name\b/$(proved "$name")/g" <<<"$given")
-    done
-    [[ $given =~ ^[0-9\ +*\(\)-]+$ ]] || { echo "numbers: specs/ give $1 no number, or two" >&2 && return 1; }
-    echo $((given))
+    local given
+    given=$(sed -n "s/^  pub [a-z0-9-]* : $1 ≡ \([0-9]*\)$/\1/p" crates/promises/specs/Figures.antt)
+    [[ $given =~ ^[0-9]+$ ]] || { echo "numbers: the promises give $1 no number, or two" >&2 && return 1; }
+    echo "$given"
 }
 
 # same NAME DEFINITION HEADER WRAPPER
@@ -43,7 +40,7 @@ number CARD_BYTES cardBytes
 number SEATS mostSeats
 number TOP_STATE topState
 number WRITE_ROOM writtenRoom
-number REDUCE_ROOM reducedMost
+number REDUCE_ROOM reducedRoom
 number SHOW_ROOM panelRoom
 
 refusal LONG Long tooLong

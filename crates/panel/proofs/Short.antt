@@ -28,7 +28,7 @@ use Rattle.meaning.proofs.Panel.{panel-by-counts}
 use Rattle.lines.specs.PanelText.{numbers, line, movesText, stayText, blockText, blocksText, panelText, panelOf}
 use Rattle.lines.proofs.Laws.{moves-join}
 use Rattle.lines.proofs.Blocks.{own-moves}
-use Rattle.panel.specs.PanelRoom.{panelRoom}
+use Rattle.panel.specs.PanelRoom.{choiceMost, panelRoom}
 
 -- ---- lines
 
@@ -105,9 +105,6 @@ module _ (d k : ℕ) (h : k ≤ topState) where
       below-each (suc n) m = omega (arith, below-each n m)
 
 -- ---- blocks
-
-abbrev choiceMost : ℕ
-choiceMost = 126
 
 abbrev weightsMost : ℕ
 weightsMost = 1022

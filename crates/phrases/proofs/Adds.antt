@@ -15,7 +15,7 @@ use Rattle.card.specs.Card.{Mode, nondeterministic, probabilistic}
 use Rattle.card.specs.Weight.{Weight, whole, ratio}
 use Rattle.room.specs.Digits.{decimal}
 use Rattle.room.proofs.Decimal.{decimal-length}
-use Rattle.phrases.specs.Phrases.{_▸_, num, modeText, divisor, lowest, spell, weightText}
+use Rattle.phrases.specs.Phrases.{_▸_, num, modeText, divisor, lowest, spell, weightMost, weightText}
 use Rattle.phrases.proofs.Counted.{Text}
 
 -- a text adds so many bytes at most
@@ -46,9 +46,6 @@ adds-state d h = adds-digits 0 d (omega arith)
 
 pub adds-seats : (v : ℕ) → v ≤ mostSeats → Adds 2 (num v)
 adds-seats v h = adds-digits 1 v (omega arith)
-
-abbrev pub weightMost : ℕ
-weightMost = 1 + 2 * numberDigits
 
 pub adds-choice : (b : Bool) (x y : Weight) → (b ≡ true → Adds weightMost (spell x)) → (b ≡ false → Adds weightMost (spell y))
     → Adds weightMost (spell (if b then x else y))

@@ -5,7 +5,7 @@ use Prim.Native.String.{String}
 use mathlib.Core.Path.{_≡_}
 use mathlib.Core.List.{List, _++_}
 use lib.Dec.{eqb, leb}
-use Rattle.card.specs.Limits.{unit}
+use Rattle.card.specs.Limits.{numberDigits, unit}
 use Rattle.card.specs.Text.{bytes, if_then_else_}
 use Rattle.card.specs.Card.{Mode, nondeterministic, probabilistic}
 use Rattle.card.specs.Weight.{Weight, whole, decimal as point, ratio}
@@ -35,6 +35,10 @@ counted f i zero r = r
 counted f i (suc c) r = f i (counted f (suc i) c r)
 
 -- ---- weights, `0`, `1` or a fraction in lowest terms
+
+-- a fraction has two numbers and a sign between them at most
+abbrev pub weightMost : ℕ
+weightMost = 1 + 2 * numberDigits
 
 -- a/b is u units, and no number but 1 divides both
 pub record LowestTerms (u a b : ℕ) : Type 0 where

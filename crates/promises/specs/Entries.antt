@@ -23,10 +23,10 @@ use Rattle.room.specs.Answer.{Text, answerNumber, answerValue, Entered}
 use Rattle.meaning.specs.Seats.{ValidSeating}
 use Rattle.counting.specs.Judged.{FirstAbove}
 use Rattle.texts.specs.Writing.{writeOf}
-use Rattle.texts.specs.WrittenMost.{writtenRoom}
+use Rattle.texts.specs.Lengths.{writtenRoom}
 use Rattle.writer.specs.WriteSaid.{writeSaid}
 use Rattle.texts.specs.ReducedText.{reducedOf}
-use Rattle.texts.specs.Copies.{reducedMost}
+use Rattle.texts.specs.Lengths.{reducedRoom}
 use Rattle.reducer.specs.ReduceSaid.{reduceSaid}
 use Rattle.lines.specs.PanelText.{panelOf}
 use Rattle.panel.specs.PanelSaid.{panelSaid}
@@ -88,11 +88,11 @@ RoomEnough room said = (was is : List ℕ) (a : Answer) → Entered was is said 
 -- rooms that every text fits into, whatever the card and the seats
 pub record Rooms : Type 0 where
   pub written : (card : List ℕ) → RoomEnough writtenRoom (writeSaid card)
-  pub reduced : (card : List ℕ) → RoomEnough reducedMost (reduceSaid card)
+  pub reduced : (card : List ℕ) → RoomEnough reducedRoom (reduceSaid card)
   pub shown : (card seats : List ℕ) → RoomEnough panelRoom (panelSaid card seats)
   -- because no text is longer
   pub written-most : (c : Card) → ValidCard c → length (writeOf c) ≤ writtenRoom
-  pub reduced-most : (c : Card) → ValidCard c → length (reducedOf c) ≤ reducedMost
+  pub reduced-most : (c : Card) → ValidCard c → length (reducedOf c) ≤ reducedRoom
   pub shown-most : (c : Card) → ValidCard c → (seats : List ℕ) → ValidSeating c seats → length (panelOf c seats) ≤ panelRoom
 
 -- two results that keep one contract are the same

@@ -3,8 +3,7 @@ use mathlib.Core.Path.{_≡_}
 use Rattle.card.specs.Limits.{cardBytes, mostSeats, topState, mostStatements, mostBranches, mostNodes, mostDepth, numberDigits, furtherDigits, wordDigits, unit, weightDigits}
 use Rattle.card.specs.Refusals.{tooLong, outsideRules, outOfShape, pastLimit, aboveTop, notDue, wrongWeight, wrongSeats, seatAboveTop, roomTooSmall}
 use Rattle.room.specs.Digits.{digit}
-use Rattle.texts.specs.WrittenMost.{writtenRoom}
-use Rattle.texts.specs.Copies.{reducedMost}
+use Rattle.texts.specs.Lengths.{writtenRoom, reducedRoom}
 use Rattle.panel.specs.PanelRoom.{panelRoom}
 use Rattle.program.specs.Program.{inputBytes, lineEnd, noState}
 
@@ -42,5 +41,5 @@ pub record Figures : Type 0 where
   pub no-state : noState ≡ 255
   -- rooms that every text fits into; they are the project's own figures
   pub written-room : writtenRoom ≡ 82639
-  pub reduced-room : reducedMost ≡ 347890
+  pub reduced-room : reducedRoom ≡ 347890
   pub panel-room : panelRoom ≡ 4101

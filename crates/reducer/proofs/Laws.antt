@@ -19,7 +19,7 @@ use Rattle.room.proofs.Laws.{put-as}
 use Rattle.phrases.specs.Phrases.{Text, _▸_, modeText, counted}
 use Rattle.phrases.specs.Puts.{Puts}
 use Rattle.texts.specs.ReducedText.{counterLine, counters, programText, reducedOf}
-use Rattle.texts.specs.Copies.{reducedMost}
+use Rattle.texts.specs.Lengths.{reducedRoom}
 use Rattle.texts.proofs.ReducedShort.{short}
 use Rattle.statement_text.specs.Statements.{statementsText}
 use Rattle.statement_text.proofs.Both.{reduced-each}
@@ -52,8 +52,8 @@ program-text c p = put-as (ap (startText c) (sym (reduced-each (c .mode) (c .n) 
 -- ---- of a head and arrays that hold a card
 
 module _ {h : Head} {x : Lent} (v : HoldsIn h x) where
-  pub held-most : length (reducedOf (cardIn h x)) ≤ reducedMost
-  held-most = subst (λ (c : Card). length (reducedOf c) ≤ reducedMost) (sym (holds-card v)) (short (v .card) (v .valid))
+  pub held-most : length (reducedOf (cardIn h x)) ≤ reducedRoom
+  held-most = subst (λ (c : Card). length (reducedOf c) ≤ reducedRoom) (sym (holds-card v)) (short (v .card) (v .valid))
 
   pub held-cap : length (reducedOf (cardIn h x)) ≤ cap
   held-cap = omega (arith, held-most)

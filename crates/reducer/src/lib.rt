@@ -90,7 +90,7 @@ fn put_program<'a>(
     put_bytes(room, b, b"endmodule\n")
 }
 
-// A room that every reduced text fits into (texts/specs/Copies.antt).
+// A room that every reduced text fits into (texts/specs/Lengths.antt).
 pub const REDUCED_ROOM: usize = 347890;
 
 // A text up to this length is made once, beside the room, where the room may be too small.

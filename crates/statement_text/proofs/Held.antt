@@ -22,7 +22,7 @@ use Rattle.phrases.specs.Phrases.{Text, _▸_, num, weightText}
 use Rattle.texts.specs.Shared.{needed, always, tailText}
 use Rattle.texts.specs.Writing.{groupText}
 use Rattle.texts.specs.ReducedText.{counterText, updateText}
-use Rattle.texts.specs.Copies.{tailPlaces}
+use Rattle.texts.specs.Lengths.{tailPlaces}
 use Rattle.texts.proofs.ReducedShort.{short-rest}
 use Rattle.leaf_text.specs.Style.{styleOf}
 use Rattle.statement_text.specs.Statements.{restText, Fits, KeepsTail}

@@ -15,7 +15,7 @@ use Rattle.room.specs.Room.{cap}
 use Rattle.phrases.specs.Phrases.{Text, _▸_, counted}
 use Rattle.phrases.specs.Puts.{Puts}
 use Rattle.texts.specs.Shared.{formulaOr, summed}
-use Rattle.texts.specs.Copies.{tailPlaces}
+use Rattle.texts.specs.Lengths.{tailPlaces}
 use Rattle.leaf_text.specs.declared.Style.{Style}
 use Rattle.leaf_text.specs.Style.{styleOf, bracketsOf, leafText}
 use Rattle.branch_text.specs.Branches.{branchText}

@@ -11,7 +11,8 @@ use Rattle.card.specs.declared.Statement.{Statement as StatementRow}
 use Rattle.meaning.specs.Reduced.{moreThan, counter}
 use Rattle.phrases.specs.Phrases.{Text, _▸_, num, counted}
 use Rattle.texts.specs.Shared.{tailText}
-use Rattle.texts.specs.Copies.{reducedCopies, tailPlaces}
+use Rattle.texts.specs.Copies.{reducedCopies}
+use Rattle.texts.specs.Lengths.{tailPlaces}
 use Rattle.texts.specs.ReducedText.{counterText}
 use Rattle.leaf_text.specs.declared.Style.{Style}
 use Rattle.leaf_text.specs.Style.{styleOf, bracketsOf, leafText}

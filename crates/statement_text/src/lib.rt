@@ -26,7 +26,7 @@ ghost use Rattle.phrases.specs.Phrases.{counted};
 ghost use Rattle.phrases.specs.Puts.{Puts};
 ghost use Rattle.statement_text.specs.Statements.{firstText, restText, copyText, keptCopy, copyNumber, statementsText, Fits, KeepsTail};
 
-// Enough for what stands behind a first test of the reduced program (specs/Statements.antt).
+// Enough for what stands behind a first test of the reduced program (texts/specs/Lengths.antt).
 const TAIL_PLACES: usize = 668;
 
 // The first test: `s1=own`, or the counter of `own` above m.

@@ -14,6 +14,7 @@ use Rattle.card.specs.Valid.{Level, loose, middle, tight, size, Every, ValidLea
 use Rattle.phrases.specs.Phrases.{Text, _▸_, counted}
 use Rattle.phrases.proofs.Adds.{Adds, adds-then, adds-up, adds-none, adds-bytes}
 use Rattle.texts.specs.Shared.{Brackets, hasAnd, hasOr, opening, closing, formulaText, formulaOr, more, summed, tailText}
+use Rattle.texts.specs.Lengths.{mostLeaves, testMost, branchesMost, tailMost}
 
 pub adds-as : {a : ℕ} {f g : Text} → ((r : List ℕ) → g r ≡ f r) → Adds a f → Adds a g
 adds-as e p = record { long = λ r. omega (arith, ap length (e r), p .long r) }
@@ -52,10 +53,6 @@ half-joined (or g e) = omega (arith, half-joined g, half-joined e)
 abbrev formulaMost : ℕ → ℕ → ℕ → ℕ
 formulaMost further joints nodes = further + joints * (further + 4) + nodes
 
--- the sign before a guard, and a guard of 32 nodes
-abbrev pub testMost : ℕ → ℕ
-testMost further = 3 + (further + 15 * (further + 4) + 32)
-
 module _ (n k : ℕ) (kind : Brackets) (leaf : Leaf → Text) (further : ℕ) (fits : (a : Leaf) → ValidLeaf n k a → Adds (suc further) (leaf a)) where
   joining : (a b x y : ℕ) → formulaMost further a x + (formulaMost further b y + 5) ≤ formulaMost further (suc (a + b)) (suc (x + y))
   joining a b x y = omega (arith, suc-mul (a + b) (further + 4), add-mul a b (further + 4))
@@ -76,13 +73,10 @@ module _ (n k : ℕ) (kind : Brackets) (leaf : Leaf → Text) (further : ℕ) (f
   adds-test : (g : Option Guard) → ValidGuard n k g → Adds (testMost further) (formulaOr kind leaf g)
   adds-test none w = adds-up (testMost further) (omega arith) adds-none
   adds-test (some g) w =
-      let joints : joined g ≤ 15 = omega (arith, half-joined g, w .2) in
+      let joints : joined g ≤ mostLeaves - 1 = omega (arith, half-joined g, w .2) in
       adds-up (testMost further) (omega (arith, w .2, mul-le-mul-right (further + 4) joints)) (adds-then (adds-bytes " & ") (adds-formula middle g (w .0)))
 
 -- ---- branches, with the signs between them
-
-abbrev pub branchesMost : ℕ → ℕ
-branchesMost most = mostBranches * (3 + most) - 3
 
 module _ (k : ℕ) (branch : Branch → Text) (most : ℕ) (fits : (b : Branch) → ValidBranch k b → Adds most (branch b)) where
   adds-more : (bs : List Branch) → Every (ValidBranch k) bs → Adds (length bs * (3 + most)) (more branch bs)
@@ -94,13 +88,10 @@ module _ (k : ℕ) (branch : Branch → Text) (most : ℕ) (fits : (b : Branch) 
   adds-summed : (bs : List Branch) → length bs ≤ mostBranches → Every (ValidBranch k) bs → Adds (branchesMost most) (summed branch bs)
   adds-summed [] h v = adds-up (branchesMost most) (omega arith) adds-none
   adds-summed (b ∷ bs) h v =
-      let few : length bs ≤ 7 = omega arith in
+      let few : length bs ≤ mostBranches - 1 = omega arith in
       adds-up (branchesMost most) (omega (arith, mul-le-mul-right (3 + most) few)) (adds-then (fits b (v .0)) (adds-more bs (v .1)))
 
 -- ---- a statement behind its first test
-
-abbrev pub tailMost : ℕ → ℕ → ℕ
-tailMost further most = testMost further + 4 + branchesMost most + 2
 
 module _ (n k : ℕ) (kind : Brackets) (leaf : Leaf → Text) (further : ℕ) (leaves : (a : Leaf) → ValidLeaf n k a → Adds (suc further) (leaf a))
     (branch : Branch → Text) (most : ℕ) (ends : (b : Branch) → ValidBranch k b → Adds most (branch b)) where

@@ -15,10 +15,11 @@ use Rattle.card.specs.Valid.{Every, ValidLeaf, ValidBranch, ValidStatement, Val
 use Rattle.meaning.specs.Sums.{gate, upto, flat}
 use Rattle.meaning.specs.Reduced.{Bound, equalTo, moreThan, lessThan, counterOf, table, Update, keep, shift, updateOf, copy, copies, reduce}
 use Rattle.phrases.specs.Phrases.{Text, _▸_, num, modeText}
-use Rattle.phrases.proofs.Adds.{Adds, adds-then, adds-up, adds-none, adds-bytes, adds-state, adds-seats, weightMost, adds-weight, adds-mode}
+use Rattle.phrases.proofs.Adds.{Adds, adds-then, adds-up, adds-none, adds-bytes, adds-state, adds-seats, adds-weight, adds-mode}
 use Rattle.texts.specs.Shared.{always}
 use Rattle.texts.specs.ReducedText.{boundText, counterText, updateText, outcomeText, reducedText, statements, counters, programText, reducedOf}
-use Rattle.texts.specs.Copies.{outcomeOf, reducedCopies, tailPlaces, reducedMost}
+use Rattle.texts.specs.Copies.{outcomeOf, reducedCopies}
+use Rattle.texts.specs.Lengths.{counterMost, updateMost, outcomeMost, tailPlaces, copyMost, declaredMost, reducedRoom}
 use Rattle.texts.proofs.Adding.{adds-as, adds-counted, adds-tail}
 use Rattle.texts.proofs.Copies.{reducedRest, copy-text, copies-text, statements-append}
 
@@ -50,16 +51,13 @@ table-small n h others false all isnt = omega arith
 table-small n h others false any isnt = omega arith
 
 module _ (n k j : ℕ) (h : n ≤ mostSeats) (l : k ≤ topState) where
-  adds-group : (g : Leaf) → ValidLeaf n k g → Adds 9 (counterText (counterOf n j g))
+  adds-group : (g : Leaf) → ValidLeaf n k g → Adds counterMost (counterText (counterOf n j g))
   adds-group (group kind s q d) v =
       adds-then (adds-bytes "(no_")
       (adds-then (adds-state d (le-trans (v .1) l))
       (adds-then (adds-bound (table n kind (eqb j d) s q) (table-small n h kind (eqb j d) s q)) (adds-bytes ")")))
 
   -- ---- branches
-
-  abbrev updateMost : ℕ
-  updateMost = 39
 
   adds-choice : (b : Bool) (x y : Update) → Adds updateMost (updateText x) → Adds updateMost (updateText y) → Adds updateMost (updateText (if b then x else y))
   adds-choice true x y p q = p
@@ -81,9 +79,6 @@ module _ (n k j : ℕ) (h : n ≤ mostSeats) (l : k ≤ topState) where
   adds-update : (t : ℕ) → j ≤ k → t ≤ k → Adds updateMost (updateText (updateOf n j t))
   adds-update t e f = adds-choice (eqb j t) keep (shift j t n) (adds-up updateMost (omega arith) (adds-bytes "true")) (adds-shift t e f)
 
-  abbrev outcomeMost : ℕ
-  outcomeMost = 1 + weightMost + updateMost
-
   adds-outcome : j ≤ k → (b : Branch) → ValidBranch k b → Adds outcomeMost (outcomeText (outcomeOf n j b))
   adds-outcome own b v =
       adds-up outcomeMost (omega arith)
@@ -91,15 +86,11 @@ module _ (n k j : ℕ) (h : n ≤ mostSeats) (l : k ≤ topState) where
 
 -- ---- statements
 
--- a copy, with its first test
-abbrev copyMost : ℕ
-copyMost = 11 + tailPlaces
-
 module _ (n k : ℕ) (h : n ≤ mostSeats) (l : k ≤ topState) (s : Statement) (v : ValidStatement n k s) where
   adds-rest : Adds (tailPlaces - 10) (reducedRest n s)
   adds-rest =
       adds-up (tailPlaces - 10) (omega arith)
-      (adds-tail n k always (λ a. counterText (counterOf n (s .own) a)) 8 (adds-group n k (s .own) h l) (λ b. outcomeText (outcomeOf n (s .own) b)) _
+      (adds-tail n k always (λ a. counterText (counterOf n (s .own) a)) (counterMost - 1) (adds-group n k (s .own) h l) (λ b. outcomeText (outcomeOf n (s .own) b)) _
       (adds-outcome n k (s .own) h l (v .own)) (s .guard) (s .branches) (v .guard) (v .some .1) (v .branches))
 
   pub short-rest : length (reducedRest n s []) ≤ tailPlaces
@@ -140,13 +131,10 @@ gate-small : (b : Bool) (n : ℕ) → n ≤ mostSeats → gate b n ≤ mostSeats
 gate-small true n h = h
 gate-small false n h = omega arith
 
-abbrev counterMost : ℕ
-counterMost = 24
-
-adds-counters : (n d c : ℕ) (f : ℕ → ℕ) → n ≤ mostSeats → d + c ≤ suc topState → ((j : ℕ) → f j ≤ mostSeats) → Adds (c * counterMost) (counters n d (upto c f))
+adds-counters : (n d c : ℕ) (f : ℕ → ℕ) → n ≤ mostSeats → d + c ≤ suc topState → ((j : ℕ) → f j ≤ mostSeats) → Adds (c * declaredMost) (counters n d (upto c f))
 adds-counters n d zero f h l e = adds-up _ (omega arith) adds-none
 adds-counters n d (suc c) f h l e =
-    adds-up (suc c * counterMost) (omega arith)
+    adds-up (suc c * declaredMost) (omega arith)
     (adds-then (adds-bytes "no_")
     (adds-then (adds-state d (omega arith))
     (adds-then (adds-bytes " : [0..")
@@ -155,16 +143,16 @@ adds-counters n d (suc c) f h l e =
     (adds-then (adds-seats (f 0) (e 0))
     (adds-then (adds-bytes ";\n") (adds-counters n (suc d) c (λ i. f (suc i)) h (omega arith) (λ j. e (suc j))))))))))
 
-adds-program : (c : Card) → ValidCard c → Adds reducedMost (λ r. modeText (c .mode) ("\nmodule generic_process\n"
+adds-program : (c : Card) → ValidCard c → Adds reducedRoom (λ r. modeText (c .mode) ("\nmodule generic_process\n"
     ▸ counters (c .n) 0 (upto (suc (c .k)) (λ d. gate (eqb (c .l) d) (c .n))) (copied (c .mode) (c .n) (c .statements) ("endmodule\n" ▸ r))))
 adds-program c v =
-    adds-up reducedMost (omega (arith, v .top, mul-le-mul-right (mostSeats * copyMost) (v .some .1)))
+    adds-up reducedRoom (omega (arith, v .top, mul-le-mul-right (mostSeats * copyMost) (v .some .1)))
     (adds-then (adds-mode (c .mode))
     (adds-then (adds-bytes "\nmodule generic_process\n")
     (adds-then (adds-counters (c .n) 0 (suc (c .k)) (λ d. gate (eqb (c .l) d) (c .n)) (v .seats-most) (omega (arith, v .top)) (λ d. gate-small (eqb (c .l) d) (c .n) (v .seats-most)))
     (adds-then (adds-statements (c .n) (c .k) (v .seats-most) (v .top) (c .mode) (c .statements) (v .statements)) (adds-bytes "endmodule\n")))))
 
 -- no reduced text of a valid card is longer than this
-pub short : (c : Card) → ValidCard c → length (reducedOf c) ≤ reducedMost
+pub short : (c : Card) → ValidCard c → length (reducedOf c) ≤ reducedRoom
 unfolding programText reduce
 short c v = omega (arith, adds-program c v .long [])

@@ -11,10 +11,10 @@ use Rattle.card.specs.Card.{Kind, everyone, others, Sign, all, any, Relation, i
 use Rattle.card.specs.Valid.{firstSeat, Enough, Every, ValidLeaf, ValidBranch, ValidStatement, ValidCard}
 use Rattle.room.specs.Room.{cap}
 use Rattle.phrases.specs.Phrases.{_▸_, num, modeText}
-use Rattle.phrases.proofs.Adds.{Adds, adds-then, adds-up, adds-none, adds-bytes, adds-state, adds-seats, weightMost, adds-weight, adds-mode}
+use Rattle.phrases.proofs.Adds.{Adds, adds-then, adds-up, adds-none, adds-bytes, adds-state, adds-seats, adds-weight, adds-mode}
 use Rattle.texts.specs.Shared.{needed}
 use Rattle.texts.specs.Writing.{signText, relationText, literal, literals, groupText, branchText, statementText, statements, modules, writeOf}
-use Rattle.texts.specs.WrittenMost.{statementMost, moduleMost, writtenMost, writtenRoom}
+use Rattle.texts.specs.Lengths.{literalMost, groupMost, branchMost, statementMost, moduleMost, writtenMost, writtenRoom}
 use Rattle.texts.proofs.Adding.{adds-tail}
 
 -- ---- groups
@@ -30,10 +30,10 @@ adds-relation isnt = adds-bytes "!="
 adds-literal : (q : Relation) (d i : ℕ) → d ≤ topState → i ≤ mostSeats → Adds 6 (literal q d i)
 adds-literal q d i h l = adds-then (adds-bytes "s") (adds-then (adds-seats i l) (adds-then (adds-relation q) (adds-state d h)))
 
-adds-literals : (s : Sign) (q : Relation) (d i c : ℕ) → d ≤ topState → i + c ≤ mostSeats → Adds (c * 9) (literals s q d i c)
+adds-literals : (s : Sign) (q : Relation) (d i c : ℕ) → d ≤ topState → i + c ≤ mostSeats → Adds (c * literalMost) (literals s q d i c)
 adds-literals s q d i zero h l = adds-up _ (omega arith) adds-none
 adds-literals s q d i (suc c) h l =
-    adds-up (suc c * 9) (omega arith)
+    adds-up (suc c * literalMost) (omega arith)
     (adds-then (adds-sign s) (adds-then (adds-literal q d (suc i) h (omega arith)) (adds-literals s q d (suc i) c h (omega arith))))
 
 first-seat : (k : Kind) → 1 ≤ firstSeat k
@@ -43,10 +43,6 @@ first-seat others = omega arith
 enough-seats : (s : Sign) (kind : Kind) (n : ℕ) → Enough s kind n → firstSeat kind ≤ n
 enough-seats all kind n h = h
 enough-seats any kind n h = omega arith
-
--- brackets, n literals, and signs between them
-abbrev groupMost : ℕ → ℕ
-groupMost n = 9 * n - 1
 
 adds-group : (n k : ℕ) (g : Leaf) → n ≤ mostSeats → k ≤ topState → ValidLeaf n k g → Adds (groupMost n) (groupText n g)
 adds-group n k (group kind s q d) h l v =
@@ -60,18 +56,14 @@ adds-group n k (group kind s q d) h l v =
 
 -- ---- statements
 
--- a branch, without the sign before it
-abbrev branchMost : ℕ
-branchMost = 8 + weightMost
-
 adds-branch : (k : ℕ) → k ≤ topState → (b : Branch) → ValidBranch k b → Adds branchMost (branchText b)
 adds-branch k l b v =
     adds-up branchMost (omega arith)
     (adds-then (adds-weight (b .units)) (adds-then (adds-bytes ":(s1'=") (adds-then (adds-state (b .end) (le-trans (v .end) l)) (adds-bytes ")"))))
 
 module _ (n k : ℕ) (low : 1 ≤ n) (h : n ≤ mostSeats) (l : k ≤ topState) where
-  adds-leaf : (a : Leaf) → ValidLeaf n k a → Adds (suc (9 * n - 2)) (groupText n a)
-  adds-leaf a v = adds-up (suc (9 * n - 2)) (omega arith) (adds-group n k a h l v)
+  adds-leaf : (a : Leaf) → ValidLeaf n k a → Adds (suc (groupMost n - 1)) (groupText n a)
+  adds-leaf a v = adds-up (suc (groupMost n - 1)) (omega arith) (adds-group n k a h l v)
 
   adds-statement : (x : Statement) → ValidStatement n k x → Adds (statementMost n) (statementText n x)
   unfolding statementText
@@ -79,7 +71,7 @@ module _ (n k : ℕ) (low : 1 ≤ n) (h : n ≤ mostSeats) (l : k ≤ topState) 
       adds-up (statementMost n) (omega arith)
       (adds-then (adds-bytes "[] s1=")
       (adds-then (adds-state (x .own) (le-trans (v .own) l))
-      (adds-tail n k needed (groupText n) (9 * n - 2) adds-leaf branchText branchMost (adds-branch k l) (x .guard) (x .branches) (v .guard) (v .some .1) (v .branches))))
+      (adds-tail n k needed (groupText n) (groupMost n - 1) adds-leaf branchText branchMost (adds-branch k l) (x .guard) (x .branches) (v .guard) (v .some .1) (v .branches))))
 
   adds-statements : (xs : List Statement) → Every (ValidStatement n k) xs → Adds (length xs * statementMost n) (statements n xs)
   adds-statements [] v = adds-up _ (omega arith) adds-none
@@ -117,9 +109,6 @@ adds-card c v =
 pub written-short : (c : Card) → ValidCard c → length (writeOf c) ≤ writtenMost (c .n) (length (c .statements))
 unfolding writeOf
 written-short c v = omega (arith, adds-card c v .long [])
-
-pub room-reckoned : writtenMost mostSeats mostStatements ≡ writtenRoom
-room-reckoned = refl
 
 -- and that is most for the most seats and statements
 pub written-cap : (n count : ℕ) → n ≤ mostSeats → count ≤ mostStatements → writtenMost n count ≤ writtenRoom

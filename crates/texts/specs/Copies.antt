@@ -1,5 +1,5 @@
--- The copies of a statement in the reduced program: what its branches become, how many copies there are, and how long the text can be.
--- Assumes nothing.
+-- The copies of a statement in the reduced program: what its branches become, and how many copies there are. Assumes
+-- nothing.
 use Prim.Native.Nat.{ℕ}
 use Rattle.card.specs.Card.{Mode, nondeterministic, probabilistic, Branch}
 use Rattle.meaning.specs.Reduced.{updateOf, Outcome}
@@ -12,10 +12,3 @@ outcomeOf n j b = record { units = b .units; update = updateOf n j (b .end) }
 abbrev pub reducedCopies : Mode → ℕ → ℕ
 reducedCopies nondeterministic n = 1
 reducedCopies probabilistic n = n
-
--- bytes that are enough for a statement behind its first test, and for the whole text of every valid card (proofs/ReducedShort.antt)
-abbrev pub tailPlaces : ℕ
-tailPlaces = 668
-
-abbrev pub reducedMost : ℕ
-reducedMost = 347890

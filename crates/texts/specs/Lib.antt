@@ -1,5 +1,5 @@
 pub mod Shared
 pub mod Writing
-pub mod WrittenMost
 pub mod ReducedText
 pub mod Copies
+pub mod Lengths

@@ -15,7 +15,7 @@ use Rattle.room.proofs.Laws.{put-as}
 use Rattle.phrases.specs.Phrases.{Text, _▸_, counted}
 use Rattle.phrases.specs.Puts.{Puts}
 use Rattle.texts.specs.Writing.{moduleText, modules, writeOf}
-use Rattle.texts.specs.WrittenMost.{writtenMost}
+use Rattle.texts.specs.Lengths.{writtenMost}
 use Rattle.texts.proofs.WrittenShort.{written-short, written-cap, room-cap}
 use Rattle.statement_text.specs.Statements.{statementsText}
 use Rattle.statement_text.proofs.Both.{written-each}

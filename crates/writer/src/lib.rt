@@ -25,7 +25,7 @@ ghost use Rattle.room.specs.Answer.{Entered};
 ghost use Rattle.entry.specs.Said.{says as text};
 ghost use Rattle.phrases.specs.Puts.{Puts};
 ghost use Rattle.texts.specs.Writing.{moduleText, modules, writeOf};
-ghost use Rattle.texts.specs.WrittenMost.{writtenMost};
+ghost use Rattle.texts.specs.Lengths.{writtenMost};
 ghost use Rattle.writer.specs.Parts.{headText};
 ghost use Rattle.writer.specs.WriteSaid.{writeSaid};
 
@@ -92,7 +92,7 @@ fn written_length<'a>(
     put_card(&mut none, head, rows, nodes, branches)
 }
 
-// What each part of a written card comes to at most (texts/specs/WrittenMost.antt).
+// What each part of a written card comes to at most (texts/specs/Lengths.antt).
 const HEAD_MOST: usize = 63;
 
 const BARE_MOST: usize = 249;

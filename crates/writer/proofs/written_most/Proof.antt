@@ -1,5 +1,5 @@
 -- `writer::written_most` meets its contract: the sum stays small, since seats and statements are few. Assumes nothing.
-use Rattle.texts.specs.WrittenMost.{statementMost}
+use Rattle.texts.specs.Lengths.{statementMost}
 use native.Mathlib.Omega.{arith}
 use native.Mathlib.Nat.{mul-le-mul-right}
 use borrow.Author.Needs.{needs}
