@@ -9,7 +9,7 @@ use Rattle.phrases.proofs.Lowest.{lowest-terms, lowest-kept}
 use Rattle.texts.specs.Writing.{writeOf}
 use Rattle.rereading.proofs.RoundTrip.{round-trip, written-once, read-again}
 use Rattle.card.specs.Card.{Mode, nondeterministic, probabilistic, Card}
-use Rattle.promises.specs.Edges.{textA}
+use Rattle.edges.specs.Edges.{textA}
 use Rattle.promises.specs.Writings.{Writings}
 
 same-taken : (c d : Card) → taken c ≡ taken d → c ≡ d

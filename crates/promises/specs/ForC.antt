@@ -1,5 +1,5 @@
 -- Demand 1 for the names that C calls ("Refusal numbers"): what their contracts say in document 01's numbers, and of the lent room afterwards.
--- That the code keeps these contracts is `Keeps.antt`'s. Assumes nothing.
+-- That the code keeps these contracts is said in crate `keeps`. Assumes nothing.
 use Prim.Native.Nat.{ℕ, _≤_, _<_}
 use mathlib.Core.Path.{_≡_}
 use mathlib.Core.Logic.{_↔_, _⊎_}

@@ -9,7 +9,7 @@ use Rattle.card.specs.Limits.{cardBytes, unit}
 use Rattle.card.specs.Text.{bytes}
 use Rattle.card.specs.Card.{Mode, nondeterministic, everyone, others, all, any, is, isnt, group, atom, neg, and, or, Guard, Statement, Card}
 use Rattle.meaning.specs.CardA.{cardA}
-use Rattle.promises.specs.Edges.{textA}
+use Rattle.edges.specs.Edges.{textA}
 use Rattle.card.specs.Valid.{ValidCard}
 use Rattle.card.specs.Weight.{cardRule, unitsOf}
 use Rattle.reading.specs.Reading.{taken, readOf}

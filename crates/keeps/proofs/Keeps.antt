@@ -9,7 +9,7 @@ use Rattle.tablet.proofs.open_panel_judge.Met.{met as judge-for-c-met}
 use Rattle.tablet.proofs.open_panel_write.Met.{met as write-for-c-met}
 use Rattle.tablet.proofs.open_panel_reduce.Met.{met as reduce-for-c-met}
 use Rattle.tablet.proofs.open_panel_show.Met.{met as show-for-c-met}
-use Rattle.promises.specs.Keeps.{Keeps}
+use Rattle.keeps.specs.Keeps.{Keeps}
 
 pub keeps : Keeps
 keeps = record {

@@ -9,7 +9,7 @@ use Rattle.meaning.specs.CardA.{cardA}
 use Rattle.counting.specs.Judged.{judgedSeats, judgedFrom}
 use Rattle.panel.specs.PanelSaid.{panelSaid}
 use Rattle.program.specs.Program.{programOf, answerTo, seatsLine, cardBehind}
-use Rattle.promises.specs.Edges.{Edges, MarkEdges, RunEdges, Printing}
+use Rattle.edges.specs.Edges.{Edges, MarkEdges, RunEdges, Printing}
 
 pub edges : Edges
 unfolding panelOf panel cardA decimal unitsOf readOf

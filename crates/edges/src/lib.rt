@@ -1,0 +1,1 @@
+// What document 01 and 02 mark as edges, each as a whole input and its answer: definitions that compute, and no code.

@@ -1,0 +1,1 @@
+// What the kit has proved of the code, cited beside the promises: no code.
