@@ -5,7 +5,7 @@ use mathlib.Core.Option.{Option, none, some}
 use native.Mathlib.Nat.{le-trans, not-suc-le-zero, le-of-suc-le-suc}
 use lib.ListN.{length, getD}
 use Rattle.card.specs.Limits.{topState, mostStatements, mostNodes, mostBranches}
-use Rattle.card.specs.Card.{Leaf, group, Guard, Branch, Statement, Card}
+use Rattle.card.specs.Card.{Leaf, group, one, Guard, Branch, Statement, Card}
 use Rattle.card.specs.Valid.{Every, ValidLeaf, ValidGuard, ValidStatement, ValidCard}
 use Rattle.card.specs.Formulas.{EveryAtom}
 use Rattle.card.specs.Laid.{guardSize, nodeRow, branchRow}
@@ -58,6 +58,7 @@ held-branches c v = narrow-branches (c .statements) (every-map (λ x w. w .branc
 module _ (n k : ℕ) (top : k ≤ topState) where
   valid-leaf : (a : Leaf) → ValidLeaf n k a → HeldLeaf a
   valid-leaf (group kind s q d) v = le-trans (v .1) top
+  valid-leaf (one d) v = absurd v
 
   valid-guard : (g : Option Guard) → ValidGuard n k g → GuardStates g
   valid-guard none v = tt

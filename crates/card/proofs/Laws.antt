@@ -3,7 +3,7 @@
 -- the units of a weight are those that it is worth, and no more than the rule's unit
 pub use Rattle.card.proofs.Weights.{Sound, units-worth-under, units-most, card-rule, units-worth}
 -- a node, a leaf and a branch come back from their number, and fit it; in range a packer takes its arguments as they are
-pub use Rattle.card.proofs.Packed.{words, op-back, left-back, right-back, node-fits, HeldLeaf, leaf-op, leaf-fits, leaf-back, branch-fits, branch-back, packed-node, packed-group, packed-branch}
+pub use Rattle.card.proofs.Packed.{words, op-back, left-back, right-back, node-fits, HeldLeaf, leaf-op, leaf-fits, leaf-back, leaf-group, leaf-one, branch-fits, branch-back, packed-node, packed-group, packed-one, packed-branch}
 -- the guard at a node, by what stands there
 pub use Rattle.card.proofs.GuardAt.{guard-at-leaf, guard-at-not, guard-at-and, guard-at-or, guard-of-none, guard-of-some}
 -- numbers stored in an array piece by piece, and a guard's nodes so

@@ -2,9 +2,10 @@
 use Prim.Native.Nat.{ℕ, _-_, _*_, _≤_, _<_, _^_, min}
 use mathlib.Core.Path.{_≡_, refl}
 use native.Mathlib.Omega.{arith}
+use borrow.Author.Tests.{lt-ltb, le-ltb}
 use Rattle.card.specs.Limits.{topState, nodePlaces, numbers, unit}
-use Rattle.card.specs.Card.{Kind, everyone, others, Sign, all, any, Relation, is, isnt, Leaf, group, Branch}
-use Rattle.card.specs.Laid.{kindNumber, signNumber, relationNumber, either, opLeaf, opOr, packNode, opOf, leftOf, rightOf, packGroup, kindPart, signPart, relationPart, statePart, groupOf, leafNumber, leafOf, packBranch, unitsPart, endPart, branchNumber, branchOf}
+use Rattle.card.specs.Card.{Kind, everyone, others, Sign, all, any, Relation, is, isnt, Leaf, group, one, Branch}
+use Rattle.card.specs.Laid.{kindNumber, oneKind, signNumber, relationNumber, either, opLeaf, opOr, packNode, opOf, leftOf, rightOf, packGroup, kindPart, signPart, relationPart, statePart, groupOf, leafNumber, leafOf, packBranch, unitsPart, endPart, branchNumber, branchOf}
 
 -- what a u32 holds is below this
 abbrev pub words : ℕ
@@ -29,9 +30,9 @@ module _ (op left right : ℕ) (g : left < nodePlaces) (h : right < nodePlaces) 
   unfolding packNode
   node-fits k = omega arith
 
--- ---- a group
+-- ---- a leaf's parts
 
-module _ (kind s q d : ℕ) (hk : kind ≤ 1) (hs : s ≤ 1) (hq : q ≤ 1) where
+module _ (kind s q d : ℕ) (hk : kind ≤ oneKind) (hs : s ≤ 1) (hq : q ≤ 1) where
   pub group-op : d ≤ numbers → opOf (packGroup kind s q d) ≡ opLeaf
   unfolding packGroup packNode opOf
   group-op h = omega arith
@@ -56,7 +57,7 @@ module _ (kind s q d : ℕ) (hk : kind ≤ 1) (hs : s ≤ 1) (hq : q ≤ 1) wher
   unfolding packGroup packNode statePart
   state-back h = omega arith
 
-kind-small : (k : Kind) → kindNumber k ≤ 1
+kind-small : (k : Kind) → kindNumber k < oneKind
 kind-small everyone = omega arith
 kind-small others = omega arith
 
@@ -85,30 +86,44 @@ relation-again isnt = refl
 -- its state is one that there can be
 abbrev pub HeldLeaf : Leaf → Type 0
 HeldLeaf (group k s q d) = d ≤ topState
+HeldLeaf (one d) = d ≤ topState
 
 pub leaf-op : (a : Leaf) → HeldLeaf a → opOf (leafNumber a) ≡ opLeaf
 leaf-op (group k s q d) h =
-    group-op (kindNumber k) (signNumber s) (relationNumber q) d (kind-small k) (sign-small s) (relation-small q) (omega arith)
+    group-op (kindNumber k) (signNumber s) (relationNumber q) d (omega (arith, kind-small k)) (sign-small s) (relation-small q) (omega arith)
+leaf-op (one d) h = group-op oneKind 0 0 d (omega arith) (omega arith) (omega arith) (omega arith)
 
 pub leaf-fits : (a : Leaf) → HeldLeaf a → leafNumber a < words
 leaf-fits (group k s q d) h =
-    group-fits (kindNumber k) (signNumber s) (relationNumber q) d (kind-small k) (sign-small s) (relation-small q) (omega arith)
+    group-fits (kindNumber k) (signNumber s) (relationNumber q) d (omega (arith, kind-small k)) (sign-small s) (relation-small q) (omega arith)
+leaf-fits (one d) h = group-fits oneKind 0 0 d (omega arith) (omega arith) (omega arith) (omega arith)
 
 pub leaf-back : (a : Leaf) → HeldLeaf a → leafOf (leafNumber a) ≡ a
-unfolding groupOf
+unfolding leafOf groupOf
 leaf-back (group k s q d) h =
-    let hk = kind-small k in
+    let hk : kindNumber k ≤ oneKind = omega (arith, kind-small k) in
     let hs = sign-small s in
     let hq = relation-small q in
     rw (
       kind-back (kindNumber k) (signNumber s) (relationNumber q) d hk hs hq h,
       sign-back (kindNumber k) (signNumber s) (relationNumber q) d hk hs hq h,
+      lt-ltb (kindNumber k) oneKind (kind-small k),
       relation-back (kindNumber k) (signNumber s) (relationNumber q) d hk hs hq h,
       state-back (kindNumber k) (signNumber s) (relationNumber q) d hk hs hq h,
       kind-again k,
       sign-again s,
       relation-again q,
     )
+leaf-back (one d) h = rw (kind-back oneKind 0 0 d (omega arith) (omega arith) (omega arith) h, state-back oneKind 0 0 d (omega arith) (omega arith) (omega arith) h)
+
+-- what stands in a number, by the kind of leaf
+pub leaf-group : (x : ℕ) → kindPart x < oneKind → leafOf x ≡ groupOf x
+unfolding leafOf
+leaf-group x h = rw (lt-ltb (kindPart x) oneKind h)
+
+pub leaf-one : (x : ℕ) → oneKind ≤ kindPart x → leafOf x ≡ one (statePart x)
+unfolding leafOf
+leaf-one x h = rw (le-ltb (kindPart x) oneKind h)
 
 -- ---- a branch
 
@@ -148,6 +163,11 @@ packed-group kind s q d e f g h =
     let c : min q 1 ≡ q = omega arith in
     let k : min d numbers ≡ d = omega arith in
     rw (a, b, c, k)
+
+pub packed-one : (d : ℕ) → d ≤ numbers → leafNumber (one (min d numbers)) ≡ leafNumber (one d)
+packed-one d h =
+    let a : min d numbers ≡ d = omega arith in
+    rw a
 
 pub packed-branch : (units end : ℕ) → units ≤ unit → end ≤ numbers → packBranch (min units unit) (min end numbers) ≡ packBranch units end
 packed-branch units end g h =

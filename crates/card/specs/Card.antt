@@ -18,9 +18,10 @@ pub data Sign : Type 0 where
 pub data Relation : Type 0 where
   is isnt : Relation
 
--- what a guard tests: a group, whose last is d
+-- what a guard tests: a group, whose last is d; and what a question may test besides (document 02, 2026-01): exactly one seat is in state d
 pub data Leaf : Type 0 where
   group : Kind → Sign → Relation → ℕ → Leaf
+  one : ℕ → Leaf
 
 -- `!`, `&` and `|` over atoms
 pub data Formula (A : Type 0) : Type 0 where

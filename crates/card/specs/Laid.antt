@@ -3,11 +3,11 @@
 use Prim.Native.Nat.{ℕ, zero, suc, _+_, _-_, _*_, _/_, _%_, min}
 use mathlib.Core.List.{List, [], _∷_, _++_, map}
 use mathlib.Core.Option.{Option, none, some}
-use lib.Dec.{eqb}
+use lib.Dec.{eqb, ltb}
 use lib.ListN.{length, getD, take, drop}
 use Rattle.card.specs.Limits.{mostStates, mostStatements, mostBranches, mostNodes, nodePlaces, branchPlaces, freePlace}
 use Rattle.card.specs.Text.{if_then_else_}
-use Rattle.card.specs.Card.{Mode, nondeterministic, probabilistic, Kind, everyone, others, Sign, all, any, Relation, is, isnt, Leaf, group, Formula, atom, neg, and, or, Guard, Branch, Statement, Card}
+use Rattle.card.specs.Card.{Mode, nondeterministic, probabilistic, Kind, everyone, others, Sign, all, any, Relation, is, isnt, Leaf, group, one, Formula, atom, neg, and, or, Guard, Branch, Statement, Card}
 use Rattle.card.specs.Valid.{size}
 use Rattle.card.specs.declared.Statement.{Statement as StatementRow}
 use Rattle.card.specs.declared.Card.{Card as CardRow}
@@ -21,6 +21,10 @@ modeNumber probabilistic = 1
 abbrev pub kindNumber : Kind → ℕ
 kindNumber everyone = 0
 kindNumber others = 1
+
+-- behind a group's kinds: exactly one seat
+abbrev pub oneKind : ℕ
+oneKind = 2
 
 abbrev pub signNumber : Sign → ℕ
 signNumber all = 0
@@ -64,9 +68,9 @@ unfoldable pub packGroup : ℕ → ℕ → ℕ → ℕ → ℕ
 unfolding packNode
 packGroup kind sign relation d = packNode opLeaf 0 (((kind * 2 + sign) * 2 + relation) * mostStates + d)
 
--- the parts of a group back
+-- the parts of a leaf back
 unfoldable pub kindPart : ℕ → ℕ
-kindPart x = x / (4 * mostStates) % 2
+kindPart x = x / (4 * mostStates)
 
 unfoldable pub signPart : ℕ → ℕ
 signPart x = x / (2 * mostStates) % 2
@@ -84,9 +88,11 @@ groupOf x = group (either everyone others (kindPart x)) (either all any (signPar
 -- a leaf, by what it is, and back
 abbrev pub leafNumber : Leaf → ℕ
 leafNumber (group kind s q d) = packGroup (kindNumber kind) (signNumber s) (relationNumber q) d
+leafNumber (one d) = packGroup oneKind 0 0 d
 
-abbrev pub leafOf : ℕ → Leaf
-leafOf x = groupOf x
+unfoldable pub leafOf : ℕ → Leaf
+unfolding groupOf
+leafOf x = if ltb (kindPart x) oneKind then groupOf x else one (statePart x)
 
 -- a branch: the place between its two parts is free
 unfoldable pub packBranch : ℕ → ℕ → ℕ
@@ -194,7 +200,7 @@ blank = record {
 
 -- a node from its number and its children
 unfoldable pub nodeOf : ℕ → Guard → Guard → Guard
-unfolding groupOf opOf
+unfolding leafOf opOf
 nodeOf x g h =
     if eqb (opOf x) opLeaf then atom (leafOf x)
     else (if eqb (opOf x) opNot then neg g
@@ -204,7 +210,7 @@ nodeOf x g h =
 -- the guard whose root is node n: node numbers fall from parent to child, and one that does not is read as the highest that does;
 -- node 0 has no children
 unfoldable pub guardFrom : ℕ → List ℕ → ℕ → Guard
-unfolding nodeOf groupOf leftOf rightOf
+unfolding nodeOf leafOf leftOf rightOf
 guardFrom zero nodes n = atom (leafOf (getD nodes n 0))
 guardFrom (suc fuel) nodes n =
     let x = getD nodes n 0 in

@@ -7,7 +7,7 @@ use mathlib.Core.List.{List, [], _∷_}
 use mathlib.Core.Option.{Option, none, some}
 use lib.ListN.{length}
 use Rattle.card.specs.Limits.{mostSeats, topState, mostStatements, mostBranches, mostNodes, mostDepth, unit}
-use Rattle.card.specs.Card.{Kind, everyone, others, Sign, all, any, Leaf, group, Formula, atom, neg, and, or, Guard, Branch, Statement, Card}
+use Rattle.card.specs.Card.{Kind, everyone, others, Sign, all, any, Leaf, group, one, Formula, atom, neg, and, or, Guard, Branch, Statement, Card}
 use Rattle.card.specs.Formulas.{EveryAtom}
 
 -- the first seat that a group names
@@ -22,6 +22,7 @@ Enough any kind n = firstSeat kind < n
 
 abbrev pub ValidLeaf : ℕ → ℕ → Leaf → Type 0
 ValidLeaf n k (group kind s q d) = Enough s kind n × (d ≤ k)
+ValidLeaf n k (one d) = ⊥  -- no card has one
 
 abbrev pub ValidLeaves : ℕ → ℕ → Guard → Type 0
 ValidLeaves n k g = EveryAtom (ValidLeaf n k) g

@@ -8,7 +8,8 @@ use crate::weight::Weight;
 ghost use mathlib.Core.Path.{_≡_};
 ghost use Prim.Native.Nat.{_-_, _<_, min};
 ghost use Rattle.card.specs.Limits.{mostStates, nodePlaces, numbers, unit};
-ghost use Rattle.card.specs.Laid.{opOr, packNode, packGroup, packBranch, opOf, leftOf, rightOf, kindPart, signPart, relationPart, statePart, unitsPart, endPart};
+ghost use Rattle.card.specs.Card.{one};
+ghost use Rattle.card.specs.Laid.{opOr, leafNumber, packNode, packGroup, packBranch, opOf, leftOf, rightOf, kindPart, signPart, relationPart, statePart, unitsPart, endPart};
 
 // what a node is: its operator
 pub const LEAF: usize = 0;
@@ -19,11 +20,14 @@ pub const AND: usize = 2;
 
 pub const OR: usize = 3;
 
-// and of a leaf that is a group its kind, its sign and its relation
+// and of a leaf its kind: two for a group, and behind them exactly one seat
 pub const EVERYONE: usize = 0;
 
 pub const OTHERS: usize = 1;
 
+pub const ONE: usize = 2;
+
+// and of a group its sign and its relation
 pub const ALL: usize = 0;
 
 pub const ANY: usize = 1;
@@ -64,6 +68,14 @@ pub fn pack_group(kind: usize, sign: usize, relation: usize, d: usize) -> u32
     (((kind * 2 + sign) * 2 + relation) * MOST_STATES + d) as u32
 }
 
+// a leaf that is exactly one seat in state d
+pub fn pack_one(d: usize) -> u32
+    ensures { λ r. ⌜ r ≡ leafNumber (one (min d numbers)) ⌝ }
+{
+    let d = at_most(d, NUMBERS);
+    (ONE * (4 * MOST_STATES) + d) as u32
+}
+
 pub fn pack_branch(units: u32, end: usize) -> u32
     ensures { λ r. ⌜ r ≡ packBranch (min units unit) (min end numbers) ⌝ }
 {
@@ -101,10 +113,9 @@ pub fn right_of(node: u32, n: usize) -> usize
 }
 
 pub fn kind_of(node: u32) -> usize
-    ensures part { λ r. ⌜ r ≡ kindPart node ⌝ }
-    ensures small { λ r. ⌜ r < 2 ⌝ }
+    ensures { λ r. ⌜ r ≡ kindPart node ⌝ }
 {
-    (node as usize) / (4 * MOST_STATES) % 2
+    (node as usize) / (4 * MOST_STATES)
 }
 
 pub fn sign_of(node: u32) -> usize

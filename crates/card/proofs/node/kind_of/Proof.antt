@@ -1,4 +1,4 @@
--- `card::node::kind_of` meets its contract: it divides as the definition does, and the rest by 2 is below 2. Assumes nothing.
+-- `card::node::kind_of` meets its contract: it divides as the definition does. Assumes nothing.
 use borrow.Author.Needs.{needs}
 use Rattle.card.specs.Laid.{kindPart}
 use Rattle.card.proofs.node.kind_of.Statement.{statement}
