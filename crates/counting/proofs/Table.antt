@@ -10,7 +10,8 @@ use native.Mathlib.Decide.{decLt}
 use native.Mathlib.Omega.{arith}
 use lib.Dec.{eqb, ltb}
 use lib.ListN.{length, getD, List·getD-eq-default}
-use Rattle.card.specs.Laid.{opLeaf, opNot, opAnd, opOf, leftOf, rightOf, statePart, groupOf, leafOf, guardAt, guardOf}
+use Rattle.card.specs.Laid.{opLeaf, opNot, opAnd, opOf, leftOf, rightOf, statePart, leafOf, guardAt, guardOf}
+use Rattle.table.proofs.Laws.{of-state}
 use Rattle.card.proofs.GuardAt.{guard-at-leaf, guard-at-not, guard-at-and, guard-at-or, guard-of-none, guard-of-some}
 use Rattle.meaning.specs.Sums.{gate}
 use Rattle.meaning.specs.Reduced.{Bound, equalTo, moreThan, lessThan, counterOf, noOf, meets, passes}
@@ -37,22 +38,19 @@ held-less (equalTo m) a e f = absurd (e refl)
 held-less (moreThan m) a e f = absurd (f refl)
 held-less (lessThan m) a e f = refl
 
--- the count of the state of the group that is packed in x, held against that group's bound
+-- the count of the state of the leaf that is packed in x, held against that leaf's bound
 module _ (v : List ℕ) (n j x : ℕ) {d a : ℕ} {b : BoundRow}
-    (ed : d ≡ statePart x) (ea : a ≡ noOf v d) (eb : b ≡ boundRow (boundOf (counterOf n j (groupOf x)))) where
-  pub passes-equal : b .sign ≡ 61 → eqb a (b .number) ≡ passes v (counterOf n j (groupOf x))
-  unfolding groupOf
-  passes-equal e = rw (eb, ea, ed) (held-equal (boundOf (counterOf n j (groupOf x))) (noOf v (statePart x)) (ap (λ (y : BoundRow). y .sign) (sym eb) ∙ e))
+    (ed : d ≡ statePart x) (ea : a ≡ noOf v d) (eb : b ≡ boundRow (boundOf (counterOf n j (leafOf x)))) where
+  pub passes-equal : b .sign ≡ 61 → eqb a (b .number) ≡ passes v (counterOf n j (leafOf x))
+  passes-equal e = rw (eb, ea, ed, of-state n j x) (held-equal (boundOf (counterOf n j (leafOf x))) (noOf v (statePart x)) (ap (λ (y : BoundRow). y .sign) (sym eb) ∙ e))
 
-  pub passes-more : b .sign ≡ 62 → ltb (b .number) a ≡ passes v (counterOf n j (groupOf x))
-  unfolding groupOf
-  passes-more e = rw (eb, ea, ed) (held-more (boundOf (counterOf n j (groupOf x))) (noOf v (statePart x)) (ap (λ (y : BoundRow). y .sign) (sym eb) ∙ e))
+  pub passes-more : b .sign ≡ 62 → ltb (b .number) a ≡ passes v (counterOf n j (leafOf x))
+  passes-more e = rw (eb, ea, ed, of-state n j x) (held-more (boundOf (counterOf n j (leafOf x))) (noOf v (statePart x)) (ap (λ (y : BoundRow). y .sign) (sym eb) ∙ e))
 
-  pub passes-less : (b .sign ≡ 61 → ⊥) → (b .sign ≡ 62 → ⊥) → ltb a (b .number) ≡ passes v (counterOf n j (groupOf x))
-  unfolding groupOf
+  pub passes-less : (b .sign ≡ 61 → ⊥) → (b .sign ≡ 62 → ⊥) → ltb a (b .number) ≡ passes v (counterOf n j (leafOf x))
   passes-less e f =
-      rw (eb, ea, ed)
-      (held-less (boundOf (counterOf n j (groupOf x))) (noOf v (statePart x)) (λ h. e (ap (λ (y : BoundRow). y .sign) eb ∙ h)) (λ h. f (ap (λ (y : BoundRow). y .sign) eb ∙ h)))
+      rw (eb, ea, ed, of-state n j x)
+      (held-less (boundOf (counterOf n j (leafOf x))) (noOf v (statePart x)) (λ h. e (ap (λ (y : BoundRow). y .sign) eb ∙ h)) (λ h. f (ap (λ (y : BoundRow). y .sign) eb ∙ h)))
 
 -- ---- a guard
 

@@ -72,7 +72,7 @@ fn count_at(counts: &[usize], d: usize) -> usize
     0
 }
 
-// Does the leaf in `node` hold for a seat in state `own`, of n seats? A group's counter is held against its bound in the table.
+// Does the leaf in `node` hold for a seat in state `own`, of n seats? Its counter is held against its bound.
 fn leaf_holds(node: u32, own: usize, n: usize, counts: &[usize]) -> bool
     ensures { λ r. ⌜ r ≡ passesAt (now (counts .entry)) (counterOf n own (leafOf node)) ⌝ }
 {

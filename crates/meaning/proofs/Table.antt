@@ -1,7 +1,8 @@
 -- The table is right: a group holds for a seat exactly where its counter test passes at the seating's counts. Over everyone by adding one
--- seat at a time; "others" is everyone without one seat, which is one seat less and one count less where that seat's state is d.
+-- seat at a time; "others" is everyone without one seat, which is one seat less and one count less where that seat's state is d. An
+-- exactly-one too by adding a seat: if it is d no other seat is, and else one of the others alone is.
 -- Assumes nothing.
-use Prim.Native.Nat.{ℕ, suc, _+_, _≤_, _<_}
+use Prim.Native.Nat.{ℕ, zero, suc, _+_, _≤_, _<_}
 use mathlib.Core.Path.{_≡_, refl, ap, ap₂, fun-ext, _∙_}
 use mathlib.Core.Bool.{Bool, true, false, not, _&&_, _||_}
 use mathlib.Core.List.{List, [], _∷_}
@@ -12,11 +13,11 @@ use native.Mathlib.Omega.{arith}
 use borrow.Author.Tests.{ne-eqb, le-leb}
 use lib.Dec.{eqb, leb·zero, leb·suc-zero, leb·suc-suc, eqb·suc-suc, eqb·suc-zero, eqb·zero-suc}
 use lib.ListN.{length}
-use Rattle.card.specs.Card.{Kind, everyone, others, Sign, all, any, Relation, is, isnt, Leaf, group, Formula, atom, neg, and, or, Guard}
+use Rattle.card.specs.Card.{Kind, everyone, others, Sign, all, any, Relation, is, isnt, Leaf, group, one, Formula, atom, neg, and, or, Guard}
 use Rattle.card.specs.Formulas.{over}
-use Rattle.meaning.specs.Sums.{gate}
+use Rattle.meaning.specs.Sums.{gate, upto}
 use Rattle.meaning.specs.Formulas.{value, valueOr}
-use Rattle.meaning.specs.Seats.{Seating, state, without, count, counts, literal, joined, holds}
+use Rattle.meaning.specs.Seats.{Seating, state, without, count, counts, literal, joined, alone, anyOf, holds}
 use Rattle.meaning.specs.Reduced.{table, meets, passes, counterOf, testOf}
 use Rattle.meaning.specs.ByCounts.{heldOr}
 use Rattle.meaning.proofs.Counting.{Within, count-le, count-without, length-without, no-count}
@@ -71,6 +72,40 @@ module _ (e : Bool) where
   but-one all isnt false c n = simp unary
   but-one any isnt false c n = simp unary
 
+-- ---- exactly one seat
+
+any-same : (n : ℕ) (f g : ℕ → Bool) → ((i : ℕ) → f i ≡ g i) → anyOf (upto n f) ≡ anyOf (upto n g)
+any-same zero f g h = refl
+any-same (suc n) f g h = rw (h 0, any-same n (λ i. f (suc i)) (λ i. g (suc i)) (λ i. h (suc i)))
+
+any-false : (n : ℕ) → anyOf (upto n (λ i. false)) ≡ false
+any-false zero = refl
+any-false (suc n) = any-false n
+
+and-false : (b : Bool) → (b && false) ≡ false
+and-false true = refl
+and-false false = refl
+
+or-false : (b : Bool) → (b || false) ≡ b
+or-false true = refl
+or-false false = refl
+
+-- a term where one seat more is there: b says whether its state is d
+alone-more : (d : ℕ) (x : Seating) (b : Bool) (i : ℕ) → (eqb (state x i) d && (not b && joined all isnt d (without x i))) ≡ (not b && alone d x i)
+alone-more d x true i = and-false (eqb (state x i) d)
+alone-more d x false i = refl
+
+pub one-by-count : (d : ℕ) (x : Seating) → anyOf (upto (length x) (alone d x)) ≡ eqb (count d x) 1
+one-by-count d [] = refl
+one-by-count d (a ∷ x) =
+    ap (λ c. (eqb a d && joined all isnt d x) || c) (any-same (length x) _ (λ i. not (eqb a d) && alone d x i) (alone-more d x (eqb a d)))
+    ∙ go (eqb a d) (one-by-count d x)
+  where
+    go : (b : Bool) → anyOf (upto (length x) (alone d x)) ≡ eqb (count d x) 1
+        → ((b && joined all isnt d x) || anyOf (upto (length x) (λ i. not b && alone d x i))) ≡ eqb (gate b 1 + count d x) 1
+    go true h = rw (any-false (length x), or-false (joined all isnt d x), joined-right false all isnt d x, one-add (count d x), eqb·suc-suc (count d x) 0)
+    go false h = rw (zero-add (count d x)) h
+
 -- ---- guards
 
 module _ (k : ℕ) (x : Seating) (w : Within k x) (i : ℕ) (l : i < length x) where
@@ -82,6 +117,7 @@ module _ (k : ℕ) (x : Seating) (w : Within k x) (i : ℕ) (l : i < length x) w
 
   pub leaf-right : (a : Leaf) → holds x i a ≡ passes (counts k x) (counterOf (length x) (state x i) a)
   leaf-right (group kind s q d) = rw (no-count k x w d) (by-count kind s q d)
+  leaf-right (one d) = rw (no-count k x w d) (one-by-count d x)
 
   pub guard-right : (g : Option Guard) → valueOr (holds x i) g ≡ heldOr (length x) (state x i) (counts k x) g
   guard-right g = ap (λ (p : Leaf → Bool). valueOr p g) (fun-ext leaf-right)

@@ -7,7 +7,7 @@ use lib.Dec.{eqb, ltb}
 use lib.ListN.{getD, set}
 use Rattle.card.specs.Text.{if_then_else_}
 use Rattle.card.specs.Card.{Mode, nondeterministic, probabilistic, Kind, everyone, others, Sign, all, any, Relation, is, isnt}
-use Rattle.card.specs.Card.{Leaf, group, Formula, Guard, Branch, Statement, Card}
+use Rattle.card.specs.Card.{Leaf, group, one, Formula, Guard, Branch, Statement, Card}
 use Rattle.card.specs.Formulas.{overOr}
 use Rattle.meaning.specs.Sums.{gate, upto, those, flat}
 use Rattle.meaning.specs.Formulas.{valueOr}
@@ -68,6 +68,7 @@ table n others false any isnt = lessThan (n - 1)
 -- what a leaf becomes
 abbrev pub counterOf : ℕ → ℕ → Leaf → Counter
 counterOf n j (group kind s q d) = counter d (table n kind (eqb j d) s q)
+counterOf n j (one d) = counter d (equalTo 1)
 
 abbrev pub testOf : ℕ → ℕ → Option Guard → Option Test
 testOf n j g = overOr (counterOf n j) g

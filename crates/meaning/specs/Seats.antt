@@ -6,7 +6,7 @@ use mathlib.Core.Bool.{Bool, true, false, not, _&&_, _||_}
 use mathlib.Core.List.{List, [], _∷_, _++_, map}
 use lib.Dec.{eqb}
 use lib.ListN.{length, getD, set}
-use Rattle.card.specs.Card.{Kind, everyone, others, Sign, all, any, Relation, is, isnt, Leaf, group, Branch, Statement, Card}
+use Rattle.card.specs.Card.{Kind, everyone, others, Sign, all, any, Relation, is, isnt, Leaf, group, one, Branch, Statement, Card}
 use Rattle.card.specs.Valid.{Every}
 use Rattle.meaning.specs.Sums.{gate, sum, upto, those, flat}
 use Rattle.meaning.specs.Formulas.{valueOr}
@@ -59,9 +59,18 @@ joined any q d [] = false
 joined all q d (a ∷ x) = literal q (eqb a d) && joined all q d x
 joined any q d (a ∷ x) = literal q (eqb a d) || joined any q d x
 
--- does a leaf hold for seat i?
+-- the i-th term of an exactly-one (document 02, 2026-01): seat i is d, and all others are not
+abbrev pub alone : ℕ → Seating → ℕ → Bool
+alone d x i = literal is (eqb (state x i) d) && joined all isnt d (without x i)
+
+abbrev pub anyOf : List Bool → Bool
+anyOf [] = false
+anyOf (b ∷ bs) = b || anyOf bs
+
+-- does a leaf hold for seat i? An exactly-one has a term for each seat, joined by `|`, and is the same for all
 abbrev pub holds : Seating → ℕ → Leaf → Bool
 holds x i (group kind s q d) = joined s q d (named kind x i)
+holds x i (one d) = anyOf (upto (length x) (alone d x))
 
 -- seat i is in the local state, and the guard holds for it
 unfoldable pub mayTake : Statement → Seating → ℕ → Bool

@@ -2,6 +2,7 @@
 use card::node::ALL;
 use card::node::EVERYONE;
 use card::node::IS;
+use card::node::OTHERS;
 use card::node::kind_of;
 use card::node::relation_of;
 use card::node::sign_of;
@@ -102,7 +103,7 @@ fn others_bound(sign: usize, relation: usize, own: usize, d: usize, n: usize) ->
     less_than(less)
 }
 
-// The test that the leaf in `node` becomes in a statement of local state `own`.
+// The test that the leaf in `node` becomes in a statement of local state `own`: a group by the table, exactly one seat as no_d=1.
 pub fn bound_of(node: u32, own: usize, seats: usize) -> Bound
     ensures { λ r. ⌜ r ≡ boundRow (boundOf (counterOf seats own (leafOf node))) ⌝ }
 {
@@ -113,5 +114,8 @@ pub fn bound_of(node: u32, own: usize, seats: usize) -> Bound
     if kind == EVERYONE {
         return everyone_bound(sign, relation, seats);
     }
-    others_bound(sign, relation, own, d, seats)
+    if kind == OTHERS {
+        return others_bound(sign, relation, own, d, seats);
+    }
+    equal_to(1)
 }

@@ -1,4 +1,4 @@
--- `counting::leaf_holds` meets its contract: a group's count is held against its bound as the bound's byte says. Assumes nothing.
+-- `counting::leaf_holds` meets its contract: a leaf's count is held against its bound as the bound's byte says. Assumes nothing.
 use Rattle.counting.proofs.Table.{passes-equal, passes-more, passes-less}
 use borrow.Author.Needs.{needs}
 use Rattle.counting.proofs.leaf_holds.Statement.{statement}

@@ -1,5 +1,6 @@
--- `table::bound_of` meets its contract: the parts of the packed group lead to its column of the table. Assumes nothing.
-use Rattle.table.proofs.Laws.{in-column}
+-- `table::bound_of` meets its contract: the parts of a packed group lead to its column of the table, and its kind to
+-- exactly one seat. Assumes nothing.
+use Rattle.table.proofs.Laws.{in-column, as-one}
 use borrow.Author.Tests.{eq-eqb, ne-eqb}
 use mathlib.Core.Path.{_∙_}
 use borrow.Author.Needs.{needs}
@@ -30,13 +31,36 @@ everyone-bound-requires : tie.Need-everyone-bound-requires
 everyone-bound-requires c κs = search needs
 
 returns : tie.Need-returns
-returns c = c .everyone-bound .ensures _ ∙ in-column _ _ _ (c .before .before .before .before .before .kind-of .ensures .0) (c .before .before .before .before .sign-of .ensures .0) (c .before .before .before .relation-of .ensures .0) (c .before .before .state-of .ensures .0) (eq-eqb _ 0 (c .before .if1 .taken))
+returns c =
+    let at-if1 = c .before in
+    let at-state-of = at-if1 .before in
+    let at-relation-of = at-state-of .before in
+    let at-sign-of = at-relation-of .before in
+    let at-kind-of = at-sign-of .before in
+    c .everyone-bound .ensures _
+    ∙ in-column _ _ _ (at-kind-of .kind-of .ensures) (at-sign-of .sign-of .ensures .0) (at-relation-of .relation-of .ensures .0) (at-state-of .state-of .ensures .0)
+    (search needs) (eq-eqb _ 0 (at-if1 .if1 .taken))
 
 others-bound-requires : tie.Need-others-bound-requires
 others-bound-requires c κs = search needs
 
 returns-2 : tie.Need-returns-2
-returns-2 c = c .others-bound .ensures ∙ in-column _ _ _ (c .before .before .before .before .before .kind-of .ensures .0) (c .before .before .before .before .sign-of .ensures .0) (c .before .before .before .relation-of .ensures .0) (c .before .before .state-of .ensures .0) (ne-eqb _ 0 (c .before .if1 .left))
+returns-2 c =
+    let at-if2 = c .before in
+    let at-if1 = at-if2 .before in
+    let at-state-of = at-if1 .before in
+    let at-relation-of = at-state-of .before in
+    let at-sign-of = at-relation-of .before in
+    let at-kind-of = at-sign-of .before in
+    c .others-bound .ensures
+    ∙ in-column _ _ _ (at-kind-of .kind-of .ensures) (at-sign-of .sign-of .ensures .0) (at-relation-of .relation-of .ensures .0) (at-state-of .state-of .ensures .0)
+    (search needs) (ne-eqb _ 0 (at-if1 .if1 .left))
+
+equal-to-requires : tie.Need-equal-to-requires
+equal-to-requires c κs = search needs
+
+returns-3 : tie.Need-returns-3
+returns-3 c = c .equal-to .ensures ∙ as-one _ _ _ (c .before .before .before .before .before .before .kind-of .ensures) (search needs)
 
 pub bound-of-spec : {M : Type 1} → statement M
 bound-of-spec =
@@ -49,4 +73,6 @@ bound-of-spec =
     everyone-bound-requires
     returns
     others-bound-requires
-    returns-2)
+    returns-2
+    equal-to-requires
+    returns-3)
