@@ -1,6 +1,6 @@
 -- A leaf's texts in the form in which the code puts them: literals one after the other, a literal of two digits byte for byte, and the
 -- parts of a node that are read one by one. Assumes nothing.
-use Prim.Native.Nat.{ℕ, zero, suc, _+_, _-_, _<_}
+use Prim.Native.Nat.{ℕ, zero, suc, _+_, _-_, _≤_, _<_}
 use mathlib.Core.Path.{_≡_, refl, ap, _∙_}
 use mathlib.Core.Bool.{Bool, true, false}
 use mathlib.Core.List.{List, _∷_}
@@ -11,10 +11,12 @@ use lib.Dec.{eqb}
 use Rattle.card.specs.Text.{if_then_else_}
 use Rattle.card.specs.Card.{everyone, others, Sign, all, any, Relation, is, isnt}
 use Rattle.card.specs.Valid.{firstSeat}
-use Rattle.card.specs.Laid.{either, kindPart, signPart, relationPart, statePart, groupOf}
+use Rattle.card.specs.Laid.{either, kindPart, signPart, relationPart, statePart, oneKind, groupOf, leafOf}
+use Rattle.card.proofs.Packed.{leaf-group, leaf-one}
 use Rattle.meaning.specs.Reduced.{Bound, equalTo, moreThan, lessThan, counterOf}
 use Rattle.table.specs.declared.Bound.{Bound as BoundRow}
 use Rattle.table.specs.Bounds.{boundRow, boundOf}
+use Rattle.table.proofs.Laws.{of-state}
 use Rattle.room.specs.Digits.{digit}
 use Rattle.room.proofs.Decimal.{decimal-one}
 use Rattle.phrases.specs.Phrases.{Text, _▸_, num, counted}
@@ -49,30 +51,32 @@ module _ (s : Sign) (q : Relation) (d : ℕ) where
   literals-counted i zero r = refl
   literals-counted i (suc c) r = rw (add-one, literals-counted (suc i) c r)
 
--- ---- a group as its literals
+-- ---- a group as its literals, exactly one seat as nothing
 
 first-seat : (k : ℕ) → k < 2 → firstSeat (either everyone others k) ≡ k + 1
 first-seat zero h = refl
 first-seat (suc zero) h = refl
 first-seat (suc (suc k)) h = absurd (omega arith)
 
-module _ (x n : ℕ) {s q d k first : ℕ} (es : s ≡ signPart x) (eq : q ≡ relationPart x) (ed : d ≡ statePart x) (ek : k ≡ kindPart x) (h : k < 2) (ef : first ≡ k + 1) where
+module _ (x n : ℕ) {s q d k first : ℕ} (es : s ≡ signPart x) (eq : q ≡ relationPart x) (ed : d ≡ statePart x) (ek : k ≡ kindPart x) (h : k < oneKind) (ef : first ≡ k + 1) where
   pub group-text : (r : List ℕ)
-      → "(" ▸ literal (either is isnt q) d first (literals (either all any s) (either is isnt q) d first (n - first) (")" ▸ r)) ≡ groupText n (groupOf x) r
+      → "(" ▸ literal (either is isnt q) d first (literals (either all any s) (either is isnt q) d first (n - first) (")" ▸ r)) ≡ groupText n (leafOf x) r
   unfolding groupOf
-  group-text r = rw (← es, ← eq, ← ed, ← ek, first-seat k h, ef)
+  group-text r = rw (leaf-group x (rw ek at h), ← es, ← eq, ← ed, ← ek, first-seat k h, ef)
 
--- ---- and as its counter test
+pub one-text : (x n : ℕ) {k : ℕ} → k ≡ kindPart x → oneKind ≤ k → (r : List ℕ) → r ≡ groupText n (leafOf x) r
+one-text x n ek h r = rw (leaf-one x (rw ek at h))
+
+-- ---- a leaf as its counter test
 
 bound-text : (b : Bound) (r : List ℕ) → boundRow b .sign ∷ num (boundRow b .number) r ≡ boundText b r
 bound-text (equalTo m) r = refl
 bound-text (moreThan m) r = refl
 bound-text (lessThan m) r = refl
 
-pub counter-text : (n j x : ℕ) {d : ℕ} {b : BoundRow} → d ≡ statePart x → b ≡ boundRow (boundOf (counterOf n j (groupOf x))) → (r : List ℕ)
-    → "(no_" ▸ num d (b .sign ∷ num (b .number) (")" ▸ r)) ≡ counterText (counterOf n j (groupOf x)) r
-unfolding groupOf
+pub counter-text : (n j x : ℕ) {d : ℕ} {b : BoundRow} → d ≡ statePart x → b ≡ boundRow (boundOf (counterOf n j (leafOf x))) → (r : List ℕ)
+    → "(no_" ▸ num d (b .sign ∷ num (b .number) (")" ▸ r)) ≡ counterText (counterOf n j (leafOf x)) r
 counter-text n j x {d} {b} ed eb r =
     ap (λ (y : BoundRow). "(no_" ▸ num d (y .sign ∷ num (y .number) (")" ▸ r))) eb
-    ∙ rw ed
-    (ap (λ (l : List ℕ). "(no_" ▸ num (statePart x) l) (bound-text (boundOf (counterOf n j (groupOf x))) (")" ▸ r)))
+    ∙ rw (ed, of-state n j x)
+    (ap (λ (l : List ℕ). "(no_" ▸ num (statePart x) l) (bound-text (boundOf (counterOf n j (leafOf x))) (")" ▸ r)))

@@ -1,5 +1,6 @@
 // How a leaf of a guard is put, in the written card and in the reduced program ("Texts, byte for byte").
 use card::node::IS;
+use card::node::ONE;
 use card::node::kind_of;
 use card::node::relation_of;
 use card::node::sign_of;
@@ -14,7 +15,7 @@ use table::bound_of;
 ghost use mathlib.Core.Path.{_≡_};
 ghost use Prim.Native.Nat.{_-_};
 ghost use Rattle.card.specs.Card.{all, any, is, isnt};
-ghost use Rattle.card.specs.Laid.{either, groupOf, leafOf};
+ghost use Rattle.card.specs.Laid.{either, leafOf};
 ghost use Rattle.meaning.specs.Reduced.{counterOf};
 ghost use Rattle.phrases.specs.Phrases.{_▸_};
 ghost use Rattle.phrases.specs.Puts.{Puts};
@@ -102,23 +103,27 @@ fn put_literals(
     to
 }
 
-// A group as its literals.
+// A group as its literals; of exactly one seat nothing, for no card has it.
 fn put_group(room: &mut [u8], at: usize, node: u32, seats: usize) -> usize
-    ensures { λ r. ⌜ Puts (now (room .entry)) (now (room .exit)) at (groupText seats (groupOf node)) r ⌝ }
+    ensures { λ r. ⌜ Puts (now (room .entry)) (now (room .exit)) at (groupText seats (leafOf node)) r ⌝ }
 {
+    let kind = kind_of(node);
+    if ONE <= kind {
+        return place(at);
+    }
     let sign = sign_of(node);
     let relation = relation_of(node);
     let state = state_of(node);
-    let first = kind_of(node) + 1;
+    let first = kind + 1;
     let a = put_byte(room, at, b'(');
     let b = put_literal(room, a, relation, state, first);
     let c = put_literals(room, b, sign, relation, state, first, seats);
     put_byte(room, c, b')')
 }
 
-// A group as its counter test.
+// A leaf as its counter test.
 fn put_counter(room: &mut [u8], at: usize, node: u32, own: usize, seats: usize) -> usize
-    ensures { λ r. ⌜ Puts (now (room .entry)) (now (room .exit)) at (counterText (counterOf seats own (groupOf node))) r ⌝ }
+    ensures { λ r. ⌜ Puts (now (room .entry)) (now (room .exit)) at (counterText (counterOf seats own (leafOf node))) r ⌝ }
 {
     let d = state_of(node);
     let bound = bound_of(node, own, seats);

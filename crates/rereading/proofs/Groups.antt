@@ -11,7 +11,7 @@ use borrow.Author.Tests.{le-leb, eq-eqb, ne-eqb}
 use lib.Dec.{eqb}
 use lib.ListN.{length}
 use Rattle.card.specs.Limits.{numberDigits, wordDigits, mostNodes}
-use Rattle.card.specs.Card.{Kind, everyone, others, Sign, all, any, Relation, is, isnt, Leaf, group, atom}
+use Rattle.card.specs.Card.{Kind, everyone, others, Sign, all, any, Relation, is, isnt, Leaf, group, one, atom}
 use Rattle.card.specs.Valid.{firstSeat, Enough, ValidLeaf, Every}
 use Rattle.marks.specs.Marks.{seat, marks}
 use Rattle.reading.specs.Reader.{Place}
@@ -171,3 +171,4 @@ module _ (e : ℕ) where
       let w = literal-written q d (firstSeat kind) (literals any q d (firstSeat kind) (n - firstSeat kind) (")" ▸ r)) (omega arith) (omega arith) (apart any q d (firstSeat kind) (n - firstSeat kind) r) in
       let o = others-written any q d (firstSeat kind) (n - firstSeat kind) r (omega arith) (omega arith) in
       made n k kind any q d l (v .1) _ _ _ (w .place) (o .found) (o .run) (some-more q d (suc (firstSeat kind)) (n - firstSeat kind) _ _ (w .said) (omega arith) (o .found) (o .run) (o .said))
+  group-written n k small-n small-k (one d) r v = absurd v

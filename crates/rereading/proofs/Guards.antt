@@ -8,7 +8,7 @@ use native.Mathlib.Omega.{arith}
 use lib.Dec.{eqb}
 use lib.ListN.{length}
 use Rattle.card.specs.Limits.{numberDigits, wordDigits, mostNodes, mostDepth}
-use Rattle.card.specs.Card.{Sign, all, any, Leaf, group, Formula, atom, neg, and, or, Guard}
+use Rattle.card.specs.Card.{Sign, all, any, Leaf, group, one, Formula, atom, neg, and, or, Guard}
 use Rattle.card.specs.Valid.{ValidLeaves, Every, size, Level, loose, middle, tight, needsAnd, needsOr, depth}
 use Rattle.letters.specs.Bytes.{begins}
 use Rattle.marks.specs.Marks.{marks}
@@ -97,12 +97,13 @@ partOf tight = unary
 
 module _ (n : ℕ) where
   -- no `=` after `!`
-  guard-begins : (g : Guard) (r : List ℕ) → begins (eqb 61) (guardText n tight g r) ≡ false
+  guard-begins : (k : ℕ) (g : Guard) (r : List ℕ) → ValidLeaves n k g → begins (eqb 61) (guardText n tight g r) ≡ false
   unfolding formulaText
-  guard-begins (atom (group kind s q d)) r = refl
-  guard-begins (neg g) r = refl
-  guard-begins (and g h) r = refl
-  guard-begins (or g h) r = refl
+  guard-begins k (atom (group kind s q d)) r v = refl
+  guard-begins k (atom (one d)) r v = absurd v
+  guard-begins k (neg g) r v = refl
+  guard-begins k (and g h) r v = refl
+  guard-begins k (or g h) r v = refl
 
   text-group : (v : Level) (a : Leaf) (r : List ℕ) → guardText n v (atom a) r ≡ groupText n a r
   unfolding formulaText
@@ -172,7 +173,7 @@ module _ (e n k : ℕ) (small-n : n < 10 ^ wordDigits) (small-k : k < 10 ^ numbe
       as-text (partOf v) 0 (atom a) _ _ r (text-group n v a r) (at-level v 0 (atom a) (groupText n a r) r (one-group a r (group-written e n k small-n small-k a r w)))
   guard-written v (neg g) r w =
       as-text (partOf v) (suc (depth tight g)) (neg g) _ _ r (text-neg n v g r)
-      (at-level v (suc (depth tight g)) (neg g) ("!" ▸ guardText n tight g r) r (negation (depth tight g) g (guardText n tight g r) r (guard-begins n g r) (guard-written tight g r w)))
+      (at-level v (suc (depth tight g)) (neg g) ("!" ▸ guardText n tight g r) r (negation (depth tight g) g (guardText n tight g r) r (guard-begins n k g r w) (guard-written tight g r w)))
   guard-written v (and g h) r w =
       as-text (partOf v) (depth v (and g h)) (and g h) _ _ r (text-and n v g h r) (and-written v g h r (λ x. guard-written middle g x (w .0)) (λ x. guard-written tight h x (w .1)))
   guard-written v (or g h) r w =

@@ -10,7 +10,7 @@ use lib.Dec.{eqb}
 use lib.ListN.{length}
 use Rattle.card.specs.Limits.{mostSeats, topState}
 use Rattle.card.specs.Text.{if_then_else_}
-use Rattle.card.specs.Card.{Mode, nondeterministic, probabilistic, Kind, everyone, others, Sign, all, any, Relation, is, isnt, Leaf, group, Branch, Statement, Card}
+use Rattle.card.specs.Card.{Mode, nondeterministic, probabilistic, Kind, everyone, others, Sign, all, any, Relation, is, isnt, Leaf, group, one, Branch, Statement, Card}
 use Rattle.card.specs.Valid.{Every, ValidLeaf, ValidBranch, ValidStatement, ValidCard}
 use Rattle.meaning.specs.Sums.{gate, upto, flat}
 use Rattle.meaning.specs.Reduced.{Bound, equalTo, moreThan, lessThan, counterOf, table, Update, keep, shift, updateOf, copy, copies, reduce}
@@ -56,6 +56,7 @@ module _ (n k j : ℕ) (h : n ≤ mostSeats) (l : k ≤ topState) where
       adds-then (adds-bytes "(no_")
       (adds-then (adds-state d (le-trans (v .1) l))
       (adds-then (adds-bound (table n kind (eqb j d) s q) (table-small n h kind (eqb j d) s q)) (adds-bytes ")")))
+  adds-group (one d) v = absurd v
 
   -- ---- branches
 

@@ -7,7 +7,7 @@ use native.Mathlib.Nat.{suc-mul, mul-le-mul-right, le-trans}
 use native.Mathlib.Omega.{arith}
 use lib.ListN.{length}
 use Rattle.card.specs.Limits.{mostSeats, topState, mostStatements}
-use Rattle.card.specs.Card.{Kind, everyone, others, Sign, all, any, Relation, is, isnt, Leaf, group, Branch, Statement, Card}
+use Rattle.card.specs.Card.{Kind, everyone, others, Sign, all, any, Relation, is, isnt, Leaf, group, one, Branch, Statement, Card}
 use Rattle.card.specs.Valid.{firstSeat, Enough, Every, ValidLeaf, ValidBranch, ValidStatement, ValidCard}
 use Rattle.room.specs.Room.{cap}
 use Rattle.phrases.specs.Phrases.{_▸_, num, modeText}
@@ -53,6 +53,7 @@ adds-group n k (group kind s q d) h l v =
     (adds-then (adds-bytes "(")
     (adds-then (adds-literal q d f (le-trans (v .1) l) (omega arith))
     (adds-then (adds-literals s q d f (n - f) (le-trans (v .1) l) (omega arith)) (adds-bytes ")"))))
+adds-group n k (one d) h l v = absurd v
 
 -- ---- statements
 

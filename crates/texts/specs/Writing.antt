@@ -2,7 +2,7 @@
 use Prim.Native.Nat.{ℕ, zero, suc, _-_}
 use Prim.Native.String.{String}
 use mathlib.Core.List.{List, [], _∷_}
-use Rattle.card.specs.Card.{Sign, all, any, Relation, is, isnt, Leaf, group, Guard, Branch, Statement, Card}
+use Rattle.card.specs.Card.{Sign, all, any, Relation, is, isnt, Leaf, group, one, Guard, Branch, Statement, Card}
 use Rattle.card.specs.Valid.{firstSeat, Level}
 use Rattle.phrases.specs.Phrases.{Text, _▸_, num, modeWord, weightText}
 use Rattle.texts.specs.Shared.{needed, formulaText, tailText}
@@ -28,6 +28,7 @@ literals s q d i (suc c) r = signText s ▸ literal q d (suc i) (literals s q d 
 -- in rising seat order, up to seat n
 abbrev pub groupText : ℕ → Leaf → Text
 groupText n (group kind s q d) r = "(" ▸ literal q d (firstSeat kind) (literals s q d (firstSeat kind) (n - firstSeat kind) (")" ▸ r))
+groupText n (one d) r = r  -- no card has one
 
 abbrev pub guardText : ℕ → Level → Guard → Text
 guardText n = formulaText needed (groupText n)
