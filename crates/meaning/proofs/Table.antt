@@ -123,7 +123,7 @@ module _ (k : ℕ) (x : Seating) (w : Within k x) (i : ℕ) (l : i < length x) w
   guard-right g = ap (λ (p : Leaf → Bool). valueOr p g) (fun-ext leaf-right)
 
 -- the translated guard's value
-value-over : {A B : Type 0} (p : B → Bool) (f : A → B) (g : Formula A) → value p (over f g) ≡ value (λ a. p (f a)) g
+pub value-over : {A B : Type 0} (p : B → Bool) (f : A → B) (g : Formula A) → value p (over f g) ≡ value (λ a. p (f a)) g
 value-over p f (atom a) = refl
 value-over p f (neg g) = ap not (value-over p f g)
 value-over p f (and g h) = ap₂ _&&_ (value-over p f g) (value-over p f h)

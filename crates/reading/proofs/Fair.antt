@@ -12,7 +12,7 @@ use Rattle.card.specs.Valid.{size, Level, loose, middle, tight, depth, Every, S
 use Rattle.reading.specs.Reader.{Place}
 use Rattle.reading.specs.Group.{Literal, Literals}
 use Rattle.reading.specs.Shape.{BranchShape, StatementShape, CardShape}
-use Rattle.reading.specs.Grammar.{Said, ManySaid, done, again, GroupSaid, conjoined, disjoined, Part, unary, joinedBy, operand, joining, GuardSaid, grouped, negated, bracketed, single, further, RestSaid, nothing, guarded, PlusSaid, plus, StatementSaid, statement, CardSaid, card}
+use Rattle.reading.specs.Grammar.{Said, ManySaid, done, again, GroupSaid, conjoined, disjoined, Part, unary, joinedBy, operand, joining, FormulaSaid, grouped, negated, bracketed, single, further, RestSaid, nothing, guarded, PlusSaid, plus, StatementSaid, statement, CardSaid, card}
 use Rattle.reading.specs.Counted.{Counted, Within, countedGuard, countedRest, countedMany, countedPlus, countedStatement, countedModule, countedCard}
 
 pub every-append : {A : Type 0} (P : A → Type 0) (xs ys : List A) → Every P (xs ++ ys) → Every P xs × Every P ys
@@ -29,23 +29,23 @@ Fair any ls = 1 < length ls
 abbrev pub FairGroup : Literals → Type 0
 FairGroup a = Fair (a .sign) (a .literals)
 
-group-fair : {p ms r : Place} {x : Literals} → GroupSaid p ms x r → FairGroup x
-group-fair (conjoined d o) = omega arith
-group-fair (disjoined d o) = omega arith
+group-fair : (p ms r : Place) (x : Literals) → GroupSaid p ms x r → FairGroup x
+group-fair p ms r _ (conjoined d o) = omega arith
+group-fair p ms r _ (disjoined d o) = omega arith
 
 -- ---- guards
 
 -- where a part of a guard stands
-abbrev levelOf : Part → Level
+abbrev pub levelOf : Part → Level
 levelOf unary = tight
 levelOf (joinedBy all) = middle
 levelOf (joinedBy any) = loose
 
--- with so many brackets and `!`, and nodes, left
-record Fits (v : Level) (d n : ℕ) (g : Formula Literals) : Type 0 where
-  deep : depth v g ≤ d
-  large : size g ≤ n
-  fair : EveryAtom FairGroup g
+-- with so many brackets and `!`, and nodes, left; and each atom is P
+pub record Fits {A : Type 0} (P : A → Type 0) (v : Level) (d n : ℕ) (g : Formula A) : Type 0 where
+  pub deep : depth v g ≤ d
+  pub large : size g ≤ n
+  pub fair : EveryAtom P g
 
 loosen : {A : Type 0} (g : Formula A) → (depth loose g ≤ depth middle g) × (depth middle g ≤ depth tight g) × (depth tight g ≤ suc (depth loose g))
 loosen (atom a) = (omega arith, omega arith, omega arith)
@@ -53,29 +53,32 @@ loosen (neg g) = (omega arith, omega arith, omega arith)
 loosen (and g h) = (omega arith, omega arith, omega arith)
 loosen (or g h) = (omega arith, omega arith, omega arith)
 
-single-fits : (s : Sign) (d n : ℕ) (g : Formula Literals) → Fits (levelOf (operand s)) d n g → Fits (levelOf (joinedBy s)) d n g
-single-fits all d n g f = record { deep = omega (arith, loosen g, f .deep); large = f .large; fair = f .fair }
-single-fits any d n g f = record { deep = omega (arith, loosen g, f .deep); large = f .large; fair = f .fair }
+module _ {A : Type 0} (P : A → Type 0) where
+  single-fits : (s : Sign) (d n : ℕ) (g : Formula A) → Fits P (levelOf (operand s)) d n g → Fits P (levelOf (joinedBy s)) d n g
+  single-fits all d n g f = record { deep = omega (arith, loosen g, f .deep); large = f .large; fair = f .fair }
+  single-fits any d n g f = record { deep = omega (arith, loosen g, f .deep); large = f .large; fair = f .fair }
 
-joined-fits : (s : Sign) (d n m : ℕ) (g h : Formula Literals) → Fits (levelOf (joinedBy s)) d n g → Fits (levelOf (operand s)) d m h → suc (size g + m) ≤ n
-    → Fits (levelOf (joinedBy s)) d n (joining s g h)
-joined-fits all d n m g h f k l = record { deep = omega (arith, f .deep, k .deep); large = omega (arith, k .large); fair = (f .fair, k .fair) }
-joined-fits any d n m g h f k l = record { deep = omega (arith, f .deep, k .deep); large = omega (arith, k .large); fair = (f .fair, k .fair) }
+  joined-fits : (s : Sign) (d n m : ℕ) (g h : Formula A) → Fits P (levelOf (joinedBy s)) d n g → Fits P (levelOf (operand s)) d m h → suc (size g + m) ≤ n
+      → Fits P (levelOf (joinedBy s)) d n (joining s g h)
+  joined-fits all d n m g h f k l = record { deep = omega (arith, f .deep, k .deep); large = omega (arith, k .large); fair = (f .fair, k .fair) }
+  joined-fits any d n m g h f k l = record { deep = omega (arith, f .deep, k .deep); large = omega (arith, k .large); fair = (f .fair, k .fair) }
 
-guard-fits : {v : Part} {ms r : Place} {g : Formula Literals} (u : GuardSaid GroupSaid v ms g r) (nodes around : ℕ) → Every Within (countedGuard nodes around u)
-    → Fits (levelOf v) (mostDepth - around) (mostNodes - nodes) g
-guard-fits (grouped x) nodes around w = record { deep = omega arith; large = omega (arith, w .0); fair = group-fair x }
-guard-fits (negated u) nodes around w =
-    let f = guard-fits u (suc nodes) (suc around) (w .1 .1) in
-    record { deep = omega (arith, f .deep, w .1 .0); large = omega (arith, f .large, w .0); fair = f .fair }
-guard-fits (bracketed {g = g} f u) nodes around w =
-    let f = guard-fits u nodes (suc around) (w .1) in
-    record { deep = omega (arith, loosen g, f .deep, w .0); large = f .large; fair = f .fair }
-guard-fits (single {s} {g = g} u) nodes around w = single-fits s (mostDepth - around) (mostNodes - nodes) g (guard-fits u nodes around w)
-guard-fits (further {s} {g = g} {h} us u) nodes around w =
-    let (v, c) = every-append Within (countedGuard nodes around us) _ w in
-    joined-fits s (mostDepth - around) (mostNodes - nodes) (mostNodes - suc (nodes + size g)) g h (guard-fits us nodes around v) (guard-fits u (suc (nodes + size g)) around (c .1))
-    (omega (arith, c .0))
+  -- over any language of formulas, whose groups say that their atoms are P
+  pub formula-fits : {Free : Place → Type 0} {Group : Place → Said A} → ((p ms r : Place) (x : A) → Group p ms x r → P x)
+      → {v : Part} {ms r : Place} {g : Formula A} (u : FormulaSaid Free Group v ms g r) (nodes around : ℕ) → Every Within (countedGuard nodes around u)
+      → Fits P (levelOf v) (mostDepth - around) (mostNodes - nodes) g
+  formula-fits each (grouped x) nodes around w = record { deep = omega arith; large = omega (arith, w .0); fair = each _ _ _ _ x }
+  formula-fits each (negated u) nodes around w =
+      let f = formula-fits each u (suc nodes) (suc around) (w .1 .1) in
+      record { deep = omega (arith, f .deep, w .1 .0); large = omega (arith, f .large, w .0); fair = f .fair }
+  formula-fits each (bracketed {g = g} f u) nodes around w =
+      let f = formula-fits each u nodes (suc around) (w .1) in
+      record { deep = omega (arith, loosen g, f .deep, w .0); large = f .large; fair = f .fair }
+  formula-fits each (single {s} {g = g} u) nodes around w = single-fits s (mostDepth - around) (mostNodes - nodes) g (formula-fits each u nodes around w)
+  formula-fits each (further {s} {g = g} {h} us u) nodes around w =
+      let (v, c) = every-append Within (countedGuard nodes around us) _ w in
+      joined-fits s (mostDepth - around) (mostNodes - nodes) (mostNodes - suc (nodes + size g)) g h
+      (formula-fits each us nodes around v) (formula-fits each u (suc (nodes + size g)) around (c .1)) (omega (arith, c .0))
 
 abbrev pub FairGuard : Option (Formula Literals) → Type 0
 FairGuard none = Unit {0}
@@ -83,7 +86,7 @@ FairGuard (some g) = (depth middle g ≤ mostDepth) × EveryAtom FairGroup g × 
 
 rest-fair : {ms r : Place} {g : Option (Formula Literals)} (u : RestSaid ms g r) → Every Within (countedRest u) → FairGuard g
 rest-fair nothing w = tt
-rest-fair (guarded u) w = let f = guard-fits u 0 0 w in (f .deep, f .fair, f .large)
+rest-fair (guarded u) w = let f = formula-fits FairGroup group-fair u 0 0 w in (f .deep, f .fair, f .large)
 
 -- ---- any number of things
 

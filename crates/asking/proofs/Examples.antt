@@ -1,0 +1,71 @@
+-- Worked questions on a card of two seats with top state 1; and why it is not enough to look at what a bracket itself starts. Assumes nothing.
+use Prim.Native.Nat.{zero}
+use mathlib.Core.Path.{_≡_, refl, sym, ap, _∙_}
+use mathlib.Core.List.{_∷_, _++_, append-cancel-right, head-eq-of-cons-eq, tail-eq-of-cons-eq}
+use Rattle.card.specs.Refusals.{pastLimit}
+use Rattle.card.specs.Text.{bytes}
+use Rattle.card.specs.Card.{all, is, atom}
+use Rattle.marks.specs.Marks.{Placed}
+use Rattle.reading.specs.Reader.{Place, at, stop}
+use Rattle.reading.specs.Verdicts.{PastIn}
+use Rattle.asking.specs.Question.{mixedNext, itemNext, question, QuestionSaid, countedQuestion, QuestionPast}
+use Rattle.asking.specs.Meant.{ofAll, oneIn}
+use Rattle.entry.specs.Said.{says, refused}
+use Rattle.asking.specs.Asking.{questionOf}
+use Rattle.asking.proofs.Looking.{sight-starts}
+use Rattle.asking.proofs.Asked.{question-past}
+
+-- an exactly-one, and what starts none
+
+one : questionOf 2 1 (bytes "((s1=0 & s2!=0) | (s2=0 & s1!=0))") ≡ says (atom (oneIn 0))
+unfolding questionOf mixedNext
+one = refl
+
+alone- : questionOf 2 1 (bytes "((s1=0 & s2=0))") ≡ says (atom (ofAll all is 0))
+unfolding questionOf mixedNext
+alone- = refl
+
+only-one-fits : questionOf 2 1 (bytes "((s1=0 & s2!=0) & (s1=0 & s2=0))") ≡ refused 23 16
+unfolding questionOf mixedNext
+only-one-fits = refl
+
+uneven-inside : questionOf 2 1 (bytes "((s1=0 & s2!=0 & s3=0) | (s1=0 & s2=0))") ≡ refused 26 0
+unfolding questionOf mixedNext
+uneven-inside = refl
+
+cut : questionOf 2 1 (bytes "((s1=0 & s2!=0") ≡ refused 23 14
+unfolding questionOf mixedNext
+cut = refl
+
+-- the look ahead reaches the closing bracket: without it the ninth bracket is an expression's
+
+eight-and-one : questionOf 2 1 (bytes "((((((((((s1=0 & s2!=0) | (s2=0 & s1!=0))))))))))") ≡ says (atom (oneIn 0))
+unfolding questionOf mixedNext
+eight-and-one = refl
+
+eight-and-cut : questionOf 2 1 (bytes "((((((((((s1=0 & s2!=0") ≡ refused 24 8
+unfolding questionOf mixedNext
+eight-and-cut = refl
+
+-- if only what the bracket itself starts had to agree, a question that is past a limit at a bracket would be so after other marks too
+pub too-weak : (pre : Place) (m : Placed) (x y : Place) → question (at (pre ++ (m ∷ y)) zero) ≡ stop pastLimit (m ∷ y) → itemNext x ≡ itemNext y
+    → PastIn QuestionSaid countedQuestion itemNext (pre ++ (m ∷ x)) (m ∷ x)
+too-weak pre m x y e h = go (question-past (pre ++ (m ∷ y)) (m ∷ y) .0 e)
+  where
+    go : QuestionPast (pre ++ (m ∷ y)) (m ∷ y) → PastIn QuestionSaid countedQuestion itemNext (pre ++ (m ∷ x)) (m ∷ x)
+    go p =
+        let i : m ≡ p .mark = head-eq-of-cons-eq (p .place) in
+        let j : y ≡ p .after = tail-eq-of-cons-eq (p .place) in
+        let q : pre ≡ p .before = append-cancel-right pre (p .before) (m ∷ y) (p .split ∙ ap (λ z. p .before ++ z) (sym (p .place))) in
+        record {
+          before = p .before;
+          mark = p .mark;
+          after = x;
+          split = ap (λ z. z ++ (m ∷ x)) q ∙ ap (λ z. p .before ++ (z ∷ x)) i;
+          place = ap (λ z. z ∷ x) i;
+          other = p .other;
+          starts = λ k. h ∙ ap itemNext j ∙ sight-starts (p .after) (p .other) (p .starts k);
+          shape = p .shape;
+          said = p .said;
+          past = p .past;
+        }

@@ -1,0 +1,9 @@
+pub mod Seen
+pub mod Looking
+pub mod Asked
+pub mod Meant
+pub mod Claims
+pub mod Fitting
+pub mod Answers
+pub mod Valid
+pub mod Examples

@@ -1,0 +1,544 @@
+-- A question's groups and exactly-ones keep what `Leaves` asks of a language of formulas. Assumes nothing.
+use Prim.Native.Nat.{ℕ, zero, suc, _+_}
+use mathlib.Core.Path.{_≡_, refl, sym, ap, _∙_, subst}
+use mathlib.Core.Logic.{inl, inr, _↔_}
+use mathlib.Core.Bool.{Bool, true, false, _&&_, _||_, false≢true}
+use mathlib.Core.List.{List, [], _∷_, _++_, append-assoc, append-cancel-right, append-nil, head?}
+use mathlib.Core.Option.{none, some}
+use native.Mathlib.Omega.{arith}
+use lib.ListN.{length, length-append}
+use Rattle.card.specs.Limits.{mostNodes}
+use Rattle.card.specs.Refusals.{outOfShape, pastLimit}
+use Rattle.card.specs.Text.{bytes, same}
+use Rattle.card.specs.Card.{all, any, is as eq, isnt as ne, Formula, atom, and, or}
+use Rattle.marks.specs.Marks.{Mark, text, seat, number, Placed, placed}
+use Rattle.reading.specs.Reader.{Place, State, at, Result, ok, stop, Reader, bind, _>>=_, return, is, nextIs, sign, here}
+use Rattle.reading.specs.Guard.{seatNext, Read, chain, conjunction, expression, unaryBy, grouped as readGrouped}
+use Rattle.reading.specs.Group.{joint, Literal, Literals, literalsOf, literal as readLiteral, joined, group}
+use Rattle.reading.specs.Grammar.{signAt, LiteralSaid, literal, OthersSaid, close, next, GroupSaid, conjoined, disjoined, Part, unary, joinedBy, FormulaSaid, grouped, single}
+use Rattle.reading.proofs.Through.{ok-state, through, chose, is→eq, none≢some}
+use Rattle.reading.proofs.Rising.{Order, equal, before, behind, order}
+use Rattle.reading.proofs.Steady.{Lang, _then_, _either_, Mark₁, Saying, SameHead, Alike, head-append, next-head, some-eq, free, Cause, unfit, excess, Steady, Always, ok≢stop, stop-number, stop-place, stopped, chose-stop, steady-as, steady-bind, steady-sign, steady-return, steady-last}
+use Rattle.reading.proofs.Follows.{literal-reads, others-reads, group-reads}
+use Rattle.reading.proofs.Exact.{one-sign, a-sign, literalT, joinedHere, joinedHereT, groupT, seat-still, GuardL, GroupsL, ClosedL, FreeL, closing, Leaves, chainT, conjunctionT, expressionT}
+use Rattle.asking.specs.Question.{Item, aGroup, exactlyOne, relations, both, mixed, mixedRead, mixedNext, twiceNext, itemNext, term, exactly, item, TermSaid, aTerm, ItemSaid, ofGroup, ofTerms, NoneStarts, Sight, words, mixedWords, twice, other, seen, sight}
+use Rattle.asking.proofs.Seen.{group-moves, mixed-said, term-settles, term-seen, same-not-mixed, no-seat-not-mixed, formula-no-seat, formula-settles}
+
+-- ---- what is read and what is seen
+
+-- a look at nothing
+abbrev blind : Place → Unit {0}
+blind ms = tt
+
+group-ok : (p ms : Place) (n : ℕ) (x : Literals) (s : State) → group p (at ms n) ≡ ok x s → (o : Place) → Saying (GroupSaid o) ms (s .marks)
+group-ok p ms n x s e o =
+    let w = groupT {look = blind} p p .passes (at ms n) s x tt e in
+    rw (w .split) (w .said (s .marks) o)
+
+-- where no group can be read, none is seen
+stops-not-mixed : (p ms : Place) (n i : ℕ) (r : Place) → group p (at ms n) ≡ stop i r → mixedNext ms ≡ false
+unfolding mixedNext
+stops-not-mixed p ms n i r e = go (group [] (at ms zero)) refl
+  where
+    go : (x : Result Literals) → group [] (at ms zero) ≡ x → mixedRead x ≡ false
+    go (ok x s) e₁ = let (y, d) = group-ok [] ms zero x s e₁ p in ok≢stop (sym (group-reads d n) ∙ e)
+    go (stop j q) e₁ = refl
+
+pub group-stopped : (p ms : Place) (n i : ℕ) (r : Place) → group p (at ms n) ≡ stop i r → (pre : Place) → ms ≡ pre ++ r → (y : Place) → SameHead r y
+    → mixedNext (pre ++ y) ≡ mixedNext ms
+group-stopped p ms n i r e pre z y h =
+    let w = groupT {look = blind} p p .stops (at ms n) i r tt e in
+    let q : w .pre ≡ pre = append-cancel-right (w .pre) pre r (sym (w .split) ∙ z) in
+    stops-not-mixed p (pre ++ y) n i y (rw q at (w .same y (h, λ _ _. refl))) ∙ sym (stops-not-mixed p ms n i r e)
+
+-- a group that is seen to be mixed is there
+mixed-there : (ms : Place) → mixedNext ms ≡ true → (x : Literals) × (r : Place) × GroupSaid [] ms x r × (mixed x ≡ true)
+unfolding mixedNext
+mixed-there ms e = go (group [] (at ms zero)) refl e
+  where
+    go : (x : Result Literals) → group [] (at ms zero) ≡ x → mixedRead x ≡ true → (x : Literals) × (r : Place) × GroupSaid [] ms x r × (mixed x ≡ true)
+    go (ok x s) e₁ e = let (y, d) = group-ok [] ms zero x s e₁ [] in (y, s .marks, d, sym (mixed-said d) ∙ ap mixedRead e₁ ∙ e)
+    go (stop j q) e₁ e = absurd (false≢true e)
+
+-- it is a term
+pub twice-there : (ms : Place) → twiceNext ms ≡ true → (ls : List Literal) × (r : Place) × TermSaid ms ls r × (both (relations ls) ≡ true)
+twice-there [] e = absurd (false≢true e)
+twice-there (placed m a ∷ ms) e = go (is "(" m) refl e
+  where
+    all-of : (x : Literals) (r : Place) → GroupSaid [] ms x r → mixed x ≡ true → (ls : List Literal) × TermSaid (signAt "(" a ∷ ms) ls r × (both (relations ls) ≡ true)
+    all-of _ r (conjoined {l = l} {ls} d o) e = (l ∷ ls, aTerm d o, e)
+    all-of _ r (disjoined d o) e = absurd (false≢true e)
+
+    go : (b : Bool) → is "(" m ≡ b → (b && mixedNext ms) ≡ true → (ls : List Literal) × (r : Place) × TermSaid (placed m a ∷ ms) ls r × (both (relations ls) ≡ true)
+    go true z e =
+        let (x, r, d, f) = mixed-there ms e in
+        let (ls, t, b) = all-of x r d f in
+        rw (is→eq "(" m z) (ls, r, t, b)
+    go false z e = absurd (false≢true e)
+
+-- an exactly-one starts behind a bracket exactly where a term with both relations stands there
+pub starts-exactly : (ms : Place) → twiceNext ms ≡ true ↔ ((ls : List Literal) × (r : Place) × TermSaid ms ls r × (both (relations ls) ≡ true))
+starts-exactly ms = (twice-there ms, λ (ls, r, d, b). term-seen d ∙ b)
+
+-- ---- terms
+
+term-said : (ms r : Place) → (Mark₁ "(" then Saying LiteralSaid then Saying (OthersSaid all)) ms r → Saying TermSaid ms r
+term-said ms r (q, m, (q₁, (l, d), (ls, o))) = let (p, e) = one-sign "(" ms q m in rw e (l ∷ ls, aTerm d o)
+
+pub term-reads : {ms r : Place} {ls : List Literal} → TermSaid ms ls r → (n : ℕ) → term (at ms n) ≡ ok ls (at r n)
+term-reads (aTerm {ns = ns} d o) n = rw (literal-reads d n, others-reads o (length ns) (omega arith) n)
+
+module _ {Look : Type 0} {look : Place → Look} where
+  pub termT : Steady look Always free (Saying TermSaid) term term
+  termT = steady-as term-said
+      (steady-bind (steady-sign "(") λ _ _ _. steady-bind literalT λ l l₁ _. steady-last (joinedHereT LiteralSaid readLiteral literalT all) λ ls ls₁ _. steady-return (l ∷ ls) (l₁ ∷ ls₁))
+
+abbrev MixedL : Lang
+MixedL ms r = (ls : List Literal) × TermSaid ms ls r × (both (relations ls) ≡ true)
+
+abbrev mixedWord : Place
+mixedWord =
+    signAt "(" 0 ∷ placed (seat 1) 0 ∷ signAt "=" 0 ∷ placed (number 0) 0 ∷ signAt "&" 0 ∷ placed (seat 1) 0 ∷ signAt "!=" 0 ∷ placed (number 0) 0 ∷ signAt ")" 0 ∷ []
+
+mixed-word : (t : Place) → MixedL (mixedWord ++ t) t
+mixed-word t = (_, aTerm (literal {q = eq}) (next (literal {q = ne}) close), refl)
+
+-- what a term that was read leaves seen
+term-stays : (s s₁ : State) (ls : List Literal) → term s ≡ ok ls s₁ → (pre : Place) → s .marks ≡ pre ++ s₁ .marks → (t : Place)
+    → twiceNext (pre ++ t) ≡ twiceNext (s .marks)
+term-stays s s₁ ls e pre z t =
+    let w = termT {look = blind} .passes s s₁ ls tt e in
+    let q : w .pre ≡ pre = append-cancel-right (w .pre) pre (s₁ .marks) (sym (w .split) ∙ z) in
+    let (_, d) = w .said (s₁ .marks) in
+    let m = term-settles d in
+    let q₁ : m .pre ≡ pre = append-cancel-right (m .pre) pre (s₁ .marks) (sym (m .split) ∙ ap (λ x. x ++ s₁ .marks) q) in
+    subst (λ x. twiceNext (x ++ t) ≡ twiceNext (s .marks)) q₁ (m .twice t ∙ ap (λ x. twiceNext (x ++ s₁ .marks)) q ∙ ap twiceNext (sym z))
+
+module _ {Look : Type 0} {look : Place → Look} where
+  mixedT : Steady look (λ ms. twiceNext ms ≡ true) free MixedL term term
+  mixedT = record {
+    passes = λ s s₁ ls y e.
+        let w = termT {look = look} .passes s s₁ ls tt e in
+        record {
+          pre = w .pre;
+          split = w .split;
+          said = λ t. let (l, d) = w .said t in (l, d, sym (term-seen d) ∙ term-stays s s₁ ls e (w .pre) (w .split) t ∙ y);
+          same = w .same;
+        };
+    stops = λ s n r y e. let (ls, q, d, b) = twice-there (s .marks) y in ok≢stop (sym (term-reads d (s .nodes)) ∙ e);
+    word = (mixedWord, mixed-word);
+    sample = [];
+  }
+
+  exactlyT : (p p₁ : Place) → Steady look (λ ms. twiceNext ms ≡ true) free (λ ms r. (o : Place) → Saying (ItemSaid o) ms r) (exactly p) (exactly p₁)
+  exactlyT p p₁ = steady-as (λ ms r (q, (t, d, b), (ts, o)) p. (exactlyOne p (t ∷ ts), ofTerms d b o))
+      (steady-bind mixedT λ t t₁ _. steady-last (joinedHereT TermSaid term termT any) λ ts ts₁ _. steady-return (exactlyOne p (t ∷ ts)) (exactlyOne p₁ (t₁ ∷ ts₁)))
+
+-- ---- a group or an exactly-one, behind its bracket
+
+pub or-left : (a b : Bool) → a ≡ true → (a || b) ≡ true
+or-left a b e = rw e
+
+pub or-right : (a b : Bool) → b ≡ true → (a || b) ≡ true
+or-right true b e = refl
+or-right false b e = e
+
+or-else : (a b : Bool) → (a || b) ≡ true → a ≡ false → b ≡ true
+or-else true b e z = absurd (false≢true (sym z))
+or-else false b e z = e
+
+or-none : (a b : Bool) → (a || b) ≡ false → (a ≡ false) × (b ≡ false)
+or-none true b e = absurd (false≢true (sym e))
+or-none false b e = (refl, e)
+
+pub none-or : (a b : Bool) → a ≡ false → b ≡ false → (a || b) ≡ false
+none-or a b e z = rw (e, z)
+
+module _ {A Look : Type 0} {look : Place → Look} {P : Place → Type 0} {L : Lang} (F : Place → Reader A) (x : (q q₁ : Place) → Steady look P free L (F q) (F q₁)) where
+  steady-placed : (m : Placed) → Steady look P free L (λ s. F (m ∷ s .marks) s) (λ s. F (m ∷ s .marks) s)
+  steady-placed m = record {
+    passes = λ s s₁ a y e.
+        let w = x (m ∷ s .marks) (m ∷ s .marks) .passes s s₁ a y e in
+        record {
+          pre = w .pre;
+          split = w .split;
+          said = w .said;
+          same = λ u h.
+              let v = x (m ∷ s .marks) (m ∷ (w .pre ++ u)) .passes s s₁ a y e in
+              let q : v .pre ≡ w .pre = append-cancel-right (v .pre) (w .pre) (s₁ .marks) (sym (v .split) ∙ w .split) in
+              let (b, e₁, _) = v .same u h in
+              (b, subst (λ z. F (m ∷ (w .pre ++ u)) (at (z ++ u) (s .nodes)) ≡ ok b (at u (s₁ .nodes))) q e₁, tt);
+        };
+    stops = λ s n r y e.
+        let w = x (m ∷ s .marks) (m ∷ s .marks) .stops s n r y e in
+        record {
+          pre = w .pre;
+          split = w .split;
+          cause = w .cause;
+          same = λ u h.
+              let v = x (m ∷ s .marks) (m ∷ (w .pre ++ u)) .stops s n r y e in
+              let q : v .pre ≡ w .pre = append-cancel-right (v .pre) (w .pre) r (sym (v .split) ∙ w .split) in
+              subst (λ z. F (m ∷ (w .pre ++ u)) (at (z ++ u) (s .nodes)) ≡ stop n u) q (v .same u h);
+        };
+    word = x [] [] .word;
+    sample = x [] [] .sample;
+  }
+
+abbrev ItemL : Lang
+ItemL = GroupsL NoneStarts ItemSaid
+
+abbrev readGroup : Place → Reader Item
+readGroup p = group p >>= λ x. return (aGroup x)
+
+module _ {Look : Type 0} {look : Place → Look} where
+  groupLeafT : (m : Placed) → Steady look Always free ItemL (λ s. readGroup (m ∷ s .marks) s) (λ s. readGroup (m ∷ s .marks) s)
+  groupLeafT = steady-placed readGroup λ q q₁.
+      steady-as (λ ms r f o. let (x, d) = f o in (aGroup x, ofGroup d)) (steady-last (groupT q q₁) λ x x₁ _. steady-return (aGroup x) (aGroup x₁))
+
+  exactlyLeafT : (m : Placed) → Steady look (λ ms. twiceNext ms ≡ true) free ItemL (λ s. exactly (m ∷ s .marks) s) (λ s. exactly (m ∷ s .marks) s)
+  exactlyLeafT = steady-placed exactly exactlyT
+
+  pub itemT : (m : Placed) → Steady look (λ ms. itemNext ms ≡ true) free ItemL (λ s. item (m ∷ s .marks) s) (λ s. item (m ∷ s .marks) s)
+  itemT m = record {
+    passes = λ s s₁ a y. chose (seatNext (s .marks)) _ _ s s₁ a _
+        (λ z e.
+        let w = groupLeafT m .passes s s₁ a tt e in
+        record { pre = w .pre; split = w .split; said = w .said; same = λ u h. let v = w .same u h in (v .0, rw (seat-still true (s .marks) (w .pre) (s₁ .marks) u z (w .split) h) (v .1), tt) })
+        (λ z e.
+        let w = exactlyLeafT m .passes s s₁ a (or-else (seatNext (s .marks)) (twiceNext (s .marks)) y z) e in
+        record { pre = w .pre; split = w .split; said = w .said; same = λ u h. let v = w .same u h in (v .0, rw (seat-still false (s .marks) (w .pre) (s₁ .marks) u z (w .split) h) (v .1), tt) });
+    stops = λ s n r y. chose-stop (seatNext (s .marks)) _ _ s n r _
+        (λ z e.
+        let w = groupLeafT m .stops s n r tt e in
+        record { pre = w .pre; split = w .split; cause = w .cause; same = λ u h. rw (seat-still true (s .marks) (w .pre) r u z (w .split) (h .0)) (w .same u h) })
+        (λ z e.
+        let w = exactlyLeafT m .stops s n r (or-else (seatNext (s .marks)) (twiceNext (s .marks)) y z) e in
+        record { pre = w .pre; split = w .split; cause = w .cause; same = λ u h. rw (seat-still false (s .marks) (w .pre) r u z (w .split) (h .0)) (w .same u h) });
+    word = groupLeafT m .word;
+    sample = groupLeafT m .sample;
+  }
+
+-- an exactly-one that was begun stays one
+exactly-stays : (s s₂ : State) (t : List Literal) → term s ≡ ok t s₂ → (pre₂ r : Place) → s₂ .marks ≡ pre₂ ++ r → (pre : Place) → s .marks ≡ pre ++ r
+    → (y : Place) → twiceNext (pre ++ y) ≡ twiceNext (s .marks)
+exactly-stays s s₂ t e pre₂ r z₂ pre z y =
+    let w = termT {look = blind} .passes s s₂ t tt e in
+    let q : w .pre ++ pre₂ ≡ pre = append-cancel-right (w .pre ++ pre₂) pre r (append-assoc (w .pre) pre₂ r ∙ ap (λ x. w .pre ++ x) (sym z₂) ∙ sym (w .split) ∙ z) in
+    let i = term-stays s s₂ t e (w .pre) (w .split) (pre₂ ++ y) in
+    subst (λ x. twiceNext (x ++ y) ≡ twiceNext (s .marks)) q (ap twiceNext (append-assoc (w .pre) pre₂ y) ∙ i)
+
+exactly-ends : (p : Place) (s s₁ : State) (a : Item) → exactly p s ≡ ok a s₁ → (pre : Place) → s .marks ≡ pre ++ s₁ .marks → (y : Place)
+    → twiceNext (pre ++ y) ≡ twiceNext (s .marks)
+exactly-ends p s s₁ a e pre z y = through (term s) (λ t. here >>= λ q. joined term (joint any) (length q) >>= λ ts. return (exactlyOne p (t ∷ ts))) a s₁ _ (λ t s₂ e₁ e₂.
+    through (joinedHere term any s₂) (λ ts. return (exactlyOne p (t ∷ ts))) a s₁ _ (λ ts s₃ e₃ e₄.
+    let w = joinedHereT {look = blind} TermSaid term termT any .passes s₂ s₃ ts tt e₃ in
+    let q : s₃ ≡ s₁ = ok-state e₄ in
+    exactly-stays s s₂ t e₁ (w .pre) (s₁ .marks) (w .split ∙ ap (λ (x : State). w .pre ++ x .marks) q) pre z y) e₂) e
+
+exactly-halts : (p : Place) (s : State) (n : ℕ) (r : Place) → twiceNext (s .marks) ≡ true → exactly p s ≡ stop n r → (pre : Place) → s .marks ≡ pre ++ r
+    → (y : Place) → twiceNext (pre ++ y) ≡ twiceNext (s .marks)
+exactly-halts p s n r k e pre z y = stopped (term s) (λ t. here >>= λ q. joined term (joint any) (length q) >>= λ ts. return (exactlyOne p (t ∷ ts))) n r _
+    (λ e₁. let (ls, q, d, b) = twice-there (s .marks) k in ok≢stop (sym (term-reads d (s .nodes)) ∙ e₁))
+    (λ t s₂ e₁ e₂. stopped (joinedHere term any s₂) (λ ts. return (exactlyOne p (t ∷ ts))) n r _
+    (λ e₃. let w = joinedHereT {look = blind} TermSaid term termT any .stops s₂ n r tt e₃ in exactly-stays s s₂ t e₁ (w .pre) r (w .split) pre z y)
+    (λ ts s₃ e₃ e₄. ok≢stop e₄) e₂) e
+
+-- ---- what an expression that stopped leaves seen
+
+not-bracket : (ms : Place) → nextIs "(" ms ≡ false → twiceNext ms ≡ false
+not-bracket [] e = refl
+not-bracket (placed m p ∷ ms) e = rw e
+
+sight-mixed : (x y : Place) → sight x ≡ sight y → mixedNext x ≡ mixedNext y
+sight-mixed x y e = ask x ∙ ap isMixed e ∙ sym (ask y)
+  where
+    isMixed : Sight → Bool
+    isMixed words = false
+    isMixed mixedWords = true
+    isMixed twice = false
+    isMixed other = false
+
+    cases : (a b c : Bool) → (a ≡ false → b ≡ false) → b ≡ isMixed (seen a b c)
+    cases true true c h = refl
+    cases true false c h = refl
+    cases false true true h = h refl
+    cases false true false h = h refl
+    cases false false true h = refl
+    cases false false false h = refl
+
+    ask : (x : Place) → mixedNext x ≡ isMixed (sight x)
+    ask x = cases (seatNext x) (mixedNext x) (twiceNext x) (no-seat-not-mixed x)
+
+pub sight-starts : (x y : Place) → sight x ≡ sight y → itemNext x ≡ itemNext y
+sight-starts x y e = ask x ∙ ap isLeaf e ∙ sym (ask y)
+  where
+    isLeaf : Sight → Bool
+    isLeaf words = true
+    isLeaf mixedWords = true
+    isLeaf twice = true
+    isLeaf other = false
+
+    cases : (a b c : Bool) → (a || c) ≡ isLeaf (seen a b c)
+    cases true true c = refl
+    cases true false c = refl
+    cases false b true = refl
+    cases false b false = refl
+
+    ask : (x : Place) → itemNext x ≡ isLeaf (sight x)
+    ask x = cases (seatNext x) (mixedNext x) (twiceNext x)
+
+-- where it stops, whatever follows the mark there, the bracket before it is seen to start the same
+pub record Sees {A : Type 0} (u : Reader A) : Type 0 where
+  pub sees : (s : State) (n : ℕ) (r : Place) → seatNext (s .marks) ≡ false → u s ≡ stop n r → (pre : Place) → s .marks ≡ pre ++ r → (y : Place)
+      → Alike sight n r y
+      → twiceNext (pre ++ y) ≡ twiceNext (s .marks)
+
+abbrev AskL : Part → Lang
+AskL v = GuardL NoneStarts ItemSaid v
+
+abbrev askUnary : ℕ → Read Item
+askUnary d = unaryBy itemNext item d
+
+abbrev plainWord : Place
+plainWord = placed (seat 1) 0 ∷ signAt "=" 0 ∷ placed (number 0) 0 ∷ signAt ")" 0 ∷ []
+
+-- a bracket is never out of shape
+bracket-fits : (d k a : ℕ) → askUnary d (at (signAt "(" a ∷ plainWord) k) ≡ stop outOfShape (signAt "(" a ∷ plainWord) → ⊥
+bracket-fits zero zero a e = let z : pastLimit ≡ outOfShape = stop-number {A = Formula Item} e in omega arith
+bracket-fits zero (suc k) a e = ok≢stop e
+bracket-fits (suc d) zero a e = let z : pastLimit ≡ outOfShape = stop-number {A = Formula Item} e in omega arith
+bracket-fits (suc d) (suc k) a e = ok≢stop e
+
+behind-bracket : (d a : ℕ) (ms : Place) (n : ℕ) → itemNext ms ≡ true → askUnary d (at (signAt "(" a ∷ ms) n) ≡ readGrouped item (signAt "(" a ∷ ms) (at ms n)
+behind-bracket zero a ms n e = rw e
+behind-bracket (suc d) a ms n e = rw e
+
+cons-mark : {m o : Placed} {x y : Place} → m ∷ x ≡ o ∷ y → (m ≡ o) × (x ≡ y)
+cons-mark e = (cc, cc)
+
+module _ (d : ℕ) (x : Steady sight Always free (AskL unary) (askUnary d) (askUnary d)) where
+  -- at the bracket itself
+  sees-here : (a : ℕ) (t : Place) (k n : ℕ) → askUnary d (at (signAt "(" a ∷ t) k) ≡ stop n (signAt "(" a ∷ t) → (y : Place) → Alike sight n (signAt "(" a ∷ t) y
+      → twiceNext y ≡ mixedNext t
+  sees-here a t k n e [] h = none≢some (sym (h .0))
+  sees-here a t k n e (o ∷ y) h =
+      let z : signAt "(" a ≡ o = some-eq (h .0) in
+      let w = x .stops (at (signAt "(" a ∷ t) k) n (signAt "(" a ∷ t) tt e in
+      rw (← z) (go (w .pre) (append-cancel-right (w .pre) [] (signAt "(" a ∷ t) (sym (w .split))) (w .same) (w .cause))
+    where
+      go : (pre : Place) → pre ≡ [] → ((u : Place) → Alike sight n (signAt "(" a ∷ t) u → askUnary d (at (pre ++ u) k) ≡ stop n u)
+          → Cause sight (AskL unary) pre n (signAt "(" a ∷ t) → mixedNext y ≡ mixedNext t
+      go pre q f (excess e₁ m u post z j l) = sight-mixed y t (sym (h .1 e₁ refl))
+      go pre q f (unfit e₁ post l) =
+          let same : askUnary d (at (pre ++ (signAt "(" a ∷ plainWord)) k) ≡ stop n (signAt "(" a ∷ plainWord) = f (signAt "(" a ∷ plainWord) (refl, λ z. absurd (omega arith)) in
+          absurd (bracket-fits d k a (rw (q, e₁) at same))
+
+  -- behind it
+  sees-behind : (a : ℕ) (t : Place) (k n : ℕ) (r : Place) → askUnary d (at (signAt "(" a ∷ t) k) ≡ stop n r → (pre : Place) → t ≡ pre ++ r → (y : Place) → SameHead r y
+      → mixedNext (pre ++ y) ≡ mixedNext t
+  sees-behind a t k n r e pre z y h = go (seatNext t) refl
+    where
+      in-group : (k : ℕ) → seatNext t ≡ true → readGrouped item (signAt "(" a ∷ t) (at t k) ≡ stop n r → mixedNext (pre ++ y) ≡ mixedNext t
+      in-group zero q e =
+          let i : signAt "(" a ∷ t ≡ r = stop-place {A = Formula Item} e in
+          let j = ap length i in
+          let l = ap length z ∙ length-append pre r in
+          absurd (omega arith)
+      in-group (suc k) q e = stopped (item (signAt "(" a ∷ t) (at t k)) (λ x. return (atom x)) n r _
+          (chose-stop (seatNext t) (readGroup (signAt "(" a ∷ t)) (exactly (signAt "(" a ∷ t)) (at t k) n r _
+          (λ _ e₁. stopped (group (signAt "(" a ∷ t) (at t k)) (λ x. return (aGroup x)) n r _
+          (λ e₂. group-stopped (signAt "(" a ∷ t) t k n r e₂ pre z y h) (λ g s e₂ e₃. ok≢stop e₃) e₁)
+          (λ q₁ _. absurd (false≢true (sym q₁ ∙ q))))
+          (λ g s e₂ e₃. ok≢stop e₃) e
+
+      go : (b : Bool) → seatNext t ≡ b → mixedNext (pre ++ y) ≡ mixedNext t
+      go true q = in-group k q (sym (behind-bracket d a t k (or-left (seatNext t) (twiceNext t) q)) ∙ e)
+      go false q = same-not-mixed (pre ++ y) t (sym (ap head? z ∙ head-append pre r y h)) q
+
+  unary-sees : Sees (askUnary d)
+  unary-sees = record { sees = λ s n r q e pre z y h. marks (s .marks) (s .nodes) n r e pre z y h }
+    where
+      bracket : (m : Mark) (a : ℕ) (t : Place) (k n : ℕ) (r : Place) → m ≡ text (bytes "(") → askUnary d (at (placed m a ∷ t) k) ≡ stop n r → (pre : Place)
+          → placed m a ∷ t ≡ pre ++ r → (y : Place) → Alike sight n r y → twiceNext (pre ++ y) ≡ twiceNext (placed m a ∷ t)
+      bracket m a t k n r c e [] z y h = rw c (sees-here a t k n (rw (← z, c) at e) y (rw (← z, c) at h))
+      bracket m a t k n r c e (o ∷ pre) z y h =
+          let (i, j) = cons-mark z in
+          rw (← i, c) (sees-behind a t k n r (rw c at e) pre j y (h .0))
+
+      marks : (ms : Place) (k n : ℕ) (r : Place) → askUnary d (at ms k) ≡ stop n r → (pre : Place) → ms ≡ pre ++ r → (y : Place) → Alike sight n r y
+          → twiceNext (pre ++ y) ≡ twiceNext ms
+      marks ms k n r e pre z y h = go (nextIs "(" ms) refl
+        where
+          heads : SameHead (pre ++ y) ms
+          heads = sym (ap head? z ∙ head-append pre r y (h .0))
+
+          split : (ms : Place) → nextIs "(" ms ≡ true → askUnary d (at ms k) ≡ stop n r → ms ≡ pre ++ r → twiceNext (pre ++ y) ≡ twiceNext ms
+          split [] q e z = absurd (false≢true q)
+          split (placed m a ∷ t) q e z = bracket m a t k n r (is→eq "(" m q) e pre z y h
+
+          go : (b : Bool) → nextIs "(" ms ≡ b → twiceNext (pre ++ y) ≡ twiceNext ms
+          go true q = split ms q e z
+          go false q = not-bracket (pre ++ y) (next-head "(" (pre ++ y) ms heads ∙ q) ∙ sym (not-bracket ms q)
+
+-- before what stops at some mark behind
+module _ {A : Type 0} {v : Part} {u : Read Item} (f : Formula Item → Reader A) (x : Steady sight Always free (AskL v) u u) (k : Sees u)
+    (ends : (g : Formula Item) (s : State) (n : ℕ) (r : Place) → f g s ≡ stop n r → (pre : Place) × (s .marks ≡ pre ++ r)) where
+  sees-then : Sees (u >>= f)
+  sees-then = record { sees = λ s n r q e pre z y h. stopped (u s) f n r _ (λ e₁. k .sees s n r q e₁ pre z y h) (λ g s₂ e₁ e₂. later s n r g s₂ e₁ (ends g s₂ n r e₂) pre z y) e }
+    where
+      later : (s : State) (n : ℕ) (r : Place) (g : Formula Item) (s₂ : State) → u s ≡ ok g s₂ → (pre₂ : Place) × (s₂ .marks ≡ pre₂ ++ r)
+          → (pre : Place) → s .marks ≡ pre ++ r
+          → (y : Place) → twiceNext (pre ++ y) ≡ twiceNext (s .marks)
+      later s n r g s₂ e (pre₂, z₂) pre z y =
+          let w = x .passes s s₂ g tt e in
+          let (_, d) = w .said (s₂ .marks) in
+          let m = formula-settles d in
+          let q₁ : m .pre ≡ w .pre = append-cancel-right (m .pre) (w .pre) (s₂ .marks) (sym (m .split)) in
+          let q : m .pre ++ pre₂ ≡ pre = append-cancel-right (m .pre ++ pre₂) pre r
+          (append-assoc (m .pre) pre₂ r ∙ ap (λ x. x ++ (pre₂ ++ r)) q₁ ∙ ap (λ x. w .pre ++ x) (sym z₂) ∙ sym (w .split) ∙ z) in
+          subst (λ x. twiceNext (x ++ y) ≡ twiceNext (s .marks)) q (ap twiceNext (append-assoc (m .pre) pre₂ y) ∙ m .twice (pre₂ ++ y) ∙ ap twiceNext (sym (w .split)))
+
+steady-ends : {A : Type 0} {L : Lang} (p : Reader A) → Steady sight Always free L p p → (s : State) (n : ℕ) (r : Place) → p s ≡ stop n r
+    → (pre : Place) × (s .marks ≡ pre ++ r)
+steady-ends p x s n r e = let w = x .stops s n r tt e in (w .pre, w .split)
+
+closing-sees : (d : ℕ) → Steady sight Always free (AskL unary) (askUnary d) (askUnary d) → Sees (closing (askUnary d))
+closing-sees d x =
+    let c = conjunctionT NoneStarts ItemSaid (askUnary d) x in
+    let e = expressionT NoneStarts ItemSaid (askUnary d) x in
+    sees-then (λ g. sign ")" >>= λ _. return g) e
+    (sees-then (chain "|" or (conjunction (askUnary d)) mostNodes) c
+    (sees-then (chain "&" and (askUnary d) mostNodes) x (unary-sees d x)
+    (λ g. steady-ends (chain "&" and (askUnary d) mostNodes g) (chainT all and (AskL unary) (askUnary d) x mostNodes g g)))
+    (λ g. steady-ends (chain "|" or (conjunction (askUnary d)) mostNodes g) (chainT any or (AskL (joinedBy all)) (conjunction (askUnary d)) c mostNodes g g)))
+    (λ g. steady-ends (sign ")" >>= λ _. return g) (steady-last (steady-sign ")") λ _ _ _. steady-return g g))
+
+-- ---- a beginning that can be completed
+
+closed-formula : (ms r : Place) → ClosedL NoneStarts ItemSaid ms r → (b : ℕ) × (g : Formula Item) × FormulaSaid NoneStarts ItemSaid (joinedBy any) ms g (signAt ")" b ∷ r)
+closed-formula ms r (q, (g, d), c) = let (b, e) = one-sign ")" q r c in (b, g, rw e at d)
+
+-- expressions of the same marks before any rest are seen alike
+closed-settled : (pre : Place) → ((t : Place) → ClosedL NoneStarts ItemSaid (pre ++ t) t) → (r t : Place) → twiceNext (pre ++ t) ≡ twiceNext (pre ++ r)
+closed-settled pre f r t =
+    let (b, g, d) = closed-formula (pre ++ r) r (f r) in
+    let m = formula-settles d in
+    let shut = signAt ")" b ∷ [] in
+    let q : m .pre ++ shut ≡ pre = append-cancel-right (m .pre ++ shut) pre r (append-assoc (m .pre) shut r ∙ sym (m .split)) in
+    subst (λ x. twiceNext (x ++ t) ≡ twiceNext (pre ++ r)) q (ap twiceNext (append-assoc (m .pre) shut t) ∙ m .twice (shut ++ t))
+
+closed-no-seat : (ms r : Place) → ClosedL NoneStarts ItemSaid ms r → seatNext ms ≡ false
+closed-no-seat ms r (q, (g, d), c) = formula-no-seat d
+
+settled : (pre r : Place) → itemNext (pre ++ r) ≡ false → ((t : Place) → ClosedL NoneStarts ItemSaid (pre ++ t) t) → (t : Place) → itemNext (pre ++ t) ≡ false
+settled pre r y f t =
+    let (a, b) = or-none (seatNext (pre ++ r)) (twiceNext (pre ++ r)) y in
+    none-or (seatNext (pre ++ t)) (twiceNext (pre ++ t)) (closed-no-seat (pre ++ t) t (f t)) (closed-settled pre f r t ∙ b)
+
+-- the marks up to the end of the first term, as an exactly-one of that term alone
+abbrev Completion : Place → Type 0
+Completion pre = (last : Place) × ((t : Place) → (ItemL either FreeL NoneStarts ItemSaid) (pre ++ (last ++ t)) t)
+
+term-again : {ms r : Place} {ls : List Literal} (d : TermSaid ms ls r) → both (relations ls) ≡ true → (t : Place)
+    → (ks : List Literal) × TermSaid (term-settles d .pre ++ t) ks t × (both (relations ks) ≡ true)
+term-again (aTerm {a} {ms} {ns} {r} {l} {ls} d o) b t =
+    let g : GroupSaid [] ms (literalsOf [] all (l ∷ ls)) r = conjoined d o in
+    let (y, e, f) = group-moves g .again t [] in
+    let m = term-settles (aTerm {a = a} d o) in
+    let q : signAt "(" a ∷ group-moves g .pre ≡ m .pre =
+    append-cancel-right (signAt "(" a ∷ group-moves g .pre) (m .pre) r (sym (ap (λ x. signAt "(" a ∷ x) (group-moves g .split)) ∙ m .split) in
+    subst (λ x. (ks : List Literal) × TermSaid (x ++ t) ks t × (both (relations ks) ≡ true)) q (go (group-moves g .pre ++ t) y e (f ∙ b))
+  where
+    go : (ns : Place) (y : Literals) → GroupSaid [] ns y t → mixed y ≡ true → (ks : List Literal) × TermSaid (signAt "(" a ∷ ns) ks t × (both (relations ks) ≡ true)
+    go ns _ (conjoined {l = l} {ls} d o) e = (l ∷ ls, aTerm d o, e)
+    go ns _ (disjoined d o) e = absurd (false≢true e)
+
+complete-term : (pre r post : Place) → twiceNext (pre ++ r) ≡ false → twiceNext (pre ++ post) ≡ true → Completion pre
+complete-term pre r post y k =
+    let (ls, q, d, b) = twice-there (pre ++ post) k in
+    let m = term-settles d in
+    go ls q d b (order (m .pre) q pre post (sym (m .split)))
+  where
+    seen-true : (ls : List Literal) (q : Place) (d : TermSaid (pre ++ post) ls q) (w : Place) → pre ≡ term-settles d .pre ++ w → ⊥
+    seen-true ls q d w e =
+        let m = term-settles d in
+        let z : twiceNext (pre ++ r) ≡ true = ap (λ x. twiceNext (x ++ r)) e ∙ ap twiceNext (append-assoc (m .pre) w r) ∙ m .twice (w ++ r) ∙ k in
+        false≢true (sym y ∙ z)
+
+    go : (ls : List Literal) (q : Place) (d : TermSaid (pre ++ post) ls q) → both (relations ls) ≡ true → Order (term-settles d .pre) q pre post
+        → Completion pre
+    go ls q d b (equal e z) = absurd (seen-true ls q d [] (sym e ∙ sym (append-nil (term-settles d .pre))))
+    go ls q d b (before m w e z) = absurd (seen-true ls q d (m ∷ w) e)
+    go ls q d b (behind m w e z) = (
+      (m ∷ w) ++ (signAt ")" 0 ∷ []),
+      λ t. inl (λ o.
+          let (ks, d₁, b₁) = term-again d b (signAt ")" 0 ∷ t) in
+          let i : term-settles d .pre ++ (signAt ")" 0 ∷ t) ≡ pre ++ (((m ∷ w) ++ (signAt ")" 0 ∷ [])) ++ t) =
+          ap (λ x. x ++ (signAt ")" 0 ∷ t)) e ∙ append-assoc pre (m ∷ w) (signAt ")" 0 ∷ t) ∙ ap (λ x. pre ++ x) (sym (append-assoc (m ∷ w) (signAt ")" 0 ∷ []) t)) in
+          (exactlyOne o (ks ∷ []), subst (λ x. ItemSaid o x (exactlyOne o (ks ∷ [])) t) i (ofTerms d₁ b₁ close))),
+    )
+
+completes : (pre r post : Place) → itemNext (pre ++ r) ≡ false → ((t : Place) → ClosedL NoneStarts ItemSaid (pre ++ (post ++ t)) t) → Completion pre
+completes pre r post y f = go (twiceNext (pre ++ (post ++ []))) refl
+  where
+    whole : (t : Place) → ClosedL NoneStarts ItemSaid ((pre ++ post) ++ t) t
+    whole t = rw (append-assoc pre post t) (f t)
+
+    go : (b : Bool) → twiceNext (pre ++ (post ++ [])) ≡ b → Completion pre
+    go true k = complete-term pre r (post ++ []) (or-none (seatNext (pre ++ r)) (twiceNext (pre ++ r)) y .1) k
+    go false k = (post, λ t. inr (sym (ap twiceNext (append-assoc pre post t)) ∙ closed-settled (pre ++ post) whole [] t ∙ ap twiceNext (append-assoc pre post []) ∙ k, f t))
+
+-- ---- all together
+
+plain-group : (t o : Place) → Saying (ItemSaid o) (plainWord ++ t) t
+plain-group t o = (_, ofGroup (conjoined (literal {q = eq}) close))
+
+abbrev mixedGroup : Place
+mixedGroup = placed (seat 1) 0 ∷ signAt "=" 0 ∷ placed (number 0) 0 ∷ signAt "&" 0 ∷ placed (seat 1) 0 ∷ signAt "!=" 0 ∷ placed (number 0) 0 ∷ signAt ")" 0 ∷ []
+
+a-word : (ms : Place) → itemNext ms ≡ true → (w : Place) × ((t : Place) → sight ms ≡ sight (w ++ t)) × ((t : Place) → ItemL (w ++ t) t)
+unfolding mixedNext
+a-word ms y = go (seatNext ms) (mixedNext ms) (twiceNext ms) refl refl refl
+  where
+    go : (a b c : Bool) → seatNext ms ≡ a → mixedNext ms ≡ b → twiceNext ms ≡ c
+        → (w : Place) × ((t : Place) → sight ms ≡ sight (w ++ t)) × ((t : Place) → ItemL (w ++ t) t)
+    go true true c e z i = (mixedGroup, (λ t. rw (e, z)), λ t o. (_, ofGroup (conjoined (literal {q = eq}) (next (literal {q = ne}) close))))
+    go true false c e z i = (plainWord, (λ t. rw (e, z)), plain-group)
+    go false b true e z i = (mixedWord ++ (signAt ")" 0 ∷ []), (λ t. rw (e, i)), λ t o. (_, ofTerms (aTerm (literal {q = eq}) (next (literal {q = ne}) close)) refl close))
+    go false b false e z i = absurd (false≢true (sym (none-or (seatNext ms) (twiceNext ms) e i) ∙ y))
+
+abbrev closedWord : Place
+closedWord = signAt "(" 0 ∷ (plainWord ++ (signAt ")" 0 ∷ []))
+
+shut-word : (t : Place) → itemNext (closedWord ++ t) ≡ false
+unfolding mixedNext
+shut-word t = refl
+
+alike-word : (ms : Place) → itemNext ms ≡ false → (t : Place) → sight ms ≡ sight (closedWord ++ t)
+unfolding mixedNext
+alike-word ms y t = let (a, b) = or-none (seatNext ms) (twiceNext ms) y in rw (a, b)
+
+pub questionItems : Leaves sight itemNext NoneStarts ItemSaid item
+questionItems = record {
+  decided = sight-starts;
+  allows = λ ms e. or-none (seatNext ms) (twiceNext ms) e .1;
+  steady = itemT;
+  group-ends = λ m s s₁ a y e pre z u h. chose (seatNext (s .marks)) (readGroup (m ∷ s .marks)) (exactly (m ∷ s .marks)) s s₁ a _
+      (λ q e. or-left (seatNext (pre ++ u)) (twiceNext (pre ++ u)) (seat-still true (s .marks) pre (s₁ .marks) u q z h))
+      (λ q e. or-right (seatNext (pre ++ u)) (twiceNext (pre ++ u)) (exactly-ends (m ∷ s .marks) s s₁ a e pre z u ∙ or-else (seatNext (s .marks)) (twiceNext (s .marks)) y q)) e;
+  group-halts = λ m s n r y e pre z u h. chose-stop (seatNext (s .marks)) (readGroup (m ∷ s .marks)) (exactly (m ∷ s .marks)) s n r _
+      (λ q e. or-left (seatNext (pre ++ u)) (twiceNext (pre ++ u)) (seat-still true (s .marks) pre r u q z (h .0)))
+      (λ q e. let k = or-else (seatNext (s .marks)) (twiceNext (s .marks)) y q in or-right (seatNext (pre ++ u)) (twiceNext (pre ++ u)) (exactly-halts (m ∷ s .marks) s n r k e pre z u ∙ k)) e;
+  word = a-word;
+  sample = plainWord;
+  sampled = refl;
+  closed = closedWord;
+  closes = λ t. (signAt ")" 0 ∷ t, (_, single {s = any} (single {s = all} (grouped (ofGroup (conjoined (literal {q = eq}) close))))), a-sign ")" 0 t);
+  shut = shut-word;
+  alike = alike-word;
+  settled = settled;
+  halts = λ d x s n r y e pre z u h.
+      let (a, b) = or-none (seatNext (s .marks)) (twiceNext (s .marks)) y in
+      none-or (seatNext (pre ++ u)) (twiceNext (pre ++ u)) (seat-still false (s .marks) pre r u a z (h .0)) (closing-sees d x .sees s n r a e pre z u h ∙ b);
+  completes = completes;
+}

@@ -1,0 +1,3 @@
+pub mod Question
+pub mod Meant
+pub mod Asking

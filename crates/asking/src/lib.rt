@@ -1,0 +1,1 @@
+// Definitions and theorems only: reading a question.
