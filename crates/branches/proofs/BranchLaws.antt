@@ -31,10 +31,10 @@ use Rattle.reading.specs.Judgements.{Judgement, weight as judgedWeight, sum, un
 use Rattle.reading.specs.Shape.{BranchShape, weightOf, over, weight, branch, nextBranch, pastBranches}
 use Rattle.reading.specs.Checks.{judgedState, judgedWords, weightIn, judgedBranch, judgedEach}
 use Rattle.reading.proofs.Valid.{units-most}
-use Rattle.group.specs.Late.{Late, blame, judge, judgeAll}
-use Rattle.group.specs.State.{atValue, Sized, lateIn, valueIn, withLate, After, after, Halted}
-use Rattle.group.proofs.Settling.{judge-append}
-use Rattle.group.proofs.StateLaws.{set-sized, value-set, late-set}
+use Rattle.late.specs.Late.{Late, blame, judge, judgeAll}
+use Rattle.late.specs.State.{atValue, Sized, lateIn, valueIn, withLate, After, after, Halted}
+use Rattle.late.proofs.Settling.{judge-append}
+use Rattle.late.proofs.StateLaws.{set-sized, value-set, late-set}
 use Rattle.parts.specs.Parts.{from, Read, Answers, Went, NumberFrom, SignRead, SignFrom, Told, Sure, LineRead}
 use Rattle.branches.specs.Branches.{weightBy, Weighed, WeightRead, WeightFrom, updateDue, UpdateFrom, packedIn, Branched, BranchRead, BranchFrom, BranchesShape, branches, judgedBranches, sumBy, ClosedBy, PastBy, BranchesIn, BranchesRead, BranchesFrom}
 use Rattle.parts.proofs.Steps.{Next, place-seen, behind, Shown, valueBy, number-shown, weightBy as markWeight, weight-shown, told}

@@ -10,7 +10,7 @@ use Rattle.letters.specs.Bytes.{inWord, begun}
 use Rattle.marks.specs.Kinds.{kSeat, kind}
 use Rattle.marks.specs.Parts.{bareOf, valuedOf}
 use Rattle.reading.specs.Reader.{line}
-use Rattle.group.specs.State.{Sized, lateIn, after}
+use Rattle.late.specs.State.{Sized, lateIn, after}
 use Rattle.parts.specs.Parts.{from, Due, Sure, itemsIn, duesIn, kindsIn, numbersIn, LineRead}
 use Rattle.branches.specs.Branches.{UpdateFrom}
 use Rattle.parts.proofs.Steps.{next-at}

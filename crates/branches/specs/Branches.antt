@@ -22,8 +22,8 @@ use Rattle.reading.specs.Guard.{isSome}
 use Rattle.reading.specs.Judgements.{Judgement, weight, sum, unless, orZero, unitsIn}
 use Rattle.reading.specs.Shape.{BranchShape, weight as readWeight, branch, moreBranches}
 use Rattle.reading.specs.Checks.{weightIn, judgedBranch, judgedEach}
-use Rattle.group.specs.Late.{Late, blamed, judgeAll}
-use Rattle.group.specs.State.{Sized, lateIn, valueIn, After, Halted}
+use Rattle.late.specs.Late.{Late, blamed, judgeAll}
+use Rattle.late.specs.State.{Sized, lateIn, valueIn, After, Halted}
 use Rattle.parts.specs.Parts.{from, Answers, Went, Due, sign as due, seat, kindsIn, numbersIn, RunFrom}
 
 -- ---- a weight: its units, or 0 and a late refusal where it breaks its rule

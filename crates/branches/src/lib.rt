@@ -7,10 +7,10 @@ use card::refusals::PAST_LIMIT;
 use card::refusals::WRONG_WEIGHT;
 use card::weight::Judged;
 use card::weight::Weight;
-use group::late::blame;
-use group::late::stop;
-use group::state::STATE;
-use group::state::VALUE;
+use late::blame;
+use late::state::STATE;
+use late::state::VALUE;
+use late::stop;
 use looks::due::step_further;
 use looks::due::step_number;
 use looks::due::step_slash;
@@ -34,7 +34,7 @@ use parts::sign;
 ghost use mathlib.Core.Path.{_≡_};
 ghost use Prim.Native.Nat.{_+_, _≤_, _<_};
 ghost use Rattle.card.specs.Limits.{mostBranches, branchPlaces};
-ghost use Rattle.group.specs.State.{Sized, lateIn, withLate, after};
+ghost use Rattle.late.specs.State.{Sized, lateIn, withLate, after};
 ghost use Rattle.branches.specs.Branches.{sumBy, Weighed, WeightFrom, UpdateFrom, BranchFrom, ClosedBy, PastBy, BranchesFrom};
 
 fn wide(x: u32) -> usize

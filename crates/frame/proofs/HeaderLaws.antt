@@ -21,10 +21,10 @@ use Rattle.reading.specs.Reader.{State, Result, ok, stop, Reader, bind, return,
 use Rattle.reading.specs.Grammar.{cardRun}
 use Rattle.reading.specs.Shape.{modeOf, zeroOf, onlyZero, top}
 use Rattle.reading.specs.Checks.{judgedState, judgedWords}
-use Rattle.group.specs.Late.{Late, judge, judgeAll}
-use Rattle.group.specs.State.{atStop, atValue, atMode, atTop, atStart, Sized, lateIn, valueIn, After, after, Halted}
-use Rattle.group.proofs.Settling.{judge-append}
-use Rattle.group.proofs.StateLaws.{set-sized, value-set, late-set}
+use Rattle.late.specs.Late.{Late, judge, judgeAll}
+use Rattle.late.specs.State.{atStop, atValue, atMode, atTop, atStart, Sized, lateIn, valueIn, After, after, Halted}
+use Rattle.late.proofs.Settling.{judge-append}
+use Rattle.late.proofs.StateLaws.{set-sized, value-set, late-set}
 use Rattle.parts.specs.Parts.{from, Read, Answers, NumberFrom, SignRead, SignFrom, Told, Sure, LineRead, RunFrom, kindsIn, numbersIn}
 use Rattle.frame.specs.Frame.{Valued, ModeRead, ModeFrom, range, RangeRead, RangeFrom, cardDue, HeaderShape, header, judgedHeader, HeaderIn, HeaderRead, HeaderFrom}
 use Rattle.parts.proofs.Steps.{Next, place-seen, behind, seen, valueBy, number-shown, zero-shown, modeBy, mode-shown, told}

@@ -21,10 +21,10 @@ use Rattle.marks.specs.declared.Step.{Step}
 use Rattle.reading.specs.Reader.{State, Result, ok, stop, Reader, bind, return, refuse, Numbered, Item, line}
 use Rattle.reading.specs.Shape.{many, copy, theEnd}
 use Rattle.reading.specs.Checks.{judgedWords, judgedModules}
-use Rattle.group.specs.Late.{Late, judgeAll}
-use Rattle.group.specs.State.{atValue, Sized, lateIn, valueIn, After, after, Halted}
-use Rattle.group.proofs.Settling.{judge-append}
-use Rattle.group.proofs.StateLaws.{set-sized, value-set, late-set}
+use Rattle.late.specs.Late.{Late, judgeAll}
+use Rattle.late.specs.State.{atValue, Sized, lateIn, valueIn, After, after, Halted}
+use Rattle.late.proofs.Settling.{judge-append}
+use Rattle.late.proofs.StateLaws.{set-sized, value-set, late-set}
 use Rattle.parts.specs.Parts.{from, Read, Answers, Went, Told, itemsIn, duesIn, Sure, LineRead}
 use Rattle.frame.specs.Frame.{Valued, moduleDue, ModuleFrom, EndedBy, modules, ModulesRead, ModulesFrom}
 use Rattle.parts.proofs.Steps.{Next, end, one, place-seen, told}

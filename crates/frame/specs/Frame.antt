@@ -14,8 +14,8 @@ use Rattle.reading.specs.Grammar.{cardRun}
 use Rattle.reading.specs.Judgements.{Judgement}
 use Rattle.reading.specs.Shape.{modeOf, zeroOf, top, moreModules, theEnd}
 use Rattle.reading.specs.Checks.{judgedState, judgedWords, judgedModules}
-use Rattle.group.specs.Late.{Late, judgeAll}
-use Rattle.group.specs.State.{atMode, atTop, atStart, Sized, lateIn, valueIn, After, Halted}
+use Rattle.late.specs.Late.{Late, judgeAll}
+use Rattle.late.specs.State.{atMode, atTop, atStart, Sized, lateIn, valueIn, After, Halted}
 use Rattle.parts.specs.Parts.{from, Answers, Kept, Went, Due, sign as due, seat, process, kindsIn, numbersIn, RunFrom}
 
 -- ---- the mode, and the top state

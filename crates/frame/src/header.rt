@@ -4,12 +4,12 @@ use card::PROBABILISTIC as MODE_PROBABILISTIC;
 use card::limits::TOP_STATE;
 use card::refusals::OUT_OF_SHAPE;
 use card::refusals::PAST_LIMIT;
-use group::late::stop;
-use group::state::MODE;
-use group::state::START;
-use group::state::STATE;
-use group::state::TOP;
-use group::state::VALUE;
+use late::state::MODE;
+use late::state::START;
+use late::state::STATE;
+use late::state::TOP;
+use late::state::VALUE;
+use late::stop;
 use looks::due::step_number;
 use marks::Cursor;
 use marks::kinds::COLON;
@@ -27,7 +27,7 @@ use marks::kinds::SQUARE_OPEN;
 use parts::number;
 use parts::run;
 use parts::sign;
-ghost use Rattle.group.specs.State.{Sized, lateIn, after};
+ghost use Rattle.late.specs.State.{Sized, lateIn, after};
 ghost use Rattle.frame.specs.Frame.{ModeFrom, RangeFrom, HeaderFrom};
 
 // The mode becomes the value.

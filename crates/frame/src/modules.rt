@@ -2,9 +2,9 @@
 use card::limits::MOST_SEATS;
 use card::refusals::OUT_OF_SHAPE;
 use card::refusals::PAST_LIMIT;
-use group::late::stop;
-use group::state::STATE;
-use group::state::VALUE;
+use late::state::STATE;
+use late::state::VALUE;
+use late::stop;
 use looks::due::step_module;
 use marks::Cursor;
 use marks::Found;
@@ -19,7 +19,7 @@ use marks::kinds::SQUARE_CLOSE;
 use marks::kinds::SQUARE_OPEN;
 use parts::run;
 ghost use mathlib.Core.Path.{_≡_};
-ghost use Rattle.group.specs.State.{Sized, lateIn, after};
+ghost use Rattle.late.specs.State.{Sized, lateIn, after};
 ghost use Rattle.frame.specs.Frame.{ModuleFrom, EndedBy, ModulesFrom};
 
 // processi = process1 [s1=si, si=s1] endmodule, for seat i.

@@ -1,12 +1,9 @@
--- A group, literal by literal. While the code reads on, the group is what the literals so far and the others behind them make; the
--- definition's fuel, the number of marks left, is never met, since each further literal takes marks and one of the fuel.
-use Prim.Native.Nat.{ℕ, zero, suc, _+_, _≤_, _<_, min}
-use Prim.Native.String.{String}
+-- A group, literal by literal: literals joined by a sign (Joined), with what the code keeps of those so far.
+use Prim.Native.Nat.{ℕ, suc, _+_, _≤_, _<_, min}
 use mathlib.Core.Path.{_≡_, refl, sym, ap, _∙_}
 use mathlib.Core.Bool.{Bool, true, false, not, _&&_}
-use mathlib.Core.List.{List, [], _∷_, _++_, append-assoc, append-nil}
+use mathlib.Core.List.{List, [], _∷_, _++_}
 use native.Mathlib.Omega.{arith}
-use borrow.Author.Tests.{eq-eqb, ne-eqb}
 use lib.Dec.{eqb}
 use lib.ListN.{length, getD}
 use lib.Seq.{drop-length}
@@ -21,17 +18,18 @@ use Rattle.marks.specs.Step.{stepAt, marksAt}
 use Rattle.marks.specs.declared.Step.{Step}
 use Rattle.marks.proofs.KindLaws.{kind-seat}
 use Rattle.marks.proofs.Next.{Meet, over, met, meet}
-use Rattle.reading.specs.Reader.{Place, State, at, Result, ok, stop, Reader, bind, return, the, is, nextIs, ifNext, sign, numberOf}
+use Rattle.reading.specs.Reader.{Place, State, at, Result, ok, stop, Reader, bind, return, the, nextIs, ifNext, sign, numberOf}
 use Rattle.reading.specs.Group.{Literal, literalOf, Literals, literalsOf, relationOf, joint, literal, others, group}
 use Rattle.reading.specs.Judgements.{state, alike}
 use Rattle.group.specs.declared.Grouped.{Grouped}
 use Rattle.group.specs.declared.literal.Tail.{Tail}
-use Rattle.group.specs.Late.{kindBy}
-use Rattle.group.specs.GroupRead.{noGroup, GroupRead}
-use Rattle.group.specs.LiteralRead.{ReadLiteral, LiteralRead, noted, oneMore, wantIn, kindIn, signIn}
+use Rattle.late.specs.Late.{kindBy}
+use Rattle.group.specs.GroupRead.{noGroup, StoppedGroup, GroupRead}
+use Rattle.group.specs.LiteralRead.{ReadLiteral, StoppedLiteral, LiteralRead, noted, oneMore, wantIn, kindIn, signIn}
 use Rattle.group.proofs.Signs.{Known}
-use Rattle.group.proofs.Ahead.{fits, unfit, next-is, sign-next, the-seat, place-next, place-within, next-within, next-past, one-less}
+use Rattle.group.proofs.Ahead.{unfit, next-is, the-seat, place-next, place-within, next-within, next-past, one-less}
 use Rattle.group.proofs.Literals.{Reads}
+use Rattle.group.proofs.Joined.{Joining, one-stops, one-read, not-closed, closed}
 use Rattle.group.proofs.Seats.{noSeats, Seen, seen-first, seen-more-seats, long-more, one-counted, alike-so, kind-seen, want-seen}
 
 -- ---- the signs are known
@@ -40,18 +38,7 @@ pub joint-known : (a : Bool) → Known (joint (signIn a))
 joint-known false = record { above = omega arith; alone = refl; same = refl }
 joint-known true = record { above = omega arith; alone = refl; same = refl }
 
-close-known : Known ")"
-close-known = record { above = omega arith; alone = refl; same = refl }
-
--- ---- the others, opened
-
-others-more : (t : String) (fuel : ℕ) (s : State) → nextIs t (s .marks) ≡ true
-    → others t (suc fuel) s ≡ bind (sign t s) (λ _ b. bind (literal b) (λ l c. bind (others t fuel c) (λ ls. return (l ∷ ls))))
-others-more t fuel s e = rw e
-
-others-end : (t : String) (fuel : ℕ) (s : State) → nextIs t (s .marks) ≡ false → others t fuel s ≡ bind (sign ")" s) (λ _. return [])
-others-end t zero s e = rw e
-others-end t (suc fuel) s e = rw e
+-- ---- the first literal
 
 -- what follows a group's first literal
 abbrev behindFirst : Place → Literal → Reader Literals
@@ -67,17 +54,37 @@ opened p s = refl
 
 -- ---- a literal that was read, or not
 
-module _ (o : ℕ) (s : List ℕ) (from n i : ℕ) (t : Tail) where
-  read-well : {C : Type 0} (x : Result Literal) → LiteralRead o s from n i x t → t .stop ≡ 0 → ((l : Literal) (b : State) → x ≡ ok l b → ReadLiteral o s from n i l b t → C) → C
-  read-well (ok l b) h z c = c l b refl h
-  read-well (stop m q) h z c = absurd (omega (arith, z, ap (λ (u : Tail). u .stop) (h .answer)))
+module _ (o : ℕ) (s : List ℕ) (from n i : ℕ) (t : Tail) {C : Type 0} where
+  pub read-well : (x : Result Literal) → LiteralRead o s from n i x t → t .stop ≡ 0 → ((l : Literal) (b : State) → x ≡ ok l b → ReadLiteral o s from n i l b t → C) → C
+  read-well (ok l b) h z k = k l b refl h
+  read-well (stop m q) h z k = absurd (omega (arith, z, ap (λ (u : Tail). u .stop) (h .answer)))
 
-  read-wrong : (p : Place) (x : Result Literal) (f : Literal → Reader Literals) → LiteralRead o s from n i x t → (t .stop ≡ 0 → ⊥) → GroupRead o s n p (bind x f) (noGroup (t .place))
-  read-wrong p (ok l b) f h z = absurd (z (h .went))
-  read-wrong p (stop m q) f h z = record { number = h .number; answer = refl; place = h .place; within = h .within }
+  pub read-wrong : (x : Result Literal) → LiteralRead o s from n i x t → (t .stop ≡ 0 → ⊥) → ((m : ℕ) (q : Place) → x ≡ stop m q → StoppedLiteral o s m q t → C) → C
+  read-wrong (ok l b) h z k = absurd (z (h .went))
+  read-wrong (stop m q) h z k = k m q refl h
+
+-- the same from its seat word on, by the steps of the code
+pub seat-marks : (o : ℕ) (s : List ℕ) (x : Step) (ms : Place) → Meet o s x ms → x .mark .kind ≡ kSeat → ms ≡ placed (seat (x .mark .value)) (o + x .mark .place) ∷ marksAt o s (x .next .at)
+seat-marks o s x ms over e = absurd (omega arith)
+seat-marks o s x ms (met m p next small l h) e = ap (λ u. placed u (o + p) ∷ marksAt o s next) (kind-seat m e)
+
+module _ (o : ℕ) (s : List ℕ) (n c : ℕ) where
+  abbrev word-at : Step
+  word-at = stepAt s c
+
+  pub no-word : (word-at .mark .kind ≡ kSeat → ⊥) → literal (at (marksAt o s c) n) ≡ stop outOfShape (marksAt o s c)
+  no-word h =
+      ap (λ y. bind y (λ j b. bind (the relationOf b) (λ q d. bind (the numberOf d) (λ v. return (literalOf j q v (d .marks))))))
+      (the-seat o s word-at (marksAt o s c) n (meet o s c) ∙ unfit (word-at .mark .value) o s word-at (marksAt o s c) n kSeat h)
+
+  pub worded : word-at .mark .kind ≡ kSeat → (t : Tail) → Reads s (word-at .next .at) t → LiteralRead o s (word-at .next .at) n (word-at .mark .value) (literal (at (marksAt o s c) n)) t
+  worded h t reads = rw (seat-marks o s word-at (marksAt o s c) (meet o s c) h) (reads o n (word-at .mark .value) (o + word-at .mark .place))
 
 group-as : (o : ℕ) (s : List ℕ) (n : ℕ) (p : Place) {x y : Result Literals} (r : Grouped) → x ≡ y → GroupRead o s n p y r → GroupRead o s n p x r
 group-as o s n p r e h = rw e h
+
+no-group : (o : ℕ) (s : List ℕ) (n : ℕ) (p : Place) (m : ℕ) (q : Place) (t : Tail) → StoppedLiteral o s m q t → GroupRead o s n p (stop m q) (noGroup (t .place))
+no-group o s n p m q t h = record { number = h .number; answer = refl; place = h .place; within = h .within }
 
 -- ---- so far
 
@@ -85,15 +92,13 @@ group-as o s n p r e h = rw e h
 abbrev pub whole : List ℕ → ℕ → ℕ → ℕ → ℕ → ℕ → Place → Result Literals
 whole s from i o n x p = group p (at (placed (seat i) x ∷ marksAt o s from) n)
 
-abbrev behindMore : Place → Sign → List Literal → List Literal → Reader Literals
-behindMore p g ls rest = return (literalsOf p g (ls ++ rest))
+abbrev asGroup : Place → Sign → List Literal → Reader Literals
+asGroup p g ls = return (literalsOf p g ls)
 
 pub record SoFar (s : List ℕ) (from i : ℕ) (first : Tail) (a : Bool) (seen : List ℕ) (count : ℕ) (same : Bool) (c o n x : ℕ) (p : Place) : Type 0 where
   pub head : Literal
   pub more : List Literal
-  pub fuel : ℕ
-  pub enough : length (marksAt o s c) ≤ fuel
-  pub goes : whole s from i o n x p ≡ bind (others (joint (signIn a)) fuel (at (marksAt o s c) n)) (behindMore p (signIn a) (head ∷ more))
+  pub joining : Joining literal (joint (signIn a)) (asGroup p (signIn a)) (whole s from i o n x p) o s n (head ∷ more) c
   pub behind : State
   pub read : ReadLiteral o s from n i head behind first
   pub marked : Seen seen (head ∷ more)
@@ -103,7 +108,9 @@ pub record SoFar (s : List ℕ) (from i : ℕ) (first : Tail) (a : Bool) (seen :
 module _ (s : List ℕ) (from i : ℕ) (first : Tail) (reads : Reads s from first) where
   -- the first literal was not read
   pub first-wrong : (first .stop ≡ 0 → ⊥) → (o n x : ℕ) (p : Place) → GroupRead o s n p (whole s from i o n x p) (noGroup (first .place))
-  first-wrong z o n x p = read-wrong o s from n i first p (literal (at (placed (seat i) x ∷ marksAt o s from) n)) (behindFirst p) (reads o n i x) z
+  first-wrong z o n x p =
+      read-wrong o s from n i first (literal (at (placed (seat i) x ∷ marksAt o s from) n)) (reads o n i x) z
+      (λ m q e h. group-as o s n p (noGroup (first .place)) (ap (λ y. bind y (behindFirst p)) e) (no-group o s n p m q first h))
 
   -- it was, and the mark ahead says what joins the others
   pub first-read : first .stop ≡ 0 → (a : Bool) (ahead : Step) → ahead ≡ stepAt s (first .next) → a ≡ eqb (ahead .mark .kind) (kind (joint any))
@@ -113,11 +120,13 @@ module _ (s : List ℕ) (from i : ℕ) (first : Tail) (reads : Reads s from firs
       (λ l b g h. record {
         head = l;
         more = [];
-        fuel = length (marksAt o s (first .next));
-        enough = omega arith;
-        goes =
-            ap (λ y. bind y (behindFirst p)) g ∙ ap (behindFirst p l) (h .rest)
-            ∙ behind-first p l (at (marksAt o s (first .next)) n) a (next-is o s (joint any) (joint-known true) (stepAt s (first .next)) (marksAt o s (first .next)) (meet o s (first .next)) ∙ ap (λ (u : Step). eqb (u .mark .kind) (kind (joint any))) (sym step) ∙ sym e);
+        joining = record {
+          fuel = length (marksAt o s (first .next));
+          enough = omega arith;
+          goes =
+              ap (λ y. bind y (behindFirst p)) g ∙ ap (behindFirst p l) (h .rest)
+              ∙ behind-first p l (at (marksAt o s (first .next)) n) a (next-is o s (joint any) (joint-known true) (stepAt s (first .next)) (marksAt o s (first .next)) (meet o s (first .next)) ∙ ap (λ (u : Step). eqb (u .mark .kind) (kind (joint any))) (sym step) ∙ sym e);
+        };
         behind = b;
         read = h;
         marked = λ j k. seen-first i l (h .seat) j k ∙ ap (λ u. not (eqb (getD u j 0) 0)) (sym f);
@@ -125,47 +134,8 @@ module _ (s : List ℕ) (from i : ℕ) (first : Tail) (reads : Reads s from firs
         alikes = refl;
       })
 
--- ---- one turn: the sign, a seat word, and the rest of a literal
+-- ---- its node
 
-bind-assoc : {A B C : Type 0} (x : Result A) (f : A → Reader B) (g : B → Reader C) → bind (bind x f) g ≡ bind x (λ a s. bind (f a s) g)
-bind-assoc (ok a s) f g = refl
-bind-assoc (stop r p) f g = refl
-
--- a literal more at the end of those so far
-bind-more : (x : Result (List Literal)) (p : Place) (g : Sign) (ls : List Literal) (l : Literal)
-    → bind (bind x (λ more. return (l ∷ more))) (behindMore p g ls) ≡ bind x (behindMore p g (ls ++ (l ∷ [])))
-bind-more (ok more s) p g ls l = ap (λ u. ok (literalsOf p g u) s) (sym (append-assoc ls (l ∷ []) more))
-bind-more (stop r q) p g ls l = refl
-
-pub seat-marks : (o : ℕ) (s : List ℕ) (x : Step) (ms : Place) → Meet o s x ms → x .mark .kind ≡ kSeat → ms ≡ placed (seat (x .mark .value)) (o + x .mark .place) ∷ marksAt o s (x .next .at)
-seat-marks o s x ms over e = absurd (omega arith)
-seat-marks o s x ms (met m p next small l h) e = ap (λ u. placed u (o + p) ∷ marksAt o s next) (kind-seat m e)
-
-abbrev afterSign : String → ℕ → Literal → Reader (List Literal)
-afterSign t fuel l = λ c. bind (others t fuel c) (λ ls. return (l ∷ ls))
-
-module _ (o : ℕ) (s : List ℕ) (c n : ℕ) (t : String) (known : Known t) (joined : stepAt s c .mark .kind ≡ kind t) where
-  abbrev next : ℕ
-  next = stepAt s c .next .at
-
-  shorter : suc (length (marksAt o s next)) ≡ length (marksAt o s c)
-  shorter = one-less o s (stepAt s c) (marksAt o s c) (meet o s c) (λ z. omega (arith, known .above))
-
-  turned : {C : Type 0} (fuel : ℕ) → length (marksAt o s c) ≤ fuel
-      → ((less : ℕ) → length (marksAt o s next) ≤ less → others t fuel (at (marksAt o s c) n) ≡ bind (literal (at (marksAt o s next) n)) (afterSign t less) → C) → C
-  turned zero h k = absurd (omega (arith, shorter))
-  turned (suc less) h k =
-      k less (omega (arith, shorter))
-      (others-more t less (at (marksAt o s c) n) (next-is o s t known (stepAt s c) (marksAt o s c) (meet o s c) ∙ eq-eqb (stepAt s c .mark .kind) (kind t) joined)
-      ∙ ap (λ y. bind y (λ _ b. bind (literal b) (afterSign t less))) (sign-next o s t known (stepAt s c) (marksAt o s c) n (meet o s c) ∙ fits tt o s (stepAt s c) (marksAt o s c) n (kind t) joined))
-
-  -- no seat word
-  no-word : (stepAt s next .mark .kind ≡ kSeat → ⊥) → literal (at (marksAt o s next) n) ≡ stop outOfShape (marksAt o s next)
-  no-word h =
-      ap (λ y. bind y (λ j b. bind (the relationOf b) (λ q d. bind (the numberOf d) (λ v. return (literalOf j q v (d .marks))))))
-      (the-seat o s (stepAt s next) (marksAt o s next) n (meet o s next) ∙ unfit (stepAt s next .mark .value) o s (stepAt s next) (marksAt o s next) n kSeat h)
-
--- its node
 kind-small : (k : Kind) → kindNumber k ≤ 1
 kind-small everyone = omega arith
 kind-small othersKind = omega arith
@@ -195,86 +165,58 @@ stops-here o s n p c = record {
 
 module _ (s : List ℕ) (from i : ℕ) (first : Tail) (a : Bool) (seen : List ℕ) (count : ℕ) (same : Bool) (c : ℕ) where
   module _ (joined : stepAt s c .mark .kind ≡ kind (joint (signIn a))) (o n x : ℕ) (p : Place) (so : SoFar s from i first a seen count same c o n x p) where
+    abbrev next : ℕ
+    next = stepAt s c .next .at
+
     abbrev word : Step
-    word = stepAt s (stepAt s c .next .at)
+    word = stepAt s next
 
     no-seat : (word .mark .kind ≡ kSeat → ⊥) → GroupRead o s n p (whole s from i o n x p) (noGroup (word .mark .place))
     no-seat h =
-        turned o s c n (joint (signIn a)) (joint-known a) joined (so .fuel) (so .enough)
-        (λ less l e. group-as o s n p (noGroup (word .mark .place))
-        (so .goes ∙ ap (λ y. bind y (behindMore p (signIn a) (so .head ∷ so .more))) (e ∙ ap (λ y. bind y (afterSign (joint (signIn a)) less)) (no-word o s c n (joint (signIn a)) (joint-known a) joined h)))
-        (stops-here o s n p (stepAt s c .next .at)))
+        group-as o s n p (noGroup (word .mark .place))
+        (one-stops literal (joint (signIn a)) (asGroup p (signIn a)) (joint-known a) (whole s from i o n x p) o s n (so .head ∷ so .more) c (so .joining) joined outOfShape (marksAt o s next) (no-word o s n next h))
+        (stops-here o s n p next)
 
     module _ (h : word .mark .kind ≡ kSeat) (more : Tail) (reads : Reads s (word .next .at) more) where
-      -- the literal behind the word
-      one : Result Literal
-      one = literal (at (placed (seat (word .mark .value)) (o + word .mark .place) ∷ marksAt o s (word .next .at)) n)
-
-      one-reads : LiteralRead o s (word .next .at) n (word .mark .value) one more
-      unfolding one
-      one-reads = reads o n (word .mark .value) (o + word .mark .place)
-
-      worded : literal (at (marksAt o s (stepAt s c .next .at)) n) ≡ one
-      unfolding one
-      worded = ap (λ ms. literal (at ms n)) (seat-marks o s word (marksAt o s (stepAt s c .next .at)) (meet o s (stepAt s c .next .at)) h)
-
-      whole-more : (less : ℕ) → others (joint (signIn a)) (so .fuel) (at (marksAt o s c) n) ≡ bind (literal (at (marksAt o s (stepAt s c .next .at)) n)) (afterSign (joint (signIn a)) less)
-          → whole s from i o n x p ≡ bind one (λ l b. bind (afterSign (joint (signIn a)) less l b) (behindMore p (signIn a) (so .head ∷ so .more)))
-      whole-more less e =
-          so .goes ∙ ap (λ y. bind y (behindMore p (signIn a) (so .head ∷ so .more))) (e ∙ ap (λ y. bind y (afterSign (joint (signIn a)) less)) worded)
-          ∙ bind-assoc one (afterSign (joint (signIn a)) less) (behindMore p (signIn a) (so .head ∷ so .more))
-
       no-literal : (more .stop ≡ 0 → ⊥) → GroupRead o s n p (whole s from i o n x p) (noGroup (more .place))
       no-literal z =
-          turned o s c n (joint (signIn a)) (joint-known a) joined (so .fuel) (so .enough)
-          (λ less l e. group-as o s n p (noGroup (more .place)) (whole-more less e)
-          (read-wrong o s (word .next .at) n (word .mark .value) more p one (λ l b. bind (afterSign (joint (signIn a)) less l b) (behindMore p (signIn a) (so .head ∷ so .more))) one-reads z))
+          read-wrong o s (word .next .at) n (word .mark .value) more (literal (at (marksAt o s next) n)) (worded o s n next h more reads) z
+          (λ m q e w. group-as o s n p (noGroup (more .place))
+          (one-stops literal (joint (signIn a)) (asGroup p (signIn a)) (joint-known a) (whole s from i o n x p) o s n (so .head ∷ so .more) c (so .joining) joined m q e)
+          (no-group o s n p m q more w))
 
       one-further : more .stop ≡ 0 → length seen ≡ suc mostSeats
           → SoFar s from i first a (noted seen (word .mark .value)) (oneMore count) (same && (eqb (first .relation) (more .relation) && eqb (first .d) (more .d))) (more .next) o n x p
       one-further z long =
-          turned o s c n (joint (signIn a)) (joint-known a) joined (so .fuel) (so .enough)
-          (λ less enough e. read-well o s (word .next .at) n (word .mark .value) more one one-reads z
+          read-well o s (word .next .at) n (word .mark .value) more (literal (at (marksAt o s next) n)) (worded o s n next h more reads) z
           (λ l b g r. record {
             head = so .head;
             more = so .more ++ (l ∷ []);
-            fuel = less;
-            enough = omega (arith, r .fewer, one-less o s word (marksAt o s (stepAt s c .next .at)) (meet o s (stepAt s c .next .at)) (λ k. omega arith));
-            goes =
-                whole-more less e
-                ∙ ap (λ y. bind y (λ l b. bind (afterSign (joint (signIn a)) less l b) (behindMore p (signIn a) (so .head ∷ so .more)))) g
-                ∙ ap (λ b. bind (afterSign (joint (signIn a)) less l b) (behindMore p (signIn a) (so .head ∷ so .more))) (r .rest)
-                ∙ bind-more (others (joint (signIn a)) less (at (marksAt o s (more .next)) n)) p (signIn a) (so .head ∷ so .more) l;
+            joining =
+                one-read literal (joint (signIn a)) (asGroup p (signIn a)) (joint-known a) (whole s from i o n x p) o s n (so .head ∷ so .more) c (so .joining) joined l (more .next) (g ∙ ap (ok l) (r .rest))
+                (omega (arith, r .fewer, one-less o s word (marksAt o s next) (meet o s next) (λ k. omega arith)));
             behind = so .behind;
             read = so .read;
             marked = seen-more-seats seen (word .mark .value) (so .head ∷ so .more) l long (r .seat) (so .marked);
             counted = one-counted count (so .head ∷ so .more) l (so .counted);
             alikes = alike-so same (so .head) l (so .more) (first .relation) (more .relation) (first .d) (more .d) (so .alikes) (so .read .relation) (r .relation) (so .read .d) (r .d);
-          }))
+          })
 
   -- ---- the end: another mark than the sign
 
   module _ (other : stepAt s c .mark .kind ≡ kind (joint (signIn a)) → ⊥) (o n x : ℕ) (p : Place) (so : SoFar s from i first a seen count same c o n x p) where
-    closing : whole s from i o n x p ≡ bind (bind (sign ")" (at (marksAt o s c) n)) (λ _. return [])) (behindMore p (signIn a) (so .head ∷ so .more))
-    closing =
-        so .goes
-        ∙ ap (λ y. bind y (behindMore p (signIn a) (so .head ∷ so .more)))
-        (others-end (joint (signIn a)) (so .fuel) (at (marksAt o s c) n) (next-is o s (joint (signIn a)) (joint-known a) (stepAt s c) (marksAt o s c) (meet o s c) ∙ ne-eqb (stepAt s c .mark .kind) (kind (joint (signIn a))) other))
-
-    not-closed : (stepAt s c .mark .kind ≡ kind ")" → ⊥) → GroupRead o s n p (whole s from i o n x p) (noGroup (stepAt s c .mark .place))
-    not-closed h =
+    stays-open : (stepAt s c .mark .kind ≡ kind ")" → ⊥) → GroupRead o s n p (whole s from i o n x p) (noGroup (stepAt s c .mark .place))
+    stays-open h =
         group-as o s n p (noGroup (stepAt s c .mark .place))
-        (closing ∙ ap (λ y. bind (bind y (λ _. return [])) (behindMore p (signIn a) (so .head ∷ so .more))) (sign-next o s ")" close-known (stepAt s c) (marksAt o s c) n (meet o s c) ∙ unfit tt o s (stepAt s c) (marksAt o s c) n (kind ")") h))
+        (not-closed literal (joint (signIn a)) (asGroup p (signIn a)) (joint-known a) (whole s from i o n x p) o s n (so .head ∷ so .more) c (so .joining) other h)
         (stops-here o s n p c)
 
-    closed : stepAt s c .mark .kind ≡ kind ")" → (w node k g : ℕ) → w ≡ wantIn seen count same → k ≡ kindIn seen → g ≡ signNumber (signIn a)
+    closes : stepAt s c .mark .kind ≡ kind ")" → (w node k g : ℕ) → w ≡ wantIn seen count same → k ≡ kindIn seen → g ≡ signNumber (signIn a)
         → node ≡ packGroup (min k 1) (min g 1) (min (first .relation) 1) (min (first .d) numbers)
-        → GroupRead o s n p (whole s from i o n x p) (record { stop = 0; place = 0; next = stepAt s c .next .at; want = w; node = node; d = first .d; first = first .first })
-    closed h w node k g we ke ge pe =
+        → GroupRead o s n p (whole s from i o n x p) (record { stop = 0; place = 0; next = stepAt s c .next .at; want = w; kind = k; node = node; d = first .d; first = first .first })
+    closes h w node k g we ke ge pe =
         group-as o s n p _
-        (closing
-        ∙ ap (λ y. bind (bind y (λ _. return [])) (behindMore p (signIn a) (so .head ∷ so .more))) (sign-next o s ")" close-known (stepAt s c) (marksAt o s c) n (meet o s c) ∙ fits tt o s (stepAt s c) (marksAt o s c) n (kind ")") h)
-        ∙ ap (λ ls. ok (literalsOf p (signIn a) (so .head ∷ ls)) (at (marksAt o s (stepAt s c .next .at)) n)) (append-nil (so .more)))
+        (closed literal (joint (signIn a)) (asGroup p (signIn a)) (joint-known a) (whole s from i o n x p) o s n (so .head ∷ so .more) c (so .joining) other h)
         (record {
           went = refl;
           place = refl;
@@ -284,6 +226,7 @@ module _ (s : List ℕ) (from i : ℕ) (first : Tail) (a : Bool) (seen : List �
           past = next-past o s (stepAt s c) (marksAt o s c) (meet o s c) (λ z. omega arith);
           next-within = next-within o s (stepAt s c) (marksAt o s c) (meet o s c);
           want = we ∙ want-seen seen count (so .head) (so .more) (so .marked) (so .counted) same (so .alikes);
+          kind = ke ∙ kind-seen seen count (so .head) (so .more) (so .marked) (so .counted);
           node =
               pe
               ∙ packed k g (first .relation) (first .d) (kindBy (so .head ∷ so .more)) (signIn a) (so .head .relation) (so .head .d)
@@ -294,7 +237,7 @@ module _ (s : List ℕ) (from i : ℕ) (first : Tail) (a : Bool) (seen : List �
           first-within = so .read .first-within;
         })
 
-next-fewer : (o : ℕ) (s : List ℕ) (x : Step) (ms : Place) → Meet o s x ms → length (marksAt o s (x .next .at)) ≤ length ms
+pub next-fewer : (o : ℕ) (s : List ℕ) (x : Step) (ms : Place) → Meet o s x ms → length (marksAt o s (x .next .at)) ≤ length ms
 next-fewer o s x ms over = rw (drop-length s) (omega arith)
 next-fewer o s x ms (met m p next small l h) = omega arith
 
@@ -367,12 +310,12 @@ module _ (s : List ℕ) (from i : ℕ) (first : Tail) (a : Bool) (j : ℕ) (sign
       other-there e = other (ap (λ (u : Step). u .mark .kind) (t .step) ∙ e ∙ sym sign)
 
       pub ends-open : (ahead .mark .kind ≡ kind ")" → ⊥) → Answers s from i (noGroup (ahead .mark .place))
-      ends-open h o n x p = rw (t .step) (not-closed s from i first a seen count same (t .c) other-there o n x p (t .so o n x p) (rw (t .step) at h))
+      ends-open h o n x p = rw (t .step) (stays-open s from i first a seen count same (t .c) other-there o n x p (t .so o n x p) (rw (t .step) at h))
 
       pub ends-closed : ahead .mark .kind ≡ kind ")" → (w node k g : ℕ) → w ≡ wantIn seen count same → k ≡ kindIn seen → g ≡ signNumber (signIn a)
           → node ≡ packGroup (min k 1) (min g 1) (min (first .relation) 1) (min (first .d) numbers)
-          → Answers s from i (record { stop = 0; place = 0; next = ahead .next .at; want = w; node = node; d = first .d; first = first .first })
-      ends-closed h w node k g we ke ge pe o n x p = rw (t .step) (closed s from i first a seen count same (t .c) other-there o n x p (t .so o n x p) (rw (t .step) at h) w node k g we ke ge pe)
+          → Answers s from i (record { stop = 0; place = 0; next = ahead .next .at; want = w; kind = k; node = node; d = first .d; first = first .first })
+      ends-closed h w node k g we ke ge pe o n x p = rw (t .step) (closes s from i first a seen count same (t .c) other-there o n x p (t .so o n x p) (rw (t .step) at h) w node k g we ke ge pe)
 
 -- ---- the places in an answer lie in the part
 
@@ -381,13 +324,16 @@ pub record Inside (s : List ℕ) (r : Grouped) : Type 0 where
   pub next : r .next ≤ length s
   pub first : r .first ≤ length s
 
-inside-answer : (o : ℕ) (s : List ℕ) (n : ℕ) (p : Place) (x : Result Literals) (r : Grouped) → GroupRead o s n p x r → Inside s r
-inside-answer o s n p (ok g b) r h = record { place = omega (arith, h .place); next = h .next-within; first = h .first-within }
-inside-answer o s n p (stop m q) r h = record {
+pub stopped-inside : (o : ℕ) (s : List ℕ) (m : ℕ) (q : Place) (r : Grouped) → StoppedGroup o s m q r → Inside s r
+stopped-inside o s m q r h = record {
   place = h .within;
   next = omega (arith, ap (λ (u : Grouped). u .next) (h .answer));
   first = omega (arith, ap (λ (u : Grouped). u .first) (h .answer));
 }
+
+inside-answer : (o : ℕ) (s : List ℕ) (n : ℕ) (p : Place) (x : Result Literals) (r : Grouped) → GroupRead o s n p x r → Inside s r
+inside-answer o s n p (ok g b) r h = record { place = omega (arith, h .place); next = h .next-within; first = h .first-within }
+inside-answer o s n p (stop m q) r h = stopped-inside o s m q r h
 
 pub inside : (s : List ℕ) (from i : ℕ) (r : Grouped) → Answers s from i r → Inside s r
 inside s from i r h = inside-answer 0 s 0 [] (whole s from i 0 0 0 []) r (h 0 0 0 [])

@@ -1,9 +1,6 @@
-pub mod StateLaws
-pub mod Keeping
-pub mod Symmetric
-pub mod Settling
 pub mod Signs
 pub mod Ahead
 pub mod Literals
 pub mod Seats
+pub mod Joined
 pub mod Groups

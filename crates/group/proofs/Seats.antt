@@ -16,7 +16,7 @@ use Rattle.card.specs.Card.{everyone, others, Relation, is, isnt}
 use Rattle.card.specs.Laid.{kindNumber, relationNumber}
 use Rattle.reading.specs.Group.{Literal}
 use Rattle.reading.specs.Judgements.{has, hasFrom, sameRelation, alike}
-use Rattle.group.specs.Late.{upToMost, wantOf, kindBy}
+use Rattle.late.specs.Late.{upToMost, wantOf, kindBy}
 use Rattle.group.specs.LiteralRead.{noted, seenFrom, oneMore, wantIn, kindIn}
 
 -- ---- counting along the array
@@ -38,6 +38,16 @@ seen-start seen first count =
 
 -- ---- what the code finds, test by test
 
+module _ (seen : List ℕ) (count : ℕ) where
+  pub once-many : mostSeats < count → 0 ≡ upToMost count (seenFrom seen 1 count)
+  once-many h = rw (lt-leb count mostSeats h)
+
+  pub once-each : (b : Bool) → count ≤ mostSeats → b ≡ seenFrom seen 1 count → b ≡ true → count ≡ upToMost count (seenFrom seen 1 count)
+  once-each b h e t = rw (le-leb count mostSeats h, ← e, t)
+
+  pub once-none : (b : Bool) → count ≤ mostSeats → b ≡ seenFrom seen 1 count → b ≡ false → 0 ≡ upToMost count (seenFrom seen 1 count)
+  once-none b h e t = rw (le-leb count mostSeats h, ← e, t)
+
 module _ (seen : List ℕ) (count : ℕ) (same : Bool) where
   pub want-unlike : same ≡ false → 0 ≡ wantIn seen count same
   unfolding wantIn
@@ -57,18 +67,9 @@ module _ (seen : List ℕ) (count : ℕ) (same : Bool) where
       unfolding wantIn
       others-none b h e t = rw (alike, eq-eqb (getD seen 1 0) 0 none, le-leb (suc count) mostSeats (omega arith), ← e, t)
 
-    module _ (one : getD seen 1 0 ≡ 0 → ⊥) where
-      pub everyone-many : mostSeats < count → 0 ≡ wantIn seen count same
-      unfolding wantIn
-      everyone-many h = rw (alike, ne-eqb (getD seen 1 0) 0 one, lt-leb count mostSeats h)
-
-      pub everyone-want : (b : Bool) → count ≤ mostSeats → b ≡ seenFrom seen 1 count → b ≡ true → count ≡ wantIn seen count same
-      unfolding wantIn
-      everyone-want b h e t = rw (alike, ne-eqb (getD seen 1 0) 0 one, le-leb count mostSeats h, ← e, t)
-
-      pub everyone-none : (b : Bool) → count ≤ mostSeats → b ≡ seenFrom seen 1 count → b ≡ false → 0 ≡ wantIn seen count same
-      unfolding wantIn
-      everyone-none b h e t = rw (alike, ne-eqb (getD seen 1 0) 0 one, le-leb count mostSeats h, ← e, t)
+    pub everyone-want : (getD seen 1 0 ≡ 0 → ⊥) → (w : ℕ) → w ≡ upToMost count (seenFrom seen 1 count) → w ≡ wantIn seen count same
+    unfolding wantIn
+    everyone-want one w e = rw (alike, ne-eqb (getD seen 1 0) 0 one) e
 
 -- ---- what the array says of the literals
 
@@ -128,8 +129,8 @@ seen-first v l e = seen-more-seats (noSeats (suc mostSeats)) v [] l refl e (λ i
 
 -- ---- how many, and alike
 
-pub one-counted : (count : ℕ) (ls : List Literal) (l : Literal) → count ≡ min (length ls) (suc mostSeats) → oneMore count ≡ min (length (ls ++ (l ∷ []))) (suc mostSeats)
-one-counted count ls l e = go (leb count mostSeats) refl
+pub one-counted : {A : Type 0} (count : ℕ) (ls : List A) (l : A) → count ≡ min (length ls) (suc mostSeats) → oneMore count ≡ min (length (ls ++ (l ∷ []))) (suc mostSeats)
+one-counted {A} count ls l e = go (leb count mostSeats) refl
   where
     go : (b : Bool) → leb count mostSeats ≡ b → (if b then suc count else count) ≡ min (length (ls ++ (l ∷ []))) (suc mostSeats)
     go true h = omega (arith, leb-true count mostSeats h, length-append ls (l ∷ []))
@@ -187,6 +188,12 @@ module _ (seen : List ℕ) (count : ℕ) (l : Literal) (ls : List Literal) (s : 
       go true e = let both = few e in rw (← both .0, ← both .1, e)
       go false e = rw (lt-leb k mostSeats (many e))
 
+  pub once-seen : upToMost count (seenFrom seen 1 count) ≡ upToMost (length group) (hasFrom 1 (length group) group)
+  once-seen =
+      up-to count (length group) (seenFrom seen 1 count) (hasFrom 1 (length group) group)
+      (λ t. let c : count ≡ length group = omega (arith, leb-true count mostSeats t) in (c, sym (from-seen 1 count (omega (arith, leb-true count mostSeats t))) ∙ ap (λ k. hasFrom 1 k group) c))
+      (λ t. omega (arith, leb-false count mostSeats t))
+
   pub want-seen : (same : Bool) → same ≡ alike l ls → wantIn seen count same ≡ wantOf group
   unfolding wantIn
   want-seen same e = rw e (go (alike l ls) (has 1 group) (eqb (getD seen 1 0) 0) (s 1 (omega arith)))
@@ -197,7 +204,5 @@ module _ (seen : List ℕ) (count : ℕ) (l : Literal) (ls : List Literal) (s : 
       go true h true f = rw f (up-to (suc count) (suc (length group)) (seenFrom seen 2 count) (hasFrom 2 (length group) group)
           (λ t. let c : count ≡ length group = omega (arith, leb-true (suc count) mostSeats t) in (ap suc c, sym (from-seen 2 count (omega (arith, leb-true (suc count) mostSeats t))) ∙ ap (λ k. hasFrom 2 k group) c))
           (λ t. omega (arith, leb-false (suc count) mostSeats t)))
-      go true h false f = rw f (up-to count (length group) (seenFrom seen 1 count) (hasFrom 1 (length group) group)
-          (λ t. let c : count ≡ length group = omega (arith, leb-true count mostSeats t) in (c, sym (from-seen 1 count (omega (arith, leb-true count mostSeats t))) ∙ ap (λ k. hasFrom 1 k group) c))
-          (λ t. omega (arith, leb-false count mostSeats t)))
+      go true h false f = rw f once-seen
       go false h z f = refl

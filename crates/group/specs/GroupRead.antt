@@ -5,17 +5,17 @@ use mathlib.Core.Path.{_≡_}
 use mathlib.Core.List.{List, [], _∷_}
 use lib.ListN.{length}
 use Rattle.card.specs.Refusals.{outOfShape}
-use Rattle.card.specs.Laid.{leafNumber}
+use Rattle.card.specs.Laid.{kindNumber, leafNumber}
 use Rattle.marks.specs.Marks.{placeOf}
 use Rattle.marks.specs.Step.{marksAt}
 use Rattle.reading.specs.Reader.{Place, State, Result, ok, stop}
 use Rattle.reading.specs.Group.{Literals}
 use Rattle.reading.specs.Judgements.{state, firstState}
 use Rattle.group.specs.declared.Grouped.{Grouped}
-use Rattle.group.specs.Late.{wantOf, groupBy}
+use Rattle.late.specs.Late.{wantOf, kindBy, groupBy}
 
 abbrev pub noGroup : ℕ → Grouped
-noGroup p = record { stop = outOfShape; place = p; next = 0; want = 0; node = 0; d = 0; first = 0 }
+noGroup p = record { stop = outOfShape; place = p; next = 0; want = 0; kind = 0; node = 0; d = 0; first = 0 }
 
 -- with n nodes left, and the bracket at p
 pub record ReadGroup (o : ℕ) (s : List ℕ) (n : ℕ) (p : Place) (g : Literals) (behind : State) (r : Grouped) : Type 0 where
@@ -25,6 +25,7 @@ pub record ReadGroup (o : ℕ) (s : List ℕ) (n : ℕ) (p : Place) (g : Literal
   pub left : behind .nodes ≡ n
   pub bracket : g .place ≡ p
   pub want : r .want ≡ wantOf (g .literals)
+  pub kind : r .kind ≡ kindNumber (kindBy (g .literals))
   pub node : r .node ≡ leafNumber (groupBy (g .sign) (g .literals))
   -- its first d, and where that stands
   pub numeral : Place

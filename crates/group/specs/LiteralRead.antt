@@ -16,7 +16,7 @@ use Rattle.card.specs.Refusals.{outOfShape}
 use Rattle.reading.specs.Reader.{Place, State, at, Result, ok, stop}
 use Rattle.reading.specs.Group.{Literal}
 use Rattle.group.specs.declared.literal.Tail.{Tail}
-use Rattle.group.specs.Late.{upToMost}
+use Rattle.late.specs.Late.{upToMost}
 
 -- ---- one literal
 

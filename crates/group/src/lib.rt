@@ -1,8 +1,6 @@
-// Groups of literals, read from a card's bytes, and the refusals that are judged late.
-pub mod late;
-mod literal;
-mod seen;
-pub mod state;
+// Groups of literals, read from a card's bytes.
+pub mod literal;
+pub mod seen;
 
 use card::node::pack_group;
 use card::refusals::OUT_OF_SHAPE;
@@ -32,18 +30,19 @@ ghost use Rattle.group.specs.GroupRead.{noGroup, GroupRead};
 ghost use Rattle.group.specs.LiteralRead.{signIn};
 
 // What reading a group found: stop 0, the next cursor, how many seats the group wants (0: it is symmetric for no number of seats),
-// its node, its first d and where that stands; or the number of a refusal and its place.
+// its kind, its node, its first d and where that stands; or the number of a refusal and its place.
 pub struct Grouped {
     pub stop: usize,
     pub place: usize,
     pub next: usize,
     pub want: usize,
+    pub kind: usize,
     pub node: u32,
     pub d: usize,
     pub first: usize,
 }
 
-fn no_group(place: usize) -> Grouped
+pub fn no_group(place: usize) -> Grouped
     ensures { λ r. ⌜ r ≡ noGroup place ⌝ }
 {
     Grouped {
@@ -51,6 +50,7 @@ fn no_group(place: usize) -> Grouped
         place: place,
         next: 0,
         want: 0,
+        kind: 0,
         node: 0,
         d: 0,
         first: 0,
@@ -129,6 +129,7 @@ pub fn group(part: &[u8], at: usize, seat: usize) -> Grouped
         place: 0,
         next: ahead.next.at,
         want: want(&seen, count, alike),
+        kind,
         node: pack_group(kind, sign, first.relation, first.d),
         d: first.d,
         first: first.first,

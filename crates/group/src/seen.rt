@@ -3,6 +3,7 @@ use card::limits::MOST_SEATS;
 ghost use mathlib.Core.Path.{_≡_};
 ghost use Prim.Native.Nat.{suc, _+_, _≤_};
 ghost use Rattle.card.specs.Limits.{mostSeats};
+ghost use Rattle.late.specs.Late.{upToMost};
 ghost use Rattle.group.specs.LiteralRead.{noted, seenFrom, oneMore, wantIn, kindIn};
 
 pub const SEATS: usize = MOST_SEATS + 1;
@@ -39,6 +40,19 @@ fn all_seen(seen: &[u8; SEATS], first: usize, count: usize) -> bool
     true
 }
 
+// The seats 1 to `count`, each of them: so many, or 0.
+pub fn each_once(seen: &[u8; SEATS], count: usize) -> usize
+    ensures { λ r. ⌜ r ≡ upToMost count (seenFrom (now (seen .entry)) 1 count) ⌝ }
+{
+    if MOST_SEATS < count {
+        return 0;
+    }
+    if all_seen(seen, 1, count) {
+        return count;
+    }
+    0
+}
+
 pub fn want(seen: &[u8; SEATS], count: usize, alike: bool) -> usize
     ensures { λ r. ⌜ r ≡ wantIn (now (seen .entry)) count alike ⌝ }
 {
@@ -54,13 +68,7 @@ pub fn want(seen: &[u8; SEATS], count: usize, alike: bool) -> usize
         }
         return 0;
     }
-    if MOST_SEATS < count {
-        return 0;
-    }
-    if all_seen(seen, 1, count) {
-        return count;
-    }
-    0
+    each_once(seen, count)
 }
 
 pub fn kind(seen: &[u8; SEATS]) -> usize

@@ -14,8 +14,11 @@ use Rattle.card.specs.Valid.{size}
 use Rattle.marks.specs.Marks.{Mark, Placed, placed}
 use Rattle.card.specs.Refusals.{pastLimit}
 use Rattle.reading.specs.Reader.{Place, State, at, Result, ok, stop, Reader, bind, _>>=_, _>>_, return, refuse, refuseAt, took, first, the, is, given, nextIs, ifNext, sign, seatOf, numberOf, here, spend, node}
-use Rattle.reading.specs.Guard.{seatNext, ifSeat, chain, conjunction, expression, grouped, unary}
-use Rattle.reading.specs.Group.{Literal, literalOf, Literals, literalsOf, relationOf, literal, joint, others, group}
+use Rattle.reading.specs.Guard.{seatNext, ifAhead, chain, conjunction, expression, grouped}
+use Rattle.reading.specs.Group.{Literal, literalOf, literalsOf, relationOf, literal, joint, joined, others, group}
+use Rattle.asking.specs.Question.{aGroup, exactlyOne, term, exactly, item}
+use Rattle.grouping.specs.Language.{Language, languageOf}
+use Rattle.guard.specs.Pieces.{unaryIn}
 
 -- what holds of a value and the state behind it; and a refusal has a number
 abbrev pub Each : {A : Type 0} → (A → State → Type 0) → Result A → Type 0
@@ -73,24 +76,46 @@ literal-keeps s =
     (λ i. bind-keeps (the relationOf) (λ q. here >>= λ p. the numberOf >>= λ d. return (literalOf i q d p)) (the-keeps relationOf)
     (λ q s. bind-keeps (the numberOf) (λ d. return (literalOf i q d (s .marks))) (the-keeps numberOf) (λ d s. refl) s)) s
 
-closed-keeps : Keeps {A = List Literal} (sign ")" >> return [])
-closed-keeps = bind-keeps (sign ")") (λ _. return []) (sign-keeps ")") (λ _ s. refl)
+-- any things of one kind, each behind the sign, up to the closing bracket
+module _ {A : Type 0} (one : Reader A) (keeps : Keeps one) (t : String) where
+  closed-keeps : Keeps {A = List A} (sign ")" >> return [])
+  closed-keeps = bind-keeps (sign ")") (λ _. return []) (sign-keeps ")") (λ _ s. refl)
 
-others-keeps : (t : String) (most : ℕ) → Keeps (others t most)
-others-keeps t zero = if-keeps t (refuse pastLimit) (sign ")" >> return []) (λ s z. omega arith) closed-keeps
-others-keeps t (suc most) =
-    if-keeps t (sign t >> (literal >>= λ l. others t most >>= λ ls. return (l ∷ ls))) (sign ")" >> return [])
-    (bind-keeps (sign t) (λ _. literal >>= λ l. others t most >>= λ ls. return (l ∷ ls)) (sign-keeps t)
-    (λ _. bind-keeps literal (λ l. others t most >>= λ ls. return (l ∷ ls)) literal-keeps
-    (λ l. bind-keeps (others t most) (λ ls. return (l ∷ ls)) (others-keeps t most) (λ ls s. refl))))
-    closed-keeps
+  joined-keeps : (most : ℕ) → Keeps (joined one t most)
+  joined-keeps zero = if-keeps t (refuse pastLimit) (sign ")" >> return []) (λ s z. omega arith) closed-keeps
+  joined-keeps (suc most) =
+      if-keeps t (sign t >> (one >>= λ x. joined one t most >>= λ xs. return (x ∷ xs))) (sign ")" >> return [])
+      (bind-keeps (sign t) (λ _. one >>= λ x. joined one t most >>= λ xs. return (x ∷ xs)) (sign-keeps t)
+      (λ _. bind-keeps one (λ x. joined one t most >>= λ xs. return (x ∷ xs)) keeps
+      (λ x. bind-keeps (joined one t most) (λ xs. return (x ∷ xs)) (joined-keeps most) (λ xs s. refl))))
+      closed-keeps
 
 group-keeps : (p : Place) → Keeps (group p)
 group-keeps p =
     bind-keeps literal (λ l. here >>= λ rest. ifNext (joint any) (return any) (return all) >>= λ s. others (joint s) (length rest) >>= λ ls. return (literalsOf p s (l ∷ ls))) literal-keeps
     (λ l b. bind-keeps (ifNext (joint any) (return any) (return all)) (λ s. others (joint s) (length (b .marks)) >>= λ ls. return (literalsOf p s (l ∷ ls)))
     (if-keeps (joint any) (return any) (return all) (return-keeps any) (return-keeps all))
-    (λ s. bind-keeps (others (joint s) (length (b .marks))) (λ ls. return (literalsOf p s (l ∷ ls))) (others-keeps (joint s) (length (b .marks))) (λ ls s. refl)) b)
+    (λ s. bind-keeps (others (joint s) (length (b .marks))) (λ ls. return (literalsOf p s (l ∷ ls))) (joined-keeps literal literal-keeps (joint s) (length (b .marks))) (λ ls s. refl)) b)
+
+-- ---- and a question's items
+
+term-keeps : Keeps term
+term-keeps s =
+    bind-keeps (sign "(") (λ _. literal >>= λ l. here >>= λ rest. others (joint all) (length rest) >>= λ ls. return (l ∷ ls)) (sign-keeps "(")
+    (λ _. bind-keeps literal (λ l. here >>= λ rest. others (joint all) (length rest) >>= λ ls. return (l ∷ ls)) literal-keeps
+    (λ l b. bind-keeps (others (joint all) (length (b .marks))) (λ ls. return (l ∷ ls)) (joined-keeps literal literal-keeps (joint all) (length (b .marks))) (λ ls s. refl) b)) s
+
+exactly-keeps : (p : Place) → Keeps (exactly p)
+exactly-keeps p =
+    bind-keeps term (λ t. here >>= λ rest. joined term (joint any) (length rest) >>= λ ts. return (exactlyOne p (t ∷ ts))) term-keeps
+    (λ t b. bind-keeps (joined term (joint any) (length (b .marks))) (λ ts. return (exactlyOne p (t ∷ ts))) (joined-keeps term term-keeps (joint any) (length (b .marks))) (λ ts s. refl) b)
+
+item-keeps : (p : Place) → Keeps (item p)
+item-keeps p s = go (seatNext (s .marks))
+  where
+    go : (b : Bool) → Each (Left (s .nodes)) ((if b then (group p >>= λ x. return (aGroup x)) else exactly p) s)
+    go true = bind-keeps (group p) (λ x. return (aGroup x)) (group-keeps p) (λ x s. refl) s
+    go false = exactly-keeps p s
 
 -- ---- readers that spend a guard's nodes
 
@@ -115,8 +140,8 @@ module _ {A : Type 0} where
       go true = h
       go false = k
 
-  seat-ends : (n : ℕ) (p q : Reader (Formula A)) (s : State) → Ends n (p s) → Ends n (q s) → Ends n (ifSeat p q s)
-  seat-ends n p q s h k = go (seatNext (s .marks))
+  ahead-ends : (n : ℕ) (starts : Place → Bool) (p q : Reader (Formula A)) (s : State) → Ends n (p s) → Ends n (q s) → Ends n (ifAhead starts p q s)
+  ahead-ends n starts p q s h k = go (starts (s .marks))
     where
       go : (b : Bool) → Ends n ((if b then p else q) s)
       go true = h
@@ -154,25 +179,35 @@ module _ {A : Type 0} where
   pub expression-spends : (operand : Reader (Formula A)) → Spends operand → Spends (expression operand)
   expression-spends operand h = chained-spends "|" or (λ g i. refl) (conjunction operand) (conjunction-spends operand h)
 
-grouped-ends : (p : Place) (s : State) → Each (Spent (s .nodes)) (grouped group p s)
-grouped-ends p s =
-    node-ends (s .nodes) p (s .marks) (s .nodes) (group p >>= λ a. return (atom a))
-    (λ k e. keeps-ends (s .nodes) (group p) (λ a. return (atom a)) (at (s .marks) k) (group-keeps p) (λ a b l. omega arith))
+-- ---- in any language whose items are no nodes but their own
 
-pub unary-spends : (depth : ℕ) → Spends (unary group depth)
-unary-spends zero s =
-    if-ends (s .nodes) "!" (refuse pastLimit) (here >>= λ p. sign "(" >> ifSeat (grouped group p) (refuseAt pastLimit p)) s (λ z. omega arith)
-    (keeps-ends (s .nodes) (sign "(") (λ _. ifSeat (grouped group (s .marks)) (refuseAt pastLimit (s .marks))) s (sign-keeps "(")
-    (λ _ b e. seat-ends (s .nodes) (grouped group (s .marks)) (refuseAt pastLimit (s .marks)) b (ends-as (grouped group (s .marks) b) e (grouped-ends (s .marks) b)) (λ z. omega arith)))
-unary-spends (suc depth) s =
-    if-ends (s .nodes) "!" (node >> (sign "!" >> (unary group depth >>= λ g. return (neg g)))) (here >>= λ p. sign "(" >> ifSeat (grouped group p) (inner p)) s
-    (node-ends (s .nodes) (s .marks) (s .marks) (s .nodes) (sign "!" >> (unary group depth >>= λ g. return (neg g)))
-    (λ k e. keeps-ends (s .nodes) (sign "!") (λ _. unary group depth >>= λ g. return (neg g)) (at (s .marks) k) (sign-keeps "!")
-    (λ _ b l. guard-ends (b .nodes) (s .nodes) (unary group depth) (λ g. return (neg g)) b (unary-spends depth b) (λ g c m. omega arith))))
-    (keeps-ends (s .nodes) (sign "(") (λ _. ifSeat (grouped group (s .marks)) (inner (s .marks))) s (sign-keeps "(")
-    (λ _ b e. seat-ends (s .nodes) (grouped group (s .marks)) (inner (s .marks)) b (ends-as (grouped group (s .marks) b) e (grouped-ends (s .marks) b))
-    (guard-ends (b .nodes) (s .nodes) (expression (unary group depth)) (λ g. sign ")" >> return g) b (expression-spends (unary group depth) (unary-spends depth) b)
-    (λ g c l. keeps-ends (s .nodes) (sign ")") (λ _. return g) c (sign-keeps ")") (λ _ f m. omega arith)))))
-  where
-    inner : Place → Reader (Formula Literals)
-    inner p = expression (unary group depth) >>= λ g. sign ")" >> return g
+abbrev pub Keeping : Language → Type 0
+Keeping L = (p : Place) → Keeps (L .item p)
+
+pub keeping : (question : Bool) → Keeping (languageOf question)
+keeping false = group-keeps
+keeping true = item-keeps
+
+module _ (L : Language) (keeps : Keeping L) where
+  grouped-ends : (p : Place) (s : State) → Each (Spent (s .nodes)) (grouped (L .item) p s)
+  grouped-ends p s =
+      node-ends (s .nodes) p (s .marks) (s .nodes) (L .item p >>= λ a. return (atom a))
+      (λ k e. keeps-ends (s .nodes) (L .item p) (λ a. return (atom a)) (at (s .marks) k) (keeps p) (λ a b l. omega arith))
+
+  pub unary-spends : (depth : ℕ) → Spends (unaryIn L depth)
+  unary-spends zero s =
+      if-ends (s .nodes) "!" (refuse pastLimit) (here >>= λ p. sign "(" >> ifAhead (L .starts) (grouped (L .item) p) (refuseAt pastLimit p)) s (λ z. omega arith)
+      (keeps-ends (s .nodes) (sign "(") (λ _. ifAhead (L .starts) (grouped (L .item) (s .marks)) (refuseAt pastLimit (s .marks))) s (sign-keeps "(")
+      (λ _ b e. ahead-ends (s .nodes) (L .starts) (grouped (L .item) (s .marks)) (refuseAt pastLimit (s .marks)) b (ends-as (grouped (L .item) (s .marks) b) e (grouped-ends (s .marks) b)) (λ z. omega arith)))
+  unary-spends (suc depth) s =
+      if-ends (s .nodes) "!" (node >> (sign "!" >> (unaryIn L depth >>= λ g. return (neg g)))) (here >>= λ p. sign "(" >> ifAhead (L .starts) (grouped (L .item) p) (inner p)) s
+      (node-ends (s .nodes) (s .marks) (s .marks) (s .nodes) (sign "!" >> (unaryIn L depth >>= λ g. return (neg g)))
+      (λ k e. keeps-ends (s .nodes) (sign "!") (λ _. unaryIn L depth >>= λ g. return (neg g)) (at (s .marks) k) (sign-keeps "!")
+      (λ _ b l. guard-ends (b .nodes) (s .nodes) (unaryIn L depth) (λ g. return (neg g)) b (unary-spends depth b) (λ g c m. omega arith))))
+      (keeps-ends (s .nodes) (sign "(") (λ _. ifAhead (L .starts) (grouped (L .item) (s .marks)) (inner (s .marks))) s (sign-keeps "(")
+      (λ _ b e. ahead-ends (s .nodes) (L .starts) (grouped (L .item) (s .marks)) (inner (s .marks)) b (ends-as (grouped (L .item) (s .marks) b) e (grouped-ends (s .marks) b))
+      (guard-ends (b .nodes) (s .nodes) (expression (unaryIn L depth)) (λ g. sign ")" >> return g) b (expression-spends (unaryIn L depth) (unary-spends depth) b)
+      (λ g c l. keeps-ends (s .nodes) (sign ")") (λ _. return g) c (sign-keeps ")") (λ _ f m. omega arith)))))
+    where
+      inner : Place → Reader (Formula (L .Item))
+      inner p = expression (unaryIn L depth) >>= λ g. sign ")" >> return g

@@ -1,10 +1,9 @@
 -- The ways through the definition of a guard, opened one mark at a time: each way out of the code is one of them.
-use Prim.Native.Nat.{ℕ, zero, suc, _+_, _-_, _≤_}
+use Prim.Native.Nat.{ℕ, zero, suc, _+_, _-_, _≤_, _<_}
 use Prim.Native.String.{String}
 use mathlib.Core.Path.{_≡_, refl, sym, ap, _∙_}
-use mathlib.Core.Bool.{true, false}
-use mathlib.Core.List.{List, [], _∷_}
-use mathlib.Core.Option.{Option}
+use mathlib.Core.Bool.{Bool, true, false}
+use mathlib.Core.List.{List}
 use native.Mathlib.Nat.{zero-add, add-zero}
 use native.Mathlib.Numerals.{sub-one}
 use native.Mathlib.Omega.{arith}
@@ -13,28 +12,26 @@ use lib.Dec.{leb}
 use lib.ListN.{length, take, drop, set, length-drop}
 use lib.Seq.{take-all}
 use Rattle.card.specs.Refusals.{outOfShape, pastLimit, aboveTop}
-use Rattle.card.specs.Card.{Formula, atom, and}
-use Rattle.marks.specs.Marks.{placed, seat, placeOf}
-use Rattle.marks.specs.Kinds.{kSeat, kind}
+use Rattle.card.specs.Card.{Formula, atom}
+use Rattle.card.proofs.Storing.{stored-leaf}
+use Rattle.marks.specs.Marks.{placeOf}
+use Rattle.marks.specs.Kinds.{kind}
 use Rattle.marks.specs.Step.{stepAt, marksAt}
 use Rattle.marks.specs.declared.Step.{Step}
-use Rattle.marks.proofs.Next.{Meet, meet, part-of-card}
-use Rattle.card.proofs.Storing.{stored-leaf}
-use Rattle.reading.specs.Reader.{Place, State, at, Result, ok, stop, Reader, bind, _>>=_, _>>_, return, nextIs, sign, here, spend, node}
-use Rattle.reading.specs.Guard.{seatNext, expression, grouped, unary}
-use Rattle.reading.specs.Group.{Literals, group}
-use Rattle.reading.specs.Judgements.{state, oneGroup, unless, firstState, judgedGroup}
+use Rattle.marks.proofs.Next.{meet, part-of-card}
+use Rattle.reading.specs.Reader.{Place, State, at, Result, ok, stop, Reader, bind, _>>=_, _>>_, return, nextIs, sign, here, spend}
+use Rattle.reading.specs.Guard.{expression, grouped}
+use Rattle.reading.specs.Judgements.{unless}
 use Rattle.group.specs.declared.Grouped.{Grouped}
-use Rattle.group.specs.Late.{Late, wantOf, groupBy, blamed, grouped as groupedLate, judgeAll}
-use Rattle.group.specs.State.{atLeft, atFree, Sized, leftIn, freeIn, lateIn, withLate, After, after, Halted}
-use Rattle.group.specs.GroupRead.{GroupRead}
-use Rattle.guard.specs.GuardRead.{GuardRead}
-use Rattle.guard.specs.Pieces.{thenNot, thenClose, bracketOf, Onward, GroupedAt, Bracketed}
+use Rattle.late.specs.Late.{Late, blamed, grouped as groupedLate}
+use Rattle.late.specs.State.{leftIn, freeIn, lateIn, After, after, Halted}
 use Rattle.group.proofs.Signs.{Known}
-use Rattle.group.proofs.Ahead.{fits, unfit, next-is, sign-next, seat-next, place-next, next-within, next-past}
-use Rattle.group.proofs.StateLaws.{late-sized, set-sized, left-set, free-set, late-set, free-left, left-free, left-late, free-late}
-use Rattle.group.proofs.Groups.{seat-marks, whole, Answers}
-use Rattle.guard.proofs.Building.{went-well, read-as, spending, grown}
+use Rattle.group.proofs.Ahead.{fits, unfit, next-is, sign-next, place-next, next-within, next-past}
+use Rattle.grouping.specs.Language.{Language}
+use Rattle.grouping.specs.Items.{Inside, ReadItem, ItemRead, noItem, ItemIf, ItemAt, LaidAt}
+use Rattle.guard.specs.GuardRead.{Read, GuardRead}
+use Rattle.guard.specs.Pieces.{unaryIn, thenNot, thenClose, bracketOf, Onward, Bracketed}
+use Rattle.guard.proofs.Building.{went-well, read-as}
 
 -- ---- marks of the whole card
 
@@ -62,41 +59,16 @@ module _ (t : String) (known : Known t) (s : List ℕ) (i n : ℕ) where
 halted-at : (s : List ℕ) (i m : ℕ) (r : After) → Halted m (stepAt s i .mark .place) r → Halted m (placeOf (length s) (marksAt 0 s i)) r
 halted-at s i m r h = rw (place-here s i) h
 
--- ---- the closing bracket
-
 close-known : Known ")"
 close-known = record { above = omega arith; alone = refl; same = refl }
 
--- behind what was read so far, at the place q and the nodes left
-module _ (s : List ℕ) (g : After) (z : g .next ≡ 0 → ⊥) (a : Step) (step : a ≡ stepAt s (g .next)) where
-  closing : (f : Formula Literals) (b : State) (x : Result (Formula Literals)) → x ≡ ok f b → marksAt 0 s (g .next) ≡ b .marks
-      → bind x thenClose ≡ bind (sign ")" (at (marksAt 0 s (g .next)) (b .nodes))) (λ _. return f)
-  closing f b x i rest = ap (λ y. bind y thenClose) i ∙ ap (λ y. bind (sign ")" y) (λ _. return f)) (state-is b (marksAt 0 s (g .next)) (b .nodes) rest refl)
+not-known : Known "!"
+not-known = record { above = omega arith; alone = refl; same = refl }
 
-  pub close-wrong : (a .mark .kind ≡ kind ")" → ⊥) → (r : After) → Halted outOfShape (a .mark .place) r → (k : ℕ) (nodes : List ℕ) → Onward s k nodes nodes g thenClose r
-  close-wrong h r halted k nodes was used before x e =
-      went-well s k was nodes used before g x e z
-      (λ f b i d. read-as s k was nodes used before r
-      (closing f b x i (d .rest) ∙ ap (λ y. bind y (λ _. return f)) (sign-unfit ")" close-known s (g .next) (b .nodes) (λ u. h (ap (λ (m : Step). m .mark .kind) step ∙ u))))
-      (halted-at s (g .next) outOfShape r (rw step at halted)))
+open-known : Known "("
+open-known = record { above = omega arith; alone = refl; same = refl }
 
-  pub close-well : a .mark .kind ≡ kind ")" → (k : ℕ) (nodes : List ℕ) → Onward s k nodes nodes g thenClose (after (g .state) (a .next .at))
-  close-well h k nodes was used before x e =
-      went-well s k was nodes used before g x e z
-      (λ f b i d. read-as s k was nodes used before (after (g .state) (a .next .at))
-      (closing f b x i (d .rest) ∙ ap (λ y. bind y (λ _. return f)) (sign-fits ")" close-known s (g .next) (b .nodes) (ap (λ (m : Step). m .mark .kind) (sym step) ∙ h)
-      ∙ ap (λ (m : Step). ok tt (at (marksAt 0 s (m .next .at)) (b .nodes))) (sym step)))
-      (record {
-        went = λ n. next-past 0 s (stepAt s (g .next)) (marksAt 0 s (g .next)) (meet 0 s (g .next)) (λ y. omega (arith, h, ap (λ (m : Step). m .mark .kind) step)) (ap (λ (m : Step). m .next .at) (sym step) ∙ n);
-        rest = refl;
-        free = d .free;
-        left = d .left;
-        late = d .late;
-        nodes = d .nodes;
-        sized = d .sized;
-      }))
-
--- ---- a group behind its bracket
+-- ---- a node more
 
 pub spent : {A : Type 0} (p ms : Place) (left : ℕ) (f : Reader A) → (left ≡ 0 → ⊥) → bind (spend p ms left) (λ _. f) ≡ f (at ms (left - 1))
 spent p ms zero f h = absurd (h refl)
@@ -105,268 +77,259 @@ spent p ms (suc left) f h = ap (λ n. f (at ms n)) (sym (sub-one (suc left)))
 pub none-left : {A : Type 0} (p ms : Place) (left : ℕ) (f : Reader A) → left ≡ 0 → bind (spend p ms left) (λ _. f) ≡ stop pastLimit p
 none-left p ms left f h = rw h
 
-judged-group : (e k : ℕ) (a : Literals) (d : ℕ) (m : Place) (before : Late) → firstState k (a .literals) ≡ state k d m ∷ []
-    → judgeAll e (judgedGroup k a) before ≡ blamed (unless (leb d k) aboveTop) (placeOf e m) (groupedLate (wantOf (a .literals)) (placeOf e (a .place)) before)
-unfolding judgeAll
-judged-group e k a d m before h = ap (λ js. judgeAll e (oneGroup a ∷ js) before) h
+module _ (L : Language) where
+  -- ---- the closing bracket
 
-same-late : (d k i j m n p r : ℕ) (before : Late) → i ≡ j → m ≡ n → p ≡ r
-    → blamed (unless (leb d k) aboveTop) i (groupedLate m p before) ≡ blamed (unless (leb d k) aboveTop) j (groupedLate n r before)
-same-late d k i j m n p r before e f h = rw (e, f, h)
+  -- behind what was read so far, at the place q and the nodes left
+  module _ (s : List ℕ) (g : After) (z : g .next ≡ 0 → ⊥) (a : Step) (step : a ≡ stepAt s (g .next)) where
+    closing : (f : Formula (L .Item)) (b : State) (x : Result (Formula (L .Item))) → x ≡ ok f b → marksAt 0 s (g .next) ≡ b .marks
+        → bind x thenClose ≡ bind (sign ")" (at (marksAt 0 s (g .next)) (b .nodes))) (λ _. return f)
+    closing f b x i rest = ap (λ y. bind y thenClose) i ∙ ap (λ y. bind (sign ")" y) (λ _. return f)) (state-is b (marksAt 0 s (g .next)) (b .nodes) rest refl)
 
-abbrev thenAtom : Literals → Reader (Formula Literals)
-thenAtom a = return (atom a)
+    pub close-wrong : (a .mark .kind ≡ kind ")" → ⊥) → (r : After) → Halted outOfShape (a .mark .place) r → (k : ℕ) (nodes : List ℕ) → Onward L s k nodes nodes g thenClose r
+    close-wrong h r halted k nodes was used before x e =
+        went-well L s k was nodes used before g x e z
+        (λ f b i d. read-as L s k was nodes used before r
+        (closing f b x i (d .rest) ∙ ap (λ y. bind y (λ _. return f)) (sign-unfit ")" close-known s (g .next) (b .nodes) (λ u. h (ap (λ (m : Step). m .mark .kind) step ∙ u))))
+        (halted-at s (g .next) outOfShape r (rw step at halted)))
 
--- the state behind a group: one node fewer is left, one more is stored, and the group is judged
-pub record Judged (state : List ℕ) (due : Late) (is : List ℕ) : Type 0 where
-  pub free : freeIn is ≡ freeIn state + 1
-  pub left : leftIn is ≡ leftIn state - 1
-  pub late : lateIn is ≡ due
-  pub sized : Sized is
+    pub close-well : a .mark .kind ≡ kind ")" → (k : ℕ) (nodes : List ℕ) → Onward L s k nodes nodes g thenClose (after (g .state) (a .next .at))
+    close-well h k nodes was used before x e =
+        went-well L s k was nodes used before g x e z
+        (λ f b i d. read-as L s k was nodes used before (after (g .state) (a .next .at))
+        (closing f b x i (d .rest) ∙ ap (λ y. bind y (λ _. return f)) (sign-fits ")" close-known s (g .next) (b .nodes) (ap (λ (m : Step). m .mark .kind) (sym step) ∙ h)
+        ∙ ap (λ (m : Step). ok tt (at (marksAt 0 s (m .next .at)) (b .nodes))) (sym step)))
+        (record {
+          went = λ n. next-past 0 s (stepAt s (g .next)) (marksAt 0 s (g .next)) (meet 0 s (g .next)) (λ y. omega (arith, h, ap (λ (m : Step). m .mark .kind) step)) (ap (λ (m : Step). m .next .at) (sym step) ∙ n);
+          rest = refl;
+          free = d .free;
+          left = d .left;
+          late = d .late;
+          nodes = d .nodes;
+          sized = d .sized;
+        }))
 
-module _ (state : List ℕ) (sized : Sized state) where
-  -- whatever number was written
-  module _ (v : ℕ) (one : List ℕ) (e : one ≡ grown (set state atLeft v)) where
-    pub stored-sized : Sized one
-    stored-sized = rw e (set-sized (set state atLeft v) (set-sized state sized atLeft v) atFree (freeIn (set state atLeft v) + 1))
+  -- ---- an item behind its bracket
 
-    pub grouped-sized : (two : List ℕ) (x : Late) → two ≡ withLate one x → Sized two
-    grouped-sized two x f = rw f (late-sized one stored-sized x)
+  abbrev thenAtom : L .Item → Reader (Formula (L .Item))
+  thenAtom a = return (atom a)
 
-  module _ (one : List ℕ) (e : one ≡ grown (spending state)) where
-    pub judged : (m p : ℕ) (o : Option ℕ) (q : ℕ) (two three : List ℕ) → two ≡ withLate one (groupedLate m p (lateIn one)) → three ≡ withLate two (blamed o q (lateIn two))
-        → Judged state (blamed o q (groupedLate m p (lateIn state))) three
-    judged m p o q two three f g = record {
-      free =
-          ap freeIn g ∙ free-late two (blamed o q (lateIn two)) ∙ ap freeIn f ∙ free-late one (groupedLate m p (lateIn one)) ∙ ap freeIn e
-          ∙ free-set (spending state) (set-sized state sized atLeft (leftIn state - 1)) (freeIn (spending state) + 1) ∙ ap (λ n. n + 1) (free-left state (leftIn state - 1));
-      left =
-          ap leftIn g ∙ left-late two (blamed o q (lateIn two)) ∙ ap leftIn f ∙ left-late one (groupedLate m p (lateIn one)) ∙ ap leftIn e
-          ∙ left-free (spending state) (freeIn (spending state) + 1) ∙ left-set state sized (leftIn state - 1);
-      late =
-          ap lateIn g
-          ∙ ap (blamed o q) (ap lateIn f
-          ∙ ap (groupedLate m p) (ap lateIn e ∙ late-set (spending state) atFree (freeIn (spending state) + 1) (omega arith) ∙ late-set state atLeft (leftIn state - 1) (omega arith)));
-      sized = rw g (late-sized two (grouped-sized (leftIn state - 1) one e two (groupedLate m p (lateIn one)) f) (blamed o q (lateIn two)));
-    }
+  -- the item of the answer g behind its bracket: read from the part of the card s from place q on
+  module _ (s : List ℕ) (q p k : ℕ) (l : q ≤ length s) (was is state : List ℕ) (g : Grouped) (r : After) (laid : LaidAt g q p k was is state r) (bracket : Place) (place : placeOf (length s) bracket ≡ p) where
+    abbrev Lays : Type 0
+    Lays = GuardRead L s k was is (freeIn state) (lateIn state) (grouped (L .item) bracket (at (marksAt 0 s q) (leftIn state))) r
 
-module _ (part : List ℕ) (from v q p k : ℕ) (was : List ℕ) (state : List ℕ) where
-  abbrev Grouping : List ℕ → After → Type 0
-  Grouping is r = GroupedAt part from v q p (leftIn state) k was is (freeIn state) (lateIn state) r
+    -- where it was read: the answer's places are the card's
+    long : q + length (drop q s) ≡ length s
+    long = omega (arith, length-drop q s)
 
-  pub group-full : leftIn state ≡ 0 → (is : List ℕ) (r : After) → Halted pastLimit p r → Grouping is r
-  group-full h is r halted s bracket x l e place marks =
-      read-as s k was is (freeIn state) (lateIn state) r (none-left bracket (marksAt 0 s q) (leftIn state) (group bracket >>= thenAtom) h) (rw place halted)
-
-  module _ (some : leftIn state ≡ 0 → ⊥) (g : Grouped) (answers : Answers part from v g) where
-    -- the group, read
-    abbrev one : Place → ℕ → Result Literals
-    one bracket x = whole part from v q (leftIn state - 1) x bracket
-
-    opened : (s : List ℕ) (bracket : Place) (x : ℕ) → marksAt 0 s q ≡ placed (seat v) x ∷ marksAt q part from → grouped group bracket (at (marksAt 0 s q) (leftIn state)) ≡ bind (one bracket x) thenAtom
-    opened s bracket x marks = spent bracket (marksAt 0 s q) (leftIn state) (group bracket >>= thenAtom) some ∙ ap (λ ms. bind (group bracket (at ms (leftIn state - 1))) thenAtom) marks
-
-    card-long : (s : List ℕ) → q ≤ length s → part ≡ drop q s → q + length part ≡ length s
-    card-long s l e = omega (arith, ap length e, length-drop q s)
-
-    card-place : (s : List ℕ) (ms : Place) (i : ℕ) → q ≤ length s → part ≡ drop q s → placeOf (q + length part) ms ≡ q + i → placeOf (length s) ms ≡ q + i
-    card-place s ms i l e h = ap (λ n. placeOf n ms) (sym (card-long s l e)) ∙ h
-
-    pub group-wrong : (g .stop ≡ 0 → ⊥) → (is : List ℕ) (r : After) → Halted outOfShape (q + g .place) r → Grouping is r
-    group-wrong z is r halted s bracket x l e place marks =
-        read-as s k was is (freeIn state) (lateIn state) r (opened s bracket x marks) (go (one bracket x) (answers q (leftIn state - 1) x bracket))
-      where
-        go : (y : Result Literals) → GroupRead q part (leftIn state - 1) bracket y g → GuardRead s k was is (freeIn state) (lateIn state) (bind y thenAtom) r
-        go (ok a b) h = absurd (z (h .went))
-        go (stop m ms) h = rw (h .number, card-place s ms (g .place) l e (h .place)) halted
-
-    pub group-well : g .stop ≡ 0 → (is : List ℕ) → Judged state (blamed (unless (leb (g .d) k) aboveTop) (q + g .first) (groupedLate (g .want) p (lateIn state))) is
-        → Grouping (set was (freeIn state) (g .node)) (after is (q + g .next))
-    group-well z is judged s bracket x l e place marks =
-        read-as s k was (set was (freeIn state) (g .node)) (freeIn state) (lateIn state) (after is (q + g .next)) (opened s bracket x marks) (go (one bracket x) (answers q (leftIn state - 1) x bracket))
-      where
-        go : (y : Result Literals) → GroupRead q part (leftIn state - 1) bracket y g
-            → GuardRead s k was (set was (freeIn state) (g .node)) (freeIn state) (lateIn state) (bind y thenAtom) (after is (q + g .next))
-        go (ok a b) h = record {
-          went = λ n. h .past (omega arith);
-          rest = sym (part-of-card q s (g .next) l) ∙ ap (λ u. marksAt q u (g .next)) (sym e) ∙ h .rest;
-          free = judged .free;
-          left = judged .left ∙ sym (h .left);
+    read-well : (a : L .Item) (b : State) → (leftIn state ≡ 0 → ⊥) → ReadItem L q (drop q s) (leftIn state - 1) bracket a b g → Read L s k was is (freeIn state) (lateIn state) (atom a) b r
+    read-well a b some h =
+        let kept = laid .well some (h .went) in
+        record {
+          went = λ n. h .past (omega (arith, kept .next));
+          rest = ap (marksAt 0 s) (kept .next) ∙ sym (part-of-card q s (g .next) l) ∙ h .rest;
+          free = kept .judged .free;
+          left = kept .judged .left ∙ sym (h .left);
           late =
-              judged .late
-              ∙ same-late (g .d) k (q + g .first) (placeOf (length s) (h .numeral)) (g .want) (wantOf (a .literals)) p (placeOf (length s) (a .place)) (lateIn state)
-              (sym (card-place s (h .numeral) (g .first) l e (h .first))) (h .want) (sym place ∙ ap (placeOf (length s)) (sym (h .bracket)))
-              ∙ sym (judged-group (length s) k a (g .d) (h .numeral) (lateIn state) (h .states k));
-          nodes = ap (set was (freeIn state)) (h .node) ∙ sym (stored-leaf was (freeIn state) (groupBy (a .sign) (a .literals)));
-          sized = judged .sized;
+              kept .judged .late
+              ∙ ap (λ n. blamed (unless (leb (g .d) k) aboveTop) (q + g .first) (groupedLate (g .want) n (lateIn state))) (sym place ∙ ap (λ e. placeOf e bracket) (sym long))
+              ∙ sym (h .judged k (lateIn state))
+              ∙ ap (λ e. L .judged k e a (lateIn state)) long;
+          nodes = kept .nodes ∙ ap (set was (freeIn state)) (h .node) ∙ sym (stored-leaf was (freeIn state) (L .leaf a));
+          sized = kept .judged .sized;
         }
-        go (stop m ms) h = absurd (omega (arith, z, ap (λ (u : Grouped). u .stop) (h .answer)))
 
--- ---- a unary
-
-not-known : Known "!"
-not-known = record { above = omega arith; alone = refl; same = refl }
-
-open-known : Known "("
-open-known = record { above = omega arith; alone = refl; same = refl }
-
--- what starts with no `!`
-abbrev opening : ℕ → Reader (Formula Literals)
-opening depth = here >>= λ p. sign "(" >> bracketOf depth p
-
-module _ (s : List ℕ) (i depth n : ℕ) where
-  abbrev start : State
-  start = at (marksAt 0 s i) n
-
-  abbrev mark : Step
-  mark = stepAt s i
-
-  unary-other : (mark .mark .kind ≡ kind "!" → ⊥) → unary group depth start ≡ bind (sign "(" start) (λ _. bracketOf depth (marksAt 0 s i))
-  unary-other h = go depth
-    where
-      go : (d : ℕ) → unary group d start ≡ bind (sign "(" start) (λ _. bracketOf d (marksAt 0 s i))
-      go zero = rw (next-no "!" not-known s i n h)
-      go (suc d) = rw (next-no "!" not-known s i n h)
-
-  pub unary-open : mark .mark .kind ≡ kind "(" → unary group depth start ≡ bracketOf depth (marksAt 0 s i) (at (marksAt 0 s (mark .next .at)) n)
-  unary-open h = unary-other (λ z. omega arith) ∙ ap (λ y. bind y (λ _. bracketOf depth (marksAt 0 s i))) (sign-fits "(" open-known s i n h)
-
-  pub unary-unfit : (mark .mark .kind ≡ kind "(" → ⊥) → (mark .mark .kind ≡ kind "!" → ⊥) → unary group depth start ≡ stop outOfShape (marksAt 0 s i)
-  unary-unfit h k = unary-other k ∙ ap (λ y. bind y (λ _. bracketOf depth (marksAt 0 s i))) (sign-unfit "(" open-known s i n h)
-
-  pub unary-deep : mark .mark .kind ≡ kind "!" → depth ≡ 0 → unary group depth start ≡ stop pastLimit (marksAt 0 s i)
-  unary-deep h e = ap (λ d. unary group d start) e ∙ rw (next-yes "!" not-known s i n h)
-
-  unary-deeper : mark .mark .kind ≡ kind "!" → (depth ≡ 0 → ⊥) → unary group depth start ≡ bind (spend (marksAt 0 s i) (marksAt 0 s i) n) (λ _. sign "!" >> (unary group (depth - 1) >>= thenNot))
-  unary-deeper h f = go depth f
-    where
-      go : (d : ℕ) → (d ≡ 0 → ⊥) → unary group d start ≡ bind (spend (marksAt 0 s i) (marksAt 0 s i) n) (λ _. sign "!" >> (unary group (d - 1) >>= thenNot))
-      go zero f = absurd (f refl)
-      go (suc d) f = rw (next-yes "!" not-known s i n h, sub-one (suc d))
-
-  pub unary-full : mark .mark .kind ≡ kind "!" → (depth ≡ 0 → ⊥) → n ≡ 0 → unary group depth start ≡ stop pastLimit (marksAt 0 s i)
-  unary-full h f e = unary-deeper h f ∙ none-left (marksAt 0 s i) (marksAt 0 s i) n (sign "!" >> (unary group (depth - 1) >>= thenNot)) e
-
-  pub unary-not : mark .mark .kind ≡ kind "!" → (depth ≡ 0 → ⊥) → (n ≡ 0 → ⊥) → unary group depth start ≡ bind (unary group (depth - 1) (at (marksAt 0 s (mark .next .at)) (n - 1))) thenNot
-  unary-not h f e =
-      unary-deeper h f ∙ spent (marksAt 0 s i) (marksAt 0 s i) n (sign "!" >> (unary group (depth - 1) >>= thenNot)) e
-      ∙ ap (λ y. bind y (λ _. unary group (depth - 1) >>= thenNot)) (sign-fits "!" not-known s i (n - 1) h)
-
--- ---- a bracket
-
-module _ (s : List ℕ) (q : ℕ) (l : q ≤ length s) where
-  -- what the code lends is the rest of the card
-  pub part-is : take (length s - q) (drop q s) ≡ drop q s
-  part-is = take-all (length s - q) (drop q s) (omega (arith, length-drop q s))
-
-  rest-marks : marksAt q (drop q s) 0 ≡ marksAt 0 s q
-  rest-marks = part-of-card q s 0 l ∙ ap (marksAt 0 s) (add-zero q)
-
-  abbrev word : Step
-  word = stepAt (drop q s) 0
-
-  word-meet : Meet q (drop q s) word (marksAt 0 s q)
-  word-meet = rw (← rest-marks) (meet q (drop q s) 0)
-
-  seat-yes : word .mark .kind ≡ kSeat → seatNext (marksAt 0 s q) ≡ true
-  seat-yes h = seat-next q (drop q s) word (marksAt 0 s q) word-meet ∙ eq-eqb (word .mark .kind) kSeat h
-
-  seat-no : (word .mark .kind ≡ kSeat → ⊥) → seatNext (marksAt 0 s q) ≡ false
-  seat-no h = seat-next q (drop q s) word (marksAt 0 s q) word-meet ∙ ne-eqb (word .mark .kind) kSeat h
-
-  module _ (depth n : ℕ) (p : Place) where
-    bracket-group : word .mark .kind ≡ kSeat → bracketOf depth p (at (marksAt 0 s q) n) ≡ grouped group p (at (marksAt 0 s q) n)
-    bracket-group h = go depth
+    pub item-laid : ((n : ℕ) → ItemRead L q (drop q s) n bracket (L .item bracket (at (marksAt 0 s q) n)) g) → Lays
+    item-laid reads = go (leftIn state) refl
       where
-        go : (d : ℕ) → bracketOf d p (at (marksAt 0 s q) n) ≡ grouped group p (at (marksAt 0 s q) n)
-        go zero = rw (seat-yes h)
-        go (suc d) = rw (seat-yes h)
+        some-left : (leftIn state ≡ 0 → ⊥) → (y : Result (L .Item)) → ItemRead L q (drop q s) (leftIn state - 1) bracket y g → GuardRead L s k was is (freeIn state) (lateIn state) (bind y thenAtom) r
+        some-left some (ok a b) h = read-well a b some h
+        some-left some (stop m ms) h =
+            rw (h .number, ap (λ e. placeOf e ms) (sym long) ∙ h .place)
+            (laid .wrong some (λ z. omega (arith, z, ap (λ (u : Grouped). u .stop) (h .answer))))
 
-    bracket-deep : (word .mark .kind ≡ kSeat → ⊥) → depth ≡ 0 → bracketOf depth p (at (marksAt 0 s q) n) ≡ stop pastLimit p
-    bracket-deep h e = ap (λ d. bracketOf d p (at (marksAt 0 s q) n)) e ∙ rw (seat-no h)
+        go : (n : ℕ) → leftIn state ≡ n → Lays
+        go zero e =
+            read-as L s k was is (freeIn state) (lateIn state) r (none-left bracket (marksAt 0 s q) (leftIn state) (L .item bracket >>= thenAtom) e)
+            (rw place (laid .full e))
+        go (suc m) e =
+            let some : leftIn state ≡ 0 → ⊥ = λ z. omega (arith, e, z) in
+            read-as L s k was is (freeIn state) (lateIn state) r (spent bracket (marksAt 0 s q) (leftIn state) (L .item bracket >>= thenAtom) some)
+            (some-left some (L .item bracket (at (marksAt 0 s q) (leftIn state - 1))) (reads (leftIn state - 1)))
 
-    bracket-inner : (word .mark .kind ≡ kSeat → ⊥) → (depth ≡ 0 → ⊥) → bracketOf depth p (at (marksAt 0 s q) n) ≡ bind (expression (unary group (depth - 1)) (at (marksAt 0 s q) n)) thenClose
-    bracket-inner h f = go depth f
+  -- ---- a unary
+
+  module _ (s : List ℕ) (i depth n : ℕ) where
+    abbrev start : State
+    start = at (marksAt 0 s i) n
+
+    abbrev mark : Step
+    mark = stepAt s i
+
+    unary-other : (mark .mark .kind ≡ kind "!" → ⊥) → unaryIn L depth start ≡ bind (sign "(" start) (λ _. bracketOf L depth (marksAt 0 s i))
+    unary-other h = go depth
       where
-        go : (d : ℕ) → (d ≡ 0 → ⊥) → bracketOf d p (at (marksAt 0 s q) n) ≡ bind (expression (unary group (d - 1)) (at (marksAt 0 s q) n)) thenClose
+        go : (d : ℕ) → unaryIn L d start ≡ bind (sign "(" start) (λ _. bracketOf L d (marksAt 0 s i))
+        go zero = rw (next-no "!" not-known s i n h)
+        go (suc d) = rw (next-no "!" not-known s i n h)
+
+    pub unary-open : mark .mark .kind ≡ kind "(" → unaryIn L depth start ≡ bracketOf L depth (marksAt 0 s i) (at (marksAt 0 s (mark .next .at)) n)
+    unary-open h = unary-other (λ z. omega arith) ∙ ap (λ y. bind y (λ _. bracketOf L depth (marksAt 0 s i))) (sign-fits "(" open-known s i n h)
+
+    pub unary-unfit : (mark .mark .kind ≡ kind "(" → ⊥) → (mark .mark .kind ≡ kind "!" → ⊥) → unaryIn L depth start ≡ stop outOfShape (marksAt 0 s i)
+    unary-unfit h k = unary-other k ∙ ap (λ y. bind y (λ _. bracketOf L depth (marksAt 0 s i))) (sign-unfit "(" open-known s i n h)
+
+    pub unary-deep : mark .mark .kind ≡ kind "!" → depth ≡ 0 → unaryIn L depth start ≡ stop pastLimit (marksAt 0 s i)
+    unary-deep h e = ap (λ d. unaryIn L d start) e ∙ rw (next-yes "!" not-known s i n h)
+
+    unary-deeper : mark .mark .kind ≡ kind "!" → (depth ≡ 0 → ⊥) → unaryIn L depth start ≡ bind (spend (marksAt 0 s i) (marksAt 0 s i) n) (λ _. sign "!" >> (unaryIn L (depth - 1) >>= thenNot))
+    unary-deeper h f = go depth f
+      where
+        go : (d : ℕ) → (d ≡ 0 → ⊥) → unaryIn L d start ≡ bind (spend (marksAt 0 s i) (marksAt 0 s i) n) (λ _. sign "!" >> (unaryIn L (d - 1) >>= thenNot))
         go zero f = absurd (f refl)
-        go (suc d) f = rw (seat-no h, sub-one (suc d))
+        go (suc d) f = rw (next-yes "!" not-known s i n h, sub-one (suc d))
 
-module _ (s : List ℕ) (q p left depth k : ℕ) (l : q ≤ length s) (was is : List ℕ) (used : ℕ) (before : Late) (part : List ℕ) (same : part ≡ drop q s) (w : Step) (step : w ≡ stepAt part 0) where
-  abbrev Brackets : After → Type 0
-  Brackets r = Bracketed s q p left depth k was is used before r
+    pub unary-full : mark .mark .kind ≡ kind "!" → (depth ≡ 0 → ⊥) → n ≡ 0 → unaryIn L depth start ≡ stop pastLimit (marksAt 0 s i)
+    unary-full h f e = unary-deeper h f ∙ none-left (marksAt 0 s i) (marksAt 0 s i) n (sign "!" >> (unaryIn L (depth - 1) >>= thenNot)) e
 
-  step-there : w ≡ stepAt (drop q s) 0
-  step-there = step ∙ ap (λ u. stepAt u 0) same
+    pub unary-not : mark .mark .kind ≡ kind "!" → (depth ≡ 0 → ⊥) → (n ≡ 0 → ⊥) → unaryIn L depth start ≡ bind (unaryIn L (depth - 1) (at (marksAt 0 s (mark .next .at)) (n - 1))) thenNot
+    unary-not h f e =
+        unary-deeper h f ∙ spent (marksAt 0 s i) (marksAt 0 s i) n (sign "!" >> (unaryIn L (depth - 1) >>= thenNot)) e
+        ∙ ap (λ y. bind y (λ _. unaryIn L (depth - 1) >>= thenNot)) (sign-fits "!" not-known s i (n - 1) h)
 
-  kind-there : (v : ℕ) → w .mark .kind ≡ v → stepAt (drop q s) 0 .mark .kind ≡ v
-  kind-there v h = ap (λ (u : Step). u .mark .kind) (sym step-there) ∙ h
+  -- ---- a bracket
 
-  pub bracket-groups : (r : After) → w .mark .kind ≡ kSeat → GroupedAt part (w .next .at) (w .mark .value) q p left k was is used before r → Brackets r
-  bracket-groups r h g bracket e =
-      read-as s k was is used before r (bracket-group s q l depth left bracket (kind-there kSeat h))
-      (g s bracket (q + w .mark .place) l same e
-      (rw (step-there, same) (seat-marks q (drop q s) (stepAt (drop q s) 0) (marksAt 0 s q) (word-meet s q l) (kind-there kSeat h))))
+  module _ (s : List ℕ) (q n : ℕ) (p : Place) where
+    abbrev behind : State
+    behind = at (marksAt 0 s q) n
 
-  module _ (h : w .mark .kind ≡ kSeat → ⊥) where
-    other : stepAt (drop q s) 0 .mark .kind ≡ kSeat → ⊥
-    other z = h (ap (λ (u : Step). u .mark .kind) step-there ∙ z)
+    bracket-item : (depth : ℕ) → L .starts (marksAt 0 s q) ≡ true → bracketOf L depth p behind ≡ grouped (L .item) p behind
+    bracket-item zero h = rw h
+    bracket-item (suc d) h = rw h
 
-    pub bracket-stops : depth ≡ 0 → (r : After) → Halted pastLimit p r → Brackets r
-    bracket-stops e r halted bracket f = read-as s k was is used before r (bracket-deep s q l depth left bracket other e) (rw f halted)
+    bracket-deep : (depth : ℕ) → L .starts (marksAt 0 s q) ≡ false → depth ≡ 0 → bracketOf L depth p behind ≡ stop pastLimit p
+    bracket-deep zero h e = rw h
+    bracket-deep (suc d) h e = absurd (omega (arith, e))
 
-    pub bracket-closes : (depth ≡ 0 → ⊥) → (g r : After) → GuardRead s k was is used before (expression (unary group (depth - 1)) (at (marksAt 0 s q) left)) g
-        → ((top : ℕ) (nodes : List ℕ) → Onward s top nodes nodes g thenClose r) → Brackets r
-    bracket-closes e g r d onward bracket f =
-        read-as s k was is used before r (bracket-inner s q l depth left bracket other e)
-        (onward k is was used before (expression (unary group (depth - 1)) (at (marksAt 0 s q) left)) d)
+    bracket-inner : (depth : ℕ) → L .starts (marksAt 0 s q) ≡ false → (depth ≡ 0 → ⊥) → bracketOf L depth p behind ≡ bind (expression (unaryIn L (depth - 1)) behind) thenClose
+    bracket-inner zero h f = absurd (f refl)
+    bracket-inner (suc d) h f = rw (h, sub-one (suc d))
 
--- ---- a unary, as the code has it
+  item-some : (o : ℕ) (s : List ℕ) (n : ℕ) (p : Place) (y : Result (L .Item)) (g : Grouped) → ItemRead L o s n p y g → g .stop ≡ noItem → ⊥
+  item-some o s n p (ok a b) g h e = omega (arith, h .went, e)
+  item-some o s n p (stop m ms) g h e = omega (arith, e, ap (λ (u : Grouped). u .stop) (h .answer))
 
-module _ (s : List ℕ) (i left depth k : ℕ) (was is : List ℕ) (used : ℕ) (before : Late) (a : Step) (step : a ≡ stepAt s i) where
-  abbrev Reads : After → Type 0
-  Reads r = GuardRead s k was is used before (unary group depth (at (marksAt 0 s i) left)) r
+  -- what the code found behind a bracket, in the part that it lent
+  module _ (s : List ℕ) (q : ℕ) (l : q ≤ length s) (g : Grouped) (found : ItemAt L (drop q s) g) where
+    rest-marks : marksAt q (drop q s) 0 ≡ marksAt 0 s q
+    rest-marks = part-of-card q s 0 l ∙ ap (marksAt 0 s) (add-zero q)
 
-  kind-here : (v : ℕ) → a .mark .kind ≡ v → stepAt s i .mark .kind ≡ v
-  kind-here v h = ap (λ (u : Step). u .mark .kind) (sym step) ∙ h
+    starts-as : L .starts (marksAt q (drop q s) 0) ≡ L .starts (marksAt 0 s q)
+    starts-as = ap (L .starts) rest-marks
 
-  unkind-here : (v : ℕ) → (a .mark .kind ≡ v → ⊥) → stepAt s i .mark .kind ≡ v → ⊥
-  unkind-here v h z = h (ap (λ (u : Step). u .mark .kind) step ∙ z)
+    if-starts : (b : Bool) → L .starts (marksAt 0 s q) ≡ b → (n : ℕ) (p : Place) → ItemIf L q (drop q s) n p b g
+    if-starts b e n p = go (L .starts (marksAt q (drop q s) 0)) (starts-as ∙ e) (found .read q n p)
+      where
+        go : (a : Bool) → a ≡ b → ItemIf L q (drop q s) n p a g → ItemIf L q (drop q s) n p b g
+        go a e h = rw e at h
 
-  place-there : placeOf (length s) (marksAt 0 s i) ≡ a .mark .place
-  place-there = place-here s i ∙ ap (λ (u : Step). u .mark .place) (sym step)
+    item-starts : (g .stop ≡ noItem → ⊥) → L .starts (marksAt 0 s q) ≡ true
+    item-starts h = go (L .starts (marksAt 0 s q)) (λ b e. if-starts b e 0 (marksAt 0 s q))
+      where
+        go : (b : Bool) → ((c : Bool) → b ≡ c → ItemIf L q (drop q s) 0 (marksAt 0 s q) c g) → b ≡ true
+        go true f = refl
+        go false f = absurd (h (f false refl))
 
-  stops : (m : ℕ) (r : After) → unary group depth (at (marksAt 0 s i) left) ≡ stop m (marksAt 0 s i) → Halted m (a .mark .place) r → Reads r
-  stops m r e halted = read-as s k was is used before r e (rw place-there halted)
+    item-none : g .stop ≡ noItem → L .starts (marksAt 0 s q) ≡ false
+    item-none h = go (L .starts (marksAt 0 s q)) (λ b e. if-starts b e 0 (marksAt 0 s q))
+      where
+        go : (b : Bool) → ((c : Bool) → b ≡ c → ItemIf L q (drop q s) 0 (marksAt 0 s q) c g) → b ≡ false
+        go true f = absurd (item-some q (drop q s) 0 (marksAt 0 s q) (L .item (marksAt 0 s q) (at (marksAt q (drop q s) 0) 0)) g (f true refl) h)
+        go false f = refl
 
-  pub reads-bracket : a .mark .kind ≡ kind "(" → (r : After) → Bracketed s (a .next .at) (a .mark .place) left depth k was is used before r → Reads r
-  reads-bracket h r b =
-      read-as s k was is used before r
-      (unary-open s i depth left (kind-here (kind "(") h) ∙ ap (λ (u : Step). bracketOf depth (marksAt 0 s i) (at (marksAt 0 s (u .next .at)) left)) (sym step))
-      (b (marksAt 0 s i) place-there)
+    item-reads : (g .stop ≡ noItem → ⊥) → (p : Place) (n : ℕ) → ItemRead L q (drop q s) n p (L .item p (at (marksAt 0 s q) n)) g
+    item-reads h p n = rw (← rest-marks) (if-starts true (item-starts h) n p)
 
-  pub reads-unfit : (a .mark .kind ≡ kind "(" → ⊥) → (a .mark .kind ≡ kind "!" → ⊥) → (r : After) → Halted outOfShape (a .mark .place) r → Reads r
-  reads-unfit h e r halted = stops outOfShape r (unary-unfit s i depth left (unkind-here (kind "(") h) (unkind-here (kind "!") e)) halted
+  module _ (s : List ℕ) (q p depth k : ℕ) (l : q ≤ length s) (was is state part : List ℕ) (same : part ≡ drop q s) (g : Grouped) (item : ItemAt L part g) where
+    abbrev Brackets : After → Type 0
+    Brackets r = Bracketed L s q p (leftIn state) depth k was is (freeIn state) (lateIn state) r
 
-  module _ (h : a .mark .kind ≡ kind "!") where
-    pub reads-deep : depth ≡ 0 → (r : After) → Halted pastLimit (a .mark .place) r → Reads r
-    reads-deep e r halted = stops pastLimit r (unary-deep s i depth left (kind-here (kind "!") h) e) halted
+    found : ItemAt L (drop q s) g
+    found = rw same at item
 
-    pub reads-full : (depth ≡ 0 → ⊥) → left ≡ 0 → (r : After) → Halted pastLimit (a .mark .place) r → Reads r
-    reads-full f e r halted = stops pastLimit r (unary-full s i depth left (kind-here (kind "!") h) f e) halted
+    pub bracket-items : (g .stop ≡ noItem → ⊥) → (r : After) → LaidAt g q p k was is state r → Brackets r
+    bracket-items h r laid bracket e =
+        read-as L s k was is (freeIn state) (lateIn state) r (bracket-item s q (leftIn state) bracket depth (item-starts s q l g found h))
+        (item-laid s q p k l was is state g r laid bracket e (item-reads s q l g found h bracket))
 
-    pub reads-not : (depth ≡ 0 → ⊥) → (left ≡ 0 → ⊥) → (mid : List ℕ) (g r : After)
-        → GuardRead s k was mid used before (unary group (depth - 1) (at (marksAt 0 s (a .next .at)) (left - 1))) g
-        → ((t : List ℕ) (top : ℕ) → Onward t top mid is g thenNot r) → Reads r
-    reads-not f e mid g r d onward =
-        read-as s k was is used before r
-        (unary-not s i depth left (kind-here (kind "!") h) f e ∙ ap (λ (u : Step). bind (unary group (depth - 1) (at (marksAt 0 s (u .next .at)) (left - 1))) thenNot) (sym step))
-        (onward s k was used before (unary group (depth - 1) (at (marksAt 0 s (a .next .at)) (left - 1))) d)
+    module _ (h : g .stop ≡ noItem) where
+      none : L .starts (marksAt 0 s q) ≡ false
+      none = item-none s q l g found h
+
+      pub bracket-stops : depth ≡ 0 → (r : After) → Halted pastLimit p r → Brackets r
+      bracket-stops e r halted bracket f =
+          read-as L s k was is (freeIn state) (lateIn state) r (bracket-deep s q (leftIn state) bracket depth none e) (rw f halted)
+
+      pub bracket-closes : (depth ≡ 0 → ⊥) → (b r : After)
+          → GuardRead L s k was is (freeIn state) (lateIn state) (expression (unaryIn L (depth - 1)) (at (marksAt 0 s q) (leftIn state))) b
+          → ((top : ℕ) (nodes : List ℕ) → Onward L s top nodes nodes b thenClose r) → Brackets r
+      bracket-closes e b r d onward bracket f =
+          read-as L s k was is (freeIn state) (lateIn state) r (bracket-inner s q (leftIn state) bracket depth none e)
+          (onward k is was (freeIn state) (lateIn state) (expression (unaryIn L (depth - 1)) (at (marksAt 0 s q) (leftIn state))) d)
+
+  -- ---- a unary, as the code has it
+
+  module _ (s : List ℕ) (i left depth k : ℕ) (was is : List ℕ) (used : ℕ) (before : Late) (a : Step) (step : a ≡ stepAt s i) where
+    abbrev Reads : After → Type 0
+    Reads r = GuardRead L s k was is used before (unaryIn L depth (at (marksAt 0 s i) left)) r
+
+    kind-here : (v : ℕ) → a .mark .kind ≡ v → stepAt s i .mark .kind ≡ v
+    kind-here v h = ap (λ (u : Step). u .mark .kind) (sym step) ∙ h
+
+    unkind-here : (v : ℕ) → (a .mark .kind ≡ v → ⊥) → stepAt s i .mark .kind ≡ v → ⊥
+    unkind-here v h z = h (ap (λ (u : Step). u .mark .kind) step ∙ z)
+
+    place-there : placeOf (length s) (marksAt 0 s i) ≡ a .mark .place
+    place-there = place-here s i ∙ ap (λ (u : Step). u .mark .place) (sym step)
+
+    stops : (m : ℕ) (r : After) → unaryIn L depth (at (marksAt 0 s i) left) ≡ stop m (marksAt 0 s i) → Halted m (a .mark .place) r → Reads r
+    stops m r e halted = read-as L s k was is used before r e (rw place-there halted)
+
+    pub reads-bracket : a .mark .kind ≡ kind "(" → (r : After) → Bracketed L s (a .next .at) (a .mark .place) left depth k was is used before r → Reads r
+    reads-bracket h r b =
+        read-as L s k was is used before r
+        (unary-open s i depth left (kind-here (kind "(") h) ∙ ap (λ (u : Step). bracketOf L depth (marksAt 0 s i) (at (marksAt 0 s (u .next .at)) left)) (sym step))
+        (b (marksAt 0 s i) place-there)
+
+    pub reads-unfit : (a .mark .kind ≡ kind "(" → ⊥) → (a .mark .kind ≡ kind "!" → ⊥) → (r : After) → Halted outOfShape (a .mark .place) r → Reads r
+    reads-unfit h e r halted = stops outOfShape r (unary-unfit s i depth left (unkind-here (kind "(") h) (unkind-here (kind "!") e)) halted
+
+    module _ (h : a .mark .kind ≡ kind "!") where
+      pub reads-deep : depth ≡ 0 → (r : After) → Halted pastLimit (a .mark .place) r → Reads r
+      reads-deep e r halted = stops pastLimit r (unary-deep s i depth left (kind-here (kind "!") h) e) halted
+
+      pub reads-full : (depth ≡ 0 → ⊥) → left ≡ 0 → (r : After) → Halted pastLimit (a .mark .place) r → Reads r
+      reads-full f e r halted = stops pastLimit r (unary-full s i depth left (kind-here (kind "!") h) f e) halted
+
+      pub reads-not : (depth ≡ 0 → ⊥) → (left ≡ 0 → ⊥) → (mid : List ℕ) (g r : After)
+          → GuardRead L s k was mid used before (unaryIn L (depth - 1) (at (marksAt 0 s (a .next .at)) (left - 1))) g
+          → ((t : List ℕ) (top : ℕ) → Onward L t top mid is g thenNot r) → Reads r
+      reads-not f e mid g r d onward =
+          read-as L s k was is used before r
+          (unary-not s i depth left (kind-here (kind "!") h) f e ∙ ap (λ (u : Step). bind (unaryIn L (depth - 1) (at (marksAt 0 s (u .next .at)) (left - 1))) thenNot) (sym step))
+          (onward s k was used before (unaryIn L (depth - 1) (at (marksAt 0 s (a .next .at)) (left - 1))) d)
 
 -- ---- what the code's calls ask
 
 pub step-within : (s : List ℕ) (i : ℕ) (a : Step) → a ≡ stepAt s i → a .next .at ≤ length s
 step-within s i a e = rw e (next-within 0 s (stepAt s i) (marksAt 0 s i) (meet 0 s i))
 
-pub part-long : (s : List ℕ) (q : ℕ) → q ≤ length s → q + length (take (length s - q) (drop q s)) ≡ length s
-part-long s q l = rw (part-is s q l) (omega (arith, length-drop q s))
+module _ (s : List ℕ) (q : ℕ) (l : q ≤ length s) where
+  -- what the code lends is the rest of the card
+  pub part-is : take (length s - q) (drop q s) ≡ drop q s
+  part-is = take-all (length s - q) (drop q s) (omega (arith, length-drop q s))
+
+  -- so that none of the answer's places goes past it
+  pub part-placed : (m : ℕ) → length s < m → (g : Grouped) → Inside (take (length s - q) (drop q s)) g → (q + g .place < m) × (q + g .next < m) × (q + g .first < m)
+  part-placed m h g i = let e = ap length part-is ∙ length-drop q s in (omega (arith, e, i .place), omega (arith, e, i .next), omega (arith, e, i .first))

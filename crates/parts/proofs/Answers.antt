@@ -15,7 +15,7 @@ use Rattle.marks.specs.Step.{marksAt}
 use Rattle.marks.specs.declared.Found.{Found}
 use Rattle.marks.specs.declared.Step.{Step}
 use Rattle.reading.specs.Reader.{Place, State, at, Result, ok, stop, Reader, bind, return, the, ifNext}
-use Rattle.group.specs.State.{After, after, Halted}
+use Rattle.late.specs.State.{After, after, Halted}
 use Rattle.parts.specs.Parts.{from, Read, Answers, Told}
 use Rattle.parts.proofs.Steps.{Next, place-seen, next-seen, Shown, seen}
 

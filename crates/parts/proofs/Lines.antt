@@ -23,9 +23,9 @@ use Rattle.marks.specs.declared.Step.{Step}
 use Rattle.reading.specs.Reader.{Place, State, at, Result, ok, stop, Reader, bind, return, the, is, given, sign as readSign, seatOf, processOf, numberOf, Numbered, numbered, keep, line}
 use Rattle.reading.specs.Judgements.{Judgement, word}
 use Rattle.reading.specs.Checks.{judgedState, judgedWords}
-use Rattle.group.specs.Late.{Late, blame, judgeAll}
-use Rattle.group.specs.State.{atValue, Sized, lateIn, valueIn, withLate, After, after, Halted}
-use Rattle.group.proofs.StateLaws.{late-sized, set-sized, value-set, late-set}
+use Rattle.late.specs.Late.{Late, blame, judgeAll}
+use Rattle.late.specs.State.{atValue, Sized, lateIn, valueIn, withLate, After, after, Halted}
+use Rattle.late.proofs.StateLaws.{late-sized, set-sized, value-set, late-set}
 use Rattle.parts.specs.Parts.{from, Read, Answers, Went, stateBy, wordBy, SignFrom, NumberFrom, RunFrom, Told, Due, sign, seat, process, itemsIn, duesIn, kindsIn, numbersIn, Sure, LineRead}
 use Rattle.parts.proofs.Steps.{Next, end, one, place-seen, behind, Shown, seen, valueBy, signBy, sign-shown, seat-shown, process-shown, number-shown}
 use Rattle.parts.proofs.Answers.{made, fits, misses}

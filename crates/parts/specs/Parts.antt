@@ -13,8 +13,8 @@ use Rattle.marks.specs.Step.{marksAt}
 use Rattle.reading.specs.Reader.{State, at, Result, ok, stop, is, sign as readSign, numberOf, Numbered, numbered, Item, exactly, seatWord, processWord, line}
 use Rattle.reading.specs.Judgements.{Judgement, unless}
 use Rattle.reading.specs.Checks.{judgedState, judgedWords}
-use Rattle.group.specs.Late.{Late, blamed, judgeAll}
-use Rattle.group.specs.State.{Sized, lateIn, valueIn, After, Halted}
+use Rattle.late.specs.Late.{Late, blamed, judgeAll}
+use Rattle.late.specs.State.{Sized, lateIn, valueIn, After, Halted}
 
 -- the state of a reader at place i of the card s
 abbrev pub from : List ℕ → ℕ → ℕ → State

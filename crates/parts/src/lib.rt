@@ -2,11 +2,11 @@
 // back the place behind what it read, or 0 where it stopped.
 use card::refusals::NOT_DUE;
 use card::refusals::OUT_OF_SHAPE;
-use group::late::blame;
-use group::late::judge_state;
-use group::late::stop;
-use group::state::STATE;
-use group::state::VALUE;
+use late::blame;
+use late::judge_state;
+use late::state::STATE;
+use late::state::VALUE;
+use late::stop;
 use looks::due::step_kind;
 use looks::due::step_number;
 use looks::due::step_sign;
@@ -14,7 +14,7 @@ use marks::kinds::NUMBER;
 ghost use mathlib.Core.Path.{_≡_};
 ghost use Prim.Native.Nat.{_≤_, _<_};
 ghost use lib.ListN.{length};
-ghost use Rattle.group.specs.State.{Sized, lateIn, withLate, after};
+ghost use Rattle.late.specs.State.{Sized, lateIn, withLate, after};
 ghost use Rattle.parts.specs.Parts.{wordBy, NumberFrom, SignFrom, RunFrom};
 
 // A word whose number is not the one due is a late refusal.

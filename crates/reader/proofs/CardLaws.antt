@@ -27,10 +27,10 @@ use Rattle.reading.proofs.Fair.{FairCard, card-fair}
 use Rattle.reading.proofs.Numbers.{read-number}
 use Rattle.reading.proofs.Shaping.{read-shape as shape-of}
 use Rattle.reading.proofs.Valid.{read-valid}
-use Rattle.group.specs.Late.{noneYet, judgeAll}
-use Rattle.group.specs.Settled.{Refusal, settled, verdict}
-use Rattle.group.specs.State.{atStop, atStopPlace, atMode, atTop, atStart, lateIn, refusalIn, valueIn, after}
-use Rattle.group.proofs.Settling.{judge-append, settled-first}
+use Rattle.late.specs.Late.{noneYet, judgeAll}
+use Rattle.late.specs.Settled.{Refusal, settled, verdict}
+use Rattle.late.specs.State.{atStop, atStopPlace, atMode, atTop, atStart, lateIn, refusalIn, valueIn, after}
+use Rattle.late.proofs.Settling.{judge-append, settled-first}
 use Rattle.parts.specs.Parts.{from, Read, Answers}
 use Rattle.frame.specs.Frame.{HeaderShape, header, HeaderFrom, modules, ModulesFrom}
 use Rattle.reader.specs.declared.Due.{Due}

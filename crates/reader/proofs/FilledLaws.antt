@@ -22,8 +22,8 @@ use Rattle.reading.specs.Group.{Literals}
 use Rattle.reading.specs.Judgements.{Judgement, sum, fine, firstBroken, unitsIn}
 use Rattle.reading.specs.Shape.{BranchShape, StatementShape, CardShape}
 use Rattle.reading.specs.Checks.{judgedState, judgedWords, judgedOr, weightIn, judgedBranch, judgedEach, judgedStatement, judgedModules, judgedCard, branchIn, guardOr, statementIn, seatsIn, cardIn}
-use Rattle.group.specs.Late.{guardBy}
-use Rattle.group.proofs.Settling.{fine-cons, fine-append, same-guard}
+use Rattle.late.specs.Late.{guardBy}
+use Rattle.late.proofs.Settling.{fine-cons, fine-append, same-guard}
 use Rattle.branches.specs.Branches.{packedIn}
 use Rattle.statements.specs.Statements.{guardOrBy, rowBy, withStatement, filled}
 

@@ -17,8 +17,8 @@ use Rattle.card.specs.Card.{Formula, and, or, any, all}
 use Rattle.card.specs.Weight.{Weight, whole, decimal as point, ratio}
 use Rattle.marks.specs.Marks.{Mark, text, seat, process, number, decimal, outside, Placed, placed}
 use Rattle.reading.specs.Reader.{Place, State, at, Result, ok, stop, Reader, bind, return, refuse, refuseAt, took, first, the, is, given, nextIs, ifNext, sign, seatOf, processOf, numberOf, here, numbered, spend, node, nodeAt, Item, exactly, seatWord, processWord, line}
-use Rattle.reading.specs.Guard.{seatNext, ifSeat, Read, chain, conjunction, expression, grouped, unary}
-use Rattle.reading.specs.Group.{joint, relationOf, literal, others, group}
+use Rattle.reading.specs.Guard.{seatNext, Read, chain, conjunction, expression, grouped, unaryBy, unary}
+use Rattle.reading.specs.Group.{joint, relationOf, literal, joined, others, group}
 use Rattle.reading.specs.Shape.{many, weightOf, over, weight, branch, nextBranch, pastBranches, moreBranches, guard, mayHave, statement, moreStatements, copy, moreModules, modeOf, zeroOf, top, ended, theEnd, body, card}
 use Rattle.reading.specs.Reading.{isOutside}
 use Rattle.reading.specs.Grammar.{cardRun, statementRun, branchRun, moduleRun}
@@ -34,7 +34,7 @@ module _ (P : Place → Type 0) (pass : (m : Mark) (q : ℕ) (ms : Place) → is
   -- ---- how readers are put together
 
   module _ {A B : Type 0} where
-    andThen : (x : Result A) (f : A → Reader B) → Held x → ((a : A) → Safe (f a)) → Held (bind x f)
+    pub andThen : (x : Result A) (f : A → Reader B) → Held x → ((a : A) → Safe (f a)) → Held (bind x f)
     andThen (ok a s) f h k = k a s h
     andThen (stop n p) f h k = h
 
@@ -57,13 +57,13 @@ module _ (P : Place → Type 0) (pass : (m : Mark) (q : ℕ) (ms : Place) → is
   theP : {A : Type 0} (f : Mark → Option A) → f outside ≡ none → Safe (the f)
   theP f e s h = first-held f e (s .marks) (s .nodes) h
 
-  signP : (t : String) → Safe (sign t)
+  pub signP : (t : String) → Safe (sign t)
   signP t = theP (λ m. given (is t m)) refl
 
   numberedP : (f : Mark → Option ℕ) → f outside ≡ none → Safe (numbered f)
   numberedP f e s h = andThen (the f s) _ (theP f e s h) λ v s₁ h₁. h₁
 
-  choice : {A : Type 0} (b : Bool) (p q : Reader A) → Safe p → Safe q → Safe (if b then p else q)
+  pub choice : {A : Type 0} (b : Bool) (p q : Reader A) → Safe p → Safe q → Safe (if b then p else q)
   choice true p q x y = x
   choice false p q x y = y
 
@@ -90,7 +90,7 @@ module _ (P : Place → Type 0) (pass : (m : Mark) (q : ℕ) (ms : Place) → is
 
   -- ---- groups and guards
 
-  literalP : Safe literal
+  pub literalP : Safe literal
   literalP s h =
       andThen (the seatOf s) _ (theP seatOf refl s h) λ i s₁ h₁.
       andThen (the relationOf s₁) _ (theP relationOf refl s₁ h₁) λ q s₂ h₂.
@@ -99,21 +99,22 @@ module _ (P : Place → Type 0) (pass : (m : Mark) (q : ℕ) (ms : Place) → is
   closeP : {A : Type 0} (a : A) → Safe (λ s. bind (sign ")" s) (λ u. return a))
   closeP a s h = andThen (sign ")" s) _ (signP ")" s h) λ u s₁ h₁. h₁
 
-  othersP : (t : String) (most : ℕ) → Safe (others t most)
-  othersP t zero s h = choice (nextIs t (s .marks)) _ _ (λ s₁ h₁. limitP (s₁ .marks) h₁) (closeP []) s h
-  othersP t (suc most) s h =
+  -- things of one kind, each behind the sign, up to the closing bracket
+  pub joinedP : {A : Type 0} (one : Reader A) → Safe one → (t : String) (most : ℕ) → Safe (joined one t most)
+  joinedP one x t zero s h = choice (nextIs t (s .marks)) _ _ (λ s₁ h₁. limitP (s₁ .marks) h₁) (closeP []) s h
+  joinedP one x t (suc most) s h =
       choice (nextIs t (s .marks)) _ _
       (λ s₁ h₁.
       andThen (sign t s₁) _ (signP t s₁ h₁) λ u s₂ h₂.
-      andThen (literal s₂) _ (literalP s₂ h₂) λ l s₃ h₃.
-      andThen (others t most s₃) _ (othersP t most s₃ h₃) λ ls s₄ h₄. h₄)
+      andThen (one s₂) _ (x s₂ h₂) λ l s₃ h₃.
+      andThen (joined one t most s₃) _ (joinedP one x t most s₃ h₃) λ ls s₄ h₄. h₄)
       (closeP []) s h
 
-  groupP : (p : Place) → Safe (group p)
+  pub groupP : (p : Place) → Safe (group p)
   groupP p s h =
       andThen (literal s) _ (literalP s h) λ l s₁ h₁.
       andThen (ifNext (joint any) (return any) (return all) s₁) _ (choice (nextIs (joint any) (s₁ .marks)) _ _ (λ s₂ h₂. h₂) (λ s₂ h₂. h₂) s₁ h₁) λ j s₂ h₂.
-      andThen (others (joint j) (length (s₁ .marks)) s₂) _ (othersP (joint j) (length (s₁ .marks)) s₂ h₂) λ ls s₃ h₃. h₃
+      andThen (others (joint j) (length (s₁ .marks)) s₂) _ (joinedP literal literalP (joint j) (length (s₁ .marks)) s₂ h₂) λ ls s₃ h₃. h₃
 
   module _ {A : Type 0} where
     module _ (t : String) (join : Formula A → Formula A → Formula A) (operand : Read A) (x : Safe operand) where
@@ -130,31 +131,33 @@ module _ (P : Place → Type 0) (pass : (m : Mark) (q : ℕ) (ms : Place) → is
     conjunctionP : (p : Read A) → Safe p → Safe (conjunction p)
     conjunctionP p x s h = andThen (p s) _ (x s h) λ g. chainP "&" and p x mostNodes g
 
-    expressionP : (p : Read A) → Safe p → Safe (expression p)
+    pub expressionP : (p : Read A) → Safe p → Safe (expression p)
     expressionP p x s h = andThen (conjunction p s) _ (conjunctionP p x s h) λ g. chainP "|" or (conjunction p) (conjunctionP p x) mostNodes g
 
-  groupedP : (p : Place) → P p → Safe (grouped group p)
-  groupedP p g s h =
-      andThen (nodeAt p s) _ (spend-held p (s .marks) (s .nodes) g h) λ u s₁ h₁.
-      andThen (group p s₁) _ (groupP p s₁ h₁) λ a s₂ h₂. h₂
+  -- over any items that a bracket may start
+  module _ {A : Type 0} (starts : Place → Bool) (item : Place → Reader A) (x : (p : Place) → Safe (item p)) where
+    groupedP : (p : Place) → P p → Safe (grouped item p)
+    groupedP p g s h =
+        andThen (nodeAt p s) _ (spend-held p (s .marks) (s .nodes) g h) λ u s₁ h₁.
+        andThen (item p s₁) _ (x p s₁ h₁) λ a s₂ h₂. h₂
 
-  unaryP : (depth : ℕ) → Safe (unary group depth)
-  unaryP zero s h =
-      choice (nextIs "!" (s .marks)) _ _ (λ s₁ h₁. limitP (s₁ .marks) h₁)
-      (λ s₁ h₁. andThen (sign "(" s₁) _ (signP "(" s₁ h₁) λ u s₂ h₂.
-      choice (seatNext (s₂ .marks)) _ _ (groupedP (s₁ .marks) h₁) (λ s₃ h₃. limitP (s₁ .marks) h₁) s₂ h₂) s h
-  unaryP (suc depth) s h =
-      choice (nextIs "!" (s .marks)) _ _
-      (λ s₁ h₁.
-      andThen (node s₁) _ (nodeP s₁ h₁) λ u s₂ h₂.
-      andThen (sign "!" s₂) _ (signP "!" s₂ h₂) λ w s₃ h₃.
-      andThen (unary group depth s₃) _ (unaryP depth s₃ h₃) λ g s₄ h₄. h₄)
-      (λ s₁ h₁. andThen (sign "(" s₁) _ (signP "(" s₁ h₁) λ u s₂ h₂.
-      choice (seatNext (s₂ .marks)) _ _ (groupedP (s₁ .marks) h₁)
-      (λ s₃ h₃. andThen (expression (unary group depth) s₃) _ (expressionP (unary group depth) (unaryP depth) s₃ h₃) λ g. closeP g) s₂ h₂) s h
+    pub unaryP : (depth : ℕ) → Safe (unaryBy starts item depth)
+    unaryP zero s h =
+        choice (nextIs "!" (s .marks)) _ _ (λ s₁ h₁. limitP (s₁ .marks) h₁)
+        (λ s₁ h₁. andThen (sign "(" s₁) _ (signP "(" s₁ h₁) λ u s₂ h₂.
+        choice (starts (s₂ .marks)) _ _ (groupedP (s₁ .marks) h₁) (λ s₃ h₃. limitP (s₁ .marks) h₁) s₂ h₂) s h
+    unaryP (suc depth) s h =
+        choice (nextIs "!" (s .marks)) _ _
+        (λ s₁ h₁.
+        andThen (node s₁) _ (nodeP s₁ h₁) λ u s₂ h₂.
+        andThen (sign "!" s₂) _ (signP "!" s₂ h₂) λ w s₃ h₃.
+        andThen (unaryBy starts item depth s₃) _ (unaryP depth s₃ h₃) λ g s₄ h₄. h₄)
+        (λ s₁ h₁. andThen (sign "(" s₁) _ (signP "(" s₁ h₁) λ u s₂ h₂.
+        choice (starts (s₂ .marks)) _ _ (groupedP (s₁ .marks) h₁)
+        (λ s₃ h₃. andThen (expression (unaryBy starts item depth) s₃) _ (expressionP (unaryBy starts item depth) (unaryP depth) s₃ h₃) λ g. closeP g) s₂ h₂) s h
 
   pub guardP : Safe (conjunction (unary group mostDepth))
-  guardP = conjunctionP (unary group mostDepth) (unaryP mostDepth)
+  guardP = conjunctionP (unary group mostDepth) (unaryP seatNext group groupP mostDepth)
 
   -- ---- the card
 
@@ -199,7 +202,7 @@ module _ (P : Place → Type 0) (pass : (m : Mark) (q : ℕ) (ms : Place) → is
   topP : Safe top
   topP s h = andThen (the numberOf s) _ (theP numberOf refl s h) λ k. choice (leb k topState) _ _ (λ s₁ h₁. h₁) (λ s₁ h₁. limitP (s .marks) h)
 
-  ended-held : (ms : Place) (n : ℕ) → P ms → Held (ended ms n)
+  pub ended-held : (ms : Place) (n : ℕ) → P ms → Held (ended ms n)
   ended-held [] n h = h
   ended-held (m ∷ ms) n h = (h, λ e. omega arith)
 

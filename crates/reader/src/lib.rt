@@ -15,14 +15,14 @@ use card::refusals::OUTSIDE_RULES;
 use card::refusals::TOO_LONG;
 use frame::header::header as beginning;
 use frame::modules::modules as further_modules;
-use group::late::settle;
-use group::state::MODE;
-use group::state::START;
-use group::state::STATE;
-use group::state::STOP;
-use group::state::STOP_PLACE;
-use group::state::TOP;
-use group::state::VALUE;
+use late::settle;
+use late::state::MODE;
+use late::state::START;
+use late::state::STATE;
+use late::state::STOP;
+use late::state::STOP_PLACE;
+use late::state::TOP;
+use late::state::VALUE;
 use marks::Cursor;
 use marks::kinds::END;
 use marks::kinds::OUTSIDE;
@@ -52,13 +52,13 @@ pub struct Outline {
 }
 
 // A refusal that is due: its number and its place.
-struct Due {
-    number: usize,
-    place: usize,
+pub struct Due {
+    pub number: usize,
+    pub place: usize,
 }
 
 // A stop at a place, unless a mark outside the rules stands there or further on.
-fn search(card: &[u8], stop: usize, place: usize) -> Due
+pub fn search(card: &[u8], stop: usize, place: usize) -> Due
     ensures { λ r. ⌜ r ≡ searched stop place (firstOutside (marksAt 0 (now (card .entry)) place)) ⌝ }
 {
     let mut next = place;

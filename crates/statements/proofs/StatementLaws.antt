@@ -3,6 +3,7 @@
 use Prim.Native.Nat.{ℕ, zero, suc, _+_, _-_, _*_, _≤_, _<_}
 use Prim.Native.String.{String}
 use mathlib.Core.Path.{_≡_, refl, sym, ap, _∙_, subst}
+use mathlib.Core.Bool.{false}
 use mathlib.Core.List.{List, [], _∷_, _++_, map}
 use mathlib.Core.Option.{Option, none, some}
 use native.Mathlib.Nat.{zero-add, add-zero}
@@ -29,12 +30,15 @@ use Rattle.reading.specs.Grammar.{statementRun}
 use Rattle.reading.specs.Judgements.{Judgement, judgedGuard}
 use Rattle.reading.specs.Shape.{BranchShape, StatementShape, branch, moreBranches, guard, statement, moreStatements}
 use Rattle.reading.specs.Checks.{judgedState, judgedWords, judgedOr, judgedEach, judgedStatement}
-use Rattle.group.specs.Late.{Late, judge, judgeAll, guardBy}
-use Rattle.group.specs.State.{atLeft, atFree, atValue, Sized, lateIn, leftIn, freeIn, valueIn, After, after, Halted}
-use Rattle.group.proofs.Settling.{judge-append}
-use Rattle.group.proofs.StateLaws.{set-sized, left-set, free-set, value-set, late-set, left-free}
-use Rattle.guard.proofs.Spent.{Each, Spent, unary-spends, conjunction-spends}
-use Rattle.guard.specs.GuardRead.{Ready, GuardRead}
+use Rattle.late.specs.Late.{Late, judge, judgeAll, guardBy}
+use Rattle.late.specs.State.{atLeft, atFree, atValue, Sized, lateIn, leftIn, freeIn, valueIn, After, after, Halted}
+use Rattle.late.proofs.Settling.{judge-append}
+use Rattle.late.proofs.StateLaws.{set-sized, left-set, free-set, value-set, late-set, left-free}
+use Rattle.grouping.specs.Language.{cards}
+use Rattle.grouping.specs.Items.{Ready}
+use Rattle.grouping.proofs.Answers.{card-judged}
+use Rattle.guard.proofs.Spent.{Each, Spent, keeping, unary-spends, conjunction-spends}
+use Rattle.guard.specs.GuardRead.{GuardRead}
 use Rattle.parts.specs.Parts.{from, Read, Answers, Kept, Went, NumberFrom, SignRead, SignFrom, Told, Due, Sure, LineRead}
 use Rattle.branches.specs.Branches.{BranchesShape, branches, judgedBranches, packedIn, BranchesFrom}
 use Rattle.statements.specs.Statements.{statementDue, OwnFrom, guarded, guardOrBy, GuardedIn, GuardedRead, GuardedFrom, rowBy, withStatement, StatementIn, StatementRead, StatementFrom, statements, filled, StatementsIn, StatementsRead, StatementsFrom}
@@ -53,8 +57,8 @@ record GuardIs (s : List ℕ) (k : ℕ) (before : Late) (was is : List ℕ) (use
 
 -- as many nodes are left as the guard has not spent
 guard-answers : (s : List ℕ) (k : ℕ) (before : Late) (was is : List ℕ) (used n : ℕ) (x : Result (Formula Literals)) (r : After)
-    → Each (Spent n) x → GuardRead s k was is used before x r → Answers s (GuardIs s k before was is used n) x r
-guard-answers s k before was is used n (ok g b) r h y = record { went = y .went; rest = y .rest; told = record { left = omega (arith, h, y .left); late = y .late; nodes = y .nodes; sized = y .sized } }
+    → Each (Spent n) x → GuardRead cards s k was is used before x r → Answers s (GuardIs s k before was is used n) x r
+guard-answers s k before was is used n (ok g b) r h y = record { went = y .went; rest = y .rest; told = record { left = omega (arith, h, y .left); late = y .late ∙ card-judged k (length s) g before; nodes = y .nodes; sized = y .sized } }
 guard-answers s k before was is used n (stop m p) r h y = y
 
 size-by : (g : Formula Literals) → size (guardBy g) ≡ size g
@@ -115,10 +119,10 @@ module _ (s : List ℕ) (k i : ℕ) (was is : List ℕ) (used : ℕ) (x : Step) 
 
   module _ (e : x .mark .kind ≡ kind "&") (state : List ℕ) (sized : Sized state) where
     module _ (a : List ℕ) (g : ℕ)
-        (hg : GuardRead s k was is (freeIn (begun state used)) (lateIn (begun state used)) (readGuard (from s (x .next .at) (leftIn (begun state used)))) (after a g)) where
+        (hg : GuardRead cards s k was is (freeIn (begun state used)) (lateIn (begun state used)) (readGuard (from s (x .next .at) (leftIn (begun state used)))) (after a g)) where
       answered : Answers s (GuardIs s k (lateIn state) was is used mostNodes) (readGuard (from s (x .next .at) mostNodes)) (after a g)
       answered = guard-answers s k (lateIn state) was is used mostNodes (readGuard (from s (x .next .at) mostNodes)) (after a g)
-          (conjunction-spends (unary group mostDepth) (unary-spends mostDepth) (from s (x .next .at) mostNodes)) (rw (begun-free state sized used, begun-late state sized used, begun-left state sized used) at hg)
+          (conjunction-spends (unary group mostDepth) (unary-spends cards (keeping false) mostDepth) (from s (x .next .at) mostNodes)) (rw (begun-free state sized used, begun-late state sized used, begun-left state sized used) at hg)
 
       guard-is : (P : List ℕ → Type 0) → (g ≡ 0 → ⊥) → ((f : Formula Literals) → GuardIs s k (lateIn state) was is used mostNodes f a → P a) → P a
       guard-is P f h = go (readGuard (from s (x .next .at) mostNodes)) answered

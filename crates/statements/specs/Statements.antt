@@ -15,8 +15,8 @@ use Rattle.reading.specs.Reader.{State, Result, ok, Reader, bind, _>>=_, _>>_, 
 use Rattle.reading.specs.Group.{Literals}
 use Rattle.reading.specs.Shape.{StatementShape, guard, statement, moreStatements}
 use Rattle.reading.specs.Checks.{judgedOr, judgedStatement, judgedEach}
-use Rattle.group.specs.Late.{Late, guardBy}
-use Rattle.group.specs.State.{Sized, After}
+use Rattle.late.specs.Late.{Late, guardBy}
+use Rattle.late.specs.State.{Sized, After}
 use Rattle.parts.specs.Parts.{from, Answers, Kept, Went, Due, sign as due, seat, kindsIn, numbersIn, RunFrom}
 use Rattle.branches.specs.Branches.{packedIn}
 

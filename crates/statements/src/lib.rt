@@ -10,12 +10,12 @@ use card::limits::ROW;
 use card::limits::ROW_PLACES;
 use card::refusals::OUT_OF_SHAPE;
 use card::refusals::PAST_LIMIT;
-use group::late::stop;
-use group::state::FREE;
-use group::state::LEFT;
-use group::state::STATE;
-use group::state::VALUE;
 use guard::conjunction;
+use late::state::FREE;
+use late::state::LEFT;
+use late::state::STATE;
+use late::state::VALUE;
+use late::stop;
 use looks::due::step_arrow;
 use looks::due::step_guard;
 use looks::due::step_square;
@@ -34,7 +34,7 @@ ghost use mathlib.Core.Path.{_≡_};
 ghost use Prim.Native.Nat.{_+_, _≤_, _<_};
 ghost use Rattle.card.specs.Limits.{mostStatements, mostNodes, nodePlaces};
 ghost use Rattle.card.specs.Lent.{lent};
-ghost use Rattle.group.specs.State.{Sized, lateIn, after};
+ghost use Rattle.late.specs.State.{Sized, lateIn, after};
 ghost use Rattle.statements.specs.Statements.{OwnFrom, GuardedFrom, StatementFrom, StatementsFrom};
 
 // The guard, if there is one, and the arrow. The guard's nodes stand from `used` on; their number becomes the value.
@@ -62,7 +62,7 @@ fn guarded(
     }
     state[LEFT] = MOST_NODES;
     state[FREE] = used;
-    let read = conjunction(card, next.at, nodes, state, MOST_DEPTH, top);
+    let read = conjunction(card, next.at, nodes, state, MOST_DEPTH, top, false);
     if read == 0 {
         return 0;
     }

@@ -2,7 +2,7 @@
 use Prim.Native.Nat.{_-_}
 use native.Mathlib.Omega.{arith}
 use Rattle.card.specs.Limits.{mostBranches}
-use Rattle.group.specs.State.{lateIn}
+use Rattle.late.specs.State.{lateIn}
 use Rattle.parts.proofs.Steps.{next-at}
 use Rattle.branches.proofs.BranchLaws.{Going, going-start, going-stops, going-closed, going-more, going-past, branch-few}
 use borrow.Author.Needs.{needs}

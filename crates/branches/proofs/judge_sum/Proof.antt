@@ -1,7 +1,7 @@
 -- By whether the sum is the unit. Assumes nothing.
 use mathlib.Core.Path.{ap, _∙_, sym}
-use Rattle.group.specs.State.{lateIn, withLate}
-use Rattle.group.proofs.StateLaws.{late-same}
+use Rattle.late.specs.State.{lateIn, withLate}
+use Rattle.late.proofs.StateLaws.{late-same}
 use Rattle.branches.proofs.BranchLaws.{sum-fine, sum-wrong}
 use borrow.Author.Needs.{needs}
 use Rattle.branches.proofs.judge_sum.Statement.{statement}

@@ -1,6 +1,6 @@
 -- The readers of a guard call each other, with a measure of eight steps for each bracket, `!` and node left. The chain's invariant:
 -- the guard is what was read so far and the chain behind it make (Chaining); its measure is how many nodes are left. Assumes nothing.
-use Prim.Native.Nat.{ℕ, _<_, _+_, _*_, _-_}
+use Prim.Native.Nat.{ℕ, _<_, _+_, _*_, _-_, _^_}
 use mathlib.Core.Path.{sym, _∙_}
 use mathlib.Core.Bool.{true, false}
 use native.Mathlib.Omega.{arith}
@@ -11,12 +11,13 @@ use Rattle.card.specs.Text.{if_then_else_}
 use Rattle.marks.specs.Step.{marksAt}
 use Rattle.reading.specs.Reader.{at}
 use Rattle.reading.specs.Guard as grammar
-use Rattle.reading.specs.Group as groups
-use Rattle.group.specs.State.{leftIn, freeIn, lateIn, after}
-use Rattle.group.proofs.StateLaws.{left-set}
-use Rattle.guard.specs.Pieces.{chained, thenNot, thenClose}
+use Rattle.late.specs.State.{leftIn, freeIn, lateIn, after}
+use Rattle.late.proofs.StateLaws.{left-set}
+use Rattle.grouping.specs.Language.{languageOf}
+use Rattle.guard.specs.Pieces.{unaryIn, chained, thenNot, thenClose}
+use Rattle.guard.proofs.Spent.{keeping}
 use Rattle.guard.proofs.Building.{goes-wrong, goes-on-wrong, not-well, still-sized, spending-ready, read-spending}
-use Rattle.guard.proofs.Ways.{step-within, part-is, part-long, close-wrong, close-well, bracket-groups, bracket-stops, bracket-closes, reads-bracket, reads-unfit, reads-deep, reads-full, reads-not}
+use Rattle.guard.proofs.Ways.{step-within, part-is, part-placed, close-wrong, close-well, bracket-items, bracket-stops, bracket-closes, reads-bracket, reads-unfit, reads-deep, reads-full, reads-not}
 use Rattle.guard.proofs.Chains.{three, Chaining, chain-begins, chain-done, chain-stops, chain-wrong, roomy, store-room, chain-falls, chain-turns, unary-begun, conjunction-begun, unary-alone, conjunction-alone, behind-not}
 use borrow.Fn.Kinds.{In}
 use borrow.Fn.PlainCycle.{Measures, is, falls, and}
@@ -40,12 +41,12 @@ use Rattle.guard.proofs.unary.Kinds as unary-kinds
 use Rattle.guard.proofs.+bracket+chain+conjunction+expression+operand+unary.Lts-unary as unary-lts
 use Rattle.card.proofs.node.pack_node.Reads as pack-node-reads
 use Rattle.group.proofs.joint.Reads as joint-reads
-use Rattle.group.proofs.late.stop.Reads as stop-reads
-use Rattle.guard.proofs.grouping.Reads as grouping-reads
-use Rattle.guard.proofs.operator.Reads as operator-reads
-use Rattle.guard.proofs.store.Reads as store-reads
+use Rattle.late.proofs.stop.Reads as stop-reads
+use Rattle.grouping.proofs.item.Reads as item-reads
+use Rattle.grouping.proofs.lay.Reads as lay-reads
+use Rattle.grouping.proofs.operator.Reads as operator-reads
+use Rattle.grouping.proofs.store.Reads as store-reads
 use Rattle.looks.proofs.due.step_after.Reads as step-after-reads
-use Rattle.looks.proofs.due.step_inner.Reads as step-inner-reads
 use Rattle.looks.proofs.due.step_opening.Reads as step-opening-reads
 use Rattle.looks.proofs.due.step_sign.Reads as step-sign-reads
 use Rattle.looks.proofs.look.sign_here.Reads as sign-here-reads
@@ -111,7 +112,7 @@ abbrev unary-below : ℕ → In 3 unary-kinds.ps
 unary-below t = and 3 unary-kinds.ps (falls 3 unary-kinds.ps _<_ μ-unary t) unary.Pre
 
 abbrev bracket-R : ℕ → bracket-lts.Claims
-bracket-R t = (step-inner-reads.Asked, step-inner-reads.Learnt, grouping-reads.Asked, grouping-reads.Learnt, stop-reads.Asked, stop-reads.Learnt, expression-below t, expression.Post, step-sign-reads.Asked, step-sign-reads.Learnt)
+bracket-R t = (item-reads.Asked, item-reads.Learnt, lay-reads.Asked, lay-reads.Learnt, stop-reads.Asked, stop-reads.Learnt, expression-below t, expression.Post, step-sign-reads.Asked, step-sign-reads.Learnt)
 
 abbrev chain-R : ℕ → chain-lts.Claims
 chain-R t = (joint-reads.Asked, joint-reads.Learnt, step-after-reads.Asked, step-after-reads.Learnt, stop-reads.Asked, stop-reads.Learnt, operand-below t, operand.Post, operator-reads.Asked, operator-reads.Learnt, pack-node-reads.Asked, pack-node-reads.Learnt, store-reads.Asked, store-reads.Learnt)
@@ -137,23 +138,25 @@ bracket-part-part-start t c = search needs
 bracket-part-part-end : (t : ℕ) → bracket-lts.Need-part-part-end (bracket-R t) (bracket-at t) bracket.Post
 bracket-part-part-end t c = search needs
 
-bracket-step-inner-requires : (t : ℕ) → bracket-lts.Need-step-inner-requires (bracket-R t) (bracket-at t) bracket.Post
-bracket-step-inner-requires t c κs = tt
+bracket-item-requires : (t : ℕ) → bracket-lts.Need-item-requires (bracket-R t) (bracket-at t) bracket.Post
+bracket-item-requires t c κs = tt
 
-bracket-grouping-requires : (t : ℕ) → bracket-lts.Need-grouping-requires (bracket-R t) (bracket-at t) bracket.Post
-bracket-grouping-requires t c κs =
-    let entry = c .before .before .before .before .before .before .before in
-    (entry .pre .1 .0, omega (arith, part-long (now (entry .args .card)) (entry .args .begin) (entry .pre .1 .1), entry .good .0 .0))
+bracket-lay-requires : (t : ℕ) → bracket-lts.Need-lay-requires (bracket-R t) (bracket-at t) bracket.Post
+bracket-lay-requires t c κs =
+    let at-item = c .before .before .before .before in
+    let entry = at-item .before .before .before in
+    let placed = part-placed (now (entry .args .card)) (entry .args .begin) (entry .pre .1 .1) (2 ^ 64) (entry .good .0 .0) (at-item .item .result) (at-item .item .ensures .inside) in
+    (entry .pre .1 .0, record { place = placed .0; next = placed .1; first = placed .2 })
 
 bracket-returns : (t : ℕ) → bracket-lts.Need-returns (bracket-R t) (bracket-at t) bracket.Post
 bracket-returns t c =
     let at-if1 = c .before .before .before in
-    let at-step-inner = at-if1 .before .before in
-    let entry = at-step-inner .before .before .before in
+    let at-item = at-if1 .before .before in
+    let entry = at-item .before .before .before in
     let a = entry .args in
-    bracket-groups (now (a .card)) (a .begin) (a .place) (leftIn (now (a .state))) (a .depth) (a .top) (entry .pre .1 .1) (now (a .nodes)) (c .grouping .last .1 .1 .1 .1 .1 .0) (freeIn (now (a .state))) (lateIn (now (a .state)))
-    (take (length (now (a .card)) - a .begin) (drop (a .begin) (now (a .card)))) (part-is (now (a .card)) (a .begin) (entry .pre .1 .1)) (at-step-inner .step-inner .result) (at-step-inner .step-inner .ensures)
-    (after (c .grouping .last .1 .1 .1 .1 .1 .1 .0) (c .grouping .result)) (at-if1 .if1 .taken) (c .grouping .ensures)
+    bracket-items (languageOf (a .question)) (now (a .card)) (a .begin) (a .place) (a .depth) (a .top) (entry .pre .1 .1) (now (a .nodes)) (c .lay .last .1 .1 .1 .0) (now (a .state))
+    (take (length (now (a .card)) - a .begin) (drop (a .begin) (now (a .card)))) (part-is (now (a .card)) (a .begin) (entry .pre .1 .1)) (at-item .item .result) (at-item .item .ensures)
+    (at-if1 .if1 .taken) (after (c .lay .last .1 .1 .1 .1 .0) (c .lay .result)) (c .lay .ensures)
 
 bracket-stop-requires : (t : ℕ) → bracket-lts.Need-stop-requires (bracket-R t) (bracket-at t) bracket.Post
 bracket-stop-requires t c κs =
@@ -164,11 +167,11 @@ bracket-returns-2 : (t : ℕ) → bracket-lts.Need-returns-2 (bracket-R t) (brac
 bracket-returns-2 t c =
     let at-if2 = c .before .before in
     let at-if1 = at-if2 .before in
-    let at-step-inner = at-if1 .before .before in
-    let entry = at-step-inner .before .before .before in
+    let at-item = at-if1 .before .before in
+    let entry = at-item .before .before .before in
     let a = entry .args in
-    bracket-stops (now (a .card)) (a .begin) (a .place) (leftIn (now (a .state))) (a .depth) (a .top) (entry .pre .1 .1) (now (a .nodes)) (now (a .nodes)) (freeIn (now (a .state))) (lateIn (now (a .state)))
-    (take (length (now (a .card)) - a .begin) (drop (a .begin) (now (a .card)))) (part-is (now (a .card)) (a .begin) (entry .pre .1 .1)) (at-step-inner .step-inner .result) (at-step-inner .step-inner .ensures)
+    bracket-stops (languageOf (a .question)) (now (a .card)) (a .begin) (a .place) (a .depth) (a .top) (entry .pre .1 .1) (now (a .nodes)) (now (a .nodes)) (now (a .state))
+    (take (length (now (a .card)) - a .begin) (drop (a .begin) (now (a .card)))) (part-is (now (a .card)) (a .begin) (entry .pre .1 .1)) (at-item .item .result) (at-item .item .ensures)
     (at-if1 .if1 .left) (at-if2 .if2 .taken) (after (c .stop .last .0) (c .stop .result)) (c .stop .ensures .0)
 
 bracket-sub-expression : (t : ℕ) → bracket-lts.Need-sub-expression (bracket-R t) (bracket-at t) bracket.Post
@@ -176,20 +179,21 @@ bracket-sub-expression t c = search needs
 
 bracket-expression-requires : (t : ℕ) → bracket-lts.Need-expression-requires (bracket-R t) (bracket-at t) bracket.Post
 bracket-expression-requires t c κs =
-    let entry = c .before .before .before .before .before .before .before .before in
-    (omega arith, entry .pre .1 .0)
+    let at-if2 = c .before .before in
+    let entry = at-if2 .before .before .before .before .before .before in
+    (omega (arith, at-if2 .if2 .left), entry .pre .1 .0)
 
 bracket-returns-3 : (t : ℕ) → bracket-lts.Need-returns-3 (bracket-R t) (bracket-at t) bracket.Post
 bracket-returns-3 t c =
     let at-if2 = c .before .before .before .before in
     let at-if1 = at-if2 .before in
-    let at-step-inner = at-if1 .before .before in
-    let entry = at-step-inner .before .before .before in
+    let at-item = at-if1 .before .before in
+    let entry = at-item .before .before .before in
     let a = entry .args in
     let g = after (c .before .expression .last .1 .1 .1 .0) (c .before .expression .result) in
-    bracket-closes (now (a .card)) (a .begin) (a .place) (leftIn (now (a .state))) (a .depth) (a .top) (entry .pre .1 .1) (now (a .nodes)) (c .before .expression .last .1 .1 .0) (freeIn (now (a .state))) (lateIn (now (a .state)))
-    (take (length (now (a .card)) - a .begin) (drop (a .begin) (now (a .card)))) (part-is (now (a .card)) (a .begin) (entry .pre .1 .1)) (at-step-inner .step-inner .result) (at-step-inner .step-inner .ensures)
-    (at-if1 .if1 .left) (at-if2 .if2 .left) g (after (g .state) 0) (c .before .expression .ensures) (λ top nodes. goes-on-wrong nodes g thenClose (c .if3 .taken) (now (a .card)) top)
+    bracket-closes (languageOf (a .question)) (now (a .card)) (a .begin) (a .place) (a .depth) (a .top) (entry .pre .1 .1) (now (a .nodes)) (c .before .expression .last .1 .1 .0) (now (a .state))
+    (take (length (now (a .card)) - a .begin) (drop (a .begin) (now (a .card)))) (part-is (now (a .card)) (a .begin) (entry .pre .1 .1)) (at-item .item .result) (at-item .item .ensures)
+    (at-if1 .if1 .left) (at-if2 .if2 .left) g (after (g .state) 0) (c .before .expression .ensures) (λ top nodes. goes-on-wrong (languageOf (a .question)) nodes g thenClose (c .if3 .taken) (now (a .card)) top)
 
 bracket-step-sign-requires : (t : ℕ) → bracket-lts.Need-step-sign-requires (bracket-R t) (bracket-at t) bracket.Post
 bracket-step-sign-requires t c κs = tt
@@ -199,8 +203,8 @@ bracket-stop-requires-2 t c κs =
     let at-expression = c .before .before .before .before .before in
     let entry = at-expression .before .before .before .before .before .before .before .before .before in
     let a = entry .args in
-    still-sized (now (a .card)) (a .top) (now (a .nodes)) (at-expression .expression .last .1 .1 .0) (freeIn (now (a .state))) (lateIn (now (a .state)))
-    (grammar.expression (grammar.unary groups.group (a .depth - 1)) (at (marksAt 0 (now (a .card)) (a .begin)) (leftIn (now (a .state))))) (after (at-expression .expression .last .1 .1 .1 .0) (at-expression .expression .result)) (at-expression .expression .ensures)
+    still-sized (languageOf (a .question)) (now (a .card)) (a .top) (now (a .nodes)) (at-expression .expression .last .1 .1 .0) (freeIn (now (a .state))) (lateIn (now (a .state)))
+    (grammar.expression (unaryIn (languageOf (a .question)) (a .depth - 1)) (at (marksAt 0 (now (a .card)) (a .begin)) (leftIn (now (a .state))))) (after (at-expression .expression .last .1 .1 .1 .0) (at-expression .expression .result)) (at-expression .expression .ensures)
 
 bracket-returns-4 : (t : ℕ) → bracket-lts.Need-returns-4 (bracket-R t) (bracket-at t) bracket.Post
 bracket-returns-4 t c =
@@ -210,14 +214,14 @@ bracket-returns-4 t c =
     let at-expression = at-if3 .before in
     let at-if2 = at-expression .before .before .before in
     let at-if1 = at-if2 .before in
-    let at-step-inner = at-if1 .before .before in
-    let entry = at-step-inner .before .before .before in
+    let at-item = at-if1 .before .before in
+    let entry = at-item .before .before .before in
     let a = entry .args in
     let g = after (at-expression .expression .last .1 .1 .1 .0) (at-expression .expression .result) in
     let r = after (c .stop2 .last .0) (c .stop2 .result) in
-    bracket-closes (now (a .card)) (a .begin) (a .place) (leftIn (now (a .state))) (a .depth) (a .top) (entry .pre .1 .1) (now (a .nodes)) (at-expression .expression .last .1 .1 .0) (freeIn (now (a .state))) (lateIn (now (a .state)))
-    (take (length (now (a .card)) - a .begin) (drop (a .begin) (now (a .card)))) (part-is (now (a .card)) (a .begin) (entry .pre .1 .1)) (at-step-inner .step-inner .result) (at-step-inner .step-inner .ensures)
-    (at-if1 .if1 .left) (at-if2 .if2 .left) g r (at-expression .expression .ensures) (close-wrong (now (a .card)) g (at-if3 .if3 .left) (at-step-sign .step-sign .result) (at-step-sign .step-sign .ensures) (at-if4 .if4 .taken) r (c .stop2 .ensures .0))
+    bracket-closes (languageOf (a .question)) (now (a .card)) (a .begin) (a .place) (a .depth) (a .top) (entry .pre .1 .1) (now (a .nodes)) (at-expression .expression .last .1 .1 .0) (now (a .state))
+    (take (length (now (a .card)) - a .begin) (drop (a .begin) (now (a .card)))) (part-is (now (a .card)) (a .begin) (entry .pre .1 .1)) (at-item .item .result) (at-item .item .ensures)
+    (at-if1 .if1 .left) (at-if2 .if2 .left) g r (at-expression .expression .ensures) (close-wrong (languageOf (a .question)) (now (a .card)) g (at-if3 .if3 .left) (at-step-sign .step-sign .result) (at-step-sign .step-sign .ensures) (at-if4 .if4 .taken) r (c .stop2 .ensures .0))
 
 bracket-returns-5 : (t : ℕ) → bracket-lts.Need-returns-5 (bracket-R t) (bracket-at t) bracket.Post
 bracket-returns-5 t c =
@@ -226,19 +230,19 @@ bracket-returns-5 t c =
     let at-expression = at-if3 .before in
     let at-if2 = at-expression .before .before .before in
     let at-if1 = at-if2 .before in
-    let at-step-inner = at-if1 .before .before in
-    let entry = at-step-inner .before .before .before in
+    let at-item = at-if1 .before .before in
+    let entry = at-item .before .before .before in
     let a = entry .args in
     let g = after (at-expression .expression .last .1 .1 .1 .0) (at-expression .expression .result) in
-    bracket-closes (now (a .card)) (a .begin) (a .place) (leftIn (now (a .state))) (a .depth) (a .top) (entry .pre .1 .1) (now (a .nodes)) (at-expression .expression .last .1 .1 .0) (freeIn (now (a .state))) (lateIn (now (a .state)))
-    (take (length (now (a .card)) - a .begin) (drop (a .begin) (now (a .card)))) (part-is (now (a .card)) (a .begin) (entry .pre .1 .1)) (at-step-inner .step-inner .result) (at-step-inner .step-inner .ensures)
-    (at-if1 .if1 .left) (at-if2 .if2 .left) g (after (g .state) (at-step-sign .step-sign .result .next .at)) (at-expression .expression .ensures) (close-well (now (a .card)) g (at-if3 .if3 .left) (at-step-sign .step-sign .result) (at-step-sign .step-sign .ensures) (c .if4 .left))
+    bracket-closes (languageOf (a .question)) (now (a .card)) (a .begin) (a .place) (a .depth) (a .top) (entry .pre .1 .1) (now (a .nodes)) (at-expression .expression .last .1 .1 .0) (now (a .state))
+    (take (length (now (a .card)) - a .begin) (drop (a .begin) (now (a .card)))) (part-is (now (a .card)) (a .begin) (entry .pre .1 .1)) (at-item .item .result) (at-item .item .ensures)
+    (at-if1 .if1 .left) (at-if2 .if2 .left) g (after (g .state) (at-step-sign .step-sign .result .next .at)) (at-expression .expression .ensures) (close-well (languageOf (a .question)) (now (a .card)) g (at-if3 .if3 .left) (at-step-sign .step-sign .result) (at-step-sign .step-sign .ensures) (c .if4 .left))
 
 abbrev chain-Inv-loop : chain-lts.InvT-loop
-chain-Inv-loop card first nodes₀ state₀ depth top any kind next₀ nodes state next = Chaining card top nodes₀ nodes depth any (after state₀ first) (after state next)
+chain-Inv-loop card first nodes₀ state₀ depth top any question kind next₀ nodes state next = Chaining (languageOf question) (keeping question) card top nodes₀ nodes depth any (after state₀ first) (after state next)
 
 abbrev chain-μ-loop : chain-lts.MeasureT-loop
-chain-μ-loop card first nodes₀ state₀ depth top any kind next₀ nodes state next = leftIn state
+chain-μ-loop card first nodes₀ state₀ depth top any question kind next₀ nodes state next = leftIn state
 
 chain-joint-requires : (t : ℕ) → chain-lts.Need-joint-requires (chain-R t) (chain-at t) chain.Post chain-Inv-loop chain-μ-loop
 chain-joint-requires t c κs = tt
@@ -247,7 +251,7 @@ chain-loop-holds : (t : ℕ) → chain-lts.Need-loop-holds (chain-R t) (chain-at
 chain-loop-holds t c =
     let entry = c .before .before in
     let a = entry .args in
-    chain-begins (now (a .card)) (a .top) (now (a .nodes)) (a .depth) (a .any) (after (now (a .state)) (a .first)) (entry .pre .1)
+    chain-begins (languageOf (a .question)) (keeping (a .question)) (now (a .card)) (a .top) (now (a .nodes)) (a .depth) (a .any) (after (now (a .state)) (a .first)) (entry .pre .1)
 
 chain-step-after-requires : (t : ℕ) → chain-lts.Need-step-after-requires (chain-R t) (chain-at t) chain.Post chain-Inv-loop chain-μ-loop
 chain-step-after-requires t c κs = tt
@@ -259,7 +263,7 @@ chain-returns t c =
     let at-joint = at-loop .before in
     let entry = at-joint .before .before in
     let a = entry .args in
-    chain-done (now (a .card)) (a .top) (now (a .nodes)) (a .depth) (a .any) (after (now (a .state)) (a .first)) (at-loop .loop .nodes) (after (at-loop .loop .state) (at-loop .loop .next)) (at-loop .loop .inv)
+    chain-done (languageOf (a .question)) (keeping (a .question)) (now (a .card)) (a .top) (now (a .nodes)) (a .depth) (a .any) (after (now (a .state)) (a .first)) (at-loop .loop .nodes) (after (at-loop .loop .state) (at-loop .loop .next)) (at-loop .loop .inv)
     (at-step-after .step-after .result) (at-step-after .step-after .ensures) (at-joint .joint .result) (at-joint .joint .ensures) (c .if1 .taken)
 
 chain-element-copy-out-left : (t : ℕ) → chain-lts.Need-element-copy-out-left (chain-R t) (chain-at t) chain.Post chain-Inv-loop chain-μ-loop
@@ -279,7 +283,7 @@ chain-returns-2 t c =
     let at-joint = at-loop .before in
     let entry = at-joint .before .before in
     let a = entry .args in
-    chain-stops (now (a .card)) (a .top) (now (a .nodes)) (a .depth) (a .any) (after (now (a .state)) (a .first)) (at-loop .loop .nodes) (after (at-loop .loop .state) (at-loop .loop .next)) (at-loop .loop .inv)
+    chain-stops (languageOf (a .question)) (keeping (a .question)) (now (a .card)) (a .top) (now (a .nodes)) (a .depth) (a .any) (after (now (a .state)) (a .first)) (at-loop .loop .nodes) (after (at-loop .loop .state) (at-loop .loop .next)) (at-loop .loop .inv)
     (at-step-after .step-after .result) (at-step-after .step-after .ensures) (at-joint .joint .result) (at-joint .joint .ensures) (at-if1 .if1 .left) (at-if2 .if2 .taken) (after (c .stop .last .0) (c .stop .result)) (c .stop .ensures .0)
 
 chain-element-copy-out-first-root : (t : ℕ) → chain-lts.Need-element-copy-out-first-root (chain-R t) (chain-at t) chain.Post chain-Inv-loop chain-μ-loop
@@ -312,7 +316,7 @@ chain-returns-3 t c =
     let at-joint = at-loop .before in
     let entry = at-joint .before .before in
     let a = entry .args in
-    chain-wrong (now (a .card)) (a .top) (now (a .nodes)) (a .depth) (a .any) (after (now (a .state)) (a .first)) (at-loop .loop .nodes) (after (at-loop .loop .state) (at-loop .loop .next)) (at-loop .loop .inv)
+    chain-wrong (languageOf (a .question)) (keeping (a .question)) (now (a .card)) (a .top) (now (a .nodes)) (a .depth) (a .any) (after (now (a .state)) (a .first)) (at-loop .loop .nodes) (after (at-loop .loop .state) (at-loop .loop .next)) (at-loop .loop .inv)
     (at-step-after .step-after .result) (at-step-after .step-after .ensures) (at-joint .joint .result) (at-joint .joint .ensures) (at-if1 .if1 .left) (at-if2 .if2 .left)
     (c .before .operand .last .1 .1 .0) (after (c .before .operand .last .1 .1 .1 .0) (c .before .operand .result)) (c .before .operand .ensures) (c .if3 .taken)
 
@@ -331,7 +335,7 @@ chain-sub-second-root t c =
     let a = entry .args in
     omega (
       arith,
-      roomy (now (a .card)) (a .top) (now (a .nodes)) (a .depth) (a .any) (after (now (a .state)) (a .first)) (at-loop .loop .nodes) (after (at-loop .loop .state) (at-loop .loop .next)) (at-loop .loop .inv)
+      roomy (languageOf (a .question)) (keeping (a .question)) (now (a .card)) (a .top) (now (a .nodes)) (a .depth) (a .any) (after (now (a .state)) (a .first)) (at-loop .loop .nodes) (after (at-loop .loop .state) (at-loop .loop .next)) (at-loop .loop .inv)
           (at-step-after .step-after .result) (at-step-after .step-after .ensures) (at-joint .joint .result) (at-joint .joint .ensures) (at-if1 .if1 .left) (at-if2 .if2 .left)
           (at-operand .operand .last .1 .1 .0) (after (at-operand .operand .last .1 .1 .1 .0) (at-operand .operand .result)) (at-operand .operand .ensures) (c .before .if3 .left) .1,
     )
@@ -353,7 +357,7 @@ chain-store-requires t c κs =
     let at-joint = at-loop .before in
     let entry = at-joint .before .before in
     let a = entry .args in
-    store-room (now (a .card)) (a .top) (now (a .nodes)) (a .depth) (a .any) (after (now (a .state)) (a .first)) (at-loop .loop .nodes) (after (at-loop .loop .state) (at-loop .loop .next)) (at-loop .loop .inv)
+    store-room (languageOf (a .question)) (keeping (a .question)) (now (a .card)) (a .top) (now (a .nodes)) (a .depth) (a .any) (after (now (a .state)) (a .first)) (at-loop .loop .nodes) (after (at-loop .loop .state) (at-loop .loop .next)) (at-loop .loop .inv)
     (at-step-after .step-after .result) (at-step-after .step-after .ensures) (at-joint .joint .result) (at-joint .joint .ensures) (at-if1 .if1 .left) (at-if2 .if2 .left)
     (at-operand .operand .last .1 .1 .0) (after (at-operand .operand .last .1 .1 .1 .0) (at-operand .operand .result)) (at-operand .operand .ensures) (at-if3 .if3 .left)
 
@@ -369,7 +373,7 @@ chain-loop-less t c =
     let entry = at-joint .before .before in
     let a = entry .args in
     rw (c .store .ensures .1)
-    (chain-falls (now (a .card)) (a .top) (now (a .nodes)) (a .depth) (a .any) (after (now (a .state)) (a .first)) (at-loop .loop .nodes) (after (at-loop .loop .state) (at-loop .loop .next)) (at-loop .loop .inv)
+    (chain-falls (languageOf (a .question)) (keeping (a .question)) (now (a .card)) (a .top) (now (a .nodes)) (a .depth) (a .any) (after (now (a .state)) (a .first)) (at-loop .loop .nodes) (after (at-loop .loop .state) (at-loop .loop .next)) (at-loop .loop .inv)
     (at-step-after .step-after .result) (at-step-after .step-after .ensures) (at-joint .joint .result) (at-joint .joint .ensures) (at-if1 .if1 .left) (at-if2 .if2 .left)
     (at-operand .operand .last .1 .1 .0) (after (at-operand .operand .last .1 .1 .1 .0) (at-operand .operand .result)) (at-operand .operand .ensures) (at-if3 .if3 .left))
 
@@ -386,7 +390,7 @@ chain-loop-again t c =
     let entry = at-joint .before .before in
     let a = entry .args in
     rw (c .store .ensures .0, c .store .ensures .1)
-    (chain-turns (now (a .card)) (a .top) (now (a .nodes)) (a .depth) (a .any) (after (now (a .state)) (a .first)) (at-loop .loop .nodes) (after (at-loop .loop .state) (at-loop .loop .next)) (at-loop .loop .inv)
+    (chain-turns (languageOf (a .question)) (keeping (a .question)) (now (a .card)) (a .top) (now (a .nodes)) (a .depth) (a .any) (after (now (a .state)) (a .first)) (at-loop .loop .nodes) (after (at-loop .loop .state) (at-loop .loop .next)) (at-loop .loop .inv)
     (at-step-after .step-after .result) (at-step-after .step-after .ensures) (at-joint .joint .result) (at-joint .joint .ensures) (at-if1 .if1 .left) (at-if2 .if2 .left)
     (at-operand .operand .last .1 .1 .0) (after (at-operand .operand .last .1 .1 .1 .0) (at-operand .operand .result)) (at-operand .operand .ensures) (at-if3 .if3 .left)
     (at-operator .operator .result) (c .before .pack-node .result) (at-operator .operator .ensures) (c .before .pack-node .ensures))
@@ -401,8 +405,8 @@ conjunction-returns : (t : ℕ) → conjunction-lts.Need-returns (conjunction-R 
 conjunction-returns t c =
     let entry = c .before .before .before .before .before in
     let a = entry .args in
-    goes-wrong (now (a .card)) (a .top) (now (a .nodes)) (c .before .unary .last .1 .1 .0) (freeIn (now (a .state))) (lateIn (now (a .state))) (now (a .nodes)) (c .before .unary .last .1 .1 .0) (freeIn (now (a .state))) (lateIn (now (a .state)))
-    (after (c .before .unary .last .1 .1 .1 .0) (c .before .unary .result)) (chained false (a .depth)) (grammar.unary groups.group (a .depth) (at (marksAt 0 (now (a .card)) (a .at)) (leftIn (now (a .state))))) (c .before .unary .ensures) (c .if1 .taken)
+    goes-wrong (languageOf (a .question)) (now (a .card)) (a .top) (now (a .nodes)) (c .before .unary .last .1 .1 .0) (freeIn (now (a .state))) (lateIn (now (a .state))) (now (a .nodes)) (c .before .unary .last .1 .1 .0) (freeIn (now (a .state))) (lateIn (now (a .state)))
+    (after (c .before .unary .last .1 .1 .1 .0) (c .before .unary .result)) (chained (languageOf (a .question)) false (a .depth)) (unaryIn (languageOf (a .question)) (a .depth) (at (marksAt 0 (now (a .card)) (a .at)) (leftIn (now (a .state))))) (c .before .unary .ensures) (c .if1 .taken)
 
 conjunction-sign-here-requires : (t : ℕ) → conjunction-lts.Need-sign-here-requires (conjunction-R t) (conjunction-at t) conjunction.Post
 conjunction-sign-here-requires t c κs = tt
@@ -413,7 +417,7 @@ conjunction-returns-2 t c =
     let at-unary = at-if1 .before in
     let entry = at-unary .before .before .before .before in
     let a = entry .args in
-    unary-alone (now (a .card)) (a .top) (now (a .nodes)) (at-unary .unary .last .1 .1 .0) (now (a .state)) (entry .pre .1) (a .at) (a .depth) (after (at-unary .unary .last .1 .1 .1 .0) (at-unary .unary .result)) (at-if1 .if1 .left)
+    unary-alone (languageOf (a .question)) (keeping (a .question)) (now (a .card)) (a .top) (now (a .nodes)) (at-unary .unary .last .1 .1 .0) (now (a .state)) (entry .pre .1) (a .at) (a .depth) (after (at-unary .unary .last .1 .1 .1 .0) (at-unary .unary .result)) (at-if1 .if1 .left)
     (sym (c .before .sign-here .ensures) ∙ c .if2 .taken) (at-unary .unary .ensures)
 
 conjunction-chain-requires : (t : ℕ) → conjunction-lts.Need-chain-requires (conjunction-R t) (conjunction-at t) conjunction.Post
@@ -422,7 +426,7 @@ conjunction-chain-requires t c κs =
     let at-unary = at-if1 .before in
     let entry = at-unary .before .before .before .before in
     let a = entry .args in
-    let q = unary-begun (now (a .card)) (a .top) (now (a .nodes)) (at-unary .unary .last .1 .1 .0) (now (a .state)) (entry .pre .1) (a .at) (a .depth) (after (at-unary .unary .last .1 .1 .1 .0) (at-unary .unary .result)) (at-if1 .if1 .left) (at-unary .unary .ensures) in
+    let q = unary-begun (languageOf (a .question)) (keeping (a .question)) (now (a .card)) (a .top) (now (a .nodes)) (at-unary .unary .last .1 .1 .0) (now (a .state)) (entry .pre .1) (a .at) (a .depth) (after (at-unary .unary .last .1 .1 .1 .0) (at-unary .unary .result)) (at-if1 .if1 .left) (at-unary .unary .ensures) in
     (omega (arith, q .1, entry .pre .0), q .0)
 
 conjunction-returns-3 : (t : ℕ) → conjunction-lts.Need-returns-3 (conjunction-R t) (conjunction-at t) conjunction.Post
@@ -430,7 +434,7 @@ conjunction-returns-3 t c =
     let at-unary = c .before .before .before .before .before .before in
     let entry = at-unary .before .before .before .before in
     let a = entry .args in
-    c .chain .ensures (now (a .nodes)) (freeIn (now (a .state))) (lateIn (now (a .state))) (grammar.unary groups.group (a .depth) (at (marksAt 0 (now (a .card)) (a .at)) (leftIn (now (a .state))))) (at-unary .unary .ensures)
+    c .chain .ensures (now (a .nodes)) (freeIn (now (a .state))) (lateIn (now (a .state))) (unaryIn (languageOf (a .question)) (a .depth) (at (marksAt 0 (now (a .card)) (a .at)) (leftIn (now (a .state))))) (at-unary .unary .ensures)
 
 expression-conjunction-requires : (t : ℕ) → expression-lts.Need-conjunction-requires (expression-R t) (expression-at t) expression.Post
 expression-conjunction-requires t c κs = (omega arith, c .before .before .before .pre .1)
@@ -439,8 +443,8 @@ expression-returns : (t : ℕ) → expression-lts.Need-returns (expression-R t) 
 expression-returns t c =
     let entry = c .before .before .before .before .before in
     let a = entry .args in
-    goes-wrong (now (a .card)) (a .top) (now (a .nodes)) (c .before .conjunction .last .1 .1 .0) (freeIn (now (a .state))) (lateIn (now (a .state))) (now (a .nodes)) (c .before .conjunction .last .1 .1 .0) (freeIn (now (a .state))) (lateIn (now (a .state)))
-    (after (c .before .conjunction .last .1 .1 .1 .0) (c .before .conjunction .result)) (chained true (a .depth)) (grammar.conjunction (grammar.unary groups.group (a .depth)) (at (marksAt 0 (now (a .card)) (a .at)) (leftIn (now (a .state))))) (c .before .conjunction .ensures) (c .if1 .taken)
+    goes-wrong (languageOf (a .question)) (now (a .card)) (a .top) (now (a .nodes)) (c .before .conjunction .last .1 .1 .0) (freeIn (now (a .state))) (lateIn (now (a .state))) (now (a .nodes)) (c .before .conjunction .last .1 .1 .0) (freeIn (now (a .state))) (lateIn (now (a .state)))
+    (after (c .before .conjunction .last .1 .1 .1 .0) (c .before .conjunction .result)) (chained (languageOf (a .question)) true (a .depth)) (grammar.conjunction (unaryIn (languageOf (a .question)) (a .depth)) (at (marksAt 0 (now (a .card)) (a .at)) (leftIn (now (a .state))))) (c .before .conjunction .ensures) (c .if1 .taken)
 
 expression-sign-here-requires : (t : ℕ) → expression-lts.Need-sign-here-requires (expression-R t) (expression-at t) expression.Post
 expression-sign-here-requires t c κs = tt
@@ -451,7 +455,7 @@ expression-returns-2 t c =
     let at-conjunction = at-if1 .before in
     let entry = at-conjunction .before .before .before .before in
     let a = entry .args in
-    conjunction-alone (now (a .card)) (a .top) (now (a .nodes)) (at-conjunction .conjunction .last .1 .1 .0) (now (a .state)) (entry .pre .1) (a .at) (a .depth) (after (at-conjunction .conjunction .last .1 .1 .1 .0) (at-conjunction .conjunction .result)) (at-if1 .if1 .left)
+    conjunction-alone (languageOf (a .question)) (keeping (a .question)) (now (a .card)) (a .top) (now (a .nodes)) (at-conjunction .conjunction .last .1 .1 .0) (now (a .state)) (entry .pre .1) (a .at) (a .depth) (after (at-conjunction .conjunction .last .1 .1 .1 .0) (at-conjunction .conjunction .result)) (at-if1 .if1 .left)
     (sym (c .before .sign-here .ensures) ∙ c .if2 .taken) (at-conjunction .conjunction .ensures)
 
 expression-chain-requires : (t : ℕ) → expression-lts.Need-chain-requires (expression-R t) (expression-at t) expression.Post
@@ -460,7 +464,7 @@ expression-chain-requires t c κs =
     let at-conjunction = at-if1 .before in
     let entry = at-conjunction .before .before .before .before in
     let a = entry .args in
-    let q = conjunction-begun (now (a .card)) (a .top) (now (a .nodes)) (at-conjunction .conjunction .last .1 .1 .0) (now (a .state)) (entry .pre .1) (a .at) (a .depth) (after (at-conjunction .conjunction .last .1 .1 .1 .0) (at-conjunction .conjunction .result)) (at-if1 .if1 .left) (at-conjunction .conjunction .ensures) in
+    let q = conjunction-begun (languageOf (a .question)) (keeping (a .question)) (now (a .card)) (a .top) (now (a .nodes)) (at-conjunction .conjunction .last .1 .1 .0) (now (a .state)) (entry .pre .1) (a .at) (a .depth) (after (at-conjunction .conjunction .last .1 .1 .1 .0) (at-conjunction .conjunction .result)) (at-if1 .if1 .left) (at-conjunction .conjunction .ensures) in
     (omega (arith, q .1, entry .pre .0), q .0)
 
 expression-returns-3 : (t : ℕ) → expression-lts.Need-returns-3 (expression-R t) (expression-at t) expression.Post
@@ -468,7 +472,7 @@ expression-returns-3 t c =
     let at-conjunction = c .before .before .before .before .before .before in
     let entry = at-conjunction .before .before .before .before in
     let a = entry .args in
-    c .chain .ensures (now (a .nodes)) (freeIn (now (a .state))) (lateIn (now (a .state))) (grammar.conjunction (grammar.unary groups.group (a .depth)) (at (marksAt 0 (now (a .card)) (a .at)) (leftIn (now (a .state))))) (at-conjunction .conjunction .ensures)
+    c .chain .ensures (now (a .nodes)) (freeIn (now (a .state))) (lateIn (now (a .state))) (grammar.conjunction (unaryIn (languageOf (a .question)) (a .depth)) (at (marksAt 0 (now (a .card)) (a .at)) (leftIn (now (a .state))))) (at-conjunction .conjunction .ensures)
 
 operand-conjunction-requires : (t : ℕ) → operand-lts.Need-conjunction-requires (operand-R t) (operand-at t) operand.Post
 operand-conjunction-requires t c κs =
@@ -504,7 +508,7 @@ unary-returns t c =
     let at-step-opening = at-if1 .before .before in
     let entry = at-step-opening .before .before in
     let a = entry .args in
-    reads-bracket (now (a .card)) (a .at) (leftIn (now (a .state))) (a .depth) (a .top) (now (a .nodes)) (c .bracket .last .1 .1 .1 .0) (freeIn (now (a .state))) (lateIn (now (a .state))) (at-step-opening .step-opening .result) (at-step-opening .step-opening .ensures)
+    reads-bracket (languageOf (a .question)) (now (a .card)) (a .at) (leftIn (now (a .state))) (a .depth) (a .top) (now (a .nodes)) (c .bracket .last .1 .1 .1 .0) (freeIn (now (a .state))) (lateIn (now (a .state))) (at-step-opening .step-opening .result) (at-step-opening .step-opening .ensures)
     (at-if1 .if1 .taken) (after (c .bracket .last .1 .1 .1 .1 .0) (c .bracket .result)) (c .bracket .ensures)
 
 unary-stop-requires : (t : ℕ) → unary-lts.Need-stop-requires (unary-R t) (unary-at t) unary.Post
@@ -519,7 +523,7 @@ unary-returns-2 t c =
     let at-step-opening = at-if1 .before .before in
     let entry = at-step-opening .before .before in
     let a = entry .args in
-    reads-unfit (now (a .card)) (a .at) (leftIn (now (a .state))) (a .depth) (a .top) (now (a .nodes)) (now (a .nodes)) (freeIn (now (a .state))) (lateIn (now (a .state))) (at-step-opening .step-opening .result) (at-step-opening .step-opening .ensures)
+    reads-unfit (languageOf (a .question)) (now (a .card)) (a .at) (leftIn (now (a .state))) (a .depth) (a .top) (now (a .nodes)) (now (a .nodes)) (freeIn (now (a .state))) (lateIn (now (a .state))) (at-step-opening .step-opening .result) (at-step-opening .step-opening .ensures)
     (at-if1 .if1 .left) (at-if2 .if2 .taken) (after (c .stop .last .0) (c .stop .result)) (c .stop .ensures .0)
 
 unary-stop-requires-2 : (t : ℕ) → unary-lts.Need-stop-requires-2 (unary-R t) (unary-at t) unary.Post
@@ -534,7 +538,7 @@ unary-returns-3 t c =
     let at-step-opening = at-if2 .before .before .before .before in
     let entry = at-step-opening .before .before in
     let a = entry .args in
-    reads-deep (now (a .card)) (a .at) (leftIn (now (a .state))) (a .depth) (a .top) (now (a .nodes)) (now (a .nodes)) (freeIn (now (a .state))) (lateIn (now (a .state))) (at-step-opening .step-opening .result) (at-step-opening .step-opening .ensures)
+    reads-deep (languageOf (a .question)) (now (a .card)) (a .at) (leftIn (now (a .state))) (a .depth) (a .top) (now (a .nodes)) (now (a .nodes)) (freeIn (now (a .state))) (lateIn (now (a .state))) (at-step-opening .step-opening .result) (at-step-opening .step-opening .ensures)
     (at-if2 .if2 .left) (at-if3 .if3 .taken) (after (c .stop2 .last .0) (c .stop2 .result)) (c .stop2 .ensures .0)
 
 unary-element-copy-out-left : (t : ℕ) → unary-lts.Need-element-copy-out-left (unary-R t) (unary-at t) unary.Post
@@ -553,7 +557,7 @@ unary-returns-4 t c =
     let at-step-opening = at-if2 .before .before .before .before in
     let entry = at-step-opening .before .before in
     let a = entry .args in
-    reads-full (now (a .card)) (a .at) (leftIn (now (a .state))) (a .depth) (a .top) (now (a .nodes)) (now (a .nodes)) (freeIn (now (a .state))) (lateIn (now (a .state))) (at-step-opening .step-opening .result) (at-step-opening .step-opening .ensures)
+    reads-full (languageOf (a .question)) (now (a .card)) (a .at) (leftIn (now (a .state))) (a .depth) (a .top) (now (a .nodes)) (now (a .nodes)) (freeIn (now (a .state))) (lateIn (now (a .state))) (at-step-opening .step-opening .result) (at-step-opening .step-opening .ensures)
     (at-if2 .if2 .left) (at-if3 .if3 .left) (at-if4 .if4 .taken) (after (c .stop3 .last .0) (c .stop3 .result)) (c .stop3 .ensures .0)
 
 unary-sub-state : (t : ℕ) → unary-lts.Need-sub-state (unary-R t) (unary-at t) unary.Post
@@ -582,10 +586,10 @@ unary-returns-5 t c =
     let entry = at-step-opening .before .before in
     let a = entry .args in
     let g = after (c .before .unary .last .1 .1 .1 .0) (c .before .unary .result) in
-    reads-not (now (a .card)) (a .at) (leftIn (now (a .state))) (a .depth) (a .top) (now (a .nodes)) (c .before .unary .last .1 .1 .0) (freeIn (now (a .state))) (lateIn (now (a .state))) (at-step-opening .step-opening .result) (at-step-opening .step-opening .ensures)
+    reads-not (languageOf (a .question)) (now (a .card)) (a .at) (leftIn (now (a .state))) (a .depth) (a .top) (now (a .nodes)) (c .before .unary .last .1 .1 .0) (freeIn (now (a .state))) (lateIn (now (a .state))) (at-step-opening .step-opening .result) (at-step-opening .step-opening .ensures)
     (at-if2 .if2 .left) (at-if3 .if3 .left) (at-if4 .if4 .left) (c .before .unary .last .1 .1 .0) g (after (g .state) 0)
-    (read-spending (now (a .state)) (now (a .card)) (a .top) (now (a .nodes)) (c .before .unary .last .1 .1 .0) (grammar.unary groups.group (a .depth - 1)) (marksAt 0 (now (a .card)) (at-step-opening .step-opening .result .next .at)) g (entry .pre .1 .sized) (c .before .unary .ensures))
-    (goes-on-wrong (c .before .unary .last .1 .1 .0) g thenNot (c .if5 .taken))
+    (read-spending (languageOf (a .question)) (now (a .state)) (now (a .card)) (a .top) (now (a .nodes)) (c .before .unary .last .1 .1 .0) (unaryIn (languageOf (a .question)) (a .depth - 1)) (marksAt 0 (now (a .card)) (at-step-opening .step-opening .result .next .at)) g (entry .pre .1 .sized) (c .before .unary .ensures))
+    (goes-on-wrong (languageOf (a .question)) (c .before .unary .last .1 .1 .0) g thenNot (c .if5 .taken))
 
 unary-element-copy-out-root : (t : ℕ) → unary-lts.Need-element-copy-out-root (unary-R t) (unary-at t) unary.Post
 unary-element-copy-out-root t c = search needs
@@ -599,7 +603,7 @@ unary-sub-root t c =
     let a = entry .args in
     omega (
       arith,
-      behind-not (now (a .card)) (a .top) (now (a .nodes)) (at-unary .unary .last .1 .1 .0) (now (a .state)) (entry .pre .1) (at-if4 .if4 .left) (at-step-opening .step-opening .result .next .at) (a .depth - 1)
+      behind-not (languageOf (a .question)) (keeping (a .question)) (now (a .card)) (a .top) (now (a .nodes)) (at-unary .unary .last .1 .1 .0) (now (a .state)) (entry .pre .1) (at-if4 .if4 .left) (at-step-opening .step-opening .result .next .at) (a .depth - 1)
           (after (at-unary .unary .last .1 .1 .1 .0) (at-unary .unary .result)) (c .before .if5 .left) (at-unary .unary .ensures) .0,
     )
 
@@ -614,7 +618,7 @@ unary-store-requires t c κs =
     let at-step-opening = at-if4 .before .before .before .before .before .before .before in
     let entry = at-step-opening .before .before in
     let a = entry .args in
-    behind-not (now (a .card)) (a .top) (now (a .nodes)) (at-unary .unary .last .1 .1 .0) (now (a .state)) (entry .pre .1) (at-if4 .if4 .left) (at-step-opening .step-opening .result .next .at) (a .depth - 1)
+    behind-not (languageOf (a .question)) (keeping (a .question)) (now (a .card)) (a .top) (now (a .nodes)) (at-unary .unary .last .1 .1 .0) (now (a .state)) (entry .pre .1) (at-if4 .if4 .left) (at-step-opening .step-opening .result .next .at) (a .depth - 1)
     (after (at-unary .unary .last .1 .1 .1 .0) (at-unary .unary .result)) (at-if5 .if5 .left) (at-unary .unary .ensures) .1
 
 unary-returns-6 : (t : ℕ) → unary-lts.Need-returns-6 (unary-R t) (unary-at t) unary.Post
@@ -629,20 +633,20 @@ unary-returns-6 t c =
     let a = entry .args in
     let mid = at-unary .unary .last .1 .1 .0 in
     let g = after (at-unary .unary .last .1 .1 .1 .0) (at-unary .unary .result) in
-    let fits = behind-not (now (a .card)) (a .top) (now (a .nodes)) mid (now (a .state)) (entry .pre .1) (at-if4 .if4 .left) (at-step-opening .step-opening .result .next .at) (a .depth - 1) g (at-if5 .if5 .left) (at-unary .unary .ensures) .1 in
+    let fits = behind-not (languageOf (a .question)) (keeping (a .question)) (now (a .card)) (a .top) (now (a .nodes)) mid (now (a .state)) (entry .pre .1) (at-if4 .if4 .left) (at-step-opening .step-opening .result .next .at) (a .depth - 1) g (at-if5 .if5 .left) (at-unary .unary .ensures) .1 in
     rw (c .store .ensures .0, c .store .ensures .1)
-    (reads-not (now (a .card)) (a .at) (leftIn (now (a .state))) (a .depth) (a .top) (now (a .nodes)) _ (freeIn (now (a .state))) (lateIn (now (a .state))) (at-step-opening .step-opening .result) (at-step-opening .step-opening .ensures)
+    (reads-not (languageOf (a .question)) (now (a .card)) (a .at) (leftIn (now (a .state))) (a .depth) (a .top) (now (a .nodes)) _ (freeIn (now (a .state))) (lateIn (now (a .state))) (at-step-opening .step-opening .result) (at-step-opening .step-opening .ensures)
     (at-if2 .if2 .left) (at-if3 .if3 .left) (at-if4 .if4 .left) mid g _
-    (read-spending (now (a .state)) (now (a .card)) (a .top) (now (a .nodes)) mid (grammar.unary groups.group (a .depth - 1)) (marksAt 0 (now (a .card)) (at-step-opening .step-opening .result .next .at)) g (entry .pre .1 .sized) (at-unary .unary .ensures))
-    (not-well mid g (c .before .pack-node .result) (at-if5 .if5 .left) fits (c .before .pack-node .ensures)))
+    (read-spending (languageOf (a .question)) (now (a .state)) (now (a .card)) (a .top) (now (a .nodes)) mid (unaryIn (languageOf (a .question)) (a .depth - 1)) (marksAt 0 (now (a .card)) (at-step-opening .step-opening .result .next .at)) g (entry .pre .1 .sized) (at-unary .unary .ensures))
+    (not-well (languageOf (a .question)) mid g (c .before .pack-node .result) (at-if5 .if5 .left) fits (c .before .pack-node .ensures)))
 
 pub +bracket+chain+conjunction+expression+operand+unary-spec : {M : Type 1} → statement M
 +bracket+chain+conjunction+expression+operand+unary-spec =
     close μ-bracket μ-chain μ-conjunction μ-expression μ-operand μ-unary (λ t. bracket-lts.spec (
-      step-inner-reads.Asked,
-      step-inner-reads.Learnt,
-      grouping-reads.Asked,
-      grouping-reads.Learnt,
+      item-reads.Asked,
+      item-reads.Learnt,
+      lay-reads.Asked,
+      lay-reads.Learnt,
       stop-reads.Asked,
       stop-reads.Learnt,
       expression-below t,
@@ -655,8 +659,8 @@ pub +bracket+chain+conjunction+expression+operand+unary-spec : {M : Type 1} → 
     (bracket-sub-part t)
     (bracket-part-part-start t)
     (bracket-part-part-end t)
-    (bracket-step-inner-requires t)
-    (bracket-grouping-requires t)
+    (bracket-item-requires t)
+    (bracket-lay-requires t)
     (bracket-returns t)
     (bracket-stop-requires t)
     (bracket-returns-2 t)

@@ -2,7 +2,7 @@
 use Prim.Native.Nat.{_-_}
 use native.Mathlib.Omega.{arith}
 use lib.ListN.{length}
-use Rattle.group.specs.State.{lateIn}
+use Rattle.late.specs.State.{lateIn}
 use Rattle.parts.proofs.Lines.{Going, going-start, going-end, going-stops, going-more}
 use Rattle.parts.proofs.Steps.{next-at}
 use borrow.Author.Needs.{needs}

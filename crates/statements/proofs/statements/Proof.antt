@@ -3,7 +3,7 @@ use Prim.Native.Nat.{_-_}
 use native.Mathlib.Omega.{arith}
 use Rattle.card.specs.Limits.{mostStatements}
 use Rattle.card.specs.Lent.{lent}
-use Rattle.group.specs.State.{lateIn}
+use Rattle.late.specs.State.{lateIn}
 use Rattle.parts.proofs.Steps.{next-at}
 use Rattle.statements.proofs.StatementLaws.{open-stops, Going, going-start, going-stops, going-unended, going-ended, going-more, going-past, opened-as}
 use borrow.Author.Needs.{needs}

@@ -2,7 +2,7 @@
 use Prim.Native.Nat.{_-_}
 use native.Mathlib.Omega.{arith}
 use Rattle.card.specs.Limits.{mostSeats}
-use Rattle.group.specs.State.{lateIn}
+use Rattle.late.specs.State.{lateIn}
 use Rattle.parts.proofs.Steps.{next-at}
 use Rattle.frame.proofs.ModuleLaws.{Going, going-start, going-ended, going-past, going-stops, going-more}
 use borrow.Author.Needs.{needs}

@@ -1,5 +1,5 @@
 -- By whether the literals are alike, seat 1 is among them, and they are few enough.
-use Rattle.group.proofs.Seats.{want-unlike, others-many, others-want, others-none, everyone-many, everyone-want, everyone-none}
+use Rattle.group.proofs.Seats.{want-unlike, others-many, others-want, others-none, everyone-want}
 use borrow.Author.Tests.{not-true, not-false}
 use borrow.Author.Needs.{needs}
 use Rattle.group.proofs.seen.want.Statement.{statement}
@@ -39,30 +39,14 @@ returns-4 c =
     let entry = at-if1 .before in
     others-none (entry .args .seen .now) (entry .args .count) (entry .args .alike) (not-false (entry .args .alike) (at-if1 .if1 .left)) (at-if2 .if2 .taken) (c .before .all-seen .result) (at-if3 .if3 .left) (c .before .all-seen .ensures) (c .if4 .left)
 
+each-once-requires : tie.Need-each-once-requires
+each-once-requires c κs = search needs
+
 returns-5 : tie.Need-returns-5
 returns-5 c =
     let at-if1 = c .before .before .before in
     let entry = at-if1 .before in
-    everyone-many (entry .args .seen .now) (entry .args .count) (entry .args .alike) (not-false (entry .args .alike) (at-if1 .if1 .left)) (c .before .if2 .left) (c .if5 .taken)
-
-all-seen-requires-2 : tie.Need-all-seen-requires-2
-all-seen-requires-2 c κs = search needs
-
-returns-6 : tie.Need-returns-6
-returns-6 c =
-    let at-if5 = c .before .before in
-    let at-if2 = at-if5 .before in
-    let at-if1 = at-if2 .before .before in
-    let entry = at-if1 .before in
-    everyone-want (entry .args .seen .now) (entry .args .count) (entry .args .alike) (not-false (entry .args .alike) (at-if1 .if1 .left)) (at-if2 .if2 .left) (c .before .all-seen2 .result) (at-if5 .if5 .left) (c .before .all-seen2 .ensures) (c .if6 .taken)
-
-returns-7 : tie.Need-returns-7
-returns-7 c =
-    let at-if5 = c .before .before in
-    let at-if2 = at-if5 .before in
-    let at-if1 = at-if2 .before .before in
-    let entry = at-if1 .before in
-    everyone-none (entry .args .seen .now) (entry .args .count) (entry .args .alike) (not-false (entry .args .alike) (at-if1 .if1 .left)) (at-if2 .if2 .left) (c .before .all-seen2 .result) (at-if5 .if5 .left) (c .before .all-seen2 .ensures) (c .if6 .left)
+    everyone-want (entry .args .seen .now) (entry .args .count) (entry .args .alike) (not-false (entry .args .alike) (at-if1 .if1 .left)) (c .before .if2 .left) (c .each-once .result) (c .each-once .ensures)
 
 pub want-spec : {M : Type 1} → statement M
 want-spec =
@@ -75,7 +59,5 @@ want-spec =
     add-result
     returns-3
     returns-4
-    returns-5
-    all-seen-requires-2
-    returns-6
-    returns-7)
+    each-once-requires
+    returns-5)

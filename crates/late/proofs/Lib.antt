@@ -1,0 +1,4 @@
+pub mod StateLaws
+pub mod Keeping
+pub mod Symmetric
+pub mod Settling

@@ -1,0 +1,3 @@
+pub mod Late
+pub mod Settled
+pub mod State

@@ -1,0 +1,3 @@
+pub mod TermLists
+pub mod TermLaws
+pub mod OneLaws
