@@ -79,13 +79,6 @@ module _ {h : Head} {x : Lent} {seats : Seating} (v : HoldsIn h x) (ok : ValidSe
 -- ---- the card's judgement and the seats'
 
 -- the arrays that are lent to the reader
-pub arrays-none : lent (replicate rowPlaces 0) (replicate nodePlaces 0) (replicate branchPlaces 0) ≡ noneLent
-arrays-none =
-    let rows = sym (zeros-repeat rowPlaces) in
-    let nodes = sym (zeros-repeat nodePlaces) in
-    let branches = sym (zeros-repeat branchPlaces) in
-    λ i. lent (rows i) (nodes i) (branches i)
-
 module _ (s : List ℕ) {r : Outline} {x : Lent} (h : ReadsInto s r x) (seats : List ℕ) where
   pub card-refused : {number place : ℕ} → r .verdict ≡ Refused number place → panelSaid s seats ≡ refused number place
   unfolding panelSaid

@@ -1,6 +1,7 @@
 -- What an entry for C promises: document 01's number, with the length or the place, and the room afterwards ("Refusal numbers").
 -- Assumes nothing.
 use Prim.Native.Nat.{ℕ}
+use mathlib.Core.Bool.{Bool}
 use mathlib.Core.List.{List}
 use Rattle.card.specs.Verdict.{numberOf, placeOf}
 use Rattle.card.specs.declared.Verdict.{Verdict}
@@ -10,6 +11,8 @@ use Rattle.room.specs.declared.Answer.{Answer}
 use Rattle.room.specs.Answer.{Text, told, answerNumber, answerValue}
 use Rattle.entry.specs.Said.{Said}
 use Rattle.entry.specs.Contract.{Enters, inRoom}
+use Rattle.ask.specs.declared.Asked.{Asked}
+use Rattle.ask.specs.Answered.{asked, askedNumber, askedValue}
 use Rattle.tablet.specs.declared.OpenPanelAnswer.{OpenPanelAnswer}
 
 -- the two numbers of an answer
@@ -26,3 +29,10 @@ judged o = verdictNumbers (outlineOf o .verdict)
 -- the room `was` became `is`
 abbrev pub Told : (was is : List ℕ) → Text → OpenPanelAnswer → Type 0
 Told was is said answer = Enters inRoom (λ (s : Said ℕ). numbers (told s)) was is said answer
+
+-- of a question's answer; 0 and 1 for yes, 0 and 0 for no
+abbrev pub askedNumbers : Asked → OpenPanelAnswer
+askedNumbers a = record { number = askedNumber a; value = askedValue a }
+
+abbrev pub answeredNumbers : Said Bool → OpenPanelAnswer
+answeredNumbers said = askedNumbers (asked said)

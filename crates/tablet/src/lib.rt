@@ -1,4 +1,6 @@
 // The entries for C: the same promises, with answers in numbers ("Refusal numbers").
+use ask::Asked;
+use ask::ask;
 use card::Verdict;
 use card::limits::BRANCH_PLACES;
 use card::limits::NODE_PLACES;
@@ -13,7 +15,8 @@ ghost use Rattle.reading.specs.Reading.{readOf};
 ghost use Rattle.writer.specs.WriteSaid.{writeSaid};
 ghost use Rattle.reducer.specs.ReduceSaid.{reduceSaid};
 ghost use Rattle.panel.specs.PanelSaid.{panelSaid};
-ghost use Rattle.tablet.specs.Told.{numbers, verdictNumbers, judged, Told};
+ghost use Rattle.ask.specs.AskSaid.{askSaid};
+ghost use Rattle.tablet.specs.Told.{numbers, verdictNumbers, judged, Told, askedNumbers, answeredNumbers};
 
 // Number 0: the value is the text's length. Else the refusal's number, and the value is its place.
 #[repr(C)]
@@ -60,6 +63,31 @@ fn verdict_in_numbers(verdict: Verdict) -> OpenPanelAnswer
     }
 }
 
+fn asked_in_numbers(asked: Asked) -> OpenPanelAnswer
+    ensures { λ r. ⌜ r ≡ askedNumbers asked ⌝ }
+{
+    match asked {
+        Asked::Yes => {
+            return OpenPanelAnswer {
+                number: 0,
+                value: 1,
+            };
+        }
+        Asked::No => {
+            return OpenPanelAnswer {
+                number: 0,
+                value: 0,
+            };
+        }
+        Asked::Refused(number, place) => {
+            return OpenPanelAnswer {
+                number: number,
+                value: place,
+            };
+        }
+    }
+}
+
 // Is it a card? A card that is taken answers 0 and 0.
 #[no_mangle]
 pub extern "C" fn open_panel_judge(card: &[u8]) -> OpenPanelAnswer
@@ -98,4 +126,13 @@ pub extern "C" fn open_panel_show(card: &[u8], seats: &[u8], room: &mut [u8]) ->
 {
     let answer = panel(card, seats, room);
     in_numbers(answer)
+}
+
+// Does a question hold at the seats? Yes answers 0 and 1, no 0 and 0.
+#[no_mangle]
+pub extern "C" fn open_panel_ask(card: &[u8], question: &[u8], seats: &[u8]) -> OpenPanelAnswer
+    ensures { λ r. ⌜ r ≡ answeredNumbers (askSaid (now (card .entry)) (now (question .entry)) (now (seats .entry))) ⌝ }
+{
+    let asked = ask(card, question, seats);
+    asked_in_numbers(asked)
 }

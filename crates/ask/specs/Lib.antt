@@ -1,0 +1,2 @@
+pub mod AskSaid
+pub mod Answered

@@ -1,0 +1,170 @@
+-- One way out for each way in which reading may end (proofs/Whole.antt). Assumes nothing.
+use Rattle.question.proofs.Whole.{too-long, formula-stops, unended, some-node, broken, understood}
+use Rattle.guard.proofs.Building.{still-sized}
+use Rattle.grouping.specs.Language.{questions}
+use Rattle.late.specs.Late.{noneYet}
+use Rattle.late.specs.State.{after}
+use Rattle.asking.specs.Question.{asked}
+use Rattle.card.specs.Limits.{mostNodes}
+use Rattle.reading.specs.Reader.{at}
+use Rattle.marks.specs.Step.{marksAt}
+use denote.Ref.{now}
+use native.Mathlib.Omega.{arith}
+use borrow.Author.Needs.{needs}
+use Rattle.question.proofs.question_into.Statement.{statement}
+use Rattle.question.proofs.question_into.Tie as tie
+
+cast-t14 : tie.Need-cast-t14
+cast-t14 c = search needs
+
+refused-requires : tie.Need-refused-requires
+refused-requires c κs = search needs
+
+returns : tie.Need-returns
+returns c =
+    let at-if1 = c .before in
+    let entry = at-if1 .before .before in
+    let a = entry .args in
+    rw (c .refused .ensures) (too-long (now (a .question)) (a .seats) (a .top) (now (a .nodes)) (now (a .nodes)) (omega (arith, at-if1 .if1 .taken)))
+
+array-write-state : tie.Need-array-write-state
+array-write-state c = search needs
+
+expression-requires : tie.Need-expression-requires
+expression-requires c κs = search needs
+
+array-read-search : tie.Need-array-read-search
+array-read-search c = search needs
+
+array-read-search-2 : tie.Need-array-read-search-2
+array-read-search-2 c = search needs
+
+search-requires : tie.Need-search-requires
+search-requires c κs = search needs
+
+refused-requires-2 : tie.Need-refused-requires-2
+refused-requires-2 c κs = search needs
+
+returns-2 : tie.Need-returns-2
+returns-2 c =
+    let at-search = c .before in
+    let at-if2 = at-search .before in
+    let at-expression = at-if2 .before in
+    let at-if1 = at-expression .before .before .before in
+    let entry = at-if1 .before .before in
+    let a = entry .args in
+    rw (c .refused2 .ensures, at-search .search .ensures)
+    (formula-stops (now (a .question)) (a .seats) (a .top) (now (a .nodes)) (at-expression .expression .last .1 .1 .0) (omega (arith, at-if1 .if1 .left)) (after (at-expression .expression .last .1 .1 .1 .0) (at-expression .expression .result)) (at-expression .expression .ensures) (at-if2 .if2 .taken))
+
+step-requires : tie.Need-step-requires
+step-requires c κs = search needs
+
+cast-search : tie.Need-cast-search
+cast-search c = search needs
+
+search-requires-2 : tie.Need-search-requires-2
+search-requires-2 c κs = search needs
+
+refused-requires-3 : tie.Need-refused-requires-3
+refused-requires-3 c κs = search needs
+
+returns-3 : tie.Need-returns-3
+returns-3 c =
+    let at-search2 = c .before in
+    let at-if3 = at-search2 .before in
+    let at-step = at-if3 .before .before .before in
+    let at-if2 = at-step .before in
+    let at-expression = at-if2 .before in
+    let at-if1 = at-expression .before .before .before in
+    let entry = at-if1 .before .before in
+    let a = entry .args in
+    rw (c .refused3 .ensures, at-search2 .search2 .ensures)
+    (unended (now (a .question)) (a .seats) (a .top) (now (a .nodes)) (at-expression .expression .last .1 .1 .0) (omega (arith, at-if1 .if1 .left)) (after (at-expression .expression .last .1 .1 .1 .0) (at-expression .expression .result)) (at-expression .expression .ensures) (at-if2 .if2 .left)
+    (at-step .step .result) (at-step .step .ensures) (at-if3 .if3 .taken))
+
+array-read-root : tie.Need-array-read-root
+array-read-root c = search needs
+
+sub-root : tie.Need-sub-root
+sub-root c =
+    let at-if2 = c .before .before .before .before in
+    let at-expression = at-if2 .before in
+    let at-if1 = at-expression .before .before .before in
+    let entry = at-if1 .before .before in
+    let a = entry .args in
+    omega (
+      arith,
+      some-node (now (a .question)) (a .seats) (a .top) (now (a .nodes)) (at-expression .expression .last .1 .1 .0) (omega (arith, at-if1 .if1 .left)) (after (at-expression .expression .last .1 .1 .1 .0) (at-expression .expression .result)) (at-expression .expression .ensures) (at-if2 .if2 .left),
+    )
+
+settle-requires : tie.Need-settle-requires
+settle-requires c κs =
+    let at-expression = c .before .before .before .before .before .before in
+    let entry = at-expression .before .before .before .before .before in
+    let a = entry .args in
+    still-sized questions (now (a .question)) (a .top) (now (a .nodes)) (at-expression .expression .last .1 .1 .0) 0 noneYet (asked (at (marksAt 0 (now (a .question)) 0) mostNodes)) (after (at-expression .expression .last .1 .1 .1 .0) (at-expression .expression .result)) (at-expression .expression .ensures)
+
+array-read-t12 : tie.Need-array-read-t12
+array-read-t12 c = search needs
+
+array-read-t37 : tie.Need-array-read-t37
+array-read-t37 c = search needs
+
+refused-requires-4 : tie.Need-refused-requires-4
+refused-requires-4 c κs = search needs
+
+returns-4 : tie.Need-returns-4
+returns-4 c =
+    let at-if4 = c .before in
+    let at-settle = at-if4 .before .before in
+    let at-if3 = at-settle .before .before in
+    let at-step = at-if3 .before .before .before in
+    let at-if2 = at-step .before in
+    let at-expression = at-if2 .before in
+    let at-if1 = at-expression .before .before .before in
+    let entry = at-if1 .before .before in
+    let a = entry .args in
+    rw (c .refused4 .ensures)
+    (broken (now (a .question)) (a .seats) (a .top) (now (a .nodes)) (at-expression .expression .last .1 .1 .0) (omega (arith, at-if1 .if1 .left)) (after (at-expression .expression .last .1 .1 .1 .0) (at-expression .expression .result)) (at-expression .expression .ensures) (at-if2 .if2 .left)
+    (at-step .step .result) (at-step .step .ensures) (at-if3 .if3 .left) (entry .pre .0) (entry .pre .1) (at-settle .settle .last .0) (at-settle .settle .ensures .0) (at-if4 .if4 .taken))
+
+returns-5 : tie.Need-returns-5
+returns-5 c =
+    let at-settle = c .before .before in
+    let at-if3 = at-settle .before .before in
+    let at-step = at-if3 .before .before .before in
+    let at-if2 = at-step .before in
+    let at-expression = at-if2 .before in
+    let at-if1 = at-expression .before .before .before in
+    let entry = at-if1 .before .before in
+    let a = entry .args in
+    understood (now (a .question)) (a .seats) (a .top) (now (a .nodes)) (at-expression .expression .last .1 .1 .0) (omega (arith, at-if1 .if1 .left)) (after (at-expression .expression .last .1 .1 .1 .0) (at-expression .expression .result)) (at-expression .expression .ensures) (at-if2 .if2 .left)
+    (at-step .step .result) (at-step .step .ensures) (at-if3 .if3 .left) (entry .pre .0) (entry .pre .1) (at-settle .settle .last .0) (at-settle .settle .ensures .0) (c .if4 .left)
+
+pub question-into-spec : {M : Type 1} → statement M
+question-into-spec =
+    tie.close
+    (tie.spec
+    cast-t14
+    refused-requires
+    returns
+    array-write-state
+    expression-requires
+    array-read-search
+    array-read-search-2
+    search-requires
+    refused-requires-2
+    returns-2
+    step-requires
+    cast-search
+    search-requires-2
+    refused-requires-3
+    returns-3
+    array-read-root
+    sub-root
+    settle-requires
+    array-read-t12
+    array-read-t37
+    refused-requires-4
+    returns-4
+    returns-5)
