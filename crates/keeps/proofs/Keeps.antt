@@ -5,10 +5,12 @@ use Rattle.writer.proofs.write.Met.{met as write-met}
 use Rattle.reducer.proofs.reduce.Met.{met as reduce-met}
 use Rattle.panel.proofs.panel.Met.{met as panel-met}
 use Rattle.program.proofs.respond.Met.{met as respond-met}
+use Rattle.ask.proofs.ask.Met.{met as ask-met}
 use Rattle.tablet.proofs.open_panel_judge.Met.{met as judge-for-c-met}
 use Rattle.tablet.proofs.open_panel_write.Met.{met as write-for-c-met}
 use Rattle.tablet.proofs.open_panel_reduce.Met.{met as reduce-for-c-met}
 use Rattle.tablet.proofs.open_panel_show.Met.{met as show-for-c-met}
+use Rattle.tablet.proofs.open_panel_ask.Met.{met as ask-for-c-met}
 use Rattle.keeps.specs.Keeps.{Keeps}
 
 pub keeps : Keeps
@@ -19,8 +21,10 @@ keeps = record {
   reduce = λ M. reduce-met;
   panel = λ M. panel-met;
   respond = λ M. respond-met;
+  ask = λ M. ask-met;
   judge-for-c = λ M. judge-for-c-met;
   write-for-c = λ M. write-for-c-met;
   reduce-for-c = λ M. reduce-for-c-met;
   show-for-c = λ M. show-for-c-met;
+  ask-for-c = λ M. ask-for-c-met;
 }

@@ -7,10 +7,12 @@ use Rattle.writer.proofs.write.Statement.{statement as writeKeeps}
 use Rattle.reducer.proofs.reduce.Statement.{statement as reduceKeeps}
 use Rattle.panel.proofs.panel.Statement.{statement as panelKeeps}
 use Rattle.program.proofs.respond.Statement.{statement as respondKeeps}
+use Rattle.ask.proofs.ask.Statement.{statement as askKeeps}
 use Rattle.tablet.proofs.open_panel_judge.Statement.{statement as judgeForCKeeps}
 use Rattle.tablet.proofs.open_panel_write.Statement.{statement as writeForCKeeps}
 use Rattle.tablet.proofs.open_panel_reduce.Statement.{statement as reduceForCKeeps}
 use Rattle.tablet.proofs.open_panel_show.Statement.{statement as showForCKeeps}
+use Rattle.tablet.proofs.open_panel_ask.Statement.{statement as askForCKeeps}
 
 pub record Keeps : Type 2 where
   pub read : (M : Type 1) → readKeeps M
@@ -19,8 +21,10 @@ pub record Keeps : Type 2 where
   pub reduce : (M : Type 1) → reduceKeeps M
   pub panel : (M : Type 1) → panelKeeps M
   pub respond : (M : Type 1) → respondKeeps M
+  pub ask : (M : Type 1) → askKeeps M
   -- the names for C
   pub judge-for-c : (M : Type 1) → judgeForCKeeps M
   pub write-for-c : (M : Type 1) → writeForCKeeps M
   pub reduce-for-c : (M : Type 1) → reduceForCKeeps M
   pub show-for-c : (M : Type 1) → showForCKeeps M
+  pub ask-for-c : (M : Type 1) → askForCKeeps M

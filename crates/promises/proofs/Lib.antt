@@ -11,3 +11,4 @@ pub mod Readings
 pub mod Writings
 pub mod Reductions
 pub mod Panels
+pub mod Questions

@@ -1,4 +1,4 @@
--- Document 01's figures, each beside the name by which every definition and every contract speaks of it. Assumes nothing.
+-- The documents' figures, each beside the name by which every definition and every contract speaks of it. Assumes nothing.
 use mathlib.Core.Path.{_≡_}
 use Rattle.card.specs.Limits.{cardBytes, mostSeats, topState, mostStatements, mostBranches, mostNodes, mostDepth, numberDigits, furtherDigits, wordDigits, unit, weightDigits}
 use Rattle.card.specs.Refusals.{tooLong, outsideRules, outOfShape, pastLimit, aboveTop, notDue, wrongWeight, wrongSeats, seatAboveTop, roomTooSmall}
@@ -6,6 +6,7 @@ use Rattle.room.specs.Digits.{digit}
 use Rattle.texts.specs.Lengths.{writtenRoom, reducedRoom}
 use Rattle.panel.specs.PanelRoom.{panelRoom}
 use Rattle.program.specs.Program.{inputBytes, lineEnd, noState}
+use Rattle.asking.specs.Asking.{inQuestion}
 
 pub record Figures : Type 0 where
   -- "What the box holds"
@@ -39,6 +40,13 @@ pub record Figures : Type 0 where
   pub line-end : lineEnd ≡ 10
   pub digit-0 : digit 0 ≡ 48
   pub no-state : noState ≡ 255
+  -- document 02, 2026-01: a question's refusals
+  pub question-too-long : inQuestion tooLong ≡ 21
+  pub question-outside-rules : inQuestion outsideRules ≡ 22
+  pub question-out-of-shape : inQuestion outOfShape ≡ 23
+  pub question-past-limit : inQuestion pastLimit ≡ 24
+  pub question-above-top : inQuestion aboveTop ≡ 25
+  pub question-not-due : inQuestion notDue ≡ 26
   -- rooms that every text fits into; they are the project's own figures
   pub written-room : writtenRoom ≡ 82639
   pub reduced-room : reducedRoom ≡ 347890

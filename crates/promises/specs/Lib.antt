@@ -9,3 +9,4 @@ pub mod Readings
 pub mod Writings
 pub mod Reductions
 pub mod Panels
+pub mod Questions
