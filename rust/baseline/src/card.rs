@@ -1,6 +1,7 @@
 //! The value of a card that has been read.
 
-use crate::limits::{BRANCHES, NODES, STATEMENTS, UNIT};
+use crate::limits::{BRANCHES, NODES, STATEMENTS, STATES, UNIT};
+use crate::refusal::{Refusal, SEAT_COUNT, SEAT_STATE};
 
 /// Which kind of model a card describes.
 #[derive(Clone, Copy, PartialEq, Eq, Debug)]
@@ -38,9 +39,9 @@ pub struct Group {
 /// what joins them, so that the last is the root, and the operand of a `!` and
 /// the right operand of a joining sign stand directly before it.
 #[derive(Clone, Copy, PartialEq, Eq, Debug)]
-pub enum Node {
+pub enum Node<Leaf = Group> {
     /// A leaf.
-    Group(Group),
+    Group(Leaf),
     /// The node before it, negated.
     Not,
     /// Two nodes joined by `&`.
@@ -148,6 +149,21 @@ impl Card {
     pub fn branches(&self, statement: &Statement) -> &[Branch] {
         let from = usize::from(statement.branches_from);
         &self.branches[from..from + usize::from(statement.branches_len)]
+    }
+
+    /// How many seats of a seating are in each state.
+    pub(crate) fn counts(&self, seats: &[u8]) -> Result<[u8; STATES], Refusal> {
+        if seats.len() != self.seats() {
+            return Err(Refusal::new(SEAT_COUNT, 0));
+        }
+        let mut counts = [0; STATES];
+        for (seat, &state) in seats.iter().enumerate() {
+            if state > self.top {
+                return Err(Refusal::new(SEAT_STATE, seat));
+            }
+            counts[usize::from(state)] += 1;
+        }
+        Ok(counts)
     }
 
     /// How many guard nodes there are on the whole card.

@@ -48,21 +48,26 @@ impl CounterTest {
     }
 }
 
-/// Whether a translated guard holds at some counts. The nodes stand operands
-/// first, so one pass with a stack of bits does it; a guard has at most as many
-/// values waiting as it has nodes.
+/// Whether a translated guard holds at some counts.
 #[inline]
 pub(crate) fn guard_holds(guard: &[Node], own: u8, seats: u8, counts: &[u8]) -> bool {
+    row_holds(guard, |group| {
+        let test = CounterTest::of_group(group, own, seats);
+        test.holds(counts[usize::from(group.state)])
+    })
+}
+
+/// Whether a row of nodes holds, given what its leaves do. The nodes stand
+/// operands first, so one pass with a stack of bits does it; there are at most
+/// as many values waiting as there are nodes.
+#[inline(always)]
+pub(crate) fn row_holds<Leaf: Copy>(row: &[Node<Leaf>], holds: impl Fn(Leaf) -> bool) -> bool {
     const { assert!(crate::limits::NODES <= 64) };
-    // No guard at all holds.
+    // No node at all holds.
     let mut waiting: u64 = 1;
-    for node in guard {
+    for node in row {
         match *node {
-            Node::Group(group) => {
-                let test = CounterTest::of_group(group, own, seats);
-                let holds = test.holds(counts[usize::from(group.state)]);
-                waiting = waiting << 1 | u64::from(holds);
-            }
+            Node::Group(leaf) => waiting = waiting << 1 | u64::from(holds(leaf)),
             Node::Not => waiting ^= 1,
             Node::And { .. } => waiting = waiting >> 1 & (waiting | !1),
             Node::Or { .. } => waiting = waiting >> 1 | waiting & 1,

@@ -1,10 +1,12 @@
 //! Document 01 as an ordinary Rust program: rule cards are read, written,
-//! reduced to counters, and shown as the panel of a seating.
+//! reduced to counters, and shown as the panel of a seating; and those requests
+//! of document 02 that have landed: questions about a seating are answered.
 //!
-//! It was written from the document alone, so that a slip in it and a slip in
+//! It was written from the documents alone, so that a slip in it and a slip in
 //! the verified library are unlikely to be the same one; `compare` runs both on
 //! the same inputs. It is also meant to be fast: `bench` measures the library
-//! against it. The entries use no heap and go once through a card's bytes.
+//! against it. The entries use no heap and go once through a card's bytes, and
+//! at most twice through a question's.
 //!
 //! ```
 //! let card = b"nondeterministic module process1 s1 : [0..1] init 0;
@@ -21,9 +23,11 @@
 
 mod card;
 mod counter;
+mod expression;
 pub mod limits;
 mod panel;
 mod program;
+mod question;
 mod read;
 mod reduce;
 pub mod refusal;
@@ -34,6 +38,7 @@ mod write;
 pub use card::{Branch, Card, Group, Mode, Node, Statement};
 pub use panel::panel;
 pub use program::program;
+pub use question::ask;
 pub use read::judge;
 pub use reduce::reduce;
 pub use refusal::Refusal;

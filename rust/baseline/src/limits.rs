@@ -1,7 +1,9 @@
-//! Every number of document 01 that bounds something, each named once.
+//! Every number of the documents that bounds something, each named once.
 
 /// Longest card, in bytes.
 pub const CARD_BYTES: usize = 16_384;
+/// Longest question, in bytes.
+pub const QUESTION_BYTES: usize = CARD_BYTES;
 /// Most seats at a table; the least is one.
 pub const SEATS: usize = 16;
 /// Highest top state; the lowest is zero.
@@ -12,9 +14,9 @@ pub const STATES: usize = TOP_STATE + 1;
 pub const STATEMENTS: usize = 32;
 /// Most branches in one statement.
 pub const BRANCHES: usize = 8;
-/// Most guard nodes in one statement.
+/// Most guard nodes in one statement, and nodes in a question.
 pub const NODES: usize = 32;
-/// Most `!` and expression brackets open around a place in a guard.
+/// Most `!` and expression brackets open around a place in a guard or a question.
 pub const DEPTH: usize = 8;
 /// Most digits of a number, and of a decimal's whole part.
 pub const NUMBER_DIGITS: usize = 5;

@@ -4,7 +4,7 @@ use crate::card::{Branch, Card, Mode, Statement};
 use crate::counter::guard_holds;
 use crate::limits::{STATEMENTS, STATES};
 use crate::read::read_into;
-use crate::refusal::{Refusal, SEAT_COUNT, SEAT_STATE};
+use crate::refusal::Refusal;
 use crate::text::{print_into, Print, Text};
 
 /// Writes the panel of a card and a seating into a lent room.
@@ -32,16 +32,7 @@ struct Panel<'c> {
 
 impl<'c> Panel<'c> {
     fn new(card: &'c Card, seats: &[u8]) -> Result<Self, Refusal> {
-        if seats.len() != card.seats() {
-            return Err(Refusal::new(SEAT_COUNT, 0));
-        }
-        let mut counts = [0; STATES];
-        for (seat, &state) in seats.iter().enumerate() {
-            if state > card.top {
-                return Err(Refusal::new(SEAT_STATE, seat));
-            }
-            counts[usize::from(state)] += 1;
-        }
+        let counts = card.counts(seats)?;
         let mut may_be_taken = [false; STATEMENTS];
         for (may, statement) in may_be_taken.iter_mut().zip(card.statements()) {
             *may = counts[usize::from(statement.own)] > 0

@@ -4,9 +4,10 @@ use crate::card::{
     units_of_decimal, units_of_fraction, units_of_number, Branch, Card, Group, Mode, Node,
     Statement,
 };
-use crate::limits::{BRANCHES, CARD_BYTES, DEPTH, NODES, SEATS, STATEMENTS, TOP_STATE, UNIT};
-use crate::refusal::{Refusal, LIMIT, OUTSIDE, SHAPE, STATE, TOO_LONG, WEIGHT, WORD};
-use crate::scan::{first_outside, Fits, Scanner, Spelled, Stop};
+use crate::expression::{Expressions, SpelledGroup};
+use crate::limits::{BRANCHES, CARD_BYTES, NODES, SEATS, STATEMENTS, TOP_STATE, UNIT};
+use crate::refusal::{Refusal, STATE, TOO_LONG, WEIGHT, WORD};
+use crate::scan::{Fits, Scanner, Spelled, Stop};
 
 /// Reads a card.
 pub fn judge(card: &[u8]) -> Result<Card, Refusal> {
@@ -30,31 +31,23 @@ pub(crate) fn read_into(bytes: &[u8], card: &mut Card) -> Result<(), Refusal> {
         guard_from: 0,
         nodes_met: 0,
     };
-    if let Err(stop) = reader.card() {
-        // Up to here every mark was inside the rules, or it would have stopped us.
-        let place = reader.scan.place();
-        return Err(match (first_outside(bytes, place), stop) {
-            (Some(outside), _) => Refusal::new(OUTSIDE, outside),
-            (None, Stop::Shape) => Refusal::new(SHAPE, place),
-            (None, Stop::Limit) => Refusal::new(LIMIT, place),
-        });
-    }
+    reader.card().map_err(|stop| reader.scan.refusal(stop))?;
     match reader.late.first {
         Some(refusal) => Err(refusal),
         None => Ok(()),
     }
 }
 
-/// The earliest of the refusals that count only on a card of good shape.
-struct Late {
-    first: Option<Refusal>,
+/// The earliest of the refusals that count only where the shape is good.
+pub(crate) struct Late {
+    pub(crate) first: Option<Refusal>,
 }
 
 impl Late {
-    const NONE: Late = Late { first: None };
+    pub(crate) const NONE: Late = Late { first: None };
 
     #[cold]
-    fn note(&mut self, number: u8, place: usize) {
+    pub(crate) fn note(&mut self, number: u8, place: usize) {
         if self.first.is_none_or(|first| place < first.place) {
             self.first = Some(Refusal::new(number, place));
         }
@@ -105,9 +98,48 @@ struct Reader<'a, 'c> {
     next_branch: usize,
     /// Where the nodes of the present statement start.
     guard_from: usize,
-    /// Nodes whose marks have been met in the present statement. A joined node
-    /// is met at its sign but stored only behind its right operand.
+    /// Nodes whose marks have been met in the present statement.
     nodes_met: usize,
+}
+
+impl<'a> Expressions<'a> for Reader<'a, '_> {
+    type Leaf = Group;
+
+    #[inline(always)]
+    fn scan(&mut self) -> &mut Scanner<'a> {
+        &mut self.scan
+    }
+
+    #[inline(always)]
+    fn meet_node(&mut self, mark: usize) -> Fits<()> {
+        if self.nodes_met == NODES {
+            return self.passes_limit(mark);
+        }
+        self.nodes_met += 1;
+        Ok(())
+    }
+
+    #[inline(always)]
+    fn stored(&self) -> usize {
+        self.next_node - self.guard_from
+    }
+
+    #[inline(always)]
+    fn store(&mut self, node: Node) {
+        self.card.nodes[self.next_node] = node;
+        self.next_node += 1;
+    }
+
+    #[inline(always)]
+    fn bracketed(&mut self, bracket: usize, depth: usize) -> Fits<()> {
+        match self.scan.seat_word() {
+            Ok(seat) => {
+                self.meet_node(bracket)?;
+                self.group(bracket, seat)
+            }
+            Err(_) => self.nested(bracket, depth),
+        }
+    }
 }
 
 impl Reader<'_, '_> {
@@ -210,15 +242,15 @@ impl Reader<'_, '_> {
     #[inline(always)]
     fn state(&mut self) -> Fits<u8> {
         let state = self.scan.number()?;
-        self.note_state(state);
+        self.note_state(state, self.scan.mark());
         Ok(state as u8)
     }
 
-    /// Notes the number read last if it lies above the top state.
+    /// Notes a number that lies above the top state.
     #[inline(always)]
-    fn note_state(&mut self, state: u32) {
+    fn note_state(&mut self, state: u32, mark: usize) {
         if state > u32::from(self.card.top) {
-            self.late.note(STATE, self.scan.mark());
+            self.late.note(STATE, mark);
         }
     }
 
@@ -253,81 +285,15 @@ impl Reader<'_, '_> {
         Ok(())
     }
 
-    fn expression(&mut self, depth: usize) -> Fits<()> {
-        self.unary(depth)?;
-        self.conjuncts(depth)?;
-        while self.scan.takes(b'|') {
-            let left = self.meet_joining_sign()?;
-            self.unary(depth)?;
-            self.conjuncts(depth)?;
-            self.store(Node::Or { left });
-        }
-        Ok(())
-    }
-
-    /// `& unary`, as often as it comes, behind a unary.
-    fn conjuncts(&mut self, depth: usize) -> Fits<()> {
-        while self.scan.takes(b'&') {
-            let left = self.meet_joining_sign()?;
-            self.unary(depth)?;
-            self.store(Node::And { left });
-        }
-        Ok(())
-    }
-
-    fn unary(&mut self, depth: usize) -> Fits<()> {
-        if self.scan.takes_not() {
-            let mark = self.scan.mark();
-            if depth == DEPTH {
-                return self.passes_limit(mark);
-            }
-            self.meet_node(mark)?;
-            self.unary(depth + 1)?;
-            self.store(Node::Not);
-            return Ok(());
-        }
-        self.scan.sign(b'(')?;
-        let bracket = self.scan.mark();
-        if let Ok(seat) = self.scan.seat_word() {
-            self.meet_node(bracket)?;
-            return self.group(bracket, seat);
-        }
-        if depth == DEPTH {
-            return self.passes_limit(bracket);
-        }
-        self.expression(depth + 1)?;
-        self.scan.sign(b')')
-    }
-
     /// A group, from behind its first seat word on.
     fn group(&mut self, bracket: usize, first_seat: u32) -> Fits<()> {
-        let differs = self.scan.relation()?;
-        // A symmetric group names one state, so its first one speaks for all;
-        // any other group is refused at its bracket, which comes earlier.
-        let state = self.scan.number()?;
-        self.note_state(state);
-        let sign = self.scan.peek();
-        let mut seats = SeatSet::NONE;
-        seats.add(first_seat);
-        let mut alike = true;
-        if sign == b'&' || sign == b'|' {
-            while self.scan.takes(sign) {
-                seats.add(self.scan.seat_word()?);
-                alike &= self.scan.relation()? == differs;
-                alike &= self.scan.number()? == state;
-            }
+        let spelled = SpelledGroup::taken(&mut self.scan, first_seat)?;
+        self.note_state(spelled.state, spelled.state_mark);
+        match spelled.wanted {
+            Some(wanted) => self.wanted.note(wanted, bracket),
+            None => self.late.note(WORD, bracket),
         }
-        self.scan.sign(b')')?;
-        match seats.wanted() {
-            Some(wanted) if alike => self.wanted.note(wanted, bracket),
-            _ => self.late.note(WORD, bracket),
-        }
-        self.store(Node::Group(Group {
-            everyone: seats.has_first(),
-            any: sign == b'|',
-            differs,
-            state: state as u8,
-        }));
+        self.store(Node::Group(spelled.group));
         Ok(())
     }
 
@@ -385,72 +351,5 @@ impl Reader<'_, '_> {
             units: units.unwrap_or(0),
             end,
         })
-    }
-
-    /// Counts a joined node at its sign and gives its left operand's place.
-    #[inline(always)]
-    fn meet_joining_sign(&mut self) -> Fits<u8> {
-        self.meet_node(self.scan.mark())?;
-        Ok((self.next_node - 1 - self.guard_from) as u8)
-    }
-
-    #[inline(always)]
-    fn meet_node(&mut self, mark: usize) -> Fits<()> {
-        if self.nodes_met == NODES {
-            return self.passes_limit(mark);
-        }
-        self.nodes_met += 1;
-        Ok(())
-    }
-
-    #[cold]
-    fn passes_limit(&mut self, mark: usize) -> Fits<()> {
-        self.scan.back_to(mark);
-        Err(Stop::Limit)
-    }
-
-    #[inline(always)]
-    fn store(&mut self, node: Node) {
-        self.card.nodes[self.next_node] = node;
-        self.next_node += 1;
-    }
-}
-
-const HIGHEST_SEAT: u32 = SEATS as u32;
-
-/// The seats that a group names.
-struct SeatSet {
-    /// Bit 0 stands for seat 1.
-    bits: u32,
-    /// A seat came twice, or no table has it.
-    broken: bool,
-}
-
-impl SeatSet {
-    const NONE: SeatSet = SeatSet {
-        bits: 0,
-        broken: false,
-    };
-
-    #[inline(always)]
-    fn add(&mut self, seat: u32) {
-        let bit = match seat {
-            1..=HIGHEST_SEAT => 1 << (seat - 1),
-            _ => 0,
-        };
-        self.broken |= bit == 0 || self.bits & bit != 0;
-        self.bits |= bit;
-    }
-
-    fn has_first(&self) -> bool {
-        self.bits & 1 != 0
-    }
-
-    /// The number of seats for which these are all seats, or all but the first.
-    #[inline(always)]
-    fn wanted(&self) -> Option<u32> {
-        let with_first = self.bits | 1;
-        let without_gap = with_first & (with_first + 1) == 0;
-        (without_gap && !self.broken).then(|| with_first.count_ones())
     }
 }

@@ -1,13 +1,13 @@
-//! Why a card, a seating or a room is turned down, and where.
+//! Why a card, a seating, a room or a question is turned down, and where.
 
 use std::fmt;
 
-/// A refusal: its number and its place, as listed in the chapter "Refusal numbers".
+/// A refusal: its number and its place, as document 01 lists them in the chapter "Refusal numbers" and document 02 with each request.
 #[derive(Clone, Copy, PartialEq, Eq, Debug)]
 pub struct Refusal {
     /// One of the numbers below.
     pub number: u8,
-    /// A byte of the card, a seat, or a length, depending on the number.
+    /// A byte of the card or the question, a seat, or a length, depending on the number.
     pub place: usize,
 }
 
@@ -31,6 +31,8 @@ pub const SEAT_COUNT: u8 = 8;
 pub const SEAT_STATE: u8 = 9;
 /// The text does not fit into the room.
 pub const ROOM: u8 = 10;
+/// What is added to [`TOO_LONG`], [`OUTSIDE`], [`SHAPE`], [`LIMIT`], [`STATE`] or [`WORD`] where a question is refused so.
+pub const OF_QUESTION: u8 = 20;
 
 impl Refusal {
     /// A refusal of this number at this place.

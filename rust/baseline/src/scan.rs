@@ -6,6 +6,7 @@
 //! of the card by the full rules for marks.
 
 use crate::limits::{FURTHER_DIGITS, NUMBER_DIGITS, WORD_DIGITS};
+use crate::refusal::{Refusal, LIMIT, OUTSIDE, SHAPE};
 
 /// Why reading stopped; where is the scanner's own place.
 #[derive(Clone, Copy, PartialEq, Eq, Debug)]
@@ -31,7 +32,8 @@ pub(crate) enum Spelled {
     Fraction(u32, u32),
 }
 
-/// A place between two marks of a card.
+/// A place between two marks of a card or a question.
+#[derive(Clone, Copy)]
 pub(crate) struct Scanner<'a> {
     bytes: &'a [u8],
     /// Where the next mark, or what separates it from the last, starts.
@@ -78,9 +80,14 @@ impl<'a> Scanner<'a> {
         self.at = mark;
     }
 
-    /// Where reading stands; after a stop, the place of the mark that stopped it.
-    pub(crate) fn place(&self) -> usize {
-        self.at
+    /// What a stop here means. Up to here every mark was inside the rules, or it would have stopped us.
+    #[cold]
+    pub(crate) fn refusal(&self, stop: Stop) -> Refusal {
+        match (first_outside(self.bytes, self.at), stop) {
+            (Some(outside), _) => Refusal::new(OUTSIDE, outside),
+            (None, Stop::Shape) => Refusal::new(SHAPE, self.at),
+            (None, Stop::Limit) => Refusal::new(LIMIT, self.at),
+        }
     }
 
     pub(crate) fn at_end(&mut self) -> bool {
@@ -302,7 +309,7 @@ fn number_at(bytes: &[u8], from: usize, most_digits: usize) -> Option<(u32, usiz
 
 /// The first mark outside the rules at or behind a place where a mark, or what
 /// separates marks, starts.
-pub(crate) fn first_outside(bytes: &[u8], from: usize) -> Option<usize> {
+fn first_outside(bytes: &[u8], from: usize) -> Option<usize> {
     let run = |from: usize, belongs: fn(u8) -> bool| {
         let rest = &bytes[from..];
         let end = rest.iter().position(|&byte| !belongs(byte));

@@ -1,9 +1,10 @@
 //! The chapter "Both sides of the edge", and the same for every other limit.
 
+mod cards;
 mod table;
 
 use baseline::{judge, panel, reduce, write, Refusal};
-use table::{card, CARD_A};
+use cards::{card, CARD_A};
 
 const UNTOUCHED: u8 = 0xa5;
 
