@@ -1,5 +1,6 @@
 //! The open panel for Rust: rule cards are judged, written, reduced to
-//! counters, and shown, by the verified library.
+//! counters, and shown, and questions about a seating are answered, by the
+//! verified library.
 //!
 //! Every entry takes the card as bytes and judges it first. A text goes into a
 //! room that the caller lends: an entry answers the text's length, and leaves
@@ -25,6 +26,8 @@ pub use refusal::Refusal;
 
 /// Longest card, in bytes.
 pub const CARD_BYTES: usize = 16_384;
+/// Longest question, in bytes.
+pub const QUESTION_BYTES: usize = 16_384;
 /// Most seats at a table.
 pub const SEATS: usize = 16;
 /// Highest state of a seat on any card.
@@ -36,7 +39,7 @@ pub const REDUCE_ROOM: usize = 347_890;
 /// A room in which every panel fits.
 pub const SHOW_ROOM: usize = 4_101;
 
-/// What the library answers: number 0 and a length, or a refusal and its place.
+/// What the library answers: number 0 and a length, or yes or no as 1 or 0; or a refusal and its place.
 #[repr(C)]
 struct Answer {
     number: u8,
@@ -77,6 +80,24 @@ pub fn reduce(card: &[u8], room: &mut [u8]) -> Result<usize, Refusal> {
 /// Puts the panel of a seating, a state for each seat, into a lent room. Refusals: 1 to 10.
 pub fn show(card: &[u8], seats: &[u8], room: &mut [u8]) -> Result<usize, Refusal> {
     library::show(card, seats, room).into_result()
+}
+
+/// Says whether a question holds at a seating. It is an expression of groups of all seats, such as
+/// `!(s1=0 | s2=0)`, with `((s1=0 & s2!=0) | (s1!=0 & s2=0))` for exactly one.
+/// Refusals: 1 to 7, 21 to 26, then 8 and 9.
+///
+/// ```
+/// let card = b"nondeterministic module process1 s1 : [0..1] init 0;
+///     [] s1=0 -> 1:(s1'=1); endmodule";
+/// assert_eq!(open_panel::ask(card, b"(s1=1)", &[0]), Ok(false));
+/// assert_eq!(open_panel::ask(card, b"!(s1=1)", &[0]), Ok(true));
+/// ```
+pub fn ask(card: &[u8], question: &[u8], seats: &[u8]) -> Result<bool, Refusal> {
+    match library::ask(card, question, seats).into_result()? {
+        0 => Ok(false),
+        1 => Ok(true),
+        other => panic!("the library answers yes or no, and not {other}"),
+    }
 }
 
 /// The card's one written form. Refusals: 1 to 7.

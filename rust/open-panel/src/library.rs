@@ -21,6 +21,14 @@ extern "C" {
         room: *mut u8,
         room_len: usize,
     ) -> Answer;
+    fn open_panel_ask(
+        card: *const u8,
+        card_len: usize,
+        question: *const u8,
+        question_len: usize,
+        seats: *const u8,
+        seats_len: usize,
+    ) -> Answer;
 }
 
 // The library asks for nothing but pieces of memory, of which the room is its
@@ -51,6 +59,20 @@ pub(crate) fn show(card: &[u8], seats: &[u8], room: &mut [u8]) -> Answer {
             seats.len(),
             room.as_mut_ptr(),
             room.len(),
+        )
+    }
+}
+
+pub(crate) fn ask(card: &[u8], question: &[u8], seats: &[u8]) -> Answer {
+    // SAFETY: as above.
+    unsafe {
+        open_panel_ask(
+            card.as_ptr(),
+            card.len(),
+            question.as_ptr(),
+            question.len(),
+            seats.as_ptr(),
+            seats.len(),
         )
     }
 }

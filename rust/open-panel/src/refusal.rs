@@ -1,10 +1,11 @@
-//! Why a card, a seating or a room is turned down, and where.
+//! Why a card, a seating, a room or a question is turned down, and where.
 
 use std::fmt;
 
 /// A refusal. Its [`number`](Refusal::number) and [`place`](Refusal::place)
-/// are document 01's; where it stands `at` something, that is a byte of the card, from 0.
-/// More numbers may come.
+/// are those of documents 01 and 02; where it stands `at` something, that is a
+/// byte, from 0, of the card, or of the question where its name says so. More
+/// numbers may come.
 #[derive(Clone, Copy, PartialEq, Eq, Hash, Debug)]
 #[non_exhaustive]
 pub enum Refusal {
@@ -52,11 +53,38 @@ pub enum Refusal {
         /// The text's length.
         needed: usize,
     },
+    /// 21: the question is longer than [`QUESTION_BYTES`](crate::QUESTION_BYTES).
+    QuestionLong,
+    /// 22: bytes in the question that make no mark, or a number written too long.
+    QuestionMark {
+        /// Where in the question they start.
+        at: usize,
+    },
+    /// 23: a mark of the question that does not fit there, or none is left where one is due.
+    QuestionShape {
+        /// Where in the question the mark starts, or the length of the question.
+        at: usize,
+    },
+    /// 24: more nodes, or more open brackets and `!`, than a question may have.
+    QuestionLimit {
+        /// Where in the question the excess starts.
+        at: usize,
+    },
+    /// 25: a state in the question that is higher than the card's highest.
+    QuestionState {
+        /// Where in the question its number starts.
+        at: usize,
+    },
+    /// 26: a group of the question that is not one of all seats, or no proper exactly-one.
+    QuestionGroup {
+        /// Where in the question its bracket stands; of an exactly-one, the outer.
+        at: usize,
+    },
 }
 
 impl Refusal {
     /// The refusal of this number at this place, if there is one: the numbers
-    /// are 1 to 10, and the place of 1 and 8 is always 0.
+    /// are 1 to 10 and 21 to 26, and the place of 1, 8 and 21 is always 0.
     pub const fn new(number: u8, place: usize) -> Option<Refusal> {
         Some(match number {
             1 if place == 0 => Refusal::Long,
@@ -69,11 +97,17 @@ impl Refusal {
             8 if place == 0 => Refusal::SeatCount,
             9 => Refusal::SeatState { seat: place },
             10 => Refusal::Room { needed: place },
+            21 if place == 0 => Refusal::QuestionLong,
+            22 => Refusal::QuestionMark { at: place },
+            23 => Refusal::QuestionShape { at: place },
+            24 => Refusal::QuestionLimit { at: place },
+            25 => Refusal::QuestionState { at: place },
+            26 => Refusal::QuestionGroup { at: place },
             _ => return None,
         })
     }
 
-    /// Its number, 1 to 10.
+    /// Its number, 1 to 10 or 21 to 26.
     pub const fn number(&self) -> u8 {
         match self {
             Refusal::Long => 1,
@@ -86,30 +120,47 @@ impl Refusal {
             Refusal::SeatCount => 8,
             Refusal::SeatState { .. } => 9,
             Refusal::Room { .. } => 10,
+            Refusal::QuestionLong => 21,
+            Refusal::QuestionMark { .. } => 22,
+            Refusal::QuestionShape { .. } => 23,
+            Refusal::QuestionLimit { .. } => 24,
+            Refusal::QuestionState { .. } => 25,
+            Refusal::QuestionGroup { .. } => 26,
         }
     }
 
-    /// Its place: a byte of the card, a seat, a length, or 0.
+    /// Its place: a byte of the card or of the question, a seat, a length, or 0.
     pub const fn place(&self) -> usize {
         match *self {
-            Refusal::Long | Refusal::SeatCount => 0,
+            Refusal::Long | Refusal::SeatCount | Refusal::QuestionLong => 0,
             Refusal::Mark { at }
             | Refusal::Shape { at }
             | Refusal::Limit { at }
             | Refusal::State { at }
             | Refusal::Word { at }
-            | Refusal::Weight { at } => at,
+            | Refusal::Weight { at }
+            | Refusal::QuestionMark { at }
+            | Refusal::QuestionShape { at }
+            | Refusal::QuestionLimit { at }
+            | Refusal::QuestionState { at }
+            | Refusal::QuestionGroup { at } => at,
             Refusal::SeatState { seat } => seat,
             Refusal::Room { needed } => needed,
         }
     }
 
-    /// Line and column, both from 1, of a refusal that stands at a byte of this card.
-    pub fn line_and_column(&self, card: &[u8]) -> Option<(usize, usize)> {
-        if !matches!(self.number(), 2..=7) {
+    /// Whether its place is in the question, and not in the card or elsewhere.
+    pub const fn is_of_question(&self) -> bool {
+        matches!(self.number(), 21..=26)
+    }
+
+    /// Line and column, both from 1, of a refusal that stands at a byte of this
+    /// text: the question if it [is of one](Refusal::is_of_question), or else the card.
+    pub fn line_and_column(&self, text: &[u8]) -> Option<(usize, usize)> {
+        if !matches!(self.number(), 2..=7 | 22..=26) {
             return None;
         }
-        let before = card.get(..self.place())?;
+        let before = text.get(..self.place())?;
         let line = before.iter().filter(|&&byte| byte == b'\n').count();
         let column = before
             .iter()
@@ -146,6 +197,33 @@ impl fmt::Display for Refusal {
             Refusal::Room { needed } => {
                 write!(f, "the room is too small: the text has {needed} bytes")
             }
+            Refusal::QuestionLong => {
+                write!(
+                    f,
+                    "the question is longer than {} bytes",
+                    crate::QUESTION_BYTES
+                )
+            }
+            Refusal::QuestionMark { at } => write!(
+                f,
+                "byte {at} of the question: no mark of one, or too many digits"
+            ),
+            Refusal::QuestionShape { at } => write!(
+                f,
+                "byte {at} of the question: this cannot stand here, or the question ends early"
+            ),
+            Refusal::QuestionLimit { at } => write!(
+                f,
+                "byte {at} of the question: one more than a question may have"
+            ),
+            Refusal::QuestionState { at } => write!(
+                f,
+                "byte {at} of the question: a state above the card's top state"
+            ),
+            Refusal::QuestionGroup { at } => write!(
+                f,
+                "byte {at} of the question: a group that is not of all seats alike, or no exactly-one"
+            ),
         }?;
         write!(f, " (refusal {})", self.number())
     }

@@ -58,16 +58,49 @@ fn refusals_have_number_place_and_words() {
             7,
             "the room is too small: the text has 7 bytes (refusal 10)",
         ),
+        (
+            21,
+            0,
+            "the question is longer than 16384 bytes (refusal 21)",
+        ),
+        (
+            22,
+            7,
+            "byte 7 of the question: no mark of one, or too many digits (refusal 22)",
+        ),
+        (
+            23,
+            7,
+            "byte 7 of the question: this cannot stand here, or the question ends early (refusal 23)",
+        ),
+        (
+            24,
+            7,
+            "byte 7 of the question: one more than a question may have (refusal 24)",
+        ),
+        (
+            25,
+            7,
+            "byte 7 of the question: a state above the card's top state (refusal 25)",
+        ),
+        (
+            26,
+            7,
+            "byte 7 of the question: a group that is not of all seats alike, or no exactly-one (refusal 26)",
+        ),
     ];
     for (number, place, words) in all {
         let refusal = Refusal::new(number, place).unwrap();
         assert_eq!((refusal.number(), refusal.place()), (number, place));
         assert_eq!(refusal.to_string(), words);
+        assert_eq!(refusal.is_of_question(), words.contains("the question"));
     }
-    assert_eq!(Refusal::new(0, 0), None);
-    assert_eq!(Refusal::new(11, 0), None);
-    assert_eq!(Refusal::new(1, 7), None);
-    assert_eq!(Refusal::new(8, 7), None);
+    for number in [0, 11, 20, 27, 255] {
+        assert_eq!(Refusal::new(number, 0), None);
+    }
+    for number in [1, 8, 21] {
+        assert_eq!(Refusal::new(number, 7), None);
+    }
 }
 
 #[test]
@@ -81,6 +114,25 @@ fn refusals_of_every_entry() {
     assert_eq!(show_to_vec(CARD, &[2]), Err(Refusal::SeatState { seat: 0 }));
     let needed = CARD.len();
     assert_eq!(write(CARD, &mut [0; 3]), Err(Refusal::Room { needed }));
+}
+
+#[test]
+fn questions_and_their_refusals() {
+    assert_eq!(ask(CARD, b"(s1=0)", &[0]), Ok(true));
+    assert_eq!(ask(CARD, b"(s1=0)", &[1]), Ok(false));
+    let long = [b' '; QUESTION_BYTES + 1];
+    let refused = |question: &[u8]| ask(CARD, question, &[]).unwrap_err();
+    assert_eq!(refused(&long), Refusal::QuestionLong);
+    assert_eq!(refused(b"(s1<0)"), Refusal::QuestionMark { at: 3 });
+    assert_eq!(refused(b""), Refusal::QuestionShape { at: 0 });
+    assert_eq!(refused(b"!!!!!!!!!"), Refusal::QuestionLimit { at: 8 });
+    assert_eq!(refused(b"(s1=2)"), Refusal::QuestionState { at: 4 });
+    assert_eq!(refused(b"!(s2=0)"), Refusal::QuestionGroup { at: 1 });
+    assert_eq!(refused(b"(s1=0)"), Refusal::SeatCount);
+    assert_eq!(ask(b"", b"<", &[]), Err(Refusal::Shape { at: 0 }));
+    let spread = b"(s1=0)\n&\n !(s2=0)";
+    assert_eq!(refused(spread).line_and_column(spread), Some((3, 3)));
+    assert_eq!(refused(&long).line_and_column(&long), None);
 }
 
 #[test]
