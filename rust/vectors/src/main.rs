@@ -109,6 +109,7 @@ fn answers_as(side: &mut Side, entry: &str, call: &Call) -> Result<(), Fault> {
         ("write", [read @ .., room]) => writes(side, "open_panel_write", read, room, call.stored),
         ("reduce", [read @ .., room]) => writes(side, "open_panel_reduce", read, room, call.stored),
         ("panel", [read @ .., room]) => writes(side, "open_panel_show", read, room, call.stored),
+        ("ask", [_, _, _]) => says(side("open_panel_ask", &pieces, &mut []), call.stored),
         _ => Err(format!("{entry} is no entry, or is handed something else")),
     }
 }
@@ -119,6 +120,19 @@ fn takes(answer: Result<usize, (u8, usize)>, stored: Answer) -> Result<(), Fault
         Answer::Refused(number, place) => Err((number, place)),
         Answer::Text(_) | Answer::Words(b"taken\n") => Ok(0),
         Answer::Words(words) => return Err(format!("no judgement: {}", words.escape_ascii())),
+    };
+    same(answer, due)
+}
+
+/// Yes or no.
+fn says(answer: Result<usize, (u8, usize)>, stored: Answer) -> Result<(), Fault> {
+    let due = match stored {
+        Answer::Refused(number, place) => Err((number, place)),
+        Answer::Words(b"yes\n") => Ok(1),
+        Answer::Words(b"no\n") => Ok(0),
+        Answer::Text(words) | Answer::Words(words) => {
+            return Err(format!("neither yes nor no: {}", words.escape_ascii()))
+        }
     };
     same(answer, due)
 }

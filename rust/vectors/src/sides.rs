@@ -5,7 +5,7 @@ use std::ffi::OsString;
 use std::io::{Read, Write};
 use std::process::{Child, ChildStdin, ChildStdout, Command, Stdio};
 
-/// A length, or the number and the place of a refusal.
+/// A length, or 1 for yes and 0 for no; or the number and the place of a refusal.
 pub type Answer = Result<usize, (u8, usize)>;
 
 /// One way to ask.
@@ -18,6 +18,9 @@ pub fn wrapper(entry: &str, pieces: &[&[u8]], room: &mut [u8]) -> Answer {
         ("open_panel_write", [card]) => open_panel::write(card, room),
         ("open_panel_reduce", [card]) => open_panel::reduce(card, room),
         ("open_panel_show", [card, seats]) => open_panel::show(card, seats, room),
+        ("open_panel_ask", [card, question, seats]) => {
+            open_panel::ask(card, question, seats).map(usize::from)
+        }
         _ => panic!("the wrapper has no {entry}"),
     }
     .map_err(|refusal| (refusal.number(), refusal.place()))
@@ -30,6 +33,9 @@ pub fn baseline(entry: &str, pieces: &[&[u8]], room: &mut [u8]) -> Answer {
         ("open_panel_write", [card]) => baseline::write(card, room),
         ("open_panel_reduce", [card]) => baseline::reduce(card, room),
         ("open_panel_show", [card, seats]) => baseline::panel(card, seats, room),
+        ("open_panel_ask", [card, question, seats]) => {
+            baseline::ask(card, question, seats).map(usize::from)
+        }
         _ => panic!("the baseline has no {entry}"),
     }
     .map_err(|refusal| (refusal.number, refusal.place))
