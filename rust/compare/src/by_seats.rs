@@ -40,6 +40,29 @@ pub fn steps(model: &Model, seats: &[u8]) -> Vec<Steps> {
     steps
 }
 
+/// Whether a question holds, each seat called by its own number.
+pub fn holds(question: &Expression, seats: &[u8]) -> bool {
+    Renamed { seats, seat: 0 }.expression(question)
+}
+
+/// Whether it holds if the seats in an exactly-one's state are counted in place of reading its terms.
+pub fn holds_if_counted(Expression(rows): &Expression, seats: &[u8]) -> bool {
+    fn unary_holds(unary: &Unary, seats: &[u8]) -> bool {
+        match unary {
+            Unary::Not(inner) => !unary_holds(inner, seats),
+            Unary::Bracket(inner) => holds_if_counted(inner, seats),
+            Unary::Group(group) => Renamed { seats, seat: 0 }.group(group),
+            Unary::One(terms) => {
+                let state = terms[0].literals[0].state;
+                let there = |seat: &&u8| usize::from(**seat) == state;
+                seats.iter().filter(there).count() == 1
+            }
+        }
+    }
+    let row_holds = |row: &Vec<Unary>| row.iter().all(|unary| unary_holds(unary, seats));
+    rows.iter().any(row_holds)
+}
+
 fn may_take(statement: &Statement, seats: &[u8], seat: usize) -> bool {
     let renamed = Renamed { seats, seat };
     usize::from(renamed.state(1)) == statement.own && renamed.row(&statement.guard)
@@ -64,6 +87,10 @@ impl Renamed<'_> {
         }]
     }
 
+    fn expression(&self, Expression(rows): &Expression) -> bool {
+        rows.iter().any(|row| self.row(row))
+    }
+
     fn row(&self, row: &[Unary]) -> bool {
         row.iter().all(|unary| self.unary(unary))
     }
@@ -71,8 +98,9 @@ impl Renamed<'_> {
     fn unary(&self, unary: &Unary) -> bool {
         match unary {
             Unary::Not(inner) => !self.unary(inner),
-            Unary::Bracket(Expression(rows)) => rows.iter().any(|row| self.row(row)),
+            Unary::Bracket(expression) => self.expression(expression),
             Unary::Group(group) => self.group(group),
+            Unary::One(terms) => terms.iter().any(|term| self.group(term)),
         }
     }
 

@@ -103,8 +103,13 @@ pub fn dense_card(random: &mut Random) -> Model {
     let mut model = card(size, random);
     while model.statements.len() < STATEMENTS {
         let mut next = statement(size, random);
-        let own = next.own;
-        next.guard = Guards { size, own, random }.row_of_exactly(NODES);
+        let leaves = Leaves::Guard { own: next.own };
+        next.guard = Guards {
+            size,
+            leaves,
+            random,
+        }
+        .row_of_exactly(NODES);
         model.statements.push(next);
         if lay_out(&model.marks(), Layout::Tight, random).len() > CARD_BYTES {
             model.statements.pop();
@@ -121,7 +126,13 @@ pub fn statement(size: Size, random: &mut Random) -> Statement {
         Vec::new()
     } else {
         let nodes = random.between(1, size.nodes);
-        Guards { size, own, random }.row(nodes, DEPTH)
+        let leaves = Leaves::Guard { own };
+        Guards {
+            size,
+            leaves,
+            random,
+        }
+        .row(nodes, DEPTH)
     };
     Statement {
         own,
@@ -142,12 +153,24 @@ pub fn branches(count: usize, top: usize, random: &mut Random) -> Vec<Branch> {
         .collect()
 }
 
-/// What the guards of one statement are made from.
+/// What stands at the leaves of an expression.
+#[derive(Clone, Copy)]
+pub enum Leaves {
+    /// A statement's groups, of everyone and of others.
+    Guard {
+        /// The statement's local state.
+        own: usize,
+    },
+    /// A question's groups, of everyone, and exactly-ones.
+    Question,
+}
+
+/// What the guards of one statement, or a question, are made from.
 pub struct Guards<'r> {
     /// The card's size.
     pub size: Size,
-    /// The statement's local state.
-    pub own: usize,
+    /// What stands at the leaves.
+    pub leaves: Leaves,
     /// Where chance comes from.
     pub random: &'r mut Random,
 }
@@ -171,39 +194,81 @@ impl Guards<'_> {
 
     fn unary(&mut self, nodes: usize, depth: usize) -> Unary {
         if depth == 0 || nodes == 1 && !self.random.once_in(8) {
-            return self.group();
+            return self.leaf();
         }
         if nodes > 1 && self.random.once_in(3) {
             return Unary::Not(Box::new(self.unary(nodes - 1, depth - 1)));
         }
+        Unary::Bracket(self.expression(nodes, depth - 1))
+    }
+
+    /// An expression with at most so many nodes, one at least.
+    pub fn expression(&mut self, nodes: usize, depth: usize) -> Expression {
         let mut rows = Vec::new();
         let mut left = nodes;
         loop {
             let most = self.random.between(1, left);
-            let row = self.row(most, depth - 1);
+            let row = self.row(most, depth);
             left -= row_nodes(&row);
             rows.push(row);
             if left < 2 || self.random.once_in(3) {
-                return Unary::Bracket(Expression(rows));
+                return Expression(rows);
             }
             left -= 1;
         }
     }
 
-    /// A symmetric group.
-    pub fn group(&mut self) -> Unary {
+    /// Any leaf.
+    pub fn leaf(&mut self) -> Unary {
+        let (seats, top) = (self.size.seats, self.size.top);
+        match self.leaves {
+            Leaves::Guard { own } => {
+                let first = if seats > 1 && self.random.once_in(2) {
+                    2
+                } else {
+                    1
+                };
+                let state = self.random.once_in(2).then_some(own);
+                let state = state.unwrap_or_else(|| self.random.between(0, top));
+                self.group(first, state)
+            }
+            Leaves::Question => {
+                let state = self.random.between(0, top);
+                if seats > 1 && self.random.once_in(3) {
+                    Unary::One(self.exactly_one(state))
+                } else {
+                    self.group(1, state)
+                }
+            }
+        }
+    }
+
+    /// For each seat the term that it alone is in a state.
+    pub fn exactly_one(&mut self, state: usize) -> Vec<Group> {
+        let seats = self.size.seats;
+        let shuffled = self.random.once_in(2);
+        let term = |only: usize, random: &mut Random| {
+            let literal = |seat| Literal {
+                seat,
+                differs: seat != only,
+                state,
+            };
+            let mut literals: Vec<Literal> = (1..=seats).map(literal).collect();
+            if shuffled {
+                random.shuffle(&mut literals);
+            }
+            Group {
+                any: false,
+                literals,
+            }
+        };
+        (1..=seats).map(|only| term(only, self.random)).collect()
+    }
+
+    /// A symmetric group of the seats from the first on.
+    pub fn group(&mut self, first: usize, state: usize) -> Unary {
         let random = &mut *self.random;
-        let first = if self.size.seats > 1 && random.once_in(2) {
-            2
-        } else {
-            1
-        };
         let differs = random.once_in(2);
-        let state = if random.once_in(2) {
-            self.own
-        } else {
-            random.between(0, self.size.top)
-        };
         let mut literals: Vec<Literal> = (first..=self.size.seats)
             .map(|seat| Literal {
                 seat,
@@ -226,8 +291,8 @@ impl Guards<'_> {
         let mut row = self.row(most, DEPTH - 1);
         while row_nodes(&row) + 2 <= nodes {
             let place = self.random.below(row.len() + 1);
-            let group = self.group();
-            row.insert(place, group);
+            let leaf = self.leaf();
+            row.insert(place, leaf);
         }
         if row_nodes(&row) < nodes {
             let place = self.random.below(row.len());
@@ -239,17 +304,17 @@ impl Guards<'_> {
 
     /// A unary with exactly so many `!` and brackets open around its middle.
     pub fn unary_of_exactly(&mut self, depth: usize) -> Unary {
-        let mut unary = self.group();
+        let mut unary = self.leaf();
         for _ in 0..depth {
             unary = if self.random.once_in(2) {
                 Unary::Not(Box::new(unary))
             } else {
                 let mut rows = vec![vec![unary]];
                 if self.random.once_in(4) {
-                    rows.push(vec![self.group()]);
+                    rows.push(vec![self.leaf()]);
                 } else if self.random.once_in(4) {
-                    let group = self.group();
-                    rows[0].insert(0, group);
+                    let leaf = self.leaf();
+                    rows[0].insert(0, leaf);
                 }
                 Unary::Bracket(Expression(rows))
             };
@@ -312,8 +377,12 @@ pub fn card_at(limit: Limit, past: usize, random: &mut Random) -> Model {
     }
     let chosen = random.below(model.statements.len());
     let chosen = &mut model.statements[chosen];
-    let own = chosen.own;
-    let mut guards = Guards { size, own, random };
+    let leaves = Leaves::Guard { own: chosen.own };
+    let mut guards = Guards {
+        size,
+        leaves,
+        random,
+    };
     match limit {
         Limit::Seats | Limit::Top | Limit::Statements => {}
         Limit::Branches => chosen.branches = branches(BRANCHES + past, size.top, random),

@@ -6,7 +6,8 @@ use open_panel::{REDUCE_ROOM, SHOW_ROOM, WRITE_ROOM};
 use crate::by_seats;
 use crate::cards::limits::{SEATS, STATEMENTS};
 use crate::inputs::{all_seatings, Input, Kind};
-use crate::model::Model;
+use crate::model::{Expression, Model};
+use crate::questions::Question;
 use crate::random::Random;
 use crate::reduced::Reduced;
 use crate::tally::Tally;
@@ -241,6 +242,11 @@ impl Checker {
             }
             tally.small += 1;
         }
+        // Two questions where the card was made to be taken.
+        for _ in 0..1 + usize::from(input.model.is_some()) {
+            let question = Question::new(input, random);
+            asks(card, input, &question, written.ok(), random, tally)?;
+        }
         let rest = &surrounded[GUARD + input.card.len()..];
         if card != input.card
             || surrounded[..GUARD] != [b'9'; GUARD]
@@ -251,6 +257,101 @@ impl Checker {
         self.surrounded = surrounded;
         Ok(())
     }
+}
+
+/// A question about an input, asked of both sides.
+fn asks(
+    card: &[u8],
+    input: &Input,
+    question: &Question,
+    written: Option<&[u8]>,
+    random: &mut Random,
+    tally: &mut Tally,
+) -> Result<(), Fault> {
+    // Around the question stand bytes that would change it, were they read.
+    let before = random.pick(b"!(9 ");
+    let behind = random.pick(b"0)&/= ");
+    let length = question.bytes.len();
+    let mut surrounded = vec![before; GUARD];
+    surrounded.extend(&question.bytes);
+    surrounded.resize(GUARD + length + GUARD, behind);
+    let asked = &surrounded[GUARD..GUARD + length];
+
+    let ask = |card: &[u8], seats: &[u8]| {
+        let answer = open_panel::ask(card, asked, seats);
+        answer.map_err(|refusal| Refusal::new(refusal.number(), refusal.place()))
+    };
+    let fault = |what: &str, answer: Result<bool, Refusal>, due: Result<bool, Refusal>| {
+        let (kind, question) = (question.kind, question.bytes.escape_ascii());
+        format!("{what} ({kind:?}): the library says {answer:?}, and due is {due:?}\n{question}")
+    };
+    let due = baseline::ask(card, asked, &input.seats);
+    let answer = ask(card, &input.seats);
+    if answer != due {
+        return Err(fault("ask", answer, due));
+    }
+    tally.question(question, input.seats.len(), answer);
+    if surrounded[..GUARD] != [before; GUARD]
+        || surrounded[GUARD..GUARD + length] != question.bytes
+        || surrounded[GUARD + length..] != [behind; GUARD]
+    {
+        return Err("the question was written".to_owned());
+    }
+    // A damaged card may be taken, and be for another table.
+    let model = question.model.as_ref().filter(|_| input.model.is_some());
+    match (model, due) {
+        (Some(_), Err(refusal)) if refusal.number > 20 => {
+            return Err(fault("a question made to be valid", answer, due));
+        }
+        (Some(model), Ok(_)) => {
+            tally.by_seats += 1;
+            says_the_same(model, &input.seats, due)
+                .map_err(|meant| fault("ask, by seats", answer, Ok(meant)))?;
+        }
+        _ => {}
+    }
+    if due.is_err() {
+        return Ok(());
+    }
+    let mut seats = input.seats.clone();
+    random.shuffle(&mut seats);
+    tally.questions_reordered += 1;
+    let reordered = ask(card, &seats);
+    if reordered != due {
+        return Err(fault("ask, the seats in another order", reordered, due));
+    }
+    if let Some(written) = written.filter(|text| text.len() <= open_panel::CARD_BYTES) {
+        if random.once_in(4) {
+            let again = ask(written, &input.seats);
+            if again != due {
+                return Err(fault("ask, on the written card", again, due));
+            }
+        }
+    }
+    if let (Kind::Small, Some(model)) = (input.kind, model) {
+        let (count, top) = input.table;
+        for seats in all_seatings(count, top) {
+            let answer = ask(card, &seats);
+            tally.by_seats += 1;
+            says_the_same(model, &seats, answer)
+                .map_err(|meant| fault("ask, at every seating", answer, Ok(meant)))?;
+        }
+    }
+    Ok(())
+}
+
+/// An answer against the seats: as the question is spelled, and with the seats of an exactly-one counted. What was meant is handed back if they differ.
+fn says_the_same(
+    question: &Expression,
+    seats: &[u8],
+    answer: Result<bool, Refusal>,
+) -> Result<(), bool> {
+    let meant = by_seats::holds(question, seats);
+    let counted = by_seats::holds_if_counted(question, seats);
+    if answer == Ok(meant) && meant == counted {
+        return Ok(());
+    }
+    Err(meant)
 }
 
 /// An entry that puts a text into a room.

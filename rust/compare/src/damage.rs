@@ -282,19 +282,50 @@ fn any_word(word: Mark, random: &mut Random) -> Mark {
     }
 }
 
-/// Damages some bytes in one place.
+/// What can be done to some bytes in one place.
+#[derive(Clone, Copy, PartialEq, Eq, Debug)]
+pub enum ByteDamage {
+    /// One byte is missing.
+    Removed,
+    /// One byte stands twice.
+    Doubled,
+    /// Two bytes that stand together change places.
+    Swapped,
+    /// Another byte in place of one.
+    Changed,
+    /// A byte too many.
+    Inserted,
+}
+
+impl ByteDamage {
+    /// All of them.
+    pub const ALL: [ByteDamage; 5] = [
+        ByteDamage::Removed,
+        ByteDamage::Doubled,
+        ByteDamage::Swapped,
+        ByteDamage::Changed,
+        ByteDamage::Inserted,
+    ];
+
+    /// Damages some bytes, if there are two.
+    pub fn inflict(self, bytes: &mut Vec<u8>, random: &mut Random) {
+        if bytes.len() < 2 {
+            return;
+        }
+        let place = random.below(bytes.len());
+        match self {
+            ByteDamage::Removed => drop(bytes.remove(place)),
+            ByteDamage::Doubled => bytes.insert(place, bytes[place]),
+            ByteDamage::Swapped => bytes.swap(place.max(1) - 1, place.max(1)),
+            ByteDamage::Changed => bytes[place] = any_byte(random),
+            ByteDamage::Inserted => bytes.insert(place, any_byte(random)),
+        }
+    }
+}
+
+/// Damages some bytes in one place, in any way.
 pub fn damage_bytes(bytes: &mut Vec<u8>, random: &mut Random) {
-    if bytes.len() < 2 {
-        return;
-    }
-    let place = random.below(bytes.len());
-    match random.below(5) {
-        0 => drop(bytes.remove(place)),
-        1 => bytes.insert(place, bytes[place]),
-        2 => bytes.swap(place.max(1) - 1, place.max(1)),
-        3 => bytes[place] = any_byte(random),
-        _ => bytes.insert(place, any_byte(random)),
-    }
+    random.pick(&ByteDamage::ALL).inflict(bytes, random);
 }
 
 /// A byte, mostly one that marks are made of.

@@ -36,6 +36,7 @@ fn extreme(name: &'static str, model: Model, seats: Vec<u8>) -> Extreme {
             kind: Kind::Valid,
             card,
             seats,
+            table: (model.seats, model.top),
             model: Some(model),
         },
     }

@@ -79,6 +79,8 @@ pub struct Input {
     pub card: Vec<u8>,
     /// The seats.
     pub seats: Vec<u8>,
+    /// How many seats it was made for, and with which top state.
+    pub table: (usize, usize),
     /// The card as it was made, where it is valid.
     pub model: Option<Model>,
 }
@@ -102,6 +104,7 @@ impl Input {
             kind,
             card,
             seats,
+            table: (model.seats, model.top),
             model: valid.then_some(model),
         }
     }

@@ -6,7 +6,9 @@
 //! are larger, and some in the long rooms that a text is put into without being
 //! measured first; answers, texts and every byte around them have to agree. On
 //! small tables both are held to the steps of the seats themselves
-//! ([`by_seats`]), which no counting has touched.
+//! ([`by_seats`]), which no counting has touched. About each table
+//! [`questions`] are asked, made and damaged in the same way, and those that are
+//! answered are held to the seats too.
 
 pub mod by_seats;
 pub mod cards;
@@ -16,6 +18,7 @@ pub mod extremes;
 pub mod inputs;
 pub mod marks;
 pub mod model;
+pub mod questions;
 pub mod random;
 pub mod reduced;
 pub mod tally;

@@ -38,6 +38,8 @@ pub enum Unary {
     Bracket(Expression),
     /// A group.
     Group(Group),
+    /// An exactly-one of a question: a term for each seat.
+    One(Vec<Group>),
 }
 
 /// Rows of unaries: each row joined by `&`, the rows by `|`.
@@ -81,7 +83,7 @@ impl Unary {
         match self {
             Unary::Not(inner) => 1 + inner.nodes(),
             Unary::Bracket(inner) => inner.nodes(),
-            Unary::Group(_) => 1,
+            Unary::Group(_) | Unary::One(_) => 1,
         }
     }
 }
@@ -170,33 +172,61 @@ impl Unary {
                 put(marks, "!");
                 inner.put(marks);
             }
-            Unary::Bracket(Expression(rows)) => {
+            Unary::Bracket(expression) => {
                 put(marks, "(");
-                for (place, row) in rows.iter().enumerate() {
+                expression.put(marks);
+                put(marks, ")");
+            }
+            Unary::Group(group) => group.put(marks),
+            Unary::One(terms) => {
+                put(marks, "(");
+                for (place, term) in terms.iter().enumerate() {
                     if place > 0 {
                         put(marks, "|");
                     }
-                    for (place, unary) in row.iter().enumerate() {
-                        if place > 0 {
-                            put(marks, "&");
-                        }
-                        unary.put(marks);
-                    }
-                }
-                put(marks, ")");
-            }
-            Unary::Group(group) => {
-                put(marks, "(");
-                for (place, literal) in group.literals.iter().enumerate() {
-                    if place > 0 {
-                        put(marks, if group.any { "|" } else { "&" });
-                    }
-                    marks.push(Mark::seat(literal.seat));
-                    put(marks, if literal.differs { "!=" } else { "=" });
-                    marks.push(Mark::number(literal.state));
+                    term.put(marks);
                 }
                 put(marks, ")");
             }
         }
+    }
+}
+
+impl Expression {
+    /// Its marks, as a question has them.
+    pub fn marks(&self) -> Vec<Mark> {
+        let mut marks = Vec::with_capacity(100);
+        self.put(&mut marks);
+        marks
+    }
+
+    fn put(&self, marks: &mut Vec<Mark>) {
+        let Expression(rows) = self;
+        for (place, row) in rows.iter().enumerate() {
+            if place > 0 {
+                put(marks, "|");
+            }
+            for (place, unary) in row.iter().enumerate() {
+                if place > 0 {
+                    put(marks, "&");
+                }
+                unary.put(marks);
+            }
+        }
+    }
+}
+
+impl Group {
+    fn put(&self, marks: &mut Vec<Mark>) {
+        put(marks, "(");
+        for (place, literal) in self.literals.iter().enumerate() {
+            if place > 0 {
+                put(marks, if self.any { "|" } else { "&" });
+            }
+            marks.push(Mark::seat(literal.seat));
+            put(marks, if literal.differs { "!=" } else { "=" });
+            marks.push(Mark::number(literal.state));
+        }
+        put(marks, ")");
     }
 }

@@ -4,8 +4,10 @@ use std::fmt;
 
 use baseline::{Card, Mode, Node, Refusal};
 
+use crate::cards::limits::SEATS;
 use crate::check::Entry;
 use crate::inputs::Kind;
+use crate::questions::{self, Question};
 
 /// Inputs of a run that the minima below are for.
 pub const INPUTS: u64 = 100_000;
@@ -23,6 +25,26 @@ const REORDERED: u64 = 30_000;
 const SMALL: u64 = 1_500;
 /// Cards whose written form is too long for a card.
 const TOO_LONG_WRITTEN: u64 = 20;
+
+/// Questions answered with yes, and with no.
+const EACH_ANSWER: u64 = 10_000;
+/// Questions given each of their refusals.
+const EACH_QUESTION_REFUSAL: u64 = 1_000;
+/// Good questions about seats that are refused, for each of the two reasons.
+const QUESTION_BEFORE_SEATS: u64 = 500;
+/// Questions of each kind that is made for one end, that came to it.
+const EACH_QUESTION_KIND: u64 = 500;
+/// Questions with an exactly-one that are answered with yes, and with no.
+const EXACTLY_ONES: u64 = 3_000;
+/// Questions answered for tables of each number of seats.
+const QUESTIONS_AT_EACH_SIZE: u64 = 400;
+/// Questions held to the seats, and asked again of reordered seats.
+const BY_SEATS: u64 = 20_000;
+
+/// How questions end: `ENDS[end]` is its name in the table.
+const ENDS: [&str; 10] = [
+    "yes", "no", "21", "22", "23", "24", "25", "26", "8 or 9", "card",
+];
 
 /// The rows of document 01's table, as a group has them: joined by `|`, says `!=`.
 const ROWS: [(&str, bool, bool); 4] = [
@@ -51,6 +73,16 @@ pub struct Tally {
     pub small: u64,
     /// Their seatings.
     pub seatings: u64,
+    questions: [[u64; ENDS.len()]; questions::Kind::SHARES.len()],
+    before_seats: [u64; 2],
+    /// Questions with an exactly-one, answered with yes and with no.
+    exactly_ones: [u64; 2],
+    /// Questions answered for tables of each size.
+    answered_at: [u64; SEATS],
+    /// Questions whose answer was held to the seats.
+    pub by_seats: u64,
+    /// Questions asked again of reordered seats.
+    pub questions_reordered: u64,
 }
 
 impl Tally {
@@ -92,6 +124,39 @@ impl Tally {
         }
     }
 
+    pub(crate) fn question(
+        &mut self,
+        question: &Question,
+        seats: usize,
+        answer: Result<bool, Refusal>,
+    ) {
+        let place = questions::Kind::SHARES
+            .iter()
+            .position(|(other, _)| *other == question.kind);
+        if let Ok(yes) = answer {
+            self.answered_at[seats - 1] += 1;
+            self.exactly_ones[usize::from(!yes)] += u64::from(question.has_exactly_one());
+        }
+        let end = match answer {
+            Ok(true) => 0,
+            Ok(false) => 1,
+            Err(refusal) => match refusal.number {
+                number @ 21..=26 => usize::from(number) - 19,
+                8 | 9 => {
+                    self.before_seats[usize::from(refusal.number) - 8] += 1;
+                    8
+                }
+                _ => 9,
+            },
+        };
+        self.questions[place.expect("every kind has a share")][end] += 1;
+    }
+
+    /// How many questions ended so.
+    fn ended(&self, end: usize) -> u64 {
+        self.questions.iter().map(|kind| kind[end]).sum()
+    }
+
     /// Adds what another has tried.
     pub fn add(&mut self, other: &Tally) {
         let sum = |mine: &mut [u64], others: &[u64]| {
@@ -114,6 +179,15 @@ impl Tally {
         self.reordered += other.reordered;
         self.small += other.small;
         self.seatings += other.seatings;
+        sum(
+            self.questions.as_flattened_mut(),
+            other.questions.as_flattened(),
+        );
+        sum(&mut self.before_seats, &other.before_seats);
+        sum(&mut self.exactly_ones, &other.exactly_ones);
+        sum(&mut self.answered_at, &other.answered_at);
+        self.by_seats += other.by_seats;
+        self.questions_reordered += other.questions_reordered;
     }
 
     /// How many inputs there were.
@@ -176,6 +250,40 @@ impl Tally {
             self.too_long_written,
             TOO_LONG_WRITTEN,
         );
+        for (end, name) in ENDS[..8].iter().enumerate() {
+            let due = if end < 2 {
+                EACH_ANSWER
+            } else {
+                EACH_QUESTION_REFUSAL
+            };
+            least(&format!("questions, {name}"), self.ended(end), due);
+        }
+        for ((kind, _), ends) in questions::Kind::SHARES.iter().zip(&self.questions) {
+            let came = match kind.refusal() {
+                Some(number) => ends[usize::from(number) - 19],
+                None if kind.is_valid() => ends[0].min(ends[1]),
+                None => ends[..8].iter().sum(),
+            };
+            least(&format!("questions, {kind:?}"), came, EACH_QUESTION_KIND);
+        }
+        for (number, count) in [8, 9].iter().zip(self.before_seats) {
+            let what = format!("questions, then {number}");
+            least(&what, count, QUESTION_BEFORE_SEATS);
+        }
+        for (answer, count) in ["yes", "no"].iter().zip(self.exactly_ones) {
+            let what = format!("questions with an exactly-one, {answer}");
+            least(&what, count, EXACTLY_ONES);
+        }
+        for (seats, count) in (1..).zip(self.answered_at) {
+            let what = format!("questions for {seats} seats");
+            least(&what, count, QUESTIONS_AT_EACH_SIZE);
+        }
+        least("questions by seats", self.by_seats, BY_SEATS);
+        least(
+            "questions of reordered seats",
+            self.questions_reordered,
+            BY_SEATS,
+        );
         shortfalls
     }
 }
@@ -236,10 +344,39 @@ impl fmt::Display for Tally {
             "written and read again {}, too long for that {}; seats reordered {}",
             self.reread, self.too_long_written, self.reordered
         )?;
-        write!(
+        writeln!(
             f,
             "small tables {} with {} seatings",
             self.small, self.seatings
-        )
+        )?;
+        self.print_questions(f)
+    }
+}
+
+impl Tally {
+    fn print_questions(&self, f: &mut fmt::Formatter<'_>) -> fmt::Result {
+        write!(f, "{:<16}{:>8}", "questions", "")?;
+        ENDS.iter().try_for_each(|end| write!(f, "{end:>8}"))?;
+        writeln!(f)?;
+        let row = |f: &mut fmt::Formatter<'_>, name: &str, ends: &[u64]| {
+            write!(f, "{name:<16}{:>8}", ends.iter().sum::<u64>())?;
+            ends.iter().try_for_each(|count| write!(f, "{count:>8}"))?;
+            writeln!(f)
+        };
+        for ((kind, _), ends) in questions::Kind::SHARES.iter().zip(&self.questions) {
+            row(f, &format!("{kind:?}"), ends)?;
+        }
+        let all: Vec<u64> = (0..ENDS.len()).map(|end| self.ended(end)).collect();
+        row(f, "all", &all)?;
+        let [count, state] = self.before_seats;
+        writeln!(
+            f,
+            "good questions, then 8 {count}, then 9 {state}; held to the seats {}, reordered {}",
+            self.by_seats, self.questions_reordered
+        )?;
+        let [yes, no] = self.exactly_ones;
+        write!(f, "with an exactly-one yes {yes}, no {no}; by seats")?;
+        let sizes = &mut self.answered_at.iter();
+        sizes.try_for_each(|count| write!(f, " {count}"))
     }
 }
