@@ -1,107 +1,230 @@
 //! Measures the library's entries and the baseline's on the same cards, in the
 //! same rooms, by turns in one run, and prints Markdown for `docs/BENCHMARKS.md`:
 //! first in a room that is always enough, then in rooms that just fit, where
-//! both sides measure a text before they put it. Each round goes through all
-//! rows, so that a while in which the machine is slow spoils none of them.
+//! both sides measure a text before they put it; then questions, which take no
+//! room, beside judging a card alone. Each round goes through all rows, so that
+//! a while in which the machine is slow spoils none of them.
 
 mod stack;
 
 use std::hint::black_box;
 use std::time::{Duration, Instant};
 
-use compare::extremes::extremes;
-use vectors::stored::base;
+use compare::cards::limits::NODES;
+use compare::cards::{branches, Guards, Leaves, Size};
+use compare::extremes::{extremes, Extreme};
+use compare::marks::{lay_out, Layout};
+use compare::model::{Expression, Model, Statement, Unary};
+use compare::random::Random;
+use vectors::stored::{base, Input};
 
 /// Rounds of which the best counts, for each side.
 const ROUNDS: usize = 11;
 /// How long a round takes at least, about.
 const ROUND: Duration = Duration::from_millis(20);
 
-/// Cards with a seating each, measured together.
+/// What the entries are handed.
+struct Case {
+    card: Vec<u8>,
+    seats: Vec<u8>,
+    /// Nothing where none is asked.
+    question: Vec<u8>,
+}
+
+impl Case {
+    fn new(card: Vec<u8>, seats: Vec<u8>) -> Case {
+        let question = Vec::new();
+        Case {
+            card,
+            seats,
+            question,
+        }
+    }
+}
+
+/// Cases that are measured together.
 struct Set {
     name: &'static str,
-    cards: Vec<(Vec<u8>, Vec<u8>)>,
+    cases: Vec<Case>,
 }
 
 impl Set {
     fn bytes(&self) -> usize {
-        self.cards.iter().map(|(card, _)| card.len()).sum()
+        let cases = self.cases.iter();
+        cases
+            .map(|case| case.card.len() + case.question.len())
+            .sum()
     }
 }
 
 fn sets() -> Vec<Set> {
     let all = base();
-    let card_a = all.first().map(|case| (case.card().to_vec(), case.seats()));
-    let accepted = all
-        .iter()
-        .map(|case| (case.card().to_vec(), case.seats()))
-        .filter(|(card, seats)| {
-            baseline::panel(card, seats, &mut vec![0; open_panel::SHOW_ROOM]).is_ok()
-        });
+    let case = |stored: &Input| Case::new(stored.card().to_vec(), stored.seats());
+    let accepted = all.iter().map(case).filter(|Case { card, seats, .. }| {
+        baseline::panel(card, seats, &mut vec![0; open_panel::SHOW_ROOM]).is_ok()
+    });
     let mut sets = vec![
         Set {
             name: "card A",
-            cards: card_a.into_iter().collect(),
+            cases: all.first().map(case).into_iter().collect(),
         },
         Set {
             name: "accepted vectors",
-            cards: accepted.collect(),
+            cases: accepted.collect(),
         },
     ];
-    for extreme in extremes() {
+    for Extreme { name, input } in extremes() {
         sets.push(Set {
-            name: extreme.name,
-            cards: vec![(extreme.input.card, extreme.input.seats)],
+            name,
+            cases: vec![Case::new(input.card, input.seats)],
         });
     }
     sets
 }
 
-/// A call on a card, a seating and a room. What it answers is the length, or nothing.
-type Call = fn(&[u8], &[u8], &mut [u8]) -> Option<usize>;
+/// Card A with a question, and the longest question about a full table.
+fn question_sets() -> Vec<Set> {
+    let all = base();
+    let card_a = all.first().map(|stored| Case {
+        card: stored.card().to_vec(),
+        seats: stored.seats(),
+        question: b"(s1=0 | s2=0 | s3=0) & !((s1=2 & s2!=2 & s3!=2) | (s1!=2 & s2=2 & s3!=2) | (s1!=2 & s2!=2 & s3=2))"
+            .to_vec(),
+    });
+    let full = full_table();
+    let doubled = Case {
+        card: lay_out(&full.marks(), Layout::Tight, &mut Random::new(0, 0)),
+        seats: vec![0; full.seats],
+        question: doubled_brackets(full.seats),
+    };
+    vec![
+        Set {
+            name: "card A and a question",
+            cases: card_a.into_iter().collect(),
+        },
+        Set {
+            name: "16 seats, brackets doubled",
+            cases: vec![doubled],
+        },
+    ]
+}
+
+/// A card of the most seats and one statement.
+fn full_table() -> Model {
+    Model {
+        probabilistic: true,
+        seats: open_panel::SEATS,
+        top: open_panel::TOP_STATE.into(),
+        start: 0,
+        statements: vec![Statement {
+            own: 0,
+            guard: Vec::new(),
+            branches: branches(1, 0, &mut Random::new(0, 0)),
+        }],
+    }
+}
+
+/// A question of the greatest length: exactly-ones, as many as there is room for, and then groups, each in brackets of its own.
+fn doubled_brackets(seats: usize) -> Vec<u8> {
+    let mut random = Random::new(0, 0);
+    let size = Size {
+        seats,
+        top: 0,
+        statements: 1,
+        branches: 1,
+        nodes: NODES,
+    };
+    let mut guards = Guards {
+        size,
+        leaves: Leaves::Question,
+        random: &mut random,
+    };
+    let leaves = NODES / 2;
+    let mut exactly_ones = leaves;
+    loop {
+        let rows = (0..leaves).map(|place| {
+            let leaf = if place < exactly_ones {
+                Unary::One(guards.exactly_one(0))
+            } else {
+                guards.group(1, 0)
+            };
+            vec![Unary::Bracket(Expression(vec![vec![leaf]]))]
+        });
+        let marks = Expression(rows.collect()).marks();
+        let mut question = lay_out(&marks, Layout::Tight, &mut Random::new(0, 0));
+        if question.len() <= open_panel::QUESTION_BYTES {
+            question.resize(open_panel::QUESTION_BYTES, b' ');
+            return question;
+        }
+        exactly_ones -= 1;
+    }
+}
+
+/// A call on a case and a room. What it answers is the length, or yes or no as 1 or 0; or nothing.
+type Call = fn(&Case, &mut [u8]) -> Option<usize>;
 
 /// An entry: its name, the library's form and the baseline's.
 type Entry = (&'static str, Call, Call);
 
-/// All entries; the first takes no room.
+/// All entries about cards; the first takes no room.
 const ENTRIES: [Entry; 4] = [
     (
         "judge",
-        |card, _, _| open_panel::judge(card).ok().map(|()| 0),
-        |card, _, _| baseline::judge(card).is_ok().then_some(0),
+        |case, _| open_panel::judge(&case.card).ok().map(|()| 0),
+        |case, _| baseline::judge(&case.card).is_ok().then_some(0),
     ),
     (
         "write",
-        |card, _, room| open_panel::write(card, room).ok(),
-        |card, _, room| baseline::write(card, room).ok(),
+        |case, room| open_panel::write(&case.card, room).ok(),
+        |case, room| baseline::write(&case.card, room).ok(),
     ),
     (
         "reduce",
-        |card, _, room| open_panel::reduce(card, room).ok(),
-        |card, _, room| baseline::reduce(card, room).ok(),
+        |case, room| open_panel::reduce(&case.card, room).ok(),
+        |case, room| baseline::reduce(&case.card, room).ok(),
     ),
     (
         "show",
-        |card, seats, room| open_panel::show(card, seats, room).ok(),
-        |card, seats, room| baseline::panel(card, seats, room).ok(),
+        |case, room| open_panel::show(&case.card, &case.seats, room).ok(),
+        |case, room| baseline::panel(&case.card, &case.seats, room).ok(),
     ),
 ];
+
+/// The entry that takes a question.
+const ASK: Entry = (
+    "ask",
+    |Case {
+         card,
+         seats,
+         question,
+     },
+     _| {
+        let answer = open_panel::ask(card, question, seats);
+        answer.ok().map(usize::from)
+    },
+    |Case {
+         card,
+         seats,
+         question,
+     },
+     _| baseline::ask(card, question, seats).ok().map(usize::from),
+);
 
 /// Which lengths of the room the cards of a set are lent, for an entry.
 type Lengths = fn(&Set, Call, &mut [u8]) -> Vec<usize>;
 
 fn whole_room(set: &Set, _: Call, room: &mut [u8]) -> Vec<usize> {
-    vec![room.len(); set.cards.len()]
+    vec![room.len(); set.cases.len()]
 }
 
 fn text_lengths(set: &Set, call: Call, room: &mut [u8]) -> Vec<usize> {
-    let cards = set.cards.iter();
-    cards
-        .map(|(card, seats)| call(card, seats, room).expect("the cards are accepted"))
+    let cases = set.cases.iter();
+    cases
+        .map(|case| call(case, room).expect("the cards are accepted"))
         .collect()
 }
 
-/// One side of a row: a call on all cards of a set, each in a room of its own length.
+/// One side of a row: a call on all cases of a set, each in a room of its own length.
 struct Side {
     call: Call,
     /// How often a round goes through the set.
@@ -127,9 +250,9 @@ impl Side {
     fn time(&self, set: &Set, lengths: &[usize], room: &mut [u8]) -> Duration {
         let start = Instant::now();
         for _ in 0..self.times {
-            for ((card, seats), length) in set.cards.iter().zip(lengths) {
+            for (case, length) in set.cases.iter().zip(lengths) {
                 let room = &mut room[..*length];
-                let length = (self.call)(black_box(card), black_box(seats), room);
+                let length = (self.call)(black_box(case), room);
                 assert!(black_box(length).is_some());
             }
         }
@@ -168,13 +291,13 @@ impl<'a> Row<'a> {
 
     fn print(&self) {
         let Row { entry, set, .. } = self;
-        let calls = |seconds: f64| set.cards.len() as f64 / seconds;
+        let calls = |seconds: f64| set.cases.len() as f64 / seconds;
         let per_byte = |seconds: f64| seconds * 1e9 / set.bytes() as f64;
         let [library, baseline] = self.sides.each_ref().map(|side| side.best);
         println!(
             "| {entry} | {} | {} | {:.0} | {:.2} | {:.0} | {:.2} | {:.2} |",
             set.name,
-            set.bytes() / set.cards.len(),
+            set.bytes() / set.cases.len(),
             calls(library),
             per_byte(library),
             calls(baseline),
@@ -199,29 +322,32 @@ fn print_table(rows: &[Row]) {
 }
 
 fn main() {
-    let sets = sets();
+    let (sets, question_sets) = (sets(), question_sets());
     let mut room = vec![0; open_panel::REDUCE_ROOM];
     let mut tables = [
         rows(&ENTRIES, &sets, whole_room, &mut room),
         rows(&ENTRIES[1..], &sets, text_lengths, &mut room),
+        rows(&[ASK], &question_sets, whole_room, &mut room),
     ];
+    tables[2].insert(0, Row::new(ENTRIES[0], &sets[0], whole_room, &mut room));
     for round in 0..ROUNDS {
         for row in tables.iter_mut().flatten() {
             row.round(round, &mut room);
         }
     }
-    let [always_enough, just_fit] = tables;
+    let [always_enough, just_fit, questions] = tables;
     println!("In a room of {} bytes:\n", room.len());
     print_table(&always_enough);
     println!("\nIn rooms that just fit each text:\n");
     print_table(&just_fit);
+    println!("\nQuestions, bytes of the card and the question together:\n");
+    print_table(&questions);
     println!("\n| Entry | Library, bytes of stack | Baseline, bytes of stack |\n|---|---:|---:|");
-    for (entry, library, baseline) in ENTRIES {
-        let deepest = |call: Call| {
-            let cards = sets.iter().flat_map(|set| &set.cards);
-            cards
-                .map(|(card, seats)| stack::used(call, card, seats))
-                .max()
+    let entries = ENTRIES.iter().map(|entry| (entry, &sets));
+    for ((entry, library, baseline), sets) in entries.chain([(&ASK, &question_sets)]) {
+        let deepest = |call: &Call| {
+            let cases = sets.iter().flat_map(|set| &set.cases);
+            cases.map(|case| stack::used(*call, case)).max()
         };
         let [library, baseline] = [library, baseline].map(|call| deepest(call).unwrap_or(0));
         println!("| {entry} | {library} | {baseline} |");

@@ -6,21 +6,21 @@ use std::hint::black_box;
 use std::mem::MaybeUninit;
 use std::thread;
 
-use crate::Call;
+use crate::{Call, Case};
 
 /// How much stack is painted; a call must use less.
 const AREA: usize = 1 << 20;
 const PAINT: u8 = 0xa5;
 
 /// Bytes of stack that a call uses, give or take a few words.
-pub fn used(call: Call, card: &[u8], seats: &[u8]) -> usize {
+pub fn used(call: Call, case: &Case) -> usize {
     thread::scope(|scope| {
         thread::Builder::new()
             .stack_size(4 * AREA)
             .spawn_scoped(scope, || {
                 let mut room = vec![0; open_panel::REDUCE_ROOM];
                 let start = paint();
-                black_box(call(card, seats, &mut room));
+                black_box(call(case, &mut room));
                 let used = gone(start);
                 assert!(used < AREA, "more than {AREA} bytes of stack");
                 used
