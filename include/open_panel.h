@@ -1,5 +1,6 @@
 /*
- * The open panel: rule cards judged, written, reduced to counters, and shown.
+ * The open panel: rule cards judged, written, reduced to counters, and shown;
+ * questions about a seating answered.
  *
  * Link libopen_panel.a, which `bin/library` makes for x86-64 and for aarch64
  * Linux. Of the C library it needs memcpy and memset, and nothing else: it has
@@ -13,16 +14,16 @@
  *
  * What holds of every function here:
  *
- *   - A card, the seats and a room are a pointer and a length in bytes. The
- *     pointer leads to so many bytes, which nothing else writes during the
- *     call; only for a length of 0 may it be null. A card or a room has no
- *     closing zero byte.
- *   - The room must not overlap the card or the seats. Card and seats may
- *     overlap: they are only read.
- *   - Any bytes may be passed as a card and as seats; what is wrong with them
- *     is answered, with a number and a place.
- *   - On success `number` is 0 and `value` the length of the text, which
- *     stands at the room's start. The rest of the room is as it was.
+ *   - A card, a question, the seats and a room are a pointer and a length in
+ *     bytes. The pointer leads to so many bytes, which nothing else writes
+ *     during the call; only for a length of 0 may it be null. A card, a
+ *     question or a room has no closing zero byte.
+ *   - The room must not overlap what is only read: the card, the question and
+ *     the seats. Those may overlap each other.
+ *   - Any bytes may be passed as a card, as a question and as seats; what is
+ *     wrong with them is answered, with a number and a place.
+ *   - On success `number` is 0. With a room `value` is the length of the text,
+ *     which stands at the room's start; the rest of the room is as it was.
  *   - On a refusal `number` says which and `value` where. The whole room is as
  *     it was.
  *   - A text is ASCII with a LF behind each line, and no closing zero byte.
@@ -38,8 +39,9 @@
 extern "C" {
 #endif
 
-/* Longest card, most seats and highest state. */
+/* Longest card and longest question, most seats and highest state. */
 #define OPEN_PANEL_CARD_BYTES 16384
+#define OPEN_PANEL_QUESTION_BYTES 16384
 #define OPEN_PANEL_SEATS 16
 #define OPEN_PANEL_TOP_STATE 7
 
@@ -54,9 +56,9 @@ extern "C" {
 #define OPEN_PANEL_REDUCE_ROOM 347890
 #define OPEN_PANEL_SHOW_ROOM 4101
 
-/* The numbers of the refusals, and behind the semicolon what `value` is: bytes of the card count from 0. */
+/* The numbers of the refusals, and behind the semicolon what `value` is: bytes of the card, from 21 on of the question, count from 0. */
 enum open_panel_refusal {
-    OPEN_PANEL_TAKEN = 0,      /* none; the text's length, or 0 from open_panel_judge */
+    OPEN_PANEL_TAKEN = 0,      /* none; the text's length, 0 from open_panel_judge, 1 for yes and 0 for no from open_panel_ask */
     OPEN_PANEL_LONG = 1,       /* a card of more than OPEN_PANEL_CARD_BYTES; 0 */
     OPEN_PANEL_MARK = 2,       /* bytes that make no mark of a card, or a number written too long; where they begin */
     OPEN_PANEL_SHAPE = 3,      /* a mark that does not fit there; where it begins. Or none is left where one is due; card_len */
@@ -66,12 +68,19 @@ enum open_panel_refusal {
     OPEN_PANEL_WEIGHT = 7,     /* a weight that is none; where it begins. Or weights that do not come to 1; their closing `;` */
     OPEN_PANEL_SEAT_COUNT = 8, /* seats_len differs from the number of the card's modules; 0 */
     OPEN_PANEL_SEAT_STATE = 9, /* a seat in a state higher than the card's highest; the index in seats of the first one */
-    OPEN_PANEL_ROOM = 10       /* a room that the text does not fit into; the text's length */
+    OPEN_PANEL_ROOM = 10,      /* a room that the text does not fit into; the text's length */
+
+    OPEN_PANEL_QUESTION_LONG = 21,  /* a question of more than OPEN_PANEL_QUESTION_BYTES; 0 */
+    OPEN_PANEL_QUESTION_MARK = 22,  /* bytes that make no mark, or a number written too long; where in the question they begin */
+    OPEN_PANEL_QUESTION_SHAPE = 23, /* a mark that does not fit there; where it begins. Or none is left where one is due; question_len */
+    OPEN_PANEL_QUESTION_LIMIT = 24, /* more nodes, or more open brackets and `!`, than a question may have; where the excess begins */
+    OPEN_PANEL_QUESTION_STATE = 25, /* a state higher than the card's highest; where its number begins */
+    OPEN_PANEL_QUESTION_GROUP = 26  /* a group that is not of all seats alike, or an exactly-one that is none; its (outer) bracket */
 };
 
 typedef struct {
     uint8_t number; /* 0, or one of enum open_panel_refusal */
-    size_t value;   /* a length if number is 0, else the place of the refusal */
+    size_t value;   /* a length, or yes or no, if number is 0, else the place of the refusal */
 } open_panel_answer;
 
 /* C hands back a larger struct otherwise than the library does, on some processors. */
@@ -124,6 +133,21 @@ open_panel_answer open_panel_reduce(const uint8_t *card, size_t card_len,
 open_panel_answer open_panel_show(const uint8_t *card, size_t card_len,
                                   const uint8_t *seats, size_t seats_len,
                                   uint8_t *room, size_t room_len);
+
+/*
+ * Answers a question about a seating: number 0, and value 1 if it holds there
+ * and 0 if it does not. A question is an expression of groups that name every
+ * seat, such as `!(s1=0 | s2=0)`, joined by `&` and `|`; exactly one seat in a
+ * state is written out, a bracketed term for each seat:
+ * `((s1=0 & s2!=0) | (s1!=0 & s2=0))`. The order of the seats does not matter.
+ * Refusals: 1 to 7 of the card, then 21 to 26 of the question, then 8 and 9.
+ *
+ * Nothing is written anywhere. A null card of length 0 gets 3 at 0; a null
+ * question of length 0 gets 23 at 0 with any card that is taken.
+ */
+open_panel_answer open_panel_ask(const uint8_t *card, size_t card_len,
+                                 const uint8_t *question, size_t question_len,
+                                 const uint8_t *seats, size_t seats_len);
 
 #ifdef __cplusplus
 }

@@ -37,6 +37,7 @@ refusal() {
 }
 
 number CARD_BYTES cardBytes
+number QUESTION_BYTES cardBytes
 number SEATS mostSeats
 number TOP_STATE topState
 number WRITE_ROOM writtenRoom
@@ -53,6 +54,14 @@ refusal WEIGHT Weight wrongWeight
 refusal SEAT_COUNT SeatCount wrongSeats
 refusal SEAT_STATE SeatState seatAboveTop
 refusal ROOM Room roomTooSmall
+
+# a question's numbers
+refusal QUESTION_LONG QuestionLong '(inQuestion tooLong)'
+refusal QUESTION_MARK QuestionMark '(inQuestion outsideRules)'
+refusal QUESTION_SHAPE QuestionShape '(inQuestion outOfShape)'
+refusal QUESTION_LIMIT QuestionLimit '(inQuestion pastLimit)'
+refusal QUESTION_STATE QuestionState '(inQuestion aboveTop)'
+refusal QUESTION_GROUP QuestionGroup '(inQuestion notDue)'
 
 # every number of the header is among them, but for the 0 of no refusal
 all=$(grep -cE '^#define OPEN_PANEL_[A-Z_]* |^ *OPEN_PANEL_[A-Z_]* = [1-9]' include/open_panel.h)

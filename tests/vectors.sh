@@ -23,6 +23,7 @@ through() {
     held base panel panel "${@:2}"
     held edges edges read "${@:2}"
     held edges edges write "${@:2}"
+    held requests/2026-01 requests/2026-01 ask "${@:2}"
 }
 
 through 'Rust wrapper'

@@ -35,6 +35,10 @@ static const char one_seat_reduced[] =
     "[] (no_0>0) -> 1:(no_0'=no_0-1) & (no_1'=min(no_1+1,1));\n"
     "endmodule\n";
 
+/* Exactly one of three seats is in state 1; then the same with a term too few. */
+static const char one_leads[] = "((s1=1 & s2!=1 & s3!=1) | (s2=1 & s1!=1 & s3!=1) | (s3=1 & s1!=1 & s2!=1))";
+static const char two_terms[] = "((s1=1 & s2!=1 & s3!=1) | (s2=1 & s1!=1 & s3!=1))";
+
 enum { GUARD = 16, UNTOUCHED = 0xa5 };
 
 /* A room with bytes on both sides that nothing may touch. */
@@ -72,6 +76,7 @@ static const uint8_t *bytes(const char *text) {
 
 int main(void) {
     const uint8_t seats_001[] = {0, 0, 1};
+    const uint8_t seats_011[] = {0, 1, 1};
     const uint8_t seats_034[] = {0, 3, 4};
     const uint8_t *a = bytes(card_a);
     const size_t a_len = sizeof card_a - 1;
@@ -107,6 +112,19 @@ int main(void) {
     answers(open_panel_show(NULL, 0, NULL, 0, NULL, 0), OPEN_PANEL_SHAPE, 0, "", "nothing at all");
     answers(open_panel_show(a, a_len, seats_034, 3, room, OPEN_PANEL_SHOW_ROOM), OPEN_PANEL_SEAT_STATE, 1, "",
             "a seat above the top state");
+
+    answers(open_panel_ask(a, a_len, bytes(one_leads), sizeof one_leads - 1, seats_001, 3), OPEN_PANEL_TAKEN, 1, "",
+            "one seat leads at 001");
+    answers(open_panel_ask(a, a_len, bytes(one_leads), sizeof one_leads - 1, seats_011, 3), OPEN_PANEL_TAKEN, 0, "",
+            "two seats do at 011");
+    answers(open_panel_ask(a, a_len, bytes(two_terms), sizeof two_terms - 1, seats_001, 3), OPEN_PANEL_QUESTION_GROUP, 0,
+            "", "an exactly-one with a term too few");
+    answers(open_panel_ask(a, a_len, bytes("(s2=0 | s3=0)"), 13, seats_001, 3), OPEN_PANEL_QUESTION_GROUP, 0, "",
+            "a question about the others");
+    answers(open_panel_ask(a, a_len, NULL, 0, seats_001, 3), OPEN_PANEL_QUESTION_SHAPE, 0, "", "no question");
+    answers(open_panel_ask(a, a_len, bytes(one_leads), sizeof one_leads - 1, NULL, 0), OPEN_PANEL_SEAT_COUNT, 0, "",
+            "a question and no seats");
+    answers(open_panel_ask(NULL, 0, NULL, 0, NULL, 0), OPEN_PANEL_SHAPE, 0, "", "no card to ask about");
 
     if (failures == 0) {
         printf("open_panel.h: every answer as expected\n");
