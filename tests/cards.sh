@@ -1,12 +1,13 @@
 #!/usr/bin/env bash
-# docs/CARDS.md says what is so: each card on it shows the panel that stands behind it, and in the table of refusals each line, in its place
-# on the card before the table, is refused as it says, and taken once mended.
+# docs/CARDS.md says what is so: each card on it shows the panel that stands behind it, each question about the first card gets its answer, and
+# in the table of refusals each line, in its place on the card before the table, is refused as it says, and taken once mended.
 set -eu
 cd "$(dirname "${BASH_SOURCE[0]}")/.."
 page=docs/CARDS.md
 made=$(mktemp -d)
 trap 'rm -rf "$made"' EXIT
 shown=0
+asked=0
 refused=0
 wrong=0
 
@@ -46,6 +47,17 @@ while [ -e "$made/$n.head" ]; do
     n=$((n + 1))
 done
 
+# The questions: | question | seats | answer | why |
+bin/library "$(uname -m)-linux" >/dev/null
+export CARGO_TARGET_DIR=$PWD/target/rust
+cargo build --manifest-path rust/Cargo.toml --release --offline --quiet --package open-panel --example ask
+while IFS=$'\t' read -r question seats due; do
+    answer=$("$CARGO_TARGET_DIR/release/examples/ask" "$made/1.text" "$question" "$seats" 2>&1 |
+        sed 's/.*: byte \([0-9]*\) of the question: .*(refusal \([0-9]*\))$/\2 \1/') || true
+    hold "$question at $seats" "$answer" "$due"
+    asked=$((asked + 1))
+done < <(sed -n 's/^| `\(.*\)` | \([0-9]\{1,\}\) | `\{0,1\}\([a-z0-9 ]*\)`\{0,1\} | .* |$/\1\t\2\t\3/p' "$page" | sed 's/\\|/|/g')
+
 # The table: | line | stands | refused | because | write |, with \| for a bar.
 while IFS=$'\t' read -r line stands due mended; do
     for text in "$stands" "$mended"; do
@@ -60,5 +72,5 @@ while IFS=$'\t' read -r line stands due mended; do
     refused=$((refused + 1))
 done < <(sed -n 's/^| \([0-9]\{1,\}\) | `\(.*\)` | `\([0-9]\{1,\} [0-9]\{1,\}\)` | .* | `\(.*\)` |$/\1\t\2\t\3\t\4/p' "$page" | sed 's/\\|/|/g')
 
-echo "cards: $shown cards shown and $refused lines refused and mended, $wrong wrong"
-[ "$wrong" -eq 0 ] && [ "$shown" -ge 3 ] && [ "$refused" -ge 13 ]
+echo "cards: $shown cards shown, $asked questions answered, $refused lines refused and mended, $wrong wrong"
+[ "$wrong" -eq 0 ] && [ "$shown" -ge 3 ] && [ "$asked" -ge 9 ] && [ "$refused" -ge 13 ]
