@@ -56,12 +56,12 @@ refusal SEAT_STATE SeatState seatAboveTop
 refusal ROOM Room roomTooSmall
 
 # a question's numbers
-refusal QUESTION_LONG QuestionLong '(inQuestion tooLong)'
-refusal QUESTION_MARK QuestionMark '(inQuestion outsideRules)'
-refusal QUESTION_SHAPE QuestionShape '(inQuestion outOfShape)'
-refusal QUESTION_LIMIT QuestionLimit '(inQuestion pastLimit)'
-refusal QUESTION_STATE QuestionState '(inQuestion aboveTop)'
-refusal QUESTION_GROUP QuestionGroup '(inQuestion notDue)'
+refusal QUESTION_LONG QuestionLong 'inQuestion tooLong'
+refusal QUESTION_MARK QuestionMark 'inQuestion outsideRules'
+refusal QUESTION_SHAPE QuestionShape 'inQuestion outOfShape'
+refusal QUESTION_LIMIT QuestionLimit 'inQuestion pastLimit'
+refusal QUESTION_STATE QuestionState 'inQuestion aboveTop'
+refusal QUESTION_GROUP QuestionGroup 'inQuestion notDue'
 
 # every number of the header is among them, but for the 0 of no refusal
 all=$(grep -cE '^#define OPEN_PANEL_[A-Z_]* |^ *OPEN_PANEL_[A-Z_]* = [1-9]' include/open_panel.h)
