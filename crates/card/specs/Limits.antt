@@ -1,5 +1,5 @@
--- The limits of a card and the unit of its weights ("What the box holds", "Shape of a card"). Each number has its only home here, and
--- its constant for the code in src/limits.rt, the unit's in src/weight.rt. Assumes nothing.
+-- The limits of a card and the unit of its weights ("What the box holds", "Shape of a card"), and those of a deck of cards (document 02,
+-- 2026-02). Each number has its only home here, and its constant for the code in src/limits.rt, the unit's in src/weight.rt. Assumes nothing.
 use Prim.Native.Nat.{ℕ, suc, _*_, _^_}
 
 -- bytes of a card
@@ -68,3 +68,37 @@ rowNumbers = 3
 
 abbrev pub rowPlaces : ℕ
 rowPlaces = mostStatements * rowNumbers
+
+-- bytes of a deck, and its cards, of which there is one at least
+abbrev pub deckBytes : ℕ
+deckBytes = 65535
+
+abbrev pub mostCards : ℕ
+mostCards = 64
+
+-- a deck's contents: bytes of the count and of an entry; an entry starts with its card number, and its other fields stand from here on in it
+abbrev pub countBytes : ℕ
+countBytes = 1
+
+abbrev pub entryBytes : ℕ
+entryBytes = 8
+
+abbrev pub offsetAt : ℕ
+offsetAt = 2
+
+abbrev pub sizeAt : ℕ
+sizeAt = 4
+
+abbrev pub flagAt : ℕ
+flagAt = 6
+
+abbrev pub zeroByteAt : ℕ
+zeroByteAt = 7
+
+-- a number of two bytes is below this
+abbrev pub wordNumbers : ℕ
+wordNumbers = 65536
+
+-- places in an expansion count from here
+abbrev pub expansionFrom : ℕ
+expansionFrom = 65536

@@ -1,4 +1,4 @@
--- Document 01's refusal numbers by name ("Refusal numbers"); src/refusals.rt has the same numbers for the code. Assumes nothing.
+-- The refusal numbers by name (document 01, "Refusal numbers"; document 02); src/refusals.rt has the same numbers for the code. Assumes nothing.
 use Prim.Native.Nat.{ℕ}
 
 abbrev pub tooLong : ℕ
@@ -30,3 +30,9 @@ seatAboveTop = 9
 
 abbrev pub roomTooSmall : ℕ
 roomTooSmall = 10
+
+abbrev pub malformedDeck : ℕ
+malformedDeck = 11
+
+abbrev pub noLiveCard : ℕ
+noLiveCard = 12

@@ -1,4 +1,4 @@
-// The limits of a card ("What the box holds"); specs/Limits.antt has the same numbers for the contracts.
+// The limits of a card ("What the box holds") and of a deck (document 02, 2026-02); specs/Limits.antt has the same numbers for the contracts.
 
 pub const CARD_BYTES: usize = 16384;
 
@@ -38,3 +38,22 @@ pub const FREE_PLACE: usize = MOST_STATES + 1;
 pub const ROW: usize = 3;
 
 pub const ROW_PLACES: usize = MOST_STATEMENTS * ROW;
+
+pub const DECK_BYTES: usize = 65535;
+
+pub const MOST_CARDS: usize = 64;
+
+pub const COUNT_BYTES: usize = 1;
+
+pub const ENTRY_BYTES: usize = 8;
+
+// an entry starts with its card number; its other fields stand from here on in it
+pub const OFFSET_AT: usize = 2;
+
+pub const SIZE_AT: usize = 4;
+
+pub const FLAG_AT: usize = 6;
+
+pub const ZERO_BYTE_AT: usize = 7;
+
+pub const EXPANSION_FROM: usize = 65536;

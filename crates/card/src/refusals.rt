@@ -1,4 +1,4 @@
-// Document 01's refusal numbers ("Refusal numbers"); specs/Refusals.antt has the same numbers for the contracts.
+// The refusal numbers (document 01, "Refusal numbers"; document 02); specs/Refusals.antt has the same numbers for the contracts.
 
 pub const TOO_LONG: u8 = 1;
 
@@ -19,3 +19,7 @@ pub const WRONG_SEATS: u8 = 8;
 pub const SEAT_ABOVE_TOP: u8 = 9;
 
 pub const ROOM_TOO_SMALL: u8 = 10;
+
+pub const MALFORMED_DECK: u8 = 11;
+
+pub const NO_LIVE_CARD: u8 = 12;

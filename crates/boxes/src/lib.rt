@@ -1,0 +1,164 @@
+// Cards looked up in a box, alone or with an expansion (document 02, 2026-02). Only the contents are read, and no card.
+use card::Verdict;
+use card::limits::COUNT_BYTES;
+use card::limits::ENTRY_BYTES;
+use card::limits::EXPANSION_FROM;
+use card::limits::FLAG_AT;
+use card::limits::OFFSET_AT;
+use card::limits::SIZE_AT;
+use card::refusals::NO_LIVE_CARD;
+use contents::judge_deck;
+use contents::wide;
+use contents::word_at;
+ghost use mathlib.Core.Path.{_≡_};
+ghost use Prim.Native.Nat.{_+_, _≤_};
+ghost use lib.ListN.{length, drop, take};
+ghost use Rattle.card.specs.Limits.{entryBytes};
+ghost use Rattle.entry.specs.Said.{refused, saying};
+ghost use Rattle.deck.specs.Contents.{rowOf, contentsOf};
+ghost use Rattle.deck.specs.Lookup.{partFor, isLive, liveRow, located, locatedWith, find as findSaid, findWith as findWithSaid};
+ghost use Rattle.deck.specs.Sound.{Head};
+ghost use Rattle.boxes.specs.Boxes.{placed, told, Found};
+
+// Where a card stands: 0 in the base or 1 in the expansion, its first byte there, and how many bytes. All 0 where it is refused.
+pub struct Place {
+    pub verdict: Verdict,
+    pub which: usize,
+    pub offset: usize,
+    pub size: usize,
+}
+
+const BASE: usize = 0;
+
+const EXPANSION: usize = 1;
+
+fn nowhere(number: u8, place: usize) -> Place
+    ensures { λ r. ⌜ r ≡ placed (refused number place) ⌝ }
+{
+    Place {
+        verdict: Verdict::Refused(number, place),
+        which: 0,
+        offset: 0,
+        size: 0,
+    }
+}
+
+// Is the entry at a place live, and has it this number?
+fn is_live(deck: &[u8], at: usize, number: usize) -> bool
+    requires { ⌜ at + entryBytes ≤ length (now deck) ⌝ }
+    ensures { λ r. ⌜ r ≡ isLive number (rowOf (drop at (now (deck .entry)))) ⌝ }
+{
+    let named = word_at(deck, at);
+    if named != number {
+        return false;
+    }
+    deck[at + FLAG_AT] == 1
+}
+
+// The live card of a number, entry by entry, in a deck that is taken.
+fn seek(deck: &[u8], number: usize, which: usize) -> Place
+    requires { ⌜ Head (now deck) ⌝ }
+    ensures { λ r. ⌜ r ≡ placed (saying (partFor which) (liveRow number (contentsOf (now (deck .entry))))) ⌝ }
+{
+    let count = wide(deck[0]);
+    let mut left = count;
+    let mut at: usize = COUNT_BYTES;
+    while left != 0 {
+        if is_live(deck, at, number) {
+            let offset = word_at(deck, at + OFFSET_AT);
+            let size = word_at(deck, at + SIZE_AT);
+            return Place {
+                verdict: Verdict::Taken,
+                which: which,
+                offset: offset,
+                size: size,
+            };
+        }
+        at = at + ENTRY_BYTES;
+        left = left - 1;
+    }
+    nowhere(NO_LIVE_CARD, 0)
+}
+
+// Where a box has a card; or 11, or 12.
+pub fn locate(deck: &[u8], number: u16) -> Place
+    ensures { λ r. ⌜ r ≡ placed (located (now (deck .entry)) number) ⌝ }
+{
+    let judged = judge_deck(deck);
+    if let Verdict::Refused(wrong, place) = judged {
+        return nowhere(wrong, place);
+    }
+    let wanted = number as usize;
+    seek(deck, wanted, BASE)
+}
+
+// Where a box with an expansion has a card; or 11, the base judged first, or 12.
+pub fn locate_with(base: &[u8], expansion: &[u8], number: u16) -> Place
+    ensures { λ r. ⌜ r ≡ placed (locatedWith (now (base .entry)) (now (expansion .entry)) number) ⌝ }
+{
+    let first = judge_deck(base);
+    if let Verdict::Refused(wrong, place) = first {
+        return nowhere(wrong, place);
+    }
+    let second = judge_deck(expansion);
+    if let Verdict::Refused(wrong, place) = second {
+        return nowhere(wrong, place + EXPANSION_FROM);
+    }
+    let wanted = number as usize;
+    let there = seek(expansion, wanted, EXPANSION);
+    let verdict = there.verdict;
+    if let Verdict::Refused(wrong, place) = verdict {
+        return seek(base, wanted, BASE);
+    }
+    there
+}
+
+// The bytes of a part.
+fn part<'a>(deck: &'a [u8], offset: usize, size: usize) -> &'a [u8]
+    requires { ⌜ offset + size ≤ length (now deck) ⌝ }
+    ensures { λ r. ⌜ now r ≡ take size (drop offset (now (deck .entry))) ⌝ }
+{
+    let end = offset + size;
+    &deck[offset..end]
+}
+
+// A verdict in two lent numbers, 0 and 0 where nothing is refused.
+fn tell(verdict: Verdict, numbers: &mut [usize; 2])
+    ensures { λ _. ⌜ now (numbers .exit) ≡ told verdict (now (numbers .entry)) ⌝ }
+{
+    if let Verdict::Refused(number, place) = verdict {
+        numbers[0] = wide(number);
+        numbers[1] = place;
+        return;
+    }
+    numbers[0] = 0;
+    numbers[1] = 0;
+}
+
+// The card's bytes as they stand in the box, and its refusal's number and place, or 0 and 0; a refusal hands back an empty part.
+pub fn find<'a>(deck: &'a [u8], number: u16, verdict: &mut [usize; 2]) -> &'a [u8]
+    ensures { λ r. ⌜ Found (findSaid (now (deck .entry)) number) (now r) (now (verdict .entry)) (now (verdict .exit)) ⌝ }
+{
+    let place = locate(deck, number);
+    let found = place.verdict;
+    tell(found, verdict);
+    part(deck, place.offset, place.size)
+}
+
+// The same in a box with an expansion: a part of one of the two decks.
+pub fn find_with<'a>(
+    base: &'a [u8],
+    expansion: &'a [u8],
+    number: u16,
+    verdict: &mut [usize; 2],
+) -> &'a [u8]
+    ensures { λ r. ⌜ Found (findWithSaid (now (base .entry)) (now (expansion .entry)) number) (now r) (now (verdict .entry)) (now (verdict .exit)) ⌝ }
+{
+    let place = locate_with(base, expansion, number);
+    let found = place.verdict;
+    tell(found, verdict);
+    if place.which == EXPANSION {
+        return part(expansion, place.offset, place.size);
+    }
+    part(base, place.offset, place.size)
+}

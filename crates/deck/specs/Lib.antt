@@ -1,0 +1,5 @@
+pub mod Contents
+pub mod Deck
+pub mod Lookup
+pub mod Sound
+pub mod Given
