@@ -1,0 +1,2 @@
+pub mod WriteDeckSaid
+pub mod Fine
