@@ -1,6 +1,6 @@
--- An entry's promise, with its answer in numbers; and the reader's verdict in numbers. Assumes nothing.
+-- An entry's promise, with its answer in numbers; the reader's verdict in numbers; and where a card stands. Assumes nothing.
 use Prim.Native.Nat.{ℕ}
-use mathlib.Core.Path.{_≡_, ap, _∙_}
+use mathlib.Core.Path.{_≡_, refl, ap, _∙_}
 use mathlib.Core.List.{List}
 use Rattle.card.specs.Lent.{Lent}
 use Rattle.reading.specs.Reading.{readOf}
@@ -9,10 +9,28 @@ use Rattle.reader.specs.ReadingOf.{ReadsInto}
 use Rattle.room.specs.declared.Answer.{Answer}
 use Rattle.room.specs.Answer.{Text, Entered}
 use Rattle.tablet.specs.declared.OpenPanelAnswer.{OpenPanelAnswer}
+use Rattle.entry.specs.Said.{Said, says, refused}
+use Rattle.deck.specs.Lookup.{Part}
+use Rattle.contents.specs.Verdicts.{verdictOf}
+use Rattle.boxes.specs.Boxes.{placed}
+use Rattle.boxes.specs.declared.Place.{Place}
 use Rattle.tablet.specs.Told.{numbers, verdictNumbers, judged, Told}
+use Rattle.tablet.specs.Parts.{threeOf, Stands, PartTold}
 
 pub told : {was is : List ℕ} {said : Text} {a : Answer} {r : OpenPanelAnswer} → Entered was is said a → r ≡ numbers a → Told was is said r
 told e n = record { answers = n ∙ ap numbers (e .answers); leaves = e .leaves }
 
 pub judge-told : {card : List ℕ} {o : Outline} {x : Lent} {r : OpenPanelAnswer} → ReadsInto card o x → r ≡ verdictNumbers (o .verdict) → r ≡ judged (readOf card)
 judge-told h n = n ∙ ap (λ (y : Outline). verdictNumbers (y .verdict)) (h .outline)
+
+-- ---- where a card stands
+
+verdict-placed : (said : Said Part) → placed said .verdict ≡ verdictOf said
+verdict-placed (says p) = refl
+verdict-placed (refused r p) = refl
+
+pub part-told : {said : Said Part} {p : Place} {was is : List ℕ} {r : OpenPanelAnswer} → p ≡ placed said → Stands p was is r → PartTold said was is r
+part-told {said} {p} {was} {is} {r} e s = record {
+  answers = s .answers ∙ ap (λ (q : Place). verdictNumbers (q .verdict)) e ∙ ap verdictNumbers (verdict-placed said);
+  leaves = s .leaves ∙ ap (λ (q : Place). threeOf q was) e;
+}

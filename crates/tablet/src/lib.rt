@@ -1,10 +1,15 @@
 // The entries for C: the same promises, with answers in numbers ("Refusal numbers").
 use ask::Asked;
 use ask::ask;
+use boxes::Place;
+use boxes::locate;
+use boxes::locate_with;
 use card::Verdict;
 use card::limits::BRANCH_PLACES;
 use card::limits::NODE_PLACES;
 use card::limits::ROW_PLACES;
+use contents::judge_deck;
+use deck_writer::write_deck;
 use panel::panel;
 use reader::read_into;
 use reducer::reduce;
@@ -12,11 +17,16 @@ use room::Answer;
 use writer::write;
 ghost use mathlib.Core.Path.{_≡_};
 ghost use Rattle.reading.specs.Reading.{readOf};
+ghost use Rattle.deck.specs.Contents.{judged as deckJudged};
+ghost use Rattle.deck.specs.Lookup.{located, locatedWith};
+ghost use Rattle.contents.specs.Verdicts.{verdictOf};
+ghost use Rattle.deck_written.specs.WriteDeckSaid.{writeDeckSaid};
 ghost use Rattle.writer.specs.WriteSaid.{writeSaid};
 ghost use Rattle.reducer.specs.ReduceSaid.{reduceSaid};
 ghost use Rattle.panel.specs.PanelSaid.{panelSaid};
 ghost use Rattle.ask.specs.AskSaid.{askSaid};
 ghost use Rattle.tablet.specs.Told.{numbers, verdictNumbers, judged, Told, askedNumbers, answeredNumbers};
+ghost use Rattle.tablet.specs.Parts.{Stands, PartTold};
 
 // Number 0: the value is the text's length. Else the refusal's number, and the value is its place.
 #[repr(C)]
@@ -135,4 +145,64 @@ pub extern "C" fn open_panel_ask(card: &[u8], question: &[u8], seats: &[u8]) -> 
 {
     let asked = ask(card, question, seats);
     asked_in_numbers(asked)
+}
+
+// Is it a deck of cards? A deck that is taken answers 0 and 0.
+#[no_mangle]
+pub extern "C" fn open_panel_box_judge(deck: &[u8]) -> OpenPanelAnswer
+    ensures { λ r. ⌜ r ≡ verdictNumbers (verdictOf (deckJudged (now (deck .entry)))) ⌝ }
+{
+    let verdict = judge_deck(deck);
+    verdict_in_numbers(verdict)
+}
+
+// In three lent numbers: 0 for the base or 1 for the expansion, the first byte there, and how many bytes.
+fn tell_part(place: Place, part: &mut [usize; 3]) -> OpenPanelAnswer
+    ensures { λ r. ⌜ Stands place (now (part .entry)) (now (part .exit)) r ⌝ }
+{
+    part[0] = place.which;
+    part[1] = place.offset;
+    part[2] = place.size;
+    let verdict = place.verdict;
+    verdict_in_numbers(verdict)
+}
+
+// Where a box has the card of a number. Where it has none the part is all 0.
+#[no_mangle]
+pub extern "C" fn open_panel_box_find(
+    deck: &[u8],
+    number: u16,
+    part: &mut [usize; 3],
+) -> OpenPanelAnswer
+    ensures { λ r. ⌜ PartTold (located (now (deck .entry)) number) (now (part .entry)) (now (part .exit)) r ⌝ }
+{
+    let place = locate(deck, number);
+    tell_part(place, part)
+}
+
+// The same in a box with an expansion.
+#[no_mangle]
+pub extern "C" fn open_panel_box_find_with(
+    base: &[u8],
+    expansion: &[u8],
+    number: u16,
+    part: &mut [usize; 3],
+) -> OpenPanelAnswer
+    ensures { λ r. ⌜ PartTold (locatedWith (now (base .entry)) (now (expansion .entry)) number) (now (part .entry)) (now (part .exit)) r ⌝ }
+{
+    let place = locate_with(base, expansion, number);
+    tell_part(place, part)
+}
+
+// A box without gaps, from contents without a count byte and the bodies joined.
+#[no_mangle]
+pub extern "C" fn open_panel_box_write(
+    contents: &[u8],
+    bodies: &[u8],
+    room: &mut [u8],
+) -> OpenPanelAnswer
+    ensures { λ r. ⌜ Told (now (room .entry)) (now (room .exit)) (writeDeckSaid (now (contents .entry)) (now (bodies .entry))) r ⌝ }
+{
+    let answer = write_deck(contents, bodies, room);
+    in_numbers(answer)
 }
