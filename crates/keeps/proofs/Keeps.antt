@@ -6,12 +6,22 @@ use Rattle.reducer.proofs.reduce.Met.{met as reduce-met}
 use Rattle.panel.proofs.panel.Met.{met as panel-met}
 use Rattle.program.proofs.respond.Met.{met as respond-met}
 use Rattle.ask.proofs.ask.Met.{met as ask-met}
+use Rattle.contents.proofs.judge_deck.Met.{met as judge-deck-met}
+use Rattle.boxes.proofs.locate.Met.{met as locate-met}
+use Rattle.boxes.proofs.locate_with.Met.{met as locate-with-met}
+use Rattle.boxes.proofs.find.Met.{met as find-met}
+use Rattle.boxes.proofs.find_with.Met.{met as find-with-met}
+use Rattle.deck_writer.proofs.write_deck.Met.{met as write-deck-met}
 use Rattle.tablet.proofs.open_panel_judge.Met.{met as judge-for-c-met}
 use Rattle.tablet.proofs.open_panel_write.Met.{met as write-for-c-met}
 use Rattle.tablet.proofs.open_panel_reduce.Met.{met as reduce-for-c-met}
 use Rattle.tablet.proofs.open_panel_show.Met.{met as show-for-c-met}
 use Rattle.tablet.proofs.open_panel_ask.Met.{met as ask-for-c-met}
 use Rattle.keeps.specs.Keeps.{Keeps}
+use Rattle.tablet.proofs.open_panel_box_judge.Met.{met as box-judge-for-c-met}
+use Rattle.tablet.proofs.open_panel_box_find.Met.{met as box-find-for-c-met}
+use Rattle.tablet.proofs.open_panel_box_find_with.Met.{met as box-find-with-for-c-met}
+use Rattle.tablet.proofs.open_panel_box_write.Met.{met as box-write-for-c-met}
 
 pub keeps : Keeps
 keeps = record {
@@ -22,9 +32,19 @@ keeps = record {
   panel = λ M. panel-met;
   respond = λ M. respond-met;
   ask = λ M. ask-met;
+  judge-deck = λ M. judge-deck-met;
+  locate = λ M. locate-met;
+  locate-with = λ M. locate-with-met;
+  find = λ M. find-met;
+  find-with = λ M. find-with-met;
+  write-deck = λ M. write-deck-met;
   judge-for-c = λ M. judge-for-c-met;
   write-for-c = λ M. write-for-c-met;
   reduce-for-c = λ M. reduce-for-c-met;
   show-for-c = λ M. show-for-c-met;
   ask-for-c = λ M. ask-for-c-met;
+  box-judge-for-c = λ M. box-judge-for-c-met;
+  box-find-for-c = λ M. box-find-for-c-met;
+  box-find-with-for-c = λ M. box-find-with-for-c-met;
+  box-write-for-c = λ M. box-write-for-c-met;
 }

@@ -1,6 +1,7 @@
 -- The code keeps its contracts ("How tight the promises are"): of each function that is called from outside, the kit's statement that its
 -- routine meets what its source declares, for every memory that it may be called in. What the contracts say (`Reads`, `Entered`, `Printed`,
--- `Told`) is in `Entries.antt` and `ForC.antt`. Assumes nothing.
+-- `Told`, `Found`, `PartTold`) is in `Entries.antt`, `ForC.antt`, `Decks.antt`
+-- and `DeckWriting.antt`. Assumes nothing.
 use Rattle.reader.proofs.read.Statement.{statement as readKeeps}
 use Rattle.reader.proofs.read_into.Statement.{statement as readIntoKeeps}
 use Rattle.writer.proofs.write.Statement.{statement as writeKeeps}
@@ -8,11 +9,21 @@ use Rattle.reducer.proofs.reduce.Statement.{statement as reduceKeeps}
 use Rattle.panel.proofs.panel.Statement.{statement as panelKeeps}
 use Rattle.program.proofs.respond.Statement.{statement as respondKeeps}
 use Rattle.ask.proofs.ask.Statement.{statement as askKeeps}
+use Rattle.contents.proofs.judge_deck.Statement.{statement as judgeDeckKeeps}
+use Rattle.boxes.proofs.locate.Statement.{statement as locateKeeps}
+use Rattle.boxes.proofs.locate_with.Statement.{statement as locateWithKeeps}
+use Rattle.boxes.proofs.find.Statement.{statement as findKeeps}
+use Rattle.boxes.proofs.find_with.Statement.{statement as findWithKeeps}
+use Rattle.deck_writer.proofs.write_deck.Statement.{statement as writeDeckKeeps}
 use Rattle.tablet.proofs.open_panel_judge.Statement.{statement as judgeForCKeeps}
 use Rattle.tablet.proofs.open_panel_write.Statement.{statement as writeForCKeeps}
 use Rattle.tablet.proofs.open_panel_reduce.Statement.{statement as reduceForCKeeps}
 use Rattle.tablet.proofs.open_panel_show.Statement.{statement as showForCKeeps}
 use Rattle.tablet.proofs.open_panel_ask.Statement.{statement as askForCKeeps}
+use Rattle.tablet.proofs.open_panel_box_judge.Statement.{statement as boxJudgeForCKeeps}
+use Rattle.tablet.proofs.open_panel_box_find.Statement.{statement as boxFindForCKeeps}
+use Rattle.tablet.proofs.open_panel_box_find_with.Statement.{statement as boxFindWithForCKeeps}
+use Rattle.tablet.proofs.open_panel_box_write.Statement.{statement as boxWriteForCKeeps}
 
 pub record Keeps : Type 2 where
   pub read : (M : Type 1) → readKeeps M
@@ -22,9 +33,20 @@ pub record Keeps : Type 2 where
   pub panel : (M : Type 1) → panelKeeps M
   pub respond : (M : Type 1) → respondKeeps M
   pub ask : (M : Type 1) → askKeeps M
+  -- boxes
+  pub judge-deck : (M : Type 1) → judgeDeckKeeps M
+  pub locate : (M : Type 1) → locateKeeps M
+  pub locate-with : (M : Type 1) → locateWithKeeps M
+  pub find : (M : Type 1) → findKeeps M
+  pub find-with : (M : Type 1) → findWithKeeps M
+  pub write-deck : (M : Type 1) → writeDeckKeeps M
   -- the names for C
   pub judge-for-c : (M : Type 1) → judgeForCKeeps M
   pub write-for-c : (M : Type 1) → writeForCKeeps M
   pub reduce-for-c : (M : Type 1) → reduceForCKeeps M
   pub show-for-c : (M : Type 1) → showForCKeeps M
   pub ask-for-c : (M : Type 1) → askForCKeeps M
+  pub box-judge-for-c : (M : Type 1) → boxJudgeForCKeeps M
+  pub box-find-for-c : (M : Type 1) → boxFindForCKeeps M
+  pub box-find-with-for-c : (M : Type 1) → boxFindWithForCKeeps M
+  pub box-write-for-c : (M : Type 1) → boxWriteForCKeeps M

@@ -42,10 +42,10 @@ use Rattle.promises.specs.Entries.{InNumbers, outcomeNumber, outcomePlac
 use Rattle.promises.proofs.Numbers.{number-some}
 use Rattle.promises.proofs.Program.{Way, of-card as card-way, of-count, of-seat, of-panel, way, input, responds, never-10}
 
-in-numbers : (a : Answer) → InNumbers a
+pub in-numbers : (a : Answer) → InNumbers a
 in-numbers a = record { refusal = λ number place e. (ap answerNumber e, ap answerValue e); length-told = λ long e. (ap answerNumber e, ap answerValue e) }
 
-done≢refused : {A : Type 0} {long r p : ℕ} → Done long ≡ Refused r p → A
+pub done≢refused : {A : Type 0} {long r p : ℕ} → Done long ≡ Refused r p → A
 done≢refused e = let z : _≡_ {A = ℕ} 0 1 = cc in absurd (omega arith)
 
 reads-number : (o : Outcome) → numberOf (readingOf o .verdict) ≡ outcomeNumber o

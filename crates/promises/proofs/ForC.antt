@@ -29,14 +29,14 @@ use Rattle.promises.proofs.Entries.{write, reduce, panel}
 -- ---- an answer and its two numbers
 
 module _ (a : Answer) (some : (number place : ℕ) → a ≡ Refused number place → 1 ≤ number) where
-  tells-done : (long : ℕ) → Answers (numbers a) 0 long ↔ (a ≡ Done long)
+  pub tells-done : (long : ℕ) → Answers (numbers a) 0 long ↔ (a ≡ Done long)
   tells-done long = (forth a some, λ e. (ap answerNumber e, ap answerValue e))
     where
       forth : (a : Answer) → ((number place : ℕ) → a ≡ Refused number place → 1 ≤ number) → Answers (numbers a) 0 long → a ≡ Done long
       forth (Done l) h e = ap Done (e .1)
       forth (Refused n p) h e = absurd (omega (arith, e .0, h n p refl))
 
-  tells-refused : (number place : ℕ) → 1 ≤ number → Answers (numbers a) number place ↔ (a ≡ Refused number place)
+  pub tells-refused : (number place : ℕ) → 1 ≤ number → Answers (numbers a) number place ↔ (a ≡ Refused number place)
   tells-refused number place l = (forth a, λ e. (ap answerNumber e, ap answerValue e))
     where
       forth : (a : Answer) → Answers (numbers a) number place → a ≡ Refused number place
@@ -44,14 +44,14 @@ module _ (a : Answer) (some : (number place : ℕ) → a ≡ Refused number plac
       forth (Refused n p) e = rw (e .0, e .1)
 
   -- a number that is not 0 is a refusal's
-  is-refused : (answerNumber a ≡ 0 → ⊥) → (number : ℕ) × (place : ℕ) × (a ≡ Refused number place)
+  pub is-refused : (answerNumber a ≡ 0 → ⊥) → (number : ℕ) × (place : ℕ) × (a ≡ Refused number place)
   is-refused h = go a h
     where
       go : (a : Answer) → (answerNumber a ≡ 0 → ⊥) → (number : ℕ) × (place : ℕ) × (a ≡ Refused number place)
       go (Done long) h = absurd (h refl)
       go (Refused n p) h = (n, p, refl)
 
-  number-of : {P : ℕ → Type 0} → P 0 → ((number place : ℕ) → a ≡ Refused number place → P number) → P (answerNumber a)
+  pub number-of : {P : ℕ → Type 0} → P 0 → ((number place : ℕ) → a ≡ Refused number place → P number) → P (answerNumber a)
   number-of {P} z h = go a h
     where
       go : (a : Answer) → ((number place : ℕ) → a ≡ Refused number place → P number) → P (answerNumber a)
@@ -87,7 +87,7 @@ panel-tells a h =
     }
 
 -- the answer that C is told in numbers
-entered : {was is : List ℕ} (said : Text) {r : OpenPanelAnswer} → Told was is said r → Entered was is said (answered said was)
+pub entered : {was is : List ℕ} (said : Text) {r : OpenPanelAnswer} → Told was is said r → Entered was is said (answered said was)
 entered said e = record { answers = refl; leaves = e .leaves }
 
 taken≢refused : {A : Type 0} {c : Card} {r p : ℕ} → taken c ≡ refused r p → A

@@ -12,3 +12,5 @@ pub mod Writings
 pub mod Reductions
 pub mod Panels
 pub mod Questions
+pub mod Decks
+pub mod DeckWriting

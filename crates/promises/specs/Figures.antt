@@ -1,7 +1,9 @@
 -- The documents' figures, each beside the name by which every definition and every contract speaks of it. Assumes nothing.
 use mathlib.Core.Path.{_≡_}
 use Rattle.card.specs.Limits.{cardBytes, mostSeats, topState, mostStatements, mostBranches, mostNodes, mostDepth, numberDigits, furtherDigits, wordDigits, unit, weightDigits}
+use Rattle.card.specs.Limits.{deckBytes, mostCards, countBytes, entryBytes, offsetAt, sizeAt, flagAt, zeroByteAt, expansionFrom}
 use Rattle.card.specs.Refusals.{tooLong, outsideRules, outOfShape, pastLimit, aboveTop, notDue, wrongWeight, wrongSeats, seatAboveTop, roomTooSmall}
+use Rattle.card.specs.Refusals.{malformedDeck, noLiveCard}
 use Rattle.room.specs.Digits.{digit}
 use Rattle.texts.specs.Lengths.{writtenRoom, reducedRoom}
 use Rattle.panel.specs.PanelRoom.{panelRoom}
@@ -47,6 +49,19 @@ pub record Figures : Type 0 where
   pub question-past-limit : inQuestion pastLimit ≡ 24
   pub question-above-top : inQuestion aboveTop ≡ 25
   pub question-not-due : inQuestion notDue ≡ 26
+  -- document 02, 2026-02: a deck's bytes and cards, its count and an entry, where the fields behind an entry's number stand, where an expansion's
+  -- places begin, and its refusals
+  pub deck-bytes : deckBytes ≡ 65535
+  pub deck-cards : mostCards ≡ 64
+  pub count-bytes : countBytes ≡ 1
+  pub entry-bytes : entryBytes ≡ 8
+  pub offset-at : offsetAt ≡ 2
+  pub size-at : sizeAt ≡ 4
+  pub flag-at : flagAt ≡ 6
+  pub zero-byte-at : zeroByteAt ≡ 7
+  pub expansion-from : expansionFrom ≡ 65536
+  pub malformed-deck : malformedDeck ≡ 11
+  pub no-live-card : noLiveCard ≡ 12
   -- rooms that every text fits into; they are the project's own figures
   pub written-room : writtenRoom ≡ 82639
   pub reduced-room : reducedRoom ≡ 347890
