@@ -1,6 +1,7 @@
 //! Document 01 as an ordinary Rust program: rule cards are read, written,
 //! reduced to counters, and shown as the panel of a seating; and those requests
-//! of document 02 that have landed: questions about a seating are answered.
+//! of document 02 that have landed: questions about a seating are answered, and
+//! cards are found in decks.
 //!
 //! It was written from the documents alone, so that a slip in it and a slip in
 //! the verified library are unlikely to be the same one; `compare` runs both on
@@ -23,6 +24,7 @@
 
 mod card;
 mod counter;
+mod deck;
 mod expression;
 pub mod limits;
 mod panel;
@@ -36,6 +38,7 @@ mod text;
 mod write;
 
 pub use card::{Branch, Card, Group, Mode, Node, Statement};
+pub use deck::{find, find_with, judge_deck, locate, locate_with, write_deck, Part};
 pub use panel::panel;
 pub use program::program;
 pub use question::ask;

@@ -30,3 +30,7 @@ pub const WEIGHT_FURTHER_DIGITS: usize = 2;
 pub const UNIT: u32 = 25_200;
 /// Bytes of its input that the panel program looks at.
 pub const INPUT_BYTES: usize = 65_536;
+/// Longest deck, in bytes.
+pub const DECK_BYTES: usize = 65_535;
+/// Most cards in a deck; the least is one.
+pub const DECK_CARDS: usize = 64;

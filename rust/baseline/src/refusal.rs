@@ -1,4 +1,4 @@
-//! Why a card, a seating, a room or a question is turned down, and where.
+//! Why a card, a seating, a room, a question or a deck is turned down, and where.
 
 use std::fmt;
 
@@ -7,7 +7,7 @@ use std::fmt;
 pub struct Refusal {
     /// One of the numbers below.
     pub number: u8,
-    /// A byte of the card or the question, a seat, or a length, depending on the number.
+    /// A byte of the card, the question or a deck, a seat, or a length, depending on the number.
     pub place: usize,
 }
 
@@ -29,8 +29,14 @@ pub const WEIGHT: u8 = 7;
 pub const SEAT_COUNT: u8 = 8;
 /// A seat's state lies above the top state.
 pub const SEAT_STATE: u8 = 9;
-/// The text does not fit into the room.
+/// The text or the deck does not fit into the room.
 pub const ROOM: u8 = 10;
+/// A deck is malformed, or contents and bodies make none.
+pub const DECK: u8 = 11;
+/// What is added to a [`DECK`]'s place in an expansion.
+pub const IN_EXPANSION: usize = 65_536;
+/// No deck has a live card of the number.
+pub const NO_LIVE_CARD: u8 = 12;
 /// What is added to [`TOO_LONG`], [`OUTSIDE`], [`SHAPE`], [`LIMIT`], [`STATE`] or [`WORD`] where a question is refused so.
 pub const OF_QUESTION: u8 = 20;
 
