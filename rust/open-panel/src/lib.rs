@@ -1,8 +1,8 @@
 //! The open panel for Rust: rule cards are judged, written, reduced to
-//! counters, and shown, and questions about a seating are answered, by the
-//! verified library.
+//! counters, and shown, questions about a seating are answered, and cards are
+//! found in decks, by the verified library.
 //!
-//! Every entry takes the card as bytes and judges it first. A text goes into a
+//! Every entry that takes a card takes it as bytes and judges it first. A text goes into a
 //! room that the caller lends: an entry answers the text's length, and leaves
 //! the room behind it as it was; a [`Refusal`] leaves the whole room as it was.
 //! The functions that end in `_to_vec` bring their own room.
@@ -19,10 +19,17 @@
 //! # Ok::<(), open_panel::Refusal>(())
 //! ```
 
+mod deck;
 mod library;
 mod refusal;
 
+pub use deck::{
+    find, find_with, judge_deck, locate, locate_with, write_deck, write_deck_to_vec, Part,
+    DECK_BYTES, DECK_CARDS,
+};
 pub use refusal::Refusal;
+
+use deck::RawPart;
 
 /// Longest card, in bytes.
 pub const CARD_BYTES: usize = 16_384;

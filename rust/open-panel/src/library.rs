@@ -1,7 +1,7 @@
 //! The library's own entries. `include/open_panel.h` says what each asks for.
 #![allow(unsafe_code)]
 
-use crate::Answer;
+use crate::{Answer, RawPart};
 
 extern "C" {
     fn open_panel_judge(card: *const u8, card_len: usize) -> Answer;
@@ -29,10 +29,33 @@ extern "C" {
         seats: *const u8,
         seats_len: usize,
     ) -> Answer;
+    fn open_panel_box_judge(deck: *const u8, deck_len: usize) -> Answer;
+    fn open_panel_box_find(
+        deck: *const u8,
+        deck_len: usize,
+        number: u16,
+        part: *mut RawPart,
+    ) -> Answer;
+    fn open_panel_box_find_with(
+        base: *const u8,
+        base_len: usize,
+        expansion: *const u8,
+        expansion_len: usize,
+        number: u16,
+        part: *mut RawPart,
+    ) -> Answer;
+    fn open_panel_box_write(
+        contents: *const u8,
+        contents_len: usize,
+        bodies: *const u8,
+        bodies_len: usize,
+        room: *mut u8,
+        room_len: usize,
+    ) -> Answer;
 }
 
-// The library asks for nothing but pieces of memory, of which the room is its
-// alone while it runs: slices are that.
+// The library asks for nothing but pieces of memory, of which the room or the
+// part is its alone while it runs: slices and references are that.
 
 pub(crate) fn judge(card: &[u8]) -> Answer {
     // SAFETY: as above.
@@ -73,6 +96,49 @@ pub(crate) fn ask(card: &[u8], question: &[u8], seats: &[u8]) -> Answer {
             question.len(),
             seats.as_ptr(),
             seats.len(),
+        )
+    }
+}
+
+pub(crate) fn box_judge(deck: &[u8]) -> Answer {
+    // SAFETY: as above.
+    unsafe { open_panel_box_judge(deck.as_ptr(), deck.len()) }
+}
+
+pub(crate) fn box_find(deck: &[u8], number: u16, part: &mut RawPart) -> Answer {
+    // SAFETY: as above.
+    unsafe { open_panel_box_find(deck.as_ptr(), deck.len(), number, part) }
+}
+
+pub(crate) fn box_find_with(
+    base: &[u8],
+    expansion: &[u8],
+    number: u16,
+    part: &mut RawPart,
+) -> Answer {
+    // SAFETY: as above.
+    unsafe {
+        open_panel_box_find_with(
+            base.as_ptr(),
+            base.len(),
+            expansion.as_ptr(),
+            expansion.len(),
+            number,
+            part,
+        )
+    }
+}
+
+pub(crate) fn box_write(contents: &[u8], bodies: &[u8], room: &mut [u8]) -> Answer {
+    // SAFETY: as above.
+    unsafe {
+        open_panel_box_write(
+            contents.as_ptr(),
+            contents.len(),
+            bodies.as_ptr(),
+            bodies.len(),
+            room.as_mut_ptr(),
+            room.len(),
         )
     }
 }

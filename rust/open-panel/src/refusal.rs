@@ -1,11 +1,11 @@
-//! Why a card, a seating, a room or a question is turned down, and where.
+//! Why a card, a seating, a room, a question or a deck is turned down, and where.
 
 use std::fmt;
 
 /// A refusal. Its [`number`](Refusal::number) and [`place`](Refusal::place)
 /// are those of documents 01 and 02; where it stands `at` something, that is a
-/// byte, from 0, of the card, or of the question where its name says so. More
-/// numbers may come.
+/// byte, from 0, of the card, or of the question or the deck where its name says
+/// so. More numbers may come.
 #[derive(Clone, Copy, PartialEq, Eq, Hash, Debug)]
 #[non_exhaustive]
 pub enum Refusal {
@@ -48,11 +48,20 @@ pub enum Refusal {
         /// The index of the first one.
         seat: usize,
     },
-    /// 10: a room that the text does not fit into.
+    /// 10: a room that the text or the deck does not fit into.
     Room {
-        /// The text's length.
+        /// Its length.
         needed: usize,
     },
+    /// 11: a malformed deck, or contents and bodies that make none.
+    Deck {
+        /// Where the first wrong field starts, in the expansion 65,536 more; 0
+        /// if the deck as a whole is wrong. From [`write_deck`](crate::write_deck)
+        /// a byte of the contents, or their length.
+        at: usize,
+    },
+    /// 12: no live card has the number.
+    NoLiveCard,
     /// 21: the question is longer than [`QUESTION_BYTES`](crate::QUESTION_BYTES).
     QuestionLong,
     /// 22: bytes in the question that make no mark, or a number written too long.
@@ -84,7 +93,7 @@ pub enum Refusal {
 
 impl Refusal {
     /// The refusal of this number at this place, if there is one: the numbers
-    /// are 1 to 10 and 21 to 26, and the place of 1, 8 and 21 is always 0.
+    /// are 1 to 12 and 21 to 26, and the place of 1, 8, 12 and 21 is always 0.
     pub const fn new(number: u8, place: usize) -> Option<Refusal> {
         Some(match number {
             1 if place == 0 => Refusal::Long,
@@ -97,6 +106,8 @@ impl Refusal {
             8 if place == 0 => Refusal::SeatCount,
             9 => Refusal::SeatState { seat: place },
             10 => Refusal::Room { needed: place },
+            11 => Refusal::Deck { at: place },
+            12 if place == 0 => Refusal::NoLiveCard,
             21 if place == 0 => Refusal::QuestionLong,
             22 => Refusal::QuestionMark { at: place },
             23 => Refusal::QuestionShape { at: place },
@@ -107,7 +118,7 @@ impl Refusal {
         })
     }
 
-    /// Its number, 1 to 10 or 21 to 26.
+    /// Its number, 1 to 12 or 21 to 26.
     pub const fn number(&self) -> u8 {
         match self {
             Refusal::Long => 1,
@@ -120,6 +131,8 @@ impl Refusal {
             Refusal::SeatCount => 8,
             Refusal::SeatState { .. } => 9,
             Refusal::Room { .. } => 10,
+            Refusal::Deck { .. } => 11,
+            Refusal::NoLiveCard => 12,
             Refusal::QuestionLong => 21,
             Refusal::QuestionMark { .. } => 22,
             Refusal::QuestionShape { .. } => 23,
@@ -129,16 +142,17 @@ impl Refusal {
         }
     }
 
-    /// Its place: a byte of the card or of the question, a seat, a length, or 0.
+    /// Its place: a byte of the card, of the question or of a deck, a seat, a length, or 0.
     pub const fn place(&self) -> usize {
         match *self {
-            Refusal::Long | Refusal::SeatCount | Refusal::QuestionLong => 0,
+            Refusal::Long | Refusal::SeatCount | Refusal::NoLiveCard | Refusal::QuestionLong => 0,
             Refusal::Mark { at }
             | Refusal::Shape { at }
             | Refusal::Limit { at }
             | Refusal::State { at }
             | Refusal::Word { at }
             | Refusal::Weight { at }
+            | Refusal::Deck { at }
             | Refusal::QuestionMark { at }
             | Refusal::QuestionShape { at }
             | Refusal::QuestionLimit { at }
@@ -195,8 +209,13 @@ impl fmt::Display for Refusal {
                 write!(f, "seat {seat} (from 0) is above the card's top state")
             }
             Refusal::Room { needed } => {
-                write!(f, "the room is too small: the text has {needed} bytes")
+                write!(f, "the room is too small: {needed} bytes are needed")
             }
+            Refusal::Deck { at } => write!(
+                f,
+                "byte {at} of a deck, an expansion's from 65536 on, or of its contents: malformed there"
+            ),
+            Refusal::NoLiveCard => write!(f, "no live card has this number"),
             Refusal::QuestionLong => {
                 write!(
                     f,

@@ -56,8 +56,14 @@ fn refusals_have_number_place_and_words() {
         (
             10,
             7,
-            "the room is too small: the text has 7 bytes (refusal 10)",
+            "the room is too small: 7 bytes are needed (refusal 10)",
         ),
+        (
+            11,
+            7,
+            "byte 7 of a deck, an expansion's from 65536 on, or of its contents: malformed there (refusal 11)",
+        ),
+        (12, 0, "no live card has this number (refusal 12)"),
         (
             21,
             0,
@@ -95,10 +101,10 @@ fn refusals_have_number_place_and_words() {
         assert_eq!(refusal.to_string(), words);
         assert_eq!(refusal.is_of_question(), words.contains("the question"));
     }
-    for number in [0, 11, 20, 27, 255] {
+    for number in [0, 13, 20, 27, 255] {
         assert_eq!(Refusal::new(number, 0), None);
     }
-    for number in [1, 8, 21] {
+    for number in [1, 8, 12, 21] {
         assert_eq!(Refusal::new(number, 7), None);
     }
 }
@@ -133,6 +139,54 @@ fn questions_and_their_refusals() {
     let spread = b"(s1=0)\n&\n !(s2=0)";
     assert_eq!(refused(spread).line_and_column(spread), Some((3, 3)));
     assert_eq!(refused(&long).line_and_column(&long), None);
+}
+
+#[test]
+fn decks() {
+    // Cards 3 and 7, the second withdrawn; what their offsets say does not matter.
+    let contents = [3, 0, 9, 9, 2, 0, 1, 0, 7, 0, 9, 9, 1, 0, 0, 0];
+    let deck = write_deck_to_vec(&contents, b"abc").unwrap();
+    let due = [
+        2, 3, 0, 17, 0, 2, 0, 1, 0, 7, 0, 19, 0, 1, 0, 0, 0, b'a', b'b', b'c',
+    ];
+    assert_eq!(deck, due);
+    assert_eq!(judge_deck(&deck), Ok(()));
+    assert_eq!(find(&deck, 3), Ok(&b"ab"[..]));
+    assert_eq!(find(&deck, 7), Err(Refusal::NoLiveCard));
+    assert_eq!(find(&deck, 4), Err(Refusal::NoLiveCard));
+    let mut room = [0; 19];
+    let refused = write_deck(&contents, b"abc", &mut room);
+    assert_eq!(refused, Err(Refusal::Room { needed: 20 }));
+    let at = contents.len();
+    assert_eq!(
+        write_deck_to_vec(&contents, b"ab"),
+        Err(Refusal::Deck { at })
+    );
+    assert_eq!(judge_deck(b""), Err(Refusal::Deck { at: 0 }));
+    assert_eq!(find(&deck[..19], 3), Err(Refusal::Deck { at: 13 }));
+}
+
+#[test]
+fn an_expansion_before_the_base() {
+    let base = write_deck_to_vec(&[3, 0, 0, 0, 1, 0, 1, 0, 4, 0, 0, 0, 1, 0, 1, 0], b"xy").unwrap();
+    let found = {
+        // What is found lives as long as both decks, wherever the number came from.
+        let expansion = write_deck_to_vec(&[3, 0, 0, 0, 2, 0, 1, 0], b"ab").unwrap();
+        assert_eq!(find_with(&base, &expansion, 3), Ok(&b"ab"[..]));
+        let part = Part {
+            in_expansion: true,
+            offset: 9,
+            length: 2,
+        };
+        assert_eq!(locate_with(&base, &expansion, 3), Ok(part));
+        assert_eq!(find_with(&base, &expansion, 4), Ok(&b"y"[..]));
+        assert_eq!(find_with(&base, &expansion, 5), Err(Refusal::NoLiveCard));
+        let at = 65_536;
+        assert_eq!(find_with(&base, b"", 4), Err(Refusal::Deck { at }));
+        assert_eq!(find_with(b"", b"", 4), Err(Refusal::Deck { at: 0 }));
+        find(&base, 4)
+    };
+    assert_eq!(found, Ok(&b"y"[..]));
 }
 
 #[test]

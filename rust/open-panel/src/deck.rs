@@ -1,0 +1,117 @@
+//! Decks: cards in a box, found by their numbers.
+
+use crate::{in_own_room, library, Answer, Refusal};
+
+/// Longest deck, in bytes.
+pub const DECK_BYTES: usize = 65_535;
+/// Most cards in a deck.
+pub const DECK_CARDS: usize = 64;
+
+/// A part of one of two decks.
+#[derive(Clone, Copy, PartialEq, Eq, Hash, Debug)]
+pub struct Part {
+    /// It lies in the expansion, and not in the base.
+    pub in_expansion: bool,
+    /// Its first byte.
+    pub offset: usize,
+    /// How many bytes it has.
+    pub length: usize,
+}
+
+impl Part {
+    fn of<'d>(self, base: &'d [u8], expansion: &'d [u8]) -> &'d [u8] {
+        let deck = if self.in_expansion { expansion } else { base };
+        &deck[self.offset..self.offset + self.length]
+    }
+}
+
+/// A part as the library hands it back.
+#[repr(C)]
+#[derive(PartialEq, Eq, Debug)]
+pub(crate) struct RawPart {
+    in_expansion: usize,
+    offset: usize,
+    length: usize,
+}
+
+impl RawPart {
+    /// What no library hands back.
+    const UNSET: RawPart = RawPart {
+        in_expansion: usize::MAX,
+        offset: usize::MAX,
+        length: usize::MAX,
+    };
+    const EMPTY: RawPart = RawPart {
+        in_expansion: 0,
+        offset: 0,
+        length: 0,
+    };
+}
+
+/// Says whether a deck is well formed; its cards are not read. Refusal: 11.
+pub fn judge_deck(deck: &[u8]) -> Result<(), Refusal> {
+    let value = library::box_judge(deck).into_result()?;
+    assert_eq!(value, 0, "the library judges a deck without a value");
+    Ok(())
+}
+
+/// The live card of this number, as it stands in a deck. Refusals: 11 and 12.
+pub fn find(deck: &[u8], number: u16) -> Result<&[u8], Refusal> {
+    locate(deck, number).map(|part| part.of(deck, &[]))
+}
+
+/// Where a deck has the live card of this number. Refusals: 11 and 12.
+pub fn locate(deck: &[u8], number: u16) -> Result<Part, Refusal> {
+    located(|part| library::box_find(deck, number, part))
+}
+
+/// The live card of this number, as it stands in an expansion, or else in the base. Refusals: 11 and 12.
+///
+/// ```
+/// let entry = [5, 0, 0, 0, 4, 0, 1, 0];
+/// let base = open_panel::write_deck_to_vec(&entry, b"base")?;
+/// let expansion = open_panel::write_deck_to_vec(&entry, b"more")?;
+/// assert_eq!(open_panel::find_with(&base, &expansion, 5), Ok(&b"more"[..]));
+/// # Ok::<(), open_panel::Refusal>(())
+/// ```
+pub fn find_with<'d>(
+    base: &'d [u8],
+    expansion: &'d [u8],
+    number: u16,
+) -> Result<&'d [u8], Refusal> {
+    locate_with(base, expansion, number).map(|part| part.of(base, expansion))
+}
+
+/// Where an expansion, or else the base, has the live card of this number. Refusals: 11 and 12.
+pub fn locate_with(base: &[u8], expansion: &[u8], number: u16) -> Result<Part, Refusal> {
+    located(|part| library::box_find_with(base, expansion, number, part))
+}
+
+fn located(find: impl FnOnce(&mut RawPart) -> Answer) -> Result<Part, Refusal> {
+    let mut part = RawPart::UNSET;
+    let answer = find(&mut part).into_result();
+    if answer.is_err() {
+        assert_eq!(part, RawPart::EMPTY, "a refused lookup has an empty part");
+    }
+    assert_eq!(answer?, 0, "the library finds without a value");
+    Ok(Part {
+        in_expansion: match part.in_expansion {
+            0 => false,
+            1 => true,
+            other => panic!("there is no deck {other}"),
+        },
+        offset: part.offset,
+        length: part.length,
+    })
+}
+
+/// Puts a deck without gaps into a lent room: its contents are entries of eight bytes, whose offsets are not looked at, and its
+/// bodies stand one behind the other. Refusals: 11, then 10.
+pub fn write_deck(contents: &[u8], bodies: &[u8], room: &mut [u8]) -> Result<usize, Refusal> {
+    library::box_write(contents, bodies, room).into_result()
+}
+
+/// The deck without gaps. Refusal: 11.
+pub fn write_deck_to_vec(contents: &[u8], bodies: &[u8]) -> Result<Vec<u8>, Refusal> {
+    in_own_room(DECK_BYTES, |room| write_deck(contents, bodies, room))
+}
