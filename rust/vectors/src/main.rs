@@ -16,7 +16,7 @@ use std::path::Path;
 use std::process::{Command, ExitCode, Stdio};
 use std::thread;
 
-use vectors::sides::{self, Side};
+use vectors::sides::{self, Side, PART_BYTES};
 use vectors::stored::{file, Answer, Cases};
 
 /// What a room holds before: a byte of no text.
@@ -110,6 +110,14 @@ fn answers_as(side: &mut Side, entry: &str, call: &Call) -> Result<(), Fault> {
         ("reduce", [read @ .., room]) => writes(side, "open_panel_reduce", read, room, call.stored),
         ("panel", [read @ .., room]) => writes(side, "open_panel_show", read, room, call.stored),
         ("ask", [_, _, _]) => says(side("open_panel_ask", &pieces, &mut []), call.stored),
+        ("box_find", [base, expansion, number]) => {
+            finds(side, [base, expansion], number, call.stored)
+        }
+        ("box_write", [read @ .., room]) => {
+            let deck = call.stored.deck();
+            let stored = deck.as_deref().map_or(call.stored, Answer::Text);
+            writes(side, "open_panel_box_write", read, room, stored)
+        }
         _ => Err(format!("{entry} is no entry, or is handed something else")),
     }
 }
@@ -144,6 +152,37 @@ fn same<T: PartialEq + std::fmt::Debug>(answer: T, due: T) -> Result<(), Fault> 
     Err(format!("{answer:?} and not {due:?}"))
 }
 
+/// A card found in one of two decks: just where the answer says, the bytes that are stored.
+fn finds(side: &mut Side, decks: [&[u8]; 2], number: &[u8], stored: Answer) -> Result<(), Fault> {
+    let number: u16 = told(number).ok_or("no card number")?;
+    let pieces = [decks[0], decks[1], &number.to_le_bytes()];
+    let mut part = [UNTOUCHED; PART_BYTES];
+    let answer = side("open_panel_box_find_with", &pieces, &mut part);
+    let due = match stored {
+        Answer::Refused(number, place) => Err((number, place)),
+        Answer::Text(_) => Ok(0),
+        Answer::Words(words) => return Err(format!("no card: {}", words.escape_ascii())),
+    };
+    same(answer, due)?;
+    let [in_expansion, offset, length] = sides::part_numbers(&part);
+    let Answer::Text(text) = stored else {
+        return same([in_expansion, offset, length], [0; 3]);
+    };
+    let deck = decks.get(in_expansion);
+    let found = deck
+        .and_then(|deck| deck.get(offset..)?.get(..length))
+        .ok_or_else(|| format!("deck {in_expansion} has no {length} bytes from {offset} on"))?;
+    if found != text {
+        return Err(format!("another card: {}", found.escape_ascii()));
+    }
+    Ok(())
+}
+
+/// A number that is told in digits.
+fn told<T: std::str::FromStr>(digits: &[u8]) -> Option<T> {
+    std::str::from_utf8(digits).ok()?.parse().ok()
+}
+
 /// A text into a room of the size that is told in digits, and into rooms around its own length.
 fn writes(
     side: &mut Side,
@@ -152,10 +191,7 @@ fn writes(
     room: &[u8],
     stored: Answer,
 ) -> Result<(), Fault> {
-    let room = std::str::from_utf8(room)
-        .ok()
-        .and_then(|digits| digits.parse().ok());
-    let room: usize = room.ok_or("a room of no size")?;
+    let room: usize = told(room).ok_or("a room of no size")?;
     let text = match stored {
         Answer::Refused(number, place) => {
             return in_room(side, name, read, room, Err((number, place)))

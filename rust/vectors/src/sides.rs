@@ -1,5 +1,6 @@
 //! What answers a call, by the library's names for its entries: the pieces that
-//! are only read, and a room.
+//! are only read, and a room. A card number is a piece of two bytes, low byte
+//! first. What is found is a part of a deck, put into a room of [`PART_BYTES`].
 
 use std::ffi::OsString;
 use std::io::{Read, Write};
@@ -7,6 +8,27 @@ use std::process::{Child, ChildStdin, ChildStdout, Command, Stdio};
 
 /// A length, or 1 for yes and 0 for no; or the number and the place of a refusal.
 pub type Answer = Result<usize, (u8, usize)>;
+
+/// A part: three numbers of eight bytes, low byte first, which are whether it is in the expansion, its first byte and its length.
+pub const PART_BYTES: usize = 24;
+
+/// The numbers of a part.
+pub fn part_numbers(room: &[u8; PART_BYTES]) -> [usize; 3] {
+    let (numbers, _) = room.as_chunks();
+    [0, 1, 2].map(|place| u64::from_le_bytes(numbers[place]) as usize)
+}
+
+/// Puts a part into its room; with a refusal an empty one.
+fn put_part<R>(found: Result<[usize; 3], R>, room: &mut [u8]) -> Result<usize, R> {
+    let numbers = found.as_ref().map_or([0; 3], |numbers| *numbers);
+    let bytes = numbers.map(|number| (number as u64).to_le_bytes());
+    room.copy_from_slice(bytes.as_flattened());
+    found.map(|_| 0)
+}
+
+fn card_number(piece: &[u8]) -> u16 {
+    u16::from_le_bytes(piece.try_into().expect("two bytes"))
+}
 
 /// One way to ask.
 pub type Side = Box<dyn FnMut(&str, &[&[u8]], &mut [u8]) -> Answer>;
@@ -20,6 +42,14 @@ pub fn wrapper(entry: &str, pieces: &[&[u8]], room: &mut [u8]) -> Answer {
         ("open_panel_show", [card, seats]) => open_panel::show(card, seats, room),
         ("open_panel_ask", [card, question, seats]) => {
             open_panel::ask(card, question, seats).map(usize::from)
+        }
+        ("open_panel_box_find_with", [base, expansion, number]) => {
+            let found = open_panel::locate_with(base, expansion, card_number(number));
+            let numbers = found.map(|part| [part.in_expansion.into(), part.offset, part.length]);
+            put_part(numbers, room)
+        }
+        ("open_panel_box_write", [contents, bodies]) => {
+            open_panel::write_deck(contents, bodies, room)
         }
         _ => panic!("the wrapper has no {entry}"),
     }
@@ -35,6 +65,14 @@ pub fn baseline(entry: &str, pieces: &[&[u8]], room: &mut [u8]) -> Answer {
         ("open_panel_show", [card, seats]) => baseline::panel(card, seats, room),
         ("open_panel_ask", [card, question, seats]) => {
             baseline::ask(card, question, seats).map(usize::from)
+        }
+        ("open_panel_box_find_with", [base, expansion, number]) => {
+            let found = baseline::locate_with(base, expansion, card_number(number));
+            let numbers = found.map(|part| [part.in_expansion.into(), part.offset, part.length]);
+            put_part(numbers, room)
+        }
+        ("open_panel_box_write", [contents, bodies]) => {
+            baseline::write_deck(contents, bodies, room)
         }
         _ => panic!("the baseline has no {entry}"),
     }

@@ -94,6 +94,21 @@ pub enum Answer<'a> {
     Words(&'a [u8]),
 }
 
+impl Answer<'_> {
+    /// A deck: `ok LENGTH`, LF, twice as many hex digits, LF.
+    pub fn deck(&self) -> Option<Vec<u8>> {
+        let Answer::Words(words) = self else {
+            return None;
+        };
+        let words = str::from_utf8(words).ok()?;
+        let (length, digits) = words.strip_prefix("ok ")?.split_once('\n')?;
+        let (pairs, rest) = digits.strip_suffix('\n')?.as_bytes().as_chunks::<2>();
+        let byte = |pair: &[u8; 2]| u8::from_str_radix(str::from_utf8(pair).ok()?, 16).ok();
+        let deck: Vec<u8> = pairs.iter().map(byte).collect::<Option<_>>()?;
+        (rest.is_empty() && length.parse() == Ok(deck.len())).then_some(deck)
+    }
+}
+
 /// `refused R P` and LF.
 fn refusal(stored: &[u8]) -> Option<Answer<'_>> {
     let words = str::from_utf8(stored).ok()?;

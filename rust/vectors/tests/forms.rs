@@ -66,6 +66,14 @@ fn calls_name_their_entry() {
 }
 
 #[test]
+fn decks_are_stored_as_digits() {
+    let cases = Cases::new(&[call(&["box_write", "", "", "5"]), call(&["box_write"])].concat());
+    let answers = cases.answers(b"case 0\nok 3\n00ff1a\ncase 1\nok 4\n00ff1a\n");
+    let decks: Vec<_> = answers.iter().map(Answer::deck).collect();
+    assert_eq!(decks, [Some(vec![0, 255, 26]), None]);
+}
+
+#[test]
 #[should_panic = "`case 1` is missing"]
 fn answers_are_as_many_as_cases() {
     let cases = Cases::new(&[piece("0\na"), piece("0\nb")].concat());
