@@ -16,8 +16,8 @@ use crate::weights::UNIT;
 /// What went wrong, in words.
 pub type Fault = String;
 
-/// Bytes on both sides of a room, and of a card, that nothing may touch.
-const GUARD: usize = 64;
+/// Bytes on both sides of a room, and of what is only read, that nothing may touch.
+pub(crate) const GUARD: usize = 64;
 /// The longest room that is lent.
 const STORE: usize = REDUCE_ROOM;
 /// Once in so many inputs of a run the long rooms are lent too.
@@ -26,7 +26,7 @@ pub const LONG_ROOMS_ONCE_IN: usize = 6;
 /// The lent rooms of both sides.
 pub struct Checker {
     long_rooms_once_in: usize,
-    rooms: Rooms,
+    pub(crate) rooms: Rooms,
     written: Vec<u8>,
     reduced: Vec<u8>,
     shown: Vec<u8>,
@@ -34,7 +34,7 @@ pub struct Checker {
 }
 
 /// A room among bytes of a known pattern.
-struct Rooms {
+pub(crate) struct Rooms {
     pattern: Vec<u8>,
     store: Vec<u8>,
     probes: u64,
@@ -42,7 +42,7 @@ struct Rooms {
 
 impl Rooms {
     /// Asks the library once, with a room of this length, and holds answer, text and all other bytes to what is expected.
-    fn probe(
+    pub(crate) fn probe(
         &mut self,
         what: &str,
         expected: Result<&[u8], Refusal>,

@@ -8,12 +8,15 @@
 //! small tables both are held to the steps of the seats themselves
 //! ([`by_seats`]), which no counting has touched. About each table
 //! [`questions`] are asked, made and damaged in the same way, and those that are
-//! answered are held to the seats too.
+//! answered are held to the seats too. Cards are looked for in generated
+//! [`decks`], sound and malformed, and decks are written.
 
 pub mod by_seats;
 pub mod cards;
 pub mod check;
 pub mod damage;
+pub mod deck_check;
+pub mod decks;
 pub mod extremes;
 pub mod inputs;
 pub mod marks;

@@ -12,10 +12,14 @@ use std::time::Instant;
 use std::{env, thread};
 
 use compare::check::{Checker, Fault, LONG_ROOMS_ONCE_IN};
+use compare::deck_check::check_lookup;
 use compare::extremes::extremes;
 use compare::inputs::Input;
 use compare::random::Random;
 use compare::tally::{Tally, INPUTS};
+
+/// Once in so many inputs decks are tried too.
+const DECKS_ONCE_IN: usize = 3;
 
 struct Run {
     seed: u64,
@@ -127,7 +131,12 @@ fn one(seed: u64, index: u64, checker: &mut Checker, tally: &mut Tally) -> Resul
     guarded(|| {
         let input = Input::new(&mut random);
         kind = Some(input.kind);
-        checker.check(&input, &mut random, tally)
+        checker.check(&input, &mut random, tally)?;
+        if random.once_in(DECKS_ONCE_IN) {
+            check_lookup(&mut random, &mut tally.decks)?;
+            checker.check_deck_writer(&mut random, &mut tally.decks)?;
+        }
+        Ok(())
     })
     .map_err(|fault| {
         let kind = kind.map_or(String::new(), |kind| format!(" ({kind:?})"));

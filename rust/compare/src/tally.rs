@@ -6,6 +6,7 @@ use baseline::{Card, Mode, Node, Refusal};
 
 use crate::cards::limits::SEATS;
 use crate::check::Entry;
+use crate::deck_check::DeckTally;
 use crate::inputs::Kind;
 use crate::questions::{self, Question};
 
@@ -83,6 +84,8 @@ pub struct Tally {
     pub by_seats: u64,
     /// Questions asked again of reordered seats.
     pub questions_reordered: u64,
+    /// Decks.
+    pub decks: DeckTally,
 }
 
 impl Tally {
@@ -188,6 +191,7 @@ impl Tally {
         sum(&mut self.answered_at, &other.answered_at);
         self.by_seats += other.by_seats;
         self.questions_reordered += other.questions_reordered;
+        self.decks.add(&other.decks);
     }
 
     /// How many inputs there were.
@@ -284,6 +288,7 @@ impl Tally {
             self.questions_reordered,
             BY_SEATS,
         );
+        self.decks.shortfalls(&mut least);
         shortfalls
     }
 }
@@ -349,7 +354,8 @@ impl fmt::Display for Tally {
             "small tables {} with {} seatings",
             self.small, self.seatings
         )?;
-        self.print_questions(f)
+        self.print_questions(f)?;
+        write!(f, "\n{}", self.decks)
     }
 }
 
