@@ -2,8 +2,9 @@
 //! same rooms, by turns in one run, and prints Markdown for `docs/BENCHMARKS.md`:
 //! first in a room that is always enough, then in rooms that just fit, where
 //! both sides measure a text before they put it; then questions, which take no
-//! room, beside judging a card alone. Each round goes through all rows, so that
-//! a while in which the machine is slow spoils none of them.
+//! room, beside judging a card alone; then a card looked for in a deck. Each
+//! round goes through all rows, so that a while in which the machine is slow
+//! spoils none of them.
 
 mod stack;
 
@@ -25,6 +26,7 @@ const ROUND: Duration = Duration::from_millis(20);
 
 /// What the entries are handed.
 struct Case {
+    /// The card, or a deck.
     card: Vec<u8>,
     seats: Vec<u8>,
     /// Nothing where none is asked.
@@ -210,6 +212,40 @@ const ASK: Entry = (
      _| baseline::ask(card, question, seats).ok().map(usize::from),
 );
 
+/// The last number in [`full_deck`].
+const LAST_CARD: u16 = open_panel::DECK_CARDS as u16;
+
+/// The entry that finds the last card of a deck.
+const FIND: Entry = (
+    "find",
+    |case, _| {
+        open_panel::find(&case.card, LAST_CARD)
+            .ok()
+            .map(<[u8]>::len)
+    },
+    |case, _| baseline::find(&case.card, LAST_CARD).ok().map(<[u8]>::len),
+);
+
+/// A deck of the most cards and the greatest length, all of them live, the last body as long as the others leave it.
+fn full_deck() -> Set {
+    let entries = 1..=LAST_CARD;
+    let left = open_panel::DECK_BYTES - 1 - 8 * open_panel::DECK_CARDS;
+    let body = left / open_panel::DECK_CARDS;
+    let last_body = left - body * (open_panel::DECK_CARDS - 1);
+    let contents: Vec<u8> = entries
+        .flat_map(|number| {
+            let length = if number == LAST_CARD { last_body } else { body };
+            let fields = [number, 0, length as u16].map(u16::to_le_bytes);
+            [fields.as_flattened(), &[1, 0]].concat()
+        })
+        .collect();
+    let deck = open_panel::write_deck_to_vec(&contents, &vec![0; left]).expect("it fits");
+    Set {
+        name: "the last of 64 cards",
+        cases: vec![Case::new(deck, Vec::new())],
+    }
+}
+
 /// Which lengths of the room the cards of a set are lent, for an entry.
 type Lengths = fn(&Set, Call, &mut [u8]) -> Vec<usize>;
 
@@ -322,12 +358,13 @@ fn print_table(rows: &[Row]) {
 }
 
 fn main() {
-    let (sets, question_sets) = (sets(), question_sets());
+    let (sets, question_sets, deck_sets) = (sets(), question_sets(), vec![full_deck()]);
     let mut room = vec![0; open_panel::REDUCE_ROOM];
     let mut tables = [
         rows(&ENTRIES, &sets, whole_room, &mut room),
         rows(&ENTRIES[1..], &sets, text_lengths, &mut room),
         rows(&[ASK], &question_sets, whole_room, &mut room),
+        rows(&[FIND], &deck_sets, whole_room, &mut room),
     ];
     tables[2].insert(0, Row::new(ENTRIES[0], &sets[0], whole_room, &mut room));
     for round in 0..ROUNDS {
@@ -335,16 +372,20 @@ fn main() {
             row.round(round, &mut room);
         }
     }
-    let [always_enough, just_fit, questions] = tables;
+    let [always_enough, just_fit, questions, decks] = tables;
     println!("In a room of {} bytes:\n", room.len());
     print_table(&always_enough);
     println!("\nIn rooms that just fit each text:\n");
     print_table(&just_fit);
     println!("\nQuestions, bytes of the card and the question together:\n");
     print_table(&questions);
+    println!("\nA full deck:\n");
+    print_table(&decks);
     println!("\n| Entry | Library, bytes of stack | Baseline, bytes of stack |\n|---|---:|---:|");
     let entries = ENTRIES.iter().map(|entry| (entry, &sets));
-    for ((entry, library, baseline), sets) in entries.chain([(&ASK, &question_sets)]) {
+    for ((entry, library, baseline), sets) in
+        entries.chain([(&ASK, &question_sets), (&FIND, &deck_sets)])
+    {
         let deepest = |call: &Call| {
             let cases = sets.iter().flat_map(|set| &set.cases);
             cases.map(|case| stack::used(*call, case)).max()
