@@ -1,6 +1,6 @@
 /*
  * The open panel: rule cards judged, written, reduced to counters, and shown;
- * questions about a seating answered.
+ * questions about a seating answered; cards found in decks, and decks written.
  *
  * Link libopen_panel.a, which `bin/library` makes for x86-64 and for aarch64
  * Linux. Of the C library it needs memcpy and memset, and nothing else: it has
@@ -9,25 +9,25 @@
  *
  * In open_panel.wasm the same functions are exports. Before its other arguments
  * each takes where the answer goes: 16 bytes, `number` at 0 and `value` at 8. A
- * pointer is an i32, a length and `value` an i64. The memory from __heap_base on
- * is the caller's.
+ * pointer is an i32, a length, `value` and each number of a part an i64, a card
+ * number an i32. The memory from __heap_base on is the caller's.
  *
  * What holds of every function here:
  *
- *   - A card, a question, the seats and a room are a pointer and a length in
- *     bytes. The pointer leads to so many bytes, which nothing else writes
- *     during the call; only for a length of 0 may it be null. A card, a
- *     question or a room has no closing zero byte.
- *   - The room must not overlap what is only read: the card, the question and
- *     the seats. Those may overlap each other.
- *   - Any bytes may be passed as a card, as a question and as seats; what is
- *     wrong with them is answered, with a number and a place.
+ *   - A card, a question, the seats, a deck, its contents, its bodies and a
+ *     room are a pointer and a length in bytes. The pointer leads to so many
+ *     bytes, which nothing else writes during the call; only for a length of 0
+ *     may it be null. None of them has a closing zero byte.
+ *   - The room and the part must not overlap what is only read: all others.
+ *     Those may overlap each other.
+ *   - Any bytes may be passed as what is only read; what is wrong with them is
+ *     answered, with a number and a place.
  *   - On success `number` is 0. With a room `value` is the length of the text,
  *     which stands at the room's start; the rest of the room is as it was.
  *   - On a refusal `number` says which and `value` where. The whole room is as
  *     it was.
  *   - A text is ASCII with a LF behind each line, and no closing zero byte.
- *     None is empty.
+ *     None is empty. A deck is no text: it is written as bytes.
  */
 #ifndef OPEN_PANEL_H
 #define OPEN_PANEL_H
@@ -45,6 +45,10 @@ extern "C" {
 #define OPEN_PANEL_SEATS 16
 #define OPEN_PANEL_TOP_STATE 7
 
+/* Longest deck, and most cards in it. A deck of OPEN_PANEL_DECK_BYTES is a room that every deck fits into. */
+#define OPEN_PANEL_DECK_BYTES 65535
+#define OPEN_PANEL_DECK_CARDS 64
+
 /*
  * Rooms, in bytes, that are always enough, whatever the card and the seats:
  * this is proved. A room that is known to be enough before the text is made
@@ -58,7 +62,7 @@ extern "C" {
 
 /* The numbers of the refusals, and behind the semicolon what `value` is: bytes of the card, from 21 on of the question, count from 0. */
 enum open_panel_refusal {
-    OPEN_PANEL_TAKEN = 0,      /* none; the text's length, 0 from open_panel_judge, 1 for yes and 0 for no from open_panel_ask */
+    OPEN_PANEL_TAKEN = 0,      /* none; a text's or a deck's length, 1 for yes and 0 for no from open_panel_ask, 0 where nothing is written */
     OPEN_PANEL_LONG = 1,       /* a card of more than OPEN_PANEL_CARD_BYTES; 0 */
     OPEN_PANEL_MARK = 2,       /* bytes that make no mark of a card, or a number written too long; where they begin */
     OPEN_PANEL_SHAPE = 3,      /* a mark that does not fit there; where it begins. Or none is left where one is due; card_len */
@@ -68,7 +72,11 @@ enum open_panel_refusal {
     OPEN_PANEL_WEIGHT = 7,     /* a weight that is none; where it begins. Or weights that do not come to 1; their closing `;` */
     OPEN_PANEL_SEAT_COUNT = 8, /* seats_len differs from the number of the card's modules; 0 */
     OPEN_PANEL_SEAT_STATE = 9, /* a seat in a state higher than the card's highest; the index in seats of the first one */
-    OPEN_PANEL_ROOM = 10,      /* a room that the text does not fit into; the text's length */
+    OPEN_PANEL_ROOM = 10,      /* a room that the text or the deck does not fit into; its length */
+    OPEN_PANEL_DECK = 11,      /* a malformed deck; the first byte of the first wrong field, 65,536 more in the expansion, or 0 (that much
+                                  more) where the count, the contents or the length is wrong. From open_panel_box_write: the field in
+                                  the contents, or contents_len where no field is wrong */
+    OPEN_PANEL_NO_CARD = 12,   /* no live card has the number; 0 */
 
     OPEN_PANEL_QUESTION_LONG = 21,  /* a question of more than OPEN_PANEL_QUESTION_BYTES; 0 */
     OPEN_PANEL_QUESTION_MARK = 22,  /* bytes that make no mark, or a number written too long; where in the question they begin */
@@ -148,6 +156,58 @@ open_panel_answer open_panel_show(const uint8_t *card, size_t card_len,
 open_panel_answer open_panel_ask(const uint8_t *card, size_t card_len,
                                  const uint8_t *question, size_t question_len,
                                  const uint8_t *seats, size_t seats_len);
+
+/*
+ * A deck (a box) is a count byte, 1 to OPEN_PANEL_DECK_CARDS; so many entries of
+ * eight bytes; then the bodies. An entry is the card's number, the body's offset
+ * in the deck and its length, two bytes each with the low byte first, a byte 1
+ * for live or 0 for withdrawn, and a byte 0. Numbers rise, and bodies lie behind
+ * the entries in their order without overlap; gaps are allowed.
+ *
+ * Where a card lies: in the expansion (1) or not (0), its first byte there, and
+ * how many bytes it has. All three are 0 on a refusal.
+ */
+typedef struct {
+    size_t in_expansion;
+    size_t offset;
+    size_t length;
+} open_panel_part;
+
+/*
+ * Judges a deck without reading its cards: number 0 and value 0 if it is sound,
+ * else 11. A null deck of length 0 is malformed: 11 at 0.
+ */
+open_panel_answer open_panel_box_judge(const uint8_t *deck, size_t deck_len);
+
+/*
+ * Finds the live card of a number in a deck: number 0, value 0, and the part.
+ * Refusals: 11, then 12. The card itself is not read. `part` must not be null.
+ */
+open_panel_answer open_panel_box_find(const uint8_t *deck, size_t deck_len,
+                                      uint16_t number, open_panel_part *part);
+
+/*
+ * The same in a base deck with an expansion over it: the expansion's card if it
+ * is live there, else the base's if it is live there, else 12. Both decks are
+ * judged first, the base before the expansion.
+ */
+open_panel_answer open_panel_box_find_with(const uint8_t *base, size_t base_len,
+                                           const uint8_t *expansion, size_t expansion_len,
+                                           uint16_t number, open_panel_part *part);
+
+/*
+ * Writes a deck without gaps. The contents are 1 to OPEN_PANEL_DECK_CARDS entries
+ * without a count byte, whose offsets are not looked at; the bodies stand one
+ * behind the other, as long together as the entries say. Refusals: 11, then 10.
+ * No card is read.
+ *
+ * A room of OPEN_PANEL_DECK_BYTES is always enough. A null room of length 0 gets
+ * 10 with the length to lend, if contents and bodies make a deck. Untouched are
+ * both of them, the room behind the deck, and on a refusal all of the room.
+ */
+open_panel_answer open_panel_box_write(const uint8_t *contents, size_t contents_len,
+                                       const uint8_t *bodies, size_t bodies_len,
+                                       uint8_t *room, size_t room_len);
 
 #ifdef __cplusplus
 }

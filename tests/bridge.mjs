@@ -1,6 +1,7 @@
 // The library as WebAssembly behind two pipes, asked as tests/c/bridge.c says: `node tests/bridge.mjs open_panel.wasm`.
 //
-// An entry takes where its answer goes, and for each piece where it lies (a number) and its length (a BigInt).
+// An entry takes where its answer goes, and for each piece where it lies (a number) and its length (a BigInt). One that finds a card takes
+// the card's number as a number, and of the part only where it lies.
 import { readFileSync, readSync, writeSync } from "node:fs";
 
 const GUARD = 64;
@@ -34,8 +35,8 @@ for (let guard = 0; ; guard = guard >= 122 ? 32 : guard + 1) {
     const [name, ...pieces] = lengths.map(take);
     let end = answerAt + ANSWER + GUARD;
     const places = pieces.map((piece) => {
-        const place = end;
-        end += piece.length + GUARD;
+        const place = Math.ceil(end / NUMBER) * NUMBER;
+        end = place + piece.length + GUARD;
         return place;
     });
     const more = end - memory.buffer.byteLength;
@@ -45,7 +46,9 @@ for (let guard = 0; ; guard = guard >= 122 ? 32 : guard + 1) {
     pieces.forEach((piece, i) => lent.set(piece, places[i]));
     const before = lent.slice(answerAt);
 
-    entries[name.toString()](answerAt, ...pieces.flatMap((piece, i) => [piece.length && places[i], BigInt(piece.length)]));
+    const words = pieces.map((piece, i) => [piece.length && places[i], BigInt(piece.length)]);
+    if (/^open_panel_box_find/.test(name)) words.splice(-2, 2, [pieces.at(-2).readUInt16LE()], [places.at(-1)]);
+    entries[name.toString()](answerAt, ...words.flat());
 
     const roomAt = places.at(-1);
     const behind = roomAt + pieces.at(-1).length;

@@ -27,7 +27,7 @@ same() {
 # number NAME DEFINITION: a macro and a constant
 number() {
     same "$1" "$2" "$(sed -n "s/^#define OPEN_PANEL_$1 //p" include/open_panel.h)" \
-        "$(sed -n "s/^pub const $1: [a-z0-9]* = \(.*\);/\1/p" rust/open-panel/src/lib.rs | tr -d _)"
+        "$(sed -n "s/^pub const $1: [a-z0-9]* = \(.*\);/\1/p" rust/open-panel/src/*.rs | tr -d _)"
 }
 
 # refusal NAME VARIANT DEFINITION: an enum's constant, and what the variant's number is
@@ -38,6 +38,8 @@ refusal() {
 
 number CARD_BYTES cardBytes
 number QUESTION_BYTES cardBytes
+number DECK_BYTES deckBytes
+number DECK_CARDS mostCards
 number SEATS mostSeats
 number TOP_STATE topState
 number WRITE_ROOM writtenRoom
@@ -54,6 +56,8 @@ refusal WEIGHT Weight wrongWeight
 refusal SEAT_COUNT SeatCount wrongSeats
 refusal SEAT_STATE SeatState seatAboveTop
 refusal ROOM Room roomTooSmall
+refusal DECK Deck malformed
+refusal NO_CARD NoLiveCard noLiveCard
 
 # a question's numbers
 refusal QUESTION_LONG QuestionLong 'inQuestion tooLong'

@@ -24,6 +24,8 @@ through() {
     held edges edges read "${@:2}"
     held edges edges write "${@:2}"
     held requests/2026-01 requests/2026-01 ask "${@:2}"
+    held requests/2026-02 requests/2026-02 box_find "${@:2}"
+    held requests/2026-02 requests/2026-02 box_write "${@:2}"
 }
 
 through 'Rust wrapper'

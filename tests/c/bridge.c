@@ -4,8 +4,9 @@
  *
  * A request is numbers of eight bytes, low byte first: how many pieces, and the
  * length of each; then the pieces: the name of an entry, what it only reads, and
- * its room (of no length for an entry without one). The answer is the entry's
- * number and value and then the whole room. Before and behind each piece stand
+ * its room (of no length for an entry without one; for one that finds a card the
+ * part, as three such numbers). A card number is a piece of two bytes, low byte
+ * first. The answer is the entry's number and value and then the whole room. Before and behind each piece stand
  * bytes that the library must not write: the number is SPOILT if one of them, or
  * of what is only read, is not what it was.
  */
@@ -22,6 +23,19 @@ typedef struct {
     size_t length;
 } piece;
 
+static uint16_t card_number(const piece *p) {
+    return (uint16_t)(p->at[0] | p->at[1] << 8);
+}
+
+static void put_number(uint8_t *bytes, size_t value);
+
+/* Into its room; the library fills in every number. */
+static void put_part(const piece *room, const open_panel_part *part) {
+    put_number(room->at, part->in_expansion);
+    put_number(room->at + NUMBER, part->offset);
+    put_number(room->at + 2 * NUMBER, part->length);
+}
+
 /* An entry is added here. Returns 0 for a name that none has. */
 static int enter(const char *name, const piece *p, open_panel_answer *answer) {
     if (strcmp(name, "open_panel_judge") == 0) {
@@ -34,6 +48,18 @@ static int enter(const char *name, const piece *p, open_panel_answer *answer) {
         *answer = open_panel_show(p[0].at, p[0].length, p[1].at, p[1].length, p[2].at, p[2].length);
     } else if (strcmp(name, "open_panel_ask") == 0) {
         *answer = open_panel_ask(p[0].at, p[0].length, p[1].at, p[1].length, p[2].at, p[2].length);
+    } else if (strcmp(name, "open_panel_box_judge") == 0) {
+        *answer = open_panel_box_judge(p[0].at, p[0].length);
+    } else if (strcmp(name, "open_panel_box_find") == 0) {
+        open_panel_part part = {SIZE_MAX, SIZE_MAX, SIZE_MAX};
+        *answer = open_panel_box_find(p[0].at, p[0].length, card_number(p + 1), &part);
+        put_part(p + 2, &part);
+    } else if (strcmp(name, "open_panel_box_find_with") == 0) {
+        open_panel_part part = {SIZE_MAX, SIZE_MAX, SIZE_MAX};
+        *answer = open_panel_box_find_with(p[0].at, p[0].length, p[1].at, p[1].length, card_number(p + 2), &part);
+        put_part(p + 3, &part);
+    } else if (strcmp(name, "open_panel_box_write") == 0) {
+        *answer = open_panel_box_write(p[0].at, p[0].length, p[1].at, p[1].length, p[2].at, p[2].length);
     } else {
         return 0;
     }

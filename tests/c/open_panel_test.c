@@ -39,6 +39,11 @@ static const char one_seat_reduced[] =
 static const char one_leads[] = "((s1=1 & s2!=1 & s3!=1) | (s2=1 & s1!=1 & s3!=1) | (s3=1 & s1!=1 & s2!=1))";
 static const char two_terms[] = "((s1=1 & s2!=1 & s3!=1) | (s2=1 & s1!=1 & s3!=1))";
 
+/* Two cards, the second of them withdrawn: contents without offsets, bodies, and the deck of them. */
+static const uint8_t contents[] = {5, 0, 0, 0, 3, 0, 1, 0, 7, 1, 0, 0, 2, 0, 0, 0};
+static const char bodies[] = "onetw";
+static const char deck[] = "\2\5\0\21\0\3\0\1\0\7\1\24\0\2\0\0\0onetw";
+
 enum { GUARD = 16, UNTOUCHED = 0xa5 };
 
 /* A room with bytes on both sides that nothing may touch. */
@@ -74,6 +79,12 @@ static const uint8_t *bytes(const char *text) {
     return (const uint8_t *)text;
 }
 
+/* Whether the part is this one; then it is spoilt for the next call. */
+static void lies(open_panel_part *part, size_t in_expansion, size_t offset, size_t length, const char *what) {
+    expect(part->in_expansion == in_expansion && part->offset == offset && part->length == length, what);
+    part->in_expansion = part->offset = part->length = UNTOUCHED;
+}
+
 int main(void) {
     const uint8_t seats_001[] = {0, 0, 1};
     const uint8_t seats_011[] = {0, 1, 1};
@@ -81,6 +92,9 @@ int main(void) {
     const uint8_t *a = bytes(card_a);
     const size_t a_len = sizeof card_a - 1;
     const size_t panel_len = sizeof panel_at_001 - 1;
+    const size_t deck_len = sizeof deck - 1;
+    open_panel_part part = {UNTOUCHED, UNTOUCHED, UNTOUCHED};
+    open_panel_answer answer;
     memset(store, UNTOUCHED, sizeof store);
 
     answers(open_panel_judge(a, a_len), OPEN_PANEL_TAKEN, 0, "", "judge takes card A");
@@ -125,6 +139,29 @@ int main(void) {
     answers(open_panel_ask(a, a_len, bytes(one_leads), sizeof one_leads - 1, NULL, 0), OPEN_PANEL_SEAT_COUNT, 0, "",
             "a question and no seats");
     answers(open_panel_ask(NULL, 0, NULL, 0, NULL, 0), OPEN_PANEL_SHAPE, 0, "", "no card to ask about");
+
+    answers(open_panel_box_judge(bytes(deck), deck_len), OPEN_PANEL_TAKEN, 0, "", "a sound deck");
+    answers(open_panel_box_judge(bytes(deck), deck_len - 1), OPEN_PANEL_DECK, 13, "", "a body that passes the deck");
+    answers(open_panel_box_judge(NULL, 0), OPEN_PANEL_DECK, 0, "", "no deck");
+    answers(open_panel_box_find(bytes(deck), deck_len, 5, &part), OPEN_PANEL_TAKEN, 0, "", "a live card");
+    lies(&part, 0, 17, 3, "where it lies");
+    answers(open_panel_box_find(bytes(deck), deck_len, 263, &part), OPEN_PANEL_NO_CARD, 0, "", "a withdrawn card");
+    lies(&part, 0, 0, 0, "an empty part");
+    answers(open_panel_box_find_with(NULL, 0, bytes(deck), deck_len, 5, &part), OPEN_PANEL_DECK, 0, "", "no base");
+    lies(&part, 0, 0, 0, "an empty part");
+    answers(open_panel_box_find_with(bytes(deck), deck_len, NULL, 0, 5, &part), OPEN_PANEL_DECK, 65536, "", "no expansion");
+    lies(&part, 0, 0, 0, "an empty part");
+    answers(open_panel_box_find_with(bytes(deck), deck_len, bytes(deck), deck_len, 5, &part), OPEN_PANEL_TAKEN, 0, "",
+            "a card in the expansion");
+    lies(&part, 1, 17, 3, "where it lies");
+    answer = open_panel_box_write(contents, sizeof contents, bytes(bodies), sizeof bodies - 1, room, deck_len);
+    expect(answer.number == OPEN_PANEL_TAKEN && answer.value == deck_len && memcmp(room, deck, deck_len) == 0, "a deck, written");
+    memset(store, UNTOUCHED, sizeof store);
+    answers(open_panel_box_write(contents, sizeof contents, bytes(bodies), sizeof bodies - 1, room, deck_len - 1), OPEN_PANEL_ROOM,
+            deck_len, "", "a deck in a room one byte short");
+    answers(open_panel_box_write(contents, sizeof contents, bytes(bodies), sizeof bodies, room, deck_len), OPEN_PANEL_DECK,
+            sizeof contents, "", "bodies longer than the contents say");
+    answers(open_panel_box_write(NULL, 0, NULL, 0, NULL, 0), OPEN_PANEL_DECK, 0, "", "no contents");
 
     if (failures == 0) {
         printf("open_panel.h: every answer as expected\n");
