@@ -173,6 +173,11 @@ typedef struct {
     size_t length;
 } open_panel_part;
 
+/* To the library it is three numbers of eight bytes, one behind the other. */
+#if defined(__STDC_VERSION__) && __STDC_VERSION__ >= 201112L
+_Static_assert(sizeof(open_panel_part) == 24, "a part is three numbers of eight bytes");
+#endif
+
 /*
  * Judges a deck without reading its cards: number 0 and value 0 if it is sound,
  * else 11. A null deck of length 0 is malformed: 11 at 0.

@@ -56,7 +56,7 @@ refusal WEIGHT Weight wrongWeight
 refusal SEAT_COUNT SeatCount wrongSeats
 refusal SEAT_STATE SeatState seatAboveTop
 refusal ROOM Room roomTooSmall
-refusal DECK Deck malformed
+refusal DECK Deck malformedDeck
 refusal NO_CARD NoLiveCard noLiveCard
 
 # a question's numbers

@@ -34,6 +34,9 @@ pub(crate) struct RawPart {
     length: usize,
 }
 
+// To the library it is three numbers of eight bytes, one behind the other.
+const _: () = assert!(size_of::<RawPart>() == 24);
+
 impl RawPart {
     /// What no library hands back.
     const UNSET: RawPart = RawPart {
