@@ -4,6 +4,7 @@ pub mod Asked
 pub mod Meant
 pub mod Claims
 pub mod Fitting
+pub mod AsWritten
 pub mod Answers
 pub mod Valid
 pub mod Examples

@@ -10,18 +10,19 @@ use lib.ListN.{length, length-append}
 use Rattle.card.specs.Limits.{mostNodes}
 use Rattle.card.specs.Refusals.{outOfShape, pastLimit}
 use Rattle.card.specs.Text.{bytes, same}
-use Rattle.card.specs.Card.{all, any, is as eq, isnt as ne, Formula, atom, and, or}
+use Rattle.card.specs.Card.{all, any, Relation, is as eq, isnt as ne, Formula, atom, and, or}
 use Rattle.marks.specs.Marks.{Mark, text, seat, number, Placed, placed}
 use Rattle.reading.specs.Reader.{Place, State, at, Result, ok, stop, Reader, bind, _>>=_, return, is, nextIs, sign, here}
 use Rattle.reading.specs.Guard.{seatNext, Read, chain, conjunction, expression, unaryBy, grouped as readGrouped}
 use Rattle.reading.specs.Group.{joint, Literal, Literals, literalsOf, literal as readLiteral, joined, group}
+use Rattle.reading.specs.Verdicts.{first, later}
 use Rattle.reading.specs.Grammar.{signAt, LiteralSaid, literal, OthersSaid, close, next, GroupSaid, conjoined, disjoined, Part, unary, joinedBy, FormulaSaid, grouped, single}
-use Rattle.reading.proofs.Through.{ok-state, through, chose, is→eq, none≢some}
+use Rattle.reading.proofs.Through.{and-true, ok-state, through, chose, is→eq, none≢some}
 use Rattle.reading.proofs.Rising.{Order, equal, before, behind, order}
 use Rattle.reading.proofs.Steady.{Lang, _then_, _either_, Mark₁, Saying, SameHead, Alike, head-append, next-head, some-eq, free, Cause, unfit, excess, Steady, Always, ok≢stop, stop-number, stop-place, stopped, chose-stop, steady-as, steady-bind, steady-sign, steady-return, steady-last}
 use Rattle.reading.proofs.Follows.{literal-reads, others-reads, group-reads}
 use Rattle.reading.proofs.Exact.{one-sign, a-sign, literalT, joinedHere, joinedHereT, groupT, seat-still, GuardL, GroupsL, ClosedL, FreeL, closing, Leaves, chainT, conjunctionT, expressionT}
-use Rattle.asking.specs.Question.{Item, aGroup, exactlyOne, relations, both, mixed, mixedRead, mixedNext, twiceNext, itemNext, term, exactly, item, TermSaid, aTerm, ItemSaid, ofGroup, ofTerms, NoneStarts, Sight, words, mixedWords, twice, other, seen, sight}
+use Rattle.asking.specs.Question.{Item, aGroup, exactlyOne, relations, among, both, Occurs, mixed, mixedRead, mixedNext, twiceNext, itemNext, term, exactly, item, TermSaid, aTerm, ItemSaid, ofGroup, ofTerms, NoneStarts, Sight, words, mixedWords, twice, other, seen, sight}
 use Rattle.asking.proofs.Seen.{group-moves, mixed-said, term-settles, term-seen, same-not-mixed, no-seat-not-mixed, formula-no-seat, formula-settles}
 
 -- ---- what is read and what is seen
@@ -76,9 +77,43 @@ twice-there (placed m a ∷ ms) e = go (is "(" m) refl e
         rw (is→eq "(" m z) (ls, r, t, b)
     go false z e = absurd (false≢true e)
 
--- an exactly-one starts behind a bracket exactly where a term with both relations stands there
-pub starts-exactly : (ms : Place) → twiceNext ms ≡ true ↔ ((ls : List Literal) × (r : Place) × TermSaid ms ls r × (both (relations ls) ≡ true))
-starts-exactly ms = (twice-there ms, λ (ls, r, d, b). term-seen d ∙ b)
+among-occurs : (q : Relation) (ls : List Literal) → among q (relations ls) ≡ true → Occurs q ls
+among-occurs q [] e = absurd (false≢true e)
+among-occurs q (l ∷ ls) e = go q (l .relation) refl e (among-occurs q ls)
+  where
+    go : (q p : Relation) → l .relation ≡ p → among q (p ∷ relations ls) ≡ true → (among q (relations ls) ≡ true → Occurs q ls) → Occurs q (l ∷ ls)
+    go eq eq z e h = (l, first, z)
+    go eq ne z e h = let (m, i, y) = h e in (m, later i, y)
+    go ne eq z e h = let (m, i, y) = h e in (m, later i, y)
+    go ne ne z e h = (l, first, z)
+
+among-itself : (q : Relation) (qs : List Relation) → among q (q ∷ qs) ≡ true
+among-itself eq qs = refl
+among-itself ne qs = refl
+
+among-later : (q p : Relation) (qs : List Relation) → among q qs ≡ true → among q (p ∷ qs) ≡ true
+among-later eq eq qs e = refl
+among-later eq ne qs e = e
+among-later ne eq qs e = e
+among-later ne ne qs e = refl
+
+occurs-among : (q : Relation) (ls : List Literal) → Occurs q ls → among q (relations ls) ≡ true
+occurs-among q (_ ∷ ls) (l, first, e) = ap (λ (p : Relation). among q (p ∷ relations ls)) e ∙ among-itself q (relations ls)
+occurs-among q (l ∷ ls) (m, later i, e) = among-later q (l .relation) (relations ls) (occurs-among q ls (m, i, e))
+
+both-occur : (ls : List Literal) → both (relations ls) ≡ true → (q : Relation) → Occurs q ls
+both-occur ls e eq = among-occurs eq ls (and-true (among eq (relations ls)) (among ne (relations ls)) e .0)
+both-occur ls e ne = among-occurs ne ls (and-true (among eq (relations ls)) (among ne (relations ls)) e .1)
+
+occur-both : (ls : List Literal) → ((q : Relation) → Occurs q ls) → both (relations ls) ≡ true
+occur-both ls h = rw (occurs-among eq ls (h eq), occurs-among ne ls (h ne))
+
+-- an exactly-one starts behind a bracket exactly where a term stands in which each relation occurs
+pub starts-exactly : (ms : Place) → twiceNext ms ≡ true ↔ ((ls : List Literal) × (r : Place) × TermSaid ms ls r × ((q : Relation) → Occurs q ls))
+starts-exactly ms = (
+  (λ e. let (ls, r, d, b) = twice-there ms e in (ls, r, d, both-occur ls b)),
+  (λ (ls, r, d, h). term-seen d ∙ occur-both ls h),
+)
 
 -- ---- terms
 

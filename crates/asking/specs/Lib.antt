@@ -1,3 +1,4 @@
 pub mod Question
 pub mod Meant
 pub mod Asking
+pub mod AsWritten

@@ -12,7 +12,7 @@ use Rattle.reading.specs.Guard.{seatNext, ifSeat, Read, expression, unaryBy}
 use Rattle.reading.specs.Group.{joint, Literal, Literals, literal, joined, others, group}
 use Rattle.reading.specs.Shape.{mayHave, theEnd}
 use Rattle.reading.specs.Counted.{Counted, countedGuard}
-use Rattle.reading.specs.Verdicts.{UnfitIn, PastIn}
+use Rattle.reading.specs.Verdicts.{UnfitIn, PastIn, In}
 use Rattle.reading.specs.Grammar.{signAt, LiteralSaid, JoinedSaid, OthersSaid, GroupSaid, joinedBy, FormulaSaid}
 
 -- ---- what stands in a question where a formula has its atoms
@@ -37,6 +37,10 @@ among ne (ne ∷ qs) = true
 -- both relations among them
 abbrev pub both : List Relation → Bool
 both qs = among eq qs && among ne qs
+
+-- and without the test: some literal has this relation
+abbrev pub Occurs : Relation → List Literal → Type 0
+Occurs q ls = (l : Literal) × In l ls × (l .relation ≡ q)
 
 abbrev pub byAnd : Sign → Bool
 byAnd all = true

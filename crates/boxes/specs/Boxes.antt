@@ -3,7 +3,7 @@ use Prim.Native.Nat.{ℕ}
 use mathlib.Core.Path.{_≡_}
 use mathlib.Core.List.{List}
 use lib.ListN.{set}
-use Rattle.card.specs.Verdict.{numberOf, placeOf}
+use Rattle.card.specs.Verdict.{verdictNumber, verdictPlace}
 use Rattle.card.specs.declared.Verdict.{Verdict}
 use Rattle.card.specs.declared.Verdict.the-variants.{Taken, Refused}
 use Rattle.contents.specs.Verdicts.{verdictOf}
@@ -19,7 +19,7 @@ placed (refused number place) = record { verdict = Refused number place; which =
 
 -- a lent array whose first two numbers become a verdict's, 0 and 0 where nothing is refused
 abbrev pub told : Verdict → List ℕ → List ℕ
-told v was = set (set was 0 (numberOf v)) 1 (placeOf v)
+told v was = set (set was 0 (verdictNumber v)) 1 (verdictPlace v)
 
 -- a lookup's part, and its verdict in the lent array `was`, which becomes `is`: a refusal hands back an empty part
 pub record Found (said : Said (List ℕ)) (part was is : List ℕ) : Type 0 where

@@ -9,10 +9,10 @@ judgedOf none = Judged.Broken
 judgedOf (some u) = Judged.Units (record { units = u })
 
 -- document 01's number for each case, 0 where nothing is refused; and the units
-abbrev pub numberOf : Judged → ℕ
-numberOf (Judged.Units w) = 0
-numberOf Judged.Broken = wrongWeight
+abbrev pub weightNumber : Judged → ℕ
+weightNumber (Judged.Units w) = 0
+weightNumber Judged.Broken = wrongWeight
 
-abbrev pub unitsIn : Judged → ℕ
-unitsIn (Judged.Units w) = w .units
-unitsIn Judged.Broken = 0
+abbrev pub weightUnits : Judged → ℕ
+weightUnits (Judged.Units w) = w .units
+weightUnits Judged.Broken = 0

@@ -3,10 +3,10 @@ use Prim.Native.Nat.{ℕ}
 use Rattle.card.specs.declared.Verdict.{Verdict}
 use Rattle.card.specs.declared.Verdict.the-variants.{Taken, Refused}
 
-abbrev pub numberOf : Verdict → ℕ
-numberOf Taken = 0
-numberOf (Refused r p) = r
+abbrev pub verdictNumber : Verdict → ℕ
+verdictNumber Taken = 0
+verdictNumber (Refused r p) = r
 
-abbrev pub placeOf : Verdict → ℕ
-placeOf Taken = 0
-placeOf (Refused r p) = p
+abbrev pub verdictPlace : Verdict → ℕ
+verdictPlace Taken = 0
+verdictPlace (Refused r p) = p

@@ -10,7 +10,7 @@ use native.Mathlib.Omega.{arith}
 use lib.Dec.{leb, ltb}
 use borrow.Author.Tests.{le-leb, lt-leb, leb-true, ltb-true}
 use Rattle.card.specs.Text.{if_then_else_}
-use Rattle.entry.specs.Said.{Said, says, refused, _>>=_, _>>_, unless, numberOf, besideOf, placedFrom}
+use Rattle.entry.specs.Said.{Said, says, refused, _>>=_, _>>_, unless, saidNumber, besideOf, placedFrom}
 use Rattle.entry.specs.Stage.{Passes, Stage}
 use Rattle.entry.proofs.Exactly.{_↔∙_, under}
 use Rattle.entry.specs.Numbers.{Span, Numbers, only, inside, among, past, clear, apart, upTo, Among}
@@ -22,7 +22,7 @@ module _ {A : Type 0} where
   says≢refused e = let z : _≡_ {A = ℕ} 0 1 = cc in absurd (omega arith)
 
   pub same-number : {r s p q : ℕ} → _≡_ {A = Said A} (refused r p) (refused s q) → r ≡ s
-  same-number e = ap numberOf e
+  same-number e = ap saidNumber e
 
   pub same-place : {r s p q : ℕ} → _≡_ {A = Said A} (refused r p) (refused s q) → p ≡ q
   same-place e = ap (besideOf (λ a. 0)) e

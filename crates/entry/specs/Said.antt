@@ -37,9 +37,9 @@ placedFrom k (refused number place) = refused number (place + k)
 
 -- in the document's numbers: 0 if nothing is refused
 module _ {A : Type 0} where
-  abbrev pub numberOf : Said A → ℕ
-  numberOf (says a) = 0
-  numberOf (refused number place) = number
+  abbrev pub saidNumber : Said A → ℕ
+  saidNumber (says a) = 0
+  saidNumber (refused number place) = number
 
   -- what stands beside it: the value as a number, or the refusal's place
   abbrev pub besideOf : (A → ℕ) → Said A → ℕ

@@ -19,8 +19,8 @@ abbrev pub plain : ℕ → List ℕ → Bool
 plain most [] = false
 plain most (b ∷ s) = every isDigit (b ∷ s) && (not (eqb b 48) || same s []) && leb (length (b ∷ s)) most
 
-abbrev pub numberOf : ℕ → List ℕ → Option ℕ
-numberOf most s = if plain most s then some (valueFrom 0 s) else none
+abbrev pub numberSpelt : ℕ → List ℕ → Option ℕ
+numberSpelt most s = if plain most s then some (valueFrom 0 s) else none
 
 -- a point and a digit
 abbrev pub pointed : List ℕ → Bool

@@ -14,7 +14,7 @@ use lib.Seq.{drop-drop, drop-length}
 use Rattle.card.specs.Limits.{furtherDigits, numberDigits}
 use Rattle.card.specs.Text.{if_then_else_}
 use Rattle.letters.specs.Bytes.{notLF, run, begins, isDigit, inWord, isLetter, isBlank, isSign}
-use Rattle.letters.specs.Digits.{numberOf, pointed}
+use Rattle.letters.specs.Digits.{numberSpelt, pointed}
 use Rattle.marks.specs.Marks.{Mark, text, number, decimal, outside, Placed, placed, second, Start, blank, mark, decimalMark, numeralMark, numeral, word, sign1, sign2, sign, comment, startAt, emit, marks, marksOf}
 use Rattle.letters.proofs.Lists.{cases}
 use Rattle.letters.proofs.Runs.{run-length}
@@ -68,7 +68,7 @@ start-fits b s =
     choose s (eqb b 47 && begins (eqb 47) s) (comment s) _ (λ e. run-length notLF s) λ e.
     choose s (isLetter b) (word b s) _ (λ e. run-length inWord s) λ e.
     choose s (isDigit b) (numeral b s) (sign b s)
-    (λ e. numeral-fits s (drop (length (run isDigit s)) s) (length (run isDigit s)) (numberOf numberDigits (b ∷ run isDigit s)) (omega (arith, length-drop (length (run isDigit s)) s, run-length isDigit s)))
+    (λ e. numeral-fits s (drop (length (run isDigit s)) s) (length (run isDigit s)) (numberSpelt numberDigits (b ∷ run isDigit s)) (omega (arith, length-drop (length (run isDigit s)) s, run-length isDigit s)))
     (λ e. sign-fits b s)
 
 -- ---- skipped bytes are dropped

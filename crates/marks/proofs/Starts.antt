@@ -14,7 +14,7 @@ use borrow.Author.Tests.{le-leb, lt-leb, leb-true, eqb-true, eq-eqb, ne-eqb, not
 use Rattle.card.specs.Limits.{numberDigits, furtherDigits, wordDigits}
 use Rattle.card.specs.Text.{bytes, if_then_else_}
 use Rattle.letters.specs.Bytes.{within, isDigit, isLetter, inWord, isBlank, isSign, oneOf, notLF, run, begins, every, after, isAlone, inNumber, begun}
-use Rattle.letters.specs.Digits.{valueFrom, plain, numberOf, pointed, heldDigits, Counted}
+use Rattle.letters.specs.Digits.{valueFrom, plain, numberSpelt, pointed, heldDigits, Counted}
 use Rattle.marks.specs.Marks.{Mark, text, number, decimal, outside, second, Start, blank, mark, wordMark, word, decimalMark, numeralMark, numeral, sign1, sign2, sign, startAt}
 use Rattle.marks.specs.Kinds.{knowns, kindIn}
 use Rattle.marks.specs.Step.{stepTo, stepEnd, stepped, stepFrom, stepAt}
@@ -29,7 +29,7 @@ use Rattle.letters.proofs.Numbers.{one-digit, plain-short, plain-digits}
 
 module _ (s : List ℕ) (i : ℕ) (h : i < length s) (d : isDigit (getD s i 0) ≡ true) (k : ℕ → Step) where
   -- the definition in terms of the whole run of digits
-  whole : numeral (getD s i 0) (drop (i + 1) s) ≡ numeralMark (numberOf numberDigits (run isDigit (drop i s))) (length (run isDigit (drop (i + 1) s))) (drop (i + length (run isDigit (drop i s))) s)
+  whole : numeral (getD s i 0) (drop (i + 1) s) ≡ numeralMark (numberSpelt numberDigits (run isDigit (drop i s))) (length (run isDigit (drop (i + 1) s))) (drop (i + length (run isDigit (drop i s))) s)
   whole =
       let n : length (run isDigit (drop i s)) ≡ suc (length (run isDigit (drop (i + 1) s))) = ap length (run-on isDigit s i h d) in
       let m : i + length (run isDigit (drop i s)) ≡ i + 1 + length (run isDigit (drop (i + 1) s)) = omega arith in
@@ -247,7 +247,7 @@ mark-gap : (b : ℕ) (s : List ℕ) → gapOf (if isLetter b then word b s else 
 mark-gap b s =
     gap-pick (isLetter b) (word b s) (if isDigit b then numeral b s else sign b s) refl
     (gap-pick (isDigit b) (numeral b s) (sign b s)
-    (numeral-gap (numberOf numberDigits (b ∷ run isDigit s)) (length (run isDigit s)) (drop (length (run isDigit s)) s))
+    (numeral-gap (numberSpelt numberDigits (b ∷ run isDigit s)) (length (run isDigit s)) (drop (length (run isDigit s)) s))
     (sign-gap b (second b) s))
 
 module _ (b : ℕ) (s : List ℕ) where

@@ -12,7 +12,7 @@ use lib.ListN.{length, drop}
 use Rattle.card.specs.Limits.{numberDigits, furtherDigits, wordDigits}
 use Rattle.card.specs.Text.{bytes, if_then_else_}
 use Rattle.letters.specs.Bytes.{isDigit, isLetter, isBlank, isSign, inWord, run, begins, every, after}
-use Rattle.letters.specs.Digits.{valueFrom, plain, numberOf, pointed}
+use Rattle.letters.specs.Digits.{valueFrom, plain, numberSpelt, pointed}
 use Rattle.letters.proofs.Lists.{and-left, and-right}
 use Rattle.letters.proofs.Runs.{run-passes}
 use Rattle.letters.proofs.Numbers.{plain-short, plain-digits}
@@ -41,7 +41,7 @@ value-below v (b ∷ s) e =
 plain-below : (most : ℕ) (s : List ℕ) → plain most s ≡ true → valueFrom 0 s < 10 ^ most
 plain-below most s e = omega (arith, value-below 0 s (plain-digits most s e .0), pow-le-pow-right {n = 10} (omega arith) (plain-short most s e))
 
-number-below : (most : ℕ) (s : List ℕ) (v : ℕ) → numberOf most s ≡ some v → v < 10 ^ most
+number-below : (most : ℕ) (s : List ℕ) (v : ℕ) → numberSpelt most s ≡ some v → v < 10 ^ most
 number-below most s v e = go (plain most s) refl e
   where
     go : (b : Bool) → plain most s ≡ b → (if b then some (valueFrom 0 s) else none) ≡ some v → v < 10 ^ most
@@ -60,9 +60,9 @@ choose false x y p q = q
 
 numbered-small : (f : ℕ → Mark) → ((v : ℕ) → v < 10 ^ wordDigits → Small (f v)) → (o : Option (List ℕ)) (other : Mark) → Small other → Small (numbered f o other)
 numbered-small f h none other k = k
-numbered-small f h (some s) other k = go (numberOf wordDigits s) refl
+numbered-small f h (some s) other k = go (numberSpelt wordDigits s) refl
   where
-    go : (o : Option ℕ) → numberOf wordDigits s ≡ o → Small (made f o other)
+    go : (o : Option ℕ) → numberSpelt wordDigits s ≡ o → Small (made f o other)
     go none e = k
     go (some v) e = h v (number-below wordDigits s v e)
 
@@ -97,5 +97,5 @@ start-small b s =
     numbered-small seat (λ v h. h) (after (bytes "s") w) (numbered process (after (bytes "process") w) (text w))
     (numbered-small process (λ v h. h) (after (bytes "process") w) (text w) tt))
     (choose (isDigit b) (numeral b s) (sign b s)
-    (numeral-small (length (run isDigit s)) (drop (length (run isDigit s)) s) (numberOf numberDigits (b ∷ run isDigit s)) (number-below numberDigits (b ∷ run isDigit s)))
+    (numeral-small (length (run isDigit s)) (drop (length (run isDigit s)) s) (numberSpelt numberDigits (b ∷ run isDigit s)) (number-below numberDigits (b ∷ run isDigit s)))
     (sign-small b s))))

@@ -8,7 +8,7 @@ use lib.ListN.{length, drop}
 use Rattle.card.specs.Limits.{numberDigits, furtherDigits, wordDigits}
 use Rattle.card.specs.Text.{bytes, if_then_else_}
 use Rattle.letters.specs.Bytes.{isDigit, isLetter, inWord, isBlank, isSign, notLF, run, begins, after}
-use Rattle.letters.specs.Digits.{valueFrom, numberOf, pointed}
+use Rattle.letters.specs.Digits.{valueFrom, numberSpelt, pointed}
 
 pub data Mark : Type 0 where
   text : List ℕ → Mark  -- a sign, a keyword or another word: its bytes
@@ -33,7 +33,7 @@ made f (some v) other = f v
 
 abbrev pub numbered : (ℕ → Mark) → Option (List ℕ) → Mark → Mark
 numbered f none other = other
-numbered f (some s) other = made f (numberOf wordDigits s) other
+numbered f (some s) other = made f (numberSpelt wordDigits s) other
 
 abbrev pub wordMark : List ℕ → Mark
 wordMark w = numbered seat (after (bytes "s") w) (numbered process (after (bytes "process") w) (text w))
@@ -49,7 +49,7 @@ numeralMark none more z = mark outside 0
 numeralMark (some v) more z = if pointed z then decimalMark v more (run isDigit (drop 1 z)) else mark (number v) more
 
 abbrev pub numeral : ℕ → List ℕ → Start
-numeral b s = let t = run isDigit s in numeralMark (numberOf numberDigits (b ∷ t)) (length t) (drop (length t) s)
+numeral b s = let t = run isDigit s in numeralMark (numberSpelt numberDigits (b ∷ t)) (length t) (drop (length t) s)
 
 -- the second byte of `..`, `->`, `!=`
 abbrev pub second : ℕ → Option ℕ

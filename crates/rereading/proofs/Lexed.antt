@@ -13,7 +13,7 @@ use lib.Seq.{drop-append-seam}
 use Rattle.card.specs.Limits.{numberDigits, wordDigits}
 use Rattle.card.specs.Text.{same}
 use Rattle.letters.specs.Bytes.{isDigit, inWord, run, begins, every}
-use Rattle.letters.specs.Digits.{valueFrom, plain, numberOf, pointed}
+use Rattle.letters.specs.Digits.{valueFrom, plain, numberSpelt, pointed}
 use Rattle.marks.specs.Marks.{text, seat, process, number, Placed, placed, startAt, numeral, marks}
 use Rattle.room.specs.Digits.{decimal, AllDigits}
 use Rattle.room.proofs.Decimal.{decimal-digits, decimal-some, decimal-front, decimal-length, decimal-read}
@@ -57,7 +57,7 @@ module _ (most v : ℕ) (some-digit : 0 < most) (small : v < 10 ^ most) where
           one-digit = decimal-length 0 0 (omega arith)
       front (suc v) h = decimal-front (suc v) (omega arith)
 
-  number-decimal : numberOf most (decimal v) ≡ some v
+  number-decimal : numberSpelt most (decimal v) ≡ some v
   number-decimal = rw (plain-decimal, decimal-read valueFrom (λ v. refl) (λ v b s. refl) v)
 
 -- ---- the scan
@@ -88,7 +88,7 @@ digit-starts b s e =
     let u : b ≤ 57 = leb-true b 57 y in
     rw (ne-eqb b 32 (λ z. omega arith), ne-eqb b 9 (λ z. omega arith), ne-eqb b 13 (λ z. omega arith), ne-eqb b 10 (λ z. omega arith), ne-eqb b 47 (λ z. omega arith), lt-leb 65 b (omega arith), lt-leb 97 b (omega arith), x, y)
 
-number-scanned : (e : ℕ) (l r : List ℕ) (v : ℕ) → every isDigit l ≡ true → numberOf numberDigits l ≡ some v → begins isDigit r ≡ false → pointed r ≡ false
+number-scanned : (e : ℕ) (l r : List ℕ) (v : ℕ) → every isDigit l ≡ true → numberSpelt numberDigits l ≡ some v → begins isDigit r ≡ false → pointed r ≡ false
     → marks e 0 (l ++ r) ≡ placed (number v) (e - length (l ++ r)) ∷ marks e 0 r
 number-scanned e [] r v a n d p = let z : _≡_ {A = ℕ} 0 1 = cc in absurd (omega arith)
 number-scanned e (b ∷ s) r v a n d p =

@@ -18,7 +18,7 @@ use Rattle.marks.specs.Marks.{Mark, second}
 use Rattle.letters.proofs.Lists.{cases, not-both, and-left, and-right, or-true}
 use Rattle.marks.proofs.KindLaws.{same-eq}
 use Rattle.marks.proofs.Starts.{digit-in-word, among as of-bytes}
-use Rattle.spelling.specs.Spells.{signs, keywords, OneOf, this, later, Numeral, Word, word, Stray, Spells, sign, keyword, seatWord, moduleWord, otherWord, aNumber, aDecimal, wrongNumber, wrongWhole, wrongFurther, stray}
+use Rattle.spelling.specs.Spells.{signs, OneOf, this, later, Numeral, Word, word, Stray, Spells, sign, seatWord, moduleWord, otherWord, aNumber, aDecimal, wrongNumber, wrongWhole, wrongFurther, stray}
 use Rattle.spelling.proofs.Lists.{run-covers, run-front, begins-front, every-wider}
 use Rattle.spelling.proofs.Numbers.{numeral-every}
 
@@ -40,18 +40,6 @@ among w (t ∷ ts) = same w (bytes t) || among w ts
 among-one : (w : List ℕ) (ts : List String) → among w ts ≡ true → OneOf w ts
 among-one w [] e = not-both false e refl
 among-one w (t ∷ ts) e = cases (same w (bytes t)) (λ q. this (same-eq w (bytes t) q)) (λ q. later (among-one w ts (rw q at e)))
-
-same-refl : (s : List ℕ) → same s s ≡ true
-same-refl [] = refl
-same-refl (b ∷ s) = rw (eq-eqb b b refl) (same-refl s)
-
-one-among : (w : List ℕ) (ts : List String) → OneOf w ts → among w ts ≡ true
-one-among w ts (this {t = t} {ts = us} q) = rw (q, same-refl (bytes t))
-one-among w ts (later {t = t} {ts = us} o) = cases (same w (bytes t)) (λ q. rw q) (λ q. rw q (one-among w us o))
-
--- they can be told
-pub one-or-none : {C : Type 0} (w : List ℕ) (ts : List String) → (OneOf w ts → C) → ((OneOf w ts → ⊥) → C) → C
-one-or-none w ts f g = cases (among w ts) (λ e. f (among-one w ts e)) (λ e. g (λ o. not-both (among w ts) (one-among w ts o) e))
 
 -- ---- signs
 
@@ -117,17 +105,6 @@ pub data Form : List ℕ → Type 0 where
 pub number-word : (s : List ℕ) (v : ℕ) → Numeral s v → every inWord s ≡ true
 number-word s v n = every-wider isDigit inWord digit-in-word s (numeral-every s v n)
 
-abbrev isWord : List ℕ → Bool
-isWord [] = false
-isWord (b ∷ s) = isLetter b && every inWord s
-
-the-word : (w : List ℕ) → isWord w ≡ true → Word w
-the-word [] e = not-both false e refl
-the-word (b ∷ s) e = word (and-left (isLetter b) (every inWord s) e) (and-right (isLetter b) (every inWord s) e)
-
-pub keyword-word : (w : List ℕ) → OneOf w keywords → Word w
-keyword-word w o = the-word w (of-each isWord keywords w refl o)
-
 sign-form : (w : List ℕ) → signed w ≡ true → Form w
 sign-form [] e = not-both false e refl
 sign-form (a ∷ []) e = ofOne (sign-apart a e)
@@ -143,10 +120,9 @@ stray-form b s = ofOne {b = b} (rw (s .no-blank, s .no-letter, s .no-digit))
 
 pub form : (w : List ℕ) (m : Mark) → Spells w m → Form w
 form w m (sign o) = sign-form w (of-each signed signs w refl o)
-form w m (keyword o) = ofWord (keyword-word w o)
 form w m (seatWord {i = i} (s, e, n)) = rw e (ofWord (word refl (number-word s i (n .numeral))))
 form w m (moduleWord {i = i} (s, e, n)) = rw e (ofWord (word refl (number-word s i (n .numeral))))
-form w m (otherWord o a b c) = ofWord o
+form w m (otherWord o a b) = ofWord o
 form w m (aNumber {v = v} n) = ofDigits (numeral-every w v (n .numeral)) (n .numeral .some)
 form w m (aDecimal {s = s} {f = f} {v = v} {u = u} n d h) = ofDecimal s f (numeral-every s v (n .numeral)) (n .numeral .some) (numeral-every f u d) (d .some)
 form w m (wrongNumber {v = v} n o) = ofDigits (numeral-every w v n) (n .some)

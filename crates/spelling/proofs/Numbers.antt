@@ -11,7 +11,7 @@ use lib.Dec.{eqb, leb}
 use lib.ListN.{length}
 use Rattle.card.specs.Text.{same}
 use Rattle.letters.specs.Bytes.{isDigit, every}
-use Rattle.letters.specs.Digits.{valueFrom, plain, numberOf}
+use Rattle.letters.specs.Digits.{valueFrom, plain, numberSpelt}
 use Rattle.letters.proofs.Lists.{cases, not-both, and-left, and-right, or-true, none-left}
 use Rattle.marks.proofs.KindLaws.{same-eq}
 use Rattle.spelling.specs.Spells.{Digits, none as noDigit, digit, Numeral, Number}
@@ -79,16 +79,16 @@ number-plain most (b ∷ s) v n = rw (numeral-every (b ∷ s) v (n .numeral), le
     front false q = refl
 
 module _ (most : ℕ) (s : List ℕ) where
-  pub number-of : (v : ℕ) → numberOf most s ≡ some v → Number most s v
+  pub number-of : (v : ℕ) → numberSpelt most s ≡ some v → Number most s v
   number-of v e = cases (plain most s)
       (λ p. let z : valueFrom 0 s ≡ v = cc in rw (← z) (plain-number most s p))
       (λ p. let f : none ≡ some v = rw p at e in let z : _≡_ {A = ℕ} 0 1 = cc in absurd (omega arith))
 
-  pub of-number : (v : ℕ) → Number most s v → numberOf most s ≡ some v
+  pub of-number : (v : ℕ) → Number most s v → numberSpelt most s ≡ some v
   of-number v n = rw (number-plain most s v n) (ap some (numeral-value s v (n .numeral)))
 
-  pub no-number : numberOf most s ≡ none → (v : ℕ) → Number most s v → ⊥
+  pub no-number : numberSpelt most s ≡ none → (v : ℕ) → Number most s v → ⊥
   no-number e v n = let z : _≡_ {A = ℕ} 0 1 = let q = of-number v n in cc in absurd (omega arith)
 
-  pub not-number : ((v : ℕ) → Number most s v → ⊥) → numberOf most s ≡ none
+  pub not-number : ((v : ℕ) → Number most s v → ⊥) → numberSpelt most s ≡ none
   not-number f = cases (plain most s) (λ p. absurd (f (valueFrom 0 s) (plain-number most s p))) (λ p. rw p)

@@ -12,12 +12,12 @@ use lib.Seq.{drop-append-seam, drop-length}
 use Rattle.card.specs.Limits.{numberDigits, furtherDigits, wordDigits}
 use Rattle.card.specs.Text.{bytes, same}
 use Rattle.letters.specs.Bytes.{isDigit, inWord, isSign, begins, every, after}
-use Rattle.letters.specs.Digits.{numberOf, pointed}
+use Rattle.letters.specs.Digits.{numberSpelt, pointed}
 use Rattle.marks.specs.Marks.{Mark, text, seat, process, number, decimal, outside, second, Start, blank, mark, made, numbered, numeralMark, numeral, sign1, sign2, startAt}
 use Rattle.letters.proofs.Lists.{cases, not-both, and-left, and-right}
 use Rattle.marks.proofs.KindLaws.{same-eq}
 use Rattle.marks.proofs.Starts.{letter-starts, digit-starts}
-use Rattle.spelling.specs.Spells.{signs, keywords, OneOf, Numeral, Number, Word, word as aWord, Numbered, Stray, Spells, sign as aSign, keyword, seatWord, moduleWord, otherWord, aNumber, aDecimal, wrongNumber, wrongWhole, wrongFurther, stray}
+use Rattle.spelling.specs.Spells.{signs, OneOf, Numeral, Number, Word, word as aWord, NumberedWord, Stray, Spells, sign as aSign, seatWord, moduleWord, otherWord, aNumber, aDecimal, wrongNumber, wrongWhole, wrongFurther, stray}
 use Rattle.spelling.proofs.Lists.{run-front, run-whole, after-is}
 use Rattle.spelling.proofs.Numbers.{numeral-every, numeral-value, number-of, of-number, not-number}
 use Rattle.spelling.proofs.Forms.{of-each, sign-one, number-word}
@@ -31,7 +31,7 @@ abbrev markOf : List ℕ → Mark
 markOf [] = outside
 markOf (b ∷ s) = markIn (startAt b s)
 
--- ---- signs and keywords, by computing each
+-- ---- signs, by computing each
 
 abbrev itself : List ℕ → Mark → Bool
 itself w (text s) = same s w
@@ -52,9 +52,6 @@ is-itself w outside e = not-both false e refl
 sign-read : (w : List ℕ) → OneOf w signs → markOf w ≡ text w
 sign-read w o = is-itself w (markOf w) (of-each (λ v. itself v (markOf v)) signs w refl o)
 
-keyword-read : (w : List ℕ) → OneOf w keywords → markOf w ≡ text w
-keyword-read w o = is-itself w (markOf w) (of-each (λ v. itself v (markOf v)) keywords w refl o)
-
 -- ---- words
 
 seat-read : (s : List ℕ) (i : ℕ) → Number wordDigits s i → markOf (bytes "s" ++ s) ≡ seat i
@@ -66,15 +63,15 @@ module-read s i n = rw (run-whole inWord s (number-word s i (n .numeral)), of-nu
 unnumbered : (f : ℕ → Mark) (t w : List ℕ) (other : Mark) → ((i : ℕ) (s : List ℕ) → w ≡ t ++ s → Number wordDigits s i → ⊥) → numbered f (after t w) other ≡ other
 unnumbered f t w other no-one = go (after t w) refl
   where
-    one : (s : List ℕ) → after t w ≡ some s → (o : Option ℕ) → numberOf wordDigits s ≡ o → made f o other ≡ other
+    one : (s : List ℕ) → after t w ≡ some s → (o : Option ℕ) → numberSpelt wordDigits s ≡ o → made f o other ≡ other
     one s e none q = refl
     one s e (some v) q = absurd (no-one v s (after-is t w s e) (number-of wordDigits s v q))
 
     go : (o : Option (List ℕ)) → after t w ≡ o → numbered f o other ≡ other
     go none e = refl
-    go (some s) e = one s e (numberOf wordDigits s) refl
+    go (some s) e = one s e (numberSpelt wordDigits s) refl
 
-word-read : (w : List ℕ) → Word w → ((i : ℕ) → Numbered "s" w i → ⊥) → ((i : ℕ) → Numbered "process" w i → ⊥) → markOf w ≡ text w
+word-read : (w : List ℕ) → Word w → ((i : ℕ) → NumberedWord "s" w i → ⊥) → ((i : ℕ) → NumberedWord "process" w i → ⊥) → markOf w ≡ text w
 word-read w (aWord {b = b} {s = s} l e) no-seat no-module =
     rw (letter-starts b s l, run-whole inWord s e)
     (unnumbered seat (bytes "s") (b ∷ s) (numbered process (after (bytes "process") (b ∷ s)) (text (b ∷ s))) (λ i r q n. no-seat i (r, q, n))
@@ -83,19 +80,19 @@ word-read w (aWord {b = b} {s = s} l e) no-seat no-module =
 -- ---- numbers and decimals
 
 -- the digits s, and then z
-numeral-read : (s z : List ℕ) → every isDigit s ≡ true → 0 < length s → begins isDigit z ≡ false → (o : Option ℕ) → numberOf numberDigits s ≡ o
+numeral-read : (s z : List ℕ) → every isDigit s ≡ true → 0 < length s → begins isDigit z ≡ false → (o : Option ℕ) → numberSpelt numberDigits s ≡ o
     → markOf (s ++ z) ≡ markIn (numeralMark o (length (drop 1 s)) z)
 numeral-read [] z d h b o e = absurd (omega arith)
 numeral-read (a ∷ s) z d h b o e =
     rw (digit-starts a (s ++ z) (and-left (isDigit a) (every isDigit s) d), run-front isDigit s z (and-right (isDigit a) (every isDigit s) d) b, e, drop-append-seam s z)
 
-whole-read : (s : List ℕ) → every isDigit s ≡ true → 0 < length s → (o : Option ℕ) → numberOf numberDigits s ≡ o → markOf s ≡ markIn (numeralMark o (length (drop 1 s)) [])
+whole-read : (s : List ℕ) → every isDigit s ≡ true → 0 < length s → (o : Option ℕ) → numberSpelt numberDigits s ≡ o → markOf s ≡ markIn (numeralMark o (length (drop 1 s)) [])
 whole-read [] d h o e = absurd (omega arith)
 whole-read (a ∷ s) d h o e =
     rw (digit-starts a s (and-left (isDigit a) (every isDigit s) d), run-whole isDigit s (and-right (isDigit a) (every isDigit s) d), e, drop-length s)
 
 module _ (s f : List ℕ) (v u : ℕ) (n : Numeral s v) (d : Numeral f u) where
-  point-read : (o : Option ℕ) → numberOf numberDigits s ≡ o → markOf (s ++ (46 ∷ f)) ≡ markIn (numeralMark o (length (drop 1 s)) (46 ∷ f))
+  point-read : (o : Option ℕ) → numberSpelt numberDigits s ≡ o → markOf (s ++ (46 ∷ f)) ≡ markIn (numeralMark o (length (drop 1 s)) (46 ∷ f))
   point-read o e = numeral-read s (46 ∷ f) (numeral-every s v n) (n .some) refl o e
 
   pointed-is : pointed (46 ∷ f) ≡ true
@@ -130,10 +127,9 @@ stray-read b s = rw (s .no-blank, s .no-letter, s .no-digit) (cases (eqb b 47) (
 
 read : (w : List ℕ) (m : Mark) → Spells w m → markOf w ≡ m
 read w m (aSign o) = sign-read w o
-read w m (keyword o) = keyword-read w o
 read w m (seatWord {i = i} (s, e, n)) = rw e (seat-read s i n)
 read w m (moduleWord {i = i} (s, e, n)) = rw e (module-read s i n)
-read w m (otherWord o a b c) = word-read w o b c
+read w m (otherWord o a b) = word-read w o a b
 read w m (aNumber {v = v} n) = whole-read w (numeral-every w v (n .numeral)) (n .numeral .some) (some v) (of-number numberDigits w v n)
 read w m (aDecimal {s = s} {f = f} {v = v} {u = u} n d h) = decimal-read s f v u (n .numeral) d v n h
 read w m (wrongNumber {v = v} n o) = whole-read w (numeral-every w v n) (n .some) none (not-number numberDigits w o)

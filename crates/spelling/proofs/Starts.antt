@@ -13,15 +13,15 @@ use lib.ListN.{length, drop, length-append}
 use Rattle.card.specs.Limits.{numberDigits, furtherDigits, wordDigits}
 use Rattle.card.specs.Text.{bytes, if_then_else_}
 use Rattle.letters.specs.Bytes.{isDigit, isLetter, inWord, isBlank, isSign, notLF, run, begins, every, after}
-use Rattle.letters.specs.Digits.{valueFrom, numberOf, pointed}
+use Rattle.letters.specs.Digits.{valueFrom, numberSpelt, pointed}
 use Rattle.marks.specs.Marks.{Mark, text, seat, process, number, decimal, outside, second, Start, blank, mark, made, numbered, wordMark, word, decimalMark, numeralMark, numeral, sign1, sign2, sign, comment, startAt}
 use Rattle.letters.proofs.Lists.{cases, not-both, and-left, and-right}
 use Rattle.letters.proofs.Runs.{run-passes, run-stops}
-use Rattle.spelling.specs.Spells.{keywords, Numeral, Number, Word, word as aWord, Numbered, Spells, sign as aSign, keyword, seatWord, moduleWord, otherWord, aNumber, aDecimal, wrongNumber, wrongWhole, wrongFurther, stray}
+use Rattle.spelling.specs.Spells.{Numeral, Number, Word, word as aWord, NumberedWord, Spells, sign as aSign, seatWord, moduleWord, otherWord, aNumber, aDecimal, wrongNumber, wrongWhole, wrongFurther, stray}
 use Rattle.spelling.specs.Marked.{LineOver, Between, blank as aBlank, comment as aComment, Longest, Stands, taken}
 use Rattle.spelling.proofs.Lists.{run-on, run-split, after-is, after-front}
 use Rattle.spelling.proofs.Numbers.{numeral-of, number-of, no-number}
-use Rattle.spelling.proofs.Forms.{one-or-none, sign-one, one-sign, sign-two, form, blank-reach, letter-reach, pointReach, numeralReach, digit-reach, sign-reach}
+use Rattle.spelling.proofs.Forms.{sign-one, one-sign, sign-two, form, blank-reach, letter-reach, pointReach, numeralReach, digit-reach, sign-reach}
 
 abbrev pub NoComment : List ℕ → Type 0
 NoComment s = (t : List ℕ) → s ≡ bytes "//" ++ t → ⊥
@@ -57,10 +57,10 @@ pick s false x y p q = q refl
 
 -- a beginning and a number, or not
 numbered-cases : (P : Mark → Type 0) (f : ℕ → Mark) (t : String) (w : List ℕ) (other : Mark)
-    → ((i : ℕ) → Numbered t w i → P (f i)) → (((i : ℕ) → Numbered t w i → ⊥) → P other) → P (numbered f (after (bytes t) w) other)
+    → ((i : ℕ) → NumberedWord t w i → P (f i)) → (((i : ℕ) → NumberedWord t w i → ⊥) → P other) → P (numbered f (after (bytes t) w) other)
 numbered-cases P f t w other yes-one no-one = go (after (bytes t) w) refl
   where
-    one : (s : List ℕ) → after (bytes t) w ≡ some s → (o : Option ℕ) → numberOf wordDigits s ≡ o → P (made f o other)
+    one : (s : List ℕ) → after (bytes t) w ≡ some s → (o : Option ℕ) → numberSpelt wordDigits s ≡ o → P (made f o other)
     one s e none q = no-one (λ i. λ x.
         let same-rest : x .0 ≡ s = let z : some (x .0) ≡ some s = sym (after-front (bytes t) (x .0)) ∙ ap (after (bytes t)) (sym (x .1)) ∙ e in cc in
         no-number wordDigits s q i (rw same-rest at (x .2)))
@@ -68,7 +68,7 @@ numbered-cases P f t w other yes-one no-one = go (after (bytes t) w) refl
 
     go : (o : Option (List ℕ)) → after (bytes t) w ≡ o → P (numbered f o other)
     go none e = no-one (λ i. λ x. let z : _≡_ {A = ℕ} 0 1 = let q : some (x .0) ≡ none = sym (after-front (bytes t) (x .0)) ∙ ap (after (bytes t)) (sym (x .1)) ∙ e in cc in absurd (omega arith))
-    go (some s) e = one s e (numberOf wordDigits s) refl
+    go (some s) e = one s e (numberSpelt wordDigits s) refl
 
 abbrev Whole : List ℕ → Mark → Type 0
 Whole w m = Spells w m × (length w ≡ taken m w)
@@ -77,7 +77,7 @@ word-spells : (w : List ℕ) → Word w → Whole w (wordMark w)
 word-spells w h =
     numbered-cases (Whole w) seat "s" w (numbered process (after (bytes "process") w) (text w)) (λ i n. (seatWord n, refl))
     (λ no-seat. numbered-cases (Whole w) process "process" w (text w) (λ i n. (moduleWord n, refl))
-    (λ no-module. one-or-none w keywords (λ o. (keyword o, refl)) (λ no-key. (otherWord h no-key no-seat no-module, refl))))
+    (λ no-module. (otherWord h no-seat no-module, refl)))
 
 word-found : (b : ℕ) (t : List ℕ) → NoComment (b ∷ t) → isLetter b ≡ true → Right (b ∷ t) (word b t)
 word-found b t c l =
@@ -128,7 +128,7 @@ module _ (x s z : List ℕ) (c : NoComment x) (e : x ≡ s ++ z) (ds : every isD
         (λ q. with-point (decimal v (length (run isDigit y)) (valueFrom 0 (run isDigit y))) (more + 1 + length (run isDigit y)) (aDecimal num further (leb-true (length (run isDigit y)) furtherDigits q)) (omega (arith, length-append s (46 ∷ run isDigit y))))
         (λ q. with-point outside 0 (wrongFurther num further (leb-false (length (run isDigit y)) furtherDigits q)) refl)
 
-  numeral-found : (o : Option ℕ) → numberOf numberDigits s ≡ o → (u : List ℕ) → z ≡ u → Right x (numeralMark o more u)
+  numeral-found : (o : Option ℕ) → numberSpelt numberDigits s ≡ o → (u : List ℕ) → z ≡ u → Right x (numeralMark o more u)
   numeral-found none q [] r = alone outside 0 (rw r) (wrongNumber (numeral-of s ds h) (no-number numberDigits s q)) refl
   numeral-found none q (a ∷ y) r = cases (pointed (a ∷ y))
       (λ pt. with-point a y r pt outside 0 (wrongWhole (numeral-of s ds h) (no-number numberDigits s q) (further a y r pt)) refl)
@@ -145,7 +145,7 @@ number-found b t c d =
     let whole : numeralReach (b ∷ t) ≡ length s + pointReach z = ap (λ (u : List ℕ). length u + pointReach (drop (length u) (b ∷ t))) (run-on isDigit b t d) in
     let far : (p q : List ℕ) (m : Mark) → b ∷ t ≡ p ++ q → Spells p m → length p ≤ length s + pointReach z = λ p q m e x. omega (arith, digit-reach (b ∷ t) p q d e (form p m x), whole) in
     numeral-found (b ∷ t) s z c (ap (λ (u : List ℕ). b ∷ u) (run-split isDigit t)) (rw (d, run-passes isDigit t)) (omega arith) far (length (run isDigit t)) refl
-    (numberOf numberDigits s) refl z refl
+    (numberSpelt numberDigits s) refl z refl
 
 -- ---- signs
 

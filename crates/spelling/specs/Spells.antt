@@ -10,16 +10,13 @@ use Rattle.card.specs.Text.{bytes}
 use Rattle.letters.specs.Bytes.{isDigit, isLetter, inWord, isBlank, every}
 use Rattle.marks.specs.Marks.{Mark, text, seat, process, number, decimal, outside}
 
--- ---- signs and keywords, by their bytes
+-- ---- signs, by their bytes
 
 abbrev pub signs : List String
 signs =
     "[" ∷ "]" ∷ ":" ∷ ";" ∷ "=" ∷ "!" ∷ "&" ∷ "|" ∷ "(" ∷ ")" ∷ "+" ∷ "'" ∷ "," ∷ "/"
     ∷ ".." ∷ "->" ∷ "!="
     ∷ []
-
-abbrev pub keywords : List String
-keywords = "nondeterministic" ∷ "probabilistic" ∷ "module" ∷ "endmodule" ∷ "init" ∷ []
 
 pub data OneOf (w : List ℕ) : List String → Type 0 where
   this : {t : String} {ts : List String} → w ≡ bytes t → OneOf w (t ∷ ts)
@@ -50,8 +47,8 @@ pub data Word : List ℕ → Type 0 where
   word : {b : ℕ} {s : List ℕ} → isLetter b ≡ true → every inWord s ≡ true → Word (b ∷ s)
 
 -- a beginning and a number
-abbrev pub Numbered : String → List ℕ → ℕ → Type 0
-Numbered t w i = (s : List ℕ) × (w ≡ bytes t ++ s) × Number wordDigits s i
+abbrev pub NumberedWord : String → List ℕ → ℕ → Type 0
+NumberedWord t w i = (s : List ℕ) × (w ≡ bytes t ++ s) × Number wordDigits s i
 
 -- ---- bytes with which nothing within the rules begins
 
@@ -65,11 +62,11 @@ pub record Stray (b : ℕ) : Type 0 where
 
 pub data Spells : List ℕ → Mark → Type 0 where
   sign : {w : List ℕ} → OneOf w signs → Spells w (text w)
-  keyword : {w : List ℕ} → OneOf w keywords → Spells w (text w)
-  seatWord : {w : List ℕ} {i : ℕ} → Numbered "s" w i → Spells w (seat i)
-  moduleWord : {w : List ℕ} {i : ℕ} → Numbered "process" w i → Spells w (process i)
+  seatWord : {w : List ℕ} {i : ℕ} → NumberedWord "s" w i → Spells w (seat i)
+  moduleWord : {w : List ℕ} {i : ℕ} → NumberedWord "process" w i → Spells w (process i)
+  -- any other word, keywords among them: where each of these is due is the grammar's
   otherWord : {w : List ℕ}
-      → Word w → (OneOf w keywords → ⊥) → ((i : ℕ) → Numbered "s" w i → ⊥) → ((i : ℕ) → Numbered "process" w i → ⊥)
+      → Word w → ((i : ℕ) → NumberedWord "s" w i → ⊥) → ((i : ℕ) → NumberedWord "process" w i → ⊥)
       → Spells w (text w)
   aNumber : {s : List ℕ} {v : ℕ} → Number numberDigits s v → Spells s (number v)
   aDecimal : {s f : List ℕ} {v u : ℕ}

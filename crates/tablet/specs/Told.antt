@@ -3,7 +3,7 @@
 use Prim.Native.Nat.{ℕ}
 use mathlib.Core.Bool.{Bool}
 use mathlib.Core.List.{List}
-use Rattle.card.specs.Verdict.{numberOf, placeOf}
+use Rattle.card.specs.Verdict.{verdictNumber, verdictPlace}
 use Rattle.card.specs.declared.Verdict.{Verdict}
 use Rattle.reading.specs.Reading.{Outcome}
 use Rattle.reader.specs.ReadingOf.{outlineOf}
@@ -21,7 +21,7 @@ numbers a = record { number = answerNumber a; value = answerValue a }
 
 -- and of a verdict; 0 and 0 for a card that is taken
 abbrev pub verdictNumbers : Verdict → OpenPanelAnswer
-verdictNumbers v = record { number = numberOf v; value = placeOf v }
+verdictNumbers v = record { number = verdictNumber v; value = verdictPlace v }
 
 abbrev pub judged : Outcome → OpenPanelAnswer
 judged o = verdictNumbers (outlineOf o .verdict)
