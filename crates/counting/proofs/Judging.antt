@@ -14,7 +14,7 @@ use lib.Seq.{drop-cons}
 use Rattle.card.specs.Card.{Card}
 use Rattle.card.specs.Valid.{Every}
 use Rattle.card.specs.Refusals.{wrongSeats, seatAboveTop}
-use Rattle.card.specs.Verdict.{numberOf, placeOf}
+use Rattle.card.specs.Verdict.{verdictNumber, verdictPlace}
 use Rattle.meaning.specs.Seats.{Seating, ValidSeating}
 use Rattle.card.specs.declared.Verdict.the-variants.{Taken, Refused}
 use Rattle.counting.specs.Judged.{judgedFrom, judgedSeats, FirstAbove}
@@ -93,7 +93,7 @@ fine≢refused : {A : Type 0} {r p : ℕ} → Taken ≡ Refused r p → A
 fine≢refused e = let z : _≡_ {A = ℕ} 0 1 = cc in absurd (omega arith)
 
 same-refusal : {r s p q : ℕ} → Refused r p ≡ Refused s q → (r ≡ s) × (p ≡ q)
-same-refusal e = (ap numberOf e, ap placeOf e)
+same-refusal e = (ap verdictNumber e, ap verdictPlace e)
 
 module _ (n k : ℕ) (x : List ℕ) where
   -- the three ways in which a judgement can go

@@ -21,20 +21,16 @@ use Rattle.meaning.specs.Sums.{gate, upto, flat}
 use Rattle.meaning.specs.Panel.{Move, moveLine, block}
 use Rattle.meaning.specs.ByCounts.{unitsTo, stayOf, moveOf}
 use Rattle.meaning.proofs.Sums.{upto-cong}
+use Rattle.meaning.proofs.Panel.{flat-empty, no-line}
 use Rattle.counting.specs.Taking.{unitsToEach}
 use Rattle.counting.proofs.Weighed.{each-at, length-each}
 use Rattle.weighing.specs.Table.{enabledPlace, stayPlace, weightsFrom, tablePlaces, weightIn, weighing}
 use Rattle.lines.specs.PanelText.{line, movesText, stayText, blockText, blocksText, panelText}
 use Rattle.lines.specs.PanelIn.{choiceIf, choicesIn, panelIn}
-use Rattle.lines.proofs.Laws.{no-line}
 
 -- ---- lists of moves
 
 -- of lists that are all empty but one
-flat-empty : {A : Type 0} (n : ℕ) (f : ℕ → List A) → ((i : ℕ) → f i ≡ []) → flat (upto n f) ≡ []
-flat-empty zero f h = refl
-flat-empty (suc n) f h = rw (h 0) (flat-empty n (λ i. f (suc i)) (λ i. h (suc i)))
-
 flat-only : {A : Type 0} (n j : ℕ) (f : ℕ → List A) → j < n → ((i : ℕ) → (i ≡ j → ⊥) → f i ≡ []) → flat (upto n f) ≡ f j
 flat-only zero j f l h = absurd (not-suc-le-zero l)
 flat-only (suc n) zero f l h = rw (flat-empty n (λ i. f (suc i)) (λ i. h (suc i) (λ e. omega arith))) (append-nil (f 0))
@@ -118,10 +114,15 @@ module _ (h : Head) (table rows branches : List ℕ) where
   head r = modeText (either nondeterministic probabilistic (h .mode)) ("\nseats " ▸ num (h .seats) (line " enabled" (getD table enabledPlace 0 ∷ []) (line "counts" (take (h .top + 1) table) r)))
 
   module _ {a b : List ℕ} {at m : ℕ} where
-    pub choices-text : h .mode ≡ 0 → Puts a b at (λ r. head (blocksText (choicesIn (h .top) table rows branches (h .count)) r)) m
+    pub choices-text : h .mode ≡ 0 → getD table stayPlace 0 ≡ 0 → Puts a b at (λ r. head (blocksText (choicesIn (h .top) table rows branches (h .count)) r)) m
         → Put a b at (panelText (panelIn h table rows branches)) m
     unfolding panelText panelIn
-    choices-text e p = rw (eq-eqb (h .mode) 0 e) (rw (eq-eqb (h .mode) 0 e) at (p .put))
+    choices-text e z p = rw (eq-eqb (h .mode) 0 e, eq-eqb (getD table stayPlace 0) 0 z) (rw (eq-eqb (h .mode) 0 e) at (p .put))
+
+    pub stuck-text : h .mode ≡ 0 → (getD table stayPlace 0 ≡ 0 → ⊥) → Puts a b at (λ r. head (line "choice" (0 ∷ []) (stayText (getD table stayPlace 0) r))) m
+        → Put a b at (panelText (panelIn h table rows branches)) m
+    unfolding panelText panelIn blockText
+    stuck-text e s p = rw (eq-eqb (h .mode) 0 e, ne-eqb (getD table stayPlace 0) 0 s) (rw (eq-eqb (h .mode) 0 e) at (p .put))
 
     pub weights-text : (h .mode ≡ 0 → ⊥)
         → Puts a b at (λ r. head (stayText (getD table stayPlace 0) (movesText (flat (upto (suc (h .top)) (tableRow table (h .top)))) r))) m

@@ -2,15 +2,12 @@
 -- weight 0 is none. Assumes nothing.
 use Prim.Native.Nat.{ℕ, zero, suc, _+_, _≤_, _<_, min}
 use mathlib.Core.Path.{_≡_, refl, sym, ap, _∙_}
-use mathlib.Core.Bool.{Bool, true, false, not, _&&_}
 use mathlib.Core.List.{List, [], _∷_, _++_, append-assoc, append-nil}
 use native.Mathlib.Numerals.{add-one}
 use native.Mathlib.Omega.{arith}
 use borrow.Author.Tests.{lt-ltb, eq-eqb, ne-eqb}
-use lib.Dec.{eqb}
 use lib.ListN.{length, getD, take}
 use lib.Seq.{take-suc, take-all}
-use Rattle.card.specs.Text.{if_then_else_}
 use Rattle.room.specs.Room.{cap}
 use Rattle.phrases.specs.Phrases.{_▸_, num}
 use Rattle.phrases.specs.Puts.{Puts}
@@ -18,6 +15,7 @@ use Rattle.phrases.proofs.Laws.{puts-then, puts-as, puts-none}
 use Rattle.phrases.proofs.Counted.{Text}
 use Rattle.meaning.specs.Sums.{upto, flat}
 use Rattle.meaning.specs.Panel.{Move, moveLine, Block}
+use Rattle.meaning.proofs.Panel.{no-line}
 use Rattle.lines.specs.PanelText.{numbers, line, movesText, stayText, blockText, blocksText}
 
 -- ---- numbers
@@ -80,13 +78,6 @@ module _ (w : ℕ) (r : List ℕ) where
 
   pub stay-some : (w ≡ 0 → ⊥) → line "stay" (w ∷ []) r ≡ stayText w r
   stay-some h = let l : 0 < w = omega arith in rw (lt-ltb 0 w l)
-
-pub no-line : (a b w : ℕ) → w ≡ 0 → moveLine a b w ≡ []
-no-line a b w e = rw e (go (not (eqb a b)) (record { old = a; new = b; weight = 0 } ∷ []))
-  where
-    go : (t : Bool) (l : List Move) → (if t && false then l else []) ≡ []
-    go true l = refl
-    go false l = refl
 
 module _ (a b w : ℕ) (r : List ℕ) where
   pub move-same : a ≡ b → r ≡ movesText (moveLine a b w) r

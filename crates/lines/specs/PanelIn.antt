@@ -2,7 +2,7 @@
 use Prim.Native.Nat.{ℕ, suc, _+_}
 use mathlib.Core.List.{List, [], _∷_}
 use mathlib.Core.Option.{none, some}
-use lib.Dec.{ltb}
+use lib.Dec.{eqb, ltb}
 use lib.ListN.{getD, take}
 use Rattle.card.specs.Text.{if_then_else_}
 use Rattle.card.specs.Card.{Mode, nondeterministic, probabilistic, Statement}
@@ -24,8 +24,12 @@ choiceAt k table rows branches i = choiceIf k i (ableIn table i) (weighingRow ro
 abbrev pub choicesIn : ℕ → List ℕ → List ℕ → List ℕ → ℕ → List Block
 choicesIn k table rows branches count = flat (upto count (choiceAt k table rows branches))
 
+-- the table of a nondeterministic card has a weight of no change only where no choice can be taken: it stands at place 0
+abbrev pub choicesOr : ℕ → List Block → List Block
+choicesOr stay l = if eqb stay 0 then l else record { choice = some 0; stay = stay; moves = [] } ∷ []
+
 abbrev pub blocksIn : Mode → ℕ → List ℕ → List ℕ → List ℕ → ℕ → List Block
-blocksIn nondeterministic k table rows branches count = choicesIn k table rows branches count
+blocksIn nondeterministic k table rows branches count = choicesOr (getD table stayPlace 0) (choicesIn k table rows branches count)
 blocksIn probabilistic k table rows branches count = block k none (getD table stayPlace 0) (weightIn table) ∷ []
 
 unfoldable pub panelIn : Head → List ℕ → List ℕ → List ℕ → Panel

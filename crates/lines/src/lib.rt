@@ -172,7 +172,8 @@ fn put_table(room: &mut [u8], at: usize, table: &[usize], top: usize) -> usize
     to
 }
 
-// The whole panel, of a card that lies in lent arrays.
+// The whole panel, of a card that lies in lent arrays. On a nondeterministic card the table has a weight of no change only where no choice
+// can be taken.
 pub fn put_panel<'a>(
     room: &mut [u8],
     at: usize,
@@ -186,9 +187,14 @@ pub fn put_panel<'a>(
 {
     let stay = table[STAY];
     let a = put_head(room, at, head, table);
-    if head.mode == NONDETERMINISTIC {
+    if head.mode != NONDETERMINISTIC {
+        let b = put_stay(room, a, stay);
+        return put_table(room, b, table, head.top);
+    }
+    if stay == 0 {
         return put_choices(room, a, head, table, rows, branches);
     }
-    let b = put_stay(room, a, stay);
-    put_table(room, b, table, head.top)
+    let values = [0];
+    let b = put_line(room, a, b"choice", &values);
+    put_stay(room, b, stay)
 }

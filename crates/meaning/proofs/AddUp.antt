@@ -1,5 +1,5 @@
 -- The weights add up: each step of a seat is one that changes nothing or one of the moves between two states, so the lines of a block
--- hold each step's units once (an exchange of sums); the units of a turn add up to the unit. Assumes nothing.
+-- hold each step's units once (an exchange of sums); the units of a turn add up to the unit, and the stuck step weighs it. Assumes nothing.
 use Prim.Native.Nat.{ℕ, zero, suc, _+_, _*_, _≤_, _<_}
 use mathlib.Core.Path.{_≡_, refl, sym, ap, ap₂, _∙_}
 use mathlib.Core.Bool.{Bool, true, false, not, _&&_}
@@ -11,17 +11,21 @@ use lib.Dec.{eqb, ltb}
 use lib.ListN.{length, set}
 use Rattle.card.specs.Limits.{unit}
 use Rattle.card.specs.Text.{same, if_then_else_}
-use Rattle.card.specs.Valid.{Every, total, ValidBranch, ValidStatement, ValidCard}
+use Rattle.card.specs.Valid.{Every, ValidBranch, ValidStatement, ValidCard}
 use Rattle.card.specs.Card.{Mode, nondeterministic, probabilistic, Branch, Statement, Card}
 use Rattle.meaning.specs.Sums.{gate, sum, upto, flat}
 use Rattle.meaning.specs.Steps.{Step, Turn, weight}
-use Rattle.meaning.specs.Seats.{Seating, ValidSeating, state, turn, turnsBy, Choice, choice, choicesFrom, choices, turns, steps}
+use Rattle.meaning.specs.Choices.{Choice, choice, choicesOf, stay, orStay}
+use Rattle.meaning.specs.Seats.{Seating, ValidSeating, state, turn, turnsBy, choicesFrom, choices, turns, steps}
 use Rattle.meaning.specs.Panel.{Move, moveLine, block, goes, blockOf, oneOf, enabled, blocks, panel, blockTotal, due}
-use Rattle.meaning.proofs.Sums.{gate-and, gate-zero, sum-every, sum-append, sum-flat, sum-add, sum-gate, sum-one, sum-times, sum-map}
-use Rattle.meaning.proofs.Sums.{every-append, every-flat, every-map, every-imp, sumBelow, below-cong, below-gate, below-exchange, below-pick}
+use Rattle.meaning.proofs.Sums.{gate-and, gate-zero, sum-every, sum-append, sum-flat, sum-add, sum-gate, sum-one, sum-times}
+use Rattle.meaning.proofs.Sums.{every-append, every-flat, every-map, every-imp, sumBelow, below-cong, below-zero, below-gate, below-exchange, below-pick}
 use Rattle.meaning.proofs.Counting.{Within, state-within}
 use Rattle.meaning.proofs.Turns.{Taker, takers}
-use Rattle.meaning.proofs.Panel.{stays-set, goes-set}
+use Rattle.meaning.proofs.Total.{turn-full}
+use Rattle.meaning.proofs.Panel.{stays-set, goes-set, goes-self}
+use Rattle.meaning.proofs.Choices.{Full}
+use Rattle.meaning.proofs.Vectors.{same-self}
 
 -- ---- the lines of a block
 
@@ -94,7 +98,11 @@ module _ (n : ℕ) (x : Seating) (i t : ℕ) (l : i < length x) (l₁ : state x 
       ∙ ap (gate (eqb (state x i) a)) (below-pick n t (λ b. gate (not (eqb a b)) u) l₂))
       ∙ below-pick n (state x i) (λ a. gate (not (eqb a t)) u) l₁
 
-step-once : (k : ℕ) (x : Seating) (s : Step Seating) → Near k x s → stayed x s + moved (suc k) x s ≡ s .units
+-- a step's units are in the lines once
+abbrev Once : ℕ → Seating → Step Seating → Type 0
+Once k x s = stayed x s + moved (suc k) x s ≡ s .units
+
+step-once : (k : ℕ) (x : Seating) (s : Step Seating) → Near k x s → Once k x s
 step-once k x s near =
     let j = state x (near .seat) in
     let l₁ : j < suc k = omega arith in
@@ -105,12 +113,27 @@ step-once k x s near =
     ∙ moves-once (suc k) x (near .seat) (near .to) (near .there) l₁ l₂ (s .units))
     ∙ either (near .to) j (s .units)
 
+-- a step that changes nothing
+still-once : (k : ℕ) (x : Seating) (u : ℕ) → Once k x (record { units = u; next = x })
+still-once k x u =
+    ap₂ _+_
+    (ap (λ (t : Bool). gate t u) (same-self x))
+    (below-cong (suc k) _ (λ a. 0) (λ a _. below-cong (suc k) _ (λ b. 0) (λ b _. none a b) ∙ below-zero (suc k)) ∙ below-zero (suc k))
+    ∙ omega arith
+  where
+    none : (a b : ℕ) → line x a b (record { units = u; next = x }) ≡ 0
+    none a b = go (eqb a b) refl
+      where
+        go : (e : Bool) → eqb a b ≡ e → gate (not e) (gate (goes a b x x) u) ≡ 0
+        go true e = refl
+        go false e = rw (goes-self a b (eqb-false a b e) x)
+
 -- ---- a block of steps
 
 abbrev units : Step Seating → ℕ
 units s = s .units
 
-pub block-total : (k : ℕ) (q : Option ℕ) (x : Seating) (l : Turn Seating) → Every (Near k x) l → blockTotal (blockOf k q x l) ≡ sum units l
+pub block-total : (k : ℕ) (q : Option ℕ) (x : Seating) (l : Turn Seating) → Every (Once k x) l → blockTotal (blockOf k q x l) ≡ sum units l
 unfolding blockOf weight
 block-total k q x l e =
     let n = suc k in
@@ -118,7 +141,7 @@ block-total k q x l e =
     ∙ ap (λ (r : ℕ). weight (λ y. same y x) l + r)
     (below-cong n _ (λ a. sum (λ s. sumBelow n (λ b. line x a b s)) l) (λ a _. row a) ∙ below-exchange n (λ a s. sumBelow n (λ b. line x a b s)) l)
     ∙ sym (sum-add (stayed x) (moved n x) l)
-    ∙ sum-every l e (step-once k x)
+    ∙ sum-every l e (λ s h. h)
   where
     row : (a : ℕ) → sumBelow (suc k) (λ b. gate (not (eqb a b)) (weight (goes a b x) l)) ≡ sum (λ s. sumBelow (suc k) (λ b. line x a b s)) l
     row a =
@@ -128,18 +151,17 @@ block-total k q x l e =
 -- ---- the turns of a valid card
 
 abbrev pub GoodTurn : ℕ → Seating → Turn Seating → Type 0
-GoodTurn k x t = Every (Near k x) t × (sum units t ≡ unit)
+GoodTurn k x t = Every (Once k x) t × Full t
 
-pub total-sum : (l : List Branch) → sum (λ (b : Branch). b .units) l ≡ total l
-total-sum [] = refl
-total-sum (b ∷ l) = ap (λ (r : ℕ). b .units + r) (total-sum l)
+still-good : (k : ℕ) (x : Seating) → GoodTurn k x (stay x)
+still-good k x = ((still-once k x unit, tt), omega arith)
 
 module _ (n k : ℕ) (x : Seating) (w : Within k x) where
   good-turn : (s : Statement) → ValidStatement n k s → (i : ℕ) → i < length x → GoodTurn k x (turn s x i)
   unfolding turn
   good-turn s v i l = (
-    every-map (Near k x) _ (s .branches) (every-imp (ValidBranch k) (s .branches) (v .branches) near),
-    sum-map units _ (s .branches) ∙ total-sum (s .branches) ∙ v .sum,
+    every-map (Once k x) _ (s .branches) (every-imp (ValidBranch k) (s .branches) (v .branches) (λ b u. step-once k x _ (near b u))),
+    turn-full s v x i,
   )
     where
       near : (b : Branch) → ValidBranch k b → Near k x (record { units = b .units; next = set x i (b .end) })
@@ -149,7 +171,7 @@ module _ (n k : ℕ) (x : Seating) (w : Within k x) where
   good-turns s v = every-imp (Taker s x) (turnsBy s x) (takers s x) (λ t m. let (i, l, may, e) = m in rw e (good-turn s v i l))
 
   -- all of a choice's turns, and the one that is shown
-  abbrev GoodChoice : Choice → Type 0
+  abbrev GoodChoice : Choice Seating → Type 0
   GoodChoice c = Every (GoodTurn k x) (c .turns) × GoodTurn k x (oneOf (c .turns))
 
   good-choice : (q : ℕ) (m : List (Turn Seating)) → Every (GoodTurn k x) m → Every GoodChoice (choice q m)
@@ -157,7 +179,7 @@ module _ (n k : ℕ) (x : Seating) (w : Within k x) where
   good-choice q (t ∷ m) e = ((e, e .0), tt)
 
   good-choices : (q : ℕ) (l : List Statement) → Every (ValidStatement n k) l → Every GoodChoice (choicesFrom q l x)
-  unfolding choicesFrom
+  unfolding choicesOf
   good-choices q [] v = tt
   good-choices q (s ∷ l) v =
       every-append GoodChoice (choice q (turnsBy s x)) (choicesFrom (suc q) l x)
@@ -169,12 +191,16 @@ module _ (n k : ℕ) (x : Seating) (w : Within k x) where
 module _ (c : Card) (valid : ValidCard c) (x : Seating) (ok : ValidSeating c x) where
   all-good : Every (GoodChoice (c .n) (c .k) x (ok .states)) (choices c x)
   unfolding choices
-  all-good = good-choices (c .n) (c .k) x (ok .states) 1 (c .statements) (valid .statements)
+  all-good = go (choicesFrom 1 (c .statements) x) (good-choices (c .n) (c .k) x (ok .states) 1 (c .statements) (valid .statements))
+    where
+      go : (l : List (Choice Seating)) → Every (GoodChoice (c .n) (c .k) x (ok .states)) l → Every (GoodChoice (c .n) (c .k) x (ok .states)) (orStay x l)
+      go [] e = (((still-good (c .k) x, tt), still-good (c .k) x), tt)
+      go (q ∷ l) e = e
 
   turns-good : Every (GoodTurn (c .k) x) (turns c x)
   unfolding turns
-  turns-good = every-flat (GoodTurn (c .k) x) (map (λ (q : Choice). q .turns) (choices c x))
-      (every-map (Every (GoodTurn (c .k) x)) (λ (q : Choice). q .turns) (choices c x) (every-imp _ (choices c x) all-good (λ q g. g .0)))
+  turns-good = every-flat (GoodTurn (c .k) x) (map (λ (q : Choice Seating). q .turns) (choices c x))
+      (every-map (Every (GoodTurn (c .k) x)) (λ (q : Choice Seating). q .turns) (choices c x) (every-imp _ (choices c x) all-good (λ q g. g .0)))
 
   -- the units of all steps
   pub steps-units : sum units (steps c x) ≡ length (turns c x) * unit
@@ -185,12 +211,12 @@ module _ (c : Card) (valid : ValidCard c) (x : Seating) (ok : ValidSeating c x) 
       ∙ sum-times (λ t. 1) unit (turns c x)
       ∙ ap (λ (m : ℕ). m * unit) (sum-one (turns c x))
 
-  steps-near : Every (Near (c .k) x) (steps c x)
+  steps-once : Every (Once (c .k) x) (steps c x)
   unfolding steps
-  steps-near = every-flat (Near (c .k) x) (turns c x) (every-imp (GoodTurn (c .k) x) (turns c x) turns-good (λ t g. g .0))
+  steps-once = every-flat (Once (c .k) x) (turns c x) (every-imp (GoodTurn (c .k) x) (turns c x) turns-good (λ t g. g .0))
 
   mode-adds-up : (m : Mode) → Every (λ b. blockTotal b ≡ due m (enabled m c x)) (blocks m c x)
-  mode-adds-up probabilistic = (block-total (c .k) none x (steps c x) steps-near ∙ steps-units, tt)
+  mode-adds-up probabilistic = (block-total (c .k) none x (steps c x) steps-once ∙ steps-units, tt)
   mode-adds-up nondeterministic = every-map (λ b. blockTotal b ≡ unit) _ (choices c x)
       (every-imp _ (choices c x) all-good (λ q g. block-total (c .k) (some (q .place)) x (oneOf (q .turns)) (g .1 .0) ∙ g .1 .1))
 

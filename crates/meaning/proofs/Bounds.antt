@@ -13,7 +13,7 @@ use Rattle.meaning.specs.Sums.{gate, sum}
 use Rattle.meaning.specs.Seats.{Seating, ValidSeating, counts}
 use Rattle.meaning.specs.Reduced.{noOf}
 use Rattle.meaning.specs.Panel.{panel}
-use Rattle.meaning.specs.ByCounts.{heldOr, able, unitsTo, stayOf, moveOf, allAble, allStay, allMove, countEnabled, countPanel}
+use Rattle.meaning.specs.ByCounts.{heldOr, able, unitsTo, stayOf, moveOf, allAble, allStay, allMove, countTaken, orOne, countEnabled, countPanel}
 use Rattle.meaning.proofs.Sums.{gate-le, sum-mono, sum-times}
 use Rattle.meaning.proofs.Counting.{count-le, no-count}
 use Rattle.meaning.proofs.Panel.{panel-by-counts}
@@ -80,10 +80,19 @@ module _ (n : ℕ) (v : List ℕ) (few : Few n v) where
   some-able-le h [] = omega arith
   some-able-le h (s ∷ l) = rw (mul-suc n (length l)) (omega (arith, gate-le (ltb 0 (able n v s)) 1, some-able-le h l))
 
-  pub enabled-le : 1 ≤ n → (m : Mode) (l : List Statement) → countEnabled m n v l ≤ n * length l
+  taken-le : 1 ≤ n → (m : Mode) (l : List Statement) → countTaken m n v l ≤ n * length l
+  unfolding countTaken
+  taken-le h probabilistic l = all-able-le l
+  taken-le h nondeterministic l = some-able-le h l
+
+  -- the stuck step is no more than one seat and one statement
+  pub enabled-le : 1 ≤ n → (m : Mode) (l : List Statement) → 1 ≤ length l → countEnabled m n v l ≤ n * length l
   unfolding countEnabled
-  enabled-le h probabilistic l = all-able-le l
-  enabled-le h nondeterministic l = some-able-le h l
+  enabled-le h m l some = go (countTaken m n v l) (taken-le h m l)
+    where
+      go : (t : ℕ) → t ≤ n * length l → orOne t ≤ n * length l
+      go zero e = mul-le-mul h some
+      go (suc t) e = e
 
 -- ---- of the panel of a valid card
 
@@ -91,7 +100,7 @@ module _ (c : Card) (valid : ValidCard c) (x : Seating) (ok : ValidSeating c x) 
   pub panel-enabled-le : panel c x .enabled ≤ c .n * length (c .statements)
   unfolding countPanel
   panel-enabled-le = rw (panel-by-counts c x ok)
-      (enabled-le (c .n) (counts (c .k) x) (λ d. rw (← ok .seats) (counts-few (c .k) x (ok .states) d)) (valid .seats) (c .mode) (c .statements))
+      (enabled-le (c .n) (counts (c .k) x) (λ d. rw (← ok .seats) (counts-few (c .k) x (ok .states) d)) (valid .seats) (c .mode) (c .statements) (valid .some .0))
 
   pub panel-enabled-most : panel c x .enabled ≤ mostSeats * mostStatements
   panel-enabled-most = le-trans panel-enabled-le (mul-le-mul (valid .seats-most) (valid .some .1))

@@ -1,24 +1,32 @@
 -- Demand 3. A turn of the seats read by counts is a reduced turn (Turns). On a probabilistic card as many seats may take a statement as
--- copies of it hold; on a nondeterministic card some seat may exactly where the one copy holds. Assumes nothing.
+-- copies of it hold; on a nondeterministic card some seat may exactly where the one copy holds. So nothing can be taken by seats exactly where
+-- nothing can be by counts, and the stuck step is the same. Assumes nothing.
 use Prim.Native.Nat.{ℕ, suc, _*_, _≤_, _<_}
 use mathlib.Core.Path.{_≡_, refl, sym, ap, _∙_}
-use mathlib.Core.Bool.{Bool, true, _&&_, and-eq-true-iff}
-use mathlib.Core.List.{List, [], _∷_, map}
+use mathlib.Core.Logic.{_↔_}
+use mathlib.Core.Bool.{Bool, true, false, _&&_, and-eq-true-iff, true≢false}
+use mathlib.Core.List.{List, [], _∷_, _++_, map}
+use native.Mathlib.Omega.{arith}
 use borrow.Author.Tests.{ltb-true, lt-ltb, eq-eqb}
 use lib.Dec.{ltb}
 use lib.ListN.{length, replicate}
-use Rattle.card.specs.Text.{same}
+use Rattle.card.specs.Text.{same, if_then_else_}
 use Rattle.card.specs.Card.{Mode, nondeterministic, probabilistic, Statement, Card}
-use Rattle.meaning.specs.Sums.{gate, sum, upto, those, flat}
+use Rattle.card.specs.Valid.{Every}
+use Rattle.meaning.specs.Sums.{gate, sum, upto, flat}
 use Rattle.meaning.specs.Steps.{Step, Turn, weight}
-use Rattle.meaning.specs.Seats.{Seating, ValidSeating, state, count, counts, mayTake, choices, turns, steps}
-use Rattle.meaning.specs.Reduced.{noOf, Reduced, copy, copies, reduce, canTake, reducedTurn, reducedTurns, reducedSteps}
+use Rattle.meaning.specs.Choices.{Choice, choice, choicesOf, stay, turnsIn}
+use Rattle.meaning.specs.Offers.{OneForOne, SameChoice, Offers}
+use Rattle.meaning.specs.Seats.{Seating, ValidSeating, state, count, counts, mayTake, turnsBy, choicesFrom, choices, turns, steps, Stuck}
+use Rattle.meaning.specs.Reduced.{noOf, Reduced, copy, copies, reduce, canTake, reducedTurn, reducedTurnsBy, reducedChoices, reducedTurns, reducedSteps, StuckAt}
 use Rattle.meaning.specs.ByCounts.{heldOr, able}
-use Rattle.meaning.specs.Demand.{byCounts, into, Matches, MatchAll, Agrees}
-use Rattle.meaning.proofs.Sums.{gate-and, gate-out, sum-cong, sum-flat, sum-those, sum-map, sum-upto, below-cong, below-first, upto-cong}
+use Rattle.meaning.specs.Demand.{byCounts, into, Matches, Agrees}
+use Rattle.meaning.proofs.Sums.{gate-and, gate-out, sum-cong, sum-flat, sum-map, sum-upto, below-cong, below-first, upto-cong, every-imp}
+use Rattle.meaning.proofs.Choices.{Some, choices-some, choices-sum, both-none, stuck-too}
 use Rattle.meaning.proofs.Counting.{Within, count-le, count-replicate, no-count, present, find}
 use Rattle.meaning.proofs.Table.{test-held}
-use Rattle.meaning.proofs.Turns.{held, may-take, takes, turn-by-counts, turns-sum, choices-sum}
+use Rattle.meaning.proofs.Turns.{held, may-take, takes, turn-by-counts, turns-sum, Taker, takers}
+use Rattle.meaning.proofs.Stuck.{no-taker, nothing-taken, stuck-step, none-taken-at, stuck-step-at}
 
 -- ---- the reduced program, at any counts
 
@@ -47,19 +55,27 @@ copies-sum F n s v h =
     e : ℕ
     e = F (reducedTurn v (copy n s 0))
 
--- a sum over the turns of the whole program
+-- over the one turn of a statement, if it can be taken
+turn-sum : (F : Turn (List ℕ) → ℕ) (v : List ℕ) (r : Reduced) → sum F (reducedTurnsBy v r) ≡ gate (canTake v r) (F (reducedTurn v r))
+unfolding reducedTurnsBy
+turn-sum F v r = go (canTake v r)
+  where
+    go : (b : Bool) → sum F (if b then reducedTurn v r ∷ [] else []) ≡ gate b (F (reducedTurn v r))
+    go true = omega arith
+    go false = refl
+
+-- over the turns of the whole program
 program-sum : (F : Turn (List ℕ) → ℕ) (n : ℕ) (l : List Statement) (v : List ℕ) → ((j : ℕ) → noOf v j ≤ n)
-    → sum F (map (reducedTurn v) (those (canTake v) (flat (map (copies probabilistic n) l)))) ≡ sum (λ s. able n v s * F (reducedTurn v (copy n s 0))) l
+    → sum F (turnsIn (choicesOf (reducedTurnsBy v) 1 (flat (map (copies probabilistic n) l)))) ≡ sum (λ s. able n v s * F (reducedTurn v (copy n s 0))) l
 program-sum F n l v h =
-    let all = flat (map (copies probabilistic n) l) in
     let g : Reduced → ℕ = λ r. gate (canTake v r) (F (reducedTurn v r)) in
-    sum-map F (reducedTurn v) (those (canTake v) all)
-    ∙ sum-those (λ r. F (reducedTurn v r)) (canTake v) all
+    choices-sum (reducedTurnsBy v) F 1 (flat (map (copies probabilistic n) l))
+    ∙ sum-cong (flat (map (copies probabilistic n) l)) (turn-sum F v)
     ∙ sum-flat g (map (copies probabilistic n) l)
     ∙ sum-map (sum g) (copies probabilistic n) l
     ∙ sum-cong l (λ s. copies-sum F n s v (h (s .own)))
 
--- ---- the seats
+-- ---- the seats of a probabilistic card
 
 module _ (c : Card) (x : Seating) (ok : ValidSeating c x) where
   few : (j : ℕ) → noOf (counts (c .k) x) j ≤ c .n
@@ -67,26 +83,11 @@ module _ (c : Card) (x : Seating) (ok : ValidSeating c x) where
 
   -- anything summed over the turns, seen in the counts
   turns-by-counts : (F : Turn (List ℕ) → ℕ)
-      → sum (λ t. F (byCounts (c .k) t)) (turns c x) ≡ sum (λ s. able (c .n) (counts (c .k) x) s * F (reducedTurn (counts (c .k) x) (copy (c .n) s 0))) (c .statements)
-  unfolding turns choices
+      → sum (λ t. F (byCounts (c .k) t)) (turnsIn (choicesFrom 1 (c .statements) x))
+      ≡ sum (λ s. able (c .n) (counts (c .k) x) s * F (reducedTurn (counts (c .k) x) (copy (c .n) s 0))) (c .statements)
   turns-by-counts F =
-      choices-sum (λ t. F (byCounts (c .k) t)) 1 (c .statements) x
+      choices-sum (λ s. turnsBy s x) (λ t. F (byCounts (c .k) t)) 1 (c .statements)
       ∙ rw (← ok .seats) (sum-cong (c .statements) (λ s. turns-sum (c .k) x (ok .states) s _ _ (λ i l e. ap F (turn-by-counts (c .k) x (ok .states) s i l e 0))))
-
-  -- on a probabilistic card the turns are the reduced program's, for anything that is summed over them
-  pub turns-agree : c .mode ≡ probabilistic → (F : Turn (List ℕ) → ℕ)
-      → sum (λ t. F (byCounts (c .k) t)) (turns c x) ≡ sum F (reducedTurns (reduce c) (counts (c .k) x))
-  unfolding reducedTurns reduce
-  turns-agree e F = turns-by-counts F ∙ rw e (sym (program-sum F (c .n) (c .statements) (counts (c .k) x) few))
-
-  probabilistic-card : c .mode ≡ probabilistic → Agrees probabilistic c x
-  unfolding steps reducedSteps weight
-  probabilistic-card e u =
-      sum-map (λ (s : Step (List ℕ)). gate (same (s .next) u) (s .units)) _ (flat (turns c x))
-      ∙ sum-flat _ (turns c x)
-      ∙ sum-cong (turns c x) (λ t. sym (sum-map (λ (s : Step (List ℕ)). gate (same (s .next) u) (s .units)) _ t))
-      ∙ turns-agree e (into u)
-      ∙ sym (sum-flat _ (reducedTurns (reduce c) (counts (c .k) x)))
 
 -- ---- one statement, and its one copy
 
@@ -103,21 +104,103 @@ module _ (k : ℕ) (x : Seating) (w : Within k x) (s : Statement) where
       (i, l, may-take k x w s i l ∙ rw (eq-eqb (state x i) (s .own) p) (b .1))
 
   matches : Matches k x s (copy (length x) s 0)
-  matches = record { taken = (to, from); weighs = λ i l e u. ap (into u) (turn-by-counts k x w s i l (takes k x w s i l e .0) 0) }
+  matches = record { taken = (to, from); steps = λ i l e. turn-by-counts k x w s i l (takes k x w s i l e .0) 0 }
 
-match-all : (k : ℕ) (x : Seating) → Within k x → (l : List Statement) → MatchAll k x l (flat (map (copies nondeterministic (length x)) l))
-match-all k x w [] = tt
-match-all k x w (s ∷ l) = (matches k x w s, match-all k x w l)
+module _ (k : ℕ) (x : Seating) (w : Within k x) where
+  abbrev v : List ℕ
+  v = counts k x
+
+  match-all : (l : List Statement) → OneForOne (Matches k x) l (flat (map (copies nondeterministic (length x)) l))
+  match-all [] = tt
+  match-all (s ∷ l) = (matches k x w s, match-all l)
+
+  -- the choices by seats and by counts, without the stuck one
+  same-choices : (q : ℕ) (l : List Statement)
+      → OneForOne (SameChoice (counts k)) (choicesFrom q l x) (choicesOf (reducedTurnsBy v) q (flat (map (copies nondeterministic (length x)) l)))
+  unfolding choicesOf reducedTurnsBy
+  same-choices q [] = tt
+  same-choices q (s ∷ l) = go (turnsBy s x) (canTake v (copy (length x) s 0)) refl refl (takers s x) (same-choices (suc q) l)
+    where
+      rest : List Reduced
+      rest = flat (map (copies nondeterministic (length x)) l)
+
+      go : (m : List (Turn Seating)) (b : Bool) → turnsBy s x ≡ m → canTake v (copy (length x) s 0) ≡ b → Every (Taker s x) m
+          → OneForOne (SameChoice (counts k)) (choicesFrom (suc q) l x) (choicesOf (reducedTurnsBy v) (suc q) rest)
+          → OneForOne (SameChoice (counts k)) (choice q m ++ choicesFrom (suc q) l x)
+          (choice q (if b then reducedTurn v (copy (length x) s 0) ∷ [] else []) ++ choicesOf (reducedTurnsBy v) (suc q) rest)
+      go [] true p e h r = let (i, l, may) = matches k x w s .taken .1 e in absurd (true≢false (sym may ∙ no-taker s x p i l))
+      go [] false p e h r = r
+      go (t ∷ m) true p e h r = (
+        record {
+          place = refl;
+          turn = reducedTurn v (copy (length x) s 0);
+          only = refl;
+          some = omega arith;
+          each = every-imp (Taker s x) (t ∷ m) h (λ u y. let (i, l, may, is) = y in rw is (matches k x w s .steps i l may));
+        },
+        r,
+      )
+      go (t ∷ m) false p e h r = let (i, l, may, is) = h .0 in absurd (true≢false (sym (matches k x w s .taken .0 (i, l, may)) ∙ e))
+
+-- ---- either card
+
+module _ (c : Card) (x : Seating) (ok : ValidSeating c x) where
+  abbrev bySeats : List (Choice Seating)
+  bySeats = choicesFrom 1 (c .statements) x
+
+  abbrev atCounts : List (Choice (List ℕ))
+  atCounts = choicesOf (reducedTurnsBy (counts (c .k) x)) 1 (reduce c .statements)
+
+  -- without the stuck choice
+  taken-offers : (m : Mode) → c .mode ≡ m → Offers m (counts (c .k)) bySeats atCounts
+  unfolding reduce
+  taken-offers probabilistic e = λ F. turns-by-counts c x ok F ∙ rw e (sym (program-sum F (c .n) (c .statements) (counts (c .k) x) (few c x ok)))
+  taken-offers nondeterministic e = rw (e, ← ok .seats) (same-choices (c .k) x (ok .states) 1 (c .statements))
+
+  some-seats : Every Some bySeats
+  some-seats = choices-some (λ s. turnsBy s x) 1 (c .statements)
+
+  some-counts : Every Some atCounts
+  some-counts = choices-some (reducedTurnsBy (counts (c .k) x)) 1 (reduce c .statements)
+
+  -- the seats and their counts offer the same
+  pub offers : Offers (c .mode) (counts (c .k)) (choices c x) (reducedChoices (reduce c) (counts (c .k) x))
+  unfolding choices reducedChoices
+  offers = stuck-too (counts (c .k)) (c .mode) x bySeats atCounts some-seats some-counts (taken-offers (c .mode) refl)
+
+  -- a seating is stuck exactly where its counts are
+  pub stuck-alike : Stuck c x ↔ StuckAt (reduce c) (counts (c .k) x)
+  stuck-alike =
+      let both = both-none (counts (c .k)) (c .mode) bySeats atCounts some-seats some-counts (taken-offers (c .mode) refl) in
+      let at-counts = none-taken-at (reduce c) (counts (c .k) x) in
+      (λ h. at-counts .1 (both .0 (nothing-taken c x .0 h)), λ h. nothing-taken c x .1 (both .1 (at-counts .0 h)))
+
+  -- and then there is one step on either side
+  pub stuck-steps : Stuck c x → (steps c x ≡ stay x) × (reducedSteps (reduce c) (counts (c .k) x) ≡ stay (counts (c .k) x))
+  stuck-steps h = (stuck-step c x h, stuck-step-at (reduce c) (counts (c .k) x) (stuck-alike .0 h))
 
 -- ---- the demand
 
-pub demand : (c : Card) (x : Seating) → ValidSeating c x → Agrees (c .mode) c x
-unfolding reduce
-demand c x ok = go (c .mode) refl
-  where
-    go : (m : Mode) → c .mode ≡ m → Agrees m c x
-    go probabilistic e = probabilistic-card c x ok e
-    go nondeterministic e = rw (e, ← ok .seats) (match-all (c .k) x (ok .states) (c .statements))
+module _ (c : Card) (x : Seating) (ok : ValidSeating c x) where
+  into-alike : Offers probabilistic (counts (c .k)) (choices c x) (reducedChoices (reduce c) (counts (c .k) x)) → Agrees probabilistic c x
+  unfolding steps turns reducedSteps reducedTurns weight
+  into-alike o u =
+      sum-map (λ (s : Step (List ℕ)). gate (same (s .next) u) (s .units)) _ (flat (turns c x))
+      ∙ sum-flat _ (turns c x)
+      ∙ sum-cong (turns c x) (λ t. sym (sum-map (λ (s : Step (List ℕ)). gate (same (s .next) u) (s .units)) _ t))
+      ∙ o (into u)
+      ∙ sym (sum-flat _ (reducedTurns (reduce c) (counts (c .k) x)))
+
+  statements-match : c .mode ≡ nondeterministic → OneForOne (Matches (c .k) x) (c .statements) (reduce c .statements)
+  unfolding reduce
+  statements-match e = rw (e, ← ok .seats) (match-all (c .k) x (ok .states) (c .statements))
+
+  pub demand : Agrees (c .mode) c x
+  demand = go (c .mode) refl (offers c x ok)
+    where
+      go : (m : Mode) → c .mode ≡ m → Offers m (counts (c .k)) (choices c x) (reducedChoices (reduce c) (counts (c .k) x)) → Agrees m c x
+      go probabilistic e o = into-alike o
+      go nondeterministic e o = (statements-match e, o)
 
 -- the reduced program starts at the counts of all seats in state l
 pub starts : (c : Card) → reduce c .start ≡ counts (c .k) (replicate (c .n) (c .l))

@@ -29,7 +29,18 @@ pub record CardA : Type 0 where
   pub alone : Into (0 ∷ 1 ∷ 1 ∷ []) (0 ∷ 3 ∷ 0 ∷ []) 0
   pub pairs : Enabled probabilistic (0 ∷ 0 ∷ 1 ∷ []) 3
   pub statements : Enabled nondeterministic (0 ∷ 0 ∷ 1 ∷ []) 2
+  -- nothing can be taken: one step, which changes nothing
+  pub stuck-stays : Into (0 ∷ 1 ∷ 2 ∷ []) (1 ∷ 1 ∷ 1 ∷ []) unit
+  pub stuck : Enabled probabilistic (0 ∷ 1 ∷ 2 ∷ []) 1 × Enabled nondeterministic (0 ∷ 1 ∷ 2 ∷ []) 1
 
 pub card-a : CardA
 unfolding weight steps reducedSteps reduce counts panel countPanel cardA
-card-a = record { two-movers = (refl, refl); stays = (refl, refl); alone = (refl, refl); pairs = (refl, refl); statements = (refl, refl) }
+card-a = record {
+  two-movers = (refl, refl);
+  stays = (refl, refl);
+  alone = (refl, refl);
+  pairs = (refl, refl);
+  statements = (refl, refl);
+  stuck-stays = (refl, refl);
+  stuck = ((refl, refl), (refl, refl));
+}

@@ -1,13 +1,15 @@
 pub mod Sums
 pub mod Vectors
+pub mod Choices
 pub mod Counting
 pub mod Table
 pub mod Turns
+pub mod Stuck
+pub mod Total
 pub mod Demand
 pub mod Panel
 pub mod AddUp
 pub mod Bounds
 pub mod Reorder
-pub mod Stuck
 pub mod Examples
 pub mod Within

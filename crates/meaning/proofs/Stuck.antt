@@ -1,5 +1,5 @@
--- Where no seat may take any statement, and only there, nothing can happen: a statement without takers has no turn, and one with takers has
--- one. Assumes nothing.
+-- Where no seat may take any statement, and only there, the one choice is the stuck one, at place 0: a statement without takers has no turn, and
+-- one with takers has one. By counts the same, with reduced statements. Assumes nothing.
 use Prim.Native.Nat.{ℕ, zero, suc, _<_}
 use mathlib.Core.Path.{_≡_, refl, sym, _∙_}
 use mathlib.Core.Logic.{_↔_}
@@ -12,7 +12,11 @@ use Rattle.card.specs.Valid.{Every}
 use Rattle.card.specs.Card.{Statement, Card}
 use Rattle.meaning.specs.Sums.{upto, those}
 use Rattle.meaning.specs.Steps.{Turn}
-use Rattle.meaning.specs.Seats.{Seating, mayTake, turn, turnsBy, choice, choicesFrom, choices, turns, steps, Stuck}
+use Rattle.meaning.specs.Choices.{choicesOf, stay, stuckChoices}
+use Rattle.meaning.specs.Seats.{Seating, mayTake, turn, turnsBy, choicesFrom, choices, turns, steps, Stuck}
+use Rattle.meaning.specs.Reduced.{Reduced, Program, canTake, reducedTurn, reducedTurnsBy, reducedChoices, reducedTurns, reducedSteps, StuckAt}
+use Rattle.meaning.proofs.Sums.{every-imp}
+use Rattle.meaning.proofs.Choices.{choices-placed, choices-none, none-chosen, or-stay, or-taken, stuck-only}
 use Rattle.meaning.proofs.Turns.{Taker, takers}
 
 -- ---- one statement
@@ -35,7 +39,7 @@ map-none : {A B : Type 0} (f : A → B) (l : List A) → map f l ≡ [] → l �
 map-none f [] e = refl
 map-none f (a ∷ l) e = absurd (cons≢nil e)
 
-no-taker : (s : Statement) (x : Seating) → turnsBy s x ≡ [] → (i : ℕ) → i < length x → mayTake s x i ≡ false
+pub no-taker : (s : Statement) (x : Seating) → turnsBy s x ≡ [] → (i : ℕ) → i < length x → mayTake s x i ≡ false
 unfolding turnsBy
 no-taker s x e = none-below (mayTake s x) (length x) (λ i. i) (map-none (turn s x) _ e)
 
@@ -48,26 +52,65 @@ no-turn s x h = go (turnsBy s x) (takers s x)
 
 -- ---- all statements
 
-to : (q : ℕ) (l : List Statement) (x : Seating) → Every (λ s. (i : ℕ) → i < length x → mayTake s x i ≡ false) l → choicesFrom q l x ≡ []
-unfolding choicesFrom
-to q [] x h = refl
-to q (s ∷ l) x h = rw (no-turn s x (h .0)) (to (suc q) l x (h .1))
+module _ (x : Seating) where
+  to : (l : List Statement) → Every (λ s. (i : ℕ) → i < length x → mayTake s x i ≡ false) l → Every (λ s. turnsBy s x ≡ []) l
+  to l h = every-imp _ l h (λ s. no-turn s x)
 
-from : (q : ℕ) (l : List Statement) (x : Seating) → choicesFrom q l x ≡ [] → Every (λ s. (i : ℕ) → i < length x → mayTake s x i ≡ false) l
-unfolding choicesFrom
-from q [] x e = tt
-from q (s ∷ l) x e = go (turnsBy s x) refl e (from (suc q) l x)
+  from : (l : List Statement) → Every (λ s. turnsBy s x ≡ []) l → Every (λ s. (i : ℕ) → i < length x → mayTake s x i ≡ false) l
+  from l h = every-imp _ l h (λ s. no-taker s x)
+
+module _ (c : Card) (x : Seating) where
+  pub nothing-taken : Stuck c x ↔ (choicesFrom 1 (c .statements) x ≡ [])
+  nothing-taken = (
+    λ h. choices-none (λ s. turnsBy s x) 1 (c .statements) (to x (c .statements) h),
+    λ e. from x (c .statements) (none-chosen (λ s. turnsBy s x) 1 (c .statements) e),
+  )
+
+  -- the stuck choice is there exactly where the seating is stuck
+  pub stuck : Stuck c x ↔ (choices c x ≡ stuckChoices x)
+  unfolding choices
+  stuck = (
+    λ h. or-stay x (nothing-taken .0 h),
+    λ e. nothing-taken .1 (stuck-only x (choicesFrom 1 (c .statements) x) (choices-placed (λ s. turnsBy s x) (c .statements)) e),
+  )
+
+  -- elsewhere the choices are the statements that can be taken
+  pub moving : (Stuck c x → ⊥) → choices c x ≡ choicesFrom 1 (c .statements) x
+  unfolding choices
+  moving h = or-taken x (choicesFrom 1 (c .statements) x) (λ e. h (nothing-taken .1 e))
+
+  pub stuck-step : Stuck c x → steps c x ≡ stay x
+  unfolding steps turns
+  stuck-step h = rw (stuck .0 h)
+
+-- ---- by counts
+
+no-copy : (v : List ℕ) (r : Reduced) → (canTake v r ≡ false) ↔ (reducedTurnsBy v r ≡ [])
+unfolding reducedTurnsBy
+no-copy v r = go (canTake v r)
   where
-    go : (m : List (Turn Seating)) → turnsBy s x ≡ m → choice q m ++ choicesFrom (suc q) l x ≡ []
-        → (choicesFrom (suc q) l x ≡ [] → Every (λ s. (i : ℕ) → i < length x → mayTake s x i ≡ false) l)
-        → Every (λ s. (i : ℕ) → i < length x → mayTake s x i ≡ false) (s ∷ l)
-    go [] p e h = (no-taker s x p, h e)
-    go (t ∷ m) p e h = absurd (cons≢nil e)
+    go : (b : Bool) → (b ≡ false) ↔ ((if b then reducedTurn v r ∷ [] else []) ≡ [])
+    go true = (λ e. absurd (true≢false e), λ e. absurd (cons≢nil e))
+    go false = (λ e. refl, λ e. refl)
 
-pub stuck : (c : Card) (x : Seating) → Stuck c x ↔ (choices c x ≡ [])
-unfolding choices
-stuck c x = (to 1 (c .statements) x, from 1 (c .statements) x)
+module _ (p : Program) (v : List ℕ) where
+  pub none-taken-at : StuckAt p v ↔ (choicesOf (reducedTurnsBy v) 1 (p .statements) ≡ [])
+  none-taken-at = (
+    λ h. choices-none (reducedTurnsBy v) 1 (p .statements) (every-imp _ (p .statements) h (λ r. no-copy v r .0)),
+    λ e. every-imp _ (p .statements) (none-chosen (reducedTurnsBy v) 1 (p .statements) e) (λ r. no-copy v r .1),
+  )
 
-pub no-step : (c : Card) (x : Seating) → Stuck c x → steps c x ≡ []
-unfolding steps turns
-no-step c x h = rw (stuck c x .0 h)
+  pub stuck-at : StuckAt p v ↔ (reducedChoices p v ≡ stuckChoices v)
+  unfolding reducedChoices
+  stuck-at = (
+    λ h. or-stay v (none-taken-at .0 h),
+    λ e. none-taken-at .1 (stuck-only v (choicesOf (reducedTurnsBy v) 1 (p .statements)) (choices-placed (reducedTurnsBy v) (p .statements)) e),
+  )
+
+  pub moving-at : (StuckAt p v → ⊥) → reducedChoices p v ≡ choicesOf (reducedTurnsBy v) 1 (p .statements)
+  unfolding reducedChoices
+  moving-at h = or-taken v (choicesOf (reducedTurnsBy v) 1 (p .statements)) (λ e. h (none-taken-at .1 e))
+
+  pub stuck-step-at : StuckAt p v → reducedSteps p v ≡ stay v
+  unfolding reducedSteps reducedTurns
+  stuck-step-at h = rw (stuck-at .0 h)

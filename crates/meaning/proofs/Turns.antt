@@ -1,25 +1,23 @@
 -- The seats' turns by counts. A seat in a statement's local state may take it exactly where its guard is held at the counts, and its turn,
 -- read by counts, is the reduced statement's. So anything summed over the turns of the seats is how many they are times that of one.
 -- Assumes nothing.
-use Prim.Native.Nat.{ℕ, suc, _+_, _*_, _<_}
+use Prim.Native.Nat.{ℕ, _*_, _<_}
 use mathlib.Core.Path.{_≡_, refl, sym, ap, _∙_}
 use mathlib.Core.Bool.{Bool, true, false, _&&_, and-eq-true-iff}
-use mathlib.Core.List.{List, [], _∷_, _++_, map}
-use native.Mathlib.Nat.{zero-add}
 use native.Mathlib.Omega.{arith}
 use borrow.Author.Tests.{eqb-true}
 use lib.Dec.{eqb}
 use lib.ListN.{length}
 use Rattle.card.specs.Valid.{Every}
 use Rattle.card.specs.Card.{Statement}
-use Rattle.meaning.specs.Sums.{gate, sum, upto, those, flat}
+use Rattle.meaning.specs.Sums.{gate, sum, upto, those}
 use Rattle.meaning.specs.Formulas.{valueOr}
 use Rattle.meaning.specs.Steps.{Step, Turn}
-use Rattle.meaning.specs.Seats.{Seating, state, count, counts, holds, mayTake, turn, turnsBy, Choice, choice, choicesFrom}
+use Rattle.meaning.specs.Seats.{Seating, state, count, counts, holds, mayTake, turn, turnsBy}
 use Rattle.meaning.specs.Reduced.{Outcome, updated, copy, reducedTurn}
 use Rattle.meaning.specs.Demand.{byCounts}
 use Rattle.meaning.specs.ByCounts.{heldOr, able}
-use Rattle.meaning.proofs.Sums.{gate-and, gate-out, sum-append, sum-those, sum-one, sum-map, map-map, map-cong, every-imp, every-those, every-map, every-upto, sum-upto, below-cong}
+use Rattle.meaning.proofs.Sums.{gate-and, gate-out, sum-those, sum-one, sum-map, map-map, map-cong, every-imp, every-those, every-map, every-upto, sum-upto, below-cong}
 use Rattle.meaning.proofs.Counting.{Within, no-count, over-seats, moved-counts}
 use Rattle.meaning.proofs.Table.{guard-right}
 
@@ -87,17 +85,3 @@ takers s x =
     (every-imp _ (those (mayTake s x) (upto (length x) (λ i. i)))
     (every-those (λ i. i < length x) (mayTake s x) (upto (length x) (λ i. i)) (every-upto (λ i. i < length x) (length x) (λ i. i) (λ i l. l)))
     (λ i p. (i, p .0, p .1, refl)))
-
--- ---- all statements
-
--- a sum over the turns of all choices
-pub choices-sum : (f : Turn Seating → ℕ) (q : ℕ) (l : List Statement) (x : Seating)
-    → sum f (flat (map (λ (c : Choice). c .turns) (choicesFrom q l x))) ≡ sum (λ s. sum f (turnsBy s x)) l
-unfolding choicesFrom
-choices-sum f q [] x = refl
-choices-sum f q (s ∷ l) x = go (turnsBy s x) (choices-sum f (suc q) l x)
-  where
-    go : (m : List (Turn Seating)) → sum f (flat (map (λ (c : Choice). c .turns) (choicesFrom (suc q) l x))) ≡ sum (λ s. sum f (turnsBy s x)) l
-        → sum f (flat (map (λ (c : Choice). c .turns) (choice q m ++ choicesFrom (suc q) l x))) ≡ sum f m + sum (λ s. sum f (turnsBy s x)) l
-    go [] h = rw zero-add h
-    go (t ∷ m) h = sum-append f (t ∷ m) _ ∙ ap (λ (r : ℕ). sum f (t ∷ m) + r) h

@@ -1,4 +1,5 @@
--- A reduced program keeps its counters between 0 and their most: a lowered counter only falls, and a raised one is cut at n.
+-- A reduced program keeps its counters between 0 and their most: a lowered counter only falls, a raised one is cut at n, and a stuck step
+-- changes none.
 use Prim.Native.Nat.{ℕ, zero, suc, _+_, _-_, _≤_, min}
 use mathlib.Core.Path.{_≡_}
 use mathlib.Core.Bool.{Bool, true, false}
@@ -9,10 +10,12 @@ use lib.ListN.{set}
 use Rattle.card.specs.Text.{if_then_else_}
 use Rattle.card.specs.Card.{Mode, nondeterministic, probabilistic, Branch, Statement, Card}
 use Rattle.card.specs.Valid.{Every}
-use Rattle.meaning.specs.Sums.{those, flat}
+use Rattle.meaning.specs.Sums.{flat}
 use Rattle.meaning.specs.Steps.{Step}
-use Rattle.meaning.specs.Reduced.{keep, shift, updateOf, Outcome, Reduced, copy, copies, reduce, noOf, raised, updated, canTake, reducedTurn, reducedTurns, reducedSteps}
-use Rattle.meaning.proofs.Sums.{every-flat, every-map, every-those, every-upto, every-imp}
+use Rattle.meaning.specs.Choices.{choicesOf, choicesAt, turnsIn}
+use Rattle.meaning.specs.Reduced.{keep, shift, updateOf, Outcome, Reduced, copy, copies, reduce, noOf, raised, updated, canTake, reducedTurn, reducedTurnsBy, reducedChoices, reducedTurns, reducedSteps}
+use Rattle.meaning.proofs.Sums.{every-flat, every-map, every-upto, every-imp}
+use Rattle.meaning.proofs.Choices.{choices-turns, or-stay-every}
 
 abbrev pub Few : ℕ → List ℕ → Type 0
 Few n v = Every (λ a. a ≤ n) v
@@ -63,10 +66,20 @@ all-few mode n l v w = every-flat (Steady n v) (map (copies mode n) l) (every-ma
     each [] = tt
     each (s ∷ l) = (copies-few mode n s v w, each l)
 
+-- the one turn, if any
+turns-few : (n : ℕ) (v : List ℕ) (r : Reduced) → Steady n v r → Every (Every (Next n)) (reducedTurnsBy v r)
+unfolding reducedTurnsBy
+turns-few n v r h = go (canTake v r)
+  where
+    go : (b : Bool) → Every (Every (Next n)) (if b then reducedTurn v r ∷ [] else [])
+    go true = (h, tt)
+    go false = tt
+
 pub stays-within : (c : Card) (v : List ℕ) → Few (c .n) v → Every (λ (s : Step (List ℕ)). Few (reduce c .most) (s .next)) (reducedSteps (reduce c) v)
-unfolding reduce reducedSteps reducedTurns
+unfolding reduce reducedSteps reducedTurns reducedChoices
 stays-within c v w =
     let program = flat (map (copies (c .mode) (c .n)) (c .statements)) in
-    let taken = every-those (Steady (c .n) v) (canTake v) program (all-few (c .mode) (c .n) (c .statements) v w) in
-    every-flat (Next (c .n)) (map (reducedTurn v) (those (canTake v) program))
-    (every-map (Every (Next (c .n))) (reducedTurn v) (those (canTake v) program) (every-imp _ (those (canTake v) program) taken λ r p. p .0))
+    let taken = every-imp (Steady (c .n) v) program (all-few (c .mode) (c .n) (c .statements) v w) (turns-few (c .n) v) in
+    every-flat (Next (c .n)) (turnsIn (choicesAt (reducedTurnsBy v) program v))
+    (or-stay-every v (Every (Next (c .n))) (choicesOf (reducedTurnsBy v) 1 program) (w, tt)
+    (choices-turns (reducedTurnsBy v) (Every (Next (c .n))) 1 program taken))

@@ -1,9 +1,10 @@
 -- The panel from the counts alone, as a program computes it. proofs/Panel.antt shows that it is the panel by seats. Assumes nothing.
-use Prim.Native.Nat.{ℕ, suc, _*_}
+use Prim.Native.Nat.{ℕ, zero, suc, _*_}
 use mathlib.Core.Bool.{Bool}
 use mathlib.Core.List.{List, [], _∷_, _++_}
 use mathlib.Core.Option.{Option, none, some}
 use lib.Dec.{eqb, ltb}
+use Rattle.card.specs.Limits.{unit}
 use Rattle.card.specs.Text.{if_then_else_}
 use Rattle.card.specs.Card.{Mode, nondeterministic, probabilistic, Guard, Branch, Statement, Card}
 use Rattle.meaning.specs.Sums.{gate, sum}
@@ -58,17 +59,48 @@ unfolding able block stayOf moveOf
 choiceBlocks n k v q [] = []
 choiceBlocks n k v q (s ∷ l) = (if ltb 0 (able n v s) then block k (some q) (stayOf s) (moveOf s) ∷ [] else []) ++ choiceBlocks n k v (suc q) l
 
+-- ---- what can be taken
+
+-- the blocks of what can be taken
+unfoldable pub takenBlocks : Mode → ℕ → ℕ → List ℕ → List Statement → List Block
+unfolding block allStay allMove choiceBlocks
+takenBlocks probabilistic n k v l = block k none (allStay n v l) (allMove n v l) ∷ []
+takenBlocks nondeterministic n k v l = choiceBlocks n k v 1 l
+
+-- how much: pairs of a seat and a statement, or statements
+unfoldable pub countTaken : Mode → ℕ → List ℕ → List Statement → ℕ
+unfolding allAble able
+countTaken probabilistic n v l = allAble n v l
+countTaken nondeterministic n v l = sum (λ s. gate (ltb 0 (able n v s)) 1) l
+
+-- ---- nothing can be taken: one step, which changes nothing
+
+-- so the number of steps is never 0
+abbrev pub orOne : ℕ → ℕ
+orOne zero = 1
+orOne (suc m) = suc m
+
+abbrev pub stuckPlace : Mode → Option ℕ
+stuckPlace probabilistic = none
+stuckPlace nondeterministic = some 0
+
+abbrev pub stuckBlock : Mode → Block
+stuckBlock m = record { choice = stuckPlace m; stay = unit; moves = [] }
+
+-- the blocks of so much that can be taken
+abbrev pub orStuck : Mode → ℕ → List Block → List Block
+orStuck m zero l = stuckBlock m ∷ []
+orStuck m (suc taken) l = l
+
 -- ---- the panel
 
 unfoldable pub countBlocks : Mode → ℕ → ℕ → List ℕ → List Statement → List Block
-unfolding block allStay allMove choiceBlocks
-countBlocks probabilistic n k v l = block k none (allStay n v l) (allMove n v l) ∷ []
-countBlocks nondeterministic n k v l = choiceBlocks n k v 1 l
+unfolding takenBlocks countTaken
+countBlocks m n k v l = orStuck m (countTaken m n v l) (takenBlocks m n k v l)
 
 unfoldable pub countEnabled : Mode → ℕ → List ℕ → List Statement → ℕ
-unfolding allAble able
-countEnabled probabilistic n v l = allAble n v l
-countEnabled nondeterministic n v l = sum (λ s. gate (ltb 0 (able n v s)) 1) l
+unfolding countTaken
+countEnabled m n v l = orOne (countTaken m n v l)
 
 unfoldable pub countPanel : Card → List ℕ → Panel
 unfolding countBlocks countEnabled

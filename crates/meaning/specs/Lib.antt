@@ -1,6 +1,8 @@
 pub mod Sums
 pub mod Formulas
 pub mod Steps
+pub mod Choices
+pub mod Offers
 pub mod Seats
 pub mod Reduced
 pub mod Demand

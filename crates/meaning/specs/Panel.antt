@@ -10,7 +10,8 @@ use Rattle.card.specs.Text.{same, if_then_else_}
 use Rattle.card.specs.Card.{Mode, nondeterministic, probabilistic, Card}
 use Rattle.meaning.specs.Sums.{sum, upto, flat}
 use Rattle.meaning.specs.Steps.{Turn, weight}
-use Rattle.meaning.specs.Seats.{Seating, counts, Choice, choices, turns, steps}
+use Rattle.meaning.specs.Choices.{Choice}
+use Rattle.meaning.specs.Seats.{Seating, counts, choices, turns, steps}
 
 -- move old new weight
 pub record Move : Type 0 where
@@ -18,7 +19,7 @@ pub record Move : Type 0 where
   pub new : ℕ
   pub weight : ℕ
 
--- the weight of no change (no line where it is 0) and the moves; on a nondeterministic card under the place of the statement taken
+-- the weight of no change (no line where it is 0) and the moves; on a nondeterministic card under the place of the statement taken, 0 where none can be
 pub record Block : Type 0 where
   pub choice : Option ℕ
   pub stay : ℕ
@@ -68,14 +69,14 @@ abbrev pub oneOf : List (Turn Seating) → Turn Seating
 oneOf [] = []
 oneOf (t ∷ l) = t
 
--- pairs of a seat and a statement; or statements that can be taken
+-- pairs of a seat and a statement that it may take; or statements that can be taken; or the stuck step
 abbrev pub enabled : Mode → Card → Seating → ℕ
 enabled probabilistic c x = length (turns c x)
 enabled nondeterministic c x = length (choices c x)
 
 abbrev pub blocks : Mode → Card → Seating → List Block
 blocks probabilistic c x = blockOf (c .k) none x (steps c x) ∷ []
-blocks nondeterministic c x = map (λ (q : Choice). blockOf (c .k) (some (q .place)) x (oneOf (q .turns))) (choices c x)
+blocks nondeterministic c x = map (λ (q : Choice Seating). blockOf (c .k) (some (q .place)) x (oneOf (q .turns))) (choices c x)
 
 unfoldable pub panel : Card → Seating → Panel
 unfolding counts steps blockOf

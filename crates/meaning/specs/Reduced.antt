@@ -1,5 +1,6 @@
 -- The reduced program, and what it means, by counts ("What a card means", second part). Assumes nothing.
 use Prim.Native.Nat.{ℕ, suc, _+_, _-_, min}
+use mathlib.Core.Path.{_≡_}
 use mathlib.Core.Bool.{Bool, true, false, _&&_}
 use mathlib.Core.List.{List, [], _∷_, map}
 use mathlib.Core.Option.{Option}
@@ -9,9 +10,11 @@ use Rattle.card.specs.Text.{if_then_else_}
 use Rattle.card.specs.Card.{Mode, nondeterministic, probabilistic, Kind, everyone, others, Sign, all, any, Relation, is, isnt}
 use Rattle.card.specs.Card.{Leaf, group, one, Formula, Guard, Branch, Statement, Card}
 use Rattle.card.specs.Formulas.{overOr}
-use Rattle.meaning.specs.Sums.{gate, upto, those, flat}
+use Rattle.card.specs.Valid.{Every}
+use Rattle.meaning.specs.Sums.{gate, upto, flat}
 use Rattle.meaning.specs.Formulas.{valueOr}
 use Rattle.meaning.specs.Steps.{Step, Turn}
+use Rattle.meaning.specs.Choices.{Choice, choicesOf, choicesAt, turnsIn}
 
 -- ---- the program
 
@@ -127,11 +130,24 @@ updated v (shift j t n) = set (set v j (noOf v j - 1)) t (raised n (noOf v t))
 unfoldable pub reducedTurn : List ℕ → Reduced → Turn (List ℕ)
 reducedTurn v r = map (λ (o : Outcome). record { units = o .units; next = updated v (o .update) }) (r .outcomes)
 
--- a turn for each reduced statement that can be taken
-unfoldable pub reducedTurns : Program → List ℕ → List (Turn (List ℕ))
+-- the one turn of a statement that can be taken
+unfoldable pub reducedTurnsBy : List ℕ → Reduced → List (Turn (List ℕ))
 unfolding canTake reducedTurn
-reducedTurns p v = map (reducedTurn v) (those (canTake v) (p .statements))
+reducedTurnsBy v r = if canTake v r then reducedTurn v r ∷ [] else []
+
+-- all that can happen at counts v, by place in the program
+unfoldable pub reducedChoices : Program → List ℕ → List (Choice (List ℕ))
+unfolding choicesOf reducedTurnsBy
+reducedChoices p v = choicesAt (reducedTurnsBy v) (p .statements) v
+
+unfoldable pub reducedTurns : Program → List ℕ → List (Turn (List ℕ))
+unfolding reducedChoices
+reducedTurns p v = turnsIn (reducedChoices p v)
 
 unfoldable pub reducedSteps : Program → List ℕ → List (Step (List ℕ))
 unfolding reducedTurns
 reducedSteps p v = flat (reducedTurns p v)
+
+-- no statement can be taken
+abbrev pub StuckAt : Program → List ℕ → Type 0
+StuckAt p v = Every (λ r. canTake v r ≡ false) (p .statements)

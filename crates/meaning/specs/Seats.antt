@@ -3,7 +3,7 @@
 use Prim.Native.Nat.{ℕ, zero, suc, _≤_, _<_}
 use mathlib.Core.Path.{_≡_}
 use mathlib.Core.Bool.{Bool, true, false, not, _&&_, _||_}
-use mathlib.Core.List.{List, [], _∷_, _++_, map}
+use mathlib.Core.List.{List, [], _∷_, map}
 use lib.Dec.{eqb}
 use lib.ListN.{length, getD, set}
 use Rattle.card.specs.Card.{Kind, everyone, others, Sign, all, any, Relation, is, isnt, Leaf, group, one, Branch, Statement, Card}
@@ -11,6 +11,7 @@ use Rattle.card.specs.Valid.{Every}
 use Rattle.meaning.specs.Sums.{gate, sum, upto, those, flat}
 use Rattle.meaning.specs.Formulas.{valueOr}
 use Rattle.meaning.specs.Steps.{Step, Turn}
+use Rattle.meaning.specs.Choices.{Choice, choicesOf, choicesAt, turnsIn}
 
 abbrev pub Seating : Type 0
 Seating = List ℕ
@@ -87,31 +88,19 @@ unfoldable pub turnsBy : Statement → Seating → List (Turn Seating)
 unfolding mayTake turn
 turnsBy s x = map (turn s x) (those (mayTake s x) (upto (length x) (λ i. i)))
 
--- a statement that can be taken: its place on the card, from 1, and the turns of the seats that may take it
-pub record Choice : Type 0 where
-  pub place : ℕ
-  pub turns : List (Turn Seating)
+-- the choices among the statements from place q of the card on
+abbrev pub choicesFrom : ℕ → List Statement → Seating → List (Choice Seating)
+choicesFrom q l x = choicesOf (λ s. turnsBy s x) q l
 
--- a statement that no seat may take is no choice
-abbrev pub choice : ℕ → List (Turn Seating) → List Choice
-choice q [] = []
-choice q (t ∷ l) = record { place = q; turns = t ∷ l } ∷ []
+-- all that can happen at a seating
+unfoldable pub choices : Card → Seating → List (Choice Seating)
+unfolding choicesOf turnsBy
+choices c x = choicesAt (λ s. turnsBy s x) (c .statements) x
 
--- the choices among the statements from place q on
-unfoldable pub choicesFrom : ℕ → List Statement → Seating → List Choice
-unfolding turnsBy
-choicesFrom q [] x = []
-choicesFrom q (s ∷ l) x = choice q (turnsBy s x) ++ choicesFrom (suc q) l x
-
--- all that can happen at a seating; nothing where no statement can be taken
-unfoldable pub choices : Card → Seating → List Choice
-unfolding choicesFrom
-choices c x = choicesFrom 1 (c .statements) x
-
--- a turn for each pair of a seat and a statement that it may take
+-- a turn for each pair of a seat and a statement that it may take, or the stuck one
 unfoldable pub turns : Card → Seating → List (Turn Seating)
 unfolding choices
-turns c x = flat (map (λ (q : Choice). q .turns) (choices c x))
+turns c x = turnsIn (choices c x)
 
 -- all their steps, in one list
 unfoldable pub steps : Card → Seating → List (Step Seating)

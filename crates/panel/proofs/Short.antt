@@ -20,7 +20,8 @@ use Rattle.phrases.proofs.Adds.{Adds, adds-then, adds-up, adds-none, adds-bytes
 use Rattle.meaning.specs.Sums.{gate, upto, flat}
 use Rattle.meaning.specs.Seats.{Seating, ValidSeating, count, counts}
 use Rattle.meaning.specs.Panel.{Move, moveLine, block}
-use Rattle.meaning.specs.ByCounts.{able, unitsTo, stayOf, moveOf, allAble, allStay, allMove, choiceBlocks, countBlocks, countEnabled, countPanel}
+use Rattle.meaning.specs.ByCounts.{able, unitsTo, stayOf, moveOf, allAble, allStay, allMove, choiceBlocks}
+use Rattle.meaning.specs.ByCounts.{takenBlocks, countTaken, stuckBlock, orStuck, countBlocks, countEnabled, countPanel}
 use Rattle.meaning.proofs.Sums.{every-upto, sumBelow, below-pick}
 use Rattle.meaning.proofs.Counting.{count-le, length-counts}
 use Rattle.meaning.proofs.Bounds.{Few, counts-few, units-le, stay-le, all-able-le, all-stay-le, all-move-le, enabled-le}
@@ -106,6 +107,12 @@ module _ (d k : ℕ) (h : k ≤ topState) where
 
 -- ---- blocks
 
+-- a choice's line, or none, and the unit
+adds-stuck : (m : Mode) → Adds choiceMost (blockText (stuckBlock m))
+unfolding blockText
+adds-stuck probabilistic = adds-up choiceMost (omega arith) (adds-stay 4 unit (omega arith))
+adds-stuck nondeterministic = adds-up choiceMost (omega arith) (adds-then (adds-line "choice" 0 (0 ∷ []) (omega arith, tt)) (adds-stay 4 unit (omega arith)))
+
 abbrev weightsMost : ℕ
 weightsMost = 1022
 
@@ -147,10 +154,18 @@ module _ (n k : ℕ) (h : k ≤ topState) where
         (adds-then (adds-stay 7 (allStay n v l) (omega (arith, all-stay-le n v few k l valid, all-few)))
         (adds-all 7 k h (allMove n v l) (λ a b. omega (arith, all-move-le n v few k l valid a b, all-few))))
 
+    adds-taken : (m : Mode) → Adds (mostStatements * choiceMost) (blocksText (takenBlocks m n k v l))
+    unfolding takenBlocks
+    adds-taken nondeterministic = adds-up (mostStatements * choiceMost) (omega arith) (adds-choices v 1 l valid (omega arith))
+    adds-taken probabilistic = adds-up (mostStatements * choiceMost) (omega arith) adds-weights
+
     adds-blocks : (m : Mode) → Adds (mostStatements * choiceMost) (blocksText (countBlocks m n k v l))
     unfolding countBlocks
-    adds-blocks nondeterministic = adds-up (mostStatements * choiceMost) (omega arith) (adds-choices v 1 l valid (omega arith))
-    adds-blocks probabilistic = adds-up (mostStatements * choiceMost) (omega arith) adds-weights
+    adds-blocks m = go (countTaken m n v l)
+      where
+        go : (t : ℕ) → Adds (mostStatements * choiceMost) (blocksText (orStuck m t (takenBlocks m n k v l)))
+        go zero = adds-up (mostStatements * choiceMost) (omega arith) (adds-stuck m)
+        go (suc t) = adds-taken m
 
 -- ---- the panel
 
@@ -166,7 +181,7 @@ module _ (c : Card) (valid : ValidCard c) (x : Seating) (ok : ValidSeating c x) 
   counts-digits = every-upto (Digits 1) (suc (c .k)) (λ d. count d x) (λ d l. omega (arith, count-le d x, ok .seats, valid .seats-most))
 
   enabled-digits : Digits 2 (countEnabled (c .mode) (c .n) v (c .statements))
-  enabled-digits = omega (arith, enabled-le (c .n) v few (valid .seats) (c .mode) (c .statements), mul-le-mul (valid .seats-most) (valid .some .1))
+  enabled-digits = omega (arith, enabled-le (c .n) v few (valid .seats) (c .mode) (c .statements) (valid .some .0), mul-le-mul (valid .seats-most) (valid .some .1))
 
   adds-panel : Adds panelRoom (λ r. modeText (c .mode) ("\nseats " ▸ num (c .n) (line " enabled" (countEnabled (c .mode) (c .n) v (c .statements) ∷ []) (line "counts" v (blocksText (countBlocks (c .mode) (c .n) (c .k) v (c .statements)) r)))))
   adds-panel =

@@ -15,12 +15,12 @@ use Rattle.card.proofs.HeldIn.{holds-top}
 use Rattle.meaning.specs.Sums.{upto, flat}
 use Rattle.meaning.specs.Seats.{Seating, ValidSeating, counts}
 use Rattle.meaning.specs.Panel.{Move, moveLine, Block, block, panel}
-use Rattle.meaning.specs.ByCounts.{able, stayOf, moveOf, choiceBlocks, countBlocks, countPanel}
+use Rattle.meaning.specs.ByCounts.{able, stayOf, moveOf, choiceBlocks, takenBlocks, countTaken, stuckBlock, orStuck, countBlocks, countPanel}
 use Rattle.meaning.proofs.Sums.{upto-cong}
-use Rattle.meaning.proofs.Panel.{panel-by-counts}
-use Rattle.weighing.specs.Table.{ableIn, weighingRow, modeIn, tableOf}
-use Rattle.weighing.proofs.Filled.{at, statements-upto, table-counts}
-use Rattle.weighing.proofs.ByCounts.{able-row, enabled-row, move-row, stay-row}
+use Rattle.meaning.proofs.Panel.{no-moves, panel-by-counts}
+use Rattle.weighing.specs.Table.{ableIn, weightIn, weighingRow, modeIn, taken, tableOf}
+use Rattle.weighing.proofs.Filled.{at, statements-upto, stuck-stay, stuck-weight, no-stay, table-counts}
+use Rattle.weighing.proofs.ByCounts.{able-row, taken-row, enabled-row, move-row, stay-row}
 use Rattle.lines.specs.PanelIn.{choiceIf, choiceAt, choicesIn, blocksIn, panelIn}
 
 -- ---- a block by its weights up to k
@@ -67,11 +67,31 @@ module _ {h : Head} {x : Lent} {seats : Seating} (v : HoldsIn h x) (ok : ValidSe
           ≡ choiceAt (h .top) table (x .rows) (x .branches) i
       each i l = rw (← able-row v ok i l, zero-add i) (choice-weighs (x .nodes) (x .branches) (x .rows) (h .top) i (ableIn table i))
 
+  -- where some can be taken
+  moving-rows : (taken h x seats ≡ 0 → ⊥) → (m : Mode) → modeIn h ≡ m
+      → takenBlocks m (h .seats) (h .top) (counts (h .top) seats) statements ≡ blocksIn m (h .top) table (x .rows) (x .branches) (h .count)
+  unfolding takenBlocks
+  moving-rows s nondeterministic e = rw (no-stay v ok s e) choice-rows
+  moving-rows s probabilistic e =
+      ap (λ (b : Block). b ∷ []) (block-same (h .top) none (stay-row v ok s e) (λ a b k l. move-row v ok s e a b (omega (arith, holds-top v))))
+
+  -- and where none can
+  stuck-rows : taken h x seats ≡ 0 → (m : Mode) → stuckBlock m ∷ [] ≡ blocksIn m (h .top) table (x .rows) (x .branches) (h .count)
+  stuck-rows z nondeterministic = rw (stuck-stay h x seats z)
+  stuck-rows z probabilistic =
+      ap (λ (b : Block). b ∷ []) (sym (no-moves (h .top) none {f = weightIn table} (stuck-stay h x seats z) (λ a b n. stuck-weight v ok z a b)))
+
   blocks-rows : (m : Mode) → modeIn h ≡ m → countBlocks m (h .seats) (h .top) (counts (h .top) seats) statements ≡ blocksIn m (h .top) table (x .rows) (x .branches) (h .count)
   unfolding countBlocks
-  blocks-rows nondeterministic e = choice-rows
-  blocks-rows probabilistic e =
-      ap (λ (b : Block). b ∷ []) (block-same (h .top) none (stay-row v ok e) (λ a b k l. move-row v ok e a b (omega (arith, holds-top v))))
+  blocks-rows m e = go (takenOf m) (ap takenOf (sym e) ∙ taken-row v ok)
+    where
+      takenOf : Mode → ℕ
+      takenOf k = countTaken k (h .seats) (counts (h .top) seats) statements
+
+      go : (t : ℕ) → t ≡ taken h x seats
+          → orStuck m t (takenBlocks m (h .seats) (h .top) (counts (h .top) seats) statements) ≡ blocksIn m (h .top) table (x .rows) (x .branches) (h .count)
+      go zero k = stuck-rows (sym k) m
+      go (suc t) k = moving-rows (λ z. omega arith) m e
 
   pub is-panel : panel (cardIn h x) seats ≡ panelIn h table (x .rows) (x .branches)
   unfolding countPanel panelIn

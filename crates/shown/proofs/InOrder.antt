@@ -1,5 +1,5 @@
 -- A panel's lines are in order: a block's moves are listed by old state and then by new state, so what stands in a later list has a larger
--- state; and places count up along the card. Assumes nothing.
+-- state; and places count up along the card, or the one is 0. Assumes nothing.
 use Prim.Native.Nat.{ℕ, zero, suc, _≤_, _<_}
 use mathlib.Core.Path.{_≡_, refl, sym, _∙_}
 use mathlib.Core.Logic.{inl, inr}
@@ -13,7 +13,8 @@ use Rattle.card.specs.Card.{Mode, nondeterministic, probabilistic, Statement}
 use Rattle.card.specs.Valid.{Every}
 use Rattle.meaning.specs.Sums.{upto, flat}
 use Rattle.meaning.specs.Steps.{Turn, weight}
-use Rattle.meaning.specs.Seats.{Seating, Choice, choice, turnsBy, choicesFrom, choices, steps}
+use Rattle.meaning.specs.Choices.{Choice, choice, choicesOf, orStay}
+use Rattle.meaning.specs.Seats.{Seating, turnsBy, choicesFrom, choices, steps}
 use Rattle.meaning.specs.Panel.{Move, moveLine, Block, goes, block, blockOf, oneOf, blocks, panel}
 use Rattle.meaning.proofs.Sums.{every-append, every-imp}
 use Rattle.shown.specs.InOrder.{Rising, Before, places, Ordered}
@@ -82,10 +83,10 @@ block-rises k q x l = rows-rise k (λ a b. weight (goes a b x) l)
 -- ---- choices
 
 module _ (k : ℕ) (x : Seating) where
-  abbrev blockAt : Choice → Block
+  abbrev blockAt : Choice Seating → Block
   blockAt q = blockOf k (some (q .place)) x (oneOf (q .turns))
 
-  moves-rise : (l : List Choice) → Every (λ (b : Block). Rising Before (b .moves)) (map blockAt l)
+  moves-rise : (l : List (Choice Seating)) → Every (λ (b : Block). Rising Before (b .moves)) (map blockAt l)
   moves-rise [] = tt
   moves-rise (q ∷ l) = (block-rises k (some (q .place)) x (oneOf (q .turns)), moves-rise l)
 
@@ -101,7 +102,7 @@ module _ (k : ℕ) (x : Seating) where
   from-more q l f = record { above = (omega arith, from-less q l f .above); rises = (every-imp (λ p. suc q ≤ p) l (f .above) (λ p h. omega arith), f .rises) }
 
   places-rise : (q : ℕ) (l : List Statement) → From q (places (map blockAt (choicesFrom q l x)))
-  unfolding choicesFrom blockOf block
+  unfolding choicesOf blockOf block
   places-rise q [] = record { above = tt; rises = tt }
   places-rise q (s ∷ l) = go (turnsBy s x) (places-rise (suc q) l)
     where
@@ -109,6 +110,12 @@ module _ (k : ℕ) (x : Seating) where
           → From q (places (map blockAt (choice q t ++ choicesFrom (suc q) l x)))
       go [] f = from-less q (places (map blockAt (choicesFrom (suc q) l x))) f
       go (t ∷ ts) f = from-more q (places (map blockAt (choicesFrom (suc q) l x))) f
+
+  -- the stuck choice is alone
+  stuck-rises : (l : List (Choice Seating)) → Rising _<_ (places (map blockAt l)) → Rising _<_ (places (map blockAt (orStay x l)))
+  unfolding blockOf block
+  stuck-rises [] h = (tt, tt)
+  stuck-rises (q ∷ l) h = h
 
 -- ---- the panel
 
@@ -121,5 +128,5 @@ ordered c x = record { moves = moves (c .mode); choices = rise (c .mode) }
     moves probabilistic = (block-rises (c .k) none x (steps c x), tt)
 
     rise : (m : Mode) → Rising _<_ (places (blocks m c x))
-    rise nondeterministic = places-rise (c .k) x 1 (c .statements) .rises
+    rise nondeterministic = stuck-rises (c .k) x (choicesFrom 1 (c .statements) x) (places-rise (c .k) x 1 (c .statements) .rises)
     rise probabilistic = tt

@@ -13,7 +13,8 @@ use Rattle.card.specs.Valid.{Every}
 use Rattle.room.specs.Digits.{digit, decimal, AllDigits}
 use Rattle.room.proofs.Decimal.{decimal-injective, decimal-digits}
 use Rattle.phrases.specs.Phrases.{_▸_, num, modeWord}
-use Rattle.meaning.specs.Seats.{Seating, Choice, choices}
+use Rattle.meaning.specs.Choices.{Choice}
+use Rattle.meaning.specs.Seats.{Seating, choices}
 use Rattle.meaning.specs.Panel.{Move, Block, Panel, block, blockOf, oneOf, blocks, panel}
 use Rattle.lines.specs.PanelText.{numbers, line, movesText, stayText, choiceText, blockText, blocksText, panelText, panelOf}
 use Rattle.shown.specs.Telling.{Chosen, Blocks, Telling}
@@ -192,7 +193,7 @@ panel-shaped : (c : Card) (x : Seating) → Blocks (panel c x .mode) (panel c x 
 unfolding panel blockOf block
 panel-shaped c x = go (c .mode)
   where
-    chosen : (l : List Choice) → Every Chosen (map (λ (q : Choice). blockOf (c .k) (some (q .place)) x (oneOf (q .turns))) l)
+    chosen : (l : List (Choice Seating)) → Every Chosen (map (λ (q : Choice Seating). blockOf (c .k) (some (q .place)) x (oneOf (q .turns))) l)
     chosen [] = tt
     chosen (q ∷ l) = ((q .place, refl), chosen l)
 

@@ -1,7 +1,7 @@
 -- The numbers of the table are those of the panel by counts: sums over a card's statements are sums over its rows, and no change is a move
 -- from each state to itself. Assumes nothing.
 use Prim.Native.Nat.{ℕ, zero, suc, _+_, _*_, _<_}
-use mathlib.Core.Path.{_≡_, sym, ap, _∙_}
+use mathlib.Core.Path.{_≡_, refl, sym, ap, _∙_}
 use mathlib.Core.List.{List}
 use native.Mathlib.Nat.{mul-add}
 use native.Mathlib.Omega.{arith}
@@ -16,11 +16,12 @@ use Rattle.card.specs.declared.Head.{Head}
 use Rattle.card.proofs.HeldIn.{holds-top}
 use Rattle.meaning.specs.Sums.{gate, sum}
 use Rattle.meaning.specs.Seats.{Seating, ValidSeating, counts}
-use Rattle.meaning.specs.ByCounts.{able, unitsTo, stayOf, moveOf, allAble, allStay, allMove, countEnabled}
+use Rattle.meaning.specs.ByCounts.{able, unitsTo, stayOf, moveOf, allAble, allStay, allMove, countTaken, orOne, countEnabled}
 use Rattle.meaning.proofs.Sums.{sumBelow, sum-upto, below-cong, below-exchange, below-pick}
 use Rattle.counting.specs.Taking.{takers}
-use Rattle.weighing.specs.Table.{enabledPlace, stayPlace, ableIn, weightIn, total, enabledIn, weighingRow, stayIn, modeIn, abled, enabledSet, weighedSet, tableOf}
-use Rattle.weighing.proofs.Filled.{at, statements-upto, fitting, table-weight, table-stay, table-enabled, table-able, enabled-able, set-able, table-move}
+use Rattle.weighing.specs.Table.{enabledPlace, stayPlace, ableIn, weightIn, total, takenIn, weighingRow, stayIn, modeIn}
+use Rattle.weighing.specs.Table.{abled, taken, enabledSet, weighedSet, tableOf}
+use Rattle.weighing.proofs.Filled.{at, statements-upto, fitting, stuck-enabled, table-weight, table-stay, table-enabled, table-able, enabled-able, set-able, table-move}
 
 below-times : (c n : ℕ) (f : ℕ → ℕ) → sumBelow n (λ a. c * f a) ≡ c * sumBelow n f
 below-times c zero f = omega arith
@@ -60,22 +61,31 @@ module _ {h : Head} {x : Lent} {seats : Seating} (v : HoldsIn h x) (ok : ValidSe
   able-first : (i : ℕ) → i < h .count → ableIn (abled h x seats) i ≡ able n c (statement i)
   able-first i l = enabled-able v ok i l ∙ able-row i l
 
-  enabled-by : (m : Mode) → countEnabled m n c statements ≡ enabledIn m (abled h x seats) (h .count)
-  unfolding countEnabled allAble enabledIn
-  enabled-by nondeterministic = over-rows (λ s. gate (ltb 0 (able n c s)) 1) ∙ below-cong (h .count) _ (λ i. gate (ltb 0 (ableIn (abled h x seats) i)) 1) (λ i l. rw (able-first i l))
-  enabled-by probabilistic = over-rows (able n c) ∙ below-cong (h .count) _ (λ i. ableIn (abled h x seats) i) (λ i l. sym (able-first i l))
+  taken-by : (m : Mode) → countTaken m n c statements ≡ takenIn m (abled h x seats) (h .count)
+  unfolding countTaken allAble takenIn
+  taken-by nondeterministic = over-rows (λ s. gate (ltb 0 (able n c s)) 1) ∙ below-cong (h .count) _ (λ i. gate (ltb 0 (ableIn (abled h x seats) i)) 1) (λ i l. rw (able-first i l))
+  taken-by probabilistic = over-rows (able n c) ∙ below-cong (h .count) _ (λ i. ableIn (abled h x seats) i) (λ i l. sym (able-first i l))
+
+  pub taken-row : countTaken (modeIn h) n c statements ≡ taken h x seats
+  unfolding taken
+  taken-row = taken-by (modeIn h)
 
   pub enabled-row : countEnabled (modeIn h) n c statements ≡ getD table enabledPlace 0
-  enabled-row = enabled-by (modeIn h) ∙ sym (table-enabled h x seats)
+  unfolding countEnabled
+  enabled-row = ap orOne taken-row ∙ go (taken h x seats) refl
+    where
+      go : (t : ℕ) → taken h x seats ≡ t → orOne t ≡ getD table enabledPlace 0
+      go zero e = sym (stuck-enabled h x seats e)
+      go (suc t) e = sym (table-enabled h x seats (λ z. omega arith) ∙ e)
 
   -- of a probabilistic card
-  module _ (m : modeIn h ≡ probabilistic) where
+  module _ (s : taken h x seats ≡ 0 → ⊥) (m : modeIn h ≡ probabilistic) where
     pub move-row : (a b : ℕ) → b < mostStates → allMove n c statements a b ≡ weightIn table a b
     unfolding allMove moveOf statementOf
     move-row a b l =
         over-rows (λ s. able n c s * moveOf s a b)
         ∙ below-cong (h .count) _ (λ i. ableIn (enabledSet h x seats) i * moveOf (weighingRow (x .rows) (x .branches) i) a b) (λ i k. rw (set-able v ok i k ∙ able-row i k))
-        ∙ sym (table-move v ok m a b l)
+        ∙ sym (table-move v ok s m a b l)
 
     pub stay-row : allStay n c statements ≡ getD table stayPlace 0
     unfolding allStay allMove stayIn statementOf
@@ -84,5 +94,5 @@ module _ {h : Head} {x : Lent} {seats : Seating} (v : HoldsIn h x) (ok : ValidSe
         ∙ below-cong (h .count) _ (λ i. sumBelow mostStates (λ a. able n c (statement i) * moveOf (statement i) a a)) (λ i l. ap (λ (w : ℕ). able n c (statement i) * w) (sym (stays-own (statement i) (omega (arith, fitting v .own i l, holds-top v)))) ∙ sym (below-times (able n c (statement i)) mostStates (λ a. moveOf (statement i) a a)))
         ∙ sym (over-rows (λ s. sumBelow mostStates (λ a. able n c s * moveOf s a a)))
         ∙ sym (below-exchange mostStates (λ a s. able n c s * moveOf s a a) statements)
-        ∙ below-cong mostStates (λ a. allMove n c statements a a) (λ a. weightIn (weighedSet h x seats) a a) (λ a l. move-row a a l ∙ table-weight h x seats a a)
-        ∙ sym (table-stay h x seats)
+        ∙ below-cong mostStates (λ a. allMove n c statements a a) (λ a. weightIn (weighedSet h x seats) a a) (λ a l. move-row a a l ∙ table-weight h x seats s a a)
+        ∙ sym (table-stay h x seats s)

@@ -22,11 +22,11 @@ use Rattle.meaning.specs.ByCounts.{unitsTo, moveOf}
 use Rattle.meaning.proofs.Sums.{gate-le}
 use Rattle.counting.specs.Taking.{unitsToEach}
 use Rattle.counting.proofs.Weighed.{each-at, length-each}
-use Rattle.weighing.specs.Table.{ablesFrom, weightsFrom, tablePlaces, ableIn, weightIn, over, total, countsAs, enabledIn, weighingRow, added, weighedTo, weighed}
+use Rattle.weighing.specs.Table.{ablesFrom, weightsFrom, tablePlaces, ableIn, weightIn, over, total, countsAs, takenIn, weighingRow, added, weighedTo, weighed}
 use Rattle.weighing.specs.Fitting.{Most, heaviest, FewAble, Adding, Fitting, Weighing}
 use Rattle.weighing.proofs.Stored.{over-else, over-at, over-long, total-suc, total-more, total-most}
 
--- ---- the number of enabled
+-- ---- how many can be taken
 
 module _ {able : ℕ} {mode : ℕ} where
   pub counts-pair : (mode ≡ 0 → ⊥) → able ≡ countsAs (either nondeterministic probabilistic mode) able
@@ -43,24 +43,24 @@ counts-most nondeterministic able most h l = omega (arith, gate-le (ltb 0 able) 
 counts-most probabilistic able most h l = l
 
 module _ (m : Mode) (table : List ℕ) where
-  pub enabled-start : 0 ≡ enabledIn m table 0
-  unfolding enabledIn
-  enabled-start = refl
+  pub taken-start : 0 ≡ takenIn m table 0
+  unfolding takenIn
+  taken-start = refl
 
-  pub enabled-next : (i : ℕ) {enabled more : ℕ} → enabled ≡ enabledIn m table i → more ≡ countsAs m (ableIn table i) → enabled + more ≡ enabledIn m table (i + 1)
-  unfolding enabledIn
-  enabled-next i e h = rw (e, h) (sym (total-more i (λ j. countsAs m (ableIn table j))))
+  pub taken-next : (i : ℕ) {taken more : ℕ} → taken ≡ takenIn m table i → more ≡ countsAs m (ableIn table i) → taken + more ≡ takenIn m table (i + 1)
+  unfolding takenIn
+  taken-next i e h = rw (e, h) (sym (total-more i (λ j. countsAs m (ableIn table j))))
 
-  pub enabled-end : (i count : ℕ) → i ≤ count → count ≤ i → enabledIn m table i ≡ enabledIn m table count
-  enabled-end i count h l = let e : i ≡ count = omega arith in rw e
+  pub taken-end : (i count : ℕ) → i ≤ count → count ≤ i → takenIn m table i ≡ takenIn m table count
+  taken-end i count h l = let e : i ≡ count = omega arith in rw e
 
   module _ {count : ℕ} (f : FewAble table count) where
-    pub enabled-most : (i : ℕ) → i ≤ count → enabledIn m table i ≤ i * mostSeats
-    unfolding enabledIn
-    enabled-most i h = total-most i (λ j. countsAs m (ableIn table j)) mostSeats (λ j l. counts-most m (ableIn table j) mostSeats (omega arith) (f .seats j (omega arith)))
+    pub taken-most : (i : ℕ) → i ≤ count → takenIn m table i ≤ i * mostSeats
+    unfolding takenIn
+    taken-most i h = total-most i (λ j. countsAs m (ableIn table j)) mostSeats (λ j l. counts-most m (ableIn table j) mostSeats (omega arith) (f .seats j (omega arith)))
 
-    pub enabled-more : (i : ℕ) → i < count → countsAs m (ableIn table i) ≤ mostSeats
-    enabled-more i h = counts-most m (ableIn table i) mostSeats (omega arith) (f .seats i h)
+    pub taken-more : (i : ℕ) → i < count → countsAs m (ableIn table i) ≤ mostSeats
+    taken-more i h = counts-most m (ableIn table i) mostSeats (omega arith) (f .seats i h)
 
 -- ---- the weights of one statement
 

@@ -4,9 +4,10 @@
 use Prim.Native.Nat.{ℕ, zero, suc, _+_, _*_}
 use mathlib.Core.List.{List, map}
 use mathlib.Core.Option.{none}
-use lib.Dec.{ltb}
+use lib.Dec.{eqb, ltb}
 use lib.ListN.{getD, set, take, drop}
-use Rattle.card.specs.Limits.{topState, mostStates, mostStatements, mostNodes, mostBranches}
+use Rattle.card.specs.Limits.{topState, mostStates, mostStatements, mostNodes, mostBranches, unit}
+use Rattle.card.specs.Text.{if_then_else_}
 use Rattle.card.specs.Card.{Mode, nondeterministic, probabilistic, Statement}
 use Rattle.card.specs.Laid.{either, zeros, guardOf, branchOf}
 use Rattle.card.specs.Rows.{rowOf}
@@ -55,13 +56,13 @@ total n f = sum (λ w. w) (upto n f)
 abbrev pub ableAt : ℕ → List ℕ → List ℕ → List ℕ → ℕ → ℕ
 ableAt n v nodes rows i = takers n v (rowOf rows i .own) (guardOf nodes (i * mostNodes) (rowOf rows i .nodes))
 
--- what a statement adds to the number of enabled: pairs, or itself
+-- what a statement adds to how many can be taken: pairs, or itself
 abbrev pub countsAs : Mode → ℕ → ℕ
 countsAs nondeterministic able = gate (ltb 0 able) 1
 countsAs probabilistic able = able
 
-unfoldable pub enabledIn : Mode → List ℕ → ℕ → ℕ
-enabledIn m table count = total count (λ i. countsAs m (ableIn table i))
+unfoldable pub takenIn : Mode → List ℕ → ℕ → ℕ
+takenIn m table count = total count (λ i. countsAs m (ableIn table i))
 
 -- statement i as far as it weighs: its own state and so many branches
 abbrev pub weighing : List ℕ → ℕ → ℕ → ℕ → Statement
@@ -103,14 +104,29 @@ module _ (h : Head) (x : Lent) (seats : Seating) where
   unfolding over counts counted takers
   abled = over ablesFrom (h .count) (ableAt (h .seats) (take (h .top + 1) (counts topState seats)) (x .nodes) (x .rows)) counted
 
+  -- how many can be taken: pairs of a seat and a statement, or statements
+  unfoldable pub taken : ℕ
+  unfolding abled takenIn
+  taken = takenIn (modeIn h) abled (h .count)
+
+  -- none can: one step, which changes nothing and weighs the unit
+  unfoldable pub stuckTable : List ℕ
+  unfolding abled
+  stuckTable = set (set abled enabledPlace 1) stayPlace unit
+
+  -- some can
   unfoldable pub enabledSet : List ℕ
-  unfolding abled enabledIn
-  enabledSet = set abled enabledPlace (enabledIn (modeIn h) abled (h .count))
+  unfolding abled taken
+  enabledSet = set abled enabledPlace taken
 
   unfoldable pub weighedSet : List ℕ
   unfolding enabledSet weighedTo
   weighedSet = weighed (modeIn h) (x .rows) (x .branches) (h .count) enabledSet
 
-  unfoldable pub tableOf : List ℕ
+  unfoldable pub movingTable : List ℕ
   unfolding weighedSet stayIn
-  tableOf = set weighedSet stayPlace (stayIn weighedSet)
+  movingTable = set weighedSet stayPlace (stayIn weighedSet)
+
+  unfoldable pub tableOf : List ℕ
+  unfolding taken stuckTable movingTable
+  tableOf = if eqb taken 0 then stuckTable else movingTable

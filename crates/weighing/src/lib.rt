@@ -10,6 +10,7 @@ use card::limits::MOST_STATES;
 use card::limits::NODE_PLACES;
 use card::limits::ROW;
 use card::limits::ROW_PLACES;
+use card::weight::Weight;
 use counting::able;
 use counting::count_seats;
 use counting::units_to;
@@ -20,7 +21,7 @@ ghost use Rattle.card.specs.Limits.{mostStates, mostStatements};
 ghost use Rattle.card.specs.Card.{nondeterministic, probabilistic};
 ghost use Rattle.card.specs.Laid.{either};
 ghost use Rattle.card.specs.Lent.{lent};
-ghost use Rattle.weighing.specs.Table.{over, ablesFrom, ableAt, countsAs, enabledIn, added, weighed, stayIn, tableOf};
+ghost use Rattle.weighing.specs.Table.{over, ablesFrom, ableAt, countsAs, takenIn, added, weighed, stayIn, tableOf};
 ghost use Rattle.weighing.specs.Fitting.{FewAble, Adding, Weighing, Light, Filling};
 
 // The counts stand first; then the number of enabled, the weight of no change, how many seats are able to take each statement, and on a
@@ -68,7 +69,7 @@ fn store_ables<'a>(
     }
 }
 
-// What a statement adds to the number of enabled.
+// What a statement adds to how many can be taken.
 fn counts_as(mode: usize, able: usize) -> usize
     ensures { λ r. ⌜ r ≡ countsAs (either nondeterministic probabilistic mode) able ⌝ }
 {
@@ -81,18 +82,19 @@ fn counts_as(mode: usize, able: usize) -> usize
     1
 }
 
-fn enabled_of(mode: usize, table: &[usize; TABLE_PLACES], count: usize) -> usize
+// How many can be taken: pairs of a seat and a statement, or statements.
+fn taken_of(mode: usize, table: &[usize; TABLE_PLACES], count: usize) -> usize
     requires { ⌜ FewAble (now table) count ⌝ }
-    ensures { λ r. ⌜ r ≡ enabledIn (either nondeterministic probabilistic mode) (now (table .entry)) count ⌝ }
+    ensures { λ r. ⌜ r ≡ takenIn (either nondeterministic probabilistic mode) (now (table .entry)) count ⌝ }
 {
-    let mut enabled = 0;
+    let mut taken = 0;
     let mut i = 0;
     while i < count {
         let at = ABLES + i;
-        enabled = enabled + counts_as(mode, table[at]);
+        taken = taken + counts_as(mode, table[at]);
         i += 1;
     }
-    enabled
+    taken
 }
 
 // The weights of one statement, for all seats that are able to take it.
@@ -154,7 +156,7 @@ fn stay_of(table: &[usize; TABLE_PLACES]) -> usize
     stay
 }
 
-// The table of a card and a seating of it.
+// The table of a card and a seating of it. Where none can be taken no weight is added up: there is one step, which changes nothing.
 pub fn fill<'a>(
     table: &mut [usize; TABLE_PLACES],
     head: Head,
@@ -170,8 +172,14 @@ pub fn fill<'a>(
     store_counts(table, &counts);
     let states = head.top + 1;
     store_ables(table, head, rows, nodes, &counts[..states]);
-    let enabled = enabled_of(head.mode, table, head.count);
-    table[ENABLED] = enabled;
+    let taken = taken_of(head.mode, table, head.count);
+    if taken == 0 {
+        let unit = Weight::UNIT as usize;
+        table[ENABLED] = 1;
+        table[STAY] = unit;
+        return;
+    }
+    table[ENABLED] = taken;
     store_weights(table, head, rows, branches);
     let stay = stay_of(table);
     table[STAY] = stay;

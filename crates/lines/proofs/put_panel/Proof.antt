@@ -1,7 +1,7 @@
--- `lines::put_panel` meets its contract: the head, and then what the mode asks for. Assumes nothing.
+-- `lines::put_panel` meets its contract: the head, and then what the mode asks for, or the stuck choice. Assumes nothing.
 use borrow.Author.Needs.{needs}
 use native.Mathlib.Omega.{arith}
-use Rattle.lines.proofs.Blocks.{choices-text, weights-text}
+use Rattle.lines.proofs.Blocks.{choices-text, stuck-text, weights-text}
 use Rattle.phrases.proofs.Laws.{puts-then}
 use Rattle.lines.proofs.put_panel.Statement.{statement}
 use Rattle.lines.proofs.put_panel.Tie as tie
@@ -14,21 +14,6 @@ put-head-requires c κs =
     let start = c .before .before .before .before in
     (omega (arith, start .pre .top), search needs)
 
-put-choices-requires : tie.Need-put-choices-requires
-put-choices-requires c κs =
-    let start = c .before .before .before .before .before .before .before .before .before .before in
-    start .pre
-
-same-length : tie.Need-same-length
-same-length c = search needs
-
-returns : tie.Need-returns
-returns c =
-    let at-if1 = c .before .before .before .before in
-    let at-put-head = at-if1 .before .before .before .before in
-    let start = at-put-head .before .before .before .before .before in
-    choices-text (start .args .head) (start .args .table .now) (start .args .rows .now) (start .args .branches .now) (at-if1 .if1 .taken) (puts-then (at-put-head .put-head .ensures) (c .before .before .put-choices .ensures))
-
 put-stay-requires : tie.Need-put-stay-requires
 put-stay-requires c κs = search needs
 
@@ -37,16 +22,56 @@ put-table-requires c κs =
     let start = c .before .before .before .before .before .before .before .before .before .before .before .before .before .before .before in
     (omega (arith, start .pre .top), search needs)
 
+same-length : tie.Need-same-length
+same-length c = search needs
+
+returns : tie.Need-returns
+returns c =
+    let at-put-stay = c .before .before .before .before .before .before .before in
+    let at-if1 = at-put-stay .before .before in
+    let at-put-head = at-if1 .before .before .before .before in
+    let start = at-put-head .before .before .before .before .before in
+    weights-text (start .args .head) (start .args .table .now) (start .args .rows .now) (start .args .branches .now) (at-if1 .if1 .taken) (puts-then (at-put-head .put-head .ensures) (puts-then (at-put-stay .put-stay .ensures) (c .before .before .put-table .ensures)))
+
+put-choices-requires : tie.Need-put-choices-requires
+put-choices-requires c κs =
+    let start = c .before .before .before .before .before .before .before .before .before .before .before in
+    start .pre
+
 same-length-2 : tie.Need-same-length-2
 same-length-2 c = search needs
 
 returns-2 : tie.Need-returns-2
 returns-2 c =
-    let at-put-stay = c .before .before .before .before .before .before .before in
-    let at-if1 = at-put-stay .before .before in
+    let at-if2 = c .before .before .before .before in
+    let at-if1 = at-if2 .before in
     let at-put-head = at-if1 .before .before .before .before in
     let start = at-put-head .before .before .before .before .before in
-    weights-text (start .args .head) (start .args .table .now) (start .args .rows .now) (start .args .branches .now) (at-if1 .if1 .left) (puts-then (at-put-head .put-head .ensures) (puts-then (at-put-stay .put-stay .ensures) (c .before .before .put-table .ensures)))
+    choices-text (start .args .head) (start .args .table .now) (start .args .rows .now) (start .args .branches .now) (at-if1 .if1 .left) (at-if2 .if2 .taken) (puts-then (at-put-head .put-head .ensures) (c .before .before .put-choices .ensures))
+
+slice-aggregate-put-line : tie.Need-slice-aggregate-put-line
+slice-aggregate-put-line c = search needs
+
+slice-aggregate-put-line-2 : tie.Need-slice-aggregate-put-line-2
+slice-aggregate-put-line-2 c = search needs
+
+put-line-requires : tie.Need-put-line-requires
+put-line-requires c κs = search needs
+
+put-stay-requires-2 : tie.Need-put-stay-requires-2
+put-stay-requires-2 c κs = search needs
+
+same-length-3 : tie.Need-same-length-3
+same-length-3 c = search needs
+
+returns-3 : tie.Need-returns-3
+returns-3 c =
+    let at-put-line = c .before .before .before .before .before .before in
+    let at-if2 = at-put-line .before .before .before .before in
+    let at-if1 = at-if2 .before in
+    let at-put-head = at-if1 .before .before .before .before in
+    let start = at-put-head .before .before .before .before .before in
+    stuck-text (start .args .head) (start .args .table .now) (start .args .rows .now) (start .args .branches .now) (at-if1 .if1 .left) (at-if2 .if2 .left) (puts-then (at-put-head .put-head .ensures) (puts-then (at-put-line .put-line .ensures) (c .before .before .put-stay2 .ensures)))
 
 pub put-panel-spec : {M : Type 1} → statement M
 put-panel-spec =
@@ -54,10 +79,16 @@ put-panel-spec =
     (tie.spec
     element-copy-out-stay
     put-head-requires
-    put-choices-requires
-    same-length
-    returns
     put-stay-requires
     put-table-requires
+    same-length
+    returns
+    put-choices-requires
     same-length-2
-    returns-2)
+    returns-2
+    slice-aggregate-put-line
+    slice-aggregate-put-line-2
+    put-line-requires
+    put-stay-requires-2
+    same-length-3
+    returns-3)
