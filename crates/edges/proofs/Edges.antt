@@ -16,7 +16,7 @@ unfolding panelOf panel cardA decimal unitsOf readOf
 edges = record {
   at-001 = refl;
   at-100 = refl;
-  at-012 = refl;
+  at-012 = (refl, refl);
   at-011 = refl;
   at-000 = refl;
   nondeterministic-001 = (refl, refl);
@@ -28,7 +28,7 @@ edges = record {
 }
 
 pub mark-edges : MarkEdges
-mark-edges = record { range = refl; decimals = refl; words = refl; comments = refl; zero-in-front = refl; six-digits = (refl, refl); lone-point = refl }
+mark-edges = record { range = refl; decimals = refl; words = refl; comments = refl; classes = refl; zero-in-front = refl; six-digits = (refl, refl); lone-point = refl }
 
 pub run-edges : RunEdges
 unfolding decimal unitsOf readOf

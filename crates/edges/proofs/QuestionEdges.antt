@@ -12,10 +12,15 @@ pub question-edges : QuestionEdges
 unfolding askSaid questionOf mixedNext readOf unitsOf judgedSeats judgedFrom
 question-edges = record {
   leader-elected = (refl, refl, refl);
+  as-printed = (refl, refl);
+  any-seat = (refl, refl, refl, refl, refl);
+  binding = (refl, refl, refl, refl);
   exactly-one = (refl, refl, refl, refl);
+  other-states = (refl, refl, refl, refl);
+  one-relation = (refl, refl);
   any-order = (refl, refl);
   one-seat = (refl, refl, refl, refl);
-  not-as-said = (refl, refl, refl, refl, refl);
+  not-as-said = (refl, refl, refl, refl, refl, refl);
   above-top = (refl, refl);
   others-named = (refl, refl, refl, refl);
   only-one-fits = (refl, refl, refl, refl);
@@ -23,6 +28,6 @@ question-edges = record {
   depth = (refl, refl, refl, refl, refl);
   nodes = (refl, refl, refl);
   bytes-most = (refl, refl);
-  outside = (refl, refl);
+  outside = (refl, refl, refl);
   order = (refl, refl, refl, refl, refl, refl, refl, refl, refl);
 }

@@ -1,4 +1,5 @@
--- The marked edges of "Both sides of the edge", as one list in document 01's order. The panels stand here as whole texts. Assumes nothing.
+-- The marked edges of "Both sides of the edge", as one list in document 01's order; 012 as document 02 (2026-03) changes it. The panels stand here as
+-- whole texts. Assumes nothing.
 use Prim.Native.Nat.{ℕ, zero, suc}
 use Prim.Native.String.{String}
 use mathlib.Core.Path.{_≡_}
@@ -6,7 +7,7 @@ use mathlib.Core.List.{List, [], _∷_, _++_}
 use mathlib.Core.Option.{Option, none, some}
 use Rattle.card.specs.Text.{bytes}
 use Rattle.card.specs.Card.{Mode, nondeterministic, probabilistic, others, all, any, is, group, atom, neg, Guard, Branch}
-use Rattle.marks.specs.Marks.{text, seat, process, number, decimal, Placed, placed, marksOf}
+use Rattle.marks.specs.Marks.{text, seat, process, number, decimal, outside, Placed, placed, marksOf}
 use Rattle.reading.specs.Reading.{Outcome, taken, refused, firstOutside, readOf}
 use Rattle.room.specs.Digits.{decimal as digitsOf}
 use Rattle.meaning.specs.CardA.{cardA}
@@ -52,7 +53,9 @@ to units end = record { units = units; end = end }
 pub record Edges : Type 0 where
   pub at-001 : at probabilistic 0 0 1 ≡ asAbove
   pub at-100 : at probabilistic 1 0 0 ≡ asAbove
-  pub at-012 : at probabilistic 0 1 2 ≡ bytes "probabilistic\nseats 3 enabled 0\ncounts 1 1 1\n"
+  -- nothing can be taken, in either mode
+  pub at-012 : (at probabilistic 0 1 2 ≡ bytes "probabilistic\nseats 3 enabled 1\ncounts 1 1 1\nstay 25200\n")
+      × (at nondeterministic 0 1 2 ≡ bytes "nondeterministic\nseats 3 enabled 1\ncounts 1 1 1\nchoice 0\nstay 25200\n")
   pub at-011 : at probabilistic 0 1 1 ≡ bytes "probabilistic\nseats 3 enabled 2\ncounts 1 2 0\nstay 37800\nmove 1 2 12600\n"
   pub at-000 : at probabilistic 0 0 0 ≡ bytes "probabilistic\nseats 3 enabled 3\ncounts 3 0 0\nmove 0 1 37800\nmove 0 2 37800\n"
   -- the same card as nondeterministic: its bytes read as it, and its panel
@@ -92,6 +95,8 @@ pub record MarkEdges : Type 0 where
   pub decimals : marksOf (bytes "0.25 12345.12345") ≡ placed (decimal 0 2 25) 0 ∷ placed (decimal 12345 5 12345) 5 ∷ []
   pub words : marksOf (bytes "s1 s01 s123456 process2 init0 init") ≡ placed (seat 1) 0 ∷ textAt "s01" 3 ∷ textAt "s123456" 7 ∷ placed (process 2) 15 ∷ textAt "init0" 24 ∷ textAt "init" 30 ∷ []
   pub comments : marksOf (bytes "1//2\n!=!->") ≡ placed (number 1) 0 ∷ textAt "!=" 5 ∷ textAt "!" 7 ∷ textAt "->" 8 ∷ []
+  -- tab, CR and LF separate; capital letters are letters, and `_` goes on a word; `_` alone, and the bytes beside the letters, are outside the rules
+  pub classes : marksOf (bytes "\tAZ\raz\nA_9_ _@`{") ≡ textAt "AZ" 1 ∷ textAt "az" 4 ∷ textAt "A_9_" 7 ∷ placed outside 12 ∷ placed outside 13 ∷ placed outside 14 ∷ placed outside 15 ∷ []
   -- a zero in front, too many digits, a point without a digit behind it
   pub zero-in-front : firstOutside (marksOf (bytes "1 007")) ≡ some 2
   pub six-digits : (firstOutside (marksOf (bytes "123456")) ≡ some 0) × (firstOutside (marksOf (bytes "0.123456")) ≡ some 0)

@@ -41,16 +41,45 @@ elected = bytes "((s1=1 & s2!=1 & s3!=1) | (s2=1 & s1!=1 & s3!=1) | (s3=1 & s1!=
 abbrev pub leader : List ℕ
 leader = elected ++ bytes " & (s1!=2 & s2!=2 & s3!=2)"
 
+-- exactly one seat in state 0; in state 2
+abbrev pub oneZero : List ℕ
+oneZero = bytes "((s1=0 & s2!=0 & s3!=0) | (s2=0 & s1!=0 & s3!=0) | (s3=0 & s1!=0 & s2!=0))"
+
+abbrev pub oneTwo : List ℕ
+oneTwo = bytes "((s1=2 & s2!=2 & s3!=2) | (s2=2 & s1!=2 & s3!=2) | (s3=2 & s1!=2 & s2!=2))"
+
 pub record QuestionEdges : Type 0 where
   -- source 000's leader question, for three seats: one is in state 1 and none in state 2
   pub leader-elected : (askSaid cardA leader (0 ∷ 0 ∷ 1 ∷ []) ≡ says true)
       × (askSaid cardA leader (0 ∷ 1 ∷ 1 ∷ []) ≡ says false)
       × (askSaid cardA leader (0 ∷ 1 ∷ 2 ∷ []) ≡ says false)
+  -- as it is printed there, with a bracket round all of it
+  pub as-printed : (askSaid cardA (bytes "(" ++ (leader ++ bytes ")")) (0 ∷ 0 ∷ 1 ∷ []) ≡ says true)
+      × (askSaid cardA (bytes "(" ++ (leader ++ bytes ")")) (0 ∷ 1 ∷ 2 ∷ []) ≡ says false)
+  -- any seat, and all of them
+  pub any-seat : (at001 "(s1=0 | s2=0 | s3=0)" ≡ says true)
+      × (at001 "(s1=2 | s2=2 | s3=2)" ≡ says false)
+      × (at001 "(s1=0 & s2=0 & s3=0)" ≡ says false)
+      × (at001 "(s1!=2 & s2!=2 & s3!=2)" ≡ says true)
+      × (at001 "(s1!=0 | s2!=0 | s3!=0)" ≡ says true)
+  -- `&` binds before `|`, without brackets too: yes or no and no, no and no or yes
+  pub binding : (at001 "(s1!=2 & s2!=2 & s3!=2) | (s1=0 & s2=0 & s3=0) & (s1=2 | s2=2 | s3=2)" ≡ says true)
+      × (at001 "((s1!=2 & s2!=2 & s3!=2) | (s1=0 & s2=0 & s3=0)) & (s1=2 | s2=2 | s3=2)" ≡ says false)
+      × (at001 "(s1=2 | s2=2 | s3=2) & (s1=0 & s2=0 & s3=0) | (s1!=2 & s2!=2 & s3!=2)" ≡ says true)
+      × (at001 "(s1=2 | s2=2 | s3=2) & ((s1=0 & s2=0 & s3=0) | (s1!=2 & s2!=2 & s3!=2))" ≡ says false)
   -- the exactly-one alone, with d=1; its later terms begin with their own seat
   pub exactly-one : (askSaid cardA elected (0 ∷ 0 ∷ 1 ∷ []) ≡ says true)
       × (askSaid cardA elected (0 ∷ 1 ∷ 1 ∷ []) ≡ says false)
       × (askSaid cardA elected (0 ∷ 1 ∷ 2 ∷ []) ≡ says true)
       × (askSaid cardA elected (0 ∷ 0 ∷ 2 ∷ []) ≡ says false)
+  -- with d=0 and with d=2
+  pub other-states : (askSaid cardA oneZero (0 ∷ 1 ∷ 2 ∷ []) ≡ says true)
+      × (askSaid cardA oneZero (0 ∷ 0 ∷ 1 ∷ []) ≡ says false)
+      × (askSaid cardA oneTwo (0 ∷ 1 ∷ 2 ∷ []) ≡ says true)
+      × (askSaid cardA oneTwo (0 ∷ 0 ∷ 1 ∷ []) ≡ says false)
+  -- literals of one relation start none: in two brackets they are an expression
+  pub one-relation : (at001 "((s1!=2 & s2!=2 & s3!=2))" ≡ says true)
+      × (at001 "((s1=0 & s2=0 & s3=0))" ≡ says false)
   -- literals stand in any order, and blanks between marks do not count
   pub any-order : (at001 "((s3!=1 & s1=1 & s2!=1) | (s1!=1 & s2=1 & s3!=1) | (s2!=1 & s1!=1 & s3=1))" ≡ says true)
       × (at001 "((s3!=1&s1=1&s2!=1)|(s1!=1&s2=1&s3!=1)|(s2!=1&s1!=1&s3=1))" ≡ says true)
@@ -59,11 +88,12 @@ pub record QuestionEdges : Type 0 where
       × (seatIn 0 "(s1=1)" ≡ says false)
       × (seatIn 1 "((s1=1))" ≡ says true)
       × (seatIn 1 "((s1=1 & s1!=1))" ≡ refused 26 0)
-  -- terms in a wrong order, two seats in d in one term, a term missing, another d, a literal twice: 26 at the outer bracket
+  -- terms in a wrong order, two seats in d in one term, a term missing, another d in a term, and within one, a literal twice: 26 at the outer bracket
   pub not-as-said : (at001 "((s2=1 & s1!=1 & s3!=1) | (s1=1 & s2!=1 & s3!=1) | (s3=1 & s1!=1 & s2!=1))" ≡ refused 26 0)
       × (at001 "((s1=1 & s2=1 & s3!=1) | (s2=1 & s1!=1 & s3!=1) | (s3=1 & s1!=1 & s2!=1))" ≡ refused 26 0)
       × (at001 "((s1=1 & s2!=1 & s3!=1) | (s2=1 & s1!=1 & s3!=1))" ≡ refused 26 0)
       × (at001 "((s1=1 & s2!=1 & s3!=1) | (s2=1 & s1!=1 & s3!=1) | (s3=2 & s1!=2 & s2!=2))" ≡ refused 26 0)
+      × (at001 "((s1=1 & s2!=1 & s3!=2) | (s2=1 & s1!=1 & s3!=1) | (s3=1 & s1!=1 & s2!=1))" ≡ refused 26 0)
       × (at001 "!((s1=1 & s2!=1 & s3!=1 & s3!=1) | (s2=1 & s1!=1 & s3!=1) | (s3=1 & s1!=1 & s2!=1))" ≡ refused 26 1)
   -- d above k: 25 at the first d, of an exactly-one and of a group
   pub above-top : (at001 "((s1=3 & s2!=3 & s3!=3) | (s2=3 & s1!=3 & s3!=3) | (s3=3 & s1!=3 & s2!=3))" ≡ refused 25 5)
@@ -95,9 +125,10 @@ pub record QuestionEdges : Type 0 where
   -- 16,384 bytes, and one more
   pub bytes-most : (askSaid cardA (blanks 16384) (0 ∷ 0 ∷ 1 ∷ []) ≡ refused 23 16384)
       × (askSaid cardA (blanks 16385) (0 ∷ 0 ∷ 1 ∷ []) ≡ refused 21 0)
-  -- a mark outside the rules goes before one out of shape that stands earlier
+  -- a mark outside the rules goes before one out of shape that stands earlier; in a comment there is none
   pub outside : (at001 ") ?" ≡ refused 22 2)
       × (at001 "(s1=0 & s2=0 & s3=007)" ≡ refused 22 18)
+      × (at001 "// ? 007\n(s1!=2 & s2!=2 & s3!=2) // ?" ≡ says true)
   -- 25 and 26 by place; 23 before them; a question before 8; then 8, then 9; and the card before all
   pub order : (at001 "(s2=1 & s3=1) & (s1=3 & s2=3 & s3=3)" ≡ refused 26 0)
       × (at001 "(s1=3 & s2=3 & s3=3) & (s2=1 & s3=1)" ≡ refused 25 4)

@@ -6,7 +6,7 @@ use mathlib.Core.List.{List, [], _∷_, map}
 use native.Mathlib.Omega.{arith}
 use lib.ListN.{length, set}
 use Rattle.card.specs.Refusals.{malformedDeck, noLiveCard}
-use Rattle.card.specs.Verdict.{numberOf, placeOf}
+use Rattle.card.specs.Verdict.{verdictNumber, verdictPlace}
 use Rattle.entry.specs.Said.{Said, says, refused, saying}
 use Rattle.entry.specs.Contract.{partOf}
 use Rattle.entry.proofs.Exactly.{_↔∙_}
@@ -153,10 +153,10 @@ module _ {said : Said Part} {Given : Part → Type 0} {None : Type 0} {Bad : ℕ
   }
     where
       both : (x y : Said (List ℕ)) → x ≡ y → Found x part was is
-          → (part ≡ partOf y) × (length was ≡ 2 → is ≡ numberOf (verdictOf y) ∷ placeOf (verdictOf y) ∷ [])
+          → (part ≡ partOf y) × (length was ≡ 2 → is ≡ verdictNumber (verdictOf y) ∷ verdictPlace (verdictOf y) ∷ [])
       both x y e f = (
         f .hands-back ∙ ap partOf e,
-        λ l. f .tells ∙ ap (λ (z : Said (List ℕ)). told (verdictOf z) was) e ∙ two-set (numberOf (verdictOf y)) (placeOf (verdictOf y)) was l,
+        λ l. f .tells ∙ ap (λ (z : Said (List ℕ)). told (verdictOf z) was) e ∙ two-set (verdictNumber (verdictOf y)) (verdictPlace (verdictOf y)) was l,
       )
 
   part-tells : {was is : List ℕ} {a : OpenPanelAnswer} → PartTold said was is a → PartTells Given None Bad was is a

@@ -13,7 +13,7 @@ use Rattle.reading.proofs.Theorems.{read-valid}
 use Rattle.reading.proofs.Numbers.{read-number}
 use Rattle.reader.specs.declared.Reading.{Reading}
 use Rattle.reader.specs.declared.Outline.{Outline}
-use Rattle.card.specs.Verdict.{numberOf, placeOf}
+use Rattle.card.specs.Verdict.{verdictNumber, verdictPlace}
 use Rattle.reader.specs.ReadingOf.{readingOf, outlineOf, memoryOf}
 use Rattle.entry.specs.Said.{says, _>>=_}
 use Rattle.entry.specs.Numbers.{only}
@@ -48,19 +48,19 @@ in-numbers a = record { refusal = λ number place e. (ap answerNumber e, ap answ
 pub done≢refused : {A : Type 0} {long r p : ℕ} → Done long ≡ Refused r p → A
 done≢refused e = let z : _≡_ {A = ℕ} 0 1 = cc in absurd (omega arith)
 
-reads-number : (o : Outcome) → numberOf (readingOf o .verdict) ≡ outcomeNumber o
+reads-number : (o : Outcome) → verdictNumber (readingOf o .verdict) ≡ outcomeNumber o
 reads-number (taken c) = refl
 reads-number (refused number place) = refl
 
-reads-place : (o : Outcome) → placeOf (readingOf o .verdict) ≡ outcomePlace o
+reads-place : (o : Outcome) → verdictPlace (readingOf o .verdict) ≡ outcomePlace o
 reads-place (taken c) = refl
 reads-place (refused number place) = refl
 
-outline-number : (o : Outcome) → numberOf (outlineOf o .verdict) ≡ outcomeNumber o
+outline-number : (o : Outcome) → verdictNumber (outlineOf o .verdict) ≡ outcomeNumber o
 outline-number (taken c) = refl
 outline-number (refused number place) = refl
 
-outline-place : (o : Outcome) → placeOf (outlineOf o .verdict) ≡ outcomePlace o
+outline-place : (o : Outcome) → verdictPlace (outlineOf o .verdict) ≡ outcomePlace o
 outline-place (taken c) = refl
 outline-place (refused number place) = refl
 
@@ -159,13 +159,13 @@ unique = record {
 pub demand1 : Demand1
 demand1 = record {
   read = λ card x h. (
-    ap (λ (y : Reading). numberOf (y .verdict)) (h .reading) ∙ reads-number (readOf card),
-    ap (λ (y : Reading). placeOf (y .verdict)) (h .reading) ∙ reads-place (readOf card),
+    ap (λ (y : Reading). verdictNumber (y .verdict)) (h .reading) ∙ reads-number (readOf card),
+    ap (λ (y : Reading). verdictPlace (y .verdict)) (h .reading) ∙ reads-place (readOf card),
     ap (λ (y : Reading). y .card) (h .reading),
   );
   read-into = λ card x m h. (
-    ap (λ (y : Outline). numberOf (y .verdict)) (h .outline) ∙ outline-number (readOf card),
-    ap (λ (y : Outline). placeOf (y .verdict)) (h .outline) ∙ outline-place (readOf card),
+    ap (λ (y : Outline). verdictNumber (y .verdict)) (h .outline) ∙ outline-number (readOf card),
+    ap (λ (y : Outline). verdictPlace (y .verdict)) (h .outline) ∙ outline-place (readOf card),
     λ c e. (ap (λ (y : Outline). y .head) (h .outline ∙ ap outlineOf e), h .memory ∙ ap memoryOf e),
     λ r p e. (ap (λ (y : Outline). y .head) (h .outline ∙ ap outlineOf e), h .memory ∙ ap memoryOf e),
   );

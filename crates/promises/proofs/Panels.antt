@@ -10,11 +10,14 @@ use lib.ListN.{length}
 use Rattle.card.specs.Card.{Mode, Statement, Card}
 use Rattle.meaning.specs.Sums.{gate, sum, upto, those}
 use Rattle.meaning.specs.Steps.{Turn}
-use Rattle.meaning.specs.Seats.{Seating, mayTake, turn, turnsBy, choice, choicesFrom, choices, turns}
-use Rattle.meaning.specs.Panel.{enabled, panel}
+use Rattle.meaning.specs.Choices.{choice, choicesOf, turnsIn}
+use Rattle.meaning.specs.Seats.{Seating, mayTake, turn, turnsBy, choicesFrom, choices, turns, Stuck}
+use Rattle.meaning.specs.Panel.{Panel, enabled, panel}
+use Rattle.meaning.specs.ByCounts.{orOne, stuckBlock}
 use Rattle.meaning.proofs.Sums.{sum-cong, sum-one, sum-map, sum-those}
-use Rattle.meaning.proofs.Turns.{takes, choices-sum}
-use Rattle.meaning.proofs.Panel.{seat-block, panel-by-counts, equal-counts}
+use Rattle.meaning.proofs.Choices.{choices-some, choices-sum, or-stay-length, or-stay-turns}
+use Rattle.meaning.proofs.Turns.{takes}
+use Rattle.meaning.proofs.Panel.{seat-block, panel-by-counts, equal-counts, stuck-panel}
 use Rattle.meaning.proofs.Reorder.{reordered-valid, reordered-panel}
 use Rattle.meaning.proofs.AddUp.{adds-up}
 use Rattle.meaning.proofs.Bounds.{panel-enabled-most}
@@ -29,14 +32,20 @@ turns-takers s x =
     let seats = upto (length x) (λ i. i) in
     sym (sum-one (map (turn s x) (those (mayTake s x) seats))) ∙ sum-map (λ t. 1) (turn s x) (those (mayTake s x) seats) ∙ sum-those (λ i. 1) (mayTake s x) seats
 
-pairs : (c : Card) (x : Seating) → length (turns c x) ≡ sum (λ s. takers s x) (c .statements)
+-- without the stuck one
+pairs-taken : (l : List Statement) (x : Seating) → length (turnsIn (choicesFrom 1 l x)) ≡ sum (λ s. takers s x) l
+pairs-taken l x =
+    sym (sum-one (turnsIn (choicesFrom 1 l x)))
+    ∙ choices-sum (λ s. turnsBy s x) (λ t. 1) 1 l
+    ∙ sum-cong l (λ s. sum-one (turnsBy s x) ∙ turns-takers s x)
+
+pairs : (c : Card) (x : Seating) → length (turns c x) ≡ orOne (sum (λ s. takers s x) (c .statements))
 unfolding turns choices
 pairs c x =
-    sym (sum-one (turns c x)) ∙ choices-sum (λ t. 1) 1 (c .statements) x
-    ∙ sum-cong (c .statements) (λ s. sum-one (turnsBy s x) ∙ turns-takers s x)
+    or-stay-turns x (choicesFrom 1 (c .statements) x) (choices-some (λ s. turnsBy s x) 1 (c .statements)) ∙ ap orOne (pairs-taken (c .statements) x)
 
 statements-able : (q : ℕ) (l : List Statement) (x : Seating) → length (choicesFrom q l x) ≡ sum (λ s. gate (ltb 0 (takers s x)) 1) l
-unfolding choicesFrom
+unfolding choicesOf
 statements-able q [] x = refl
 statements-able q (s ∷ l) x = go (turnsBy s x) (turns-takers s x) (statements-able (suc q) l x)
   where
@@ -47,9 +56,16 @@ statements-able q (s ∷ l) x = go (turnsBy s x) (turns-takers s x) (statements-
         let z : ltb 0 (takers s x) ≡ true = lt-ltb 0 (takers s x) (omega (arith, e)) in
         rw z (omega (arith, h))
 
-able : (c : Card) (x : Seating) → length (choices c x) ≡ sum (λ s. gate (ltb 0 (takers s x)) 1) (c .statements)
+able : (c : Card) (x : Seating) → length (choices c x) ≡ orOne (sum (λ s. gate (ltb 0 (takers s x)) 1) (c .statements))
 unfolding choices
-able c x = statements-able 1 (c .statements) x
+able c x = or-stay-length x (choicesFrom 1 (c .statements) x) ∙ ap orOne (statements-able 1 (c .statements) x)
+
+-- a stuck panel's two parts, by its mode
+stuck-parts : (c : Card) (x : Seating) → Stuck c x → {m : Mode} → c .mode ≡ m → (panel c x .enabled ≡ 1) × (panel c x .blocks ≡ stuckBlock m ∷ [])
+stuck-parts c x h e = (
+  ap (λ (p : Panel). p .enabled) (stuck-panel c x h),
+  ap (λ (p : Panel). p .blocks) (stuck-panel c x h) ∙ ap (λ (m : Mode). stuckBlock m ∷ []) e,
+)
 
 pub panels : Panels
 unfolding panel
@@ -62,6 +78,8 @@ panels = record {
   adds-up = adds-up;
   enabled-pairs = λ c x e. ap (λ (m : Mode). enabled m c x) e ∙ pairs c x;
   enabled-statements = λ c x e. ap (λ (m : Mode). enabled m c x) e ∙ able c x;
+  stuck-pairs = λ c x h e. stuck-parts c x h e;
+  stuck-statements = λ c x h e. stuck-parts c x h e;
   enabled-most = panel-enabled-most;
   in-order = ordered;
   order = refl;

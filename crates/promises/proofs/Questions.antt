@@ -22,6 +22,7 @@ use Rattle.asking.specs.Meant.{ofAll, Question, holdsOn, leafFor}
 use Rattle.asking.specs.Asking.{Everyone}
 use Rattle.asking.proofs.Meant.{leaf-counter, question-held, question-by-counts, equal-counts, reordered-question, one-count, one-alone, one-in-words}
 use Rattle.asking.proofs.Fitting.{everyone-exactly, one-exactly}
+use Rattle.asking.proofs.AsWritten.{as-written}
 use Rattle.asking.proofs.Looking.{starts-exactly}
 use Rattle.asking.proofs.Valid.{taken-valid}
 use Rattle.asking.proofs.Answers.{accepted, refusal-21, refusal-22, refusal-23, refusal-24, refusal-25, refusal-26, numbered}
@@ -40,6 +41,7 @@ laid c v x ok own q =
 
 meaning : QuestionMeaning
 meaning = record {
+  as-written = as-written;
   by-counts = λ c v. question-by-counts c (v .seats);
   group-translated = λ n j s q d. ap atom (sym (leaf-counter n j (ofAll s q d)));
   one-translated = λ n d. refl;

@@ -13,7 +13,7 @@ use Rattle.reading.specs.Reading.{Outcome, taken, refused, readOf}
 use Rattle.reader.specs.declared.Reading.{Reading}
 use Rattle.reader.specs.declared.Outline.{Outline}
 use Rattle.card.specs.Lent.{Lent, headOf, lentOf, noHead, noneLent}
-use Rattle.card.specs.Verdict.{numberOf, placeOf}
+use Rattle.card.specs.Verdict.{verdictNumber, verdictPlace}
 use Rattle.reader.specs.ReadingOf.{readingOf, Reads, ReadsInto}
 use Rattle.room.specs.declared.Answer.{Answer}
 use Rattle.room.specs.declared.Answer.the-variants.{Done, Refused}
@@ -135,10 +135,10 @@ pub data Response (input : List ℕ) : Type 0 where
 pub record Demand1 : Type 0 where
   -- the reader: its verdict in numbers, and the struct that it hands back
   pub read : (card : List ℕ) (x : Reading) → Reads card x
-      → (numberOf (x .verdict) ≡ outcomeNumber (readOf card)) × (placeOf (x .verdict) ≡ outcomePlace (readOf card)) × (x .card ≡ readingOf (readOf card) .card)
+      → (verdictNumber (x .verdict) ≡ outcomeNumber (readOf card)) × (verdictPlace (x .verdict) ≡ outcomePlace (readOf card)) × (x .card ≡ readingOf (readOf card) .card)
   -- into lent arrays: the same verdict, and the card that is taken beside its head, or zeros in all of them
   pub read-into : (card : List ℕ) (x : Outline) (m : Lent) → ReadsInto card x m
-      → (numberOf (x .verdict) ≡ outcomeNumber (readOf card)) × (placeOf (x .verdict) ≡ outcomePlace (readOf card))
+      → (verdictNumber (x .verdict) ≡ outcomeNumber (readOf card)) × (verdictPlace (x .verdict) ≡ outcomePlace (readOf card))
       × ((c : Card) → readOf card ≡ taken c → (x .head ≡ headOf c) × (m ≡ lentOf c))
       × ((number place : ℕ) → readOf card ≡ refused number place → (x .head ≡ noHead) × (m ≡ noneLent))
   pub write : (card was is : List ℕ) (a : Answer) → Entered was is (writeSaid card) a → Prints writeOf card was is a

@@ -3,16 +3,16 @@ use Prim.Native.Nat.{ℕ, _*_, _≤_, _<_}
 use mathlib.Core.Path.{_≡_}
 use mathlib.Core.Bool.{true}
 use mathlib.Core.List.{[], _∷_}
-use mathlib.Core.Option.{Option, none}
+use mathlib.Core.Option.{Option, none, some}
 use lib.Dec.{ltb}
 use lib.ListN.{length}
 use Rattle.card.specs.Limits.{mostSeats, mostStatements, unit}
 use Rattle.card.specs.Card.{nondeterministic, probabilistic, Statement, Card}
 use Rattle.card.specs.Valid.{Every, ValidCard}
 use Rattle.meaning.specs.Sums.{gate, sum, upto}
-use Rattle.meaning.specs.Seats.{Seating, ValidSeating, counts, mayTake, turn}
+use Rattle.meaning.specs.Seats.{Seating, ValidSeating, counts, mayTake, turn, Stuck}
 use Rattle.meaning.specs.Panel.{panel, blockOf, blockTotal, due}
-use Rattle.meaning.specs.ByCounts.{countPanel}
+use Rattle.meaning.specs.ByCounts.{orOne, countPanel}
 use Rattle.meaning.specs.Reordered.{Reordered}
 use Rattle.lines.specs.PanelText.{panelOf}
 use Rattle.shown.specs.InOrder.{InOrder}
@@ -42,9 +42,15 @@ pub record Panels : Type 0 where
   -- the weights add up: to the unit for each pair of a seat and a statement on a probabilistic card, to the unit in each choice on a
   -- nondeterministic one
   pub adds-up : (c : Card) → ValidCard c → (x : Seating) → ValidSeating c x → Every (λ b. blockTotal b ≡ due (c .mode) (panel c x .enabled)) (panel c x .blocks)
-  -- enabled counts the pairs of a seat and a statement that it may take; on a nondeterministic card the statements that some seat may take
-  pub enabled-pairs : (c : Card) (x : Seating) → c .mode ≡ probabilistic → panel c x .enabled ≡ sum (λ s. takers s x) (c .statements)
-  pub enabled-statements : (c : Card) (x : Seating) → c .mode ≡ nondeterministic → panel c x .enabled ≡ sum (λ s. gate (ltb 0 (takers s x)) 1) (c .statements)
+  -- enabled counts the pairs of a seat and a statement that it may take; on a nondeterministic card the statements that some seat may take; and is 1
+  -- where there is none
+  pub enabled-pairs : (c : Card) (x : Seating) → c .mode ≡ probabilistic → panel c x .enabled ≡ orOne (sum (λ s. takers s x) (c .statements))
+  pub enabled-statements : (c : Card) (x : Seating) → c .mode ≡ nondeterministic → panel c x .enabled ≡ orOne (sum (λ s. gate (ltb 0 (takers s x)) 1) (c .statements))
+  -- then (document 02, 2026-03) there is one block, in which nothing moves and which on a nondeterministic card is choice 0
+  pub stuck-pairs : (c : Card) (x : Seating) → Stuck c x → c .mode ≡ probabilistic
+      → (panel c x .enabled ≡ 1) × (panel c x .blocks ≡ record { choice = none; stay = unit; moves = [] } ∷ [])
+  pub stuck-statements : (c : Card) (x : Seating) → Stuck c x → c .mode ≡ nondeterministic
+      → (panel c x .enabled ≡ 1) × (panel c x .blocks ≡ record { choice = some 0; stay = unit; moves = [] } ∷ [])
   pub enabled-most : (c : Card) → ValidCard c → (x : Seating) → ValidSeating c x → panel c x .enabled ≤ mostSeats * mostStatements
   -- moves stand by old state, then by new, choices by their place on the card; and an example
   pub in-order : (c : Card) (x : Seating) → InOrder (panel c x)

@@ -15,6 +15,7 @@ use Rattle.reading.specs.Group.{Literal}
 use Rattle.reading.specs.Rules.{OnceEach}
 use Rattle.reading.specs.Verdicts.{TooLong, OutsideRules}
 use Rattle.reading.specs.Reading.{refused as turned, readOf}
+use Rattle.meaning.specs.Formulas.{value}
 use Rattle.meaning.specs.Seats.{Seating, ValidSeating, count, counts}
 use Rattle.meaning.specs.Reordered.{Reordered}
 use Rattle.meaning.specs.Reduced.{equalTo, counter, counterOf}
@@ -23,9 +24,10 @@ use Rattle.entry.specs.Said.{Said, says, refused}
 use Rattle.entry.specs.Contract.{yes-no}
 use Rattle.counting.specs.Judged.{FirstAbove}
 use Rattle.rows.specs.Said.{Read}
-use Rattle.asking.specs.Question.{both, relations, twiceNext, TermSaid}
+use Rattle.asking.specs.Question.{Occurs, twiceNext, TermSaid}
 use Rattle.asking.specs.Meant.{ofAll, oneIn, Question, ValidQuestion, OneSeat, holdsAtom, holdsOn, testFor, passesOn, leafFor}
 use Rattle.asking.specs.Asking.{Everyone, ExactlyOne, isEveryone, isExactlyOne, inQuestion, questionOf, QuestionPastLimit, QuestionOutOfShape, QuestionBroken, QuestionAccepted}
+use Rattle.asking.specs.AsWritten.{itemHolds}
 use Rattle.ask.specs.AskSaid.{questionSaid, Understood, askSaid, Asks}
 use Rattle.tablet.specs.declared.OpenPanelAnswer.{OpenPanelAnswer}
 use Rattle.tablet.specs.Told.{answeredNumbers}
@@ -34,6 +36,9 @@ use Rattle.promises.specs.ForC.{Answers}
 -- ---- what a question means
 
 pub record QuestionMeaning : Type 0 where
+  -- the question that is taken from a text holds on n seats exactly when the text does, literal by literal as it is written
+  pub as-written : (n k : ℕ) (s : List ℕ) (q : Question) (a : QuestionAccepted n k s q) (x : Seating) → length x ≡ n
+      → value (itemHolds x) (a .shaped .shape) ≡ holdsOn x q
   -- it holds on a seating exactly when its translation holds at the seating's counts
   pub by-counts : (c : Card) → ValidCard c → (x : Seating) → ValidSeating c x → (q : Question) → holdsOn x q ≡ passesOn (counts (c .k) x) (testFor (c .n) q)
   -- an everyone group is translated by document 01's table, an exactly-one to no_d=1
@@ -59,8 +64,8 @@ pub record QuestionReadings : Type 0 where
   pub accepted : (n k : ℕ) (s : List ℕ) (q : Question) → (questionOf n k s ≡ says q) ↔ QuestionAccepted n k s q
   -- it is then valid: its states at most k, its nodes and its depth within a guard's limits
   pub valid : (n k : ℕ) (s : List ℕ) (q : Question) → questionOf n k s ≡ says q → ValidQuestion k q
-  -- an exactly-one starts behind a bracket exactly where a term stands in which both relations occur
-  pub starts : (ms : Place) → (twiceNext ms ≡ true) ↔ ((ls : List Literal) × (r : Place) × TermSaid ms ls r × (both (relations ls) ≡ true))
+  -- an exactly-one starts behind a bracket exactly where a term stands in which each relation occurs
+  pub starts : (ms : Place) → (twiceNext ms ≡ true) ↔ ((ls : List Literal) × (r : Place) × TermSaid ms ls r × ((q : Relation) → Occurs q ls))
   -- the two rules to which 26 is due, as they are tested; a group of the others keeps neither
   pub is-everyone : (n : ℕ) (ls : List Literal) → (isEveryone n ls ≡ true) ↔ Everyone n ls
   pub is-exactly-one : (n : ℕ) (ts : List (List Literal)) → (isExactlyOne n ts ≡ true) ↔ ExactlyOne n ts
