@@ -1,7 +1,7 @@
 //! Document 01 as an ordinary Rust program: rule cards are read, written,
 //! reduced to counters, and shown as the panel of a seating; and those requests
-//! of document 02 that have landed: questions about a seating are answered, and
-//! cards are found in decks.
+//! of document 02 that have landed: questions about a seating are answered,
+//! cards are found in decks, and a table where nobody can move has a step.
 //!
 //! It was written from the documents alone, so that a slip in it and a slip in
 //! the verified library are unlikely to be the same one; `compare` runs both on

@@ -2,7 +2,7 @@
 
 use crate::card::{Branch, Card, Mode, Statement};
 use crate::counter::guard_holds;
-use crate::limits::{STATEMENTS, STATES};
+use crate::limits::{STATEMENTS, STATES, UNIT};
 use crate::read::read_into;
 use crate::refusal::Refusal;
 use crate::text::{print_into, Print, Text};
@@ -53,6 +53,11 @@ impl<'c> Panel<'c> {
             .filter_map(|(statement, may)| may.then_some(statement))
     }
 
+    /// Whether nothing can be taken. Then there is one step all the same, which changes nothing.
+    fn is_stuck(&self) -> bool {
+        self.taken().next().is_none()
+    }
+
     fn seats_in(&self, state: u8) -> u32 {
         self.counts[usize::from(state)].into()
     }
@@ -63,7 +68,7 @@ impl Print for Panel<'_> {
         const FRAME: usize = "nondeterministic\nseats 16 enabled 512\ncounts\n".len();
         const COUNT: usize = " 16".len();
         const CHOICE: usize = "choice 32\n".len();
-        // No branch makes more than one line, and the weights of all seats and statements together have eight digits.
+        // No branch makes more than one line (a card has one at least, and a stuck table's step is one), and the weights of all seats and statements together have eight digits.
         const LINE: usize = "move 7 7 12902400\n".len();
         FRAME
             + STATES * COUNT
@@ -76,7 +81,9 @@ impl Print for Panel<'_> {
         text.bytes(b"\nseats ");
         text.number(self.card.seats.into());
         text.bytes(b" enabled ");
+        let stuck = self.is_stuck();
         text.number(match self.card.mode {
+            _ if stuck => 1,
             Mode::Nondeterministic => self.taken().count() as u32,
             Mode::Probabilistic => self
                 .taken()
@@ -90,6 +97,11 @@ impl Print for Panel<'_> {
         }
         text.byte(b'\n');
         match self.card.mode {
+            Mode::Nondeterministic if stuck => {
+                choice(0, text);
+                stay(UNIT, text);
+            }
+            Mode::Probabilistic if stuck => stay(UNIT, text),
             Mode::Nondeterministic => self.choices(text),
             Mode::Probabilistic => self.all_together(text),
         }
@@ -99,9 +111,7 @@ impl Print for Panel<'_> {
 impl Panel<'_> {
     fn choices<T: Text>(&self, text: &mut T) {
         for (place, statement) in self.taken() {
-            text.bytes(b"choice ");
-            text.number(place);
-            text.byte(b'\n');
+            choice(place, text);
             let mut ends = [0; STATES];
             add(&mut ends, self.card.branches(statement), 1);
             stay(ends[usize::from(statement.own)], text);
@@ -131,6 +141,13 @@ fn add(ends: &mut [u32; STATES], branches: &[Branch], seats: u32) {
     for branch in branches {
         ends[usize::from(branch.end)] += branch.units * seats;
     }
+}
+
+/// The line of a statement that may be taken, or of none with 0.
+fn choice<T: Text>(place: u32, text: &mut T) {
+    text.bytes(b"choice ");
+    text.number(place);
+    text.byte(b'\n');
 }
 
 fn stay<T: Text>(units: u32, text: &mut T) {

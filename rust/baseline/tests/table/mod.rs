@@ -1,4 +1,5 @@
-//! The chapter "Both sides of the edge" as a list of cards, seatings and panels.
+//! The chapter "Both sides of the edge" as a list of cards, seatings and panels,
+//! with the step that a stuck table has.
 
 use super::cards::{card, CARD_A};
 
@@ -34,7 +35,13 @@ pub fn edges() -> Vec<Edge> {
         "card A at 012",
         CARD_A,
         &[0, 1, 2],
-        Ok("probabilistic\nseats 3 enabled 0\ncounts 1 1 1\n"),
+        Ok("probabilistic\nseats 3 enabled 1\ncounts 1 1 1\nstay 25200\n"),
+    );
+    edge(
+        "card A as nondeterministic at 012",
+        &CARD_A.replace("probabilistic", "nondeterministic"),
+        &[0, 1, 2],
+        Ok("nondeterministic\nseats 3 enabled 1\ncounts 1 1 1\nchoice 0\nstay 25200\n"),
     );
     edge(
         "card A at 011",
@@ -72,7 +79,7 @@ pub fn edges() -> Vec<Edge> {
     let other = card(2, 1, "[] s1=0 & (s2=0) -> 1:(s1'=1);");
     let both_move = "probabilistic\nseats 2 enabled 2\ncounts 2 0\nmove 0 1 50400\n";
     edge("one other in 0", &other, &[0, 0], Ok(both_move));
-    let nobody = "probabilistic\nseats 2 enabled 0\ncounts 1 1\n";
+    let nobody = "probabilistic\nseats 2 enabled 1\ncounts 1 1\nstay 25200\n";
     edge("no other in 0", &other, &[0, 1], Ok(nobody));
     let first = card(2, 1, "[] s1=0 & (s1=0) -> 1:(s1'=1);");
     edge(
