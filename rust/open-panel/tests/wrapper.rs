@@ -13,7 +13,7 @@ fn texts_in_their_own_room() {
     assert!(
         reduced.starts_with(b"nondeterministic\nmodule generic_process\nno_0 : [0..1] init 1;\n")
     );
-    let panel = b"nondeterministic\nseats 1 enabled 0\ncounts 0 1\n";
+    let panel = b"nondeterministic\nseats 1 enabled 1\ncounts 0 1\nchoice 0\nstay 25200\n";
     assert_eq!(show_to_vec(CARD, &[1]).as_deref(), Ok(&panel[..]));
 }
 
