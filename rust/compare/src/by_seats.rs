@@ -40,6 +40,12 @@ pub fn steps(model: &Model, seats: &[u8]) -> Vec<Steps> {
     steps
 }
 
+/// Whether no seat may take anything. Then there is one step, of weight one, that changes nothing.
+pub fn is_stuck(model: &Model, seats: &[u8]) -> bool {
+    let mut statements = model.statements.iter();
+    !statements.any(|statement| (0..seats.len()).any(|seat| may_take(statement, seats, seat)))
+}
+
 /// Whether a question holds, each seat called by its own number.
 pub fn holds(question: &Expression, seats: &[u8]) -> bool {
     Renamed { seats, seat: 0 }.expression(question)
@@ -145,10 +151,10 @@ pub fn panel(model: &Model, seats: &[u8]) -> String {
     let taken: Vec<usize> = (0..model.statements.len())
         .filter(|&number| steps.iter().any(|step| step.statement == number))
         .collect();
-    let enabled = if model.probabilistic {
-        steps.len()
-    } else {
-        taken.len()
+    let enabled = match model.probabilistic {
+        _ if steps.is_empty() => 1,
+        true => steps.len(),
+        false => taken.len(),
     };
     text += if model.probabilistic {
         "probabilistic\n"
@@ -160,7 +166,13 @@ pub fn panel(model: &Model, seats: &[u8]) -> String {
         text += &format!(" {count}");
     }
     text += "\n";
-    if model.probabilistic {
+    if steps.is_empty() {
+        if !model.probabilistic {
+            text += "choice 0\n";
+        }
+        let unchanged = Weights::from([(seats.to_vec(), u64::from(UNIT))]);
+        put_changes(changes(seats, &unchanged), 1, &mut text);
+    } else if model.probabilistic {
         let all = steps.iter().map(|step| changes(seats, &step.after));
         put_changes(all.flatten(), enabled as u64, &mut text);
     } else {

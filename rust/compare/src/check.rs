@@ -226,6 +226,16 @@ impl Checker {
                 |room| open_panel::show(card, &seats, room),
             )?;
         }
+        if let (Some(model), Ok(_)) = (&input.model, shown) {
+            if by_seats::is_stuck(model, &input.seats) {
+                tally.stuck[usize::from(model.probabilistic)] += 1;
+                let panel = by_seats::panel(model, &input.seats);
+                let room = panel.len();
+                rooms.probe("a stuck table", Ok(panel.as_bytes()), room, |room| {
+                    open_panel::show(card, &input.seats, room)
+                })?;
+            }
+        }
         if let (Kind::Small, Some(model), Ok(reduced)) = (kind, &input.model, reduced) {
             let reduced = Reduced::read(reduced).ok_or("the reduced text cannot be read")?;
             starts_right(model, &reduced)?;
@@ -470,7 +480,9 @@ fn starts_right(model: &Model, reduced: &Reduced) -> Result<(), Fault> {
         .ok_or_else(|| "the reduced program starts wrong".to_owned())
 }
 
-/// Demand 3 at one seating: the reduced program leads where the seats lead, with the same weights.
+/// Demand 3 at one seating: the reduced program leads where the seats lead, with
+/// the same weights. Where neither can do anything each has the one step that
+/// changes nothing.
 fn same_steps(model: &Model, seats: &[u8], reduced: &Reduced) -> Result<(), Fault> {
     let steps = by_seats::steps(model, seats);
     let counts = by_seats::counts(seats, model.top);
@@ -487,6 +499,15 @@ fn same_steps(model: &Model, seats: &[u8], reduced: &Reduced) -> Result<(), Faul
             for (next, weight) in reduced.steps(statement, &counts).into_iter().flatten() {
                 *of_counts.entry(next).or_default() += weight;
             }
+        }
+        for of_one in [&mut of_seats, &mut of_counts] {
+            if of_one.is_empty() {
+                of_one.insert(counts.clone(), u64::from(UNIT));
+            }
+        }
+        let stuck = by_seats::is_stuck(model, seats);
+        if stuck && of_counts != by_seats::Weights::from([(counts, u64::from(UNIT))]) {
+            return Err(wrong());
         }
         return (of_seats == of_counts).then_some(()).ok_or_else(wrong);
     }

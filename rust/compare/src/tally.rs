@@ -27,6 +27,8 @@ const SMALL: u64 = 1_500;
 /// Cards whose written form is too long for a card.
 const TOO_LONG_WRITTEN: u64 = 20;
 
+/// Stuck tables, in each mode.
+const STUCK: u64 = 5_000;
 /// Questions answered with yes, and with no.
 const EACH_ANSWER: u64 = 10_000;
 /// Questions given each of their refusals.
@@ -74,6 +76,8 @@ pub struct Tally {
     pub small: u64,
     /// Their seatings.
     pub seatings: u64,
+    /// Tables where nothing can be taken, of nondeterministic and of probabilistic cards.
+    pub stuck: [u64; 2],
     questions: [[u64; ENDS.len()]; questions::Kind::SHARES.len()],
     before_seats: [u64; 2],
     /// Questions with an exactly-one, answered with yes and with no.
@@ -182,6 +186,7 @@ impl Tally {
         self.reordered += other.reordered;
         self.small += other.small;
         self.seatings += other.seatings;
+        sum(&mut self.stuck, &other.stuck);
         sum(
             self.questions.as_flattened_mut(),
             other.questions.as_flattened(),
@@ -254,6 +259,9 @@ impl Tally {
             self.too_long_written,
             TOO_LONG_WRITTEN,
         );
+        for (mode, count) in ["nondeterministic", "probabilistic"].iter().zip(self.stuck) {
+            least(&format!("stuck tables, {mode}"), count, STUCK);
+        }
         for (end, name) in ENDS[..8].iter().enumerate() {
             let due = if end < 2 {
                 EACH_ANSWER
@@ -353,6 +361,11 @@ impl fmt::Display for Tally {
             f,
             "small tables {} with {} seatings",
             self.small, self.seatings
+        )?;
+        let [nondeterministic, probabilistic] = self.stuck;
+        writeln!(
+            f,
+            "stuck tables, nondeterministic {nondeterministic}, probabilistic {probabilistic}"
         )?;
         self.print_questions(f)?;
         write!(f, "\n{}", self.decks)
