@@ -10,7 +10,7 @@ use lib.Dec.{leb, eqb}
 use borrow.Author.Tests.{le-leb, lt-leb, eq-eqb, ne-eqb}
 use lib.ListN.{length, drop}
 use lib.Seq.{drop-drop}
-use Rattle.card.specs.Limits.{mostCards}
+use Rattle.card.specs.Limits.{mostCards, wordNumbers}
 use Rattle.card.specs.Refusals.{malformedDeck}
 use Rattle.entry.specs.Said.{Said, says, refused, _>>=_, _>>_, unless}
 use Rattle.deck.specs.Contents.{wordAt, byte, Row, rowOf, rowsOf}
@@ -80,7 +80,7 @@ module _ {contents : List ℕ} {left at least long : ℕ} (g : Going contents le
         pub wrong-zero : (byte contents (at + 7) ≡ 0 → ⊥) → Refused malformedDeck (at + 7) ≡ told (measured 0 0 0 (lines contents))
         wrong-zero h = stops (rw (le-leb least (wordAt contents at) (omega arith), le-leb (byte contents (at + 6)) 1 b, ne-eqb (byte contents (at + 7)) 0 h))
 
-        pub goes-on : {s : ℕ} → byte contents (at + 7) ≡ 0 → s ≡ wordAt contents (at + 4) → s < 65536 → Going contents (left - 1) (at + 8) (n + 1) (long + s)
+        pub goes-on : {s : ℕ} → byte contents (at + 7) ≡ 0 → s ≡ wordAt contents (at + 4) → s < wordNumbers → Going contents (left - 1) (at + 8) (n + 1) (long + s)
         goes-on {s} z es l = record { same = onward; inside = omega (arith, g .inside, some); short = g .short; few = omega (arith, g .few, some) }
           where
             right : lineSaid at least row ≡ says tt

@@ -6,6 +6,7 @@ use mathlib.Core.List.{List, [], _∷_, _++_}
 use native.Mathlib.Omega.{arith}
 use lib.ListN.{length, drop, length-append}
 use lib.Seq.{drop-drop}
+use Rattle.card.specs.Limits.{wordNumbers}
 use Rattle.deck.specs.Contents.{wordAt, byte, Row, rowOf, rowsOf, behind}
 use Rattle.deck.specs.Deck.{rowsFor, rowText, rowsText, bodies, deckText}
 use Rattle.deck_written.specs.WriteDeckSaid.{countIn, lines, sizes, entriesSaid, linesFor}
@@ -58,7 +59,7 @@ module _ {was is contents : List ℕ} {first at left from offset to : ℕ} (s : 
     first-left zero h = absurd (h refl)
     first-left (suc n) h = let p : suc n - 1 ≡ n = omega arith in rw p
 
-    pub first-offset : offset < 65536
+    pub first-offset : offset < wordNumbers
     first-offset = omega (arith, s .short)
 
     module _ {n z f o : ℕ} (en : n ≡ wordAt contents from) (ez : z ≡ wordAt contents (from + 4)) (ef : f ≡ byte contents (from + 6)) (eo : o ≡ byte contents (from + 7)) where
