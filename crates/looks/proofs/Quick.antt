@@ -19,7 +19,7 @@ use Rattle.marks.specs.Marks.{startAt, wordMark}
 use Rattle.marks.specs.Kinds.{kNumber, kSeat, kProcess}
 use Rattle.marks.specs.Step.{stepTo, stepped, stepFrom, stepAt}
 use Rattle.marks.specs.Parts.{bareOf, valuedOf, gapOf}
-use Rattle.looks.specs.Quick.{signAhead, noDigit, oneDigit, digitAhead, lastDigit, seatAhead, pastBlank, pastLine, bytesAhead, processAhead}
+use Rattle.looks.specs.Quick.{signAhead, noDigit, oneDigit, digitAhead, lastDigit, seatAhead, pastBlank, pastLine, bytesAhead, processAhead, teenAhead}
 use Rattle.marks.specs.declared.Step.{Step}
 use Rattle.letters.proofs.Lists.{cases, not-both, and-left, and-right, drop-at}
 use Rattle.letters.proofs.Runs.{begins-at, begins-place, eqb-sym, run-on, run-empty}
@@ -236,3 +236,22 @@ module _ (s : List ℕ) (i : ℕ) where
         let d = getD s (i + 7) 0 in
         let y : plain wordDigits (d ∷ []) ≡ true = one-digit wordDigits (d ∷ []) (rw (last-digit 112 (bytes "rocess") refl refl process-begins v process-last small)) refl (omega arith) in
         last-step 112 (bytes "rocess") refl refl process-begins v process-last small ∙ rw (y, zero-add, ← digit-is inWord s (i + 7) v process-last small)
+
+  module _ (v : ℕ) (is : v ≡ teenAhead s i) (small : v < noDigit) where
+    teen-so : bytesAhead (bytes "s1") s i ≡ true
+    teen-so = cases (bytesAhead (bytes "s1") s i) (λ y. y) (λ n. let none : v ≡ noDigit = is ∙ rw n in absurd (omega arith))
+
+    teen-begins : begun (bytes "s1") (drop i s) ≡ true
+    teen-begins = bytes-stand (bytes "s1") s i teen-so
+
+    teen-last : v ≡ lastDigit (drop (i + 2) s)
+    teen-last = is ∙ rw teen-so
+
+    pub teen-room : i + 2 < length s
+    teen-room = last-place 115 (bytes "1") refl refl teen-begins v teen-last small
+
+    pub teen-step : stepAt s i ≡ valuedOf kSeat (10 + v) i (i + 3)
+    teen-step =
+        let d = getD s (i + 2) 0 in
+        let y : isDigit d ≡ true = last-digit 115 (bytes "1") refl refl teen-begins v teen-last small in
+        last-step 115 (bytes "1") refl refl teen-begins v teen-last small ∙ rw (y, ← digit-is inWord s (i + 2) v teen-last small)

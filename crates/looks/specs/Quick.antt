@@ -50,3 +50,7 @@ wordAhead t s i = bytesAhead t s i && not (begins inWord (drop (i + length t) s)
 -- the number of the module word with one digit
 abbrev pub processAhead : List ℕ → ℕ → ℕ
 processAhead s i = if bytesAhead (bytes "process") s i then lastDigit (drop (i + 7) s) else noDigit
+
+-- the second digit of the seat word from s10 to s19
+abbrev pub teenAhead : List ℕ → ℕ → ℕ
+teenAhead s i = if bytesAhead (bytes "s1") s i then lastDigit (drop (i + 2) s) else noDigit

@@ -1,5 +1,6 @@
 // A step where it is known which mark is due: a quick look for it, behind one blank at most, and the cursor's step where it does not stand
-// there.
+// there. The most frequent marks are looked for right at the place first: the processor then goes on behind the mark that it expects, while
+// past a blank or none it would have to wait for the byte.
 ghost use mathlib.Core.Path.{_≡_};
 ghost use Rattle.marks.specs.Step.{stepAt};
 use crate::look::NO_DIGIT;
@@ -9,6 +10,7 @@ use crate::look::past_line;
 use crate::look::process_here;
 use crate::look::seat_here;
 use crate::look::sign_here;
+use crate::look::teen_here;
 use crate::look::word_here;
 use letters::bytes::stands;
 use marks::Cursor;
@@ -60,6 +62,9 @@ pub fn step_sign(card: &[u8], at: usize, kind: usize) -> Step
 pub fn step_closing(card: &[u8], at: usize, kind: usize) -> Step
     ensures { λ r. ⌜ r ≡ stepAt (now (card .entry)) at ⌝ }
 {
+    if sign_here(card, at, kind) {
+        return bare(kind, at, at + 1);
+    }
     let from = past_blank(card, at);
     if sign_here(card, from, kind) {
         return bare(kind, from, from + 1);
@@ -74,6 +79,9 @@ pub fn step_closing(card: &[u8], at: usize, kind: usize) -> Step
 pub fn step_after(card: &[u8], at: usize) -> Step
     ensures { λ r. ⌜ r ≡ stepAt (now (card .entry)) at ⌝ }
 {
+    if sign_here(card, at, ROUND_CLOSE) {
+        return bare(ROUND_CLOSE, at, at + 1);
+    }
     let from = past_blank(card, at);
     if sign_here(card, from, ROUND_CLOSE) {
         return bare(ROUND_CLOSE, from, from + 1);
@@ -91,6 +99,9 @@ pub fn step_after(card: &[u8], at: usize) -> Step
 pub fn step_joint(card: &[u8], at: usize) -> Step
     ensures { λ r. ⌜ r ≡ stepAt (now (card .entry)) at ⌝ }
 {
+    if sign_here(card, at, OR) {
+        return bare(OR, at, at + 1);
+    }
     let from = past_blank(card, at);
     if sign_here(card, from, OR) {
         return bare(OR, from, from + 1);
@@ -133,6 +144,9 @@ pub fn step_further(card: &[u8], at: usize) -> Step
 pub fn step_opening(card: &[u8], at: usize) -> Step
     ensures { λ r. ⌜ r ≡ stepAt (now (card .entry)) at ⌝ }
 {
+    if sign_here(card, at, ROUND_OPEN) {
+        return bare(ROUND_OPEN, at, at + 1);
+    }
     let from = past_blank(card, at);
     if sign_here(card, from, ROUND_OPEN) {
         return bare(ROUND_OPEN, from, from + 1);
@@ -150,6 +164,10 @@ pub fn step_opening(card: &[u8], at: usize) -> Step
 pub fn step_number(card: &[u8], at: usize) -> Step
     ensures { λ r. ⌜ r ≡ stepAt (now (card .entry)) at ⌝ }
 {
+    let tight = digit_here(card, at);
+    if tight < NO_DIGIT {
+        return valued(NUMBER, tight, at, at + 1);
+    }
     let from = past_blank(card, at);
     let value = digit_here(card, from);
     if value < NO_DIGIT {
@@ -160,6 +178,26 @@ pub fn step_number(card: &[u8], at: usize) -> Step
 
 // A seat word.
 pub fn step_seat(card: &[u8], at: usize) -> Step
+    ensures { λ r. ⌜ r ≡ stepAt (now (card .entry)) at ⌝ }
+{
+    let tight = seat_here(card, at);
+    if tight < NO_DIGIT {
+        return valued(SEAT, tight, at, at + 2);
+    }
+    let from = past_blank(card, at);
+    let value = seat_here(card, from);
+    if value < NO_DIGIT {
+        return valued(SEAT, value, from, from + 2);
+    }
+    let units = teen_here(card, from);
+    if units < NO_DIGIT {
+        return valued(SEAT, 10 + units, from, from + 3);
+    }
+    step_from(card, from)
+}
+
+// A seat word, most likely of one digit.
+fn step_short_seat(card: &[u8], at: usize) -> Step
     ensures { λ r. ⌜ r ≡ stepAt (now (card .entry)) at ⌝ }
 {
     let from = past_blank(card, at);
@@ -174,6 +212,10 @@ pub fn step_seat(card: &[u8], at: usize) -> Step
 pub fn step_inner(card: &[u8], at: usize) -> Step
     ensures { λ r. ⌜ r ≡ stepAt (now (card .entry)) at ⌝ }
 {
+    let tight = seat_here(card, at);
+    if tight < NO_DIGIT {
+        return valued(SEAT, tight, at, at + 2);
+    }
     let from = past_blank(card, at);
     let value = seat_here(card, from);
     if value < NO_DIGIT {
@@ -232,7 +274,7 @@ pub fn step_kind(card: &[u8], at: usize, kind: usize) -> Step
     ensures { λ r. ⌜ r ≡ stepAt (now (card .entry)) at ⌝ }
 {
     if kind == SEAT {
-        return step_seat(card, at);
+        return step_short_seat(card, at);
     }
     if kind == PROCESS {
         return step_process(card, at);

@@ -1,7 +1,7 @@
 // Quick looks: does a frequent mark stand right at a place? Each asks two or three bytes at most.
 ghost use mathlib.Core.Path.{_≡_};
 ghost use lib.ListN.{drop};
-ghost use Rattle.looks.specs.Quick.{signAhead, digitAhead, lastDigit, seatAhead, processAhead, pastBlank, pastLine, bytesAhead, wordAhead};
+ghost use Rattle.looks.specs.Quick.{signAhead, digitAhead, lastDigit, seatAhead, processAhead, teenAhead, pastBlank, pastLine, bytesAhead, wordAhead};
 use letters::bytes::begins_at;
 use letters::bytes::digit_at;
 use letters::bytes::is_alone;
@@ -108,6 +108,16 @@ pub fn process_here(card: &[u8], at: usize) -> usize
 {
     if all_here(card, at, b"process") {
         return last_digit(card, at + 7);
+    }
+    NO_DIGIT
+}
+
+// The second digit of the seat word from s10 to s19.
+pub fn teen_here(card: &[u8], at: usize) -> usize
+    ensures { λ r. ⌜ r ≡ teenAhead (now (card .entry)) at ⌝ }
+{
+    if all_here(card, at, b"s1") {
+        return last_digit(card, at + 2);
     }
     NO_DIGIT
 }

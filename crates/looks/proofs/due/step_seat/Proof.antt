@@ -1,7 +1,7 @@
 -- What the look found is what the step finds (proofs/Quick.antt).
 use mathlib.Core.Path.{sym, _∙_}
 use native.Mathlib.Omega.{arith}
-use Rattle.looks.proofs.Quick.{seat-room, seat-step, past-step}
+use Rattle.looks.proofs.Quick.{seat-room, seat-step, teen-room, teen-step, past-step}
 use borrow.Author.Needs.{needs}
 use Rattle.looks.proofs.due.step_seat.Statement.{statement}
 use Rattle.looks.proofs.due.step_seat.Tie as tie
@@ -11,41 +11,73 @@ use Rattle.marks.proofs.answer.valued.Reads as valued-reads
 use Rattle.looks.proofs.due.step_from.Reads as step-from-reads
 use Rattle.looks.proofs.look.past_blank.Reads as past-blank-reads
 use Rattle.looks.proofs.look.seat_here.Reads as seat-here-reads
-
-past-blank-requires : tie.Need-past-blank-requires
-past-blank-requires c κs = search needs
+use Rattle.looks.proofs.look.teen_here.Reads as teen-here-reads
 
 seat-here-requires : tie.Need-seat-here-requires
 seat-here-requires c κs = search needs
 
 add-valued : tie.Need-add-valued
-add-valued c = omega (arith, seat-room (c .before .before .before .before .args .card .now) (c .before .before .past-blank .result) (c .before .seat-here .result) (c .before .seat-here .ensures) (c .if1 .taken))
+add-valued c = omega (arith, seat-room (c .before .before .before .args .card .now) (c .before .before .before .args .at) (c .before .seat-here .result) (c .before .seat-here .ensures) (c .if1 .taken))
 
 valued-requires : tie.Need-valued-requires
 valued-requires c κs = search needs
 
 returns : tie.Need-returns
-returns c =
-    c .valued .ensures ∙ sym
-    (seat-step (c .before .before .before .before .before .args .card .now) (c .before .before .before .past-blank .result) (c .before .before .seat-here .result)
-    (c .before .before .seat-here .ensures) (c .before .if1 .taken))
-    ∙ past-step (c .before .before .before .before .before .args .card .now) (c .before .before .before .before .before .args .at)
-    (c .before .before .before .past-blank .ensures)
+returns c = c .valued .ensures ∙ sym (seat-step (c .before .before .before .before .args .card .now) (c .before .before .before .before .args .at) (c .before .before .seat-here .result) (c .before .before .seat-here .ensures) (c .before .if1 .taken))
+
+past-blank-requires : tie.Need-past-blank-requires
+past-blank-requires c κs = search needs
+
+seat-here-requires-2 : tie.Need-seat-here-requires-2
+seat-here-requires-2 c κs = search needs
+
+add-valued-2 : tie.Need-add-valued-2
+add-valued-2 c = omega (arith, seat-room (c .before .before .before .before .before .before .args .card .now) (c .before .before .past-blank .result) (c .before .seat-here2 .result) (c .before .seat-here2 .ensures) (c .if2 .taken))
+
+valued-requires-2 : tie.Need-valued-requires-2
+valued-requires-2 c κs = search needs
+
+returns-2 : tie.Need-returns-2
+returns-2 c = c .valued2 .ensures ∙ sym (seat-step (c .before .before .before .before .before .before .before .args .card .now) (c .before .before .before .past-blank .result) (c .before .before .seat-here2 .result) (c .before .before .seat-here2 .ensures) (c .before .if2 .taken)) ∙ past-step (c .before .before .before .before .before .before .before .args .card .now) (c .before .before .before .before .before .before .before .args .at) (c .before .before .before .past-blank .ensures)
+
+teen-here-requires : tie.Need-teen-here-requires
+teen-here-requires c κs = search needs
+
+add-valued-3 : tie.Need-add-valued-3
+add-valued-3 c = omega (arith, c .if3 .taken)
+
+add-valued-4 : tie.Need-add-valued-4
+add-valued-4 c = omega (arith, teen-room (c .before .before .before .before .before .before .before .before .args .card .now) (c .before .before .before .before .past-blank .result) (c .before .teen-here .result) (c .before .teen-here .ensures) (c .if3 .taken))
+
+valued-requires-3 : tie.Need-valued-requires-3
+valued-requires-3 c κs = search needs
+
+returns-3 : tie.Need-returns-3
+returns-3 c = c .valued3 .ensures ∙ sym (teen-step (c .before .before .before .before .before .before .before .before .before .args .card .now) (c .before .before .before .before .before .past-blank .result) (c .before .before .teen-here .result) (c .before .before .teen-here .ensures) (c .before .if3 .taken)) ∙ past-step (c .before .before .before .before .before .before .before .before .before .args .card .now) (c .before .before .before .before .before .before .before .before .before .args .at) (c .before .before .before .before .before .past-blank .ensures)
 
 step-from-requires : tie.Need-step-from-requires
 step-from-requires c κs = search needs
 
-returns-2 : tie.Need-returns-2
-returns-2 c = c .step-from .ensures ∙ past-step (c .before .before .before .before .before .args .card .now) (c .before .before .before .before .before .args .at) (c .before .before .before .past-blank .ensures)
+returns-4 : tie.Need-returns-4
+returns-4 c = c .step-from .ensures ∙ past-step (c .before .before .before .before .before .before .before .before .before .args .card .now) (c .before .before .before .before .before .before .before .before .before .args .at) (c .before .before .before .before .before .past-blank .ensures)
 
 pub step-seat-spec : {M : Type 1} → statement M
 step-seat-spec =
     tie.close
     (tie.spec
-    past-blank-requires
     seat-here-requires
     add-valued
     valued-requires
     returns
+    past-blank-requires
+    seat-here-requires-2
+    add-valued-2
+    valued-requires-2
+    returns-2
+    teen-here-requires
+    add-valued-3
+    add-valued-4
+    valued-requires-3
+    returns-3
     step-from-requires
-    returns-2)
+    returns-4)
