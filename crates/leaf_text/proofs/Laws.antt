@@ -1,9 +1,9 @@
 -- A leaf's texts in the form in which the code puts them: literals one after the other, a literal of two digits byte for byte, and the
 -- parts of a node that are read one by one. Assumes nothing.
-use Prim.Native.Nat.{ℕ, zero, suc, _+_, _-_, _≤_, _<_}
-use mathlib.Core.Path.{_≡_, refl, ap, _∙_}
+use Prim.Native.Nat.{ℕ, zero, suc, _+_, _-_, _/_, _%_, _≤_, _<_}
+use mathlib.Core.Path.{_≡_, refl, sym, ap, _∙_}
 use mathlib.Core.Bool.{Bool, true, false}
-use mathlib.Core.List.{List, _∷_}
+use mathlib.Core.List.{List, [], _∷_, _++_}
 use native.Mathlib.Numerals.{add-one}
 use native.Mathlib.Omega.{arith}
 use borrow.Author.Tests.{eq-eqb, ne-eqb}
@@ -17,16 +17,23 @@ use Rattle.meaning.specs.Reduced.{Bound, equalTo, moreThan, lessThan, counterOf
 use Rattle.table.specs.declared.Bound.{Bound as BoundRow}
 use Rattle.table.specs.Bounds.{boundRow, boundOf}
 use Rattle.table.proofs.Laws.{of-state}
-use Rattle.room.specs.Digits.{digit}
-use Rattle.room.proofs.Decimal.{decimal-one}
+use Rattle.room.specs.Digits.{digit, decimal}
+use Rattle.room.proofs.Decimal.{decimal-one, decimal-more}
 use Rattle.phrases.specs.Phrases.{Text, _▸_, num, counted}
 use Rattle.texts.specs.Writing.{signText, literal, literals, groupText}
 use Rattle.texts.specs.ReducedText.{boundText, counterText}
 
 -- ---- literals
 
--- a sign and a literal, byte for byte
-module _ (sign relation d i : ℕ) (hi : i < 10) (hd : d < 10) where
+-- a number of two digits whose first is 1
+pub decimal-teen : (n : ℕ) → 10 ≤ n → n < 20 → decimal n ≡ 49 ∷ digit (n - 10) ∷ []
+decimal-teen n l h =
+    let tens : n / 10 ≡ 1 = omega arith in
+    let units : n % 10 ≡ n - 10 = omega arith in
+    decimal-more n l ∙ rw (tens, units, decimal-one 1 (omega arith))
+
+-- a sign and a literal, byte for byte, by the digits of its seat
+module _ (sign relation d i : ℕ) (hd : d < 10) {seat : List ℕ} (hi : decimal i ≡ seat) where
   abbrev Further : Text → Type 0
   Further f = (r : List ℕ) → f r ≡ signText (either all any sign) ▸ literal (either is isnt relation) d i r
 
@@ -35,11 +42,22 @@ module _ (sign relation d i : ℕ) (hi : i < 10) (hd : d < 10) where
   signed false r = refl
 
   module _ {joint : ℕ} (e : joint ≡ either 38 124 sign) where
-    pub further-is : relation ≡ 0 → Further (λ r. 32 ∷ joint ∷ 32 ∷ 115 ∷ digit i ∷ 61 ∷ digit d ∷ r)
-    further-is q r = rw (e, eq-eqb relation 0 q, decimal-one i hi, decimal-one d hd) (signed (eqb sign 0) _)
+    pub further-is : relation ≡ 0 → Further (λ r. 32 ∷ joint ∷ 32 ∷ 115 ∷ (seat ++ (61 ∷ digit d ∷ r)))
+    further-is q r = rw (e, eq-eqb relation 0 q, hi, decimal-one d hd) (signed (eqb sign 0) _)
 
-    pub further-isnt : (relation ≡ 0 → ⊥) → Further (λ r. 32 ∷ joint ∷ 32 ∷ 115 ∷ digit i ∷ 33 ∷ 61 ∷ digit d ∷ r)
-    further-isnt q r = rw (e, ne-eqb relation 0 q, decimal-one i hi, decimal-one d hd) (signed (eqb sign 0) _)
+    pub further-isnt : (relation ≡ 0 → ⊥) → Further (λ r. 32 ∷ joint ∷ 32 ∷ 115 ∷ (seat ++ (33 ∷ 61 ∷ digit d ∷ r)))
+    further-isnt q r = rw (e, ne-eqb relation 0 q, hi, decimal-one d hd) (signed (eqb sign 0) _)
+
+-- a bracket and a literal, byte for byte
+module _ (relation d i : ℕ) (hd : d < 10) (hi : i < 10) where
+  abbrev Opened : Text → Type 0
+  Opened f = (r : List ℕ) → f r ≡ "(" ▸ literal (either is isnt relation) d i r
+
+  pub opened-is : relation ≡ 0 → Opened (λ r. 40 ∷ 115 ∷ digit i ∷ 61 ∷ digit d ∷ r)
+  opened-is q r = rw (eq-eqb relation 0 q, decimal-one i hi, decimal-one d hd)
+
+  pub opened-isnt : (relation ≡ 0 → ⊥) → Opened (λ r. 40 ∷ 115 ∷ digit i ∷ 33 ∷ 61 ∷ digit d ∷ r)
+  opened-isnt q r = rw (ne-eqb relation 0 q, decimal-one i hi, decimal-one d hd)
 
 -- those behind the first
 module _ (s : Sign) (q : Relation) (d : ℕ) where
@@ -74,9 +92,10 @@ bound-text (equalTo m) r = refl
 bound-text (moreThan m) r = refl
 bound-text (lessThan m) r = refl
 
-pub counter-text : (n j x : ℕ) {d : ℕ} {b : BoundRow} → d ≡ statePart x → b ≡ boundRow (boundOf (counterOf n j (leafOf x))) → (r : List ℕ)
-    → "(no_" ▸ num d (b .sign ∷ num (b .number) (")" ▸ r)) ≡ counterText (counterOf n j (leafOf x)) r
-counter-text n j x {d} {b} ed eb r =
-    ap (λ (y : BoundRow). "(no_" ▸ num d (y .sign ∷ num (y .number) (")" ▸ r))) eb
+pub counter-text : (n j x : ℕ) {d : ℕ} {b : BoundRow} → d ≡ statePart x → d < 10 → b ≡ boundRow (boundOf (counterOf n j (leafOf x))) → (r : List ℕ)
+    → 40 ∷ 110 ∷ 111 ∷ 95 ∷ digit d ∷ b .sign ∷ num (b .number) (")" ▸ r) ≡ counterText (counterOf n j (leafOf x)) r
+counter-text n j x {d} {b} ed hd eb r =
+    ap (λ (l : List ℕ). "(no_" ▸ (l ++ (b .sign ∷ num (b .number) (")" ▸ r)))) (sym (decimal-one d hd))
+    ∙ ap (λ (y : BoundRow). "(no_" ▸ num d (y .sign ∷ num (y .number) (")" ▸ r))) eb
     ∙ rw (ed, of-state n j x)
     (ap (λ (l : List ℕ). "(no_" ▸ num (statePart x) l) (bound-text (boundOf (counterOf n j (leafOf x))) (")" ▸ r)))

@@ -7,9 +7,13 @@ use card::node::sign_of;
 use card::node::state_of;
 use phrases::put_either;
 use phrases::put_numbered;
+use pieces::put_eight;
+use pieces::put_five;
+use pieces::put_nine;
+use pieces::put_seven;
+use pieces::put_six;
 use room::place;
 use room::put_byte;
-use room::put_bytes;
 use room::put_number;
 use table::bound_of;
 ghost use mathlib.Core.Path.{_≡_};
@@ -54,7 +58,7 @@ fn joint_of(sign: usize) -> u8
     b'|'
 }
 
-// The sign and a literal behind it; of one digit each, as one text.
+// The sign and a literal behind it: as one piece, of a seat up to 19 and a state of one digit.
 fn put_further(
     room: &mut [u8],
     at: usize,
@@ -65,17 +69,22 @@ fn put_further(
 ) -> usize
     ensures { λ r. ⌜ Puts (now (room .entry)) (now (room .exit)) at (λ t. signText (either all any sign) ▸ literal (either is isnt relation) state seat t) r ⌝ }
 {
-    if seat < 10 {
-        if state < 10 {
-            let joint = joint_of(sign);
+    if state < 10 {
+        let joint = joint_of(sign);
+        let d = b'0' + state as u8;
+        if seat < 10 {
             let i = b'0' + seat as u8;
-            let d = b'0' + state as u8;
             if relation == IS {
-                let s = [b' ', joint, b' ', b's', i, b'=', d];
-                return put_bytes(room, at, &s);
+                return put_seven(room, at, b' ', joint, b' ', b's', i, b'=', d);
             }
-            let s = [b' ', joint, b' ', b's', i, b'!', b'=', d];
-            return put_bytes(room, at, &s);
+            return put_eight(room, at, b' ', joint, b' ', b's', i, b'!', b'=', d);
+        }
+        if seat < 20 {
+            let i = b'0' + (seat - 10) as u8;
+            if relation == IS {
+                return put_eight(room, at, b' ', joint, b' ', b's', b'1', i, b'=', d);
+            }
+            return put_nine(room, at, b' ', joint, b' ', b's', b'1', i, b'!', b'=', d);
         }
     }
     let a = put_either(room, at, sign, b" & ", b" | ");
@@ -103,6 +112,24 @@ fn put_literals(
     to
 }
 
+// The bracket of a group and its first literal: as one piece, of one digit each.
+fn put_opened(room: &mut [u8], at: usize, relation: usize, state: usize, seat: usize) -> usize
+    ensures { λ r. ⌜ Puts (now (room .entry)) (now (room .exit)) at (λ t. "(" ▸ literal (either is isnt relation) state seat t) r ⌝ }
+{
+    if seat < 10 {
+        if state < 10 {
+            let i = b'0' + seat as u8;
+            let d = b'0' + state as u8;
+            if relation == IS {
+                return put_five(room, at, b'(', b's', i, b'=', d);
+            }
+            return put_six(room, at, b'(', b's', i, b'!', b'=', d);
+        }
+    }
+    let a = put_byte(room, at, b'(');
+    put_literal(room, a, relation, state, seat)
+}
+
 // A group as its literals; of exactly one seat nothing, for no card has it.
 fn put_group(room: &mut [u8], at: usize, node: u32, seats: usize) -> usize
     ensures { λ r. ⌜ Puts (now (room .entry)) (now (room .exit)) at (groupText seats (leafOf node)) r ⌝ }
@@ -115,10 +142,9 @@ fn put_group(room: &mut [u8], at: usize, node: u32, seats: usize) -> usize
     let relation = relation_of(node);
     let state = state_of(node);
     let first = kind + 1;
-    let a = put_byte(room, at, b'(');
-    let b = put_literal(room, a, relation, state, first);
-    let c = put_literals(room, b, sign, relation, state, first, seats);
-    put_byte(room, c, b')')
+    let a = put_opened(room, at, relation, state, first);
+    let b = put_literals(room, a, sign, relation, state, first, seats);
+    put_byte(room, b, b')')
 }
 
 // A leaf as its counter test.
@@ -127,10 +153,10 @@ fn put_counter(room: &mut [u8], at: usize, node: u32, own: usize, seats: usize) 
 {
     let d = state_of(node);
     let bound = bound_of(node, own, seats);
-    let a = put_numbered(room, at, b"(no_", d);
-    let b = put_byte(room, a, bound.sign);
-    let c = put_number(room, b, bound.number);
-    put_byte(room, c, b')')
+    let name = b'0' + d as u8;
+    let a = put_six(room, at, b'(', b'n', b'o', b'_', name, bound.sign);
+    let b = put_number(room, a, bound.number);
+    put_byte(room, b, b')')
 }
 
 pub fn put_leaf(room: &mut [u8], at: usize, node: u32, style: Style) -> usize

@@ -1,9 +1,10 @@
--- `leaf_text::put_further` meets its contract: of one digit each the bytes are the text's, else it is a sign and then a literal. Assumes
--- nothing.
-use Rattle.leaf_text.proofs.Laws.{further-is, further-isnt}
-use Rattle.texts.specs.Writing.{signText}
-use Rattle.card.specs.Card.{all, any}
+-- `leaf_text::put_further` meets its contract: where the digits are few the bytes are the text's, else it is a sign and then a literal.
+-- Assumes nothing.
 use Rattle.phrases.proofs.Laws.{put-first, puts-then, puts-as, either-text}
+use Rattle.room.proofs.Decimal.{decimal-one}
+use Rattle.card.specs.Card.{all, any}
+use Rattle.texts.specs.Writing.{signText}
+use Rattle.leaf_text.proofs.Laws.{decimal-teen, further-is, further-isnt}
 use borrow.Author.Needs.{needs}
 use Rattle.leaf_text.proofs.put_further.Statement.{statement}
 use Rattle.leaf_text.proofs.put_further.Tie as tie
@@ -11,55 +12,67 @@ use Rattle.leaf_text.proofs.put_further.Tie as tie
 joint-of-requires : tie.Need-joint-of-requires
 joint-of-requires c κs = search needs
 
-cast-i : tie.Need-cast-i
-cast-i c = search needs
-
-add-i : tie.Need-add-i
-add-i c = search needs
-
 cast-d : tie.Need-cast-d
 cast-d c = search needs
 
 add-d : tie.Need-add-d
 add-d c = search needs
 
-slice-aggregate-put-bytes : tie.Need-slice-aggregate-put-bytes
-slice-aggregate-put-bytes c = search needs
+cast-i : tie.Need-cast-i
+cast-i c = search needs
 
-put-bytes-requires : tie.Need-put-bytes-requires
-put-bytes-requires c κs = search needs
+add-i : tie.Need-add-i
+add-i c = search needs
+
+put-seven-requires : tie.Need-put-seven-requires
+put-seven-requires c κs = search needs
 
 same-length : tie.Need-same-length
 same-length c = search needs
 
 returns : tie.Need-returns
 returns c =
-    let at-put-bytes = c .before .before in
-    let at-if3 = at-put-bytes .before .before .before in
-    let at-joint-of = at-if3 .before in
-    let at-if2 = at-joint-of .before in
-    let at-if1 = at-if2 .before in
-    let start = at-if1 .before .before in
-    puts-as _ (further-is (start .args .sign) (start .args .relation) (start .args .state) (start .args .seat) (at-if1 .if1 .taken) (at-if2 .if2 .taken) (at-joint-of .joint-of .ensures) (at-if3 .if3 .taken)) (put-first (at-put-bytes .put-bytes .ensures))
+    let a = c .before .before .before .before .before .before .before .before .before .args in
+    puts-as _ (further-is (a .sign) (a .relation) (a .state) (a .seat) (c .before .before .before .before .before .before .before .if1 .taken) (decimal-one (a .seat) (c .before .before .before .before .before .if2 .taken)) (c .before .before .before .before .before .before .joint-of .ensures) (c .before .before .before .before .if3 .taken)) (put-first (c .before .before .put-seven .ensures))
 
-slice-aggregate-put-bytes-2 : tie.Need-slice-aggregate-put-bytes-2
-slice-aggregate-put-bytes-2 c = search needs
-
-put-bytes-requires-2 : tie.Need-put-bytes-requires-2
-put-bytes-requires-2 c κs = search needs
+put-eight-requires : tie.Need-put-eight-requires
+put-eight-requires c κs = search needs
 
 same-length-2 : tie.Need-same-length-2
 same-length-2 c = search needs
 
 returns-2 : tie.Need-returns-2
 returns-2 c =
-    let at-put-bytes2 = c .before .before in
-    let at-if3 = at-put-bytes2 .before .before .before in
-    let at-joint-of = at-if3 .before in
-    let at-if2 = at-joint-of .before in
-    let at-if1 = at-if2 .before in
-    let start = at-if1 .before .before in
-    puts-as _ (further-isnt (start .args .sign) (start .args .relation) (start .args .state) (start .args .seat) (at-if1 .if1 .taken) (at-if2 .if2 .taken) (at-joint-of .joint-of .ensures) (at-if3 .if3 .left)) (put-first (at-put-bytes2 .put-bytes2 .ensures))
+    let a = c .before .before .before .before .before .before .before .before .before .args in
+    puts-as _ (further-isnt (a .sign) (a .relation) (a .state) (a .seat) (c .before .before .before .before .before .before .before .if1 .taken) (decimal-one (a .seat) (c .before .before .before .before .before .if2 .taken)) (c .before .before .before .before .before .before .joint-of .ensures) (c .before .before .before .before .if3 .left)) (put-first (c .before .before .put-eight .ensures))
+
+cast-i-2 : tie.Need-cast-i-2
+cast-i-2 c = search needs
+
+add-i-2 : tie.Need-add-i-2
+add-i-2 c = search needs
+
+put-eight-requires-2 : tie.Need-put-eight-requires-2
+put-eight-requires-2 c κs = search needs
+
+same-length-3 : tie.Need-same-length-3
+same-length-3 c = search needs
+
+returns-3 : tie.Need-returns-3
+returns-3 c =
+    let a = c .before .before .before .before .before .before .before .before .before .before .args in
+    puts-as _ (further-is (a .sign) (a .relation) (a .state) (a .seat) (c .before .before .before .before .before .before .before .before .if1 .taken) (decimal-teen (a .seat) (c .before .before .before .before .before .before .if2 .left) (c .before .before .before .before .before .if4 .taken)) (c .before .before .before .before .before .before .before .joint-of .ensures) (c .before .before .before .before .if5 .taken)) (put-first (c .before .before .put-eight2 .ensures))
+
+put-nine-requires : tie.Need-put-nine-requires
+put-nine-requires c κs = search needs
+
+same-length-4 : tie.Need-same-length-4
+same-length-4 c = search needs
+
+returns-4 : tie.Need-returns-4
+returns-4 c =
+    let a = c .before .before .before .before .before .before .before .before .before .before .args in
+    puts-as _ (further-isnt (a .sign) (a .relation) (a .state) (a .seat) (c .before .before .before .before .before .before .before .before .if1 .taken) (decimal-teen (a .seat) (c .before .before .before .before .before .before .if2 .left) (c .before .before .before .before .before .if4 .taken)) (c .before .before .before .before .before .before .before .joint-of .ensures) (c .before .before .before .before .if5 .left)) (put-first (c .before .before .put-nine .ensures))
 
 slice-aggregate-put-either : tie.Need-slice-aggregate-put-either
 slice-aggregate-put-either c = search needs
@@ -73,33 +86,39 @@ put-either-requires c κs = search needs
 put-literal-requires : tie.Need-put-literal-requires
 put-literal-requires c κs = search needs
 
-same-length-3 : tie.Need-same-length-3
-same-length-3 c = search needs
+same-length-5 : tie.Need-same-length-5
+same-length-5 c = search needs
 
-returns-3 : tie.Need-returns-3
-returns-3 c =
-    let at-put-literal = c .before .before in
-    let at-put-either = at-put-literal .before .before .before .before in
-    let start = at-put-either .before .before .before .before .before .before in
-    puts-then (puts-as _ (either-text all any signText (start .args .sign)) (at-put-either .put-either .ensures)) (at-put-literal .put-literal .ensures)
+returns-5 : tie.Need-returns-5
+returns-5 c =
+    puts-then (puts-as _ (either-text all any signText (c .before .before .before .before .before .before .before .before .before .before .before .before .args .sign)) (c .before .before .before .before .before .before .put-either .ensures)) (c .before .before .put-literal .ensures)
 
 pub put-further-spec : {M : Type 1} → statement M
-put-further-spec = tie.close (tie.spec joint-of-requires
-    cast-i
-    add-i
+put-further-spec =
+    tie.close
+    (tie.spec
+    joint-of-requires
     cast-d
     add-d
-    slice-aggregate-put-bytes
-    put-bytes-requires
+    cast-i
+    add-i
+    put-seven-requires
     same-length
     returns
-    slice-aggregate-put-bytes-2
-    put-bytes-requires-2
+    put-eight-requires
     same-length-2
     returns-2
+    cast-i-2
+    add-i-2
+    put-eight-requires-2
+    same-length-3
+    returns-3
+    put-nine-requires
+    same-length-4
+    returns-4
     slice-aggregate-put-either
     slice-aggregate-put-either-2
     put-either-requires
     put-literal-requires
-    same-length-3
-    returns-3)
+    same-length-5
+    returns-5)
