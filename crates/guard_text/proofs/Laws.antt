@@ -6,7 +6,7 @@ use mathlib.Core.Logic.{inl, inr}
 use mathlib.Core.Bool.{Bool, true, false}
 use mathlib.Core.List.{List, _∷_}
 use native.Mathlib.Omega.{arith}
-use borrow.Author.Tests.{le-leb, eqb-true, eqb-false}
+use borrow.Author.Tests.{le-leb, eq-eqb, ne-eqb, eqb-true, eqb-false}
 use lib.Dec.{eqb, leb}
 use lib.ListN.{getD}
 use Rattle.card.specs.Text.{if_then_else_}
@@ -54,7 +54,16 @@ closes : (b : Bool) (r : List ℕ) → bracketIf b 41 r ≡ closing b r
 closes true r = refl
 closes false r = refl
 
--- ---- node m, at which x stands; `text` is 0 for the written card
+-- ---- the operator of node m, at which x stands, where node 0 is read as a leaf
+
+module _ (m x : ℕ) {op : ℕ} (o : op ≡ (if eqb m 0 then opLeaf else opOf x)) (g : op ≡ opLeaf → ⊥) where
+  pub joined-above : m ≡ 0 → ⊥
+  joined-above z = g (o ∙ rw (eq-eqb m 0 z))
+
+  pub joined-op : op ≡ opOf x
+  joined-op = o ∙ rw (ne-eqb m 0 joined-above)
+
+-- ---- and its text; `text` is 0 for the written card
 
 module _ (text : ℕ) (leaf : Leaf → Text) (v : ℕ) (nodes : List ℕ) (m x : ℕ) (at : x ≡ getD nodes m 0) where
   abbrev brackets : Brackets
@@ -66,15 +75,24 @@ module _ (text : ℕ) (leaf : Leaf → Text) (v : ℕ) (nodes : List ℕ) (m x :
   abbrev Here : Text → Type 0
   Here f = (r : List ℕ) → f r ≡ part v m r
 
-  pub text-first : m ≡ 0 → Here (leaf (leafOf x))
+  text-first : m ≡ 0 → Here (leaf (leafOf x))
   unfolding formulaText
   text-first h r = rw (guard-at-leaf nodes m x at (inr h))
 
   module _ {op : ℕ} (o : op ≡ opOf x) where
-    pub text-leaf : op ≡ opLeaf → Here (leaf (leafOf x))
+    text-leaf : op ≡ opLeaf → Here (leaf (leafOf x))
     unfolding formulaText
     text-leaf e r = rw (guard-at-leaf nodes m x at (inl (sym o ∙ e)))
 
+  module _ {op : ℕ} (o : op ≡ (if eqb m 0 then opLeaf else opOf x)) where
+    pub text-at-leaf : op ≡ opLeaf → Here (leaf (leafOf x))
+    text-at-leaf e = go (eqb m 0) refl
+      where
+        go : (t : Bool) → eqb m 0 ≡ t → Here (leaf (leafOf x))
+        go true j = text-first (eqb-true m 0 j)
+        go false j = let q : op ≡ opOf x = o ∙ rw j in text-leaf q e
+
+  module _ {op : ℕ} (o : op ≡ opOf x) where
     module _ (h : m ≡ 0 → ⊥) {a : ℕ} (l : a ≡ min (leftOf x) (m - 1)) where
       pub text-not : op ≡ opNot → Here (λ r. "!" ▸ part 2 a r)
       unfolding formulaText

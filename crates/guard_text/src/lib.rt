@@ -1,4 +1,5 @@
 // A guard's nodes put as text, in either of the two texts: leaves, `!`, `&` and `|`.
+use card::limits::NODE_PLACES;
 use card::node::ALL;
 use card::node::AND;
 use card::node::ANY;
@@ -10,11 +11,11 @@ use card::node::right_of;
 use card::number_at;
 use leaf_text::Style;
 use leaf_text::WRITTEN;
+use leaf_text::joint_of;
 use leaf_text::put_leaf;
-use phrases::put_either;
+use pieces::put_three;
 use room::place;
 use room::put_byte;
-use room::put_bytes;
 ghost use mathlib.Core.Path.{_≡_};
 ghost use mathlib.Core.List.{_∷_};
 ghost use Prim.Native.Nat.{_+_, _<_, _≤_};
@@ -22,10 +23,10 @@ ghost use lib.Dec.{eqb, leb};
 ghost use Rattle.card.specs.Limits.{nodePlaces};
 ghost use Rattle.card.specs.Text.{if_then_else_};
 ghost use Rattle.card.specs.Card.{all, any};
-ghost use Rattle.card.specs.Laid.{signNumber, opAnd, either, guardAt, guardOf};
+ghost use Rattle.card.specs.Laid.{signNumber, opLeaf, opAnd, opOf, either, guardAt, guardOf};
 ghost use Rattle.phrases.specs.Puts.{Puts};
 ghost use Rattle.texts.specs.Shared.{formulaText, formulaOr};
-ghost use Rattle.leaf_text.specs.Style.{bracketsOf, leafText};
+ghost use Rattle.leaf_text.specs.Style.{styleOf, bracketsOf, leafText};
 ghost use Rattle.guard_text.specs.Levels.{tightNumber, levelOf};
 
 // Where a part of a guard stands; 0 is loose.
@@ -34,10 +35,10 @@ const MIDDLE: usize = 1;
 const TIGHT: usize = 2;
 
 // The level by which a part has brackets: in the reduced text always, as where it stands tight.
-fn bracket_level(level: usize, style: Style) -> usize
-    ensures { λ r. ⌜ r ≡ either level tightNumber (style .text) ⌝ }
+fn bracket_level(level: usize, text: usize) -> usize
+    ensures { λ r. ⌜ r ≡ either level tightNumber text ⌝ }
 {
-    if style.text == WRITTEN {
+    if text == WRITTEN {
         return level;
     }
     TIGHT
@@ -64,47 +65,64 @@ fn sign_between(op: usize) -> usize
     ANY
 }
 
-// The guard whose root is node `n`, by the card's own nodes: a child's number is below its parent's.
+// The operator of node n, where `x` stands: node 0 is read as a leaf.
+fn operator_at(x: u32, n: usize) -> usize
+    ensures { λ r. ⌜ r ≡ (if eqb n 0 then opLeaf else opOf x) ⌝ }
+{
+    if n == 0 {
+        return LEAF;
+    }
+    op_of(x)
+}
+
+// The guard whose root is node `n`, by the card's own nodes: a child's number is below its parent's. The style is handed on in numbers, not as
+// a struct, which would be copied for each node.
 fn put_guard(
     room: &mut [u8],
     at: usize,
-    nodes: &[u32],
+    nodes: &[u32; NODE_PLACES],
     n: usize,
     level: usize,
-    style: Style,
+    text: usize,
+    own: usize,
+    seats: usize,
 ) -> usize
-    ensures { λ r. ⌜ Puts (now (room .entry)) (now (room .exit)) at (formulaText (bracketsOf style) (leafText style) (levelOf level) (guardAt (now (nodes .entry)) n)) r ⌝ }
+    ensures { λ r. ⌜ Puts (now (room .entry)) (now (room .exit)) at (formulaText (bracketsOf (styleOf text own seats 1)) (leafText (styleOf text own seats 1)) (levelOf level) (guardAt (now (nodes .entry)) n)) r ⌝ }
 {
     let x = number_at(nodes, n);
-    if n == 0 {
-        return put_leaf(room, at, x, style);
-    }
-    let op = op_of(x);
+    let op = operator_at(x, n);
     if op == LEAF {
+        let style = Style {
+            text: text,
+            own: own,
+            seats: seats,
+            copies: 1,
+        };
         return put_leaf(room, at, x, style);
     }
     let left = left_of(x, n);
     if op == NOT {
         let a = put_byte(room, at, b'!');
-        return put_guard(room, a, nodes, left, TIGHT, style);
+        return put_guard(room, a, nodes, left, TIGHT, text, own, seats);
     }
     let right = right_of(x, n);
     let sign = sign_between(op);
-    let stands = bracket_level(level, style);
+    let joint = joint_of(sign);
+    let stands = bracket_level(level, text);
     // `&` has brackets of its own where it stands tight, `|` in the middle too; its own sign may stand left of it without
-    let own = TIGHT - sign;
-    let a = put_bracket(room, at, b'(', stands, own);
-    let b = put_guard(room, a, nodes, left, own - 1, style);
-    let c = put_either(room, b, sign, b" & ", b" | ");
-    let d = put_guard(room, c, nodes, right, own, style);
-    put_bracket(room, d, b')', stands, own)
+    let least = TIGHT - sign;
+    let a = put_bracket(room, at, b'(', stands, least);
+    let b = put_guard(room, a, nodes, left, least - 1, text, own, seats);
+    let c = put_three(room, b, b' ', joint, b' ');
+    let d = put_guard(room, c, nodes, right, least, text, own, seats);
+    put_bracket(room, d, b')', stands, least)
 }
 
 // A statement's guard, of so many nodes from `from` on.
 pub fn put_test(
     room: &mut [u8],
     at: usize,
-    nodes: &[u32],
+    nodes: &[u32; NODE_PLACES],
     from: usize,
     count: usize,
     style: Style,
@@ -116,6 +134,15 @@ pub fn put_test(
         return place(at);
     }
     let root = from + count - 1;
-    let a = put_bytes(room, at, b" & ");
-    put_guard(room, a, nodes, root, MIDDLE, style)
+    let a = put_three(room, at, b' ', b'&', b' ');
+    put_guard(
+        room,
+        a,
+        nodes,
+        root,
+        MIDDLE,
+        style.text,
+        style.own,
+        style.seats,
+    )
 }

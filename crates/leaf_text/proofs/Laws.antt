@@ -32,14 +32,18 @@ decimal-teen n l h =
     let units : n % 10 ≡ n - 10 = omega arith in
     decimal-more n l ∙ rw (tens, units, decimal-one 1 (omega arith))
 
+-- a sign, byte for byte
+signed : (t : Bool) (r : List ℕ) → 32 ∷ (if t then 38 else 124) ∷ 32 ∷ r ≡ signText (if t then all else any) ▸ r
+signed true r = refl
+signed false r = refl
+
+pub sign-bytes : (sign : ℕ) {joint : ℕ} → joint ≡ either 38 124 sign → (r : List ℕ) → 32 ∷ joint ∷ 32 ∷ r ≡ signText (either all any sign) ▸ r
+sign-bytes sign e r = rw e (signed (eqb sign 0) r)
+
 -- a sign and a literal, byte for byte, by the digits of its seat
 module _ (sign relation d i : ℕ) (hd : d < 10) {seat : List ℕ} (hi : decimal i ≡ seat) where
   abbrev Further : Text → Type 0
   Further f = (r : List ℕ) → f r ≡ signText (either all any sign) ▸ literal (either is isnt relation) d i r
-
-  signed : (t : Bool) (r : List ℕ) → 32 ∷ (if t then 38 else 124) ∷ 32 ∷ r ≡ signText (if t then all else any) ▸ r
-  signed true r = refl
-  signed false r = refl
 
   module _ {joint : ℕ} (e : joint ≡ either 38 124 sign) where
     pub further-is : relation ≡ 0 → Further (λ r. 32 ∷ joint ∷ 32 ∷ 115 ∷ (seat ++ (61 ∷ digit d ∷ r)))

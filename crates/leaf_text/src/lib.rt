@@ -48,8 +48,8 @@ fn put_literal(room: &mut [u8], at: usize, relation: usize, state: usize, seat: 
     put_number(room, b, state)
 }
 
-// The byte of the sign that joins a group's literals.
-fn joint_of(sign: usize) -> u8
+// The byte of a sign that joins literals or parts.
+pub fn joint_of(sign: usize) -> u8
     ensures { λ r. ⌜ r ≡ either 38 124 sign ⌝ }
 {
     if sign == 0 {

@@ -1,12 +1,11 @@
 -- `guard_text::put_guard` meets its contract: what stands at a node gives its text from its parts' texts, and node numbers fall. Assumes
 -- nothing.
-use Rattle.guard_text.proofs.Laws.{text-first, text-leaf, text-not, text-joined}
-use Rattle.leaf_text.specs.Style.{leafText}
-use Rattle.texts.specs.Writing.{signText}
-use Rattle.phrases.proofs.Laws.{put-first, puts-then, puts-as, either-text}
-use Rattle.card.specs.Card.{all, any}
 use borrow.Author.Needs.{needs}
 use native.Mathlib.Omega.{arith}
+use Rattle.phrases.proofs.Laws.{put-first, puts-then, puts-as}
+use Rattle.leaf_text.proofs.Laws.{sign-bytes}
+use Rattle.leaf_text.specs.Style.{styleOf, leafText}
+use Rattle.guard_text.proofs.Laws.{text-at-leaf, joined-above, joined-op, text-not, text-joined}
 use Prim.Native.Nat.{ℕ, _<_}
 use borrow.Fn.Kinds.{In}
 use borrow.Fn.PlainCycle.{Measures, is, falls, and}
@@ -14,14 +13,15 @@ use Rattle.guard_text.proofs.put_guard.Reads as put-guard
 use Rattle.guard_text.proofs.put_guard.Kinds as put-guard-kinds
 use Rattle.guard_text.proofs.+put_guard.Lts-put_guard as put-guard-lts
 use Rattle.card.proofs.node.left_of.Reads as left-of-reads
-use Rattle.card.proofs.node.op_of.Reads as op-of-reads
 use Rattle.card.proofs.node.right_of.Reads as right-of-reads
 use Rattle.card.proofs.number_at.Reads as number-at-reads
 use Rattle.guard_text.proofs.bracket_level.Reads as bracket-level-reads
+use Rattle.guard_text.proofs.operator_at.Reads as operator-at-reads
 use Rattle.guard_text.proofs.put_bracket.Reads as put-bracket-reads
 use Rattle.guard_text.proofs.sign_between.Reads as sign-between-reads
+use Rattle.leaf_text.proofs.joint_of.Reads as joint-of-reads
 use Rattle.leaf_text.proofs.put_leaf.Reads as put-leaf-reads
-use Rattle.phrases.proofs.put_either.Reads as put-either-reads
+use Rattle.pieces.proofs.put_three.Reads as put-three-reads
 use Rattle.room.proofs.put_byte.Reads as put-byte-reads
 use Rattle.guard_text.proofs.+put_guard.{statement}
 use Rattle.guard_text.proofs.+put_guard.Tie.{close}
@@ -37,10 +37,13 @@ put-guard-below t =
     and 2 put-guard-kinds.ps (falls 2 put-guard-kinds.ps _<_ μ-put-guard t) put-guard.Pre
 
 abbrev put-guard-R : ℕ → put-guard-lts.Claims
-put-guard-R t = (number-at-reads.Asked, number-at-reads.Learnt, put-leaf-reads.Asked, put-leaf-reads.Learnt, op-of-reads.Asked, op-of-reads.Learnt, left-of-reads.Asked, left-of-reads.Learnt, put-byte-reads.Asked, put-byte-reads.Learnt, put-guard-below t, put-guard.Post, right-of-reads.Asked, right-of-reads.Learnt, sign-between-reads.Asked, sign-between-reads.Learnt, bracket-level-reads.Asked, bracket-level-reads.Learnt, put-bracket-reads.Asked, put-bracket-reads.Learnt, put-either-reads.Asked, put-either-reads.Learnt)
+put-guard-R t = (number-at-reads.Asked, number-at-reads.Learnt, operator-at-reads.Asked, operator-at-reads.Learnt, put-leaf-reads.Asked, put-leaf-reads.Learnt, left-of-reads.Asked, left-of-reads.Learnt, put-byte-reads.Asked, put-byte-reads.Learnt, put-guard-below t, put-guard.Post, right-of-reads.Asked, right-of-reads.Learnt, sign-between-reads.Asked, sign-between-reads.Learnt, joint-of-reads.Asked, joint-of-reads.Learnt, bracket-level-reads.Asked, bracket-level-reads.Learnt, put-bracket-reads.Asked, put-bracket-reads.Learnt, put-three-reads.Asked, put-three-reads.Learnt)
 
 put-guard-number-at-requires : (t : ℕ) → put-guard-lts.Need-number-at-requires (put-guard-R t) (put-guard-at t) put-guard.Post
 put-guard-number-at-requires t c κs = search needs
+
+put-guard-operator-at-requires : (t : ℕ) → put-guard-lts.Need-operator-at-requires (put-guard-R t) (put-guard-at t) put-guard.Post
+put-guard-operator-at-requires t c κs = search needs
 
 put-guard-put-leaf-requires : (t : ℕ) → put-guard-lts.Need-put-leaf-requires (put-guard-R t) (put-guard-at t) put-guard.Post
 put-guard-put-leaf-requires t c κs = search needs
@@ -50,29 +53,8 @@ put-guard-same-length t c = search needs
 
 put-guard-returns : (t : ℕ) → put-guard-lts.Need-returns (put-guard-R t) (put-guard-at t) put-guard.Post
 put-guard-returns t c =
-    let at-put-leaf = c .before .before in
-    let at-if1 = at-put-leaf .before .before in
-    let at-number-at = at-if1 .before in
-    let start = at-number-at .before .before .before in
-    puts-as _ (text-first (start .args .style .text) (leafText (start .args .style)) (start .args .level) (start .args .nodes .now) (start .args .n) (at-number-at .number-at .result) (at-number-at .number-at .ensures) (at-if1 .if1 .taken)) (at-put-leaf .put-leaf .ensures)
-
-put-guard-op-of-requires : (t : ℕ) → put-guard-lts.Need-op-of-requires (put-guard-R t) (put-guard-at t) put-guard.Post
-put-guard-op-of-requires t c κs = search needs
-
-put-guard-put-leaf-requires-2 : (t : ℕ) → put-guard-lts.Need-put-leaf-requires-2 (put-guard-R t) (put-guard-at t) put-guard.Post
-put-guard-put-leaf-requires-2 t c κs = search needs
-
-put-guard-same-length-2 : (t : ℕ) → put-guard-lts.Need-same-length-2 (put-guard-R t) (put-guard-at t) put-guard.Post
-put-guard-same-length-2 t c = search needs
-
-put-guard-returns-2 : (t : ℕ) → put-guard-lts.Need-returns-2 (put-guard-R t) (put-guard-at t) put-guard.Post
-put-guard-returns-2 t c =
-    let at-put-leaf2 = c .before .before in
-    let at-if2 = at-put-leaf2 .before .before in
-    let at-op-of = at-if2 .before in
-    let at-number-at = at-op-of .before .before in
-    let start = at-number-at .before .before .before in
-    puts-as _ (text-leaf (start .args .style .text) (leafText (start .args .style)) (start .args .level) (start .args .nodes .now) (start .args .n) (at-number-at .number-at .result) (at-number-at .number-at .ensures) (at-op-of .op-of .ensures) (at-if2 .if2 .taken)) (at-put-leaf2 .put-leaf2 .ensures)
+    let a = c .before .before .before .before .before .before .before .before .before .args in
+    puts-as _ (text-at-leaf (a .text) (leafText (styleOf (a .text) (a .own) (a .seats) 1)) (a .level) (a .nodes .now) (a .n) (c .before .before .before .before .before .before .number-at .result) (c .before .before .before .before .before .before .number-at .ensures) (c .before .before .before .before .before .operator-at .ensures) (c .before .before .before .before .if1 .taken)) (c .before .before .put-leaf .ensures)
 
 put-guard-left-of-requires : (t : ℕ) → put-guard-lts.Need-left-of-requires (put-guard-R t) (put-guard-at t) put-guard.Post
 put-guard-left-of-requires t c κs = search needs
@@ -82,26 +64,17 @@ put-guard-put-byte-requires t c κs = search needs
 
 put-guard-put-guard-requires : (t : ℕ) → put-guard-lts.Need-put-guard-requires (put-guard-R t) (put-guard-at t) put-guard.Post
 put-guard-put-guard-requires t c κs =
-    let at-left-of = c .before .before .before .before .before .before in
-    let at-if1 = at-left-of .before .before .before in
-    let start = at-if1 .before .before .before .before in
-    omega (arith, at-left-of .left-of .ensures .1 (at-if1 .if1 .left), start .pre)
+    omega (arith, c .before .before .before .before .before .before .left-of .ensures .1 (joined-above (c .before .before .before .before .before .before .before .before .before .before .before .before .args .n) (c .before .before .before .before .before .before .before .before .before .number-at .result) (c .before .before .before .before .before .before .before .before .operator-at .ensures) (c .before .before .before .before .before .before .before .if1 .left)), c .before .before .before .before .before .before .before .before .before .before .before .before .pre)
 
-put-guard-same-length-3 : (t : ℕ) → put-guard-lts.Need-same-length-3 (put-guard-R t) (put-guard-at t) put-guard.Post
-put-guard-same-length-3 t c = search needs
+put-guard-same-length-2 : (t : ℕ) → put-guard-lts.Need-same-length-2 (put-guard-R t) (put-guard-at t) put-guard.Post
+put-guard-same-length-2 t c = search needs
 
-put-guard-returns-3 : (t : ℕ) → put-guard-lts.Need-returns-3 (put-guard-R t) (put-guard-at t) put-guard.Post
-put-guard-returns-3 t c =
-    let at-put-guard = c .before .before in
-    let at-put-byte = at-put-guard .before .before .before .before in
-    let at-if3 = at-put-byte .before .before in
-    let at-left-of = at-if3 .before in
-    let at-op-of = at-left-of .before .before in
-    let at-if1 = at-op-of .before in
-    let at-number-at = at-if1 .before in
-    let start = at-number-at .before .before .before in
-    puts-as _ (text-not (start .args .style .text) (leafText (start .args .style)) (start .args .level) (start .args .nodes .now) (start .args .n) (at-number-at .number-at .result) (at-number-at .number-at .ensures) (at-op-of .op-of .ensures) (at-if1 .if1 .left) (at-left-of .left-of .ensures .0) (at-if3 .if3 .taken))
-    (puts-then (put-first (at-put-byte .put-byte .ensures)) (at-put-guard .put-guard .ensures))
+put-guard-returns-2 : (t : ℕ) → put-guard-lts.Need-returns-2 (put-guard-R t) (put-guard-at t) put-guard.Post
+put-guard-returns-2 t c =
+    let a = c .before .before .before .before .before .before .before .before .before .before .before .before .before .before .before .args in
+    let op = c .before .before .before .before .before .before .before .before .before .before .before .operator-at .ensures in
+    puts-as _ (text-not (a .text) (leafText (styleOf (a .text) (a .own) (a .seats) 1)) (a .level) (a .nodes .now) (a .n) (c .before .before .before .before .before .before .before .before .before .before .before .before .number-at .result) (c .before .before .before .before .before .before .before .before .before .before .before .before .number-at .ensures) (joined-op (a .n) (c .before .before .before .before .before .before .before .before .before .before .before .before .number-at .result) op (c .before .before .before .before .before .before .before .before .before .before .if1 .left)) (joined-above (a .n) (c .before .before .before .before .before .before .before .before .before .before .before .before .number-at .result) op (c .before .before .before .before .before .before .before .before .before .before .if1 .left)) (c .before .before .before .before .before .before .before .before .before .left-of .ensures .0) (c .before .before .before .before .before .before .before .before .if2 .taken))
+    (puts-then (put-first (c .before .before .before .before .before .before .put-byte .ensures)) (c .before .before .put-guard .ensures))
 
 put-guard-right-of-requires : (t : ℕ) → put-guard-lts.Need-right-of-requires (put-guard-R t) (put-guard-at t) put-guard.Post
 put-guard-right-of-requires t c κs = search needs
@@ -109,11 +82,14 @@ put-guard-right-of-requires t c κs = search needs
 put-guard-sign-between-requires : (t : ℕ) → put-guard-lts.Need-sign-between-requires (put-guard-R t) (put-guard-at t) put-guard.Post
 put-guard-sign-between-requires t c κs = search needs
 
+put-guard-joint-of-requires : (t : ℕ) → put-guard-lts.Need-joint-of-requires (put-guard-R t) (put-guard-at t) put-guard.Post
+put-guard-joint-of-requires t c κs = search needs
+
 put-guard-bracket-level-requires : (t : ℕ) → put-guard-lts.Need-bracket-level-requires (put-guard-R t) (put-guard-at t) put-guard.Post
 put-guard-bracket-level-requires t c κs = search needs
 
-put-guard-sub-own : (t : ℕ) → put-guard-lts.Need-sub-own (put-guard-R t) (put-guard-at t) put-guard.Post
-put-guard-sub-own t c = search needs
+put-guard-sub-least : (t : ℕ) → put-guard-lts.Need-sub-least (put-guard-R t) (put-guard-at t) put-guard.Post
+put-guard-sub-least t c = search needs
 
 put-guard-put-bracket-requires : (t : ℕ) → put-guard-lts.Need-put-bracket-requires (put-guard-R t) (put-guard-at t) put-guard.Post
 put-guard-put-bracket-requires t c κs = search needs
@@ -123,82 +99,53 @@ put-guard-sub-put-guard t c = search needs
 
 put-guard-put-guard-requires-2 : (t : ℕ) → put-guard-lts.Need-put-guard-requires-2 (put-guard-R t) (put-guard-at t) put-guard.Post
 put-guard-put-guard-requires-2 t c κs =
-    let at-left-of = c .before .before .before .before .before .before .before .before .before in
-    let at-if1 = at-left-of .before .before .before in
-    let start = at-if1 .before .before .before .before in
-    omega (arith, at-left-of .left-of .ensures .1 (at-if1 .if1 .left), start .pre)
+    omega (arith, c .before .before .before .before .before .before .before .before .before .before .left-of .ensures .1 (joined-above (c .before .before .before .before .before .before .before .before .before .before .before .before .before .before .before .before .args .n) (c .before .before .before .before .before .before .before .before .before .before .before .before .before .number-at .result) (c .before .before .before .before .before .before .before .before .before .before .before .before .operator-at .ensures) (c .before .before .before .before .before .before .before .before .before .before .before .if1 .left)), c .before .before .before .before .before .before .before .before .before .before .before .before .before .before .before .before .pre)
 
-put-guard-slice-aggregate-put-either : (t : ℕ) → put-guard-lts.Need-slice-aggregate-put-either (put-guard-R t) (put-guard-at t) put-guard.Post
-put-guard-slice-aggregate-put-either t c = search needs
-
-put-guard-slice-aggregate-put-either-2 : (t : ℕ) → put-guard-lts.Need-slice-aggregate-put-either-2 (put-guard-R t) (put-guard-at t) put-guard.Post
-put-guard-slice-aggregate-put-either-2 t c = search needs
-
-put-guard-put-either-requires : (t : ℕ) → put-guard-lts.Need-put-either-requires (put-guard-R t) (put-guard-at t) put-guard.Post
-put-guard-put-either-requires t c κs = search needs
+put-guard-put-three-requires : (t : ℕ) → put-guard-lts.Need-put-three-requires (put-guard-R t) (put-guard-at t) put-guard.Post
+put-guard-put-three-requires t c κs = search needs
 
 put-guard-put-guard-requires-3 : (t : ℕ) → put-guard-lts.Need-put-guard-requires-3 (put-guard-R t) (put-guard-at t) put-guard.Post
 put-guard-put-guard-requires-3 t c κs =
-    let at-right-of = c .before .before .before .before .before .before .before .before .before .before .before .before .before .before .before .before .before in
-    let at-if1 = at-right-of .before .before .before .before .before in
-    let start = at-if1 .before .before .before .before in
-    omega (arith, at-right-of .right-of .ensures .1 (at-if1 .if1 .left), start .pre)
+    omega (arith, c .before .before .before .before .before .before .before .before .before .before .before .before .before .before .before .before .right-of .ensures .1 (joined-above (c .before .before .before .before .before .before .before .before .before .before .before .before .before .before .before .before .before .before .before .before .before .before .before .before .args .n) (c .before .before .before .before .before .before .before .before .before .before .before .before .before .before .before .before .before .before .before .before .before .number-at .result) (c .before .before .before .before .before .before .before .before .before .before .before .before .before .before .before .before .before .before .before .before .operator-at .ensures) (c .before .before .before .before .before .before .before .before .before .before .before .before .before .before .before .before .before .before .before .if1 .left)), c .before .before .before .before .before .before .before .before .before .before .before .before .before .before .before .before .before .before .before .before .before .before .before .before .pre)
 
 put-guard-put-bracket-requires-2 : (t : ℕ) → put-guard-lts.Need-put-bracket-requires-2 (put-guard-R t) (put-guard-at t) put-guard.Post
 put-guard-put-bracket-requires-2 t c κs = search needs
 
-put-guard-same-length-4 : (t : ℕ) → put-guard-lts.Need-same-length-4 (put-guard-R t) (put-guard-at t) put-guard.Post
-put-guard-same-length-4 t c = search needs
+put-guard-same-length-3 : (t : ℕ) → put-guard-lts.Need-same-length-3 (put-guard-R t) (put-guard-at t) put-guard.Post
+put-guard-same-length-3 t c = search needs
 
-put-guard-returns-4 : (t : ℕ) → put-guard-lts.Need-returns-4 (put-guard-R t) (put-guard-at t) put-guard.Post
-put-guard-returns-4 t c =
-    let at-put-bracket2 = c .before .before in
-    let at-put-guard3 = at-put-bracket2 .before .before .before .before in
-    let at-put-either = at-put-guard3 .before .before .before .before in
-    let at-put-guard2 = at-put-either .before .before .before .before .before .before in
-    let at-put-bracket = at-put-guard2 .before .before .before .before in
-    let at-bracket-level = at-put-bracket .before .before in
-    let at-sign-between = at-bracket-level .before in
-    let at-right-of = at-sign-between .before in
-    let at-if3 = at-right-of .before in
-    let at-left-of = at-if3 .before in
-    let at-if2 = at-left-of .before in
-    let at-op-of = at-if2 .before in
-    let at-if1 = at-op-of .before in
-    let at-number-at = at-if1 .before in
-    let start = at-number-at .before .before .before in
-    puts-as _ (text-joined (start .args .style .text) (leafText (start .args .style)) (start .args .level) (start .args .nodes .now) (start .args .n) (at-number-at .number-at .result) (at-number-at .number-at .ensures) (at-op-of .op-of .ensures) (at-if1 .if1 .left) (at-left-of .left-of .ensures .0) (at-bracket-level .bracket-level .ensures) (at-right-of .right-of .ensures .0) (at-if2 .if2 .left) (at-if3 .if3 .left) (at-sign-between .sign-between .ensures .0))
-    (puts-then (at-put-bracket .put-bracket .ensures) (puts-then (at-put-guard2 .put-guard2 .ensures)
-    (puts-then (puts-as _ (either-text all any signText (at-sign-between .sign-between .result)) (at-put-either .put-either .ensures)) (puts-then (at-put-guard3 .put-guard3 .ensures) (at-put-bracket2 .put-bracket2 .ensures)))))
+put-guard-returns-3 : (t : ℕ) → put-guard-lts.Need-returns-3 (put-guard-R t) (put-guard-at t) put-guard.Post
+put-guard-returns-3 t c =
+    let a = c .before .before .before .before .before .before .before .before .before .before .before .before .before .before .before .before .before .before .before .before .before .before .before .before .before .before .before .before .before .before .before .args in
+    let op = c .before .before .before .before .before .before .before .before .before .before .before .before .before .before .before .before .before .before .before .before .before .before .before .before .before .before .before .operator-at .ensures in
+    puts-as _ (text-joined (a .text) (leafText (styleOf (a .text) (a .own) (a .seats) 1)) (a .level) (a .nodes .now) (a .n) (c .before .before .before .before .before .before .before .before .before .before .before .before .before .before .before .before .before .before .before .before .before .before .before .before .before .before .before .before .number-at .result) (c .before .before .before .before .before .before .before .before .before .before .before .before .before .before .before .before .before .before .before .before .before .before .before .before .before .before .before .before .number-at .ensures) (joined-op (a .n) (c .before .before .before .before .before .before .before .before .before .before .before .before .before .before .before .before .before .before .before .before .before .before .before .before .before .before .before .before .number-at .result) op (c .before .before .before .before .before .before .before .before .before .before .before .before .before .before .before .before .before .before .before .before .before .before .before .before .before .before .if1 .left)) (joined-above (a .n) (c .before .before .before .before .before .before .before .before .before .before .before .before .before .before .before .before .before .before .before .before .before .before .before .before .before .before .before .before .number-at .result) op (c .before .before .before .before .before .before .before .before .before .before .before .before .before .before .before .before .before .before .before .before .before .before .before .before .before .before .if1 .left)) (c .before .before .before .before .before .before .before .before .before .before .before .before .before .before .before .before .before .before .before .before .before .before .before .before .before .left-of .ensures .0) (c .before .before .before .before .before .before .before .before .before .before .before .before .before .before .before .before .before .before .before .before .bracket-level .ensures) (c .before .before .before .before .before .before .before .before .before .before .before .before .before .before .before .before .before .before .before .before .before .before .before .right-of .ensures .0) (c .before .before .before .before .before .before .before .before .before .before .before .before .before .before .before .before .before .before .before .before .before .before .before .before .before .before .if1 .left) (c .before .before .before .before .before .before .before .before .before .before .before .before .before .before .before .before .before .before .before .before .before .before .before .before .if2 .left) (c .before .before .before .before .before .before .before .before .before .before .before .before .before .before .before .before .before .before .before .before .before .before .sign-between .ensures .0))
+    (puts-then (c .before .before .before .before .before .before .before .before .before .before .before .before .before .before .before .before .before .before .put-bracket .ensures) (puts-then (c .before .before .before .before .before .before .before .before .before .before .before .before .before .before .put-guard2 .ensures)
+    (puts-then (puts-as _ (sign-bytes (c .before .before .before .before .before .before .before .before .before .before .before .before .before .before .before .before .before .before .before .before .before .before .sign-between .result) (c .before .before .before .before .before .before .before .before .before .before .before .before .before .before .before .before .before .before .before .before .before .joint-of .ensures)) (put-first (c .before .before .before .before .before .before .before .before .before .before .put-three .ensures))) (puts-then (c .before .before .before .before .before .before .put-guard3 .ensures) (c .before .before .put-bracket2 .ensures)))))
 
 pub +put-guard-spec : {M : Type 1} → statement M
 +put-guard-spec = close μ-put-guard λ t. put-guard-lts.spec (put-guard-R t)
     (put-guard-at t)
     put-guard.Post
     (put-guard-number-at-requires t)
+    (put-guard-operator-at-requires t)
     (put-guard-put-leaf-requires t)
     (put-guard-same-length t)
     (put-guard-returns t)
-    (put-guard-op-of-requires t)
-    (put-guard-put-leaf-requires-2 t)
-    (put-guard-same-length-2 t)
-    (put-guard-returns-2 t)
     (put-guard-left-of-requires t)
     (put-guard-put-byte-requires t)
     (put-guard-put-guard-requires t)
-    (put-guard-same-length-3 t)
-    (put-guard-returns-3 t)
+    (put-guard-same-length-2 t)
+    (put-guard-returns-2 t)
     (put-guard-right-of-requires t)
     (put-guard-sign-between-requires t)
+    (put-guard-joint-of-requires t)
     (put-guard-bracket-level-requires t)
-    (put-guard-sub-own t)
+    (put-guard-sub-least t)
     (put-guard-put-bracket-requires t)
     (put-guard-sub-put-guard t)
     (put-guard-put-guard-requires-2 t)
-    (put-guard-slice-aggregate-put-either t)
-    (put-guard-slice-aggregate-put-either-2 t)
-    (put-guard-put-either-requires t)
+    (put-guard-put-three-requires t)
     (put-guard-put-guard-requires-3 t)
     (put-guard-put-bracket-requires-2 t)
-    (put-guard-same-length-4 t)
-    (put-guard-returns-4 t)
+    (put-guard-same-length-3 t)
+    (put-guard-returns-3 t)
