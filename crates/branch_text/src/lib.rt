@@ -5,9 +5,14 @@ use leaf_text::Style;
 use leaf_text::WRITTEN;
 use phrases::put_numbered;
 use phrases::put_weight;
+use pieces::put_eight;
+use pieces::put_nine;
+use pieces::put_six;
+use pieces::put_three;
 use room::place;
 use room::put_byte;
 use room::put_bytes;
+use room::put_number;
 ghost use mathlib.Core.List.{map};
 ghost use Rattle.card.specs.Laid.{branchOf};
 ghost use Rattle.meaning.specs.Reduced.{updateOf};
@@ -16,12 +21,25 @@ ghost use Rattle.texts.specs.Shared.{more, summed};
 ghost use Rattle.texts.specs.ReducedText.{updateText};
 ghost use Rattle.branch_text.specs.Branches.{endText, branchText};
 
-// What a branch to `end` does to the counters.
+// What a branch to `end` does to the counters: in pieces, where both states have one digit.
 fn put_update(room: &mut [u8], at: usize, own: usize, end: usize, seats: usize) -> usize
     ensures { λ r. ⌜ Puts (now (room .entry)) (now (room .exit)) at (updateText (updateOf seats own end)) r ⌝ }
 {
     if own == end {
         return put_bytes(room, at, b"true");
+    }
+    if own < 10 {
+        if end < 10 {
+            let d = b'0' + own as u8;
+            let e = b'0' + end as u8;
+            let a = put_six(room, at, b'(', b'n', b'o', b'_', d, b'\'');
+            let b = put_eight(room, a, b'=', b'n', b'o', b'_', d, b'-', b'1', b')');
+            let c = put_nine(room, b, b' ', b'&', b' ', b'(', b'n', b'o', b'_', e, b'\'');
+            let f = put_nine(room, c, b'=', b'm', b'i', b'n', b'(', b'n', b'o', b'_', e);
+            let g = put_three(room, f, b'+', b'1', b',');
+            let h = put_number(room, g, seats);
+            return put_bytes(room, h, b"))");
+        }
     }
     let a = put_numbered(room, at, b"(no_", own);
     let b = put_numbered(room, a, b"'=no_", own);
@@ -36,6 +54,10 @@ fn put_end(room: &mut [u8], at: usize, end: usize, style: Style) -> usize
     ensures { λ r. ⌜ Puts (now (room .entry)) (now (room .exit)) at (endText style end) r ⌝ }
 {
     if style.text == WRITTEN {
+        if end < 10 {
+            let d = b'0' + end as u8;
+            return put_eight(room, at, b':', b'(', b's', b'1', b'\'', b'=', d, b')');
+        }
         let a = put_numbered(room, at, b":(s1'=", end);
         return put_byte(room, a, b')');
     }

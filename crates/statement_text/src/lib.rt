@@ -5,15 +5,19 @@ use card::NONDETERMINISTIC;
 use card::Statement;
 use card::limits::MOST_BRANCHES;
 use card::limits::MOST_NODES;
+use card::limits::NODE_PLACES;
 use card::limits::ROW;
 use card::limits::ROW_PLACES;
 use guard_text::put_test;
 use leaf_text::Style;
 use leaf_text::WRITTEN;
 use phrases::put_numbered;
+use pieces::put_nine;
+use pieces::put_seven;
 use room::place;
 use room::put_byte;
 use room::put_bytes;
+use room::put_number;
 use room::put_run;
 ghost use mathlib.Core.Path.{_≡_};
 ghost use Prim.Native.Nat.{_<_};
@@ -33,10 +37,21 @@ const TAIL_PLACES: usize = 668;
 fn put_first(room: &mut [u8], at: usize, m: usize, style: Style) -> usize
     ensures { λ r. ⌜ Puts (now (room .entry)) (now (room .exit)) at (firstText style m) r ⌝ }
 {
+    let own = style.own;
     if style.text == WRITTEN {
-        return put_numbered(room, at, b"[] s1=", style.own);
+        if own < 10 {
+            let d = b'0' + own as u8;
+            return put_seven(room, at, b'[', b']', b' ', b's', b'1', b'=', d);
+        }
+        return put_numbered(room, at, b"[] s1=", own);
     }
-    let a = put_numbered(room, at, b"[] (no_", style.own);
+    if own < 10 {
+        let d = b'0' + own as u8;
+        let a = put_nine(room, at, b'[', b']', b' ', b'(', b'n', b'o', b'_', d, b'>');
+        let b = put_number(room, a, m);
+        return put_byte(room, b, b')');
+    }
+    let a = put_numbered(room, at, b"[] (no_", own);
     let b = put_numbered(room, a, b">", m);
     put_byte(room, b, b')')
 }
@@ -47,7 +62,7 @@ fn put_rest<'a>(
     at: usize,
     i: usize,
     x: Statement,
-    nodes: &'a [u32],
+    nodes: &'a [u32; NODE_PLACES],
     branches: &'a [u32],
     style: Style,
 ) -> usize
@@ -83,7 +98,7 @@ fn put_statement<'a>(
     at: usize,
     i: usize,
     x: Statement,
-    nodes: &'a [u32],
+    nodes: &'a [u32; NODE_PLACES],
     branches: &'a [u32],
     style: Style,
 ) -> usize
@@ -132,7 +147,7 @@ pub fn put_statements<'a>(
     at: usize,
     head: Head,
     rows: &'a [usize; ROW_PLACES],
-    nodes: &'a [u32],
+    nodes: &'a [u32; NODE_PLACES],
     branches: &'a [u32],
     text: usize,
 ) -> usize

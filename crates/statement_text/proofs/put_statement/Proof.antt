@@ -12,7 +12,7 @@ put-first-requires c κs = search needs
 
 put-rest-requires : tie.Need-put-rest-requires
 put-rest-requires c κs =
-    let start = c .before .before .before .before .before .before .before .before .before .before in
+    let start = c .before .before .before .before .before .before .before .before .before in
     start .pre .0
 
 same-length : tie.Need-same-length
@@ -23,27 +23,27 @@ returns c =
     let at-put-rest = c .before .before in
     let at-put-first = at-put-rest .before .before .before .before in
     let at-if1 = at-put-first .before .before in
-    let start = at-if1 .before .before .before .before .before in
+    let start = at-if1 .before .before .before .before in
     puts-as _ (counted-once (copyText (start .args .style) (statementOf (start .args .nodes .now) (start .args .branches .now) (start .args .x) (start .args .i))) _ (at-if1 .if1 .taken)) (puts-then (at-put-first .put-first .ensures) (at-put-rest .put-rest .ensures))
 
 slice-aggregate-put-rest : tie.Need-slice-aggregate-put-rest
 slice-aggregate-put-rest c = search needs
 
 put-rest-requires-2 : tie.Need-put-rest-requires-2
-put-rest-requires-2 c κs = c .before .before .before .before .before .before .pre .0
+put-rest-requires-2 c κs = c .before .before .before .before .before .pre .0
 
 array-share-prefix-rest : tie.Need-array-share-prefix-rest
 array-share-prefix-rest c =
     let at-put-rest2 = c .before .before in
     let at-if1 = at-put-rest2 .before .before in
-    let start = at-if1 .before .before .before .before .before in
+    let start = at-if1 .before .before .before .before in
     kept-fits (at-put-rest2 .put-rest2 .ensures) (start .pre .1 (at-if1 .if1 .left)) (search needs)
 
 slice-aggregate-put-copies : tie.Need-slice-aggregate-put-copies
 slice-aggregate-put-copies c =
     let at-put-rest2 = c .before .before .before in
     let at-if1 = at-put-rest2 .before .before in
-    let start = at-if1 .before .before .before .before .before in
+    let start = at-if1 .before .before .before .before in
     kept-count (at-put-rest2 .put-rest2 .ensures) (start .pre .1 (at-if1 .if1 .left)) (search needs)
 
 put-copies-requires : tie.Need-put-copies-requires
@@ -57,7 +57,7 @@ returns-2 c =
     let at-put-copies = c .before .before in
     let at-put-rest2 = at-put-copies .before .before .before .before in
     let at-if1 = at-put-rest2 .before .before in
-    let start = at-if1 .before .before .before .before .before in
+    let start = at-if1 .before .before .before .before in
     puts-as _ (copies-kept (start .args .style) (statementOf (start .args .nodes .now) (start .args .branches .now) (start .args .x) (start .args .i)) (at-put-rest2 .put-rest2 .ensures) (start .pre .1 (at-if1 .if1 .left)) (search needs) _) (at-put-copies .put-copies .ensures)
 
 pub put-statement-spec : {M : Type 1} → statement M

@@ -31,7 +31,7 @@ loop-holds c = (search needs, counted-start _ 0 (search needs) (c .place .ensure
 
 row-at-requires : tie.Need-row-at-requires Inv-loop μ-loop
 row-at-requires c κs =
-    let start = c .before .before .before .before .before .before .before in
+    let start = c .before .before .before .before .before .before in
     omega (arith, c .loop-test .taken, holds-count (start .pre))
 
 put-statement-requires : tie.Need-put-statement-requires Inv-loop μ-loop
@@ -39,7 +39,7 @@ put-statement-requires c κs =
     let at-row-at = c .before in
     let at-loop-test = at-row-at .before in
     let at-copies-of = at-loop-test .before .before .before in
-    let start = at-copies-of .before .before .before .before in
+    let start = at-copies-of .before .before .before in
     (fits-at (start .pre) (at-loop-test .loop-test .taken) (at-row-at .row-at .ensures), keeps-at (start .pre) (at-loop-test .loop-test .taken) (at-row-at .row-at .ensures) (start .args .text) _ (at-copies-of .copies-of .ensures))
 
 add-i : tie.Need-add-i Inv-loop μ-loop
@@ -54,7 +54,7 @@ loop-again c =
     let at-row-at = at-put-statement .before .before in
     let at-loop = at-row-at .before .before in
     let at-copies-of = at-loop .before .before in
-    let start = at-copies-of .before .before .before .before in (
+    let start = at-copies-of .before .before .before in (
       search needs,
       counted-next _ 0 _ (search needs) (at-loop .loop .inv .1)
           (puts-as _ (next-is (start .args .text) (start .args .head .seats) (at-copies-of .copies-of .result) (start .args .nodes .now) (start .args .branches .now) (start .args .rows .now) _ (at-row-at .row-at .ensures)) (at-put-statement .put-statement .ensures)),
@@ -67,7 +67,7 @@ returns : tie.Need-returns Inv-loop μ-loop
 returns c =
     let at-loop = c .before in
     let at-copies-of = at-loop .before .before in
-    let start = at-copies-of .before .before .before .before in
+    let start = at-copies-of .before .before .before in
     counted-end _ 0 _ _ (c .loop-test .left) (search needs)
     (statements-all (start .args .text) (start .args .head .seats) (at-copies-of .copies-of .result) (start .args .nodes .now) (start .args .branches .now) (start .args .rows .now) (either nondeterministic probabilistic (start .args .head .mode)) (at-copies-of .copies-of .ensures) _) (at-loop .loop .inv .1)
 
