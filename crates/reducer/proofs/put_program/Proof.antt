@@ -8,11 +8,11 @@ use Rattle.reducer.proofs.put_program.Statement.{statement}
 use Rattle.reducer.proofs.put_program.Tie as tie
 
 put-head-requires : tie.Need-put-head-requires
-put-head-requires c κs = holds-top (c .before .before .before .before .pre)
+put-head-requires c κs = holds-top (c .before .before .before .pre)
 
 put-statements-requires : tie.Need-put-statements-requires
 put-statements-requires c κs =
-    let start = c .before .before .before .before .before .before .before .before in
+    let start = c .before .before .before .before .before .before .before in
     start .pre
 
 slice-aggregate-put-bytes : tie.Need-slice-aggregate-put-bytes
@@ -29,7 +29,7 @@ returns c =
     let at-put-bytes = c .before .before in
     let at-put-statements = at-put-bytes .before .before .before .before .before in
     let at-put-head = at-put-statements .before .before .before .before in
-    let start = at-put-head .before .before .before .before .before in
+    let start = at-put-head .before .before .before .before in
     program-text (cardIn (start .args .head) (lent (start .args .rows .now) (start .args .nodes .now) (start .args .branches .now)))
     (puts-then (at-put-head .put-head .ensures) (puts-then (at-put-statements .put-statements .ensures) (put-first (at-put-bytes .put-bytes .ensures))))
 

@@ -11,7 +11,7 @@ put-head-requires c κs = search needs
 
 put-statements-requires : tie.Need-put-statements-requires
 put-statements-requires c κs =
-    let start = c .before .before .before .before .before .before .before .before in
+    let start = c .before .before .before .before .before .before .before in
     start .pre
 
 slice-aggregate-put-bytes : tie.Need-slice-aggregate-put-bytes
@@ -32,7 +32,7 @@ returns c =
     let at-put-bytes = at-put-modules .before .before .before .before in
     let at-put-statements = at-put-bytes .before .before .before .before .before in
     let at-put-head = at-put-statements .before .before .before .before in
-    let start = at-put-head .before .before .before .before .before in
+    let start = at-put-head .before .before .before .before in
     write-text (cardIn (start .args .head) (lent (start .args .rows .now) (start .args .nodes .now) (start .args .branches .now)))
     (puts-then (at-put-head .put-head .ensures) (puts-then (at-put-statements .put-statements .ensures) (puts-then (put-first (at-put-bytes .put-bytes .ensures)) (at-put-modules .put-modules .ensures))))
 

@@ -9,12 +9,12 @@ slice-aggregate-put-card : tie.Need-slice-aggregate-put-card
 slice-aggregate-put-card c = search needs
 
 put-card-requires : tie.Need-put-card-requires
-put-card-requires c κs = c .before .before .before .pre
+put-card-requires c κs = c .before .before .pre
 
 returns : tie.Need-returns
 returns c =
     let at-put-card = c .before in
-    let start = at-put-card .before .before .before .before in
+    let start = at-put-card .before .before .before in
     drafted-long (held-cap (start .pre)) (at-put-card .put-card .ensures)
 
 pub written-length-spec : {M : Type 1} → statement M
