@@ -1,2 +1,3 @@
 pub mod HeaderLaws
 pub mod ModuleLaws
+pub mod Written

@@ -1,9 +1,10 @@
 -- What reading the beginning of a card, up to its statements, and its further modules, up to its end, leaves behind it. Assumes nothing.
-use Prim.Native.Nat.{ℕ, suc, _-_}
+use Prim.Native.Nat.{ℕ, suc, _+_, _-_}
 use mathlib.Core.Path.{_≡_}
 use mathlib.Core.List.{List, [], _∷_, _++_}
 use lib.ListN.{length, getD}
 use Rattle.card.specs.Limits.{mostSeats}
+use Rattle.card.specs.Text.{bytes}
 use Rattle.card.specs.Refusals.{outOfShape}
 use Rattle.card.specs.Card.{Mode}
 use Rattle.card.specs.Laid.{modeNumber}
@@ -91,6 +92,10 @@ moduleDue i =
     process i ∷ due "=" ∷ process 1
     ∷ due "[" ∷ seat 1 ∷ due "=" ∷ seat i ∷ due "," ∷ seat i ∷ due "=" ∷ seat 1 ∷ due "]"
     ∷ due "endmodule" ∷ []
+
+-- the same as a written card has it, where the seat has one digit
+abbrev pub copyText : ℕ → List ℕ
+copyText i = bytes " process" ++ ((48 + i) ∷ bytes " = process1 [s1=s" ++ ((48 + i) ∷ bytes ", s" ++ ((48 + i) ∷ bytes "=s1] endmodule")))
 
 abbrev pub ModuleFrom : List ℕ → ℕ → ℕ → Late → After → Type 0
 ModuleFrom s at i late r = RunFrom s at (kindsIn (moduleDue i)) (numbersIn (moduleDue i)) late r

@@ -6,6 +6,7 @@ use late::state::STATE;
 use late::state::VALUE;
 use late::stop;
 use looks::due::step_module;
+use looks::look::word_here;
 use marks::Cursor;
 use marks::Found;
 use marks::kinds::COMMA;
@@ -19,14 +20,35 @@ use marks::kinds::SQUARE_CLOSE;
 use marks::kinds::SQUARE_OPEN;
 use parts::run;
 ghost use mathlib.Core.Path.{_≡_};
+ghost use mathlib.Core.Bool.{_&&_};
+ghost use lib.Dec.{ltb};
+ghost use Rattle.looks.specs.Quick.{wordAhead};
 ghost use Rattle.late.specs.State.{Sized, lateIn, after};
-ghost use Rattle.frame.specs.Frame.{ModuleFrom, EndedBy, ModulesFrom};
+ghost use Rattle.frame.specs.Frame.{copyText, ModuleFrom, EndedBy, ModulesFrom};
 
-// processi = process1 [s1=si, si=s1] endmodule, for seat i.
+// processi = process1 [s1=si, si=s1] endmodule, for seat i of one digit, as a written card has it?
+fn written(card: &[u8], at: usize, seat: usize) -> bool
+    ensures { λ r. ⌜ r ≡ (ltb seat 10 && wordAhead (copyText seat) (now (card .entry)) at) ⌝ }
+{
+    if 10 <= seat {
+        return false;
+    }
+    let i = b'0' + seat as u8;
+    let mut text: [u8; 45] = *b" process0 = process1 [s1=s0, s0=s1] endmodule";
+    text[8] = i;
+    text[26] = i;
+    text[30] = i;
+    word_here(card, at, &text)
+}
+
+// The same: where it stands as a written card has it, it is passed at once, else mark by mark.
 fn copy(card: &[u8], at: usize, seat: usize, state: &mut [usize; STATE]) -> usize
     requires { ⌜ Sized (now state) ⌝ }
     ensures { λ r. ⌜ ModuleFrom (now (card .entry)) at seat (lateIn (now (state .entry))) (after (now (state .exit)) r) ⌝ }
 {
+    if written(card, at, seat) {
+        return at + 45;
+    }
     let kinds = [
         PROCESS,
         EQUAL,
