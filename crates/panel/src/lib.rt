@@ -6,7 +6,7 @@ use card::limits::NODE_PLACES;
 use card::limits::ROW_PLACES;
 use card::refusals::ROOM_TOO_SMALL;
 use counting::judge_seats;
-use lines::put_panel;
+use panel_text::put_panel;
 use reader::read_into;
 use room::Answer;
 use weighing::TABLE_PLACES;

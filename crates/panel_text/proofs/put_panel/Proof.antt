@@ -1,10 +1,10 @@
--- `lines::put_panel` meets its contract: the head, and then what the mode asks for, or the stuck choice. Assumes nothing.
+-- `panel_text::put_panel` meets its contract: the head, and then what the mode asks for, or the stuck choice. Assumes nothing.
 use borrow.Author.Needs.{needs}
 use native.Mathlib.Omega.{arith}
 use Rattle.lines.proofs.Blocks.{choices-text, stuck-text, weights-text}
 use Rattle.phrases.proofs.Laws.{puts-then}
-use Rattle.lines.proofs.put_panel.Statement.{statement}
-use Rattle.lines.proofs.put_panel.Tie as tie
+use Rattle.panel_text.proofs.put_panel.Statement.{statement}
+use Rattle.panel_text.proofs.put_panel.Tie as tie
 
 element-copy-out-stay : tie.Need-element-copy-out-stay
 element-copy-out-stay c = search needs

@@ -1,11 +1,11 @@
--- `lines::put_head` meets its contract: its puts, one after the other. Assumes nothing.
+-- `panel_text::put_head` meets its contract: its puts, one after the other. Assumes nothing.
 use borrow.Author.Needs.{needs}
 use lib.Seq.{length-take-le}
 use mathlib.Core.Path.{sym}
 use native.Mathlib.Omega.{arith}
 use Rattle.phrases.proofs.Laws.{put-first, puts-then}
-use Rattle.lines.proofs.put_head.Statement.{statement}
-use Rattle.lines.proofs.put_head.Tie as tie
+use Rattle.panel_text.proofs.put_head.Statement.{statement}
+use Rattle.panel_text.proofs.put_head.Tie as tie
 
 add-states : tie.Need-add-states
 add-states c = search needs

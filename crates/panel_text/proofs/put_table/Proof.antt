@@ -1,16 +1,16 @@
--- `lines::put_table` meets its contract: after each turn the moves from one state more are put. Assumes nothing.
+-- `panel_text::put_table` meets its contract: after each turn the moves from one state more are put. Assumes nothing.
 use Prim.Native.Nat.{suc, _≤_, _-_}
 use borrow.Author.Needs.{needs}
 use mathlib.Core.Path.{refl}
 use Rattle.lines.proofs.Blocks.{tableRow, table-row}
 use Rattle.lines.proofs.Laws.{moves-join, lists-start, lists-next, lists-end}
 use Rattle.lines.specs.PanelText.{movesText}
 use Rattle.meaning.specs.Sums.{upto, flat}
 use Rattle.phrases.proofs.Laws.{puts-as}
 use Rattle.phrases.specs.Puts.{Puts}
 use Rattle.room.proofs.Laws.{put-length}
-use Rattle.lines.proofs.put_table.Statement.{statement}
-use Rattle.lines.proofs.put_table.Tie as tie
+use Rattle.panel_text.proofs.put_table.Statement.{statement}
+use Rattle.panel_text.proofs.put_table.Tie as tie
 
 abbrev Inv-loop : tie.InvT-loop
 Inv-loop room₀ at table top to₀ old₀ room to old = (old ≤ suc top) × Puts room₀ room at (movesText (flat (upto old (tableRow table top)))) to

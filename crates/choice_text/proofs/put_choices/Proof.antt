@@ -1,13 +1,13 @@
--- `lines::put_choices` meets its contract: after i turns the blocks of the first i statements are put. Assumes nothing.
+-- `choice_text::put_choices` meets its contract: after i turns the blocks of the first i statements are put. Assumes nothing.
 use Prim.Native.Nat.{_≤_, _-_}
 use borrow.Author.Needs.{needs}
 use Rattle.lines.proofs.Laws.{blocks-join, lists-start, lists-next, lists-end}
 use Rattle.lines.specs.PanelIn.{choiceAt, choicesIn}
 use Rattle.lines.specs.PanelText.{blocksText}
 use Rattle.phrases.specs.Puts.{Puts}
 use Rattle.room.proofs.Laws.{put-length}
-use Rattle.lines.proofs.put_choices.Statement.{statement}
-use Rattle.lines.proofs.put_choices.Tie as tie
+use Rattle.choice_text.proofs.put_choices.Statement.{statement}
+use Rattle.choice_text.proofs.put_choices.Tie as tie
 
 abbrev Inv-loop : tie.InvT-loop
 Inv-loop room₀ at head table rows branches count to₀ i₀ room to i = (i ≤ count) × Puts room₀ room at (blocksText (choicesIn (head .top) table rows branches i)) to

@@ -1,13 +1,13 @@
--- `lines::put_choice` meets its contract: a statement's moves all start from its own state. Assumes nothing.
+-- `choice_text::put_choice` meets its contract: a statement's moves all start from its own state. Assumes nothing.
 use Prim.Native.Nat.{_+_}
 use borrow.Author.Needs.{needs}
 use lib.Seq.{length-take-le}
 use mathlib.Core.Path.{refl, sym}
 use native.Mathlib.Omega.{arith}
 use Rattle.lines.proofs.Blocks.{units-long, choice-none, choice-text}
 use Rattle.phrases.proofs.Laws.{puts-then, puts-as, puts-none}
-use Rattle.lines.proofs.put_choice.Statement.{statement}
-use Rattle.lines.proofs.put_choice.Tie as tie
+use Rattle.choice_text.proofs.put_choice.Statement.{statement}
+use Rattle.choice_text.proofs.put_choice.Tie as tie
 
 add-if1 : tie.Need-add-if1
 add-if1 c = search needs
