@@ -16,9 +16,9 @@ use Rattle.marks.specs.Marks.{Placed, marksOf, placeOf}
 use Rattle.reading.specs.Reader.{Place, at, Result, ok, stop}
 use Rattle.reading.specs.Judgements.{Verdict, fine, wrong}
 use Rattle.reading.specs.Reading.{firstOutside}
-use Rattle.reading.specs.Verdicts.{Clean, TooLong, OutsideRules}
+use Rattle.grammar.specs.Verdicts.{Clean, TooLong, OutsideRules}
 use Rattle.reading.proofs.Rising.{Rises, marks-rise, rises-part, later-place}
-use Rattle.reading.proofs.Reasons.{none-outside, inside-none, first-outside, outside-first}
+use Rattle.grammar.proofs.Reasons.{none-outside, inside-none, first-outside, outside-first}
 use Rattle.asking.specs.Question.{Item, question}
 use Rattle.asking.specs.Meant.{Question}
 use Rattle.entry.specs.Said.{Said, says, refused}

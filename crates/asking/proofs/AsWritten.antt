@@ -14,9 +14,9 @@ use Rattle.card.specs.Text.{if_then_else_}
 use Rattle.card.specs.Card.{Sign, all, any, Relation, is, isnt, Formula, atom, neg, and, or}
 use Rattle.card.specs.Valid.{Every}
 use Rattle.reading.specs.Group.{Literal}
-use Rattle.reading.specs.Rules.{timesIn, OnceEach}
-use Rattle.reading.specs.Verdicts.{In, first, later}
-use Rattle.reading.proofs.Fair.{every-append}
+use Rattle.grammar.specs.Rules.{timesIn, OnceEach}
+use Rattle.grammar.specs.Verdicts.{In, first, later}
+use Rattle.grammar.proofs.Fair.{every-append}
 use Rattle.meaning.specs.Sums.{upto}
 use Rattle.meaning.specs.Formulas.{value}
 use Rattle.meaning.specs.Seats.{Seating, state, without, literal, joined, alone, anyOf}

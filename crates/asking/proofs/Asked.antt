@@ -15,12 +15,12 @@ use Rattle.reading.specs.Reader.{Place, State, at, ok, stop, _>>=_, _>>_, retur
 use Rattle.reading.specs.Guard.{seatNext, Read, unaryBy}
 use Rattle.reading.specs.Group.{joint, Literal, joined}
 use Rattle.reading.specs.Shape.{mayHave, theEnd}
-use Rattle.reading.specs.Grammar.{JoinedSaid, close, next, joinedBy, FormulaSaid}
-use Rattle.reading.specs.Counted.{Within}
-use Rattle.reading.proofs.Steady.{Lang, free, Steady, Always, steady-silent}
-use Rattle.reading.proofs.Follows.{Ran, Came, Anyway, group-reads, group-opens, expression-runs, ran-last}
-use Rattle.reading.proofs.Exact.{mayHaveT, HaltedIn, whole-passes, whole-stops, GuardL, expressionT, unaryT}
-use Rattle.reading.proofs.Shapes.{shape-read as the-shape-read, read-shape as the-read-shape, stopped-past as the-stopped-past, past-stopped as the-past-stopped, stopped-unfit as the-stopped-unfit, unfit-stopped as the-unfit-stopped, stop-numbers as the-stop-numbers}
+use Rattle.grammar.specs.Grammar.{JoinedSaid, close, next, joinedBy, FormulaSaid}
+use Rattle.grammar.specs.Counted.{Within}
+use Rattle.grammar.proofs.Steady.{Lang, free, Steady, Always, steady-silent}
+use Rattle.grammar.proofs.Follows.{Ran, Came, Anyway, group-reads, group-opens, expression-runs, ran-last}
+use Rattle.grammar.proofs.Exact.{mayHaveT, HaltedIn, whole-passes, whole-stops, GuardL, expressionT, unaryT}
+use Rattle.grammar.proofs.Shapes.{shape-read as the-shape-read, read-shape as the-read-shape, stopped-past as the-stopped-past, past-stopped as the-past-stopped, stopped-unfit as the-stopped-unfit, unfit-stopped as the-unfit-stopped, stop-numbers as the-stop-numbers}
 use Rattle.asking.specs.Question.{Item, twiceNext, itemNext, term, item, asked, question, TermSaid, ItemSaid, ofGroup, ofTerms, NoneStarts, QuestionSaid, asks, sight, countedQuestion, QuestionUnfit, QuestionPast}
 use Rattle.asking.proofs.Seen.{term-seen, formula-no-seat, bracket-no-seat, term-settles}
 use Rattle.asking.proofs.Looking.{or-left, or-right, none-or, term-reads, questionItems}

@@ -11,10 +11,10 @@ use Rattle.marks.specs.Marks.{seat, number, Placed, placed, placeOf}
 use Rattle.reading.specs.Reader.{Place}
 use Rattle.reading.specs.Group.{joint, relation}
 use Rattle.reading.specs.Judgements.{Verdict, fine, wrong}
-use Rattle.reading.specs.Verdicts.{In, first, later}
-use Rattle.reading.specs.Grammar.{signAt, literal, conjoined, disjoined, Part, joining, FormulaSaid, grouped, negated, bracketed, single, further}
+use Rattle.grammar.specs.Verdicts.{In, first, later}
+use Rattle.grammar.specs.Grammar.{signAt, literal, conjoined, disjoined, Part, joining, FormulaSaid, grouped, negated, bracketed, single, further}
 use Rattle.reading.proofs.Rising.{Rises, rises-part, later-place}
-use Rattle.reading.proofs.Along.{strictly, Along, along-then, along-behind, along-before}
+use Rattle.grammar.proofs.Along.{strictly, Along, along-then, along-behind, along-before}
 use Rattle.asking.specs.Question.{Item, ItemSaid, ofGroup, ofTerms, aTerm, NoneStarts, QuestionSaid, asks}
 use Rattle.asking.specs.Asking.{Claim, claimAt, due, claimsOf, claims, KeptIn, fits, firstUnfit}
 use Rattle.asking.proofs.Seen.{others-move, joined-suffix}

@@ -7,7 +7,7 @@ use Rattle.card.specs.Text.{bytes}
 use Rattle.card.specs.Card.{all, is, atom}
 use Rattle.marks.specs.Marks.{Placed}
 use Rattle.reading.specs.Reader.{Place, at, stop}
-use Rattle.reading.specs.Verdicts.{PastIn}
+use Rattle.grammar.specs.Verdicts.{PastIn}
 use Rattle.asking.specs.Question.{mixedNext, itemNext, question, QuestionSaid, countedQuestion, QuestionPast}
 use Rattle.asking.specs.Meant.{ofAll, oneIn}
 use Rattle.entry.specs.Said.{says, refused}

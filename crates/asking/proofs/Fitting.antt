@@ -13,7 +13,7 @@ use Rattle.card.specs.Valid.{Every}
 use Rattle.reading.specs.Group.{Literal}
 use Rattle.reading.specs.Judgements.{once, sameRelation, alike}
 use Rattle.reading.proofs.Through.{and-true}
-use Rattle.reading.proofs.Symmetry.{relation-same, same-relation, alike-all, all-alike, once-is, is-once, first-of}
+use Rattle.grammar.proofs.Symmetry.{relation-same, same-relation, alike-all, all-alike, once-is, is-once, first-of}
 use Rattle.asking.specs.Asking.{Claim, state, everyone, exactly, Everyone, dueRelation, Terms, ExactlyOne, KeptIn, isEveryone, eachDue, isTerms, termD, isExactlyOne, fits}
 
 -- ---- everyone

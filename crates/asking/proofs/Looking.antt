@@ -15,13 +15,13 @@ use Rattle.marks.specs.Marks.{Mark, text, seat, number, Placed, placed}
 use Rattle.reading.specs.Reader.{Place, State, at, Result, ok, stop, Reader, bind, _>>=_, return, is, nextIs, sign, here}
 use Rattle.reading.specs.Guard.{seatNext, Read, chain, conjunction, expression, unaryBy, grouped as readGrouped}
 use Rattle.reading.specs.Group.{joint, Literal, Literals, literalsOf, literal as readLiteral, joined, group}
-use Rattle.reading.specs.Verdicts.{first, later}
-use Rattle.reading.specs.Grammar.{signAt, LiteralSaid, literal, OthersSaid, close, next, GroupSaid, conjoined, disjoined, Part, unary, joinedBy, FormulaSaid, grouped, single}
+use Rattle.grammar.specs.Verdicts.{first, later}
+use Rattle.grammar.specs.Grammar.{signAt, LiteralSaid, literal, OthersSaid, close, next, GroupSaid, conjoined, disjoined, Part, unary, joinedBy, FormulaSaid, grouped, single}
 use Rattle.reading.proofs.Through.{and-true, ok-state, through, chose, is→eq, none≢some}
 use Rattle.reading.proofs.Rising.{Order, equal, before, behind, order}
-use Rattle.reading.proofs.Steady.{Lang, _then_, _either_, Mark₁, Saying, SameHead, Alike, head-append, next-head, some-eq, free, Cause, unfit, excess, Steady, Always, ok≢stop, stop-number, stop-place, stopped, chose-stop, steady-as, steady-bind, steady-sign, steady-return, steady-last}
-use Rattle.reading.proofs.Follows.{literal-reads, others-reads, group-reads}
-use Rattle.reading.proofs.Exact.{one-sign, a-sign, literalT, joinedHere, joinedHereT, groupT, seat-still, GuardL, GroupsL, ClosedL, FreeL, closing, Leaves, chainT, conjunctionT, expressionT}
+use Rattle.grammar.proofs.Steady.{Lang, _then_, _either_, Mark₁, Saying, SameHead, Alike, head-append, next-head, some-eq, free, Cause, unfit, excess, Steady, Always, ok≢stop, stop-number, stop-place, stopped, chose-stop, steady-as, steady-bind, steady-sign, steady-return, steady-last}
+use Rattle.grammar.proofs.Follows.{literal-reads, others-reads, group-reads}
+use Rattle.grammar.proofs.Exact.{one-sign, a-sign, literalT, joinedHere, joinedHereT, groupT, seat-still, GuardL, GroupsL, ClosedL, FreeL, closing, Leaves, chainT, conjunctionT, expressionT}
 use Rattle.asking.specs.Question.{Item, aGroup, exactlyOne, relations, among, both, Occurs, mixed, mixedRead, mixedNext, twiceNext, itemNext, term, exactly, item, TermSaid, aTerm, ItemSaid, ofGroup, ofTerms, NoneStarts, Sight, words, mixedWords, twice, other, seen, sight}
 use Rattle.asking.proofs.Seen.{group-moves, mixed-said, term-settles, term-seen, same-not-mixed, no-seat-not-mixed, formula-no-seat, formula-settles}
 

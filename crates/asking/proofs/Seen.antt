@@ -10,9 +10,9 @@ use Rattle.marks.specs.Marks.{text, seat, process, number, decimal, outside, pl
 use Rattle.reading.specs.Reader.{Place, at, is}
 use Rattle.reading.specs.Guard.{seatNext, expression}
 use Rattle.reading.specs.Group.{joint, relation, Literal, literalOf, Literals, literalsOf, group}
-use Rattle.reading.specs.Grammar.{signAt, LiteralSaid, literal, JoinedSaid, OthersSaid, close, next, GroupSaid, conjoined, disjoined, Part, FormulaSaid, grouped, negated, bracketed, single, further}
-use Rattle.reading.proofs.Steady.{SameHead, seat-head}
-use Rattle.reading.proofs.Follows.{group-reads}
+use Rattle.grammar.specs.Grammar.{signAt, LiteralSaid, literal, JoinedSaid, OthersSaid, close, next, GroupSaid, conjoined, disjoined, Part, FormulaSaid, grouped, negated, bracketed, single, further}
+use Rattle.grammar.proofs.Steady.{SameHead, seat-head}
+use Rattle.grammar.proofs.Follows.{group-reads}
 use Rattle.asking.specs.Question.{Item, relations, both, mixed, mixedRead, mixedNext, twiceNext, term, TermSaid, aTerm, ItemSaid, ofGroup, ofTerms, NoneStarts, twice, other, seen}
 
 -- ---- without a seat word there is no term

@@ -13,8 +13,8 @@ use Rattle.card.proofs.Packed.{HeldLeaf}
 use Rattle.card.proofs.Held.{States}
 use Rattle.reading.specs.Reader.{Place}
 use Rattle.reading.specs.Group.{Literal}
-use Rattle.reading.specs.Counted.{Within}
-use Rattle.reading.proofs.Fair.{every-append, Fits, formula-fits}
+use Rattle.grammar.specs.Counted.{Within}
+use Rattle.grammar.proofs.Fair.{every-append, Fits, formula-fits}
 use Rattle.entry.specs.Said.{says}
 use Rattle.asking.specs.Question.{Item, aGroup, exactlyOne, QuestionSaid, asks, countedQuestion}
 use Rattle.asking.specs.Meant.{Atom, ofAll, oneIn, dOf, Question, ValidQuestion, leafFor}

@@ -17,10 +17,10 @@ use Rattle.marks.specs.Marks.{Placed, marksOf, placeOf}
 use Rattle.reading.specs.Reader.{Place, at, Result, ok, stop}
 use Rattle.reading.specs.Group.{Literal, Literals}
 use Rattle.reading.specs.Judgements.{once, sameRelation, alike, Verdict, fine, wrong}
-use Rattle.reading.specs.Rules.{OnceEach}
+use Rattle.grammar.specs.Rules.{OnceEach}
 use Rattle.reading.specs.Reading.{firstOutside}
-use Rattle.reading.specs.Counted.{Within}
-use Rattle.reading.specs.Verdicts.{Clean, In}
+use Rattle.grammar.specs.Counted.{Within}
+use Rattle.grammar.specs.Verdicts.{Clean, In}
 use Rattle.entry.specs.Said.{Said, says, refused}
 use Rattle.asking.specs.Question.{Item, aGroup, exactlyOne, question, QuestionSaid, countedQuestion, QuestionUnfit, QuestionPast}
 use Rattle.asking.specs.Meant.{Atom, ofAll, oneIn, Question}

@@ -11,9 +11,9 @@ use Rattle.reading.specs.Reader.{Place, at, Result, ok, stop, Reader, bind, _>>
 use Rattle.reading.specs.Guard.{seatNext, ifSeat, Read, expression, unaryBy}
 use Rattle.reading.specs.Group.{joint, Literal, Literals, literal, joined, others, group}
 use Rattle.reading.specs.Shape.{mayHave, theEnd}
-use Rattle.reading.specs.Counted.{Counted, countedGuard}
-use Rattle.reading.specs.Verdicts.{UnfitIn, PastIn, In}
-use Rattle.reading.specs.Grammar.{signAt, LiteralSaid, JoinedSaid, OthersSaid, GroupSaid, joinedBy, FormulaSaid}
+use Rattle.grammar.specs.Counted.{Counted, countedGuard}
+use Rattle.grammar.specs.Verdicts.{UnfitIn, PastIn, In}
+use Rattle.grammar.specs.Grammar.{signAt, LiteralSaid, JoinedSaid, OthersSaid, GroupSaid, joinedBy, FormulaSaid}
 
 -- ---- what stands in a question where a formula has its atoms
 

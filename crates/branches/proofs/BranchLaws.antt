@@ -26,11 +26,11 @@ use Rattle.marks.specs.Step.{marksAt}
 use Rattle.marks.specs.declared.Found.{Found}
 use Rattle.marks.specs.declared.Step.{Step}
 use Rattle.reading.specs.Reader.{Place, State, at, Result, ok, stop, Reader, bind, return, refuseAt, the, ifNext, sign, numberOf, Numbered, numbered, line}
-use Rattle.reading.specs.Grammar.{branchRun}
+use Rattle.grammar.specs.Grammar.{branchRun}
 use Rattle.reading.specs.Judgements.{Judgement, weight as judgedWeight, sum, unless, orZero, unitsIn, totalUnits}
 use Rattle.reading.specs.Shape.{BranchShape, weightOf, over, weight, branch, nextBranch, pastBranches}
 use Rattle.reading.specs.Checks.{judgedState, judgedWords, weightIn, judgedBranch, judgedEach}
-use Rattle.reading.proofs.Valid.{units-most}
+use Rattle.grammar.proofs.Valid.{units-most}
 use Rattle.late.specs.Late.{Late, blame, judge, judgeAll}
 use Rattle.late.specs.State.{atValue, Sized, lateIn, valueIn, withLate, After, after, Halted}
 use Rattle.late.proofs.Settling.{judge-append}

@@ -63,6 +63,15 @@ module _ {array : List ℕ} {at : ℕ} where
     place = length-append p (h .before) ∙ ap (λ (k : ℕ). length p + k) (h .place);
   }
 
+-- what stands there by other names
+stands-as : {array array′ : List ℕ} {at at′ : ℕ} {s s′ : List ℕ} → array′ ≡ array → at′ ≡ at → s′ ≡ s → Stands array at s → Stands array′ at′ s′
+stands-as {s = s} {s′} e f g h = record {
+  before = h .before;
+  behind = h .behind;
+  parts = e ∙ h .parts ∙ ap (λ (t : List ℕ). h .before ++ (t ++ h .behind)) (sym g);
+  place = h .place ∙ sym f;
+}
+
 -- ---- rows
 
 pub padded-parts : (most : ℕ) (s : List ℕ) → padded most s ≡ s ++ zeros (most - length s)
@@ -82,11 +91,13 @@ module _ (width : ℕ) (f : ℕ → Statement → List ℕ) (d : Statement) wher
         place = refl;
       })
   row-behind (x ∷ xs) (suc i) at rest n h =
-      let e : width + i * width ≡ suc i * width = omega (arith, suc-mul i width) in
-      let e′ : at + width + i * width ≡ at + suc i * width = omega arith in
-      rw (rows-one, append-assoc, ← e′, ← e)
-      (rw (length-padded width (f at x) (n .0 at)) at
-      (further-stands (padded width (f at x)) (f (at + width + i * width) (getD xs i d)) (row-behind xs i (at + width) rest (n .1) (le-of-suc-le-suc h))))
+      let first = padded width (f at x) in
+      let long : length first ≡ width = length-padded width (f at x) (n .0 at) in
+      let e : suc i * width ≡ length first + i * width = omega (arith, suc-mul i width, long) in
+      let e′ : at + suc i * width ≡ at + width + i * width = omega arith in
+      let parts : rows width f at (x ∷ xs) ++ rest ≡ first ++ (rows width f (at + width) xs ++ rest) = rw rows-one (append-assoc first (rows width f (at + width) xs) rest) in
+      stands-as parts e (ap (λ (k : ℕ). f k (getD xs i d)) e′)
+      (further-stands first (f (at + width + i * width) (getD xs i d)) (row-behind xs i (at + width) rest (n .1) (le-of-suc-le-suc h)))
 
   pub row-stands : (most : ℕ) (xs : List Statement) (i : ℕ) → Narrow width f xs → i < length xs
       → Stands (padded most (rows width f 0 xs)) (i * width) (f (i * width) (getD xs i d))

@@ -18,7 +18,7 @@ use Rattle.marks.specs.Kinds.{kEnd, kNumber, kind}
 use Rattle.marks.specs.Step.{marksAt}
 use Rattle.marks.specs.declared.Step.{Step}
 use Rattle.reading.specs.Reader.{State, Result, ok, stop, Reader, bind, return, refuseAt, the, sign, numberOf, Numbered, numbered, line}
-use Rattle.reading.specs.Grammar.{cardRun}
+use Rattle.grammar.specs.Grammar.{cardRun}
 use Rattle.reading.specs.Shape.{modeOf, zeroOf, onlyZero, top}
 use Rattle.reading.specs.Checks.{judgedState, judgedWords}
 use Rattle.late.specs.Late.{Late, judge, judgeAll}

@@ -11,7 +11,7 @@ use Rattle.card.specs.Laid.{modeNumber}
 use Rattle.marks.specs.Kinds.{kEnd}
 use Rattle.marks.specs.declared.Found.{Found}
 use Rattle.reading.specs.Reader.{State, Result, Reader, bind, _>>=_, _>>_, return, the, sign, numberOf, Numbered, numbered, line}
-use Rattle.reading.specs.Grammar.{cardRun}
+use Rattle.grammar.specs.Grammar.{cardRun}
 use Rattle.reading.specs.Judgements.{Judgement}
 use Rattle.reading.specs.Shape.{modeOf, zeroOf, top, moreModules, theEnd}
 use Rattle.reading.specs.Checks.{judgedState, judgedWords, judgedModules}

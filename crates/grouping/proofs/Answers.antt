@@ -30,7 +30,7 @@ use Rattle.group.proofs.Groups.{seat-marks, Answers, inside}
 use Rattle.asking.specs.Question.{Item, aGroup, exactlyOne, twiceNext, itemNext, exactly as exactlyOf}
 use Rattle.asking.specs.Asking.{state as claimed, everyone as everyoneOf, firstD, claimsOf}
 use Rattle.one_seat.specs.OneRead.{ReadOne, OneRead}
-use Rattle.one_seat.specs.Wanted.{wantOfTerms}
+use Rattle.one_term.specs.Wanted.{wantOfTerms}
 use Rattle.grouping.specs.Language.{Language, cards, judgedOf, wantOfAll, claimAll, questions}
 use Rattle.grouping.specs.Items.{Inside, ReadItem, ItemRead, ItemIf, ItemAt, nothing, unwanted, ofAll}
 

@@ -15,7 +15,7 @@ use Rattle.reading.specs.Judgements.{has, unless, judgedGroup}
 use Rattle.late.specs.Late.{Late, wantOf, groupBy, grouped, blamed, judgeAll}
 use Rattle.asking.specs.Question as asking
 use Rattle.asking.specs.Asking.{Claim, state, everyone, exactly, claimsOf, termD}
-use Rattle.one_seat.specs.Wanted.{wantOfTerms}
+use Rattle.one_term.specs.Wanted.{wantOfTerms}
 
 -- What a bracket starts where it starts no expression: by which marks behind the bracket, how it is read from there (the place is the
 -- bracket's), the leaf that it is among the nodes, and what is judged of it: with top state k, in a text that ends at place e.

@@ -1,3 +1,1 @@
-pub mod TermLists
-pub mod TermLaws
 pub mod OneLaws

@@ -18,7 +18,7 @@ use Rattle.marks.specs.declared.Step.{Step}
 use Rattle.marks.proofs.Next.{meet}
 use Rattle.reading.specs.Reader.{Place, State, at, Result, ok, stop, Reader, bind, return}
 use Rattle.reading.specs.Group.{Literal, joint, joined}
-use Rattle.reading.proofs.Steady.{ok≢stop}
+use Rattle.grammar.proofs.Steady.{ok≢stop}
 use Rattle.group.specs.declared.Grouped.{Grouped}
 use Rattle.group.specs.GroupRead.{noGroup}
 use Rattle.group.specs.LiteralRead.{oneMore}
@@ -30,11 +30,11 @@ use Rattle.asking.specs.Question.{Item, exactlyOne, relations, both, twiceNext,
 use Rattle.asking.specs.Asking.{isTerms}
 use Rattle.asking.proofs.Seen.{term-seen}
 use Rattle.asking.proofs.Looking.{twice-there, term-reads, termT}
-use Rattle.one_seat.specs.declared.term.TermFound.{TermFound}
-use Rattle.one_seat.specs.TermRead.{ReadTerm, StoppedTerm, TermRead}
+use Rattle.one_term.specs.declared.TermFound.{TermFound}
+use Rattle.one_term.specs.TermRead.{ReadTerm, StoppedTerm, TermRead}
 use Rattle.one_seat.specs.OneRead.{OneRead}
-use Rattle.one_seat.proofs.TermLists.{few-seats, term-first, terms-so, want-so}
-use Rattle.one_seat.proofs.TermLaws.{Terms}
+use Rattle.one_term.proofs.TermLists.{few-seats, term-first, terms-so, want-so}
+use Rattle.one_term.proofs.TermLaws.{Terms}
 
 -- ---- the look ahead
 

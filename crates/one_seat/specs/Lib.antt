@@ -1,3 +1,1 @@
-pub mod Wanted
-pub mod TermRead
 pub mod OneRead

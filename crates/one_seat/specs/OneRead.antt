@@ -13,7 +13,7 @@ use Rattle.reading.specs.Group.{Literal}
 use Rattle.group.specs.declared.Grouped.{Grouped}
 use Rattle.group.specs.GroupRead.{StoppedGroup}
 use Rattle.asking.specs.Question.{Item, exactlyOne}
-use Rattle.one_seat.specs.Wanted.{wantOfTerms}
+use Rattle.one_term.specs.Wanted.{wantOfTerms}
 
 -- with n nodes left, and the outer bracket at p
 pub record ReadOne (o : ℕ) (s : List ℕ) (n : ℕ) (p : Place) (x : Item) (behind : State) (r : Grouped) : Type 0 where

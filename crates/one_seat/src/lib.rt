@@ -1,6 +1,4 @@
 // Exactly one seat in a state, written out term by term in a question (document 02, 2026-01).
-pub mod term;
-
 use card::node::ONE;
 use card::node::pack_one;
 use group::Grouped;
@@ -8,8 +6,8 @@ use group::no_group;
 use group::seen::one_more;
 use looks::due::step_joint;
 use marks::kinds;
-use term::TermFound;
-use term::term;
+use one_term::TermFound;
+use one_term::term;
 ghost use mathlib.Core.Path.{_≡_};
 ghost use mathlib.Core.Bool.{_&&_};
 ghost use Prim.Native.Nat.{ℕ};

@@ -25,7 +25,7 @@ use Rattle.counting.specs.SeatsSaid.{verdictSaid}
 use Rattle.lines.specs.PanelText.{panelOf}
 use Rattle.panel.specs.PanelSaid.{shownSaid, panelSaid}
 use Rattle.counting.proofs.Judging.{valid-exactly}
-use Rattle.reading.proofs.Theorems.{read-valid}
+use Rattle.grammar.proofs.Theorems.{read-valid}
 use Rattle.panel.specs.PanelRoom.{panelRoom}
 use Rattle.panel.proofs.Short.{panel-fits}
 use Rattle.program.specs.Program.{lineEnd, seatsLine, cardBehind, seatOf, inputBytes, printed, answerTo, programOf}

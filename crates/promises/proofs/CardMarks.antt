@@ -16,13 +16,13 @@ use Rattle.reading.specs.Group.{Literals}
 use Rattle.reading.specs.Judgements.{Judgement, orZero, unitsIn, placeIn, judgedGuard}
 use Rattle.reading.specs.Shape.{BranchShape, StatementShape, CardShape}
 use Rattle.reading.specs.Checks.{judgedWords, judgedBranch, judgedEach, judgedOr, judgedStatement, moduleDues, judgedModules, judgedCard, branchIn, guardOr, statementIn, cardIn}
-use Rattle.reading.specs.Grammar.{Said, signAt, LineSaid, ended, fixed, aSeat, aProcess, moduleRun, ManySaid, done as said-done, again as said-again, RestSaid, nothing as no-guard, guarded as a-guard, WeightSaid, aNumber, aRatio, aDecimal, BranchSaid, branch as said-branch, PlusSaid, plus as said-plus, StatementSaid, statement as said-statement, modeWord, CardSaid, card as said-card}
-use Rattle.reading.specs.Rules.{Kept}
-use Rattle.reading.specs.Verdicts.{KeptOn}
+use Rattle.grammar.specs.Grammar.{Said, signAt, LineSaid, ended, fixed, aSeat, aProcess, moduleRun, ManySaid, done as said-done, again as said-again, RestSaid, nothing as no-guard, guarded as a-guard, WeightSaid, aNumber, aRatio, aDecimal, BranchSaid, branch as said-branch, PlusSaid, plus as said-plus, StatementSaid, statement as said-statement, modeWord, CardSaid, card as said-card}
+use Rattle.grammar.specs.Rules.{Kept}
+use Rattle.grammar.specs.Verdicts.{KeptOn}
 use Rattle.reading.specs.Reading.{taken, readOf}
-use Rattle.reading.proofs.Fair.{every-append}
-use Rattle.reading.proofs.Along.{strictly, along-whole, guard-along}
-use Rattle.reading.proofs.Theorems.{accepted}
+use Rattle.grammar.proofs.Fair.{every-append}
+use Rattle.grammar.proofs.Along.{strictly, along-whole, guard-along}
+use Rattle.grammar.proofs.Theorems.{accepted}
 use Rattle.promises.specs.CardMarks.{sign, markOf, weightMarks, BranchMarks, branch, PlusMarks, plus, Repeated, done, again, GuardMarks, nothing, guarded, StatementMarks, statement, copyMarks, copies, CardMarks, card}
 
 abbrev marks : Place → List Mark

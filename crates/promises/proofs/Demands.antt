@@ -10,7 +10,7 @@ use Rattle.meaning.specs.Reduced.{reduce}
 use Rattle.meaning.proofs.Demand.{demand, offers, stuck-alike, stuck-steps, starts}
 use Rattle.meaning.proofs.Stuck.{nothing-taken, stuck, moving, stuck-step, none-taken-at, stuck-at, moving-at, stuck-step-at}
 use Rattle.meaning.proofs.Total.{seats-full, seats-total, counts-full, counts-total}
-use Rattle.reading.proofs.Theorems.{read-valid}
+use Rattle.grammar.proofs.Theorems.{read-valid}
 use Rattle.counting.proofs.Judging.{valid-exactly}
 use Rattle.rereading.proofs.RoundTrip.{read-again}
 use Rattle.writer.specs.WriteSaid.{writeSaid}

@@ -9,7 +9,7 @@ use lib.ListN.{length}
 use Rattle.card.specs.Refusals.{wrongWeight, wrongSeats, seatAboveTop, roomTooSmall}
 use Rattle.card.specs.Card.{Card}
 use Rattle.reading.specs.Reading.{Outcome, taken, refused, readOf}
-use Rattle.reading.proofs.Theorems.{read-valid}
+use Rattle.grammar.proofs.Theorems.{read-valid}
 use Rattle.reading.proofs.Numbers.{read-number}
 use Rattle.reader.specs.declared.Reading.{Reading}
 use Rattle.reader.specs.declared.Outline.{Outline}

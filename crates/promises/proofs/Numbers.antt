@@ -20,7 +20,7 @@ use Rattle.reading.specs.Judgements.{Judgement, state, word, oneGroup, weight, 
 use Rattle.reading.specs.Shape.{CardShape, card}
 use Rattle.reading.specs.Checks.{judgedCard, seatsIn, cardIn}
 use Rattle.reading.specs.Reading.{Outcome, taken, refused, firstOutside, judged, shaped, marked, readOf}
-use Rattle.reading.proofs.Exact.{CardCause, unfits, exceeds, card-stops}
+use Rattle.grammar.proofs.Exact.{CardCause, unfits, exceeds, card-stops}
 
 -- ---- judgements
 

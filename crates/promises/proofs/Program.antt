@@ -14,7 +14,7 @@ use Rattle.card.specs.Refusals.{wrongWeight, wrongSeats, seatAboveTop}
 use Rattle.card.specs.Card.{Card}
 use Rattle.card.specs.Valid.{Every}
 use Rattle.reading.specs.Reading.{taken, refused, readOf}
-use Rattle.reading.proofs.Theorems.{read-valid}
+use Rattle.grammar.proofs.Theorems.{read-valid}
 use Rattle.reading.proofs.Numbers.{read-number}
 use Rattle.entry.specs.Said.{says as text, refused as refusal}
 use Rattle.room.specs.Digits.{digit}

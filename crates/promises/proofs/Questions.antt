@@ -12,7 +12,7 @@ use Rattle.card.specs.Card.{atom, Card}
 use Rattle.card.specs.Formulas.{over}
 use Rattle.card.specs.Valid.{ValidCard}
 use Rattle.reading.specs.Group.{Literal}
-use Rattle.reading.specs.Rules.{OnceEach}
+use Rattle.grammar.specs.Rules.{OnceEach}
 use Rattle.meaning.specs.Seats.{Seating, ValidSeating, counts}
 use Rattle.meaning.specs.ByCounts.{heldAt}
 use Rattle.entry.specs.Said.{Said, says, refused}

@@ -10,9 +10,9 @@ use Rattle.card.specs.Text.{if_then_else_}
 use Rattle.card.specs.Card.{everyone, others}
 use Rattle.reading.specs.Group.{Literal}
 use Rattle.reading.specs.Judgements.{once, kindOf}
-use Rattle.reading.specs.Rules.{OnceEach}
-use Rattle.reading.proofs.Symmetry.{once-is, is-once}
-use Rattle.reading.proofs.Theorems.{accepted, read-valid, refusal-1, refusal-2, refusal-3, refusal-4, refusal-5, refusal-6, refusal-7}
+use Rattle.grammar.specs.Rules.{OnceEach}
+use Rattle.grammar.proofs.Symmetry.{once-is, is-once}
+use Rattle.grammar.proofs.Theorems.{accepted, read-valid, refusal-1, refusal-2, refusal-3, refusal-4, refusal-5, refusal-6, refusal-7}
 use Rattle.reading.proofs.Numbers.{read-number}
 use Rattle.promises.proofs.CardMarks.{taken-marks}
 use Rattle.promises.proofs.Numbers.{number-some}

@@ -8,7 +8,7 @@ use Rattle.card.specs.Text.{bytes}
 use Rattle.card.specs.Card.{Mode, Guard, Branch, Statement, Card}
 use Rattle.card.specs.Weight.{Weight, whole, decimal as point, ratio, cardRule, Worth}
 use Rattle.marks.specs.Marks.{Mark, text, seat, process, number, decimal, Placed, placed}
-use Rattle.reading.specs.Grammar.{modeWord}
+use Rattle.grammar.specs.Grammar.{modeWord}
 
 -- a sign or a keyword
 abbrev pub sign : String → Mark

@@ -12,8 +12,8 @@ use Rattle.card.specs.Formulas.{over}
 use Rattle.card.specs.Valid.{ValidCard}
 use Rattle.reading.specs.Reader.{Place}
 use Rattle.reading.specs.Group.{Literal}
-use Rattle.reading.specs.Rules.{OnceEach}
-use Rattle.reading.specs.Verdicts.{TooLong, OutsideRules}
+use Rattle.grammar.specs.Rules.{OnceEach}
+use Rattle.grammar.specs.Verdicts.{TooLong, OutsideRules}
 use Rattle.reading.specs.Reading.{refused as turned, readOf}
 use Rattle.meaning.specs.Formulas.{value}
 use Rattle.meaning.specs.Seats.{Seating, ValidSeating, count, counts}

@@ -11,9 +11,9 @@ use Rattle.card.specs.Refusals.{tooLong, outsideRules, outOfShape, pastLimit, a
 use Rattle.marks.specs.Marks.{marksOf}
 use Rattle.reading.specs.Group.{Literal}
 use Rattle.reading.specs.Judgements.{kindOf}
-use Rattle.reading.specs.Rules.{OnceEach}
+use Rattle.grammar.specs.Rules.{OnceEach}
 use Rattle.reading.specs.Reading.{taken, refused, readOf}
-use Rattle.reading.specs.Verdicts.{Accepted, TooLong, OutsideRules, OutOfShape, PastLimit, Broken}
+use Rattle.grammar.specs.Verdicts.{Accepted, TooLong, OutsideRules, OutOfShape, PastLimit, Broken}
 use Rattle.promises.specs.CardMarks.{markOf, CardMarks}
 
 pub record Readings : Type 0 where

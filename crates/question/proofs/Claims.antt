@@ -24,7 +24,7 @@ use Rattle.late.proofs.Settling.{orNext, or-assoc, Sound, sound-blamed, sound-g
 use Rattle.asking.specs.Question.{Item, aGroup, exactlyOne}
 use Rattle.asking.specs.Meant.{leafFor}
 use Rattle.asking.specs.Asking.{Claim, state, everyone as everyoneOf, exactly, claimAt, due, firstD, claimsOf, claims, isEveryone, isTerms, termD, isExactlyOne, fits, firstUnfit, firstRelation, literalD, atomIn, questionIn}
-use Rattle.one_seat.specs.Wanted.{wantOfTerms}
+use Rattle.one_term.specs.Wanted.{wantOfTerms}
 use Rattle.grouping.specs.Language.{wantOfAll, judgeClaim, claimAll, leafBy, questions, leavesOf, judgedOf}
 
 -- ---- what an item wants is the number of seats for which it is as said

@@ -16,17 +16,17 @@ use Rattle.card.specs.Lent.{Lent, headOf, lentOf, noneLent}
 use Rattle.marks.specs.Marks.{placeOf}
 use Rattle.marks.specs.Step.{marksAt}
 use Rattle.reading.specs.Reader.{Place, State, at, Result, ok, stop, Reader, bind, return, the, sign, numberOf, Numbered, numbered, line}
-use Rattle.reading.specs.Grammar.{cardRun}
+use Rattle.grammar.specs.Grammar.{cardRun}
 use Rattle.reading.specs.Shape.{StatementShape, CardShape, statement, moreStatements, moreModules, modeOf, zeroOf, top, theEnd, card}
 use Rattle.reading.specs.Guard.{isSome}
 use Rattle.reading.specs.Judgements.{Judgement, state, word, oneGroup, weight, sum, symmetric, totalUnits, placeIn, unless, broken, Verdict, fine, wrong, orElse, firstBroken}
 use Rattle.reading.specs.Checks.{judgedState, judgedWords, judgedEach, judgedStatement, judgedModules, judgedCard, statementIn, seatsIn, cardIn}
 use Rattle.reading.specs.Reading.{Outcome, taken, refused, firstOutside, judged, readOf}
 use Rattle.reading.proofs.Through.{none≢some}
-use Rattle.reading.proofs.Fair.{FairCard, card-fair}
+use Rattle.grammar.proofs.Fair.{FairCard, card-fair}
 use Rattle.reading.proofs.Numbers.{read-number}
-use Rattle.reading.proofs.Shaping.{read-shape as shape-of}
-use Rattle.reading.proofs.Valid.{read-valid}
+use Rattle.grammar.proofs.Shaping.{read-shape as shape-of}
+use Rattle.grammar.proofs.Valid.{read-valid}
 use Rattle.late.specs.Late.{noneYet, judgeAll}
 use Rattle.late.specs.Settled.{Refusal, settled, verdict}
 use Rattle.late.specs.State.{atStop, atStopPlace, atMode, atTop, atStart, lateIn, refusalIn, valueIn, after}

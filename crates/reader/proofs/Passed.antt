@@ -21,7 +21,7 @@ use Rattle.reading.specs.Guard.{seatNext, Read, chain, conjunction, expression,
 use Rattle.reading.specs.Group.{joint, relationOf, literal, joined, others, group}
 use Rattle.reading.specs.Shape.{many, weightOf, over, weight, branch, nextBranch, pastBranches, moreBranches, guard, mayHave, statement, moreStatements, copy, moreModules, modeOf, zeroOf, top, ended, theEnd, body, card}
 use Rattle.reading.specs.Reading.{isOutside}
-use Rattle.reading.specs.Grammar.{cardRun, statementRun, branchRun, moduleRun}
+use Rattle.grammar.specs.Grammar.{cardRun, statementRun, branchRun, moduleRun}
 
 module _ (P : Place → Type 0) (pass : (m : Mark) (q : ℕ) (ms : Place) → isOutside m ≡ false → P (placed m q ∷ ms) → P ms) where
   abbrev pub Held : {A : Type 0} → Result A → Type 0

@@ -1,17 +1,4 @@
 pub mod Examples
 pub mod Through
-pub mod Follows
-pub mod Steady
-pub mod Exact
 pub mod Rising
-pub mod Shapes
-pub mod Shaping
-pub mod Symmetry
-pub mod Ruling
-pub mod Along
-pub mod Ordered
-pub mod Reasons
-pub mod Fair
 pub mod Numbers
-pub mod Valid
-pub mod Theorems

@@ -5,7 +5,3 @@ pub mod Judgements
 pub mod Shape
 pub mod Checks
 pub mod Reading
-pub mod Grammar
-pub mod Counted
-pub mod Rules
-pub mod Verdicts

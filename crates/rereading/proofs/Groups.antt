@@ -17,8 +17,8 @@ use Rattle.marks.specs.Marks.{seat, marks}
 use Rattle.reading.specs.Reader.{Place}
 use Rattle.reading.specs.Group.{relation, Literal, literalOf, Literals, literalsOf}
 use Rattle.reading.specs.Judgements.{Judgement, has, hasFrom, once, kindOf, sameRelation, alike, symmetric, broken, judgedGroup, groupIn}
-use Rattle.reading.specs.Grammar.{signAt, LiteralSaid, literal as aLiteral, OthersSaid, close, next, GroupSaid, conjoined, disjoined, GuardSaid, unary, grouped}
-use Rattle.reading.specs.Counted.{Within, countedGuard}
+use Rattle.grammar.specs.Grammar.{signAt, LiteralSaid, literal as aLiteral, OthersSaid, close, next, GroupSaid, conjoined, disjoined, GuardSaid, unary, grouped}
+use Rattle.grammar.specs.Counted.{Within, countedGuard}
 use Rattle.phrases.specs.Phrases.{_▸_, num}
 use Rattle.texts.specs.Writing.{literal, literals, groupText}
 use Rattle.rereading.proofs.Lexed.{Apart, number-mark, seat-mark}

@@ -15,8 +15,8 @@ use Rattle.marks.specs.Marks.{marks}
 use Rattle.reading.specs.Reader.{Place}
 use Rattle.reading.specs.Group.{Literals}
 use Rattle.reading.specs.Judgements.{judgedGuard, guardIn}
-use Rattle.reading.specs.Grammar.{signAt, GroupSaid, Part, unary, joinedBy, operand, GuardSaid, negated, bracketed, single, further}
-use Rattle.reading.specs.Counted.{counted, Within, countedGuard}
+use Rattle.grammar.specs.Grammar.{signAt, GroupSaid, Part, unary, joinedBy, operand, GuardSaid, negated, bracketed, single, further}
+use Rattle.grammar.specs.Counted.{counted, Within, countedGuard}
 use Rattle.phrases.specs.Phrases.{_▸_}
 use Rattle.texts.specs.Shared.{opening, closing, formulaText}
 use Rattle.texts.specs.Writing.{groupText, guardText}

@@ -20,10 +20,10 @@ use Rattle.reading.specs.Judgements.{Judgement, fine, broken, firstBroken}
 use Rattle.reading.specs.Shape.{BranchShape, StatementShape, CardShape, card as readCard}
 use Rattle.reading.specs.Checks.{judgedWords, judgedEach, judgedStatement, judgedModules, judgedCard, statementIn, seatsIn, cardIn}
 use Rattle.reading.specs.Reading.{taken, firstOutside, shaped, readOf}
-use Rattle.reading.specs.Grammar.{Said, signAt, valued, LineSaid, ended, fixed, aSeat, aProcess, cardRun, moduleRun, ManySaid, done, again, LiteralSaid, literal, OthersSaid, close, next, GroupSaid, conjoined, disjoined, GuardSaid, grouped, negated, bracketed, single, further, RestSaid, nothing, guarded, WeightSaid, aNumber, aRatio, aDecimal, BranchSaid, branch, PlusSaid, plus, StatementSaid, statement, modeWord, CardSaid, card}
-use Rattle.reading.specs.Counted.{Counted, Within, Past, FirstPast, countedMany, countedModule, countedStatement, countedCard}
-use Rattle.reading.proofs.Follows.{Ran, came, fell, card-runs}
-use Rattle.reading.proofs.Valid.{read-valid}
+use Rattle.grammar.specs.Grammar.{Said, signAt, valued, LineSaid, ended, fixed, aSeat, aProcess, cardRun, moduleRun, ManySaid, done, again, LiteralSaid, literal, OthersSaid, close, next, GroupSaid, conjoined, disjoined, GuardSaid, grouped, negated, bracketed, single, further, RestSaid, nothing, guarded, WeightSaid, aNumber, aRatio, aDecimal, BranchSaid, branch, PlusSaid, plus, StatementSaid, statement, modeWord, CardSaid, card}
+use Rattle.grammar.specs.Counted.{Counted, Within, Past, FirstPast, countedMany, countedModule, countedStatement, countedCard}
+use Rattle.grammar.proofs.Follows.{Ran, came, fell, card-runs}
+use Rattle.grammar.proofs.Valid.{read-valid}
 use Rattle.phrases.specs.Phrases.{_▸_, num, modeWord as modeText}
 use Rattle.texts.specs.Writing.{statements, moduleText, modules, writeOf}
 use Rattle.rereading.proofs.Lexed.{Apart, number-mark, seat-mark, process-mark}
@@ -175,7 +175,7 @@ group-inside : {p ms r : Place} {g : Literals} → GroupSaid p ms g r → Inside
 group-inside (conjoined l o) = literal-inside l ∙ others-inside o
 group-inside (disjoined l o) = literal-inside l ∙ others-inside o
 
-guard-inside : {v : Rattle.reading.specs.Grammar.Part} {ms r : Place} {g : Rattle.card.specs.Card.Formula Literals} → GuardSaid GroupSaid v ms g r → Inside ms r
+guard-inside : {v : Rattle.grammar.specs.Grammar.Part} {ms r : Place} {g : Rattle.card.specs.Card.Formula Literals} → GuardSaid GroupSaid v ms g r → Inside ms r
 guard-inside (grouped d) = group-inside d
 guard-inside (negated d) = guard-inside d
 guard-inside (bracketed f d) = guard-inside d

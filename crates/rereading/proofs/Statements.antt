@@ -23,8 +23,8 @@ use Rattle.reading.specs.Group.{Literals}
 use Rattle.reading.specs.Judgements.{weight, unless, unitsIn, orZero, totalUnits}
 use Rattle.reading.specs.Shape.{BranchShape, StatementShape}
 use Rattle.reading.specs.Checks.{judgedWords, judgedBranch, judgedEach, judgedOr, judgedStatement, weightIn, branchIn, guardOr as guardIn′, statementIn}
-use Rattle.reading.specs.Grammar.{signAt, valued, joinedBy, LineSaid, ended, fixed, aSeat, statementRun, branchRun, ManySaid, done, again, RestSaid, nothing, guarded, WeightSaid, aNumber, aRatio, BranchSaid, branch, PlusSaid, plus, StatementSaid, statement}
-use Rattle.reading.specs.Counted.{Within, countedRest, countedPlus, countedMany, countedStatement}
+use Rattle.grammar.specs.Grammar.{signAt, valued, joinedBy, LineSaid, ended, fixed, aSeat, statementRun, branchRun, ManySaid, done, again, RestSaid, nothing, guarded, WeightSaid, aNumber, aRatio, BranchSaid, branch, PlusSaid, plus, StatementSaid, statement}
+use Rattle.grammar.specs.Counted.{Within, countedRest, countedPlus, countedMany, countedStatement}
 use Rattle.room.specs.Digits.{decimal, AllDigits}
 use Rattle.room.proofs.Decimal.{decimal-digits, decimal-some}
 use Rattle.phrases.specs.Phrases.{_▸_, num, lowest, spell, divisor, weightText}

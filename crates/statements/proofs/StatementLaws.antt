@@ -26,7 +26,7 @@ use Rattle.marks.specs.declared.Step.{Step}
 use Rattle.reading.specs.Reader.{Place, State, at, Result, ok, stop, Reader, bind, return, refuse, sign, numberOf, Numbered, numbered, Item, exactly, seatWord, line}
 use Rattle.reading.specs.Guard.{conjunction, unary}
 use Rattle.reading.specs.Group.{Literals, group}
-use Rattle.reading.specs.Grammar.{statementRun}
+use Rattle.grammar.specs.Grammar.{statementRun}
 use Rattle.reading.specs.Judgements.{Judgement, judgedGuard}
 use Rattle.reading.specs.Shape.{BranchShape, StatementShape, branch, moreBranches, guard, statement, moreStatements}
 use Rattle.reading.specs.Checks.{judgedState, judgedWords, judgedOr, judgedEach, judgedStatement}

@@ -1,0 +1,13 @@
+pub mod Follows
+pub mod Steady
+pub mod Exact
+pub mod Shapes
+pub mod Shaping
+pub mod Symmetry
+pub mod Ruling
+pub mod Along
+pub mod Ordered
+pub mod Reasons
+pub mod Fair
+pub mod Valid
+pub mod Theorems

@@ -1,0 +1,4 @@
+pub mod Grammar
+pub mod Counted
+pub mod Rules
+pub mod Verdicts
