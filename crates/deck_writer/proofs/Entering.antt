@@ -21,8 +21,9 @@ use Rattle.deck_written.proofs.Entries.{deck-long}
 use Rattle.room.specs.declared.Answer.the-variants.{Done, Refused}
 use Rattle.room.specs.Answer.{told, Entered}
 use Rattle.room.proofs.Entries.{told-faithful, entered-short, entered-whole}
-use Rattle.deck_writer.specs.Parts.{measured, contentsSaid, DeckPut}
-use Rattle.deck_writer.proofs.Putting.{deck-there}
+use Rattle.deck_lines.specs.Measured.{measured, contentsSaid}
+use Rattle.deck_text.specs.Parts.{DeckPut}
+use Rattle.deck_text.proofs.Putting.{deck-there}
 
 pub told-refused : {x : Said ℕ} {r p : ℕ} → told x ≡ Refused r p → x ≡ refused r p
 told-refused {x} {r} {p} e = told-faithful x (refused r p) e

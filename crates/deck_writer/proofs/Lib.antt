@@ -1,3 +1,1 @@
-pub mod Judging
-pub mod Putting
 pub mod Entering

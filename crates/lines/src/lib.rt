@@ -3,7 +3,6 @@ use room::place;
 use room::put_byte;
 use room::put_bytes;
 use room::put_number;
-ghost use mathlib.Core.Path.{_≡_};
 ghost use mathlib.Core.List.{_++_};
 ghost use lib.ListN.{length, getD};
 ghost use Rattle.phrases.specs.Phrases.{_▸_};

@@ -1,25 +1,16 @@
 -- What the panel entry says, stage by stage: the card's refusal, the seats', or the panel that its table holds. Assumes nothing.
-use Prim.Native.Nat.{ℕ, _≤_, _<_}
+use Prim.Native.Nat.{ℕ}
 use mathlib.Core.Path.{_≡_, sym, ap, _∙_}
-use mathlib.Core.List.{List, [], _++_, append-nil}
-use native.Mathlib.Omega.{arith}
-use borrow.Author.Tests.{le-leb, lt-leb}
-use lib.ListN.{length, take, drop, replicate, drop-of-length-le}
-use lib.Seq.{length-take-le}
-use Rattle.card.specs.Refusals.{roomTooSmall}
+use mathlib.Core.List.{List}
+use lib.ListN.{replicate}
 use Rattle.card.specs.Valid.{ValidCard}
-use Rattle.card.specs.Limits.{rowPlaces, nodePlaces, branchPlaces}
-use Rattle.card.specs.Lent.{Lent, lent, noneLent, cardIn, HoldsIn}
+use Rattle.card.specs.Lent.{Lent, cardIn, HoldsIn}
 use Rattle.card.specs.declared.Verdict.{Verdict}
 use Rattle.card.specs.declared.Verdict.the-variants.{Taken, Refused}
 use Rattle.card.specs.declared.Head.{Head}
 use Rattle.card.proofs.Filling.{zeros-repeat}
 use Rattle.card.proofs.HeldIn.{holds-card}
 use Rattle.entry.specs.Said.{says as text, refused}
-use Rattle.room.specs.Room.{Put}
-use Rattle.room.specs.Answer.{Entered}
-use Rattle.room.specs.declared.Answer.the-variants.{Done, Refused as Turned}
-use Rattle.room.proofs.Laws.{clip-start}
 use Rattle.meaning.specs.Seats.{Seating, ValidSeating}
 use Rattle.meaning.specs.Panel.{panel}
 use Rattle.counting.specs.Judged.{judgedSeats}
@@ -32,33 +23,10 @@ use Rattle.weighing.specs.Fitting.{Filling}
 use Rattle.weighing.proofs.Filled.{fitting}
 use Rattle.lines.specs.PanelText.{panelText, panelOf}
 use Rattle.lines.specs.PanelIn.{panelIn}
-use Rattle.panel.specs.PanelRoom.{panelRoom, Printable}
+use Rattle.panel_room.specs.PanelRoom.{Printable}
 use Rattle.panel.specs.PanelSaid.{shownSaid, panelSaid}
 use Rattle.panel.proofs.Shown.{is-panel}
 use Rattle.panel.proofs.Short.{panel-fits}
-
--- ---- a text of which the length is known, and stored in as long a part of the room
-
-module _ {was t : List ℕ} {need : ℕ} (same : need ≡ length t) where
-  pub entered-small : length was < need → Entered was was (text t) (Turned roomTooSmall need)
-  entered-small h =
-      let long : length was < length t = omega arith in
-      record { answers = rw (lt-leb (length t) (length was) long, same); leaves = rw (lt-leb (length t) (length was) long) }
-
-  pub entered-part : {part r : ℕ} {is : List ℕ} → part ≡ need → need ≤ length was → Put (take part was) is 0 t r → Entered was (is ++ drop part was) (text t) (Done r)
-  entered-part {part} {r} {is} e h p =
-      let fits : length t ≤ length was = omega arith in
-      let long : part ≡ length t = e ∙ same in
-      let parts : length (take part was) ≡ length t = length-take-le part was (omega arith) ∙ long in
-      let none : drop (length t) (take part was) ≡ [] = nothing-left (take part was) (length t) (omega arith) in
-      let wrote : is ≡ t = p .wrote ∙ clip-start (take part was) t (omega arith) ∙ ap (λ (l : List ℕ). t ++ l) none ∙ append-nil t in
-      record {
-        answers = rw (le-leb (length t) (length was) fits) (ap Done (omega (arith, p .next, p .small)));
-        leaves = rw (le-leb (length t) (length was) fits, wrote, long);
-      }
-    where
-      nothing-left : (l : List ℕ) (n : ℕ) → length l ≤ n → drop n l ≡ []
-      nothing-left l n k = drop-of-length-le l k
 
 -- ---- the table of a card that is taken
 

@@ -29,7 +29,7 @@ use Rattle.meaning.proofs.Panel.{panel-by-counts}
 use Rattle.lines.specs.PanelText.{numbers, line, movesText, stayText, blockText, blocksText, panelText, panelOf}
 use Rattle.lines.proofs.Laws.{moves-join}
 use Rattle.lines.proofs.Blocks.{own-moves}
-use Rattle.panel.specs.PanelRoom.{choiceMost, panelRoom}
+use Rattle.panel_room.specs.PanelRoom.{choiceMost, panelRoom}
 
 -- ---- lines
 

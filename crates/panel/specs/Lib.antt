@@ -1,3 +1,2 @@
 pub mod PanelSaid
-pub mod PanelRoom
 pub mod Reordering

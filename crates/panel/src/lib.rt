@@ -1,64 +1,16 @@
 // The panel of a card and its seats ("Texts, byte for byte"), computed from the counts alone.
-use card::Head;
 use card::Verdict;
 use card::limits::BRANCH_PLACES;
 use card::limits::NODE_PLACES;
 use card::limits::ROW_PLACES;
-use card::refusals::ROOM_TOO_SMALL;
 use counting::judge_seats;
-use panel_text::put_panel;
+use filling::fill;
+use panel_room::enter_panel;
 use reader::read_into;
 use room::Answer;
 use weighing::TABLE_PLACES;
-use weighing::fill;
-ghost use mathlib.Core.Path.{_≡_};
-ghost use lib.ListN.{length};
-ghost use Rattle.entry.specs.Said.{says as text};
 ghost use Rattle.room.specs.Answer.{Entered};
-ghost use Rattle.lines.specs.PanelText.{panelText};
-ghost use Rattle.lines.specs.PanelIn.{panelIn};
-ghost use Rattle.panel.specs.PanelRoom.{Printable};
 ghost use Rattle.panel.specs.PanelSaid.{panelSaid};
-
-// A room that every panel fits into (specs/PanelRoom.antt).
-pub const PANEL_ROOM: usize = 4101;
-
-// How long a panel's text is: it is put into a room of no bytes.
-fn measure<'a>(
-    head: Head,
-    table: &'a [usize; TABLE_PLACES],
-    rows: &'a [usize; ROW_PLACES],
-    branches: &'a [u32; BRANCH_PLACES],
-) -> usize
-    requires { ⌜ Printable head (now table) (now rows) (now branches) ⌝ }
-    ensures { λ r. ⌜ r ≡ length (panelText (panelIn head (now (table .entry)) (now (rows .entry)) (now (branches .entry)))) ⌝ }
-{
-    let mut nothing: [u8; 0] = [0; 0];
-    put_panel(&mut nothing, 0, head, table, rows, branches)
-}
-
-// A panel of which all numbers are known. A room that every panel fits into takes it in one walk; else a first walk tells the length, and
-// a second one stores the text where it fits.
-fn enter_panel<'a>(
-    room: &mut [u8],
-    head: Head,
-    table: &'a [usize; TABLE_PLACES],
-    rows: &'a [usize; ROW_PLACES],
-    branches: &'a [u32; BRANCH_PLACES],
-) -> Answer
-    requires { ⌜ Printable head (now table) (now rows) (now branches) ⌝ }
-    ensures { λ r. ⌜ Entered (now (room .entry)) (now (room .exit)) (text (panelText (panelIn head (now (table .entry)) (now (rows .entry)) (now (branches .entry))))) r ⌝ }
-{
-    if PANEL_ROOM <= room.len() {
-        return Answer::Done(put_panel(room, 0, head, table, rows, branches));
-    }
-    let need = measure(head, table, rows, branches);
-    if room.len() < need {
-        return Answer::Refused(ROOM_TOO_SMALL, need);
-    }
-    let part = need;
-    Answer::Done(put_panel(&mut room[..part], 0, head, table, rows, branches))
-}
 
 // The card is judged first, then the seats; then the panel's text is stored where it fits.
 pub fn panel(card: &[u8], seats: &[u8], room: &mut [u8]) -> Answer

@@ -26,11 +26,11 @@ use Rattle.lines.specs.PanelText.{panelOf}
 use Rattle.panel.specs.PanelSaid.{shownSaid, panelSaid}
 use Rattle.counting.proofs.Judging.{valid-exactly}
 use Rattle.grammar.proofs.Theorems.{read-valid}
-use Rattle.panel.specs.PanelRoom.{panelRoom}
+use Rattle.panel_room.specs.PanelRoom.{panelRoom}
 use Rattle.panel.proofs.Short.{panel-fits}
 use Rattle.program.specs.Program.{lineEnd, seatsLine, cardBehind, seatOf, inputBytes, printed, answerTo, programOf}
-use Rattle.program.proofs.Printing.{Short}
-use Rattle.program.proofs.Laws.{sown}
+use Rattle.program_lines.proofs.Printing.{Short}
+use Rattle.program_lines.proofs.Seats.{sown}
 
 -- ---- the line and the card
 

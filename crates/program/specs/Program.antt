@@ -1,16 +1,11 @@
 -- What the panel program prints for what it reads ("Texts, byte for byte", the paragraph on the program). Assumes nothing.
-use Prim.Native.Nat.{ℕ, _-_, _≤_}
-use mathlib.Core.Path.{_≡_}
-use mathlib.Core.Bool.{_&&_}
-use mathlib.Core.List.{List, [], _∷_, _++_, map}
-use lib.Dec.{eqb, leb}
-use lib.ListN.{length, take, drop}
+use Prim.Native.Nat.{ℕ}
+use mathlib.Core.List.{List, [], _∷_, map}
+use lib.Dec.{eqb}
+use lib.ListN.{take}
 use Rattle.card.specs.Text.{if_then_else_}
-use Rattle.room.specs.Digits.{digit}
-use Rattle.entry.specs.Said.{says as text, refused}
-use Rattle.room.specs.Answer.{Text}
-use Rattle.phrases.specs.Phrases.{_▸_, num}
 use Rattle.panel.specs.PanelSaid.{panelSaid}
+pub use Rattle.program_lines.specs.Lines.{noState, seatOf, printed, refusalMost, Printed}
 
 -- bytes behind these are not read
 abbrev pub inputBytes : ℕ
@@ -30,22 +25,6 @@ unfoldable pub cardBehind : List ℕ → List ℕ
 cardBehind [] = []
 cardBehind (b ∷ s) = if eqb b lineEnd then s else cardBehind s
 
--- a seat that is no digit is in no card's states
-abbrev pub noState : ℕ
-noState = 255
-
-abbrev pub seatOf : ℕ → ℕ
-seatOf b = if leb (digit 0) b && leb b (digit 9) then b - digit 0 else noState
-
--- a text as it is, a refusal as a line
-abbrev pub printed : Text → List ℕ
-printed (text t) = t
-printed (refused number place) = "refused " ▸ num number (" " ▸ num place ("\n" ▸ []))
-
--- bytes that are enough for a refusal's line: its number has at most three digits, and its place twenty
-abbrev pub refusalMost : ℕ
-refusalMost = 33
-
 -- for an input of at most so many bytes
 unfoldable pub answerTo : List ℕ → List ℕ
 unfolding seatsLine cardBehind
@@ -55,9 +34,3 @@ answerTo s = printed (panelSaid (cardBehind s) (map seatOf (seatsLine s)))
 unfoldable pub programOf : List ℕ → List ℕ
 unfolding answerTo
 programOf input = answerTo (take inputBytes input)
-
--- the room `was` became `is`: a text that fits stands at its start, and the bytes behind it are as they were
-pub record Printed (was is t : List ℕ) (long : ℕ) : Type 0 where
-  pub fits : length t ≤ length was
-  pub length-is : long ≡ length t
-  pub stands : is ≡ t ++ drop (length t) was

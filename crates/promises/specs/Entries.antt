@@ -30,7 +30,7 @@ use Rattle.texts.specs.Lengths.{reducedRoom}
 use Rattle.reducer.specs.ReduceSaid.{reduceSaid}
 use Rattle.lines.specs.PanelText.{panelOf}
 use Rattle.panel.specs.PanelSaid.{panelSaid}
-use Rattle.panel.specs.PanelRoom.{panelRoom}
+use Rattle.panel_room.specs.PanelRoom.{panelRoom}
 use Rattle.program.specs.Program.{inputBytes, lineEnd, seatsLine, cardBehind, noState, seatOf, programOf, Printed}
 
 -- an answer in document 01's numbers: a refusal's number and place, and 0 with the length

@@ -6,7 +6,7 @@ use Rattle.card.specs.Refusals.{tooLong, outsideRules, outOfShape, pastLimit, a
 use Rattle.card.specs.Refusals.{malformedDeck, noLiveCard}
 use Rattle.room.specs.Digits.{digit}
 use Rattle.texts.specs.Lengths.{writtenRoom, reducedRoom}
-use Rattle.panel.specs.PanelRoom.{panelRoom}
+use Rattle.panel_room.specs.PanelRoom.{panelRoom}
 use Rattle.program.specs.Program.{inputBytes, lineEnd, noState}
 use Rattle.asking.specs.Asking.{inQuestion}
 

@@ -1,5 +1,5 @@
-// All numbers of a panel, from the counts alone, in one table that is lent ("Texts, byte for byte"): each statement's guard and weights
-// are worked out once.
+// The numbers of a panel, from the counts alone, part by part into one table that is lent ("Texts, byte for byte"): each statement's guard
+// and weights are worked out once.
 use card::Head;
 use card::NONDETERMINISTIC;
 use card::limits::BRANCH_PLACES;
@@ -10,9 +10,7 @@ use card::limits::MOST_STATES;
 use card::limits::NODE_PLACES;
 use card::limits::ROW;
 use card::limits::ROW_PLACES;
-use card::weight::Weight;
 use counting::able;
-use counting::count_seats;
 use counting::units_to;
 ghost use mathlib.Core.Path.{_≡_};
 ghost use Prim.Native.Nat.{_≤_};
@@ -20,9 +18,8 @@ ghost use lib.ListN.{getD};
 ghost use Rattle.card.specs.Limits.{mostStates, mostStatements};
 ghost use Rattle.card.specs.Card.{nondeterministic, probabilistic};
 ghost use Rattle.card.specs.Laid.{either};
-ghost use Rattle.card.specs.Lent.{lent};
-ghost use Rattle.weighing.specs.Table.{over, ablesFrom, ableAt, countsAs, takenIn, added, weighed, stayIn, tableOf};
-ghost use Rattle.weighing.specs.Fitting.{FewAble, Adding, Weighing, Light, Filling};
+ghost use Rattle.weighing.specs.Table.{over, ablesFrom, ableAt, countsAs, takenIn, added, weighed, stayIn};
+ghost use Rattle.weighing.specs.Fitting.{FewAble, Adding, Weighing, Light};
 
 // The counts stand first; then the number of enabled, the weight of no change, how many seats are able to take each statement, and on a
 // probabilistic card a row of weights for each old state (specs/Table.antt).
@@ -36,7 +33,7 @@ pub const WEIGHTS: usize = ABLES + MOST_STATEMENTS;
 
 pub const TABLE_PLACES: usize = WEIGHTS + MOST_STATES * MOST_STATES;
 
-fn store_counts(table: &mut [usize; TABLE_PLACES], counts: &[usize; MOST_STATES])
+pub fn store_counts(table: &mut [usize; TABLE_PLACES], counts: &[usize; MOST_STATES])
     ensures { λ r. ⌜ now (table .exit) ≡ over 0 mostStates (λ d. getD (now (counts .entry)) d 0) (now (table .entry)) ⌝ }
 {
     let mut d = 0;
@@ -47,7 +44,7 @@ fn store_counts(table: &mut [usize; TABLE_PLACES], counts: &[usize; MOST_STATES]
 }
 
 // How many of the seats are able to take each statement, at counts.
-fn store_ables<'a>(
+pub fn store_ables<'a>(
     table: &mut [usize; TABLE_PLACES],
     head: Head,
     rows: &'a [usize; ROW_PLACES],
@@ -83,7 +80,7 @@ fn counts_as(mode: usize, able: usize) -> usize
 }
 
 // How many can be taken: pairs of a seat and a statement, or statements.
-fn taken_of(mode: usize, table: &[usize; TABLE_PLACES], count: usize) -> usize
+pub fn taken_of(mode: usize, table: &[usize; TABLE_PLACES], count: usize) -> usize
     requires { ⌜ FewAble (now table) count ⌝ }
     ensures { λ r. ⌜ r ≡ takenIn (either nondeterministic probabilistic mode) (now (table .entry)) count ⌝ }
 {
@@ -117,7 +114,7 @@ fn add_weights(
 }
 
 // The weights of a probabilistic card.
-fn store_weights<'a>(
+pub fn store_weights<'a>(
     table: &mut [usize; TABLE_PLACES],
     head: Head,
     rows: &'a [usize; ROW_PLACES],
@@ -142,7 +139,7 @@ fn store_weights<'a>(
 }
 
 // The weight of no change.
-fn stay_of(table: &[usize; TABLE_PLACES]) -> usize
+pub fn stay_of(table: &[usize; TABLE_PLACES]) -> usize
     requires { ⌜ Light (now table) ⌝ }
     ensures { λ r. ⌜ r ≡ stayIn (now (table .entry)) ⌝ }
 {
@@ -154,33 +151,4 @@ fn stay_of(table: &[usize; TABLE_PLACES]) -> usize
         a += 1;
     }
     stay
-}
-
-// The table of a card and a seating of it. Where none can be taken no weight is added up: there is one step, which changes nothing.
-pub fn fill<'a>(
-    table: &mut [usize; TABLE_PLACES],
-    head: Head,
-    seats: &'a [u8],
-    rows: &'a [usize; ROW_PLACES],
-    nodes: &'a [u32; NODE_PLACES],
-    branches: &'a [u32; BRANCH_PLACES],
-)
-    requires { ⌜ Filling (now table) head (lent (now rows) (now nodes) (now branches)) (now seats) ⌝ }
-    ensures { λ r. ⌜ now (table .exit) ≡ tableOf head (lent (now (rows .entry)) (now (nodes .entry)) (now (branches .entry))) (now (seats .entry)) ⌝ }
-{
-    let counts = count_seats(seats);
-    store_counts(table, &counts);
-    let states = head.top + 1;
-    store_ables(table, head, rows, nodes, &counts[..states]);
-    let taken = taken_of(head.mode, table, head.count);
-    if taken == 0 {
-        let unit = Weight::UNIT as usize;
-        table[ENABLED] = 1;
-        table[STAY] = unit;
-        return;
-    }
-    table[ENABLED] = taken;
-    store_weights(table, head, rows, branches);
-    let stay = stay_of(table);
-    table[STAY] = stay;
 }

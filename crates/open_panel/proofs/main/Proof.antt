@@ -1,5 +1,5 @@
 -- The program's `main` is safe: what is printed lies within the room. Assumes nothing.
-use Rattle.program.proofs.Printing.{printed-within, printed-count}
+use Rattle.program_lines.proofs.Printing.{printed-within, printed-count}
 use borrow.Author.Needs.{needs}
 use Rattle.open_panel.proofs.main.Statement.{statement}
 use Rattle.open_panel.proofs.main.Tie as tie

@@ -1,6 +1,6 @@
 -- `program::print` meets its contract: the panel, or the line of its refusal. Assumes nothing.
 use Rattle.program.proofs.Parts.{panel-short}
-use Rattle.program.proofs.Printing.{printed-done, printed-refused}
+use Rattle.program_lines.proofs.Printing.{printed-done, printed-refused}
 use native.Mathlib.Omega.{arith}
 use borrow.Author.Needs.{needs}
 use Rattle.program.proofs.print.Statement.{statement}
