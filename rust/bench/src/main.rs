@@ -4,11 +4,16 @@
 //! both sides measure a text before they put it; then questions, which take no
 //! room, beside judging a card alone; then a card looked for in a deck. Each
 //! round goes through all rows, so that a while in which the machine is slow
-//! spoils none of them.
+//! spoils none of them. Then the stack that the entries use, on the inputs that
+//! need most; `bench stack` prints that table alone, and fails where an entry
+//! uses more than the wrapper says.
 
+mod deepest;
 mod stack;
 
+use std::env;
 use std::hint::black_box;
+use std::process::ExitCode;
 use std::time::{Duration, Instant};
 
 use compare::cards::limits::NODES;
@@ -26,10 +31,10 @@ const ROUND: Duration = Duration::from_millis(20);
 
 /// What the entries are handed.
 struct Case {
-    /// The card, or a deck.
+    /// The card; or a deck, or a deck's contents.
     card: Vec<u8>,
     seats: Vec<u8>,
-    /// Nothing where none is asked.
+    /// The question, and nothing where none is asked; or the expansion, or a deck's bodies.
     question: Vec<u8>,
 }
 
@@ -226,23 +231,57 @@ const FIND: Entry = (
     |case, _| baseline::find(&case.card, LAST_CARD).ok().map(<[u8]>::len),
 );
 
-/// A deck of the most cards and the greatest length, all of them live, the last body as long as the others leave it.
-fn full_deck() -> Set {
-    let entries = 1..=LAST_CARD;
+/// The entries of decks that are not measured for speed, and the one that finds a card in two.
+const DECK_ENTRIES: [Entry; 3] = [
+    (
+        "judge_deck",
+        |case, _| open_panel::judge_deck(&case.card).ok().map(|()| 0),
+        |case, _| baseline::judge_deck(&case.card).ok().map(|_| 0),
+    ),
+    FIND,
+    (
+        "find_with",
+        |case, _| {
+            let found = open_panel::find_with(&case.card, &case.question, LAST_CARD);
+            found.ok().map(<[u8]>::len)
+        },
+        |case, _| {
+            let found = baseline::find_with(&case.card, &case.question, LAST_CARD);
+            found.ok().map(<[u8]>::len)
+        },
+    ),
+];
+
+/// The entry that makes a deck.
+const WRITE_DECK: Entry = (
+    "write_deck",
+    |case, room| open_panel::write_deck(&case.card, &case.question, room).ok(),
+    |case, room| baseline::write_deck(&case.card, &case.question, room).ok(),
+);
+
+/// Contents of the most cards, all of them live, and bodies that make the longest deck, the last as long as the others leave it.
+fn contents() -> (Vec<u8>, Vec<u8>) {
     let left = open_panel::DECK_BYTES - 1 - 8 * open_panel::DECK_CARDS;
     let body = left / open_panel::DECK_CARDS;
     let last_body = left - body * (open_panel::DECK_CARDS - 1);
-    let contents: Vec<u8> = entries
-        .flat_map(|number| {
-            let length = if number == LAST_CARD { last_body } else { body };
-            let fields = [number, 0, length as u16].map(u16::to_le_bytes);
-            [fields.as_flattened(), &[1, 0]].concat()
-        })
-        .collect();
-    let deck = open_panel::write_deck_to_vec(&contents, &vec![0; left]).expect("it fits");
+    let entries = (1..=LAST_CARD).flat_map(|number| {
+        let length = if number == LAST_CARD { last_body } else { body };
+        let fields = [number, 0, length as u16].map(u16::to_le_bytes);
+        [fields.as_flattened(), &[1, 0]].concat()
+    });
+    (entries.collect(), vec![0; left])
+}
+
+/// The deck of them.
+fn deck() -> Vec<u8> {
+    let (contents, bodies) = contents();
+    open_panel::write_deck_to_vec(&contents, &bodies).expect("it fits")
+}
+
+fn full_deck() -> Set {
     Set {
         name: "the last of 64 cards",
-        cases: vec![Case::new(deck, Vec::new())],
+        cases: vec![Case::new(deck(), Vec::new())],
     }
 }
 
@@ -357,7 +396,45 @@ fn print_table(rows: &[Row]) {
     rows.iter().for_each(Row::print);
 }
 
-fn main() {
+/// The stack of every entry, on the inputs that need most: false where one uses more than it is said to.
+fn print_stack() -> bool {
+    let bounds = [
+        open_panel::stack::JUDGE,
+        open_panel::stack::WRITE,
+        open_panel::stack::REDUCE,
+        open_panel::stack::SHOW,
+        open_panel::stack::ASK,
+        open_panel::stack::JUDGE_DECK,
+        open_panel::stack::FIND,
+        open_panel::stack::FIND_WITH,
+        open_panel::stack::WRITE_DECK,
+    ];
+    let (cards, questions, decks, parts) = (
+        deepest::cards(),
+        deepest::questions(),
+        deepest::decks(),
+        deepest::deck_parts(),
+    );
+    let of_cards = ENTRIES.into_iter().map(|entry| (entry, &cards));
+    let of_decks = DECK_ENTRIES.into_iter().map(|entry| (entry, &decks));
+    let all = of_cards
+        .chain([(ASK, &questions)])
+        .chain(of_decks)
+        .chain([(WRITE_DECK, &parts)]);
+    println!("| Entry | Library, bytes of stack | Bound | Baseline, bytes of stack |\n|---|---:|---:|---:|");
+    let mut kept = true;
+    for (((entry, library, baseline), cases), bound) in all.zip(bounds) {
+        let [library, baseline] = [library, baseline].map(|call| stack::most(call, cases));
+        println!("| {entry} | {library} | {bound} | {baseline} |");
+        kept &= library <= bound;
+    }
+    kept
+}
+
+fn main() -> ExitCode {
+    if env::args().nth(1).is_some_and(|word| word == "stack") {
+        return if print_stack() { ExitCode::SUCCESS } else { ExitCode::FAILURE };
+    }
     let (sets, question_sets, deck_sets) = (sets(), question_sets(), vec![full_deck()]);
     let mut room = vec![0; open_panel::REDUCE_ROOM];
     let mut tables = [
@@ -381,16 +458,7 @@ fn main() {
     print_table(&questions);
     println!("\nA full deck:\n");
     print_table(&decks);
-    println!("\n| Entry | Library, bytes of stack | Baseline, bytes of stack |\n|---|---:|---:|");
-    let entries = ENTRIES.iter().map(|entry| (entry, &sets));
-    for ((entry, library, baseline), sets) in
-        entries.chain([(&ASK, &question_sets), (&FIND, &deck_sets)])
-    {
-        let deepest = |call: &Call| {
-            let cases = sets.iter().flat_map(|set| &set.cases);
-            cases.map(|case| stack::used(*call, case)).max()
-        };
-        let [library, baseline] = [library, baseline].map(|call| deepest(call).unwrap_or(0));
-        println!("| {entry} | {library} | {baseline} |");
-    }
+    println!();
+    print_stack();
+    ExitCode::SUCCESS
 }

@@ -22,6 +22,7 @@
 mod deck;
 mod library;
 mod refusal;
+pub mod stack;
 
 pub use deck::{
     find, find_with, judge_deck, locate, locate_with, write_deck, write_deck_to_vec, Part,

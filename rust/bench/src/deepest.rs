@@ -1,0 +1,224 @@
+//! The inputs on which the entries need most stack: guards and questions nested as deep as may be, behind as many operands
+//! as there may be nodes, with each refusal at their innermost; guards whose nodes hang on each other in the longest line;
+//! the largest cards and texts; and decks, sound and wrong in the last place.
+
+use std::iter;
+
+use compare::extremes::extremes;
+use vectors::stored::base;
+
+use crate::{contents, deck, Case};
+
+/// Most brackets and `!` that are open at once.
+const DEPTH: usize = 8;
+
+/// How a level of a guard, or of a question, leads to the next: behind a `|` and a `&`, behind one of them, in a bracket alone, or behind `!`.
+#[derive(Clone, Copy)]
+enum Level {
+    Both,
+    And,
+    Or,
+    Bracket,
+    Not,
+}
+
+impl Level {
+    const ALL: [Level; 5] = [
+        Level::Both,
+        Level::And,
+        Level::Or,
+        Level::Bracket,
+        Level::Not,
+    ];
+
+    fn round(self, group: &str, inner: &str) -> String {
+        match self {
+            Level::Both => format!("({group} | {group} & {inner})"),
+            Level::And => format!("({group} & {inner})"),
+            Level::Or => format!("({group} | {inner})"),
+            Level::Bracket => format!("({inner})"),
+            Level::Not => format!("!{inner}"),
+        }
+    }
+}
+
+/// A group of everyone.
+fn everyone(seats: usize, sign: &str) -> String {
+    let literals: Vec<String> = (1..=seats).map(|seat| format!("s{seat}=0")).collect();
+    format!("({})", literals.join(sign))
+}
+
+/// Exactly one seat in state 0.
+fn exactly_one(seats: usize) -> String {
+    let term = |own: usize| {
+        let literal = |seat: usize| format!("s{seat}{}0", if seat == own { "=" } else { "!=" });
+        let literals: Vec<String> = (1..=seats).map(literal).collect();
+        format!("({})", literals.join(" & "))
+    };
+    let terms: Vec<String> = (1..=seats).map(term).collect();
+    format!("({})", terms.join(" | "))
+}
+
+/// What stands innermost: what is taken, in a question also an exactly-one, and what gets each refusal.
+fn innermost(seats: usize, question: bool) -> Vec<String> {
+    let mut all = vec![
+        everyone(seats, " & "),
+        everyone(seats, "/* and */\t&\n// and\n "),
+        "(s1=99999)".to_owned(),
+        "(s1=0 & s1=0)".to_owned(),
+        "(s1=0 & s2!=0)".to_owned(),
+        "((s1=0))".to_owned(),
+        "(s1=0 & s2=00000)".to_owned(),
+        "(s1=0 & s2=123456)".to_owned(),
+        "(s1=0 & s2=$)".to_owned(),
+        "(s1=0 & s2=/*".to_owned(),
+        "(s1=0 & process16)".to_owned(),
+        "(s1=0 & s2=0".to_owned(),
+    ];
+    if question {
+        let one = exactly_one(seats);
+        all.push(one.replace(" & ", "/* and */\t&\n// and\n "));
+        all.push(format!("{}$)", &one[..one.len() - 1]));
+        all.push(format!("{} process16)", &one[..one.len() - 2]));
+        all.push(one.replace("s1=0", "s1=99999"));
+        all.push(one);
+    }
+    all
+}
+
+/// All levels but the last are as wide as they come, which is past the most nodes where the last is too, or all are of one kind.
+fn nested(seats: usize, question: bool) -> Vec<String> {
+    let group = everyone(seats.min(2), " & ");
+    let runs = Level::ALL.into_iter().flat_map(|last| {
+        let wide = iter::repeat_n(Level::Both, DEPTH - 1);
+        [
+            iter::once(last).chain(wide).collect::<Vec<_>>(),
+            vec![last; DEPTH],
+            vec![last; DEPTH + 1],
+        ]
+    });
+    runs.flat_map(|levels| {
+        let group = &group;
+        innermost(seats, question).into_iter().map(move |inner| {
+            let levels = levels.iter();
+            let nested = levels.fold(inner, |inner, level| level.round(group, &inner));
+            // a question may have a `|` outside of all brackets
+            let first = if question { format!("{group} | ") } else { String::new() };
+            format!("{first}{group} & {nested}")
+        })
+    })
+    .collect()
+}
+
+/// As many nodes as there may be, each in the one before: `!` before the first operand, or before all of them.
+fn in_line(seats: usize) -> [String; 3] {
+    let group = everyone(seats, " & ");
+    let joined = |count: usize, sign: &str| vec![group.clone(); count].join(sign);
+    [
+        format!("{}{}", "!".repeat(DEPTH), joined(12, " & ")),
+        format!("{}({})", "!".repeat(DEPTH - 1), joined(13, " | ")),
+        format!("{}({})", "!".repeat(DEPTH - 1), joined(13, " & ")),
+    ]
+}
+
+/// A card with so many statements of one guard, the last as it is, the others without.
+fn card(mode: &str, seats: usize, statements: usize, guard: &str, behind: &str) -> Vec<u8> {
+    let weights = "10001/25200:(s1'=1) + 10001/25200:(s1'=2) + 1003/25200:(s1'=3) + 1003/25200:(s1'=4) + 1003/25200:(s1'=5) + 1003/25200:(s1'=6) + 1007/25200:(s1'=7) + 179/25200:(s1'=1)";
+    let plain = format!("[] s1=0 -> {weights};\n").repeat(statements - 1);
+    let further: String = (2..=seats)
+        .map(|seat| format!("module process{seat} = process1 [s1=s{seat}, s{seat}=s1] endmodule\n"))
+        .collect();
+    format!("{mode}\nmodule process1\ns1 : [0..7] init 0;\n{plain}[] s1=0 & {guard} -> {weights};\nendmodule\n{further}{behind}").into_bytes()
+}
+
+/// Cards with their seats.
+pub fn cards() -> Vec<Case> {
+    let mut cases: Vec<Case> = Vec::new();
+    for stored in base() {
+        cases.push(Case::new(stored.card().to_vec(), stored.seats()));
+    }
+    for extreme in extremes() {
+        cases.push(Case::new(extreme.input.card, extreme.input.seats));
+    }
+    for seats in [2, 16] {
+        for guard in nested(seats, false) {
+            cases.push(Case::new(card("probabilistic", seats, 1, &guard, ""), vec![0; seats]));
+        }
+        for guard in in_line(seats) {
+            for mode in ["probabilistic", "nondeterministic"] {
+                for behind in ["", "endmodule", "$"] {
+                    let card = card(mode, seats, 32, &guard, behind);
+                    cases.push(Case::new(card.clone(), vec![0; seats]));
+                    cases.push(Case::new(card.clone(), vec![8; seats]));
+                    cases.push(Case::new(card, vec![0; seats + 1]));
+                }
+            }
+        }
+    }
+    cases.push(Case::new(vec![b' '; open_panel::CARD_BYTES + 1], Vec::new()));
+    cases
+}
+
+/// Questions about a card.
+pub fn questions() -> Vec<Case> {
+    let mut cases = Vec::new();
+    for seats in [2, 16] {
+        let deep = nested(seats, false).swap_remove(0);
+        for (about, seated) in [(deep.as_str(), seats), ("(s1=0)", seats), ("(s1=0)", 1)] {
+            let card = card("probabilistic", seats, 1, about, "");
+            let asked = nested(seats, true).into_iter().chain(in_line(seats));
+            for question in asked {
+                cases.push(Case {
+                    question: question.into_bytes(),
+                    ..Case::new(card.clone(), vec![0; seated])
+                });
+            }
+            cases.push(Case {
+                question: vec![b' '; open_panel::QUESTION_BYTES + 1],
+                ..Case::new(card, vec![8; seats])
+            });
+        }
+    }
+    cases
+}
+
+/// Decks, each with itself as expansion: a full one, and with the last entry wrong in each of its bytes.
+pub fn decks() -> Vec<Case> {
+    let full = deck();
+    let last = 1 + 8 * (open_panel::DECK_CARDS - 1);
+    let wrong = (last..last + 8).map(|place| {
+        let mut deck = full.clone();
+        deck[place] ^= 0xff;
+        deck
+    });
+    let decks: Vec<Vec<u8>> = iter::once(full.clone()).chain(wrong).collect();
+    let pairs = decks.iter().map(|deck| (full.clone(), deck.clone()));
+    let swapped = decks.iter().map(|deck| (deck.clone(), full.clone()));
+    pairs
+        .chain(swapped)
+        .map(|(base, expansion)| Case {
+            question: expansion,
+            ..Case::new(base, Vec::new())
+        })
+        .collect()
+}
+
+/// Contents and bodies: of a full deck, and with the last entry wrong in each of its bytes, or bodies too short.
+pub fn deck_parts() -> Vec<Case> {
+    let (full, bodies) = contents();
+    let last = 8 * (open_panel::DECK_CARDS - 1);
+    let wrong = (last..last + 8).map(|place| {
+        let mut contents = full.clone();
+        contents[place] ^= 0xff;
+        (contents, bodies.clone())
+    });
+    let short = (full.clone(), bodies[1..].to_vec());
+    iter::once((full.clone(), bodies.clone()))
+        .chain(wrong)
+        .chain(iter::once(short))
+        .map(|(contents, bodies)| Case {
+            question: bodies,
+            ..Case::new(contents, Vec::new())
+        })
+        .collect()
+}
