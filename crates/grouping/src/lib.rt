@@ -21,7 +21,7 @@ ghost use lib.ListN.{set};
 ghost use Rattle.card.specs.Limits.{nodePlaces};
 ghost use Rattle.late.specs.State.{atFree, freeIn, after};
 ghost use Rattle.grouping.specs.Language.{languageOf};
-ghost use Rattle.grouping.specs.Items.{ItemAt, nothing, ofAll, Ready, Placed, LaidAt, operatorOf};
+ghost use Rattle.grouping.specs.Items.{ItemAt, nothing, ofAll, Ready, Placed, LaidAt};
 
 // The stop of an answer where no item starts; what did not fit has the number of its refusal.
 pub const NO_ITEM: usize = 1;
@@ -91,15 +91,6 @@ pub fn store(nodes: &mut [u32; NODE_PLACES], state: &mut [usize; STATE], node: u
     let free = state[FREE];
     nodes[free] = node;
     state[FREE] = free + 1;
-}
-
-pub fn operator(any: bool) -> usize
-    ensures { λ r. ⌜ r ≡ operatorOf any ⌝ }
-{
-    if any {
-        return node::OR;
-    }
-    node::AND
 }
 
 // An item's node and what is judged of it. It was read from place `begin` of the card on, behind its bracket, which is at `place`.

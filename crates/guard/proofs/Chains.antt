@@ -8,7 +8,6 @@ use native.Mathlib.Omega.{arith}
 use lib.ListN.{drop, set}
 use Rattle.card.specs.Limits.{nodePlaces, mostNodes}
 use Rattle.card.specs.Refusals.{pastLimit}
-use Rattle.card.specs.Text.{if_then_else_}
 use Rattle.card.specs.Card.{Formula, and}
 use Rattle.card.specs.Laid.{opOr, packNode}
 use Rattle.card.proofs.Storing.{size-below}
@@ -37,9 +36,6 @@ use Rattle.guard.proofs.Ways.{place-here, state-is, sign-fits, next-yes
 no-joint : (a : Bool) → kind ")" ≡ kind (joiner a) → ⊥
 no-joint false e = let z : _≡_ {A = ℕ} 41 38 = e in omega arith
 no-joint true e = let z : _≡_ {A = ℕ} 41 124 = e in omega arith
-
-pub three : (b : Bool) → b ≡ true → _≡_ {A = ℕ} (if b then 3 else 0) 3
-three b e = rw e
 
 module _ (L : Language) (keeps : Keeping L) where
   -- ---- room

@@ -19,8 +19,8 @@ use Rattle.marks.specs.Kinds.{kind}
 use Rattle.marks.specs.Step.{stepAt, marksAt}
 use Rattle.marks.specs.declared.Step.{Step}
 use Rattle.marks.proofs.Next.{meet, part-of-card}
-use Rattle.reading.specs.Reader.{Place, State, at, Result, ok, stop, Reader, bind, _>>=_, _>>_, return, nextIs, sign, here, spend}
-use Rattle.reading.specs.Guard.{expression, grouped}
+use Rattle.reading.specs.Reader.{Place, State, at, Result, ok, stop, Reader, bind, _>>=_, _>>_, return, refuseAt, nextIs, sign, here, spend}
+use Rattle.reading.specs.Guard.{ifAhead, expression, grouped}
 use Rattle.reading.specs.Judgements.{unless}
 use Rattle.group.specs.declared.Grouped.{Grouped}
 use Rattle.late.specs.Late.{Late, blamed, grouped as groupedLate}
@@ -30,7 +30,7 @@ use Rattle.group.proofs.Ahead.{fits, unfit, next-is, sign-next, place-next, nex
 use Rattle.grouping.specs.Language.{Language}
 use Rattle.grouping.specs.Items.{Inside, ReadItem, ItemRead, noItem, ItemIf, ItemAt, LaidAt}
 use Rattle.guard.specs.GuardRead.{Read, GuardRead}
-use Rattle.guard.specs.Pieces.{unaryIn, thenNot, thenClose, bracketOf, Onward, Bracketed}
+use Rattle.guard.specs.Pieces.{Guards, unaryIn, thenNot, thenClose, Onward, NoItem, ItemKept}
 use Rattle.guard.proofs.Building.{went-well, read-as}
 
 -- ---- marks of the whole card
@@ -78,6 +78,16 @@ pub none-left : {A : Type 0} (p ms : Place) (left : ℕ) (f : Reader A) → left
 none-left p ms left f h = rw h
 
 module _ (L : Language) where
+  -- what a bracket at place p starts
+  abbrev bracketOf : ℕ → Place → Guards L
+  bracketOf zero p = ifAhead (L .starts) (grouped (L .item) p) (refuseAt pastLimit p)
+  bracketOf (suc depth) p = ifAhead (L .starts) (grouped (L .item) p) (expression (unaryIn L depth) >>= thenClose)
+
+  -- from place q of the card on
+  abbrev Bracketed : List ℕ → ℕ → ℕ → ℕ → ℕ → ℕ → List ℕ → List ℕ → ℕ → Late → After → Type 0
+  Bracketed s q p left depth k was is used before r =
+      (bracket : Place) → placeOf (length s) bracket ≡ p → GuardRead L s k was is used before (bracketOf depth bracket (at (marksAt 0 s q) left)) r
+
   -- ---- the closing bracket
 
   -- behind what was read so far, at the place q and the nodes left
@@ -167,18 +177,18 @@ module _ (L : Language) where
     abbrev mark : Step
     mark = stepAt s i
 
-    unary-other : (mark .mark .kind ≡ kind "!" → ⊥) → unaryIn L depth start ≡ bind (sign "(" start) (λ _. bracketOf L depth (marksAt 0 s i))
+    unary-other : (mark .mark .kind ≡ kind "!" → ⊥) → unaryIn L depth start ≡ bind (sign "(" start) (λ _. bracketOf depth (marksAt 0 s i))
     unary-other h = go depth
       where
-        go : (d : ℕ) → unaryIn L d start ≡ bind (sign "(" start) (λ _. bracketOf L d (marksAt 0 s i))
+        go : (d : ℕ) → unaryIn L d start ≡ bind (sign "(" start) (λ _. bracketOf d (marksAt 0 s i))
         go zero = rw (next-no "!" not-known s i n h)
         go (suc d) = rw (next-no "!" not-known s i n h)
 
-    pub unary-open : mark .mark .kind ≡ kind "(" → unaryIn L depth start ≡ bracketOf L depth (marksAt 0 s i) (at (marksAt 0 s (mark .next .at)) n)
-    unary-open h = unary-other (λ z. omega arith) ∙ ap (λ y. bind y (λ _. bracketOf L depth (marksAt 0 s i))) (sign-fits "(" open-known s i n h)
+    pub unary-open : mark .mark .kind ≡ kind "(" → unaryIn L depth start ≡ bracketOf depth (marksAt 0 s i) (at (marksAt 0 s (mark .next .at)) n)
+    unary-open h = unary-other (λ z. omega arith) ∙ ap (λ y. bind y (λ _. bracketOf depth (marksAt 0 s i))) (sign-fits "(" open-known s i n h)
 
     pub unary-unfit : (mark .mark .kind ≡ kind "(" → ⊥) → (mark .mark .kind ≡ kind "!" → ⊥) → unaryIn L depth start ≡ stop outOfShape (marksAt 0 s i)
-    unary-unfit h k = unary-other k ∙ ap (λ y. bind y (λ _. bracketOf L depth (marksAt 0 s i))) (sign-unfit "(" open-known s i n h)
+    unary-unfit h k = unary-other k ∙ ap (λ y. bind y (λ _. bracketOf depth (marksAt 0 s i))) (sign-unfit "(" open-known s i n h)
 
     pub unary-deep : mark .mark .kind ≡ kind "!" → depth ≡ 0 → unaryIn L depth start ≡ stop pastLimit (marksAt 0 s i)
     unary-deep h e = ap (λ d. unaryIn L d start) e ∙ rw (next-yes "!" not-known s i n h)
@@ -204,15 +214,15 @@ module _ (L : Language) where
     abbrev behind : State
     behind = at (marksAt 0 s q) n
 
-    bracket-item : (depth : ℕ) → L .starts (marksAt 0 s q) ≡ true → bracketOf L depth p behind ≡ grouped (L .item) p behind
+    bracket-item : (depth : ℕ) → L .starts (marksAt 0 s q) ≡ true → bracketOf depth p behind ≡ grouped (L .item) p behind
     bracket-item zero h = rw h
     bracket-item (suc d) h = rw h
 
-    bracket-deep : (depth : ℕ) → L .starts (marksAt 0 s q) ≡ false → depth ≡ 0 → bracketOf L depth p behind ≡ stop pastLimit p
+    bracket-deep : (depth : ℕ) → L .starts (marksAt 0 s q) ≡ false → depth ≡ 0 → bracketOf depth p behind ≡ stop pastLimit p
     bracket-deep zero h e = rw h
     bracket-deep (suc d) h e = absurd (omega (arith, e))
 
-    bracket-inner : (depth : ℕ) → L .starts (marksAt 0 s q) ≡ false → (depth ≡ 0 → ⊥) → bracketOf L depth p behind ≡ bind (expression (unaryIn L (depth - 1)) behind) thenClose
+    bracket-inner : (depth : ℕ) → L .starts (marksAt 0 s q) ≡ false → (depth ≡ 0 → ⊥) → bracketOf depth p behind ≡ bind (expression (unaryIn L (depth - 1)) behind) thenClose
     bracket-inner zero h f = absurd (f refl)
     bracket-inner (suc d) h f = rw (h, sub-one (suc d))
 
@@ -251,32 +261,52 @@ module _ (L : Language) where
     item-reads : (g .stop ≡ noItem → ⊥) → (p : Place) (n : ℕ) → ItemRead L q (drop q s) n p (L .item p (at (marksAt 0 s q) n)) g
     item-reads h p n = rw (← rest-marks) (if-starts true (item-starts h) n p)
 
-  module _ (s : List ℕ) (q p depth k : ℕ) (l : q ≤ length s) (was is state part : List ℕ) (same : part ≡ drop q s) (g : Grouped) (item : ItemAt L part g) where
-    abbrev Brackets : After → Type 0
-    Brackets r = Bracketed L s q p (leftIn state) depth k was is (freeIn state) (lateIn state) r
+    past-of : (n : ℕ) (p : Place) (y : Result (L .Item)) → ItemRead L q (drop q s) n p y g → g .stop ≡ 0 → g .next ≡ 0 → ⊥
+    past-of n p (ok a b) h e z = h .past z
+    past-of n p (stop m ms) h e z = omega (arith, e, ap (λ (u : Grouped). u .stop) (h .answer))
 
+    -- the next place is none of the numbers that stand for no item and for a stop
+    laid-past : (g .stop ≡ noItem → ⊥) → (q ≡ 0 → ⊥) → (p k : ℕ) (was is state : List ℕ) (r : After) → LaidAt g q p k was is state r → r .next ≡ noItem → ⊥
+    laid-past h some p k was is state r laid e = go (leftIn state) refl (g .stop) refl
+      where
+        nonzero : (n : ℕ) → (n ≡ 0 → ⊥) → 1 ≤ n
+        nonzero zero f = absurd (f refl)
+        nonzero (suc n) f = omega arith
+
+        go : (n : ℕ) → leftIn state ≡ n → (m : ℕ) → g .stop ≡ m → ⊥
+        go zero f m i = omega (arith, e, laid .full f .none)
+        go (suc n) f (suc m) i = omega (arith, e, laid .wrong (λ z. omega (arith, f, z)) (λ z. omega (arith, i, z)) .none)
+        go (suc n) f zero i =
+            past-of 0 (marksAt 0 s q) (L .item (marksAt 0 s q) (at (marksAt 0 s q) 0)) (item-reads h (marksAt 0 s q) 0) i
+            (omega (arith, e, laid .well (λ z. omega (arith, f, z)) i .next, nonzero q some))
+
+  -- what the code found in the part that it lent
+  module _ (s : List ℕ) (q : ℕ) (l : q ≤ length s) (part : List ℕ) (same : part ≡ drop q s) (g : Grouped) (item : ItemAt L part g) where
     found : ItemAt L (drop q s) g
     found = rw same at item
 
-    pub bracket-items : (g .stop ≡ noItem → ⊥) → (r : After) → LaidAt g q p k was is state r → Brackets r
-    bracket-items h r laid bracket e =
+    bracket-items : (g .stop ≡ noItem → ⊥) → (p depth k : ℕ) (was is state : List ℕ) (r : After) → LaidAt g q p k was is state r
+        → Bracketed s q p (leftIn state) depth k was is (freeIn state) (lateIn state) r
+    bracket-items h p depth k was is state r laid bracket e =
         read-as L s k was is (freeIn state) (lateIn state) r (bracket-item s q (leftIn state) bracket depth (item-starts s q l g found h))
         (item-laid s q p k l was is state g r laid bracket e (item-reads s q l g found h bracket))
 
-    module _ (h : g .stop ≡ noItem) where
-      none : L .starts (marksAt 0 s q) ≡ false
-      none = item-none s q l g found h
+    past-item : (g .stop ≡ noItem → ⊥) → (q ≡ 0 → ⊥) → (p k : ℕ) (was is state : List ℕ) (r : After) → LaidAt g q p k was is state r → r .next ≡ noItem → ⊥
+    past-item = laid-past s q l g found
 
-      pub bracket-stops : depth ≡ 0 → (r : After) → Halted pastLimit p r → Brackets r
-      bracket-stops e r halted bracket f =
-          read-as L s k was is (freeIn state) (lateIn state) r (bracket-deep s q (leftIn state) bracket depth none e) (rw f halted)
+    starts-none : g .stop ≡ noItem → L .starts (marksAt 0 s q) ≡ false
+    starts-none = item-none s q l g found
 
-      pub bracket-closes : (depth ≡ 0 → ⊥) → (b r : After)
-          → GuardRead L s k was is (freeIn state) (lateIn state) (expression (unaryIn L (depth - 1)) (at (marksAt 0 s q) (leftIn state))) b
-          → ((top : ℕ) (nodes : List ℕ) → Onward L s top nodes nodes b thenClose r) → Brackets r
-      bracket-closes e b r d onward bracket f =
-          read-as L s k was is (freeIn state) (lateIn state) r (bracket-inner s q (leftIn state) bracket depth none e)
-          (onward k is was (freeIn state) (lateIn state) (expression (unaryIn L (depth - 1)) (at (marksAt 0 s q) (leftIn state))) d)
+  -- a bracket that starts no item
+  module _ (s : List ℕ) (q p left depth k : ℕ) (was is : List ℕ) (used : ℕ) (before : Late) (none : L .starts (marksAt 0 s q) ≡ false) where
+    bracket-stops : depth ≡ 0 → (r : After) → Halted pastLimit p r → Bracketed s q p left depth k was is used before r
+    bracket-stops e r halted bracket f = read-as L s k was is used before r (bracket-deep s q left bracket depth none e) (rw f halted)
+
+    bracket-closes : (depth ≡ 0 → ⊥) → (b r : After) → GuardRead L s k was is used before (expression (unaryIn L (depth - 1)) (at (marksAt 0 s q) left)) b
+        → ((top : ℕ) (nodes : List ℕ) → Onward L s top nodes nodes b thenClose r) → Bracketed s q p left depth k was is used before r
+    bracket-closes e b r d onward bracket f =
+        read-as L s k was is used before r (bracket-inner s q left bracket depth none e)
+        (onward k is was used before (expression (unaryIn L (depth - 1)) (at (marksAt 0 s q) left)) d)
 
   -- ---- a unary, as the code has it
 
@@ -296,11 +326,22 @@ module _ (L : Language) where
     stops : (m : ℕ) (r : After) → unaryIn L depth (at (marksAt 0 s i) left) ≡ stop m (marksAt 0 s i) → Halted m (a .mark .place) r → Reads r
     stops m r e halted = read-as L s k was is used before r e (rw place-there halted)
 
-    pub reads-bracket : a .mark .kind ≡ kind "(" → (r : After) → Bracketed L s (a .next .at) (a .mark .place) left depth k was is used before r → Reads r
+    reads-bracket : a .mark .kind ≡ kind "(" → (r : After) → Bracketed s (a .next .at) (a .mark .place) left depth k was is used before r → Reads r
     reads-bracket h r b =
         read-as L s k was is used before r
-        (unary-open s i depth left (kind-here (kind "(") h) ∙ ap (λ (u : Step). bracketOf L depth (marksAt 0 s i) (at (marksAt 0 s (u .next .at)) left)) (sym step))
+        (unary-open s i depth left (kind-here (kind "(") h) ∙ ap (λ (u : Step). bracketOf depth (marksAt 0 s i) (at (marksAt 0 s (u .next .at)) left)) (sym step))
         (b (marksAt 0 s i) place-there)
+
+    module _ (h : a .mark .kind ≡ kind "(") (no-item : NoItem L s i) where
+      none-there : L .starts (marksAt 0 s (a .next .at)) ≡ false
+      none-there = ap (λ (u : Step). L .starts (marksAt 0 s (u .next .at))) step ∙ no-item (kind-here (kind "(") h)
+
+      pub reads-closed : depth ≡ 0 → (r : After) → Halted pastLimit (a .mark .place) r → Reads r
+      reads-closed e r halted = reads-bracket h r (bracket-stops s (a .next .at) (a .mark .place) left depth k was is used before none-there e r halted)
+
+      pub reads-inner : (depth ≡ 0 → ⊥) → (b r : After) → GuardRead L s k was is used before (expression (unaryIn L (depth - 1)) (at (marksAt 0 s (a .next .at)) left)) b
+          → ((top : ℕ) (nodes : List ℕ) → Onward L s top nodes nodes b thenClose r) → Reads r
+      reads-inner e b r d onward = reads-bracket h r (bracket-closes s (a .next .at) (a .mark .place) left depth k was is used before none-there e b r d onward)
 
     pub reads-unfit : (a .mark .kind ≡ kind "(" → ⊥) → (a .mark .kind ≡ kind "!" → ⊥) → (r : After) → Halted outOfShape (a .mark .place) r → Reads r
     reads-unfit h e r halted = stops outOfShape r (unary-unfit s i depth left (unkind-here (kind "(") h) (unkind-here (kind "!") e)) halted
@@ -319,6 +360,36 @@ module _ (L : Language) where
           read-as L s k was is used before r
           (unary-not s i depth left (kind-here (kind "!") h) f e ∙ ap (λ (u : Step). bind (unaryIn L (depth - 1) (at (marksAt 0 s (u .next .at)) (left - 1))) thenNot) (sym step))
           (onward s k was used before (unaryIn L (depth - 1) (at (marksAt 0 s (a .next .at)) (left - 1))) d)
+
+  -- ---- an item, as the code keeps it
+
+  module _ (s : List ℕ) (i k : ℕ) (was state : List ℕ) (a : Step) (step : a ≡ stepAt s i) where
+    -- nothing has changed
+    unchanged : NoItem L s i → ItemKept L s i k was was state state noItem
+    unchanged h = record { some = λ z. absurd (z refl); none = λ _. (refl, refl, h) }
+
+    pub no-bracket : (a .mark .kind ≡ kind "(" → ⊥) → ItemKept L s i k was was state state noItem
+    no-bracket h = unchanged (λ e. absurd (h (ap (λ (u : Step). u .mark .kind) step ∙ e)))
+
+    module _ (l : a .next .at ≤ length s) (part : List ℕ) (same : part ≡ drop (a .next .at) s) (g : Grouped) (item : ItemAt L part g) where
+      pub no-item : g .stop ≡ noItem → ItemKept L s i k was was state state noItem
+      no-item h = unchanged (λ e. ap (λ (u : Step). L .starts (marksAt 0 s (u .next .at))) (sym step) ∙ starts-none s (a .next .at) l part same g item h)
+
+      pub item-kept : a .mark .kind ≡ kind "(" → (g .stop ≡ noItem → ⊥) → (is behind : List ℕ) (r : ℕ) → LaidAt g (a .next .at) (a .mark .place) k was is state (after behind r)
+          → ItemKept L s i k was is state behind r
+      item-kept opens h is behind r laid = record {
+        some = λ _ depth. reads-bracket s i (leftIn state) depth k was is (freeIn state) (lateIn state) a step opens (after behind r)
+            (bracket-items s (a .next .at) l part same g item h (a .mark .place) depth k was is state (after behind r) laid);
+        none = λ e. absurd (past-item s (a .next .at) l part same g item h
+            (λ z. next-past 0 s (stepAt s i) (marksAt 0 s i) (meet 0 s i) (λ y. omega (arith, opens, ap (λ (m : Step). m .mark .kind) step, y)) (ap (λ (m : Step). m .next .at) (sym step) ∙ z))
+            (a .mark .place) k was is state (after behind r) laid e);
+      }
+
+  -- what was read from arrays that are as they were
+  pub read-from : (s : List ℕ) (i k depth : ℕ) (was mid is state behind : List ℕ) (r : After) → mid ≡ was → behind ≡ state
+      → GuardRead L s k mid is (freeIn behind) (lateIn behind) (unaryIn L depth (at (marksAt 0 s i) (leftIn behind))) r
+      → GuardRead L s k was is (freeIn state) (lateIn state) (unaryIn L depth (at (marksAt 0 s i) (leftIn state))) r
+  read-from s i k depth was mid is state behind r e f d = rw (← e, ← f) d
 
 -- ---- what the code's calls ask
 

@@ -1,23 +1,21 @@
 -- What the pieces of the guard reader promise each other: each goes on from what another has read. Assumes nothing.
-use Prim.Native.Nat.{ℕ, zero, suc, _<_}
+use Prim.Native.Nat.{ℕ, _<_}
 use Prim.Native.String.{String}
 use mathlib.Core.Path.{_≡_}
 use mathlib.Core.Bool.{Bool, true, false}
 use mathlib.Core.List.{List}
-use lib.ListN.{length}
 use Rattle.card.specs.Limits.{mostNodes}
-use Rattle.card.specs.Refusals.{pastLimit}
 use Rattle.card.specs.Card.{Formula, neg, and, or}
-use Rattle.marks.specs.Marks.{placeOf}
-use Rattle.marks.specs.Step.{marksAt}
-use Rattle.reading.specs.Reader.{Place, at as from, Result, Reader, bind, _>>=_, _>>_, return, refuseAt, sign}
-use Rattle.reading.specs.Guard.{ifAhead, chain, conjunction, expression, grouped, unaryBy}
+use Rattle.marks.specs.Kinds.{kind}
+use Rattle.marks.specs.Step.{stepAt, marksAt}
+use Rattle.reading.specs.Reader.{at as from, Result, Reader, bind, _>>_, return, sign}
+use Rattle.reading.specs.Guard.{chain, conjunction, unaryBy}
 use Rattle.reading.specs.Group.{joint}
 use Rattle.late.specs.Late.{Late}
-use Rattle.late.specs.State.{freeIn, After}
+use Rattle.late.specs.State.{leftIn, freeIn, lateIn, After, after}
 use Rattle.group.specs.LiteralRead.{signIn}
 use Rattle.grouping.specs.Language.{Language}
-use Rattle.grouping.specs.Items.{Ready}
+use Rattle.grouping.specs.Items.{noItem, Ready}
 use Rattle.guard.specs.GuardRead.{GuardRead}
 
 abbrev pub joiner : Bool → String
@@ -62,11 +60,11 @@ module _ (L : Language) where
       (was : List ℕ) (used : ℕ) (before : Late) (x : Result (Formula (L .Item)))
       → GuardRead L s k was mid used before x g → GuardRead L s k was is used before (bind x f) r
 
-  -- what a bracket at place p starts, from place q of the card on
-  abbrev pub bracketOf : ℕ → Place → Guards
-  bracketOf zero p = ifAhead (L .starts) (grouped (L .item) p) (refuseAt pastLimit p)
-  bracketOf (suc depth) p = ifAhead (L .starts) (grouped (L .item) p) (expression (unaryIn depth) >>= thenClose)
+  -- at place i of the card stands no bracket that starts an item
+  abbrev pub NoItem : List ℕ → ℕ → Type 0
+  NoItem s i = stepAt s i .mark .kind ≡ kind "(" → L .starts (marksAt 0 s (stepAt s i .next .at)) ≡ false
 
-  abbrev pub Bracketed : List ℕ → ℕ → ℕ → ℕ → ℕ → ℕ → List ℕ → List ℕ → ℕ → Late → After → Type 0
-  Bracketed s q p left depth k was is used before r =
-      (bracket : Place) → placeOf (length s) bracket ≡ p → GuardRead L s k was is used before (bracketOf depth bracket (from (marksAt 0 s q) left)) r
+  -- an item that starts there is a unary, however many brackets may still be opened; where none does nothing changes
+  pub record ItemKept (s : List ℕ) (i k : ℕ) (was is state behind : List ℕ) (r : ℕ) : Type 0 where
+    pub some : (r ≡ noItem → ⊥) → (depth : ℕ) → GuardRead L s k was is (freeIn state) (lateIn state) (unaryIn depth (from (marksAt 0 s i) (leftIn state))) (after behind r)
+    pub none : r ≡ noItem → (is ≡ was) × (behind ≡ state) × NoItem s i

@@ -4,11 +4,9 @@ use card::limits::NODE_PLACES;
 use card::node;
 use card::refusals::OUT_OF_SHAPE;
 use card::refusals::PAST_LIMIT;
-use group::joint;
 use grouping::NO_ITEM;
 use grouping::item;
 use grouping::lay;
-use grouping::operator;
 use grouping::store;
 use late::state::FREE;
 use late::state::LEFT;
@@ -19,8 +17,7 @@ use looks::due::step_opening;
 use looks::due::step_sign;
 use looks::look::sign_here;
 use marks::kinds;
-ghost use Prim.Native.Nat.{_≤_};
-ghost use lib.ListN.{length};
+ghost use mathlib.Core.Bool.{true, false};
 ghost use Rattle.marks.specs.Step.{marksAt};
 ghost use Rattle.reading.specs.Reader.{at as from};
 ghost use Rattle.reading.specs.Guard.{conjunction as conjunctionOf, expression as expressionOf};
@@ -28,45 +25,40 @@ ghost use Rattle.late.specs.State.{leftIn, freeIn, lateIn, after};
 ghost use Rattle.grouping.specs.Language.{languageOf};
 ghost use Rattle.grouping.specs.Items.{Ready};
 ghost use Rattle.guard.specs.GuardRead.{GuardRead};
-ghost use Rattle.guard.specs.Pieces.{unaryIn, operandOf, chained, Begun, Onward, Bracketed};
+ghost use Rattle.guard.specs.Pieces.{unaryIn, chained, Begun, Onward, NoItem, ItemKept};
 
-// Each node is stored once its parts are; each function has so many brackets and `!` left to open.
+// Each node is stored once its parts are; each function has so many brackets and `!` left to open. The stack is spent here: for each
+// bracket a frame of `nested`, which `expression` and its chain become part of, and one of `conjunction` with its chain. So what reads an
+// item is apart from what calls itself, and each sign has a chain of its own.
 
-// What the bracket at `place` starts: an item, which is read from the rest of the card as a part; else an expression, and its closing
-// bracket.
-fn bracket(
+// An item, where the next mark is a bracket that starts one: it is read from the rest of the card as a part. Else NO_ITEM, and nothing has
+// changed.
+fn keep_item(
     card: &[u8],
-    begin: usize,
-    place: usize,
+    at: usize,
     nodes: &mut [u32; NODE_PLACES],
     state: &mut [usize; STATE],
-    depth: usize,
     top: usize,
     question: bool,
 ) -> usize
-    requires { ⌜ Ready (now state) × (begin ≤ length (now card)) ⌝ }
-    ensures { λ r. ⌜ Bracketed (languageOf question) (now (card .entry)) begin place (leftIn (now (state .entry))) depth top (now (nodes .entry)) (now (nodes .exit)) (freeIn (now (state .entry))) (lateIn (now (state .entry))) (after (now (state .exit)) r) ⌝ }
+    requires { ⌜ Ready (now state) ⌝ }
+    ensures { λ r. ⌜ ItemKept (languageOf question) (now (card .entry)) at top (now (nodes .entry)) (now (nodes .exit)) (now (state .entry)) (now (state .exit)) r ⌝ }
 {
+    let s = step_opening(card, at);
+    if s.mark.kind != kinds::ROUND_OPEN {
+        return NO_ITEM;
+    }
+    let begin = s.next.at;
     let part = &card[begin..];
     let g = item(part, question);
-    if g.stop != NO_ITEM {
-        return lay(g, begin, place, nodes, state, top);
+    if g.stop == NO_ITEM {
+        return NO_ITEM;
     }
-    if depth == 0 {
-        return stop(state, PAST_LIMIT, place);
-    }
-    let next = expression(card, begin, nodes, state, depth - 1, top, question);
-    if next == 0 {
-        return 0;
-    }
-    let s = step_sign(card, next, kinds::ROUND_CLOSE);
-    if s.mark.kind != kinds::ROUND_CLOSE {
-        return stop(state, OUT_OF_SHAPE, s.mark.place);
-    }
-    s.next.at
+    lay(g, begin, s.mark.place, nodes, state, top)
 }
 
-fn unary(
+// A bracket that starts an expression, with its closing bracket; or `!` and its operand.
+fn nested(
     card: &[u8],
     at: usize,
     nodes: &mut [u32; NODE_PLACES],
@@ -75,21 +67,23 @@ fn unary(
     top: usize,
     question: bool,
 ) -> usize
-    requires { ⌜ Ready (now state) ⌝ }
+    requires { ⌜ Ready (now state) × NoItem (languageOf question) (now card) at ⌝ }
     ensures { λ r. ⌜ GuardRead (languageOf question) (now (card .entry)) top (now (nodes .entry)) (now (nodes .exit)) (freeIn (now (state .entry))) (lateIn (now (state .entry))) (unaryIn (languageOf question) depth (from (marksAt 0 (now (card .entry)) at) (leftIn (now (state .entry))))) (after (now (state .exit)) r) ⌝ }
 {
     let s = step_opening(card, at);
     if s.mark.kind == kinds::ROUND_OPEN {
-        return bracket(
-            card,
-            s.next.at,
-            s.mark.place,
-            nodes,
-            state,
-            depth,
-            top,
-            question,
-        );
+        if depth == 0 {
+            return stop(state, PAST_LIMIT, s.mark.place);
+        }
+        let inner = expression(card, s.next.at, nodes, state, depth - 1, top, question);
+        if inner == 0 {
+            return 0;
+        }
+        let close = step_sign(card, inner, kinds::ROUND_CLOSE);
+        if close.mark.kind != kinds::ROUND_CLOSE {
+            return stop(state, OUT_OF_SHAPE, close.mark.place);
+        }
+        return close.next.at;
     }
     if s.mark.kind != kinds::NOT {
         return stop(state, OUT_OF_SHAPE, s.mark.place);
@@ -111,45 +105,42 @@ fn unary(
     next
 }
 
-// `&` joins unaries, and `|` what `&` has joined.
-fn operand(
+fn unary(
     card: &[u8],
     at: usize,
     nodes: &mut [u32; NODE_PLACES],
     state: &mut [usize; STATE],
     depth: usize,
     top: usize,
-    any: bool,
     question: bool,
 ) -> usize
     requires { ⌜ Ready (now state) ⌝ }
-    ensures { λ r. ⌜ GuardRead (languageOf question) (now (card .entry)) top (now (nodes .entry)) (now (nodes .exit)) (freeIn (now (state .entry))) (lateIn (now (state .entry))) (operandOf (languageOf question) any depth (from (marksAt 0 (now (card .entry)) at) (leftIn (now (state .entry))))) (after (now (state .exit)) r) ⌝ }
+    ensures { λ r. ⌜ GuardRead (languageOf question) (now (card .entry)) top (now (nodes .entry)) (now (nodes .exit)) (freeIn (now (state .entry))) (lateIn (now (state .entry))) (unaryIn (languageOf question) depth (from (marksAt 0 (now (card .entry)) at) (leftIn (now (state .entry))))) (after (now (state .exit)) r) ⌝ }
 {
-    if any {
-        return conjunction(card, at, nodes, state, depth, top, question);
+    let next = keep_item(card, at, nodes, state, top, question);
+    if next != NO_ITEM {
+        return next;
     }
-    unary(card, at, nodes, state, depth, top, question)
+    nested(card, at, nodes, state, depth, top, question)
 }
 
-// What was read so far, up to the place `first`; then as often as the sign follows the sign and an operand, joined to the left.
-fn chain(
+// What was read so far, up to the place `first`; then as often as `&` follows the sign and a unary, joined to the left.
+fn joined_by_and(
     card: &[u8],
     first: usize,
     nodes: &mut [u32; NODE_PLACES],
     state: &mut [usize; STATE],
     depth: usize,
     top: usize,
-    any: bool,
     question: bool,
 ) -> usize
     requires { ⌜ Begun (after (now state) first) ⌝ }
-    ensures { λ r. ⌜ Onward (languageOf question) (now (card .entry)) top (now (nodes .entry)) (now (nodes .exit)) (after (now (state .entry)) first) (chained (languageOf question) any depth) (after (now (state .exit)) r) ⌝ }
+    ensures { λ r. ⌜ Onward (languageOf question) (now (card .entry)) top (now (nodes .entry)) (now (nodes .exit)) (after (now (state .entry)) first) (chained (languageOf question) false depth) (after (now (state .exit)) r) ⌝ }
 {
-    let kind = joint(any);
     let mut next = first;
     while next != 0 {
         let s = step_after(card, next);
-        if s.mark.kind != kind {
+        if s.mark.kind != kinds::AND {
             return next;
         }
         let left = state[LEFT];
@@ -158,7 +149,7 @@ fn chain(
         }
         let first_root = state[FREE] - 1;
         state[LEFT] = left - 1;
-        next = operand(card, s.next.at, nodes, state, depth, top, any, question);
+        next = unary(card, s.next.at, nodes, state, depth, top, question);
         if next == 0 {
             return 0;
         }
@@ -166,7 +157,46 @@ fn chain(
         store(
             nodes,
             state,
-            node::pack_node(operator(any), first_root, second_root),
+            node::pack_node(node::AND, first_root, second_root),
+        );
+    }
+    next
+}
+
+// The same with `|`, which joins what `&` has joined.
+fn joined_by_or(
+    card: &[u8],
+    first: usize,
+    nodes: &mut [u32; NODE_PLACES],
+    state: &mut [usize; STATE],
+    depth: usize,
+    top: usize,
+    question: bool,
+) -> usize
+    requires { ⌜ Begun (after (now state) first) ⌝ }
+    ensures { λ r. ⌜ Onward (languageOf question) (now (card .entry)) top (now (nodes .entry)) (now (nodes .exit)) (after (now (state .entry)) first) (chained (languageOf question) true depth) (after (now (state .exit)) r) ⌝ }
+{
+    let mut next = first;
+    while next != 0 {
+        let s = step_after(card, next);
+        if s.mark.kind != kinds::OR {
+            return next;
+        }
+        let left = state[LEFT];
+        if left == 0 {
+            return stop(state, PAST_LIMIT, s.mark.place);
+        }
+        let first_root = state[FREE] - 1;
+        state[LEFT] = left - 1;
+        next = conjunction(card, s.next.at, nodes, state, depth, top, question);
+        if next == 0 {
+            return 0;
+        }
+        let second_root = state[FREE] - 1;
+        store(
+            nodes,
+            state,
+            node::pack_node(node::OR, first_root, second_root),
         );
     }
     next
@@ -192,7 +222,7 @@ pub fn conjunction(
     if sign_here(card, first, kinds::ROUND_CLOSE) {
         return first;
     }
-    chain(card, first, nodes, state, depth, top, false, question)
+    joined_by_and(card, first, nodes, state, depth, top, question)
 }
 
 pub fn expression(
@@ -214,5 +244,5 @@ pub fn expression(
     if sign_here(card, first, kinds::ROUND_CLOSE) {
         return first;
     }
-    chain(card, first, nodes, state, depth, top, true, question)
+    joined_by_or(card, first, nodes, state, depth, top, question)
 }

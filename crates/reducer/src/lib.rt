@@ -94,7 +94,7 @@ fn put_program<'a>(
 pub const REDUCED_ROOM: usize = 347890;
 
 // A text up to this length is made once, beside the room, where the room may be too small.
-const DRAFT_PLACES: usize = 2048;
+const DRAFT_PLACES: usize = 768;
 
 // A card that was taken. A room that every text fits into takes it in one walk. Else a first walk makes a draft, which tells the length;
 // a text that the draft holds is copied where it fits, and a longer one is walked again.
