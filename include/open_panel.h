@@ -60,6 +60,22 @@ extern "C" {
 #define OPEN_PANEL_REDUCE_ROOM 347890
 #define OPEN_PANEL_SHOW_ROOM 4101
 
+/*
+ * Bytes of stack that a call of each function takes at most, on x86-64 and on
+ * aarch64. They are not proved: they are measured, on the inputs that need most
+ * (guards nested as deep as they may be, the longest texts, refusals), and a
+ * test fails where a function takes more.
+ */
+#define OPEN_PANEL_STACK_JUDGE 10240
+#define OPEN_PANEL_STACK_WRITE 11264
+#define OPEN_PANEL_STACK_REDUCE 12032
+#define OPEN_PANEL_STACK_SHOW 11264
+#define OPEN_PANEL_STACK_ASK 10752
+#define OPEN_PANEL_STACK_BOX_JUDGE 256
+#define OPEN_PANEL_STACK_BOX_FIND 256
+#define OPEN_PANEL_STACK_BOX_FIND_WITH 256
+#define OPEN_PANEL_STACK_BOX_WRITE 256
+
 /* The numbers of the refusals, and behind the semicolon what `value` is: bytes of the card, from 21 on of the question, count from 0. */
 enum open_panel_refusal {
     OPEN_PANEL_TAKEN = 0,      /* none; a text's or a deck's length, 1 for yes and 0 for no from open_panel_ask, 0 where nothing is written */

@@ -1,5 +1,6 @@
 #!/usr/bin/env bash
 # The numbers of the header and of the Rust wrapper are those that the proofs speak of: limits, rooms that are always enough, refusals.
+# The stack that each entry takes at most is measured (tests/stack.sh): there the two have the same number, below 12 KB.
 set -eu
 cd "$(dirname "${BASH_SOURCE[0]}")/.."
 seen=0
@@ -36,6 +37,18 @@ refusal() {
         "$(sed -n "s/^ *Refusal::$2\( { \.\. }\)* => \([0-9]*\),/\2/p" rust/open-panel/src/refusal.rs)"
 }
 
+# stack ENTRY CONSTANT: a macro and a constant of the same number
+stack() {
+    local header wrapper
+    header=$(sed -n "s/^#define OPEN_PANEL_STACK_$1 //p" include/open_panel.h)
+    wrapper=$(sed -n "s/^pub const $2: usize = \(.*\);/\1/p" rust/open-panel/src/stack.rs | tr -d _)
+    seen=$((seen + 1))
+    if [ -z "$header" ] || [ "$header" != "$wrapper" ] || [ "$header" -ge 12288 ]; then
+        echo "numbers: the stack of $1 is ${header:-nothing} in the header and ${wrapper:-nothing} in the wrapper, and has to be below 12288"
+        wrong=$((wrong + 1))
+    fi
+}
+
 number CARD_BYTES cardBytes
 number QUESTION_BYTES cardBytes
 number DECK_BYTES deckBytes
@@ -66,6 +79,20 @@ refusal QUESTION_SHAPE QuestionShape 'inQuestion outOfShape'
 refusal QUESTION_LIMIT QuestionLimit 'inQuestion pastLimit'
 refusal QUESTION_STATE QuestionState 'inQuestion aboveTop'
 refusal QUESTION_GROUP QuestionGroup 'inQuestion notDue'
+
+# the stack, for every entry of the header
+stack JUDGE JUDGE
+stack WRITE WRITE
+stack REDUCE REDUCE
+stack SHOW SHOW
+stack ASK ASK
+stack BOX_JUDGE JUDGE_DECK
+stack BOX_FIND FIND
+stack BOX_FIND_WITH FIND_WITH
+stack BOX_WRITE WRITE_DECK
+for entry in $(sed -n 's/^open_panel_answer open_panel_\([a-z_]*\)(.*/\1/p' include/open_panel.h); do
+    grep -q "^#define OPEN_PANEL_STACK_${entry^^} " include/open_panel.h || { echo "numbers: no stack of $entry" && wrong=$((wrong + 1)); }
+done
 
 # every number of the header is among them, but for the 0 of no refusal
 all=$(grep -cE '^#define OPEN_PANEL_[A-Z_]* |^ *OPEN_PANEL_[A-Z_]* = [1-9]' include/open_panel.h)

@@ -103,7 +103,11 @@ fn nested(seats: usize, question: bool) -> Vec<String> {
             let levels = levels.iter();
             let nested = levels.fold(inner, |inner, level| level.round(group, &inner));
             // a question may have a `|` outside of all brackets
-            let first = if question { format!("{group} | ") } else { String::new() };
+            let first = if question {
+                format!("{group} | ")
+            } else {
+                String::new()
+            };
             format!("{first}{group} & {nested}")
         })
     })
@@ -142,7 +146,10 @@ pub fn cards() -> Vec<Case> {
     }
     for seats in [2, 16] {
         for guard in nested(seats, false) {
-            cases.push(Case::new(card("probabilistic", seats, 1, &guard, ""), vec![0; seats]));
+            cases.push(Case::new(
+                card("probabilistic", seats, 1, &guard, ""),
+                vec![0; seats],
+            ));
         }
         for guard in in_line(seats) {
             for mode in ["probabilistic", "nondeterministic"] {
@@ -155,29 +162,34 @@ pub fn cards() -> Vec<Case> {
             }
         }
     }
-    cases.push(Case::new(vec![b' '; open_panel::CARD_BYTES + 1], Vec::new()));
+    cases.push(Case::new(
+        vec![b' '; open_panel::CARD_BYTES + 1],
+        Vec::new(),
+    ));
     cases
 }
 
-/// Questions about a card.
+/// Questions about a plain card; and a plain question about cards with deep guards.
 pub fn questions() -> Vec<Case> {
+    let asked = |question: String, card: Vec<u8>, seats: Vec<u8>| Case {
+        question: question.into_bytes(),
+        ..Case::new(card, seats)
+    };
     let mut cases = Vec::new();
     for seats in [2, 16] {
-        let deep = nested(seats, false).swap_remove(0);
-        for (about, seated) in [(deep.as_str(), seats), ("(s1=0)", seats), ("(s1=0)", 1)] {
-            let card = card("probabilistic", seats, 1, about, "");
-            let asked = nested(seats, true).into_iter().chain(in_line(seats));
-            for question in asked {
-                cases.push(Case {
-                    question: question.into_bytes(),
-                    ..Case::new(card.clone(), vec![0; seated])
-                });
-            }
-            cases.push(Case {
-                question: vec![b' '; open_panel::QUESTION_BYTES + 1],
-                ..Case::new(card, vec![8; seats])
-            });
+        let group = everyone(seats, " & ");
+        let plain = card("probabilistic", seats, 1, &group, "");
+        for question in nested(seats, true).into_iter().chain(in_line(seats)) {
+            cases.push(asked(question, plain.clone(), vec![0; seats]));
         }
+        for guard in nested(seats, false) {
+            let deep = card("probabilistic", seats, 1, &guard, "");
+            cases.push(asked(group.clone(), deep, vec![0; seats]));
+        }
+        let long = " ".repeat(open_panel::QUESTION_BYTES + 1);
+        cases.push(asked(long, plain.clone(), vec![0; seats]));
+        cases.push(asked(group.clone(), plain.clone(), vec![8; seats]));
+        cases.push(asked(group, plain, vec![0; 1]));
     }
     cases
 }

@@ -396,19 +396,21 @@ fn print_table(rows: &[Row]) {
     rows.iter().for_each(Row::print);
 }
 
-/// The stack of every entry, on the inputs that need most: false where one uses more than it is said to.
+/// How much stack the wrapper says that each entry takes, in the order of the table below.
+const BOUNDS: [usize; 9] = [
+    open_panel::stack::JUDGE,
+    open_panel::stack::WRITE,
+    open_panel::stack::REDUCE,
+    open_panel::stack::SHOW,
+    open_panel::stack::ASK,
+    open_panel::stack::JUDGE_DECK,
+    open_panel::stack::FIND,
+    open_panel::stack::FIND_WITH,
+    open_panel::stack::WRITE_DECK,
+];
+
+/// The stack of every entry, on the inputs that need most: false where one takes more than it is said to.
 fn print_stack() -> bool {
-    let bounds = [
-        open_panel::stack::JUDGE,
-        open_panel::stack::WRITE,
-        open_panel::stack::REDUCE,
-        open_panel::stack::SHOW,
-        open_panel::stack::ASK,
-        open_panel::stack::JUDGE_DECK,
-        open_panel::stack::FIND,
-        open_panel::stack::FIND_WITH,
-        open_panel::stack::WRITE_DECK,
-    ];
     let (cards, questions, decks, parts) = (
         deepest::cards(),
         deepest::questions(),
@@ -423,7 +425,7 @@ fn print_stack() -> bool {
         .chain([(WRITE_DECK, &parts)]);
     println!("| Entry | Library, bytes of stack | Bound | Baseline, bytes of stack |\n|---|---:|---:|---:|");
     let mut kept = true;
-    for (((entry, library, baseline), cases), bound) in all.zip(bounds) {
+    for (((entry, library, baseline), cases), bound) in all.zip(BOUNDS) {
         let [library, baseline] = [library, baseline].map(|call| stack::most(call, cases));
         println!("| {entry} | {library} | {bound} | {baseline} |");
         kept &= library <= bound;
@@ -433,7 +435,11 @@ fn print_stack() -> bool {
 
 fn main() -> ExitCode {
     if env::args().nth(1).is_some_and(|word| word == "stack") {
-        return if print_stack() { ExitCode::SUCCESS } else { ExitCode::FAILURE };
+        return if print_stack() {
+            ExitCode::SUCCESS
+        } else {
+            ExitCode::FAILURE
+        };
     }
     let (sets, question_sets, deck_sets) = (sets(), question_sets(), vec![full_deck()]);
     let mut room = vec![0; open_panel::REDUCE_ROOM];
