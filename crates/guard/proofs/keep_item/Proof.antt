@@ -1,9 +1,11 @@
-use Rattle.guard.proofs.Ways.{step-within, part-is, part-placed, no-bracket, no-item, item-kept}
-use Rattle.grouping.specs.Language.{languageOf}
-use lib.ListN.{length, take, drop}
-use denote.Ref.{now}
+-- What stands behind the bracket is the rest of the card, lent as a part (part-is); each way out is one of Ways' laws on an item.
+-- Assumes nothing.
 use Prim.Native.Nat.{_-_, _^_}
+use denote.Ref.{now}
 use borrow.Author.Needs.{needs}
+use lib.ListN.{length, take, drop}
+use Rattle.grouping.specs.Language.{languageOf}
+use Rattle.guard.proofs.Ways.{step-within, part-is, part-placed, no-bracket, no-item, item-kept}
 use Rattle.guard.proofs.keep_item.Statement.{statement}
 use Rattle.guard.proofs.keep_item.Tie as tie
 use Rattle.guard.proofs.keep_item.Reads as reads
@@ -12,51 +14,68 @@ use Rattle.grouping.proofs.item.Reads as item-reads
 use Rattle.grouping.proofs.lay.Reads as lay-reads
 use Rattle.looks.proofs.due.step_opening.Reads as step-opening-reads
 
--- src/lib.rt:47:9
 step-opening-requires : tie.Need-step-opening-requires
 step-opening-requires c κs = search needs
 
--- src/lib.rt:49:9
 returns : tie.Need-returns
-returns c = no-bracket (languageOf (c .before .before .before .before .args .question)) (now (c .before .before .before .before .args .card)) (c .before .before .before .before .args .at) (c .before .before .before .before .args .top) (now (c .before .before .before .before .args .nodes)) (now (c .before .before .before .before .args .state)) (c .before .before .step-opening .result) (c .before .before .step-opening .ensures) (c .if1 .taken)
+returns c =
+    let at-step = c .before .before in
+    let a = at-step .before .before .args in
+    no-bracket (languageOf (a .question)) (now (a .card)) (a .at) (a .top) (now (a .nodes)) (now (a .state)) (at-step .step-opening .result) (at-step .step-opening .ensures) (c .if1 .taken)
 
--- src/lib.rt:52:16
 sub-part : tie.Need-sub-part
-sub-part c = step-within (now (c .before .before .before .before .args .card)) (c .before .before .before .before .args .at) (c .before .before .step-opening .result) (c .before .before .step-opening .ensures)
+sub-part c =
+    let at-step = c .before .before in
+    let a = at-step .before .before .args in
+    step-within (now (a .card)) (a .at) (at-step .step-opening .result) (at-step .step-opening .ensures)
 
--- src/lib.rt:52:16
 part-part-start : tie.Need-part-part-start
-part-part-start c = step-within (now (c .before .before .before .before .args .card)) (c .before .before .before .before .args .at) (c .before .before .step-opening .result) (c .before .before .step-opening .ensures)
+part-part-start c =
+    let at-step = c .before .before in
+    let a = at-step .before .before .args in
+    step-within (now (a .card)) (a .at) (at-step .step-opening .result) (at-step .step-opening .ensures)
 
--- src/lib.rt:52:16
 part-part-end : tie.Need-part-part-end
 part-part-end c = search needs
 
--- src/lib.rt:53:9
 item-requires : tie.Need-item-requires
 item-requires c κs = search needs
 
--- src/lib.rt:55:9
 returns-2 : tie.Need-returns-2
 returns-2 c =
-    let l = step-within (now (c .before .before .before .before .before .before .before .before .args .card)) (c .before .before .before .before .before .before .before .before .args .at) (c .before .before .before .before .before .before .step-opening .result) (c .before .before .before .before .before .before .step-opening .ensures) in
-    no-item (languageOf (c .before .before .before .before .before .before .before .before .args .question)) (now (c .before .before .before .before .before .before .before .before .args .card)) (c .before .before .before .before .before .before .before .before .args .at) (c .before .before .before .before .before .before .before .before .args .top) (now (c .before .before .before .before .before .before .before .before .args .nodes)) (now (c .before .before .before .before .before .before .before .before .args .state)) (c .before .before .before .before .before .before .step-opening .result) (c .before .before .before .before .before .before .step-opening .ensures) l
-    (take (length (now (c .before .before .before .before .before .before .before .before .args .card)) - c .before .before .before .before .before .before .step-opening .result .next .at) (drop (c .before .before .before .before .before .before .step-opening .result .next .at) (now (c .before .before .before .before .before .before .before .before .args .card)))) (part-is (now (c .before .before .before .before .before .before .before .before .args .card)) (c .before .before .before .before .before .before .step-opening .result .next .at) l) (c .before .before .item .result) (c .before .before .item .ensures) (c .if2 .taken)
+    let at-item = c .before .before in
+    let at-step = at-item .before .before .before .before in
+    let a = at-step .before .before .args in
+    let card = now (a .card) in
+    let s = at-step .step-opening .result in
+    let l = step-within card (a .at) s (at-step .step-opening .ensures) in
+    no-item (languageOf (a .question)) card (a .at) (a .top) (now (a .nodes)) (now (a .state)) s (at-step .step-opening .ensures) l
+    (take (length card - s .next .at) (drop (s .next .at) card)) (part-is card (s .next .at) l) (at-item .item .result) (at-item .item .ensures) (c .if2 .taken)
 
--- src/lib.rt:57:5
 lay-requires : tie.Need-lay-requires
 lay-requires c κs =
-    let l = step-within (now (c .before .before .before .before .before .before .before .before .before .before .args .card)) (c .before .before .before .before .before .before .before .before .before .before .args .at) (c .before .before .before .before .before .before .before .before .step-opening .result) (c .before .before .before .before .before .before .before .before .step-opening .ensures) in
-    let placed = part-placed (now (c .before .before .before .before .before .before .before .before .before .before .args .card)) (c .before .before .before .before .before .before .before .before .step-opening .result .next .at) l (2 ^ 64) (c .before .before .before .before .before .before .before .before .before .before .good .0 .0) (c .before .before .before .before .item .result) (c .before .before .before .before .item .ensures .inside) in
-    (c .before .before .before .before .before .before .before .before .before .before .pre, record { place = placed .0; next = placed .1; first = placed .2 })
+    let at-item = c .before .before .before .before in
+    let at-step = at-item .before .before .before .before in
+    let entry = at-step .before .before in
+    let card = now (entry .args .card) in
+    let s = at-step .step-opening .result in
+    let l = step-within card (entry .args .at) s (at-step .step-opening .ensures) in
+    let placed = part-placed card (s .next .at) l (2 ^ 64) (entry .good .0 .0) (at-item .item .result) (at-item .item .ensures .inside) in
+    (entry .pre, record { place = placed .0; next = placed .1; first = placed .2 })
 
--- src/lib.rt:36:1
 returns-3 : tie.Need-returns-3
 returns-3 c =
-    let l = step-within (now (c .before .before .before .before .before .before .before .before .before .before .before .args .card)) (c .before .before .before .before .before .before .before .before .before .before .before .args .at) (c .before .before .before .before .before .before .before .before .before .step-opening .result) (c .before .before .before .before .before .before .before .before .before .step-opening .ensures) in
-    item-kept (languageOf (c .before .before .before .before .before .before .before .before .before .before .before .args .question)) (now (c .before .before .before .before .before .before .before .before .before .before .before .args .card)) (c .before .before .before .before .before .before .before .before .before .before .before .args .at) (c .before .before .before .before .before .before .before .before .before .before .before .args .top) (now (c .before .before .before .before .before .before .before .before .before .before .before .args .nodes)) (now (c .before .before .before .before .before .before .before .before .before .before .before .args .state)) (c .before .before .before .before .before .before .before .before .before .step-opening .result) (c .before .before .before .before .before .before .before .before .before .step-opening .ensures) l
-    (take (length (now (c .before .before .before .before .before .before .before .before .before .before .before .args .card)) - c .before .before .before .before .before .before .before .before .before .step-opening .result .next .at) (drop (c .before .before .before .before .before .before .before .before .before .step-opening .result .next .at) (now (c .before .before .before .before .before .before .before .before .before .before .before .args .card)))) (part-is (now (c .before .before .before .before .before .before .before .before .before .before .before .args .card)) (c .before .before .before .before .before .before .before .before .before .step-opening .result .next .at) l) (c .before .before .before .before .before .item .result) (c .before .before .before .before .before .item .ensures)
-    (c .before .before .before .before .before .before .before .if1 .left) (c .before .before .before .if2 .left) _ _ _ (c .lay .ensures)
+    let at-if2 = c .before .before .before in
+    let at-item = at-if2 .before .before in
+    let at-if1 = at-item .before .before in
+    let at-step = at-if1 .before .before in
+    let a = at-step .before .before .args in
+    let card = now (a .card) in
+    let s = at-step .step-opening .result in
+    let l = step-within card (a .at) s (at-step .step-opening .ensures) in
+    item-kept (languageOf (a .question)) card (a .at) (a .top) (now (a .nodes)) (now (a .state)) s (at-step .step-opening .ensures) l
+    (take (length card - s .next .at) (drop (s .next .at) card)) (part-is card (s .next .at) l) (at-item .item .result) (at-item .item .ensures)
+    (at-if1 .if1 .left) (at-if2 .if2 .left) _ _ _ (c .lay .ensures)
 
 pub keep-item-spec : {M : Type 1} → statement M
 keep-item-spec =
