@@ -61,10 +61,11 @@ extern "C" {
 #define OPEN_PANEL_SHOW_ROOM 4101
 
 /*
- * Bytes of stack that a call of each function takes at most, on x86-64 and on
- * aarch64. They are not proved: they are measured, on the inputs that need most
- * (guards nested as deep as they may be, the longest texts, refusals), and a
- * test fails where a function takes more.
+ * Bytes of stack that a call of each function takes at most, on x86-64. They are
+ * not proved: they are measured, on the inputs that need most (guards nested as
+ * deep as they may be, the longest texts, refusals), and a test fails where a
+ * function takes more. In the build for aarch64 the frames along the same ways
+ * add up to no more.
  */
 #define OPEN_PANEL_STACK_JUDGE 10240
 #define OPEN_PANEL_STACK_WRITE 11264
