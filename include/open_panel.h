@@ -1,6 +1,7 @@
 /*
  * The open panel: rule cards judged, written, reduced to counters, and shown;
- * questions about a seating answered; cards found in decks, and decks written.
+ * questions about a seating answered; cards found in decks, and decks written;
+ * a line of public classes for spectators.
  *
  * Link libopen_panel.a, which `bin/library` makes for x86-64 and for aarch64
  * Linux. Of the C library it needs memcpy and memset, and nothing else: it has
@@ -14,10 +15,10 @@
  *
  * What holds of every function here:
  *
- *   - A card, a question, the seats, a deck, its contents, its bodies and a
- *     room are a pointer and a length in bytes. The pointer leads to so many
- *     bytes, which nothing else writes during the call; only for a length of 0
- *     may it be null. None of them has a closing zero byte.
+ *   - A card, a question, the seats, a list of classes, a deck, its contents,
+ *     its bodies and a room are a pointer and a length in bytes. The pointer
+ *     leads to so many bytes, which nothing else writes during the call; only
+ *     for a length of 0 may it be null. None of them has a closing zero byte.
  *   - The room and the part must not overlap what is only read: all others.
  *     Those may overlap each other.
  *   - Any bytes may be passed as what is only read; what is wrong with them is
@@ -45,6 +46,9 @@ extern "C" {
 #define OPEN_PANEL_SEATS 16
 #define OPEN_PANEL_TOP_STATE 7
 
+/* The highest public class; a spectator's line has a number for each from 0 on. */
+#define OPEN_PANEL_TOP_CLASS 7
+
 /* Longest deck, and most cards in it. A deck of OPEN_PANEL_DECK_BYTES is a room that every deck fits into. */
 #define OPEN_PANEL_DECK_BYTES 65535
 #define OPEN_PANEL_DECK_CARDS 64
@@ -54,11 +58,13 @@ extern "C" {
  * this is proved. A room that is known to be enough before the text is made
  * (these are, and for open_panel_write smaller ones too, by the card's seats
  * and statements) is written in one walk; in any other room the text is
- * measured first, so that a refusal leaves the room as it was.
+ * measured first, so that a refusal leaves the room as it was. A spectator's
+ * line is short, and always measured.
  */
 #define OPEN_PANEL_WRITE_ROOM 82639
 #define OPEN_PANEL_REDUCE_ROOM 347890
 #define OPEN_PANEL_SHOW_ROOM 4101
+#define OPEN_PANEL_WATCH_ROOM 25
 
 /*
  * Bytes of stack that a call of each function takes at most, on x86-64. They are
@@ -94,6 +100,8 @@ enum open_panel_refusal {
                                   more) where the count, the contents or the length is wrong. From open_panel_box_write: the field in
                                   the contents, or contents_len where no field is wrong */
     OPEN_PANEL_NO_CARD = 12,   /* no live card has the number; 0 */
+    OPEN_PANEL_CLASSES = 13,   /* a list that has not one class for each state of the card; classes_len. Or a class above
+                                  OPEN_PANEL_TOP_CLASS; the index in classes of the first one */
 
     OPEN_PANEL_QUESTION_LONG = 21,  /* a question of more than OPEN_PANEL_QUESTION_BYTES; 0 */
     OPEN_PANEL_QUESTION_MARK = 22,  /* bytes that make no mark, or a number written too long; where in the question they begin */
@@ -158,6 +166,25 @@ open_panel_answer open_panel_reduce(const uint8_t *card, size_t card_len,
 open_panel_answer open_panel_show(const uint8_t *card, size_t card_len,
                                   const uint8_t *seats, size_t seats_len,
                                   uint8_t *room, size_t room_len);
+
+/*
+ * Writes what a spectator may see of a seating: one line, `classes` and how
+ * many seats are in each public class, 0 to OPEN_PANEL_TOP_CLASS. The list has
+ * one byte for each state of the card, from 0 on: that state's class. Two
+ * seatings with the same numbers in the line give the same bytes, so nothing
+ * else about the seats can be told from it. Refusals: 1 to 9, then 13 of the
+ * list, its length before its classes, then 10.
+ *
+ * A room of OPEN_PANEL_WATCH_ROOM bytes is always enough. A null room of length
+ * 0 gets 10 with the length to lend, if card, seats and list are taken. A null
+ * list of length 0 gets 13 at 0 with any card and seats that are taken. The
+ * room must overlap none of the three. Untouched are all of them, the room
+ * behind the text, and on a refusal all of the room.
+ */
+open_panel_answer open_panel_watch(const uint8_t *card, size_t card_len,
+                                   const uint8_t *seats, size_t seats_len,
+                                   const uint8_t *classes, size_t classes_len,
+                                   uint8_t *room, size_t room_len);
 
 /*
  * Answers a question about a seating: number 0, and value 1 if it holds there

@@ -55,9 +55,11 @@ number DECK_BYTES deckBytes
 number DECK_CARDS mostCards
 number SEATS mostSeats
 number TOP_STATE topState
+number TOP_CLASS topClass
 number WRITE_ROOM writtenRoom
 number REDUCE_ROOM reducedRoom
 number SHOW_ROOM panelRoom
+number WATCH_ROOM classesRoom
 
 refusal LONG Long tooLong
 refusal MARK Mark outsideRules
@@ -71,6 +73,7 @@ refusal SEAT_STATE SeatState seatAboveTop
 refusal ROOM Room roomTooSmall
 refusal DECK Deck malformedDeck
 refusal NO_CARD NoLiveCard noLiveCard
+refusal CLASSES Classes wrongClasses
 
 # a question's numbers
 refusal QUESTION_LONG QuestionLong 'inQuestion tooLong'

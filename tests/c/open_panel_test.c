@@ -89,6 +89,10 @@ int main(void) {
     const uint8_t seats_001[] = {0, 0, 1};
     const uint8_t seats_011[] = {0, 1, 1};
     const uint8_t seats_034[] = {0, 3, 4};
+    const uint8_t seats_021[] = {0, 2, 1};
+    const uint8_t apart[] = {0, 1, 2};
+    const uint8_t two_alike[] = {7, 3, 7};
+    const uint8_t class_8[] = {7, 8, 9};
     const uint8_t *a = bytes(card_a);
     const size_t a_len = sizeof card_a - 1;
     const size_t panel_len = sizeof panel_at_001 - 1;
@@ -126,6 +130,23 @@ int main(void) {
     answers(open_panel_show(NULL, 0, NULL, 0, NULL, 0), OPEN_PANEL_SHAPE, 0, "", "nothing at all");
     answers(open_panel_show(a, a_len, seats_034, 3, room, OPEN_PANEL_SHOW_ROOM), OPEN_PANEL_SEAT_STATE, 1, "",
             "a seat above the top state");
+
+    answers(open_panel_watch(a, a_len, seats_001, 3, apart, 3, room, OPEN_PANEL_WATCH_ROOM), OPEN_PANEL_TAKEN, 24,
+            "classes 2 1 0 0 0 0 0 0\n", "a class for each state, at 001");
+    answers(open_panel_watch(a, a_len, seats_001, 3, two_alike, 3, room, OPEN_PANEL_WATCH_ROOM), OPEN_PANEL_TAKEN, 24,
+            "classes 0 0 0 1 0 0 0 2\n", "two states of one class, at 001");
+    answers(open_panel_watch(a, a_len, seats_021, 3, two_alike, 3, room, 24), OPEN_PANEL_TAKEN, 24,
+            "classes 0 0 0 1 0 0 0 2\n", "other seats with the same classes, in a room that just fits");
+    answers(open_panel_watch(a, a_len, seats_001, 3, apart, 3, room, 23), OPEN_PANEL_ROOM, 24, "",
+            "a line in a room one byte short");
+    answers(open_panel_watch(a, a_len, seats_001, 3, apart, 3, NULL, 0), OPEN_PANEL_ROOM, 24, "", "the length of a line");
+    answers(open_panel_watch(a, a_len, seats_001, 3, apart, 2, NULL, 0), OPEN_PANEL_CLASSES, 2, "", "a list too short");
+    answers(open_panel_watch(a, a_len, seats_001, 3, NULL, 0, room, GUARD), OPEN_PANEL_CLASSES, 0, "", "no list");
+    answers(open_panel_watch(a, a_len, seats_001, 3, class_8, 3, room, GUARD), OPEN_PANEL_CLASSES, 1, "",
+            "a class above the top");
+    answers(open_panel_watch(a, a_len, seats_034, 3, class_8, 2, room, GUARD), OPEN_PANEL_SEAT_STATE, 1, "",
+            "a seat and a list that are wrong");
+    answers(open_panel_watch(NULL, 0, NULL, 0, NULL, 0, NULL, 0), OPEN_PANEL_SHAPE, 0, "", "nothing to watch");
 
     answers(open_panel_ask(a, a_len, bytes(one_leads), sizeof one_leads - 1, seats_001, 3), OPEN_PANEL_TAKEN, 1, "",
             "one seat leads at 001");

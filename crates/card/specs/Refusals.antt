@@ -36,3 +36,6 @@ malformedDeck = 11
 
 abbrev pub noLiveCard : ℕ
 noLiveCard = 12
+
+abbrev pub wrongClasses : ℕ
+wrongClasses = 13

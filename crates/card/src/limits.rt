@@ -1,4 +1,4 @@
-// The limits of a card ("What the box holds") and of a deck (document 02, 2026-02); specs/Limits.antt has the same numbers for the contracts.
+// The limits of a card ("What the box holds"), of a deck and of public classes (document 02, 2026-02 and 2026-05); specs/Limits.antt has the same numbers for the contracts.
 
 pub const CARD_BYTES: usize = 16384;
 
@@ -57,3 +57,7 @@ pub const FLAG_AT: usize = 6;
 pub const ZERO_BYTE_AT: usize = 7;
 
 pub const EXPANSION_FROM: usize = 65536;
+
+pub const TOP_CLASS: usize = 7;
+
+pub const PUBLIC_CLASSES: usize = TOP_CLASS + 1;

@@ -23,3 +23,5 @@ pub const ROOM_TOO_SMALL: u8 = 10;
 pub const MALFORMED_DECK: u8 = 11;
 
 pub const NO_LIVE_CARD: u8 = 12;
+
+pub const WRONG_CLASSES: u8 = 13;

@@ -1,5 +1,5 @@
--- Seats judged one by one: those up to a place are within k, so the judgement is that of the rest. What each answer says follows from
--- one look at the seats: either all are within k, or one is the first that is not. Assumes nothing.
+-- A list judged one by one: those up to a place are within k, so the judgement is that of the rest. What each answer says follows from
+-- one look at the list: either all are within k, or one is the first that is not. Seats are one such list. Assumes nothing.
 use Prim.Native.Nat.{ℕ, zero, suc, _+_, _≤_, _<_}
 use mathlib.Core.Path.{_≡_, refl, sym, ap, _∙_}
 use mathlib.Core.Logic.{_↔_, _⊎_, inl, inr}
@@ -16,8 +16,9 @@ use Rattle.card.specs.Valid.{Every}
 use Rattle.card.specs.Refusals.{wrongSeats, seatAboveTop}
 use Rattle.card.specs.Verdict.{verdictNumber, verdictPlace}
 use Rattle.meaning.specs.Seats.{Seating, ValidSeating}
+use Rattle.card.specs.declared.Verdict.{Verdict}
 use Rattle.card.specs.declared.Verdict.the-variants.{Taken, Refused}
-use Rattle.counting.specs.Judged.{judgedFrom, judgedSeats, FirstAbove}
+use Rattle.counting.specs.Judged.{judgedFrom, judgedList, judgedSeats, FirstAbove}
 
 -- ---- as a loop judges
 
@@ -26,37 +27,37 @@ module _ (n k : ℕ) (x : List ℕ) where
   unfolding judgedSeats
   judged-other h = rw (ne-eqb (length x) n h)
 
-  pub judged-start : length x ≡ n → judgedSeats n k x ≡ judgedFrom k 0 x
+  pub judged-start : length x ≡ n → judgedSeats n k x ≡ judgedFrom seatAboveTop k 0 x
   unfolding judgedSeats
   judged-start h = rw (eq-eqb (length x) n h)
 
-module _ (k : ℕ) (x : List ℕ) (i : ℕ) where
-  pub judged-above : i < length x → k < getD x i 0 → judgedFrom k i (drop i x) ≡ Refused seatAboveTop i
+module _ (number k : ℕ) (x : List ℕ) (i : ℕ) where
+  pub judged-above : i < length x → k < getD x i 0 → judgedFrom number k i (drop i x) ≡ Refused number i
   unfolding judgedFrom
   judged-above l h = rw (drop-cons x i 0 l, lt-ltb k (getD x i 0) h)
 
-  pub judged-next : i < length x → getD x i 0 ≤ k → judgedFrom k i (drop i x) ≡ judgedFrom k (i + 1) (drop (i + 1) x)
+  pub judged-next : i < length x → getD x i 0 ≤ k → judgedFrom number k i (drop i x) ≡ judgedFrom number k (i + 1) (drop (i + 1) x)
   unfolding judgedFrom
   judged-next l h = rw (add-one i, drop-cons x i 0 l, le-ltb k (getD x i 0) h)
 
-  pub judged-end : length x ≤ i → judgedFrom k i (drop i x) ≡ Taken
+  pub judged-end : length x ≤ i → judgedFrom number k i (drop i x) ≡ Taken
   unfolding judgedFrom
   judged-end h = rw (drop-of-length-le x h)
 
 -- ---- what the answers say
 
-abbrev Within : ℕ → List ℕ → Type 0
+abbrev pub Within : ℕ → List ℕ → Type 0
 Within k x = Every (λ a. a ≤ k) x
 
-within-at : (k : ℕ) (x : List ℕ) → Within k x → (i : ℕ) → i < length x → getD x i 0 ≤ k
+pub within-at : (k : ℕ) (x : List ℕ) → Within k x → (i : ℕ) → i < length x → getD x i 0 ≤ k
 within-at k [] w i l = absurd (not-suc-le-zero l)
 within-at k (a ∷ x) w zero l = w .0
 within-at k (a ∷ x) w (suc i) l = within-at k x (w .1) i (le-of-suc-le-suc l)
 
--- all seats are within k, or one is the first above
-data Look (k p : ℕ) (x : List ℕ) : Type 0 where
-  below : Within k x → judgedFrom k p x ≡ Taken → Look k p x
-  above : (q : ℕ) → FirstAbove k x q → judgedFrom k p x ≡ Refused seatAboveTop (p + q) → Look k p x
+-- all are within k, or one is the first above
+data Look (number k p : ℕ) (x : List ℕ) : Type 0 where
+  below : Within k x → judgedFrom number k p x ≡ Taken → Look number k p x
+  above : (q : ℕ) → FirstAbove k x q → judgedFrom number k p x ≡ Refused number (p + q) → Look number k p x
 
 later : (k a : ℕ) (x : List ℕ) (q : ℕ) → a ≤ k → FirstAbove k x q → FirstAbove k (a ∷ x) (suc q)
 later k a x q h f = record { seat = omega (arith, f .seat); above = f .above; first = go }
@@ -65,23 +66,23 @@ later k a x q h f = record { seat = omega (arith, f .seat); above = f .above; fi
     go zero l = h
     go (suc i) l = f .first i (le-of-suc-le-suc l)
 
-look : (k p : ℕ) (x : List ℕ) → Look k p x
+look : (number k p : ℕ) (x : List ℕ) → Look number k p x
 unfolding judgedFrom
-look k p [] = below tt refl
-look k p (a ∷ x) = go (decLe a k) (look k (suc p) x)
+look number k p [] = below tt refl
+look number k p (a ∷ x) = go (decLe a k) (look number k (suc p) x)
   where
-    go : Dec (a ≤ k) → Look k (suc p) x → Look k p (a ∷ x)
+    go : Dec (a ≤ k) → Look number k (suc p) x → Look number k p (a ∷ x)
     go (yes h) (below w e) = below (h, w) (rw (le-ltb k a h) e)
     go (yes h) (above q f e) =
         let there : suc p + q ≡ p + suc q = omega arith in
-        above (suc q) (later k a x q h f) (rw (le-ltb k a h) (e ∙ ap (Refused seatAboveTop) there))
+        above (suc q) (later k a x q h f) (rw (le-ltb k a h) (e ∙ ap (Refused number) there))
     go (no h) rest =
         let l : k < a = omega arith in
         let here : p ≡ p + 0 = omega arith in
-        above 0 (record { seat = omega arith; above = l; first = λ i z. absurd (not-suc-le-zero z) }) (rw (lt-ltb k a l) (ap (Refused seatAboveTop) here))
+        above 0 (record { seat = omega arith; above = l; first = λ i z. absurd (not-suc-le-zero z) }) (rw (lt-ltb k a l) (ap (Refused number) here))
 
--- a seat that is the first above is the only such
-first-only : (k : ℕ) (x : List ℕ) (p q : ℕ) → FirstAbove k x p → FirstAbove k x q → p ≡ q
+-- one that is the first above is the only such
+pub first-only : (k : ℕ) (x : List ℕ) (p q : ℕ) → FirstAbove k x p → FirstAbove k x q → p ≡ q
 first-only k x p q f g = go (decLe p q) (decLe q p)
   where
     go : Dec (p ≤ q) → Dec (q ≤ p) → p ≡ q
@@ -89,28 +90,39 @@ first-only k x p q f g = go (decLe p q) (decLe q p)
     go (no h) _ = absurd (omega (arith, f .first q (omega arith), g .above))
     go (yes h) (no l) = absurd (omega (arith, g .first p (omega arith), f .above))
 
-fine≢refused : {A : Type 0} {r p : ℕ} → Taken ≡ Refused r p → A
+pub fine≢refused : {A : Type 0} {r p : ℕ} → Taken ≡ Refused r p → A
 fine≢refused e = let z : _≡_ {A = ℕ} 0 1 = cc in absurd (omega arith)
 
-same-refusal : {r s p q : ℕ} → Refused r p ≡ Refused s q → (r ≡ s) × (p ≡ q)
+pub same-refusal : {r s p q : ℕ} → Refused r p ≡ Refused s q → (r ≡ s) × (p ≡ q)
 same-refusal e = (ap verdictNumber e, ap verdictPlace e)
 
-module _ (n k : ℕ) (x : List ℕ) where
+module _ (n k : ℕ) (wrong : Verdict) (number : ℕ) (x : List ℕ) where
   -- the three ways in which a judgement can go
+  pub judged-ways : {A : Type 0}
+      → ((length x ≡ n → ⊥) → judgedList n k wrong number x ≡ wrong → A)
+      → (length x ≡ n → (p : ℕ) → FirstAbove k x p → judgedList n k wrong number x ≡ Refused number p → A)
+      → (length x ≡ n → Within k x → judgedList n k wrong number x ≡ Taken → A)
+      → A
+  judged-ways {A} other over fine = go (ℕ-discrete (length x) n)
+    where
+      go : Dec (length x ≡ n) → A
+      go (no h) = other h (rw (ne-eqb (length x) n h))
+      go (yes h) = by (look number k 0 x)
+        where
+          by : Look number k 0 x → A
+          by (below w e) = fine h w (rw (eq-eqb (length x) n h) e)
+          by (above q f e) = let here : 0 + q ≡ q = omega arith in over h q f (rw (eq-eqb (length x) n h) (e ∙ ap (Refused number) here))
+
+-- ---- seats
+
+module _ (n k : ℕ) (x : List ℕ) where
   judged-by : {A : Type 0}
       → ((length x ≡ n → ⊥) → judgedSeats n k x ≡ Refused wrongSeats 0 → A)
       → (length x ≡ n → (p : ℕ) → FirstAbove k x p → judgedSeats n k x ≡ Refused seatAboveTop p → A)
       → (length x ≡ n → Within k x → judgedSeats n k x ≡ Taken → A)
       → A
-  judged-by {A} other over fine = go (ℕ-discrete (length x) n)
-    where
-      go : Dec (length x ≡ n) → A
-      go (no h) = other h (judged-other n k x h)
-      go (yes h) = by (look k 0 x)
-        where
-          by : Look k 0 x → A
-          by (below w e) = fine h w (judged-start n k x h ∙ e)
-          by (above q f e) = let here : 0 + q ≡ q = omega arith in over h q f (judged-start n k x h ∙ e ∙ ap (Refused seatAboveTop) here)
+  unfolding judgedSeats
+  judged-by other over fine = judged-ways n k (Refused wrongSeats 0) seatAboveTop x other over fine
 
   -- fine: so many seats, each within k
   pub fine-exactly : (judgedSeats n k x ≡ Taken) ↔ ((length x ≡ n) × Every (λ a. a ≤ k) x)

@@ -25,8 +25,23 @@ ghost use Rattle.card.specs.Laid.{leafOf, guardAt, guardOf, branchOf};
 ghost use Rattle.meaning.specs.Seats.{counts as countsOf};
 ghost use Rattle.meaning.specs.Reduced.{noOf, counterOf, passes as passesAt};
 ghost use Rattle.meaning.specs.ByCounts.{heldAt};
-ghost use Rattle.counting.specs.Judged.{judgedSeats};
+ghost use Rattle.counting.specs.Judged.{judgedFrom, judgedSeats};
 ghost use Rattle.counting.specs.Taking.{takers, unitsToEach};
+
+// Is each of them at most `most`? The first above is refused with the number.
+pub fn judge_each(list: &[u8], most: usize, number: u8) -> Verdict
+    ensures { λ r. ⌜ r ≡ judgedFrom number most 0 (now (list .entry)) ⌝ }
+{
+    let mut i = 0;
+    while i < list.len() {
+        let value = wide(list[i]);
+        if most < value {
+            return Verdict::Refused(number, i);
+        }
+        i += 1;
+    }
+    Verdict::Taken
+}
 
 // Are they seats for a card of n seats and top state `top`?
 pub fn judge_seats(seats: &[u8], n: usize, top: usize) -> Verdict
@@ -35,15 +50,7 @@ pub fn judge_seats(seats: &[u8], n: usize, top: usize) -> Verdict
     if seats.len() != n {
         return Verdict::Refused(WRONG_SEATS, 0);
     }
-    let mut i = 0;
-    while i < seats.len() {
-        let state = wide(seats[i]);
-        if top < state {
-            return Verdict::Refused(SEAT_ABOVE_TOP, i);
-        }
-        i += 1;
-    }
-    Verdict::Taken
+    judge_each(seats, top, SEAT_ABOVE_TOP)
 }
 
 // How many seats are in each state that there can be; any other seat is passed over.

@@ -22,6 +22,8 @@ use Rattle.tablet.proofs.open_panel_box_judge.Met.{met as box-judge-for-c-met}
 use Rattle.tablet.proofs.open_panel_box_find.Met.{met as box-find-for-c-met}
 use Rattle.tablet.proofs.open_panel_box_find_with.Met.{met as box-find-with-for-c-met}
 use Rattle.tablet.proofs.open_panel_box_write.Met.{met as box-write-for-c-met}
+use Rattle.watch.proofs.watch.Met.{met as watch-met}
+use Rattle.tablet.proofs.open_panel_watch.Met.{met as watch-for-c-met}
 
 pub keeps : Keeps
 keeps = record {
@@ -47,4 +49,6 @@ keeps = record {
   box-find-for-c = λ M. box-find-for-c-met;
   box-find-with-for-c = λ M. box-find-with-for-c-met;
   box-write-for-c = λ M. box-write-for-c-met;
+  watch = λ M. watch-met;
+  watch-for-c = λ M. watch-for-c-met;
 }

@@ -1,7 +1,7 @@
 -- The code keeps its contracts ("How tight the promises are"): of each function that is called from outside, the kit's statement that its
 -- routine meets what its source declares, for every memory that it may be called in. What the contracts say (`Reads`, `Entered`, `Printed`,
--- `Told`, `Found`, `PartTold`) is in `Entries.antt`, `ForC.antt`, `Decks.antt`
--- and `DeckWriting.antt`. Assumes nothing.
+-- `Told`, `Found`, `PartTold`) is in `Entries.antt`, `ForC.antt`, `Decks.antt`,
+-- `DeckWriting.antt` and `Spectator.antt`. Assumes nothing.
 use Rattle.reader.proofs.read.Statement.{statement as readKeeps}
 use Rattle.reader.proofs.read_into.Statement.{statement as readIntoKeeps}
 use Rattle.writer.proofs.write.Statement.{statement as writeKeeps}
@@ -15,6 +15,7 @@ use Rattle.boxes.proofs.locate_with.Statement.{statement as locateWithKeeps}
 use Rattle.boxes.proofs.find.Statement.{statement as findKeeps}
 use Rattle.boxes.proofs.find_with.Statement.{statement as findWithKeeps}
 use Rattle.deck_writer.proofs.write_deck.Statement.{statement as writeDeckKeeps}
+use Rattle.watch.proofs.watch.Statement.{statement as watchKeeps}
 use Rattle.tablet.proofs.open_panel_judge.Statement.{statement as judgeForCKeeps}
 use Rattle.tablet.proofs.open_panel_write.Statement.{statement as writeForCKeeps}
 use Rattle.tablet.proofs.open_panel_reduce.Statement.{statement as reduceForCKeeps}
@@ -24,6 +25,7 @@ use Rattle.tablet.proofs.open_panel_box_judge.Statement.{statement as boxJudgeF
 use Rattle.tablet.proofs.open_panel_box_find.Statement.{statement as boxFindForCKeeps}
 use Rattle.tablet.proofs.open_panel_box_find_with.Statement.{statement as boxFindWithForCKeeps}
 use Rattle.tablet.proofs.open_panel_box_write.Statement.{statement as boxWriteForCKeeps}
+use Rattle.tablet.proofs.open_panel_watch.Statement.{statement as watchForCKeeps}
 
 pub record Keeps : Type 2 where
   pub read : (M : Type 1) → readKeeps M
@@ -40,6 +42,8 @@ pub record Keeps : Type 2 where
   pub find : (M : Type 1) → findKeeps M
   pub find-with : (M : Type 1) → findWithKeeps M
   pub write-deck : (M : Type 1) → writeDeckKeeps M
+  -- classes
+  pub watch : (M : Type 1) → watchKeeps M
   -- the names for C
   pub judge-for-c : (M : Type 1) → judgeForCKeeps M
   pub write-for-c : (M : Type 1) → writeForCKeeps M
@@ -50,3 +54,4 @@ pub record Keeps : Type 2 where
   pub box-find-for-c : (M : Type 1) → boxFindForCKeeps M
   pub box-find-with-for-c : (M : Type 1) → boxFindWithForCKeeps M
   pub box-write-for-c : (M : Type 1) → boxWriteForCKeeps M
+  pub watch-for-c : (M : Type 1) → watchForCKeeps M

@@ -50,4 +50,8 @@ figures = record {
   written-room = refl;
   reduced-room = refl;
   panel-room = refl;
+  top-class = refl;
+  public-classes = refl;
+  wrong-classes = refl;
+  classes-room = refl;
 }

@@ -3,12 +3,15 @@ use mathlib.Core.Path.{_≡_}
 use Rattle.card.specs.Limits.{cardBytes, mostSeats, topState, mostStatements, mostBranches, mostNodes, mostDepth, numberDigits, furtherDigits, wordDigits, unit, weightDigits}
 use Rattle.card.specs.Limits.{deckBytes, mostCards, countBytes, entryBytes, offsetAt, sizeAt, flagAt, zeroByteAt, expansionFrom}
 use Rattle.card.specs.Refusals.{tooLong, outsideRules, outOfShape, pastLimit, aboveTop, notDue, wrongWeight, wrongSeats, seatAboveTop, roomTooSmall}
+use Rattle.card.specs.Limits.{topClass, publicClasses}
 use Rattle.card.specs.Refusals.{malformedDeck, noLiveCard}
+use Rattle.card.specs.Refusals.{wrongClasses}
 use Rattle.room.specs.Digits.{digit}
 use Rattle.texts.specs.Lengths.{writtenRoom, reducedRoom}
 use Rattle.panel_room.specs.PanelRoom.{panelRoom}
 use Rattle.program.specs.Program.{inputBytes, lineEnd, noState}
 use Rattle.asking.specs.Asking.{inQuestion}
+use Rattle.classes.specs.ClassesRoom.{classesRoom}
 
 pub record Figures : Type 0 where
   -- "What the box holds"
@@ -62,7 +65,12 @@ pub record Figures : Type 0 where
   pub expansion-from : expansionFrom ≡ 65536
   pub malformed-deck : malformedDeck ≡ 11
   pub no-live-card : noLiveCard ≡ 12
+  -- document 02, 2026-05: the top class, how many classes there are, and the refusal of a list
+  pub top-class : topClass ≡ 7
+  pub public-classes : publicClasses ≡ 8
+  pub wrong-classes : wrongClasses ≡ 13
   -- rooms that every text fits into; they are the project's own figures
   pub written-room : writtenRoom ≡ 82639
   pub reduced-room : reducedRoom ≡ 347890
   pub panel-room : panelRoom ≡ 4101
+  pub classes-room : classesRoom ≡ 25

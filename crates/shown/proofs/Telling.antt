@@ -66,7 +66,7 @@ numbers-cancel (v ∷ l) (w ∷ m) r s e =
     let more = numbers-cancel l m r s (head .1) in
     (rw (head .0, more .0), more .1)
 
-line-cancel : (w : String) (l m r s : List ℕ) → line w l r ≡ line w m s → (l ≡ m) × (r ≡ s)
+pub line-cancel : (w : String) (l m r s : List ℕ) → line w l r ≡ line w m s → (l ≡ m) × (r ≡ s)
 line-cancel w l m r s e = numbers-cancel l m r s (bytes-cancel (bytes w) (numbers l ("\n" ▸ r)) (numbers m ("\n" ▸ s)) e)
 
 -- ---- a block's lines

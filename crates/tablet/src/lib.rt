@@ -14,6 +14,7 @@ use panel::panel;
 use reader::read_into;
 use reducer::reduce;
 use room::Answer;
+use watch::watch;
 use writer::write;
 ghost use mathlib.Core.Path.{_≡_};
 ghost use Rattle.reading.specs.Reading.{readOf};
@@ -25,6 +26,7 @@ ghost use Rattle.writer.specs.WriteSaid.{writeSaid};
 ghost use Rattle.reducer.specs.ReduceSaid.{reduceSaid};
 ghost use Rattle.panel.specs.PanelSaid.{panelSaid};
 ghost use Rattle.ask.specs.AskSaid.{askSaid};
+ghost use Rattle.watch.specs.WatchSaid.{watchSaid};
 ghost use Rattle.tablet.specs.Told.{numbers, verdictNumbers, judged, Told, askedNumbers, answeredNumbers};
 ghost use Rattle.tablet.specs.Parts.{Stands, PartTold};
 
@@ -204,5 +206,19 @@ pub extern "C" fn open_panel_box_write(
     ensures { λ r. ⌜ Told (now (room .entry)) (now (room .exit)) (writeDeckSaid (now (contents .entry)) (now (bodies .entry))) r ⌝ }
 {
     let answer = write_deck(contents, bodies, room);
+    in_numbers(answer)
+}
+
+// The line of class counts for a spectator, by a list of the states' classes.
+#[no_mangle]
+pub extern "C" fn open_panel_watch(
+    card: &[u8],
+    seats: &[u8],
+    classes: &[u8],
+    room: &mut [u8],
+) -> OpenPanelAnswer
+    ensures { λ r. ⌜ Told (now (room .entry)) (now (room .exit)) (watchSaid (now (card .entry)) (now (seats .entry)) (now (classes .entry))) r ⌝ }
+{
+    let answer = watch(card, seats, classes, room);
     in_numbers(answer)
 }

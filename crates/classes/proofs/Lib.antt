@@ -1,0 +1,4 @@
+pub mod Counts
+pub mod ClassesStage
+pub mod Line
+pub mod Examples

@@ -1,0 +1,3 @@
+pub mod Classes
+pub mod ClassesSaid
+pub mod ClassesRoom

@@ -1,0 +1,1 @@
+// Definitions and theorems only: public classes, which a spectator sees.

@@ -1,0 +1,2 @@
+pub mod WatchSaid
+pub mod Watches
