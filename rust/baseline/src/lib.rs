@@ -1,7 +1,8 @@
 //! Document 01 as an ordinary Rust program: rule cards are read, written,
 //! reduced to counters, and shown as the panel of a seating; and those requests
 //! of document 02 that have landed: questions about a seating are answered,
-//! cards are found in decks, and a table where nobody can move has a step.
+//! cards are found in decks, a table where nobody can move has a step, and a
+//! spectator sees how many seats are in each public class.
 //!
 //! It was written from the documents alone, so that a slip in it and a slip in
 //! the verified library are unlikely to be the same one; `compare` runs both on
@@ -35,6 +36,7 @@ mod reduce;
 pub mod refusal;
 mod scan;
 mod text;
+mod watch;
 mod write;
 
 pub use card::{Branch, Card, Group, Mode, Node, Statement};
@@ -45,4 +47,5 @@ pub use question::ask;
 pub use read::judge;
 pub use reduce::reduce;
 pub use refusal::Refusal;
+pub use watch::watch;
 pub use write::{write, write_read};

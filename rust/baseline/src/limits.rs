@@ -10,6 +10,8 @@ pub const SEATS: usize = 16;
 pub const TOP_STATE: usize = 7;
 /// How many states there are at most.
 pub const STATES: usize = TOP_STATE + 1;
+/// How many public classes there are.
+pub const CLASSES: usize = 8;
 /// Most statements on a card; the least is one.
 pub const STATEMENTS: usize = 32;
 /// Most branches in one statement.

@@ -1,4 +1,4 @@
-//! Why a card, a seating, a room, a question or a deck is turned down, and where.
+//! Why a card, a seating, a room, a question, a deck or a list of classes is turned down, and where.
 
 use std::fmt;
 
@@ -7,7 +7,7 @@ use std::fmt;
 pub struct Refusal {
     /// One of the numbers below.
     pub number: u8,
-    /// A byte of the card, the question or a deck, a seat, or a length, depending on the number.
+    /// A byte of the card, the question or a deck, a seat, a state, or a length, depending on the number.
     pub place: usize,
 }
 
@@ -37,6 +37,8 @@ pub const DECK: u8 = 11;
 pub const IN_EXPANSION: usize = 65_536;
 /// No deck has a live card of the number.
 pub const NO_LIVE_CARD: u8 = 12;
+/// A list of classes has not one for each state, or has one above the highest.
+pub const CLASS_LIST: u8 = 13;
 /// What is added to [`TOO_LONG`], [`OUTSIDE`], [`SHAPE`], [`LIMIT`], [`STATE`] or [`WORD`] where a question is refused so.
 pub const OF_QUESTION: u8 = 20;
 
