@@ -1,6 +1,6 @@
 //! The open panel for Rust: rule cards are judged, written, reduced to
-//! counters, and shown, questions about a seating are answered, and cards are
-//! found in decks, by the verified library.
+//! counters, and shown, spectators are shown what they may see, questions about
+//! a seating are answered, and cards are found in decks, by the verified library.
 //!
 //! Every entry that takes a card takes it as bytes and judges it first. A text goes into a
 //! room that the caller lends: an entry answers the text's length, and leaves
@@ -40,12 +40,16 @@ pub const QUESTION_BYTES: usize = 16_384;
 pub const SEATS: usize = 16;
 /// Highest state of a seat on any card.
 pub const TOP_STATE: u8 = 7;
+/// Highest public class of a state.
+pub const TOP_CLASS: u8 = 7;
 /// A room in which every written card fits.
 pub const WRITE_ROOM: usize = 82_639;
 /// A room in which every reduced program fits.
 pub const REDUCE_ROOM: usize = 347_890;
 /// A room in which every panel fits.
 pub const SHOW_ROOM: usize = 4_101;
+/// A room in which all that a spectator sees fits.
+pub const WATCH_ROOM: usize = 25;
 
 /// What the library answers: number 0 and a length, or yes or no as 1 or 0; or a refusal and its place.
 #[repr(C)]
@@ -90,6 +94,21 @@ pub fn show(card: &[u8], seats: &[u8], room: &mut [u8]) -> Result<usize, Refusal
     library::show(card, seats, room).into_result()
 }
 
+/// Puts what a spectator sees of a seating into a lent room: the line `classes` and how many seats are in each public class, 0 to
+/// [`TOP_CLASS`]. The list has the class of each state of the card. Refusals: 1 to 9, 13, then 10.
+///
+/// ```
+/// let card = b"nondeterministic module process1 s1 : [0..1] init 0;
+///     [] s1=0 -> 1:(s1'=1); endmodule";
+/// let mut room = [0; open_panel::WATCH_ROOM];
+/// let length = open_panel::watch(card, &[1], &[0, 3], &mut room)?;
+/// assert_eq!(&room[..length], b"classes 0 0 0 1 0 0 0 0\n");
+/// # Ok::<(), open_panel::Refusal>(())
+/// ```
+pub fn watch(card: &[u8], seats: &[u8], classes: &[u8], room: &mut [u8]) -> Result<usize, Refusal> {
+    library::watch(card, seats, classes, room).into_result()
+}
+
 /// Says whether a question holds at a seating. It is an expression of groups of all seats, such as
 /// `!(s1=0 | s2=0)`, with `((s1=0 & s2!=0) | (s1!=0 & s2=0))` for exactly one.
 /// Refusals: 1 to 7, 21 to 26, then 8 and 9.
@@ -121,6 +140,11 @@ pub fn reduce_to_vec(card: &[u8]) -> Result<Vec<u8>, Refusal> {
 /// The panel of a seating. Refusals: 1 to 9.
 pub fn show_to_vec(card: &[u8], seats: &[u8]) -> Result<Vec<u8>, Refusal> {
     in_own_room(SHOW_ROOM, |room| show(card, seats, room))
+}
+
+/// What a spectator sees of a seating. Refusals: 1 to 9, then 13.
+pub fn watch_to_vec(card: &[u8], seats: &[u8], classes: &[u8]) -> Result<Vec<u8>, Refusal> {
+    in_own_room(WATCH_ROOM, |room| watch(card, seats, classes, room))
 }
 
 /// Lends a room that is always enough, and keeps of it what the text takes.

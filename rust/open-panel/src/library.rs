@@ -29,6 +29,16 @@ extern "C" {
         seats: *const u8,
         seats_len: usize,
     ) -> Answer;
+    fn open_panel_watch(
+        card: *const u8,
+        card_len: usize,
+        seats: *const u8,
+        seats_len: usize,
+        classes: *const u8,
+        classes_len: usize,
+        room: *mut u8,
+        room_len: usize,
+    ) -> Answer;
     fn open_panel_box_judge(deck: *const u8, deck_len: usize) -> Answer;
     fn open_panel_box_find(
         deck: *const u8,
@@ -96,6 +106,22 @@ pub(crate) fn ask(card: &[u8], question: &[u8], seats: &[u8]) -> Answer {
             question.len(),
             seats.as_ptr(),
             seats.len(),
+        )
+    }
+}
+
+pub(crate) fn watch(card: &[u8], seats: &[u8], classes: &[u8], room: &mut [u8]) -> Answer {
+    // SAFETY: as above.
+    unsafe {
+        open_panel_watch(
+            card.as_ptr(),
+            card.len(),
+            seats.as_ptr(),
+            seats.len(),
+            classes.as_ptr(),
+            classes.len(),
+            room.as_mut_ptr(),
+            room.len(),
         )
     }
 }

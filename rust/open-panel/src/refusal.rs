@@ -1,4 +1,4 @@
-//! Why a card, a seating, a room, a question or a deck is turned down, and where.
+//! Why a card, a seating, a room, a question, a deck or a list of classes is turned down, and where.
 
 use std::fmt;
 
@@ -62,6 +62,12 @@ pub enum Refusal {
     },
     /// 12: no live card has the number.
     NoLiveCard,
+    /// 13: a list of classes that does not have one for each state of the card, or has
+    /// one above [`TOP_CLASS`](crate::TOP_CLASS).
+    Classes {
+        /// The list's length if that is wrong, or else the index of the first such class.
+        at: usize,
+    },
     /// 21: the question is longer than [`QUESTION_BYTES`](crate::QUESTION_BYTES).
     QuestionLong,
     /// 22: bytes in the question that make no mark, or a number written too long.
@@ -93,7 +99,7 @@ pub enum Refusal {
 
 impl Refusal {
     /// The refusal of this number at this place, if there is one: the numbers
-    /// are 1 to 12 and 21 to 26, and the place of 1, 8, 12 and 21 is always 0.
+    /// are 1 to 13 and 21 to 26, and the place of 1, 8, 12 and 21 is always 0.
     pub const fn new(number: u8, place: usize) -> Option<Refusal> {
         Some(match number {
             1 if place == 0 => Refusal::Long,
@@ -108,6 +114,7 @@ impl Refusal {
             10 => Refusal::Room { needed: place },
             11 => Refusal::Deck { at: place },
             12 if place == 0 => Refusal::NoLiveCard,
+            13 => Refusal::Classes { at: place },
             21 if place == 0 => Refusal::QuestionLong,
             22 => Refusal::QuestionMark { at: place },
             23 => Refusal::QuestionShape { at: place },
@@ -118,7 +125,7 @@ impl Refusal {
         })
     }
 
-    /// Its number, 1 to 12 or 21 to 26.
+    /// Its number, 1 to 13 or 21 to 26.
     pub const fn number(&self) -> u8 {
         match self {
             Refusal::Long => 1,
@@ -133,6 +140,7 @@ impl Refusal {
             Refusal::Room { .. } => 10,
             Refusal::Deck { .. } => 11,
             Refusal::NoLiveCard => 12,
+            Refusal::Classes { .. } => 13,
             Refusal::QuestionLong => 21,
             Refusal::QuestionMark { .. } => 22,
             Refusal::QuestionShape { .. } => 23,
@@ -142,7 +150,7 @@ impl Refusal {
         }
     }
 
-    /// Its place: a byte of the card, of the question or of a deck, a seat, a length, or 0.
+    /// Its place: a byte of the card, of the question or of a deck, a seat, a state, a length, or 0.
     pub const fn place(&self) -> usize {
         match *self {
             Refusal::Long | Refusal::SeatCount | Refusal::NoLiveCard | Refusal::QuestionLong => 0,
@@ -153,6 +161,7 @@ impl Refusal {
             | Refusal::Word { at }
             | Refusal::Weight { at }
             | Refusal::Deck { at }
+            | Refusal::Classes { at }
             | Refusal::QuestionMark { at }
             | Refusal::QuestionShape { at }
             | Refusal::QuestionLimit { at }
@@ -216,6 +225,11 @@ impl fmt::Display for Refusal {
                 "byte {at} of a deck, an expansion's from 65536 on, or of its contents: malformed there"
             ),
             Refusal::NoLiveCard => write!(f, "no live card has this number"),
+            Refusal::Classes { at } => write!(
+                f,
+                "a list of {at} classes, not one for each state, or the class of state {at} is above {}",
+                crate::TOP_CLASS
+            ),
             Refusal::QuestionLong => {
                 write!(
                     f,

@@ -65,6 +65,11 @@ fn refusals_have_number_place_and_words() {
         ),
         (12, 0, "no live card has this number (refusal 12)"),
         (
+            13,
+            7,
+            "a list of 7 classes, not one for each state, or the class of state 7 is above 7 (refusal 13)",
+        ),
+        (
             21,
             0,
             "the question is longer than 16384 bytes (refusal 21)",
@@ -101,7 +106,7 @@ fn refusals_have_number_place_and_words() {
         assert_eq!(refusal.to_string(), words);
         assert_eq!(refusal.is_of_question(), words.contains("the question"));
     }
-    for number in [0, 13, 20, 27, 255] {
+    for number in [0, 14, 20, 27, 255] {
         assert_eq!(Refusal::new(number, 0), None);
     }
     for number in [1, 8, 12, 21] {
@@ -120,6 +125,26 @@ fn refusals_of_every_entry() {
     assert_eq!(show_to_vec(CARD, &[2]), Err(Refusal::SeatState { seat: 0 }));
     let needed = CARD.len();
     assert_eq!(write(CARD, &mut [0; 3]), Err(Refusal::Room { needed }));
+}
+
+#[test]
+fn spectators_and_their_refusals() {
+    assert_eq!(
+        watch_to_vec(CARD, &[1], &[7, 2]).as_deref(),
+        Ok(&b"classes 0 0 1 0 0 0 0 0\n"[..])
+    );
+    let refused = |seats: &[u8], classes: &[u8]| watch_to_vec(CARD, seats, classes).unwrap_err();
+    assert_eq!(refused(&[], &[0]), Refusal::SeatCount);
+    assert_eq!(refused(&[2], &[0]), Refusal::SeatState { seat: 0 });
+    assert_eq!(refused(&[0], &[9]), Refusal::Classes { at: 1 });
+    assert_eq!(refused(&[0], &[0, 0, 8]), Refusal::Classes { at: 3 });
+    assert_eq!(refused(&[0], &[0, 8]), Refusal::Classes { at: 1 });
+    assert_eq!(watch_to_vec(b"", &[], &[]), Err(Refusal::Shape { at: 0 }));
+    let needed = 24;
+    assert_eq!(
+        watch(CARD, &[0], &[0, 0], &mut [0; 23]),
+        Err(Refusal::Room { needed })
+    );
 }
 
 #[test]
