@@ -109,6 +109,9 @@ fn answers_as(side: &mut Side, entry: &str, call: &Call) -> Result<(), Fault> {
         ("write", [read @ .., room]) => writes(side, "open_panel_write", read, room, call.stored),
         ("reduce", [read @ .., room]) => writes(side, "open_panel_reduce", read, room, call.stored),
         ("panel", [read @ .., room]) => writes(side, "open_panel_show", read, room, call.stored),
+        ("spectator", [read @ .., room]) => {
+            writes(side, "open_panel_watch", read, room, call.stored)
+        }
         ("ask", [_, _, _]) => says(side("open_panel_ask", &pieces, &mut []), call.stored),
         ("box_find", [base, expansion, number]) => {
             finds(side, [base, expansion], number, call.stored)

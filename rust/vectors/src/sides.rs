@@ -40,6 +40,9 @@ pub fn wrapper(entry: &str, pieces: &[&[u8]], room: &mut [u8]) -> Answer {
         ("open_panel_write", [card]) => open_panel::write(card, room),
         ("open_panel_reduce", [card]) => open_panel::reduce(card, room),
         ("open_panel_show", [card, seats]) => open_panel::show(card, seats, room),
+        ("open_panel_watch", [card, seats, classes]) => {
+            open_panel::watch(card, seats, classes, room)
+        }
         ("open_panel_ask", [card, question, seats]) => {
             open_panel::ask(card, question, seats).map(usize::from)
         }
@@ -63,6 +66,7 @@ pub fn baseline(entry: &str, pieces: &[&[u8]], room: &mut [u8]) -> Answer {
         ("open_panel_write", [card]) => baseline::write(card, room),
         ("open_panel_reduce", [card]) => baseline::reduce(card, room),
         ("open_panel_show", [card, seats]) => baseline::panel(card, seats, room),
+        ("open_panel_watch", [card, seats, list]) => baseline::watch(card, seats, list, room),
         ("open_panel_ask", [card, question, seats]) => {
             baseline::ask(card, question, seats).map(usize::from)
         }
