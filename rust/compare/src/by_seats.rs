@@ -134,6 +134,22 @@ pub fn counts(seats: &[u8], top: usize) -> Vec<u64> {
         .collect()
 }
 
+/// How many seats are in each class, each seat asked for its own.
+pub fn class_counts(seats: &[u8], list: &[u8]) -> [usize; 8] {
+    let mut counts = [0; 8];
+    for seat in seats {
+        counts[usize::from(list[usize::from(*seat)])] += 1;
+    }
+    counts
+}
+
+/// What a spectator sees.
+pub fn classes(seats: &[u8], list: &[u8]) -> String {
+    let counts = class_counts(seats, list);
+    let counts = counts.iter().map(|count| format!(" {count}"));
+    format!("classes{}\n", counts.collect::<String>())
+}
+
 /// The same weights, by the counts after the steps.
 pub fn by_counts(after: &Weights<Vec<u8>>, top: usize) -> Weights<Vec<u64>> {
     let mut by_counts = Weights::new();

@@ -257,6 +257,7 @@ impl Checker {
             let question = Question::new(input, random);
             asks(card, input, &question, written.ok(), random, tally)?;
         }
+        self.watches(card, input, random, &mut tally.spectators)?;
         let rest = &surrounded[GUARD + input.card.len()..];
         if card != input.card
             || surrounded[..GUARD] != [b'9'; GUARD]
@@ -415,7 +416,7 @@ const fn one_walk_write_room(seats: usize, statements: usize) -> usize {
 const _: () = assert!(one_walk_write_room(SEATS, STATEMENTS) == WRITE_ROOM);
 
 /// The rooms to try: one that is a byte short, and one that just fits or a larger one; for a refusal any one.
-fn room_lengths(text: Option<usize>, random: &mut Random) -> [Option<usize>; 2] {
+pub(crate) fn room_lengths(text: Option<usize>, random: &mut Random) -> [Option<usize>; 2] {
     match text {
         Some(length) => [
             Some(if random.once_in(8) {

@@ -4,9 +4,10 @@ use std::fmt;
 
 use baseline::{Part, Refusal};
 
-use crate::check::{Checker, Fault, GUARD};
+use crate::check::{Checker, Fault};
 use crate::decks::{Deck, Entry, Numbering, Parts, Wrong, WrongParts, DECK_BYTES, ENTRY_BYTES};
 use crate::random::Random;
+use crate::surrounded::Surrounded;
 
 /// Where an expansion's places start.
 const IN_EXPANSION: usize = 65_536;
@@ -121,35 +122,6 @@ impl fmt::Display for DeckTally {
     }
 }
 
-/// Bytes among others that nothing may write.
-struct Surrounded {
-    bytes: Vec<u8>,
-    around: u8,
-}
-
-impl Surrounded {
-    fn new(inner: &[u8], random: &mut Random) -> Surrounded {
-        let around = random.next() as u8;
-        let mut bytes = vec![around; GUARD];
-        bytes.extend(inner);
-        bytes.resize(bytes.len() + GUARD, around);
-        Surrounded { bytes, around }
-    }
-
-    fn inner(&self) -> &[u8] {
-        &self.bytes[GUARD..self.bytes.len() - GUARD]
-    }
-
-    fn unwritten(&self, inner: &[u8]) -> Result<(), Fault> {
-        let around = [self.around; GUARD];
-        if self.inner() == inner && self.bytes.starts_with(&around) && self.bytes.ends_with(&around)
-        {
-            return Ok(());
-        }
-        Err("a deck was written".to_owned())
-    }
-}
-
 fn same<T: PartialEq + fmt::Debug>(what: &str, answer: T, due: T) -> Result<(), Fault> {
     if answer == due {
         return Ok(());
@@ -237,8 +209,8 @@ pub fn check_lookup(random: &mut Random, tally: &mut DeckTally) -> Result<(), Fa
             meant.ok_or(Refusal::new(12, 0)),
         )?;
     }
-    lent[0].unwritten(&base.bytes)?;
-    lent[1].unwritten(&expansion.bytes)?;
+    lent[0].unwritten("the base", &base.bytes)?;
+    lent[1].unwritten("the expansion", &expansion.bytes)?;
     match due {
         Ok(part) => {
             let withdrawn = expansion.entries.iter().any(|entry| entry.number == number);
@@ -292,8 +264,8 @@ impl Checker {
                 open_panel::write_deck(contents, bodies, room)
             })?;
         }
-        lent[0].unwritten(&made.contents)?;
-        lent[1].unwritten(&made.bodies)?;
+        lent[0].unwritten("the contents", &made.contents)?;
+        lent[1].unwritten("the bodies", &made.bodies)?;
         let place = WrongParts::ALL
             .iter()
             .position(|wrong| *wrong == made.wrong);

@@ -8,8 +8,9 @@
 //! small tables both are held to the steps of the seats themselves
 //! ([`by_seats`]), which no counting has touched. About each table
 //! [`questions`] are asked, made and damaged in the same way, and those that are
-//! answered are held to the seats too. Cards are looked for in generated
-//! [`decks`], sound and malformed, and decks are written.
+//! answered are held to the seats too. [`spectators`] with good lists of classes
+//! and wrong ones watch each table. Cards are looked for in generated [`decks`],
+//! sound and malformed, and decks are written.
 
 pub mod by_seats;
 pub mod cards;
@@ -24,5 +25,7 @@ pub mod model;
 pub mod questions;
 pub mod random;
 pub mod reduced;
+pub mod spectators;
+mod surrounded;
 pub mod tally;
 pub mod weights;

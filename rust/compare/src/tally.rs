@@ -9,6 +9,7 @@ use crate::check::Entry;
 use crate::deck_check::DeckTally;
 use crate::inputs::Kind;
 use crate::questions::{self, Question};
+use crate::spectators::SpectatorTally;
 
 /// Inputs of a run that the minima below are for.
 pub const INPUTS: u64 = 100_000;
@@ -88,6 +89,8 @@ pub struct Tally {
     pub by_seats: u64,
     /// Questions asked again of reordered seats.
     pub questions_reordered: u64,
+    /// Spectators.
+    pub spectators: SpectatorTally,
     /// Decks.
     pub decks: DeckTally,
 }
@@ -196,6 +199,7 @@ impl Tally {
         sum(&mut self.answered_at, &other.answered_at);
         self.by_seats += other.by_seats;
         self.questions_reordered += other.questions_reordered;
+        self.spectators.add(&other.spectators);
         self.decks.add(&other.decks);
     }
 
@@ -296,6 +300,7 @@ impl Tally {
             self.questions_reordered,
             BY_SEATS,
         );
+        self.spectators.shortfalls(&mut least);
         self.decks.shortfalls(&mut least);
         shortfalls
     }
@@ -368,7 +373,7 @@ impl fmt::Display for Tally {
             "stuck tables, nondeterministic {nondeterministic}, probabilistic {probabilistic}"
         )?;
         self.print_questions(f)?;
-        write!(f, "\n{}", self.decks)
+        write!(f, "\n{}\n{}", self.spectators, self.decks)
     }
 }
 
