@@ -169,6 +169,20 @@ pub fn cards() -> Vec<Case> {
     cases
 }
 
+/// The same cards, watched: with a class for each state that there may be, and with too long a list.
+pub fn watched() -> Vec<Case> {
+    let lists = [open_panel::TOP_STATE + 1, open_panel::TOP_STATE + 2];
+    lists
+        .into_iter()
+        .flat_map(|length| {
+            cards().into_iter().map(move |case| Case {
+                list: (0..length).map(|state| state % 8).collect(),
+                ..case
+            })
+        })
+        .collect()
+}
+
 /// Questions about a plain card; and a plain question about cards with deep guards.
 pub fn questions() -> Vec<Case> {
     let asked = |question: String, card: Vec<u8>, seats: Vec<u8>| Case {

@@ -2,11 +2,11 @@
 //! same rooms, by turns in one run, and prints Markdown for `docs/BENCHMARKS.md`:
 //! first in a room that is always enough, then in rooms that just fit, where
 //! both sides measure a text before they put it; then questions, which take no
-//! room, beside judging a card alone; then a card looked for in a deck. Each
-//! round goes through all rows, so that a while in which the machine is slow
-//! spoils none of them. Then the stack that the entries use, on the inputs that
-//! need most; `bench stack` prints that table alone, and fails where an entry
-//! uses more than the wrapper says.
+//! room, and what a spectator sees, beside judging a card alone; then a card
+//! looked for in a deck. Each round goes through all rows, so that a while in
+//! which the machine is slow spoils none of them. Then the stack that the entries
+//! use, on the inputs that need most; `bench stack` prints that table alone, and
+//! fails where an entry uses more than the wrapper says.
 
 mod deepest;
 mod stack;
@@ -36,15 +36,17 @@ struct Case {
     seats: Vec<u8>,
     /// The question, and nothing where none is asked; or the expansion, or a deck's bodies.
     question: Vec<u8>,
+    /// A class for each state, where a spectator watches.
+    list: Vec<u8>,
 }
 
 impl Case {
     fn new(card: Vec<u8>, seats: Vec<u8>) -> Case {
-        let question = Vec::new();
         Case {
             card,
             seats,
-            question,
+            question: Vec::new(),
+            list: Vec::new(),
         }
     }
 }
@@ -93,16 +95,15 @@ fn sets() -> Vec<Set> {
 fn question_sets() -> Vec<Set> {
     let all = base();
     let card_a = all.first().map(|stored| Case {
-        card: stored.card().to_vec(),
-        seats: stored.seats(),
         question: b"(s1=0 | s2=0 | s3=0) & !((s1=2 & s2!=2 & s3!=2) | (s1!=2 & s2=2 & s3!=2) | (s1!=2 & s2!=2 & s3=2))"
             .to_vec(),
+        ..Case::new(stored.card().to_vec(), stored.seats())
     });
     let full = full_table();
+    let card = lay_out(&full.marks(), Layout::Tight, &mut Random::new(0, 0));
     let doubled = Case {
-        card: lay_out(&full.marks(), Layout::Tight, &mut Random::new(0, 0)),
-        seats: vec![0; full.seats],
         question: doubled_brackets(full.seats),
+        ..Case::new(card, vec![0; full.seats])
     };
     vec![
         Set {
@@ -112,6 +113,31 @@ fn question_sets() -> Vec<Set> {
         Set {
             name: "16 seats, brackets doubled",
             cases: vec![doubled],
+        },
+    ]
+}
+
+/// Spectators of card A, and of a full table of one statement.
+fn spectator_sets() -> Vec<Set> {
+    let all = base();
+    let card_a = all.first().map(|stored| Case {
+        list: vec![0, 1, 1],
+        ..Case::new(stored.card().to_vec(), stored.seats())
+    });
+    let full = full_table();
+    let card = lay_out(&full.marks(), Layout::Tight, &mut Random::new(0, 0));
+    let watched = Case {
+        list: (0..=open_panel::TOP_STATE).rev().collect(),
+        ..Case::new(card, (0..full.seats as u8).map(|seat| seat % 8).collect())
+    };
+    vec![
+        Set {
+            name: "card A and a list of classes",
+            cases: card_a.into_iter().collect(),
+        },
+        Set {
+            name: "16 seats, 8 classes",
+            cases: vec![watched],
         },
     ]
 }
@@ -204,6 +230,7 @@ const ASK: Entry = (
          card,
          seats,
          question,
+         ..
      },
      _| {
         let answer = open_panel::ask(card, question, seats);
@@ -213,8 +240,16 @@ const ASK: Entry = (
          card,
          seats,
          question,
+         ..
      },
      _| baseline::ask(card, question, seats).ok().map(usize::from),
+);
+
+/// The entry that takes a list of classes.
+const WATCH: Entry = (
+    "watch",
+    |case, room| open_panel::watch(&case.card, &case.seats, &case.list, room).ok(),
+    |case, room| baseline::watch(&case.card, &case.seats, &case.list, room).ok(),
 );
 
 /// The last number in [`full_deck`].
@@ -397,12 +432,13 @@ fn print_table(rows: &[Row]) {
 }
 
 /// How much stack the wrapper says that each entry takes, in the order of the table below.
-const BOUNDS: [usize; 9] = [
+const BOUNDS: [usize; 10] = [
     open_panel::stack::JUDGE,
     open_panel::stack::WRITE,
     open_panel::stack::REDUCE,
     open_panel::stack::SHOW,
     open_panel::stack::ASK,
+    open_panel::stack::WATCH,
     open_panel::stack::JUDGE_DECK,
     open_panel::stack::FIND,
     open_panel::stack::FIND_WITH,
@@ -411,16 +447,17 @@ const BOUNDS: [usize; 9] = [
 
 /// The stack of every entry, on the inputs that need most: false where one takes more than it is said to.
 fn print_stack() -> bool {
-    let (cards, questions, decks, parts) = (
+    let (cards, questions, watched, decks, parts) = (
         deepest::cards(),
         deepest::questions(),
+        deepest::watched(),
         deepest::decks(),
         deepest::deck_parts(),
     );
     let of_cards = ENTRIES.into_iter().map(|entry| (entry, &cards));
     let of_decks = DECK_ENTRIES.into_iter().map(|entry| (entry, &decks));
     let all = of_cards
-        .chain([(ASK, &questions)])
+        .chain([(ASK, &questions), (WATCH, &watched)])
         .chain(of_decks)
         .chain([(WRITE_DECK, &parts)]);
     println!("| Entry | Library, bytes of stack | Bound | Baseline, bytes of stack |\n|---|---:|---:|---:|");
@@ -442,26 +479,33 @@ fn main() -> ExitCode {
         };
     }
     let (sets, question_sets, deck_sets) = (sets(), question_sets(), vec![full_deck()]);
+    let spectator_sets = spectator_sets();
     let mut room = vec![0; open_panel::REDUCE_ROOM];
     let mut tables = [
         rows(&ENTRIES, &sets, whole_room, &mut room),
         rows(&ENTRIES[1..], &sets, text_lengths, &mut room),
         rows(&[ASK], &question_sets, whole_room, &mut room),
+        rows(&[WATCH], &spectator_sets, whole_room, &mut room),
         rows(&[FIND], &deck_sets, whole_room, &mut room),
     ];
-    tables[2].insert(0, Row::new(ENTRIES[0], &sets[0], whole_room, &mut room));
+    for beside in [2, 3] {
+        let judged = Row::new(ENTRIES[0], &sets[0], whole_room, &mut room);
+        tables[beside].insert(0, judged);
+    }
     for round in 0..ROUNDS {
         for row in tables.iter_mut().flatten() {
             row.round(round, &mut room);
         }
     }
-    let [always_enough, just_fit, questions, decks] = tables;
+    let [always_enough, just_fit, questions, spectators, decks] = tables;
     println!("In a room of {} bytes:\n", room.len());
     print_table(&always_enough);
     println!("\nIn rooms that just fit each text:\n");
     print_table(&just_fit);
     println!("\nQuestions, bytes of the card and the question together:\n");
     print_table(&questions);
+    println!("\nWhat a spectator sees, beside judging the card:\n");
+    print_table(&spectators);
     println!("\nA full deck:\n");
     print_table(&decks);
     println!();

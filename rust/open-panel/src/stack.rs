@@ -12,6 +12,8 @@ pub const REDUCE: usize = 12_032;
 pub const SHOW: usize = 11_264;
 /// [`ask`](crate::ask)
 pub const ASK: usize = 10_752;
+/// [`watch`](crate::watch)
+pub const WATCH: usize = 10_752;
 /// [`judge_deck`](crate::judge_deck)
 pub const JUDGE_DECK: usize = 256;
 /// [`find`](crate::find), [`locate`](crate::locate)
