@@ -28,6 +28,7 @@ through() {
     held requests/2026-02 requests/2026-02 box_write "${@:2}"
     held requests/2026-03 requests/2026-03 panel "${@:2}"
     held requests/2026-04 requests/2026-04 write "${@:2}"
+    held requests/2026-05 requests/2026-05 spectator "${@:2}"
 }
 
 through 'Rust wrapper'
