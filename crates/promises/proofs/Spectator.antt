@@ -11,7 +11,7 @@ use Rattle.card.specs.Refusals.{wrongWeight, wrongSeats, seatAboveTop, roomTooS
 use Rattle.card.specs.Card.{Card}
 use Rattle.card.specs.Valid.{ValidCard}
 use Rattle.reading.specs.Reading.{taken, readOf}
-use Rattle.reading.proofs.Theorems.{read-valid}
+use Rattle.grammar.proofs.Theorems.{read-valid}
 use Rattle.meaning.specs.Seats.{Seating, ValidSeating, counts}
 use Rattle.entry.specs.Said.{says as text, _>>=_, _>>_, return}
 use Rattle.entry.specs.Contract.{onto}
