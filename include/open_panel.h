@@ -71,7 +71,8 @@ extern "C" {
  * not proved: they are measured, on the inputs that need most (guards nested as
  * deep as they may be, the longest texts, refusals), and a test fails where a
  * function takes more. In the build for aarch64 the frames along the same ways
- * add up to no more.
+ * add up to no more, but for open_panel_watch, for which they have not been
+ * added up.
  */
 #define OPEN_PANEL_STACK_JUDGE 10240
 #define OPEN_PANEL_STACK_WRITE 11264
@@ -172,7 +173,7 @@ open_panel_answer open_panel_show(const uint8_t *card, size_t card_len,
  * Writes what a spectator may see of a seating: one line, `classes` and how
  * many seats are in each public class, 0 to OPEN_PANEL_TOP_CLASS. The list has
  * one byte for each state of the card, from 0 on: that state's class. Two
- * seatings with the same numbers in the line give the same bytes, so nothing
+ * seatings with as many seats in each class give the same bytes, so nothing
  * else about the seats can be told from it. Refusals: 1 to 9, then 13 of the
  * list, its length before its classes, then 10.
  *
