@@ -49,6 +49,9 @@ extern "C" {
 /* The highest public class; a spectator's line has a number for each from 0 on. */
 #define OPEN_PANEL_TOP_CLASS 7
 
+/* The weights on a panel are in units of 1 / OPEN_PANEL_UNIT. */
+#define OPEN_PANEL_UNIT 277200
+
 /* Longest deck, and most cards in it. A deck of OPEN_PANEL_DECK_BYTES is a room that every deck fits into. */
 #define OPEN_PANEL_DECK_BYTES 65535
 #define OPEN_PANEL_DECK_CARDS 64
@@ -61,9 +64,9 @@ extern "C" {
  * measured first, so that a refusal leaves the room as it was. A spectator's
  * line is short, and always measured.
  */
-#define OPEN_PANEL_WRITE_ROOM 82639
-#define OPEN_PANEL_REDUCE_ROOM 347890
-#define OPEN_PANEL_SHOW_ROOM 4101
+#define OPEN_PANEL_WRITE_ROOM 83151
+#define OPEN_PANEL_REDUCE_ROOM 356082
+#define OPEN_PANEL_SHOW_ROOM 4357
 #define OPEN_PANEL_WATCH_ROOM 25
 
 /*

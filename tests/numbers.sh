@@ -56,6 +56,7 @@ number DECK_CARDS mostCards
 number SEATS mostSeats
 number TOP_STATE topState
 number TOP_CLASS topClass
+number UNIT unit
 number WRITE_ROOM writtenRoom
 number REDUCE_ROOM reducedRoom
 number SHOW_ROOM panelRoom

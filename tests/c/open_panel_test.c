@@ -18,10 +18,10 @@ static const char panel_at_001[] =
     "probabilistic\n"
     "seats 3 enabled 3\n"
     "counts 2 1 0\n"
-    "stay 18900\n"
-    "move 0 1 25200\n"
-    "move 0 2 25200\n"
-    "move 1 2 6300\n";
+    "stay 207900\n"
+    "move 0 1 277200\n"
+    "move 0 2 277200\n"
+    "move 1 2 69300\n";
 
 static const char one_seat[] =
     "nondeterministic module process1 s1 : [0..1] init 0;"

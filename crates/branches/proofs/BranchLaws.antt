@@ -3,7 +3,7 @@
 use Prim.Native.Nat.{ℕ, zero, suc, _+_, _-_, _*_, _≤_, _<_, min}
 use Prim.Native.String.{String}
 use mathlib.Core.Path.{_≡_, refl, sym, ap, _∙_}
-use mathlib.Core.Bool.{Bool, true, false, _||_}
+use mathlib.Core.Bool.{Bool, true, false, _||_, _&&_}
 use mathlib.Core.List.{List, [], _∷_, _++_, map}
 use mathlib.Core.Option.{Option, none, some}
 use native.Mathlib.Nat.{zero-add, add-zero}
@@ -12,11 +12,11 @@ use borrow.Author.Tests.{eq-eqb, ne-eqb, eqb-true, eqb-false}
 use lib.Dec.{eqb}
 use lib.ListN.{length, set}
 use Rattle.card.specs.Limits.{mostBranches, numbers, unit}
-use Rattle.card.specs.Refusals.{outOfShape, pastLimit, wrongWeight}
+use Rattle.card.specs.Refusals.{outOfShape, pastLimit, wrongWeight, decimalWeight}
 use Rattle.card.specs.Text.{if_then_else_}
 use Rattle.card.specs.Laid.{packBranch}
 use Rattle.card.specs.Stored.{stored}
-use Rattle.card.specs.Weight.{Weight, whole, decimal as point, ratio, cardRule, unitsOf}
+use Rattle.card.specs.Weight.{Weight, whole, decimal as point, ratio, unitsOf, Rule}
 use Rattle.card.specs.Judged.{judgedOf}
 use Rattle.card.specs.declared.weight.Judged.{Judged}
 use Rattle.card.specs.declared.weight.Weight.{Weight as WeightRow}
@@ -27,16 +27,17 @@ use Rattle.marks.specs.declared.Found.{Found}
 use Rattle.marks.specs.declared.Step.{Step}
 use Rattle.reading.specs.Reader.{Place, State, at, Result, ok, stop, Reader, bind, return, refuseAt, the, ifNext, sign, numberOf, Numbered, numbered, line}
 use Rattle.grammar.specs.Grammar.{branchRun}
-use Rattle.reading.specs.Judgements.{Judgement, weight as judgedWeight, sum, unless, orZero, unitsIn, totalUnits}
+use Rattle.reading.specs.Judgements.{Judgement, weight as judgedWeight, sum, unless, broken, orZero, unitsIn, totalUnits}
+use Rattle.reading.specs.Guard.{isSome}
 use Rattle.reading.specs.Shape.{BranchShape, weightOf, over, weight, branch, nextBranch, pastBranches}
 use Rattle.reading.specs.Checks.{judgedState, judgedWords, weightIn, judgedBranch, judgedEach}
 use Rattle.grammar.proofs.Valid.{units-most}
-use Rattle.late.specs.Late.{Late, blame, judge, judgeAll}
+use Rattle.late.specs.Late.{Late, blame, blamed, judge, judgeAll}
 use Rattle.late.specs.State.{atValue, Sized, lateIn, valueIn, withLate, After, after, Halted}
 use Rattle.late.proofs.Settling.{judge-append}
-use Rattle.late.proofs.StateLaws.{set-sized, value-set, late-set}
+use Rattle.late.proofs.StateLaws.{late-sized, set-sized, value-set, late-set}
 use Rattle.parts.specs.Parts.{from, Read, Answers, Went, NumberFrom, SignRead, SignFrom, Told, Sure, LineRead}
-use Rattle.branches.specs.Branches.{weightBy, Weighed, WeightRead, WeightFrom, updateDue, UpdateFrom, packedIn, Branched, BranchRead, BranchFrom, BranchesShape, branches, judgedBranches, sumBy, ClosedBy, PastBy, BranchesIn, BranchesRead, BranchesFrom}
+use Rattle.branches.specs.Branches.{formBy, weightBy, Weighed, WeightRead, WeightFrom, updateDue, UpdateFrom, packedIn, Branched, BranchRead, BranchFrom, BranchesShape, branches, judgedBranches, sumBy, ClosedBy, PastBy, BranchesIn, BranchesRead, BranchesFrom}
 use Rattle.parts.proofs.Steps.{Next, place-seen, behind, Shown, valueBy, number-shown, weightBy as markWeight, weight-shown, told}
 use Rattle.parts.proofs.Answers.{onward, halted, made, fits, misses, next-is, next-is-not}
 use Rattle.parts.proofs.Counted.{upTo, with-first, another, too-many, no-other}
@@ -81,8 +82,31 @@ module _ (was : List ℕ) (sized : Sized was) where
       kept none e = refl
       kept (some u) e = let z : _≡_ {A = ℕ} 0 1 = cc in absurd (omega arith)
 
-module _ {s : List ℕ} {i : ℕ} {x : Step} (v : Next s i x) where
-  pub weight-stops : {before : Late} {r : After} → (x .mark .kind ≡ kDecimal → ⊥) → (x .mark .kind ≡ kNumber → ⊥) → Halted outOfShape (x .mark .place) r → WeightFrom s i before r
+-- a decimal's form, then its units: the first refusal is the one that is kept
+blamed-twice : (b : Bool) (p : ℕ) (x : Late) → blamed (unless b wrongWeight) p (blame decimalWeight p x) ≡ blame decimalWeight p x
+blamed-twice true p x = refl
+blamed-twice false p x = go (eqb (x .number) 0) refl
+  where
+    go : (t : Bool) → eqb (x .number) 0 ≡ t → blame wrongWeight p (if t then record { number = decimalWeight; place = p; want = x .want; first = x .first; split = x .split; second = x .second } else x) ≡ (if t then record { number = decimalWeight; place = p; want = x .want; first = x .first; split = x .split; second = x .second } else x)
+    go true e = refl
+    go false e = rw e
+
+form-first : (decimals : Rule) (o : Option ℕ) (p : ℕ) (mid before : Late) → mid ≡ formBy decimals p before
+    → weightBy o p mid ≡ blamed (unless (decimals && isSome o) (if decimals then wrongWeight else decimalWeight)) p before
+form-first true o p mid before e = ap (weightBy o p) e
+form-first false o p mid before e = ap (weightBy o p) e ∙ blamed-twice (isSome o) p before
+
+pub formed-sized : (start : List ℕ) → Sized start → {is : List ℕ} {x : Late} → is ≡ withLate start x → Sized is
+formed-sized start long {is} {x} e = rw e (late-sized start long x)
+
+pub form-fine : {decimals : Rule} (p : ℕ) (x : Late) → decimals ≡ true → x ≡ formBy decimals p x
+form-fine p x e = rw e
+
+pub form-wrong : {decimals : Rule} (p : ℕ) (x : Late) → decimals ≡ false → blame decimalWeight p x ≡ formBy decimals p x
+form-wrong p x e = rw e
+
+module _ {decimals : Rule} {s : List ℕ} {i : ℕ} {x : Step} (v : Next s i x) where
+  pub weight-stops : {before : Late} {r : After} → (x .mark .kind ≡ kDecimal → ⊥) → (x .mark .kind ≡ kNumber → ⊥) → Halted outOfShape (x .mark .place) r → WeightFrom decimals s i before r
   weight-stops d e h = record {
     answers = λ n. misses s _ weightOf markWeight weight-shown i x v n (rw (ne-eqb _ _ d, ne-eqb _ _ e)) _ _ h;
     sized = h .sized;
@@ -90,47 +114,54 @@ module _ {s : List ℕ} {i : ℕ} {x : Step} (v : Next s i x) where
 
   module _ (was : List ℕ) {is : List ℕ} {judged : Judged} (y : Weighed judged (x .mark .place) was is) where
     -- the last mark of a weight was read, and a cursor stands behind it
-    weighed : (w : Weight) → judged ≡ judgedOf (unitsOf cardRule w) → (next : ℕ) → (next ≡ 0 → ⊥) → (st : State) → marksAt 0 s next ≡ st .marks
-        → WeightRead s (lateIn was) (marksAt 0 s i) (ok w st) (after is next)
+    weighed : (before : Late) (w : Weight) → judged ≡ judgedOf (unitsOf w) → lateIn is ≡ blamed (broken 0 (judgedWeight decimals w (marksAt 0 s i))) (x .mark .place) before
+        → (next : ℕ) → (next ≡ 0 → ⊥) → (st : State) → marksAt 0 s next ≡ st .marks → WeightRead decimals s before (marksAt 0 s i) (ok w st) (after is next)
     unfolding judgeAll
-    weighed w e next there st f = record {
+    weighed before w e l next there st f = record {
       went = there;
       rest = f;
-      told = record { value = y .value (unitsOf cardRule w) e; late = y .late (unitsOf cardRule w) e ∙ ap (λ (p : ℕ). weightBy (unitsOf cardRule w) p (lateIn was)) (place-seen s i x v) };
+      told = record {
+        value = y .value (unitsOf w) e;
+        late = l ∙ ap (λ (p : ℕ). blamed (broken 0 (judgedWeight decimals w (marksAt 0 s i))) p before) (place-seen s i x v);
+      };
     }
 
-    pub decimal-read : x .mark .kind ≡ kDecimal → judged ≡ judgedOf (unitsOf cardRule (point (x .mark .value) (x .mark .digits) (x .mark .further))) → WeightFrom s i (lateIn was) (after is (x .next .at))
-    decimal-read e f = record {
+    -- its form was judged before
+    pub decimal-read : (start : List ℕ) → Sized start → was ≡ withLate start (formBy decimals (x .mark .place) (lateIn start)) → x .mark .kind ≡ kDecimal
+        → judged ≡ judgedOf (unitsOf (point (x .mark .value) (x .mark .digits) (x .mark .further))) → WeightFrom decimals s i (lateIn start) (after is (x .next .at))
+    decimal-read start long g e f = record {
       answers = λ n.
           fits s _ weightOf markWeight weight-shown i x v n (point (x .mark .value) (x .mark .digits) (x .mark .further)) (rw e) _ _
-          (weighed (point (x .mark .value) (x .mark .digits) (x .mark .further)) f (x .next .at) (behind s i x v (λ z. omega (arith, e, z))) _ refl);
+          (weighed (lateIn start) (point (x .mark .value) (x .mark .digits) (x .mark .further)) f
+          (y .late (unitsOf (point (x .mark .value) (x .mark .digits) (x .mark .further))) f
+          ∙ form-first decimals (unitsOf (point (x .mark .value) (x .mark .digits) (x .mark .further))) (x .mark .place) (lateIn was) (lateIn start) (ap lateIn g)) (x .next .at) (behind s i x v (λ z. omega (arith, e, z))) _ refl);
       sized = y .sized;
     }
 
     module _ (e : x .mark .kind ≡ kNumber) {z : Step} (u : Next s (x .next .at) z) where
-      pub whole-read : (z .mark .kind ≡ kind "/" → ⊥) → judged ≡ judgedOf (unitsOf cardRule (whole (x .mark .value))) → WeightFrom s i (lateIn was) (after is (x .next .at))
+      pub whole-read : (z .mark .kind ≡ kind "/" → ⊥) → judged ≡ judgedOf (unitsOf (whole (x .mark .value))) → WeightFrom decimals s i (lateIn was) (after is (x .next .at))
       whole-read d f = record {
         answers = λ n.
             fits s _ weightOf markWeight weight-shown i x v n (whole (x .mark .value)) (rw (eq-eqb _ _ e)) _ _
             (next-is-not s _ "/" slash _ (return (whole (x .mark .value))) (x .next .at) z u n _ d
-            (weighed (whole (x .mark .value)) f (x .next .at) (behind s i x v (λ z. omega (arith, e, z))) _ refl));
+            (weighed (lateIn was) (whole (x .mark .value)) f (y .late (unitsOf (whole (x .mark .value))) f) (x .next .at) (behind s i x v (λ z. omega (arith, e, z))) _ refl));
         sized = y .sized;
       }
 
       pub ratio-read : z .mark .kind ≡ kind "/" → {w : Step} (t : Next s (z .next .at) w) → w .mark .kind ≡ kNumber
-          → judged ≡ judgedOf (unitsOf cardRule (ratio (x .mark .value) (w .mark .value))) → WeightFrom s i (lateIn was) (after is (w .next .at))
+          → judged ≡ judgedOf (unitsOf (ratio (x .mark .value) (w .mark .value))) → WeightFrom decimals s i (lateIn was) (after is (w .next .at))
       ratio-read d {w} t g f = record {
         answers = λ n.
             fits s _ weightOf markWeight weight-shown i x v n (whole (x .mark .value)) (rw (eq-eqb _ _ e)) _ _
             (next-is s _ "/" slash _ (return (whole (x .mark .value))) (x .next .at) z u n _ d
             (sign-fits "/" slash s (x .next .at) _ z u n _ _ d
             (fits s _ numberOf (valueBy kNumber) number-shown (z .next .at) w t n (w .mark .value) (rw (eq-eqb _ _ g)) _ _
-            (weighed (ratio (x .mark .value) (w .mark .value)) f (w .next .at) (behind s (z .next .at) w t (λ z. omega (arith, g, z))) _ refl))));
+            (weighed (lateIn was) (ratio (x .mark .value) (w .mark .value)) f (y .late (unitsOf (ratio (x .mark .value) (w .mark .value))) f) (w .next .at) (behind s (z .next .at) w t (λ z. omega (arith, g, z))) _ refl))));
         sized = y .sized;
       }
 
   pub ratio-stops : {before : Late} {r : After} → x .mark .kind ≡ kNumber → {z : Step} (u : Next s (x .next .at) z) → z .mark .kind ≡ kind "/"
-      → {w : Step} (t : Next s (z .next .at) w) → (w .mark .kind ≡ kNumber → ⊥) → Halted outOfShape (w .mark .place) r → WeightFrom s i before r
+      → {w : Step} (t : Next s (z .next .at) w) → (w .mark .kind ≡ kNumber → ⊥) → Halted outOfShape (w .mark .place) r → WeightFrom decimals s i before r
   ratio-stops e {z} u d {w} t g h = record {
     answers = λ n.
         fits s _ weightOf markWeight weight-shown i x v n (whole (x .mark .value)) (rw (eq-eqb _ _ e)) _ _
@@ -140,10 +171,10 @@ module _ {s : List ℕ} {i : ℕ} {x : Step} (v : Next s i x) where
     sized = h .sized;
   }
 
-pub weight-few : {s : List ℕ} {i : ℕ} {before : Late} (state : List ℕ) {next : ℕ} → WeightFrom s i before (after state next) → (next ≡ 0 → ⊥) → valueIn state ≤ unit
-weight-few {s} {i} {before} state {next} h e = go (weight (from s i 0)) (h .answers 0)
+pub weight-few : {decimals : Rule} {s : List ℕ} {i : ℕ} {before : Late} (state : List ℕ) {next : ℕ} → WeightFrom decimals s i before (after state next) → (next ≡ 0 → ⊥) → valueIn state ≤ unit
+weight-few {decimals} {s} {i} {before} state {next} h e = go (weight (from s i 0)) (h .answers 0)
   where
-    go : (x : Result Weight) → WeightRead s before (marksAt 0 s i) x (after state next) → valueIn state ≤ unit
+    go : (x : Result Weight) → WeightRead decimals s before (marksAt 0 s i) x (after state next) → valueIn state ≤ unit
     go (ok w b) y = omega (arith, y .told .value, units-most w)
     go (stop n p) y = absurd (e (y .none))
 
@@ -155,11 +186,11 @@ update-sure = (told ":" (omega arith), (told "(" (omega arith), (told "'" (omega
 close : Told ")"
 close = told ")" (omega arith)
 
-module _ (s : List ℕ) (i k : ℕ) (before : Late) (was is : List ℕ) (place : ℕ) where
+module _ (decimals : Rule) (s : List ℕ) (i k : ℕ) (before : Late) (was is : List ℕ) (place : ℕ) where
   abbrev BranchIs : After → Type 0
-  BranchIs = BranchFrom s i k before was is place
+  BranchIs = BranchFrom decimals s i k before was is place
 
-  module _ (a : List ℕ) {w : ℕ} (hw : WeightFrom s i before (after a w)) where
+  module _ (a : List ℕ) {w : ℕ} (hw : WeightFrom decimals s i before (after a w)) where
     pub weight-halts : w ≡ 0 → BranchIs (after a 0)
     weight-halts e = record { answers = λ n. halted s _ _ (weight (from s i n)) _ a w (hw .answers n) e; sized = hw .sized }
 
@@ -188,16 +219,16 @@ module _ (s : List ℕ) (i k : ℕ) (before : Late) (was is : List ℕ) (place :
           closed n = hf .answers ")" close refl n
 
           closing : (r : After) (n : ℕ)
-              → ((b : BranchShape) (m : ℕ) → valueIn a ≡ unitsIn (b .weight) → valueIn c ≡ b .end .value → lateIn c ≡ judgeAll (length s) (judgedBranch k b) before
-              → BranchRead s k before was is place (bind (sign ")" (from s t m)) (λ u. return b)) r)
-              → BranchRead s k before was is place (branch (from s i n)) r
+              → ((b : BranchShape) (m : ℕ) → valueIn a ≡ unitsIn (b .weight) → valueIn c ≡ b .end .value → lateIn c ≡ judgeAll (length s) (judgedBranch decimals k b) before
+              → BranchRead decimals s k before was is place (bind (sign ")" (from s t m)) (λ u. return b)) r)
+              → BranchRead decimals s k before was is place (branch (from s i n)) r
           unfolding judgeAll
           closing r n h = onward s _ _ (weight (from s i n)) _ a w r (hw .answers n) ew λ x m g.
               onward s _ _ (line branchRun (from s w m)) _ b u r (updated m) eu λ ws m₁ g₁.
               onward s _ _ (numbered numberOf (from s u m₁)) _ c t r (ht .answers m₁) et λ e m₂ g₂.
               h (record { place = marksAt 0 s i; weight = x; words = ws; end = e }) m₂ (g .value) (g₂ .value)
               (g₂ .late ∙ ap (judge (length s) (judgedState k e)) (g₁ ∙ ap (judgeAll (length s) (judgedWords (1 ∷ []) ws)) (g .late))
-              ∙ sym (judge-append (length s) (judgedWords (1 ∷ []) ws) (judgedState k e ∷ []) (judge (length s) (judgedWeight x (marksAt 0 s i)) before)))
+              ∙ sym (judge-append (length s) (judgedWords (1 ∷ []) ws) (judgedState k e ∷ []) (judge (length s) (judgedWeight decimals x (marksAt 0 s i)) before)))
 
           pub close-halts : f ≡ 0 → BranchIs (after d 0)
           close-halts e = record { answers = λ n. closing _ n λ b m g h j. halted s _ _ (sign ")" (from s t m)) _ d f (closed m) e; sized = hf .sized }
@@ -220,11 +251,11 @@ module _ (s : List ℕ) (i k : ℕ) (before : Late) (was is : List ℕ) (place :
                   → set was place (packBranch (min (valueIn a) unit) (min (valueIn d) numbers)) ≡ set was place (packedIn b)
               packed b g h = rw (g, h)
 
-pub branch-few : {s : List ℕ} {i k : ℕ} {before : Late} {was is : List ℕ} {place : ℕ} (state : List ℕ) {next : ℕ} → BranchFrom s i k before was is place (after state next)
+pub branch-few : {decimals : Rule} {s : List ℕ} {i k : ℕ} {before : Late} {was is : List ℕ} {place : ℕ} (state : List ℕ) {next : ℕ} → BranchFrom decimals s i k before was is place (after state next)
     → (next ≡ 0 → ⊥) → valueIn state ≤ unit
-branch-few {s} {i} {k} {before} {was} {is} {place} state {next} h e = go (branch (from s i 0)) (h .answers 0)
+branch-few {decimals} {s} {i} {k} {before} {was} {is} {place} state {next} h e = go (branch (from s i 0)) (h .answers 0)
   where
-    go : (x : Result BranchShape) → BranchRead s k before was is place x (after state next) → valueIn state ≤ unit
+    go : (x : Result BranchShape) → BranchRead decimals s k before was is place x (after state next) → valueIn state ≤ unit
     go (ok b t) y = omega (arith, y .told .went .value, units-most (b .weight))
     go (stop n p) y = absurd (e (y .none))
 
@@ -273,18 +304,18 @@ behind-plus (suc most) s i x v e n =
     ∙ ap (λ (y : Result (Unit {0})). bind (bind y (λ u. branch)) (λ a s₁. bind (further most s₁) (λ x. return (more a x)))) (sign-took "+" plus s i x v e n)
 
 -- with the branches so far counted in
-pub record Counted (s : List ℕ) (k first count total : ℕ) (before : Late) (was is : List ℕ) (x : BranchesShape) (state : List ℕ) : Type 0 where
+pub record Counted (decimals : Rule) (s : List ℕ) (k first count total : ℕ) (before : Late) (was is : List ℕ) (x : BranchesShape) (state : List ℕ) : Type 0 where
   pub value : valueIn state ≡ count + length (x .branches)
-  pub late : lateIn state ≡ sumBy (total + totalUnits (map weightIn (x .branches))) (placeOf (length s) (x .close)) (judgeAll (length s) (judgedEach (judgedBranch k) (x .branches)) before)
+  pub late : lateIn state ≡ sumBy (total + totalUnits (map weightIn (x .branches))) (placeOf (length s) (x .close)) (judgeAll (length s) (judgedEach (judgedBranch decimals k) (x .branches)) before)
   pub array : is ≡ stored was (first + count) (map packedIn (x .branches))
 
-abbrev pub RestRead : List ℕ → ℕ → ℕ → ℕ → ℕ → Late → List ℕ → List ℕ → Result BranchesShape → After → Type 0
-RestRead s k first count total late was is = Answers s (Counted s k first count total late was is)
+abbrev pub RestRead : Rule → List ℕ → ℕ → ℕ → ℕ → ℕ → Late → List ℕ → List ℕ → Result BranchesShape → After → Type 0
+RestRead decimals s k first count total late was is = Answers s (Counted decimals s k first count total late was is)
 
 -- before the first branch
-pub none-counted : (s : List ℕ) (k first : ℕ) (late : Late) (was is : List ℕ) (x : Result BranchesShape) (r : After) → RestRead s k first 0 0 late was is x r → BranchesRead s k late was is first x r
+pub none-counted : (decimals : Rule) (s : List ℕ) (k first : ℕ) (late : Late) (was is : List ℕ) (x : Result BranchesShape) (r : After) → RestRead decimals s k first 0 0 late was is x r → BranchesRead decimals s k late was is first x r
 unfolding judgeAll
-none-counted s k first late was is (ok x b) r y =
+none-counted decimals s k first late was is (ok x b) r y =
     let z = y .told in
     record {
       went = y .went;
@@ -292,25 +323,25 @@ none-counted s k first late was is (ok x b) r y =
       told = record {
         went = record {
           value = z .value ∙ zero-add (length (x .branches));
-          late = z .late ∙ ap (λ (t : ℕ). sumBy t (placeOf (length s) (x .close)) (judgeAll (length s) (judgedEach (judgedBranch k) (x .branches)) late)) (zero-add (totalUnits (map weightIn (x .branches))))
-              ∙ sym (judge-append (length s) (judgedEach (judgedBranch k) (x .branches)) (sum (map weightIn (x .branches)) (x .close) ∷ []) late);
+          late = z .late ∙ ap (λ (t : ℕ). sumBy t (placeOf (length s) (x .close)) (judgeAll (length s) (judgedEach (judgedBranch decimals k) (x .branches)) late)) (zero-add (totalUnits (map weightIn (x .branches))))
+              ∙ sym (judge-append (length s) (judgedEach (judgedBranch decimals k) (x .branches)) (sum (map weightIn (x .branches)) (x .close) ∷ []) late);
         };
         array = z .array ∙ ap (λ (f : ℕ). stored was f (map packedIn (x .branches))) (add-zero first);
       };
     }
-none-counted s k first late was is (stop n p) r y = y
+none-counted decimals s k first late was is (stop n p) r y = y
 
-module _ (s : List ℕ) (k first count total : ℕ) (late : Late) (was is : List ℕ) (i most n : ℕ) where
+module _ (decimals : Rule) (s : List ℕ) (k first count total : ℕ) (late : Late) (was is : List ℕ) (i most n : ℕ) where
   abbrev RestIs : After → Type 0
-  RestIs = RestRead s k first count total late was is (rest (suc most) (from s i n))
+  RestIs = RestRead decimals s k first count total late was is (rest (suc most) (from s i n))
 
-  module _ (state : List ℕ) (b : ℕ) (now : List ℕ) (hb : (n : ℕ) → BranchRead s k late was now (first + count) (branch (from s i n)) (after state b)) where
+  module _ (state : List ℕ) (b : ℕ) (now : List ℕ) (hb : (n : ℕ) → BranchRead decimals s k late was now (first + count) (branch (from s i n)) (after state b)) where
     pub branch-stops : b ≡ 0 → RestIs (after state 0)
     branch-stops e = halted s _ _ (branch (from s i n)) _ state b (hb n) e
 
     module _ (e : b ≡ 0 → ⊥) where
       -- one branch is counted, and the rest is read behind it
-      one-counted : (r : After) → ((m : ℕ) → RestRead s k first (count + 1) (total + valueIn state) (lateIn state) now is (further most (from s b m)) r) → RestIs r
+      one-counted : (r : After) → ((m : ℕ) → RestRead decimals s k first (count + 1) (total + valueIn state) (lateIn state) now is (further most (from s b m)) r) → RestIs r
       unfolding judgeAll stored
       one-counted r y = onward s _ _ (branch (from s i n)) _ state b r (hb n) e λ a m g.
           made s _ _ (further most (from s b m)) (more a) r (y m) λ z h.
@@ -319,19 +350,19 @@ module _ (s : List ℕ) (k first count total : ℕ) (late : Late) (was is : List
           record {
             value = omega (arith, h .value);
             late = h .late
-                ∙ ap (λ (u : ℕ). sumBy u (placeOf (length s) (z .close)) (judgeAll (length s) (judgedEach (judgedBranch k) (z .branches)) (lateIn state))) units
+                ∙ ap (λ (u : ℕ). sumBy u (placeOf (length s) (z .close)) (judgeAll (length s) (judgedEach (judgedBranch decimals k) (z .branches)) (lateIn state))) units
                 ∙ ap (λ (l : Late). sumBy (total + (unitsIn (a .weight) + totalUnits (map weightIn (z .branches)))) (placeOf (length s) (z .close)) l)
-                (ap (judgeAll (length s) (judgedEach (judgedBranch k) (z .branches))) (g .went .late) ∙ sym (judge-append (length s) (judgedBranch k a) (judgedEach (judgedBranch k) (z .branches)) late));
+                (ap (judgeAll (length s) (judgedEach (judgedBranch decimals k) (z .branches))) (g .went .late) ∙ sym (judge-append (length s) (judgedBranch decimals k a) (judgedEach (judgedBranch decimals k) (z .branches)) late));
             array = h .array ∙ rw (g .array) (ap (λ (u : ℕ). stored (set was (first + count) (packedIn a)) u (map packedIn (z .branches))) place);
           }
 
       module _ (x : Step) (v : Next s b x) where
         pub one-more : x .mark .kind ≡ kind "+" → (r : After)
-            → ((m : ℕ) → RestRead s k first (count + 1) (total + valueIn state) (lateIn state) now is (rest most (from s (x .next .at) m)) r) → RestIs r
+            → ((m : ℕ) → RestRead decimals s k first (count + 1) (total + valueIn state) (lateIn state) now is (rest most (from s (x .next .at) m)) r) → RestIs r
         one-more f r y = one-counted r λ m. rw (behind-plus most s b x v f m) (y m)
 
         module _ (d : x .mark .kind ≡ kind "+" → ⊥) where
-          last : (r : After) → ((m : ℕ) → RestRead s k first (count + 1) (total + valueIn state) (lateIn state) now is (ends [] (from s b m)) r) → RestIs r
+          last : (r : After) → ((m : ℕ) → RestRead decimals s k first (count + 1) (total + valueIn state) (lateIn state) now is (ends [] (from s b m)) r) → RestIs r
           last r y = one-counted r λ m. rw (no-other "+" nextBranch pastBranches ends more step plus s b x v d most m) (y m)
 
           pub sum-stops : (x .mark .kind ≡ kind ";" → ⊥) → (r : After) → Halted outOfShape (x .mark .place) r → RestIs r
@@ -372,9 +403,9 @@ module _ (m : Found) {r : After} where
   none-past d e h = rw (ne-eqb (m .kind) kNumber d, ne-eqb (m .kind) kDecimal e) h
 
 -- one branch too many
-module _ (s : List ℕ) (k first count total : ℕ) (late : Late) (was is : List ℕ) (i n : ℕ) (x : Step) (v : Next s i x) (r : After) where
+module _ (decimals : Rule) (s : List ℕ) (k first count total : ℕ) (late : Late) (was is : List ℕ) (i n : ℕ) (x : Step) (v : Next s i x) (r : After) where
   abbrev PastIs : Type 0
-  PastIs = RestRead s k first count total late was is (rest 0 (from s i n)) r
+  PastIs = RestRead decimals s k first count total late was is (rest 0 (from s i n)) r
 
   past-weight : (w : Weight) → markWeight (x .mark) ≡ some w → Halted pastLimit (x .mark .place) r → PastIs
   past-weight w e h = fits s _ weightOf markWeight weight-shown i x v n w e _ _ (rw (← place-seen s i x v) h)
@@ -390,58 +421,58 @@ module _ (s : List ℕ) (k first count total : ℕ) (late : Late) (was is : List
 
 -- ---- the loop: an answer to what is left answers the whole
 
-pub record Going (s : List ℕ) (k first : ℕ) (before : Late) (was : List ℕ) (i count total : ℕ) (now : List ℕ) (next : ℕ) (state : List ℕ) : Type 0 where
+pub record Going (decimals : Rule) (s : List ℕ) (k first : ℕ) (before : Late) (was : List ℕ) (i count total : ℕ) (now : List ℕ) (next : ℕ) (state : List ℕ) : Type 0 where
   pub few : count ≤ mostBranches
   pub small : total ≤ count * unit
   pub sized : Sized state
-  pub whole : (r : After) (is : List ℕ) → ((m : ℕ) → RestRead s k first count total (lateIn state) now is (rest (mostBranches - count) (from s next m)) r)
-      → (n : ℕ) → BranchesRead s k before was is first (branches (mostBranches - 1) (from s i n)) r
+  pub whole : (r : After) (is : List ℕ) → ((m : ℕ) → RestRead decimals s k first count total (lateIn state) now is (rest (mostBranches - count) (from s next m)) r)
+      → (n : ℕ) → BranchesRead decimals s k before was is first (branches (mostBranches - 1) (from s i n)) r
 
-pub going-start : {s : List ℕ} {k first : ℕ} {was : List ℕ} {i : ℕ} (state : List ℕ) → Sized state → Going s k first (lateIn state) was i 0 0 was i state
-going-start {s} {k} {first} {was} {i} state sized = record {
+pub going-start : {decimals : Rule} {s : List ℕ} {k first : ℕ} {was : List ℕ} {i : ℕ} (state : List ℕ) → Sized state → Going decimals s k first (lateIn state) was i 0 0 was i state
+going-start {decimals} {s} {k} {first} {was} {i} state sized = record {
   few = omega arith;
   small = omega arith;
   sized = sized;
-  whole = λ r is y n. none-counted s k first (lateIn state) was is (branches (mostBranches - 1) (from s i n)) r (rw (rest-whole (mostBranches - 1) (from s i n)) (y n));
+  whole = λ r is y n. none-counted decimals s k first (lateIn state) was is (branches (mostBranches - 1) (from s i n)) r (rw (rest-whole (mostBranches - 1) (from s i n)) (y n));
 }
 
-module _ {s : List ℕ} {k first : ℕ} {before : Late} {was : List ℕ} {i count total : ℕ} {now : List ℕ} {next : ℕ} {state : List ℕ} (g : Going s k first before was i count total now next state) where
-  module _ (l : count < mostBranches) {new : List ℕ} (after-one : List ℕ) {b : ℕ} (hb : BranchFrom s next k (lateIn state) now new (first + count) (after after-one b)) where
+module _ {decimals : Rule} {s : List ℕ} {k first : ℕ} {before : Late} {was : List ℕ} {i count total : ℕ} {now : List ℕ} {next : ℕ} {state : List ℕ} (g : Going decimals s k first before was i count total now next state) where
+  module _ (l : count < mostBranches) {new : List ℕ} (after-one : List ℕ) {b : ℕ} (hb : BranchFrom decimals s next k (lateIn state) now new (first + count) (after after-one b)) where
     one-less : mostBranches - count ≡ suc (mostBranches - (count + 1))
     one-less = omega arith
 
     -- the rest as the reader of one branch and what follows
-    opened : (is : List ℕ) (r : After) → ((m : ℕ) → RestRead s k first count total (lateIn state) now is (rest (suc (mostBranches - (count + 1))) (from s next m)) r)
-        → (n : ℕ) → BranchesRead s k before was is first (branches (mostBranches - 1) (from s i n)) r
+    opened : (is : List ℕ) (r : After) → ((m : ℕ) → RestRead decimals s k first count total (lateIn state) now is (rest (suc (mostBranches - (count + 1))) (from s next m)) r)
+        → (n : ℕ) → BranchesRead decimals s k before was is first (branches (mostBranches - 1) (from s i n)) r
     opened is r y = g .whole r is λ m. rw one-less (y m)
 
-    pub going-stops : b ≡ 0 → BranchesFrom s i k before was new first (after after-one 0)
+    pub going-stops : b ≡ 0 → BranchesFrom decimals s i k before was new first (after after-one 0)
     going-stops e = record {
-      answers = opened new _ λ m. branch-stops s k first count total (lateIn state) now new next (mostBranches - (count + 1)) m after-one b new (hb .answers) e;
+      answers = opened new _ λ m. branch-stops decimals s k first count total (lateIn state) now new next (mostBranches - (count + 1)) m after-one b new (hb .answers) e;
       sized = hb .sized;
     }
 
     module _ (e : b ≡ 0 → ⊥) {x : Step} (v : Next s b x) where
       pub going-closed : (x .mark .kind ≡ kind "+" → ⊥) → {r : After} → ClosedBy (x .mark) (x .next .at) (count + 1) (total + valueIn after-one) (lateIn after-one) r
-          → BranchesFrom s i k before was new first r
+          → BranchesFrom decimals s i k before was new first r
       going-closed d {r} c = record { answers = opened new r λ m. by m (eqb (x .mark .kind) (kind ";")) refl; sized = c .sized }
         where
-          by : (m : ℕ) (t : Bool) → eqb (x .mark .kind) (kind ";") ≡ t → RestRead s k first count total (lateIn state) now new (rest (suc (mostBranches - (count + 1))) (from s next m)) r
+          by : (m : ℕ) (t : Bool) → eqb (x .mark .kind) (kind ";") ≡ t → RestRead decimals s k first count total (lateIn state) now new (rest (suc (mostBranches - (count + 1))) (from s next m)) r
           by m true f =
               let h = c .closes (eqb-true _ _ f) in
               let same : r ≡ after (r .state) (x .next .at) = λ q. after (r .state) (h .0 q) in
-              rw same (sum-read s k first count total (lateIn state) now new next (mostBranches - (count + 1)) m after-one b new (hb .answers) e x v d (eqb-true _ _ f) refl (r .state) (h .1) (h .2))
-          by m false f = sum-stops s k first count total (lateIn state) now new next (mostBranches - (count + 1)) m after-one b new (hb .answers) e x v d (eqb-false _ _ f) r (c .stops (eqb-false _ _ f))
+              rw same (sum-read decimals s k first count total (lateIn state) now new next (mostBranches - (count + 1)) m after-one b new (hb .answers) e x v d (eqb-true _ _ f) refl (r .state) (h .1) (h .2))
+          by m false f = sum-stops decimals s k first count total (lateIn state) now new next (mostBranches - (count + 1)) m after-one b new (hb .answers) e x v d (eqb-false _ _ f) r (c .stops (eqb-false _ _ f))
 
-      pub going-more : x .mark .kind ≡ kind "+" → Going s k first before was i (count + 1) (total + valueIn after-one) new (x .next .at) after-one
+      pub going-more : x .mark .kind ≡ kind "+" → Going decimals s k first before was i (count + 1) (total + valueIn after-one) new (x .next .at) after-one
       going-more f = record {
         few = omega arith;
         small = omega (arith, g .small, branch-few after-one hb e);
         sized = hb .sized;
-        whole = λ r is y. opened is r λ m. one-more s k first count total (lateIn state) now is next (mostBranches - (count + 1)) m after-one b new (hb .answers) e x v f r y;
+        whole = λ r is y. opened is r λ m. one-more decimals s k first count total (lateIn state) now is next (mostBranches - (count + 1)) m after-one b new (hb .answers) e x v f r y;
       }
 
-  pub going-past : mostBranches ≤ count → {x : Step} → Next s next x → {r : After} → PastBy (x .mark) r → BranchesFrom s i k before was now first r
+  pub going-past : mostBranches ≤ count → {x : Step} → Next s next x → {r : After} → PastBy (x .mark) r → BranchesFrom decimals s i k before was now first r
   going-past l {x} v {r} h = record {
     answers = g .whole r now λ m.
         let z : mostBranches - count ≡ 0 = omega arith in
@@ -449,7 +480,7 @@ module _ {s : List ℕ} {k first : ℕ} {before : Late} {was : List ℕ} {i coun
     sized = h .sized;
   }
     where
-      by : (m : ℕ) (t : Bool) → eqb (x .mark .kind) kNumber ≡ t → (u : Bool) → eqb (x .mark .kind) kDecimal ≡ u → RestRead s k first count total (lateIn state) now now (rest 0 (from s next m)) r
-      by m true e u f = past-number s k first count total (lateIn state) now now next m x v r (eqb-true _ _ e) (rw e at h)
-      by m false e true f = past-decimal s k first count total (lateIn state) now now next m x v r (eqb-true _ _ f) (rw (e, f) at h)
-      by m false e false f = past-misses s k first count total (lateIn state) now now next m x v r (eqb-false _ _ f) (eqb-false _ _ e) (rw (e, f) at h)
+      by : (m : ℕ) (t : Bool) → eqb (x .mark .kind) kNumber ≡ t → (u : Bool) → eqb (x .mark .kind) kDecimal ≡ u → RestRead decimals s k first count total (lateIn state) now now (rest 0 (from s next m)) r
+      by m true e u f = past-number decimals s k first count total (lateIn state) now now next m x v r (eqb-true _ _ e) (rw e at h)
+      by m false e true f = past-decimal decimals s k first count total (lateIn state) now now next m x v r (eqb-true _ _ f) (rw (e, f) at h)
+      by m false e false f = past-misses decimals s k first count total (lateIn state) now now next m x v r (eqb-false _ _ f) (eqb-false _ _ e) (rw (e, f) at h)

@@ -7,11 +7,11 @@ use mathlib.Core.Option.{Option}
 use lib.Dec.{eqb}
 use lib.ListN.{length, set}
 use Rattle.card.specs.Limits.{mostBranches, numbers, unit}
-use Rattle.card.specs.Refusals.{outOfShape, pastLimit, wrongWeight}
+use Rattle.card.specs.Refusals.{outOfShape, pastLimit, wrongWeight, decimalWeight}
 use Rattle.card.specs.Text.{if_then_else_}
 use Rattle.card.specs.Laid.{packBranch}
 use Rattle.card.specs.Stored.{stored}
-use Rattle.card.specs.Weight.{Weight}
+use Rattle.card.specs.Weight.{Weight, Rule}
 use Rattle.card.specs.Judged.{judgedOf}
 use Rattle.card.specs.declared.weight.Judged.{Judged}
 use Rattle.marks.specs.Kinds.{kNumber, kDecimal, kind}
@@ -26,7 +26,11 @@ use Rattle.late.specs.Late.{Late, blamed, judgeAll}
 use Rattle.late.specs.State.{Sized, lateIn, valueIn, After, Halted}
 use Rattle.parts.specs.Parts.{from, Answers, Went, Due, sign as due, seat, kindsIn, numbersIn, RunFrom}
 
--- ---- a weight: its units, or 0 and a late refusal where it breaks its rule
+-- ---- a weight, by the rule of a weight: its units, or 0 and a late refusal where it is worth nothing
+
+-- a decimal is a late refusal where none may be a weight
+abbrev pub formBy : Rule → ℕ → Late → Late
+formBy decimals p late = blamed (unless decimals decimalWeight) p late
 
 abbrev pub weightBy : Option ℕ → ℕ → Late → Late
 weightBy o p late = blamed (unless (isSome o) wrongWeight) p late
@@ -37,11 +41,11 @@ pub record Weighed (judged : Judged) (p : ℕ) (was is : List ℕ) : Type 0 wher
   pub late : (o : Option ℕ) → judged ≡ judgedOf o → lateIn is ≡ weightBy o p (lateIn was)
   pub sized : Sized is
 
-abbrev pub WeightRead : List ℕ → Late → Place → Result Weight → After → Type 0
-WeightRead s before p = Answers s (λ w. Went s before (unitsIn w) (weight w p ∷ []))
+abbrev pub WeightRead : Rule → List ℕ → Late → Place → Result Weight → After → Type 0
+WeightRead decimals s before p = Answers s (λ w. Went s before (unitsIn w) (weight decimals w p ∷ []))
 
-pub record WeightFrom (s : List ℕ) (i : ℕ) (before : Late) (r : After) : Type 0 where
-  pub answers : (n : ℕ) → WeightRead s before (marksAt 0 s i) (readWeight (from s i n)) r
+pub record WeightFrom (decimals : Rule) (s : List ℕ) (i : ℕ) (before : Late) (r : After) : Type 0 where
+  pub answers : (n : ℕ) → WeightRead decimals s before (marksAt 0 s i) (readWeight (from s i n)) r
   pub sized : Sized (r .state)
 
 -- ---- between a branch's weight and its state
@@ -57,15 +61,15 @@ UpdateFrom s i late r = RunFrom s i (kindsIn updateDue) (numbersIn updateDue) la
 abbrev pub packedIn : BranchShape → ℕ
 packedIn b = packBranch (min (unitsIn (b .weight)) unit) (min (b .end .value) numbers)
 
-pub record Branched (s : List ℕ) (k : ℕ) (before : Late) (was is : List ℕ) (place : ℕ) (b : BranchShape) (state : List ℕ) : Type 0 where
-  pub went : Went s before (unitsIn (b .weight)) (judgedBranch k b) state
+pub record Branched (decimals : Rule) (s : List ℕ) (k : ℕ) (before : Late) (was is : List ℕ) (place : ℕ) (b : BranchShape) (state : List ℕ) : Type 0 where
+  pub went : Went s before (unitsIn (b .weight)) (judgedBranch decimals k b) state
   pub array : is ≡ set was place (packedIn b)
 
-abbrev pub BranchRead : List ℕ → ℕ → Late → List ℕ → List ℕ → ℕ → Result BranchShape → After → Type 0
-BranchRead s k before was is place = Answers s (Branched s k before was is place)
+abbrev pub BranchRead : Rule → List ℕ → ℕ → Late → List ℕ → List ℕ → ℕ → Result BranchShape → After → Type 0
+BranchRead decimals s k before was is place = Answers s (Branched decimals s k before was is place)
 
-pub record BranchFrom (s : List ℕ) (i k : ℕ) (before : Late) (was is : List ℕ) (place : ℕ) (r : After) : Type 0 where
-  pub answers : (n : ℕ) → BranchRead s k before was is place (branch (from s i n)) r
+pub record BranchFrom (decimals : Rule) (s : List ℕ) (i k : ℕ) (before : Late) (was is : List ℕ) (place : ℕ) (r : After) : Type 0 where
+  pub answers : (n : ℕ) → BranchRead decimals s k before was is place (branch (from s i n)) r
   pub sized : Sized (r .state)
 
 -- ---- the branches of a statement, with the `;`
@@ -83,8 +87,8 @@ branches most = do
   sign ";"
   return (record { branches = b ∷ bs; close = p })
 
-abbrev pub judgedBranches : ℕ → BranchesShape → List Judgement
-judgedBranches k x = judgedEach (judgedBranch k) (x .branches) ++ (sum (map weightIn (x .branches)) (x .close) ∷ [])
+abbrev pub judgedBranches : Rule → ℕ → BranchesShape → List Judgement
+judgedBranches decimals k x = judgedEach (judgedBranch decimals k) (x .branches) ++ (sum (map weightIn (x .branches)) (x .close) ∷ [])
 
 -- a sum of units that is not the unit is a late refusal
 abbrev pub sumBy : ℕ → ℕ → Late → Late
@@ -100,13 +104,13 @@ pub record ClosedBy (m : Found) (next count total : ℕ) (late : Late) (r : Afte
 abbrev pub PastBy : Found → After → Type 0
 PastBy m r = Halted (if eqb (m .kind) kNumber || eqb (m .kind) kDecimal then pastLimit else outOfShape) (m .place) r
 
-pub record BranchesIn (s : List ℕ) (k : ℕ) (before : Late) (was is : List ℕ) (first : ℕ) (x : BranchesShape) (state : List ℕ) : Type 0 where
-  pub went : Went s before (length (x .branches)) (judgedBranches k x) state
+pub record BranchesIn (decimals : Rule) (s : List ℕ) (k : ℕ) (before : Late) (was is : List ℕ) (first : ℕ) (x : BranchesShape) (state : List ℕ) : Type 0 where
+  pub went : Went s before (length (x .branches)) (judgedBranches decimals k x) state
   pub array : is ≡ stored was first (map packedIn (x .branches))
 
-abbrev pub BranchesRead : List ℕ → ℕ → Late → List ℕ → List ℕ → ℕ → Result BranchesShape → After → Type 0
-BranchesRead s k before was is first = Answers s (BranchesIn s k before was is first)
+abbrev pub BranchesRead : Rule → List ℕ → ℕ → Late → List ℕ → List ℕ → ℕ → Result BranchesShape → After → Type 0
+BranchesRead decimals s k before was is first = Answers s (BranchesIn decimals s k before was is first)
 
-pub record BranchesFrom (s : List ℕ) (i k : ℕ) (before : Late) (was is : List ℕ) (first : ℕ) (r : After) : Type 0 where
-  pub answers : (n : ℕ) → BranchesRead s k before was is first (branches (mostBranches - 1) (from s i n)) r
+pub record BranchesFrom (decimals : Rule) (s : List ℕ) (i k : ℕ) (before : Late) (was is : List ℕ) (first : ℕ) (r : After) : Type 0 where
+  pub answers : (n : ℕ) → BranchesRead decimals s k before was is first (branches (mostBranches - 1) (from s i n)) r
   pub sized : Sized (r .state)

@@ -2,6 +2,7 @@
 use card::limits::BRANCH_PLACES;
 use card::limits::MOST_BRANCHES;
 use card::node::pack_branch;
+use card::refusals::DECIMAL_WEIGHT;
 use card::refusals::OUT_OF_SHAPE;
 use card::refusals::PAST_LIMIT;
 use card::refusals::WRONG_WEIGHT;
@@ -35,7 +36,7 @@ ghost use mathlib.Core.Path.{_≡_};
 ghost use Prim.Native.Nat.{_+_, _≤_, _<_};
 ghost use Rattle.card.specs.Limits.{mostBranches, branchPlaces};
 ghost use Rattle.late.specs.State.{Sized, lateIn, withLate, after};
-ghost use Rattle.branches.specs.Branches.{sumBy, Weighed, WeightFrom, UpdateFrom, BranchFrom, ClosedBy, PastBy, BranchesFrom};
+ghost use Rattle.branches.specs.Branches.{formBy, sumBy, Weighed, WeightFrom, UpdateFrom, BranchFrom, ClosedBy, PastBy, BranchesFrom};
 
 fn wide(x: u32) -> usize
     ensures { λ r. ⌜ r ≡ x ⌝ }
@@ -59,15 +60,27 @@ fn weighed(judged: Judged, place: usize, state: &mut [usize; STATE])
     }
 }
 
-// A number, two numbers with `/` between, or a decimal; its units become the value.
-fn weight(card: &[u8], at: usize, state: &mut [usize; STATE]) -> usize
+// A decimal is a late refusal where none may be a weight.
+fn judge_form(decimals: bool, place: usize, state: &mut [usize; STATE])
     requires { ⌜ Sized (now state) ⌝ }
-    ensures { λ r. ⌜ WeightFrom (now (card .entry)) at (lateIn (now (state .entry))) (after (now (state .exit)) r) ⌝ }
+    ensures { λ r. ⌜ now (state .exit) ≡ withLate (now (state .entry)) (formBy decimals place (lateIn (now (state .entry)))) ⌝ }
+{
+    if decimals {
+        return;
+    }
+    blame(state, DECIMAL_WEIGHT, place);
+}
+
+// A number, two numbers with `/` between, or a decimal, by the rule of a weight; its units become the value.
+fn weight(card: &[u8], at: usize, decimals: bool, state: &mut [usize; STATE]) -> usize
+    requires { ⌜ Sized (now state) ⌝ }
+    ensures { λ r. ⌜ WeightFrom decimals (now (card .entry)) at (lateIn (now (state .entry))) (after (now (state .exit)) r) ⌝ }
 {
     let step = step_number(card, at);
     let mark = step.mark;
     let next = step.next;
     if mark.kind == DECIMAL {
+        judge_form(decimals, mark.place, state);
         let judged = Weight::decimal(mark.value, mark.digits, mark.further);
         weighed(judged, mark.place, state);
         return next.at;
@@ -114,13 +127,14 @@ fn branch(
     top: usize,
     branches: &mut [u32; BRANCH_PLACES],
     place: usize,
+    decimals: bool,
     state: &mut [usize; STATE],
 ) -> usize
     requires { ⌜ Sized (now state) ⌝ }
     requires { ⌜ place < branchPlaces ⌝ }
-    ensures { λ r. ⌜ BranchFrom (now (card .entry)) at top (lateIn (now (state .entry))) (now (branches .entry)) (now (branches .exit)) place (after (now (state .exit)) r) ⌝ }
+    ensures { λ r. ⌜ BranchFrom decimals (now (card .entry)) at top (lateIn (now (state .entry))) (now (branches .entry)) (now (branches .exit)) place (after (now (state .exit)) r) ⌝ }
 {
-    let weighed = weight(card, at, state);
+    let weighed = weight(card, at, decimals, state);
     if weighed == 0 {
         return 0;
     }
@@ -186,17 +200,18 @@ pub fn branches(
     top: usize,
     array: &mut [u32; BRANCH_PLACES],
     first: usize,
+    decimals: bool,
     state: &mut [usize; STATE],
 ) -> usize
     requires { ⌜ Sized (now state) ⌝ }
     requires { ⌜ first + mostBranches ≤ branchPlaces ⌝ }
-    ensures { λ r. ⌜ BranchesFrom (now (card .entry)) at top (lateIn (now (state .entry))) (now (array .entry)) (now (array .exit)) first (after (now (state .exit)) r) ⌝ }
+    ensures { λ r. ⌜ BranchesFrom decimals (now (card .entry)) at top (lateIn (now (state .entry))) (now (array .entry)) (now (array .exit)) first (after (now (state .exit)) r) ⌝ }
 {
     let mut next = at;
     let mut total = 0;
     let mut count = 0;
     while count < MOST_BRANCHES {
-        let read = branch(card, next, top, array, first + count, state);
+        let read = branch(card, next, top, array, first + count, decimals, state);
         if read == 0 {
             return 0;
         }

@@ -1,7 +1,7 @@
 -- What is proved of weights, nodes and laid cards, for those above to cite; each proof is in the file that its line names. Assumes nothing.
 
--- the units of a weight are those that it is worth, and no more than the rule's unit
-pub use Rattle.card.proofs.Weights.{Sound, units-worth-under, units-most, card-rule, units-worth}
+-- the units of a weight are those that it is worth, and no more than the unit
+pub use Rattle.card.proofs.Weights.{units-most, units-worth}
 -- a node, a leaf and a branch come back from their number, and fit it; in range a packer takes its arguments as they are
 pub use Rattle.card.proofs.Packed.{words, op-back, left-back, right-back, node-fits, HeldLeaf, leaf-op, leaf-fits, leaf-back, leaf-group, leaf-one, branch-fits, branch-back, packed-node, packed-group, packed-one, packed-branch}
 -- the guard at a node, by what stands there

@@ -136,8 +136,7 @@ module _ (units end : ℕ) where
   unfolding packBranch endPart
   end-back h = omega arith
 
-  -- a unit eleven times as large ("Eleven-seat tables need elevenths") would fit too
-  pub branch-fits : units ≤ 11 * unit → end ≤ 10 * numbers → packBranch units end < words
+  pub branch-fits : units ≤ unit → end ≤ numbers → packBranch units end < words
   unfolding packBranch
   branch-fits g h = omega arith
 

@@ -1,4 +1,4 @@
--- The units that a rule computes for a weight are those that the weight is worth under it: each test that passed is a part of `Worth`,
+-- The units that are computed for a weight are those that it is worth: each test that passed is a part of `Worth`,
 -- and a product by a quotient is the quotient of the product wherever the division leaves no rest. Assumes nothing.
 use Prim.Native.Nat.{ℕ, _+_, _-_, _*_, _/_, _%_, _^_, _≤_, _<_, _∣_}
 use mathlib.Core.Path.{_≡_, refl, sym, ap, _∙_}
@@ -10,13 +10,8 @@ use native.Mathlib.Omega.{arith}
 use lib.Dec.{eqb, leb}
 use lib.Pow.{pow-add}
 use borrow.Author.Tests.{leb-true, le-leb, eqb-true, eq-eqb}
-use Rattle.card.specs.Limits.{weightDigits}
-use Rattle.card.specs.Weight.{Weight, whole, decimal, ratio, Rule, cardRule, shifted, Worth, given, unitsOf}
-
--- what a rule needs: a unit, of which each decimal that it allows is a whole number
-pub record Sound (r : Rule) : Type 0 where
-  pub unit : 0 < r .unit
-  pub digits : 10 ^ r .digits ∣ r .unit
+use Rattle.card.specs.Limits.{unit, weightDigits}
+use Rattle.card.specs.Weight.{Weight, whole, decimal, ratio, shifted, Worth, given, unitsOf}
 
 -- ---- tests
 
@@ -46,62 +41,56 @@ tens-least n = one-le-pow n 10 (omega arith)
 powers : (n d : ℕ) → n ≤ d → 10 ^ n ∣ 10 ^ d
 powers n d h = let e : d ≡ n + (d - n) = omega arith in rw (e, pow-add 10 n (d - n)) (dvd-mul-right (10 ^ n) (10 ^ (d - n)))
 
+-- a power of ten within the digits of a weight divides the unit
+divides : (n : ℕ) → n ≤ weightDigits → 10 ^ n ∣ unit
+divides n l = dvd-trans _ (powers n weightDigits l) (dvd-of-mod-eq-zero (10 ^ weightDigits) refl)
+
 -- ---- the two are one
 
-module _ (r : Rule) (s : Sound r) where
-  pub units-worth-under : (w : Weight) (u : ℕ) → unitsOf r w ≡ some u ↔ Worth r w u
-  unfolding unitsOf
-  units-worth-under (whole v) u = (
-    (λ e. let g = given-some _ _ _ e in (leb-true v 1 (g .0), g .1)),
-    (λ k. rw (le-leb v 1 (k .0), k .1)),
-  )
-  units-worth-under (decimal v n f) u =
-      let divides : n ≤ r .digits → 10 ^ n ∣ r .unit = λ l. dvd-trans _ (powers n (r .digits) l) (s .digits) in (
-        (λ e. let g = given-some _ _ _ e in
-            let t = both _ _ (g .0) in
-            let t′ = both _ _ (t .0) in
-            let l = leb-true n (r .digits) (t′ .1) in (
-              leb-true 1 n (t′ .0),
-              l,
-              leb-true (shifted v n f) (10 ^ n) (t .1),
-              quotient (shifted v n f) (10 ^ n) (r .unit) u (tens-least n) (divides l) .0 (g .1),
-            )),
-        (λ k. rw (le-leb 1 n (k .0), le-leb n (r .digits) (k .1), le-leb (shifted v n f) (10 ^ n) (k .2))
-            (ap some (sym (quotient (shifted v n f) (10 ^ n) (r .unit) u (tens-least n) (divides (k .1)) .1 (k .3))))),
-      )
-  units-worth-under (ratio a b) u = (
-    (λ e. let g = given-some _ _ _ e in
-        let t = both _ _ (g .0) in
-        let t′ = both _ _ (t .0) in
-        let d = dvd-of-mod-eq-zero b (eqb-true (r .unit % b) 0 (t′ .1)) in
-        (d, leb-true a b (t .1), quotient a b (r .unit) u (leb-true 1 b (t′ .0)) d .0 (g .1))),
-    (λ k. let p = pos-of-dvd-of-pos (k .0) (s .unit) in
-        rw (le-leb 1 b p, eq-eqb (r .unit % b) 0 (mod-eq-zero-of-dvd b (k .0)), le-leb a b (k .1))
-        (ap some (sym (quotient a b (r .unit) u p (k .0) .1 (k .2))))),
-  )
+pub units-worth : (w : Weight) (u : ℕ) → unitsOf w ≡ some u ↔ Worth w u
+unfolding unitsOf
+units-worth (whole v) u = (
+  (λ e. let g = given-some _ _ _ e in (leb-true v 1 (g .0), g .1)),
+  (λ k. rw (le-leb v 1 (k .0), k .1)),
+)
+units-worth (decimal v n f) u = (
+  (λ e. let g = given-some _ _ _ e in
+      let t = both _ _ (g .0) in
+      let t′ = both _ _ (t .0) in
+      let l = leb-true n weightDigits (t′ .1) in (
+        leb-true 1 n (t′ .0),
+        l,
+        leb-true (shifted v n f) (10 ^ n) (t .1),
+        quotient (shifted v n f) (10 ^ n) unit u (tens-least n) (divides n l) .0 (g .1),
+      )),
+  (λ k. rw (le-leb 1 n (k .0), le-leb n weightDigits (k .1), le-leb (shifted v n f) (10 ^ n) (k .2))
+      (ap some (sym (quotient (shifted v n f) (10 ^ n) unit u (tens-least n) (divides n (k .1)) .1 (k .3))))),
+)
+units-worth (ratio a b) u = (
+  (λ e. let g = given-some _ _ _ e in
+      let t = both _ _ (g .0) in
+      let t′ = both _ _ (t .0) in
+      let d = dvd-of-mod-eq-zero b (eqb-true (unit % b) 0 (t′ .1)) in
+      (d, leb-true a b (t .1), quotient a b unit u (leb-true 1 b (t′ .0)) d .0 (g .1))),
+  (λ k. let p = pos-of-dvd-of-pos (k .0) (omega arith) in
+      rw (le-leb 1 b p, eq-eqb (unit % b) 0 (mod-eq-zero-of-dvd b (k .0)), le-leb a b (k .1))
+      (ap some (sym (quotient a b unit u p (k .0) .1 (k .2))))),
+)
 
 -- no weight is worth more than 1
-pub units-most : (r : Rule) (w : Weight) (u : ℕ) → unitsOf r w ≡ some u → u ≤ r .unit
+pub units-most : (w : Weight) (u : ℕ) → unitsOf w ≡ some u → u ≤ unit
 unfolding unitsOf
-units-most r (whole v) u e =
+units-most (whole v) u e =
     let g = given-some _ _ _ e in
-    rw (g .1) (rw (one-mul (r .unit)) at (mul-le-mul-right (r .unit) (leb-true v 1 (g .0))))
-units-most r (decimal v n f) u e =
+    rw (g .1) (rw (one-mul unit) at (mul-le-mul-right unit (leb-true v 1 (g .0))))
+units-most (decimal v n f) u e =
     let g = given-some _ _ _ e in
-    let t = both (leb 1 n && leb n (r .digits)) (leb (shifted v n f) (10 ^ n)) (g .0) in
-    rw (g .1) (quotient-most (shifted v n f) (10 ^ n) (r .unit) (leb-true (shifted v n f) (10 ^ n) (t .1)))
-units-most r (ratio a b) u e =
+    let t = both (leb 1 n && leb n weightDigits) (leb (shifted v n f) (10 ^ n)) (g .0) in
+    rw (g .1) (quotient-most (shifted v n f) (10 ^ n) unit (leb-true (shifted v n f) (10 ^ n) (t .1)))
+units-most (ratio a b) u e =
     let g = given-some _ _ _ e in
-    let t = both (leb 1 b && eqb (r .unit % b) 0) (leb a b) (g .0) in
-    rw (g .1) (quotient-most a b (r .unit) (leb-true a b (t .1)))
-
--- ---- for the rule of cards
+    let t = both (leb 1 b && eqb (unit % b) 0) (leb a b) (g .0) in
+    rw (g .1) (quotient-most a b unit (leb-true a b (t .1)))
 
 pub tens-most : (n : ℕ) → n ≤ weightDigits → 10 ^ n ≤ 10 ^ weightDigits
 tens-most n h = pow-le-pow-right (omega arith) h
-
-pub card-rule : Sound cardRule
-card-rule = record { unit = omega arith; digits = dvd-of-mod-eq-zero (10 ^ weightDigits) refl }
-
-pub units-worth : (w : Weight) (u : ℕ) → unitsOf cardRule w ≡ some u ↔ Worth cardRule w u
-units-worth = units-worth-under cardRule card-rule

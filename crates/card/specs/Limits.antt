@@ -32,10 +32,10 @@ mostDepth = 8
 
 -- digits of a number, of the fraction of a decimal, and of the number in a seat or module word
 abbrev pub numberDigits : ℕ
-numberDigits = 5
+numberDigits = 6
 
 abbrev pub furtherDigits : ℕ
-furtherDigits = 5
+furtherDigits = 6
 
 abbrev pub wordDigits : ℕ
 wordDigits = 5
@@ -46,7 +46,7 @@ numbers = 10 ^ numberDigits
 
 -- a weight of 1, in units; digits that the fraction of a decimal weight may have
 abbrev pub unit : ℕ
-unit = 25200
+unit = 277200
 
 abbrev pub weightDigits : ℕ
 weightDigits = 2

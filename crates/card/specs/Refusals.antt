@@ -39,3 +39,6 @@ noLiveCard = 12
 
 abbrev pub wrongClasses : ℕ
 wrongClasses = 13
+
+abbrev pub decimalWeight : ℕ
+decimalWeight = 17

@@ -16,16 +16,16 @@ pub const MOST_NODES: usize = 32;
 
 pub const MOST_DEPTH: usize = 8;
 
-pub const NUMBER_DIGITS: usize = 5;
+pub const NUMBER_DIGITS: usize = 6;
 
-pub const FURTHER_DIGITS: usize = 5;
+pub const FURTHER_DIGITS: usize = 6;
 
 pub const WORD_DIGITS: usize = 5;
 
 pub const WEIGHT_DIGITS: usize = 2;
 
 // a number of NUMBER_DIGITS digits is below this
-pub const NUMBERS: usize = 100_000;
+pub const NUMBERS: usize = 1_000_000;
 
 pub const NODE_PLACES: usize = MOST_STATEMENTS * MOST_NODES;
 

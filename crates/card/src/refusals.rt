@@ -25,3 +25,5 @@ pub const MALFORMED_DECK: u8 = 11;
 pub const NO_LIVE_CARD: u8 = 12;
 
 pub const WRONG_CLASSES: u8 = 13;
+
+pub const DECIMAL_WEIGHT: u8 = 17;

@@ -4,7 +4,7 @@ use crate::limits::WEIGHT_DIGITS;
 ghost use mathlib.Core.Path.{_≡_};
 ghost use Prim.Native.Nat.{_^_, min};
 ghost use Rattle.card.specs.Limits.{weightDigits};
-ghost use Rattle.card.specs.Weight.{unitsOf, cardRule, whole as wholeWeight, decimal as decimalWeight, ratio as ratioWeight};
+ghost use Rattle.card.specs.Weight.{unitsOf, whole as wholeWeight, decimal as decimalWeight, ratio as ratioWeight};
 ghost use Rattle.card.specs.Judged.{judgedOf};
 
 pub struct Weight {
@@ -33,11 +33,14 @@ fn parts(n: usize) -> usize
 }
 
 impl Weight {
-    pub const UNIT: u32 = 25_200;
+    pub const UNIT: u32 = 277_200;
+
+    // the rule of a weight, by which every entry reads: may a decimal be one?
+    pub const DECIMALS: bool = true;
 
     // a number alone
     pub fn whole(v: usize) -> Judged
-        ensures { λ r. ⌜ r ≡ judgedOf (unitsOf cardRule (wholeWeight v)) ⌝ }
+        ensures { λ r. ⌜ r ≡ judgedOf (unitsOf (wholeWeight v)) ⌝ }
     {
         if v > 1 {
             return Judged::Broken;
@@ -50,7 +53,7 @@ impl Weight {
 
     // v before the point and n digits behind it, which spell f
     pub fn decimal(v: usize, n: usize, f: usize) -> Judged
-        ensures { λ r. ⌜ r ≡ judgedOf (unitsOf cardRule (decimalWeight v n f)) ⌝ }
+        ensures { λ r. ⌜ r ≡ judgedOf (unitsOf (decimalWeight v n f)) ⌝ }
     {
         if n < 1 {
             return Judged::Broken;
@@ -77,7 +80,7 @@ impl Weight {
 
     // a/b
     pub fn ratio(a: usize, b: usize) -> Judged
-        ensures { λ r. ⌜ r ≡ judgedOf (unitsOf cardRule (ratioWeight a b)) ⌝ }
+        ensures { λ r. ⌜ r ≡ judgedOf (unitsOf (ratioWeight a b)) ⌝ }
     {
         let unit = Weight::UNIT as usize;
         if b == 0 {

@@ -1,7 +1,7 @@
 -- The marked edges: each by computing its definition. Assumes nothing.
 use mathlib.Core.Path.{refl}
 use Rattle.card.specs.Weight.{unitsOf}
-use Rattle.reading.specs.Reading.{readOf}
+use Rattle.reading.specs.Reading.{readUnder}
 use Rattle.room.specs.Digits.{decimal}
 use Rattle.meaning.specs.Panel.{panel}
 use Rattle.lines.specs.PanelText.{panelOf}
@@ -9,10 +9,10 @@ use Rattle.meaning.specs.CardA.{cardA}
 use Rattle.counting.specs.Judged.{judgedSeats, judgedFrom}
 use Rattle.panel.specs.PanelSaid.{panelSaid}
 use Rattle.program.specs.Program.{programOf, answerTo, seatsLine, cardBehind}
-use Rattle.edges.specs.Edges.{Edges, MarkEdges, RunEdges, Printing}
+use Rattle.edges.specs.Edges.{Edges, MarkEdges, RunEdges, UnitEdges, Printing}
 
 pub edges : Edges
-unfolding panelOf panel cardA decimal unitsOf readOf
+unfolding panelOf panel cardA decimal unitsOf readUnder
 edges = record {
   at-001 = refl;
   at-100 = refl;
@@ -21,17 +21,17 @@ edges = record {
   at-000 = refl;
   nondeterministic-001 = (refl, refl);
   seventh = refl;
-  eleventh = refl;
+  eleventh = (refl, refl);
   two-seats = (refl, refl);
   further-digits = (refl, refl);
   any-order = (refl, refl);
 }
 
 pub mark-edges : MarkEdges
-mark-edges = record { range = refl; decimals = refl; words = refl; comments = refl; classes = refl; zero-in-front = refl; six-digits = (refl, refl); lone-point = refl }
+mark-edges = record { range = refl; decimals = refl; words = refl; comments = refl; classes = refl; zero-in-front = refl; seven-digits = (refl, refl); lone-point = refl }
 
 pub run-edges : RunEdges
-unfolding decimal unitsOf readOf
+unfolding decimal unitsOf readUnder
 run-edges = record {
   ends-early = (refl, refl);
   modules-16 = refl;
@@ -47,6 +47,18 @@ run-edges = record {
   other-word = refl;
 }
 
+pub unit-edges : UnitEdges
+unfolding unitsOf readUnder
+unit-edges = record {
+  whole-unit = refl;
+  old-unit = refl;
+  six-digits = (refl, refl);
+  seven-digits = (refl, refl);
+  further-digits = (refl, refl);
+  words = (refl, refl);
+  retired = (refl, refl, refl, refl);
+}
+
 pub printing : Printing
-unfolding programOf answerTo seatsLine cardBehind panelSaid judgedSeats judgedFrom readOf panelOf panel cardA decimal unitsOf
+unfolding programOf answerTo seatsLine cardBehind panelSaid judgedSeats judgedFrom readUnder panelOf panel cardA decimal unitsOf
 printing = record { card-a = refl; no-card = refl }

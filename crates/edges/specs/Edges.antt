@@ -1,14 +1,16 @@
--- The marked edges of "Both sides of the edge", as one list in document 01's order; 012 as document 02 (2026-03) changes it. The panels stand here as
+-- The marked edges of "Both sides of the edge", as one list in document 01's order; 012 as document 02 (2026-03) changes it, weights, digits and 1/11 as
+-- 2026-06 does. The panels stand here as
 -- whole texts. Assumes nothing.
 use Prim.Native.Nat.{ℕ, zero, suc}
 use Prim.Native.String.{String}
 use mathlib.Core.Path.{_≡_}
+use mathlib.Core.Bool.{false}
 use mathlib.Core.List.{List, [], _∷_, _++_}
 use mathlib.Core.Option.{Option, none, some}
 use Rattle.card.specs.Text.{bytes}
 use Rattle.card.specs.Card.{Mode, nondeterministic, probabilistic, others, all, any, is, group, atom, neg, Guard, Branch}
 use Rattle.marks.specs.Marks.{text, seat, process, number, decimal, outside, Placed, placed, marksOf}
-use Rattle.reading.specs.Reading.{Outcome, taken, refused, firstOutside, readOf}
+use Rattle.reading.specs.Reading.{Outcome, taken, refused, firstOutside, readUnder, readOf}
 use Rattle.room.specs.Digits.{decimal as digitsOf}
 use Rattle.meaning.specs.CardA.{cardA}
 use Rattle.lines.specs.PanelText.{panelOf}
@@ -28,7 +30,7 @@ abbrev pub at : Mode → ℕ → ℕ → ℕ → List ℕ
 at mode a b c = panelOf (cardA mode) (a ∷ b ∷ c ∷ [])
 
 abbrev pub asAbove : List ℕ
-asAbove = bytes "probabilistic\nseats 3 enabled 3\ncounts 2 1 0\nstay 18900\nmove 0 1 25200\nmove 0 2 25200\nmove 1 2 6300\n"
+asAbove = bytes "probabilistic\nseats 3 enabled 3\ncounts 2 1 0\nstay 207900\nmove 0 1 277200\nmove 0 2 277200\nmove 1 2 69300\n"
 
 -- ---- a card of one statement
 
@@ -54,26 +56,27 @@ pub record Edges : Type 0 where
   pub at-001 : at probabilistic 0 0 1 ≡ asAbove
   pub at-100 : at probabilistic 1 0 0 ≡ asAbove
   -- nothing can be taken, in either mode
-  pub at-012 : (at probabilistic 0 1 2 ≡ bytes "probabilistic\nseats 3 enabled 1\ncounts 1 1 1\nstay 25200\n")
-      × (at nondeterministic 0 1 2 ≡ bytes "nondeterministic\nseats 3 enabled 1\ncounts 1 1 1\nchoice 0\nstay 25200\n")
-  pub at-011 : at probabilistic 0 1 1 ≡ bytes "probabilistic\nseats 3 enabled 2\ncounts 1 2 0\nstay 37800\nmove 1 2 12600\n"
-  pub at-000 : at probabilistic 0 0 0 ≡ bytes "probabilistic\nseats 3 enabled 3\ncounts 3 0 0\nmove 0 1 37800\nmove 0 2 37800\n"
+  pub at-012 : (at probabilistic 0 1 2 ≡ bytes "probabilistic\nseats 3 enabled 1\ncounts 1 1 1\nstay 277200\n")
+      × (at nondeterministic 0 1 2 ≡ bytes "nondeterministic\nseats 3 enabled 1\ncounts 1 1 1\nchoice 0\nstay 277200\n")
+  pub at-011 : at probabilistic 0 1 1 ≡ bytes "probabilistic\nseats 3 enabled 2\ncounts 1 2 0\nstay 415800\nmove 1 2 138600\n"
+  pub at-000 : at probabilistic 0 0 0 ≡ bytes "probabilistic\nseats 3 enabled 3\ncounts 3 0 0\nmove 0 1 415800\nmove 0 2 415800\n"
   -- the same card as nondeterministic: its bytes read as it, and its panel
   pub nondeterministic-001 : (readOf (textA nondeterministic) ≡ taken (cardA nondeterministic))
       × (at nondeterministic 0 0 1
-      ≡ bytes "nondeterministic\nseats 3 enabled 2\ncounts 2 1 0\nchoice 1\nmove 0 1 12600\nmove 0 2 12600\nchoice 2\nstay 18900\nmove 1 2 6300\n")
+      ≡ bytes "nondeterministic\nseats 3 enabled 2\ncounts 2 1 0\nchoice 1\nmove 0 1 138600\nmove 0 2 138600\nchoice 2\nstay 207900\nmove 1 2 69300\n")
   -- 1/7
-  pub seventh : readOf (head ++ bytes " -> 1/7:(s1'=1) + 6/7:(s1'=2);\nendmodule\n") ≡ reads 1 none (to 3600 1 ∷ to 21600 2 ∷ [])
-  -- 1/11, at its place
-  pub eleventh : readOf (head ++ bytes " -> 1/11:(s1'=1) + 10/11:(s1'=2);\nendmodule\n") ≡ refused 7 61
+  pub seventh : readOf (head ++ bytes " -> 1/7:(s1'=1) + 6/7:(s1'=2);\nendmodule\n") ≡ reads 1 none (to 39600 1 ∷ to 237600 2 ∷ [])
+  -- 1/11; and 1/13, at its place
+  pub eleventh : (readOf (head ++ bytes " -> 1/11:(s1'=1) + 10/11:(s1'=2);\nendmodule\n") ≡ reads 1 none (to 25200 1 ∷ to 252000 2 ∷ []))
+      × (readOf (head ++ bytes " -> 1/13:(s1'=1) + 12/13:(s1'=2);\nendmodule\n") ≡ refused 7 61)
   -- (s2=0) with two seats, and (s1=0)
-  pub two-seats : (readOf (head ++ bytes " & (s2=0) -> 1:(s1'=1);\n" ++ two) ≡ reads 2 (some (atom (group others all is 0))) (to 25200 1 ∷ []))
+  pub two-seats : (readOf (head ++ bytes " & (s2=0) -> 1:(s1'=1);\n" ++ two) ≡ reads 2 (some (atom (group others all is 0))) (to 277200 1 ∷ []))
       × (readOf (head ++ bytes " & (s1=0) -> 1:(s1'=1);\n" ++ two) ≡ refused 6 60)
   -- 0.005, and 0.05
   pub further-digits : (readOf (head ++ bytes " -> 0.005:(s1'=1) + 0.995:(s1'=2);\nendmodule\n") ≡ refused 7 61)
-      × (readOf (head ++ bytes " -> 0.05:(s1'=1) + 0.95:(s1'=2);\nendmodule\n") ≡ reads 1 none (to 1260 1 ∷ to 23940 2 ∷ []))
+      × (readOf (head ++ bytes " -> 0.05:(s1'=1) + 0.95:(s1'=2);\nendmodule\n") ≡ reads 1 none (to 13860 1 ∷ to 263340 2 ∷ []))
   -- (s3=0 | s2=0), and the group of card A
-  pub any-order : (readOf (head ++ bytes " & (s3=0 | s2=0) -> 1:(s1'=1);\n" ++ three) ≡ reads 3 (some (atom (group others any is 0))) (to 25200 1 ∷ []))
+  pub any-order : (readOf (head ++ bytes " & (s3=0 | s2=0) -> 1:(s1'=1);\n" ++ three) ≡ reads 3 (some (atom (group others any is 0))) (to 277200 1 ∷ []))
       × (readOf (textA probabilistic) ≡ taken (cardA probabilistic))
 
 -- ---- edges that document 01 has run, and its last slip
@@ -92,24 +95,24 @@ textAt t p = placed (text (bytes t)) p
 pub record MarkEdges : Type 0 where
   -- the `0.` of a range is no decimal
   pub range : marksOf (bytes "[0..2]") ≡ textAt "[" 0 ∷ placed (number 0) 1 ∷ textAt ".." 2 ∷ placed (number 2) 4 ∷ textAt "]" 5 ∷ []
-  pub decimals : marksOf (bytes "0.25 12345.12345") ≡ placed (decimal 0 2 25) 0 ∷ placed (decimal 12345 5 12345) 5 ∷ []
+  pub decimals : marksOf (bytes "0.25 123456.123456") ≡ placed (decimal 0 2 25) 0 ∷ placed (decimal 123456 6 123456) 5 ∷ []
   pub words : marksOf (bytes "s1 s01 s123456 process2 init0 init") ≡ placed (seat 1) 0 ∷ textAt "s01" 3 ∷ textAt "s123456" 7 ∷ placed (process 2) 15 ∷ textAt "init0" 24 ∷ textAt "init" 30 ∷ []
   pub comments : marksOf (bytes "1//2\n!=!->") ≡ placed (number 1) 0 ∷ textAt "!=" 5 ∷ textAt "!" 7 ∷ textAt "->" 8 ∷ []
   -- tab, CR and LF separate; capital letters are letters, and `_` goes on a word; `_` alone, and the bytes beside the letters, are outside the rules
   pub classes : marksOf (bytes "\tAZ\raz\nA_9_ _@`{") ≡ textAt "AZ" 1 ∷ textAt "az" 4 ∷ textAt "A_9_" 7 ∷ placed outside 12 ∷ placed outside 13 ∷ placed outside 14 ∷ placed outside 15 ∷ []
   -- a zero in front, too many digits, a point without a digit behind it
   pub zero-in-front : firstOutside (marksOf (bytes "1 007")) ≡ some 2
-  pub six-digits : (firstOutside (marksOf (bytes "123456")) ≡ some 0) × (firstOutside (marksOf (bytes "0.123456")) ≡ some 0)
+  pub seven-digits : (firstOutside (marksOf (bytes "1234567")) ≡ some 0) × (firstOutside (marksOf (bytes "0.1234567")) ≡ some 0)
   pub lone-point : firstOutside (marksOf (bytes "1.")) ≡ some 1
 
 pub record RunEdges : Type 0 where
   -- a card that ends early, at its length: with no byte, and behind a comment
   pub ends-early : (readOf [] ≡ refused 3 0) × (readOf (head ++ bytes " -> 1:(s1'=1);  // no more") ≡ refused 3 83)
-  pub modules-16 : readOf (head ++ bytes " -> 1:(s1'=1);\nendmodule\n" ++ modulesFrom 2 15) ≡ reads 16 none (to 25200 1 ∷ [])
+  pub modules-16 : readOf (head ++ bytes " -> 1:(s1'=1);\nendmodule\n" ++ modulesFrom 2 15) ≡ reads 16 none (to 277200 1 ∷ [])
   pub modules-17 : readOf (head ++ bytes " -> 1:(s1'=1);\nendmodule\n" ++ modulesFrom 2 16) ≡ refused 4 883
   -- k is 7, and the card ends early; k is 8
   pub top-states : (readOf (bytes "probabilistic module process1 s1 : [0..7") ≡ refused 3 40) × (readOf (bytes "probabilistic module process1 s1 : [0..8") ≡ refused 4 39)
-  pub depth-8 : readOf (head ++ bytes " & !!!!!!!!(s2=0) -> 1:(s1'=1);\n" ++ two) ≡ reads 2 (some (neg (neg (neg (neg (neg (neg (neg (neg (atom (group others all is 0))))))))))) (to 25200 1 ∷ [])
+  pub depth-8 : readOf (head ++ bytes " & !!!!!!!!(s2=0) -> 1:(s1'=1);\n" ++ two) ≡ reads 2 (some (neg (neg (neg (neg (neg (neg (neg (neg (atom (group others all is 0))))))))))) (to 277200 1 ∷ [])
   pub depth-9 : readOf (head ++ bytes " & !!!!!!!!!(s2=0) -> 1:(s1'=1);\n" ++ two) ≡ refused 4 68
   -- `|` behind the local guard fits nowhere
   pub bar : readOf (head ++ bytes " & (s2=0) | (s2=1) -> 1:(s1'=1);\n" ++ two) ≡ refused 3 67
@@ -126,6 +129,24 @@ pub record RunEdges : Type 0 where
   pub outside-first : readOf (bytes "module ?") ≡ refused 2 7
   -- a seat word that is not the one due
   pub other-word : readOf (head ++ bytes " -> 1:(s1'=1);\nendmodule\nmodule process2 = process1 [s1=s2, s9=s5] endmodule\n") ≡ refused 6 117
+
+-- the edges of document 02, 2026-06: what six digits may be, and where a decimal may be no weight
+pub record UnitEdges : Type 0 where
+  -- a number of six digits is a weight only in a fraction: of the unit, in lowest terms or not; seven digits are none
+  pub whole-unit : readOf (head ++ bytes " -> 100000/277200:(s1'=1) + 177200/277200:(s1'=2);\nendmodule\n") ≡ reads 1 none (to 100000 1 ∷ to 177200 2 ∷ [])
+  pub old-unit : readOf (head ++ bytes " -> 1/25200:(s1'=1) + 25199/25200:(s1'=2);\nendmodule\n") ≡ reads 1 none (to 11 1 ∷ to 277189 2 ∷ [])
+  pub six-digits : (readOf (head ++ bytes " -> 123456:(s1'=1);\nendmodule\n") ≡ refused 7 61) × (readOf (head ++ bytes " -> 1:(s1'=123456);\nendmodule\n") ≡ refused 5 68)
+  pub seven-digits : (readOf (head ++ bytes " -> 1/2772000:(s1'=1);\nendmodule\n") ≡ refused 2 63) × (readOf (head ++ bytes " -> 1:(s1'=1234567);\nendmodule\n") ≡ refused 2 68)
+  -- six further digits are a decimal, which is no weight; seven are none
+  pub further-digits : (readOf (head ++ bytes " -> 0.500000:(s1'=1) + 1/2:(s1'=2);\nendmodule\n") ≡ refused 7 61)
+      × (readOf (head ++ bytes " -> 0.5000000:(s1'=1) + 1/2:(s1'=2);\nendmodule\n") ≡ refused 2 61)
+  -- a seat word has five digits at most
+  pub words : (readOf (head ++ bytes " -> 1:(s12345'=1);\nendmodule\n") ≡ refused 6 64) × (readOf (head ++ bytes " -> 1:(s123456'=1);\nendmodule\n") ≡ refused 3 64)
+  -- by a rule that takes no decimals, right or wrong in value: 17 at its place, among 5, 6 and 7
+  pub retired : (readUnder false (head ++ bytes " -> 0.5:(s1'=1) + 0.50:(s1'=2);\nendmodule\n") ≡ refused 17 61)
+      × (readUnder false (head ++ bytes " -> 1/2:(s1'=1) + 0.005:(s1'=2);\nendmodule\n") ≡ refused 17 75)
+      × (readUnder false (head ++ bytes " -> 1/13:(s1'=1) + 0.5:(s1'=2);\nendmodule\n") ≡ refused 7 61)
+      × (readUnder false (head ++ bytes " -> 1/2:(s1'=1) + 1/2:(s1'=2);\nendmodule\n") ≡ reads 1 none (to 138600 1 ∷ to 138600 2 ∷ []))
 
 -- what the program prints, whole: for `001` and card A, and for a line without LF
 pub record Printing : Type 0 where

@@ -6,7 +6,7 @@ use mathlib.Core.List.{List, [], _∷_, _++_, append-assoc, map}
 use mathlib.Core.Option.{Option}
 use native.Mathlib.Omega.{arith}
 use Rattle.card.specs.Card.{Sign, all, any, Formula}
-use Rattle.card.specs.Weight.{Weight}
+use Rattle.card.specs.Weight.{Weight, Rule}
 use Rattle.card.specs.Valid.{Every}
 use Rattle.marks.specs.Marks.{seat, process, number, decimal, Placed, placed, placeOf}
 use Rattle.reading.specs.Reader.{Place, Numbered, Item}
@@ -149,20 +149,20 @@ rest-along most (guarded {a} {ms} {r} {g} u) = along-behind strictly placeIn (si
 
 -- ---- branches
 
-weight-along : {ms r : Place} {w : Weight} → WeightSaid ms w r → Judging ms (weight w ms ∷ []) r
-weight-along (aNumber {v} {a} {r}) = ([], placed (number v) a, r, refl, refl, along-none strictly placeIn r)
-weight-along (aRatio {v} {w} {a} {b} {c} {r}) = ([], placed (number v) a, signAt "/" b ∷ placed (number w) c ∷ r, refl, refl, (signAt "/" b ∷ placed (number w) c ∷ [], refl))
-weight-along (aDecimal {v} {n} {f} {a} {r}) = ([], placed (decimal v n f) a, r, refl, refl, along-none strictly placeIn r)
+weight-along : (decimals : Rule) {ms r : Place} {w : Weight} → WeightSaid ms w r → Judging ms (weight decimals w ms ∷ []) r
+weight-along decimals (aNumber {v} {a} {r}) = ([], placed (number v) a, r, refl, refl, along-none strictly placeIn r)
+weight-along decimals (aRatio {v} {w} {a} {b} {c} {r}) = ([], placed (number v) a, signAt "/" b ∷ placed (number w) c ∷ r, refl, refl, (signAt "/" b ∷ placed (number w) c ∷ [], refl))
+weight-along decimals (aDecimal {v} {n} {f} {a} {r}) = ([], placed (decimal v n f) a, r, refl, refl, along-none strictly placeIn r)
 
-pub branch-along : (most : ℕ) {ms r : Place} {x : BranchShape} → BranchSaid ms x r → Judging ms (judgedBranch most x) r
-branch-along most (branch {t} {a} {b} {ms} {ns} {r} {w} {ws} d l) =
+pub branch-along : (decimals : Rule) (most : ℕ) {ms r : Place} {x : BranchShape} → BranchSaid ms x r → Judging ms (judgedBranch decimals most x) r
+branch-along decimals most (branch {t} {a} {b} {ms} {ns} {r} {w} {ws} d l) =
     let end = placed (number t) a ∷ signAt ")" b ∷ r in
-    along-then strictly placeIn ms ns r (weight w ms ∷ []) (judgedWords (1 ∷ []) ws ++ (state most t end ∷ [])) (weight-along d)
+    along-then strictly placeIn ms ns r (weight decimals w ms ∷ []) (judgedWords (1 ∷ []) ws ++ (state most t end ∷ [])) (weight-along decimals d)
     (along-then strictly placeIn ns end r (judgedWords (1 ∷ []) ws) (state most t end ∷ []) (line-along l (1 ∷ []))
     (along-at placeIn (placed (number t) a) (signAt ")" b ∷ r) r (state most t end) [] refl (along-behind strictly placeIn (signAt ")" b) r r [] (along-none strictly placeIn r))))
 
-plus-along : (most : ℕ) (ms r : Place) (x : BranchShape) → PlusSaid ms x r → Judging ms (judgedBranch most x) r
-plus-along most ms r x (plus {a} {ms = ns} d) = along-behind strictly placeIn (signAt "+" a) ns r (judgedBranch most x) (branch-along most d)
+plus-along : (decimals : Rule) (most : ℕ) (ms r : Place) (x : BranchShape) → PlusSaid ms x r → Judging ms (judgedBranch decimals most x) r
+plus-along decimals most ms r x (plus {a} {ms = ns} d) = along-behind strictly placeIn (signAt "+" a) ns r (judgedBranch decimals most x) (branch-along decimals most d)
 
 many-along : {A : Type 0} {One : Said A} (f : A → List Judgement) → ((ms r : Place) (x : A) → One ms x r → Judging ms (f x) r)
     → {ms r : Place} {xs : List A} → ManySaid One ms xs r → Judging ms (judgedEach f xs) r
@@ -171,18 +171,18 @@ many-along f h (again {ms} {ns} {r} {x} {xs} d ds) = along-then strictly placeIn
 
 -- ---- statements and the card
 
-statement-along : (most : ℕ) (ms r : Place) (x : StatementShape) → StatementSaid ms x r → Judging ms (judgedStatement most x) r
-statement-along most ms r x (statement {j} {a} {b} {c} {ns = ns} {os} {qs} {ws = ws} {g} {x = y} {xs = ys} l u d ds) =
+statement-along : (decimals : Rule) (most : ℕ) (ms r : Place) (x : StatementShape) → StatementSaid ms x r → Judging ms (judgedStatement decimals most x) r
+statement-along decimals most ms r x (statement {j} {a} {b} {c} {ns = ns} {os} {qs} {ws = ws} {g} {x = y} {xs = ys} l u d ds) =
     let own = placed (number j) a ∷ ns in
     let end = signAt ";" c ∷ r in
     let total : List Judgement = sum (map weightIn (y ∷ ys)) end ∷ [] in
-    let moves = judgedEach (judgedBranch most) (y ∷ ys) ++ total in
+    let moves = judgedEach (judgedBranch decimals most) (y ∷ ys) ++ total in
     along-then strictly placeIn ms own r (judgedWords (1 ∷ []) ws) (state most j own ∷ (judgedOr most g ++ moves)) (line-along l (1 ∷ []))
     (along-at placeIn (placed (number j) a) ns r (state most j own) (judgedOr most g ++ moves) refl
     (along-then strictly placeIn ns (signAt "->" b ∷ os) r (judgedOr most g) moves (rest-along most u)
     (along-behind strictly placeIn (signAt "->" b) os r moves
-    (along-then strictly placeIn os end r (judgedEach (judgedBranch most) (y ∷ ys)) total
-    (along-then strictly placeIn os qs end (judgedBranch most y) (judgedEach (judgedBranch most) ys) (branch-along most d) (many-along (judgedBranch most) (plus-along most) ds))
+    (along-then strictly placeIn os end r (judgedEach (judgedBranch decimals most) (y ∷ ys)) total
+    (along-then strictly placeIn os qs end (judgedBranch decimals most y) (judgedEach (judgedBranch decimals most) ys) (branch-along decimals most d) (many-along (judgedBranch decimals most) (plus-along decimals most) ds))
     (along-at placeIn (signAt ";" c) r r (sum (map weightIn (y ∷ ys)) end) [] refl (along-none strictly placeIn r))))))
 
 modules-along : {ms r : Place} {ys : List (List Numbered)} (i : ℕ) → ManySaid (LineSaid moduleRun) ms ys r → Judging ms (judgedModules i ys) r
@@ -190,20 +190,20 @@ modules-along i (done {r}) = along-none strictly placeIn r
 modules-along i (again {ms} {ns} {r} {x = y} {xs = ys} d ds) =
     along-then strictly placeIn ms ns r (judgedWords (moduleDues i) y) (judgedModules (suc i) ys) (line-along d (moduleDues i)) (modules-along (suc i) ds)
 
-pub card-along : {ms : Place} {c : CardShape} → CardSaid ms c → Judging ms (judgedCard c) []
-card-along (card {mode} {k} {l} {a} {b} {c} {d} {e} {f} {g} {h} {i} {ms} {ns} {os} {qs} {ws} {x} {xs} {ys} w s ss t) =
+pub card-along : (decimals : Rule) {ms : Place} {c : CardShape} → CardSaid ms c → Judging ms (judgedCard decimals c) []
+card-along decimals (card {mode} {k} {l} {a} {b} {c} {d} {e} {f} {g} {h} {i} {ms} {ns} {os} {qs} {ws} {x} {xs} {ys} w s ss t) =
     let start = placed (number l) g ∷ signAt ";" h ∷ ns in
     let top = placed (number 0) b ∷ signAt ".." c ∷ placed (number k) d ∷ signAt "]" e ∷ signAt "init" f ∷ start in
     let modules = judgedModules 2 ys in
-    let rest = judgedEach (judgedStatement k) (x ∷ xs) ++ modules in
+    let rest = judgedEach (judgedStatement decimals k) (x ∷ xs) ++ modules in
     along-behind strictly placeIn (signAt (modeWord mode) a) ms [] (judgedWords (1 ∷ 1 ∷ []) ws ++ (state k l start ∷ rest))
     (along-then strictly placeIn ms top [] (judgedWords (1 ∷ 1 ∷ []) ws) (state k l start ∷ rest) (line-along w (1 ∷ 1 ∷ []))
     (along-from strictly placeIn (placed (number 0) b ∷ signAt ".." c ∷ placed (number k) d ∷ signAt "]" e ∷ signAt "init" f ∷ []) start [] (state k l start ∷ rest)
     (along-at placeIn (placed (number l) g) (signAt ";" h ∷ ns) [] (state k l start) rest refl
     (along-behind strictly placeIn (signAt ";" h) ns [] rest
-    (along-then strictly placeIn ns (signAt "endmodule" i ∷ qs) [] (judgedEach (judgedStatement k) (x ∷ xs)) modules
-    (along-then strictly placeIn ns os (signAt "endmodule" i ∷ qs) (judgedStatement k x) (judgedEach (judgedStatement k) xs) (statement-along k ns os x s)
-    (many-along (judgedStatement k) (statement-along k) ss))
+    (along-then strictly placeIn ns (signAt "endmodule" i ∷ qs) [] (judgedEach (judgedStatement decimals k) (x ∷ xs)) modules
+    (along-then strictly placeIn ns os (signAt "endmodule" i ∷ qs) (judgedStatement decimals k x) (judgedEach (judgedStatement decimals k) xs) (statement-along decimals k ns os x s)
+    (many-along (judgedStatement decimals k) (statement-along decimals k) ss))
     (along-behind strictly placeIn (signAt "endmodule" i) qs [] modules (modules-along 2 t)))))))
 
 -- ---- so the first is the earliest

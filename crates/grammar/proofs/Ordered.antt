@@ -7,6 +7,7 @@ use mathlib.Core.Option.{Option}
 use Rattle.card.specs.Limits.{mostSeats, topState, mostStatements, mostNodes, mostDepth}
 use Rattle.card.specs.Card.{Formula}
 use Rattle.card.specs.Valid.{size}
+use Rattle.card.specs.Weight.{cardRule}
 use Rattle.marks.specs.Marks.{number, Placed, placed}
 use Rattle.reading.specs.Reader.{Place, Numbered}
 use Rattle.reading.specs.Group.{joint, Literals}
@@ -64,7 +65,7 @@ many-counting each h i (again {ms} {ns} {r} {x} d ds) =
 -- ---- branches and statements
 
 branch-counting : (ms r : Place) (x : BranchShape) (i : ℕ) (d : BranchSaid ms x r) → Counting ms (countedBranch ms r x i d) r
-branch-counting ms r x i d = let (m, q, z) = starts d in ([], m, q, z, z, rw (← z) (along-whole strictly placeIn ms r (judgedBranch 0 x) (branch-along 0 d)))
+branch-counting ms r x i d = let (m, q, z) = starts d in ([], m, q, z, z, rw (← z) (along-whole strictly placeIn ms r (judgedBranch cardRule 0 x) (branch-along cardRule 0 d)))
   where
     starts : {ms : Place} {x : BranchShape} → BranchSaid ms x r → (m : Placed) × (q : Place) × (ms ≡ m ∷ q)
     starts (branch aNumber l) = (_, _, refl)

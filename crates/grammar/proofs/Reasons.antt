@@ -12,15 +12,16 @@ use native.Mathlib.Decide.{decLe}
 use borrow.Author.Tests.{le-leb, lt-leb}
 use lib.ListN.{length}
 use Rattle.card.specs.Limits.{cardBytes}
-use Rattle.card.specs.Refusals.{tooLong, outsideRules, outOfShape, pastLimit, aboveTop, notDue, wrongWeight}
+use Rattle.card.specs.Refusals.{tooLong, outsideRules, outOfShape, pastLimit, aboveTop, notDue, wrongWeight, decimalWeight}
 use Rattle.card.specs.Text.{if_then_else_}
 use Rattle.card.specs.Card.{Card}
+use Rattle.card.specs.Weight.{Rule, allowed}
 use Rattle.marks.specs.Marks.{Mark, text, seat, process, number, decimal, outside, Placed, placed, marksOf, placeOf}
 use Rattle.reading.specs.Reader.{Place, at, Result, ok, stop}
 use Rattle.reading.specs.Judgements.{Judgement, state, word, oneGroup, weight, sum, placeIn, Verdict, fine, wrong, firstBroken}
 use Rattle.reading.specs.Shape.{CardShape, card}
 use Rattle.reading.specs.Checks.{judgedCard, seatsIn, cardIn}
-use Rattle.reading.specs.Reading.{Outcome, taken, refused, isOutside, firstOutside, judged, shaped, marked, readOf}
+use Rattle.reading.specs.Reading.{Outcome, taken, refused, isOutside, firstOutside, judged, shaped, marked, readUnder}
 use Rattle.grammar.specs.Verdicts.{Inside, Clean, TooLong, OutsideRules, PastLimit, OutOfShape, Shaped, Broken, Accepted}
 use Rattle.reading.proofs.Through.{none≢some}
 use Rattle.reading.proofs.Rising.{Rises, marks-rise, rises-part, later-place}
@@ -82,37 +83,37 @@ outside-first p (placed m q ∷ pre) post h = rw (outside-false m (h .0)) (outsi
 
 -- ---- the steps of reading
 
-module _ (s : List ℕ) where
-  read-long : cardBytes < length s → readOf s ≡ refused tooLong 0
-  unfolding readOf
+module _ (decimals : Rule) (s : List ℕ) where
+  read-long : cardBytes < length s → readUnder decimals s ≡ refused tooLong 0
+  unfolding readUnder
   read-long h = rw (lt-leb (length s) cardBytes h)
 
-  read-short : length s ≤ cardBytes → readOf s ≡ marked (length s) (marksOf s) (firstOutside (marksOf s))
-  unfolding readOf
+  read-short : length s ≤ cardBytes → readUnder decimals s ≡ marked decimals (length s) (marksOf s) (firstOutside (marksOf s))
+  unfolding readUnder
   read-short h = rw (le-leb (length s) cardBytes h)
 
-  read-clean : Clean s → readOf s ≡ shaped (length s) (card (at (marksOf s) zero))
-  read-clean c = read-short (c .short) ∙ ap (marked (length s) (marksOf s)) (inside-none (marksOf s) (c .inside))
+  read-clean : Clean s → readUnder decimals s ≡ shaped decimals (length s) (card (at (marksOf s) zero))
+  read-clean c = read-short (c .short) ∙ ap (marked decimals (length s) (marksOf s)) (inside-none (marksOf s) (c .inside))
 
-  read-shaped : (h : Shaped s) → readOf s ≡ judged (length s) (cardIn (h .shape)) (firstBroken (seatsIn (h .shape)) (judgedCard (h .shape)))
-  read-shaped h = let (n, e) = shape-read (h .said) (h .within) in read-clean (h .clean) ∙ ap (shaped (length s)) e
+  read-shaped : (h : Shaped s) → readUnder decimals s ≡ judged (length s) (cardIn (h .shape)) (firstBroken (seatsIn (h .shape)) (judgedCard decimals (h .shape)))
+  read-shaped h = let (n, e) = shape-read (h .said) (h .within) in read-clean (h .clean) ∙ ap (shaped decimals (length s)) e
 
   -- ---- each reason leads to its outcome
 
-  taken-back : (c : Card) → Accepted s c → readOf s ≡ taken c
+  taken-back : (c : Card) → Accepted decimals s c → readUnder decimals s ≡ taken c
   taken-back c h =
       let d = h .shaped .shape in
-      read-shaped (h .shaped) ∙ ap (judged (length s) (cardIn d)) (all-kept (seatsIn d) (length s) (judgedCard d) (h .kept)) ∙ ap taken (sym (h .card))
+      read-shaped (h .shaped) ∙ ap (judged (length s) (cardIn d)) (all-kept (seatsIn d) (length s) (judgedCard decimals d) (h .kept)) ∙ ap taken (sym (h .card))
 
-  long-back : (p : ℕ) → TooLong s p → readOf s ≡ refused tooLong p
+  long-back : (p : ℕ) → TooLong s p → readUnder decimals s ≡ refused tooLong p
   long-back p h = read-long (h .long) ∙ ap (refused tooLong) (sym (h .place))
 
-  outside-back : (p : ℕ) → OutsideRules s p → readOf s ≡ refused outsideRules p
+  outside-back : (p : ℕ) → OutsideRules s p → readUnder decimals s ≡ refused outsideRules p
   outside-back p h =
-      read-short (h .short) ∙ ap (marked (length s) (marksOf s)) (ap firstOutside (h .split) ∙ outside-first p (h .before) (h .after) (h .inside))
+      read-short (h .short) ∙ ap (marked decimals (length s) (marksOf s)) (ap firstOutside (h .split) ∙ outside-first p (h .before) (h .after) (h .inside))
 
-  past-back : (p : ℕ) → PastLimit s p → readOf s ≡ refused pastLimit p
-  past-back p h = read-clean (h .clean) ∙ ap (shaped (length s)) (past-stopped (marksOf s) (h .at) (h .past)) ∙ ap (refused pastLimit) (h .place)
+  past-back : (p : ℕ) → PastLimit s p → readUnder decimals s ≡ refused pastLimit p
+  past-back p h = read-clean (h .clean) ∙ ap (shaped decimals (length s)) (past-stopped (marksOf s) (h .at) (h .past)) ∙ ap (refused pastLimit) (h .place)
 
   -- an earlier split has an earlier place
   earlier-place : (pre t : Place) → marksOf s ≡ pre ++ t → (m : Placed) (w r : Place) → t ≡ m ∷ (w ++ r) → placeOf (length s) t < placeOf (length s) r
@@ -120,20 +121,20 @@ module _ (s : List ℕ) where
       let (b, _, h) = rises-part 0 (length s) pre t (rw e at (marks-rise s)) in
       subst (λ x. placeOf (length s) x < placeOf (length s) r) (sym z) (later-place b (length s) m w r (subst (Rises b (length s)) z h))
 
-  shape-back : (p : ℕ) → OutOfShape s p → readOf s ≡ refused outOfShape p
-  shape-back p h = read-clean (h .clean) ∙ ap (shaped (length s)) stopped ∙ ap (refused outOfShape) (h .place)
+  shape-back : (p : ℕ) → OutOfShape s p → readUnder decimals s ≡ refused outOfShape p
+  shape-back p h = read-clean (h .clean) ∙ ap (shaped decimals (length s)) stopped ∙ ap (refused outOfShape) (h .place)
     where
       stopped : card (at (marksOf s) zero) ≡ stop outOfShape (h .at)
       stopped = unfit-stopped (marksOf s) (h .at) (h .unfit) λ t q m w z.
           let e = q .split ∙ ap (λ x. q .before ++ x) (sym (q .place)) in
           h .earlier (placeOf (length s) t) (rw (← (h .place)) (earlier-place (q .before) t e m w (h .at) z)) (record { clean = h .clean; at = t; past = q; place = refl })
 
-  broken-back : (r p : ℕ) → Broken r s p → readOf s ≡ refused r p
+  broken-back : (r p : ℕ) → Broken decimals r s p → readUnder decimals s ≡ refused r p
   broken-back r p h =
       let c = h .shaped .shape in
       let (z, d) = broken-not-kept (seatsIn c) r (h .judgement) (h .broken) in
-      let along = card-along (h .shaped .said) in
-      let e = broken-first (seatsIn c) (length s) (marksOf s) [] 0 (judgedCard c) along (marks-rise s) (h .judgement) (h .judged) d
+      let along = card-along decimals (h .shaped .said) in
+      let e = broken-first (seatsIn c) (length s) (marksOf s) [] 0 (judgedCard decimals c) along (marks-rise s) (h .judgement) (h .judged) d
       (λ i y l. h .earlier i y (rw (h .place) at l)) in
       read-shaped (h .shaped)
       ∙ ap (judged (length s) (cardIn c)) e
@@ -141,31 +142,35 @@ module _ (s : List ℕ) where
 
 -- ---- and each outcome has its reason
 
-data Why (r : ℕ) (s : List ℕ) (p : ℕ) : Type 0 where
-  long : r ≡ tooLong → TooLong s p → Why r s p
-  foul : r ≡ outsideRules → OutsideRules s p → Why r s p
-  unfit : r ≡ outOfShape → OutOfShape s p → Why r s p
-  excess : r ≡ pastLimit → PastLimit s p → Why r s p
-  rule : aboveTop ≤ r → Broken r s p → Why r s p
+data Why (decimals : Rule) (r : ℕ) (s : List ℕ) (p : ℕ) : Type 0 where
+  long : r ≡ tooLong → TooLong s p → Why decimals r s p
+  foul : r ≡ outsideRules → OutsideRules s p → Why decimals r s p
+  unfit : r ≡ outOfShape → OutOfShape s p → Why decimals r s p
+  excess : r ≡ pastLimit → PastLimit s p → Why decimals r s p
+  rule : aboveTop ≤ r → Broken decimals r s p → Why decimals r s p
 
-abbrev Meaning : List ℕ → Outcome → Type 0
-Meaning s (taken c) = Accepted s c
-Meaning s (refused r p) = Why r s p
+abbrev Meaning : Rule → List ℕ → Outcome → Type 0
+Meaning decimals s (taken c) = Accepted decimals s c
+Meaning decimals s (refused r p) = Why decimals r s p
 
 late-number : (j : Judgement) → aboveTop ≤ refusalOf j
 late-number (state most v p) = omega arith
 late-number (word d w p) = omega arith
 late-number (oneGroup g) = omega arith
-late-number (weight w p) = omega arith
+late-number (weight decimals w p) = go (allowed decimals w)
+  where
+    go : (b : Bool) → aboveTop ≤ (if b then wrongWeight else decimalWeight)
+    go true = omega arith
+    go false = omega arith
 late-number (sum ws p) = omega arith
 
-module _ (s : List ℕ) where
-  judged-means : (h : Shaped s) (v : Verdict) → firstBroken (seatsIn (h .shape)) (judgedCard (h .shape)) ≡ v
-      → Meaning s (judged (length s) (cardIn (h .shape)) v)
-  judged-means h fine e = record { shaped = h; kept = none-broken (seatsIn (h .shape)) (length s) (judgedCard (h .shape)) e; card = refl }
+module _ (decimals : Rule) (s : List ℕ) where
+  judged-means : (h : Shaped s) (v : Verdict) → firstBroken (seatsIn (h .shape)) (judgedCard decimals (h .shape)) ≡ v
+      → Meaning decimals s (judged (length s) (cardIn (h .shape)) v)
+  judged-means h fine e = record { shaped = h; kept = none-broken (seatsIn (h .shape)) (length s) (judgedCard decimals (h .shape)) e; card = refl }
   judged-means h (wrong r p) e =
       let c = h .shape in
-      let w = earliest (seatsIn c) (length s) (marksOf s) [] 0 (judgedCard c) (card-along (h .said)) (marks-rise s) r p e in
+      let w = earliest (seatsIn c) (length s) (marksOf s) [] 0 (judgedCard decimals c) (card-along decimals (h .said)) (marks-rise s) r p e in
       rule (rw (← (w .number)) (late-number (w .judgement))) (record {
         shaped = h;
         judgement = w .judgement;
@@ -175,13 +180,13 @@ module _ (s : List ℕ) where
         earlier = λ j y l. w .earlier j y (rw (w .place) l);
       })
 
-  shaped-means : Clean s → (x : Result CardShape) → card (at (marksOf s) zero) ≡ x → Meaning s (shaped (length s) x)
+  shaped-means : Clean s → (x : Result CardShape) → card (at (marksOf s) zero) ≡ x → Meaning decimals s (shaped decimals (length s) x)
   shaped-means c (ok d st) e =
       let (t, w) = read-shape (marksOf s) d st e in
-      judged-means (record { clean = c; shape = d; said = t; within = w }) (firstBroken (seatsIn d) (judgedCard d)) refl
+      judged-means (record { clean = c; shape = d; said = t; within = w }) (firstBroken (seatsIn d) (judgedCard decimals d)) refl
   shaped-means c (stop n r) e = go (stop-numbers (marksOf s) n r e)
     where
-      go : (n ≡ outOfShape) ⊎ (n ≡ pastLimit) → Why n s (placeOf (length s) r)
+      go : (n ≡ outOfShape) ⊎ (n ≡ pastLimit) → Why decimals n s (placeOf (length s) r)
       go (inl z) =
           unfit z (record {
             clean = c;
@@ -189,67 +194,67 @@ module _ (s : List ℕ) where
             unfit = stopped-unfit (marksOf s) r (e ∙ ap (λ i. stop i r) z);
             place = refl;
             earlier = λ q l h.
-                let z₁ : pastLimit ≡ n = refused-number (sym (past-back s q h) ∙ read-clean s c ∙ ap (shaped (length s)) e) in
+                let z₁ : pastLimit ≡ n = refused-number (sym (past-back decimals s q h) ∙ read-clean decimals s c ∙ ap (shaped decimals (length s)) e) in
                 absurd (omega arith);
           })
       go (inr z) = excess z (record { clean = c; at = r; past = stopped-past (marksOf s) r (e ∙ ap (λ i. stop i r) z); place = refl })
 
-  marked-means : length s ≤ cardBytes → (o : Option ℕ) → firstOutside (marksOf s) ≡ o → Meaning s (marked (length s) (marksOf s) o)
+  marked-means : length s ≤ cardBytes → (o : Option ℕ) → firstOutside (marksOf s) ≡ o → Meaning decimals s (marked decimals (length s) (marksOf s) o)
   marked-means h none e = shaped-means (record { short = h; inside = none-outside (marksOf s) e }) (card (at (marksOf s) zero)) refl
   marked-means h (some p) e =
       let (pre, post, z, i) = first-outside (marksOf s) p e in
       foul refl (record { short = h; before = pre; after = post; split = z; inside = i })
 
-  means : Meaning s (readOf s)
+  means : Meaning decimals s (readUnder decimals s)
   means = go (decLe (length s) cardBytes)
     where
-      go : Dec (length s ≤ cardBytes) → Meaning s (readOf s)
-      go (yes h) = subst (Meaning s) (sym (read-short s h)) (marked-means h (firstOutside (marksOf s)) refl)
-      go (no h) = let l : cardBytes < length s = omega arith in subst (Meaning s) (sym (read-long s l)) (long refl (record { long = l; place = refl }))
+      go : Dec (length s ≤ cardBytes) → Meaning decimals s (readUnder decimals s)
+      go (yes h) = subst (Meaning decimals s) (sym (read-short decimals s h)) (marked-means h (firstOutside (marksOf s)) refl)
+      go (no h) = let l : cardBytes < length s = omega arith in subst (Meaning decimals s) (sym (read-long decimals s l)) (long refl (record { long = l; place = refl }))
 
-  reason : (r p : ℕ) → readOf s ≡ refused r p → Why r s p
-  reason r p e = subst (Meaning s) e means
+  reason : (r p : ℕ) → readUnder decimals s ≡ refused r p → Why decimals r s p
+  reason r p e = subst (Meaning decimals s) e means
 
--- ---- the theorems
+-- ---- the theorems, under every rule of a weight
 
 -- a card is taken exactly when its marks have the shape within the limits and every rule is kept, and then as the card that it says
-pub accepted : (s : List ℕ) (c : Card) → readOf s ≡ taken c ↔ Accepted s c
-accepted s c = ((λ e. subst (Meaning s) e (means s)), taken-back s c)
+pub accepted : (decimals : Rule) (s : List ℕ) (c : Card) → readUnder decimals s ≡ taken c ↔ Accepted decimals s c
+accepted decimals s c = ((λ e. subst (Meaning decimals s) e (means decimals s)), taken-back decimals s c)
 
-pub refusal-1 : (s : List ℕ) (p : ℕ) → readOf s ≡ refused tooLong p ↔ TooLong s p
-refusal-1 s p = ((λ e. go (reason s tooLong p e)), long-back s p)
+pub refusal-1 : (decimals : Rule) (s : List ℕ) (p : ℕ) → readUnder decimals s ≡ refused tooLong p ↔ TooLong s p
+refusal-1 decimals s p = ((λ e. go (reason decimals s tooLong p e)), long-back decimals s p)
   where
-    go : Why tooLong s p → TooLong s p
+    go : Why decimals tooLong s p → TooLong s p
     go (long z h) = h
     go (foul z h) = absurd (omega arith)
     go (unfit z h) = absurd (omega arith)
     go (excess z h) = absurd (omega arith)
     go (rule z h) = absurd (omega arith)
 
-pub refusal-2 : (s : List ℕ) (p : ℕ) → readOf s ≡ refused outsideRules p ↔ OutsideRules s p
-refusal-2 s p = ((λ e. go (reason s outsideRules p e)), outside-back s p)
+pub refusal-2 : (decimals : Rule) (s : List ℕ) (p : ℕ) → readUnder decimals s ≡ refused outsideRules p ↔ OutsideRules s p
+refusal-2 decimals s p = ((λ e. go (reason decimals s outsideRules p e)), outside-back decimals s p)
   where
-    go : Why outsideRules s p → OutsideRules s p
+    go : Why decimals outsideRules s p → OutsideRules s p
     go (long z h) = absurd (omega arith)
     go (foul z h) = h
     go (unfit z h) = absurd (omega arith)
     go (excess z h) = absurd (omega arith)
     go (rule z h) = absurd (omega arith)
 
-pub refusal-3 : (s : List ℕ) (p : ℕ) → readOf s ≡ refused outOfShape p ↔ OutOfShape s p
-refusal-3 s p = ((λ e. go (reason s outOfShape p e)), shape-back s p)
+pub refusal-3 : (decimals : Rule) (s : List ℕ) (p : ℕ) → readUnder decimals s ≡ refused outOfShape p ↔ OutOfShape s p
+refusal-3 decimals s p = ((λ e. go (reason decimals s outOfShape p e)), shape-back decimals s p)
   where
-    go : Why outOfShape s p → OutOfShape s p
+    go : Why decimals outOfShape s p → OutOfShape s p
     go (long z h) = absurd (omega arith)
     go (foul z h) = absurd (omega arith)
     go (unfit z h) = h
     go (excess z h) = absurd (omega arith)
     go (rule z h) = absurd (omega arith)
 
-pub refusal-4 : (s : List ℕ) (p : ℕ) → readOf s ≡ refused pastLimit p ↔ PastLimit s p
-refusal-4 s p = ((λ e. go (reason s pastLimit p e)), past-back s p)
+pub refusal-4 : (decimals : Rule) (s : List ℕ) (p : ℕ) → readUnder decimals s ≡ refused pastLimit p ↔ PastLimit s p
+refusal-4 decimals s p = ((λ e. go (reason decimals s pastLimit p e)), past-back decimals s p)
   where
-    go : Why pastLimit s p → PastLimit s p
+    go : Why decimals pastLimit s p → PastLimit s p
     go (long z h) = absurd (omega arith)
     go (foul z h) = absurd (omega arith)
     go (unfit z h) = absurd (omega arith)
@@ -257,21 +262,25 @@ refusal-4 s p = ((λ e. go (reason s pastLimit p e)), past-back s p)
     go (rule z h) = absurd (omega arith)
 
 -- 5, 6 and 7
-late : (r : ℕ) → aboveTop ≤ r → (s : List ℕ) (p : ℕ) → readOf s ≡ refused r p ↔ Broken r s p
-late r l s p = ((λ e. go (reason s r p e)), broken-back s r p)
+late : (r : ℕ) → aboveTop ≤ r → (decimals : Rule) (s : List ℕ) (p : ℕ) → readUnder decimals s ≡ refused r p ↔ Broken decimals r s p
+late r l decimals s p = ((λ e. go (reason decimals s r p e)), broken-back decimals s r p)
   where
-    go : Why r s p → Broken r s p
+    go : Why decimals r s p → Broken decimals r s p
     go (long z h) = absurd (omega arith)
     go (foul z h) = absurd (omega arith)
     go (unfit z h) = absurd (omega arith)
     go (excess z h) = absurd (omega arith)
     go (rule z h) = h
 
-pub refusal-5 : (s : List ℕ) (p : ℕ) → readOf s ≡ refused aboveTop p ↔ Broken aboveTop s p
+pub refusal-5 : (decimals : Rule) (s : List ℕ) (p : ℕ) → readUnder decimals s ≡ refused aboveTop p ↔ Broken decimals aboveTop s p
 refusal-5 = late aboveTop (omega arith)
 
-pub refusal-6 : (s : List ℕ) (p : ℕ) → readOf s ≡ refused notDue p ↔ Broken notDue s p
+pub refusal-6 : (decimals : Rule) (s : List ℕ) (p : ℕ) → readUnder decimals s ≡ refused notDue p ↔ Broken decimals notDue s p
 refusal-6 = late notDue (omega arith)
 
-pub refusal-7 : (s : List ℕ) (p : ℕ) → readOf s ≡ refused wrongWeight p ↔ Broken wrongWeight s p
+pub refusal-7 : (decimals : Rule) (s : List ℕ) (p : ℕ) → readUnder decimals s ≡ refused wrongWeight p ↔ Broken decimals wrongWeight s p
 refusal-7 = late wrongWeight (omega arith)
+
+-- 17, where no decimal may be a weight
+pub refusal-17 : (decimals : Rule) (s : List ℕ) (p : ℕ) → readUnder decimals s ≡ refused decimalWeight p ↔ Broken decimals decimalWeight s p
+refusal-17 = late decimalWeight (omega arith)

@@ -4,6 +4,7 @@
 use Prim.Native.Nat.{ℕ}
 use mathlib.Core.List.{List, [], map}
 use lib.ListN.{length}
+use Rattle.card.specs.Weight.{Rule}
 use Rattle.marks.specs.Marks.{marksOf, placeOf}
 use Rattle.reading.specs.Reader.{Place}
 use Rattle.reading.specs.Judgements.{placeIn}
@@ -13,14 +14,14 @@ use Rattle.grammar.specs.Grammar.{CardSaid}
 use Rattle.grammar.specs.Counted.{Counted, countedCard}
 use Rattle.grammar.proofs.Along.{strictly, weakly, Along, Ascending, ascending, card-along}
 use Rattle.grammar.proofs.Ordered.{card-counting}
-pub use Rattle.grammar.proofs.Reasons.{accepted, refusal-1, refusal-2, refusal-3, refusal-4, refusal-5, refusal-6, refusal-7}
+pub use Rattle.grammar.proofs.Reasons.{accepted, refusal-1, refusal-2, refusal-3, refusal-4, refusal-5, refusal-6, refusal-7, refusal-17}
 pub use Rattle.grammar.proofs.Valid.{read-valid}
 pub use Rattle.reading.proofs.Rising.{marks-rise}
 
 -- the places of a card's judgements rise
-pub judgements-rise : (s : List ℕ) (c : CardShape) → CardSaid (marksOf s) c
-    → Ascending strictly 0 (length s) (map (λ j. placeOf (length s) (placeIn j)) (judgedCard c))
-judgements-rise s c d = ascending strictly placeIn (marksOf s) [] 0 (length s) (judgedCard c) (card-along d) (marks-rise s)
+pub judgements-rise : (decimals : Rule) (s : List ℕ) (c : CardShape) → CardSaid (marksOf s) c
+    → Ascending strictly 0 (length s) (map (λ j. placeOf (length s) (placeIn j)) (judgedCard decimals c))
+judgements-rise decimals s c d = ascending strictly placeIn (marksOf s) [] 0 (length s) (judgedCard decimals c) (card-along decimals d) (marks-rise s)
 
 -- what the limits count stands at marks from the front to the end
 pub counted-in-order : (ms : Place) (c : CardShape) (d : CardSaid ms c) → Along weakly (λ (x : Counted). x .place) ms (countedCard d) []

@@ -1,18 +1,18 @@
 -- A card that is read is valid: what its shape keeps of the limits, and what each rule that is kept says of its part. Assumes nothing.
-use Prim.Native.Nat.{ℕ, suc, _+_, _-_, _*_, _/_, _%_, _^_, _≤_}
+use Prim.Native.Nat.{ℕ, suc, _+_, _-_, _≤_}
 use mathlib.Core.Path.{_≡_, refl, ap, _∙_}
 use mathlib.Core.Bool.{Bool, true, false, _&&_, false≢true}
 use mathlib.Core.List.{List, [], _∷_, _++_, map}
 use mathlib.Core.Option.{Option, none, some}
-use native.Mathlib.Nat.{mul-le-mul-right, mul-comm, div-mul-le-self, le-trans}
 use native.Mathlib.Omega.{arith}
-use lib.Dec.{eqb, leb}
-use borrow.Author.Tests.{leb-true, eqb-true}
+use lib.Dec.{eqb}
+use borrow.Author.Tests.{eqb-true}
 use lib.ListN.{length, length-map}
 use Rattle.card.specs.Limits.{unit}
 use Rattle.card.specs.Text.{if_then_else_}
 use Rattle.card.specs.Card.{Kind, everyone, others, Sign, all, any, group, Formula, atom, neg, and, or, Card}
-use Rattle.card.specs.Weight.{Weight, whole, decimal, ratio, cardRule, shifted, given, unitsOf}
+use Rattle.card.specs.Weight.{Weight, unitsOf, Rule}
+use Rattle.card.proofs.Laws.{units-most as weight-most}
 use Rattle.card.specs.Valid.{Enough, ValidLeaf, ValidLeaves, middle, ValidGuard, Every, total, ValidBranch, ValidStatement, ValidCard}
 use Rattle.card.specs.Formulas.{EveryAtom}
 use Rattle.card.proofs.Atoms.{size-over, depth-over}
@@ -21,7 +21,7 @@ use Rattle.reading.specs.Group.{Literal, Literals}
 use Rattle.reading.specs.Judgements.{once, kindOf, alike, symmetric, Judgement, sum, orZero, unitsIn, totalUnits, firstState, judgedGuard, orEveryone, groupIn, leafIn, guardIn}
 use Rattle.reading.specs.Shape.{BranchShape, StatementShape, CardShape}
 use Rattle.reading.specs.Checks.{judgedState, judgedWords, judgedBranch, judgedEach, judgedOr, weightIn, judgedStatement, judgedModules, judgedCard, branchIn, guardOr, statementIn, seatsIn, cardIn}
-use Rattle.reading.specs.Reading.{taken, readOf}
+use Rattle.reading.specs.Reading.{taken, readUnder}
 use Rattle.grammar.specs.Rules.{Kept}
 use Rattle.grammar.specs.Verdicts.{Accepted}
 use Rattle.reading.proofs.Through.{and-true, none≢some}
@@ -70,26 +70,15 @@ guard-or-valid n k (some g) f e = (guard-valid n k g (f .1) e, rw (depth-over (l
 
 -- ---- branches
 
--- a part of p parts of m, each rounded down, is at most m
-quotient-most : (a p m : ℕ) → a ≤ p → a * (m / p) ≤ m
-quotient-most a p m h = le-trans (mul-le-mul-right (m / p) h) (rw (mul-comm p (m / p)) (div-mul-le-self m p))
-
-given-most : (b : Bool) (u m : ℕ) → (b ≡ true → u ≤ m) → orZero (given b u) ≤ m
-given-most true u m h = h refl
-given-most false u m h = omega arith
-
 pub units-most : (w : Weight) → unitsIn w ≤ unit
-unfolding unitsOf
-units-most (whole v) = given-most (leb v 1) (v * unit) unit λ e. omega (arith, leb-true v 1 e)
-units-most (decimal v n f) = given-most (leb 1 n && leb n (cardRule .digits) && leb (shifted v n f) (10 ^ n)) (shifted v n f * (unit / 10 ^ n)) unit λ e.
-    let h = and-true (leb 1 n && leb n (cardRule .digits)) (leb (shifted v n f) (10 ^ n)) e in
-    quotient-most (shifted v n f) (10 ^ n) unit (leb-true (shifted v n f) (10 ^ n) (h .1))
-units-most (ratio a b) = given-most (leb 1 b && eqb (unit % b) 0 && leb a b) (a * (unit / b)) unit λ e.
-    let h = and-true (leb 1 b && eqb (unit % b) 0) (leb a b) e in
-    quotient-most a b unit (leb-true a b (h .1))
+units-most w = go (unitsOf w) refl
+  where
+    go : (o : Option ℕ) → unitsOf w ≡ o → orZero o ≤ unit
+    go none e = omega arith
+    go (some u) e = weight-most w u e
 
-branch-valid : (n k : ℕ) (b : BranchShape) → Every (Kept n) (judgedBranch k b) → ValidBranch k (branchIn b)
-branch-valid n k b e =
+branch-valid : (decimals : Rule) (n k : ℕ) (b : BranchShape) → Every (Kept n) (judgedBranch decimals k b) → ValidBranch k (branchIn b)
+branch-valid decimals n k b e =
     let q = every-append (Kept n) (judgedWords (1 ∷ []) (b .words)) (judgedState k (b .end) ∷ []) (e .1) in
     record { units = units-most (b .weight); end = q .1 .0 }
 
@@ -113,39 +102,39 @@ total-units (b ∷ bs) = ap (λ (x : ℕ). unitsIn (b .weight) + x) (total-units
 
 -- ---- statements and the card
 
-statement-valid : (n k : ℕ) (x : StatementShape) → FairStatement x → Every (Kept n) (judgedStatement k x) → ValidStatement n k (statementIn n x)
-statement-valid n k x f e =
+statement-valid : (decimals : Rule) (n k : ℕ) (x : StatementShape) → FairStatement x → Every (Kept n) (judgedStatement decimals k x) → ValidStatement n k (statementIn n x)
+statement-valid decimals n k x f e =
     let total : List Judgement = sum (map weightIn (x .branches)) (x .close) ∷ [] in
-    let e₁ = every-append (Kept n) (judgedWords (1 ∷ []) (x .words)) (judgedState k (x .own) ∷ (judgedOr k (x .guard) ++ (judgedEach (judgedBranch k) (x .branches) ++ total))) e .1 in
-    let e₂ = every-append (Kept n) (judgedOr k (x .guard)) (judgedEach (judgedBranch k) (x .branches) ++ total) (e₁ .1) in
-    let e₃ = every-append (Kept n) (judgedEach (judgedBranch k) (x .branches)) total (e₂ .1) in
+    let e₁ = every-append (Kept n) (judgedWords (1 ∷ []) (x .words)) (judgedState k (x .own) ∷ (judgedOr k (x .guard) ++ (judgedEach (judgedBranch decimals k) (x .branches) ++ total))) e .1 in
+    let e₂ = every-append (Kept n) (judgedOr k (x .guard)) (judgedEach (judgedBranch decimals k) (x .branches) ++ total) (e₁ .1) in
+    let e₃ = every-append (Kept n) (judgedEach (judgedBranch decimals k) (x .branches)) total (e₂ .1) in
     record {
       own = e₁ .0;
       guard = guard-or-valid n k (x .guard) (f .guard) (e₂ .0);
       some = rw (length-map (x .branches) branchIn) (f .some);
-      branches = each-valid n (judgedBranch k) branchIn True (ValidBranch k) (λ b _. branch-valid n k b) (x .branches) (every-true (x .branches)) (e₃ .0);
+      branches = each-valid n (judgedBranch decimals k) branchIn True (ValidBranch k) (λ b _. branch-valid decimals n k b) (x .branches) (every-true (x .branches)) (e₃ .0);
       sum = total-units (x .branches) ∙ e₃ .1 .0;
     }
 
-card-valid : (c : CardShape) → FairCard c → Every (Kept (seatsIn c)) (judgedCard c) → ValidCard (cardIn c)
-card-valid c f e =
+card-valid : (decimals : Rule) (c : CardShape) → FairCard c → Every (Kept (seatsIn c)) (judgedCard decimals c) → ValidCard (cardIn c)
+card-valid decimals c f e =
     let n = seatsIn c in
-    let e₁ = every-append (Kept n) (judgedWords (1 ∷ 1 ∷ []) (c .words)) (judgedState (c .k) (c .l) ∷ (judgedEach (judgedStatement (c .k)) (c .statements) ++ judgedModules 2 (c .modules))) e .1 in
-    let e₂ = every-append (Kept n) (judgedEach (judgedStatement (c .k)) (c .statements)) (judgedModules 2 (c .modules)) (e₁ .1) in
+    let e₁ = every-append (Kept n) (judgedWords (1 ∷ 1 ∷ []) (c .words)) (judgedState (c .k) (c .l) ∷ (judgedEach (judgedStatement decimals (c .k)) (c .statements) ++ judgedModules 2 (c .modules))) e .1 in
+    let e₂ = every-append (Kept n) (judgedEach (judgedStatement decimals (c .k)) (c .statements)) (judgedModules 2 (c .modules)) (e₁ .1) in
     record {
       seats = omega arith;
       seats-most = omega (arith, f .modules);
       top = f .top;
       init = e₁ .0;
       some = rw (length-map (c .statements) (statementIn n)) (f .some);
-      statements = each-valid n (judgedStatement (c .k)) (statementIn n) FairStatement (ValidStatement n (c .k)) (statement-valid n (c .k)) (c .statements) (f .statements) (e₂ .0);
+      statements = each-valid n (judgedStatement decimals (c .k)) (statementIn n) FairStatement (ValidStatement n (c .k)) (statement-valid decimals n (c .k)) (c .statements) (f .statements) (e₂ .0);
     }
 
 -- ---- reading
 
-pub accepted-valid : (s : List ℕ) (c : Card) → Accepted s c → ValidCard c
-accepted-valid s c h = rw (h .card) (card-valid (h .shaped .shape) (card-fair (h .shaped .said) (h .shaped .within)) (h .kept))
+pub accepted-valid : (decimals : Rule) (s : List ℕ) (c : Card) → Accepted decimals s c → ValidCard c
+accepted-valid decimals s c h = rw (h .card) (card-valid decimals (h .shaped .shape) (card-fair (h .shaped .said) (h .shaped .within)) (h .kept))
 
 -- a card that is read is valid
-pub read-valid : (s : List ℕ) (c : Card) → readOf s ≡ taken c → ValidCard c
-read-valid s c e = accepted-valid s c (accepted s c .0 e)
+pub read-valid : (decimals : Rule) (s : List ℕ) (c : Card) → readUnder decimals s ≡ taken c → ValidCard c
+read-valid decimals s c e = accepted-valid decimals s c (accepted decimals s c .0 e)

@@ -3,14 +3,15 @@
 use Prim.Native.Nat.{ℕ, _+_, _≤_, _<_}
 use mathlib.Core.Path.{_≡_}
 use mathlib.Core.Logic.{_⊎_}
+use mathlib.Core.Bool.{true, false}
 use mathlib.Core.List.{List, [], _∷_}
 use lib.ListN.{length}
 use lib.Dec.{eqb}
 use Rattle.card.specs.Limits.{unit}
-use Rattle.card.specs.Refusals.{aboveTop, notDue, wrongWeight}
+use Rattle.card.specs.Refusals.{aboveTop, notDue, wrongWeight, decimalWeight}
 use Rattle.card.specs.Text.{if_then_else_}
 use Rattle.card.specs.Card.{Relation}
-use Rattle.card.specs.Weight.{Weight, cardRule, Worth}
+use Rattle.card.specs.Weight.{Weight, Worth, Rule, allowed}
 use Rattle.card.specs.Valid.{Every}
 use Rattle.reading.specs.Reader.{Place}
 use Rattle.reading.specs.Group.{Literal, Literals}
@@ -39,12 +40,12 @@ pub record Symmetric (n : ℕ) (ls : List Literal) : Type 0 where
 
 -- ---- each judgement, on a card of n seats
 
--- in a sum a weight that breaks its own rule counts nothing: it stands before the sum
+-- in a sum a weight that is worth nothing counts nothing: it is refused before the sum
 abbrev pub Kept : ℕ → Judgement → Type 0
 Kept n (state most v p) = v ≤ most
 Kept n (word due was p) = was ≡ due
 Kept n (oneGroup g) = Symmetric n (g .literals)
-Kept n (weight w p) = (u : ℕ) × Worth cardRule w u
+Kept n (weight decimals w p) = (allowed decimals w ≡ true) × ((u : ℕ) × Worth w u)
 Kept n (sum ws p) = totalUnits ws ≡ unit
 
 -- the rows of the table: how a rule is broken, and the refusal that is due
@@ -52,5 +53,6 @@ pub data Breaks (n : ℕ) : ℕ → Judgement → Type 0 where
   above : {most v : ℕ} {p : Place} → most < v → Breaks n aboveTop (state most v p)
   other : {due was : ℕ} {p : Place} → (was ≡ due → ⊥) → Breaks n notDue (word due was p)
   uneven : {g : Literals} → (Symmetric n (g .literals) → ⊥) → Breaks n notDue (oneGroup g)
-  worthless : {w : Weight} {p : Place} → ((u : ℕ) → Worth cardRule w u → ⊥) → Breaks n wrongWeight (weight w p)
+  worthless : {decimals : Rule} {w : Weight} {p : Place} → allowed decimals w ≡ true → ((u : ℕ) → Worth w u → ⊥) → Breaks n wrongWeight (weight decimals w p)
+  retired : {decimals : Rule} {w : Weight} {p : Place} → allowed decimals w ≡ false → Breaks n decimalWeight (weight decimals w p)
   unequal : {ws : List Weight} {p : Place} → (totalUnits ws ≡ unit → ⊥) → Breaks n wrongWeight (sum ws p)

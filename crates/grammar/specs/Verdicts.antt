@@ -7,6 +7,7 @@ use mathlib.Core.List.{List, [], _∷_, _++_}
 use lib.ListN.{length}
 use Rattle.card.specs.Limits.{cardBytes}
 use Rattle.card.specs.Card.{Card}
+use Rattle.card.specs.Weight.{Rule}
 use Rattle.card.specs.Valid.{Every}
 use Rattle.marks.specs.Marks.{outside, Placed, placed, marksOf, placeOf}
 use Rattle.reading.specs.Reader.{Place, nextIs}
@@ -113,24 +114,24 @@ pub record Shaped (s : List ℕ) : Type 0 where
 abbrev pub KeptOn : CardShape → Judgement → Type 0
 KeptOn c j = Kept (seatsIn c) j
 
--- ---- 5, 6 and 7
+-- ---- 5, 6 and 7, by the rule of a weight
 
 pub data In {A : Type 0} (x : A) : List A → Type 0 where
   first : {xs : List A} → In x (x ∷ xs)
   later : {y : A} {xs : List A} → In x xs → In x (y ∷ xs)
 
 -- a rule is broken at p to which refusal r is due, and all that stand earlier are kept
-pub record Broken (r : ℕ) (s : List ℕ) (p : ℕ) : Type 0 where
+pub record Broken (decimals : Rule) (r : ℕ) (s : List ℕ) (p : ℕ) : Type 0 where
   pub shaped : Shaped s
   pub judgement : Judgement
-  pub judged : In judgement (judgedCard (shaped .shape))
+  pub judged : In judgement (judgedCard decimals (shaped .shape))
   pub broken : Breaks (seatsIn (shaped .shape)) r judgement
   pub place : placeOf (length s) (placeIn judgement) ≡ p
-  pub earlier : (j : Judgement) → In j (judgedCard (shaped .shape)) → placeOf (length s) (placeIn j) < p → KeptOn (shaped .shape) j
+  pub earlier : (j : Judgement) → In j (judgedCard decimals (shaped .shape)) → placeOf (length s) (placeIn j) < p → KeptOn (shaped .shape) j
 
 -- ---- taken
 
-pub record Accepted (s : List ℕ) (c : Card) : Type 0 where
+pub record Accepted (decimals : Rule) (s : List ℕ) (c : Card) : Type 0 where
   pub shaped : Shaped s
-  pub kept : Every (KeptOn (shaped .shape)) (judgedCard (shaped .shape))
+  pub kept : Every (KeptOn (shaped .shape)) (judgedCard decimals (shaped .shape))
   pub card : c ≡ cardIn (shaped .shape)

@@ -1,6 +1,7 @@
 -- Each by citing the proof of its function. Assumes nothing.
 use Rattle.reader.proofs.read.Met.{met as read-met}
 use Rattle.reader.proofs.read_into.Met.{met as read-into-met}
+use Rattle.reader.proofs.read_under.Met.{met as read-under-met}
 use Rattle.writer.proofs.write.Met.{met as write-met}
 use Rattle.reducer.proofs.reduce.Met.{met as reduce-met}
 use Rattle.panel.proofs.panel.Met.{met as panel-met}
@@ -29,6 +30,7 @@ pub keeps : Keeps
 keeps = record {
   read = λ M. read-met;
   read-into = λ M. read-into-met;
+  read-under = λ M. read-under-met;
   write = λ M. write-met;
   reduce = λ M. reduce-met;
   panel = λ M. panel-met;

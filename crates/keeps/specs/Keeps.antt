@@ -4,6 +4,7 @@
 -- `DeckWriting.antt` and `Spectator.antt`. Assumes nothing.
 use Rattle.reader.proofs.read.Statement.{statement as readKeeps}
 use Rattle.reader.proofs.read_into.Statement.{statement as readIntoKeeps}
+use Rattle.reader.proofs.read_under.Statement.{statement as readUnderKeeps}
 use Rattle.writer.proofs.write.Statement.{statement as writeKeeps}
 use Rattle.reducer.proofs.reduce.Statement.{statement as reduceKeeps}
 use Rattle.panel.proofs.panel.Statement.{statement as panelKeeps}
@@ -30,6 +31,7 @@ use Rattle.tablet.proofs.open_panel_watch.Statement.{statement as watchForCKeep
 pub record Keeps : Type 2 where
   pub read : (M : Type 1) → readKeeps M
   pub read-into : (M : Type 1) → readIntoKeeps M
+  pub read-under : (M : Type 1) → readUnderKeeps M
   pub write : (M : Type 1) → writeKeeps M
   pub reduce : (M : Type 1) → reduceKeeps M
   pub panel : (M : Type 1) → panelKeeps M

@@ -9,10 +9,10 @@ use native.Mathlib.Omega.{arith}
 use borrow.Author.Tests.{eqb-true, eqb-false, eq-eqb, ne-eqb}
 use lib.Dec.{eqb, leb}
 use Rattle.card.specs.Limits.{mostSeats, unit}
-use Rattle.card.specs.Refusals.{aboveTop, notDue, wrongWeight}
+use Rattle.card.specs.Refusals.{aboveTop, notDue, wrongWeight, decimalWeight}
 use Rattle.card.specs.Text.{if_then_else_}
 use Rattle.card.specs.Card.{Sign, group, Formula, atom, neg, and, or}
-use Rattle.card.specs.Weight.{cardRule, unitsOf}
+use Rattle.card.specs.Weight.{unitsOf, allowed, weightRefusal}
 use Rattle.marks.specs.Marks.{placeOf}
 use Rattle.reading.specs.Reader.{Place}
 use Rattle.reading.specs.Guard.{isSome}
@@ -80,11 +80,16 @@ pub sound-blamed : (b : Bool) (r p : ℕ) (x : Late) → (r ≡ 0 → ⊥) → S
 sound-blamed true r p x f s = s
 sound-blamed false r p x f s = sound-blame r p x f s
 
+-- a weight is refused with a number, whatever the rule
+weight-refusal : (b : Bool) → (if b then wrongWeight else decimalWeight) ≡ 0 → ⊥
+weight-refusal true z = omega arith
+weight-refusal false z = omega arith
+
 sound-judge : (e : ℕ) (j : Judgement) (x : Late) → Sound x → Sound (judge e j x)
 sound-judge e (state bound v p) x s = sound-blamed (leb v bound) aboveTop (placeOf e p) x (λ z. omega arith) s
 sound-judge e (word due was p) x s = sound-blamed (eqb was due) notDue (placeOf e p) x (λ z. omega arith) s
 sound-judge e (oneGroup g) x s = sound-grouped (wantOf (g .literals)) (placeOf e (g .place)) x s
-sound-judge e (weight w p) x s = sound-blamed (isSome (unitsOf cardRule w)) wrongWeight (placeOf e p) x (λ z. omega arith) s
+sound-judge e (weight decimals w p) x s = sound-blamed (allowed decimals w && isSome (unitsOf w)) (weightRefusal decimals w) (placeOf e p) x (weight-refusal (allowed decimals w)) s
 sound-judge e (sum ws p) x s = sound-blamed (eqb (totalUnits ws) unit) wrongWeight (placeOf e p) x (λ z. omega arith) s
 
 -- ---- one judgement more, for n seats
@@ -192,8 +197,9 @@ module _ (e n : ℕ) (least : 1 ≤ n) (most : n ≤ mostSeats) where
   settled-judge (oneGroup g) x s =
       settled-grouped n x s (wantOf (g .literals)) (placeOf e (g .place)) least
       ∙ ap (orNext (settled n x)) (one-test (eqb (wantOf (g .literals)) n) notDue (oneGroup g) (ap (λ b. unless b notDue) (symmetric-want n (g .literals) least most)))
-  settled-judge (weight w p) x s =
-      settled-blamed n x s (isSome (unitsOf cardRule w)) wrongWeight (placeOf e p) ∙ ap (orNext (settled n x)) (one-test (isSome (unitsOf cardRule w)) wrongWeight (weight w p) refl)
+  settled-judge (weight decimals w p) x s =
+      let fits = allowed decimals w && isSome (unitsOf w) in
+      settled-blamed n x s fits (weightRefusal decimals w) (placeOf e p) ∙ ap (orNext (settled n x)) (one-test fits (weightRefusal decimals w) (weight decimals w p) refl)
   settled-judge (sum ws p) x s =
       settled-blamed n x s (eqb (totalUnits ws) unit) wrongWeight (placeOf e p) ∙ ap (orNext (settled n x)) (one-test (eqb (totalUnits ws) unit) wrongWeight (sum ws p) refl)
 
@@ -207,7 +213,7 @@ module _ (e n : ℕ) (least : 1 ≤ n) (most : n ≤ mostSeats) where
   one-more (state bound a p) v = tested (leb a bound) aboveTop p v (λ z. omega arith)
   one-more (word due was p) v = tested (eqb was due) notDue p v (λ z. omega arith)
   one-more (oneGroup g) v = tested (symmetric n (g .literals)) notDue (g .place) v (λ z. omega arith)
-  one-more (weight w p) v = tested (isSome (unitsOf cardRule w)) wrongWeight p v (λ z. omega arith)
+  one-more (weight decimals w p) v = tested (allowed decimals w && isSome (unitsOf w)) (weightRefusal decimals w) p v (weight-refusal (allowed decimals w))
   one-more (sum ws p) v = tested (eqb (totalUnits ws) unit) wrongWeight p v (λ z. omega arith)
 
   settled-all : (js : List Judgement) (x : Late) → Sound x → settled n (judgeAll e js x) ≡ orNext (settled n x) (verdict e (firstBroken n js))

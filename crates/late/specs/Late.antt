@@ -84,7 +84,7 @@ abbrev pub judge : ℕ → Judgement → Late → Late
 judge e (state most v p) x = blamed (broken 0 (state most v p)) (placeOf e p) x
 judge e (word due was p) x = blamed (broken 0 (word due was p)) (placeOf e p) x
 judge e (oneGroup g) x = grouped (wantOf (g .literals)) (placeOf e (g .place)) x
-judge e (weight w p) x = blamed (broken 0 (weight w p)) (placeOf e p) x
+judge e (weight decimals w p) x = blamed (broken 0 (weight decimals w p)) (placeOf e p) x
 judge e (sum ws p) x = blamed (broken 0 (sum ws p)) (placeOf e p) x
 
 unfoldable pub judgeAll : ℕ → List Judgement → Late → Late

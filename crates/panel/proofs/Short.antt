@@ -1,6 +1,6 @@
 -- How long a panel can be: a line has few digits, a state moves to at most k others, and on a nondeterministic card a choice's moves all
 -- start from one state. Assumes nothing.
-use Prim.Native.Nat.{ℕ, zero, suc, _+_, _*_, _^_, _≤_, _<_}
+use Prim.Native.Nat.{ℕ, zero, suc, _+_, _-_, _*_, _^_, _≤_, _<_}
 use Prim.Native.String.{String}
 use mathlib.Core.Path.{_≡_, refl, sym, ap, _∙_}
 use mathlib.Core.Bool.{Bool, true, false, not, _&&_}
@@ -10,7 +10,7 @@ use native.Mathlib.Nat.{le-trans, mul-le-mul, mul-le-mul-right}
 use native.Mathlib.Omega.{arith}
 use lib.Dec.{eqb, ltb}
 use lib.ListN.{length}
-use Rattle.card.specs.Limits.{mostSeats, topState, mostStatements, unit}
+use Rattle.card.specs.Limits.{mostSeats, topState, mostStates, mostStatements, numberDigits, unit}
 use Rattle.card.specs.Text.{bytes, if_then_else_}
 use Rattle.card.specs.Card.{Mode, nondeterministic, probabilistic, Statement, Card}
 use Rattle.card.specs.Valid.{Every, ValidStatement, ValidCard}
@@ -107,28 +107,36 @@ module _ (d k : ℕ) (h : k ≤ topState) where
 
 -- ---- blocks
 
+-- digits behind the first: of the unit, which has no more than a number on a card; of its sums, since there are fewer than a thousand pairs of a seat
+-- and a statement
+abbrev ownDigits : ℕ
+ownDigits = numberDigits - 1
+
+abbrev allDigits : ℕ
+allDigits = ownDigits + 3
+
 -- a choice's line, or none, and the unit
 adds-stuck : (m : Mode) → Adds choiceMost (blockText (stuckBlock m))
 unfolding blockText
-adds-stuck probabilistic = adds-up choiceMost (omega arith) (adds-stay 4 unit (omega arith))
-adds-stuck nondeterministic = adds-up choiceMost (omega arith) (adds-then (adds-line "choice" 0 (0 ∷ []) (omega arith, tt)) (adds-stay 4 unit (omega arith)))
+adds-stuck probabilistic = adds-up choiceMost (omega arith) (adds-stay ownDigits unit (omega arith))
+adds-stuck nondeterministic = adds-up choiceMost (omega arith) (adds-then (adds-line "choice" 0 (0 ∷ []) (omega arith, tt)) (adds-stay ownDigits unit (omega arith)))
 
 abbrev weightsMost : ℕ
-weightsMost = 1022
+weightsMost = 7 + allDigits + mostStates * (topState * moveMost allDigits)
 
 module _ (n k : ℕ) (h : k ≤ topState) where
-  own-row : (s : Statement) → ValidStatement n k s → Adds (k * moveMost 4) (movesText (flat (upto (suc k) (λ a. flat (upto (suc k) (λ b. moveLine a b (moveOf s a b)))))))
+  own-row : (s : Statement) → ValidStatement n k s → Adds (k * moveMost ownDigits) (movesText (flat (upto (suc k) (λ a. flat (upto (suc k) (λ b. moveLine a b (moveOf s a b)))))))
   unfolding moveOf
   own-row s v =
       rw (own-moves k (s .own) (v .own) (λ b. unitsTo b (s .branches)) (λ b. unitsTo b (s .branches)) (λ b l. refl))
-      (adds-row 4 k h (s .own) (λ b. unitsTo b (s .branches)) (v .own) (λ b. omega (arith, units-le b (s .branches), v .sum)))
+      (adds-row ownDigits k h (s .own) (λ b. unitsTo b (s .branches)) (v .own) (λ b. omega (arith, units-le b (s .branches), v .sum)))
 
   -- at a place of two digits
   adds-choice : (q : ℕ) (s : Statement) → ValidStatement n k s → q < 100 → Adds choiceMost (blockText (block k (some q) (stayOf s) (moveOf s)))
   unfolding blockText block
   adds-choice q s v l =
       adds-up choiceMost (omega arith)
-      (adds-then (adds-line "choice" 1 (q ∷ []) (l, tt)) (adds-then (adds-stay 4 (stayOf s) (omega (arith, stay-le n k s v))) (own-row s v)))
+      (adds-then (adds-line "choice" 1 (q ∷ []) (l, tt)) (adds-then (adds-stay ownDigits (stayOf s) (omega (arith, stay-le n k s v))) (own-row s v)))
 
   adds-choices : (v : List ℕ) (q : ℕ) (l : List Statement) → Every (ValidStatement n k) l → q + length l ≤ 100 → Adds (length l * choiceMost) (blocksText (choiceBlocks n k v q l))
   unfolding choiceBlocks
@@ -148,11 +156,11 @@ module _ (n k : ℕ) (h : k ≤ topState) where
     unfolding blockText block
     adds-weights =
         let olds : suc k ≤ suc topState = omega arith in
-        let news : k * moveMost 7 ≤ topState * moveMost 7 = omega arith in
-        let lines : suc k * (k * moveMost 7) ≤ suc topState * (topState * moveMost 7) = mul-le-mul olds news in
+        let news : k * moveMost allDigits ≤ topState * moveMost allDigits = omega arith in
+        let lines : suc k * (k * moveMost allDigits) ≤ suc topState * (topState * moveMost allDigits) = mul-le-mul olds news in
         adds-up weightsMost (omega arith)
-        (adds-then (adds-stay 7 (allStay n v l) (omega (arith, all-stay-le n v few k l valid, all-few)))
-        (adds-all 7 k h (allMove n v l) (λ a b. omega (arith, all-move-le n v few k l valid a b, all-few))))
+        (adds-then (adds-stay allDigits (allStay n v l) (omega (arith, all-stay-le n v few k l valid, all-few)))
+        (adds-all allDigits k h (allMove n v l) (λ a b. omega (arith, all-move-le n v few k l valid a b, all-few))))
 
     adds-taken : (m : Mode) → Adds (mostStatements * choiceMost) (blocksText (takenBlocks m n k v l))
     unfolding takenBlocks

@@ -12,11 +12,11 @@ use Rattle.lines.specs.PanelIn.{panelIn}
 abbrev pub headMost : ℕ
 headMost = 16 + (7 + 2) + (10 + 3) + (7 + 3 * mostStates)
 
--- "move 0 1 25200\n"
+-- "move 0 1 277200\n"
 abbrev pub moveMost : ℕ
 moveMost = 10 + numberDigits
 
--- "choice 32\n", "stay 25200\n", and a move into each other state
+-- "choice 32\n", "stay 277200\n", and a move into each other state
 abbrev pub choiceMost : ℕ
 choiceMost = 10 + (6 + numberDigits) + topState * moveMost
 

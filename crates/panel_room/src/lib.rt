@@ -1,7 +1,10 @@
 // A panel stored in a room that it fits into, or the length that it needs.
 use card::Head;
 use card::limits::BRANCH_PLACES;
+use card::limits::MOST_STATEMENTS;
+use card::limits::NUMBER_DIGITS;
 use card::limits::ROW_PLACES;
+use card::limits::TOP_STATE;
 use card::refusals::ROOM_TOO_SMALL;
 use panel_text::put_panel;
 use room::Answer;
@@ -15,7 +18,11 @@ ghost use Rattle.lines.specs.PanelIn.{panelIn};
 ghost use Rattle.panel_room.specs.PanelRoom.{Printable};
 
 // A room that every panel fits into (specs/PanelRoom.antt).
-pub const PANEL_ROOM: usize = 4101;
+const MOVE_MOST: usize = 10 + NUMBER_DIGITS;
+
+const CHOICE_MOST: usize = 10 + (6 + NUMBER_DIGITS) + TOP_STATE * MOVE_MOST;
+
+pub const PANEL_ROOM: usize = 69 + MOST_STATEMENTS * CHOICE_MOST;
 
 // How long a panel's text is: it is put into a room of no bytes.
 fn measure<'a>(

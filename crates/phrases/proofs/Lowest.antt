@@ -11,7 +11,7 @@ use native.Mathlib.Omega.{arith}
 use borrow.Author.Tests.{eq-eqb, ne-eqb, eqb-true, eqb-false, le-leb, lt-leb, leb-true}
 use lib.Dec.{eqb, leb}
 use Rattle.card.specs.Limits.{unit}
-use Rattle.card.specs.Weight.{ratio, cardRule, unitsOf}
+use Rattle.card.specs.Weight.{ratio, unitsOf}
 use Rattle.room.specs.Digits.{decimal}
 use Rattle.phrases.specs.Phrases.{LowestTerms, gcd, divisor, lowest, weightText}
 
@@ -132,12 +132,12 @@ module _ (u : ℕ) (h : u ≤ unit) where
   units-per : unit / under ≡ divisor u
   units-per = div-eq-of-eq-mul-right under-positive (sym whole-under)
 
-  ratio-kept : unitsOf cardRule (ratio above under) ≡ some u
+  ratio-kept : unitsOf (ratio above under) ≡ some u
   unfolding unitsOf
   ratio-kept = rw (le-leb 1 under under-positive, under-divides, le-leb above under above-le, units-per, whole-above)
 
   -- and is read as its units
-  pub lowest-kept : unitsOf cardRule (lowest u) ≡ some u
+  pub lowest-kept : unitsOf (lowest u) ≡ some u
   unfolding unitsOf
   lowest-kept = cases (eqb u 0)
       (λ e. rw e (ap some (sym (eqb-true u 0 e))))

@@ -1,4 +1,5 @@
 // Texts that several entries print: the mode, and weights in lowest terms ("Texts, byte for byte").
+use card::limits::NUMBER_DIGITS;
 use card::weight::Weight;
 use room::put_byte;
 use room::put_bytes;
@@ -52,6 +53,9 @@ fn divisor(units: u32) -> u32
     }
     a
 }
+
+// A fraction has two numbers and a sign between them at most (specs/Phrases.antt).
+pub const WEIGHT_MOST: usize = 1 + 2 * NUMBER_DIGITS;
 
 // A weight in lowest terms; units beyond the unit are not a weight, and are put as the unit.
 pub fn put_weight(room: &mut [u8], at: usize, units: u32) -> usize

@@ -15,6 +15,7 @@ use Rattle.card.specs.Limits.{mostSeats}
 use Rattle.card.specs.Refusals.{wrongSeats}
 use Rattle.card.specs.Text.{if_then_else_}
 use Rattle.card.specs.Card.{Card}
+use Rattle.card.specs.Weight.{cardRule}
 use Rattle.reading.specs.Reading.{Outcome, taken, refused as turned, readOf}
 use Rattle.entry.specs.Said.{refused, _>>=_, _>>_, return}
 use Rattle.card.specs.declared.Verdict.{Verdict}
@@ -80,7 +81,7 @@ module _ (card x y : List ℕ) (h : mostSeats < length x) (l : mostSeats < lengt
     where
       go : (o : Outcome) → readOf card ≡ o → outcomeSaid (readOf card) >>= shownSaid x ≡ outcomeSaid (readOf card) >>= shownSaid y
       go (taken c) e =
-          let v = read-valid card c e .seats-most in
+          let v = read-valid cardRule card c e .seats-most in
           rw (e, wrong (c .k) x v h, wrong (c .k) y v l)
       go (turned r p) e = rw e
 
@@ -113,7 +114,7 @@ unfolding panelSaid
 panel-short card seats = go (readOf card) refl
   where
     by-seats : (c : Card) → readOf card ≡ taken c → (s : Verdict) → judgedSeats (c .n) (c .k) seats ≡ s → Short panelRoom (verdictSaid s >> return (panelOf c seats))
-    by-seats c e Taken j = panel-fits c (read-valid card c e) seats (valid-exactly c seats .0 j)
+    by-seats c e Taken j = panel-fits c (read-valid cardRule card c e) seats (valid-exactly c seats .0 j)
     by-seats c e (Refused number place) j = tt
 
     go : (o : Outcome) → readOf card ≡ o → Short panelRoom (outcomeSaid o >>= shownSaid seats)

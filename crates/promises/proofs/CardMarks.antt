@@ -7,7 +7,7 @@ use mathlib.Core.Option.{Option, none, some}
 use native.Mathlib.Omega.{arith}
 use lib.ListN.{length}
 use Rattle.card.specs.Card.{Mode, Card, Formula}
-use Rattle.card.specs.Weight.{Weight, cardRule, Worth}
+use Rattle.card.specs.Weight.{Weight, Worth, Rule}
 use Rattle.card.specs.Valid.{Every}
 use Rattle.card.proofs.Laws.{units-worth}
 use Rattle.marks.specs.Marks.{Mark, seat, process, number, placed, marksOf}
@@ -19,7 +19,7 @@ use Rattle.reading.specs.Checks.{judgedWords, judgedBranch, judgedEach, judgedO
 use Rattle.grammar.specs.Grammar.{Said, signAt, LineSaid, ended, fixed, aSeat, aProcess, moduleRun, ManySaid, done as said-done, again as said-again, RestSaid, nothing as no-guard, guarded as a-guard, WeightSaid, aNumber, aRatio, aDecimal, BranchSaid, branch as said-branch, PlusSaid, plus as said-plus, StatementSaid, statement as said-statement, modeWord, CardSaid, card as said-card}
 use Rattle.grammar.specs.Rules.{Kept}
 use Rattle.grammar.specs.Verdicts.{KeptOn}
-use Rattle.reading.specs.Reading.{taken, readOf}
+use Rattle.reading.specs.Reading.{taken, readUnder}
 use Rattle.grammar.proofs.Fair.{every-append}
 use Rattle.grammar.proofs.Along.{strictly, along-whole, guard-along}
 use Rattle.grammar.proofs.Theorems.{accepted}
@@ -38,7 +38,7 @@ filled (seatWord ∷ items) (due ∷ dues) = seat due ∷ filled items dues
 filled (processWord ∷ items) [] = []
 filled (processWord ∷ items) (due ∷ dues) = process due ∷ filled items dues
 
-module _ (n k : ℕ) where
+module _ (decimals : Rule) (n k : ℕ) where
   abbrev Holds : List Judgement → Type 0
   Holds = Every (Kept n)
 
@@ -58,7 +58,7 @@ module _ (n k : ℕ) where
   weight-marks aRatio = refl
   weight-marks aDecimal = refl
 
-  units-in : (w : Weight) (u : ℕ) → Worth cardRule w u → unitsIn w ≡ u
+  units-in : (w : Weight) (u : ℕ) → Worth w u → unitsIn w ≡ u
   units-in w u h = ap orZero (units-worth w u .1 h)
 
   -- what a thing's marks are, and what follows it
@@ -69,13 +69,13 @@ module _ (n k : ℕ) where
   abbrev behindWeight : ℕ → List Mark
   behindWeight t = sign ":" ∷ sign "(" ∷ seat 1 ∷ sign "'" ∷ sign "=" ∷ number t ∷ sign ")" ∷ []
 
-  branch-marks : (ms r : Place) (x : BranchShape) → BranchSaid ms x r → Holds (judgedBranch k x) → Front BranchMarks (branchIn x) ms r
+  branch-marks : (ms r : Place) (x : BranchShape) → BranchSaid ms x r → Holds (judgedBranch decimals k x) → Front BranchMarks (branchIn x) ms r
   branch-marks ms r x (said-branch {t} {w = w} {ws} d l) h =
-      let (u, worth) = h .0 in
+      let (_, (u, worth)) = h .0 in
       let (due, end) = every-append (Kept n) (judgedWords (1 ∷ []) ws) _ (h .1) in
       (weightMarks w ++ behindWeight t, rw (units-in w u worth) (branch w worth), weight-marks d ∙ ap (λ (y : List Mark). weightMarks w ++ y) (line-marks l (1 ∷ []) due) ∙ sym (append-assoc (weightMarks w) (behindWeight t) (marks r)))
 
-  plus-marks : (ms r : Place) (x : BranchShape) → PlusSaid ms x r → Holds (judgedBranch k x) → Front PlusMarks (branchIn x) ms r
+  plus-marks : (ms r : Place) (x : BranchShape) → PlusSaid ms x r → Holds (judgedBranch decimals k x) → Front PlusMarks (branchIn x) ms r
   plus-marks ms r x (said-plus {ms = ns} d) h =
       let (front, b, e) = branch-marks ns r x d h in
       (sign "+" ∷ front, plus b, ap (λ (y : List Mark). sign "+" ∷ y) e)
@@ -111,15 +111,15 @@ module _ (n k : ℕ) where
   ends : (gs bs ps rest : List Mark) → (gs ++ (sign "->" ∷ (bs ++ (ps ++ (sign ";" ∷ []))))) ++ rest ≡ gs ++ (sign "->" ∷ (bs ++ (ps ++ (sign ";" ∷ rest))))
   ends gs bs ps rest = rw (append-assoc gs (sign "->" ∷ (bs ++ (ps ++ (sign ";" ∷ [])))) rest, append-assoc bs (ps ++ (sign ";" ∷ [])) rest, append-assoc ps (sign ";" ∷ []) rest)
 
-  statement-marks : (ms r : Place) (x : StatementShape) → StatementSaid ms x r → Holds (judgedStatement k x) → Front StatementMarks (statementIn n x) ms r
+  statement-marks : (ms r : Place) (x : StatementShape) → StatementSaid ms x r → Holds (judgedStatement decimals k x) → Front StatementMarks (statementIn n x) ms r
   statement-marks ms r x (said-statement {j} {a} {b} {c} {ns = ns} {os} {qs} {ws = ws} {g} {x = y} {xs = ys} l u d ds) h =
       let (due, h₁) = every-append (Kept n) (judgedWords (1 ∷ []) ws) _ h in
       let (_, h₂) = every-append (Kept n) (judgedOr k g) _ (h₁ .1) in
-      let (h₃, _) = every-append (Kept n) (judgedEach (judgedBranch k) (y ∷ ys)) _ h₂ in
-      let (h₄, h₅) = every-append (Kept n) (judgedBranch k y) (judgedEach (judgedBranch k) ys) h₃ in
+      let (h₃, _) = every-append (Kept n) (judgedEach (judgedBranch decimals k) (y ∷ ys)) _ h₂ in
+      let (h₄, h₅) = every-append (Kept n) (judgedBranch decimals k y) (judgedEach (judgedBranch decimals k) ys) h₃ in
       let (gs, guard, e₁) = rest-marks ns (signAt "->" b ∷ os) g u in
       let (bs, first, e₂) = branch-marks os qs y d h₄ in
-      let (ps, more, e₃) = many-marks (judgedBranch k) branchIn PlusMarks plus-marks ds h₅ in (
+      let (ps, more, e₃) = many-marks (judgedBranch decimals k) branchIn PlusMarks plus-marks ds h₅ in (
         begins j (gs ++ (sign "->" ∷ (bs ++ (ps ++ (sign ";" ∷ []))))),
         statement guard first more,
         line-marks l (1 ∷ []) due ∙ ap (begins j) (e₁ ∙ ap (λ (z : List Mark). gs ++ (sign "->" ∷ z)) (e₂ ∙ ap (λ (z : List Mark). bs ++ z) e₃) ∙ sym (ends gs bs ps (marks r))),
@@ -141,18 +141,18 @@ opens mode k l rest =
     sign (modeWord mode) ∷ sign "module" ∷ process 1
     ∷ seat 1 ∷ sign ":" ∷ sign "[" ∷ number 0 ∷ sign ".." ∷ number k ∷ sign "]" ∷ sign "init" ∷ number l ∷ sign ";" ∷ rest
 
-card-marks : {ms : Place} {c : CardShape} → CardSaid ms c → Every (KeptOn c) (judgedCard c) → CardMarks (cardIn c) (marks ms)
-card-marks (said-card {mode} {k} {l} {i = i} {ms = ms} {ns} {os} {qs} {ws} {x} {xs} {ys} w s ss ts) h =
+card-marks : (decimals : Rule) {ms : Place} {c : CardShape} → CardSaid ms c → Every (KeptOn c) (judgedCard decimals c) → CardMarks (cardIn c) (marks ms)
+card-marks decimals (said-card {mode} {k} {l} {i = i} {ms = ms} {ns} {os} {qs} {ws} {x} {xs} {ys} w s ss ts) h =
     let n = suc (length ys) in
     let (due, h₁) = every-append (Kept n) (judgedWords (1 ∷ 1 ∷ []) ws) _ h in
-    let (h₂, h₃) = every-append (Kept n) (judgedEach (judgedStatement k) (x ∷ xs)) (judgedModules 2 ys) (h₁ .1) in
-    let (h₄, h₅) = every-append (Kept n) (judgedStatement k x) (judgedEach (judgedStatement k) xs) h₂ in
-    let (fs, first, e₁) = statement-marks n k ns os x s h₄ in
-    let (gs, more, e₂) = many-marks n k (judgedStatement k) (statementIn n) StatementMarks (statement-marks n k) ss h₅ in
+    let (h₂, h₃) = every-append (Kept n) (judgedEach (judgedStatement decimals k) (x ∷ xs)) (judgedModules 2 ys) (h₁ .1) in
+    let (h₄, h₅) = every-append (Kept n) (judgedStatement decimals k x) (judgedEach (judgedStatement decimals k) xs) h₂ in
+    let (fs, first, e₁) = statement-marks decimals n k ns os x s h₄ in
+    let (gs, more, e₂) = many-marks decimals n k (judgedStatement decimals k) (statementIn n) StatementMarks (statement-marks decimals n k) ss h₅ in
     let e : marks (signAt (modeWord mode) 0 ∷ ms) ≡ opens mode k l (fs ++ (gs ++ (sign "endmodule" ∷ copies 2 (length ys)))) =
-    ap (λ (z : List Mark). sign (modeWord mode) ∷ z) (line-marks n k w (1 ∷ 1 ∷ []) due)
-    ∙ ap (opens mode k l) (e₁ ∙ ap (λ (z : List Mark). fs ++ z) (e₂ ∙ ap (λ (z : List Mark). gs ++ (sign "endmodule" ∷ z)) (modules-marks n k 2 ts h₃))) in
+    ap (λ (z : List Mark). sign (modeWord mode) ∷ z) (line-marks decimals n k w (1 ∷ 1 ∷ []) due)
+    ∙ ap (opens mode k l) (e₁ ∙ ap (λ (z : List Mark). fs ++ z) (e₂ ∙ ap (λ (z : List Mark). gs ++ (sign "endmodule" ∷ z)) (modules-marks decimals n k 2 ts h₃))) in
     rw e (card first more)
 
-pub taken-marks : (s : List ℕ) (c : Card) → readOf s ≡ taken c → CardMarks c (marks (marksOf s))
-taken-marks s c e = let a = accepted s c .0 e in rw (a .card) (card-marks (a .shaped .said) (a .kept))
+pub taken-marks : (decimals : Rule) (s : List ℕ) (c : Card) → readUnder decimals s ≡ taken c → CardMarks c (marks (marksOf s))
+taken-marks decimals s c e = let a = accepted decimals s c .0 e in rw (a .card) (card-marks decimals (a .shaped .said) (a .kept))

@@ -11,7 +11,7 @@ use Rattle.meaning.specs.CardA.{cardA}
 use Rattle.card.proofs.HeldIn.{lent-back}
 use Rattle.card.proofs.Laws.{units-worth, laid-back, laid-injective, laid-falls, valid-held, statements-long, nodes-long, branches-long, nodes-small, branches-small}
 use Rattle.card.specs.Refusals.{wrongWeight}
-use Rattle.card.specs.Weight.{cardRule, unitsOf}
+use Rattle.card.specs.Weight.{unitsOf}
 use Rattle.card.specs.Judged.{judgedOf, weightNumber, weightUnits}
 use Rattle.entry.proofs.Exactly.{_↔∙_}
 use Rattle.promises.specs.Cards.{Cards}
@@ -45,8 +45,8 @@ pub cards : Cards
 unfolding unitsOf
 cards = record {
   hundredths = refl;
-  weight-taken = λ w u. taken-units (unitsOf cardRule w) u ↔∙ units-worth w u;
-  weight-refused = λ w. no-units (unitsOf cardRule w) ↔∙ (λ h u k. h u (units-worth w u .1 k), λ h u e. h u (units-worth w u .0 e));
+  weight-taken = λ w u. taken-units (unitsOf w) u ↔∙ units-worth w u;
+  weight-refused = λ w. no-units (unitsOf w) ↔∙ (λ h u k. h u (units-worth w u .1 k), λ h u e. h u (units-worth w u .0 e));
   card-a = λ mode. card-a-valid mode;
   weights = units-worth;
   fits = λ c v.

@@ -10,6 +10,7 @@ use Rattle.meaning.specs.Reduced.{reduce}
 use Rattle.meaning.proofs.Demand.{demand, offers, stuck-alike, stuck-steps, starts}
 use Rattle.meaning.proofs.Stuck.{nothing-taken, stuck, moving, stuck-step, none-taken-at, stuck-at, moving-at, stuck-step-at}
 use Rattle.meaning.proofs.Total.{seats-full, seats-total, counts-full, counts-total}
+use Rattle.card.specs.Weight.{cardRule}
 use Rattle.grammar.proofs.Theorems.{read-valid}
 use Rattle.counting.proofs.Judging.{valid-exactly}
 use Rattle.rereading.proofs.RoundTrip.{read-again}
@@ -54,13 +55,13 @@ demand2 = record {
   written = λ b c h. rw h;
   reduced = λ b c h. rw h;
   shown = λ b c x h ok. rw (h, valid-exactly c x .1 ok);
-  again = read-again;
+  again = read-again cardRule cardRule;
 }
 
 pub demand3-of-bytes : Demand3-of-bytes
 demand3-of-bytes = record {
   agrees = λ b c x h ok. demand c x ok;
-  some-step = λ b c x h ok. (seats-total c (read-valid b c h) x, counts-total c (read-valid b c h) _);
+  some-step = λ b c x h ok. (seats-total c (read-valid cardRule b c h) x, counts-total c (read-valid cardRule b c h) _);
   one-step = λ b c x h ok s. (
     ap (λ (l : List (Step Seating)). length l) (stuck-steps c x ok s .0),
     ap (λ (l : List (Step (List ℕ))). length l) (stuck-steps c x ok s .1),

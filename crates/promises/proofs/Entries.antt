@@ -6,6 +6,7 @@ use mathlib.Core.List.{List}
 use native.Mathlib.Decide.{decLe}
 use native.Mathlib.Omega.{arith}
 use lib.ListN.{length}
+use Rattle.card.specs.Weight.{cardRule}
 use Rattle.card.specs.Refusals.{wrongWeight, wrongSeats, seatAboveTop, roomTooSmall}
 use Rattle.card.specs.Card.{Card}
 use Rattle.reading.specs.Reading.{Outcome, taken, refused, readOf}
@@ -79,8 +80,8 @@ module _ (f : Card → List ℕ) (card : List ℕ) {was is : List ℕ} {a : Answ
       go (yes l) = let z = sym (printed .done (length (f c)) .1 ((c, k), l, refl)) ∙ h in done≢refused z
       go (no l) = let z : roomTooSmall ≡ r = ap answerNumber (sym (printed .small-room (length (f c)) .1 ((c, k), omega arith, refl)) ∙ h) in (omega (arith, z), inr (sym z))
   other r p h (refused n q) k =
-      let z : n ≡ r = ap answerNumber (sym (wrong n q (read-number card k) .1 k) ∙ h) in
-      (omega (arith, z, number-some card k), inl (omega (arith, z, read-number card k)))
+      let z : n ≡ r = ap answerNumber (sym (wrong n q (read-number cardRule card k) .1 k) ∙ h) in
+      (omega (arith, z, number-some cardRule card k), inl (omega (arith, z, read-number cardRule card k)))
 
   prints : Prints f card was is a
   prints = record {
@@ -116,8 +117,8 @@ module _ (card seats was is : List ℕ) (a : Answer) (e : Entered was is (panelS
       go (yes l) = done≢refused (sym (shown .done (length (panelOf c seats)) .1 (((c, k), ok), l, refl)) ∙ h)
       go (no l) = let z : roomTooSmall ≡ r = ap answerNumber (sym (shown .small-room (length (panelOf c seats)) .1 (((c, k), ok), omega arith, refl)) ∙ h) in (omega (arith, z), omega (arith, z))
   other-shown r p h (card-way n q k _) =
-      let z : n ≡ r = ap answerNumber (sym (wrong-shown n q (read-number card k) .1 k) ∙ h) in
-      (omega (arith, z, number-some card k), omega (arith, z, read-number card k))
+      let z : n ≡ r = ap answerNumber (sym (wrong-shown n q (read-number cardRule card k) .1 k) ∙ h) in
+      (omega (arith, z, number-some cardRule card k), omega (arith, z, read-number cardRule card k))
   other-shown r p h (of-count c k n _) =
       let z : wrongSeats ≡ r = ap answerNumber (sym ((before-room told-faithful e wrongSeats 0 refl ↔∙ said-count card seats 0) .1 (c, k, n, refl)) ∙ h) in
       (omega (arith, z), omega (arith, z))
@@ -140,9 +141,9 @@ module _ (card seats was is : List ℕ) (a : Answer) (e : Entered was is (panelS
 
 pub rooms : Rooms
 rooms = record {
-  written = λ card was is a e l p r. let (c, t, g, _) = write card was is a e .small-room p .0 r in omega (arith, g, written-room c (read-valid card c t));
-  reduced = λ card was is a e l p r. let (c, t, g, _) = reduce card was is a e .small-room p .0 r in omega (arith, g, short c (read-valid card c t));
-  shown = λ card seats was is a e l p r. let (c, t, ok, g, _) = panel card seats was is a e .small-room p .0 r in omega (arith, g, panel-fits c (read-valid card c t) seats ok);
+  written = λ card was is a e l p r. let (c, t, g, _) = write card was is a e .small-room p .0 r in omega (arith, g, written-room c (read-valid cardRule card c t));
+  reduced = λ card was is a e l p r. let (c, t, g, _) = reduce card was is a e .small-room p .0 r in omega (arith, g, short c (read-valid cardRule card c t));
+  shown = λ card seats was is a e l p r. let (c, t, ok, g, _) = panel card seats was is a e .small-room p .0 r in omega (arith, g, panel-fits c (read-valid cardRule card c t) seats ok);
   written-most = written-room;
   reduced-most = short;
   shown-most = panel-fits;

@@ -47,6 +47,7 @@ figures = record {
   expansion-from = refl;
   malformed-deck = refl;
   no-live-card = refl;
+  decimal-weight = refl;
   written-room = refl;
   reduced-room = refl;
   panel-room = refl;

@@ -5,6 +5,7 @@ use mathlib.Core.Path.{_≡_, refl, sym, ap, _∙_, subst}
 use mathlib.Core.Logic.{_↔_, _⊎_, inl}
 use mathlib.Core.List.{List}
 use native.Mathlib.Omega.{arith}
+use Rattle.card.specs.Weight.{cardRule}
 use Rattle.card.specs.Refusals.{wrongWeight, wrongSeats, seatAboveTop, roomTooSmall}
 use Rattle.card.specs.Card.{Card}
 use Rattle.reading.specs.Reading.{Outcome, taken, refused, readOf}
@@ -103,9 +104,9 @@ judge-tells card = go (readOf card) refl
       no-other = omega arith;
     }
     go (refused n q) e = record {
-      fine = λ v. (λ h. absurd (omega (arith, h .0, number-some card e)), λ h. taken≢refused (sym (h .1) ∙ e));
+      fine = λ v. (λ h. absurd (omega (arith, h .0, number-some cardRule card e)), λ h. taken≢refused (sym (h .1) ∙ e));
       wrong-card = λ r p l. (λ h. e ∙ rw (h .0, h .1), λ h. let z = sym e ∙ h in (ap (λ (x : Outcome). judged x .number) z, ap (λ (x : Outcome). judged x .value) z));
-      no-other = read-number card e;
+      no-other = read-number cardRule card e;
     }
 
 pub for-c : ForC

@@ -15,3 +15,4 @@ pub mod Questions
 pub mod Decks
 pub mod DeckWriting
 pub mod Spectator
+pub mod Elevenths

@@ -2,24 +2,24 @@
 -- with its own number. Assumes nothing.
 use Prim.Native.Nat.{ℕ, zero, _≤_}
 use mathlib.Core.Path.{_≡_, refl, subst}
-use mathlib.Core.Bool.{Bool, true, false}
+use mathlib.Core.Bool.{Bool, true, false, _&&_}
 use mathlib.Core.List.{List, [], _∷_}
 use mathlib.Core.Option.{Option, none, some}
 use native.Mathlib.Omega.{arith}
 use lib.Dec.{eqb, leb}
 use lib.ListN.{length}
 use Rattle.card.specs.Limits.{cardBytes, unit}
-use Rattle.card.specs.Refusals.{tooLong, aboveTop, notDue, wrongWeight}
+use Rattle.card.specs.Refusals.{tooLong, aboveTop, notDue, wrongWeight, decimalWeight}
 use Rattle.card.specs.Text.{if_then_else_}
 use Rattle.card.specs.Card.{Card}
-use Rattle.card.specs.Weight.{cardRule, unitsOf}
+use Rattle.card.specs.Weight.{unitsOf, Rule, allowed, weightRefusal}
 use Rattle.marks.specs.Marks.{Placed, marksOf}
 use Rattle.reading.specs.Reader.{Place, at, Result, ok, stop}
 use Rattle.reading.specs.Guard.{isSome}
 use Rattle.reading.specs.Judgements.{Judgement, state, word, oneGroup, weight, sum, placeIn, symmetric, totalUnits, unless, broken, Verdict, fine, wrong, orElse, firstBroken}
 use Rattle.reading.specs.Shape.{CardShape, card}
 use Rattle.reading.specs.Checks.{judgedCard, seatsIn, cardIn}
-use Rattle.reading.specs.Reading.{Outcome, taken, refused, firstOutside, judged, shaped, marked, readOf}
+use Rattle.reading.specs.Reading.{Outcome, taken, refused, firstOutside, judged, shaped, marked, readUnder}
 use Rattle.grammar.proofs.Exact.{CardCause, unfits, exceeds, card-stops}
 
 -- ---- judgements
@@ -32,11 +32,15 @@ some-unless : (b : Bool) (r : ℕ) → 1 ≤ r → SomeNumber (unless b r)
 some-unless true r h = tt
 some-unless false r h = h
 
+weight-some : (b : Bool) → 1 ≤ (if b then wrongWeight else decimalWeight)
+weight-some true = omega arith
+weight-some false = omega arith
+
 some-broken : (n : ℕ) (j : Judgement) → SomeNumber (broken n j)
 some-broken n (state most v p) = some-unless (leb v most) aboveTop (omega arith)
 some-broken n (word due was p) = some-unless (eqb was due) notDue (omega arith)
 some-broken n (oneGroup g) = some-unless (symmetric n (g .literals)) notDue (omega arith)
-some-broken n (weight w p) = some-unless (isSome (unitsOf cardRule w)) wrongWeight (omega arith)
+some-broken n (weight decimals w p) = some-unless (allowed decimals w && isSome (unitsOf w)) (weightRefusal decimals w) (weight-some (allowed decimals w))
 some-broken n (sum ws p) = some-unless (eqb (totalUnits ws) unit) wrongWeight (omega arith)
 
 abbrev SomeVerdict : Verdict → Type 0
@@ -61,25 +65,25 @@ some-judged : (e : ℕ) (c : Card) (v : Verdict) → SomeVerdict v → SomeOutco
 some-judged e c fine h = tt
 some-judged e c (wrong r p) h = h
 
-some-shaped : (e : ℕ) (ms : Place) (x : Result CardShape) → card (at ms zero) ≡ x → SomeOutcome (shaped e x)
-some-shaped e ms (ok c s) h = some-judged e (cardIn c) (firstBroken (seatsIn c) (judgedCard c)) (some-first (seatsIn c) (judgedCard c))
-some-shaped e ms (stop r p) h = go (card-stops ms zero r p h .cause)
+some-shaped : (decimals : Rule) (e : ℕ) (ms : Place) (x : Result CardShape) → card (at ms zero) ≡ x → SomeOutcome (shaped decimals e x)
+some-shaped decimals e ms (ok c s) h = some-judged e (cardIn c) (firstBroken (seatsIn c) (judgedCard decimals c)) (some-first (seatsIn c) (judgedCard decimals c))
+some-shaped decimals e ms (stop r p) h = go (card-stops ms zero r p h .cause)
   where
     go : {pre : Place} → CardCause pre r p → 1 ≤ r
     go (unfits z _) = omega arith
     go (exceeds z _ _ _ _ _ _ _) = omega arith
 
-some-marked : (e : ℕ) (ms : List Placed) (o : Option ℕ) → SomeOutcome (marked e ms o)
-some-marked e ms none = some-shaped e ms (card (at ms zero)) refl
-some-marked e ms (some p) = omega arith
+some-marked : (decimals : Rule) (e : ℕ) (ms : List Placed) (o : Option ℕ) → SomeOutcome (marked decimals e ms o)
+some-marked decimals e ms none = some-shaped decimals e ms (card (at ms zero)) refl
+some-marked decimals e ms (some p) = omega arith
 
-some-read : (s : List ℕ) → SomeOutcome (readOf s)
-unfolding readOf
-some-read s = go (leb (length s) cardBytes)
+some-read : (decimals : Rule) (s : List ℕ) → SomeOutcome (readUnder decimals s)
+unfolding readUnder
+some-read decimals s = go (leb (length s) cardBytes)
   where
-    go : (b : Bool) → SomeOutcome (if b then marked (length s) (marksOf s) (firstOutside (marksOf s)) else refused tooLong 0)
-    go true = some-marked (length s) (marksOf s) (firstOutside (marksOf s))
+    go : (b : Bool) → SomeOutcome (if b then marked decimals (length s) (marksOf s) (firstOutside (marksOf s)) else refused tooLong 0)
+    go true = some-marked decimals (length s) (marksOf s) (firstOutside (marksOf s))
     go false = omega arith
 
-pub number-some : (s : List ℕ) {r p : ℕ} → readOf s ≡ refused r p → 1 ≤ r
-number-some s e = subst SomeOutcome e (some-read s)
+pub number-some : (decimals : Rule) (s : List ℕ) {r p : ℕ} → readUnder decimals s ≡ refused r p → 1 ≤ r
+number-some decimals s e = subst SomeOutcome e (some-read decimals s)

@@ -10,6 +10,7 @@ use native.Mathlib.Omega.{arith}
 use borrow.Author.Tests.{ne-eqb, le-leb, lt-leb}
 use lib.Dec.{leb}
 use lib.ListN.{length, take}
+use Rattle.card.specs.Weight.{cardRule}
 use Rattle.card.specs.Refusals.{wrongWeight, wrongSeats, seatAboveTop}
 use Rattle.card.specs.Card.{Card}
 use Rattle.card.specs.Valid.{Every}
@@ -64,7 +65,7 @@ module _ (card seats : List ℕ) where
   never-10 number place e = (go (decLe number wrongWeight), most number place e)
     where
       go : Dec (number ≤ wrongWeight) → 1 ≤ number
-      go (yes l) = number-some card (said-card card seats number place l .0 e)
+      go (yes l) = number-some cardRule card (said-card card seats number place l .0 e)
       go (no l) = omega arith
 
 -- ---- the input
@@ -113,7 +114,7 @@ responds input = go (way (cardRead input) (seatsRead input))
     prints e = program-printed input ∙ ap printed e
 
     go : Way (cardRead input) (seatsRead input) → Response input
-    go (of-card number place h k) = wrong-card number place h (number-some (cardRead input) h) (read-number (cardRead input) h) (prints k)
+    go (of-card number place h k) = wrong-card number place h (number-some cardRule (cardRead input) h) (read-number cardRule (cardRead input) h) (prints k)
     go (of-count c h n k) = wrong-count c h n (prints k)
     go (of-seat c h n p f k) = wrong-seat c h n p f (prints k)
-    go (of-panel c h ok k) = the-panel c h ok (panel-fits c (read-valid (cardRead input) c h) (seatsRead input) ok) (prints k)
+    go (of-panel c h ok k) = the-panel c h ok (panel-fits c (read-valid cardRule (cardRead input) c h) (seatsRead input) ok) (prints k)

@@ -7,6 +7,7 @@ use mathlib.Core.List.{List}
 use native.Mathlib.Decide.{decLe}
 use native.Mathlib.Omega.{arith}
 use lib.ListN.{length}
+use Rattle.card.specs.Weight.{cardRule}
 use Rattle.card.specs.Refusals.{wrongWeight, wrongSeats, seatAboveTop}
 use Rattle.card.specs.Card.{atom, Card}
 use Rattle.card.specs.Formulas.{over}
@@ -132,7 +133,7 @@ ask-tells card question seats h =
     some r p e = go (decLe r wrongWeight)
       where
         go : Dec (r ≤ wrongWeight) → 1 ≤ r
-        go (yes l) = number-some card (h .wrong-card r p l .0 e)
+        go (yes l) = number-some cardRule card (h .wrong-card r p l .0 e)
         go (no l) = omega arith
 
 answers : (card question seats : List ℕ) → Asks asSaid card question seats (askSaid card question seats)

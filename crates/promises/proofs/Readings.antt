@@ -6,6 +6,7 @@ use mathlib.Core.Logic.{_↔_, inl}
 use mathlib.Core.List.{List}
 use mathlib.Core.Option.{none, some}
 use native.Mathlib.Omega.{arith}
+use Rattle.card.specs.Weight.{cardRule}
 use Rattle.card.specs.Text.{if_then_else_}
 use Rattle.card.specs.Card.{everyone, others}
 use Rattle.reading.specs.Group.{Literal}
@@ -41,17 +42,17 @@ names-others n ls h = (λ e. once-is 2 (n - 1) n (omega arith) ls (is-others (on
 
 pub readings : Readings
 readings = record {
-  accepted = accepted;
-  valid = read-valid;
-  words = taken-marks;
+  accepted = accepted cardRule;
+  valid = read-valid cardRule;
+  words = taken-marks cardRule;
   names-everyone = names-everyone;
   names-others = names-others;
-  row-1 = refusal-1;
-  row-2 = refusal-2;
-  row-3 = refusal-3;
-  row-4 = refusal-4;
-  row-5 = refusal-5;
-  row-6 = refusal-6;
-  row-7 = refusal-7;
-  no-other = λ s e. (number-some s e, read-number s e);
+  row-1 = refusal-1 cardRule;
+  row-2 = refusal-2 cardRule;
+  row-3 = refusal-3 cardRule;
+  row-4 = refusal-4 cardRule;
+  row-5 = refusal-5 cardRule;
+  row-6 = refusal-6 cardRule;
+  row-7 = refusal-7 cardRule;
+  no-other = λ s e. (number-some cardRule s e, read-number cardRule s e);
 }

@@ -1,5 +1,6 @@
 -- The written card, by citing; the texts written out, by computing. Assumes nothing.
 use mathlib.Core.Path.{_≡_, refl, sym, ap, _∙_}
+use Rattle.card.specs.Weight.{cardRule}
 use Rattle.reading.specs.Reading.{taken}
 use Rattle.room.specs.Digits.{decimal}
 use Rattle.meaning.specs.CardA.{cardA}
@@ -26,10 +27,10 @@ writings = record {
   card-a = card-a-written;
   brackets = refl;
   whole-bars = refl;
-  again = read-again;
-  round-trip = round-trip;
+  again = read-again cardRule cardRule;
+  round-trip = round-trip cardRule;
   canonical = λ c d v w. ((λ e. ap writeOf e), written-once c d v w);
-  settled = λ s c d e h f. ap writeOf (sym (same-taken c d (sym (read-again s c e h) ∙ f)));
+  settled = λ s c d e h f. ap writeOf (sym (same-taken c d (sym (read-again cardRule cardRule s c e h) ∙ f)));
   numerals = decimal-exactly;
   lowest-terms = lowest-terms;
   worth = lowest-kept;

@@ -6,7 +6,7 @@ use mathlib.Core.List.{List, [], _∷_, _++_}
 use mathlib.Core.Option.{Option, none, some}
 use Rattle.card.specs.Text.{bytes}
 use Rattle.card.specs.Card.{Mode, Guard, Branch, Statement, Card}
-use Rattle.card.specs.Weight.{Weight, whole, decimal as point, ratio, cardRule, Worth}
+use Rattle.card.specs.Weight.{Weight, whole, decimal as point, ratio, Worth}
 use Rattle.marks.specs.Marks.{Mark, text, seat, process, number, decimal, Placed, placed}
 use Rattle.grammar.specs.Grammar.{modeWord}
 
@@ -26,7 +26,7 @@ weightMarks (point v n f) = decimal v n f ∷ []
 weightMarks (ratio a b) = number a ∷ sign "/" ∷ number b ∷ []
 
 pub data BranchMarks : Branch → List Mark → Type 0 where
-  branch : {units t : ℕ} (w : Weight) → Worth cardRule w units
+  branch : {units t : ℕ} (w : Weight) → Worth w units
       → BranchMarks (record { units = units; end = t }) (weightMarks w ++ (sign ":" ∷ sign "(" ∷ seat 1 ∷ sign "'" ∷ sign "=" ∷ number t ∷ sign ")" ∷ []))
 
 -- + and a branch

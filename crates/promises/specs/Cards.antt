@@ -8,7 +8,7 @@ use Rattle.card.specs.Limits.{mostStatements, mostNodes, nodePlaces, branchPlac
 use Rattle.card.specs.Card.{Mode, Statement, Card}
 use Rattle.card.specs.Valid.{ValidCard}
 use Rattle.card.specs.Refusals.{wrongWeight}
-use Rattle.card.specs.Weight.{Weight, decimal, cardRule, Worth, unitsOf}
+use Rattle.card.specs.Weight.{Weight, decimal, Worth, unitsOf}
 use Rattle.card.specs.Judged.{judgedOf, weightNumber, weightUnits}
 use Rattle.card.specs.Lent.{headOf, lentOf, cardIn}
 use Rattle.meaning.specs.CardA.{cardA}
@@ -25,12 +25,12 @@ pub record Fits (c : Card) : Type 0 where
 pub record Cards : Type 0 where
   -- there are valid cards: card A, in either mode
   pub card-a : (mode : Mode) → ValidCard (cardA mode)
-  -- a weight counts so many units exactly when it keeps its rule and is worth them
-  pub weights : (w : Weight) (u : ℕ) → (unitsOf cardRule w ≡ some u) ↔ Worth cardRule w u
-  pub hundredths : unitsOf cardRule (decimal 0 2 37) ≡ some 9324
+  -- a weight counts so many units exactly when it is worth them
+  pub weights : (w : Weight) (u : ℕ) → (unitsOf w ≡ some u) ↔ Worth w u
+  pub hundredths : unitsOf (decimal 0 2 37) ≡ some 102564
   -- what the weights' constructors answer, in document 01's numbers: 0 with the units, or 7
-  pub weight-taken : (w : Weight) (u : ℕ) → ((weightNumber (judgedOf (unitsOf cardRule w)) ≡ 0) × (weightUnits (judgedOf (unitsOf cardRule w)) ≡ u)) ↔ Worth cardRule w u
-  pub weight-refused : (w : Weight) → (weightNumber (judgedOf (unitsOf cardRule w)) ≡ wrongWeight) ↔ ((u : ℕ) → Worth cardRule w u → ⊥)
+  pub weight-taken : (w : Weight) (u : ℕ) → ((weightNumber (judgedOf (unitsOf w)) ≡ 0) × (weightUnits (judgedOf (unitsOf w)) ≡ u)) ↔ Worth w u
+  pub weight-refused : (w : Weight) → (weightNumber (judgedOf (unitsOf w)) ≡ wrongWeight) ↔ ((u : ℕ) → Worth w u → ⊥)
   -- every valid card has its struct
   pub fits : (c : Card) → ValidCard c → Fits c
   -- a card in its struct is the card, so two cards that lie there alike are the same

@@ -4,7 +4,7 @@ use Rattle.card.specs.Limits.{cardBytes, mostSeats, topState, mostStatements, m
 use Rattle.card.specs.Limits.{deckBytes, mostCards, countBytes, entryBytes, offsetAt, sizeAt, flagAt, zeroByteAt, expansionFrom}
 use Rattle.card.specs.Refusals.{tooLong, outsideRules, outOfShape, pastLimit, aboveTop, notDue, wrongWeight, wrongSeats, seatAboveTop, roomTooSmall}
 use Rattle.card.specs.Limits.{topClass, publicClasses}
-use Rattle.card.specs.Refusals.{malformedDeck, noLiveCard}
+use Rattle.card.specs.Refusals.{malformedDeck, noLiveCard, decimalWeight}
 use Rattle.card.specs.Refusals.{wrongClasses}
 use Rattle.room.specs.Digits.{digit}
 use Rattle.texts.specs.Lengths.{writtenRoom, reducedRoom}
@@ -14,7 +14,7 @@ use Rattle.asking.specs.Asking.{inQuestion}
 use Rattle.classes.specs.ClassesRoom.{classesRoom}
 
 pub record Figures : Type 0 where
-  -- "What the box holds"
+  -- "What the box holds"; digits as document 02, 2026-06, has them
   pub card-bytes : cardBytes ≡ 16384
   pub seats : mostSeats ≡ 16
   pub top-state : topState ≡ 7
@@ -22,12 +22,12 @@ pub record Figures : Type 0 where
   pub branches : mostBranches ≡ 8
   pub nodes : mostNodes ≡ 32
   pub depth : mostDepth ≡ 8
-  pub number-digits : numberDigits ≡ 5
+  pub number-digits : numberDigits ≡ 6
   -- "Marks on a card": digits behind a point, and in a seat or module word
-  pub further-digits : furtherDigits ≡ 5
+  pub further-digits : furtherDigits ≡ 6
   pub word-digits : wordDigits ≡ 5
-  -- "Shape of a card": a weight of 1, and the digits that a decimal weight may have behind its point
-  pub unit-is : unit ≡ 25200
+  -- "Shape of a card", with the unit of 2026-06: a weight of 1, and the digits that a decimal weight may have behind its point
+  pub unit-is : unit ≡ 277200
   pub weight-digits : weightDigits ≡ 2
   -- "Refusal numbers"
   pub too-long : tooLong ≡ 1
@@ -69,8 +69,10 @@ pub record Figures : Type 0 where
   pub top-class : topClass ≡ 7
   pub public-classes : publicClasses ≡ 8
   pub wrong-classes : wrongClasses ≡ 13
+  -- document 02, 2026-11: a decimal under a rule that takes none
+  pub decimal-weight : decimalWeight ≡ 17
   -- rooms that every text fits into; they are the project's own figures
-  pub written-room : writtenRoom ≡ 82639
-  pub reduced-room : reducedRoom ≡ 347890
-  pub panel-room : panelRoom ≡ 4101
+  pub written-room : writtenRoom ≡ 83151
+  pub reduced-room : reducedRoom ≡ 356082
+  pub panel-room : panelRoom ≡ 4357
   pub classes-room : classesRoom ≡ 25

@@ -13,3 +13,4 @@ pub mod Questions
 pub mod Decks
 pub mod DeckWriting
 pub mod Spectator
+pub mod Elevenths

@@ -54,6 +54,6 @@ pub record Panels : Type 0 where
   pub enabled-most : (c : Card) → ValidCard c → (x : Seating) → ValidSeating c x → panel c x .enabled ≤ mostSeats * mostStatements
   -- moves stand by old state, then by new, choices by their place on the card; and an example
   pub in-order : (c : Card) (x : Seating) → InOrder (panel c x)
-  pub order : panel turning (0 ∷ 1 ∷ []) .blocks ≡ record { choice = none; stay = 0; moves = record { old = 0; new = 2; weight = 25200 } ∷ record { old = 1; new = 0; weight = 25200 } ∷ [] } ∷ []
+  pub order : panel turning (0 ∷ 1 ∷ []) .blocks ≡ record { choice = none; stay = 0; moves = record { old = 0; new = 2; weight = unit } ∷ record { old = 1; new = 0; weight = unit } ∷ [] } ∷ []
   -- all that a panel shows can be read off its text
   pub read-off : (c d : Card) (x y : Seating) → panelOf c x ≡ panelOf d y → panel c x ≡ panel d y

@@ -6,6 +6,7 @@ use mathlib.Core.Logic.{_↔_}
 use mathlib.Core.List.{List, map}
 use mathlib.Core.Option.{some}
 use Rattle.card.specs.Card.{everyone, others, Card}
+use Rattle.card.specs.Weight.{cardRule}
 use Rattle.card.specs.Valid.{ValidCard}
 use Rattle.card.specs.Refusals.{tooLong, outsideRules, outOfShape, pastLimit, aboveTop, notDue, wrongWeight}
 use Rattle.marks.specs.Marks.{marksOf}
@@ -18,7 +19,7 @@ use Rattle.promises.specs.CardMarks.{markOf, CardMarks}
 
 pub record Readings : Type 0 where
   -- a card is taken exactly when its marks have the grammar's shape within the limits and keep the rules; and it is the grammar's card
-  pub accepted : (s : List ℕ) (c : Card) → (readOf s ≡ taken c) ↔ Accepted s c
+  pub accepted : (s : List ℕ) (c : Card) → (readOf s ≡ taken c) ↔ Accepted cardRule s c
   -- it is then valid: within all limits, its states at most k, its groups symmetric, its weights adding up
   pub valid : (s : List ℕ) (c : Card) → readOf s ≡ taken c → ValidCard c
   -- its marks, with the words that are due and no others
@@ -31,8 +32,8 @@ pub record Readings : Type 0 where
   pub row-2 : (s : List ℕ) (p : ℕ) → (readOf s ≡ refused outsideRules p) ↔ OutsideRules s p
   pub row-3 : (s : List ℕ) (p : ℕ) → (readOf s ≡ refused outOfShape p) ↔ OutOfShape s p
   pub row-4 : (s : List ℕ) (p : ℕ) → (readOf s ≡ refused pastLimit p) ↔ PastLimit s p
-  pub row-5 : (s : List ℕ) (p : ℕ) → (readOf s ≡ refused aboveTop p) ↔ Broken aboveTop s p
-  pub row-6 : (s : List ℕ) (p : ℕ) → (readOf s ≡ refused notDue p) ↔ Broken notDue s p
-  pub row-7 : (s : List ℕ) (p : ℕ) → (readOf s ≡ refused wrongWeight p) ↔ Broken wrongWeight s p
+  pub row-5 : (s : List ℕ) (p : ℕ) → (readOf s ≡ refused aboveTop p) ↔ Broken cardRule aboveTop s p
+  pub row-6 : (s : List ℕ) (p : ℕ) → (readOf s ≡ refused notDue p) ↔ Broken cardRule notDue s p
+  pub row-7 : (s : List ℕ) (p : ℕ) → (readOf s ≡ refused wrongWeight p) ↔ Broken cardRule wrongWeight s p
   -- there is no other refusal of a card
   pub no-other : (s : List ℕ) {r p : ℕ} → readOf s ≡ refused r p → (tooLong ≤ r) × (r ≤ wrongWeight)

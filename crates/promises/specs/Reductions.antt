@@ -1,9 +1,10 @@
 -- What demand 3 alone does not fix of the reduced program ("What a card means", "Texts, byte for byte"): its mode, its counters' range, how
 -- many copies there are, and where a raised counter is cut. Assumes nothing.
-use Prim.Native.Nat.{ℕ, _-_, _≤_}
+use Prim.Native.Nat.{ℕ, _-_, _*_, _/_, _≤_}
 use mathlib.Core.Path.{_≡_}
 use mathlib.Core.List.{List, [], _∷_, map}
 use mathlib.Core.Option.{Option, none, some}
+use Rattle.card.specs.Limits.{unit}
 use Rattle.card.specs.Text.{bytes}
 use Rattle.card.specs.Card.{nondeterministic, probabilistic, Kind, everyone, others, Sign, all, any, Relation, is, isnt, group, atom, neg, and, or, Statement, Card}
 use Rattle.texts.specs.ReducedText.{reducedOf}
@@ -16,7 +17,7 @@ use Rattle.meaning.specs.Reduced.{Bound, equalTo, moreThan, lessThan, counter, 
 
 -- document 01's one-seat card
 abbrev pub oneSeat : Card
-oneSeat = record { mode = nondeterministic; n = 1; k = 1; l = 0; statements = record { own = 0; guard = none; branches = record { units = 25200; end = 1 } ∷ [] } ∷ [] }
+oneSeat = record { mode = nondeterministic; n = 1; k = 1; l = 0; statements = record { own = 0; guard = none; branches = record { units = unit; end = 1 } ∷ [] } ∷ [] }
 
 -- two seats, and a guard of two groups
 abbrev pub joined : Card
@@ -29,7 +30,7 @@ joined = record {
       record {
         own = 0;
         guard = some (and (atom (group others all is 0)) (neg (atom (group everyone all is 1))));
-        branches = record { units = 18900; end = 0 } ∷ record { units = 6300; end = 1 } ∷ [];
+        branches = record { units = 3 * (unit / 4); end = 0 } ∷ record { units = unit / 4; end = 1 } ∷ [];
       }
       ∷ [];
 }
@@ -45,7 +46,7 @@ either = record {
       record {
         own = 1;
         guard = some (or (atom (group others any isnt 0)) (neg (or (atom (group others all isnt 1)) (atom (group everyone any is 1)))));
-        branches = record { units = 0; end = 0 } ∷ record { units = 25200; end = 1 } ∷ [];
+        branches = record { units = 0; end = 0 } ∷ record { units = unit; end = 1 } ∷ [];
       }
       ∷ [];
 }
@@ -60,10 +61,10 @@ line own least guard outcomes = record { own = own; least = least; guard = guard
 
 -- card A's two statements, with the first test no_j>m
 abbrev pub first : ℕ → Reduced
-first m = line 0 m (some (atom (counter 0 (moreThan 1)))) (outcome 12600 (shift 0 1 3) ∷ outcome 12600 (shift 0 2 3) ∷ [])
+first m = line 0 m (some (atom (counter 0 (moreThan 1)))) (outcome (unit / 2) (shift 0 1 3) ∷ outcome (unit / 2) (shift 0 2 3) ∷ [])
 
 abbrev pub second : ℕ → Reduced
-second m = line 1 m (some (atom (counter 2 (equalTo 0)))) (outcome 6300 (shift 1 2 3) ∷ outcome 18900 keep ∷ [])
+second m = line 1 m (some (atom (counter 2 (equalTo 0)))) (outcome (unit / 4) (shift 1 2 3) ∷ outcome (3 * (unit / 4)) keep ∷ [])
 
 -- the test that a group becomes, in a statement with local state j, for n seats
 abbrev pub becomes : ℕ → ℕ → Kind → Sign → Relation → ℕ → Bound → Type 0
@@ -103,7 +104,7 @@ pub record Reductions : Type 0 where
       ≡ bytes "probabilistic\nmodule generic_process\nno_0 : [0..2] init 0;\nno_1 : [0..2] init 2;\n[] (no_1>0) & ((no_0<1) | !((no_1=1) | (no_1>0))) -> 0:(no_1'=no_1-1) & (no_0'=min(no_0+1,2)) + 1:true;\n[] (no_1>1) & ((no_0<1) | !((no_1=1) | (no_1>0))) -> 0:(no_1'=no_1-1) & (no_0'=min(no_0+1,2)) + 1:true;\nendmodule\n"
   pub card-a-text : reducedOf (cardA probabilistic)
       ≡ bytes "probabilistic\nmodule generic_process\nno_0 : [0..3] init 3;\nno_1 : [0..3] init 0;\nno_2 : [0..3] init 0;\n[] (no_0>0) & (no_0>1) -> 1/2:(no_0'=no_0-1) & (no_1'=min(no_1+1,3)) + 1/2:(no_0'=no_0-1) & (no_2'=min(no_2+1,3));\n[] (no_0>1) & (no_0>1) -> 1/2:(no_0'=no_0-1) & (no_1'=min(no_1+1,3)) + 1/2:(no_0'=no_0-1) & (no_2'=min(no_2+1,3));\n[] (no_0>2) & (no_0>1) -> 1/2:(no_0'=no_0-1) & (no_1'=min(no_1+1,3)) + 1/2:(no_0'=no_0-1) & (no_2'=min(no_2+1,3));\n[] (no_1>0) & (no_2=0) -> 1/4:(no_1'=no_1-1) & (no_2'=min(no_2+1,3)) + 3/4:true;\n[] (no_1>1) & (no_2=0) -> 1/4:(no_1'=no_1-1) & (no_2'=min(no_2+1,3)) + 3/4:true;\n[] (no_1>2) & (no_2=0) -> 1/4:(no_1'=no_1-1) & (no_2'=min(no_2+1,3)) + 3/4:true;\nendmodule\n"
-  pub one-seat : reduce oneSeat ≡ record { mode = nondeterministic; most = 1; start = 1 ∷ 0 ∷ []; statements = line 0 0 none (outcome 25200 (shift 0 1 1) ∷ []) ∷ [] }
+  pub one-seat : reduce oneSeat ≡ record { mode = nondeterministic; most = 1; start = 1 ∷ 0 ∷ []; statements = line 0 0 none (outcome unit (shift 0 1 1) ∷ []) ∷ [] }
   pub card-a : reduce (cardA probabilistic)
       ≡ record { mode = probabilistic; most = 3; start = 3 ∷ 0 ∷ 0 ∷ []; statements = first 0 ∷ first 1 ∷ first 2 ∷ second 0 ∷ second 1 ∷ second 2 ∷ [] }
   pub card-a-free : reduce (cardA nondeterministic) ≡ record { mode = nondeterministic; most = 3; start = 3 ∷ 0 ∷ 0 ∷ []; statements = first 0 ∷ second 0 ∷ [] }

@@ -11,7 +11,7 @@ use Rattle.card.specs.Card.{Mode, nondeterministic, everyone, others, all, any,
 use Rattle.meaning.specs.CardA.{cardA}
 use Rattle.edges.specs.Edges.{textA}
 use Rattle.card.specs.Valid.{ValidCard}
-use Rattle.card.specs.Weight.{cardRule, unitsOf}
+use Rattle.card.specs.Weight.{unitsOf}
 use Rattle.reading.specs.Reading.{taken, readOf}
 use Rattle.room.specs.Digits.{decimal, Numeral, value}
 use Rattle.phrases.specs.Phrases.{LowestTerms, divisor, lowest}
@@ -27,7 +27,7 @@ bracketed =
       n = 3;
       k = 1;
       l = 1;
-      statements = record { own = 0; guard = some (and (and x (or y x)) (and (neg (and x y)) (neg x))); branches = record { units = 25200; end = 1 } ∷ [] } ∷ [];
+      statements = record { own = 0; guard = some (and (and x (or y x)) (and (neg (and x y)) (neg x))); branches = record { units = unit; end = 1 } ∷ [] } ∷ [];
     }
 
 -- `|` as the whole guard, alone, with a right operand of its own sign, with a left one and with `&` under it; and `!` twice. With one seat a
@@ -37,7 +37,7 @@ bars =
     let x = atom (group everyone all is 0) in
     let y = atom (group everyone all isnt 1) in
     let z = atom (group everyone all is 1) in
-    let guarded : Guard → Statement = λ g. record { own = 0; guard = some g; branches = record { units = 25200; end = 1 } ∷ [] } in
+    let guarded : Guard → Statement = λ g. record { own = 0; guard = some g; branches = record { units = unit; end = 1 } ∷ [] } in
     record {
       mode = nondeterministic;
       n = 1;
@@ -65,4 +65,4 @@ pub record Writings : Type 0 where
   pub numerals : (v : ℕ) (s : List ℕ) → (s ≡ decimal v) ↔ (Numeral s × (value s ≡ v))
   -- a weight is written in lowest terms, and what is written is worth its units
   pub lowest-terms : (u : ℕ) → u ≤ unit → LowestTerms u (u / divisor u) (unit / divisor u)
-  pub worth : (u : ℕ) → u ≤ unit → unitsOf cardRule (lowest u) ≡ some u
+  pub worth : (u : ℕ) → u ≤ unit → unitsOf (lowest u) ≡ some u

@@ -1,7 +1,7 @@
 -- Each by computing. Assumes nothing.
 use mathlib.Core.Path.{refl}
 use Rattle.card.specs.Weight.{unitsOf}
-use Rattle.reading.specs.Reading.{readOf}
+use Rattle.reading.specs.Reading.{readUnder}
 use Rattle.counting.specs.Judged.{judgedSeats, judgedFrom}
 use Rattle.asking.specs.Question.{mixedNext}
 use Rattle.asking.specs.Asking.{questionOf}
@@ -9,7 +9,7 @@ use Rattle.ask.specs.AskSaid.{askSaid}
 use Rattle.question_edges.specs.QuestionEdges.{QuestionEdges}
 
 pub question-edges : QuestionEdges
-unfolding askSaid questionOf mixedNext readOf unitsOf judgedSeats judgedFrom
+unfolding askSaid questionOf mixedNext readUnder unitsOf judgedSeats judgedFrom
 question-edges = record {
   leader-elected = (refl, refl, refl);
   as-printed = (refl, refl);
@@ -28,6 +28,7 @@ question-edges = record {
   depth = (refl, refl, refl, refl, refl);
   nodes = (refl, refl, refl);
   bytes-most = (refl, refl);
+  six-digits = (refl, refl);
   outside = (refl, refl, refl);
   order = (refl, refl, refl, refl, refl, refl, refl, refl, refl);
 }

@@ -125,6 +125,8 @@ pub record QuestionEdges : Type 0 where
   -- 16,384 bytes, and one more
   pub bytes-most : (askSaid cardA (blanks 16384) (0 ∷ 0 ∷ 1 ∷ []) ≡ refused 23 16384)
       × (askSaid cardA (blanks 16385) (0 ∷ 0 ∷ 1 ∷ []) ≡ refused 21 0)
+  -- a number of six digits, and of seven ("2026-06")
+  pub six-digits : (at001 "(s1=123456 | s2=123456 | s3=123456)" ≡ refused 25 4) × (at001 "(s1=1234567 | s2=0 | s3=0)" ≡ refused 22 4)
   -- a mark outside the rules goes before one out of shape that stands earlier; in a comment there is none
   pub outside : (at001 ") ?" ≡ refused 22 2)
       × (at001 "(s1=0 & s2=0 & s3=007)" ≡ refused 22 18)

@@ -1,16 +1,17 @@
 -- The whole card is its beginning, its statements and its further modules. Assumes nothing.
 use Prim.Native.Nat.{ℕ, zero, suc, _+_, _-_, _≤_, _<_}
 use mathlib.Core.Path.{_≡_, refl, sym, ap, _∙_}
-use mathlib.Core.Bool.{Bool, true, false}
+use mathlib.Core.Bool.{Bool, true, false, _&&_}
 use mathlib.Core.List.{List, [], _∷_, _++_}
 use mathlib.Core.Option.{Option, none, some}
 use native.Mathlib.Omega.{arith}
 use lib.Dec.{eqb, leb}
 use lib.ListN.{length, getD, length-map}
 use Rattle.card.specs.Limits.{cardBytes, mostStatements, mostSeats, unit}
-use Rattle.card.specs.Refusals.{outsideRules, aboveTop, notDue, wrongWeight}
+use Rattle.card.specs.Refusals.{outsideRules, aboveTop, notDue, wrongWeight, decimalWeight}
 use Rattle.card.specs.Card.{Mode, Card}
-use Rattle.card.specs.Weight.{cardRule, unitsOf}
+use Rattle.card.specs.Text.{if_then_else_}
+use Rattle.card.specs.Weight.{unitsOf, Rule, allowed, weightRefusal}
 use Rattle.card.specs.Laid.{modeNumber}
 use Rattle.card.specs.Lent.{Lent, headOf, lentOf, noneLent}
 use Rattle.marks.specs.Marks.{placeOf}
@@ -21,7 +22,7 @@ use Rattle.reading.specs.Shape.{StatementShape, CardShape, statement, moreState
 use Rattle.reading.specs.Guard.{isSome}
 use Rattle.reading.specs.Judgements.{Judgement, state, word, oneGroup, weight, sum, symmetric, totalUnits, placeIn, unless, broken, Verdict, fine, wrong, orElse, firstBroken}
 use Rattle.reading.specs.Checks.{judgedState, judgedWords, judgedEach, judgedStatement, judgedModules, judgedCard, statementIn, seatsIn, cardIn}
-use Rattle.reading.specs.Reading.{Outcome, taken, refused, firstOutside, judged, readOf}
+use Rattle.reading.specs.Reading.{Outcome, taken, refused, firstOutside, judged, readUnder, mostRefusal}
 use Rattle.reading.proofs.Through.{none≢some}
 use Rattle.grammar.proofs.Fair.{FairCard, card-fair}
 use Rattle.reading.proofs.Numbers.{read-number}
@@ -35,7 +36,7 @@ use Rattle.parts.specs.Parts.{from, Read, Answers}
 use Rattle.frame.specs.Frame.{HeaderShape, header, HeaderFrom, modules, ModulesFrom}
 use Rattle.reader.specs.declared.Due.{Due}
 use Rattle.reader.specs.declared.Outline.{Outline}
-use Rattle.reader.specs.ReadingOf.{outlineOf, memoryOf, ReadsInto}
+use Rattle.reader.specs.ReadingOf.{outlineOf, memoryOf, ReadsUnder}
 use Rattle.reader.specs.Search.{searched}
 use Rattle.statements.specs.Statements.{statements, filled, StatementsFrom}
 use Rattle.parts.proofs.Answers.{onward, halted, made}
@@ -60,12 +61,12 @@ card-parts s =
     (λ m ws k l. record { mode = m; words = ws; k = k; l = l }) shapeOf
 
 -- what the three parts say of the card's shape: the states behind them are h, l and t
-record Whole (s : List ℕ) (h l t : List ℕ) (was is : Lent) (c : CardShape) : Type 0 where
+record Whole (decimals : Rule) (s : List ℕ) (h l t : List ℕ) (was is : Lent) (c : CardShape) : Type 0 where
   mode : getD h atMode 0 ≡ modeNumber (c .mode)
   seats : valueIn t ≡ seatsIn c
   top : getD h atTop 0 ≡ c .k
   start : getD h atStart 0 ≡ c .l .value
-  late : lateIn t ≡ judgeAll (length s) (judgedCard c) noneYet
+  late : lateIn t ≡ judgeAll (length s) (judgedCard decimals c) noneYet
   count : valueIn l ≡ length (c .statements)
   memory : is ≡ filled 0 (c .statements) was
 
@@ -75,11 +76,15 @@ unless-number : (b : Bool) (a r : ℕ) → (a ≡ 0 → ⊥) → unless b a ≡ 
 unless-number true a r f e z = none≢some e
 unless-number false a r f e z = let y : a ≡ r = cc in f (y ∙ z)
 
+weight-refusal : (b : Bool) → (if b then wrongWeight else decimalWeight) ≡ 0 → ⊥
+weight-refusal true z = omega arith
+weight-refusal false z = omega arith
+
 some-number : (n : ℕ) (j : Judgement) (r : ℕ) → broken n j ≡ some r → r ≡ 0 → ⊥
 some-number n (state most v p) r = unless-number (leb v most) aboveTop r (λ e. omega arith)
 some-number n (word due was p) r = unless-number (eqb was due) notDue r (λ e. omega arith)
 some-number n (oneGroup g) r = unless-number (symmetric n (g .literals)) notDue r (λ e. omega arith)
-some-number n (weight w p) r = unless-number (isSome (unitsOf cardRule w)) wrongWeight r (λ e. omega arith)
+some-number n (weight decimals w p) r = unless-number (allowed decimals w && isSome (unitsOf w)) (weightRefusal decimals w) r (weight-refusal (allowed decimals w))
 some-number n (sum ws p) r = unless-number (eqb (totalUnits ws) unit) wrongWeight r (λ e. omega arith)
 
 no-number : (e n : ℕ) (js : List Judgement) → verdict e (firstBroken n js) .number ≡ 0 → firstBroken n js ≡ fine
@@ -94,43 +99,43 @@ no-number e n (j ∷ js) h = go (broken n j) refl h (no-number e n js)
 -- ---- a stop anywhere is a stop of the whole card
 
 -- reading stops so, unless a mark outside the rules stands there or further on
-pub record Stops (s : List ℕ) (n p : ℕ) : Type 0 where
-  pub outcome : readOf s ≡ orOutside n p (firstOutside (marksAt 0 s p))
+pub record Stops (decimals : Rule) (s : List ℕ) (n p : ℕ) : Type 0 where
+  pub outcome : readUnder decimals s ≡ orOutside n p (firstOutside (marksAt 0 s p))
 
-abbrev StopsAs : List ℕ → List ℕ → Type 0
-StopsAs s now = Stops s (getD now atStop 0) (getD now atStopPlace 0)
+abbrev StopsAs : Rule → List ℕ → List ℕ → Type 0
+StopsAs decimals s now = Stops decimals s (getD now atStop 0) (getD now atStopPlace 0)
 
 abbrev none-so : CardShape → List ℕ → Type 0
 none-so c r = ⊥
 
-module _ (s : List ℕ) (short : length s ≤ cardBytes) where
-  stopped-read : (x : Result CardShape) → card (from s 0 0) ≡ x → (now : List ℕ) → Answers s none-so x (after now 0) → StopsAs s now
+module _ (decimals : Rule) (s : List ℕ) (short : length s ≤ cardBytes) where
+  stopped-read : (x : Result CardShape) → card (from s 0 0) ≡ x → (now : List ℕ) → Answers s none-so x (after now 0) → StopsAs decimals s now
   stopped-read (ok c b) e now y = absurd (y .told)
   stopped-read (stop m p) e now y =
       let a : getD now atStop 0 ≡ m = ap (λ (r : Refusal). r .number) (y .refused) in
       let b : getD now atStopPlace 0 ≡ placeOf (length s) p = ap (λ (r : Refusal). r .place) (y .refused) in
-      rw (a, b) (record { outcome = read-stop s short m p e })
+      rw (a, b) (record { outcome = read-stop decimals s short m p e })
 
   module _ (h : List ℕ) {a : ℕ} (hh : HeaderFrom s 0 noneYet (after h a)) where
-    pub header-stops : a ≡ 0 → StopsAs s h
+    pub header-stops : a ≡ 0 → StopsAs decimals s h
     header-stops e = stopped-read (card (from s 0 0)) refl h
         (rw (card-parts (from s 0 0)) (halted s _ none-so (header (from s 0 0)) _ h a (hh .answers 0) e))
 
-    module _ (ea : a ≡ 0 → ⊥) (was is : Lent) (l : List ℕ) {b : ℕ} (hl : StatementsFrom s a (getD h atTop 0) (lateIn h) was is (after l b)) where
-      pub statements-stop : b ≡ 0 → StopsAs s l
+    module _ (ea : a ≡ 0 → ⊥) (was is : Lent) (l : List ℕ) {b : ℕ} (hl : StatementsFrom decimals s a (getD h atTop 0) (lateIn h) was is (after l b)) where
+      pub statements-stop : b ≡ 0 → StopsAs decimals s l
       statements-stop e = stopped-read (card (from s 0 0)) refl l
           (rw (card-parts (from s 0 0)) (onward s _ none-so (header (from s 0 0)) _ h a _ (hh .answers 0) ea λ x n f.
           halted s _ none-so (statements (mostStatements - 1) (from s a n)) _ l b (hl .answers n) e))
 
       module _ (eb : b ≡ 0 → ⊥) (t : List ℕ) {c : ℕ} (ht : ModulesFrom s b (lateIn l) (after t c)) where
-        pub modules-stop : c ≡ 0 → StopsAs s t
+        pub modules-stop : c ≡ 0 → StopsAs decimals s t
         modules-stop e = stopped-read (card (from s 0 0)) refl t
             (rw (card-parts (from s 0 0)) (onward s _ none-so (header (from s 0 0)) _ h a _ (hh .answers 0) ea λ x n f.
             onward s _ none-so (statements (mostStatements - 1) (from s a n)) _ l b _ (hl .answers n) eb λ xs m g.
             halted s _ none-so (modules (from s b m)) _ t c (ht .answers m) e))
 
         module _ (ec : c ≡ 0 → ⊥) where
-          shape-told : Answers s (λ x r. Whole s h l t was is x) (card (from s 0 0)) (after t c)
+          shape-told : Answers s (λ x r. Whole decimals s h l t was is x) (card (from s 0 0)) (after t c)
           unfolding judgeAll
           shape-told = rw (card-parts (from s 0 0)) (onward s _ _ (header (from s 0 0)) _ h a _ (hh .answers 0) ea λ x n f.
               onward s _ _ (statements (mostStatements - 1) (from s a n)) _ l b _ (hl .answers n) eb λ xs m g.
@@ -141,85 +146,92 @@ module _ (s : List ℕ) (short : length s ≤ cardBytes) where
                 start = f .start;
                 late = j .late
                     ∙ ap (judgeAll (length s) (judgedModules 2 ms))
-                    (g .went .late ∙ ap (λ (k : ℕ). judgeAll (length s) (judgedEach (judgedStatement k) xs) (lateIn h)) (f .top)
-                    ∙ ap (judgeAll (length s) (judgedEach (judgedStatement (x .k)) xs)) (f .late ∙ judge-append (length s) (judgedWords (1 ∷ 1 ∷ []) (x .words)) (judgedState (x .k) (x .l) ∷ []) noneYet))
-                    ∙ sym (judge-append (length s) (judgedWords (1 ∷ 1 ∷ []) (x .words)) (judgedState (x .k) (x .l) ∷ (judgedEach (judgedStatement (x .k)) xs ++ judgedModules 2 ms)) noneYet
-                    ∙ judge-append (length s) (judgedEach (judgedStatement (x .k)) xs) (judgedModules 2 ms) _);
+                    (g .went .late ∙ ap (λ (k : ℕ). judgeAll (length s) (judgedEach (judgedStatement decimals k) xs) (lateIn h)) (f .top)
+                    ∙ ap (judgeAll (length s) (judgedEach (judgedStatement decimals (x .k)) xs)) (f .late ∙ judge-append (length s) (judgedWords (1 ∷ 1 ∷ []) (x .words)) (judgedState (x .k) (x .l) ∷ []) noneYet))
+                    ∙ sym (judge-append (length s) (judgedWords (1 ∷ 1 ∷ []) (x .words)) (judgedState (x .k) (x .l) ∷ (judgedEach (judgedStatement decimals (x .k)) xs ++ judgedModules 2 ms)) noneYet
+                    ∙ judge-append (length s) (judgedEach (judgedStatement decimals (x .k)) xs) (judgedModules 2 ms) _);
                 count = g .went .value;
                 memory = g .memory;
               })
 
-          got : (x : Result CardShape) → card (from s 0 0) ≡ x → Answers s (λ x r. Whole s h l t was is x) x (after t c)
-              → (x : CardShape) × (b : State) × (card (from s 0 0) ≡ ok x b) × Whole s h l t was is x
+          got : (x : Result CardShape) → card (from s 0 0) ≡ x → Answers s (λ x r. Whole decimals s h l t was is x) x (after t c)
+              → (x : CardShape) × (b : State) × (card (from s 0 0) ≡ ok x b) × Whole decimals s h l t was is x
           got (ok x b) e y = (x, b, e, y .told)
           got (stop n p) e y = absurd (ec (y .none))
 
           -- z: the state once what is due is settled
           module _ (z : List ℕ) (hz : refusalIn z ≡ settled (valueIn t) (lateIn t)) where
             -- what is settled is the first broken judgement, and reading hangs on it
-            by-verdict : (x : CardShape) (b : State) → card (from s 0 0) ≡ ok x b → Whole s h l t was is x
-                → (refusalIn z ≡ verdict (length s) (firstBroken (seatsIn x) (judgedCard x))) × (readOf s ≡ judged (length s) (cardIn x) (firstBroken (seatsIn x) (judgedCard x)))
+            by-verdict : (x : CardShape) (b : State) → card (from s 0 0) ≡ ok x b → Whole decimals s h l t was is x
+                → (refusalIn z ≡ verdict (length s) (firstBroken (seatsIn x) (judgedCard decimals x))) × (readUnder decimals s ≡ judged (length s) (cardIn x) (firstBroken (seatsIn x) (judgedCard decimals x)))
             by-verdict x b e w =
                 let g = shape-of (marksAt 0 s 0) x b e in
                 let f = card-fair (g .0) (g .1) in (
-                  hz ∙ ap (settled (valueIn t)) (w .late) ∙ ap (λ (n : ℕ). settled n (judgeAll (length s) (judgedCard x) noneYet)) (w .seats)
-                      ∙ settled-first (length s) (seatsIn x) (omega arith) (omega (arith, f .modules)) (judgedCard x),
-                  read-shape s short x b e,
+                  hz ∙ ap (settled (valueIn t)) (w .late) ∙ ap (λ (n : ℕ). settled n (judgeAll (length s) (judgedCard decimals x) noneYet)) (w .seats)
+                      ∙ settled-first (length s) (seatsIn x) (omega arith) (omega (arith, f .modules)) (judgedCard decimals x),
+                  read-shape decimals s short x b e,
                 )
 
-            pub late-read : (getD z atStop 0 ≡ 0 → ⊥) → readOf s ≡ refused (getD z atStop 0) (getD z atStopPlace 0)
+            pub late-read : (getD z atStop 0 ≡ 0 → ⊥) → readUnder decimals s ≡ refused (getD z atStop 0) (getD z atStopPlace 0)
             late-read f = go (got (card (from s 0 0)) refl shape-told)
               where
                 by : (x : CardShape) (v : Verdict) → refusalIn z ≡ verdict (length s) v → judged (length s) (cardIn x) v ≡ refused (getD z atStop 0) (getD z atStopPlace 0)
                 by x fine e = absurd (f (ap (λ (y : Refusal). y .number) e))
                 by x (wrong r p) e = sym (ap (λ (y : Refusal). refused (y .number) (y .place)) e)
 
-                go : (x : CardShape) × (b : State) × (card (from s 0 0) ≡ ok x b) × Whole s h l t was is x → readOf s ≡ refused (getD z atStop 0) (getD z atStopPlace 0)
-                go (x, b, e, w) = let y = by-verdict x b e w in y .1 ∙ by x (firstBroken (seatsIn x) (judgedCard x)) (y .0)
+                go : (x : CardShape) × (b : State) × (card (from s 0 0) ≡ ok x b) × Whole decimals s h l t was is x → readUnder decimals s ≡ refused (getD z atStop 0) (getD z atStopPlace 0)
+                go (x, b, e, w) = let y = by-verdict x b e w in y .1 ∙ by x (firstBroken (seatsIn x) (judgedCard decimals x)) (y .0)
 
             -- the card, its head, and the arrays that it lies in
             pub taken-read : getD z atStop 0 ≡ 0 → was ≡ noneLent
-                → (c : Card) × (readOf s ≡ taken c)
+                → (c : Card) × (readUnder decimals s ≡ taken c)
                 × (record { mode = getD h atMode 0; seats = valueIn t; top = getD h atTop 0; start = getD h atStart 0; count = valueIn l } ≡ headOf c) × (is ≡ lentOf c)
             taken-read f zeros = go (got (card (from s 0 0)) refl shape-told)
               where
-                go : (x : CardShape) × (b : State) × (card (from s 0 0) ≡ ok x b) × Whole s h l t was is x → (c : Card) × (readOf s ≡ taken c)
+                go : (x : CardShape) × (b : State) × (card (from s 0 0) ≡ ok x b) × Whole decimals s h l t was is x → (c : Card) × (readUnder decimals s ≡ taken c)
                     × (record { mode = getD h atMode 0; seats = valueIn t; top = getD h atTop 0; start = getD h atStart 0; count = valueIn l } ≡ headOf c) × (is ≡ lentOf c)
                 go (x, b, e, w) =
                     let y = by-verdict x b e w in
-                    let v : firstBroken (seatsIn x) (judgedCard x) ≡ fine = no-number (length s) (seatsIn x) (judgedCard x) (sym (ap (λ (q : Refusal). q .number) (y .0)) ∙ f) in
-                    let t : readOf s ≡ taken (cardIn x) = y .1 ∙ ap (judged (length s) (cardIn x)) v in
+                    let v : firstBroken (seatsIn x) (judgedCard decimals x) ≡ fine = no-number (length s) (seatsIn x) (judgedCard decimals x) (sym (ap (λ (q : Refusal). q .number) (y .0)) ∙ f) in
+                    let t : readUnder decimals s ≡ taken (cardIn x) = y .1 ∙ ap (judged (length s) (cardIn x)) v in
                     let count : valueIn l ≡ length (cardIn x .statements) = w .count ∙ sym (length-map (x .statements) (statementIn (seatsIn x))) in (
                       cardIn x,
                       t,
                       (λ i. record { mode = w .mode i; seats = w .seats i; top = w .top i; start = w .start i; count = count i }),
-                      w .memory ∙ ap (filled 0 (x .statements)) zeros ∙ card-lent x v (read-valid s (cardIn x) t),
+                      w .memory ∙ ap (filled 0 (x .statements)) zeros ∙ card-lent decimals x v (read-valid decimals s (cardIn x) t),
                     )
 
 -- ---- the contract, by the outcome
 
 -- the number of a refusal is small
-pub searched-number : {s : List ℕ} {n p : ℕ} → Stops s n p → {x : Due} → x ≡ searched n p (firstOutside (marksAt 0 s p)) → x .number ≤ wrongWeight
-searched-number {s} {n} {p} h {x} e = go (firstOutside (marksAt 0 s p)) (h .outcome) e
+pub small-number : (decimals : Rule) (s : List ℕ) {r p : ℕ} → readUnder decimals s ≡ refused r p → r ≤ decimalWeight
+small-number decimals s {r} e = go decimals (read-number decimals s e)
   where
-    go : (o : Option ℕ) → readOf s ≡ orOutside n p o → x ≡ searched n p o → x .number ≤ wrongWeight
-    go none f g = rw g (read-number s f)
-    go (some q) f g = rw g (read-number s f)
+    go : (b : Bool) → r ≤ mostRefusal b → r ≤ decimalWeight
+    go true h = omega arith
+    go false h = h
 
-module _ {s : List ℕ} {r : Outline} {x : Lent} where
-  by-outcome : (o : Outcome) → readOf s ≡ o → r ≡ outlineOf o → x ≡ memoryOf o → ReadsInto s r x
-  by-outcome o e f g = record { outline = rw e f; memory = rw e g; valid = read-valid s }
+pub searched-number : {decimals : Rule} {s : List ℕ} {n p : ℕ} → Stops decimals s n p → {x : Due} → x ≡ searched n p (firstOutside (marksAt 0 s p)) → x .number ≤ decimalWeight
+searched-number {decimals} {s} {n} {p} h {x} e = go (firstOutside (marksAt 0 s p)) (h .outcome) e
+  where
+    go : (o : Option ℕ) → readUnder decimals s ≡ orOutside n p o → x ≡ searched n p o → x .number ≤ decimalWeight
+    go none f g = rw g (small-number decimals s f)
+    go (some q) f g = rw g (small-number decimals s f)
 
-  pub reads-refused : {k p : ℕ} → readOf s ≡ refused k p → r ≡ outlineOf (refused k p) → x ≡ noneLent → ReadsInto s r x
+module _ {decimals : Rule} {s : List ℕ} {r : Outline} {x : Lent} where
+  by-outcome : (o : Outcome) → readUnder decimals s ≡ o → r ≡ outlineOf o → x ≡ memoryOf o → ReadsUnder decimals s r x
+  by-outcome o e f g = record { outline = rw e f; memory = rw e g; valid = read-valid decimals s }
+
+  pub reads-refused : {k p : ℕ} → readUnder decimals s ≡ refused k p → r ≡ outlineOf (refused k p) → x ≡ noneLent → ReadsUnder decimals s r x
   reads-refused {k} {p} = by-outcome (refused k p)
 
-  pub reads-searched : {n p : ℕ} → Stops s n p → {y : Due} → y ≡ searched n p (firstOutside (marksAt 0 s p))
-      → r ≡ outlineOf (refused (y .number) (y .place)) → x ≡ noneLent → ReadsInto s r x
+  pub reads-searched : {n p : ℕ} → Stops decimals s n p → {y : Due} → y ≡ searched n p (firstOutside (marksAt 0 s p))
+      → r ≡ outlineOf (refused (y .number) (y .place)) → x ≡ noneLent → ReadsUnder decimals s r x
   reads-searched {n} {p} h {y} e f = go (firstOutside (marksAt 0 s p)) (h .outcome) e
     where
-      go : (o : Option ℕ) → readOf s ≡ orOutside n p o → y ≡ searched n p o → x ≡ noneLent → ReadsInto s r x
+      go : (o : Option ℕ) → readUnder decimals s ≡ orOutside n p o → y ≡ searched n p o → x ≡ noneLent → ReadsUnder decimals s r x
       go none a b = reads-refused a (f ∙ ap (λ (z : Due). outlineOf (refused (z .number) (z .place))) b)
       go (some q) a b = reads-refused a (f ∙ ap (λ (z : Due). outlineOf (refused (z .number) (z .place))) b)
 
-  pub reads-taken : (c : Card) → readOf s ≡ taken c → r ≡ outlineOf (taken c) → x ≡ lentOf c → ReadsInto s r x
+  pub reads-taken : (c : Card) → readUnder decimals s ≡ taken c → r ≡ outlineOf (taken c) → x ≡ lentOf c → ReadsUnder decimals s r x
   reads-taken c = by-outcome (taken c)

@@ -8,6 +8,7 @@ use native.Mathlib.Omega.{arith}
 use lib.ListN.{length, set, length-append, length-map}
 use Rattle.card.specs.Limits.{mostStatements, rowNumbers, mostNodes, mostBranches, nodePlaces, branchPlaces, topState, numbers, unit}
 use Rattle.card.specs.Card.{Formula, Guard, Branch, Statement, Card}
+use Rattle.card.specs.Weight.{Rule}
 use Rattle.card.specs.Valid.{Every, ValidGuard, ValidBranch, ValidStatement, ValidCard}
 use Rattle.card.specs.Laid.{branchNumber, guardCells, guardSize, zeros, padded, rows, nodeRow, branchRow, statementRow, statementRows, laid}
 use Rattle.card.specs.Rows.{rowsOf}
@@ -65,10 +66,10 @@ record Fits (n : ℕ) (x : StatementShape) : Type 0 where
   branches : map packedIn (x .branches) ≡ map branchNumber (map branchIn (x .branches))
   few : Few (statementIn n x)
 
-abbrev inBranches : ℕ → StatementShape → List Judgement
-inBranches k x = judgedEach (judgedBranch k) (x .branches) ++ (sum (map weightIn (x .branches)) (x .close) ∷ [])
+abbrev inBranches : Rule → ℕ → StatementShape → List Judgement
+inBranches decimals k x = judgedEach (judgedBranch decimals k) (x .branches) ++ (sum (map weightIn (x .branches)) (x .close) ∷ [])
 
-module _ (n k : ℕ) where
+module _ (decimals : Rule) (n k : ℕ) where
   guard-fits : (g : Option (Formula Literals)) → firstBroken n (judgedOr k g) ≡ fine → guardOrBy g ≡ guardOr n g
   guard-fits none h = refl
   guard-fits (some g) h = ap some (same-guard n k g h)
@@ -81,20 +82,20 @@ module _ (n k : ℕ) where
   few-nodes none h = omega arith
   few-nodes (some g) h = h .2
 
-  statement-fits : (x : StatementShape) → k ≤ topState → firstBroken n (judgedStatement k x) ≡ fine → ValidStatement n k (statementIn n x) → Fits n x
+  statement-fits : (x : StatementShape) → k ≤ topState → firstBroken n (judgedStatement decimals k x) ≡ fine → ValidStatement n k (statementIn n x) → Fits n x
   statement-fits x t h v =
-      let own = fine-append n (judgedWords (1 ∷ []) (x .words)) (judgedState k (x .own) ∷ (judgedOr k (x .guard) ++ inBranches k x)) h .1 in
-      let guard = fine-append n (judgedOr k (x .guard)) (inBranches k x) (fine-cons n (judgedState k (x .own)) (judgedOr k (x .guard) ++ inBranches k x) own .1) .0 in
+      let own = fine-append n (judgedWords (1 ∷ []) (x .words)) (judgedState k (x .own) ∷ (judgedOr k (x .guard) ++ inBranches decimals k x)) h .1 in
+      let guard = fine-append n (judgedOr k (x .guard)) (inBranches decimals k x) (fine-cons n (judgedState k (x .own)) (judgedOr k (x .guard) ++ inBranches decimals k x) own .1) .0 in
       record {
         guard = guard-fits (x .guard) guard;
         branches = branches-fit (x .branches) t (v .branches);
         few = (few-nodes (guardOr n (x .guard)) (v .guard), v .some .1);
       }
 
-  all-fit : (xs : List StatementShape) → k ≤ topState → firstBroken n (judgedEach (judgedStatement k) xs) ≡ fine → Every (ValidStatement n k) (map (statementIn n) xs) → Every (Fits n) xs
+  all-fit : (xs : List StatementShape) → k ≤ topState → firstBroken n (judgedEach (judgedStatement decimals k) xs) ≡ fine → Every (ValidStatement n k) (map (statementIn n) xs) → Every (Fits n) xs
   all-fit [] t h v = tt
   all-fit (x ∷ xs) t h v =
-      let both = fine-append n (judgedStatement k x) (judgedEach (judgedStatement k) xs) h in
+      let both = fine-append n (judgedStatement decimals k x) (judgedEach (judgedStatement decimals k) xs) h in
       (statement-fits x t (both .0) (v .0), all-fit xs t (both .1) (v .1))
 
 -- ---- statement by statement
@@ -142,13 +143,13 @@ none-yet = refl
 
 -- ---- the card's arrays
 
-pub card-lent : (c : CardShape) → firstBroken (seatsIn c) (judgedCard c) ≡ fine → ValidCard (cardIn c) → filled 0 (c .statements) noneLent ≡ lentOf (cardIn c)
+pub card-lent : (decimals : Rule) (c : CardShape) → firstBroken (seatsIn c) (judgedCard decimals c) ≡ fine → ValidCard (cardIn c) → filled 0 (c .statements) noneLent ≡ lentOf (cardIn c)
 unfolding laid
-card-lent c h v =
+card-lent decimals c h v =
     let n = seatsIn c in
-    let body = judgedEach (judgedStatement (c .k)) (c .statements) ++ judgedModules 2 (c .modules) in
+    let body = judgedEach (judgedStatement decimals (c .k)) (c .statements) ++ judgedModules 2 (c .modules) in
     let words = fine-append n (judgedWords (1 ∷ 1 ∷ []) (c .words)) (judgedState (c .k) (c .l) ∷ body) h .1 in
-    let each = fine-append n (judgedEach (judgedStatement (c .k)) (c .statements)) (judgedModules 2 (c .modules)) (fine-cons n (judgedState (c .k) (c .l)) body words .1) .0 in
-    let fit = all-fit n (c .k) (c .statements) (v .top) each (v .statements) in
+    let each = fine-append n (judgedEach (judgedStatement decimals (c .k)) (c .statements)) (judgedModules 2 (c .modules)) (fine-cons n (judgedState (c .k) (c .l)) body words .1) .0 in
+    let fit = all-fit decimals n (c .k) (c .statements) (v .top) each (v .statements) in
     let few : length (c .statements) ≤ mostStatements = rw (length-map (c .statements) (statementIn n)) at (v .some .1) in
     ap (filled 0 (c .statements)) none-yet ∙ all-filled n (c .statements) [] 0 refl tt fit (omega arith)

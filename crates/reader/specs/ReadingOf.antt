@@ -3,9 +3,10 @@ use Prim.Native.Nat.{ℕ}
 use mathlib.Core.Path.{_≡_}
 use mathlib.Core.List.{List}
 use Rattle.card.specs.Card.{Card}
+use Rattle.card.specs.Weight.{Rule, cardRule}
 use Rattle.card.specs.Valid.{ValidCard}
 use Rattle.card.specs.Laid.{laid, blank}
-use Rattle.reading.specs.Reading.{Outcome, taken, refused, readOf}
+use Rattle.reading.specs.Reading.{Outcome, taken, refused, readUnder, readOf}
 use Rattle.card.specs.Lent.{Lent, headOf, noHead, lentOf, noneLent}
 use Rattle.card.specs.declared.Verdict.the-variants.{Taken, Refused}
 use Rattle.reader.specs.declared.Reading.{Reading}
@@ -30,7 +31,11 @@ abbrev pub memoryOf : Outcome → Lent
 memoryOf (taken c) = lentOf c
 memoryOf (refused r p) = noneLent
 
-pub record ReadsInto (bytes : List ℕ) (r : Outline) (x : Lent) : Type 0 where
-  pub outline : r ≡ outlineOf (readOf bytes)
-  pub memory : x ≡ memoryOf (readOf bytes)
-  pub valid : (c : Card) → readOf bytes ≡ taken c → ValidCard c
+-- under a rule of a weight
+pub record ReadsUnder (decimals : Rule) (bytes : List ℕ) (r : Outline) (x : Lent) : Type 0 where
+  pub outline : r ≡ outlineOf (readUnder decimals bytes)
+  pub memory : x ≡ memoryOf (readUnder decimals bytes)
+  pub valid : (c : Card) → readUnder decimals bytes ≡ taken c → ValidCard c
+
+abbrev pub ReadsInto : List ℕ → Outline → Lent → Type 0
+ReadsInto bytes r x = ReadsUnder cardRule bytes r x

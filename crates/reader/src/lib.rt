@@ -13,6 +13,7 @@ use card::limits::ROW_PLACES;
 use card::no_statement;
 use card::refusals::OUTSIDE_RULES;
 use card::refusals::TOO_LONG;
+use card::weight::Weight;
 use frame::header::header as beginning;
 use frame::modules::modules as further_modules;
 use late::settle;
@@ -34,11 +35,11 @@ ghost use Rattle.card.specs.Limits.{mostStatements};
 ghost use Rattle.card.specs.Laid.{zeros};
 ghost use Rattle.card.specs.Rows.{rowsFrom};
 ghost use Rattle.card.specs.Lent.{lent, noneLent};
-ghost use Rattle.card.specs.Refusals.{wrongWeight};
+ghost use Rattle.card.specs.Refusals.{decimalWeight};
 ghost use Rattle.marks.specs.Step.{marksAt};
 ghost use Rattle.reading.specs.Reading.{firstOutside, refused as refusedWith};
 ghost use Rattle.reader.specs.Search.{searched};
-ghost use Rattle.reader.specs.ReadingOf.{outlineOf, Reads, ReadsInto};
+ghost use Rattle.reader.specs.ReadingOf.{outlineOf, Reads, ReadsUnder, ReadsInto};
 
 pub struct Reading {
     pub verdict: Verdict,
@@ -108,9 +109,9 @@ fn clear_rows(rows: &mut [usize])
     }
 }
 
-// Reading refuses with one of the first seven numbers.
+// Reading refuses with one of the first seven numbers, or with that of a decimal.
 fn refused(due: Due) -> Outline
-    requires { ⌜ due .number ≤ wrongWeight ⌝ }
+    requires { ⌜ due .number ≤ decimalWeight ⌝ }
     ensures { λ r. ⌜ r ≡ outlineOf (refusedWith (due .number) (due .place)) ⌝ }
 {
     let number = due.number;
@@ -132,7 +133,7 @@ fn refused_late(
     nodes: &mut [u32; NODE_PLACES],
     branches: &mut [u32; BRANCH_PLACES],
 ) -> Outline
-    requires { ⌜ due .number ≤ wrongWeight ⌝ }
+    requires { ⌜ due .number ≤ decimalWeight ⌝ }
     ensures outline { λ r. ⌜ r ≡ outlineOf (refusedWith (due .number) (due .place)) ⌝ }
     ensures memory { λ r. ⌜ lent (now (rows .exit)) (now (nodes .exit)) (now (branches .exit)) ≡ noneLent ⌝ }
 {
@@ -142,15 +143,17 @@ fn refused_late(
     refused(due)
 }
 
-// The card that the bytes spell, or the refusal that is due; its arrays are lent as zeros, and a refusal leaves them so.
-pub fn read_into(
+// The card that the bytes spell by a rule of a weight, which says whether a decimal may be one, or the refusal that is due; its arrays are
+// lent as zeros, and a refusal leaves them so.
+pub fn read_under(
     card: &[u8],
+    decimals: bool,
     rows: &mut [usize; ROW_PLACES],
     nodes: &mut [u32; NODE_PLACES],
     branches: &mut [u32; BRANCH_PLACES],
 ) -> Outline
     requires { ⌜ lent (now rows) (now nodes) (now branches) ≡ noneLent ⌝ }
-    ensures { λ r. ⌜ ReadsInto (now (card .entry)) r (lent (now (rows .exit)) (now (nodes .exit)) (now (branches .exit))) ⌝ }
+    ensures { λ r. ⌜ ReadsUnder decimals (now (card .entry)) r (lent (now (rows .exit)) (now (nodes .exit)) (now (branches .exit))) ⌝ }
 {
     if card.len() > CARD_BYTES {
         return refused(Due {
@@ -166,7 +169,16 @@ pub fn read_into(
     let mode = state[MODE];
     let top = state[TOP];
     let start = state[START];
-    let list = all_statements(card, begun, top, rows, nodes, branches, &mut state);
+    let list = all_statements(
+        card,
+        begun,
+        top,
+        rows,
+        nodes,
+        branches,
+        decimals,
+        &mut state,
+    );
     if list == 0 {
         let due = search(card, state[STOP], state[STOP_PLACE]);
         return refused_late(due, rows, nodes, branches);
@@ -197,6 +209,19 @@ pub fn read_into(
         verdict: Verdict::Taken,
         head,
     }
+}
+
+// The same by the rule of today.
+pub fn read_into(
+    card: &[u8],
+    rows: &mut [usize; ROW_PLACES],
+    nodes: &mut [u32; NODE_PLACES],
+    branches: &mut [u32; BRANCH_PLACES],
+) -> Outline
+    requires { ⌜ lent (now rows) (now nodes) (now branches) ≡ noneLent ⌝ }
+    ensures { λ r. ⌜ ReadsInto (now (card .entry)) r (lent (now (rows .exit)) (now (nodes .exit)) (now (branches .exit))) ⌝ }
+{
+    read_under(card, Weight::DECIMALS, rows, nodes, branches)
 }
 
 // The statements that stand in rows.

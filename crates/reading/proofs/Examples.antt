@@ -9,7 +9,7 @@ use Rattle.card.specs.Refusals.{outOfShape, pastLimit, notDue, wrongWeight}
 use Rattle.card.specs.Text.{bytes}
 use Rattle.card.specs.Card.{probabilistic, everyone, others, all, any, is, isnt, group, atom, Branch, Card}
 use Rattle.card.specs.Weight.{unitsOf}
-use Rattle.reading.specs.Reading.{Outcome, taken, refused, readOf}
+use Rattle.reading.specs.Reading.{Outcome, taken, refused, readUnder, readOf}
 
 abbrev to : ℕ → ℕ → Branch
 to w t = record { units = w; end = t }
@@ -24,33 +24,42 @@ cardA = record {
   k = 2;
   l = 0;
   statements =
-      record { own = 0; guard = some (atom (group others any is 0)); branches = to 12600 1 ∷ to 12600 2 ∷ [] }
-      ∷ record { own = 1; guard = some (atom (group everyone all isnt 2)); branches = to 6300 2 ∷ to 18900 1 ∷ [] }
+      record { own = 0; guard = some (atom (group others any is 0)); branches = to 138600 1 ∷ to 138600 2 ∷ [] }
+      ∷ record { own = 1; guard = some (atom (group everyone all isnt 2)); branches = to 69300 2 ∷ to 207900 1 ∷ [] }
       ∷ [];
 }
 
 pub reads-A : readOf textA ≡ taken cardA
-unfolding readOf cardA unitsOf
+unfolding readUnder cardA unitsOf
 reads-A = refl
 
 pub empty : readOf [] ≡ refused 3 0
-unfolding readOf
+unfolding readUnder
 empty = refl
 
-pub e-w-1-11 : readOf (bytes "probabilistic\nmodule process1\ns1 : [0..2] init 0;\n[] s1=0 -> 1/11:(s1'=0) + 10/11:(s1'=1);\nendmodule\n") ≡ refused 7 61
-unfolding readOf unitsOf
-e-w-1-11 = refl
+pub e-w-1-13 : readOf (bytes "probabilistic\nmodule process1\ns1 : [0..2] init 0;\n[] s1=0 -> 1/13:(s1'=0) + 12/13:(s1'=1);\nendmodule\n") ≡ refused 7 61
+unfolding readUnder unitsOf
+e-w-1-13 = refl
+
+-- where no decimal may be a weight, right or wrong in value it is refused at its place
+pub e-retired : readUnder false (bytes "probabilistic\nmodule process1\ns1 : [0..2] init 0;\n[] s1=0 -> 1/2:(s1'=0) + 0.5:(s1'=1);\nendmodule\n") ≡ refused 17 75
+unfolding readUnder unitsOf
+e-retired = refl
+
+pub e-retired-wrong : readUnder false (bytes "probabilistic\nmodule process1\ns1 : [0..2] init 0;\n[] s1=0 -> 0.005:(s1'=0) + 2:(s1'=1);\nendmodule\n") ≡ refused 17 61
+unfolding readUnder unitsOf
+e-retired-wrong = refl
 
 pub e-one2 : readOf (bytes "probabilistic\nmodule process1\ns1 : [0..2] init 0;\n[] s1=0 & (s1=0) -> 1:(s1'=0);\nendmodule\nmodule process2 = process1 [s1=s2, s2=s1] endmodule\n") ≡ refused 6 60
-unfolding readOf unitsOf
+unfolding readUnder unitsOf
 e-one2 = refl
 
 pub e-n17 : readOf (bytes "probabilistic\nmodule process1\ns1 : [0..2] init 0;\n[] s1=0 -> 1:(s1'=0);\nendmodule\nmodule process2 = process1 [s1=s2, s2=s1] endmodule\nmodule process3 = process1 [s1=s3, s3=s1] endmodule\nmodule process4 = process1 [s1=s4, s4=s1] endmodule\nmodule process5 = process1 [s1=s5, s5=s1] endmodule\nmodule process6 = process1 [s1=s6, s6=s1] endmodule\nmodule process7 = process1 [s1=s7, s7=s1] endmodule\nmodule process8 = process1 [s1=s8, s8=s1] endmodule\nmodule process9 = process1 [s1=s9, s9=s1] endmodule\nmodule process10 = process1 [s1=s10, s10=s1] endmodule\nmodule process11 = process1 [s1=s11, s11=s1] endmodule\nmodule process12 = process1 [s1=s12, s12=s1] endmodule\nmodule process13 = process1 [s1=s13, s13=s1] endmodule\nmodule process14 = process1 [s1=s14, s14=s1] endmodule\nmodule process15 = process1 [s1=s15, s15=s1] endmodule\nmodule process16 = process1 [s1=s16, s16=s1] endmodule\nmodule process17 = process1 [s1=s17, s17=s1] endmodule\n") ≡ refused 4 883
-unfolding readOf unitsOf
+unfolding readUnder unitsOf
 e-n17 = refl
 
 pub e-depth9 : readOf (bytes "probabilistic\nmodule process1\ns1 : [0..2] init 0;\n[] s1=0 & !!!!!!!!!(s1=0) -> 1:(s1'=0);\nendmodule\n") ≡ refused 4 68
-unfolding readOf unitsOf
+unfolding readUnder unitsOf
 e-depth9 = refl
 
 -- ---- a card of one statement, whose guard begins at byte 60
@@ -67,47 +76,47 @@ isTaken (refused r p) = false
 
 -- no `|` between the unaries of a statement
 pub no-bar : readOf (guarded "(s1=0) | (s1=1)" "") ≡ refused outOfShape 67
-unfolding readOf unitsOf
+unfolding readUnder unitsOf
 no-bar = refl
 
 pub eight-open : isTaken (readOf (guarded "!!!!(!(!(s1=0)))" "")) ≡ true
-unfolding readOf unitsOf
+unfolding readUnder unitsOf
 eight-open = refl
 
 pub nine-open : readOf (guarded "!!!!(!(!((s1=0))))" "") ≡ refused pastLimit 68
-unfolding readOf unitsOf
+unfolding readUnder unitsOf
 nine-open = refl
 
 -- 16 groups, 15 signs and a `!`; then one sign more
 pub many-nodes : isTaken (readOf (guarded "!(s1=0)&(s1=0)&(s1=0)&(s1=0)&(s1=0)&(s1=0)&(s1=0)&(s1=0)&(s1=0)&(s1=0)&(s1=0)&(s1=0)&(s1=0)&(s1=0)&(s1=0)&(s1=0)" "")) ≡ true
-unfolding readOf unitsOf
+unfolding readUnder unitsOf
 many-nodes = refl
 
 pub too-many-nodes : readOf (guarded "!(s1=0)&(s1=0)&(s1=0)&(s1=0)&(s1=0)&(s1=0)&(s1=0)&(s1=0)&(s1=0)&(s1=0)&(s1=0)&(s1=0)&(s1=0)&(s1=0)&(s1=0)&(s1=0)&" "") ≡ refused pastLimit 172
-unfolding readOf unitsOf
+unfolding readUnder unitsOf
 too-many-nodes = refl
 
 -- a seat that stands twice
 pub seat-twice : readOf (guarded "(s1=0 & s2=0 & s2=0)" twoSeats) ≡ refused notDue 60
-unfolding readOf unitsOf
+unfolding readUnder unitsOf
 seat-twice = refl
 
 -- the bracket stands before the d that is above k
 pub bracket-first : readOf (guarded "(s1=3)" twoSeats) ≡ refused notDue 60
-unfolding readOf unitsOf
+unfolding readUnder unitsOf
 bracket-first = refl
 
 -- only `0` before the two points
 pub from-one : readOf (bytes "probabilistic\nmodule process1\ns1 : [1..2] init 1;\n[] s1=1 -> 1:(s1'=1);\nendmodule\n") ≡ refused outOfShape 36
-unfolding readOf unitsOf
+unfolding readUnder unitsOf
 from-one = refl
 
 -- the ninth branch, at its weight
 pub nine-branches : readOf (bytes "probabilistic\nmodule process1\ns1 : [0..2] init 0;\n[] s1=0 -> 1:(s1'=0)+0:(s1'=0)+0:(s1'=0)+0:(s1'=0)+0:(s1'=0)+0:(s1'=0)+0:(s1'=0)+0:(s1'=0)+0:(s1'=0);\nendmodule\n") ≡ refused pastLimit 141
-unfolding readOf unitsOf
+unfolding readUnder unitsOf
 nine-branches = refl
 
 -- weights that do not add up, at the end of the statement
 pub half-a-unit : readOf (bytes "probabilistic\nmodule process1\ns1 : [0..2] init 0;\n[] s1=0 -> 1/2:(s1'=0);\nendmodule\n") ≡ refused wrongWeight 72
-unfolding readOf unitsOf
+unfolding readUnder unitsOf
 half-a-unit = refl

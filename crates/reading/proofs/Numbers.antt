@@ -1,27 +1,28 @@
--- A card is refused with a number of document 01's first seven: each reader of the shape stops with one of them, and each judgement is
--- broken with one of them. One line for each line of a reader. Assumes nothing.
+-- A card is refused with a number of document 01's first seven, or 17 where the rule of a weight takes no decimals: each reader of the shape
+-- stops with one of them, and each judgement is broken with one of them. One line for each line of a reader. Assumes nothing.
 use Prim.Native.Nat.{ℕ, zero, suc, _-_, _≤_}
 use Prim.Native.String.{String}
 use mathlib.Core.Path.{_≡_, subst}
-use mathlib.Core.Bool.{Bool, true, false}
-use mathlib.Core.List.{List, [], _∷_}
+use mathlib.Core.Bool.{Bool, true, false, _&&_}
+use mathlib.Core.List.{List, [], _∷_, _++_, map}
 use mathlib.Core.Option.{Option, none, some}
 use native.Mathlib.Omega.{arith}
 use lib.Dec.{eqb, leb}
 use lib.ListN.{length}
 use Rattle.card.specs.Limits.{cardBytes, mostSeats, topState, mostStatements, mostBranches, mostNodes, mostDepth, unit}
-use Rattle.card.specs.Refusals.{tooLong, outsideRules, outOfShape, pastLimit, aboveTop, notDue, wrongWeight}
+use Rattle.card.specs.Refusals.{tooLong, outsideRules, outOfShape, pastLimit, aboveTop, notDue, wrongWeight, decimalWeight}
 use Rattle.card.specs.Text.{if_then_else_}
-use Rattle.card.specs.Card.{any, all, Formula, and, or, Card}
-use Rattle.card.specs.Weight.{Weight, whole, decimal as point, ratio, cardRule, unitsOf}
+use Rattle.card.specs.Card.{any, all, Formula, atom, neg, and, or, Card}
+use Rattle.card.specs.Weight.{Weight, whole, decimal as point, ratio, unitsOf, Rule, allowed, weightRefusal}
+use Rattle.card.specs.Valid.{Every}
 use Rattle.marks.specs.Marks.{Mark, Placed, placed, marksOf}
 use Rattle.reading.specs.Reader.{Place, State, at, Result, ok, stop, Reader, bind, _>>=_, _>>_, return, refuse, refuseAt, took, the, nextIs, ifNext, sign, numberOf, here, Numbered, numbered, spend, nodeAt, node, Item, exactly, seatWord, processWord, keep, line}
 use Rattle.reading.specs.Guard.{isSome, seatNext, ifSeat, Read, chain, conjunction, expression, grouped, unary}
-use Rattle.reading.specs.Group.{joint, literal, others, group}
-use Rattle.reading.specs.Judgements.{Judgement, state, word, oneGroup, weight as judgedWeight, sum, placeIn, symmetric, totalUnits, unless, broken, Verdict, fine, wrong, orElse, firstBroken}
+use Rattle.reading.specs.Group.{joint, literal, others, group, Literal, Literals}
+use Rattle.reading.specs.Judgements.{Judgement, state, word, oneGroup, weight as judgedWeight, sum, placeIn, symmetric, totalUnits, unless, broken, Verdict, fine, wrong, orElse, firstBroken, firstState, judgedGuard}
 use Rattle.reading.specs.Shape.{BranchShape, StatementShape, modeOf, zeroOf, many, weightOf, over, weight, branch, nextBranch, pastBranches, moreBranches, guard, mayHave, statement, moreStatements, copy, moreModules, top, ended, theEnd, CardShape, body, card}
-use Rattle.reading.specs.Checks.{judgedCard, seatsIn, cardIn}
-use Rattle.reading.specs.Reading.{Outcome, taken, refused, firstOutside, judged, shaped, marked, readOf}
+use Rattle.reading.specs.Checks.{judgedState, judgedWords, judgedBranch, judgedEach, judgedOr, weightIn, judgedStatement, moduleDues, judgedModules, judgedCard, seatsIn, cardIn}
+use Rattle.reading.specs.Reading.{Outcome, taken, refused, firstOutside, judged, shaped, marked, readUnder, mostRefusal}
 
 -- ---- readers
 
@@ -204,60 +205,129 @@ bodies =
 cards : Modest card
 cards = then-each bodies (λ c. then-one ends (returns c))
 
--- ---- judgements
+-- ---- judgements, by a rule of a weight
 
-abbrev SmallOr : Option ℕ → Type 0
-SmallOr none = Unit {0}
-SmallOr (some r) = r ≤ wrongWeight
+module _ (decimals : Rule) where
+  abbrev SmallOr : Option ℕ → Type 0
+  SmallOr none = Unit {0}
+  SmallOr (some r) = r ≤ mostRefusal decimals
 
-small-unless : (b : Bool) (r : ℕ) → r ≤ wrongWeight → SmallOr (unless b r)
-small-unless true r h = tt
-small-unless false r h = h
+  abbrev SmallBroken : Judgement → Type 0
+  SmallBroken j = (n : ℕ) → SmallOr (broken n j)
 
-small-broken : (n : ℕ) (j : Judgement) → SmallOr (broken n j)
-small-broken n (state most v p) = small-unless (leb v most) aboveTop (omega arith)
-small-broken n (word due was p) = small-unless (eqb was due) notDue (omega arith)
-small-broken n (oneGroup g) = small-unless (symmetric n (g .literals)) notDue (omega arith)
-small-broken n (judgedWeight w p) = small-unless (isSome (unitsOf cardRule w)) wrongWeight (omega arith)
-small-broken n (sum ws p) = small-unless (eqb (totalUnits ws) unit) wrongWeight (omega arith)
+  small-unless : (b : Bool) (r : ℕ) → r ≤ mostRefusal decimals → SmallOr (unless b r)
+  small-unless true r h = tt
+  small-unless false r h = h
 
-abbrev SmallVerdict : Verdict → Type 0
-SmallVerdict fine = Unit {0}
-SmallVerdict (wrong r p) = r ≤ wrongWeight
+  seven : (r : ℕ) → r ≤ wrongWeight → r ≤ mostRefusal decimals
+  seven r h = go decimals
+    where
+      go : (b : Bool) → r ≤ mostRefusal b
+      go true = h
+      go false = omega arith
 
-small-else : (o : Option ℕ) (p : Place) (v : Verdict) → SmallOr o → SmallVerdict v → SmallVerdict (orElse o p v)
-small-else none p v h k = k
-small-else (some r) p v h k = h
+  small-weight : (w : Weight) → weightRefusal decimals w ≤ mostRefusal decimals
+  small-weight (whole v) = seven wrongWeight (omega arith)
+  small-weight (point v n f) = omega arith
+  small-weight (ratio a b) = seven wrongWeight (omega arith)
 
-small-first : (n : ℕ) (js : List Judgement) → SmallVerdict (firstBroken n js)
-small-first n [] = tt
-small-first n (j ∷ js) = small-else (broken n j) (placeIn j) (firstBroken n js) (small-broken n j) (small-first n js)
+  every-join : (xs ys : List Judgement) → Every SmallBroken xs → Every SmallBroken ys → Every SmallBroken (xs ++ ys)
+  every-join [] ys h k = k
+  every-join (x ∷ xs) ys h k = (h .0, every-join xs ys (h .1) k)
 
--- ---- reading
+  small-state : (k : ℕ) (x : Numbered) → SmallBroken (judgedState k x)
+  small-state k x n = small-unless (leb (x .value) k) aboveTop (seven aboveTop (omega arith))
 
-abbrev SmallOutcome : Outcome → Type 0
-SmallOutcome (taken c) = Unit {0}
-SmallOutcome (refused r p) = r ≤ wrongWeight
+  small-words : (dues : List ℕ) (ws : List Numbered) → Every SmallBroken (judgedWords dues ws)
+  small-words [] [] = tt
+  small-words [] (w ∷ ws) = ((λ n. small-unless (eqb (w .value) (suc (w .value))) notDue (seven notDue (omega arith))), small-words [] ws)
+  small-words (due ∷ dues) [] = tt
+  small-words (due ∷ dues) (w ∷ ws) = ((λ n. small-unless (eqb (w .value) due) notDue (seven notDue (omega arith))), small-words dues ws)
 
-small-judged : (e : ℕ) (c : Card) (v : Verdict) → SmallVerdict v → SmallOutcome (judged e c v)
-small-judged e c fine h = tt
-small-judged e c (wrong r p) h = h
+  small-first-state : (k : ℕ) (ls : List Literal) → Every SmallBroken (firstState k ls)
+  small-first-state k [] = tt
+  small-first-state k (l ∷ ls) = ((λ n. small-unless (leb (l .d) k) aboveTop (seven aboveTop (omega arith))), tt)
 
-small-shaped : (e : ℕ) (x : Result CardShape) → Small x → SmallOutcome (shaped e x)
-small-shaped e (ok c s) h = small-judged e (cardIn c) (firstBroken (seatsIn c) (judgedCard c)) (small-first (seatsIn c) (judgedCard c))
-small-shaped e (stop r p) h = h
+  small-guard : (k : ℕ) (g : Formula Literals) → Every SmallBroken (judgedGuard k g)
+  small-guard k (atom g) = ((λ n. small-unless (symmetric n (g .literals)) notDue (seven notDue (omega arith))), small-first-state k (g .literals))
+  small-guard k (neg g) = small-guard k g
+  small-guard k (and g h) = every-join (judgedGuard k g) (judgedGuard k h) (small-guard k g) (small-guard k h)
+  small-guard k (or g h) = every-join (judgedGuard k g) (judgedGuard k h) (small-guard k g) (small-guard k h)
 
-small-marked : (e : ℕ) (ms : List Placed) (o : Option ℕ) → SmallOutcome (marked e ms o)
-small-marked e ms none = small-shaped e (card (at ms zero)) (cards .stops (at ms zero))
-small-marked e ms (some p) = omega arith
+  small-or : (k : ℕ) (o : Option (Formula Literals)) → Every SmallBroken (judgedOr k o)
+  small-or k none = tt
+  small-or k (some g) = small-guard k g
 
-small-read : (s : List ℕ) → SmallOutcome (readOf s)
-unfolding readOf
-small-read s = go (leb (length s) cardBytes)
-  where
-    go : (b : Bool) → SmallOutcome (if b then marked (length s) (marksOf s) (firstOutside (marksOf s)) else refused tooLong 0)
-    go true = small-marked (length s) (marksOf s) (firstOutside (marksOf s))
-    go false = omega arith
+  small-each : {A : Type 0} (f : A → List Judgement) → ((x : A) → Every SmallBroken (f x)) → (xs : List A) → Every SmallBroken (judgedEach f xs)
+  small-each f h [] = tt
+  small-each f h (x ∷ xs) = every-join (f x) (judgedEach f xs) (h x) (small-each f h xs)
 
-pub read-number : (s : List ℕ) {r p : ℕ} → readOf s ≡ refused r p → r ≤ wrongWeight
-read-number s e = subst SmallOutcome e (small-read s)
+  small-branch : (k : ℕ) (b : BranchShape) → Every SmallBroken (judgedBranch decimals k b)
+  small-branch k b = (
+    (λ n. small-unless (allowed decimals (b .weight) && isSome (unitsOf (b .weight))) (weightRefusal decimals (b .weight)) (small-weight (b .weight))),
+    every-join (judgedWords (1 ∷ []) (b .words)) (judgedState k (b .end) ∷ []) (small-words (1 ∷ []) (b .words)) (small-state k (b .end), tt),
+  )
+
+  small-statement : (k : ℕ) (x : StatementShape) → Every SmallBroken (judgedStatement decimals k x)
+  small-statement k x =
+      let total : List Judgement = sum (map weightIn (x .branches)) (x .close) ∷ [] in
+      let moves = judgedEach (judgedBranch decimals k) (x .branches) in
+      every-join (judgedWords (1 ∷ []) (x .words)) _ (small-words (1 ∷ []) (x .words)) (
+        small-state k (x .own),
+        every-join (judgedOr k (x .guard)) (moves ++ total) (small-or k (x .guard))
+            (every-join moves total (small-each (judgedBranch decimals k) (small-branch k) (x .branches))
+            ((λ n. small-unless (eqb (totalUnits (map weightIn (x .branches))) unit) wrongWeight (seven wrongWeight (omega arith))), tt)),
+      )
+
+  small-modules : (i : ℕ) (ms : List (List Numbered)) → Every SmallBroken (judgedModules i ms)
+  small-modules i [] = tt
+  small-modules i (m ∷ ms) = every-join (judgedWords (moduleDues i) m) (judgedModules (suc i) ms) (small-words (moduleDues i) m) (small-modules (suc i) ms)
+
+  small-card : (c : CardShape) → Every SmallBroken (judgedCard decimals c)
+  small-card c =
+      every-join (judgedWords (1 ∷ 1 ∷ []) (c .words)) _ (small-words (1 ∷ 1 ∷ []) (c .words)) (
+        small-state (c .k) (c .l),
+        every-join (judgedEach (judgedStatement decimals (c .k)) (c .statements)) (judgedModules 2 (c .modules))
+            (small-each (judgedStatement decimals (c .k)) (small-statement (c .k)) (c .statements)) (small-modules 2 (c .modules)),
+      )
+
+  abbrev SmallVerdict : Verdict → Type 0
+  SmallVerdict fine = Unit {0}
+  SmallVerdict (wrong r p) = r ≤ mostRefusal decimals
+
+  small-else : (o : Option ℕ) (p : Place) (v : Verdict) → SmallOr o → SmallVerdict v → SmallVerdict (orElse o p v)
+  small-else none p v h k = k
+  small-else (some r) p v h k = h
+
+  small-first : (n : ℕ) (js : List Judgement) → Every SmallBroken js → SmallVerdict (firstBroken n js)
+  small-first n [] h = tt
+  small-first n (j ∷ js) h = small-else (broken n j) (placeIn j) (firstBroken n js) (h .0 n) (small-first n js (h .1))
+
+  -- ---- reading
+
+  abbrev SmallOutcome : Outcome → Type 0
+  SmallOutcome (taken c) = Unit {0}
+  SmallOutcome (refused r p) = r ≤ mostRefusal decimals
+
+  small-judged : (e : ℕ) (c : Card) (v : Verdict) → SmallVerdict v → SmallOutcome (judged e c v)
+  small-judged e c fine h = tt
+  small-judged e c (wrong r p) h = h
+
+  small-shaped : (e : ℕ) (x : Result CardShape) → Small x → SmallOutcome (shaped decimals e x)
+  small-shaped e (ok c s) h = small-judged e (cardIn c) (firstBroken (seatsIn c) (judgedCard decimals c)) (small-first (seatsIn c) (judgedCard decimals c) (small-card c))
+  small-shaped e (stop r p) h = seven r h
+
+  small-marked : (e : ℕ) (ms : List Placed) (o : Option ℕ) → SmallOutcome (marked decimals e ms o)
+  small-marked e ms none = small-shaped e (card (at ms zero)) (cards .stops (at ms zero))
+  small-marked e ms (some p) = seven outsideRules (omega arith)
+
+  small-read : (s : List ℕ) → SmallOutcome (readUnder decimals s)
+  unfolding readUnder
+  small-read s = go (leb (length s) cardBytes)
+    where
+      go : (b : Bool) → SmallOutcome (if b then marked decimals (length s) (marksOf s) (firstOutside (marksOf s)) else refused tooLong 0)
+      go true = small-marked (length s) (marksOf s) (firstOutside (marksOf s))
+      go false = seven tooLong (omega arith)
+
+  pub read-number : (s : List ℕ) {r p : ℕ} → readUnder decimals s ≡ refused r p → r ≤ mostRefusal decimals
+  read-number s e = subst SmallOutcome e (small-read s)

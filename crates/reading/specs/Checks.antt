@@ -5,7 +5,7 @@ use mathlib.Core.List.{List, [], _∷_, _++_, map}
 use mathlib.Core.Option.{Option, none, some}
 use lib.ListN.{length}
 use Rattle.card.specs.Card.{Formula, Guard, Branch, Statement, Card}
-use Rattle.card.specs.Weight.{Weight}
+use Rattle.card.specs.Weight.{Weight, Rule}
 use Rattle.reading.specs.Reader.{Numbered}
 use Rattle.reading.specs.Group.{Literals}
 use Rattle.reading.specs.Judgements.{Judgement, state, word, weight, sum, unitsIn, judgedGuard, guardIn}
@@ -22,8 +22,9 @@ judgedWords [] (w ∷ ws) = word (suc (w .value)) (w .value) (w .place) ∷ judg
 judgedWords (due ∷ dues) [] = []
 judgedWords (due ∷ dues) (w ∷ ws) = word due (w .value) (w .place) ∷ judgedWords dues ws
 
-abbrev pub judgedBranch : ℕ → BranchShape → List Judgement
-judgedBranch k b = weight (b .weight) (b .place) ∷ (judgedWords (1 ∷ []) (b .words) ++ (judgedState k (b .end) ∷ []))
+-- its weight by the rule of a weight
+abbrev pub judgedBranch : Rule → ℕ → BranchShape → List Judgement
+judgedBranch decimals k b = weight decimals (b .weight) (b .place) ∷ (judgedWords (1 ∷ []) (b .words) ++ (judgedState k (b .end) ∷ []))
 
 abbrev pub judgedEach : {A : Type 0} → (A → List Judgement) → List A → List Judgement
 judgedEach f [] = []
@@ -36,12 +37,12 @@ judgedOr k (some g) = judgedGuard k g
 abbrev pub weightIn : BranchShape → Weight
 weightIn b = b .weight
 
-abbrev pub judgedStatement : ℕ → StatementShape → List Judgement
-judgedStatement k x =
+abbrev pub judgedStatement : Rule → ℕ → StatementShape → List Judgement
+judgedStatement decimals k x =
     judgedWords (1 ∷ []) (x .words)
     ++ (judgedState k (x .own)
     ∷ (judgedOr k (x .guard)
-    ++ (judgedEach (judgedBranch k) (x .branches)
+    ++ (judgedEach (judgedBranch decimals k) (x .branches)
     ++ (sum (map weightIn (x .branches)) (x .close) ∷ []))))
 
 -- module processi = process1 [s1=si, si=s1] endmodule
@@ -53,14 +54,14 @@ abbrev pub judgedModules : ℕ → List (List Numbered) → List Judgement
 judgedModules i [] = []
 judgedModules i (m ∷ ms) = judgedWords (moduleDues i) m ++ judgedModules (suc i) ms
 
-abbrev pub judgedCard : CardShape → List Judgement
-judgedCard c =
+abbrev pub judgedCard : Rule → CardShape → List Judgement
+judgedCard decimals c =
     judgedWords (1 ∷ 1 ∷ []) (c .words)
     ++ (judgedState (c .k) (c .l)
-    ∷ (judgedEach (judgedStatement (c .k)) (c .statements)
+    ∷ (judgedEach (judgedStatement decimals (c .k)) (c .statements)
     ++ judgedModules 2 (c .modules)))
 
--- ---- the card
+-- ---- the card: what its weights are worth does not hang on the rule
 
 abbrev pub branchIn : BranchShape → Branch
 branchIn b = record { units = unitsIn (b .weight); end = b .end .value }

@@ -10,7 +10,7 @@ use Rattle.card.specs.Refusals.{aboveTop, notDue, wrongWeight}
 use Rattle.card.specs.Text.{if_then_else_}
 use Rattle.card.specs.Card.{Kind, everyone, others, Sign, all, any, Relation, is, isnt, Leaf, group, Formula, Guard}
 use Rattle.card.specs.Formulas.{over, eachAtom}
-use Rattle.card.specs.Weight.{Weight, cardRule, unitsOf}
+use Rattle.card.specs.Weight.{Weight, unitsOf, Rule, allowed, weightRefusal}
 use Rattle.reading.specs.Reader.{Place}
 use Rattle.reading.specs.Guard.{isSome}
 use Rattle.reading.specs.Group.{Literal, Literals}
@@ -55,23 +55,23 @@ pub data Judgement : Type 0 where
   state : ℕ → ℕ → Place → Judgement  -- the most that l, j, d or t may be, and what stands there
   word : ℕ → ℕ → Place → Judgement  -- the number due in a word, and the one that stands there
   oneGroup : Literals → Judgement
-  weight : Weight → Place → Judgement
+  weight : Rule → Weight → Place → Judgement  -- the rule by which it is judged
   sum : List Weight → Place → Judgement  -- a statement's weights; its `;`
 
 abbrev pub placeIn : Judgement → Place
 placeIn (state most v p) = p
 placeIn (word due was p) = p
 placeIn (oneGroup g) = g .place
-placeIn (weight w p) = p
+placeIn (weight decimals w p) = p
 placeIn (sum ws p) = p
 
 abbrev pub orZero : Option ℕ → ℕ
 orZero none = 0
 orZero (some u) = u
 
--- a weight in units; one that breaks its rule counts nothing
+-- a weight in units; one that is worth nothing counts nothing
 abbrev pub unitsIn : Weight → ℕ
-unitsIn w = orZero (unitsOf cardRule w)
+unitsIn w = orZero (unitsOf w)
 
 abbrev pub totalUnits : List Weight → ℕ
 totalUnits [] = 0
@@ -86,7 +86,7 @@ abbrev pub broken : ℕ → Judgement → Option ℕ
 broken n (state most v p) = unless (leb v most) aboveTop
 broken n (word due was p) = unless (eqb was due) notDue
 broken n (oneGroup g) = unless (symmetric n (g .literals)) notDue
-broken n (weight w p) = unless (isSome (unitsOf cardRule w)) wrongWeight
+broken n (weight decimals w p) = unless (allowed decimals w && isSome (unitsOf w)) (weightRefusal decimals w)
 broken n (sum ws p) = unless (eqb (totalUnits ws) unit) wrongWeight
 
 -- the first that is broken: its refusal and its place

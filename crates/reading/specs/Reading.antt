@@ -1,4 +1,4 @@
--- Reading a card: refusals 1 to 7 in their order, or the card ("Refusal numbers"). Assumes nothing.
+-- Reading a card under a rule of a weight: refusals 1 to 7 in their order, or the card ("Refusal numbers"; document 02, 2026-11). Assumes nothing.
 use Prim.Native.Nat.{ℕ, zero}
 use mathlib.Core.Bool.{Bool, true, false}
 use mathlib.Core.List.{List, [], _∷_}
@@ -6,9 +6,10 @@ use mathlib.Core.Option.{Option, none, some}
 use lib.Dec.{leb}
 use lib.ListN.{length}
 use Rattle.card.specs.Limits.{cardBytes}
-use Rattle.card.specs.Refusals.{tooLong, outsideRules}
+use Rattle.card.specs.Refusals.{tooLong, outsideRules, wrongWeight, decimalWeight}
 use Rattle.card.specs.Text.{if_then_else_}
 use Rattle.card.specs.Card.{Card}
+use Rattle.card.specs.Weight.{Rule, cardRule}
 use Rattle.marks.specs.Marks.{Mark, text, seat, process, number, decimal, outside, Placed, placed, marksOf, placeOf}
 use Rattle.reading.specs.Reader.{Place, State, at, Result, ok, stop}
 use Rattle.reading.specs.Judgements.{Verdict, fine, wrong, firstBroken}
@@ -37,13 +38,22 @@ abbrev pub judged : ℕ → Card → Verdict → Outcome
 judged e c fine = taken c
 judged e c (wrong r p) = refused r (placeOf e p)
 
-abbrev pub shaped : ℕ → Result CardShape → Outcome
-shaped e (ok c _) = judged e (cardIn c) (firstBroken (seatsIn c) (judgedCard c))
-shaped e (stop r p) = refused r (placeOf e p)
+abbrev pub shaped : Rule → ℕ → Result CardShape → Outcome
+shaped decimals e (ok c _) = judged e (cardIn c) (firstBroken (seatsIn c) (judgedCard decimals c))
+shaped decimals e (stop r p) = refused r (placeOf e p)
 
-abbrev pub marked : ℕ → List Placed → Option ℕ → Outcome
-marked e ms none = shaped e (card (at ms zero))
-marked e ms (some p) = refused outsideRules p
+abbrev pub marked : Rule → ℕ → List Placed → Option ℕ → Outcome
+marked decimals e ms none = shaped decimals e (card (at ms zero))
+marked decimals e ms (some p) = refused outsideRules p
 
-unfoldable pub readOf : List ℕ → Outcome
-readOf s = if leb (length s) cardBytes then marked (length s) (marksOf s) (firstOutside (marksOf s)) else refused tooLong 0
+-- under a rule of a weight
+unfoldable pub readUnder : Rule → List ℕ → Outcome
+readUnder decimals s = if leb (length s) cardBytes then marked decimals (length s) (marksOf s) (firstOutside (marksOf s)) else refused tooLong 0
+
+-- the greatest number that it may refuse with
+abbrev pub mostRefusal : Rule → ℕ
+mostRefusal decimals = if decimals then wrongWeight else decimalWeight
+
+-- under the rule of today
+abbrev pub readOf : List ℕ → Outcome
+readOf s = readUnder cardRule s

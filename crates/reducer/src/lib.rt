@@ -2,6 +2,8 @@
 use card::Head;
 use card::Verdict;
 use card::limits::BRANCH_PLACES;
+use card::limits::MOST_SEATS;
+use card::limits::MOST_STATEMENTS;
 use card::limits::NODE_PLACES;
 use card::limits::ROW_PLACES;
 use card::refusals::ROOM_TOO_SMALL;
@@ -13,6 +15,7 @@ use room::Answer;
 use room::place;
 use room::put_bytes;
 use room::put_run;
+use statement_text::TAIL_PLACES;
 use statement_text::put_statements;
 ghost use mathlib.Core.Path.{_≡_};
 ghost use Prim.Native.Nat.{suc, _≤_};
@@ -91,7 +94,9 @@ fn put_program<'a>(
 }
 
 // A room that every reduced text fits into (texts/specs/Lengths.antt).
-pub const REDUCED_ROOM: usize = 347890;
+const COPY_MOST: usize = 11 + TAIL_PLACES;
+
+pub const REDUCED_ROOM: usize = 242 + MOST_STATEMENTS * MOST_SEATS * COPY_MOST;
 
 // A text up to this length is made once, beside the room, where the room may be too small.
 const DRAFT_PLACES: usize = 768;

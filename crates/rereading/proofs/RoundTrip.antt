@@ -10,6 +10,7 @@ use borrow.Author.Tests.{le-leb}
 use lib.ListN.{length}
 use Rattle.card.specs.Limits.{cardBytes, numberDigits, wordDigits, mostSeats, topState, mostStatements}
 use Rattle.card.specs.Card.{Mode, nondeterministic, probabilistic, Statement, Card}
+use Rattle.card.specs.Weight.{Rule, cardRule}
 use Rattle.card.specs.Valid.{Every, ValidCard}
 use Rattle.letters.specs.Bytes.{isDigit, begins}
 use Rattle.letters.specs.Digits.{pointed}
@@ -19,7 +20,7 @@ use Rattle.reading.specs.Group.{Literal, Literals}
 use Rattle.reading.specs.Judgements.{Judgement, fine, broken, firstBroken}
 use Rattle.reading.specs.Shape.{BranchShape, StatementShape, CardShape, card as readCard}
 use Rattle.reading.specs.Checks.{judgedWords, judgedEach, judgedStatement, judgedModules, judgedCard, statementIn, seatsIn, cardIn}
-use Rattle.reading.specs.Reading.{taken, firstOutside, shaped, readOf}
+use Rattle.reading.specs.Reading.{taken, firstOutside, shaped, readUnder}
 use Rattle.grammar.specs.Grammar.{Said, signAt, valued, LineSaid, ended, fixed, aSeat, aProcess, cardRun, moduleRun, ManySaid, done, again, LiteralSaid, literal, OthersSaid, close, next, GroupSaid, conjoined, disjoined, GuardSaid, grouped, negated, bracketed, single, further, RestSaid, nothing, guarded, WeightSaid, aNumber, aRatio, aDecimal, BranchSaid, branch, PlusSaid, plus, StatementSaid, statement, modeWord, CardSaid, card}
 use Rattle.grammar.specs.Counted.{Counted, Within, Past, FirstPast, countedMany, countedModule, countedStatement, countedCard}
 use Rattle.grammar.proofs.Follows.{Ran, came, fell, card-runs}
@@ -33,7 +34,7 @@ use Rattle.rereading.proofs.Statements.{LineWritten, line-kept, Stateme
 
 -- ---- the further modules
 
-module _ (e : ℕ) where
+module _ (decimals : Rule) (e : ℕ) where
   abbrev M : List ℕ → Place
   M r = marks e 0 r
 
@@ -88,7 +89,7 @@ module _ (e : ℕ) where
     seats : seatsIn found ≡ c .n
     top : found .k ≡ c .k
     means : cardIn found ≡ c
-    kept : Every (Kept (c .n)) (judgedCard found)
+    kept : Every (Kept (c .n)) (judgedCard decimals found)
     within : Every Within (countedCard said)
 
   same-card : (mode : Mode) (n m k l : ℕ) (ss : List StatementShape) (xs : List Statement) → m ≡ n → map (statementIn n) ss ≡ xs
@@ -98,8 +99,8 @@ module _ (e : ℕ) where
   card-made : (mode : Mode) (n k l : ℕ) (x : Statement) (xs : List Statement) (small-n : n < 10 ^ wordDigits) (small-k : k < 10 ^ numberDigits) → 1 ≤ n → n ≤ mostSeats → k ≤ topState → l ≤ k → length (x ∷ xs) ≤ mostStatements
       → (a b c d f g h i j : ℕ) (ms ns os qs : Place)
       → LineWritten cardRun (1 ∷ 1 ∷ []) ms (placed (number 0) b ∷ signAt ".." c ∷ placed (number k) d ∷ signAt "]" f ∷ signAt "init" g ∷ placed (number l) h ∷ signAt ";" i ∷ ns)
-      → StatementWritten e n k small-n small-k x ns os
-      → StatementsWritten e n k small-n small-k xs os (signAt "endmodule" j ∷ qs)
+      → StatementWritten decimals e n k small-n small-k x ns os
+      → StatementsWritten decimals e n k small-n small-k xs os (signAt "endmodule" j ∷ qs)
       → ModulesWritten n k 2 (n - 1) qs []
       → CardWritten (record { mode = mode; n = n; k = k; l = l; statements = x ∷ xs }) (signAt (modeWord mode) a ∷ ms)
   card-made mode n k l x xs small-n small-k one most top init few a b c d f g h i j ms ns os qs w s ss ys = record {
@@ -110,8 +111,8 @@ module _ (e : ℕ) where
     means = same-card mode n (suc (length (ys .found))) k l (s .found ∷ ss .found) (x ∷ xs) all-seats (ap₂ _∷_ (s .means) (ss .means));
     kept = every-append (Kept n) (judgedWords (1 ∷ 1 ∷ []) (w .found)) _ (line-kept n (1 ∷ 1 ∷ []) (w .found) (w .due)) (
       rw (le-leb l k init),
-      every-append (Kept n) (judgedStatement k (s .found) ++ judgedEach (judgedStatement k) (ss .found)) (judgedModules 2 (ys .found))
-          (every-append (Kept n) (judgedStatement k (s .found)) (judgedEach (judgedStatement k) (ss .found)) (s .kept) (ss .kept))
+      every-append (Kept n) (judgedStatement decimals k (s .found) ++ judgedEach (judgedStatement decimals k) (ss .found)) (judgedModules 2 (ys .found))
+          (every-append (Kept n) (judgedStatement decimals k (s .found)) (judgedEach (judgedStatement decimals k) (ss .found)) (s .kept) (ss .kept))
           (ys .kept),
     );
     within = (
@@ -142,8 +143,8 @@ module _ (e : ℕ) where
       subst (λ (ms : Place). CardWritten (record { mode = mode; n = n; k = k; l = l; statements = x ∷ xs }) ms) (sym (mode-mark mode front))
       (card-made mode n k l x xs small-n small-k (v .seats) (v .seats-most) (v .top) (v .init) (v .some .1) _ _ _ _ _ _ _ _ _ (M ("\nmodule process1\ns1 : [0.." ▸ front)) (M body) (M (statements n xs last)) (M (modules 1 (n - 1) []))
       (subst (λ (y : Place). LineWritten cardRun (1 ∷ 1 ∷ []) (M ("\nmodule process1\ns1 : [0.." ▸ front)) (placed (number 0) (e - length ("0.." ▸ front)) ∷ signAt ".." (e - length (".." ▸ front)) ∷ y)) both (front-line front))
-      (statement-written e n k small-n small-k x (statements n xs last) (v .statements .0))
-      (statements-written e n k small-n small-k xs last (v .statements .1))
+      (statement-written decimals e n k small-n small-k x (statements n xs last) (v .statements .0))
+      (statements-written decimals e n k small-n small-k xs last (v .statements .1))
       (modules-written n k 1 (n - 1) [] (omega (arith, v .seats-most))))
 
   text-of : (c : Card) → writeOf c ≡ (modeText (c .mode) ▸ "\nmodule process1\ns1 : [0.." ▸ num (c .k) ("] init " ▸ num (c .l) (";\n" ▸ statements (c .n) (c .statements) ("endmodule\n" ▸ modules 1 (c .n - 1) []))))
@@ -220,32 +221,32 @@ none-broken : (n : ℕ) (js : List Judgement) → Every (Kept n) js → firstBro
 none-broken n [] w = refl
 none-broken n (j ∷ js) w = rw (w .0) (none-broken n js (w .1))
 
-said-read : (ms : Place) (x : CardShape) (d : CardSaid ms x) → Every Within (countedCard d) → (e : ℕ) (c : Card) → cardIn x ≡ c → firstBroken (seatsIn x) (judgedCard x) ≡ fine
-    → shaped e (readCard (at ms 0)) ≡ taken c
-said-read ms x d w e c m b = go (card-runs d 0)
+said-read : (decimals : Rule) (ms : Place) (x : CardShape) (d : CardSaid ms x) → Every Within (countedCard d) → (e : ℕ) (c : Card) → cardIn x ≡ c → firstBroken (seatsIn x) (judgedCard decimals x) ≡ fine
+    → shaped decimals e (readCard (at ms 0)) ≡ taken c
+said-read decimals ms x d w e c m b = go (card-runs d 0)
   where
-    go : Ran (countedCard d) (λ (y : Result CardShape). (n : ℕ) × (y ≡ ok x (at [] n)) × Unit {0}) (readCard (at ms 0)) → shaped e (readCard (at ms 0)) ≡ taken c
+    go : Ran (countedCard d) (λ (y : Result CardShape). (n : ℕ) × (y ≡ ok x (at [] n)) × Unit {0}) (readCard (at ms 0)) → shaped decimals e (readCard (at ms 0)) ≡ taken c
     go (came v (n, q, p)) = rw (q, b) (ap taken m)
     go (fell q f s) = absurd (none-past (countedCard d) q w f)
 
--- what stands in a written card's marks is the card, however long the text is
-marks-mean : (c : Card) → ValidCard c → shaped (length (writeOf c)) (readCard (at (marksOf (writeOf c)) 0)) ≡ taken c
-marks-mean c v =
-    let w = card-written (length (writeOf c)) c v in
-    let b : firstBroken (seatsIn (w .found)) (judgedCard (w .found)) ≡ fine = rw (w .seats) (none-broken (c .n) (judgedCard (w .found)) (w .kept)) in
-    said-read (marksOf (writeOf c)) (w .found) (w .said) (w .within) (length (writeOf c)) c (w .means) b
+-- what stands in a written card's marks is the card, however long the text is; it has no decimals, so under every rule of a weight
+marks-mean : (decimals : Rule) (c : Card) → ValidCard c → shaped decimals (length (writeOf c)) (readCard (at (marksOf (writeOf c)) 0)) ≡ taken c
+marks-mean decimals c v =
+    let w = card-written decimals (length (writeOf c)) c v in
+    let b : firstBroken (seatsIn (w .found)) (judgedCard decimals (w .found)) ≡ fine = rw (w .seats) (none-broken (c .n) (judgedCard decimals (w .found)) (w .kept)) in
+    said-read decimals (marksOf (writeOf c)) (w .found) (w .said) (w .within) (length (writeOf c)) c (w .means) b
 
 -- an accepted card written out and read again is the same card
-pub round-trip : (c : Card) → ValidCard c → length (writeOf c) ≤ cardBytes → readOf (writeOf c) ≡ taken c
-unfolding readOf
-round-trip c v h = rw (le-leb (length (writeOf c)) cardBytes h, card-inside (card-written (length (writeOf c)) c v .said)) (marks-mean c v)
+pub round-trip : (decimals : Rule) (c : Card) → ValidCard c → length (writeOf c) ≤ cardBytes → readUnder decimals (writeOf c) ≡ taken c
+unfolding readUnder
+round-trip decimals c v h = rw (le-leb (length (writeOf c)) cardBytes h, card-inside (card-written decimals (length (writeOf c)) c v .said)) (marks-mean decimals c v)
 
 -- so a written form is one card's alone
 pub written-once : (c d : Card) → ValidCard c → ValidCard d → writeOf c ≡ writeOf d → c ≡ d
 written-once c d v w e =
-    let both : taken c ≡ taken d = sym (marks-mean c v) ∙ ap (λ (s : List ℕ). shaped (length s) (readCard (at (marksOf s) 0))) e ∙ marks-mean d w in
+    let both : taken c ≡ taken d = sym (marks-mean cardRule c v) ∙ ap (λ (s : List ℕ). shaped cardRule (length s) (readCard (at (marksOf s) 0))) e ∙ marks-mean cardRule d w in
     cc
 
--- a card that was read, written out and read again is the same card
-pub read-again : (s : List ℕ) (c : Card) → readOf s ≡ taken c → length (writeOf c) ≤ cardBytes → readOf (writeOf c) ≡ taken c
-read-again s c e h = round-trip c (read-valid s c e) h
+-- a card that was read under one rule, written out and read again under any is the same card
+pub read-again : (decimals later : Rule) (s : List ℕ) (c : Card) → readUnder decimals s ≡ taken c → length (writeOf c) ≤ cardBytes → readUnder later (writeOf c) ≡ taken c
+read-again decimals later s c e h = round-trip later c (read-valid decimals s c e) h

@@ -1,7 +1,7 @@
 -- Written branches and statements are said by the grammar, keep the rules and the limits, and are the branches and statements.
 use Prim.Native.Nat.{ℕ, suc, _+_, _-_, _/_, _^_, _≤_, _<_}
 use mathlib.Core.Path.{_≡_, refl, sym, ap, ap₂, _∙_, subst}
-use mathlib.Core.Bool.{Bool, true, false}
+use mathlib.Core.Bool.{Bool, true, false, _&&_}
 use mathlib.Core.List.{List, [], _∷_, _++_, map}
 use mathlib.Core.Option.{Option, none, some}
 use native.Mathlib.Nat.{div-le-self}
@@ -12,7 +12,7 @@ use lib.ListN.{length}
 use Rattle.card.specs.Limits.{numberDigits, wordDigits, unit, mostStatements, mostBranches, mostNodes, mostDepth}
 use Rattle.card.specs.Card.{all, Formula, Guard, Branch, Statement}
 use Rattle.card.specs.Valid.{Every, total, size, middle, depth, ValidGuard, ValidBranch, ValidStatement}
-use Rattle.card.specs.Weight.{Weight, whole, ratio, cardRule, unitsOf}
+use Rattle.card.specs.Weight.{Weight, whole, ratio, unitsOf, Rule, allowed, weightRefusal}
 use Rattle.letters.specs.Bytes.{isDigit, begins}
 use Rattle.letters.specs.Digits.{pointed}
 use Rattle.marks.specs.Marks.{number, placed, marks}
@@ -71,12 +71,16 @@ lowest-small u h = cases (eqb u 0) (λ e. rw e (omega arith)) (λ e. rw e
     (cases (leb unit u) (λ f. rw f (omega arith)) (λ f. rw f
     (omega (arith, div-le-self u (divisor u)), omega (arith, div-le-self unit (divisor u))))))
 
+-- and in a form that every rule allows
+lowest-allowed : (decimals : Rule) (u : ℕ) → allowed decimals (lowest u) ≡ true
+lowest-allowed decimals u = cases (eqb u 0) (λ e. rw e) (λ e. rw e (cases (leb unit u) (λ f. rw f) (λ f. rw f)))
+
 -- no `/` after `/`
 digits-begin : (s r : List ℕ) → AllDigits s → 0 < length s → begins (eqb 47) (s ++ r) ≡ false
 digits-begin [] r d h = absurd (omega arith)
 digits-begin (b ∷ s) r d h = ne-eqb 47 b (λ z. omega (arith, d .0))
 
-module _ (e : ℕ) where
+module _ (decimals : Rule) (e : ℕ) where
   abbrev M : List ℕ → Place
   M r = marks e 0 r
 
@@ -114,7 +118,7 @@ module _ (e : ℕ) where
     pub found : BranchShape
     pub said : BranchSaid ms found rest
     pub means : branchIn found ≡ b
-    pub kept : Every (Kept n) (judgedBranch k found)
+    pub kept : Every (Kept n) (judgedBranch decimals k found)
     pub units : unitsIn (found .weight) ≡ b .units
 
   module _ (n k : ℕ) (small-k : k < 10 ^ numberDigits) where
@@ -124,15 +128,15 @@ module _ (e : ℕ) where
       found = record { place = ms; weight = lowest (b .units); words = l .found; end = valued (b .end) (placed (number (b .end)) a ∷ signAt ")" c ∷ rest) };
       said = branch w (l .said);
       means = ap (λ (u : ℕ). record { units = u; end = b .end }) (ap orZero worth);
-      kept = (weighs (unitsOf cardRule (lowest (b .units))) worth, every-append (Kept n) (judgedWords (1 ∷ []) (l .found)) _ (line-kept n (1 ∷ []) (l .found) (l .due)) (rw (le-leb (b .end) k (v .end)), tt));
+      kept = (weighs (allowed decimals (lowest (b .units))) (unitsOf (lowest (b .units))) (weightRefusal decimals (lowest (b .units))) (lowest-allowed decimals (b .units)) worth, every-append (Kept n) (judgedWords (1 ∷ []) (l .found)) _ (line-kept n (1 ∷ []) (l .found) (l .due)) (rw (le-leb (b .end) k (v .end)), tt));
       units = ap orZero worth;
     }
       where
-        worth : unitsOf cardRule (lowest (b .units)) ≡ some (b .units)
+        worth : unitsOf (lowest (b .units)) ≡ some (b .units)
         worth = lowest-kept (b .units) (v .units)
 
-        weighs : (o : Option ℕ) → o ≡ some (b .units) → unless (isSome o) wrongWeight ≡ none
-        weighs o h = rw h
+        weighs : (a : Bool) (o : Option ℕ) (r : ℕ) → a ≡ true → o ≡ some (b .units) → unless (a && isSome o) r ≡ none
+        weighs a o r g h = rw (g, h)
 
     pub branch-written : (b : Branch) (r : List ℕ) → ValidBranch k b → BranchWritten n k b (M (branchText b r)) (M r)
     branch-written b r v =
@@ -147,7 +151,7 @@ module _ (e : ℕ) where
       pub found : List BranchShape
       pub said : ManySaid PlusSaid ms found rest
       pub means : map branchIn found ≡ bs
-      pub kept : Every (Kept n) (judgedEach (judgedBranch k) found)
+      pub kept : Every (Kept n) (judgedEach (judgedBranch decimals k) found)
       pub units : totalUnits (map weightIn found) ≡ total bs
       pub within : (i : ℕ) → i + length bs ≤ suc mostBranches → Every Within (countedMany countedPlus i said)
 
@@ -156,7 +160,7 @@ module _ (e : ℕ) where
       found = w .found ∷ u .found;
       said = again (plus (w .said)) (u .said);
       means = ap₂ _∷_ (w .means) (u .means);
-      kept = every-append (Kept n) (judgedBranch k (w .found)) (judgedEach (judgedBranch k) (u .found)) (w .kept) (u .kept);
+      kept = every-append (Kept n) (judgedBranch decimals k (w .found)) (judgedEach (judgedBranch decimals k) (u .found)) (w .kept) (u .kept);
       units = ap₂ _+_ (w .units) (u .units);
       within = λ i h. (omega arith, u .within (suc i) (omega arith));
     }
@@ -197,7 +201,7 @@ module _ (e : ℕ) where
       pub found : StatementShape
       pub said : StatementSaid ms found rest
       pub means : statementIn n found ≡ x
-      pub kept : Every (Kept n) (judgedStatement k found)
+      pub kept : Every (Kept n) (judgedStatement decimals k found)
       pub within : (i : ℕ) → i ≤ mostStatements → Every Within (countedStatement ms rest found i said)
 
     statement-made : (j : ℕ) (g : Option Guard) (b : Branch) (bs : List Branch) (a p c : ℕ) (ms ns os qs rest : Place)
@@ -214,8 +218,8 @@ module _ (e : ℕ) where
       kept = every-append (Kept n) (judgedWords (1 ∷ []) (l .found)) _ (line-kept n (1 ∷ []) (l .found) (l .due)) (
         rw (le-leb j k h),
         every-append (Kept n) (judgedOr k (w .found)) _ (w .kept)
-            (every-append (Kept n) (judgedBranch k (d .found) ++ judgedEach (judgedBranch k) (ds .found)) _
-            (every-append (Kept n) (judgedBranch k (d .found)) (judgedEach (judgedBranch k) (ds .found)) (d .kept) (ds .kept))
+            (every-append (Kept n) (judgedBranch decimals k (d .found) ++ judgedEach (judgedBranch decimals k) (ds .found)) _
+            (every-append (Kept n) (judgedBranch decimals k (d .found)) (judgedEach (judgedBranch decimals k) (ds .found)) (d .kept) (ds .kept))
             (sum-kept, tt)),
       );
       within = λ i m. (m, every-append Within (countedRest (w .said)) _ (w .within) (omega (arith, few), ds .within 2 (omega arith)));
@@ -249,7 +253,7 @@ module _ (e : ℕ) where
       pub found : List StatementShape
       pub said : ManySaid StatementSaid ms found rest
       pub means : map (statementIn n) found ≡ xs
-      pub kept : Every (Kept n) (judgedEach (judgedStatement k) found)
+      pub kept : Every (Kept n) (judgedEach (judgedStatement decimals k) found)
       pub within : (i : ℕ) → i + length xs ≤ suc mostStatements → Every Within (countedMany countedStatement i said)
 
     statements-made : (x : Statement) (xs : List Statement) (ms ns rest : Place) → StatementWritten x ms ns → StatementsWritten xs ns rest → StatementsWritten (x ∷ xs) ms rest
@@ -257,7 +261,7 @@ module _ (e : ℕ) where
       found = w .found ∷ u .found;
       said = again (w .said) (u .said);
       means = ap₂ _∷_ (w .means) (u .means);
-      kept = every-append (Kept n) (judgedStatement k (w .found)) (judgedEach (judgedStatement k) (u .found)) (w .kept) (u .kept);
+      kept = every-append (Kept n) (judgedStatement decimals k (w .found)) (judgedEach (judgedStatement decimals k) (u .found)) (w .kept) (u .kept);
       within = λ i h. every-append Within (countedStatement ms ns (w .found) i (w .said)) (countedMany countedStatement (suc i) (u .said)) (w .within i (omega arith)) (u .within (suc i) (omega arith));
     }
 

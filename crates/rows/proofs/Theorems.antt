@@ -8,6 +8,7 @@ use mathlib.Core.List.{List}
 use native.Mathlib.Omega.{arith}
 use Rattle.card.specs.Refusals.{wrongWeight}
 use Rattle.card.specs.Card.{Card}
+use Rattle.card.specs.Weight.{cardRule}
 use Rattle.reading.specs.Reading.{Outcome, taken, refused as turned, readOf}
 use Rattle.reading.proofs.Numbers.{read-number}
 use Rattle.entry.specs.Said.{Said, says, refused, _>>=_}
@@ -32,7 +33,7 @@ of-card ms r h a = apart-out cardNumbers ms r a (rw (in-span 0 wrongWeight r (om
 module _ (card : List ℕ) where
   pub card-stage : Stage (cardSaid card) cardNumbers (Read card) (λ w. w .0)
   card-stage = record {
-    numbers = record { number = λ r p e. rw (in-span 0 wrongWeight r (omega arith) (read-number card (outcome-refused (readOf card) r p .0 e))) };
+    numbers = record { number = λ r p e. rw (in-span 0 wrongWeight r (omega arith) (read-number cardRule card (outcome-refused (readOf card) r p .0 e))) };
     found = record { each = λ w. ap outcomeSaid (w .1); only = λ c e. ((c, outcome-taken (readOf card) c e), refl) };
   }
 

@@ -11,6 +11,7 @@ use card::limits::ROW_PLACES;
 use guard_text::put_test;
 use leaf_text::Style;
 use leaf_text::WRITTEN;
+use phrases::WEIGHT_MOST;
 use phrases::put_numbered;
 use pieces::put_nine;
 use pieces::put_seven;
@@ -31,7 +32,7 @@ ghost use Rattle.phrases.specs.Puts.{Puts};
 ghost use Rattle.statement_text.specs.Statements.{firstText, restText, copyText, keptCopy, copyNumber, statementsText, Fits, KeepsTail};
 
 // Enough for what stands behind a first test of the reduced program (texts/specs/Lengths.antt).
-const TAIL_PLACES: usize = 668;
+pub const TAIL_PLACES: usize = 580 + MOST_BRANCHES * WEIGHT_MOST;
 
 // The first test: `s1=own`, or the counter of `own` above m.
 fn put_first(room: &mut [u8], at: usize, m: usize, style: Style) -> usize

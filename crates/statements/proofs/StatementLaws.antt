@@ -13,6 +13,7 @@ use lib.ListN.{length, set}
 use Rattle.card.specs.Limits.{mostStatements, rowNumbers, mostNodes, mostBranches, mostDepth, nodePlaces}
 use Rattle.card.specs.Refusals.{outOfShape, pastLimit}
 use Rattle.card.specs.Card.{Formula, atom, neg, and, or, Guard}
+use Rattle.card.specs.Weight.{Rule}
 use Rattle.card.specs.Valid.{size}
 use Rattle.card.specs.Laid.{cells, guardCells, guardSize}
 use Rattle.card.specs.Stored.{stored}
@@ -197,9 +198,9 @@ from-guard : (ws : List Numbered) (j : Numbered) (s : State)
     ≡ bind (guarded s) (λ g s₁. bind (branches (mostBranches - 1) s₁) (λ x. return (stated ws j g x)))
 from-guard ws j s = in-parts (guard s) (sign "->") (sign ";") branch (moreBranches (mostBranches - 1)) (λ b bs p. record { branches = b ∷ bs; close = p }) (stated ws j)
 
-module _ (s : List ℕ) (i k : ℕ) (before : Late) (was is : Lent) (index : ℕ) where
+module _ (decimals : Rule) (s : List ℕ) (i k : ℕ) (before : Late) (was is : Lent) (index : ℕ) where
   abbrev StatementIs : After → Type 0
-  StatementIs = StatementFrom s i k before was is index
+  StatementIs = StatementFrom decimals s i k before was is index
 
   module _ (a : List ℕ) {w : ℕ} (hw : OwnFrom s i before (after a w)) where
     owned : (n : ℕ) → LineRead s before (1 ∷ []) (line statementRest (from s i n)) (after a w)
@@ -219,8 +220,8 @@ module _ (s : List ℕ) (i k : ℕ) (before : Late) (was is : Lent) (index : ℕ
       module _ (ej : j ≡ 0 → ⊥) (d : List ℕ) {g : ℕ} (hg : GuardedFrom s j k (lateIn c) (was .nodes) (is .nodes) (index * mostNodes) (after d g)) where
         behind-own : (r : After) (st : State) (n : ℕ) → sign "[" st ≡ ok tt (from s i n)
             → ((ws : List Numbered) (own : Numbered) → Kept s before (judgedWords (1 ∷ []) ws) a → Went s (lateIn a) (own .value) (judgedState k own ∷ []) c
-            → StatementRead s k before was is index (bind (guarded (from s j mostNodes)) (λ f s₁. bind (branches (mostBranches - 1) s₁) (λ x. return (stated ws own f x)))) r)
-            → StatementRead s k before was is index (statement st) r
+            → StatementRead decimals s k before was is index (bind (guarded (from s j mostNodes)) (λ f s₁. bind (branches (mostBranches - 1) s₁) (λ x. return (stated ws own f x)))) r)
+            → StatementRead decimals s k before was is index (statement st) r
         behind-own r st n b y = rw b (onward s _ _ (line statementRest (from s i n)) _ a w r (owned n) ew λ ws m f.
             onward s _ _ (numbered numberOf (from s w m)) _ c j r (hj .answers m) ej λ own m₁ f₁.
             rw (from-guard ws own (from s j mostNodes)) (y ws own f f₁))
@@ -228,7 +229,7 @@ module _ (s : List ℕ) (i k : ℕ) (before : Late) (was is : Lent) (index : ℕ
         pub guard-halts : g ≡ 0 → StatementIs (after d 0)
         guard-halts e = record { answers = λ st n b. behind-own _ st n b λ ws own f f₁. halted s _ _ (guarded (from s j mostNodes)) _ d g (hg .answers) e; sized = hg .sized }
 
-        module _ (eg : g ≡ 0 → ⊥) (o : List ℕ) {l : ℕ} (hl : BranchesFrom s g k (lateIn d) (was .branches) (is .branches) (index * mostBranches) (after o l)) where
+        module _ (eg : g ≡ 0 → ⊥) (o : List ℕ) {l : ℕ} (hl : BranchesFrom decimals s g k (lateIn d) (was .branches) (is .branches) (index * mostBranches) (after o l)) where
           pub branches-halt : l ≡ 0 → StatementIs (after o 0)
           branches-halt e = record {
             answers = λ st n b. behind-own _ st n b λ ws own f f₁. onward s _ _ (guarded (from s j mostNodes)) _ d g _ (hg .answers) eg λ h m f₂.
@@ -256,8 +257,8 @@ module _ (s : List ℕ) (i k : ℕ) (before : Late) (was is : Lent) (index : ℕ
                   rest = refl;
                   told = record {
                     late = f₃ .went .late
-                        ∙ ap (judgeAll (length s) (judgedBranches k x)) (f₂ .went .late ∙ ap (judgeAll (length s) (judgedOr k h)) (f₁ .late ∙ ap (judge (length s) (judgedState k own)) f))
-                        ∙ sym (judge-append (length s) (judgedWords (1 ∷ []) ws) _ before ∙ judge-append (length s) (judgedOr k h) (judgedBranches k x) _);
+                        ∙ ap (judgeAll (length s) (judgedBranches decimals k x)) (f₂ .went .late ∙ ap (judgeAll (length s) (judgedOr k h)) (f₁ .late ∙ ap (judge (length s) (judgedState k own)) f))
+                        ∙ sym (judge-append (length s) (judgedWords (1 ∷ []) ws) _ before ∙ judge-append (length s) (judgedOr k h) (judgedBranches decimals k x) _);
                     memory = λ q. lent ((rows ∙ row-written (stated ws own h x) (f₁ .value) (f₂ .went .value) (f₃ .went .value)) q) (f₂ .array q) (f₃ .array q);
                   };
                 };
@@ -302,53 +303,53 @@ at-bracket zero s i x v e n = too-many "[" statement (refuse pastLimit) ends mor
 at-bracket (suc most) s i x v e n = another "[" statement (refuse pastLimit) ends more step bracket s i x v e most n
 
 -- with the statements so far counted in
-pub record Counted (s : List ℕ) (k i : ℕ) (before : Late) (was is : Lent) (xs : List StatementShape) (state : List ℕ) : Type 0 where
-  pub went : Went s before (i + length xs) (judgedEach (judgedStatement k) xs) state
+pub record Counted (decimals : Rule) (s : List ℕ) (k i : ℕ) (before : Late) (was is : Lent) (xs : List StatementShape) (state : List ℕ) : Type 0 where
+  pub went : Went s before (i + length xs) (judgedEach (judgedStatement decimals k) xs) state
   pub memory : is ≡ filled i xs was
 
-abbrev pub RestRead : List ℕ → ℕ → ℕ → Late → Lent → Lent → Result (List StatementShape) → After → Type 0
-RestRead s k i late was is = Answers s (Counted s k i late was is)
+abbrev pub RestRead : Rule → List ℕ → ℕ → ℕ → Late → Lent → Lent → Result (List StatementShape) → After → Type 0
+RestRead decimals s k i late was is = Answers s (Counted decimals s k i late was is)
 
 -- before the first statement
-pub none-counted : (s : List ℕ) (k : ℕ) (late : Late) (was is : Lent) (x : Result (List StatementShape)) (r : After)
-    → RestRead s k 0 late was is x r → StatementsRead s k late was is x r
-none-counted s k late was is (ok xs b) r y =
+pub none-counted : (decimals : Rule) (s : List ℕ) (k : ℕ) (late : Late) (was is : Lent) (x : Result (List StatementShape)) (r : After)
+    → RestRead decimals s k 0 late was is x r → StatementsRead decimals s k late was is x r
+none-counted decimals s k late was is (ok xs b) r y =
     let z = y .told in
     record { went = y .went; rest = y .rest; told = record { went = record { value = z .went .value ∙ zero-add (length xs); late = z .went .late }; memory = z .memory } }
-none-counted s k late was is (stop n p) r y = y
+none-counted decimals s k late was is (stop n p) r y = y
 
 -- one statement too many: its bracket stands at `place`
-pub past-statements : (s : List ℕ) (k i : ℕ) (late : Late) (was is : Lent) (st : State) (place : ℕ) (r : After) → place ≡ placeOf (length s) (st .marks)
-    → Halted pastLimit place r → RestRead s k i late was is (rest 0 st) r
-past-statements s k i late was is st place r e h = rw (← e) h
+pub past-statements : (decimals : Rule) (s : List ℕ) (k i : ℕ) (late : Late) (was is : Lent) (st : State) (place : ℕ) (r : After) → place ≡ placeOf (length s) (st .marks)
+    → Halted pastLimit place r → RestRead decimals s k i late was is (rest 0 st) r
+past-statements decimals s k i late was is st place r e h = rw (← e) h
 
-module _ (s : List ℕ) (k i : ℕ) (late : Late) (was is : Lent) (most : ℕ) (st : State) where
+module _ (decimals : Rule) (s : List ℕ) (k i : ℕ) (late : Late) (was is : Lent) (most : ℕ) (st : State) where
   abbrev RestIs : After → Type 0
-  RestIs = RestRead s k i late was is (rest (suc most) st)
+  RestIs = RestRead decimals s k i late was is (rest (suc most) st)
 
-  module _ (state : List ℕ) (x : ℕ) (now : Lent) (hx : StatementRead s k late was now i (statement st) (after state x)) where
+  module _ (state : List ℕ) (x : ℕ) (now : Lent) (hx : StatementRead decimals s k late was now i (statement st) (after state x)) where
     pub statement-stops : x ≡ 0 → RestIs (after state 0)
     statement-stops e = halted s _ _ (statement st) _ state x hx e
 
     module _ (e : x ≡ 0 → ⊥) where
-      one-counted : (r : After) → ((m : ℕ) → RestRead s k (i + 1) (lateIn state) now is (further most (from s x m)) r) → RestIs r
+      one-counted : (r : After) → ((m : ℕ) → RestRead decimals s k (i + 1) (lateIn state) now is (further most (from s x m)) r) → RestIs r
       unfolding judgeAll filled
       one-counted r y = onward s _ _ (statement st) _ state x r hx e λ a m g.
           made s _ _ (further most (from s x m)) (more a) r (y m) λ xs h. record {
             went = record {
               value = omega (arith, h .went .value);
-              late = h .went .late ∙ ap (judgeAll (length s) (judgedEach (judgedStatement k) xs)) (g .late) ∙ sym (judge-append (length s) (judgedStatement k a) (judgedEach (judgedStatement k) xs) late);
+              late = h .went .late ∙ ap (judgeAll (length s) (judgedEach (judgedStatement decimals k) xs)) (g .late) ∙ sym (judge-append (length s) (judgedStatement decimals k a) (judgedEach (judgedStatement decimals k) xs) late);
             };
             memory = h .memory ∙ ap (filled (i + 1) xs) (g .memory);
           }
 
       module _ (y : Step) (v : Next s x y) where
         pub one-more : y .mark .kind ≡ kind "[" → (r : After)
-            → ((m : ℕ) → RestRead s k (i + 1) (lateIn state) now is (rest most (from s x m)) r) → RestIs r
+            → ((m : ℕ) → RestRead decimals s k (i + 1) (lateIn state) now is (rest most (from s x m)) r) → RestIs r
         one-more f r z = one-counted r λ m. rw (at-bracket most s x y v f m) (z m)
 
         module _ (d : y .mark .kind ≡ kind "[" → ⊥) where
-          last : (r : After) → ((m : ℕ) → RestRead s k (i + 1) (lateIn state) now is (ends [] (from s x m)) r) → RestIs r
+          last : (r : After) → ((m : ℕ) → RestRead decimals s k (i + 1) (lateIn state) now is (ends [] (from s x m)) r) → RestIs r
           last r z = one-counted r λ m. rw (no-other "[" statement (refuse pastLimit) ends more step bracket s x y v d most m) (z m)
 
           pub list-stops : (y .mark .kind ≡ kind "endmodule" → ⊥) → (r : After) → Halted outOfShape (y .mark .place) r → RestIs r
@@ -366,11 +367,11 @@ module _ (s : List ℕ) (k i : ℕ) (late : Late) (was is : Lent) (most : ℕ) (
 -- ---- the loop: an answer to what is left answers the whole
 
 -- the first `[` is there, or reading stops before it
-pub open-stops : {s : List ℕ} {k i : ℕ} {was is : Lent} (state now : List ℕ) {o : ℕ} → SignFrom s i (kind "[") state (after now o) → o ≡ 0
-    → StatementsFrom s i k (lateIn state) was is (after now 0)
-open-stops {s} {k} {i} {was} {is} state now {o} h e = record { answers = λ n. go n (sign "[" (from s i n)) refl (h .answers "[" bracket refl n); sized = h .sized }
+pub open-stops : {decimals : Rule} {s : List ℕ} {k i : ℕ} {was is : Lent} (state now : List ℕ) {o : ℕ} → SignFrom s i (kind "[") state (after now o) → o ≡ 0
+    → StatementsFrom decimals s i k (lateIn state) was is (after now 0)
+open-stops {decimals} {s} {k} {i} {was} {is} state now {o} h e = record { answers = λ n. go n (sign "[" (from s i n)) refl (h .answers "[" bracket refl n); sized = h .sized }
   where
-    go : (n : ℕ) (y : Result (Unit {0})) → sign "[" (from s i n) ≡ y → SignRead s state y (after now o) → StatementsRead s k (lateIn state) was is (statements (mostStatements - 1) (from s i n)) (after now 0)
+    go : (n : ℕ) (y : Result (Unit {0})) → sign "[" (from s i n) ≡ y → SignRead s state y (after now o) → StatementsRead decimals s k (lateIn state) was is (statements (mostStatements - 1) (from s i n)) (after now 0)
     go n (ok u b) q h = absurd (h .went e)
     go n (stop m p) q h = rw q (record { none = refl; refused = h .refused; sized = h .sized })
 
@@ -379,11 +380,11 @@ opened-at s state now (ok tt b) o h e = (b .nodes, ap (λ (p : Place). ok tt (at
 opened-at s state now (stop n p) o h e = absurd (e (h .none))
 
 -- behind the first `[` the state is as it was
-pub opened-as : {s : List ℕ} {k i : ℕ} {was is : Lent} {r : After} (state now : List ℕ) {o : ℕ} → SignFrom s i (kind "[") state (after now o) → (o ≡ 0 → ⊥)
-    → StatementsFrom s i k (lateIn now) was is r → StatementsFrom s i k (lateIn state) was is r
-opened-as {s} {k} {i} {was} {is} {r} state now {o} h e y =
+pub opened-as : {decimals : Rule} {s : List ℕ} {k i : ℕ} {was is : Lent} {r : After} (state now : List ℕ) {o : ℕ} → SignFrom s i (kind "[") state (after now o) → (o ≡ 0 → ⊥)
+    → StatementsFrom decimals s i k (lateIn now) was is r → StatementsFrom decimals s i k (lateIn state) was is r
+opened-as {decimals} {s} {k} {i} {was} {is} {r} state now {o} h e y =
     let b = opened-at s state now (sign "[" (from s i 0)) o (h .answers "[" bracket refl 0) e in
-    subst (λ (x : List ℕ). StatementsFrom s i k (lateIn x) was is r) (b .2) y
+    subst (λ (x : List ℕ). StatementsFrom decimals s i k (lateIn x) was is r) (b .2) y
 
 -- where a `[` stands right before the cursor; once there is a statement, its place is known
 pub record Bracket (s : List ℕ) (count place next : ℕ) (st : State) : Type 0 where
@@ -391,68 +392,68 @@ pub record Bracket (s : List ℕ) (count place next : ℕ) (st : State) : Type 0
   pub there : sign "[" st ≡ ok tt (from s next nodes)
   pub known : 0 < count → place ≡ placeOf (length s) (st .marks)
 
-pub record Going (s : List ℕ) (k : ℕ) (before : Late) (was : Lent) (i count place : ℕ) (now : Lent) (next : ℕ) (state : List ℕ) : Type 0 where
+pub record Going (decimals : Rule) (s : List ℕ) (k : ℕ) (before : Late) (was : Lent) (i count place : ℕ) (now : Lent) (next : ℕ) (state : List ℕ) : Type 0 where
   pub few : count ≤ mostStatements
   pub sized : Sized state
-  pub whole : (r : After) (is : Lent) → ((st : State) → Bracket s count place next st → RestRead s k count (lateIn state) now is (rest (mostStatements - count) st) r)
-      → (n : ℕ) → StatementsRead s k before was is (statements (mostStatements - 1) (from s i n)) r
+  pub whole : (r : After) (is : Lent) → ((st : State) → Bracket s count place next st → RestRead decimals s k count (lateIn state) now is (rest (mostStatements - count) st) r)
+      → (n : ℕ) → StatementsRead decimals s k before was is (statements (mostStatements - 1) (from s i n)) r
 
-pub going-start : {s : List ℕ} {k : ℕ} {was : Lent} {i place : ℕ} (state now : List ℕ) {o : ℕ} → SignFrom s i (kind "[") state (after now o) → (o ≡ 0 → ⊥)
-    → Going s k (lateIn now) was i 0 place was o now
-going-start {s} {k} {was} {i} {place} state now {o} h e = record {
+pub going-start : {decimals : Rule} {s : List ℕ} {k : ℕ} {was : Lent} {i place : ℕ} (state now : List ℕ) {o : ℕ} → SignFrom s i (kind "[") state (after now o) → (o ≡ 0 → ⊥)
+    → Going decimals s k (lateIn now) was i 0 place was o now
+going-start {decimals} {s} {k} {was} {i} {place} state now {o} h e = record {
   few = omega arith;
   sized = h .sized;
   whole = λ r is y n.
       let b = opened-at s state now (sign "[" (from s i n)) o (h .answers "[" bracket refl n) e in
-      none-counted s k (lateIn now) was is (statements (mostStatements - 1) (from s i n)) r
+      none-counted decimals s k (lateIn now) was is (statements (mostStatements - 1) (from s i n)) r
       (rw (rest-whole (mostStatements - 1) (from s i n)) (y (from s i n) (record { nodes = b .0; there = b .1; known = λ l. omega arith })));
 }
 
-module _ {s : List ℕ} {k : ℕ} {before : Late} {was : Lent} {i count place : ℕ} {now : Lent} {next : ℕ} {state : List ℕ} (g : Going s k before was i count place now next state) where
-  module _ (l : count < mostStatements) {new : Lent} (after-one : List ℕ) {x : ℕ} (hx : StatementFrom s next k (lateIn state) now new count (after after-one x)) where
+module _ {decimals : Rule} {s : List ℕ} {k : ℕ} {before : Late} {was : Lent} {i count place : ℕ} {now : Lent} {next : ℕ} {state : List ℕ} (g : Going decimals s k before was i count place now next state) where
+  module _ (l : count < mostStatements) {new : Lent} (after-one : List ℕ) {x : ℕ} (hx : StatementFrom decimals s next k (lateIn state) now new count (after after-one x)) where
     one-less : mostStatements - count ≡ suc (mostStatements - (count + 1))
     one-less = omega arith
 
     -- the rest as the reader of one statement and what follows
     opened : (is : Lent) (r : After)
-        → ((st : State) → StatementRead s k (lateIn state) now new count (statement st) (after after-one x)
-        → RestRead s k count (lateIn state) now is (rest (suc (mostStatements - (count + 1))) st) r)
-        → (n : ℕ) → StatementsRead s k before was is (statements (mostStatements - 1) (from s i n)) r
+        → ((st : State) → StatementRead decimals s k (lateIn state) now new count (statement st) (after after-one x)
+        → RestRead decimals s k count (lateIn state) now is (rest (suc (mostStatements - (count + 1))) st) r)
+        → (n : ℕ) → StatementsRead decimals s k before was is (statements (mostStatements - 1) (from s i n)) r
     opened is r y = g .whole r is λ st b. rw one-less (y st (hx .answers st (b .nodes) (b .there)))
 
-    pub going-stops : x ≡ 0 → StatementsFrom s i k before was new (after after-one 0)
+    pub going-stops : x ≡ 0 → StatementsFrom decimals s i k before was new (after after-one 0)
     going-stops e = record {
-      answers = opened new _ λ st h. statement-stops s k count (lateIn state) now new (mostStatements - (count + 1)) st after-one x new h e;
+      answers = opened new _ λ st h. statement-stops decimals s k count (lateIn state) now new (mostStatements - (count + 1)) st after-one x new h e;
       sized = hx .sized;
     }
 
     module _ (e : x ≡ 0 → ⊥) {y : Step} (v : Next s x y) where
       module _ (d : y .mark .kind ≡ kind "[" → ⊥) where
-        pub going-unended : (y .mark .kind ≡ kind "endmodule" → ⊥) → {r : After} → Halted outOfShape (y .mark .place) r → StatementsFrom s i k before was new r
+        pub going-unended : (y .mark .kind ≡ kind "endmodule" → ⊥) → {r : After} → Halted outOfShape (y .mark .place) r → StatementsFrom decimals s i k before was new r
         going-unended f {r} q = record {
-          answers = opened new r λ st h. list-stops s k count (lateIn state) now new (mostStatements - (count + 1)) st after-one x new h e y v d f r q;
+          answers = opened new r λ st h. list-stops decimals s k count (lateIn state) now new (mostStatements - (count + 1)) st after-one x new h e y v d f r q;
           sized = q .sized;
         }
 
-        pub going-ended : y .mark .kind ≡ kind "endmodule" → StatementsFrom s i k before was new (after (set after-one atValue (count + 1)) (y .next .at))
+        pub going-ended : y .mark .kind ≡ kind "endmodule" → StatementsFrom decimals s i k before was new (after (set after-one atValue (count + 1)) (y .next .at))
         going-ended f = record {
-          answers = opened new _ λ st h. list-read s k count (lateIn state) now new (mostStatements - (count + 1)) st after-one x new h e y v d f refl (hx .sized);
+          answers = opened new _ λ st h. list-read decimals s k count (lateIn state) now new (mostStatements - (count + 1)) st after-one x new h e y v d f refl (hx .sized);
           sized = set-sized after-one (hx .sized) atValue (count + 1);
         }
 
-      pub going-more : y .mark .kind ≡ kind "[" → Going s k before was i (count + 1) (y .mark .place) new (y .next .at) after-one
+      pub going-more : y .mark .kind ≡ kind "[" → Going decimals s k before was i (count + 1) (y .mark .place) new (y .next .at) after-one
       going-more f = record {
         few = omega arith;
         sized = hx .sized;
-        whole = λ r is z. opened is r λ st h. one-more s k count (lateIn state) now is (mostStatements - (count + 1)) st after-one x new h e y v f r λ m.
+        whole = λ r is z. opened is r λ st h. one-more decimals s k count (lateIn state) now is (mostStatements - (count + 1)) st after-one x new h e y v f r λ m.
             z (from s x m) (record { nodes = m; there = sign-took "[" bracket s x y v f m; known = λ q. place-seen s x y v });
       }
 
   -- one statement too many
-  pub going-past : mostStatements ≤ count → {r : After} → Halted pastLimit place r → StatementsFrom s i k before was now r
+  pub going-past : mostStatements ≤ count → {r : After} → Halted pastLimit place r → StatementsFrom decimals s i k before was now r
   going-past l {r} h = record {
     answers = g .whole r now λ st b.
         let z : mostStatements - count ≡ 0 = omega arith in
-        rw z (past-statements s k count (lateIn state) now now st place r (b .known (omega arith)) h);
+        rw z (past-statements decimals s k count (lateIn state) now now st place r (b .known (omega arith)) h);
     sized = h .sized;
   }

@@ -6,6 +6,7 @@ use mathlib.Core.Option.{Option, none, some}
 use lib.ListN.{length}
 use Rattle.card.specs.Limits.{mostStatements, rowNumbers, mostNodes, mostBranches}
 use Rattle.card.specs.Card.{Formula, Guard}
+use Rattle.card.specs.Weight.{Rule}
 use Rattle.card.specs.Laid.{guardCells, guardSize}
 use Rattle.card.specs.Rows.{rowsOf}
 use Rattle.card.specs.Lent.{Lent, lent}
@@ -52,7 +53,7 @@ pub record GuardedFrom (s : List ℕ) (i k : ℕ) (before : Late) (was is : List
   pub answers : GuardedRead s k before was is used (guarded (from s i mostNodes)) r
   pub sized : Sized (r .state)
 
--- ---- a statement
+-- ---- a statement, by the rule of a weight
 
 abbrev pub rowBy : StatementShape → Statement
 rowBy x = record { own = x .own .value; nodes = guardSize (guardOrBy (x .guard)); branches = length (x .branches) }
@@ -64,16 +65,16 @@ withStatement i x a =
     (stored (a .nodes) (i * mostNodes) (guardCells (guardOrBy (x .guard)) (i * mostNodes)))
     (stored (a .branches) (i * mostBranches) (map packedIn (x .branches)))
 
-pub record StatementIn (s : List ℕ) (k : ℕ) (before : Late) (was is : Lent) (index : ℕ) (x : StatementShape) (state : List ℕ) : Type 0 where
-  pub late : Kept s before (judgedStatement k x) state
+pub record StatementIn (decimals : Rule) (s : List ℕ) (k : ℕ) (before : Late) (was is : Lent) (index : ℕ) (x : StatementShape) (state : List ℕ) : Type 0 where
+  pub late : Kept s before (judgedStatement decimals k x) state
   pub memory : is ≡ withStatement index x was
 
-abbrev pub StatementRead : List ℕ → ℕ → Late → Lent → Lent → ℕ → Result StatementShape → After → Type 0
-StatementRead s k before was is index = Answers s (StatementIn s k before was is index)
+abbrev pub StatementRead : Rule → List ℕ → ℕ → Late → Lent → Lent → ℕ → Result StatementShape → After → Type 0
+StatementRead decimals s k before was is index = Answers s (StatementIn decimals s k before was is index)
 
 -- the cursor stands behind the statement's first mark
-pub record StatementFrom (s : List ℕ) (i k : ℕ) (before : Late) (was is : Lent) (index : ℕ) (r : After) : Type 0 where
-  pub answers : (st : State) (n : ℕ) → sign "[" st ≡ ok tt (from s i n) → StatementRead s k before was is index (statement st) r
+pub record StatementFrom (decimals : Rule) (s : List ℕ) (i k : ℕ) (before : Late) (was is : Lent) (index : ℕ) (r : After) : Type 0 where
+  pub answers : (st : State) (n : ℕ) → sign "[" st ≡ ok tt (from s i n) → StatementRead decimals s k before was is index (statement st) r
   pub sized : Sized (r .state)
 
 -- ---- the statements, with the keyword behind them
@@ -91,13 +92,13 @@ filled i [] a = a
 filled i (x ∷ xs) a = filled (i + 1) xs (withStatement i x a)
 
 -- the number is that of the statements
-pub record StatementsIn (s : List ℕ) (k : ℕ) (before : Late) (was is : Lent) (xs : List StatementShape) (state : List ℕ) : Type 0 where
-  pub went : Went s before (length xs) (judgedEach (judgedStatement k) xs) state
+pub record StatementsIn (decimals : Rule) (s : List ℕ) (k : ℕ) (before : Late) (was is : Lent) (xs : List StatementShape) (state : List ℕ) : Type 0 where
+  pub went : Went s before (length xs) (judgedEach (judgedStatement decimals k) xs) state
   pub memory : is ≡ filled 0 xs was
 
-abbrev pub StatementsRead : List ℕ → ℕ → Late → Lent → Lent → Result (List StatementShape) → After → Type 0
-StatementsRead s k before was is = Answers s (StatementsIn s k before was is)
+abbrev pub StatementsRead : Rule → List ℕ → ℕ → Late → Lent → Lent → Result (List StatementShape) → After → Type 0
+StatementsRead decimals s k before was is = Answers s (StatementsIn decimals s k before was is)
 
-pub record StatementsFrom (s : List ℕ) (i k : ℕ) (before : Late) (was is : Lent) (r : After) : Type 0 where
-  pub answers : (n : ℕ) → StatementsRead s k before was is (statements (mostStatements - 1) (from s i n)) r
+pub record StatementsFrom (decimals : Rule) (s : List ℕ) (i k : ℕ) (before : Late) (was is : Lent) (r : After) : Type 0 where
+  pub answers : (n : ℕ) → StatementsRead decimals s k before was is (statements (mostStatements - 1) (from s i n)) r
   pub sized : Sized (r .state)

@@ -98,11 +98,12 @@ fn statement(
     nodes: &mut [u32; NODE_PLACES],
     branches: &mut [u32; BRANCH_PLACES],
     index: usize,
+    decimals: bool,
     state: &mut [usize; STATE],
 ) -> usize
     requires { ⌜ Sized (now state) ⌝ }
     requires { ⌜ index < mostStatements ⌝ }
-    ensures { λ r. ⌜ StatementFrom (now (card .entry)) at top (lateIn (now (state .entry))) (lent (now (rows .entry)) (now (nodes .entry)) (now (branches .entry))) (lent (now (rows .exit)) (now (nodes .exit)) (now (branches .exit))) index (after (now (state .exit)) r) ⌝ }
+    ensures { λ r. ⌜ StatementFrom decimals (now (card .entry)) at top (lateIn (now (state .entry))) (lent (now (rows .entry)) (now (nodes .entry)) (now (branches .entry))) (lent (now (rows .exit)) (now (nodes .exit)) (now (branches .exit))) index (after (now (state .exit)) r) ⌝ }
 {
     let row = index * ROW;
     let words = owned(card, at, state);
@@ -119,7 +120,15 @@ fn statement(
         return 0;
     }
     rows[row + 1] = state[VALUE];
-    let list = all_branches(card, guard, top, branches, index * MOST_BRANCHES, state);
+    let list = all_branches(
+        card,
+        guard,
+        top,
+        branches,
+        index * MOST_BRANCHES,
+        decimals,
+        state,
+    );
     if list == 0 {
         return 0;
     }
@@ -127,7 +136,7 @@ fn statement(
     list
 }
 
-// All statements, and the keyword behind them; the number of statements becomes the value.
+// All statements, by the rule of a weight, and the keyword behind them; the number of statements becomes the value.
 pub fn statements(
     card: &[u8],
     at: usize,
@@ -135,10 +144,11 @@ pub fn statements(
     rows: &mut [usize; ROW_PLACES],
     nodes: &mut [u32; NODE_PLACES],
     branches: &mut [u32; BRANCH_PLACES],
+    decimals: bool,
     state: &mut [usize; STATE],
 ) -> usize
     requires { ⌜ Sized (now state) ⌝ }
-    ensures { λ r. ⌜ StatementsFrom (now (card .entry)) at top (lateIn (now (state .entry))) (lent (now (rows .entry)) (now (nodes .entry)) (now (branches .entry))) (lent (now (rows .exit)) (now (nodes .exit)) (now (branches .exit))) (after (now (state .exit)) r) ⌝ }
+    ensures { λ r. ⌜ StatementsFrom decimals (now (card .entry)) at top (lateIn (now (state .entry))) (lent (now (rows .entry)) (now (nodes .entry)) (now (branches .entry))) (lent (now (rows .exit)) (now (nodes .exit)) (now (branches .exit))) (after (now (state .exit)) r) ⌝ }
 {
     let mut next = sign(card, at, SQUARE_OPEN, state);
     if next == 0 {
@@ -147,7 +157,17 @@ pub fn statements(
     let mut place = at;
     let mut count = 0;
     while count < MOST_STATEMENTS {
-        let read = statement(card, next, top, rows, nodes, branches, count, state);
+        let read = statement(
+            card,
+            next,
+            top,
+            rows,
+            nodes,
+            branches,
+            count,
+            decimals,
+            state,
+        );
         if read == 0 {
             return 0;
         }

@@ -3,6 +3,7 @@
 use mathlib.Core.Path.{_≡_, refl}
 use mathlib.Core.List.{[], _∷_}
 use mathlib.Core.Option.{none}
+use Rattle.card.specs.Limits.{unit}
 use Rattle.card.specs.Text.{bytes}
 use Rattle.card.specs.Card.{nondeterministic, probabilistic, Card}
 use Rattle.meaning.specs.CardA.{cardA}
@@ -23,7 +24,7 @@ oneSeat = record {
   n = 1;
   k = 1;
   l = 0;
-  statements = record { own = 0; guard = none; branches = record { units = 25200; end = 1 } ∷ [] } ∷ [];
+  statements = record { own = 0; guard = none; branches = record { units = unit; end = 1 } ∷ [] } ∷ [];
 }
 
 pub one-seat : reducedOf oneSeat ≡ bytes "nondeterministic\nmodule generic_process\nno_0 : [0..1] init 1;\nno_1 : [0..1] init 0;\n[] (no_0>0) -> 1:(no_0'=no_0-1) & (no_1'=min(no_1+1,1));\nendmodule\n"

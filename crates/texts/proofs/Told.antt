@@ -15,7 +15,7 @@ use Rattle.card.specs.Limits.{unit}
 use Rattle.card.specs.Text.{if_then_else_}
 use Rattle.card.specs.Card.{Mode, nondeterministic, probabilistic, atom, neg, and, or}
 use Rattle.card.specs.Valid.{Level, loose, middle, tight, Every}
-use Rattle.card.specs.Weight.{Weight, whole, decimal as point, ratio, cardRule, unitsOf}
+use Rattle.card.specs.Weight.{Weight, whole, decimal as point, ratio, unitsOf}
 use Rattle.meaning.specs.Reduced.{Bound, equalTo, moreThan, lessThan, Counter, counter, Test, Update, keep, shift, Outcome, Reduced, Program}
 use Rattle.room.specs.Digits.{decimal, AllDigits}
 use Rattle.room.proofs.Decimal.{decimal-digits, decimal-injective}
@@ -184,7 +184,7 @@ weight-told : (u v : ℕ) (r s : List ℕ) → u ≤ unit → v ≤ unit → wei
 unfolding weightText
 weight-told u v r s h k e =
     let z = spell-told (lowest u) (lowest v) r s (lowest-plain u) (lowest-plain v) e in
-    (the-some (sym (lowest-kept u h) ∙ ap (unitsOf cardRule) (z .0) ∙ lowest-kept v k), z .1)
+    (the-some (sym (lowest-kept u h) ∙ ap unitsOf (z .0) ∙ lowest-kept v k), z .1)
 
 -- ---- branches
 

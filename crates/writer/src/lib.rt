@@ -2,10 +2,12 @@
 use card::Head;
 use card::Verdict;
 use card::limits::BRANCH_PLACES;
+use card::limits::MOST_BRANCHES;
 use card::limits::NODE_PLACES;
 use card::limits::ROW_PLACES;
 use card::refusals::ROOM_TOO_SMALL;
 use leaf_text::WRITTEN;
+use phrases::WEIGHT_MOST;
 use phrases::put_mode;
 use phrases::put_numbered;
 use reader::read_into;
@@ -95,7 +97,7 @@ fn written_length<'a>(
 // What each part of a written card comes to at most (texts/specs/Lengths.antt).
 const HEAD_MOST: usize = 63;
 
-const BARE_MOST: usize = 249;
+const BARE_MOST: usize = 161 + MOST_BRANCHES * WEIGHT_MOST;
 
 const SEAT_MOST: usize = 144;
 

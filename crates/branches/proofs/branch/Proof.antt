@@ -11,7 +11,7 @@ weight-requires : tie.Need-weight-requires
 weight-requires c κs = c .before .before .pre .0
 
 returns : tie.Need-returns
-returns c = weight-halts _ _ _ _ _ _ _ _ (c .before .weight .ensures) (c .if1 .taken)
+returns c = weight-halts _ _ _ _ _ _ _ _ _ (c .before .weight .ensures) (c .if1 .taken)
 
 element-copy-out-units : tie.Need-element-copy-out-units
 element-copy-out-units c = search needs
@@ -24,7 +24,7 @@ returns-2 c =
     let at-updated = c .before in
     let at-if1 = at-updated .before .before .before in
     let at-weight = at-if1 .before in
-    update-halts _ _ _ _ _ _ _ _ (at-weight .weight .ensures) (at-if1 .if1 .left) _ (at-updated .updated .ensures) (c .if2 .taken)
+    update-halts _ _ _ _ _ _ _ _ _ (at-weight .weight .ensures) (at-if1 .if1 .left) _ (at-updated .updated .ensures) (c .if2 .taken)
 
 number-requires : tie.Need-number-requires
 number-requires c κs = c .before .before .updated .ensures .sized
@@ -36,7 +36,7 @@ returns-3 c =
     let at-updated = at-if2 .before in
     let at-if1 = at-updated .before .before .before in
     let at-weight = at-if1 .before in
-    end-halts _ _ _ _ _ _ _ _ (at-weight .weight .ensures) (at-if1 .if1 .left) _ (at-updated .updated .ensures) (at-if2 .if2 .left) _
+    end-halts _ _ _ _ _ _ _ _ _ (at-weight .weight .ensures) (at-if1 .if1 .left) _ (at-updated .updated .ensures) (at-if2 .if2 .left) _
     (at-number .number .ensures) (c .if3 .taken)
 
 sign-requires : tie.Need-sign-requires
@@ -51,7 +51,7 @@ returns-4 c =
     let at-updated = at-if2 .before in
     let at-if1 = at-updated .before .before .before in
     let at-weight = at-if1 .before in
-    close-halts _ _ _ _ _ _ _ _ (at-weight .weight .ensures) (at-if1 .if1 .left) _ (at-updated .updated .ensures) (at-if2 .if2 .left) _
+    close-halts _ _ _ _ _ _ _ _ _ (at-weight .weight .ensures) (at-if1 .if1 .left) _ (at-updated .updated .ensures) (at-if2 .if2 .left) _
     (at-number .number .ensures) (at-if3 .if3 .left) _ (at-sign .sign .ensures) (c .if4 .taken)
 
 cast-pack-branch : tie.Need-cast-pack-branch
@@ -91,7 +91,7 @@ returns-5 c =
     let at-weight = at-if1 .before in
     let entry = at-weight .before .before .before in
     let a = entry .args in
-    branch-read _ _ _ _ _ _ _ _ (at-weight .weight .ensures) (at-if1 .if1 .left) _ (at-updated .updated .ensures) (at-if2 .if2 .left) _
+    branch-read _ _ _ _ _ _ _ _ _ (at-weight .weight .ensures) (at-if1 .if1 .left) _ (at-updated .updated .ensures) (at-if2 .if2 .left) _
     (at-number .number .ensures) (at-if3 .if3 .left) _ (at-sign .sign .ensures) (at-if4 .if4 .left)
     (ap (set (a .branches .now) (a .place)) (c .pack-branch .ensures))
 

@@ -1,6 +1,6 @@
 -- A way out for each kind of weight (proofs/BranchLaws.antt). Assumes nothing.
 use Rattle.parts.proofs.Steps.{next-at}
-use Rattle.branches.proofs.BranchLaws.{decimal-read, weight-stops, whole-read, ratio-stops, ratio-read}
+use Rattle.branches.proofs.BranchLaws.{formed-sized, decimal-read, weight-stops, whole-read, ratio-stops, ratio-read}
 use borrow.Author.Needs.{needs}
 use Rattle.branches.proofs.weight.Statement.{statement}
 use Rattle.branches.proofs.weight.Tie as tie
@@ -8,23 +8,32 @@ use Rattle.branches.proofs.weight.Tie as tie
 step-number-requires : tie.Need-step-number-requires
 step-number-requires c κs = search needs
 
+judge-form-requires : tie.Need-judge-form-requires
+judge-form-requires c κs =
+    let entry = c .before .before .before .before .before .before .before in
+    entry .pre
+
 decimal-requires : tie.Need-decimal-requires
 decimal-requires c κs = search needs
 
 weighed-requires : tie.Need-weighed-requires
 weighed-requires c κs =
-    let entry = c .before .before .before .before .before .before .before .before in
-    entry .pre
+    let at-judge-form = c .before .before in
+    let at-if1 = at-judge-form .before .before in
+    let at-step-number = at-if1 .before .before .before .before in
+    let entry = at-step-number .before .before in
+    formed-sized (entry .args .state .now) (entry .pre) (at-judge-form .judge-form .ensures)
 
 returns : tie.Need-returns
 returns c =
     let at-decimal = c .before .before in
-    let at-if1 = at-decimal .before in
+    let at-judge-form = at-decimal .before in
+    let at-if1 = at-judge-form .before .before in
     let at-step-number = at-if1 .before .before .before .before in
     let entry = at-step-number .before .before in
     let a = entry .args in
-    decimal-read (next-at (a .card .now) (a .at) (at-step-number .step-number .result) (at-step-number .step-number .ensures)) (a .state .now)
-    (c .weighed .ensures) (at-if1 .if1 .taken) (at-decimal .decimal .ensures)
+    decimal-read (next-at (a .card .now) (a .at) (at-step-number .step-number .result) (at-step-number .step-number .ensures)) _
+    (c .weighed .ensures) (a .state .now) (entry .pre) (at-judge-form .judge-form .ensures) (at-if1 .if1 .taken) (at-decimal .decimal .ensures)
 
 stop-requires : tie.Need-stop-requires
 stop-requires c κs =
@@ -119,6 +128,7 @@ weight-spec =
     tie.close
     (tie.spec
     step-number-requires
+    judge-form-requires
     decimal-requires
     weighed-requires
     returns

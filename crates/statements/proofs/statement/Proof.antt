@@ -13,7 +13,7 @@ owned-requires : tie.Need-owned-requires
 owned-requires c κs = c .before .before .pre .0
 
 returns : tie.Need-returns
-returns c = words-halt _ _ _ _ _ _ _ _ (c .before .owned .ensures) (c .if1 .taken)
+returns c = words-halt _ _ _ _ _ _ _ _ _ (c .before .owned .ensures) (c .if1 .taken)
 
 number-requires : tie.Need-number-requires
 number-requires c κs = c .before .before .owned .ensures .sized
@@ -23,7 +23,7 @@ returns-2 c =
     let at-number = c .before in
     let at-if1 = at-number .before .before in
     let at-owned = at-if1 .before in
-    own-halts _ _ _ _ _ _ _ _ (at-owned .owned .ensures) (at-if1 .if1 .left) _ (at-number .number .ensures) (c .if2 .taken)
+    own-halts _ _ _ _ _ _ _ _ _ (at-owned .owned .ensures) (at-if1 .if1 .left) _ (at-number .number .ensures) (c .if2 .taken)
 
 element-copy-out-rows : tie.Need-element-copy-out-rows
 element-copy-out-rows c =
@@ -58,7 +58,7 @@ returns-3 c =
     let at-number = at-if2 .before in
     let at-if1 = at-number .before .before in
     let at-owned = at-if1 .before in
-    guard-halts _ _ _ _ _ _ _ _ (at-owned .owned .ensures) (at-if1 .if1 .left) _ (at-number .number .ensures) (at-if2 .if2 .left) _
+    guard-halts _ _ _ _ _ _ _ _ _ (at-owned .owned .ensures) (at-if1 .if1 .left) _ (at-number .number .ensures) (at-if2 .if2 .left) _
     (at-guarded .guarded .ensures) (c .if3 .taken)
 
 element-copy-out-rows-2 : tie.Need-element-copy-out-rows-2
@@ -101,7 +101,7 @@ returns-4 c =
     let at-number = at-if2 .before in
     let at-if1 = at-number .before .before in
     let at-owned = at-if1 .before in
-    branches-halt _ _ _ _ _ _ _ _ (at-owned .owned .ensures) (at-if1 .if1 .left) _ (at-number .number .ensures) (at-if2 .if2 .left) _
+    branches-halt _ _ _ _ _ _ _ _ _ (at-owned .owned .ensures) (at-if1 .if1 .left) _ (at-number .number .ensures) (at-if2 .if2 .left) _
     (at-guarded .guarded .ensures) (at-if3 .if3 .left) _ (at-branches .branches .ensures) (c .if4 .taken)
 
 element-copy-out-rows-3 : tie.Need-element-copy-out-rows-3
@@ -134,7 +134,7 @@ returns-5 c =
     let at-number = at-if2 .before in
     let at-if1 = at-number .before .before in
     let at-owned = at-if1 .before in
-    statement-read _ _ _ _ _ _ _ _ (at-owned .owned .ensures) (at-if1 .if1 .left) _ (at-number .number .ensures) (at-if2 .if2 .left) _
+    statement-read _ _ _ _ _ _ _ _ _ (at-owned .owned .ensures) (at-if1 .if1 .left) _ (at-number .number .ensures) (at-if2 .if2 .left) _
     (at-guarded .guarded .ensures) (at-if3 .if3 .left) _ (at-branches .branches .ensures) (at-if4 .if4 .left) refl
 
 pub statement-spec : {M : Type 1} → statement M

@@ -11,11 +11,11 @@ use Rattle.statements.proofs.statements.Statement.{statement}
 use Rattle.statements.proofs.statements.Tie as tie
 
 abbrev Inv-loop : tie.InvT-loop
-Inv-loop card at top rows₀ nodes₀ branches₀ state₀ next₀ place₀ count₀ rows nodes branches state next place count =
-    Going card top (lateIn state₀) (lent rows₀ nodes₀ branches₀) at count place (lent rows nodes branches) next state
+Inv-loop card at top rows₀ nodes₀ branches₀ decimals state₀ next₀ place₀ count₀ rows nodes branches state next place count =
+    Going decimals card top (lateIn state₀) (lent rows₀ nodes₀ branches₀) at count place (lent rows nodes branches) next state
 
 abbrev μ-loop : tie.MeasureT-loop
-μ-loop card at top rows₀ nodes₀ branches₀ state₀ next₀ place₀ count₀ rows nodes branches state next place count = mostStatements - count
+μ-loop card at top rows₀ nodes₀ branches₀ decimals state₀ next₀ place₀ count₀ rows nodes branches state next place count = mostStatements - count
 
 sign-requires : tie.Need-sign-requires Inv-loop μ-loop
 sign-requires c κs = c .before .before .pre
