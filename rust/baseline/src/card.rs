@@ -235,11 +235,13 @@ mod tests {
     fn good_weights() {
         assert_eq!(units_of_number(0), Some(0));
         assert_eq!(units_of_number(1), Some(UNIT));
-        assert_eq!(units_of_decimal(0, 37, 2), Some(9_324));
-        assert_eq!(units_of_decimal(0, 5, 2), Some(1_260));
-        assert_eq!(units_of_decimal(0, 5, 1), Some(12_600));
+        assert_eq!(units_of_decimal(0, 37, 2), Some(102_564));
+        assert_eq!(units_of_decimal(0, 5, 2), Some(13_860));
+        assert_eq!(units_of_decimal(0, 5, 1), Some(138_600));
         assert_eq!(units_of_decimal(1, 0, 2), Some(UNIT));
-        assert_eq!(units_of_fraction(1, 7), Some(3_600));
+        assert_eq!(units_of_fraction(1, 7), Some(39_600));
+        assert_eq!(units_of_fraction(1, 11), Some(25_200));
+        assert_eq!(units_of_fraction(0, 11), Some(0));
         assert_eq!(units_of_fraction(0, 5), Some(0));
         assert_eq!(units_of_fraction(1, UNIT), Some(1));
         assert_eq!(units_of_fraction(UNIT, UNIT), Some(UNIT));
@@ -252,8 +254,9 @@ mod tests {
         assert_eq!(units_of_decimal(0, 500, 3), None);
         assert_eq!(units_of_decimal(1, 1, 2), None);
         assert_eq!(units_of_decimal(2, 0, 1), None);
-        assert_eq!(units_of_fraction(1, 11), None);
-        assert_eq!(units_of_fraction(0, 11), None);
+        assert_eq!(units_of_fraction(1, 13), None);
+        assert_eq!(units_of_fraction(0, 13), None);
+        assert_eq!(units_of_fraction(11, 121), None);
         assert_eq!(units_of_fraction(3, 2), None);
         assert_eq!(units_of_fraction(0, 0), None);
         assert_eq!(units_of_fraction(1, 2 * UNIT), None);

@@ -1,8 +1,9 @@
 //! Document 01 as an ordinary Rust program: rule cards are read, written,
 //! reduced to counters, and shown as the panel of a seating; and those requests
 //! of document 02 that have landed: questions about a seating are answered,
-//! cards are found in decks, a table where nobody can move has a step, and a
-//! spectator sees how many seats are in each public class.
+//! cards are found in decks, a table where nobody can move has a step, a
+//! spectator sees how many seats are in each public class, and weights may be
+//! elevenths.
 //!
 //! It was written from the documents alone, so that a slip in it and a slip in
 //! the verified library are unlikely to be the same one; `compare` runs both on
@@ -17,7 +18,7 @@
 //! let length = baseline::panel(card, &[0], &mut room).unwrap();
 //! assert_eq!(
 //!     &room[..length],
-//!     b"nondeterministic\nseats 1 enabled 1\ncounts 1 0\nchoice 1\nmove 0 1 25200\n"
+//!     b"nondeterministic\nseats 1 enabled 1\ncounts 1 0\nchoice 1\nmove 0 1 277200\n"
 //! );
 //! ```
 

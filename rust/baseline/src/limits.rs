@@ -21,15 +21,15 @@ pub const NODES: usize = 32;
 /// Most `!` and expression brackets open around a place in a guard or a question.
 pub const DEPTH: usize = 8;
 /// Most digits of a number, and of a decimal's whole part.
-pub const NUMBER_DIGITS: usize = 5;
+pub const NUMBER_DIGITS: usize = 6;
 /// Most digits behind a decimal's point for it to be a mark at all.
-pub const FURTHER_DIGITS: usize = 5;
+pub const FURTHER_DIGITS: usize = 6;
 /// Most digits of a seat word or a module word.
 pub const WORD_DIGITS: usize = 5;
 /// Most digits behind the point of a decimal that is a good weight.
 pub const WEIGHT_FURTHER_DIGITS: usize = 2;
 /// A weight of one, in the units in which weights are held.
-pub const UNIT: u32 = 25_200;
+pub const UNIT: u32 = 277_200;
 /// Bytes of its input that the panel program looks at.
 pub const INPUT_BYTES: usize = 65_536;
 /// Longest deck, in bytes.

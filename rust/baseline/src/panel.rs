@@ -68,8 +68,8 @@ impl Print for Panel<'_> {
         const FRAME: usize = "nondeterministic\nseats 16 enabled 512\ncounts\n".len();
         const COUNT: usize = " 16".len();
         const CHOICE: usize = "choice 32\n".len();
-        // No branch makes more than one line (a card has one at least, and a stuck table's step is one), and the weights of all seats and statements together have eight digits.
-        const LINE: usize = "move 7 7 12902400\n".len();
+        // No branch makes more than one line (a card has one at least, and a stuck table's step is one), and the weights of all seats and statements together have nine digits.
+        const LINE: usize = "move 7 7 141926400\n".len();
         FRAME
             + STATES * COUNT
             + self.card.statements().len() * CHOICE

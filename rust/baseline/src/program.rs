@@ -42,7 +42,7 @@ mod tests {
 
     #[test]
     fn panels_and_refusals() {
-        let panel = "probabilistic\nseats 1 enabled 1\ncounts 1 0\nmove 0 1 25200\n";
+        let panel = "probabilistic\nseats 1 enabled 1\ncounts 1 0\nmove 0 1 277200\n";
         prints(&format!("0\n{CARD}"), panel);
         prints(&format!("2\n{CARD}"), "refused 9 0\n");
         prints(&format!("x\n{CARD}"), "refused 9 0\n");

@@ -370,14 +370,14 @@ mod tests {
 
     #[test]
     fn numbers() {
-        outside("12345", None);
-        outside("123456", Some(0));
+        outside("123456", None);
+        outside("1234567", Some(0));
         outside("007", Some(0));
         outside("00.5", Some(0));
         outside("01/2", Some(0));
-        outside("0.12345", None);
-        outside("0.123456", Some(0));
-        outside("12345.12345", None);
+        outside("0.123456", None);
+        outside("0.1234567", Some(0));
+        outside("123456.123456", None);
         outside("0x", None);
     }
 

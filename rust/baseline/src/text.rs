@@ -59,7 +59,7 @@ pub(crate) trait Text {
 }
 
 /// The longest weight.
-pub(crate) const WEIGHT_MOST: usize = "25199/25200".len();
+pub(crate) const WEIGHT_MOST: usize = "277199/277200".len();
 
 fn greatest_common_divisor(mut a: u32, mut b: u32) -> u32 {
     while b != 0 {

@@ -130,12 +130,25 @@ fn guard_nodes() {
 #[test]
 fn digits() {
     let weight = |weight: &str| card(1, 0, &format!("[] s1=0 -> {weight}:(s1'=0);"));
-    assert_eq!(refusal(&weight("25200/25200")), None);
-    refused(&weight("12345"), 7, "12345", 0);
-    refused(&weight("123456"), 2, "123456", 0);
-    refused(&weight("0.12345"), 7, "0.12345", 0);
-    refused(&weight("0.123456"), 2, "0.123456", 0);
-    refused(&weight("12345.12345"), 7, "12345.12345", 0);
+    assert_eq!(refusal(&weight("277200/277200")), None);
+    refused(&weight("123456"), 7, "123456", 0);
+    refused(&weight("1234567"), 2, "1234567", 0);
+    refused(&weight("0.123456"), 7, "0.123456", 0);
+    refused(&weight("0.1234567"), 2, "0.1234567", 0);
+    refused(&weight("123456.123456"), 7, "123456.123456", 0);
+    refused(&weight("0.500"), 7, "0.500", 0);
+    refused(&weight("1/554400"), 7, "1/554400", 0);
+    // Words keep their five.
+    let seat = |seat: &str| card(1, 0, &format!("[] s1=0 & ({seat}=0) -> 1:(s1'=0);"));
+    refused(&seat("s99999"), 6, "(s99999", 0);
+    refused(&seat("s123456"), 3, "s123456", 0);
+    let module = |word: &str| CARD_A.replace("module process2", &format!("module {word}"));
+    refused(&module("process99999"), 6, "process99999", 0);
+    refused(&module("process123456"), 3, "process123456", 0);
+    // A state of six digits is one above the top state, whatever its low bits are.
+    let state = |state: &str| card(1, 1, &format!("[] s1=0 -> 1:(s1'={state});"));
+    refused(&state("131072"), 5, "131072", 0);
+    refused(&state("1310721"), 2, "1310721", 0);
 }
 
 #[test]

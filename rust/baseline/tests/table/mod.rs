@@ -27,59 +27,62 @@ pub fn edges() -> Vec<Edge> {
         });
     };
 
-    let at_001 = "probabilistic\nseats 3 enabled 3\ncounts 2 1 0\nstay 18900\n\
-        move 0 1 25200\nmove 0 2 25200\nmove 1 2 6300\n";
+    let at_001 = "probabilistic\nseats 3 enabled 3\ncounts 2 1 0\nstay 207900\n\
+        move 0 1 277200\nmove 0 2 277200\nmove 1 2 69300\n";
     edge("card A at 001", CARD_A, &[0, 0, 1], Ok(at_001));
     edge("card A at 100", CARD_A, &[1, 0, 0], Ok(at_001));
     edge(
         "card A at 012",
         CARD_A,
         &[0, 1, 2],
-        Ok("probabilistic\nseats 3 enabled 1\ncounts 1 1 1\nstay 25200\n"),
+        Ok("probabilistic\nseats 3 enabled 1\ncounts 1 1 1\nstay 277200\n"),
     );
     edge(
         "card A as nondeterministic at 012",
         &CARD_A.replace("probabilistic", "nondeterministic"),
         &[0, 1, 2],
-        Ok("nondeterministic\nseats 3 enabled 1\ncounts 1 1 1\nchoice 0\nstay 25200\n"),
+        Ok("nondeterministic\nseats 3 enabled 1\ncounts 1 1 1\nchoice 0\nstay 277200\n"),
     );
     edge(
         "card A at 011",
         CARD_A,
         &[0, 1, 1],
-        Ok("probabilistic\nseats 3 enabled 2\ncounts 1 2 0\nstay 37800\nmove 1 2 12600\n"),
+        Ok("probabilistic\nseats 3 enabled 2\ncounts 1 2 0\nstay 415800\nmove 1 2 138600\n"),
     );
     edge(
         "card A at 000",
         CARD_A,
         &[0, 0, 0],
-        Ok("probabilistic\nseats 3 enabled 3\ncounts 3 0 0\nmove 0 1 37800\nmove 0 2 37800\n"),
+        Ok("probabilistic\nseats 3 enabled 3\ncounts 3 0 0\nmove 0 1 415800\nmove 0 2 415800\n"),
     );
     edge(
         "card A as nondeterministic at 001",
         &CARD_A.replace("probabilistic", "nondeterministic"),
         &[0, 0, 1],
         Ok(
-            "nondeterministic\nseats 3 enabled 2\ncounts 2 1 0\nchoice 1\nmove 0 1 12600\n\
-            move 0 2 12600\nchoice 2\nstay 18900\nmove 1 2 6300\n",
+            "nondeterministic\nseats 3 enabled 2\ncounts 2 1 0\nchoice 1\nmove 0 1 138600\n\
+            move 0 2 138600\nchoice 2\nstay 207900\nmove 1 2 69300\n",
         ),
     );
 
     let sevenths = card(1, 1, "[] s1=0 -> 1/7:(s1'=1) + 6/7:(s1'=0);");
-    let moves_3600 = "probabilistic\nseats 1 enabled 1\ncounts 1 0\nstay 21600\nmove 0 1 3600\n";
-    edge("a seventh", &sevenths, &[0], Ok(moves_3600));
+    let moves_39600 = "probabilistic\nseats 1 enabled 1\ncounts 1 0\nstay 237600\nmove 0 1 39600\n";
+    edge("a seventh", &sevenths, &[0], Ok(moves_39600));
     let elevenths = card(1, 1, "[] s1=0 -> 1/11:(s1'=1) + 10/11:(s1'=0);");
+    let moves_25200 = "probabilistic\nseats 1 enabled 1\ncounts 1 0\nstay 252000\nmove 0 1 25200\n";
+    edge("an eleventh", &elevenths, &[0], Ok(moves_25200));
+    let thirteenths = card(1, 1, "[] s1=0 -> 1/13:(s1'=1) + 12/13:(s1'=0);");
     edge(
-        "an eleventh",
-        &elevenths,
+        "a thirteenth",
+        &thirteenths,
         &[0],
-        Err((7, place(&elevenths, "1/11"))),
+        Err((7, place(&thirteenths, "1/13"))),
     );
 
     let other = card(2, 1, "[] s1=0 & (s2=0) -> 1:(s1'=1);");
-    let both_move = "probabilistic\nseats 2 enabled 2\ncounts 2 0\nmove 0 1 50400\n";
+    let both_move = "probabilistic\nseats 2 enabled 2\ncounts 2 0\nmove 0 1 554400\n";
     edge("one other in 0", &other, &[0, 0], Ok(both_move));
-    let nobody = "probabilistic\nseats 2 enabled 1\ncounts 1 1\nstay 25200\n";
+    let nobody = "probabilistic\nseats 2 enabled 1\ncounts 1 1\nstay 277200\n";
     edge("no other in 0", &other, &[0, 1], Ok(nobody));
     let first = card(2, 1, "[] s1=0 & (s1=0) -> 1:(s1'=1);");
     edge(
@@ -97,19 +100,19 @@ pub fn edges() -> Vec<Edge> {
         Err((7, place(&three, "0.005"))),
     );
     let two = card(1, 1, "[] s1=0 -> 0.05:(s1'=1) + 0.95:(s1'=0);");
-    let moves_1260 = "probabilistic\nseats 1 enabled 1\ncounts 1 0\nstay 23940\nmove 0 1 1260\n";
-    edge("two further digits", &two, &[0], Ok(moves_1260));
+    let moves_13860 = "probabilistic\nseats 1 enabled 1\ncounts 1 0\nstay 263340\nmove 0 1 13860\n";
+    edge("two further digits", &two, &[0], Ok(moves_13860));
     let turned = CARD_A.replace("(s2=0 | s3=0)", "(s3=0 | s2=0)");
     edge("a group in another order", &turned, &[0, 0, 1], Ok(at_001));
 
     edge("empty card", "", &[], Err((3, 0)));
     let plain = "[] s1=0 -> 1:(s1'=0);";
-    let sixteen = "probabilistic\nseats 16 enabled 16\ncounts 16 0\nstay 403200\n";
+    let sixteen = "probabilistic\nseats 16 enabled 16\ncounts 16 0\nstay 4435200\n";
     edge("16 modules", &card(16, 1, plain), &[0; 16], Ok(sixteen));
     let seventeen = card(17, 1, plain);
     let last_module = place(&seventeen, "module process17");
     edge("17 modules", &seventeen, &[0; 17], Err((4, last_module)));
-    let top_7 = "probabilistic\nseats 1 enabled 1\ncounts 1 0 0 0 0 0 0 0\nstay 25200\n";
+    let top_7 = "probabilistic\nseats 1 enabled 1\ncounts 1 0 0 0 0 0 0 0\nstay 277200\n";
     edge("top state 7", &card(1, 7, plain), &[0], Ok(top_7));
     let eight = card(1, 8, plain);
     edge("top state 8", &eight, &[0], Err((4, place(&eight, "8]"))));
@@ -121,7 +124,7 @@ pub fn edges() -> Vec<Edge> {
             &format!("[] s1=0 & {open}(s1=0){close} -> 1:(s1'=0);"),
         )
     };
-    let stays = "probabilistic\nseats 1 enabled 1\ncounts 1 0\nstay 25200\n";
+    let stays = "probabilistic\nseats 1 enabled 1\ncounts 1 0\nstay 277200\n";
     edge("8 brackets open", &nested(8), &[0], Ok(stays));
     let ninth = place(&nested(9), "(((((((((") + 8;
     edge("9 brackets open", &nested(9), &[0], Err((4, ninth)));
