@@ -14,7 +14,7 @@
 //! let length = open_panel::show(card, &[0], &mut room)?;
 //! assert_eq!(
 //!     &room[..length],
-//!     b"nondeterministic\nseats 1 enabled 1\ncounts 1 0\nchoice 1\nmove 0 1 25200\n"
+//!     b"nondeterministic\nseats 1 enabled 1\ncounts 1 0\nchoice 1\nmove 0 1 277200\n"
 //! );
 //! # Ok::<(), open_panel::Refusal>(())
 //! ```
@@ -42,12 +42,14 @@ pub const SEATS: usize = 16;
 pub const TOP_STATE: u8 = 7;
 /// Highest public class of a state.
 pub const TOP_CLASS: u8 = 7;
+/// A weight of one, as panels show it.
+pub const UNIT: u32 = 277_200;
 /// A room in which every written card fits.
-pub const WRITE_ROOM: usize = 82_639;
+pub const WRITE_ROOM: usize = 83_151;
 /// A room in which every reduced program fits.
-pub const REDUCE_ROOM: usize = 347_890;
+pub const REDUCE_ROOM: usize = 356_082;
 /// A room in which every panel fits.
-pub const SHOW_ROOM: usize = 4_101;
+pub const SHOW_ROOM: usize = 4_357;
 /// A room in which all that a spectator sees fits.
 pub const WATCH_ROOM: usize = 25;
 

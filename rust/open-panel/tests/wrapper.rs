@@ -13,8 +13,8 @@ fn texts_in_their_own_room() {
     assert!(
         reduced.starts_with(b"nondeterministic\nmodule generic_process\nno_0 : [0..1] init 1;\n")
     );
-    let panel = b"nondeterministic\nseats 1 enabled 1\ncounts 0 1\nchoice 0\nstay 25200\n";
-    assert_eq!(show_to_vec(CARD, &[1]).as_deref(), Ok(&panel[..]));
+    let panel = format!("nondeterministic\nseats 1 enabled 1\ncounts 0 1\nchoice 0\nstay {UNIT}\n");
+    assert_eq!(show_to_vec(CARD, &[1]).as_deref(), Ok(panel.as_bytes()));
 }
 
 #[test]
@@ -112,6 +112,24 @@ fn refusals_have_number_place_and_words() {
     for number in [1, 8, 12, 21] {
         assert_eq!(Refusal::new(number, 7), None);
     }
+}
+
+#[test]
+fn elevenths() {
+    let text = std::str::from_utf8(CARD).unwrap();
+    let card = |weights: &str| text.replace("1:(s1'=1)", weights).into_bytes();
+    let elevenths = card("1/11:(s1'=1) + 10/11:(s1'=0)");
+    let panel =
+        "nondeterministic\nseats 1 enabled 1\ncounts 1 0\nchoice 1\nstay 252000\nmove 0 1 25200\n";
+    assert_eq!(
+        show_to_vec(&elevenths, &[0]).as_deref(),
+        Ok(panel.as_bytes())
+    );
+    let at = text.find("1:(s1'=1)").unwrap();
+    let refused = |weights: &str| judge(&card(weights)).unwrap_err();
+    assert_eq!(refused("1/13:(s1'=1)"), Refusal::Weight { at });
+    assert_eq!(refused("123456:(s1'=1)"), Refusal::Weight { at });
+    assert_eq!(refused("1234567:(s1'=1)"), Refusal::Mark { at });
 }
 
 #[test]
