@@ -161,6 +161,11 @@ impl Checker {
         }
 
         tally.input(kind, judged.as_ref().err().or(shown.as_ref().err()));
+        match (&judged, &input.model) {
+            (Err(refusal), _) => tally.refused(card, refusal),
+            (Ok(_), Some(model)) => tally.six_digits += u64::from(model.has_weight_of_digits(6)),
+            (Ok(_), None) => {}
+        }
         let rooms = &mut self.rooms;
         let texts = [
             (Entry::Write, written),
@@ -302,6 +307,11 @@ fn asks(
         return Err(fault("ask", answer, due));
     }
     tally.question(question, input.seats.len(), answer);
+    if let Err(refusal) = &answer {
+        if refusal.number > 20 {
+            tally.refused(asked, refusal);
+        }
+    }
     if surrounded[..GUARD] != [before; GUARD]
         || surrounded[GUARD..GUARD + length] != question.bytes
         || surrounded[GUARD + length..] != [behind; GUARD]
@@ -410,7 +420,7 @@ impl Entry {
 
 /// The library's bound for the written cards of so many seats and statements (crate `writer`).
 const fn one_walk_write_room(seats: usize, statements: usize) -> usize {
-    63 + statements * (249 + 144 * seats) + seats * 55
+    63 + statements * (265 + 144 * seats) + seats * 55
 }
 
 const _: () = assert!(one_walk_write_room(SEATS, STATEMENTS) == WRITE_ROOM);

@@ -20,7 +20,7 @@ pub enum MarkDamage {
     Run,
     /// Another number.
     Number,
-    /// Another state.
+    /// Another state, or another top state.
     State,
     /// Another seat or module word in place of one.
     Word,
@@ -85,10 +85,14 @@ impl MarkDamage {
             }
             MarkDamage::State => {
                 let is_state = |before: &[u8], mark: &Mark| {
-                    matches!(before, b"=" | b"!=" | b"init") && mark.is_number()
+                    matches!(before, b"=" | b"!=" | b"init" | b"..") && mark.is_number()
                 };
                 if let Some(place) = any_place(marks, random, is_state) {
-                    marks[place] = Mark::number(random.between(0, 9));
+                    // The low bits of some that have six digits would be a state.
+                    marks[place] = Mark::number(match random.once_in(6) {
+                        true => random.pick(&[100_000, 131_072, 262_144, 262_145, 999_999]),
+                        false => random.between(0, 9),
+                    });
                 }
             }
             MarkDamage::Word => {
@@ -154,7 +158,7 @@ fn any_place(
     places.find(|&place| kind(marks[place - 1].bytes(), &marks[place]))
 }
 
-const WEIGHTS: [&str; 34] = [
+const WEIGHTS: [&str; 51] = [
     "0",
     "1",
     "2",
@@ -179,19 +183,36 @@ const WEIGHTS: [&str; 34] = [
     "0 / 11",
     "1 / 11",
     "1 / 7",
+    "0 / 13",
+    "1 / 13",
+    "5 / 11",
+    "11 / 11",
+    "12 / 11",
+    "1 / 121",
     "1 / 25200",
     "25200 / 25200",
     "1 / 50400",
-    "12345.12345",
+    "1 / 277200",
+    "277200 / 277200",
+    "277201 / 277200",
+    "1 / 554400",
+    "1 / 1000000",
+    "123456.123456",
     "0.123456",
+    "0.000001",
+    "0.500000",
+    "1.000000",
+    "0.1234567",
     "123456",
+    "1234567",
+    "1000000 / 1",
     "0.5 / 2",
     "1 / 0.5",
     "1 / 2 / 3",
-    "99999",
+    "999999",
 ];
 
-const MARKS: [&str; 60] = [
+const MARKS: [&str; 63] = [
     "[",
     "]",
     ":",
@@ -233,13 +254,16 @@ const MARKS: [&str; 60] = [
     "2",
     "7",
     "8",
-    "25200",
+    "277200",
     "0.5",
     "1.0",
     "0.12345",
     "0.123456",
+    "0.1234567",
     "007",
+    "99999",
     "123456",
+    "1234567",
     "00.5",
     "true",
     "s",
@@ -262,7 +286,10 @@ fn any_number(random: &mut Random) -> Mark {
     match random.below(8) {
         0 => Mark::new(
             random
-                .pick(&["007", "123456", "00", "99999", "65536", "25200"])
+                .pick(&[
+                    "007", "1234567", "1000000", "00", "99999", "65536", "262144", "277200",
+                    "999999",
+                ])
                 .as_bytes(),
         ),
         1 => Mark::number(random.between(8, 17)),

@@ -4,7 +4,7 @@
 //! nine seats), where a statement is copied (sixteen seats, eight branches with
 //! long weights), and where every statement is a choice. Reckoned piece by piece,
 //! what each costs on the card and gives in the text, no written form is longer
-//! than 22,516 bytes, no reduced text than 262,613 and no panel than 3,860. These
+//! than 22,516 bytes, no reduced text than 269,699 and no panel than 4,148. These
 //! bounds are reckoned and tried, not proved.
 
 use crate::cards::limits::{BRANCHES, CARD_BYTES, NODES, SEATS, STATEMENTS, TOP};
@@ -12,7 +12,7 @@ use crate::inputs::{Input, Kind};
 use crate::marks::{lay_out, Layout, Mark};
 use crate::model::{row_nodes, Branch, Expression, Group, Literal, Model, Statement, Unary};
 use crate::random::Random;
-use crate::weights::fraction;
+use crate::weights::{fraction, UNIT};
 
 /// A card with its name and a seating.
 pub struct Extreme {
@@ -73,10 +73,12 @@ fn weighted(weights: Vec<(u32, Vec<Mark>)>, end: impl Fn(usize) -> usize) -> Vec
 
 /// Numerators whose fractions in lowest terms are the longest that sum to one.
 fn long_weights() -> Vec<(u32, Vec<Mark>)> {
-    let above = [10_001, 10_001, 1_003, 1_003, 1_003, 1_003, 1_007, 179];
+    let above = [
+        100_003, 100_003, 10_001, 10_001, 10_001, 10_001, 10_027, 27_163,
+    ];
     let above = above.iter();
     above
-        .map(|above| (*above, fraction(*above, 25_200)))
+        .map(|above| (*above, fraction(*above, UNIT)))
         .collect()
 }
 
@@ -87,7 +89,7 @@ fn long_decimals() -> Vec<(u32, Vec<Mark>)> {
         .iter()
         .map(|hundredths| {
             (
-                hundredths * 252,
+                hundredths * (UNIT / 100),
                 vec![Mark::new(format!("0.{hundredths}").as_bytes())],
             )
         })
@@ -106,7 +108,7 @@ fn longest_written() -> Extreme {
     let plain = Statement {
         own: 0,
         guard: Vec::new(),
-        branches: weighted(vec![(25_200, vec![Mark::number(1)])], |_| 0),
+        branches: weighted(vec![(UNIT, vec![Mark::number(1)])], |_| 0),
     };
     let full = Statement {
         guard: vec![everyone(9, true); NODES / 2],

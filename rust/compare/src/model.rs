@@ -102,6 +102,13 @@ pub fn row_nodes(row: &[Unary]) -> usize {
 }
 
 impl Model {
+    /// Whether a weight has a number of just so many digits.
+    pub fn has_weight_of_digits(&self, digits: usize) -> bool {
+        let branches = self.statements.iter().flat_map(|one| &one.branches);
+        let mut marks = branches.flat_map(|branch| &branch.weight);
+        marks.any(|mark| mark.is_number() && mark.bytes().len() == digits)
+    }
+
     /// The marks of the card.
     pub fn marks(&self) -> Vec<Mark> {
         let mut marks = Vec::with_capacity(200);

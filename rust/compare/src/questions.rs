@@ -31,10 +31,10 @@ pub enum Kind {
     AtDepth,
     /// One more, or two.
     PastDepth,
-    /// A number of five digits.
-    FiveDigits,
-    /// A number of six digits, or one with a leading zero.
+    /// A number of six digits.
     SixDigits,
+    /// A number of seven digits, or one with a leading zero.
+    SevenDigits,
     /// A group that names a state above the card's highest.
     Above,
     /// A group of the others.
@@ -65,8 +65,8 @@ impl Kind {
         (Kind::PastNodes, 4),
         (Kind::AtDepth, 4),
         (Kind::PastDepth, 4),
-        (Kind::FiveDigits, 3),
         (Kind::SixDigits, 3),
+        (Kind::SevenDigits, 3),
         (Kind::Above, 6),
         (Kind::Others, 5),
         (Kind::WrongOne, 9),
@@ -97,10 +97,10 @@ impl Kind {
     pub fn refusal(self) -> Option<u8> {
         match self {
             Kind::PastLength => Some(21),
-            Kind::SixDigits => Some(22),
+            Kind::SevenDigits => Some(22),
             Kind::Cut => Some(23),
             Kind::PastNodes | Kind::PastDepth => Some(24),
-            Kind::FiveDigits | Kind::Above => Some(25),
+            Kind::SixDigits | Kind::Above => Some(25),
             Kind::Others | Kind::WrongOne => Some(26),
             _ => None,
         }
@@ -200,8 +200,12 @@ impl Made<'_> {
                 let leaf = self.leaf_of(above);
                 self.with(leaf)
             }
-            Kind::FiveDigits => {
-                let leaf = self.leaf_of(12_345);
+            Kind::SixDigits => {
+                // The low bits of some would be a state.
+                let state = self
+                    .random
+                    .pick(&[100_000, 123_456, 131_072, 262_144, 999_999]);
+                let leaf = self.leaf_of(state);
                 self.with(leaf)
             }
             Kind::Others => {
@@ -340,7 +344,7 @@ impl Made<'_> {
         for _ in 0..damages {
             random.pick(&MarkDamage::ALL).inflict(&mut marks, random);
         }
-        if kind == Kind::SixDigits {
+        if kind == Kind::SevenDigits {
             too_many_digits(&mut marks, random);
         }
         let mut bytes = lay_out(&marks, Layout::any(random), random);
@@ -372,7 +376,7 @@ impl Made<'_> {
 
 /// Puts a number that has a digit too many, or a zero too many, in place of one.
 fn too_many_digits(marks: &mut [Mark], random: &mut Random) {
-    const WRONG: [&str; 5] = ["123456", "100000", "00", "01", "0.123456"];
+    const WRONG: [&str; 5] = ["1234567", "1000000", "00", "01", "0.1234567"];
     let numbers: Vec<usize> = (0..marks.len())
         .filter(|&place| marks[place].is_number())
         .collect();

@@ -10,6 +10,7 @@ use crate::deck_check::DeckTally;
 use crate::inputs::Kind;
 use crate::questions::{self, Question};
 use crate::spectators::SpectatorTally;
+use crate::weights::BEFORE_ELEVENTHS;
 
 /// Inputs of a run that the minima below are for.
 pub const INPUTS: u64 = 100_000;
@@ -44,6 +45,52 @@ const EXACTLY_ONES: u64 = 3_000;
 const QUESTIONS_AT_EACH_SIZE: u64 = 400;
 /// Questions held to the seats, and asked again of reordered seats.
 const BY_SEATS: u64 = 20_000;
+
+/// Accepted cards with elevenths, in each mode.
+const ELEVENTHS: u64 = 3_000;
+/// Accepted cards with a number of six digits in a weight.
+const SIX_DIGITS: u64 = 1_000;
+/// Refusals at each of [`DIGITS`].
+const EACH_DIGITS: u64 = 50;
+
+/// What stands where something is refused, and with which number: as many digits as there may be, and one more.
+const DIGITS: [(&str, u8); 9] = [
+    ("six digits", 4),
+    ("six digits", 5),
+    ("six digits", 7),
+    ("seven digits", 2),
+    ("six further digits", 7),
+    ("seven further digits", 2),
+    ("a word with six digits", 3),
+    ("six digits", 25),
+    ("seven digits", 22),
+];
+
+/// Which of [`DIGITS`] stands at the place of a refusal.
+fn digits_at(text: &[u8], refusal: &Refusal) -> Option<usize> {
+    let rest = text.get(refusal.place..)?;
+    let digits = |from: usize| rest[from..].iter().take_while(|byte| byte.is_ascii_digit());
+    let letters = rest.iter().take_while(|byte| byte.is_ascii_alphabetic());
+    let (letters, whole) = (letters.count(), digits(0).count());
+    let what = if letters > 0 {
+        (digits(letters).count() == 6).then_some("a word with six digits")?
+    } else if rest.get(whole) == Some(&b'.') {
+        match digits(whole + 1).count() {
+            6 => "six further digits",
+            7 => "seven further digits",
+            _ => return None,
+        }
+    } else {
+        match whole {
+            6 => "six digits",
+            7 => "seven digits",
+            _ => return None,
+        }
+    };
+    DIGITS
+        .iter()
+        .position(|place| *place == (what, refusal.number))
+}
 
 /// How questions end: `ENDS[end]` is its name in the table.
 const ENDS: [&str; 10] = [
@@ -89,6 +136,11 @@ pub struct Tally {
     pub by_seats: u64,
     /// Questions asked again of reordered seats.
     pub questions_reordered: u64,
+    /// Accepted cards with elevenths, nondeterministic and probabilistic.
+    elevenths: [u64; 2],
+    /// Accepted cards with a number of six digits in a weight.
+    pub six_digits: u64,
+    digits: [u64; DIGITS.len()],
     /// Spectators.
     pub spectators: SpectatorTally,
     /// Decks.
@@ -116,8 +168,18 @@ impl Tally {
         self.long_rooms[entry as usize][usize::from(!one_walk)] += 1;
     }
 
+    /// A refusal, of a card or of a question, with what was refused.
+    pub(crate) fn refused(&mut self, text: &[u8], refusal: &Refusal) {
+        if let Some(place) = digits_at(text, refusal) {
+            self.digits[place] += 1;
+        }
+    }
+
     pub(crate) fn groups(&mut self, card: &Card) {
         let mode = usize::from(card.mode() == Mode::Probabilistic);
+        let mut branches = card.statements().iter().flat_map(|one| card.branches(one));
+        let elevenths = branches.any(|branch| !branch.units.is_multiple_of(BEFORE_ELEVENTHS));
+        self.elevenths[mode] += u64::from(elevenths);
         for statement in card.statements() {
             for node in card.guard(statement) {
                 let Node::Group(group) = node else { continue };
@@ -199,6 +261,9 @@ impl Tally {
         sum(&mut self.answered_at, &other.answered_at);
         self.by_seats += other.by_seats;
         self.questions_reordered += other.questions_reordered;
+        sum(&mut self.elevenths, &other.elevenths);
+        self.six_digits += other.six_digits;
+        sum(&mut self.digits, &other.digits);
         self.spectators.add(&other.spectators);
         self.decks.add(&other.decks);
     }
@@ -300,6 +365,16 @@ impl Tally {
             self.questions_reordered,
             BY_SEATS,
         );
+        for (mode, count) in ["nondeterministic", "probabilistic"]
+            .iter()
+            .zip(self.elevenths)
+        {
+            least(&format!("elevenths, {mode}"), count, ELEVENTHS);
+        }
+        least("weights of six digits", self.six_digits, SIX_DIGITS);
+        for ((what, number), count) in DIGITS.iter().zip(self.digits) {
+            least(&format!("{what}, {number}"), count, EACH_DIGITS);
+        }
         self.spectators.shortfalls(&mut least);
         self.decks.shortfalls(&mut least);
         shortfalls
@@ -372,6 +447,16 @@ impl fmt::Display for Tally {
             f,
             "stuck tables, nondeterministic {nondeterministic}, probabilistic {probabilistic}"
         )?;
+        let [nondeterministic, probabilistic] = self.elevenths;
+        write!(
+            f,
+            "elevenths, nondeterministic {nondeterministic}, probabilistic {probabilistic}; weights of six digits {}\nrefused at",
+            self.six_digits
+        )?;
+        for ((what, number), count) in DIGITS.iter().zip(self.digits) {
+            write!(f, " {what} ({number}) {count}")?;
+        }
+        writeln!(f)?;
         self.print_questions(f)?;
         write!(f, "\n{}\n{}", self.spectators, self.decks)
     }

@@ -4,11 +4,14 @@ use crate::marks::Mark;
 use crate::random::Random;
 
 /// A weight of one, in units.
-pub const UNIT: u32 = 25_200;
+pub const UNIT: u32 = 277_200;
+
+/// What every weight was a multiple of before elevenths were taken.
+pub const BEFORE_ELEVENTHS: u32 = 11;
 
 /// All numbers that divide the unit.
-pub const DIVISORS: [u32; 90] = {
-    let mut divisors = [0; 90];
+pub const DIVISORS: [u32; 180] = {
+    let mut divisors = [0; 180];
     let (mut found, mut number) = (0, 1);
     while number <= UNIT {
         if UNIT.is_multiple_of(number) {
@@ -17,7 +20,7 @@ pub const DIVISORS: [u32; 90] = {
         }
         number += 1;
     }
-    assert!(found == 90);
+    assert!(found == 180);
     divisors
 };
 

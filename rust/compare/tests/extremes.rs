@@ -9,9 +9,9 @@ fn longest_texts() {
     assert_eq!(written, Ok(22_435));
     const { assert!(22_516 <= open_panel::WRITE_ROOM) };
     let reduced = open_panel::reduce_to_vec(&reduced.input.card).map(|text| text.len());
-    assert_eq!(reduced, Ok(262_520));
-    const { assert!(262_613 <= open_panel::REDUCE_ROOM) };
+    assert_eq!(reduced, Ok(269_544));
+    const { assert!(269_699 <= open_panel::REDUCE_ROOM) };
     let panel = open_panel::show_to_vec(&panel.input.card, &panel.input.seats);
-    assert_eq!(panel.map(|text| text.len()), Ok(3_860));
-    const { assert!(3_860 <= open_panel::SHOW_ROOM) };
+    assert_eq!(panel.map(|text| text.len()), Ok(4_148));
+    const { assert!(4_148 <= open_panel::SHOW_ROOM) };
 }
