@@ -82,6 +82,13 @@ fn sets() -> Vec<Set> {
             cases: accepted.collect(),
         },
     ];
+    sets.push(Set {
+        name: "11 seats, elevenths",
+        cases: vec![Case::new(
+            elevenths(),
+            vec![0, 0, 0, 0, 1, 1, 1, 2, 2, 2, 2],
+        )],
+    });
     for Extreme { name, input } in extremes() {
         sets.push(Set {
             name,
@@ -89,6 +96,25 @@ fn sets() -> Vec<Set> {
         });
     }
     sets
+}
+
+/// Card A's statements for eleven seats, with elevenths for weights.
+fn elevenths() -> Vec<u8> {
+    let group = |from: usize, literal: &str, sign: &str| {
+        let literals = (from..=11).map(|seat| format!("s{seat}{literal}"));
+        literals.collect::<Vec<_>>().join(sign)
+    };
+    let (some, none) = (group(2, "=0", " | "), group(1, "!=2", " & "));
+    let copies = (2..=11).map(|seat| {
+        format!("module process{seat} = process1 [s1=s{seat}, s{seat}=s1] endmodule\n")
+    });
+    let card = format!(
+        "probabilistic\nmodule process1\ns1 : [0..2] init 0;\n\
+         [] s1=0 & ({some}) -> 3/11:(s1'=1) + 8/11:(s1'=2);\n\
+         [] s1=1 & !({none}) -> 1/22:(s1'=2) + 21/22:(s1'=1);\nendmodule\n{}",
+        copies.collect::<String>()
+    );
+    card.into_bytes()
 }
 
 /// Card A with a question, and the longest question about a full table.
