@@ -29,6 +29,7 @@ through() {
     held requests/2026-03 requests/2026-03 panel "${@:2}"
     held requests/2026-04 requests/2026-04 write "${@:2}"
     held requests/2026-05 requests/2026-05 spectator "${@:2}"
+    for entry in read write reduce panel ask; do held requests/2026-06 requests/2026-06 $entry "${@:2}"; done
 }
 
 through 'Rust wrapper'
