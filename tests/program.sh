@@ -37,7 +37,7 @@ sized() {
     [ "$(wc -c <"$made/in")" = "$1" ]
     expect "$made/in" "$5"
 }
-sized 16388 3 16384 '' "$(printf 'probabilistic\nseats 3 enabled 3\ncounts 3 0 0\nmove 0 1 37800\nmove 0 2 37800')"
+sized 16388 3 16384 '' "$(printf 'probabilistic\nseats 3 enabled 3\ncounts 3 0 0\nmove 0 1 415800\nmove 0 2 415800')"
 sized 65535 49150 16384 '' 'refused 8 0'
 sized 65536 49151 16384 '' 'refused 8 0'
 # the last byte of the card is not read, and without it the last word is another word
