@@ -1,7 +1,7 @@
 -- Each by computing. Assumes nothing.
 use mathlib.Core.Path.{refl}
 use Rattle.card.specs.Weight.{unitsOf}
-use Rattle.reading.specs.Reading.{readOf}
+use Rattle.reading.specs.Reading.{readUnder}
 use Rattle.room.specs.Digits.{decimal}
 use Rattle.counting.specs.Judged.{judgedSeats, judgedFrom}
 use Rattle.classes.specs.Classes.{classCounts, classesText, watchOf}
@@ -10,7 +10,7 @@ use Rattle.watch.specs.WatchSaid.{watchSaid}
 use Rattle.edges.specs.SpectatorEdges.{SpectatorEdges}
 
 pub spectator-edges : SpectatorEdges
-unfolding watchSaid readOf unitsOf judgedSeats judgedFrom judgedClasses watchOf classCounts classesText decimal
+unfolding watchSaid readUnder unitsOf judgedSeats judgedFrom judgedClasses watchOf classCounts classesText decimal
 spectator-edges = record {
   at-001 = (refl, refl);
   alike = (refl, refl);

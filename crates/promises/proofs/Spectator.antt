@@ -10,6 +10,7 @@ use lib.ListN.{length, drop}
 use Rattle.card.specs.Refusals.{wrongWeight, wrongSeats, seatAboveTop, roomTooSmall, wrongClasses}
 use Rattle.card.specs.Card.{Card}
 use Rattle.card.specs.Valid.{ValidCard}
+use Rattle.card.specs.Weight.{cardRule}
 use Rattle.reading.specs.Reading.{taken, readOf}
 use Rattle.grammar.proofs.Theorems.{read-valid}
 use Rattle.meaning.specs.Seats.{Seating, ValidSeating, counts}
@@ -59,7 +60,7 @@ line-fits c valid x ok list good = fits (c .k) list x good (ok .states) (omega (
 room : (card seats list : List ℕ) → RoomEnough classesRoom (watchSaid card seats list)
 room card seats list was is a e l p r =
     let (w, g, _) = watch card seats list was is a e .small-room p .0 r in
-    omega (arith, g, line-fits (w .0 .0) (read-valid card (w .0 .0) (w .0 .1)) seats (w .1 .0) list (w .1 .1))
+    omega (arith, g, line-fits (w .0 .0) (read-valid cardRule card (w .0 .0) (w .0 .1)) seats (w .1 .0) list (w .1 .1))
 
 -- ---- what can be told
 
@@ -97,7 +98,7 @@ seen = record {
     there : (card list was : List ℕ) (c : Card) → readOf card ≡ taken c → (x : Seating) → ValidSeating c x → ValidClasses (c .k) list → classesRoom ≤ length was
         → {is : List ℕ} {a : Answer} → Entered was is (watchSaid card x list) a → is ≡ onto (watchOf list x) was
     there card list was c k x ok good enough {is} {a} p =
-        let short = line-fits c (read-valid card c k) x ok list good in
+        let short = line-fits c (read-valid cardRule card c k) x ok list good in
         watch card x list was is a p .stands ((c, k), (ok, good)) (omega (arith, short))
 
 -- ---- the answer in numbers
@@ -120,7 +121,7 @@ watch-tells {card} a h =
     some r p e = go (decLe r wrongWeight)
       where
         go : Dec (r ≤ wrongWeight) → 1 ≤ r
-        go (yes l) = number-some card (h .wrong-card r p l .0 e)
+        go (yes l) = number-some cardRule card (h .wrong-card r p l .0 e)
         go (no l) = omega arith
 
 pub spectator : Spectator
