@@ -1,7 +1,7 @@
 /*
  * The open panel: rule cards judged, written, reduced to counters, and shown;
- * questions about a seating answered; cards found in decks, and decks written;
- * a line of public classes for spectators.
+ * questions about a seating answered, and who may move; cards found in decks,
+ * and decks written; a line of public classes for spectators.
  *
  * Link libopen_panel.a, which `bin/library` makes for x86-64 and for aarch64
  * Linux. Of the C library it needs memcpy and memset, and nothing else: it has
@@ -83,6 +83,7 @@ extern "C" {
 #define OPEN_PANEL_STACK_SHOW 11264
 #define OPEN_PANEL_STACK_ASK 10752
 #define OPEN_PANEL_STACK_WATCH 10752
+#define OPEN_PANEL_STACK_FIRST_MOVE 10752
 #define OPEN_PANEL_STACK_BOX_JUDGE 256
 #define OPEN_PANEL_STACK_BOX_FIND 256
 #define OPEN_PANEL_STACK_BOX_FIND_WITH 256
@@ -90,7 +91,8 @@ extern "C" {
 
 /* The numbers of the refusals, and behind the semicolon what `value` is: bytes of the card, from 21 on of the question, count from 0. */
 enum open_panel_refusal {
-    OPEN_PANEL_TAKEN = 0,      /* none; a text's or a deck's length, 1 for yes and 0 for no from open_panel_ask, 0 where nothing is written */
+    OPEN_PANEL_TAKEN = 0,      /* none; a text's or a deck's length, 1 for yes and 0 for no from open_panel_ask, a statement's place or 0 from
+                                  open_panel_first_move, 0 where nothing is written */
     OPEN_PANEL_LONG = 1,       /* a card of more than OPEN_PANEL_CARD_BYTES; 0 */
     OPEN_PANEL_MARK = 2,       /* bytes that make no mark of a card, or a number written too long; where they begin */
     OPEN_PANEL_SHAPE = 3,      /* a mark that does not fit there; where it begins. Or none is left where one is due; card_len */
@@ -118,7 +120,7 @@ enum open_panel_refusal {
 
 typedef struct {
     uint8_t number; /* 0, or one of enum open_panel_refusal */
-    size_t value;   /* a length, or yes or no, if number is 0, else the place of the refusal */
+    size_t value;   /* a length, yes or no, or a statement's place, if number is 0, else the place of the refusal */
 } open_panel_answer;
 
 /* C hands back a larger struct otherwise than the library does, on some processors. */
@@ -205,6 +207,20 @@ open_panel_answer open_panel_watch(const uint8_t *card, size_t card_len,
 open_panel_answer open_panel_ask(const uint8_t *card, size_t card_len,
                                  const uint8_t *question, size_t question_len,
                                  const uint8_t *seats, size_t seats_len);
+
+/*
+ * Is anyone able to move? Number 0, and as value the place on the card, from 1,
+ * of the first statement that some seat may take; 0 if nobody may take any. It
+ * does not ask what the statement does, and it tries no statement behind the
+ * one it gives, so it takes hardly longer than open_panel_judge. On a
+ * nondeterministic card it is the q of the panel's first `choice q`. The order
+ * of the seats does not matter. Refusals: 1 to 9, those of open_panel_show.
+ *
+ * Nothing is written anywhere. A null card of length 0 gets 3 at 0; null seats
+ * of length 0 get 8 with any card that is taken.
+ */
+open_panel_answer open_panel_first_move(const uint8_t *card, size_t card_len,
+                                        const uint8_t *seats, size_t seats_len);
 
 /*
  * A deck (a box) is a count byte, 1 to OPEN_PANEL_DECK_CARDS; so many entries of

@@ -50,6 +50,8 @@ static int enter(const char *name, const piece *p, open_panel_answer *answer) {
         *answer = open_panel_watch(p[0].at, p[0].length, p[1].at, p[1].length, p[2].at, p[2].length, p[3].at, p[3].length);
     } else if (strcmp(name, "open_panel_ask") == 0) {
         *answer = open_panel_ask(p[0].at, p[0].length, p[1].at, p[1].length, p[2].at, p[2].length);
+    } else if (strcmp(name, "open_panel_first_move") == 0) {
+        *answer = open_panel_first_move(p[0].at, p[0].length, p[1].at, p[1].length);
     } else if (strcmp(name, "open_panel_box_judge") == 0) {
         *answer = open_panel_box_judge(p[0].at, p[0].length);
     } else if (strcmp(name, "open_panel_box_find") == 0) {

@@ -88,6 +88,7 @@ static void lies(open_panel_part *part, size_t in_expansion, size_t offset, size
 int main(void) {
     const uint8_t seats_001[] = {0, 0, 1};
     const uint8_t seats_011[] = {0, 1, 1};
+    const uint8_t seats_012[] = {0, 1, 2};
     const uint8_t seats_034[] = {0, 3, 4};
     const uint8_t seats_021[] = {0, 2, 1};
     const uint8_t apart[] = {0, 1, 2};
@@ -160,6 +161,14 @@ int main(void) {
     answers(open_panel_ask(a, a_len, bytes(one_leads), sizeof one_leads - 1, NULL, 0), OPEN_PANEL_SEAT_COUNT, 0, "",
             "a question and no seats");
     answers(open_panel_ask(NULL, 0, NULL, 0, NULL, 0), OPEN_PANEL_SHAPE, 0, "", "no card to ask about");
+
+    answers(open_panel_first_move(a, a_len, seats_001, 3), OPEN_PANEL_TAKEN, 1, "", "the first statement can be taken at 001");
+    answers(open_panel_first_move(a, a_len, seats_011, 3), OPEN_PANEL_TAKEN, 2, "", "only the second can at 011");
+    answers(open_panel_first_move(a, a_len, seats_012, 3), OPEN_PANEL_TAKEN, 0, "", "nobody is able to move at 012");
+    answers(open_panel_first_move(a, a_len, seats_034, 2), OPEN_PANEL_SEAT_COUNT, 0, "", "who may move with a seat missing");
+    answers(open_panel_first_move(a, a_len, seats_034, 3), OPEN_PANEL_SEAT_STATE, 1, "", "who may move above the top state");
+    answers(open_panel_first_move(a, a_len, NULL, 0), OPEN_PANEL_SEAT_COUNT, 0, "", "who may move without seats");
+    answers(open_panel_first_move(NULL, 0, NULL, 0), OPEN_PANEL_SHAPE, 0, "", "no card to move by");
 
     answers(open_panel_box_judge(bytes(deck), deck_len), OPEN_PANEL_TAKEN, 0, "", "a sound deck");
     answers(open_panel_box_judge(bytes(deck), deck_len - 1), OPEN_PANEL_DECK, 13, "", "a body that passes the deck");

@@ -1,3 +1,4 @@
 pub mod Edges
 pub mod DeckEdges
 pub mod SpectatorEdges
+pub mod MoveEdges

@@ -25,6 +25,8 @@ use Rattle.tablet.proofs.open_panel_box_find_with.Met.{met as box-find-with-for
 use Rattle.tablet.proofs.open_panel_box_write.Met.{met as box-write-for-c-met}
 use Rattle.watch.proofs.watch.Met.{met as watch-met}
 use Rattle.tablet.proofs.open_panel_watch.Met.{met as watch-for-c-met}
+use Rattle.first_move.proofs.first_move.Met.{met as first-move-met}
+use Rattle.tablet.proofs.open_panel_first_move.Met.{met as first-move-for-c-met}
 
 pub keeps : Keeps
 keeps = record {
@@ -53,4 +55,6 @@ keeps = record {
   box-write-for-c = λ M. box-write-for-c-met;
   watch = λ M. watch-met;
   watch-for-c = λ M. watch-for-c-met;
+  first-move = λ M. first-move-met;
+  first-move-for-c = λ M. first-move-for-c-met;
 }

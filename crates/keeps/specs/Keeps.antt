@@ -27,6 +27,8 @@ use Rattle.tablet.proofs.open_panel_box_find.Statement.{statement as boxFindFor
 use Rattle.tablet.proofs.open_panel_box_find_with.Statement.{statement as boxFindWithForCKeeps}
 use Rattle.tablet.proofs.open_panel_box_write.Statement.{statement as boxWriteForCKeeps}
 use Rattle.tablet.proofs.open_panel_watch.Statement.{statement as watchForCKeeps}
+use Rattle.first_move.proofs.first_move.Statement.{statement as firstMoveKeeps}
+use Rattle.tablet.proofs.open_panel_first_move.Statement.{statement as firstMoveForCKeeps}
 
 pub record Keeps : Type 2 where
   pub read : (M : Type 1) → readKeeps M
@@ -57,3 +59,6 @@ pub record Keeps : Type 2 where
   pub box-find-with-for-c : (M : Type 1) → boxFindWithForCKeeps M
   pub box-write-for-c : (M : Type 1) → boxWriteForCKeeps M
   pub watch-for-c : (M : Type 1) → watchForCKeeps M
+  -- who may move
+  pub first-move : (M : Type 1) → firstMoveKeeps M
+  pub first-move-for-c : (M : Type 1) → firstMoveForCKeeps M

@@ -10,6 +10,8 @@ use card::limits::NODE_PLACES;
 use card::limits::ROW_PLACES;
 use contents::judge_deck;
 use deck_writer::write_deck;
+use first_move::FirstMove;
+use first_move::first_move;
 use panel::panel;
 use reader::read_into;
 use reducer::reduce;
@@ -27,6 +29,8 @@ ghost use Rattle.reducer.specs.ReduceSaid.{reduceSaid};
 ghost use Rattle.panel.specs.PanelSaid.{panelSaid};
 ghost use Rattle.ask.specs.AskSaid.{askSaid};
 ghost use Rattle.watch.specs.WatchSaid.{watchSaid};
+ghost use Rattle.first_move.specs.MoveSaid.{moveSaid};
+ghost use Rattle.tablet.specs.Moves.{moveNumbers, movedNumbers};
 ghost use Rattle.tablet.specs.Told.{numbers, verdictNumbers, judged, Told, askedNumbers, answeredNumbers};
 ghost use Rattle.tablet.specs.Parts.{Stands, PartTold};
 
@@ -221,4 +225,38 @@ pub extern "C" fn open_panel_watch(
 {
     let answer = watch(card, seats, classes, room);
     in_numbers(answer)
+}
+
+fn move_in_numbers(answer: FirstMove) -> OpenPanelAnswer
+    ensures { λ r. ⌜ r ≡ moveNumbers answer ⌝ }
+{
+    match answer {
+        FirstMove::Statement(place) => {
+            return OpenPanelAnswer {
+                number: 0,
+                value: place,
+            };
+        }
+        FirstMove::Nobody => {
+            return OpenPanelAnswer {
+                number: 0,
+                value: 0,
+            };
+        }
+        FirstMove::Refused(number, place) => {
+            return OpenPanelAnswer {
+                number: number,
+                value: place,
+            };
+        }
+    }
+}
+
+// The first statement that some seat may take: its place on the card answers 0 and the place, nobody 0 and 0.
+#[no_mangle]
+pub extern "C" fn open_panel_first_move(card: &[u8], seats: &[u8]) -> OpenPanelAnswer
+    ensures { λ r. ⌜ r ≡ movedNumbers (moveSaid (now (card .entry)) (now (seats .entry))) ⌝ }
+{
+    let answer = first_move(card, seats);
+    move_in_numbers(answer)
 }

@@ -14,6 +14,8 @@ pub const SHOW: usize = 11_264;
 pub const ASK: usize = 10_752;
 /// [`watch`](crate::watch)
 pub const WATCH: usize = 10_752;
+/// [`first_move`](crate::first_move)
+pub const FIRST_MOVE: usize = 10_752;
 /// [`judge_deck`](crate::judge_deck)
 pub const JUDGE_DECK: usize = 256;
 /// [`find`](crate::find), [`locate`](crate::locate)

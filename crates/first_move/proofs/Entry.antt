@@ -1,0 +1,70 @@
+-- What `first_move` says, stage by stage: the card's refusal, the seats', or what the walk over the rows finds at the seats' counts. Assumes nothing.
+use Prim.Native.Nat.{ℕ, _≤_}
+use mathlib.Core.Path.{_≡_, sym, ap, _∙_}
+use mathlib.Core.List.{List}
+use mathlib.Core.Option.{Option}
+use native.Mathlib.Nat.{le-trans}
+use Rattle.card.specs.Limits.{topState, mostStatements}
+use Rattle.card.specs.Card.{Card}
+use Rattle.card.specs.Lent.{Lent, cardIn, HoldsIn}
+use Rattle.card.specs.declared.Verdict.{Verdict}
+use Rattle.card.specs.declared.Verdict.the-variants.{Taken, Refused}
+use Rattle.card.proofs.Held.{every-map}
+use Rattle.card.proofs.HeldIn.{holds-top, holds-count}
+use Rattle.entry.specs.Said.{Said, says, refused}
+use Rattle.meaning.specs.Seats.{ValidSeating, counts}
+use Rattle.meaning.proofs.Counting.{Within}
+use Rattle.counting.specs.Judged.{judgedSeats}
+use Rattle.counting.proofs.Judging.{valid-exactly}
+use Rattle.reader.specs.declared.Outline.{Outline}
+use Rattle.reader.specs.ReadingOf.{ReadsInto}
+use Rattle.rows.proofs.ReadInto.{taken-holds, refused-said, taken-said}
+use Rattle.moving.specs.FirstMove.{firstMove, firstAt}
+use Rattle.moving.proofs.FirstMove.{walks-alike}
+use Rattle.first_move.specs.FirstRow.{firstRow}
+use Rattle.first_move.specs.MoveSaid.{moveSeated, moveSaid}
+use Rattle.first_move.proofs.Laws.{rows-walk}
+
+module _ (card seats : List ℕ) {r : Outline} {x : Lent} (h : ReadsInto card r x) where
+  pub card-refused : {number place : ℕ} → r .verdict ≡ Refused number place → moveSaid card seats ≡ refused number place
+  unfolding moveSaid
+  card-refused e = refused-said card h (moveSeated seats) e
+
+  module _ (taken : r .verdict ≡ Taken) where
+    holds : HoldsIn (r .head) x
+    holds = taken-holds card h taken
+
+    pub few : r .head .count ≤ mostStatements
+    few = holds-count holds
+
+    abbrev the-card : Card
+    the-card = cardIn (r .head) x
+
+    module _ {s : Verdict} (e : s ≡ judgedSeats (r .head .seats) (r .head .top) seats) where
+      pub seats-refused : {number place : ℕ} → s ≡ Refused number place → moveSaid card seats ≡ refused number place
+      unfolding moveSaid
+      seats-refused k = sym (taken-said card h (moveSeated seats) taken) ∙ rw (← e, k)
+
+      module _ (fine : s ≡ Taken) {v : List ℕ} (counted : v ≡ counts topState seats) where
+        seating : ValidSeating the-card seats
+        seating = valid-exactly the-card seats .0 (sym e ∙ fine)
+
+        low : Within topState seats
+        low = every-map (λ (d : ℕ) (l : d ≤ r .head .top). le-trans l (holds-top holds)) seats (seating .states)
+
+        abbrev found : Option ℕ
+        found = firstRow (r .head .seats) v (x .nodes) (x .rows) 0 (r .head .count)
+
+        walked : firstMove the-card seats ≡ found
+        unfolding firstMove
+        walked =
+            walks-alike topState seats low 1 (the-card .statements)
+            ∙ ap (λ (n : ℕ). firstAt n (counts topState seats) 1 (the-card .statements)) (seating .seats)
+            ∙ ap (λ (w : List ℕ). firstAt (r .head .seats) w 1 (the-card .statements)) (sym counted)
+            ∙ rows-walk (r .head .seats) v (x .nodes) (x .rows) (x .branches) 0 (r .head .count)
+
+        pub answered : moveSaid card seats ≡ says found
+        unfolding moveSaid
+        answered =
+            let seated : moveSeated seats the-card ≡ says (firstMove the-card seats) = rw (← e, fine) in
+            sym (taken-said card h (moveSeated seats) taken) ∙ seated ∙ ap says walked

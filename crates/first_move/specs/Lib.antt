@@ -1,0 +1,3 @@
+pub mod FirstRow
+pub mod MoveSaid
+pub mod Moved

@@ -1,0 +1,3 @@
+pub mod FirstMove
+pub mod FirstTaken
+pub mod Shown

@@ -1,0 +1,173 @@
+-- Who may move, by citing; what C is told, as for the other entries; and the same refusals as the panel's, since both judge the card and then the
+-- seats. Assumes nothing.
+use Prim.Native.Nat.{ℕ, _≤_}
+use mathlib.Core.Path.{_≡_, refl, sym, ap, _∙_, subst}
+use mathlib.Core.Logic.{_↔_}
+use mathlib.Core.List.{List, [], _∷_}
+use mathlib.Core.Option.{Option, none, some}
+use native.Mathlib.Decide.{decLe}
+use native.Mathlib.Omega.{arith}
+use Rattle.card.specs.Refusals.{wrongWeight, wrongSeats, seatAboveTop}
+use Rattle.card.specs.Card.{nondeterministic, Card}
+use Rattle.reading.specs.Reading.{Outcome, taken, refused as turned, readOf}
+use Rattle.meaning.specs.Seats.{Seating, ValidSeating, Stuck}
+use Rattle.meaning.specs.Panel.{Block, Panel, panel}
+use Rattle.meaning.specs.Reordered.{Reordered}
+use Rattle.meaning.proofs.Reorder.{reordered-valid}
+use Rattle.entry.specs.Said.{Said, says, refused, _>>=_}
+use Rattle.entry.specs.Contract.{valued, lentNothing, Faithful}
+use Rattle.entry.proofs.Stages.{same-number, same-place, last}
+use Rattle.entry.proofs.Exactly.{_↔∙_}
+use Rattle.counting.proofs.Judging.{valid-exactly}
+use Rattle.counting.proofs.SeatsStage.{seats-stage}
+use Rattle.rows.specs.Said.{outcomeSaid}
+use Rattle.lines.specs.PanelText.{line, choiceText, stayText, movesText, blockText, blocksText, panelText, panelOf}
+use Rattle.panel.specs.PanelSaid.{shownSaid, panelSaid}
+use Rattle.moving.specs.FirstMove.{firstMove}
+use Rattle.moving.specs.Shown.{FirstChoice}
+use Rattle.moving.proofs.FirstMove.{first-by-counts, rest-unread, equal-counts, reordered-first}
+use Rattle.moving.proofs.FirstTaken.{first-exactly, nobody-exactly}
+use Rattle.moving.proofs.Shown.{shown-first}
+use Rattle.first_move.specs.MoveSaid.{moveSeated, moveSaid, Moves}
+use Rattle.first_move.specs.Moved.{moved}
+use Rattle.first_move.proofs.Theorems.{moves, moved-faithful}
+use Rattle.tablet.specs.Moves.{movedNumbers}
+use Rattle.promises.specs.ForC.{Answers}
+use Rattle.promises.specs.FirstMoves.{behindCounts, MoveMeaning, MoveTells, FirstMoves}
+use Rattle.promises.proofs.Numbers.{number-some}
+
+-- ---- the panel's text
+
+module _ (p : Panel) (q : ℕ) where
+  first-line : FirstChoice (p .blocks) (some q) → (rest : List ℕ) × (panelText p ≡ behindCounts p (line "choice" (q ∷ []) rest))
+  unfolding panelText blockText
+  first-line (b, r, parts, e) =
+      let rest = stayText (b .stay) (movesText (b .moves) (blocksText r [])) in
+      (rest, ap (λ (l : List Block). behindCounts p (blocksText l [])) parts ∙ ap (λ (o : Option ℕ). behindCounts p (choiceText o rest)) e)
+
+shown-text : (c : Card) (x : Seating) (q : ℕ) → c .mode ≡ nondeterministic → firstMove c x ≡ some q
+    → (rest : List ℕ) × (panelOf c x ≡ behindCounts (panel c x) (line "choice" (q ∷ []) rest))
+unfolding panelOf
+shown-text c x q m e = first-line (panel c x) q (subst (FirstChoice (panel c x .blocks)) e (shown-first c x free m))
+  where
+    free : Stuck c x → ⊥
+    free s = let z : none ≡ some q = sym (nobody-exactly c x .1 s) ∙ e in let y : _≡_ {A = ℕ} 0 1 = cc in omega (arith, y)
+
+meaning : MoveMeaning
+meaning = record {
+  first = first-exactly;
+  nobody = nobody-exactly;
+  by-counts = first-by-counts;
+  rest-unread = rest-unread;
+  equal-counts = equal-counts;
+  reordered = λ c r ok. reordered-first c r ok;
+  shown = λ c x e free. shown-first c x free e;
+  shown-text = shown-text;
+}
+
+-- ---- what is answered
+
+told : (s : Said (Option ℕ)) → s ≡ valued (lentNothing tt s)
+told (says m) = refl
+told (refused number place) = refl
+
+module _ (card seats : List ℕ) where
+  answers : {T : Type 0} {tell : Said (Option ℕ) → T} → Faithful tell → Moves tell card seats (tell (moveSaid card seats))
+  answers {T} {tell} faithful = moves card seats faithful (record { answers = ap tell (told (moveSaid card seats)); leaves = refl })
+
+-- ---- the answer in numbers: no refusal has the number 0 and no statement the place 0, so they tell every answer
+
+module _ (s : Said (Option ℕ)) where
+  tells-refused : (number place : ℕ) → 1 ≤ number → Answers (movedNumbers s) number place ↔ (s ≡ refused number place)
+  tells-refused number place l = (forth s, λ e. (ap (λ (x : Said (Option ℕ)). movedNumbers x .number) e, ap (λ (x : Said (Option ℕ)). movedNumbers x .value) e))
+    where
+      forth : (s : Said (Option ℕ)) → Answers (movedNumbers s) number place → s ≡ refused number place
+      forth (says (some q)) e = absurd (omega (arith, e .0))
+      forth (says none) e = absurd (omega (arith, e .0))
+      forth (refused n p) e = rw (e .0, e .1)
+
+  module _ (some-number : (number place : ℕ) → s ≡ refused number place → 1 ≤ number) where
+    tells-statement : (q : ℕ) → 1 ≤ q → Answers (movedNumbers s) 0 q ↔ (s ≡ says (some q))
+    tells-statement q l = (forth s some-number, λ e. (ap (λ (x : Said (Option ℕ)). movedNumbers x .number) e, ap (λ (x : Said (Option ℕ)). movedNumbers x .value) e))
+      where
+        forth : (s : Said (Option ℕ)) → ((number place : ℕ) → s ≡ refused number place → 1 ≤ number) → Answers (movedNumbers s) 0 q → s ≡ says (some q)
+        forth (says (some p)) h e = rw (e .1)
+        forth (says none) h e = absurd (omega (arith, e .1))
+        forth (refused n p) h e = absurd (omega (arith, e .0, h n p refl))
+
+    tells-nobody : ((q : ℕ) → s ≡ says (some q) → 1 ≤ q) → Answers (movedNumbers s) 0 0 ↔ (s ≡ says none)
+    tells-nobody placed =
+        (forth s some-number placed, λ e. (ap (λ (x : Said (Option ℕ)). movedNumbers x .number) e, ap (λ (x : Said (Option ℕ)). movedNumbers x .value) e))
+      where
+        forth : (s : Said (Option ℕ)) → ((number place : ℕ) → s ≡ refused number place → 1 ≤ number) → ((q : ℕ) → s ≡ says (some q) → 1 ≤ q)
+            → Answers (movedNumbers s) 0 0 → s ≡ says none
+        forth (says (some p)) h k e = absurd (omega (arith, e .1, k p refl))
+        forth (says none) h k e = refl
+        forth (refused n p) h k e = absurd (omega (arith, e .0, h n p refl))
+
+  number-most : ((number place : ℕ) → s ≡ refused number place → number ≤ seatAboveTop) → movedNumbers s .number ≤ seatAboveTop
+  number-most h = go s h
+    where
+      go : (s : Said (Option ℕ)) → ((number place : ℕ) → s ≡ refused number place → number ≤ seatAboveTop) → movedNumbers s .number ≤ seatAboveTop
+      go (says (some q)) h = omega arith
+      go (says none) h = omega arith
+      go (refused n p) h = h n p refl
+
+move-tells : (card seats : List ℕ) → MoveTells card seats (movedNumbers (moveSaid card seats))
+move-tells card seats =
+    record {
+      statement = λ q l. tells-statement s some-number q l ↔∙ h .statement q;
+      nobody = tells-nobody s some-number placed ↔∙ h .nobody;
+      wrong-card = λ r p l m. tells-refused s r p l ↔∙ h .wrong-card r p m;
+      wrong-count = λ p. tells-refused s wrongSeats p (omega arith) ↔∙ h .wrong-count p;
+      wrong-seat = λ p. tells-refused s seatAboveTop p (omega arith) ↔∙ h .wrong-seat p;
+      no-other = number-most s (h .no-other);
+    }
+  where
+    s : Said (Option ℕ)
+    s = moveSaid card seats
+
+    h : Moves (λ (t : Said (Option ℕ)). t) card seats s
+    h = answers card seats (λ t u e. e)
+
+    some-number : (r p : ℕ) → s ≡ refused r p → 1 ≤ r
+    some-number r p e = go (decLe r wrongWeight)
+      where
+        go : Dec (r ≤ wrongWeight) → 1 ≤ r
+        go (yes l) = number-some card (h .wrong-card r p l .0 e)
+        go (no l) = omega arith
+
+    placed : (q : ℕ) → s ≡ says (some q) → 1 ≤ q
+    placed q e = omega (arith, h .statement q .0 e .1 .1 .place)
+
+-- ---- beside the panel
+
+turn : {A B : Type 0} → A ↔ B → B ↔ A
+turn h = (h .1, h .0)
+
+module _ {A B : Type 0} (r p : ℕ) (f : Card → Said A) (g : Card → Said B) (h : (c : Card) → (f c ≡ refused r p) ↔ (g c ≡ refused r p)) where
+  alike : (o : Outcome) → (outcomeSaid o >>= f ≡ refused r p) ↔ (outcomeSaid o >>= g ≡ refused r p)
+  alike (taken c) = h c
+  alike (turned n q) = (λ e. rw (same-number e, same-place e), λ e. rw (same-number e, same-place e))
+
+as-panel : (card seats : List ℕ) (r p : ℕ) → (moveSaid card seats ≡ refused r p) ↔ (panelSaid card seats ≡ refused r p)
+unfolding moveSaid panelSaid
+as-panel card seats r p = alike r p (moveSeated seats) (shownSaid seats)
+    (λ c. last (seats-stage seats c) (λ _. firstMove c seats) r p ↔∙ turn (last (seats-stage seats c) (λ _. panelOf c seats) r p)) (readOf card)
+
+module _ (card : List ℕ) (c : Card) (h : readOf card ≡ taken c) where
+  fine : (x : Seating) → ValidSeating c x → moveSaid card x ≡ says (firstMove c x)
+  unfolding moveSaid
+  fine x ok = rw (h, valid-exactly c x .1 ok)
+
+  reordered : {x y : Seating} → Reordered x y → ValidSeating c x → moveSaid card x ≡ moveSaid card y
+  reordered {x} {y} r ok = fine x ok ∙ ap says (reordered-first c r ok) ∙ sym (fine y (reordered-valid c r ok))
+
+pub first-moves : FirstMoves
+first-moves = record {
+  meaning = meaning;
+  answers = λ card seats a e. subst (Moves moved card seats) (sym e) (answers card seats moved-faithful);
+  for-c = λ card seats a e. subst (MoveTells card seats) (sym e) (move-tells card seats);
+  as-panel = as-panel;
+  reordered = λ card c h r ok. reordered card c h r ok;
+}
