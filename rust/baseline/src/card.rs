@@ -1,5 +1,6 @@
 //! The value of a card that has been read.
 
+use crate::counter::guard_holds;
 use crate::limits::{BRANCHES, NODES, STATEMENTS, STATES, UNIT};
 use crate::refusal::{Refusal, SEAT_COUNT, SEAT_STATE};
 
@@ -164,6 +165,13 @@ impl Card {
             counts[usize::from(state)] += 1;
         }
         Ok(counts)
+    }
+
+    /// Whether some seat may take a statement, at some counts.
+    #[inline(always)]
+    pub(crate) fn may_be_taken(&self, statement: &Statement, counts: &[u8; STATES]) -> bool {
+        counts[usize::from(statement.own)] > 0
+            && guard_holds(self.guard(statement), statement.own, self.seats, counts)
     }
 
     /// How many guard nodes there are on the whole card.

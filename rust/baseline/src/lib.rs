@@ -2,8 +2,8 @@
 //! reduced to counters, and shown as the panel of a seating; and those requests
 //! of document 02 that have landed: questions about a seating are answered,
 //! cards are found in decks, a table where nobody can move has a step, a
-//! spectator sees how many seats are in each public class, and weights may be
-//! elevenths.
+//! spectator sees how many seats are in each public class, weights may be
+//! elevenths, and one may ask whether anyone can move.
 //!
 //! It was written from the documents alone, so that a slip in it and a slip in
 //! the verified library are unlikely to be the same one; `compare` runs both on
@@ -28,6 +28,7 @@ mod card;
 mod counter;
 mod deck;
 mod expression;
+mod first_move;
 pub mod limits;
 mod panel;
 mod program;
@@ -42,6 +43,7 @@ mod write;
 
 pub use card::{Branch, Card, Group, Mode, Node, Statement};
 pub use deck::{find, find_with, judge_deck, locate, locate_with, write_deck, Part};
+pub use first_move::first_move;
 pub use panel::panel;
 pub use program::program;
 pub use question::ask;

@@ -1,7 +1,6 @@
 //! The panel of a seating: who may act, and with which weights what happens.
 
 use crate::card::{Branch, Card, Mode, Statement};
-use crate::counter::guard_holds;
 use crate::limits::{STATEMENTS, STATES, UNIT};
 use crate::read::read_into;
 use crate::refusal::Refusal;
@@ -35,8 +34,7 @@ impl<'c> Panel<'c> {
         let counts = card.counts(seats)?;
         let mut may_be_taken = [false; STATEMENTS];
         for (may, statement) in may_be_taken.iter_mut().zip(card.statements()) {
-            *may = counts[usize::from(statement.own)] > 0
-                && guard_holds(card.guard(statement), statement.own, card.seats, &counts);
+            *may = card.may_be_taken(statement, &counts);
         }
         Ok(Panel {
             card,
