@@ -1,6 +1,7 @@
 //! The open panel for Rust: rule cards are judged, written, reduced to
 //! counters, and shown, spectators are shown what they may see, questions about
-//! a seating are answered, and cards are found in decks, by the verified library.
+//! a seating are answered, it is said whether anyone can move, and cards are
+//! found in decks, by the verified library.
 //!
 //! Every entry that takes a card takes it as bytes and judges it first. A text goes into a
 //! room that the caller lends: an entry answers the text's length, and leaves
@@ -53,7 +54,7 @@ pub const SHOW_ROOM: usize = 4_357;
 /// A room in which all that a spectator sees fits.
 pub const WATCH_ROOM: usize = 25;
 
-/// What the library answers: number 0 and a length, or yes or no as 1 or 0; or a refusal and its place.
+/// What the library answers: number 0 and a length, yes or no as 1 or 0, or a statement; or a refusal and its place.
 #[repr(C)]
 struct Answer {
     number: u8,
@@ -126,6 +127,22 @@ pub fn ask(card: &[u8], question: &[u8], seats: &[u8]) -> Result<bool, Refusal> 
         0 => Ok(false),
         1 => Ok(true),
         other => panic!("the library answers yes or no, and not {other}"),
+    }
+}
+
+/// Says which statement is the first on the card, from 1, that some seat may take; none if nobody can move.
+/// Refusals: 1 to 9.
+///
+/// ```
+/// let card = b"nondeterministic module process1 s1 : [0..1] init 0;
+///     [] s1=0 -> 1:(s1'=1); endmodule";
+/// assert_eq!(open_panel::first_move(card, &[0]), Ok(Some(1)));
+/// assert_eq!(open_panel::first_move(card, &[1]), Ok(None));
+/// ```
+pub fn first_move(card: &[u8], seats: &[u8]) -> Result<Option<usize>, Refusal> {
+    match library::first_move(card, seats).into_result()? {
+        0 => Ok(None),
+        statement => Ok(Some(statement)),
     }
 }
 

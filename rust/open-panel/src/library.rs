@@ -39,6 +39,12 @@ extern "C" {
         room: *mut u8,
         room_len: usize,
     ) -> Answer;
+    fn open_panel_first_move(
+        card: *const u8,
+        card_len: usize,
+        seats: *const u8,
+        seats_len: usize,
+    ) -> Answer;
     fn open_panel_box_judge(deck: *const u8, deck_len: usize) -> Answer;
     fn open_panel_box_find(
         deck: *const u8,
@@ -124,6 +130,11 @@ pub(crate) fn watch(card: &[u8], seats: &[u8], classes: &[u8], room: &mut [u8]) 
             room.len(),
         )
     }
+}
+
+pub(crate) fn first_move(card: &[u8], seats: &[u8]) -> Answer {
+    // SAFETY: as above.
+    unsafe { open_panel_first_move(card.as_ptr(), card.len(), seats.as_ptr(), seats.len()) }
 }
 
 pub(crate) fn box_judge(deck: &[u8]) -> Answer {

@@ -146,6 +146,18 @@ fn refusals_of_every_entry() {
 }
 
 #[test]
+fn first_moves_and_their_refusals() {
+    assert_eq!(first_move(CARD, &[0]), Ok(Some(1)));
+    assert_eq!(first_move(CARD, &[1]), Ok(None));
+    assert_eq!(first_move(CARD, &[]), Err(Refusal::SeatCount));
+    assert_eq!(first_move(CARD, &[2]), Err(Refusal::SeatState { seat: 0 }));
+    assert_eq!(first_move(b"", &[]), Err(Refusal::Shape { at: 0 }));
+    let text = std::str::from_utf8(CARD).unwrap();
+    let second = text.replace("[] s1=0", "[] s1=1 -> 1:(s1'=1);\n[] s1=0");
+    assert_eq!(first_move(second.as_bytes(), &[0]), Ok(Some(2)));
+}
+
+#[test]
 fn spectators_and_their_refusals() {
     assert_eq!(
         watch_to_vec(CARD, &[1], &[7, 2]).as_deref(),
