@@ -113,6 +113,9 @@ fn answers_as(side: &mut Side, entry: &str, call: &Call) -> Result<(), Fault> {
             writes(side, "open_panel_watch", read, room, call.stored)
         }
         ("ask", [_, _, _]) => says(side("open_panel_ask", &pieces, &mut []), call.stored),
+        ("first_move", [_, _]) => {
+            names(side("open_panel_first_move", &pieces, &mut []), call.stored)
+        }
         ("box_find", [base, expansion, number]) => {
             finds(side, [base, expansion], number, call.stored)
         }
@@ -143,6 +146,21 @@ fn says(answer: Result<usize, (u8, usize)>, stored: Answer) -> Result<(), Fault>
         Answer::Words(b"no\n") => Ok(0),
         Answer::Text(words) | Answer::Words(words) => {
             return Err(format!("neither yes nor no: {}", words.escape_ascii()))
+        }
+    };
+    same(answer, due)
+}
+
+/// A statement by its place on the card, from 1, or none as 0.
+fn names(answer: Result<usize, (u8, usize)>, stored: Answer) -> Result<(), Fault> {
+    let due = match stored {
+        Answer::Refused(number, place) => Err((number, place)),
+        Answer::Words(b"none\n") => Ok(0),
+        Answer::Text(words) | Answer::Words(words) => {
+            let place = words.strip_prefix(b"statement ");
+            let place = place.and_then(|words| told(words.strip_suffix(b"\n")?));
+            let place = place.filter(|place| *place > 0);
+            Ok(place.ok_or_else(|| format!("no statement: {}", words.escape_ascii()))?)
         }
     };
     same(answer, due)

@@ -6,7 +6,7 @@ use std::ffi::OsString;
 use std::io::{Read, Write};
 use std::process::{Child, ChildStdin, ChildStdout, Command, Stdio};
 
-/// A length, or 1 for yes and 0 for no; or the number and the place of a refusal.
+/// A length, 1 for yes and 0 for no, or a statement from 1 and 0 for none; or the number and the place of a refusal.
 pub type Answer = Result<usize, (u8, usize)>;
 
 /// A part: three numbers of eight bytes, low byte first, which are whether it is in the expansion, its first byte and its length.
@@ -46,6 +46,9 @@ pub fn wrapper(entry: &str, pieces: &[&[u8]], room: &mut [u8]) -> Answer {
         ("open_panel_ask", [card, question, seats]) => {
             open_panel::ask(card, question, seats).map(usize::from)
         }
+        ("open_panel_first_move", [card, seats]) => {
+            open_panel::first_move(card, seats).map(|first| first.unwrap_or(0))
+        }
         ("open_panel_box_find_with", [base, expansion, number]) => {
             let found = open_panel::locate_with(base, expansion, card_number(number));
             let numbers = found.map(|part| [part.in_expansion.into(), part.offset, part.length]);
@@ -69,6 +72,9 @@ pub fn baseline(entry: &str, pieces: &[&[u8]], room: &mut [u8]) -> Answer {
         ("open_panel_watch", [card, seats, list]) => baseline::watch(card, seats, list, room),
         ("open_panel_ask", [card, question, seats]) => {
             baseline::ask(card, question, seats).map(usize::from)
+        }
+        ("open_panel_first_move", [card, seats]) => {
+            baseline::first_move(card, seats).map(|first| first.unwrap_or(0))
         }
         ("open_panel_box_find_with", [base, expansion, number]) => {
             let found = baseline::locate_with(base, expansion, card_number(number));
