@@ -43,7 +43,19 @@ pub fn steps(model: &Model, seats: &[u8]) -> Vec<Steps> {
 /// Whether no seat may take anything. Then there is one step, of weight one, that changes nothing.
 pub fn is_stuck(model: &Model, seats: &[u8]) -> bool {
     let mut statements = model.statements.iter();
-    !statements.any(|statement| (0..seats.len()).any(|seat| may_take(statement, seats, seat)))
+    !statements.any(|statement| can_be_taken(statement, seats))
+}
+
+/// Whether some seat may take a statement.
+pub fn can_be_taken(statement: &Statement, seats: &[u8]) -> bool {
+    (0..seats.len()).any(|seat| may_take(statement, seats, seat))
+}
+
+/// The first statement that some seat may take, from 1.
+pub fn first_move(model: &Model, seats: &[u8]) -> Option<usize> {
+    let mut statements = model.statements.iter();
+    let first = statements.position(|statement| can_be_taken(statement, seats));
+    first.map(|place| place + 1)
 }
 
 /// Whether a question holds, each seat called by its own number.

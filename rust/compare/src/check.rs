@@ -5,6 +5,7 @@ use open_panel::{REDUCE_ROOM, SHOW_ROOM, WRITE_ROOM};
 
 use crate::by_seats;
 use crate::cards::limits::{SEATS, STATEMENTS};
+use crate::first_moves::moves_first;
 use crate::inputs::{all_seatings, Input, Kind};
 use crate::model::{Expression, Model};
 use crate::questions::Question;
@@ -263,6 +264,7 @@ impl Checker {
             asks(card, input, &question, written.ok(), random, tally)?;
         }
         self.watches(card, input, random, &mut tally.spectators)?;
+        moves_first(card, input, random, &mut tally.first_moves)?;
         let rest = &surrounded[GUARD + input.card.len()..];
         if card != input.card
             || surrounded[..GUARD] != [b'9'; GUARD]

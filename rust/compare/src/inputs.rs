@@ -212,7 +212,7 @@ fn damage_where_refused(bytes: &mut Vec<u8>, random: &mut Random) {
 }
 
 /// A state for each seat; many seatings are all alike, or all but one.
-fn seating(seats: usize, top: usize, random: &mut Random) -> Vec<u8> {
+pub(crate) fn seating(seats: usize, top: usize, random: &mut Random) -> Vec<u8> {
     let mut any = || random.between(0, top.min(254)) as u8;
     let (first, second) = (any(), any());
     match random.below(4) {

@@ -9,7 +9,8 @@
 //! ([`by_seats`]), which no counting has touched. About each table
 //! [`questions`] are asked, made and damaged in the same way, and those that are
 //! answered are held to the seats too. [`spectators`] with good lists of classes
-//! and wrong ones watch each table. Cards are looked for in generated [`decks`],
+//! and wrong ones watch each table, and it is asked who can move first
+//! ([`first_moves`]). Cards are looked for in generated [`decks`],
 //! sound and malformed, and decks are written.
 
 pub mod by_seats;
@@ -19,6 +20,7 @@ pub mod damage;
 pub mod deck_check;
 pub mod decks;
 pub mod extremes;
+pub mod first_moves;
 pub mod inputs;
 pub mod marks;
 pub mod model;

@@ -7,6 +7,7 @@ use baseline::{Card, Mode, Node, Refusal};
 use crate::cards::limits::SEATS;
 use crate::check::Entry;
 use crate::deck_check::DeckTally;
+use crate::first_moves::FirstMoveTally;
 use crate::inputs::Kind;
 use crate::questions::{self, Question};
 use crate::spectators::SpectatorTally;
@@ -143,6 +144,8 @@ pub struct Tally {
     digits: [u64; DIGITS.len()],
     /// Spectators.
     pub spectators: SpectatorTally,
+    /// First moves.
+    pub first_moves: FirstMoveTally,
     /// Decks.
     pub decks: DeckTally,
 }
@@ -265,6 +268,7 @@ impl Tally {
         self.six_digits += other.six_digits;
         sum(&mut self.digits, &other.digits);
         self.spectators.add(&other.spectators);
+        self.first_moves.add(&other.first_moves);
         self.decks.add(&other.decks);
     }
 
@@ -376,6 +380,7 @@ impl Tally {
             least(&format!("{what}, {number}"), count, EACH_DIGITS);
         }
         self.spectators.shortfalls(&mut least);
+        self.first_moves.shortfalls(&mut least);
         self.decks.shortfalls(&mut least);
         shortfalls
     }
@@ -458,7 +463,8 @@ impl fmt::Display for Tally {
         }
         writeln!(f)?;
         self.print_questions(f)?;
-        write!(f, "\n{}\n{}", self.spectators, self.decks)
+        write!(f, "\n{}\n{}", self.spectators, self.first_moves)?;
+        write!(f, "\n{}", self.decks)
     }
 }
 
