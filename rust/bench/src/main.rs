@@ -2,11 +2,12 @@
 //! same rooms, by turns in one run, and prints Markdown for `docs/BENCHMARKS.md`:
 //! first in a room that is always enough, then in rooms that just fit, where
 //! both sides measure a text before they put it; then questions, which take no
-//! room, and what a spectator sees, beside judging a card alone; then a card
-//! looked for in a deck. Each round goes through all rows, so that a while in
-//! which the machine is slow spoils none of them. Then the stack that the entries
-//! use, on the inputs that need most; `bench stack` prints that table alone, and
-//! fails where an entry uses more than the wrapper says.
+//! room, and what a spectator sees, beside judging a card alone; whether anyone
+//! can move, beside judging and the whole panel; then a card looked for in a
+//! deck. Each round goes through all rows, so that a while in which the machine
+//! is slow spoils none of them. Then the stack that the entries use, on the
+//! inputs that need most; `bench stack` prints that table alone, and fails where
+//! an entry uses more than the wrapper says.
 
 mod deepest;
 mod stack;
@@ -16,8 +17,8 @@ use std::hint::black_box;
 use std::process::ExitCode;
 use std::time::{Duration, Instant};
 
-use compare::cards::limits::NODES;
-use compare::cards::{branches, Guards, Leaves, Size};
+use compare::cards::limits::{BRANCHES, NODES, STATEMENTS};
+use compare::cards::{branches, statement, Guards, Leaves, Size};
 use compare::extremes::{extremes, Extreme};
 use compare::marks::{lay_out, Layout};
 use compare::model::{Expression, Model, Statement, Unary};
@@ -168,6 +169,39 @@ fn spectator_sets() -> Vec<Set> {
     ]
 }
 
+/// Card A, and a card of the most statements, of which the first can be taken.
+fn first_move_sets() -> Vec<Set> {
+    let all = base();
+    let card_a = all
+        .first()
+        .map(|stored| Case::new(stored.card().to_vec(), stored.seats()));
+    let mut random = Random::new(0, 0);
+    let size = Size {
+        seats: 4,
+        top: 3,
+        statements: STATEMENTS,
+        branches: BRANCHES,
+        nodes: NODES,
+    };
+    let mut full = full_table();
+    (full.seats, full.top) = (size.seats, size.top);
+    while full.statements.len() < STATEMENTS {
+        full.statements.push(statement(size, &mut random));
+    }
+    let card = lay_out(&full.marks(), Layout::Tight, &mut random);
+    assert_eq!(baseline::first_move(&card, &[0, 1, 2, 3]), Ok(Some(1)));
+    vec![
+        Set {
+            name: "card A",
+            cases: card_a.into_iter().collect(),
+        },
+        Set {
+            name: "32 statements, the first taken",
+            cases: vec![Case::new(card, vec![0, 1, 2, 3])],
+        },
+    ]
+}
+
 /// A card of the most seats and one statement.
 fn full_table() -> Model {
     Model {
@@ -276,6 +310,19 @@ const WATCH: Entry = (
     "watch",
     |case, room| open_panel::watch(&case.card, &case.seats, &case.list, room).ok(),
     |case, room| baseline::watch(&case.card, &case.seats, &case.list, room).ok(),
+);
+
+/// The entry that says whether anyone can move.
+const FIRST_MOVE: Entry = (
+    "first_move",
+    |case, _| {
+        let first = open_panel::first_move(&case.card, &case.seats);
+        first.ok().flatten()
+    },
+    |case, _| {
+        let first = baseline::first_move(&case.card, &case.seats);
+        first.ok().flatten()
+    },
 );
 
 /// The last number in [`full_deck`].
@@ -458,13 +505,14 @@ fn print_table(rows: &[Row]) {
 }
 
 /// How much stack the wrapper says that each entry takes, in the order of the table below.
-const BOUNDS: [usize; 10] = [
+const BOUNDS: [usize; 11] = [
     open_panel::stack::JUDGE,
     open_panel::stack::WRITE,
     open_panel::stack::REDUCE,
     open_panel::stack::SHOW,
     open_panel::stack::ASK,
     open_panel::stack::WATCH,
+    open_panel::stack::FIRST_MOVE,
     open_panel::stack::JUDGE_DECK,
     open_panel::stack::FIND,
     open_panel::stack::FIND_WITH,
@@ -483,7 +531,7 @@ fn print_stack() -> bool {
     let of_cards = ENTRIES.into_iter().map(|entry| (entry, &cards));
     let of_decks = DECK_ENTRIES.into_iter().map(|entry| (entry, &decks));
     let all = of_cards
-        .chain([(ASK, &questions), (WATCH, &watched)])
+        .chain([(ASK, &questions), (WATCH, &watched), (FIRST_MOVE, &cards)])
         .chain(of_decks)
         .chain([(WRITE_DECK, &parts)]);
     println!("| Entry | Library, bytes of stack | Bound | Baseline, bytes of stack |\n|---|---:|---:|---:|");
@@ -505,17 +553,24 @@ fn main() -> ExitCode {
         };
     }
     let (sets, question_sets, deck_sets) = (sets(), question_sets(), vec![full_deck()]);
-    let spectator_sets = spectator_sets();
+    let (spectator_sets, first_move_sets) = (spectator_sets(), first_move_sets());
+    let [judge, _, _, show] = ENTRIES;
     let mut room = vec![0; open_panel::REDUCE_ROOM];
     let mut tables = [
         rows(&ENTRIES, &sets, whole_room, &mut room),
         rows(&ENTRIES[1..], &sets, text_lengths, &mut room),
         rows(&[ASK], &question_sets, whole_room, &mut room),
         rows(&[WATCH], &spectator_sets, whole_room, &mut room),
+        rows(
+            &[judge, FIRST_MOVE, show],
+            &first_move_sets,
+            whole_room,
+            &mut room,
+        ),
         rows(&[FIND], &deck_sets, whole_room, &mut room),
     ];
     for beside in [2, 3] {
-        let judged = Row::new(ENTRIES[0], &sets[0], whole_room, &mut room);
+        let judged = Row::new(judge, &sets[0], whole_room, &mut room);
         tables[beside].insert(0, judged);
     }
     for round in 0..ROUNDS {
@@ -523,7 +578,7 @@ fn main() -> ExitCode {
             row.round(round, &mut room);
         }
     }
-    let [always_enough, just_fit, questions, spectators, decks] = tables;
+    let [always_enough, just_fit, questions, spectators, first_moves, decks] = tables;
     println!("In a room of {} bytes:\n", room.len());
     print_table(&always_enough);
     println!("\nIn rooms that just fit each text:\n");
@@ -532,6 +587,8 @@ fn main() -> ExitCode {
     print_table(&questions);
     println!("\nWhat a spectator sees, beside judging the card:\n");
     print_table(&spectators);
+    println!("\nWhether anyone can move, beside judging the card and its whole panel:\n");
+    print_table(&first_moves);
     println!("\nA full deck:\n");
     print_table(&decks);
     println!();
