@@ -30,6 +30,7 @@ through() {
     held requests/2026-04 requests/2026-04 write "${@:2}"
     held requests/2026-05 requests/2026-05 spectator "${@:2}"
     for entry in read write reduce panel ask; do held requests/2026-06 requests/2026-06 $entry "${@:2}"; done
+    held requests/2026-07 requests/2026-07 first_move "${@:2}"
 }
 
 through 'Rust wrapper'
