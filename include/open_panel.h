@@ -74,8 +74,8 @@ extern "C" {
  * not proved: they are measured, on the inputs that need most (guards nested as
  * deep as they may be, the longest texts, refusals), and a test fails where a
  * function takes more. In the build for aarch64 the frames along the same ways
- * add up to no more, but for open_panel_watch, for which they have not been
- * added up.
+ * add up to no more, but for open_panel_watch and open_panel_first_move, for
+ * which they have not been added up.
  */
 #define OPEN_PANEL_STACK_JUDGE 10240
 #define OPEN_PANEL_STACK_WRITE 11264
@@ -209,7 +209,7 @@ open_panel_answer open_panel_ask(const uint8_t *card, size_t card_len,
                                  const uint8_t *seats, size_t seats_len);
 
 /*
- * Is anyone able to move? Number 0, and as value the place on the card, from 1,
+ * Who may move: number 0, and as value the place on the card, from 1,
  * of the first statement that some seat may take; 0 if nobody may take any. It
  * does not ask what the statement does, and it tries no statement behind the
  * one it gives, so it takes hardly longer than open_panel_judge. On a

@@ -58,7 +58,7 @@ nodePlaces = mostStatements * mostNodes
 abbrev pub branchPlaces : ℕ
 branchPlaces = mostStatements * mostBranches
 
--- a branch's number leaves a place free for one of the states, or none ("Day and night")
+-- a branch's number leaves a place free with nine values: none, or one of eight ("Day and night")
 abbrev pub freePlace : ℕ
 freePlace = suc mostStates
 

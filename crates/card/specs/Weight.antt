@@ -52,6 +52,6 @@ allowed decimals (whole v) = true
 allowed decimals (decimal v n f) = decimals
 allowed decimals (ratio a b) = true
 
--- the refusal that is due where it may not, or where it may and is worth nothing
+-- the refusal that is due where it may not, or where it may and has no worth
 abbrev pub weightRefusal : Rule → Weight → ℕ
 weightRefusal decimals w = if allowed decimals w then wrongWeight else decimalWeight

@@ -1,6 +1,5 @@
 -- The marked edges of "Both sides of the edge", as one list in document 01's order; 012 as document 02 (2026-03) changes it, weights, digits and 1/11 as
--- 2026-06 does. The panels stand here as
--- whole texts. Assumes nothing.
+-- 2026-06 does. The panels stand here as whole texts. Assumes nothing.
 use Prim.Native.Nat.{ℕ, zero, suc}
 use Prim.Native.String.{String}
 use mathlib.Core.Path.{_≡_}

@@ -1,4 +1,4 @@
-// Is anyone able to move? The card is judged first, then the seats (document 02, 2026-07).
+// Who may move: the card is judged first, then the seats (document 02, 2026-07).
 use card::Head;
 use card::Verdict;
 use card::limits::BRANCH_PLACES;

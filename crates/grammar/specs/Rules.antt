@@ -1,4 +1,4 @@
--- The rules that refusals 5, 6 and 7 guard ("Shape of a card", "Refusal numbers"), said of each judgement without computing it.
+-- The rules that refusals 5, 6, 7 and 17 guard ("Shape of a card", "Refusal numbers"), said of each judgement without computing it.
 -- Assumes nothing.
 use Prim.Native.Nat.{ℕ, _+_, _≤_, _<_}
 use mathlib.Core.Path.{_≡_}
@@ -40,7 +40,7 @@ pub record Symmetric (n : ℕ) (ls : List Literal) : Type 0 where
 
 -- ---- each judgement, on a card of n seats
 
--- in a sum a weight that is worth nothing counts nothing: it is refused before the sum
+-- in a sum a weight that has no worth counts nothing: it is refused before the sum
 abbrev pub Kept : ℕ → Judgement → Type 0
 Kept n (state most v p) = v ≤ most
 Kept n (word due was p) = was ≡ due

@@ -1,4 +1,4 @@
--- What it is for a card to be taken, and for each of the refusals 1 to 7 to be given at a place ("Refusal numbers"), in terms of its
+-- What it is for a card to be taken, and for each of the refusals 1 to 7 and 17 to be given at a place ("Refusal numbers"), in terms of its
 -- marks, the grammar, the limits and the rules. Assumes nothing.
 use Prim.Native.Nat.{ℕ, _≤_, _<_}
 use mathlib.Core.Path.{_≡_}
@@ -114,7 +114,7 @@ pub record Shaped (s : List ℕ) : Type 0 where
 abbrev pub KeptOn : CardShape → Judgement → Type 0
 KeptOn c j = Kept (seatsIn c) j
 
--- ---- 5, 6 and 7, by the rule of a weight
+-- ---- 5, 6, 7 and 17, by the rule of a weight
 
 pub data In {A : Type 0} (x : A) : List A → Type 0 where
   first : {xs : List A} → In x (x ∷ xs)

@@ -1,5 +1,5 @@
--- Is anyone able to move? (document 02, 2026-07): the first statement in card order that some seat may take, by seats; and the same by counts,
--- as a program finds it. Assumes nothing.
+-- Who may move (document 02, 2026-07): of the statements that some seat may take, the one that stands first on the card, by seats; and the same
+-- by counts, as a program finds it. Assumes nothing.
 use Prim.Native.Nat.{ℕ, suc}
 use mathlib.Core.List.{List, [], _∷_}
 use mathlib.Core.Option.{Option, none, some}

@@ -1,5 +1,5 @@
 -- The marks of a card, word by word ("Shape of a card"): which seat and module words stand where, without a word of how they are judged.
--- What stands in a guard is the grammar's (`reading/specs/Grammar.antt`) and is left open here. Assumes nothing.
+-- What stands in a guard is the grammar's (`grammar/specs/Grammar.antt`) and is left open here. Assumes nothing.
 use Prim.Native.Nat.{ℕ, zero, suc}
 use Prim.Native.String.{String}
 use mathlib.Core.List.{List, [], _∷_, _++_}

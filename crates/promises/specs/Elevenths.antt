@@ -1,6 +1,6 @@
 -- Document 02's new unit (2026-06) and the rule of a weight, which is an argument of reading: what a card may have as a weight is said by it, and
 -- all else that is said of reading holds by every rule, of the same code (2026-11 will read old cards by the old rule and new ones by another).
--- What 1/11, 1/13 and six digits are read as is among the edges. The words on the right of an `↔` are in `reading/specs/Verdicts.antt`. Assumes nothing.
+-- What 1/11, 1/13 and six digits are read as is among the edges. The words on the right of an `↔` are in `grammar/specs/Verdicts.antt`. Assumes nothing.
 use Prim.Native.Nat.{ℕ, _*_, _≤_}
 use mathlib.Core.Path.{_≡_}
 use mathlib.Core.Bool.{true, false}

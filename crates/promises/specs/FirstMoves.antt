@@ -41,7 +41,7 @@ pub record MoveMeaning : Type 0 where
   pub nobody : (c : Card) (x : Seating) → (firstMove c x ≡ none) ↔ Stuck c x
   -- a walk over counts that stops at the first gives the same
   pub by-counts : (c : Card) (x : Seating) → ValidSeating c x → firstMove c x ≡ firstAt (c .n) (counts (c .k) x) 1 (c .statements)
-  -- it does not look at what stands behind
+  -- what stands behind makes no difference
   pub rest-unread : (n : ℕ) (v : List ℕ) (p q : ℕ) (l m : List Statement) → firstAt n v p l ≡ some q → firstAt n v p (l ++ m) ≡ some q
   -- equal counts give the same, and so do the same seats in another order
   pub equal-counts : (c : Card) (x y : Seating) → ValidSeating c x → ValidSeating c y → counts (c .k) x ≡ counts (c .k) y → firstMove c x ≡ firstMove c y

@@ -1,5 +1,5 @@
 -- Demand 2, its first half: which bytes are a card, which card they are, and which refusal is given where ("Marks on a card", "Shape of a
--- card", "Refusal numbers"). The words on the right are in `reading/specs/Verdicts.antt`. Assumes nothing.
+-- card", "Refusal numbers"). The words on the right are in `grammar/specs/Verdicts.antt`. Assumes nothing.
 use Prim.Native.Nat.{ℕ, _≤_}
 use mathlib.Core.Path.{_≡_}
 use mathlib.Core.Logic.{_↔_}

@@ -1,4 +1,4 @@
--- What refusals 5, 6 and 7 judge on a whole card, in the order of the text, and the card itself, once nothing is broken
+-- What refusals 5, 6, 7 and 17 judge on a whole card, in the order of the text, and the card itself, once nothing is broken
 -- ("Refusal numbers", "Shape of a card"). Assumes nothing.
 use Prim.Native.Nat.{ℕ, zero, suc}
 use mathlib.Core.List.{List, [], _∷_, _++_, map}

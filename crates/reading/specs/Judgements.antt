@@ -1,4 +1,4 @@
--- What refusals 5, 6 and 7 judge on a card of the right shape, and how ("Refusal numbers", "Shape of a card"). Assumes nothing.
+-- What refusals 5, 6, 7 and 17 judge on a card of the right shape, and how ("Refusal numbers", "Shape of a card"). Assumes nothing.
 use Prim.Native.Nat.{ℕ, zero, suc, _+_, _-_}
 use mathlib.Core.Bool.{Bool, true, false, _&&_, _||_}
 use mathlib.Core.List.{List, [], _∷_, _++_}
@@ -69,7 +69,7 @@ abbrev pub orZero : Option ℕ → ℕ
 orZero none = 0
 orZero (some u) = u
 
--- a weight in units; one that is worth nothing counts nothing
+-- a weight in units; one that has no worth counts nothing
 abbrev pub unitsIn : Weight → ℕ
 unitsIn w = orZero (unitsOf w)
 

@@ -1,4 +1,4 @@
--- Reading a card under a rule of a weight: refusals 1 to 7 in their order, or the card ("Refusal numbers"; document 02, 2026-11). Assumes nothing.
+-- Reading a card under a rule of a weight: refusals 1 to 7 and 17 in their order, or the card ("Refusal numbers"; document 02, 2026-11). Assumes nothing.
 use Prim.Native.Nat.{ℕ, zero}
 use mathlib.Core.Bool.{Bool, true, false}
 use mathlib.Core.List.{List, [], _∷_}
