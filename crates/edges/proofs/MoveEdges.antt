@@ -1,14 +1,14 @@
 -- Each by computing. Assumes nothing.
 use mathlib.Core.Path.{refl}
 use Rattle.card.specs.Weight.{unitsOf}
-use Rattle.reading.specs.Reading.{readOf}
+use Rattle.reading.specs.Reading.{readUnder}
 use Rattle.counting.specs.Judged.{judgedSeats, judgedFrom}
 use Rattle.moving.specs.FirstMove.{firstMove}
 use Rattle.first_move.specs.MoveSaid.{moveSaid}
 use Rattle.edges.specs.MoveEdges.{MoveEdges}
 
 pub move-edges : MoveEdges
-unfolding moveSaid readOf unitsOf judgedSeats judgedFrom firstMove
+unfolding moveSaid readUnder unitsOf judgedSeats judgedFrom firstMove
 move-edges = record {
   at-001 = (refl, refl);
   at-100 = (refl, refl);

@@ -9,6 +9,7 @@ use native.Mathlib.Decide.{decLe}
 use native.Mathlib.Omega.{arith}
 use Rattle.card.specs.Refusals.{wrongWeight, wrongSeats, seatAboveTop}
 use Rattle.card.specs.Card.{nondeterministic, Card}
+use Rattle.card.specs.Weight.{cardRule}
 use Rattle.reading.specs.Reading.{Outcome, taken, refused as turned, readOf}
 use Rattle.meaning.specs.Seats.{Seating, ValidSeating, Stuck}
 use Rattle.meaning.specs.Panel.{Block, Panel, panel}
@@ -134,7 +135,7 @@ move-tells card seats =
     some-number r p e = go (decLe r wrongWeight)
       where
         go : Dec (r ≤ wrongWeight) → 1 ≤ r
-        go (yes l) = number-some card (h .wrong-card r p l .0 e)
+        go (yes l) = number-some cardRule card (h .wrong-card r p l .0 e)
         go (no l) = omega arith
 
     placed : (q : ℕ) → s ≡ says (some q) → 1 ≤ q
