@@ -127,7 +127,7 @@ fn in_line(seats: usize) -> [String; 3] {
 
 /// A card with so many statements of one guard, the last as it is, the others without.
 fn card(mode: &str, seats: usize, statements: usize, guard: &str, behind: &str) -> Vec<u8> {
-    let weights = "10001/25200:(s1'=1) + 10001/25200:(s1'=2) + 1003/25200:(s1'=3) + 1003/25200:(s1'=4) + 1003/25200:(s1'=5) + 1003/25200:(s1'=6) + 1007/25200:(s1'=7) + 179/25200:(s1'=1)";
+    let weights = "100003/277200:(s1'=1) + 100043/277200:(s1'=2) + 10009/277200:(s1'=3) + 10037/277200:(s1'=4) + 10039/277200:(s1'=5) + 10061/277200:(s1'=6) + 10067/277200:(s1'=7) + 26941/277200:(s1'=1)";
     let plain = format!("[] s1=0 -> {weights};\n").repeat(statements - 1);
     let further: String = (2..=seats)
         .map(|seat| format!("module process{seat} = process1 [s1=s{seat}, s{seat}=s1] endmodule\n"))
