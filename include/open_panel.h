@@ -3,15 +3,13 @@
  * questions about a seating answered, and who may move; cards found in decks,
  * and decks written; a line of public classes for spectators.
  *
- * Link libopen_panel.a, which `bin/library` makes for x86-64 and for aarch64
- * Linux. Of the C library it needs memcpy and memset, and nothing else: it has
- * no state, no heap and no system calls, so any number of threads may call it
- * at once.
+ * Link libopen_panel.a or libopen_panel.so, which dist/ has and `bin/library`
+ * makes, for x86-64 and for aarch64 Linux (Android's too). Of the C library it
+ * needs memcpy and memset, and nothing else: it has no state, no heap and no
+ * system calls, so any number of threads may call it at once.
  *
- * In open_panel.wasm the same functions are exports. Before its other arguments
- * each takes where the answer goes: 16 bytes, `number` at 0 and `value` at 8. A
- * pointer is an i32, a length, `value` and each number of a part an i64, a card
- * number an i32. The memory from __heap_base on is the caller's.
+ * The library has lengths of 64 bits, and this header compiles only where
+ * size_t has. WebAssembly is reached through open_panel.mjs, not through C.
  *
  * What holds of every function here:
  *
@@ -39,6 +37,12 @@
 #ifdef __cplusplus
 extern "C" {
 #endif
+
+/* The version of this header; open_panel_version gives the library's. CHANGELOG.md says what each one changed. */
+#define OPEN_PANEL_VERSION "0.7.1"
+
+/* Lengths have 64 bits: a size_t of fewer would be read as another number. */
+typedef char open_panel_needs_a_size_t_of_8_bytes[sizeof(size_t) == 8 ? 1 : -1];
 
 /* Longest card and longest question, most seats and highest state. */
 #define OPEN_PANEL_CARD_BYTES 16384
@@ -278,6 +282,34 @@ open_panel_answer open_panel_box_find_with(const uint8_t *base, size_t base_len,
 open_panel_answer open_panel_box_write(const uint8_t *contents, size_t contents_len,
                                        const uint8_t *bodies, size_t bodies_len,
                                        uint8_t *room, size_t room_len);
+
+/*
+ * What is below is plain C (c/open_panel_words.c) that stands beside the module
+ * in the library. It is tested and not proved. None of it allocates or writes.
+ */
+
+/* The version of the library, as OPEN_PANEL_VERSION was when it was made. */
+const char *open_panel_version(void);
+
+/*
+ * What a refusal means, in a few words: ASCII without a line's end, with a
+ * closing zero byte. They do not say the place. Every number has some, 0 and
+ * those that are no refusal too.
+ */
+const char *open_panel_words(uint8_t number);
+
+/* A place of a text as people count: line and column, both from 1, in bytes. */
+typedef struct {
+    size_t line;
+    size_t column;
+} open_panel_position;
+
+/*
+ * Where a place is in a text: of the card for 2 to 7, of the question for 22 to
+ * 26; for other refusals `value` is no place in a text. The place behind the
+ * last byte has a line and a column too; both are 0 for one beyond it.
+ */
+open_panel_position open_panel_line_and_column(const uint8_t *text, size_t text_len, size_t place);
 
 #ifdef __cplusplus
 }

@@ -49,7 +49,7 @@ done
 
 # The questions: | question | seats | answer | why |
 bin/library "$(uname -m)-linux" >/dev/null
-export CARGO_TARGET_DIR=$PWD/target/rust
+. rust/library.sh
 cargo build --manifest-path rust/Cargo.toml --release --offline --quiet --package open-panel --example ask
 while IFS=$'\t' read -r question seats due; do
     answer=$("$CARGO_TARGET_DIR/release/examples/ask" "$made/1.text" "$question" "$seats" 2>&1 |

@@ -100,6 +100,14 @@ for entry in $(sed -n 's/^open_panel_answer open_panel_\([a-z_]*\)(.*/\1/p' incl
     grep -q "^#define OPEN_PANEL_STACK_${entry^^} " include/open_panel.h || { echo "numbers: no stack of $entry" && wrong=$((wrong + 1)); }
 done
 
+# the version: the crate's is the header's, and the changelog has a heading of it
+version=$(sed -n 's/^#define OPEN_PANEL_VERSION "\(.*\)"$/\1/p' include/open_panel.h)
+seen=$((seen + 1))
+if [ "$(sed -n 's/^version = "\(.*\)"$/\1/p' rust/Cargo.toml)" != "$version" ] || ! grep -q "^## $version\b" CHANGELOG.md; then
+    echo "numbers: the version is ${version:-nothing} in the header, and another in rust/Cargo.toml, or CHANGELOG.md has no heading of it"
+    wrong=$((wrong + 1))
+fi
+
 # every number of the header is among them, but for the 0 of no refusal
 all=$(grep -cE '^#define OPEN_PANEL_[A-Z_]* |^ *OPEN_PANEL_[A-Z_]* = [1-9]' include/open_panel.h)
 echo "numbers: $seen of $all, $wrong wrong"

@@ -4,7 +4,8 @@
 set -eu
 cd "$(dirname "${BASH_SOURCE[0]}")/.."
 bin/library "$(uname -m)-linux" >/dev/null
-export CARGO_TARGET_DIR=$PWD/target/rust RUSTFLAGS='-D warnings'
+. rust/library.sh
+export RUSTFLAGS='-D warnings'
 cd rust
 cargo test --release --offline --quiet
 cargo run --release --offline --quiet --package compare

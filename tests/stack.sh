@@ -4,5 +4,6 @@
 set -eu
 cd "$(dirname "${BASH_SOURCE[0]}")/.."
 bin/library "$(uname -m)-linux" >/dev/null
-export CARGO_TARGET_DIR=$PWD/target/rust RUSTFLAGS='-D warnings'
+. rust/library.sh
+export RUSTFLAGS='-D warnings'
 cargo run --manifest-path rust/Cargo.toml --release --offline --quiet --package bench -- stack

@@ -8,7 +8,8 @@ root=$PWD
 . tests/c/build.sh
 bin/library >/dev/null
 : | bin/open_panel >/dev/null
-export CARGO_TARGET_DIR=$root/target/rust RUSTFLAGS='-D warnings'
+. rust/library.sh
+export RUSTFLAGS='-D warnings'
 cargo build --manifest-path rust/Cargo.toml --release --offline --quiet --package vectors
 
 # held CASES ANSWERS ENTRY [SIDE..]

@@ -3,6 +3,6 @@
 set -eu
 cd "$(dirname "${BASH_SOURCE[0]}")/../.."
 bin/library "$(uname -m)-linux" >&2
-export CARGO_TARGET_DIR=$PWD/target/rust
+. rust/library.sh
 cd rust
 cargo run --release --offline --quiet --package bench

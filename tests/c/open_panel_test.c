@@ -85,6 +85,25 @@ static void lies(open_panel_part *part, size_t in_expansion, size_t offset, size
     part->in_expansion = part->offset = part->length = UNTOUCHED;
 }
 
+/* The library is of this header's version, and says of each refusal something else than of a number that is none. */
+static void words_are_known(void) {
+    static const uint8_t refusals[] = {REFUSALS};
+    const char *unknown = open_panel_words(255);
+    size_t i;
+    expect(strcmp(open_panel_version(), OPEN_PANEL_VERSION) == 0, "the library's version");
+    expect(sizeof refusals >= 19, "the header's refusals");
+    for (i = 0; i < sizeof refusals; i++) {
+        const char *words = open_panel_words(refusals[i]);
+        expect(strlen(words) > 4 && strcmp(words, unknown) != 0 && strchr(words, '\n') == NULL, "a refusal's words");
+    }
+    expect(strcmp(open_panel_words(OPEN_PANEL_LONG), "the card is longer than 16384 bytes") == 0, "words with a number");
+}
+
+static void at(const uint8_t *text, size_t text_len, size_t place, size_t line, size_t column, const char *what) {
+    open_panel_position found = open_panel_line_and_column(text, text_len, place);
+    expect(found.line == line && found.column == column, what);
+}
+
 int main(void) {
     const uint8_t seats_001[] = {0, 0, 1};
     const uint8_t seats_011[] = {0, 1, 1};
@@ -192,6 +211,14 @@ int main(void) {
     answers(open_panel_box_write(contents, sizeof contents, bytes(bodies), sizeof bodies, room, deck_len), OPEN_PANEL_DECK,
             sizeof contents, "", "bodies longer than the contents say");
     answers(open_panel_box_write(NULL, 0, NULL, 0, NULL, 0), OPEN_PANEL_DECK, 0, "", "no contents");
+
+    words_are_known();
+    at(a, a_len, 0, 1, 1, "the first byte");
+    at(bytes("ab\ncd\n"), 6, 2, 1, 3, "the end of a line");
+    at(bytes("ab\ncd\n"), 6, 4, 2, 2, "the middle of the second line");
+    at(bytes("ab\ncd\n"), 6, 6, 3, 1, "behind the last byte");
+    at(bytes("ab\ncd\n"), 6, 7, 0, 0, "beyond the text");
+    at(NULL, 0, 0, 1, 1, "a text of no length");
 
     if (failures == 0) {
         printf("open_panel.h: every answer as expected\n");

@@ -75,6 +75,11 @@ impl Answer {
     }
 }
 
+/// The version of the library that is linked; this crate's own is that of the header that it was written for.
+pub fn version() -> &'static str {
+    library::version()
+}
+
 /// Says whether a card is taken. Refusals: 1 to 7.
 pub fn judge(card: &[u8]) -> Result<(), Refusal> {
     let length = library::judge(card).into_result()?;

@@ -1,9 +1,13 @@
 //! The library's own entries. `include/open_panel.h` says what each asks for.
 #![allow(unsafe_code)]
 
+use std::ffi::{c_char, CStr};
+
 use crate::{Answer, RawPart};
 
 extern "C" {
+    fn open_panel_version() -> *const c_char;
+    fn open_panel_words(number: u8) -> *const c_char;
     fn open_panel_judge(card: *const u8, card_len: usize) -> Answer;
     fn open_panel_write(card: *const u8, card_len: usize, room: *mut u8, room_len: usize)
         -> Answer;
@@ -178,4 +182,18 @@ pub(crate) fn box_write(contents: &[u8], bodies: &[u8], room: &mut [u8]) -> Answ
             room.len(),
         )
     }
+}
+
+pub(crate) fn version() -> &'static str {
+    // SAFETY: it takes nothing, and what it gives is a literal of the library.
+    ascii(unsafe { CStr::from_ptr(open_panel_version()) })
+}
+
+pub(crate) fn words(number: u8) -> &'static str {
+    // SAFETY: it takes any number, and what it gives is a literal of the library.
+    ascii(unsafe { CStr::from_ptr(open_panel_words(number)) })
+}
+
+fn ascii(text: &'static CStr) -> &'static str {
+    text.to_str().expect("the library's words are ASCII")
 }

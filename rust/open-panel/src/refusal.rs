@@ -2,6 +2,8 @@
 
 use std::fmt;
 
+use crate::library;
+
 /// A refusal. Its [`number`](Refusal::number) and [`place`](Refusal::place)
 /// are those of documents 01 and 02; where it stands `at` something, that is a
 /// byte, from 0, of the card, or of the question or the deck where its name says
@@ -172,6 +174,11 @@ impl Refusal {
         }
     }
 
+    /// What it means, without its place: the library's own words (`open_panel_words`).
+    pub fn words(&self) -> &'static str {
+        library::words(self.number())
+    }
+
     /// Whether its place is in the question, and not in the card or elsewhere.
     pub const fn is_of_question(&self) -> bool {
         matches!(self.number(), 21..=26)
@@ -195,70 +202,36 @@ impl Refusal {
 }
 
 impl fmt::Display for Refusal {
+    /// Its place, its [words](Refusal::words) and its number.
     fn fmt(&self, f: &mut fmt::Formatter<'_>) -> fmt::Result {
-        match *self {
-            Refusal::Long => write!(f, "the card is longer than {} bytes", crate::CARD_BYTES),
-            Refusal::Mark { at } => write!(f, "byte {at}: no mark of a card, or too many digits"),
-            Refusal::Shape { at } => write!(
-                f,
-                "byte {at}: this cannot stand here, or the card ends early"
-            ),
-            Refusal::Limit { at } => write!(f, "byte {at}: one more than a card may have"),
-            Refusal::State { at } => write!(f, "byte {at}: a state above the card's top state"),
-            Refusal::Word { at } => write!(
-                f,
-                "byte {at}: not the seat or module due, or a group that is not symmetric"
-            ),
-            Refusal::Weight { at } => write!(
-                f,
-                "byte {at}: not a weight, or weights that do not sum to 1"
-            ),
-            Refusal::SeatCount => write!(f, "not as many seats as the card has"),
-            Refusal::SeatState { seat } => {
-                write!(f, "seat {seat} (from 0) is above the card's top state")
+        let (words, number, place) = (self.words(), self.number(), self.place());
+        match self {
+            Refusal::Long | Refusal::SeatCount | Refusal::NoLiveCard | Refusal::QuestionLong => {
+                write!(f, "{words}")
             }
-            Refusal::Room { needed } => {
-                write!(f, "the room is too small: {needed} bytes are needed")
-            }
-            Refusal::Deck { at } => write!(
+            Refusal::Mark { .. }
+            | Refusal::Shape { .. }
+            | Refusal::Limit { .. }
+            | Refusal::State { .. }
+            | Refusal::Word { .. }
+            | Refusal::Weight { .. } => write!(f, "byte {place}: {words}"),
+            Refusal::SeatState { .. } => write!(f, "seat {place} (from 0): {words}"),
+            Refusal::Room { .. } => write!(f, "{words}: {place} bytes are needed"),
+            Refusal::Deck { .. } => write!(
                 f,
-                "byte {at} of a deck, an expansion's from 65536 on, or of its contents: malformed there"
+                "byte {place} of a deck, an expansion's from 65536 on, or of its contents: {words}"
             ),
-            Refusal::NoLiveCard => write!(f, "no live card has this number"),
-            Refusal::Classes { at } => write!(
+            Refusal::Classes { .. } => write!(
                 f,
-                "a list of {at} classes, not one for each state, or the class of state {at} is above {}",
-                crate::TOP_CLASS
+                "a list of {place} classes, or the class of state {place}: {words}"
             ),
-            Refusal::QuestionLong => {
-                write!(
-                    f,
-                    "the question is longer than {} bytes",
-                    crate::QUESTION_BYTES
-                )
-            }
-            Refusal::QuestionMark { at } => write!(
-                f,
-                "byte {at} of the question: no mark of one, or too many digits"
-            ),
-            Refusal::QuestionShape { at } => write!(
-                f,
-                "byte {at} of the question: this cannot stand here, or the question ends early"
-            ),
-            Refusal::QuestionLimit { at } => write!(
-                f,
-                "byte {at} of the question: one more than a question may have"
-            ),
-            Refusal::QuestionState { at } => write!(
-                f,
-                "byte {at} of the question: a state above the card's top state"
-            ),
-            Refusal::QuestionGroup { at } => write!(
-                f,
-                "byte {at} of the question: a group that is not of all seats alike, or no exactly-one"
-            ),
+            Refusal::QuestionMark { .. }
+            | Refusal::QuestionShape { .. }
+            | Refusal::QuestionLimit { .. }
+            | Refusal::QuestionState { .. }
+            | Refusal::QuestionGroup { .. } => write!(f, "byte {place} of the question: {words}"),
         }?;
-        write!(f, " (refusal {})", self.number())
+        write!(f, " (refusal {number})")
     }
 }
 

@@ -51,7 +51,7 @@ fn refusals_have_number_place_and_words() {
         (
             9,
             7,
-            "seat 7 (from 0) is above the card's top state (refusal 9)",
+            "seat 7 (from 0): a seat above the card's top state (refusal 9)",
         ),
         (
             10,
@@ -61,13 +61,13 @@ fn refusals_have_number_place_and_words() {
         (
             11,
             7,
-            "byte 7 of a deck, an expansion's from 65536 on, or of its contents: malformed there (refusal 11)",
+            "byte 7 of a deck, an expansion's from 65536 on, or of its contents: a malformed deck, or contents and bodies that make none (refusal 11)",
         ),
         (12, 0, "no live card has this number (refusal 12)"),
         (
             13,
             7,
-            "a list of 7 classes, not one for each state, or the class of state 7 is above 7 (refusal 13)",
+            "a list of 7 classes, or the class of state 7: not one class for each state, or a class above 7 (refusal 13)",
         ),
         (
             21,
@@ -77,7 +77,7 @@ fn refusals_have_number_place_and_words() {
         (
             22,
             7,
-            "byte 7 of the question: no mark of one, or too many digits (refusal 22)",
+            "byte 7 of the question: no mark of a question, or too many digits (refusal 22)",
         ),
         (
             23,

@@ -1,0 +1,85 @@
+// The JavaScript module as it is made: answers of each kind, refusals as objects with words, and what it turns down before it asks.
+import assert from "node:assert/strict";
+import { readFileSync } from "node:fs";
+
+const made = new URL("../../target/library/wasm32/", import.meta.url);
+const { load, lineAndColumn, numbers, Refusal, version, words } = await import(new URL("open_panel.mjs", made));
+const panel = await load();
+const example = (name) => readFileSync(new URL(`../../examples/${name}`, import.meta.url), "utf8");
+const card = example("card-a").replace(/^.*\n/, "");
+const seats = [0, 0, 1];
+
+const header = readFileSync(new URL("../../include/open_panel.h", import.meta.url), "utf8");
+assert.equal(`"${version}"`, header.match(/OPEN_PANEL_VERSION (.*)/)[1]);
+assert.equal(numbers.UNIT, Number(header.match(/OPEN_PANEL_UNIT (.*)/)[1]));
+const entries = [...header.matchAll(/^open_panel_answer open_panel_([a-z_0-9]*)/gm)].map(([, name]) => name);
+const called = entries.map((name) => name.replace(/_(.)/g, (_, letter) => letter.toUpperCase()));
+assert.deepEqual(Object.keys(panel).sort(), called.sort());
+
+// the types name the same functions
+const types = readFileSync(new URL("open_panel.d.mts", made), "utf8");
+const methods = types.match(/interface Panel \{([^}]*)\}/)[1].matchAll(/^ *([a-zA-Z]*)\(/gm);
+assert.deepEqual([...methods].map(([, name]) => name).sort(), called.sort());
+
+// every refusal of the header has words, and no two numbers that are none have others
+const refusals = [...header.matchAll(/^ *OPEN_PANEL_[A-Z_]* = ([0-9]+)/gm)].map(([, number]) => Number(number)).filter(Boolean);
+assert.ok(refusals.length >= 19);
+for (const number of refusals) assert.notEqual(words(number), words(255), `words of ${number}`);
+
+assert.equal(panel.judge(card), undefined);
+assert.equal(panel.show(card, seats), example("card-a.panel"));
+assert.equal(panel.show(new TextEncoder().encode(card), Uint8Array.from(seats)), example("card-a.panel"));
+assert.equal(panel.write(panel.write(card)), panel.write(card));
+assert.match(panel.reduce(card), /^probabilistic\nmodule generic_process/);
+assert.equal(panel.ask(card, "(s1=0 | s2=0 | s3=0)", seats), true);
+assert.equal(panel.ask(card, "(s1=2 | s2=2 | s3=2)", seats), false);
+assert.equal(panel.watch(card, seats, [0, 1, 1]), "classes 2 1 0 0 0 0 0 0\n");
+assert.equal(panel.firstMove(card, seats), 1);
+assert.equal(panel.firstMove(card, [0, 1, 2]), 0);
+const entry = [5, 0, 0, 0, 4, 0, 1, 0];
+const [base, expansion] = ["base", "more"].map((body) => panel.boxWrite(entry, body));
+assert.ok(base instanceof Uint8Array && base.length === 13);
+assert.equal(panel.boxJudge(base), undefined);
+assert.deepEqual(panel.boxFind(base, 5), { inExpansion: false, offset: 9, length: 4 });
+assert.deepEqual(panel.boxFindWith(base, expansion, 5), { inExpansion: true, offset: 9, length: 4 });
+// what it answered stays when it is asked again
+assert.equal(new TextDecoder().decode(base.subarray(9)), "base");
+// a card of more bytes than the memory has to begin with is copied whole, and refused
+assert.throws(() => panel.judge(" ".repeat(3_000_000)), { number: 1, place: 0 });
+
+// refused WHAT CALL FIELDS
+function refused(call, fields) {
+    assert.throws(call, (thrown) => {
+        assert.ok(thrown instanceof Refusal && thrown instanceof Error);
+        for (const [name, value] of Object.entries(fields)) assert.deepEqual(thrown[name], value, name);
+        return true;
+    });
+}
+refused(() => panel.judge(card.replace("0..2", "0..9")), {
+    number: 4,
+    place: 39,
+    of: "card",
+    line: 3,
+    column: 10,
+    words: "one more than a card may have",
+    message: "line 3, column 10 of the card: one more than a card may have (refusal 4, place 39)",
+});
+refused(() => panel.ask(card, "(s1=0)\n& ?", seats), { number: 22, place: 9, of: "question", line: 2, column: 3 });
+refused(() => panel.show(card, [0, 9, 0]), { number: 9, place: 1, of: undefined, line: undefined, words: words(9) });
+refused(() => panel.watch(card, seats, []), { number: 13, place: 0 });
+refused(() => panel.boxFind(base, 6), { number: 12, place: 0, message: "no live card has this number (refusal 12, place 0)" });
+refused(() => panel.judge(""), { number: 3, place: 0, line: 1, column: 1 });
+
+assert.throws(() => panel.show(card, [0, 0, 256]), RangeError);
+assert.throws(() => panel.show(card, [0, 0, 0.5]), RangeError);
+assert.throws(() => panel.boxFind(base, 65536), RangeError);
+assert.throws(() => panel.show(card), TypeError);
+assert.throws(() => panel.show(card, 3), TypeError);
+assert.deepEqual(lineAndColumn("ab\ncd", 4), { line: 2, column: 2 });
+assert.deepEqual(lineAndColumn("ab\ncd", 2), { line: 1, column: 3 });
+assert.equal(lineAndColumn("ab", 3), undefined);
+
+const wasm = readFileSync(new URL("open_panel.wasm", made));
+for (const source of [wasm, await WebAssembly.compile(wasm), new URL("open_panel.wasm", made)]) assert.equal((await load(source)).firstMove(card, seats), 1);
+await assert.rejects(load("no_such.wasm"));
+console.log(`open_panel.mjs: ${called.length} functions, every answer as expected`);
