@@ -34,7 +34,7 @@ through() {
     held requests/2026-07 requests/2026-07 first_move "${@:2}"
 }
 
-through 'Rust wrapper'
+through "$machine-linux, by the Rust wrapper"
 through 'independent implementation' --baseline
 held base panel program --baseline
 
@@ -46,8 +46,9 @@ for target in x86_64-linux aarch64-linux; do
 done
 if command -v node >/dev/null; then
     through wasm32 node tests/bridge.mjs target/library/wasm32/open_panel.wasm
+    through 'wasm32, by open_panel.mjs' node tests/js/bridge.mjs target/library/wasm32/open_panel.mjs
 else
-    echo "wasm32: skipped, as there is no node here"
+    echo "wasm32: left out, as there is no node here"
 fi
 
 echo "vectors: panel program"

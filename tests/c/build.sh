@@ -8,7 +8,7 @@ runnable() {
         "$machine-linux" | x86_64-linux) return 0 ;;
         aarch64-linux)
             if command -v aarch64-linux-gnu-gcc >/dev/null && command -v qemu-aarch64 >/dev/null; then return 0; fi
-            echo "$1: skipped, as there is no aarch64-linux-gnu-gcc or no qemu-aarch64 here"
+            echo "$1: left out, as there is no aarch64-linux-gnu-gcc or no qemu-aarch64 here"
             ;;
     esac
     return 1
