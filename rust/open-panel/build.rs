@@ -87,8 +87,8 @@ fn by_pkg_config() -> bool {
     true
 }
 
-/// Ends with one line, which cargo shows.
+/// Ends with one line: cargo shows it and fails. To a status that is not 0 it would add all that was printed before.
 fn fail(line: &str) -> ! {
     println!("cargo::error={line}");
-    exit(1)
+    exit(0)
 }

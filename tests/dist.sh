@@ -1,0 +1,36 @@
+#!/usr/bin/env bash
+# dist/ is what these sources make: made again by bin/dist, every file of it is the same byte for byte, and there are no others. What a second
+# build in another folder and at another time makes is the same too.
+set -euo pipefail
+cd "$(dirname "${BASH_SOURCE[0]}")/.."
+root=$PWD
+. bin/kit.sh
+bin/dist target/dist
+
+# twice OBJECT..: the steps behind the module, done again elsewhere, give the same bytes
+again=$(mktemp -d)
+trap 'rm -rf "$again"' EXIT
+mkdir -p "$again/target/library"
+cp -r bin include c js crates.txt "$again/"
+cp -r --preserve=timestamps crates "$again/"
+cp target/library/module.bc "$again/target/library/"
+cp -r target/staticlib "$again/target/"
+"$again/bin/library" >/dev/null
+for folder in x86_64-linux aarch64-linux wasm32; do
+    for made in target/dist/$folder/*; do
+        [ "$made" = target/dist/x86_64-linux/open_panel ] || cmp "$made" "$again/target/library/$folder/${made##*/}"
+    done
+done
+# no folder of this machine is in any of them
+for folder in "$root" "$kit" "$HOME" /tmp/; do
+    if [ "$folder" != / ] && grep -rlF -e "$folder" target/dist; then echo "dist: $folder is in what was made" && exit 1; fi
+done
+
+[ -d dist ] || { echo "dist: there is no dist/; bin/dist makes it" && exit 1; }
+if ! diff -r dist target/dist; then
+    echo "dist: dist/ is not what these sources make with $(rt version): was a crate, the header, c/ or js/ changed without bin/dist?"
+    exit 1
+fi
+(cd dist && sha256sum --check --quiet SHA256SUMS)
+[ -x dist/x86_64-linux/open_panel ]
+echo "dist: $(wc -l <dist/SHA256SUMS) files, every byte as made again ($(sed -n 's/^kit //p' dist/MADE-OF))"
