@@ -10,7 +10,7 @@ bin/dist target/dist
 made=$(mktemp -d)
 trap 'rm -rf "$made"' EXIT
 copy=$made/copy
-mkdir -p "$copy" "$made/plain" "$made/kit" "$made/system/lib64"
+mkdir -p "$copy" "$made/plain" "$made/kit" "$made/system"/{lib64,lib/x86_64-linux-gnu}
 cp -r bin crates crates.txt "$copy/"
 cp -r target/dist "$copy/dist"
 ln -s "$copy/bin/open_panel" "$made/link"
@@ -29,7 +29,8 @@ shown() { hold "$1" "$("$made/link" <examples/card-a 2>&1)" "$(cat examples/card
 for command in bash env sed awk grep find xargs sort cat dirname readlink uname sha256sum tail tee mkdir touch cp; do ln -s "$(command -v $command)" "$made/plain/"; done
 if [ "$machine" != x86_64 ]; then
     ln -s "$tools/bin/qemu-x86_64" "$made/plain/"
-    cp "$tools"/lib/{ld-linux-x86-64.so.2,libc.so.6} "$made/system/lib64/"
+    cp "$tools/lib/ld-linux-x86-64.so.2" "$made/system/lib64/"
+    cp "$tools/lib/libc.so.6" "$made/system/lib/x86_64-linux-gnu/"
     export OPEN_PANEL_SYSROOT=$made/system
 fi
 # a kit whose check of a crate is quick
