@@ -1,0 +1,218 @@
+//! `desk box`: what a box holds, a card out of one, and boxes of cards.
+
+use std::fs;
+use std::io::{self, Write};
+use std::process::ExitCode;
+
+use desk::reason::{of_deck, of_number, of_written, pair, Given, Reason, ENTRY};
+use desk::report;
+use open_panel::Refusal;
+
+use crate::input::{bytes_of, unreachable, wrong_words, Input};
+use crate::{put, summary};
+
+/// The place from which on a refusal is of the expansion.
+const EXPANSION: usize = 1 << 16;
+
+/// A box and how it was named.
+struct Deck<'w> {
+    name: &'w str,
+    bytes: Vec<u8>,
+}
+
+impl<'w> Deck<'w> {
+    fn read(name: &'w str) -> Deck<'w> {
+        let bytes = bytes_of(name);
+        Deck { name, bytes }
+    }
+
+    /// Its entries: number, live, offset and length. The library has judged it sound.
+    fn entries(&self) -> impl Iterator<Item = (usize, bool, usize, usize)> + '_ {
+        let entries = self.bytes[1..]
+            .chunks_exact(ENTRY)
+            .take(usize::from(self.bytes[0]));
+        entries.map(|entry| {
+            (
+                pair(entry, 0),
+                entry[6] == 1,
+                pair(entry, 2),
+                pair(entry, 4),
+            )
+        })
+    }
+}
+
+/// Prints a refusal of boxes.
+fn refused(decks: &[Deck], number: u16, refusal: Refusal) -> ExitCode {
+    let (deck, place) = match refusal.place().checked_sub(EXPANSION) {
+        Some(place) => (&decks[decks.len() - 1], place),
+        None => (&decks[0], refusal.place()),
+    };
+    let reason = match refusal.number() {
+        11 => of_deck(&deck.bytes, place, refusal),
+        _ => {
+            let all: Vec<&[u8]> = decks.iter().map(|deck| &deck.bytes[..]).collect();
+            of_number(number, &all, refusal)
+        }
+    };
+    eprint!("{}", in_hex(deck.name, &deck.bytes, place, &reason));
+    ExitCode::FAILURE
+}
+
+/// The entry that a refusal is in, byte by byte.
+fn in_hex(name: &str, bytes: &[u8], place: usize, reason: &Reason) -> String {
+    let from = match place {
+        0 => 0,
+        _ => 1 + (place - 1) / ENTRY * ENTRY,
+    };
+    let to = bytes.len().min(if from == 0 { 1 } else { from + ENTRY });
+    let (mut shown, mut under) = (Vec::new(), Vec::new());
+    if reason.refusal.number() == 11 {
+        for (at, byte) in bytes.iter().enumerate().take(to).skip(from) {
+            shown.push(format!("{byte:02x}"));
+            under.push(if reason.span.contains(&at) {
+                "^^"
+            } else {
+                "  "
+            });
+        }
+    }
+    let label = format!("byte {from}");
+    report::plain_report(
+        name,
+        &label,
+        &shown.join(" "),
+        under.join(" ").trim_end(),
+        reason,
+    )
+}
+
+/// `box list BOX [EXPANSION]`.
+pub fn list(words: &[&str]) -> ExitCode {
+    let ([_] | [_, _]) = words else {
+        wrong_words("`desk box list` takes a box, and perhaps an expansion");
+    };
+    let decks: Vec<Deck> = words.iter().map(|name| Deck::read(name)).collect();
+    for deck in &decks {
+        if let Err(refusal) = open_panel::judge_deck(&deck.bytes) {
+            return refused(std::slice::from_ref(deck), 0, refusal);
+        }
+    }
+    let mut made = String::from("number  state      offset  bytes  card\n");
+    for (place, deck) in decks.iter().enumerate() {
+        if decks.len() > 1 {
+            made += &format!("{}:\n", deck.name);
+        }
+        for (number, live, offset, length) in deck.entries() {
+            let over = |deck: &Deck| {
+                deck.entries()
+                    .any(|(other, live, ..)| live && other == number)
+            };
+            let state = match live {
+                true if place == 0 && decks[1..].iter().any(over) => "replaced",
+                true => "live",
+                false => "withdrawn",
+            };
+            let card = &deck.bytes[offset..offset + length];
+            let said = match open_panel::judge(card) {
+                Ok(()) => summary(card),
+                Err(refusal) => {
+                    let reason = Given {
+                        card,
+                        ..Given::default()
+                    }
+                    .reason(refusal);
+                    format!(
+                        "refused {} {}: {}",
+                        refusal.number(),
+                        refusal.place(),
+                        reason.sentence
+                    )
+                }
+            };
+            made += &format!("{number:>6}  {state:9}  {offset:>6}  {length:>5}  {said}\n");
+        }
+    }
+    put(made.as_bytes())
+}
+
+fn card_number(word: &str) -> u16 {
+    let number = word.parse();
+    number.unwrap_or_else(|_| wrong_words(&format!("`{word}` is no card number from 0 to 65,535")))
+}
+
+/// `box find BOX [EXPANSION] NUMBER`.
+pub fn find(words: &[&str]) -> ExitCode {
+    let (names, number) = match words {
+        [names @ .., number] if matches!(names.len(), 1 | 2) => (names, card_number(number)),
+        _ => wrong_words("`desk box find` takes a box, perhaps an expansion, and a card's number"),
+    };
+    let decks: Vec<Deck> = names.iter().map(|name| Deck::read(name)).collect();
+    let found = match &decks[..] {
+        [base, expansion] => open_panel::find_with(&base.bytes, &expansion.bytes, number),
+        _ => open_panel::find(&decks[0].bytes, number),
+    };
+    match found {
+        Ok(card) => put(card),
+        Err(refusal) => refused(&decks, number, refusal),
+    }
+}
+
+/// `box write BOX NUMBER=CARD..`, with `--withdrawn` before a card that is not live and `--unread` for cards that are refused.
+pub fn write(words: &[&str], withdrawn: &[&str], unread: bool) -> ExitCode {
+    let [name, cards @ ..] = words else {
+        wrong_words("`desk box write` takes the box to write, and NUMBER=CARD for each card");
+    };
+    let mut entries = Vec::new();
+    for (words, live) in [(cards, true), (withdrawn, false)] {
+        for word in words {
+            let Some((number, file)) = word.split_once('=') else {
+                wrong_words(&format!("`{word}` is not NUMBER=CARD"));
+            };
+            entries.push((card_number(number), live, Input::read(file)));
+        }
+    }
+    entries.sort_by_key(|(number, ..)| *number);
+    let (mut contents, mut bodies) = (Vec::new(), Vec::new());
+    for (number, live, input) in &entries {
+        let card = input.card();
+        let judged = open_panel::judge(card);
+        if let (Err(refusal), true, false) = (judged, live, unread) {
+            return crate::refused(
+                input,
+                Given {
+                    card,
+                    ..Given::default()
+                },
+                refusal,
+            );
+        }
+        let Ok(length) = u16::try_from(card.len()) else {
+            wrong_words(&format!(
+                "{} has more bytes than fit into a box",
+                input.name
+            ));
+        };
+        contents.extend(number.to_le_bytes());
+        contents.extend([0, 0]);
+        contents.extend(length.to_le_bytes());
+        contents.extend([u8::from(*live), 0]);
+        bodies.extend(card);
+    }
+    let deck = match open_panel::write_deck_to_vec(&contents, &bodies) {
+        Ok(deck) => deck,
+        Err(refusal) => {
+            let reason = of_written(&contents, &bodies, refusal);
+            eprint!("{}", report::plain_report(name, "", "", "", &reason));
+            return ExitCode::FAILURE;
+        }
+    };
+    let written = match *name {
+        "-" => io::stdout().write_all(&deck),
+        _ => fs::write(name, &deck),
+    };
+    match written {
+        Ok(()) => ExitCode::SUCCESS,
+        Err(error) => unreachable(name, &error),
+    }
+}

@@ -1,0 +1,363 @@
+//! `desk/wrong-cards.txt`: every wrong card, seating, list of classes and question there is refused by the library with the number and the
+//! place that are stated, and explained as it says; and every sentence that a writer of rules can meet is met. Boxes stand here.
+
+use std::collections::BTreeSet;
+
+use desk::reason::{of_deck, of_number, of_written, Given, Of, Reason};
+use desk::words;
+use open_panel::{find, judge_deck, write_deck_to_vec, Refusal};
+
+const TABLE: &str = include_str!("../../../desk/wrong-cards.txt");
+
+/// A case of the table.
+struct Case {
+    name: &'static str,
+    card: Vec<u8>,
+    question: Option<Vec<u8>>,
+    seats: Option<Vec<u8>>,
+    classes: Option<Vec<u8>>,
+    /// Number, place and what is underlined; the sentence; the hint.
+    due: [&'static str; 3],
+}
+
+/// The bytes that a text of the table stands for.
+fn bytes(text: &str) -> Vec<u8> {
+    let mut made = Vec::new();
+    let mut rest = text;
+    while let Some(first) = rest.chars().next() {
+        if let Some((repeated, behind)) = repeated(rest) {
+            made.extend(repeated);
+            rest = behind;
+            continue;
+        }
+        let escape = rest.strip_prefix('\\').and_then(|behind| {
+            let byte = match behind.as_bytes().first()? {
+                b'r' => b'\r',
+                b'n' => b'\n',
+                b't' => b'\t',
+                b'x' => u8::from_str_radix(behind.get(1..3)?, 16).ok()?,
+                _ => return None,
+            };
+            Some((byte, &behind[if behind.starts_with('x') { 3 } else { 1 }..]))
+        });
+        match escape {
+            Some((byte, behind)) => {
+                made.push(byte);
+                rest = behind;
+            }
+            None => {
+                made.extend(first.to_string().bytes());
+                rest = &rest[first.len_utf8()..];
+            }
+        }
+    }
+    made
+}
+
+/// `{2..4:TEXT}` and what stands behind it.
+fn repeated(text: &str) -> Option<(Vec<u8>, &str)> {
+    let (inside, behind) = text.strip_prefix('{')?.split_once('}')?;
+    let (range, text) = inside.split_once(':')?;
+    let (from, to) = range.split_once("..")?;
+    let numbers = from.parse::<u32>().ok()?..=to.parse().ok()?;
+    let made = numbers.map(|number| text.replace('#', &number.to_string()));
+    Some((bytes(&made.collect::<String>()), behind))
+}
+
+fn cases() -> Vec<Case> {
+    let mut parts = TABLE.split("\n== ").skip(1);
+    let base = parts
+        .next()
+        .and_then(|part| part.strip_prefix("base\n"))
+        .expect("the base comes first");
+    let base: Vec<&str> = base.trim_end().lines().collect();
+    parts.map(|part| case(&base, part)).collect()
+}
+
+fn case(base: &[&str], part: &'static str) -> Case {
+    let (name, lines) = part.split_once('\n').expect("a case has lines");
+    let mut card: Vec<Vec<Vec<u8>>> = base.iter().map(|line| vec![bytes(line)]).collect();
+    let (mut question, mut seats, mut classes) = (None, None, None);
+    let mut due = [""; 3];
+    for line in lines.lines().filter(|line| !line.is_empty()) {
+        let (word, text) = line.split_once(' ').unwrap_or((line, ""));
+        let number: String = word.chars().take_while(char::is_ascii_digit).collect();
+        match (word, number.parse::<usize>()) {
+            ("=", _) => due[0] = text,
+            (">", _) => due[1] = text,
+            ("?", _) => due[2] = text,
+            ("question", _) => question = Some(bytes(text)),
+            ("seats", _) => seats = Some(bytes(text)),
+            ("classes", _) => classes = Some(bytes(text)),
+            (_, Ok(at)) => match &word[number.len()..] {
+                "-" => card[at - 1].clear(),
+                "+" => card[at - 1].push(bytes(text)),
+                "" => card[at - 1] = vec![bytes(text)],
+                _ => panic!("{name}: {line}"),
+            },
+            _ => panic!("{name}: {line}"),
+        }
+    }
+    let card = card
+        .concat()
+        .iter()
+        .flat_map(|line| [&line[..], b"\n"].concat())
+        .collect();
+    Case {
+        name,
+        card,
+        question,
+        seats,
+        classes,
+        due,
+    }
+}
+
+fn values(typed: &[u8]) -> Vec<u8> {
+    let value = |byte: &u8| {
+        if byte.is_ascii_digit() {
+            byte - b'0'
+        } else {
+            u8::MAX
+        }
+    };
+    typed.iter().map(value).collect()
+}
+
+/// What the library answers to a case.
+fn answer(case: &Case) -> Result<(), Refusal> {
+    match (&case.question, &case.seats, &case.classes) {
+        (Some(question), ..) => open_panel::ask(&case.card, question, &[0; 3]).map(|_| ()),
+        (_, Some(seats), _) => open_panel::first_move(&case.card, &values(seats)).map(|_| ()),
+        (_, _, Some(classes)) => {
+            open_panel::watch_to_vec(&case.card, &[0; 3], &values(classes)).map(|_| ())
+        }
+        _ => open_panel::judge(&case.card),
+    }
+}
+
+#[test]
+fn each_wrong_card_is_explained() {
+    let mut met: BTreeSet<&str> = BTreeSet::new();
+    let mut spoken = String::new();
+    let cases = cases();
+    for case in &cases {
+        let name = case.name;
+        let refusal = answer(case).expect_err(name);
+        let given = Given {
+            card: &case.card,
+            question: case.question.as_deref().unwrap_or_default(),
+            seats: case.seats.as_deref().unwrap_or_default(),
+            classes: case.classes.as_deref().unwrap_or_default(),
+        };
+        let reason = given.reason(refusal);
+        let text = given.text(Of::refusal(refusal));
+        let underlined = &text[reason.span.clone()];
+        let (number, rest) = case.due[0].split_once(' ').expect(name);
+        let (place, due) = rest.split_once(' ').unwrap_or((rest, ""));
+        assert_eq!(refusal.number().to_string(), number, "{name}");
+        assert_eq!(refusal.place().to_string(), place, "{name}");
+        assert_eq!(
+            underlined.escape_ascii().to_string(),
+            bytes(due).escape_ascii().to_string(),
+            "{name}"
+        );
+        assert_eq!(reason.refusal, refusal, "{name}");
+        assert_eq!(reason.sentence, case.due[1], "{name}");
+        assert_eq!(
+            reason.hint.as_deref().unwrap_or_default(),
+            case.due[2],
+            "{name}"
+        );
+        met.insert(reason.name);
+        met.extend(reason.hint_name);
+        spoken += &reason.sentence;
+    }
+    assert!(cases.len() >= 100, "{} cases", cases.len());
+    let elsewhere = ["plain.", "deck.", "none"];
+    for name in words::names().filter(|name| !elsewhere.iter().any(|kind| name.starts_with(kind))) {
+        // what was due, and what is wrong with a group, are parts of sentences
+        let part = ["due.", "fault."].iter().any(|kind| name.starts_with(kind));
+        let said = || {
+            let template = words::template(name);
+            template
+                .split(['{', '}'])
+                .step_by(2)
+                .all(|part| spoken.contains(part))
+        };
+        assert!(
+            met.contains(name) || part && said(),
+            "no wrong card has {name}"
+        );
+    }
+}
+
+#[test]
+fn spans_begin_at_the_place() {
+    for case in cases() {
+        let refusal = answer(&case).expect_err(case.name);
+        if Of::refusal(refusal) != Of::Card && Of::refusal(refusal) != Of::Question {
+            continue;
+        }
+        let given = Given {
+            card: &case.card,
+            question: case.question.as_deref().unwrap_or_default(),
+            ..Given::default()
+        };
+        assert_eq!(
+            given.reason(refusal).span.start,
+            refusal.place(),
+            "{}",
+            case.name
+        );
+    }
+}
+
+/// A box of two cards, a live one and one that is withdrawn.
+fn deck() -> Vec<u8> {
+    let contents = [[3, 0, 0, 0, 4, 0, 1, 0], [9, 0, 0, 0, 2, 0, 0, 0]].concat();
+    write_deck_to_vec(&contents, b"liveno").unwrap()
+}
+
+fn said(reason: &Reason) -> (u8, usize, &str) {
+    (
+        reason.refusal.number(),
+        reason.refusal.place(),
+        &reason.sentence,
+    )
+}
+
+#[test]
+fn each_wrong_field_of_a_box_is_named() {
+    let edits: [(usize, u8, &str); 9] = [
+        (
+            0,
+            0,
+            "the box says that it holds 0 cards, and 1 to 64 were due",
+        ),
+        (
+            0,
+            65,
+            "the box says that it holds 65 cards, and 1 to 64 were due",
+        ),
+        (
+            0,
+            3,
+            "the box has 23 bytes, and its contents of 3 cards alone take 25",
+        ),
+        (9, 3, "entry 2 has the number 3, and one above 3 was due"),
+        (
+            3,
+            16,
+            "the body of entry 1 begins at 16, and 17 or later was due",
+        ),
+        (
+            11,
+            20,
+            "the body of entry 2 begins at 20, and 21 or later was due",
+        ),
+        (
+            13,
+            3,
+            "the body of entry 2 ends at 24, and the box ends at 23",
+        ),
+        (
+            7,
+            2,
+            "the flag of entry 1 is 2, and 1 for live or 0 for withdrawn was due",
+        ),
+        (16, 5, "the last byte of entry 2 is 5, and 0 was due"),
+    ];
+    for (at, byte, sentence) in edits {
+        let mut deck = deck();
+        deck[at] = byte;
+        let refusal = judge_deck(&deck).unwrap_err();
+        let reason = of_deck(&deck, refusal.place(), refusal);
+        assert_eq!(said(&reason), (11, at, sentence));
+    }
+    for (deck, sentence) in [
+        (
+            vec![],
+            "the box has no byte, and at least its count was due",
+        ),
+        (
+            vec![1; 65_536],
+            "the box has 65,536 bytes, and a box has at most 65,535",
+        ),
+    ] {
+        let refusal = judge_deck(&deck).unwrap_err();
+        assert_eq!(
+            said(&of_deck(&deck, refusal.place(), refusal)),
+            (11, 0, sentence)
+        );
+    }
+}
+
+#[test]
+fn a_card_that_is_not_live_is_withdrawn_or_not_there() {
+    let deck = deck();
+    for (number, sentence) in [
+        (9, "card 9 is withdrawn, and a live one was due"),
+        (4, "card 4 is not in the box, and a live one was due"),
+    ] {
+        let refusal = find(&deck, number).unwrap_err();
+        assert_eq!(
+            said(&of_number(number, &[&deck], refusal)),
+            (12, 0, sentence)
+        );
+    }
+}
+
+#[test]
+fn what_makes_no_box_is_named() {
+    let entry = |number: u8, length: [u8; 2], flag: u8, zero: u8| {
+        [number, 0, 0, 0, length[0], length[1], flag, zero]
+    };
+    let full = entry(1, [255, 255], 1, 0);
+    let cases: [(Vec<u8>, usize, usize, &str); 6] = [
+        (
+            vec![],
+            0,
+            0,
+            "the contents have 0 bytes, and 8 for each of 1 to 64 cards were due",
+        ),
+        (
+            entry(1, [2, 0], 2, 0).to_vec(),
+            2,
+            6,
+            "the flag of entry 1 is 2, and 1 for live or 0 for withdrawn was due",
+        ),
+        (
+            entry(1, [2, 0], 1, 7).to_vec(),
+            2,
+            7,
+            "the last byte of entry 1 is 7, and 0 was due",
+        ),
+        (
+            [entry(5, [0, 0], 1, 0), entry(5, [0, 0], 1, 0)].concat(),
+            0,
+            8,
+            "entry 2 has the number 5, and one above 5 was due",
+        ),
+        (
+            entry(1, [2, 0], 1, 0).to_vec(),
+            3,
+            8,
+            "the bodies have 3 bytes together, and the entries say 2",
+        ),
+        (
+            full.to_vec(),
+            65_535,
+            8,
+            "the cards together take 65,544 bytes, and a box has at most 65,535",
+        ),
+    ];
+    for (contents, bodies, place, sentence) in cases {
+        let bodies = vec![b'x'; bodies];
+        let refusal = write_deck_to_vec(&contents, &bodies).unwrap_err();
+        assert_eq!(
+            said(&of_written(&contents, &bodies, refusal)),
+            (11, place, sentence)
+        );
+    }
+}
