@@ -28,7 +28,7 @@ done
 
 [ -d dist ] || { echo "dist: there is no dist/; bin/dist makes it" && exit 1; }
 if ! diff -r dist target/dist; then
-    echo "dist: dist/ is not what these sources make with $(rt version): was a crate, the header, c/ or js/ changed without bin/dist?"
+    echo "dist: dist/ is not what these sources make with $(rt version): was a crate, the header, c/, js/ or desk/ changed without bin/dist?"
     exit 1
 fi
 (cd dist && sha256sum --check --quiet SHA256SUMS)

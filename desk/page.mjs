@@ -1,0 +1,447 @@
+import { load } from "./open_panel.mjs";
+import { bytesAsText, explain, fraction, seatsLine, UNIT, useSentences, walkCard } from "./reasons.mjs";
+
+// The page: what is typed and clicked goes to the library, and what it answers is shown.
+
+const $ = (id) => document.getElementById(id);
+const encode = (text) => new TextEncoder().encode(text);
+const decode = (bytes) => new TextDecoder("utf-8", { ignoreBOM: true }).decode(bytes);
+const plainText = (id) => $(id).textContent.replace(/^\n/, "");
+const repeated = (count, make) => Array.from({ length: count }, (_, i) => make(i));
+
+/** An element with attributes and what stands in it. */
+function element(name, attributes = {}, ...within) {
+    const made = document.createElement(name);
+    for (const [key, value] of Object.entries(attributes)) made.setAttribute(key, value);
+    made.append(...within);
+    return made;
+}
+
+/** A sentence with its `marks` as code. */
+const spoken = (sentence) => sentence.split("`").map((part, i) => (i % 2 ? element("code", {}, part) : part));
+
+/** Parts of a whole in percent, rounded to hundredths. */
+function percent(parts, whole) {
+    const rounded = Math.floor((parts * 20000 + whole) / (2 * whole));
+    if (rounded === 0 && parts > 0) return "<0.01%";
+    if (rounded === 10000 && parts < whole) return ">99.99%";
+    return `${String((rounded / 100).toFixed(2)).replace(/\.?0+$/, "")}%`;
+}
+
+/** A text field with the place of a refusal underlined. */
+class Editor {
+    constructor(id) {
+        this.field = $(id);
+        this.frame = $(`${id}-editor`);
+        this.under = this.frame.querySelector(".under");
+        this.numbers = this.frame.querySelector(".numbers");
+        this.field.addEventListener("scroll", () => this.scrolled());
+        new ResizeObserver(() => this.scrolled()).observe(this.field);
+    }
+
+    get text() {
+        return this.field.value;
+    }
+
+    /** Puts a text in, so that it can be taken back like typing. */
+    put(text, from = 0, to = this.text.length) {
+        this.field.focus();
+        this.field.setSelectionRange(from, to);
+        if (!document.execCommand("insertText", false, text)) this.field.setRangeText(text, from, to, "end");
+    }
+
+    /** Underlines characters from and to a place; nothing without one. */
+    mark(place) {
+        this.place = place;
+        this.under.replaceChildren(this.text);
+        if (place) {
+            const { from, to } = place;
+            const mark = element("mark", {}, this.text.slice(from, to));
+            if (from === to || this.text.slice(from, to) === "\n") mark.className = "end";
+            this.under.replaceChildren(this.text.slice(0, from), mark, this.text.slice(to));
+        }
+        // a last line that is empty has no height otherwise
+        this.under.append("\n ");
+        this.frame.classList.toggle("refused", place !== undefined);
+        this.field.setAttribute("aria-invalid", String(place !== undefined));
+        if (this.numbers) {
+            const here = place && this.text.slice(0, place.from).split("\n").length;
+            const lines = repeated(this.text.split("\n").length, (i) => element("span", i + 1 === here ? { class: "here" } : {}, `${i + 1}\n`));
+            this.numbers.replaceChildren(...lines);
+        }
+        this.scrolled();
+    }
+
+    scrolled() {
+        for (const other of [this.under, this.numbers]) if (other) other.scrollTop = this.field.scrollTop;
+        this.under.scrollLeft = this.field.scrollLeft;
+        // scroll bars take room from the field alone
+        this.under.style.width = `${this.field.clientWidth}px`;
+        this.under.style.height = `${this.field.clientHeight}px`;
+    }
+
+    show() {
+        this.field.focus();
+        if (this.place) this.field.setSelectionRange(this.place.from, Math.max(this.place.to, this.place.from));
+    }
+}
+
+useSentences(plainText("sentences"));
+const library = await load(Uint8Array.from(atob(plainText("library").replace(/\s/g, "")), (byte) => byte.charCodeAt(0)));
+const [cardEditor, questionEditor] = [new Editor("card"), new Editor("question")];
+
+/** What is shown: the seats, the last card that was taken, whether the editor has another by now, its panel, and so on. */
+const now = { seats: [], card: undefined, stale: false, panel: undefined, choice: undefined, text: undefined, name: undefined };
+
+/** What an entry answers, or its refusal. */
+function tried(entry) {
+    try {
+        return { answer: entry() };
+    } catch (refusal) {
+        if (refusal.number === undefined) throw refusal;
+        return { refusal };
+    }
+}
+
+// ---- the card
+
+/** The editor's text: the card behind a line of seats, if there is one. */
+function typed() {
+    const bytes = encode(cardEditor.text);
+    const line = seatsLine(bytesAsText(bytes));
+    const seats = line > 0 ? bytesAsText(bytes.subarray(0, line)).replace(/\n$/, "") : undefined;
+    return { bytes, line, seats, card: bytes.subarray(line) };
+}
+
+const values = (digits) => Uint8Array.from(digits, (digit) => (/[0-9]/.test(digit) ? Number(digit) : 255));
+
+let saying;
+/** Says something in a live region, once the typing stops. */
+function say(region, delay, ...what) {
+    const words = () => $(region).replaceChildren(...what);
+    clearTimeout(saying?.[region]);
+    saying = { ...saying, [region]: setTimeout(words, delay) };
+}
+
+/** A refusal in words: where, what, and a hint. */
+function refusalSaid({ number, place, sentence, hint }, where) {
+    const said = [element("p", {}, element("span", { class: "wrong" }, where, ...spoken(sentence), "."))];
+    if (hint) said.push(element("p", {}, "Hint: ", ...spoken(hint), /[.?]$/.test(hint) ? "" : "."));
+    said.push(element("p", { class: "quiet" }, `refused ${number} ${place}`));
+    return said;
+}
+
+/** Where a refusal is among the characters of an editor, by the bytes of its text. */
+function placeIn(bytes, from, to) {
+    const start = decode(bytes.subarray(0, from)).length;
+    return { from: start, to: start + decode(bytes.subarray(from, to)).length };
+}
+
+function lineAndColumn(text, at) {
+    const before = text.slice(0, at).split("\n");
+    return `Line ${before.length}, column ${[...before.at(-1)].length + 1}: `;
+}
+
+const count = (many, one) => `${many} ${one}${many === 1 ? "" : "s"}`;
+
+function readCard(delay = 250) {
+    const { bytes, line, seats, card } = typed();
+    const judged = tried(() => library.judge(card));
+    let refused = judged.refusal;
+    if (!refused) {
+        const text = bytesAsText(card);
+        const walk = walkCard(text);
+        const read = { bytes: card, text, walk, seats: walk.modules.length, top: walk.top.value, begins: walk.states[0][0].value };
+        if (seats !== undefined) refused = tried(() => library.firstMove(card, values(seats))).refusal;
+        if (!refused) {
+            now.card = read;
+            now.seats = seats === undefined ? repeated(read.seats, (i) => (now.seats[i] <= read.top ? now.seats[i] : read.begins)) : [...seats].map(Number);
+        }
+    }
+    if (refused) {
+        const said = explain(refused, { card: bytesAsText(card), seats });
+        const offset = said.of === "card" ? line : 0;
+        const place = placeIn(bytes, said.from + offset, said.to + offset);
+        cardEditor.mark(place);
+        say("card-says", delay, ...refusalSaid(said, lineAndColumn(cardEditor.text, place.from)));
+    } else {
+        cardEditor.mark();
+        const { walk, top } = now.card;
+        const roles = top === 0 ? "role 0" : `roles 0 to ${top}`;
+        const words = [walk.nondeterministic ? "nondeterministic" : "probabilistic", count(now.card.seats, "seat"), roles, count(walk.statements.length, "statement")];
+        say("card-says", delay, element("span", { class: "good" }, "Taken: "), words.join(", "), ".");
+    }
+    $("go").hidden = !refused;
+    for (const id of ["layout", "reduced"]) $(id).disabled = Boolean(refused);
+    for (const id of ["shuffle", "begin", "put"]) $(id).disabled = !now.card;
+    // while one types, the last card that was taken stays on the table
+    now.stale = Boolean(refused && now.card);
+    for (const note of document.querySelectorAll(".stale")) note.hidden = !now.stale;
+    if (now.card) setRoles();
+    if (refused || now.text) showText(refused ? undefined : now.text);
+    $("shuffled").replaceChildren();
+    showSeats();
+    showPanel();
+    readQuestion(delay);
+}
+
+/** The canonical layout or the reduced text, or neither. */
+function showText(kind) {
+    now.text = kind;
+    $("text").hidden = !kind;
+    $("layout").setAttribute("aria-expanded", String(kind === "write"));
+    $("reduced").setAttribute("aria-expanded", String(kind === "reduce"));
+    if (!kind) return;
+    $("text-heading").textContent = kind === "write" ? "Canonical layout (comments do not stand in it)" : "Reduced text: counters in place of seats";
+    $("text-bytes").textContent = library[kind](now.card.bytes);
+    $("use").hidden = kind !== "write";
+    $("copied").textContent = "";
+}
+
+// ---- the seats
+
+function setSeats(seats) {
+    now.seats = seats;
+    const { line } = typed();
+    if (line > 0 && !now.stale) {
+        const end = cardEditor.text.indexOf("\n");
+        cardEditor.field.setRangeText(seats.join(""), 0, end < 0 ? cardEditor.text.length : end, "preserve");
+        cardEditor.mark();
+    }
+    $("shuffled").replaceChildren();
+    showSeats();
+    showPanel();
+    readQuestion(0);
+}
+
+function showSeats() {
+    const seats = now.card ? now.seats : [];
+    const focused = [...$("seats").children].indexOf(document.activeElement);
+    $("seats").replaceChildren(...seats.map((role, i) => {
+        const button = element("button", { type: "button", class: "seat", "aria-label": `Seat ${i + 1}: role ${role}` },
+            element("b", { class: `role-${role}` }, String(role)), `seat ${i + 1}`);
+        button.addEventListener("click", (event) => {
+            const roles = now.card.top + 1;
+            const next = (role + (event.shiftKey ? roles - 1 : 1)) % roles;
+            setSeats(now.seats.map((other, j) => (j === i ? next : other)));
+        });
+        return button;
+    }));
+    if (focused >= 0) $("seats").children[focused]?.focus();
+}
+
+/** Another order of the same seats, if there is one. */
+function shuffled(seats) {
+    for (let tries = 0; tries < 100; tries += 1) {
+        const other = [...seats];
+        for (let i = other.length - 1; i > 0; i -= 1) {
+            const j = Math.floor(Math.random() * (i + 1));
+            [other[i], other[j]] = [other[j], other[i]];
+        }
+        if (other.join("") !== seats.join("")) return other;
+    }
+    return undefined;
+}
+
+function shuffle() {
+    const [before, panel] = [now.seats, now.panel];
+    const other = shuffled(before);
+    if (!other) {
+        $("shuffled").textContent = `All seats are in role ${before[0]}: ${before.join("")} has no other order.`;
+        return;
+    }
+    setSeats(other);
+    const [was, is] = [encode(panel), encode(now.panel)];
+    const changed = repeated(Math.max(was.length, is.length), (i) => was[i] !== is[i]).filter((differs) => differs).length;
+    const result = changed === 0
+        ? element("span", { class: "good" }, `all ${is.length} bytes of the panel are the same.`)
+        : element("span", { class: "wrong" }, `${count(changed, "byte")} of the panel changed, which must not be.`);
+    $("shuffled").replaceChildren(`${before.join("")} became ${other.join("")}: `, result);
+}
+
+// ---- the panel
+
+/** A panel's lines as what they say: the moves of each choice; of a probabilistic card there is one, of no statement. */
+function parsed(panel) {
+    const [mode, ...lines] = panel.trimEnd().split("\n").map((line) => line.split(" "));
+    const made = { mode: mode[0], choices: [] };
+    for (const [word, ...rest] of lines) {
+        const numbers = rest.filter((part) => part !== "enabled").map(Number);
+        if (word === "seats") [made.seats, made.enabled] = numbers;
+        else if (word === "counts") made.counts = numbers;
+        else if (word === "choice") made.choices.push({ statement: numbers[0], moves: [] });
+        else {
+            if (made.choices.length === 0) made.choices.push({ moves: [] });
+            made.choices.at(-1).moves.push(word === "stay" ? { weight: numbers[0] } : { from: numbers[0], to: numbers[1], weight: numbers[2] });
+        }
+    }
+    made.whole = made.mode === "probabilistic" ? made.enabled * UNIT : UNIT;
+    return made;
+}
+
+function showPanel() {
+    now.panel = now.card && library.show(now.card.bytes, Uint8Array.from(now.seats));
+    $("panel").hidden = !now.panel;
+    $("no-panel").hidden = Boolean(now.panel);
+    if (!now.panel) return;
+    $("bytes").textContent = now.panel;
+    $("length").textContent = `${now.panel.length} bytes. Weights are in parts of ${UNIT.toLocaleString("en")}.`;
+    draw(parsed(now.panel));
+}
+
+const chip = (role) => element("span", { class: `chip role-${role}` }, String(role));
+
+function draw(panel) {
+    const stacks = panel.counts.map((many, role) => element("li", {},
+        element("div", { class: many ? "stack" : "stack none", "aria-hidden": "true" }, ...repeated(many, () => element("i", { class: `role-${role}` }))),
+        element("span", {}, chip(role)),
+        element("span", {}, element("b", {}, String(many)), ` in role ${role}`)));
+    const stuck = library.firstMove(now.card.bytes, Uint8Array.from(now.seats)) === 0;
+    const pairs = panel.mode === "probabilistic" ? `${count(panel.enabled, "pair")} of a seat and a statement can move` : `${count(panel.enabled, "statement")} can be taken`;
+    const parts = [
+        element("h3", {}, `${count(panel.seats, "seat")}, ${panel.mode}`),
+        element("ul", { class: "stacks", "aria-label": "How many seats are in each role" }, ...stacks),
+        element("h3", {}, stuck ? "Nobody can move" : "What may happen next"),
+        element("p", { class: "quiet" }, stuck ? "One step is left, which changes nothing." : `${pairs}.`),
+    ];
+    const chosen = panel.choices.find((choice) => choice.statement === now.choice) ?? panel.choices[0];
+    if (panel.mode === "nondeterministic" && !stuck) parts.push(tabs(panel, chosen));
+    const moves = element("ul", { class: "moves", id: "moves" }, ...chosen.moves.map((move) => moveDrawn(move, panel.whole)));
+    if (panel.mode === "nondeterministic" && !stuck) {
+        const [from, to] = now.card.walk.statements[chosen.statement - 1];
+        const text = now.card.text.slice(from, to).replace(/\s+/g, " ");
+        parts.push(element("div", { role: "tabpanel", id: "choice", "aria-labelledby": `choice-${chosen.statement}` }, element("p", { class: "statement" }, element("code", {}, text)), moves));
+    } else parts.push(moves);
+    const focused = document.activeElement?.id;
+    $("drawn").replaceChildren(...parts);
+    if (focused?.startsWith("choice-")) $(focused)?.focus();
+}
+
+/** A tab for each statement that can be taken. */
+function tabs(panel, chosen) {
+    const all = panel.choices.map(({ statement }) => {
+        const tab = element("button", { type: "button", role: "tab", id: `choice-${statement}`, "aria-selected": String(statement === chosen.statement), "aria-controls": "choice" }, `Choice ${statement}`);
+        tab.addEventListener("click", () => {
+            now.choice = statement;
+            draw(panel);
+        });
+        return tab;
+    });
+    all.forEach((tab, i) => tab.addEventListener("keydown", ({ key }) => {
+        const step = { ArrowRight: 1, ArrowLeft: all.length - 1 }[key];
+        if (!step) return;
+        const other = all[(i + step) % all.length];
+        other.focus();
+        other.click();
+    }));
+    return element("div", { class: "tabs", role: "tablist", "aria-label": "Choices of the players" }, ...all);
+}
+
+function moveDrawn({ from, to, weight }, whole) {
+    const what = from === undefined ? [element("span", {}, "no change")] : [chip(from), " → ", chip(to)];
+    const bar = element("span");
+    bar.style.width = `${(100 * weight) / whole}%`;
+    const label = from === undefined ? "no change" : `from role ${from} to role ${to}`;
+    return element("li", { "aria-label": `${label}: ${fraction(weight, whole)}, ${percent(weight, whole)}` },
+        element("span", {}, ...what),
+        element("span", { class: "track", "aria-hidden": "true" }, bar),
+        element("span", { class: "chance" }, element("b", {}, fraction(weight, whole)), ` · ${percent(weight, whole)} `, element("span", { class: "quiet" }, `· ${weight.toLocaleString("en")} parts`)));
+}
+
+// ---- the question
+
+function setRoles() {
+    const roles = now.card.top + 1;
+    if ($("role").options.length !== roles) {
+        const chosen = $("role").value;
+        $("role").replaceChildren(...repeated(roles, (role) => element("option", { value: String(role) }, String(role))));
+        if (Number(chosen) < roles) $("role").value = chosen || "0";
+    }
+}
+
+/** A question of one kind about a role, written out for so many seats. */
+function written(kind, role, seats) {
+    const literals = (relation, sign) => `(${repeated(seats, (i) => `s${i + 1}${relation}${role}`).join(sign)})`;
+    switch (kind) {
+        case "all":
+            return literals("=", " & ");
+        case "some":
+            return literals("=", " | ");
+        case "none":
+            return literals("!=", " & ");
+        case "other":
+            return literals("!=", " | ");
+        default: {
+            const terms = repeated(seats, (i) => `(${repeated(seats, (j) => `s${j + 1}${i === j ? "=" : "!="}${role}`).join(" & ")})`);
+            return seats === 1 ? terms[0] : `(${terms.join(" | ")})`;
+        }
+    }
+}
+
+function readQuestion(delay = 250) {
+    const bytes = encode(questionEditor.text);
+    if (!now.card || questionEditor.text.trim() === "") {
+        questionEditor.mark();
+        say("question-says", delay, ...(now.card ? [element("span", { class: "quiet" }, "A question gets yes or no at the seats above.")] : []));
+        return;
+    }
+    const { answer, refusal } = tried(() => library.ask(now.card.bytes, bytes, Uint8Array.from(now.seats)));
+    if (refusal) {
+        const said = explain(refusal, { card: now.card.text, question: bytesAsText(bytes), seats: now.seats.join("") });
+        const place = placeIn(bytes, said.from, said.to);
+        questionEditor.mark(place);
+        say("question-says", delay, ...refusalSaid(said, lineAndColumn(questionEditor.text, place.from)));
+    } else {
+        questionEditor.mark();
+        say("question-says", delay, element("span", { class: "answer" }, answer ? "yes" : "no"), ` at ${now.seats.join("")}`);
+    }
+}
+
+// ---- what is clicked
+
+function start(text, name) {
+    const line = text.indexOf("\n");
+    cardEditor.field.value = text.slice(line + 1);
+    cardEditor.field.setSelectionRange(0, 0);
+    now.seats = [...text.slice(0, line)].map(Number);
+    now.choice = undefined;
+    now.name = name;
+    questionEditor.field.value = "";
+    readCard(0);
+    if (now.card) questionEditor.field.value = written("some", now.card.begins, now.card.seats);
+    readQuestion(0);
+}
+
+cardEditor.field.addEventListener("input", () => readCard());
+questionEditor.field.addEventListener("input", () => readQuestion());
+for (const button of document.querySelectorAll("[data-example]")) {
+    button.addEventListener("click", () => start(plainText(`example-${button.dataset.example}`), button.dataset.example));
+}
+$("go").addEventListener("click", () => cardEditor.show());
+$("layout").addEventListener("click", () => showText(now.text === "write" ? undefined : "write"));
+$("reduced").addEventListener("click", () => showText(now.text === "reduce" ? undefined : "reduce"));
+$("use").addEventListener("click", () => cardEditor.put($("text-bytes").textContent, decode(typed().bytes.subarray(0, typed().line)).length));
+$("copy").addEventListener("click", async () => {
+    const copied = await navigator.clipboard?.writeText($("text-bytes").textContent).then(() => true, () => false);
+    $("copied").textContent = copied ? "Copied." : "The browser does not let the page copy: select the text.";
+});
+$("shuffle").addEventListener("click", shuffle);
+$("begin").addEventListener("click", () => setSeats(now.seats.map(() => now.card.begins)));
+$("put").addEventListener("click", () => questionEditor.put(written($("kind").value, Number($("role").value), now.card.seats)));
+$("open").addEventListener("change", async ({ target }) => {
+    const [file] = target.files;
+    if (!file) return;
+    cardEditor.field.value = decode(new Uint8Array(await file.arrayBuffer()));
+    now.card = undefined;
+    now.name = file.name;
+    target.value = "";
+    readCard(0);
+});
+$("save").addEventListener("click", () => {
+    const address = URL.createObjectURL(new Blob([cardEditor.text]));
+    element("a", { href: address, download: now.name ?? "card" }).click();
+    setTimeout(() => URL.revokeObjectURL(address), 1000);
+});
+
+start(plainText("example-card-a"), "card-a");
+document.documentElement.dataset.ready = "yes";
