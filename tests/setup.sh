@@ -9,6 +9,8 @@ packages=()
 needs() { command -v "$1" >/dev/null || packages+=("${@:2}"); }
 needs cc gcc libc6-dev
 needs node nodejs
+# a browser for the desk's page, by whichever name it has
+[ "$(command -v chromium chromium-browser google-chrome google-chrome-stable)" ] || packages+=(chromium fonts-dejavu-core)
 needs pkg-config pkgconf
 if [ "$machine" != aarch64 ]; then
     needs aarch64-linux-gnu-gcc gcc-aarch64-linux-gnu libc6-dev-arm64-cross

@@ -1,0 +1,354 @@
+// The rule writer's page in a real browser: `node tests/desk-page.mjs BROWSER PAGE DESK OUT`. DESK is the command, which the page's answers are
+// held to beside the stored panels; screenshots go into the folder OUT.
+import { execFileSync } from "node:child_process";
+import { mkdtempSync, readFileSync, rmSync, writeFileSync } from "node:fs";
+import { tmpdir } from "node:os";
+import { pathToFileURL } from "node:url";
+import { browser } from "./browser.mjs";
+
+const [command, file, desk, out] = process.argv.slice(2);
+const root = new URL("..", import.meta.url).pathname;
+const EXAMPLES = ["card-a", "leader-election", "coin-toss"];
+const SHIFT = 8;
+
+const folder = mkdtempSync(`${tmpdir()}/desk-`);
+const page = await browser(command, folder);
+let held = 0;
+const wrong = [];
+function hold(what, is, due = true) {
+    held += 1;
+    if (is !== due) wrong.push(`${what}: ${JSON.stringify(is)} and not ${JSON.stringify(due)}`);
+}
+
+// ---- the page, and what is asked of it
+
+const url = pathToFileURL(file).href;
+const requests = [];
+page.on("Network.requestWillBeSent", ({ request }) => requests.push(request.url));
+page.on("Network.webSocketCreated", (socket) => requests.push(socket.url));
+page.on("Runtime.exceptionThrown", ({ exceptionDetails }) => wrong.push(exceptionDetails.exception?.description ?? exceptionDetails.text));
+page.on("Log.entryAdded", ({ entry }) => entry.level === "error" && wrong.push(entry.text));
+for (const domain of ["Page", "Runtime", "Network", "Log"]) await page.tell(`${domain}.enable`);
+
+const window = (width, height = 1000) => page.tell("Emulation.setDeviceMetricsOverride", { width, height, deviceScaleFactor: 1, mobile: false });
+const scheme = (value) => page.tell("Emulation.setEmulatedMedia", { features: [{ name: "prefers-color-scheme", value }] });
+const text = (id) => page.ask(`document.getElementById(${JSON.stringify(id)}).textContent`);
+const click = (selector) => page.ask(`document.querySelector(${JSON.stringify(selector)}).click()`);
+const says = (id, part) => page.until(`document.getElementById(${JSON.stringify(id)}).textContent.includes(${JSON.stringify(part)})`);
+const example = (name) => click(`[data-example="${name}"]`);
+const asked = (...words) => execFileSync(desk, words, { encoding: "utf8", cwd: root });
+
+/** Types in place of a part of a field's text, as a person does: the part is selected, and keys are pressed. */
+async function typeOver(id, part, other) {
+    const there = await page.ask(`(() => {
+        const field = document.getElementById(${JSON.stringify(id)});
+        const at = field.value.indexOf(${JSON.stringify(part)});
+        field.focus();
+        field.setSelectionRange(at, at + ${part.length});
+        return at >= 0;
+    })()`);
+    hold(`${id} has ${part}`, there);
+    await page.type(other);
+}
+
+/** Puts a whole text into a field. */
+const fill = (id, whole) => page.ask(`(() => {
+    const field = document.getElementById(${JSON.stringify(id)});
+    field.value = ${JSON.stringify(whole)};
+    field.dispatchEvent(new Event("input"));
+})()`);
+
+const seats = () => page.ask(`[...document.querySelectorAll("#seats b")].map((seat) => seat.textContent).join("")`);
+
+/** Clicks seats until they are so. */
+const seat = (due) => page.ask(`(() => {
+    for (const [i, role] of [...${JSON.stringify(due)}].entries()) {
+        for (let clicks = 0; document.querySelectorAll("#seats b")[i].textContent !== role; clicks += 1) {
+            if (clicks > 8) throw new Error("no click leads to " + role);
+            document.querySelectorAll("#seats button")[i].click();
+        }
+    }
+})()`);
+
+async function screenshot(name) {
+    const { cssContentSize: size } = await page.tell("Page.getLayoutMetrics");
+    const clip = { x: 0, y: 0, width: size.width, height: size.height, scale: 1 };
+    const { data } = await page.tell("Page.captureScreenshot", { format: "png", captureBeyondViewport: true, clip });
+    writeFileSync(`${out}/${name}.png`, Buffer.from(data, "base64"));
+}
+
+// ---- what is held
+
+async function wrongAndMended() {
+    await example("card-a");
+    await says("card-says", "Taken: probabilistic, 3 seats, roles 0 to 2, 2 statements.");
+    await typeOver("card", "(s2=0 | s3=0)", "(s2=0)");
+    await says("card-says", "Line 4, column 11: the group leaves out seat 3");
+    await says("card-says", "Hint: write (s2=0 & s3=0)");
+    await says("card-says", "refused 6 60");
+    hold("underlined", await page.ask(`document.querySelector("#card-editor mark").textContent`), "(s2=0)");
+    hold("invalid", await page.ask(`document.getElementById("card").getAttribute("aria-invalid")`), "true");
+    hold("the last panel stays, and it says so", await page.ask(`document.querySelector("#panel-heading .stale").checkVisibility() && document.getElementById("panel").checkVisibility()`));
+    await click("#go");
+    hold("selected", await page.ask(`(() => { const field = document.getElementById("card"); return field.value.slice(field.selectionStart, field.selectionEnd); })()`), "(s2=0)");
+    await screenshot("refused");
+    await page.type("(s2=0 | s3=0)");
+    await says("card-says", "Taken: ");
+    hold("nothing underlined", await page.ask(`document.querySelectorAll("#card-editor mark").length`), 0);
+    hold("valid", await page.ask(`document.getElementById("card").getAttribute("aria-invalid")`), "false");
+    hold("no note", await page.ask(`[...document.querySelectorAll(".stale")].every((note) => note.hidden)`));
+
+    // one key after the other, and a character that takes more bytes than one
+    await typeOver("card", "1/2:(s1'=1)", "");
+    for (const key of "0,5:(s1\u2019=1)") await page.type(key);
+    await says("card-says", "\u2019 (U+2019) stands here");
+    hold("underlined", await page.ask(`document.querySelector("#card-editor mark").textContent`), "\u2019");
+    await typeOver("card", "\u2019", "'");
+    await says("card-says", "a comma stands in 0,5, and a decimal has a point");
+    await typeOver("card", "0,5", "0.5");
+    await says("card-says", "Taken: ");
+
+    // the end of the text, and the seats' line
+    await fill("card", "probabilistic\nmodule");
+    await says("card-says", "Line 2, column 7: the card ends here, and process1 was due");
+    await fill("card", readFileSync(`${root}/examples/leader-election`, "utf8"));
+    await says("card-says", "Taken: nondeterministic");
+    hold("the seats' line is taken", await seats(), "011");
+    await click("#seats button");
+    hold("and follows a click", await page.ask(`document.getElementById("card").value.split("\\n")[0]`), "111");
+    await typeOver("card", "111", "11x");
+    await says("card-says", "Line 1, column 3: x stands for seat 3, and a digit from 0 to 2 was due");
+}
+
+const digits = (count, top) => Array.from({ length: (top + 1) ** count }, (_, i) => i.toString(top + 1).padStart(count, "0"));
+
+async function panels() {
+    for (const name of [...EXAMPLES, "card-a-stuck"]) {
+        const [line] = readFileSync(`${root}/examples/${name}`, "utf8").split("\n");
+        await example(name.replace("-stuck", ""));
+        await seat(line);
+        hold(`panel of ${name}`, await text("bytes"), readFileSync(`${root}/examples/${name}.panel`, "utf8"));
+    }
+    for (const name of EXAMPLES) {
+        const counts = readFileSync(`${root}/examples/${name}.panel`, "utf8").split("\n")[2].split(" ").slice(1).map(Number);
+        const all = digits(counts.reduce((a, b) => a + b), counts.length - 1);
+        const due = asked("panel", `examples/${name}`, ...all).split(/(?:^|\n)[0-9]+:\n/).slice(1);
+        await example(name);
+        for (const [i, seating] of all.entries()) {
+            await seat(seating);
+            hold(`${name} at ${seating}`, (await text("bytes")).trimEnd(), due[i].trimEnd());
+        }
+    }
+}
+
+/** What is drawn says what the command says: a fraction and a percentage for each line. */
+async function drawn() {
+    for (const name of EXAMPLES) {
+        await example(name);
+        const lines = asked("panel", "--chances", `examples/${name}`).split("\n");
+        const due = lines.filter((line) => /^(stay|move)/.test(line)).map((line) => line.trim().split(/ +/).slice(-2).join(" "));
+        const counts = lines[2].split(" ").slice(1);
+        hold(`stacks of ${name}`, await page.ask(`[...document.querySelectorAll(".stack")].map((stack) => stack.children.length).join(" ")`), counts.join(" "));
+        const tabs = await page.ask(`document.querySelectorAll("[role=tab]").length`);
+        hold(`tabs of ${name}`, tabs, lines.filter((line) => /^choice/.test(line)).length);
+        const shown = [];
+        for (let tab = 0; tab < Math.max(tabs, 1); tab += 1) {
+            if (tabs) await page.ask(`document.querySelectorAll("[role=tab]")[${tab}].click()`);
+            shown.push(...await page.ask(`[...document.querySelectorAll("#moves li")].map((row) => row.getAttribute("aria-label").replace(/^.*: /, "").replace(", ", " "))`));
+            const widths = await page.ask(`[...document.querySelectorAll("#moves .track span")].reduce((sum, bar) => sum + parseFloat(bar.style.width), 0)`);
+            hold(`bars of ${name} come to a whole`, Math.abs(widths - 100) < 0.001);
+        }
+        hold(`chances of ${name}`, shown.join("; "), due.join("; "));
+    }
+    // choices by keys
+    await example("leader-election");
+    await page.ask(`document.querySelector("[role=tab]").focus()`);
+    await page.press("ArrowRight");
+    hold("the second choice", await page.ask(`document.querySelector("[role=tab][aria-selected=true]").textContent`), "Choice 4");
+    hold("keeps the focus", await page.ask(`document.activeElement.id`), "choice-4");
+}
+
+async function shuffles() {
+    await example("card-a");
+    for (let i = 0; i < 5; i += 1) {
+        const [before, was] = [await seats(), await text("bytes")];
+        await click("#shuffle");
+        const after = await seats();
+        hold("another order", before !== after && [...before].sort().join("") === [...after].sort().join(""));
+        hold("the same bytes", await text("bytes"), was);
+        hold("and it says so", await text("shuffled"), `${before} became ${after}: all ${was.length} bytes of the panel are the same.`);
+    }
+    await click("#begin");
+    await click("#shuffle");
+    hold("no other order", await text("shuffled"), "All seats are in role 0: 000 has no other order.");
+}
+
+async function questions() {
+    await example("card-a");
+    await seat("012");
+    for (const kind of ["all", "some", "none", "other", "one"]) {
+        await page.ask(`document.getElementById("kind").value = ${JSON.stringify(kind)}, document.getElementById("role").value = "2"`);
+        await click("#put");
+        const question = await page.ask(`document.getElementById("question").value`);
+        await says("question-says", `${asked("ask", "examples/card-a", "012", question).trim()} at 012`);
+        held += 1;
+    }
+    await typeOver("question", "s3=2)", "s3=2");
+    await says("question-says", "the question ends here, and | or ) was due");
+    await fill("question", "(s2=0 | s3=0)");
+    await says("question-says", "the group leaves out seat 1, and in a question there are no others");
+    await fill("question", "(s1=0 | s2=0 | s3=0)");
+    await says("question-says", "yes at 012");
+    await seat("112");
+    await says("question-says", "no at 112");
+}
+
+async function texts() {
+    await example("leader-election");
+    await click("#layout");
+    hold("layout", await text("text-bytes"), asked("write", "examples/leader-election"));
+    await click("#reduced");
+    hold("reduced", await text("text-bytes"), asked("reduce", "examples/leader-election"));
+    await click("#layout");
+    await click("#use");
+    hold("layout put in", await page.ask(`document.getElementById("card").value`), asked("write", "examples/leader-election"));
+    await page.until(`!document.getElementById("layout").disabled`);
+}
+
+// ---- for everybody
+
+/** Text whose contrast with what is behind it is less than 4.5. */
+const FAINT = `(() => {
+    const channels = (colour) => colour.match(/[\\d.]+/g).map(Number);
+    const bright = ([r, g, b]) => [r, g, b].map((c) => (c /= 255, c <= 0.04045 ? c / 12.92 : ((c + 0.055) / 1.055) ** 2.4)).reduce((sum, c, i) => sum + c * [0.2126, 0.7152, 0.0722][i], 0);
+    const behind = (node) => {
+        for (; node; node = node.parentElement) {
+            const colour = channels(getComputedStyle(node).backgroundColor);
+            if (colour[3] === undefined || colour[3] === 1) return colour;
+            if (colour[3] !== 0) throw new Error("half a colour behind " + node.outerHTML.slice(0, 80));
+        }
+        return channels(getComputedStyle(document.documentElement).backgroundColor);
+    };
+    const ratio = (one, other) => { const [a, b] = [bright(one), bright(other)].sort((x, y) => y - x); return (a + 0.05) / (b + 0.05); };
+    const faint = [];
+    let seen = 0;
+    for (const node of document.querySelectorAll("body *")) {
+        const own = [...node.childNodes].some((child) => child.nodeType === 3 && child.data.trim()) || node.matches("textarea, select");
+        const style = getComputedStyle(node);
+        if (!own || !node.checkVisibility({ visibilityProperty: true }) || node.closest(".under") || style.opacity === "0") continue;
+        seen += 1;
+        const found = ratio(channels(style.color), behind(node));
+        if (found < 4.5) faint.push(node.tagName + "." + node.className + " " + node.textContent.trim().slice(0, 20) + " " + found.toFixed(2));
+    }
+    // what is typed over what is underlined
+    for (const mark of document.querySelectorAll(".under mark")) {
+        const found = ratio(channels(getComputedStyle(mark.closest(".sheet").querySelector("textarea")).color), behind(mark));
+        if (found < 4.5) faint.push("underlined " + found.toFixed(2));
+    }
+    return { seen, faint };
+})()`;
+
+/** What is underlined lies just under what is typed: both have one font, one size and one place. */
+const LIKE = `[...document.querySelectorAll(".sheet")].every((sheet) => {
+    const [under, field] = [sheet.querySelector(".under"), sheet.querySelector("textarea")];
+    const same = ["fontFamily", "fontSize", "lineHeight", "letterSpacing", "paddingTop", "paddingLeft", "tabSize", "whiteSpace", "overflowWrap"];
+    const place = (node) => JSON.stringify([node.getBoundingClientRect().x + node.clientLeft, node.getBoundingClientRect().y + node.clientTop]);
+    return same.every((name) => getComputedStyle(under)[name] === getComputedStyle(field)[name]) && place(under) === place(field);
+})`;
+
+const sideways = () => page.ask("document.documentElement.scrollWidth - document.documentElement.clientWidth");
+
+async function forEverybody() {
+    const many = 16;
+    const modules = Array.from({ length: many - 1 }, (_, i) => `module process${i + 2} = process1 [s1=s${i + 2}, s${i + 2}=s1] endmodule\n`).join("");
+    const others = Array.from({ length: many - 1 }, (_, i) => `s${i + 2}=7`).join(" | ");
+    const large = `nondeterministic\nmodule process1\ns1 : [0..7] init 0;\n[] s1=0 & (${others}) -> 1/11:(s1'=1) + 10/11:(s1'=7);\n[] s1=0 -> 1:(s1'=7);\nendmodule\n${modules}`;
+    const states = {
+        "card A": () => example("card-a"),
+        "a refused card": () => fill("card", "probabilistic\nmodul process1\n"),
+        choices: () => example("leader-election"),
+        "the reduced text": () => click("#reduced"),
+        "a refused question": () => fill("question", "(s2=0 | s3=0)"),
+        "sixteen seats": async () => {
+            await fill("card", `0123456701234567\n${large}`);
+            await says("card-says", "16 seats, roles 0 to 7");
+            await page.ask(`document.getElementById("kind").value = "one"`);
+            await click("#put");
+            await says("question-says", "no at 0123456701234567");
+        },
+    };
+    for (const [name, reach] of Object.entries(states)) {
+        await window(768);
+        await reach();
+        if (name === "a refused card") await says("card-says", "modul stands here, and module was due");
+        if (name === "a refused question") await says("question-says", "refused 26 0");
+        hold(`${name}, 768: sideways`, await sideways(), 0);
+        for (const colours of ["dark", "light"]) {
+            await scheme(colours);
+            const { seen, faint } = await page.ask(FAINT);
+            hold(`${name}, ${colours}: contrast`, faint.join("; "), "");
+            hold(`${name}: texts`, seen > 20);
+        }
+        hold(`${name}: what is underlined lies under what is typed`, await page.ask(LIKE));
+        await window(1400);
+        hold(`${name}, 1400: sideways`, await sideways(), 0);
+    }
+    await screenshot("light-1400");
+    await window(768);
+    await scheme("dark");
+    await screenshot("dark-768");
+    await scheme("light");
+    for (const id of ["card-says", "question-says", "shuffled"]) {
+        hold(`${id} is live`, await page.ask(`document.getElementById("${id}").matches("[role=status][aria-live=polite]")`));
+    }
+    hold("fields are named", await page.ask(`[...document.querySelectorAll("input, select, textarea")].every((field) => field.labels.length > 0)`));
+    hold("fields are described", await page.ask(`["card", "question"].every((id) => document.getElementById(id).getAttribute("aria-describedby") === id + "-says")`));
+}
+
+async function byTab() {
+    await window(1400);
+    await example("leader-election");
+    await fill("card", (await page.ask(`document.getElementById("card").value`)).replace("[] s1=2", "[] s1=3"));
+    await says("card-says", "the statement is of role 3");
+    for (const refused of [true, false]) {
+        if (!refused) {
+            await example("leader-election");
+            await click("#layout");
+        }
+        await page.ask(`document.activeElement.blur(), window.reached = new Set(), document.addEventListener("focusin", ({ target }) => window.reached.add(target))`);
+        const due = await page.ask(`(window.due = [...document.querySelectorAll("button, input, select, textarea, [tabindex]")].filter((control) => !control.disabled && control.checkVisibility())).length`);
+        for (let i = 0; i < due + 5; i += 1) await page.press("Tab");
+        hold("reached by Tab", await page.ask(`window.due.filter((control) => !window.reached.has(control)).map((control) => control.id || control.textContent).join(", ")`), "");
+        hold("controls", due >= 18);
+    }
+    // and what is reached is clicked by keys
+    await page.ask(`document.querySelector("#seats button").focus()`);
+    await page.press(" ");
+    hold("a seat by the space bar", await seats(), "111");
+    await page.press("Tab", SHIFT);
+    await page.press("Tab");
+    await page.press("Enter");
+    hold("a seat by Enter", await seats(), "211");
+}
+
+try {
+    await window(1400);
+    await scheme("light");
+    await page.tell("Page.navigate", { url });
+    await page.until("document.documentElement?.dataset.ready === 'yes'", 30);
+    await screenshot("desk");
+    for (const part of [wrongAndMended, panels, drawn, shuffles, questions, texts, forEverybody, byTab]) await part();
+    hold("requests", requests.join(" "), url);
+    // a request would be stopped, and the browser would say so
+    const before = wrong.length;
+    await page.ask(`fetch("http://127.0.0.1:9/").catch(() => {})`);
+    const stopped = wrong.splice(before).every((fault) => /Content Security Policy/.test(fault));
+    hold("a request is stopped", stopped && requests.every((request) => request === url));
+} catch (fault) {
+    wrong.push(String(fault));
+}
+await page.close();
+rmSync(folder, { recursive: true, force: true });
+for (const fault of wrong.slice(0, 10)) console.log(`desk: ${fault}`);
+console.log(`desk: the page in ${command.split("/").at(-1)}: ${held} held, ${wrong.length} wrong`);
+process.exit(wrong.length === 0 && held >= 180 ? 0 : 1);

@@ -1,0 +1,176 @@
+#!/usr/bin/env bash
+# The rule writer's desk: the command as it is called; its reasons (cargo test), and the page's, which are the same; and the page in a browser,
+# where there is one. target/desk keeps pictures of it to look at.
+set -eu
+cd "$(dirname "${BASH_SOURCE[0]}")/.."
+bin/library "$(uname -m)-linux" wasm32 >/dev/null
+. rust/library.sh
+export RUSTFLAGS='-D warnings'
+made=$(mktemp -d)
+trap 'rm -rf "$made"' EXIT
+runs=0
+wrong=0
+
+# like TEXT DUE: in what is due, * stands for anything
+like() {
+    local due=${2//\\/\\\\}
+    due=${due//\[/\\[}
+    due=${due//\?/\\?}
+    # unquoted: a pattern
+    [[ $1 == $due ]]
+}
+
+# expect STATUS OUT ERR WORDS..: what `bin/desk` does with the words, standard input in $made/in
+expect() {
+    local status=0 out err
+    out=$(bin/desk "${@:4}" 2>"$made/err" <"$made/in") || status=$?
+    err=$(cat "$made/err")
+    runs=$((runs + 1))
+    if [ "$status" != "$1" ] || ! like "$out" "$2" || ! like "$err" "$3"; then
+        printf 'desk: %s: status %s and\n%s\n%s\n' "${*:4}" "$status" "$out" "$err"
+        wrong=$((wrong + 1))
+    fi
+}
+: >"$made/in"
+
+# given STATUS OUT ERR INPUT WORDS..: the same with that on standard input
+given() {
+    printf %b "$4" >"$made/in"
+    expect "$1" "$2" "$3" "${@:5}"
+    : >"$made/in"
+}
+
+cargo test --manifest-path rust/Cargo.toml --release --offline --quiet --package desk
+
+card_a=$(tail -n +2 examples/card-a)
+printf '%s\n' "$card_a" >"$made/card-a"
+
+# every example: taken, its panel, the same with the seats as a word
+for panel in examples/*.panel; do
+    example=${panel%.panel}
+    seats=$(head -n 1 "$example")
+    expect 0 "$example: taken: *; seats $seats" '' check "$example"
+    expect 0 "$(cat "$panel")" '' panel "$example"
+    expect 0 "$(cat "$panel")" '' panel "$example" "$seats"
+done
+expect 0 "$made/card-a: taken: probabilistic, 3 seats, roles 0 to 2, 2 statements" '' check "$made/card-a"
+expect 0 '*card-a: taken: *coin-toss: taken: *' '' check examples/card-a examples/coin-toss
+
+# the one layout
+expect 0 '' '' write --check "$made/card-a"
+expect 0 '' '' write --check examples/card-a
+expect 0 "$card_a" '' write examples/card-a
+expect 1 '' "examples/coin-toss:5:12: laid out otherwise; due is$(printf '\n   5 | ')*1/2:(s1'=1) + 1/2:(s1'=2);" write --check examples/coin-toss
+bin/desk write examples/leader-election | bin/desk write --check -
+expect 0 'probabilistic*module generic_process*no_0*' '' reduce examples/card-a
+
+# panels, and chances
+expect 0 "001:$(printf '\n%s' "$(cat examples/card-a.panel)")$(printf '\n\n012:\n%s' "$(cat examples/card-a-stuck.panel)")" '' panel "$made/card-a" 001 012
+chances='probabilistic
+seats 3 enabled 3
+counts 2 1 0
+stay 207900       1/4      25%
+move 0 1 277200   1/3   33.33%
+move 0 2 277200   1/3   33.33%
+move 1 2 69300   1/12    8.33%'
+expect 0 "$chances" '' panel --chances examples/card-a
+chances='nondeterministic
+seats 3 enabled 2
+counts 1 2 0
+choice 3
+stay 277200        1     100%
+choice 4
+stay 138600      1/2      50%
+move 1 0 138600  1/2      50%'
+expect 0 "$chances" '' panel examples/leader-election --chances
+
+# questions, who may move, spectators
+expect 0 yes '' ask examples/card-a 001 '(s1=0 | s2=0 | s3=0)'
+expect 0 no '' ask examples/card-a '(s1=0 & s2=0 & s3=0)'
+expect 1 '' 'question:1:1: refused 26 0: the group leaves out seat 1*' ask examples/card-a 001 '(s2=0 | s3=0)'
+expect 0 "statement 3, line 9: [] s1=0 & *" '' first examples/leader-election
+expect 0 'nobody can move' '' first examples/card-a 012
+expect 0 'classes 2 1 0 0 0 0 0 0' '' watch examples/card-a 001 012
+expect 1 '' 'classes:1:3: refused 13 2: role 2 has the class 8, and 0 to 7 was due*' watch examples/card-a 018
+
+# a refusal, whole
+sed 's/(s2=0 | s3=0)/(s2=0)/' "$made/card-a" >"$made/wrong"
+refusal="$made/wrong:4:11: refused 6 60: the group leaves out seat 3, and it has to name the seats 1 to 3, or the seats 2 and 3, once each
+   4 | [] s1=0 & (s2=0) -> 1/2:(s1'=1) + 1/2:(s1'=2);
+     |           ^^^^^^
+     = hint: write \`(s2=0 & s3=0)\`"
+expect 1 '' "$refusal" check "$made/wrong"
+expect 1 '' "$refusal" panel "$made/wrong" 001
+given 1 '' 'standard input:5:11: refused 6 60: *' "001\n$(cat "$made/wrong")" check -
+given 1 '' 'standard input:1:1: refused 3 0: the card ends here, *' '' check -
+# under a tab, in a long line
+given 1 '' "*$(printf '\n   1 | \tx\n     | \t^')*" '\tx' check -
+given 1 '' "*$(printf '\n   1 | ')..*x$(printf '\n     | ') *^" "$(printf '%0200d' 0 | tr 0 ' ')x" check -
+
+# the seats' line: CR, a blank, a byte order mark, a letter
+given 1 '' "standard input:1:4: refused 8 0: the seats' line ends in CR and LF*" "001\r\n$card_a" panel -
+given 1 '' 'standard input:1:2: refused 8 0: a blank stands among the seats*`001`' "0 0 1\n$card_a" panel -
+given 1 '' 'standard input:1:1: refused 8 0: a byte order mark stands before the seats*' "\xef\xbb\xbf001\n$card_a" panel -
+given 1 '' 'standard input:1:3: refused 9 2: `x` stands for seat 3*' "00x\n$card_a" panel -
+given 1 '' 'seats:1:3: refused 9 2: seat 3 is in role 7*' "$card_a" panel - 007
+given 0 "$(cat examples/card-a.panel)" '' "$(cat examples/card-a)" panel -
+
+# boxes
+expect 0 '' '' box write "$made/night.box" 2=examples/coin-toss 1=examples/card-a --withdrawn 9=examples/card-a
+expect 0 '*1  live *282  probabilistic, 3 seats*2  live *9  withdrawn *' '' box list "$made/night.box"
+expect 0 "$card_a" '' box find "$made/night.box" 1
+expect 1 '' '*: refused 12 0: card 9 is withdrawn*' box find "$made/night.box" 9
+expect 0 '' '' box write "$made/over.box" 1=examples/leader-election
+expect 0 "$(tail -n +2 examples/leader-election)" '' box find "$made/night.box" "$made/over.box" 1
+expect 0 "*1  replaced *over.box:*1  live *" '' box list "$made/night.box" "$made/over.box"
+expect 1 '' "$refusal" box write "$made/none.box" 1="$made/wrong"
+[ ! -e "$made/none.box" ] || { echo "desk: a box of a refused card was written" && wrong=$((wrong + 1)); }
+expect 0 '' '' box write --unread "$made/unread.box" 1="$made/wrong"
+expect 0 '*1  live *refused 6 60: the group leaves out seat 3*' '' box list "$made/unread.box"
+{ head -c 7 "$made/night.box" && printf '\002' && tail -c +9 "$made/night.box"; } >"$made/bad.box"
+expect 1 '' '*: refused 11 7: the flag of entry 1 is 2, and *byte 1 | 01 00 19 00 1a 01 02 00*^^' box list "$made/bad.box"
+expect 1 '' '*: refused 11 65543: the flag of entry 1 is 2, and *' box find "$made/night.box" "$made/bad.box" 1
+expect 1 '' '*: refused 11 8: entry 2 has the number 1, and one above 1 was due' box write "$made/none.box" 1=examples/card-a 1=examples/card-a
+
+# wrong words
+expect 2 '' 'desk: a command is due*'
+expect 2 '' 'desk: there is no command `show`*' show examples/card-a
+expect 2 '' 'desk: `desk check` has no option `--chances`*' check --chances examples/card-a
+expect 2 '' 'desk: the words do not fit; due is*desk ask CARD *' ask examples/card-a
+expect 2 '' 'desk: */none: No such file*' check "$made/none"
+expect 2 '' 'desk: * has no line of seats*' panel "$made/card-a"
+expect 2 '' 'desk: `x` is no card number*' box find "$made/night.box" x
+expect 0 'desk: *Examples*' '' --help
+expect 0 'desk: *Examples*' '' panel --help
+
+# the examples of its help, as they stand there
+while IFS= read -r example; do
+    runs=$((runs + 1))
+    (cd "$made" && ln -sfn "$OLDPWD/bin" bin && ln -sfn "$OLDPWD/examples" examples && cp card-a my-card && bash -o pipefail -c "$example" >/dev/null) ||
+        { echo "desk: $example" && wrong=$((wrong + 1)); }
+done < <(bin/desk --help | sed -n 's/^  \(bin\/desk .*\)/\1/p')
+
+# from another folder, through a link
+ln -s "$PWD/bin/desk" "$made/link"
+(cd / && "$made/link" check "$made/card-a" >/dev/null) || { echo "desk: not through a link" && wrong=$((wrong + 1)); }
+
+echo "desk: $runs runs of the command, $wrong wrong"
+[ "$wrong" -eq 0 ] && [ "$runs" -ge 60 ]
+
+# the page
+if ! command -v node >/dev/null; then
+    echo "desk: the page was not tried, as there is no node here"
+    exit 0
+fi
+cargo run --manifest-path rust/Cargo.toml --release --offline --quiet --package desk --example reasons >"$made/reasons"
+node tests/desk-reasons.mjs target/library/wasm32/open_panel.mjs "$made/reasons"
+
+page=target/desk/desk.html
+bin/desk-page "$page" >/dev/null
+for browser in chromium chromium-browser google-chrome google-chrome-stable; do
+    if command -v "$browser" >/dev/null && "$browser" --version >/dev/null 2>&1; then
+        node tests/desk-page.mjs "$browser" "$page" "$CARGO_TARGET_DIR/release/desk" target/desk
+        exit 0
+    fi
+done
+echo "desk: the page was not tried in a browser, as there is none here"
