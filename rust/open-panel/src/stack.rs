@@ -1,6 +1,5 @@
-//! How many bytes of stack a call of each function takes at most, the library's and this crate's own together, on x86-64. They are
-//! not proved: `tests/stack.sh` measures every entry on the inputs that need most, and fails where one takes more. In the build for
-//! aarch64 the frames along the same ways add up to no more, but for `watch` and `first_move`, for which they have not been added up.
+//! How many bytes of stack a call of each function takes at most, the library's and this crate's own together, on x86-64 and on aarch64.
+//! They are not proved: `tests/stack.sh` measures every entry on the inputs that need most, and fails where one takes more.
 
 /// [`judge`](crate::judge)
 pub const JUDGE: usize = 10_240;
