@@ -1,15 +1,19 @@
 -- What reading the beginning of a card, up to its statements, and its further modules, up to its end, leaves behind it. Assumes nothing.
 use Prim.Native.Nat.{ℕ, suc, _+_, _-_}
 use mathlib.Core.Path.{_≡_}
+use mathlib.Core.Bool.{Bool, true, false}
 use mathlib.Core.List.{List, [], _∷_, _++_}
-use lib.ListN.{length, getD}
+use lib.Dec.{eqb, ltb}
+use lib.ListN.{length, getD, drop}
 use Rattle.card.specs.Limits.{mostSeats}
-use Rattle.card.specs.Text.{bytes}
+use Rattle.card.specs.Text.{bytes, if_then_else_}
 use Rattle.card.specs.Refusals.{outOfShape}
 use Rattle.card.specs.Card.{Mode}
 use Rattle.card.specs.Laid.{modeNumber}
+use Rattle.letters.specs.Bytes.{begins}
 use Rattle.marks.specs.Kinds.{kEnd}
 use Rattle.marks.specs.declared.Found.{Found}
+use Rattle.looks.specs.Quick.{wordAhead}
 use Rattle.reading.specs.Reader.{State, Result, Reader, bind, _>>=_, _>>_, return, the, sign, numberOf, Numbered, numbered, line}
 use Rattle.grammar.specs.Grammar.{cardRun}
 use Rattle.reading.specs.Judgements.{Judgement}
@@ -93,9 +97,31 @@ moduleDue i =
     ∷ due "[" ∷ seat 1 ∷ due "=" ∷ seat i ∷ due "," ∷ seat i ∷ due "=" ∷ seat 1 ∷ due "]"
     ∷ due "endmodule" ∷ []
 
--- the same as a written card has it, where the seat has one digit
-abbrev pub copyText : ℕ → List ℕ
-copyText i = bytes " process" ++ ((48 + i) ∷ bytes " = process1 [s1=s" ++ ((48 + i) ∷ bytes ", s" ++ ((48 + i) ∷ bytes "=s1] endmodule")))
+-- the same as text, as a written card has it or tight, with these digits for the seat
+abbrev pub gap : Bool → List ℕ
+gap true = bytes " "
+gap false = []
+
+abbrev pub copyText : Bool → List ℕ → List ℕ
+copyText written ds =
+    let blank = gap written in
+    bytes " process" ++ (ds ++ (blank ++ (bytes "=" ++ (blank ++ (bytes "process1" ++ (blank ++ (bytes "[s1=s" ++ (ds
+    ++ (bytes "," ++ (blank ++ (bytes "s" ++ (ds ++ (bytes "=s1]" ++ (blank ++ bytes "endmodule"))))))))))))))
+
+-- the digits of a number below 20
+abbrev pub digits : ℕ → List ℕ
+digits i = if ltb i 10 then (48 + i) ∷ [] else 49 ∷ (38 + i) ∷ []
+
+-- the place behind a text behind which no word goes on; 0 where it does not stand
+abbrev pub pastWord : List ℕ → List ℕ → ℕ → ℕ
+pastWord t s at = if wordAhead t s at then at + length t else 0
+
+-- the same for a further module: the byte behind its first word tells how it is written
+abbrev pub pastText : List ℕ → ℕ → List ℕ → ℕ
+pastText s at ds = pastWord (copyText (begins (eqb 32) (drop (at + (8 + length ds)) s)) ds) s at
+
+abbrev pub pastCopy : List ℕ → ℕ → ℕ → ℕ
+pastCopy s at i = pastText s at (digits i)
 
 abbrev pub ModuleFrom : List ℕ → ℕ → ℕ → Late → After → Type 0
 ModuleFrom s at i late r = RunFrom s at (kindsIn (moduleDue i)) (numbersIn (moduleDue i)) late r

@@ -5,6 +5,7 @@ use card::refusals::PAST_LIMIT;
 use late::state::STATE;
 use late::state::VALUE;
 use late::stop;
+use letters::bytes::stands;
 use looks::due::step_module;
 use looks::look::word_here;
 use marks::Cursor;
@@ -20,34 +21,75 @@ use marks::kinds::SQUARE_CLOSE;
 use marks::kinds::SQUARE_OPEN;
 use parts::run;
 ghost use mathlib.Core.Path.{_≡_};
-ghost use mathlib.Core.Bool.{_&&_};
-ghost use lib.Dec.{ltb};
-ghost use Rattle.looks.specs.Quick.{wordAhead};
+ghost use Prim.Native.Nat.{_≤_};
+ghost use Rattle.card.specs.Limits.{mostSeats};
 ghost use Rattle.late.specs.State.{Sized, lateIn, after};
-ghost use Rattle.frame.specs.Frame.{copyText, ModuleFrom, EndedBy, ModulesFrom};
+ghost use Rattle.frame.specs.Frame.{pastWord, pastCopy, ModuleFrom, EndedBy, ModulesFrom};
 
-// processi = process1 [s1=si, si=s1] endmodule, for seat i of one digit, as a written card has it?
-fn written(card: &[u8], at: usize, seat: usize) -> bool
-    ensures { λ r. ⌜ r ≡ (ltb seat 10 && wordAhead (copyText seat) (now (card .entry)) at) ⌝ }
+// The place behind these bytes, where they stand and no word goes on behind them; else 0.
+fn past_word(card: &[u8], at: usize, these: &[u8]) -> usize
+    ensures { λ r. ⌜ r ≡ pastWord (now (these .entry)) (now (card .entry)) at ⌝ }
 {
-    if 10 <= seat {
-        return false;
+    if word_here(card, at, these) {
+        return at + these.len();
     }
-    let i = b'0' + seat as u8;
-    let mut text: [u8; 45] = *b" process0 = process1 [s1=s0, s0=s1] endmodule";
-    text[8] = i;
-    text[26] = i;
-    text[30] = i;
-    word_here(card, at, &text)
+    0
 }
 
-// The same: where it stands as a written card has it, it is passed at once, else mark by mark.
+// The bytes of the shortest of the texts below.
+const SHORTEST: usize = 40;
+
+// The place behind processi = process1 [s1=si, si=s1] endmodule for seat i, where it stands as in a written card or tight; else 0.
+// The byte behind the first word tells which.
+fn past_copy(card: &[u8], at: usize, seat: usize) -> usize
+    requires { ⌜ seat ≤ mostSeats ⌝ }
+    ensures { λ r. ⌜ r ≡ pastCopy (now (card .entry)) at seat ⌝ }
+{
+    if card.len() < SHORTEST {
+        return 0;
+    }
+    if card.len() - SHORTEST < at {
+        return 0;
+    }
+    if seat < 10 {
+        let i = b'0' + seat as u8;
+        if stands(card, at + 9, b' ') {
+            let mut text: [u8; 45] = *b" process0 = process1 [s1=s0, s0=s1] endmodule";
+            text[8] = i;
+            text[26] = i;
+            text[30] = i;
+            return past_word(card, at, &text);
+        }
+        let mut tight: [u8; 40] = *b" process0=process1[s1=s0,s0=s1]endmodule";
+        tight[8] = i;
+        tight[23] = i;
+        tight[26] = i;
+        return past_word(card, at, &tight);
+    }
+    let i = b'&' + seat as u8;
+    if stands(card, at + 10, b' ') {
+        let mut text: [u8; 48] = *b" process10 = process1 [s1=s10, s10=s1] endmodule";
+        text[9] = i;
+        text[28] = i;
+        text[33] = i;
+        return past_word(card, at, &text);
+    }
+    let mut tight: [u8; 43] = *b" process10=process1[s1=s10,s10=s1]endmodule";
+    tight[9] = i;
+    tight[25] = i;
+    tight[29] = i;
+    past_word(card, at, &tight)
+}
+
+// The same: where such a text stands, it is passed at once, else mark by mark.
 fn copy(card: &[u8], at: usize, seat: usize, state: &mut [usize; STATE]) -> usize
     requires { ⌜ Sized (now state) ⌝ }
+    requires { ⌜ seat ≤ mostSeats ⌝ }
     ensures { λ r. ⌜ ModuleFrom (now (card .entry)) at seat (lateIn (now (state .entry))) (after (now (state .exit)) r) ⌝ }
 {
-    if written(card, at, seat) {
-        return at + 45;
+    let next = past_copy(card, at, seat);
+    if next != 0 {
+        return next;
     }
     let kinds = [
         PROCESS,

@@ -1,26 +1,20 @@
--- What stands there as a written card has it is passed at once (proofs/Written.antt); else it goes mark by mark. Assumes nothing.
-use mathlib.Core.Path.{sym, _∙_}
+-- Where its text stands, it is passed at once (proofs/Written.antt); else it goes mark by mark. Assumes nothing.
 use native.Mathlib.Omega.{arith}
-use Rattle.frame.proofs.Written.{copy-fits, copy-passed}
+use Rattle.frame.proofs.Written.{copy-passed}
 use borrow.Author.Needs.{needs}
 use Rattle.frame.proofs.modules.copy.Statement.{statement}
 use Rattle.frame.proofs.modules.copy.Tie as tie
 
-written-requires : tie.Need-written-requires
-written-requires c κs = search needs
-
-add-result : tie.Need-add-result
-add-result c =
-    let at-written = c .before in
-    let a = at-written .before .before .args in
-    omega (arith, copy-fits (a .card .now) (a .at) (a .seat) (sym (at-written .written .ensures) ∙ c .if1 .taken))
+past-copy-requires : tie.Need-past-copy-requires
+past-copy-requires c κs = c .before .pre .1
 
 returns : tie.Need-returns
 returns c =
-    let at-written = c .before in
-    let entry = at-written .before .before in
+    let at-past-copy = c .before in
+    let entry = at-past-copy .before .before in
     let a = entry .args in
-    copy-passed (a .card .now) (a .at) (a .seat) (sym (at-written .written .ensures) ∙ c .if1 .taken) (a .state .now) (entry .pre)
+    copy-passed (a .card .now) (a .at) (a .seat) (entry .pre .1) (at-past-copy .past-copy .result) (at-past-copy .past-copy .ensures) (c .if1 .taken)
+    (a .state .now) (entry .pre .0)
 
 slice-aggregate-run : tie.Need-slice-aggregate-run
 slice-aggregate-run c = search needs
@@ -29,7 +23,7 @@ slice-aggregate-run-2 : tie.Need-slice-aggregate-run-2
 slice-aggregate-run-2 c = search needs
 
 run-requires : tie.Need-run-requires
-run-requires c κs = (c .before .before .before .before .before .before .pre, (omega arith, omega arith))
+run-requires c κs = (c .before .before .before .before .before .before .pre .0, (omega arith, omega arith))
 
 returns-2 : tie.Need-returns-2
 returns-2 c = c .run .ensures
@@ -38,8 +32,7 @@ pub copy-spec : {M : Type 1} → statement M
 copy-spec =
     tie.close
     (tie.spec
-    written-requires
-    add-result
+    past-copy-requires
     returns
     slice-aggregate-run
     slice-aggregate-run-2

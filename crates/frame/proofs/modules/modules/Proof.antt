@@ -42,8 +42,8 @@ add-seats c = omega (arith, c .before .before .before .before .before .loop-test
 
 copy-requires : tie.Need-copy-requires Inv-loop μ-loop
 copy-requires c κs =
-    let at-loop = c .before .before .before .before .before .before .before in
-    at-loop .loop .inv .sized
+    let at-loop-test = c .before .before .before .before .before .before in
+    (at-loop-test .before .loop .inv .sized, omega (arith, at-loop-test .loop-test .taken))
 
 returns-2 : tie.Need-returns-2 Inv-loop μ-loop
 returns-2 c =
