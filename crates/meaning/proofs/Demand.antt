@@ -30,7 +30,7 @@ use Rattle.meaning.proofs.Stuck.{no-taker, nothing-taken, stuck-step, n
 
 -- ---- the reduced program, at any counts
 
-can-take : (n : ℕ) (s : Statement) (m : ℕ) (v : List ℕ) → canTake v (copy n s m) ≡ (ltb m (noOf v (s .own)) && heldOr n (s .own) v (s .guard))
+pub can-take : (n : ℕ) (s : Statement) (m : ℕ) (v : List ℕ) → canTake v (copy n s m) ≡ (ltb m (noOf v (s .own)) && heldOr n (s .own) v (s .guard))
 unfolding canTake copy
 can-take n s m v = ap (λ (b : Bool). ltb m (noOf v (s .own)) && b) (test-held n (s .own) v (s .guard))
 
@@ -65,7 +65,7 @@ turn-sum F v r = go (canTake v r)
     go false = refl
 
 -- over the turns of the whole program
-program-sum : (F : Turn (List ℕ) → ℕ) (n : ℕ) (l : List Statement) (v : List ℕ) → ((j : ℕ) → noOf v j ≤ n)
+pub program-sum : (F : Turn (List ℕ) → ℕ) (n : ℕ) (l : List Statement) (v : List ℕ) → ((j : ℕ) → noOf v j ≤ n)
     → sum F (turnsIn (choicesOf (reducedTurnsBy v) 1 (flat (map (copies probabilistic n) l)))) ≡ sum (λ s. able n v s * F (reducedTurn v (copy n s 0))) l
 program-sum F n l v h =
     let g : Reduced → ℕ = λ r. gate (canTake v r) (F (reducedTurn v r)) in
