@@ -1,0 +1,3 @@
+pub mod Theorems
+pub mod Bound
+pub mod Rows

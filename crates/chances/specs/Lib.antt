@@ -1,0 +1,4 @@
+pub mod Chances
+pub mod Chance
+pub mod OddsSaid
+pub mod Rows
