@@ -51,6 +51,8 @@ pub unit-edges : UnitEdges
 unfolding unitsOf readUnder
 unit-edges = record {
   whole-unit = refl;
+  divides = (refl, refl, refl, refl, refl);
+  above-one = refl;
   old-unit = refl;
   six-digits = (refl, refl);
   seven-digits = (refl, refl);

@@ -15,6 +15,7 @@ move-edges = record {
   at-011 = (refl, refl);
   at-012 = (refl, refl);
   second-first = (refl, refl);
+  staying = refl;
   seat-count = (refl, refl, refl, refl);
   seat-above = (refl, refl);
   card-first = (refl, refl, refl);

@@ -14,6 +14,7 @@ unfolding watchSaid readUnder unitsOf judgedSeats judgedFrom judgedClasses watch
 spectator-edges = record {
   at-001 = (refl, refl);
   alike = (refl, refl);
+  eight-states = refl;
   one-class = (refl, refl);
   longest = (refl, refl);
   wrong-length = (refl, refl, refl, refl);

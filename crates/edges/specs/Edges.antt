@@ -133,6 +133,13 @@ pub record RunEdges : Type 0 where
 pub record UnitEdges : Type 0 where
   -- a number of six digits is a weight only in a fraction: of the unit, in lowest terms or not; seven digits are none
   pub whole-unit : readOf (head ++ bytes " -> 100000/277200:(s1'=1) + 177200/277200:(s1'=2);\nendmodule\n") ≡ reads 1 none (to 100000 1 ∷ to 177200 2 ∷ [])
+  -- what is below the line has to divide the unit, also where the fraction is worth whole units, or nothing
+  pub divides : (readOf (head ++ bytes " -> 13/26:(s1'=1) + 1/2:(s1'=2);\nendmodule\n") ≡ refused 7 61)
+      × (readOf (head ++ bytes " -> 0/13:(s1'=1) + 1:(s1'=2);\nendmodule\n") ≡ refused 7 61)
+      × (readOf (head ++ bytes " -> 2/554400:(s1'=1) + 277199/277200:(s1'=2);\nendmodule\n") ≡ refused 7 61)
+      × (readOf (head ++ bytes " -> 0/0:(s1'=1) + 1:(s1'=2);\nendmodule\n") ≡ refused 7 61)
+      × (readOf (head ++ bytes " -> 1.00:(s1'=1) + 0/11:(s1'=2);\nendmodule\n") ≡ reads 1 none (to 277200 1 ∷ to 0 2 ∷ []))
+  pub above-one : readOf (head ++ bytes " -> 1.01:(s1'=1);\nendmodule\n") ≡ refused 7 61
   pub old-unit : readOf (head ++ bytes " -> 1/25200:(s1'=1) + 25199/25200:(s1'=2);\nendmodule\n") ≡ reads 1 none (to 11 1 ∷ to 277189 2 ∷ [])
   pub six-digits : (readOf (head ++ bytes " -> 123456:(s1'=1);\nendmodule\n") ≡ refused 7 61) × (readOf (head ++ bytes " -> 1:(s1'=123456);\nendmodule\n") ≡ refused 5 68)
   pub seven-digits : (readOf (head ++ bytes " -> 1/2772000:(s1'=1);\nendmodule\n") ≡ refused 2 63) × (readOf (head ++ bytes " -> 1:(s1'=1234567);\nendmodule\n") ≡ refused 2 68)

@@ -21,6 +21,10 @@ secondFirst = bytes "nondeterministic\nmodule process1\ns1 : [0..1] init 0;\n[] 
 abbrev pub lastWrong : List ℕ
 lastWrong = bytes "nondeterministic\nmodule process1\ns1 : [0..1] init 0;\n[] s1=1 & (s2=1) -> 1:(s1'=0);\n[] s1=0 -> 1:(s1'=1);\n[] s1=0 -> 2:(s1'=0);\nendmodule\nmodule process2 = process1 [s1=s2, s2=s1] endmodule\n"
 
+-- one seat: the first statement leaves it where it is
+abbrev pub stayFirst : List ℕ
+stayFirst = bytes "probabilistic\nmodule process1\ns1 : [0..1] init 0;\n[] s1=0 -> 1:(s1'=0);\n[] s1=0 -> 1:(s1'=1);\nendmodule\n"
+
 pub record MoveEdges : Type 0 where
   -- card A: at 001 and at 100 a seat in state 0 may move; at 011 only one in state 1, by the second statement; at 012 nobody, in either mode
   pub at-001 : (movesA probabilistic 0 0 1 ≡ says (some 1)) × (movesA nondeterministic 0 0 1 ≡ says (some 1))
@@ -29,6 +33,8 @@ pub record MoveEdges : Type 0 where
   pub at-012 : (movesA probabilistic 0 1 2 ≡ says none) × (movesA nondeterministic 0 1 2 ≡ says none)
   -- nobody may take the first statement, and somebody the second and the third; then the first too
   pub second-first : (moveSaid secondFirst (0 ∷ 1 ∷ []) ≡ says (some 2)) × (moveSaid secondFirst (1 ∷ 1 ∷ []) ≡ says (some 1))
+  -- a statement that changes nothing can be taken
+  pub staying : moveSaid stayFirst (0 ∷ []) ≡ says (some 1)
   -- too few seats and too many: 8, also where one is above k; then 9 at the first above k
   pub seat-count : (moveSaid (textA probabilistic) (0 ∷ 0 ∷ []) ≡ refused 8 0)
       × (moveSaid (textA probabilistic) (0 ∷ 0 ∷ 1 ∷ 0 ∷ []) ≡ refused 8 0)

@@ -19,6 +19,10 @@ cardAt a b c list = watchSaid (textA probabilistic) (a ∷ b ∷ c ∷ []) list
 abbrev pub sixteen : List ℕ
 sixteen = head ++ (bytes " -> 1:(s1'=1);\nendmodule\n" ++ modulesFrom 2 15)
 
+-- eight seats, states 0 to 7
+abbrev pub eight : List ℕ
+eight = bytes "probabilistic\nmodule process1\ns1 : [0..7] init 0;\n[] s1=0 -> 1:(s1'=1);\nendmodule\n" ++ modulesFrom 2 7
+
 pub record SpectatorEdges : Type 0 where
   -- card A at 001 by two lists, one that tells the states apart and one that does not
   pub at-001 : (cardAt 0 0 1 (0 ∷ 1 ∷ 2 ∷ []) ≡ text (bytes "classes 2 1 0 0 0 0 0 0\n"))
@@ -26,6 +30,8 @@ pub record SpectatorEdges : Type 0 where
   -- states 0 and 2 are of one class: the same line for other seats; their order does not count
   pub alike : (cardAt 0 2 1 (7 ∷ 3 ∷ 7 ∷ []) ≡ text (bytes "classes 0 0 0 1 0 0 0 2\n"))
       × (cardAt 1 2 2 (7 ∷ 3 ∷ 7 ∷ []) ≡ text (bytes "classes 0 0 0 1 0 0 0 2\n"))
+  -- every state has a class of its own
+  pub eight-states : watchSaid eight (7 ∷ 7 ∷ 7 ∷ 6 ∷ 6 ∷ 5 ∷ 4 ∷ 0 ∷ []) (3 ∷ 0 ∷ 1 ∷ 2 ∷ 4 ∷ 5 ∷ 6 ∷ 7 ∷ []) ≡ text (bytes "classes 0 0 0 1 1 1 2 3\n")
   -- all states in one class
   pub one-class : (cardAt 0 1 2 (5 ∷ 5 ∷ 5 ∷ []) ≡ text (bytes "classes 0 0 0 0 0 3 0 0\n"))
       × (watchSaid sixteen (replicate 16 1) (0 ∷ 0 ∷ 0 ∷ []) ≡ text (bytes "classes 16 0 0 0 0 0 0 0\n"))
