@@ -77,7 +77,7 @@ module _ {h : Head} {x : Lent} (v : HoldsIn h x) where
 
 -- ---- number by number
 
-zeros-at : (n p : ℕ) → getD (zeros n) p 0 ≡ 0
+pub zeros-at : (n p : ℕ) → getD (zeros n) p 0 ≡ 0
 unfolding zeros
 zeros-at zero p = refl
 zeros-at (suc n) zero = refl

@@ -1,0 +1,4 @@
+pub mod Rows
+pub mod Kept
+pub mod Begun
+pub mod Turns
