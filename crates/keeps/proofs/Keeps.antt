@@ -27,6 +27,8 @@ use Rattle.watch.proofs.watch.Met.{met as watch-met}
 use Rattle.tablet.proofs.open_panel_watch.Met.{met as watch-for-c-met}
 use Rattle.first_move.proofs.first_move.Met.{met as first-move-met}
 use Rattle.tablet.proofs.open_panel_first_move.Met.{met as first-move-for-c-met}
+use Rattle.odds.proofs.odds.Met.{met as odds-met}
+use Rattle.tablet.proofs.open_panel_odds.Met.{met as odds-for-c-met}
 
 pub keeps : Keeps
 keeps = record {
@@ -57,4 +59,6 @@ keeps = record {
   watch-for-c = λ M. watch-for-c-met;
   first-move = λ M. first-move-met;
   first-move-for-c = λ M. first-move-for-c-met;
+  odds = λ M. odds-met;
+  odds-for-c = λ M. odds-for-c-met;
 }

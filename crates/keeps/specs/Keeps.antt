@@ -29,6 +29,8 @@ use Rattle.tablet.proofs.open_panel_box_write.Statement.{statement as boxWriteF
 use Rattle.tablet.proofs.open_panel_watch.Statement.{statement as watchForCKeeps}
 use Rattle.first_move.proofs.first_move.Statement.{statement as firstMoveKeeps}
 use Rattle.tablet.proofs.open_panel_first_move.Statement.{statement as firstMoveForCKeeps}
+use Rattle.odds.proofs.odds.Statement.{statement as oddsKeeps}
+use Rattle.tablet.proofs.open_panel_odds.Statement.{statement as oddsForCKeeps}
 
 pub record Keeps : Type 2 where
   pub read : (M : Type 1) → readKeeps M
@@ -62,3 +64,6 @@ pub record Keeps : Type 2 where
   -- who may move
   pub first-move : (M : Type 1) → firstMoveKeeps M
   pub first-move-for-c : (M : Type 1) → firstMoveForCKeeps M
+  -- odds
+  pub odds : (M : Type 1) → oddsKeeps M
+  pub odds-for-c : (M : Type 1) → oddsForCKeeps M

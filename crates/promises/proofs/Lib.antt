@@ -17,3 +17,4 @@ pub mod DeckWriting
 pub mod Spectator
 pub mod Elevenths
 pub mod FirstMoves
+pub mod Nights

@@ -12,6 +12,7 @@ use Rattle.panel_room.specs.PanelRoom.{panelRoom}
 use Rattle.program.specs.Program.{inputBytes, lineEnd, noState}
 use Rattle.asking.specs.Asking.{inQuestion}
 use Rattle.classes.specs.ClassesRoom.{classesRoom}
+use Rattle.evenings.specs.Limits.{mostNights, mostVectors, million, tooManyVectors, tooManyNights, wrongRow}
 
 pub record Figures : Type 0 where
   -- "What the box holds"; digits as document 02, 2026-06, has them
@@ -69,6 +70,13 @@ pub record Figures : Type 0 where
   pub top-class : topClass ≡ 7
   pub public-classes : publicClasses ≡ 8
   pub wrong-classes : wrongClasses ≡ 13
+  -- document 02, 2026-08: steps ahead, count vectors and numbers in a row, a chance of 1, and its refusals
+  pub most-nights : mostNights ≡ 32
+  pub most-vectors : mostVectors ≡ 512
+  pub certain : million ≡ 1000000
+  pub too-many-vectors : tooManyVectors ≡ 14
+  pub too-many-nights : tooManyNights ≡ 15
+  pub wrong-row : wrongRow ≡ 16
   -- document 02, 2026-11: a decimal under a rule that takes none
   pub decimal-weight : decimalWeight ≡ 17
   -- rooms that every text fits into; they are the project's own figures

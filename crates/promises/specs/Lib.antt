@@ -15,3 +15,4 @@ pub mod DeckWriting
 pub mod Spectator
 pub mod Elevenths
 pub mod FirstMoves
+pub mod Nights

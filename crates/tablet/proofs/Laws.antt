@@ -1,21 +1,24 @@
 -- An entry's promise, with its answer in numbers; the reader's verdict in numbers; and where a card stands. Assumes nothing.
 use Prim.Native.Nat.{ℕ}
-use mathlib.Core.Path.{_≡_, refl, ap, _∙_}
+use mathlib.Core.Path.{_≡_, refl, ap, subst, _∙_}
 use mathlib.Core.List.{List}
 use Rattle.card.specs.Lent.{Lent}
 use Rattle.reading.specs.Reading.{readOf}
 use Rattle.reader.specs.declared.Outline.{Outline}
 use Rattle.reader.specs.ReadingOf.{ReadsInto}
 use Rattle.room.specs.declared.Answer.{Answer}
-use Rattle.room.specs.Answer.{Text, Entered}
+use Rattle.room.specs.Answer.{Text, Entered, told as answerOf}
 use Rattle.tablet.specs.declared.OpenPanelAnswer.{OpenPanelAnswer}
 use Rattle.entry.specs.Said.{Said, says, refused}
+use Rattle.entry.specs.Contract.{Ends, Two, Enters, inRows}
+use Rattle.evenings.specs.Rounds.{Aim}
 use Rattle.deck.specs.Lookup.{Part}
 use Rattle.contents.specs.Verdicts.{verdictOf}
 use Rattle.boxes.specs.Boxes.{placed}
 use Rattle.boxes.specs.declared.Place.{Place}
 use Rattle.tablet.specs.Told.{numbers, verdictNumbers, judged, Told}
 use Rattle.tablet.specs.Parts.{threeOf, Stands, PartTold}
+use Rattle.tablet.specs.Rows.{RowsTold}
 
 pub told : {was is : List ℕ} {said : Text} {a : Answer} {r : OpenPanelAnswer} → Entered was is said a → r ≡ numbers a → Told was is said r
 told e n = record { answers = n ∙ ap numbers (e .answers); leaves = e .leaves }
@@ -34,3 +37,10 @@ part-told {said} {p} {was} {is} {r} e s = record {
   answers = s .answers ∙ ap (λ (q : Place). verdictNumbers (q .verdict)) e ∙ ap verdictNumbers (verdict-placed said);
   leaves = s .leaves ∙ ap (λ (q : Place). threeOf q was) e;
 }
+
+-- ---- two rows
+
+-- the aim comes from a number
+pub odds-told : (said : Aim → Said (Ends ℕ (Two (List ℕ)))) {a b : Aim} {was is : Two (List ℕ)} {answer : Answer} {r : OpenPanelAnswer}
+    → a ≡ b → Enters inRows answerOf was is (said a) answer → r ≡ numbers answer → RowsTold was is (said b) r
+odds-told said {a} {b} {was} {is} {answer} {r} e h n = subst (λ (x : Aim). RowsTold was is (said x) r) e (record { answers = n ∙ ap numbers (h .answers); leaves = h .leaves })

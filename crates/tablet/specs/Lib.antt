@@ -1,3 +1,4 @@
 pub mod Told
 pub mod Parts
 pub mod Moves
+pub mod Rows

@@ -12,6 +12,7 @@ use contents::judge_deck;
 use deck_writer::write_deck;
 use first_move::FirstMove;
 use first_move::first_move;
+use odds::odds;
 use panel::panel;
 use reader::read_into;
 use reducer::reduce;
@@ -19,6 +20,7 @@ use room::Answer;
 use watch::watch;
 use writer::write;
 ghost use mathlib.Core.Path.{_≡_};
+ghost use lib.ListN.{length};
 ghost use Rattle.reading.specs.Reading.{readOf};
 ghost use Rattle.deck.specs.Contents.{judged as deckJudged};
 ghost use Rattle.deck.specs.Lookup.{located, locatedWith};
@@ -30,7 +32,11 @@ ghost use Rattle.panel.specs.PanelSaid.{panelSaid};
 ghost use Rattle.ask.specs.AskSaid.{askSaid};
 ghost use Rattle.watch.specs.WatchSaid.{watchSaid};
 ghost use Rattle.first_move.specs.MoveSaid.{moveSaid};
+ghost use Rattle.entry.specs.Contract.{two};
+ghost use Rattle.evenings.specs.Rounds.{aimOf};
+ghost use Rattle.chances.specs.OddsSaid.{oddsSaid};
 ghost use Rattle.tablet.specs.Moves.{moveNumbers, movedNumbers};
+ghost use Rattle.tablet.specs.Rows.{aimBy, RowsTold};
 ghost use Rattle.tablet.specs.Told.{numbers, verdictNumbers, judged, Told, askedNumbers, answeredNumbers};
 ghost use Rattle.tablet.specs.Parts.{Stands, PartTold};
 
@@ -259,4 +265,32 @@ pub extern "C" fn open_panel_first_move(card: &[u8], seats: &[u8]) -> OpenPanelA
 {
     let answer = first_move(card, seats);
     move_in_numbers(answer)
+}
+
+// 0 asks for the smallest, any other number for the largest.
+fn is_largest(aim: u8) -> bool
+    ensures { λ r. ⌜ aimOf r ≡ aimBy aim ⌝ }
+{
+    if aim == 0 {
+        return false;
+    }
+    true
+}
+
+// The chance that a question becomes true within m steps, in millionths; the rows hold round m and the round before it.
+#[no_mangle]
+pub extern "C" fn open_panel_odds(
+    card: &[u8],
+    question: &[u8],
+    seats: &[u8],
+    m: usize,
+    largest: u8,
+    first: &mut [u32],
+    second: &mut [u32],
+) -> OpenPanelAnswer
+    ensures { λ r. ⌜ RowsTold (two (now (first .entry)) (now (second .entry))) (two (now (first .exit)) (now (second .exit))) (oddsSaid (now (card .entry)) (now (question .entry)) (now (seats .entry)) m (aimBy largest) (length (now (first .entry))) (length (now (second .entry)))) r ⌝ }
+{
+    let is_largest = is_largest(largest);
+    let answer = odds(card, question, seats, m, is_largest, first, second);
+    in_numbers(answer)
 }
