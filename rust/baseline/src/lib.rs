@@ -3,13 +3,14 @@
 //! of document 02 that have landed: questions about a seating are answered,
 //! cards are found in decks, a table where nobody can move has a step, a
 //! spectator sees how many seats are in each public class, weights may be
-//! elevenths, and one may ask whether anyone can move.
+//! elevenths, one may ask whether anyone can move, and how likely a question
+//! becomes true within some steps.
 //!
 //! It was written from the documents alone, so that a slip in it and a slip in
 //! the verified library are unlikely to be the same one; `compare` runs both on
 //! the same inputs. It is also meant to be fast: `bench` measures the library
-//! against it. The entries use no heap and go once through a card's bytes, and
-//! at most twice through a question's.
+//! against it. The entries use no heap, but for the odds, and go once through a
+//! card's bytes, and at most twice through a question's.
 //!
 //! ```
 //! let card = b"nondeterministic module process1 s1 : [0..1] init 0;
@@ -30,6 +31,7 @@ mod deck;
 mod expression;
 mod first_move;
 pub mod limits;
+mod odds;
 mod panel;
 mod program;
 mod question;
@@ -44,6 +46,7 @@ mod write;
 pub use card::{Branch, Card, Group, Mode, Node, Statement};
 pub use deck::{find, find_with, judge_deck, locate, locate_with, write_deck, Part};
 pub use first_move::first_move;
+pub use odds::{odds, Aim};
 pub use panel::panel;
 pub use program::program;
 pub use question::ask;

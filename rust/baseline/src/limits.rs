@@ -30,6 +30,12 @@ pub const WORD_DIGITS: usize = 5;
 pub const WEIGHT_FURTHER_DIGITS: usize = 2;
 /// A weight of one, in the units in which weights are held.
 pub const UNIT: u32 = 277_200;
+/// Most count vectors of a table whose odds are reckoned, which is also how long a lent row is.
+pub const VECTORS: usize = 512;
+/// Most steps of odds.
+pub const ODDS_STEPS: usize = 32;
+/// A chance of one, in millionths.
+pub const CERTAIN: u32 = 1_000_000;
 /// Bytes of its input that the panel program looks at.
 pub const INPUT_BYTES: usize = 65_536;
 /// Longest deck, in bytes.

@@ -12,8 +12,7 @@ use crate::scan::{Fits, Scanner, Stop};
 pub fn ask(card: &[u8], question: &[u8], seats: &[u8]) -> Result<bool, Refusal> {
     let mut read = Card::BLANK;
     read_into(card, &mut read)?;
-    let question = Question::read(question, &read)
-        .map_err(|refusal| Refusal::new(OF_QUESTION + refusal.number, refusal.place))?;
+    let question = Question::read_for(question, &read)?;
     let counts = read.counts(seats)?;
     Ok(question.holds(&counts))
 }
@@ -26,12 +25,18 @@ struct Asked {
 }
 
 /// A question that has been read, operands before what joins them.
-struct Question {
+pub(crate) struct Question {
     nodes: [Node<Asked>; NODES],
     length: usize,
 }
 
 impl Question {
+    /// Reads a question about a card's table, with a question's own refusals.
+    pub(crate) fn read_for(bytes: &[u8], card: &Card) -> Result<Question, Refusal> {
+        Question::read(bytes, card)
+            .map_err(|refusal| Refusal::new(OF_QUESTION + refusal.number, refusal.place))
+    }
+
     fn read(bytes: &[u8], card: &Card) -> Result<Question, Refusal> {
         if bytes.len() > QUESTION_BYTES {
             return Err(Refusal::new(TOO_LONG, 0));
@@ -53,7 +58,7 @@ impl Question {
         }
     }
 
-    fn holds(&self, counts: &[u8; STATES]) -> bool {
+    pub(crate) fn holds(&self, counts: &[u8; STATES]) -> bool {
         row_holds(&self.nodes[..self.length], |asked| {
             asked.test.holds(counts[usize::from(asked.state)])
         })

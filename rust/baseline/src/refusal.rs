@@ -39,6 +39,12 @@ pub const IN_EXPANSION: usize = 65_536;
 pub const NO_LIVE_CARD: u8 = 12;
 /// A list of classes has not one for each state, or has one above the highest.
 pub const CLASS_LIST: u8 = 13;
+/// More count vectors than odds are reckoned over.
+pub const TOO_MANY_VECTORS: u8 = 14;
+/// More steps than odds are reckoned for.
+pub const STEPS: u8 = 15;
+/// A lent row has not the length that rows have.
+pub const ROW_LENGTH: u8 = 16;
 /// What is added to [`TOO_LONG`], [`OUTSIDE`], [`SHAPE`], [`LIMIT`], [`STATE`] or [`WORD`] where a question is refused so.
 pub const OF_QUESTION: u8 = 20;
 
