@@ -31,6 +31,9 @@ const char *open_panel_words(uint8_t number) {
     case OPEN_PANEL_DECK: return "a malformed deck, or contents and bodies that make none";
     case OPEN_PANEL_NO_CARD: return "no live card has this number";
     case OPEN_PANEL_CLASSES: return "not one class for each state, or a class above " TEXT(OPEN_PANEL_TOP_CLASS);
+    case OPEN_PANEL_VECTORS: return "the table has more than " TEXT(OPEN_PANEL_ODDS_ROW) " count vectors";
+    case OPEN_PANEL_STEPS: return "more than " TEXT(OPEN_PANEL_ODDS_STEPS) " steps";
+    case OPEN_PANEL_ROWS: return "a lent row does not have " TEXT(OPEN_PANEL_ODDS_ROW) " numbers";
     case OPEN_PANEL_QUESTION_LONG: return "the question is longer than " TEXT(OPEN_PANEL_QUESTION_BYTES) " bytes";
     case OPEN_PANEL_QUESTION_MARK: return "no mark of a question, or too many digits";
     case OPEN_PANEL_QUESTION_SHAPE: return "this cannot stand here, or the question ends early";

@@ -1,7 +1,8 @@
 //! The open panel for Rust: rule cards are judged, written, reduced to
 //! counters, and shown, spectators are shown what they may see, questions about
-//! a seating are answered, it is said whether anyone can move, and cards are
-//! found in decks, by the verified library.
+//! a seating are answered, also whether they come true within some steps, it is
+//! said whether anyone can move, and cards are found in decks, by the verified
+//! library.
 //!
 //! Every entry that takes a card takes it as bytes and judges it first. A text goes into a
 //! room that the caller lends: an entry answers the text's length, and leaves
@@ -22,6 +23,7 @@
 
 mod deck;
 mod library;
+mod odds;
 mod refusal;
 pub mod stack;
 
@@ -29,6 +31,7 @@ pub use deck::{
     find, find_with, judge_deck, locate, locate_with, write_deck, write_deck_to_vec, Part,
     DECK_BYTES, DECK_CARDS,
 };
+pub use odds::{odds, odds_in_own_rows, Aim, CERTAIN, ODDS_ROW, ODDS_STEPS};
 pub use refusal::Refusal;
 
 use deck::RawPart;
@@ -54,7 +57,7 @@ pub const SHOW_ROOM: usize = 4_357;
 /// A room in which all that a spectator sees fits.
 pub const WATCH_ROOM: usize = 25;
 
-/// What the library answers: number 0 and a length, yes or no as 1 or 0, or a statement; or a refusal and its place.
+/// What the library answers: number 0 and a length, yes or no as 1 or 0, a statement, or a chance; or a refusal and its place.
 #[repr(C)]
 struct Answer {
     number: u8,

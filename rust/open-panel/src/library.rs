@@ -49,6 +49,20 @@ extern "C" {
         seats: *const u8,
         seats_len: usize,
     ) -> Answer;
+    fn open_panel_odds(
+        card: *const u8,
+        card_len: usize,
+        question: *const u8,
+        question_len: usize,
+        seats: *const u8,
+        seats_len: usize,
+        m: usize,
+        largest: u8,
+        first: *mut u32,
+        first_len: usize,
+        second: *mut u32,
+        second_len: usize,
+    ) -> Answer;
     fn open_panel_box_judge(deck: *const u8, deck_len: usize) -> Answer;
     fn open_panel_box_find(
         deck: *const u8,
@@ -74,8 +88,8 @@ extern "C" {
     ) -> Answer;
 }
 
-// The library asks for nothing but pieces of memory, of which the room or the
-// part is its alone while it runs: slices and references are that.
+// The library asks for nothing but pieces of memory, of which the room, the
+// part or the rows are its alone while it runs: slices and references are that.
 
 pub(crate) fn judge(card: &[u8]) -> Answer {
     // SAFETY: as above.
@@ -139,6 +153,34 @@ pub(crate) fn watch(card: &[u8], seats: &[u8], classes: &[u8], room: &mut [u8]) 
 pub(crate) fn first_move(card: &[u8], seats: &[u8]) -> Answer {
     // SAFETY: as above.
     unsafe { open_panel_first_move(card.as_ptr(), card.len(), seats.as_ptr(), seats.len()) }
+}
+
+pub(crate) fn odds(
+    card: &[u8],
+    question: &[u8],
+    seats: &[u8],
+    steps: usize,
+    largest: bool,
+    first: &mut [u32],
+    second: &mut [u32],
+) -> Answer {
+    // SAFETY: as above.
+    unsafe {
+        open_panel_odds(
+            card.as_ptr(),
+            card.len(),
+            question.as_ptr(),
+            question.len(),
+            seats.as_ptr(),
+            seats.len(),
+            steps,
+            largest.into(),
+            first.as_mut_ptr(),
+            first.len(),
+            second.as_mut_ptr(),
+            second.len(),
+        )
+    }
 }
 
 pub(crate) fn box_judge(deck: &[u8]) -> Answer {

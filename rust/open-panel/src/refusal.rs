@@ -1,4 +1,4 @@
-//! Why a card, a seating, a room, a question, a deck or a list of classes is turned down, and where.
+//! Why a card, a seating, a room, a question, a deck, a list of classes or odds are turned down, and where.
 
 use std::fmt;
 
@@ -70,6 +70,12 @@ pub enum Refusal {
         /// The list's length if that is wrong, or else the index of the first such class.
         at: usize,
     },
+    /// 14: odds for a table with more than [`ODDS_ROW`](crate::ODDS_ROW) count vectors.
+    Vectors,
+    /// 15: odds for more than [`ODDS_STEPS`](crate::ODDS_STEPS) steps.
+    Steps,
+    /// 16: a lent row that is not [`ODDS_ROW`](crate::ODDS_ROW) numbers long.
+    Row,
     /// 21: the question is longer than [`QUESTION_BYTES`](crate::QUESTION_BYTES).
     QuestionLong,
     /// 22: bytes in the question that make no mark, or a number written too long.
@@ -101,7 +107,7 @@ pub enum Refusal {
 
 impl Refusal {
     /// The refusal of this number at this place, if there is one: the numbers
-    /// are 1 to 13 and 21 to 26, and the place of 1, 8, 12 and 21 is always 0.
+    /// are 1 to 16 and 21 to 26, and the place of 1, 8, 12, 14 to 16 and 21 is always 0.
     pub const fn new(number: u8, place: usize) -> Option<Refusal> {
         Some(match number {
             1 if place == 0 => Refusal::Long,
@@ -117,6 +123,9 @@ impl Refusal {
             11 => Refusal::Deck { at: place },
             12 if place == 0 => Refusal::NoLiveCard,
             13 => Refusal::Classes { at: place },
+            14 if place == 0 => Refusal::Vectors,
+            15 if place == 0 => Refusal::Steps,
+            16 if place == 0 => Refusal::Row,
             21 if place == 0 => Refusal::QuestionLong,
             22 => Refusal::QuestionMark { at: place },
             23 => Refusal::QuestionShape { at: place },
@@ -127,7 +136,7 @@ impl Refusal {
         })
     }
 
-    /// Its number, 1 to 13 or 21 to 26.
+    /// Its number, 1 to 16 or 21 to 26.
     pub const fn number(&self) -> u8 {
         match self {
             Refusal::Long => 1,
@@ -143,6 +152,9 @@ impl Refusal {
             Refusal::Deck { .. } => 11,
             Refusal::NoLiveCard => 12,
             Refusal::Classes { .. } => 13,
+            Refusal::Vectors => 14,
+            Refusal::Steps => 15,
+            Refusal::Row => 16,
             Refusal::QuestionLong => 21,
             Refusal::QuestionMark { .. } => 22,
             Refusal::QuestionShape { .. } => 23,
@@ -155,7 +167,13 @@ impl Refusal {
     /// Its place: a byte of the card, of the question or of a deck, a seat, a state, a length, or 0.
     pub const fn place(&self) -> usize {
         match *self {
-            Refusal::Long | Refusal::SeatCount | Refusal::NoLiveCard | Refusal::QuestionLong => 0,
+            Refusal::Long
+            | Refusal::SeatCount
+            | Refusal::NoLiveCard
+            | Refusal::Vectors
+            | Refusal::Steps
+            | Refusal::Row
+            | Refusal::QuestionLong => 0,
             Refusal::Mark { at }
             | Refusal::Shape { at }
             | Refusal::Limit { at }
@@ -206,9 +224,13 @@ impl fmt::Display for Refusal {
     fn fmt(&self, f: &mut fmt::Formatter<'_>) -> fmt::Result {
         let (words, number, place) = (self.words(), self.number(), self.place());
         match self {
-            Refusal::Long | Refusal::SeatCount | Refusal::NoLiveCard | Refusal::QuestionLong => {
-                write!(f, "{words}")
-            }
+            Refusal::Long
+            | Refusal::SeatCount
+            | Refusal::NoLiveCard
+            | Refusal::Vectors
+            | Refusal::Steps
+            | Refusal::Row
+            | Refusal::QuestionLong => write!(f, "{words}"),
             Refusal::Mark { .. }
             | Refusal::Shape { .. }
             | Refusal::Limit { .. }

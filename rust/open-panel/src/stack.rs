@@ -15,6 +15,8 @@ pub const ASK: usize = 10_752;
 pub const WATCH: usize = 10_752;
 /// [`first_move`](crate::first_move)
 pub const FIRST_MOVE: usize = 10_752;
+/// [`odds`](crate::odds), in lent rows
+pub const ODDS: usize = 12_032;
 /// [`judge_deck`](crate::judge_deck)
 pub const JUDGE_DECK: usize = 256;
 /// [`find`](crate::find), [`locate`](crate::locate)

@@ -69,6 +69,9 @@ fn refusals_have_number_place_and_words() {
             7,
             "a list of 7 classes, or the class of state 7: not one class for each state, or a class above 7 (refusal 13)",
         ),
+        (14, 0, "the table has more than 512 count vectors (refusal 14)"),
+        (15, 0, "more than 32 steps (refusal 15)"),
+        (16, 0, "a lent row does not have 512 numbers (refusal 16)"),
         (
             21,
             0,
@@ -106,10 +109,10 @@ fn refusals_have_number_place_and_words() {
         assert_eq!(refusal.to_string(), words);
         assert_eq!(refusal.is_of_question(), words.contains("the question"));
     }
-    for number in [0, 14, 20, 27, 255] {
+    for number in [0, 17, 20, 27, 255] {
         assert_eq!(Refusal::new(number, 0), None);
     }
-    for number in [1, 8, 12, 21] {
+    for number in [1, 8, 12, 14, 15, 16, 21] {
         assert_eq!(Refusal::new(number, 7), None);
     }
 }
@@ -194,6 +197,49 @@ fn questions_and_their_refusals() {
     let spread = b"(s1=0)\n&\n !(s2=0)";
     assert_eq!(refused(spread).line_and_column(spread), Some((3, 3)));
     assert_eq!(refused(&long).line_and_column(&long), None);
+}
+
+#[test]
+fn odds_and_their_refusals() {
+    let text = std::str::from_utf8(CARD).unwrap();
+    let coin = text.replace("1:(s1'=1)", "1/2:(s1'=1) + 1/2:(s1'=0)");
+    let coin = coin.as_bytes();
+    let own = |steps, aim| odds_in_own_rows(coin, b"(s1=1)", &[0], steps, aim);
+    assert_eq!(own(0, Aim::Largest), Ok(0));
+    assert_eq!(own(2, Aim::Largest), Ok(750_000));
+    assert_eq!(own(2, Aim::Smallest), Ok(750_000));
+    assert_eq!(own(ODDS_STEPS + 1, Aim::Largest), Err(Refusal::Steps));
+    let certain = odds_in_own_rows(coin, b"(s1=1)", &[1], 0, Aim::Smallest);
+    assert_eq!(certain, Ok(CERTAIN));
+    // Somebody who may also stay never has to move.
+    let text = text.replace("[] s1=0", "[] s1=0 -> 1:(s1'=0);\n[] s1=0");
+    let chance = |aim| odds_in_own_rows(text.as_bytes(), b"(s1=1)", &[0], 1, aim);
+    assert_eq!(chance(Aim::Largest), Ok(CERTAIN));
+    assert_eq!(chance(Aim::Smallest), Ok(0));
+
+    let (mut first, mut second) = (vec![7; ODDS_ROW], vec![7; ODDS_ROW]);
+    let rows = (&mut first[..], &mut second[..]);
+    let chance = odds(coin, b"(s1=1)", &[0], 1, Aim::Largest, rows.0, rows.1);
+    assert_eq!(chance, Ok(500_000));
+    assert_eq!(first[..3], [CERTAIN, 500_000, 0]);
+    assert_eq!(second[..3], [CERTAIN, 0, 0]);
+    let refused = |question: &[u8], seats: &[u8], first: usize, second: usize| {
+        let (mut first, mut second) = (vec![7; first], vec![7; second]);
+        let aim = Aim::Largest;
+        let answer = odds(coin, question, seats, 0, aim, &mut first, &mut second);
+        assert!(first.iter().chain(&second).all(|number| *number == 7));
+        answer.unwrap_err()
+    };
+    assert_eq!(refused(b"(s1=1)", &[0], 511, 512), Refusal::Row);
+    assert_eq!(refused(b"(s1=1)", &[0], 512, 513), Refusal::Row);
+    assert_eq!(
+        refused(b"(s1=1)", &[2], 0, 0),
+        Refusal::SeatState { seat: 0 }
+    );
+    assert_eq!(
+        refused(b"(s1=2)", &[], 0, 0),
+        Refusal::QuestionState { at: 4 }
+    );
 }
 
 #[test]
