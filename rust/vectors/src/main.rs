@@ -16,7 +16,7 @@ use std::path::Path;
 use std::process::{Command, ExitCode, Stdio};
 use std::thread;
 
-use vectors::sides::{self, Side, PART_BYTES};
+use vectors::sides::{self, row_numbers, Side, PART_BYTES, ROW_NUMBER_BYTES};
 use vectors::stored::{file, Answer, Cases};
 
 /// What a room holds before: a byte of no text.
@@ -124,6 +124,9 @@ fn answers_as(side: &mut Side, entry: &str, call: &Call) -> Result<(), Fault> {
             let stored = deck.as_deref().map_or(call.stored, Answer::Text);
             writes(side, "open_panel_box_write", read, room, stored)
         }
+        ("odds", [read @ .., steps, largest, first, second]) => {
+            reckons(side, read, [steps, largest], [first, second], call.stored)
+        }
         _ => Err(format!("{entry} is no entry, or is handed something else")),
     }
 }
@@ -197,6 +200,32 @@ fn finds(side: &mut Side, decks: [&[u8]; 2], number: &[u8], stored: Answer) -> R
         return Err(format!("another card: {}", found.escape_ascii()));
     }
     Ok(())
+}
+
+/// Odds, with both rows: as they are stored, or with a refusal as they were.
+fn reckons(
+    side: &mut Side,
+    read: &[&[u8]],
+    [steps, largest]: [&[u8]; 2],
+    rows: [&[u8]; 2],
+    stored: Answer,
+) -> Result<(), Fault> {
+    let steps: u64 = told(steps).ok_or("no number of steps")?;
+    let largest: u8 = told(largest).ok_or("neither largest nor smallest")?;
+    let first = (rows[0].len() / ROW_NUMBER_BYTES) as u64;
+    let told = [&steps.to_le_bytes()[..], &[largest], &first.to_le_bytes()];
+    let mut lent = rows.concat();
+    let answer = side("open_panel_odds", &[read, &told].concat(), &mut lent);
+    let (due, rows) = match stored {
+        Answer::Refused(number, place) => (Err((number, place)), rows.concat()),
+        Answer::Text(_) | Answer::Words(_) => {
+            let (chance, rows) = stored.odds().ok_or("no odds")?;
+            (Ok(chance as usize), rows)
+        }
+    };
+    same(answer, due)?;
+    let numbers = |bytes: &[u8]| row_numbers(bytes);
+    same(numbers(&lent), numbers(&rows)).map_err(|fault| format!("rows {fault}"))
 }
 
 /// A number that is told in digits.

@@ -1,12 +1,15 @@
 //! What answers a call, by the library's names for its entries: the pieces that
 //! are only read, and a room. A card number is a piece of two bytes, low byte
 //! first. What is found is a part of a deck, put into a room of [`PART_BYTES`].
+//! Odds are handed the steps and the first row's length as pieces of eight bytes,
+//! low byte first, between them a byte 1 for the largest or 0 for the smallest,
+//! and both rows, one behind the other, as the room.
 
 use std::ffi::OsString;
 use std::io::{Read, Write};
 use std::process::{Child, ChildStdin, ChildStdout, Command, Stdio};
 
-/// A length, 1 for yes and 0 for no, or a statement from 1 and 0 for none; or the number and the place of a refusal.
+/// A length, 1 for yes and 0 for no, a statement from 1 and 0 for none, or a chance; or the number and the place of a refusal.
 pub type Answer = Result<usize, (u8, usize)>;
 
 /// A part: three numbers of eight bytes, low byte first, which are whether it is in the expansion, its first byte and its length.
@@ -30,6 +33,39 @@ fn card_number(piece: &[u8]) -> u16 {
     u16::from_le_bytes(piece.try_into().expect("two bytes"))
 }
 
+/// How many bytes a number of a row has, low byte first.
+pub const ROW_NUMBER_BYTES: usize = 4;
+
+/// The numbers of a row.
+pub fn row_numbers(bytes: &[u8]) -> Vec<u32> {
+    let (numbers, rest) = bytes.as_chunks::<ROW_NUMBER_BYTES>();
+    assert!(rest.is_empty(), "a row is whole numbers");
+    numbers
+        .iter()
+        .map(|bytes| u32::from_le_bytes(*bytes))
+        .collect()
+}
+
+/// Reckons with both rows of a room, and puts them back.
+fn in_rows<T>(
+    first: &[u8],
+    room: &mut [u8],
+    reckon: impl FnOnce(&mut [u32], &mut [u32]) -> T,
+) -> T {
+    let mut rows = row_numbers(room);
+    let (first, second) = rows.split_at_mut(eight_bytes(first));
+    let answer = reckon(first, second);
+    let bytes = rows.iter().flat_map(|number| number.to_le_bytes());
+    for (place, byte) in room.iter_mut().zip(bytes) {
+        *place = byte;
+    }
+    answer
+}
+
+fn eight_bytes(piece: &[u8]) -> usize {
+    u64::from_le_bytes(piece.try_into().expect("eight bytes")) as usize
+}
+
 /// One way to ask.
 pub type Side = Box<dyn FnMut(&str, &[&[u8]], &mut [u8]) -> Answer>;
 
@@ -48,6 +84,19 @@ pub fn wrapper(entry: &str, pieces: &[&[u8]], room: &mut [u8]) -> Answer {
         }
         ("open_panel_first_move", [card, seats]) => {
             open_panel::first_move(card, seats).map(|first| first.unwrap_or(0))
+        }
+        ("open_panel_odds", [card, question, seats, steps, largest, first]) => {
+            let (steps, aim) = (
+                eight_bytes(steps),
+                match largest {
+                    [0] => open_panel::Aim::Smallest,
+                    _ => open_panel::Aim::Largest,
+                },
+            );
+            in_rows(first, room, |first, second| {
+                open_panel::odds(card, question, seats, steps, aim, first, second)
+            })
+            .map(|chance| chance as usize)
         }
         ("open_panel_box_find_with", [base, expansion, number]) => {
             let found = open_panel::locate_with(base, expansion, card_number(number));
@@ -75,6 +124,19 @@ pub fn baseline(entry: &str, pieces: &[&[u8]], room: &mut [u8]) -> Answer {
         }
         ("open_panel_first_move", [card, seats]) => {
             baseline::first_move(card, seats).map(|first| first.unwrap_or(0))
+        }
+        ("open_panel_odds", [card, question, seats, steps, largest, first]) => {
+            let (steps, aim) = (
+                eight_bytes(steps),
+                match largest {
+                    [0] => baseline::Aim::Smallest,
+                    _ => baseline::Aim::Largest,
+                },
+            );
+            in_rows(first, room, |first, second| {
+                baseline::odds(card, question, seats, steps, aim, first, second)
+            })
+            .map(|chance| chance as usize)
         }
         ("open_panel_box_find_with", [base, expansion, number]) => {
             let found = baseline::locate_with(base, expansion, card_number(number));

@@ -109,6 +109,24 @@ impl Answer<'_> {
     }
 }
 
+impl Answer<'_> {
+    /// Odds: `odds V`, LF, and the numbers of each row on a line; both rows are handed back as bytes.
+    pub fn odds(&self) -> Option<(u32, Vec<u8>)> {
+        let Answer::Words(words) = self else {
+            return None;
+        };
+        let mut lines = str::from_utf8(words).ok()?.strip_suffix('\n')?.split('\n');
+        let chance = lines.next()?.strip_prefix("odds ")?.parse().ok()?;
+        let mut rows = Vec::new();
+        for line in [lines.next()?, lines.next()?] {
+            for number in line.split(' ') {
+                rows.extend(number.parse::<u32>().ok()?.to_le_bytes());
+            }
+        }
+        lines.next().is_none().then_some((chance, rows))
+    }
+}
+
 /// `refused R P` and LF.
 fn refusal(stored: &[u8]) -> Option<Answer<'_>> {
     let words = str::from_utf8(stored).ok()?;

@@ -74,6 +74,16 @@ fn decks_are_stored_as_digits() {
 }
 
 #[test]
+fn odds_are_stored_with_both_rows() {
+    let cases = Cases::new(&[call(&["odds"]), call(&["odds"]), call(&["odds"])].concat());
+    let answers =
+        cases.answers(b"case 0\nodds 7\n7 256\n0 1\ncase 1\nodds 7\n7 256\ncase 2\nodds x\n0\n0\n");
+    let odds: Vec<_> = answers.iter().map(Answer::odds).collect();
+    let rows = vec![7, 0, 0, 0, 0, 1, 0, 0, 0, 0, 0, 0, 1, 0, 0, 0];
+    assert_eq!(odds, [Some((7, rows)), None, None]);
+}
+
+#[test]
 #[should_panic = "`case 1` is missing"]
 fn answers_are_as_many_as_cases() {
     let cases = Cases::new(&[piece("0\na"), piece("0\nb")].concat());
