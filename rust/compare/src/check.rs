@@ -8,6 +8,7 @@ use crate::cards::limits::{SEATS, STATEMENTS};
 use crate::first_moves::moves_first;
 use crate::inputs::{all_seatings, Input, Kind};
 use crate::model::{Expression, Model};
+use crate::odds;
 use crate::questions::Question;
 use crate::random::Random;
 use crate::reduced::Reduced;
@@ -265,6 +266,7 @@ impl Checker {
         }
         self.watches(card, input, random, &mut tally.spectators)?;
         moves_first(card, input, random, &mut tally.first_moves)?;
+        odds::reckons(card, input, random, &mut tally.odds)?;
         let rest = &surrounded[GUARD + input.card.len()..];
         if card != input.card
             || surrounded[..GUARD] != [b'9'; GUARD]

@@ -10,20 +10,24 @@
 //! [`questions`] are asked, made and damaged in the same way, and those that are
 //! answered are held to the seats too. [`spectators`] with good lists of classes
 //! and wrong ones watch each table, and it is asked who can move first
-//! ([`first_moves`]). Cards are looked for in generated [`decks`],
+//! ([`first_moves`]). [`odds`] are reckoned and held to [`exact`] chances, on
+//! small tables to those of seats told apart. Cards are looked for in generated [`decks`],
 //! sound and malformed, and decks are written.
 
+pub mod big;
 pub mod by_seats;
 pub mod cards;
 pub mod check;
 pub mod damage;
 pub mod deck_check;
 pub mod decks;
+pub mod exact;
 pub mod extremes;
 pub mod first_moves;
 pub mod inputs;
 pub mod marks;
 pub mod model;
+pub mod odds;
 pub mod questions;
 pub mod random;
 pub mod reduced;

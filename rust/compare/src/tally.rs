@@ -9,6 +9,7 @@ use crate::check::Entry;
 use crate::deck_check::DeckTally;
 use crate::first_moves::FirstMoveTally;
 use crate::inputs::Kind;
+use crate::odds::OddsTally;
 use crate::questions::{self, Question};
 use crate::spectators::SpectatorTally;
 use crate::weights::BEFORE_ELEVENTHS;
@@ -146,6 +147,8 @@ pub struct Tally {
     pub spectators: SpectatorTally,
     /// First moves.
     pub first_moves: FirstMoveTally,
+    /// Odds.
+    pub odds: OddsTally,
     /// Decks.
     pub decks: DeckTally,
 }
@@ -269,6 +272,7 @@ impl Tally {
         sum(&mut self.digits, &other.digits);
         self.spectators.add(&other.spectators);
         self.first_moves.add(&other.first_moves);
+        self.odds.add(&other.odds);
         self.decks.add(&other.decks);
     }
 
@@ -381,6 +385,7 @@ impl Tally {
         }
         self.spectators.shortfalls(&mut least);
         self.first_moves.shortfalls(&mut least);
+        self.odds.shortfalls(&mut least);
         self.decks.shortfalls(&mut least);
         shortfalls
     }
@@ -464,7 +469,7 @@ impl fmt::Display for Tally {
         writeln!(f)?;
         self.print_questions(f)?;
         write!(f, "\n{}\n{}", self.spectators, self.first_moves)?;
-        write!(f, "\n{}", self.decks)
+        write!(f, "\n{}\n{}", self.odds, self.decks)
     }
 }
 
