@@ -3,11 +3,11 @@
 //! first in a room that is always enough, then in rooms that just fit, where
 //! both sides measure a text before they put it; then questions, which take no
 //! room, and what a spectator sees, beside judging a card alone; whether anyone
-//! can move, beside judging and the whole panel; then a card looked for in a
-//! deck. Each round goes through all rows, so that a while in which the machine
-//! is slow spoils none of them. Then the stack that the entries use, on the
-//! inputs that need most; `bench stack` prints that table alone, and fails where
-//! an entry uses more than the wrapper says.
+//! can move, beside judging and the whole panel; odds after the most steps; then
+//! a card looked for in a deck. Each round goes through all rows, so that a
+//! while in which the machine is slow spoils none of them. Then the stack that
+//! the entries use, on the inputs that need most; `bench stack` prints that table
+//! alone, and fails where an entry uses more than the wrapper says.
 
 mod deepest;
 mod stack;
@@ -23,6 +23,7 @@ use compare::extremes::{extremes, Extreme};
 use compare::marks::{lay_out, Layout};
 use compare::model::{Expression, Model, Statement, Unary};
 use compare::random::Random;
+use open_panel::ODDS_STEPS;
 use vectors::stored::{base, Input};
 
 /// Rounds of which the best counts, for each side.
@@ -202,6 +203,44 @@ fn first_move_sets() -> Vec<Set> {
     ]
 }
 
+/// Card A, and in both modes the table with the most count vectors that odds are reckoned for: of eight seats and five
+/// states, with the most statements and branches, all of which can be taken wherever a seat is in their state.
+fn odds_sets() -> Vec<Set> {
+    let all = base();
+    let card_a = all.first().map(|stored| Case {
+        question: b"(s1=2 & s2=2 & s3=2)".to_vec(),
+        ..Case::new(stored.card().to_vec(), stored.seats())
+    });
+    let full = |name, probabilistic| {
+        let mut random = Random::new(0, 0);
+        let mut full = full_table();
+        (full.seats, full.top, full.probabilistic) = (8, 4, probabilistic);
+        full.statements = (0..STATEMENTS)
+            .map(|place| Statement {
+                own: place % (full.top + 1),
+                guard: Vec::new(),
+                branches: branches(BRANCHES, full.top, &mut random),
+            })
+            .collect();
+        let card = lay_out(&full.marks(), Layout::Tight, &mut random);
+        Set {
+            name,
+            cases: vec![Case {
+                question: b"(s1=0&s2=0&s3=0&s4=0&s5=0&s6=0&s7=0&s8=0)".to_vec(),
+                ..Case::new(card, vec![0, 0, 1, 1, 2, 3, 4, 4])
+            }],
+        }
+    };
+    vec![
+        Set {
+            name: "card A, 10 vectors",
+            cases: card_a.into_iter().collect(),
+        },
+        full("495 vectors, probabilistic", true),
+        full("495 vectors, nondeterministic", false),
+    ]
+}
+
 /// A card of the most seats and one statement.
 fn full_table() -> Model {
     Model {
@@ -322,6 +361,66 @@ const FIRST_MOVE: Entry = (
     |case, _| {
         let first = baseline::first_move(&case.card, &case.seats);
         first.ok().flatten()
+    },
+);
+
+/// The entry that reckons odds, here after the most steps and in rows that are on its stack.
+const ODDS: Entry = (
+    "odds",
+    |Case {
+         card,
+         seats,
+         question,
+         ..
+     },
+     _| {
+        let aim = open_panel::Aim::Largest;
+        let chance = open_panel::odds_in_own_rows(card, question, seats, ODDS_STEPS, aim);
+        chance.ok().map(|chance| chance as usize)
+    },
+    |Case {
+         card,
+         seats,
+         question,
+         ..
+     },
+     _| {
+        let aim = baseline::Aim::Largest;
+        let [mut first, mut second] = [[0; open_panel::ODDS_ROW]; 2];
+        let rows = (&mut first, &mut second);
+        let chance = baseline::odds(card, question, seats, ODDS_STEPS, aim, rows.0, rows.1);
+        chance.ok().map(|chance| chance as usize)
+    },
+);
+
+/// The same for the table of stack, in rows that are not on it.
+const ODDS_IN_LENT_ROWS: Entry = (
+    "odds",
+    |Case {
+         card,
+         seats,
+         question,
+         ..
+     },
+     _| {
+        let mut rows = vec![0; 2 * open_panel::ODDS_ROW];
+        let (first, second) = rows.split_at_mut(open_panel::ODDS_ROW);
+        let aim = open_panel::Aim::Largest;
+        let chance = open_panel::odds(card, question, seats, ODDS_STEPS, aim, first, second);
+        chance.ok().map(|_| 0)
+    },
+    |Case {
+         card,
+         seats,
+         question,
+         ..
+     },
+     _| {
+        let mut rows = vec![0; 2 * open_panel::ODDS_ROW];
+        let (first, second) = rows.split_at_mut(open_panel::ODDS_ROW);
+        let aim = baseline::Aim::Largest;
+        let chance = baseline::odds(card, question, seats, ODDS_STEPS, aim, first, second);
+        chance.ok().map(|_| 0)
     },
 );
 
@@ -505,7 +604,7 @@ fn print_table(rows: &[Row]) {
 }
 
 /// How much stack the wrapper says that each entry takes, in the order of the table below.
-const BOUNDS: [usize; 11] = [
+const BOUNDS: [usize; 12] = [
     open_panel::stack::JUDGE,
     open_panel::stack::WRITE,
     open_panel::stack::REDUCE,
@@ -513,6 +612,7 @@ const BOUNDS: [usize; 11] = [
     open_panel::stack::ASK,
     open_panel::stack::WATCH,
     open_panel::stack::FIRST_MOVE,
+    open_panel::stack::ODDS,
     open_panel::stack::JUDGE_DECK,
     open_panel::stack::FIND,
     open_panel::stack::FIND_WITH,
@@ -528,10 +628,20 @@ fn print_stack() -> bool {
         deepest::decks(),
         deepest::deck_parts(),
     );
+    let reckoned: Vec<Case> = odds_sets()
+        .into_iter()
+        .flat_map(|set| set.cases)
+        .chain(deepest::questions())
+        .collect();
     let of_cards = ENTRIES.into_iter().map(|entry| (entry, &cards));
     let of_decks = DECK_ENTRIES.into_iter().map(|entry| (entry, &decks));
     let all = of_cards
-        .chain([(ASK, &questions), (WATCH, &watched), (FIRST_MOVE, &cards)])
+        .chain([
+            (ASK, &questions),
+            (WATCH, &watched),
+            (FIRST_MOVE, &cards),
+            (ODDS_IN_LENT_ROWS, &reckoned),
+        ])
         .chain(of_decks)
         .chain([(WRITE_DECK, &parts)]);
     println!("| Entry | Library, bytes of stack | Bound | Baseline, bytes of stack |\n|---|---:|---:|---:|");
@@ -554,6 +664,7 @@ fn main() -> ExitCode {
     }
     let (sets, question_sets, deck_sets) = (sets(), question_sets(), vec![full_deck()]);
     let (spectator_sets, first_move_sets) = (spectator_sets(), first_move_sets());
+    let odds_sets = odds_sets();
     let [judge, _, _, show] = ENTRIES;
     let mut room = vec![0; open_panel::REDUCE_ROOM];
     let mut tables = [
@@ -567,6 +678,7 @@ fn main() -> ExitCode {
             whole_room,
             &mut room,
         ),
+        rows(&[ODDS], &odds_sets, whole_room, &mut room),
         rows(&[FIND], &deck_sets, whole_room, &mut room),
     ];
     for beside in [2, 3] {
@@ -578,7 +690,7 @@ fn main() -> ExitCode {
             row.round(round, &mut room);
         }
     }
-    let [always_enough, just_fit, questions, spectators, first_moves, decks] = tables;
+    let [always_enough, just_fit, questions, spectators, first_moves, odds, decks] = tables;
     println!("In a room of {} bytes:\n", room.len());
     print_table(&always_enough);
     println!("\nIn rooms that just fit each text:\n");
@@ -589,6 +701,8 @@ fn main() -> ExitCode {
     print_table(&spectators);
     println!("\nWhether anyone can move, beside judging the card and its whole panel:\n");
     print_table(&first_moves);
+    println!("\nOdds after {ODDS_STEPS} steps:\n");
+    print_table(&odds);
     println!("\nA full deck:\n");
     print_table(&decks);
     println!();
