@@ -1,7 +1,8 @@
 // The library as WebAssembly behind two pipes, asked as tests/c/bridge.c says: `node tests/bridge.mjs open_panel.wasm`.
 //
 // An entry takes where its answer goes, and for each piece where it lies (a number) and its length (a BigInt). One that finds a card takes
-// the card's number as a number, and of the part only where it lies.
+// the card's number as a number, and of the part only where it lies. Odds take the steps as a BigInt and the aim as a number, and each row as
+// where it lies and how many numbers it has.
 import { readFileSync, readSync, writeSync } from "node:fs";
 
 const GUARD = 64;
@@ -48,6 +49,12 @@ for (let guard = 0; ; guard = guard >= 122 ? 32 : guard + 1) {
 
     const words = pieces.map((piece, i) => [piece.length && places[i], BigInt(piece.length)]);
     if (/^open_panel_box_find/.test(name)) words.splice(-2, 2, [pieces.at(-2).readUInt16LE()], [places.at(-1)]);
+    if (name.toString() === "open_panel_odds") {
+        const [steps, aim, first, rows] = pieces.slice(3);
+        const [inFirst, inBoth] = [first.readBigUInt64LE(), BigInt(rows.length / 4)];
+        const rowsAt = places.at(-1);
+        words.splice(3, 4, [steps.readBigUInt64LE()], [aim[0]], [rowsAt, inFirst], [rowsAt + 4 * Number(inFirst), inBoth - inFirst]);
+    }
     entries[name.toString()](answerAt, ...words.flat());
 
     const roomAt = places.at(-1);

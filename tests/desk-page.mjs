@@ -203,6 +203,31 @@ async function questions() {
     await says("question-says", "no at 112");
 }
 
+/** The curve's numbers are the command's, largest and smallest. */
+async function odds() {
+    for (const [name, seating, question] of [
+        ["card-a", "000", "(s1=2 | s2=2 | s3=2)"],
+        ["leader-election", "011", "((s1=1 & s2!=1 & s3!=1) | (s1!=1 & s2=1 & s3!=1) | (s1!=1 & s2!=1 & s3=1))"],
+    ]) {
+        await example(name);
+        await seat(seating);
+        await fill("question", question);
+        const read = (...words) => asked("odds", ...words, `examples/${name}`, seating, question, "12").trim().split("\n").map((line) => line.split(/ +/).slice(2, 4).join(" · "));
+        const due = name === "card-a" ? [read()] : [read(), read("--smallest")];
+        await page.until(`document.getElementById("odds").dataset.asked === ${JSON.stringify(`${seating} ${question}`)}`);
+        await page.until(`document.querySelectorAll("#odds-table tr").length === 14 && document.querySelectorAll("#curve polyline").length === ${due.length}`);
+        const shown = await page.ask(`[...document.querySelectorAll("#odds-table tr")].slice(1).map((row) => [...row.querySelectorAll("td")].map((cell) => cell.textContent))`);
+        hold(`odds of ${name}`, JSON.stringify(shown), JSON.stringify(due[0].map((_, night) => due.map((all) => all[night]))));
+        const heights = await page.ask(`[...document.querySelector("#curve polyline").points].map((point) => point.y)`);
+        hold(`the curve of ${name} rises`, heights.every((height, i) => i === 0 || height <= heights[i - 1]) && heights.at(-1) < heights[0]);
+        await page.ask(`(document.getElementById("nights").value = 3, document.getElementById("nights").dispatchEvent(new Event("input")))`);
+        hold(`nights of ${name}`, await page.ask(`document.querySelectorAll("#odds-table tr").length`), 5);
+        hold(`said of ${name}`, (await text("odds-says")).startsWith("Within 3 nights: "));
+        await page.ask(`(document.getElementById("nights").value = 12, document.getElementById("nights").dispatchEvent(new Event("input")))`);
+    }
+    await screenshot("odds");
+}
+
 async function texts() {
     await example("leader-election");
     await click("#layout");
@@ -237,8 +262,8 @@ const FAINT = `(() => {
         const style = getComputedStyle(node);
         if (!own || !node.checkVisibility({ visibilityProperty: true }) || node.closest(".under") || style.opacity === "0") continue;
         seen += 1;
-        const found = ratio(channels(style.color), behind(node));
-        if (found < 4.5) faint.push(node.tagName + "." + node.className + " " + node.textContent.trim().slice(0, 20) + " " + found.toFixed(2));
+        const found = ratio(channels(node instanceof SVGElement ? style.fill : style.color), behind(node));
+        if (found < 4.5) faint.push(node.tagName + "." + node.getAttribute("class") + " " + node.textContent.trim().slice(0, 20) + " " + found.toFixed(2));
     }
     // what is typed over what is underlined
     for (const mark of document.querySelectorAll(".under mark")) {
@@ -275,6 +300,7 @@ async function forEverybody() {
             await page.ask(`document.getElementById("kind").value = "one"`);
             await click("#put");
             await says("question-says", "no at 0123456701234567");
+            await says("odds-says", "the seats can be spread over the roles in 245,157 ways, and odds are reckoned for at most 512");
         },
     };
     for (const [name, reach] of Object.entries(states)) {
@@ -316,7 +342,7 @@ async function byTab() {
             await click("#layout");
         }
         await page.ask(`document.activeElement.blur(), window.reached = new Set(), document.addEventListener("focusin", ({ target }) => window.reached.add(target))`);
-        const due = await page.ask(`(window.due = [...document.querySelectorAll("button, input, select, textarea, [tabindex]")].filter((control) => !control.disabled && control.checkVisibility())).length`);
+        const due = await page.ask(`(window.due = [...document.querySelectorAll("button, input, select, textarea, summary, [tabindex]")].filter((control) => !control.disabled && control.checkVisibility({ contentVisibilityAuto: true }))).length`);
         for (let i = 0; i < due + 5; i += 1) await page.press("Tab");
         hold("reached by Tab", await page.ask(`window.due.filter((control) => !window.reached.has(control)).map((control) => control.id || control.textContent).join(", ")`), "");
         hold("controls", due >= 18);
@@ -337,7 +363,7 @@ try {
     await page.tell("Page.navigate", { url });
     await page.until("document.documentElement?.dataset.ready === 'yes'", 30);
     await screenshot("desk");
-    for (const part of [wrongAndMended, panels, drawn, shuffles, questions, texts, forEverybody, byTab]) await part();
+    for (const part of [wrongAndMended, panels, drawn, shuffles, questions, odds, texts, forEverybody, byTab]) await part();
     hold("requests", requests.join(" "), url);
     // a request would be stopped, and the browser would say so
     const before = wrong.length;

@@ -31,9 +31,10 @@ const unescaped = (text) => {
     return long.replace(/\\(?:([rnt])|x([0-9a-f]{2}))/g, (_, letter, code) => (letter ? { r: "\r", n: "\n", t: "\t" }[letter] : String.fromCharCode(parseInt(code, 16))));
 };
 
-function refusal(card, question, seats) {
+function refusal(card, question, seats, nights) {
     try {
-        if (question !== undefined) library.ask(asBytes(card), asBytes(question), values("000"));
+        if (nights !== undefined) library.odds(asBytes(card), asBytes(question), values(seats ?? "000"), Number(nights), 1);
+        else if (question !== undefined) library.ask(asBytes(card), asBytes(question), values("000"));
         else if (seats !== undefined) library.firstMove(asBytes(card), values(seats));
         else library.judge(asBytes(card));
     } catch (refusal) {
@@ -64,13 +65,13 @@ for (const one of cases) {
     if (given.classes !== undefined) continue;
     table += 1;
     const text = card.flat().map((line) => `${line}\n`).join("");
-    const refused = refusal(text, given.question, given.seats);
+    const refused = refusal(text, given.question, given.seats, given.nights);
     if (!refused) {
         same(name, "taken", "refused");
         continue;
     }
-    const said = explain(refused, { card: text, ...given });
-    const under = { card: text, ...given }[said.of].slice(said.from, said.to);
+    const said = explain(refused, { card: text, ...given, nights: Number(given.nights) });
+    const under = ({ card: text, ...given }[said.of] ?? "").slice(said.from, said.to);
     const encoded = (sentence) => bytesAsText(new TextEncoder().encode(sentence));
     same(name, `${said.number} ${said.place}${under ? ` ${under}` : ""}`, unescaped(due["="]));
     same(name, encoded(said.sentence), due[">"]);

@@ -93,6 +93,20 @@ expect 0 'nobody can move' '' first examples/card-a 012
 expect 0 'classes 2 1 0 0 0 0 0 0' '' watch examples/card-a 001 012
 expect 1 '' 'classes:1:3: refused 13 2: role 2 has the class 8, and 0 to 7 was due*' watch examples/card-a 018
 
+# odds, night by night
+odds='night  0  0.000000       0%  |                                        |
+night  1  0.500000      50%  |####################                    |
+night  2  0.750000      75%  |##############################          |'
+printf "probabilistic\nmodule process1\ns1 : [0..1] init 0;\n[] s1=0 -> 1/2:(s1'=1) + 1/2:(s1'=0);\nendmodule\n" >"$made/tossed"
+expect 0 "$odds" '' odds "$made/tossed" 0 '(s1=1)' 2
+expect 0 'night  0 *night  1  0.500000 *' '' odds examples/coin-toss 00 '(s1=1 | s2=1)' 1
+expect 1 '' 'examples/coin-toss: refused 15 0: 33 nights given, and odds are reckoned for at most 32' odds examples/coin-toss '(s1=1 | s2=1)' 33
+expect 1 '' 'question:1:1: refused 26 0: *' odds examples/coin-toss '(s2=1)' 3
+one="((s1=1 & s2!=1 & s3!=1) | (s1!=1 & s2=1 & s3!=1) | (s1!=1 & s2!=1 & s3=1))"
+expect 0 'night  0  0.000000 *night  3  0.875000    87.5%  |###################################     |' '' odds examples/leader-election "$one" 3
+expect 0 'night  0  0.000000 *night  3  0.000000       0%  |                                        |' '' odds --smallest examples/leader-election "$one" 3
+expect 2 '' 'desk: `x` is no number of nights*' odds examples/coin-toss '(s1=1 | s2=1)' x
+
 # a refusal, whole
 sed 's/(s2=0 | s3=0)/(s2=0)/' "$made/card-a" >"$made/wrong"
 refusal="$made/wrong:4:11: refused 6 60: the group leaves out seat 3, and it has to name the seats 1 to 3, or the seats 2 and 3, once each

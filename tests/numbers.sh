@@ -57,6 +57,9 @@ number SEATS mostSeats
 number TOP_STATE topState
 number TOP_CLASS topClass
 number UNIT unit
+number ODDS_ROW mostVectors
+number ODDS_STEPS mostNights
+number CERTAIN million
 number WRITE_ROOM writtenRoom
 number REDUCE_ROOM reducedRoom
 number SHOW_ROOM panelRoom
@@ -75,6 +78,9 @@ refusal ROOM Room roomTooSmall
 refusal DECK Deck malformedDeck
 refusal NO_CARD NoLiveCard noLiveCard
 refusal CLASSES Classes wrongClasses
+refusal VECTORS Vectors tooManyVectors
+refusal STEPS Steps tooManyNights
+refusal ROWS Row wrongRow
 
 # a question's numbers
 refusal QUESTION_LONG QuestionLong 'inQuestion tooLong'
@@ -92,6 +98,7 @@ stack SHOW SHOW
 stack ASK ASK
 stack WATCH WATCH
 stack FIRST_MOVE FIRST_MOVE
+stack ODDS ODDS
 stack BOX_JUDGE JUDGE_DECK
 stack BOX_FIND FIND
 stack BOX_FIND_WITH FIND_WITH

@@ -32,6 +32,8 @@ through() {
     held requests/2026-05 requests/2026-05 spectator "${@:2}"
     for entry in read write reduce panel ask; do held requests/2026-06 requests/2026-06 $entry "${@:2}"; done
     held requests/2026-07 requests/2026-07 first_move "${@:2}"
+    # the JavaScript module lends rows itself, and does not hand them out
+    [[ $1 = *mjs ]] || held requests/2026-08 requests/2026-08 odds "${@:2}"
 }
 
 through "$machine-linux, by the Rust wrapper"

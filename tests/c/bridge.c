@@ -5,8 +5,9 @@
  * A request is numbers of eight bytes, low byte first: how many pieces, and the
  * length of each; then the pieces: the name of an entry, what it only reads, and
  * its room (of no length for an entry without one; for one that finds a card the
- * part, as three such numbers). A card number is a piece of two bytes, low byte
- * first. The answer is the entry's number and value and then the whole room. Before and behind each piece stand
+ * part, as three such numbers; for odds both rows). A card number is a piece of
+ * two bytes, low byte first; odds take the steps and the first row's length as
+ * such numbers, between them a byte for the aim. The answer is the entry's number and value and then the whole room. Before and behind each piece stand
  * bytes that the library must not write: the number is SPOILT if one of them, or
  * of what is only read, is not what it was.
  */
@@ -28,6 +29,45 @@ static uint16_t card_number(const piece *p) {
 }
 
 static void put_number(uint8_t *bytes, size_t value);
+static size_t number_of(const uint8_t *bytes);
+
+/* Rows of numbers, with bytes around each that the library must not write. */
+enum { ROW_NUMBER = 4, AROUND = 16 };
+static int rows_spoilt;
+
+static uint32_t *row_of(const uint8_t *bytes, size_t length) {
+    uint32_t *row = malloc((length + 2 * AROUND) * ROW_NUMBER);
+    if (row == NULL) {
+        exit(1);
+    }
+    memset(row, 0xa5, (length + 2 * AROUND) * ROW_NUMBER);
+    if (length > 0) {
+        memcpy(row + AROUND, bytes, length * ROW_NUMBER);
+    }
+    return row;
+}
+
+static void put_row(uint8_t *bytes, uint32_t *row, size_t length) {
+    size_t i;
+    for (i = 0; i < AROUND; i++) {
+        rows_spoilt |= row[i] != 0xa5a5a5a5 || row[AROUND + length + i] != 0xa5a5a5a5;
+    }
+    if (length > 0) {
+        memcpy(bytes, row + AROUND, length * ROW_NUMBER);
+    }
+    free(row);
+}
+
+static open_panel_answer odds(const piece *p) {
+    const size_t first = number_of(p[5].at), second = p[6].length / ROW_NUMBER - first;
+    uint8_t *behind = second == 0 ? NULL : p[6].at + first * ROW_NUMBER;
+    uint32_t *a = row_of(p[6].at, first), *b = row_of(behind, second);
+    open_panel_answer answer = open_panel_odds(p[0].at, p[0].length, p[1].at, p[1].length, p[2].at, p[2].length,
+                                               number_of(p[3].at), p[4].at[0], a + AROUND, first, b + AROUND, second);
+    put_row(p[6].at, a, first);
+    put_row(behind, b, second);
+    return answer;
+}
 
 /* Into its room; the library fills in every number. */
 static void put_part(const piece *room, const open_panel_part *part) {
@@ -52,6 +92,8 @@ static int enter(const char *name, const piece *p, open_panel_answer *answer) {
         *answer = open_panel_ask(p[0].at, p[0].length, p[1].at, p[1].length, p[2].at, p[2].length);
     } else if (strcmp(name, "open_panel_first_move") == 0) {
         *answer = open_panel_first_move(p[0].at, p[0].length, p[1].at, p[1].length);
+    } else if (strcmp(name, "open_panel_odds") == 0) {
+        *answer = odds(p);
     } else if (strcmp(name, "open_panel_box_judge") == 0) {
         *answer = open_panel_box_judge(p[0].at, p[0].length);
     } else if (strcmp(name, "open_panel_box_find") == 0) {
@@ -104,17 +146,21 @@ static void give(const uint8_t *from, size_t length) {
     }
 }
 
-static size_t take_number(void) {
-    uint8_t bytes[NUMBER];
+static size_t number_of(const uint8_t *bytes) {
     size_t value = 0;
     int i;
-    if (!take(bytes, NUMBER)) {
-        exit(0);
-    }
     for (i = NUMBER; i > 0; i--) {
         value = value << 8 | bytes[i - 1];
     }
     return value;
+}
+
+static size_t take_number(void) {
+    uint8_t bytes[NUMBER];
+    if (!take(bytes, NUMBER)) {
+        exit(0);
+    }
+    return number_of(bytes);
 }
 
 static void put_number(uint8_t *bytes, size_t value) {
@@ -176,7 +222,7 @@ int main(void) {
             return 1;
         }
         i = p[pieces - 1].length;
-        spoilt = memcmp(store, before, (size_t)(room - store)) != 0 || memcmp(room + i, before + (room + i - store), GUARD) != 0;
+        spoilt = rows_spoilt || memcmp(store, before, (size_t)(room - store)) != 0 || memcmp(room + i, before + (room + i - store), GUARD) != 0;
         /* The answer goes where the guard before the room was, so that all is given at once. */
         put_number(room - 2 * NUMBER, spoilt ? SPOILT : answer.number);
         put_number(room - NUMBER, answer.value);

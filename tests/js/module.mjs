@@ -36,6 +36,8 @@ assert.equal(panel.ask(card, "(s1=2 | s2=2 | s3=2)", seats), false);
 assert.equal(panel.watch(card, seats, [0, 1, 1]), "classes 2 1 0 0 0 0 0 0\n");
 assert.equal(panel.firstMove(card, seats), 1);
 assert.equal(panel.firstMove(card, [0, 1, 2]), 0);
+assert.equal(panel.odds(card, "(s1=0 | s2=0 | s3=0)", seats, 5, 1), numbers.CERTAIN);
+refused(() => panel.odds(card, "(s1=0 | s2=0 | s3=0)", seats, numbers.ODDS_STEPS + 1, 1), { number: 15, place: 0 });
 const entry = [5, 0, 0, 0, 4, 0, 1, 0];
 const [base, expansion] = ["base", "more"].map((body) => panel.boxWrite(entry, body));
 assert.ok(base instanceof Uint8Array && base.length === 13);
