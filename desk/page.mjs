@@ -1,5 +1,5 @@
 import { load } from "./open_panel.mjs";
-import { bytesAsText, explain, fraction, seatsLine, UNIT, useSentences, walkCard } from "./reasons.mjs";
+import { bytesAsText, explain, fraction, ODDS_NIGHTS, seatsLine, UNIT, useSentences, walkCard } from "./reasons.mjs";
 
 // The page: what is typed and clicked goes to the library, and what it answers is shown.
 
@@ -380,6 +380,7 @@ function written(kind, role, seats) {
 
 function readQuestion(delay = 250) {
     const bytes = encode(questionEditor.text);
+    showOdds();
     if (!now.card || questionEditor.text.trim() === "") {
         questionEditor.mark();
         say("question-says", delay, ...(now.card ? [element("span", { class: "quiet" }, "A question gets yes or no at the seats above.")] : []));
@@ -395,6 +396,79 @@ function readQuestion(delay = 250) {
         questionEditor.mark();
         say("question-says", delay, element("span", { class: "answer" }, answer ? "yes" : "no"), ` at ${now.seats.join("")}`);
     }
+}
+
+// ---- its odds
+
+const CERTAIN = 1000000;
+const KINDS = [["largest", 1], ["smallest", 0]];
+
+/** An element of a drawing. */
+function svg(name, attributes, ...within) {
+    const made = document.createElementNS("http://www.w3.org/2000/svg", name);
+    for (const [key, value] of Object.entries(attributes)) made.setAttribute(key, value);
+    made.append(...within);
+    return made;
+}
+
+const inMillionths = (chance) => (chance / CERTAIN).toFixed(6);
+
+/** The odds of the question for every night that can be asked for, largest and smallest on a nondeterministic card; nothing where it is refused. */
+function oddsOf(question) {
+    const { bytes, text, walk } = now.card;
+    const seats = Uint8Array.from(now.seats);
+    const kinds = walk.nondeterministic ? KINDS : [["chance", 1]];
+    const { answer, refusal } = tried(() => kinds.map(([name, largest]) => ({
+        name, chances: repeated(ODDS_NIGHTS + 1, (night) => library.odds(bytes, question, seats, night, largest)),
+    })));
+    if (!refusal || refusal.number > 20) return { curves: answer };
+    return { said: explain(refusal, { card: text, nights: ODDS_NIGHTS }) };
+}
+
+let reckoning;
+function showOdds() {
+    clearTimeout(reckoning);
+    reckoning = setTimeout(() => {
+        const { curves, said } = now.card && questionEditor.text.trim() !== "" ? oddsOf(encode(questionEditor.text)) : {};
+        $("odds").hidden = !curves && !said;
+        now.curves = curves;
+        $("odds").dataset.asked = `${now.seats.join("")} ${questionEditor.text}`;
+        if (said) {
+            $("curve").replaceChildren();
+            $("odds-table").replaceChildren();
+            $("odds-says").replaceChildren(...refusalSaid(said, ""));
+        }
+        if (curves) drawOdds();
+    }, 150);
+}
+
+function drawOdds() {
+    const nights = Number($("nights").value);
+    $("nights-shown").textContent = String(nights);
+    if (!now.curves) return;
+    const [left, right, top, bottom] = [48, 628, 14, 226];
+    const x = (night) => left + ((right - left) * night) / Math.max(nights, 1);
+    const y = (chance) => bottom - ((bottom - top) * chance) / CERTAIN;
+    const parts = [0, 250000, 500000, 750000, CERTAIN].flatMap((chance) => [
+        svg("line", { class: "grid", x1: left, x2: right, y1: y(chance), y2: y(chance) }),
+        svg("text", { x: left - 8, y: y(chance) + 4, "text-anchor": "end" }, `${chance / 10000}%`),
+    ]);
+    const step = nights > 16 ? 4 : nights > 8 ? 2 : 1;
+    for (let night = 0; night <= nights; night += step) parts.push(svg("text", { x: x(night), y: bottom + 20, "text-anchor": "middle" }, String(night)));
+    for (const { name, chances } of now.curves) {
+        const kind = name === "smallest" ? "smallest" : "largest";
+        const points = chances.slice(0, nights + 1).map((chance, night) => [x(night), y(chance)]);
+        parts.push(svg("polyline", { class: kind, points: points.map((point) => point.join(",")).join(" ") }));
+        points.forEach(([cx, cy], night) => parts.push(svg("circle", { class: kind, cx, cy, r: 3.5 }, svg("title", {}, `night ${night}: ${percent(chances[night], CERTAIN)}`))));
+    }
+    const told = now.curves.map(({ name, chances }) => `${name} ${inMillionths(chances[nights])} (${percent(chances[nights], CERTAIN)})`);
+    const after = `Within ${count(nights, "night")}: `;
+    $("curve").replaceChildren(svg("svg", { viewBox: "0 0 640 256", role: "img", "aria-label": `A curve from night 0 to ${nights}. ${after}${told.join(", ")}` }, ...parts));
+    const keys = now.curves.flatMap(({ name }, i) => [i ? ", " : "", element("span", { class: `key ${name}`, "aria-hidden": "true" }), told[i]]);
+    $("odds-says").replaceChildren(after, ...keys, ".");
+    const head = element("tr", {}, element("th", { scope: "col" }, "night"), ...now.curves.map(({ name }) => element("th", { scope: "col" }, name)));
+    const rows = repeated(nights + 1, (night) => element("tr", {}, element("th", { scope: "row" }, String(night)), ...now.curves.map(({ chances }) => element("td", {}, `${inMillionths(chances[night])} · ${percent(chances[night], CERTAIN)}`))));
+    $("odds-table").replaceChildren(head, ...rows);
 }
 
 // ---- what is clicked
@@ -414,6 +488,7 @@ function start(text, name) {
 
 cardEditor.field.addEventListener("input", () => readCard());
 questionEditor.field.addEventListener("input", () => readQuestion());
+$("nights").addEventListener("input", drawOdds);
 for (const button of document.querySelectorAll("[data-example]")) {
     button.addEventListener("click", () => start(plainText(`example-${button.dataset.example}`), button.dataset.example));
 }

@@ -12,6 +12,8 @@ const BRANCHES = 8;
 const NODES = 32;
 const DEPTH = 8;
 const TOP = 7;
+const ODDS_ROW = 512;
+export const ODDS_NIGHTS = 32;
 export const UNIT = 277200;
 
 let sentences = new Map();
@@ -419,13 +421,14 @@ function listed(things, word) {
 
 /**
  * Why something is refused: its sentence, a hint if there is one, and the bytes that it is about, in the text that the refusal is `of`. What was
- * handed in is a card, and perhaps a question and seats as they were typed, as strings of bytes.
+ * handed in is a card, and perhaps a question and seats as they were typed, as strings of bytes, and how many nights odds were asked for.
  */
-export function explain({ number, place }, { card = "", question = "", seats = "" }) {
-    const of = number > 20 ? "question" : number === 8 || number === 9 ? "seats" : "card";
+export function explain({ number, place }, { card = "", question = "", seats = "", nights = 0 }) {
+    const of = number > 20 ? "question" : number >= 14 ? "odds" : number === 8 || number === 9 ? "seats" : "card";
     let at = place;
     let reason;
     if (of === "question") reason = ofText(question, number - 20, place, "question", walkQuestion, walkCard(card));
+    else if (of === "odds") reason = ofOdds(number, nights, card);
     else if (of === "card") reason = ofText(card, number, place, "card", walkCard);
     else ({ at, reason } = ofSeats(seats, card, number, place));
     return {
@@ -798,6 +801,15 @@ function ofSeats(typed, card, number, place) {
     if (/[0-9]/.test(typed[place])) return { at: place, reason: found("seats.role", seat, { seat, found: typed[place], top }) };
     const { character, length } = characterAt(typed, place) ?? { character: `0x${hex(typed.charCodeAt(place), 2)}`, length: 1 };
     return { at: place, reason: found("seats.letter", place + length, { seat, found: character, top }) };
+}
+
+function ofOdds(number, nights, card) {
+    if (number === 15) return found("odds.nights", 0, { found: grouped(nights), most: ODDS_NIGHTS });
+    if (number !== 14) return plain(number, 0);
+    const walk = walkCard(card);
+    let ways = 1;
+    for (let role = 1; role <= (walk.top?.value ?? 0); role += 1) ways = (ways * (walk.modules.length + role)) / role;
+    return found("odds.vectors", 0, { found: grouped(ways), most: ODDS_ROW });
 }
 
 /** How long the line of seats at the head of a text is with its LF. No card begins with a digit, so what does is such a line. */

@@ -1,6 +1,6 @@
 //! A panel's weights as chances.
 
-use open_panel::UNIT;
+use open_panel::{CERTAIN, UNIT};
 
 use crate::reason::fraction;
 
@@ -62,4 +62,23 @@ pub fn percent(parts: u64, whole: u64) -> String {
             format!("{}%", text.trim_end_matches('0').trim_end_matches('.'))
         }
     }
+}
+
+/// How wide a bar is.
+const BAR: u32 = 40;
+
+/// The chances of nights from 0 on, in millionths: a line for each, as a number, in percent and as a bar.
+pub fn night_by_night(chances: &[u32]) -> String {
+    let mut made = String::new();
+    for (night, &chance) in chances.iter().enumerate() {
+        let shown = format!("{}.{:06}", chance / CERTAIN, chance % CERTAIN);
+        let percent = percent(chance.into(), CERTAIN.into());
+        let long = (u64::from(chance) * u64::from(BAR) / u64::from(CERTAIN)) as usize;
+        let bar = "#".repeat(long);
+        made += &format!(
+            "night {night:>2}  {shown}  {percent:>7}  |{bar:width$}|\n",
+            width = BAR as usize
+        );
+    }
+    made
 }

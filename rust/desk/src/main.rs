@@ -6,19 +6,20 @@ mod input;
 use std::io::{self, Write};
 use std::process::ExitCode;
 
-use desk::chances::with_chances;
+use desk::chances::{night_by_night, with_chances};
 use desk::reason::{Given, Of};
 use desk::{report, walk};
-use open_panel::Refusal;
+use open_panel::{Aim, Refusal};
 
 use input::{values, wrong_words, Input};
 
 const HELP: &str = include_str!("help.txt");
 
 /// The options of each command; one with `=` takes a word behind it.
-const OPTIONS: [(&str, &[&str]); 4] = [
+const OPTIONS: [(&str, &[&str]); 5] = [
     ("write", &["--check"]),
     ("panel", &["--chances"]),
+    ("odds", &["--smallest"]),
     ("box", &["--withdrawn=", "--unread"]),
     ("help", &[]),
 ];
@@ -91,6 +92,14 @@ fn main() -> ExitCode {
         ("watch", [card, seats @ .., classes]) if seats.len() <= 1 => {
             watch(card, seats.first().copied(), classes)
         }
+        ("odds", [card, seats @ .., question, nights]) if seats.len() <= 1 => {
+            let aim = if words.has("--smallest") {
+                Aim::Smallest
+            } else {
+                Aim::Largest
+            };
+            odds(card, seats.first().copied(), question, nights, aim)
+        }
         ("box", ["list", rest @ ..]) if words.options.is_empty() => boxes::list(rest),
         ("box", ["find", rest @ ..]) if words.options.is_empty() => boxes::find(rest),
         ("box", ["write", rest @ ..]) => {
@@ -150,6 +159,7 @@ fn refused(input: &Input, given: Given, refusal: Refusal) -> ExitCode {
         Of::Seats => report::print("seats", given.seats, span.clone(), &reason),
         Of::Question => report::print("question", given.question, span.clone(), &reason),
         Of::Classes => report::print("classes", given.classes, span.clone(), &reason),
+        Of::Odds => eprint!("{}", report::plain_report(&input.name, "", "", "", &reason)),
     }
     ExitCode::FAILURE
 }
@@ -366,6 +376,30 @@ fn watch(name: &str, seats: Option<&str>, classes: &str) -> ExitCode {
     };
     match open_panel::watch_to_vec(given.card, &values(given.seats), &values(given.classes)) {
         Ok(line) => put(&line),
+        Err(refusal) => refused(&input, given, refusal),
+    }
+}
+
+fn odds(name: &str, seats: Option<&str>, question: &str, nights: &str, aim: Aim) -> ExitCode {
+    let input = Input::read(name);
+    let Ok(nights) = nights.parse() else {
+        wrong_words(&format!("`{nights}` is no number of nights"));
+    };
+    let given = Given {
+        card: input.card(),
+        question: question.as_bytes(),
+        seats: seats_of(&input, seats),
+        nights,
+        ..Given::default()
+    };
+    let seats = values(given.seats);
+    let chance =
+        |night| open_panel::odds_in_own_rows(given.card, given.question, &seats, night, aim);
+    // what is wrong is told before a line is printed, by the last night
+    let all =
+        chance(nights).and_then(|_| (0..=nights).map(chance).collect::<Result<Vec<u32>, _>>());
+    match all {
+        Ok(all) => put(night_by_night(&all).as_bytes()),
         Err(refusal) => refused(&input, given, refusal),
     }
 }

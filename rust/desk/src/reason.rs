@@ -5,7 +5,9 @@
 use std::collections::BTreeSet;
 use std::ops::Range;
 
-use open_panel::{Refusal, CARD_BYTES, DECK_BYTES, DECK_CARDS, QUESTION_BYTES, TOP_CLASS};
+use open_panel::{
+    Refusal, CARD_BYTES, DECK_BYTES, DECK_CARDS, ODDS_ROW, ODDS_STEPS, QUESTION_BYTES, TOP_CLASS,
+};
 
 use crate::marks::{marks, Kind, Mark, NUMBER_DIGITS, WORD_DIGITS};
 use crate::walk::{self, units, Group, Literal, One, Stop, Walk, UNIT};
@@ -39,6 +41,8 @@ pub struct Given<'t> {
     pub seats: &'t [u8],
     /// The classes, a digit each.
     pub classes: &'t [u8],
+    /// How many nights odds were asked for.
+    pub nights: usize,
 }
 
 /// Which text a refusal is of.
@@ -52,6 +56,8 @@ pub enum Of {
     Seats,
     /// The classes.
     Classes,
+    /// No text, but how much odds would take.
+    Odds,
 }
 
 impl Of {
@@ -60,6 +66,7 @@ impl Of {
         match refusal.number() {
             8 | 9 => Of::Seats,
             13 => Of::Classes,
+            14..=16 => Of::Odds,
             21..=26 => Of::Question,
             _ => Of::Card,
         }
@@ -74,6 +81,7 @@ impl<'t> Given<'t> {
             Of::Question => self.question,
             Of::Seats => self.seats,
             Of::Classes => self.classes,
+            Of::Odds => &[],
         }
     }
 
@@ -84,6 +92,7 @@ impl<'t> Given<'t> {
             Of::Question => of_question(self.question, self.card, refusal),
             Of::Seats => of_seats(self.seats, self.card, refusal),
             Of::Classes => of_classes(self.classes, self.card, refusal),
+            Of::Odds => of_odds(self.nights, self.card, refusal),
         }
     }
 }
@@ -126,9 +135,10 @@ impl Found {
 
 /// What no other sentence fits.
 fn plain(number: u8, end: usize) -> Found {
-    const NAMES: [&str; 13] = [
+    const NAMES: [&str; 16] = [
         "plain.1", "plain.2", "plain.3", "plain.4", "plain.5", "plain.6", "plain.7", "plain.8",
-        "plain.9", "plain.10", "plain.11", "plain.12", "plain.13",
+        "plain.9", "plain.10", "plain.11", "plain.12", "plain.13", "plain.14", "plain.15",
+        "plain.16",
     ];
     found(NAMES[usize::from(number) - 1], end, vec![])
 }
@@ -1063,6 +1073,33 @@ fn of_classes(typed: &[u8], card: &[u8], refusal: Refusal) -> Reason {
         }
     };
     reason.said(refusal, at)
+}
+
+/// Why odds are refused: 14 and 15. The card is one that is taken.
+fn of_odds(nights: usize, card: &[u8], refusal: Refusal) -> Reason {
+    let reason = match refusal.number() {
+        14 => {
+            let walk = walk::card(card);
+            let top = walk.top.map_or(String::new(), |top| text_of(top.of(card)));
+            let (seats, top) = (walk.modules.len(), top.parse::<usize>().unwrap_or(0));
+            let fills = vec![
+                ("found", grouped(ways(seats, top))),
+                ("most", fill(ODDS_ROW)),
+            ];
+            found("odds.vectors", 0, fills)
+        }
+        15 => {
+            let fills = vec![("found", grouped(nights)), ("most", fill(ODDS_STEPS))];
+            found("odds.nights", 0, fills)
+        }
+        number => plain(number, 0),
+    };
+    reason.said(refusal, 0)
+}
+
+/// In how many ways seats can be spread over the roles from 0 to the top.
+fn ways(seats: usize, top: usize) -> usize {
+    (1..=top).fold(1, |ways, role| ways * (seats + role) / role)
 }
 
 /// Bytes of an entry of a box.

@@ -5,7 +5,7 @@ use std::collections::BTreeSet;
 
 use desk::reason::{of_deck, of_number, of_written, Given, Of, Reason};
 use desk::words;
-use open_panel::{find, judge_deck, write_deck_to_vec, Refusal};
+use open_panel::{find, judge_deck, odds_in_own_rows, write_deck_to_vec, Aim, Refusal};
 
 const TABLE: &str = include_str!("../../../desk/wrong-cards.txt");
 
@@ -16,6 +16,7 @@ struct Case {
     question: Option<Vec<u8>>,
     seats: Option<Vec<u8>>,
     classes: Option<Vec<u8>>,
+    nights: Option<usize>,
     /// Number, place and what is underlined; the sentence; the hint.
     due: [&'static str; 3],
 }
@@ -77,7 +78,7 @@ fn cases() -> Vec<Case> {
 fn case(base: &[&str], part: &'static str) -> Case {
     let (name, lines) = part.split_once('\n').expect("a case has lines");
     let mut card: Vec<Vec<Vec<u8>>> = base.iter().map(|line| vec![bytes(line)]).collect();
-    let (mut question, mut seats, mut classes) = (None, None, None);
+    let (mut question, mut seats, mut classes, mut nights) = (None, None, None, None);
     let mut due = [""; 3];
     for line in lines.lines().filter(|line| !line.is_empty()) {
         let (word, text) = line.split_once(' ').unwrap_or((line, ""));
@@ -89,6 +90,7 @@ fn case(base: &[&str], part: &'static str) -> Case {
             ("question", _) => question = Some(bytes(text)),
             ("seats", _) => seats = Some(bytes(text)),
             ("classes", _) => classes = Some(bytes(text)),
+            ("nights", _) => nights = Some(text.parse().expect(name)),
             (_, Ok(at)) => match &word[number.len()..] {
                 "-" => card[at - 1].clear(),
                 "+" => card[at - 1].push(bytes(text)),
@@ -109,6 +111,7 @@ fn case(base: &[&str], part: &'static str) -> Case {
         question,
         seats,
         classes,
+        nights,
         due,
     }
 }
@@ -126,6 +129,11 @@ fn values(typed: &[u8]) -> Vec<u8> {
 
 /// What the library answers to a case.
 fn answer(case: &Case) -> Result<(), Refusal> {
+    if let Some(nights) = case.nights {
+        let question = case.question.as_deref().unwrap_or_default();
+        let seats = values(case.seats.as_deref().unwrap_or(b"000"));
+        return odds_in_own_rows(&case.card, question, &seats, nights, Aim::Largest).map(|_| ());
+    }
     match (&case.question, &case.seats, &case.classes) {
         (Some(question), ..) => open_panel::ask(&case.card, question, &[0; 3]).map(|_| ()),
         (_, Some(seats), _) => open_panel::first_move(&case.card, &values(seats)).map(|_| ()),
@@ -149,6 +157,7 @@ fn each_wrong_card_is_explained() {
             question: case.question.as_deref().unwrap_or_default(),
             seats: case.seats.as_deref().unwrap_or_default(),
             classes: case.classes.as_deref().unwrap_or_default(),
+            nights: case.nights.unwrap_or_default(),
         };
         let reason = given.reason(refusal);
         let text = given.text(Of::refusal(refusal));

@@ -98,6 +98,7 @@ fn explained(entry: &str, pieces: &[Vec<u8>], refusal: Refusal) -> Reason {
         question: &question,
         seats: &seats,
         classes: &classes,
+        nights: 0,
     };
     given.reason(refusal)
 }
