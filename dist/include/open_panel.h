@@ -39,7 +39,7 @@ extern "C" {
 #endif
 
 /* The version of this header; open_panel_version gives the library's. CHANGELOG.md says what each one changed. */
-#define OPEN_PANEL_VERSION "0.7.1"
+#define OPEN_PANEL_VERSION "0.8.0"
 
 /* Lengths have 64 bits: a size_t of fewer would be read as another number. */
 typedef char open_panel_needs_a_size_t_of_8_bytes[sizeof(size_t) == 8 ? 1 : -1];
@@ -52,6 +52,11 @@ typedef char open_panel_needs_a_size_t_of_8_bytes[sizeof(size_t) == 8 ? 1 : -1];
 
 /* The highest public class; a spectator's line has a number for each from 0 on. */
 #define OPEN_PANEL_TOP_CLASS 7
+
+/* How many numbers each row of open_panel_odds has, how many steps it looks ahead at most, and a chance of 1. */
+#define OPEN_PANEL_ODDS_ROW 512
+#define OPEN_PANEL_ODDS_STEPS 32
+#define OPEN_PANEL_CERTAIN 1000000
 
 /* The weights on a panel are in units of 1 / OPEN_PANEL_UNIT. */
 #define OPEN_PANEL_UNIT 277200
@@ -86,6 +91,7 @@ typedef char open_panel_needs_a_size_t_of_8_bytes[sizeof(size_t) == 8 ? 1 : -1];
 #define OPEN_PANEL_STACK_ASK 10752
 #define OPEN_PANEL_STACK_WATCH 10752
 #define OPEN_PANEL_STACK_FIRST_MOVE 10752
+#define OPEN_PANEL_STACK_ODDS 12032
 #define OPEN_PANEL_STACK_BOX_JUDGE 256
 #define OPEN_PANEL_STACK_BOX_FIND 256
 #define OPEN_PANEL_STACK_BOX_FIND_WITH 256
@@ -94,7 +100,7 @@ typedef char open_panel_needs_a_size_t_of_8_bytes[sizeof(size_t) == 8 ? 1 : -1];
 /* The numbers of the refusals, and behind the semicolon what `value` is: bytes of the card, from 21 on of the question, count from 0. */
 enum open_panel_refusal {
     OPEN_PANEL_TAKEN = 0,      /* none; a text's or a deck's length, 1 for yes and 0 for no from open_panel_ask, a statement's place or 0 from
-                                  open_panel_first_move, 0 where nothing is written */
+                                  open_panel_first_move, millionths from open_panel_odds, 0 where nothing is written */
     OPEN_PANEL_LONG = 1,       /* a card of more than OPEN_PANEL_CARD_BYTES; 0 */
     OPEN_PANEL_MARK = 2,       /* bytes that make no mark of a card, or a number written too long; where they begin */
     OPEN_PANEL_SHAPE = 3,      /* a mark that does not fit there; where it begins. Or none is left where one is due; card_len */
@@ -111,6 +117,9 @@ enum open_panel_refusal {
     OPEN_PANEL_NO_CARD = 12,   /* no live card has the number; 0 */
     OPEN_PANEL_CLASSES = 13,   /* a list that has not one class for each state of the card; classes_len. Or a class above
                                   OPEN_PANEL_TOP_CLASS; the index in classes of the first one */
+    OPEN_PANEL_VECTORS = 14,   /* the seats can be spread over the states in more than OPEN_PANEL_ODDS_ROW ways; 0 */
+    OPEN_PANEL_STEPS = 15,     /* more than OPEN_PANEL_ODDS_STEPS steps; 0 */
+    OPEN_PANEL_ROWS = 16,      /* a row that has not OPEN_PANEL_ODDS_ROW numbers; 0 */
 
     OPEN_PANEL_QUESTION_LONG = 21,  /* a question of more than OPEN_PANEL_QUESTION_BYTES; 0 */
     OPEN_PANEL_QUESTION_MARK = 22,  /* bytes that make no mark, or a number written too long; where in the question they begin */
@@ -122,7 +131,7 @@ enum open_panel_refusal {
 
 typedef struct {
     uint8_t number; /* 0, or one of enum open_panel_refusal */
-    size_t value;   /* a length, yes or no, or a statement's place, if number is 0, else the place of the refusal */
+    size_t value;   /* a length, yes or no, a statement's place, or millionths, if number is 0, else the place of the refusal */
 } open_panel_answer;
 
 /* C hands back a larger struct otherwise than the library does, on some processors. */
@@ -223,6 +232,36 @@ open_panel_answer open_panel_ask(const uint8_t *card, size_t card_len,
  */
 open_panel_answer open_panel_first_move(const uint8_t *card, size_t card_len,
                                         const uint8_t *seats, size_t seats_len);
+
+/*
+ * The chance that a question becomes true within m steps from a seating: number
+ * 0, and value in millionths, 0 to OPEN_PANEL_CERTAIN. It is never above the
+ * exact chance, and below it by at most m millionths. On a nondeterministic
+ * card it is the smallest chance over the ways to choose if `largest` is 0, and
+ * the largest if it is anything else; on a probabilistic card `largest` makes no
+ * difference. A seating where the question holds has chance 1, and where nothing
+ * can be taken more steps change nothing. The order of the seats does not matter.
+ *
+ * Both rows have OPEN_PANEL_ODDS_ROW numbers; first_len and second_len count
+ * numbers, not bytes. Afterwards the first holds the chance within m steps for
+ * every way to spread the seats over the states, the second the chance within
+ * m - 1 steps, or zeros if m is 0. These count vectors are ordered by how many
+ * seats are in state 0, then in state 1 and so on, rising; behind them stand
+ * zeros. The rows are aligned as uint32_t is, and must not overlap each other or
+ * anything else that is lent.
+ *
+ * Refusals: 1 to 7 of the card, then 21 to 26 of the question, then 8 and 9 of
+ * the seats, 14, 15 and 16. A refusal leaves both rows as they were, and nothing
+ * else is written anywhere. A null card of length 0 gets 3 at 0; with a card that
+ * is taken a null question of length 0 gets 23 at 0, then null seats of length 0
+ * get 8, and a null row of length 0 gets 16, last of all.
+ */
+open_panel_answer open_panel_odds(const uint8_t *card, size_t card_len,
+                                  const uint8_t *question, size_t question_len,
+                                  const uint8_t *seats, size_t seats_len,
+                                  size_t m, uint8_t largest,
+                                  uint32_t *first, size_t first_len,
+                                  uint32_t *second, size_t second_len);
 
 /*
  * A deck (a box) is a count byte, 1 to OPEN_PANEL_DECK_CARDS; so many entries of

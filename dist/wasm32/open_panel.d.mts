@@ -39,6 +39,8 @@ export interface Panel {
     ask(card: Bytes, question: Bytes, seats: Bytes): boolean;
     /** `open_panel_first_move` of open_panel.h. */
     firstMove(card: Bytes, seats: Bytes): number;
+    /** `open_panel_odds` of open_panel.h. */
+    odds(card: Bytes, question: Bytes, seats: Bytes, m: number, largest: number): number;
     /** `open_panel_box_judge` of open_panel.h. */
     boxJudge(deck: Bytes): void;
     /** `open_panel_box_find` of open_panel.h. */

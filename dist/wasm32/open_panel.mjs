@@ -7,13 +7,16 @@
 // Each function of open_panel.h that answers about bytes is one here, under its name without `open_panel_` (box_find is boxFind). Rooms and
 // rows are lent by this module. A card or a question is a string or bytes, seats and classes are bytes or numbers. It needs nothing else.
 
-const VERSION = "0.7.1";
+const VERSION = "0.8.0";
 const NUMBERS = {
     CARD_BYTES: 16384,
     QUESTION_BYTES: 16384,
     SEATS: 16,
     TOP_STATE: 7,
     TOP_CLASS: 7,
+    ODDS_ROW: 512,
+    ODDS_STEPS: 32,
+    CERTAIN: 1000000,
     UNIT: 277200,
     DECK_BYTES: 65535,
     DECK_CARDS: 64,
@@ -36,6 +39,9 @@ const WORDS = {
     11: "a malformed deck, or contents and bodies that make none",
     12: "no live card has this number",
     13: "not one class for each state, or a class above 7",
+    14: "the table has more than 512 count vectors",
+    15: "more than 32 steps",
+    16: "a lent row does not have 512 numbers",
     21: "the question is longer than 16384 bytes",
     22: "no mark of a question, or too many digits",
     23: "this cannot stand here, or the question ends early",
@@ -51,6 +57,7 @@ const ENTRIES = {
     watch: { answer: "text", takes: [["bytes", "card"], ["bytes", "seats"], ["bytes", "classes"], ["room", "room"]] },
     ask: { answer: "yes", takes: [["bytes", "card"], ["bytes", "question"], ["bytes", "seats"]] },
     first_move: { answer: "number", takes: [["bytes", "card"], ["bytes", "seats"]] },
+    odds: { answer: "number", takes: [["bytes", "card"], ["bytes", "question"], ["bytes", "seats"], ["u64", "m"], ["u8", "largest"], ["row", "first"], ["row", "second"]] },
     box_judge: { answer: "nothing", takes: [["bytes", "deck"]] },
     box_find: { answer: "part", takes: [["bytes", "deck"], ["u16", "number"], ["part", "part"]] },
     box_find_with: { answer: "part", takes: [["bytes", "base"], ["bytes", "expansion"], ["u16", "number"], ["part", "part"]] },

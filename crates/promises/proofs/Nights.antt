@@ -5,6 +5,7 @@ use mathlib.Core.Logic.{_⊎_, inl}
 use mathlib.Core.List.{List, [], _∷_, _++_, map}
 use native.Mathlib.Decide.{decLe}
 use native.Mathlib.Omega.{arith}
+use borrow.Author.Tests.{ne-eqb}
 use lib.ListN.{length, getD, length-map, length-append}
 use Rattle.card.specs.Laid.{zeros, padded}
 use Rattle.card.proofs.Filling.{length-zeros}
@@ -71,12 +72,12 @@ meaning = record {
   exact-mean = mean-exact;
   listed = λ c. listed (c .k) (c .n);
   how-many = λ c. how-many (suc (c .k)) (c .n);
-  of-seatings = λ c v. (vector-seated c v, λ h. subst (IsVector (suc (c .k)) (c .n)) (h .1 .1) (counts-vector c (h .0) (h .1 .0)));
+  of-seatings = λ c v. (vector-seated c v, λ h. subst (IsVector (suc (c .k)) (c .n)) (h .2) (counts-vector c (h .0) (h .1)));
   in-row = in-row;
   behind = λ c q a m i h. padded-past mostVectors (map (chanceAt c q a m) (vectorsOf c)) i (rw (length-map (vectorsOf c) (chanceAt c q a m)) h);
   best = λ a top f l n e. extreme-best a top f l n e;
   aims = (refl, refl);
-  aims-for-c = (refl, λ b. refl);
+  aims-for-c = (refl, λ b. rw (ne-eqb (suc b) 0 (omega arith)));
   long = λ c q a m h. padded-long mostVectors (map (chanceAt c q a m) (vectorsOf c)) (rw (length-map (vectorsOf c) (chanceAt c q a m)) h);
   none-before = λ c q a. refl;
   before = λ c q a m. refl;

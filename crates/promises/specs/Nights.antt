@@ -38,7 +38,7 @@ use Rattle.promises.specs.ForC.{Answers}
 
 -- ---- what the value is
 
-pub record OddsMeaning : Type 0 where
+pub record OddsMeaning : Type 1 where
   -- of every card that is taken, question and valid seating: close to the exact chance from below, the same by seats, a chance, and more
   pub chance : (card : List ℕ) (c : Read card) (q : Question) (a : Aim) (m : ℕ) (x : Seating) → ValidSeating (c .0) x → Chance (c .0) q a m x
   -- the exact mean over e turns is the sum over (e × unit): the denominator of the next round is that of this one times `bottom`
@@ -52,7 +52,7 @@ pub record OddsMeaning : Type 0 where
   pub listed : (c : Card) → Listed (suc (c .k)) (c .n)
   pub how-many : (c : Card) → length (vectorsOf c) ≡ ways (suc (c .k)) (c .n)
   -- they are the counts of the seatings
-  pub of-seatings : (c : Card) (v : List ℕ) → IsVector (suc (c .k)) (c .n) v ↔ ((x : Seating) × (ValidSeating c x × (counts (c .k) x ≡ v)))
+  pub of-seatings : (c : Card) (v : List ℕ) → IsVector (suc (c .k)) (c .n) v ↔ ((x : Seating) × ValidSeating c x × (counts (c .k) x ≡ v))
   -- a row has the round's value at the place of each, and zeros behind them; where they are few enough it has 512 numbers
   pub in-row : (c : Card) (q : Question) (a : Aim) (m : ℕ) (v : List ℕ) → IsVector (suc (c .k)) (c .n) v → valueIn (roundRow c q a m) v ≡ chanceAt c q a m v
   pub behind : (c : Card) (q : Question) (a : Aim) (m i : ℕ) → length (vectorsOf c) ≤ i → getD (roundRow c q a m) i 0 ≡ 0
@@ -95,7 +95,7 @@ pub record OddsTells (card question seats : List ℕ) (m : ℕ) (aim : Aim) (was
   -- no refusal touches the rows
   pub untouched : (a .number ≡ 0 → ⊥) → is ≡ was
 
-pub record Nights : Type 0 where
+pub record Nights : Type 1 where
   pub meaning : OddsMeaning
   -- for any bytes, any number of steps and any rows: each refusal exactly where it is due, in document 02's order, or the value with both rows
   pub answers : (card question seats : List ℕ) (m : ℕ) (aim : Aim) (was is : Two (List ℕ)) (a : Answer)
