@@ -422,7 +422,7 @@ function oddsOf(question) {
         name, chances: repeated(ODDS_NIGHTS + 1, (night) => library.odds(bytes, question, seats, night, largest)),
     })));
     if (!refusal || refusal.number > 20) return { curves: answer };
-    return { said: explain(refusal, { card: text, nights: ODDS_NIGHTS }) };
+    return { said: explain(refusal, { card: text }) };
 }
 
 let reckoning;

@@ -421,14 +421,15 @@ function listed(things, word) {
 
 /**
  * Why something is refused: its sentence, a hint if there is one, and the bytes that it is about, in the text that the refusal is `of`. What was
- * handed in is a card, and perhaps a question and seats as they were typed, as strings of bytes, and how many nights odds were asked for.
+ * handed in is a card, and perhaps a question and seats as they were typed, and how many nights odds were asked for, as strings of bytes.
  */
-export function explain({ number, place }, { card = "", question = "", seats = "", nights = 0 }) {
-    const of = number > 20 ? "question" : number >= 14 ? "odds" : number === 8 || number === 9 ? "seats" : "card";
+export function explain({ number, place }, { card = "", question = "", seats = "", nights = "" }) {
+    const of = number > 20 ? "question" : number === 15 ? "nights" : number === 8 || number === 9 ? "seats" : "card";
     let at = place;
     let reason;
     if (of === "question") reason = ofText(question, number - 20, place, "question", walkQuestion, walkCard(card));
-    else if (of === "odds") reason = ofOdds(number, nights, card);
+    else if (of === "nights") reason = found("odds.nights", nights.length, { found: cut(nights), most: ODDS_NIGHTS });
+    else if (number === 14) ({ at, reason } = ofTable(card));
     else if (of === "card") reason = ofText(card, number, place, "card", walkCard);
     else ({ at, reason } = ofSeats(seats, card, number, place));
     return {
@@ -803,13 +804,25 @@ function ofSeats(typed, card, number, place) {
     return { at: place, reason: found("seats.letter", place + length, { seat, found: character, top }) };
 }
 
-function ofOdds(number, nights, card) {
-    if (number === 15) return found("odds.nights", 0, { found: grouped(nights), most: ODDS_NIGHTS });
-    if (number !== 14) return plain(number, 0);
-    const walk = walkCard(card);
-    let ways = 1;
-    for (let role = 1; role <= (walk.top?.value ?? 0); role += 1) ways = (ways * (walk.modules.length + role)) / role;
-    return found("odds.vectors", 0, { found: grouped(ways), most: ODDS_ROW });
+/** Why there are no odds of a card that is taken. */
+function ofTable(card) {
+    const { top: { at, end, value: top }, modules: { length: seats } } = walkCard(card);
+    const down = (from, to, fits) => {
+        let number = from;
+        while (number > to && !fits(number)) number -= 1;
+        return number;
+    };
+    const less = down(top - 1, 0, (less) => ways(seats, less) <= ODDS_ROW);
+    const fewer = down(seats - 1, 1, (fewer) => ways(fewer, top) <= ODDS_ROW);
+    const reason = found("odds.vectors", end, { seats: many(seats, "seat"), top, found: grouped(ways(seats, top)), most: ODDS_ROW });
+    return { at, reason: hinted(reason, "hint.vectors", { seats: many(seats, "seat"), less, top, fewer: many(fewer, "seat") }) };
+}
+
+/** In how many ways seats can be spread over the roles from 0 to the top. */
+function ways(seats, top) {
+    let made = 1;
+    for (let role = 1; role <= top; role += 1) made = (made * (seats + role)) / role;
+    return made;
 }
 
 /** How long the line of seats at the head of a text is with its LF. No card begins with a digit, so what does is such a line. */

@@ -300,7 +300,7 @@ async function forEverybody() {
             await page.ask(`document.getElementById("kind").value = "one"`);
             await click("#put");
             await says("question-says", "no at 0123456701234567");
-            await says("odds-says", "the seats can be spread over the roles in 245,157 ways, and odds are reckoned for at most 512");
+            await says("odds-says", "16 seats can be spread over the roles 0 to 7 in 245,157 ways, and odds are reckoned for at most 512");
         },
     };
     for (const [name, reach] of Object.entries(states)) {

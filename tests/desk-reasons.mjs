@@ -33,7 +33,7 @@ const unescaped = (text) => {
 
 function refusal(card, question, seats, nights) {
     try {
-        if (nights !== undefined) library.odds(asBytes(card), asBytes(question), values(seats ?? "000"), Number(nights), 1);
+        if (nights !== undefined) library.odds(asBytes(card), asBytes(question), values(seats ?? "000"), Math.min(Number(nights), Number.MAX_SAFE_INTEGER), 1);
         else if (question !== undefined) library.ask(asBytes(card), asBytes(question), values("000"));
         else if (seats !== undefined) library.firstMove(asBytes(card), values(seats));
         else library.judge(asBytes(card));
@@ -70,7 +70,7 @@ for (const one of cases) {
         same(name, "taken", "refused");
         continue;
     }
-    const said = explain(refused, { card: text, ...given, nights: Number(given.nights) });
+    const said = explain(refused, { card: text, ...given });
     const under = ({ card: text, ...given }[said.of] ?? "").slice(said.from, said.to);
     const encoded = (sentence) => bytesAsText(new TextEncoder().encode(sentence));
     same(name, `${said.number} ${said.place}${under ? ` ${under}` : ""}`, unescaped(due["="]));
@@ -109,7 +109,8 @@ function piecesOf(path, number, entry) {
     }
     const [, card, ...rest] = record;
     const given = { card: bytesAsText(card) };
-    if (entry === "ask") Object.assign(given, { question: bytesAsText(rest[0]), seats: typed(rest[1]) });
+    if (entry === "ask" || entry === "odds") Object.assign(given, { question: bytesAsText(rest[0]), seats: typed(rest[1]) });
+    if (entry === "odds") given.nights = bytesAsText(rest[2]);
     else if (["panel", "first_move", "spectator"].includes(entry)) given.seats = typed(rest[0]);
     return given;
 }

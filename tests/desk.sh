@@ -100,12 +100,36 @@ night  2  0.750000      75%  |##############################          |'
 printf "probabilistic\nmodule process1\ns1 : [0..1] init 0;\n[] s1=0 -> 1/2:(s1'=1) + 1/2:(s1'=0);\nendmodule\n" >"$made/tossed"
 expect 0 "$odds" '' odds "$made/tossed" 0 '(s1=1)' 2
 expect 0 'night  0 *night  1  0.500000 *' '' odds examples/coin-toss 00 '(s1=1 | s2=1)' 1
-expect 1 '' 'examples/coin-toss: refused 15 0: 33 nights given, and odds are reckoned for at most 32' odds examples/coin-toss '(s1=1 | s2=1)' 33
+refusal='nights:1:1: refused 15 0: 33 nights given, and odds are reckoned for at most 32
+   1 | 33
+     | ^^'
+expect 1 '' "$refusal" odds examples/coin-toss '(s1=1 | s2=1)' 33
+expect 1 '' 'nights:1:1: refused 15 0: 99999999999999999999 nights given, *' odds examples/coin-toss '(s1=1 | s2=1)' 99999999999999999999
+# a table that is too large, underlined in the card behind a line of seats
+{ printf '000000\nprobabilistic\nmodule process1\ns1 : [0..7] init 0;\n' && echo "[] s1=0 -> 1:(s1'=7);" && echo endmodule && printf 'module process%s = process1 [s1=s%s, s%s=s1] endmodule\n' {2,2,2,3,3,3,4,4,4,5,5,5,6,6,6}; } >"$made/many"
+refusal="$made/many:4:10: refused 14 0: 6 seats can be spread over the roles 0 to 7 in 1,716 ways, and odds are reckoned for at most 512
+   4 | s1 : [0..7] init 0;
+     |          ^
+     = hint: with 6 seats the highest role may be 5, and with the roles 0 to 7 there may be 4 seats"
+expect 1 '' "$refusal" odds "$made/many" '(s1=7 | s2=7 | s3=7 | s4=7 | s5=7 | s6=7)' 3
+# a bar is empty for 0 alone, and full for 1 alone
+odds='night  0  0.000000       0%  |                                        |
+night  1  0.010000       1%  |#                                       |
+night  2  1.000000     100%  |########################################|'
+printf "probabilistic\nmodule process1\ns1 : [0..2] init 0;\n[] s1=0 -> 0.01:(s1'=2) + 0.99:(s1'=1);\n[] s1=1 -> 1:(s1'=2);\nendmodule\n" >"$made/seldom"
+expect 0 "$odds" '' odds "$made/seldom" 0 '(s1=2)' 2
+expect 0 '*night 20  0.999999  >99.99%  |####################################### |' '' odds "$made/tossed" 0 '(s1=1)' 20
 expect 1 '' 'question:1:1: refused 26 0: *' odds examples/coin-toss '(s2=1)' 3
 one="((s1=1 & s2!=1 & s3!=1) | (s1!=1 & s2=1 & s3!=1) | (s1!=1 & s2!=1 & s3=1))"
 expect 0 'night  0  0.000000 *night  3  0.875000    87.5%  |###################################     |' '' odds examples/leader-election "$one" 3
 expect 0 'night  0  0.000000 *night  3  0.000000       0%  |                                        |' '' odds --smallest examples/leader-election "$one" 3
-expect 2 '' 'desk: `x` is no number of nights*' odds examples/coin-toss '(s1=1 | s2=1)' x
+# options may stand behind the words; on a probabilistic card there is nothing to choose, and both are the same
+expect 0 "$(bin/desk odds examples/card-a '(s1=2 | s2=2 | s3=2)' 12)" '' odds examples/card-a '(s1=2 | s2=2 | s3=2)' 12 --smallest
+# as docs/CARDS.md has them
+expect 0 'night  0  0.000000 *night  1  0.416666 *night  2  0.604166 *night 32  0.999932 *' '' odds examples/card-a 001 '(s1=2 | s2=2 | s3=2)' 32
+given 0 'night  0  1.000000 *' '' "$(cat examples/card-a)" odds - '(s1=0 | s2=0 | s3=0)' 0
+for nights in x +3 -3 1.5 ''; do expect 2 '' "desk: \`$nights\` is no number of nights from 0 to 32*" odds examples/coin-toss '(s1=1 | s2=1)' "$nights"; done
+expect 2 '' 'desk: the words do not fit; due is*desk odds *NIGHTS*' odds examples/coin-toss '(s1=1 | s2=1)'
 
 # a refusal, whole
 sed 's/(s2=0 | s3=0)/(s2=0)/' "$made/card-a" >"$made/wrong"

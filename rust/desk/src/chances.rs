@@ -67,14 +67,15 @@ pub fn percent(parts: u64, whole: u64) -> String {
 /// How wide a bar is.
 const BAR: u32 = 40;
 
-/// The chances of nights from 0 on, in millionths: a line for each, as a number, in percent and as a bar.
+/// The chances of nights from 0 on, in millionths: a line for each, as a number, in percent and as a bar, which is empty for 0 alone and full
+/// for 1 alone.
 pub fn night_by_night(chances: &[u32]) -> String {
     let mut made = String::new();
     for (night, &chance) in chances.iter().enumerate() {
         let shown = format!("{}.{:06}", chance / CERTAIN, chance % CERTAIN);
         let percent = percent(chance.into(), CERTAIN.into());
-        let long = (u64::from(chance) * u64::from(BAR) / u64::from(CERTAIN)) as usize;
-        let bar = "#".repeat(long);
+        let long = u64::from(chance) * u64::from(BAR) / u64::from(CERTAIN);
+        let bar = "#".repeat(long.max(u64::from(chance > 0)) as usize);
         made += &format!(
             "night {night:>2}  {shown}  {percent:>7}  |{bar:width$}|\n",
             width = BAR as usize

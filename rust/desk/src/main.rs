@@ -9,7 +9,7 @@ use std::process::ExitCode;
 use desk::chances::{night_by_night, with_chances};
 use desk::reason::{Given, Of};
 use desk::{report, walk};
-use open_panel::{Aim, Refusal};
+use open_panel::{Aim, Refusal, ODDS_STEPS};
 
 use input::{values, wrong_words, Input};
 
@@ -154,12 +154,12 @@ fn refused(input: &Input, given: Given, refusal: Refusal) -> ExitCode {
         )
     };
     match of {
-        Of::Card => in_input(input.card_from()),
+        Of::Card | Of::Table => in_input(input.card_from()),
         Of::Seats if input.seats() == Some(given.seats) => in_input(0),
         Of::Seats => report::print("seats", given.seats, span.clone(), &reason),
         Of::Question => report::print("question", given.question, span.clone(), &reason),
         Of::Classes => report::print("classes", given.classes, span.clone(), &reason),
-        Of::Odds => eprint!("{}", report::plain_report(&input.name, "", "", "", &reason)),
+        Of::Nights => report::print("nights", given.nights, span.clone(), &reason),
     }
     ExitCode::FAILURE
 }
@@ -382,17 +382,21 @@ fn watch(name: &str, seats: Option<&str>, classes: &str) -> ExitCode {
 
 fn odds(name: &str, seats: Option<&str>, question: &str, nights: &str, aim: Aim) -> ExitCode {
     let input = Input::read(name);
-    let Ok(nights) = nights.parse() else {
-        wrong_words(&format!("`{nights}` is no number of nights"));
-    };
+    if nights.is_empty() || !nights.bytes().all(|byte| byte.is_ascii_digit()) {
+        wrong_words(&format!(
+            "`{nights}` is no number of nights from 0 to {ODDS_STEPS}"
+        ));
+    }
     let given = Given {
         card: input.card(),
         question: question.as_bytes(),
         seats: seats_of(&input, seats),
-        nights,
+        nights: nights.as_bytes(),
         ..Given::default()
     };
     let seats = values(given.seats);
+    // what no number of the machine's is large enough for is too many as well
+    let nights = nights.parse().unwrap_or(usize::MAX);
     let chance =
         |night| open_panel::odds_in_own_rows(given.card, given.question, &seats, night, aim);
     // what is wrong is told before a line is printed, by the last night

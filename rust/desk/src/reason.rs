@@ -41,8 +41,8 @@ pub struct Given<'t> {
     pub seats: &'t [u8],
     /// The classes, a digit each.
     pub classes: &'t [u8],
-    /// How many nights odds were asked for.
-    pub nights: usize,
+    /// How many nights odds were asked for, in digits.
+    pub nights: &'t [u8],
 }
 
 /// Which text a refusal is of.
@@ -56,8 +56,10 @@ pub enum Of {
     Seats,
     /// The classes.
     Classes,
-    /// No text, but how much odds would take.
-    Odds,
+    /// The card, which is taken, but has too large a table for odds.
+    Table,
+    /// The nights.
+    Nights,
 }
 
 impl Of {
@@ -66,7 +68,8 @@ impl Of {
         match refusal.number() {
             8 | 9 => Of::Seats,
             13 => Of::Classes,
-            14..=16 => Of::Odds,
+            14 | 16 => Of::Table,
+            15 => Of::Nights,
             21..=26 => Of::Question,
             _ => Of::Card,
         }
@@ -77,11 +80,11 @@ impl<'t> Given<'t> {
     /// The text that a refusal is of.
     pub fn text(&self, of: Of) -> &'t [u8] {
         match of {
-            Of::Card => self.card,
+            Of::Card | Of::Table => self.card,
             Of::Question => self.question,
             Of::Seats => self.seats,
             Of::Classes => self.classes,
-            Of::Odds => &[],
+            Of::Nights => self.nights,
         }
     }
 
@@ -92,7 +95,8 @@ impl<'t> Given<'t> {
             Of::Question => of_question(self.question, self.card, refusal),
             Of::Seats => of_seats(self.seats, self.card, refusal),
             Of::Classes => of_classes(self.classes, self.card, refusal),
-            Of::Odds => of_odds(self.nights, self.card, refusal),
+            Of::Table => of_table(self.card, refusal),
+            Of::Nights => of_nights(self.nights, refusal),
         }
     }
 }
@@ -1075,26 +1079,38 @@ fn of_classes(typed: &[u8], card: &[u8], refusal: Refusal) -> Reason {
     reason.said(refusal, at)
 }
 
-/// Why odds are refused: 14 and 15. The card is one that is taken.
-fn of_odds(nights: usize, card: &[u8], refusal: Refusal) -> Reason {
-    let reason = match refusal.number() {
-        14 => {
-            let walk = walk::card(card);
-            let top = walk.top.map_or(String::new(), |top| text_of(top.of(card)));
-            let (seats, top) = (walk.modules.len(), top.parse::<usize>().unwrap_or(0));
-            let fills = vec![
-                ("found", grouped(ways(seats, top))),
-                ("most", fill(ODDS_ROW)),
-            ];
-            found("odds.vectors", 0, fills)
-        }
-        15 => {
-            let fills = vec![("found", grouped(nights)), ("most", fill(ODDS_STEPS))];
-            found("odds.nights", 0, fills)
-        }
-        number => plain(number, 0),
+/// Why there are no odds of a card that is taken: 14.
+fn of_table(card: &[u8], refusal: Refusal) -> Reason {
+    let walk = walk::card(card);
+    let (Some(mark), 14) = (walk.top, refusal.number()) else {
+        return plain(refusal.number(), 0).said(refusal, 0);
     };
-    reason.said(refusal, 0)
+    let (seats, top) = (walk.modules.len(), text_of(mark.of(card)));
+    let top = top.parse::<usize>().unwrap_or(0);
+    let fits = |seats, top| ways(seats, top) <= ODDS_ROW;
+    let less = (0..top).rev().find(|&less| fits(seats, less));
+    let fewer = (1..seats).rev().find(|&fewer| fits(fewer, top));
+    let fills = vec![
+        ("seats", many(seats, "seat")),
+        ("top", fill(top)),
+        ("found", grouped(ways(seats, top))),
+        ("most", fill(ODDS_ROW)),
+    ];
+    let hints = vec![
+        ("seats", many(seats, "seat")),
+        ("less", fill(less.unwrap_or(0))),
+        ("top", fill(top)),
+        ("fewer", many(fewer.unwrap_or(1), "seat")),
+    ];
+    found("odds.vectors", mark.end, fills)
+        .hint("hint.vectors", hints)
+        .said(refusal, mark.at)
+}
+
+/// Why odds of so many nights are refused: 15.
+fn of_nights(nights: &[u8], refusal: Refusal) -> Reason {
+    let fills = vec![("found", text_of(nights)), ("most", fill(ODDS_STEPS))];
+    found("odds.nights", nights.len(), fills).said(refusal, 0)
 }
 
 /// In how many ways seats can be spread over the roles from 0 to the top.

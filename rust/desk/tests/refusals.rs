@@ -16,7 +16,7 @@ struct Case {
     question: Option<Vec<u8>>,
     seats: Option<Vec<u8>>,
     classes: Option<Vec<u8>>,
-    nights: Option<usize>,
+    nights: Option<Vec<u8>>,
     /// Number, place and what is underlined; the sentence; the hint.
     due: [&'static str; 3],
 }
@@ -90,7 +90,7 @@ fn case(base: &[&str], part: &'static str) -> Case {
             ("question", _) => question = Some(bytes(text)),
             ("seats", _) => seats = Some(bytes(text)),
             ("classes", _) => classes = Some(bytes(text)),
-            ("nights", _) => nights = Some(text.parse().expect(name)),
+            ("nights", _) => nights = Some(bytes(text)),
             (_, Ok(at)) => match &word[number.len()..] {
                 "-" => card[at - 1].clear(),
                 "+" => card[at - 1].push(bytes(text)),
@@ -129,7 +129,10 @@ fn values(typed: &[u8]) -> Vec<u8> {
 
 /// What the library answers to a case.
 fn answer(case: &Case) -> Result<(), Refusal> {
-    if let Some(nights) = case.nights {
+    if let Some(nights) = &case.nights {
+        let nights = String::from_utf8_lossy(nights)
+            .parse()
+            .unwrap_or(usize::MAX);
         let question = case.question.as_deref().unwrap_or_default();
         let seats = values(case.seats.as_deref().unwrap_or(b"000"));
         return odds_in_own_rows(&case.card, question, &seats, nights, Aim::Largest).map(|_| ());
@@ -157,7 +160,7 @@ fn each_wrong_card_is_explained() {
             question: case.question.as_deref().unwrap_or_default(),
             seats: case.seats.as_deref().unwrap_or_default(),
             classes: case.classes.as_deref().unwrap_or_default(),
-            nights: case.nights.unwrap_or_default(),
+            nights: case.nights.as_deref().unwrap_or_default(),
         };
         let reason = given.reason(refusal);
         let text = given.text(Of::refusal(refusal));

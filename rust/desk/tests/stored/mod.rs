@@ -1,4 +1,4 @@
-//! Every refusal of the stored vectors that is of a card, seats, a question, a list of classes or a box, with its reason.
+//! Every refusal of the stored vectors that is of a card, seats, a question, a list of classes, nights or a box, with its reason.
 
 use desk::reason::{of_deck, of_number, of_written, Given, Reason};
 use open_panel::Refusal;
@@ -15,7 +15,7 @@ pub struct Stored {
 }
 
 /// Files of cases, files of answers, and their entries. An entry that is added is named here.
-const FILES: [(&str, &str, &[&str]); 9] = [
+const FILES: [(&str, &str, &[&str]); 10] = [
     ("base", "panel", &["panel"]),
     ("edges", "edges", &["read"]),
     ("requests/2026-01", "requests/2026-01", &["ask"]),
@@ -33,10 +33,11 @@ const FILES: [(&str, &str, &[&str]); 9] = [
         &["read", "write", "reduce", "panel", "ask"],
     ),
     ("requests/2026-07", "requests/2026-07", &["first_move"]),
+    ("requests/2026-08", "requests/2026-08", &["odds"]),
 ];
 
-/// The number of the refusal that is of a room, which no writer of rules lends.
-const ROOM: u8 = 10;
+/// The numbers of the refusals that are of a room or of rows, which no writer of rules lends.
+const LENT: [u8; 2] = [10, 16];
 
 /// All of them.
 pub fn refusals() -> Vec<Stored> {
@@ -52,7 +53,8 @@ pub fn refusals() -> Vec<Stored> {
                 continue;
             };
             for entry in entries {
-                let Some(pieces) = cases.call(case, entry).filter(|_| number != ROOM) else {
+                let Some(pieces) = cases.call(case, entry).filter(|_| !LENT.contains(&number))
+                else {
                     continue;
                 };
                 let refusal =
@@ -75,10 +77,17 @@ fn typed(values: &[u8]) -> Vec<u8> {
 }
 
 fn explained(entry: &str, pieces: &[Vec<u8>], refusal: Refusal) -> Reason {
-    let (seats, question, classes) = match entry {
-        "panel" | "first_move" => (typed(&pieces[1]), Vec::new(), Vec::new()),
-        "ask" => (typed(&pieces[2]), pieces[1].clone(), Vec::new()),
-        "spectator" => (typed(&pieces[1]), Vec::new(), typed(&pieces[2])),
+    let none = Vec::new;
+    let (seats, question, classes, nights) = match entry {
+        "panel" | "first_move" => (typed(&pieces[1]), none(), none(), none()),
+        "ask" => (typed(&pieces[2]), pieces[1].clone(), none(), none()),
+        "spectator" => (typed(&pieces[1]), none(), typed(&pieces[2]), none()),
+        "odds" => (
+            typed(&pieces[2]),
+            pieces[1].clone(),
+            none(),
+            pieces[3].clone(),
+        ),
         "box_find" => {
             let number: u16 = String::from_utf8_lossy(&pieces[2])
                 .parse()
@@ -91,14 +100,14 @@ fn explained(entry: &str, pieces: &[Vec<u8>], refusal: Refusal) -> Reason {
             };
         }
         "box_write" => return of_written(&pieces[0], &pieces[1], refusal),
-        _ => (Vec::new(), Vec::new(), Vec::new()),
+        _ => (none(), none(), none(), none()),
     };
     let given = Given {
         card: &pieces[0],
         question: &question,
         seats: &seats,
         classes: &classes,
-        nights: 0,
+        nights: &nights,
     };
     given.reason(refusal)
 }
