@@ -383,7 +383,7 @@ function readQuestion(delay = 250) {
     showOdds();
     if (!now.card || questionEditor.text.trim() === "") {
         questionEditor.mark();
-        say("question-says", delay, ...(now.card ? [element("span", { class: "quiet" }, "A question gets yes or no at the seats above.")] : []));
+        say("question-says", delay, ...(now.card ? [element("span", { class: "quiet" }, "A question gets yes or no at the seats that are set.")] : []));
         return;
     }
     const { answer, refusal } = tried(() => library.ask(now.card.bytes, bytes, Uint8Array.from(now.seats)));
@@ -413,14 +413,18 @@ function svg(name, attributes, ...within) {
 
 const inMillionths = (chance) => (chance / CERTAIN).toFixed(6);
 
-/** The odds of the question for every night that can be asked for, largest and smallest on a nondeterministic card; nothing where it is refused. */
+/**
+ * The odds of the question, largest and smallest on a nondeterministic card: for each a list from night 0 on, and what reckons those further on.
+ * Nothing where the question is refused.
+ */
 function oddsOf(question) {
     const { bytes, text, walk } = now.card;
     const seats = Uint8Array.from(now.seats);
     const kinds = walk.nondeterministic ? KINDS : [["chance", 1]];
-    const { answer, refusal } = tried(() => kinds.map(([name, largest]) => ({
-        name, chances: repeated(ODDS_NIGHTS + 1, (night) => library.odds(bytes, question, seats, night, largest)),
-    })));
+    const { answer, refusal } = tried(() => kinds.map(([name, largest]) => {
+        const at = (night) => library.odds(bytes, question, seats, night, largest);
+        return { name, at, chances: [at(0)] };
+    }));
     if (!refusal || refusal.number > 20) return { curves: answer };
     return { said: explain(refusal, { card: text }) };
 }
@@ -431,13 +435,10 @@ function showOdds() {
     reckoning = setTimeout(() => {
         const { curves, said } = now.card && questionEditor.text.trim() !== "" ? oddsOf(encode(questionEditor.text)) : {};
         $("odds").hidden = !curves && !said;
+        for (const id of ["odds-help", "odds-nights", "curve", "odds-all"]) $(id).hidden = !curves;
         now.curves = curves;
         $("odds").dataset.asked = `${now.seats.join("")} ${questionEditor.text}`;
-        if (said) {
-            $("curve").replaceChildren();
-            $("odds-table").replaceChildren();
-            $("odds-says").replaceChildren(...refusalSaid(said, ""));
-        }
+        if (said) $("odds-says").replaceChildren(...refusalSaid(said, ""));
         if (curves) drawOdds();
     }, 150);
 }
@@ -446,34 +447,70 @@ function drawOdds() {
     const nights = Number($("nights").value);
     $("nights-shown").textContent = String(nights);
     if (!now.curves) return;
-    const [left, right, top, bottom] = [48, 628, 14, 226];
-    const x = (night) => left + ((right - left) * night) / Math.max(nights, 1);
-    const y = (chance) => bottom - ((bottom - top) * chance) / CERTAIN;
-    const parts = [0, 250000, 500000, 750000, CERTAIN].flatMap((chance) => [
-        svg("line", { class: "grid", x1: left, x2: right, y1: y(chance), y2: y(chance) }),
-        svg("text", { x: left - 8, y: y(chance) + 4, "text-anchor": "end" }, `${chance / 10000}%`),
-    ]);
-    const step = nights > 16 ? 4 : nights > 8 ? 2 : 1;
-    for (let night = 0; night <= nights; night += step) parts.push(svg("text", { x: x(night), y: bottom + 20, "text-anchor": "middle" }, String(night)));
-    for (const { name, chances } of now.curves) {
-        const kind = name === "smallest" ? "smallest" : "largest";
-        const points = chances.slice(0, nights + 1).map((chance, night) => [x(night), y(chance)]);
-        parts.push(svg("polyline", { class: kind, points: points.map((point) => point.join(",")).join(" ") }));
-        points.forEach(([cx, cy], night) => parts.push(svg("circle", { class: kind, cx, cy, r: 3.5 }, svg("title", {}, `night ${night}: ${percent(chances[night], CERTAIN)}`))));
-    }
+    for (const { chances, at } of now.curves) while (chances.length <= nights) chances.push(at(chances.length));
+    const two = now.curves.length > 1;
+    $("odds-help").textContent = `The chance that the question has come true by each night, from the seats that are set${two ? ": the largest, if every choice is made to bring it about, and the smallest, if every choice is made against it" : ""}.`;
     const told = now.curves.map(({ name, chances }) => `${name} ${inMillionths(chances[nights])} (${percent(chances[nights], CERTAIN)})`);
-    const after = `Within ${count(nights, "night")}: `;
-    $("curve").replaceChildren(svg("svg", { viewBox: "0 0 640 256", role: "img", "aria-label": `A curve from night 0 to ${nights}. ${after}${told.join(", ")}` }, ...parts));
-    const keys = now.curves.flatMap(({ name }, i) => [i ? ", " : "", element("span", { class: `key ${name}`, "aria-hidden": "true" }), told[i]]);
-    $("odds-says").replaceChildren(after, ...keys, ".");
+    const within = `Within ${count(nights, "night")}: `;
+    $("curve").replaceChildren(curve(now.curves.map(({ name, chances }) => ({ name, chances: chances.slice(0, nights + 1) })), `From night 0 to ${nights}. ${within}${told.join(", ")}.`));
+    const keys = now.curves.flatMap(({ name }, i) => [i ? ", " : "", ...(two ? [key(name)] : []), told[i]]);
+    const already = now.curves[0].chances[0] === CERTAIN ? ["The question holds already, which counts from night 0 on. "] : [];
+    $("odds-says").replaceChildren(element("p", {}, ...already, within, ...keys, "."));
     const head = element("tr", {}, element("th", { scope: "col" }, "night"), ...now.curves.map(({ name }) => element("th", { scope: "col" }, name)));
     const rows = repeated(nights + 1, (night) => element("tr", {}, element("th", { scope: "row" }, String(night)), ...now.curves.map(({ chances }) => element("td", {}, `${inMillionths(chances[night])} · ${percent(chances[night], CERTAIN)}`))));
-    $("odds-table").replaceChildren(head, ...rows);
+    $("odds-table").replaceChildren(element("caption", {}, "Rounded down at each night: never too high, and too low by a millionth for each night at most."), head, ...rows);
+}
+
+/** A curve's mark at a night: a disc for the largest, and for the smallest an open diamond. */
+function dot(name, x, y, ...within) {
+    if (name !== "smallest") return svg("circle", { class: "largest", cx: x, cy: y, r: 3.5 }, ...within);
+    return svg("path", { class: "smallest", d: `M${x - 6},${y} l6,-6 l6,6 l-6,6 z` }, ...within);
+}
+
+/** A piece of a curve, for the words below it. */
+function key(name) {
+    const kind = name === "smallest" ? "smallest" : "largest";
+    return svg("svg", { class: "key", viewBox: "0 0 40 16", width: 40, height: 16, "aria-hidden": "true" }, svg("polyline", { class: kind, points: "0,8 40,8" }), dot(name, 20, 8));
+}
+
+/** The drawing: chances upwards, nights to the right; where there are two curves, what lies between them is in the players' hands. */
+function curve(curves, label) {
+    const nights = curves[0].chances.length - 1;
+    const two = curves.length > 1;
+    const [left, right, top, bottom] = [52, two ? 560 : 622, 16, 228];
+    const x = (night) => left + ((right - left) * night) / nights;
+    const y = (chance) => bottom - ((bottom - top) * chance) / CERTAIN;
+    const points = curves.map(({ chances }) => chances.map((chance, night) => [x(night), y(chance)]));
+    const joined = (all) => all.map((point) => point.join(",")).join(" ");
+    const parts = two ? [svg("polygon", { class: "between", points: joined([...points[0], ...[...points[1]].reverse()]) })] : [];
+    parts.push(...[0, 250000, 500000, 750000, CERTAIN].flatMap((chance) => [
+        svg("line", { class: "grid", x1: left, x2: right, y1: y(chance), y2: y(chance) }),
+        svg("text", { x: left - 10, y: y(chance) + 4, "text-anchor": "end" }, `${chance / 10000}%`),
+    ]));
+    // the last night has its number, and one just before it has none
+    const step = nights > 16 ? 2 : 1;
+    const numbered = repeated(nights + 1, (night) => night).filter((night) => night === nights || (night % step === 0 && night + step <= nights));
+    parts.push(...numbered.map((night) => svg("text", { x: x(night), y: bottom + 20, "text-anchor": "middle" }, String(night))));
+    parts.push(svg("text", { x: (left + right) / 2, y: bottom + 38, "text-anchor": "middle" }, "night"));
+    // the smallest first, so that a disc in a diamond is seen where both are the same
+    for (const [i, { name, chances }] of [...curves.entries()].reverse()) {
+        parts.push(svg("polyline", { class: name === "smallest" ? "smallest" : "largest", points: joined(points[i]) }));
+        points[i].forEach(([px, py], night) => parts.push(dot(name, px, py, svg("title", {}, `night ${night}: ${two ? `${name} ` : ""}${percent(chances[night], CERTAIN)}`))));
+    }
+    if (two) {
+        const [large, small] = points.map((all) => all.at(-1)[1]);
+        const apart = Math.max(0, 16 - (small - large)) / 2;
+        const up = Math.min(Math.max(large - apart, top), bottom - 16);
+        const down = Math.max(Math.min(small + apart, bottom), up + 16);
+        parts.push(svg("text", { class: "largest", x: right + 12, y: up + 4 }, "largest"), svg("text", { class: "smallest", x: right + 12, y: down + 4 }, "smallest"));
+    }
+    return svg("svg", { viewBox: "0 0 640 274", role: "img", "aria-label": label }, ...parts);
 }
 
 // ---- what is clicked
 
-function start(text, name) {
+function start({ dataset: { example: name, kind, role } }) {
+    const text = plainText(`example-${name}`);
     const line = text.indexOf("\n");
     cardEditor.field.value = text.slice(line + 1);
     cardEditor.field.setSelectionRange(0, 0);
@@ -482,16 +519,17 @@ function start(text, name) {
     now.name = name;
     questionEditor.field.value = "";
     readCard(0);
-    if (now.card) questionEditor.field.value = written("some", now.card.begins, now.card.seats);
+    [$("kind").value, $("role").value] = [kind, role];
+    questionEditor.field.value = written(kind, Number(role), now.card.seats);
     readQuestion(0);
 }
 
 cardEditor.field.addEventListener("input", () => readCard());
 questionEditor.field.addEventListener("input", () => readQuestion());
+$("nights").max = String(ODDS_NIGHTS);
 $("nights").addEventListener("input", drawOdds);
-for (const button of document.querySelectorAll("[data-example]")) {
-    button.addEventListener("click", () => start(plainText(`example-${button.dataset.example}`), button.dataset.example));
-}
+const examples = document.querySelectorAll("[data-example]");
+for (const button of examples) button.addEventListener("click", () => start(button));
 $("go").addEventListener("click", () => cardEditor.show());
 $("layout").addEventListener("click", () => showText(now.text === "write" ? undefined : "write"));
 $("reduced").addEventListener("click", () => showText(now.text === "reduce" ? undefined : "reduce"));
@@ -513,10 +551,11 @@ $("open").addEventListener("change", async ({ target }) => {
     readCard(0);
 });
 $("save").addEventListener("click", () => {
-    const address = URL.createObjectURL(new Blob([cardEditor.text]));
+    // of no kind that a browser would put an ending to its name for
+    const address = URL.createObjectURL(new Blob([cardEditor.text], { type: "application/octet-stream" }));
     element("a", { href: address, download: now.name ?? "card" }).click();
     setTimeout(() => URL.revokeObjectURL(address), 1000);
 });
 
-start(plainText("example-card-a"), "card-a");
+start(examples[0]);
 document.documentElement.dataset.ready = "yes";

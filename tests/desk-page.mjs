@@ -1,7 +1,7 @@
 // The rule writer's page in a real browser: `node tests/desk-page.mjs BROWSER PAGE DESK OUT`. DESK is the command, which the page's answers are
 // held to beside the stored panels; screenshots go into the folder OUT.
 import { execFileSync } from "node:child_process";
-import { mkdtempSync, readFileSync, rmSync, writeFileSync } from "node:fs";
+import { existsSync, mkdtempSync, readFileSync, rmSync, writeFileSync } from "node:fs";
 import { tmpdir } from "node:os";
 import { pathToFileURL } from "node:url";
 import { browser } from "./browser.mjs";
@@ -60,6 +60,12 @@ const fill = (id, whole) => page.ask(`(() => {
 
 const seats = () => page.ask(`[...document.querySelectorAll("#seats b")].map((seat) => seat.textContent).join("")`);
 
+/** Waits until the odds are those of the question at the seats. */
+const reckoned = () => page.until(`document.getElementById("odds").dataset.asked === [...document.querySelectorAll("#seats b")].map((seat) => seat.textContent).join("") + " " + document.getElementById("question").value`);
+
+/** Moves the slider. */
+const nights = (many) => page.ask(`(document.getElementById("nights").value = ${many}, document.getElementById("nights").dispatchEvent(new Event("input")))`);
+
 /** Clicks seats until they are so. */
 const seat = (due) => page.ask(`(() => {
     for (const [i, role] of [...${JSON.stringify(due)}].entries()) {
@@ -71,8 +77,9 @@ const seat = (due) => page.ask(`(() => {
 })()`);
 
 async function screenshot(name) {
+    // beyond the window there is no scroll bar, and what it took is the page's
     const { cssContentSize: size } = await page.tell("Page.getLayoutMetrics");
-    const clip = { x: 0, y: 0, width: size.width, height: size.height, scale: 1 };
+    const clip = { x: 0, y: 0, width: await page.ask("innerWidth"), height: size.height, scale: 1 };
     const { data } = await page.tell("Page.captureScreenshot", { format: "png", captureBeyondViewport: true, clip });
     writeFileSync(`${out}/${name}.png`, Buffer.from(data, "base64"));
 }
@@ -203,6 +210,39 @@ async function questions() {
     await says("question-says", "no at 112");
 }
 
+/** The curves as they are drawn: in parts of the way from 0% to 100%, how each is told from the other, and what stands beside them. */
+const CURVES = `(() => {
+    const [none, , , , whole] = [...document.querySelectorAll("#curve .grid")].map((line) => line.y1.baseVal.value);
+    const curves = [...document.querySelectorAll("#curve polyline")].map((line) => {
+        const kind = line.getAttribute("class");
+        const [label] = document.querySelectorAll("#curve text." + kind);
+        const marks = [...document.querySelectorAll("#curve ." + kind + ":not(polyline, text)")];
+        return {
+            kind, dashed: getComputedStyle(line).strokeDasharray !== "none", label: label?.textContent, at: label?.getBBox().y,
+            marks: [...new Set(marks.map((mark) => mark.tagName))].join(), told: marks.map((mark) => mark.textContent).join("; "),
+            heights: [...line.points].map(({ y }) => (none - y) / (none - whole)), places: [...line.points].map(({ x }) => x), marked: marks.length,
+        };
+    });
+    const numbers = [...document.querySelectorAll("#curve text")].filter((text) => /^[0-9]+$/.test(text.textContent));
+    const inside = [...document.querySelectorAll("#curve text")].every((text) => { const { x, y, width, height } = text.getBBox(); return x >= 0 && y >= 0 && x + width <= 640 && y + height <= 274; });
+    return { curves, nights: numbers.map((text) => text.textContent).join(" "), inside };
+})()`;
+
+/** What an example starts with: a question that the fields beside it have written, and a curve that begins at 0 and rises. */
+async function starts() {
+    for (const [name, kind, role] of [["card-a", "some", "2"], ["leader-election", "one", "1"], ["coin-toss", "all", "3"]]) {
+        await example(name);
+        await reckoned();
+        hold(`${name} starts with`, await page.ask(`document.getElementById("kind").value + " " + document.getElementById("role").value`), `${kind} ${role}`);
+        const question = await page.ask(`document.getElementById("question").value`);
+        await click("#put");
+        hold(`the question of ${name}`, await page.ask(`document.getElementById("question").value`), question);
+        const { curves } = await page.ask(CURVES);
+        const { heights } = curves.find(({ kind }) => kind === "largest");
+        hold(`the odds of ${name} begin at 0 and rise`, heights[0] === 0 && heights.at(-1) > 0.5);
+    }
+}
+
 /** The curve's numbers are the command's, largest and smallest. */
 async function odds() {
     for (const [name, seating, question] of [
@@ -218,14 +258,49 @@ async function odds() {
         await page.until(`document.querySelectorAll("#odds-table tr").length === 14 && document.querySelectorAll("#curve polyline").length === ${due.length}`);
         const shown = await page.ask(`[...document.querySelectorAll("#odds-table tr")].slice(1).map((row) => [...row.querySelectorAll("td")].map((cell) => cell.textContent))`);
         hold(`odds of ${name}`, JSON.stringify(shown), JSON.stringify(due[0].map((_, night) => due.map((all) => all[night]))));
-        const heights = await page.ask(`[...document.querySelector("#curve polyline").points].map((point) => point.y)`);
-        hold(`the curve of ${name} rises`, heights.every((height, i) => i === 0 || height <= heights[i - 1]) && heights.at(-1) < heights[0]);
-        await page.ask(`(document.getElementById("nights").value = 3, document.getElementById("nights").dispatchEvent(new Event("input")))`);
+        const { curves, inside } = await page.ask(CURVES);
+        for (const { kind, heights, places, marked } of curves) {
+            const shown = due[kind === "smallest" ? 1 : 0].map(parseFloat);
+            hold(`the curve of ${name}, ${kind}, is as high as its numbers`, heights.length === 13 && heights.every((height, night) => Math.abs(height - shown[night]) < 1e-6));
+            hold(`and goes on evenly, with a mark for each night`, marked === 13 && places.every((place, night) => Math.abs(place - places[0] - (night * (places[12] - places[0])) / 12) < 1e-3));
+        }
+        hold(`texts beside the curve of ${name} are inside the drawing`, inside);
+        await nights(3);
         hold(`nights of ${name}`, await page.ask(`document.querySelectorAll("#odds-table tr").length`), 5);
         hold(`said of ${name}`, (await text("odds-says")).startsWith("Within 3 nights: "));
-        await page.ask(`(document.getElementById("nights").value = 12, document.getElementById("nights").dispatchEvent(new Event("input")))`);
+        for (const [many, numbers] of [[1, "0 1"], [16, Array.from({ length: 17 }, (_, i) => i).join(" ")], [31, "0 2 4 6 8 10 12 14 16 18 20 22 24 26 28 31"], [32, Array.from({ length: 17 }, (_, i) => 2 * i).join(" ")]]) {
+            await nights(many);
+            hold(`numbers below ${many} nights`, (await page.ask(CURVES)).nights, numbers);
+        }
+        const last = asked("odds", `examples/${name}`, seating, question, "32").trim().split("\n").at(-1).split(/ +/).slice(2, 4).join(" · ");
+        hold(`the last night of ${name}`, await page.ask(`document.querySelector("#odds-table tr:last-child td").textContent`), last);
+        hold(`the slider ends there`, await page.ask(`document.getElementById("nights").max`), "32");
+        await nights(12);
     }
+    // without colours too: one line whole with discs, one dashed with diamonds, each with its name at its end and before its number
+    const { curves } = await page.ask(CURVES);
+    const told = curves.map(({ kind, dashed, marks, label }) => `${kind} ${dashed} ${marks} ${label}`).sort().join("; ");
+    hold("curves are told apart", told, "largest false circle largest; smallest true path smallest");
+    hold("and so are their numbers", await page.ask(`[...document.querySelectorAll("#odds-says .key")].map((key) => key.querySelector("polyline").getAttribute("class") + " " + key.nextSibling.textContent.split(" ")[0]).join("; ")`), "largest largest; smallest smallest");
+    hold("it says what they are", (await text("odds-help")).endsWith("the largest, if every choice is made to bring it about, and the smallest, if every choice is made against it."));
+    hold("a night is told at its mark", curves.find(({ kind }) => kind === "largest").told.startsWith("night 0: largest 0%; night 1: largest 50%; "));
     await screenshot("odds");
+    // where both are the same, at the top and at the bottom, their names stand one above the other
+    for (const [question, height, already] of [["(s1!=2 & s2!=2 & s3!=2)", 1, true], ["(s1=2 & s2=2 & s3=2)", 0, false]]) {
+        await fill("question", question);
+        await reckoned();
+        const { curves, inside } = await page.ask(CURVES);
+        const [large, small] = ["largest", "smallest"].map((due) => curves.find(({ kind }) => kind === due));
+        hold(`${question} is flat`, [...large.heights, ...small.heights].every((is) => is === height));
+        hold(`${question}: names apart, and inside`, small.at - large.at >= 14 && inside);
+        hold(`${question} holds already`, (await text("odds-says")).startsWith("The question holds already, which counts from night 0 on. Within 12 nights: "), already);
+    }
+    // no odds of a question that is refused, or of none
+    for (const question of ["(s1=2", ""]) {
+        await fill("question", question);
+        await page.until(`document.getElementById("odds").hidden`);
+        held += 1;
+    }
 }
 
 async function texts() {
@@ -238,6 +313,33 @@ async function texts() {
     await click("#use");
     hold("layout put in", await page.ask(`document.getElementById("card").value`), asked("write", "examples/leader-election"));
     await page.until(`!document.getElementById("layout").disabled`);
+}
+
+/** A file is opened, refused or taken, and what the editor has is saved. */
+async function files() {
+    const { root: { nodeId: whole } } = await page.tell("DOM.getDocument");
+    const { nodeId } = await page.tell("DOM.querySelector", { nodeId: whole, selector: "#open" });
+    const open = (path) => page.tell("DOM.setFileInputFiles", { nodeId, files: [path] });
+    writeFileSync(`${folder}/wrong`, "\ufeffprobabilistic\n");
+    await open(`${folder}/wrong`);
+    await says("card-says", "Line 1, column 1: a byte order mark stands here");
+    hold("no card, no panel", await page.ask(`document.getElementById("no-panel").checkVisibility() && !document.getElementById("panel").checkVisibility()`));
+    hold("no card, no seats", await seats(), "");
+    await page.until(`document.getElementById("odds").hidden`);
+    hold("nothing to shuffle, write out or lay out", await page.ask(`["shuffle", "begin", "put", "layout", "reduced"].every((id) => document.getElementById(id).disabled)`));
+    const stuck = readFileSync(`${root}/examples/card-a-stuck`, "utf8");
+    await open(`${root}/examples/card-a-stuck`);
+    await says("card-says", "Taken: probabilistic, 3 seats");
+    hold("the file's text", await page.ask(`document.getElementById("card").value`), stuck);
+    hold("the file's seats", await seats(), "012");
+    hold("its panel", await text("bytes"), readFileSync(`${root}/examples/card-a-stuck.panel`, "utf8"));
+    await page.ask(`document.querySelectorAll("#seats button")[2].dispatchEvent(new MouseEvent("click", { shiftKey: true, bubbles: true }))`);
+    hold("with Shift into the role before", await seats(), "011");
+    await page.tell("Browser.setDownloadBehavior", { behavior: "allow", downloadPath: folder });
+    await click("#save");
+    const saved = `${folder}/card-a-stuck`;
+    for (let tries = 0; tries < 100 && !existsSync(saved); tries += 1) await new Promise((resolve) => setTimeout(resolve, 50));
+    hold("saved under its name", existsSync(saved) && readFileSync(saved, "utf8"), stuck.replace("012", "011"));
 }
 
 // ---- for everybody
@@ -264,6 +366,11 @@ const FAINT = `(() => {
         seen += 1;
         const found = ratio(channels(node instanceof SVGElement ? style.fill : style.color), behind(node));
         if (found < 4.5) faint.push(node.tagName + "." + node.getAttribute("class") + " " + node.textContent.trim().slice(0, 20) + " " + found.toFixed(2));
+    }
+    // the curves themselves
+    for (const line of document.querySelectorAll("#curve polyline, .key polyline")) {
+        const found = ratio(channels(getComputedStyle(line).stroke), behind(line));
+        if (found < 4.5) faint.push("curve " + line.getAttribute("class") + " " + found.toFixed(2));
     }
     // what is typed over what is underlined
     for (const mark of document.querySelectorAll(".under mark")) {
@@ -300,12 +407,16 @@ async function forEverybody() {
             await page.ask(`document.getElementById("kind").value = "one"`);
             await click("#put");
             await says("question-says", "no at 0123456701234567");
+            await says("odds-says", "with 16 seats the highest role may be 2, and with the roles 0 to 7 there may be 4 seats");
+            hold("no slider, curve or table without odds", await page.ask(`["odds-help", "odds-nights", "curve", "odds-all"].every((id) => document.getElementById(id).hidden)`));
             await says("odds-says", "16 seats can be spread over the roles 0 to 7 in 245,157 ways, and odds are reckoned for at most 512");
         },
     };
+    await page.ask(`document.getElementById("odds-all").open = true`);
     for (const [name, reach] of Object.entries(states)) {
         await window(768);
         await reach();
+        await reckoned();
         if (name === "a refused card") await says("card-says", "modul stands here, and module was due");
         if (name === "a refused question") await says("question-says", "refused 26 0");
         hold(`${name}, 768: sideways`, await sideways(), 0);
@@ -319,12 +430,16 @@ async function forEverybody() {
         await window(1400);
         hold(`${name}, 1400: sideways`, await sideways(), 0);
     }
+    await screenshot("sixteen-seats");
+    await example("leader-election");
+    await reckoned();
+    await page.ask(`document.getElementById("odds-all").open = false`);
     await screenshot("light-1400");
     await window(768);
     await scheme("dark");
     await screenshot("dark-768");
     await scheme("light");
-    for (const id of ["card-says", "question-says", "shuffled"]) {
+    for (const id of ["card-says", "question-says", "shuffled", "odds-says"]) {
         hold(`${id} is live`, await page.ask(`document.getElementById("${id}").matches("[role=status][aria-live=polite]")`));
     }
     hold("fields are named", await page.ask(`[...document.querySelectorAll("input, select, textarea")].every((field) => field.labels.length > 0)`));
@@ -363,7 +478,7 @@ try {
     await page.tell("Page.navigate", { url });
     await page.until("document.documentElement?.dataset.ready === 'yes'", 30);
     await screenshot("desk");
-    for (const part of [wrongAndMended, panels, drawn, shuffles, questions, odds, texts, forEverybody, byTab]) await part();
+    for (const part of [starts, wrongAndMended, panels, drawn, shuffles, questions, odds, texts, files, forEverybody, byTab]) await part();
     hold("requests", requests.join(" "), url);
     // a request would be stopped, and the browser would say so
     const before = wrong.length;
@@ -377,4 +492,4 @@ await page.close();
 rmSync(folder, { recursive: true, force: true });
 for (const fault of wrong.slice(0, 10)) console.log(`desk: ${fault}`);
 console.log(`desk: the page in ${command.split("/").at(-1)}: ${held} held, ${wrong.length} wrong`);
-process.exit(wrong.length === 0 && held >= 180 ? 0 : 1);
+process.exit(wrong.length === 0 && held >= 240 ? 0 : 1);
