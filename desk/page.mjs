@@ -458,7 +458,7 @@ function drawOdds() {
     $("odds-says").replaceChildren(element("p", {}, ...already, within, ...keys, "."));
     const head = element("tr", {}, element("th", { scope: "col" }, "night"), ...now.curves.map(({ name }) => element("th", { scope: "col" }, name)));
     const rows = repeated(nights + 1, (night) => element("tr", {}, element("th", { scope: "row" }, String(night)), ...now.curves.map(({ chances }) => element("td", {}, `${inMillionths(chances[night])} · ${percent(chances[night], CERTAIN)}`))));
-    $("odds-table").replaceChildren(element("caption", {}, "Rounded down at each night: never too high, and too low by a millionth for each night at most."), head, ...rows);
+    $("odds-table").replaceChildren(element("caption", {}, "In millionths, rounded down at each night: never too high, and too low by a millionth for each night at most. Percent is rounded to hundredths."), head, ...rows);
 }
 
 /** A curve's mark at a night: a disc for the largest, and for the smallest an open diamond. */

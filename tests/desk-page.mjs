@@ -11,6 +11,14 @@ const root = new URL("..", import.meta.url).pathname;
 const EXAMPLES = ["card-a", "leader-election", "coin-toss"];
 const SHIFT = 8;
 
+const began = Date.now();
+const MOST = 60;
+// a browser that hangs is a fault, and the gate does not wait for it
+setTimeout(() => {
+    console.log(`desk: the page in ${command.split("/").at(-1)}: not done after ${MOST} s`);
+    process.exit(1);
+}, 1000 * MOST);
+
 const folder = mkdtempSync(`${tmpdir()}/desk-`);
 const page = await browser(command, folder);
 let held = 0;
@@ -491,5 +499,5 @@ try {
 await page.close();
 rmSync(folder, { recursive: true, force: true });
 for (const fault of wrong.slice(0, 10)) console.log(`desk: ${fault}`);
-console.log(`desk: the page in ${command.split("/").at(-1)}: ${held} held, ${wrong.length} wrong`);
+console.log(`desk: the page in ${command.split("/").at(-1)}: ${held} held, ${wrong.length} wrong, in ${Math.ceil((Date.now() - began) / 1000)} s`);
 process.exit(wrong.length === 0 && held >= 240 ? 0 : 1);
