@@ -188,12 +188,30 @@ while IFS= read -r example; do
         { echo "desk: $example" && wrong=$((wrong + 1)); }
 done < <(bin/desk --help | sed -n 's/^  \(bin\/desk .*\)/\1/p')
 
+# the examples of docs/DESK.md: behind each call what it prints
+(cd "$made" && cp wrong my-card)
+while IFS= read -r line; do
+    if [[ $line == '    $ '* ]]; then
+        call=${line#'    $ '}
+        due=
+    elif [[ $line == '    '* ]]; then
+        due+=${line#'    '}$'\n'
+    elif [ "${call:-}" ]; then
+        runs=$((runs + 1))
+        printed=$(cd "$made" && bash -c "$call" 2>&1) || true
+        [ "$printed"$'\n' = "$due" ] || { printf 'desk: docs/DESK.md: %s\n%s\n' "$call" "$printed" && wrong=$((wrong + 1)); }
+        call=
+        told=$((${told:-0} + 1))
+    fi
+done <docs/DESK.md
+[ "${told:-0}" -ge 3 ] || { echo "desk: docs/DESK.md has ${told:-no} examples" && wrong=$((wrong + 1)); }
+
 # from another folder, through a link
 ln -s "$PWD/bin/desk" "$made/link"
 (cd / && "$made/link" check "$made/card-a" >/dev/null) || { echo "desk: not through a link" && wrong=$((wrong + 1)); }
 
 echo "desk: $runs runs of the command, $wrong wrong"
-[ "$wrong" -eq 0 ] && [ "$runs" -ge 60 ]
+if [ "$wrong" -ne 0 ] || [ "$runs" -lt 90 ]; then exit 1; fi
 
 # the page
 if ! command -v node >/dev/null; then
