@@ -478,6 +478,12 @@ async function byTab() {
     await page.press("Tab");
     await page.press("Enter");
     hold("a seat by Enter", await seats(), "211");
+    await reckoned();
+    await page.ask(`document.getElementById("nights").focus()`);
+    await page.press("ArrowRight");
+    hold("a night more by an arrow", `${await text("nights-shown")}, ${(await text("odds-says")).slice(0, 16)}`, "13, Within 13 nights");
+    await page.press("ArrowLeft");
+    hold("and back", await text("nights-shown"), "12");
 }
 
 try {
