@@ -22,7 +22,7 @@ use Rattle.room.specs.declared.Answer.{Answer}
 use Rattle.room.specs.declared.Answer.the-variants.{Done, Refused}
 use Rattle.room.specs.Answer.{told, answerNumber, answered, Entered}
 use Rattle.room.proofs.Entries.{told-faithful}
-use Rattle.tablet.specs.Told.{numbers}
+use Rattle.answers.specs.Numbered.{numbers}
 use Rattle.promises.specs.DeckWriting.{deckFor, WritesDeck, WriteDeckTells, DeckWritten, DeckWriting, DeckWritingEdges}
 use Rattle.promises.proofs.Entries.{in-numbers, done≢refused}
 use Rattle.promises.proofs.ForC.{tells-done, tells-refused, is-refused, number-of, entered}

@@ -29,9 +29,10 @@ use Rattle.contents.specs.Verdicts.{verdictOf}
 use Rattle.contents.proofs.Laws.{verdict-refused, verdict-fine}
 use Rattle.boxes.specs.Boxes.{placed, told, Found}
 use Rattle.boxes.specs.declared.Place.{Place}
-use Rattle.tablet.specs.declared.OpenPanelAnswer.{OpenPanelAnswer}
-use Rattle.tablet.specs.Told.{verdictNumbers}
-use Rattle.tablet.specs.Parts.{threeOf, PartTold}
+use Rattle.answers.specs.declared.OpenPanelAnswer.{OpenPanelAnswer}
+use Rattle.answers.specs.Numbered.{verdictNumbers}
+use Rattle.answers.specs.Stands.{threeOf}
+use Rattle.tablet.specs.Parts.{PartTold}
 use Rattle.promises.specs.ForC.{Answers}
 use Rattle.promises.specs.Decks.{Decks, Lookups, LookupsWith, Judges, GivenIn, NoneIn, GivenWith, NoneWith, Locates, HandsBack, PartTells, BoxJudgeTells}
 use Rattle.promises.specs.Decks.{BoxEntries}

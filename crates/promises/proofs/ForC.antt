@@ -20,8 +20,9 @@ use Rattle.writer.specs.WriteSaid.{writeSaid}
 use Rattle.texts.specs.ReducedText.{reducedOf}
 use Rattle.reducer.specs.ReduceSaid.{reduceSaid}
 use Rattle.panel.specs.PanelSaid.{panelSaid}
-use Rattle.tablet.specs.declared.OpenPanelAnswer.{OpenPanelAnswer}
-use Rattle.tablet.specs.Told.{numbers, judged, Told}
+use Rattle.answers.specs.declared.OpenPanelAnswer.{OpenPanelAnswer}
+use Rattle.answers.specs.Numbered.{numbers}
+use Rattle.tablet.specs.Told.{judged, Told}
 use Rattle.promises.specs.Entries.{Prints, Shows}
 use Rattle.promises.specs.ForC.{Answers, JudgeTells, TextTells, PanelTells, ForC}
 use Rattle.promises.proofs.Numbers.{number-some}

@@ -31,7 +31,7 @@ use Rattle.classes.proofs.Line.{tells, fits}
 use Rattle.watch.specs.WatchSaid.{watchSeated, watchSaid}
 use Rattle.watch.specs.Watches.{Watches}
 use Rattle.watch.proofs.Theorems.{said, watches}
-use Rattle.tablet.specs.Told.{numbers}
+use Rattle.answers.specs.Numbered.{numbers}
 use Rattle.promises.specs.Entries.{RoomEnough}
 use Rattle.promises.specs.Spectator.{ClassCounts, Seen, WatchTells, Spectator}
 use Rattle.promises.proofs.Numbers.{number-some}

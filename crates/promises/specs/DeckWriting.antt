@@ -18,7 +18,7 @@ use Rattle.deck_written.specs.Fine.{Fine, RefusedAt, SameButOffsets, NoGaps}
 use Rattle.room.specs.declared.Answer.{Answer}
 use Rattle.room.specs.declared.Answer.the-variants.{Done, Refused}
 use Rattle.room.specs.Answer.{answered, roomAfter, Entered}
-use Rattle.tablet.specs.declared.OpenPanelAnswer.{OpenPanelAnswer}
+use Rattle.answers.specs.declared.OpenPanelAnswer.{OpenPanelAnswer}
 use Rattle.tablet.specs.Told.{Told}
 use Rattle.promises.specs.Entries.{InNumbers, RoomEnough}
 use Rattle.promises.specs.ForC.{Answers}

@@ -20,8 +20,8 @@ use Rattle.deck.specs.Given.{LiveAt, NoLive, Gives, BothSound, EitherMalformed}
 use Rattle.contents.specs.Verdicts.{verdictOf}
 use Rattle.boxes.specs.Boxes.{placed, Found}
 use Rattle.boxes.specs.declared.Place.{Place}
-use Rattle.tablet.specs.declared.OpenPanelAnswer.{OpenPanelAnswer}
-use Rattle.tablet.specs.Told.{verdictNumbers}
+use Rattle.answers.specs.declared.OpenPanelAnswer.{OpenPanelAnswer}
+use Rattle.answers.specs.Numbered.{verdictNumbers}
 use Rattle.tablet.specs.Parts.{PartTold}
 use Rattle.promises.specs.ForC.{Answers}
 

@@ -24,7 +24,7 @@ use Rattle.moving.specs.Shown.{FirstChoice}
 use Rattle.first_move.specs.declared.FirstMove.{FirstMove}
 use Rattle.first_move.specs.MoveSaid.{moveSaid, Moves}
 use Rattle.first_move.specs.Moved.{moved}
-use Rattle.tablet.specs.declared.OpenPanelAnswer.{OpenPanelAnswer}
+use Rattle.answers.specs.declared.OpenPanelAnswer.{OpenPanelAnswer}
 use Rattle.tablet.specs.Moves.{movedNumbers}
 use Rattle.promises.specs.ForC.{Answers}
 

@@ -32,8 +32,9 @@ use Rattle.chances.specs.Chances.{chanceAt, vectorsOf, roundRow, rowBefore}
 use Rattle.chances.specs.Chance.{Chance}
 use Rattle.chances.specs.OddsSaid.{oddsSaid, Fits, Odds}
 use Rattle.odds_edges.specs.OddsEdges.{OddsEdges}
-use Rattle.tablet.specs.declared.OpenPanelAnswer.{OpenPanelAnswer}
-use Rattle.tablet.specs.Rows.{aimBy, RowsTold}
+use Rattle.answers.specs.declared.OpenPanelAnswer.{OpenPanelAnswer}
+use Rattle.answers.specs.Aims.{aimBy}
+use Rattle.tablet.specs.Rows.{RowsTold}
 use Rattle.promises.specs.ForC.{Answers}
 
 -- ---- what the value is

@@ -29,7 +29,7 @@ use Rattle.asking.specs.Meant.{ofAll, oneIn, Question, ValidQuestion, OneSeat, 
 use Rattle.asking.specs.Asking.{Everyone, ExactlyOne, isEveryone, isExactlyOne, inQuestion, questionOf, QuestionPastLimit, QuestionOutOfShape, QuestionBroken, QuestionAccepted}
 use Rattle.asking.specs.AsWritten.{itemHolds}
 use Rattle.ask.specs.AskSaid.{questionSaid, Understood, askSaid, Asks}
-use Rattle.tablet.specs.declared.OpenPanelAnswer.{OpenPanelAnswer}
+use Rattle.answers.specs.declared.OpenPanelAnswer.{OpenPanelAnswer}
 use Rattle.tablet.specs.Told.{answeredNumbers}
 use Rattle.promises.specs.ForC.{Answers}
 

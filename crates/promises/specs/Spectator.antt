@@ -23,7 +23,7 @@ use Rattle.classes.specs.ClassesSaid.{WrongClasses}
 use Rattle.classes.specs.ClassesRoom.{classesRoom}
 use Rattle.watch.specs.WatchSaid.{watchSaid}
 use Rattle.watch.specs.Watches.{Watched, Watches}
-use Rattle.tablet.specs.declared.OpenPanelAnswer.{OpenPanelAnswer}
+use Rattle.answers.specs.declared.OpenPanelAnswer.{OpenPanelAnswer}
 use Rattle.tablet.specs.Told.{Told}
 use Rattle.promises.specs.Entries.{RoomEnough}
 use Rattle.promises.specs.ForC.{Answers}

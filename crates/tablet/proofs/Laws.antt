@@ -8,7 +8,7 @@ use Rattle.reader.specs.declared.Outline.{Outline}
 use Rattle.reader.specs.ReadingOf.{ReadsInto}
 use Rattle.room.specs.declared.Answer.{Answer}
 use Rattle.room.specs.Answer.{Text, Entered, told as answerOf}
-use Rattle.tablet.specs.declared.OpenPanelAnswer.{OpenPanelAnswer}
+use Rattle.answers.specs.declared.OpenPanelAnswer.{OpenPanelAnswer}
 use Rattle.entry.specs.Said.{Said, says, refused}
 use Rattle.entry.specs.Contract.{Ends, Two, Enters, inRows}
 use Rattle.evenings.specs.Rounds.{Aim}
@@ -16,8 +16,10 @@ use Rattle.deck.specs.Lookup.{Part}
 use Rattle.contents.specs.Verdicts.{verdictOf}
 use Rattle.boxes.specs.Boxes.{placed}
 use Rattle.boxes.specs.declared.Place.{Place}
-use Rattle.tablet.specs.Told.{numbers, verdictNumbers, judged, Told}
-use Rattle.tablet.specs.Parts.{threeOf, Stands, PartTold}
+use Rattle.answers.specs.Numbered.{numbers, verdictNumbers}
+use Rattle.answers.specs.Stands.{threeOf, Stands}
+use Rattle.tablet.specs.Told.{judged, Told}
+use Rattle.tablet.specs.Parts.{PartTold}
 use Rattle.tablet.specs.Rows.{RowsTold}
 
 pub told : {was is : List ℕ} {said : Text} {a : Answer} {r : OpenPanelAnswer} → Entered was is said a → r ≡ numbers a → Told was is said r

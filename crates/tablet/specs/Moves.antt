@@ -4,7 +4,7 @@ use mathlib.Core.Option.{Option}
 use Rattle.entry.specs.Said.{Said}
 use Rattle.first_move.specs.declared.FirstMove.{FirstMove}
 use Rattle.first_move.specs.Moved.{moved, moveNumber, moveValue}
-use Rattle.tablet.specs.declared.OpenPanelAnswer.{OpenPanelAnswer}
+use Rattle.answers.specs.declared.OpenPanelAnswer.{OpenPanelAnswer}
 
 abbrev pub moveNumbers : FirstMove → OpenPanelAnswer
 moveNumbers a = record { number = moveNumber a; value = moveValue a }

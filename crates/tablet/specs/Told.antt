@@ -3,26 +3,17 @@
 use Prim.Native.Nat.{ℕ}
 use mathlib.Core.Bool.{Bool}
 use mathlib.Core.List.{List}
-use Rattle.card.specs.Verdict.{verdictNumber, verdictPlace}
-use Rattle.card.specs.declared.Verdict.{Verdict}
 use Rattle.reading.specs.Reading.{Outcome}
 use Rattle.reader.specs.ReadingOf.{outlineOf}
-use Rattle.room.specs.declared.Answer.{Answer}
-use Rattle.room.specs.Answer.{Text, told, answerNumber, answerValue}
+use Rattle.room.specs.Answer.{Text, told}
 use Rattle.entry.specs.Said.{Said}
 use Rattle.entry.specs.Contract.{Enters, inRoom}
 use Rattle.ask.specs.declared.Asked.{Asked}
 use Rattle.ask.specs.Answered.{asked, askedNumber, askedValue}
-use Rattle.tablet.specs.declared.OpenPanelAnswer.{OpenPanelAnswer}
+use Rattle.answers.specs.declared.OpenPanelAnswer.{OpenPanelAnswer}
+use Rattle.answers.specs.Numbered.{numbers, verdictNumbers}
 
--- the two numbers of an answer
-abbrev pub numbers : Answer → OpenPanelAnswer
-numbers a = record { number = answerNumber a; value = answerValue a }
-
--- and of a verdict; 0 and 0 for a card that is taken
-abbrev pub verdictNumbers : Verdict → OpenPanelAnswer
-verdictNumbers v = record { number = verdictNumber v; value = verdictPlace v }
-
+-- 0 and 0 for a card that is taken
 abbrev pub judged : Outcome → OpenPanelAnswer
 judged o = verdictNumbers (outlineOf o .verdict)
 

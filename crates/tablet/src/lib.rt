@@ -1,10 +1,13 @@
 // The entries for C: the same promises, with answers in numbers ("Refusal numbers").
+use answers::OpenPanelAnswer;
+use answers::in_numbers;
+use answers::is_largest;
+use answers::tell_part;
+use answers::verdict_in_numbers;
 use ask::Asked;
 use ask::ask;
-use boxes::Place;
 use boxes::locate;
 use boxes::locate_with;
-use card::Verdict;
 use card::limits::BRANCH_PLACES;
 use card::limits::NODE_PLACES;
 use card::limits::ROW_PLACES;
@@ -16,7 +19,6 @@ use odds::odds;
 use panel::panel;
 use reader::read_into;
 use reducer::reduce;
-use room::Answer;
 use watch::watch;
 use writer::write;
 ghost use mathlib.Core.Path.{_≡_};
@@ -33,57 +35,13 @@ ghost use Rattle.ask.specs.AskSaid.{askSaid};
 ghost use Rattle.watch.specs.WatchSaid.{watchSaid};
 ghost use Rattle.first_move.specs.MoveSaid.{moveSaid};
 ghost use Rattle.entry.specs.Contract.{two};
-ghost use Rattle.evenings.specs.Rounds.{aimOf};
+ghost use Rattle.answers.specs.Numbered.{verdictNumbers};
+ghost use Rattle.answers.specs.Aims.{aimBy};
 ghost use Rattle.chances.specs.OddsSaid.{oddsSaid};
 ghost use Rattle.tablet.specs.Moves.{moveNumbers, movedNumbers};
-ghost use Rattle.tablet.specs.Rows.{aimBy, RowsTold};
-ghost use Rattle.tablet.specs.Told.{numbers, verdictNumbers, judged, Told, askedNumbers, answeredNumbers};
-ghost use Rattle.tablet.specs.Parts.{Stands, PartTold};
-
-// Number 0: the value is the text's length. Else the refusal's number, and the value is its place.
-#[repr(C)]
-pub struct OpenPanelAnswer {
-    pub number: u8,
-    pub value: usize,
-}
-
-fn in_numbers(answer: Answer) -> OpenPanelAnswer
-    ensures { λ r. ⌜ r ≡ numbers answer ⌝ }
-{
-    match answer {
-        Answer::Done(long) => {
-            return OpenPanelAnswer {
-                number: 0,
-                value: long,
-            };
-        }
-        Answer::Refused(number, place) => {
-            return OpenPanelAnswer {
-                number: number,
-                value: place,
-            };
-        }
-    }
-}
-
-fn verdict_in_numbers(verdict: Verdict) -> OpenPanelAnswer
-    ensures { λ r. ⌜ r ≡ verdictNumbers verdict ⌝ }
-{
-    match verdict {
-        Verdict::Taken => {
-            return OpenPanelAnswer {
-                number: 0,
-                value: 0,
-            };
-        }
-        Verdict::Refused(number, place) => {
-            return OpenPanelAnswer {
-                number: number,
-                value: place,
-            };
-        }
-    }
-}
+ghost use Rattle.tablet.specs.Rows.{RowsTold};
+ghost use Rattle.tablet.specs.Told.{judged, Told, askedNumbers, answeredNumbers};
+ghost use Rattle.tablet.specs.Parts.{PartTold};
 
 fn asked_in_numbers(asked: Asked) -> OpenPanelAnswer
     ensures { λ r. ⌜ r ≡ askedNumbers asked ⌝ }
@@ -165,17 +123,6 @@ pub extern "C" fn open_panel_box_judge(deck: &[u8]) -> OpenPanelAnswer
     ensures { λ r. ⌜ r ≡ verdictNumbers (verdictOf (deckJudged (now (deck .entry)))) ⌝ }
 {
     let verdict = judge_deck(deck);
-    verdict_in_numbers(verdict)
-}
-
-// In three lent numbers: 0 for the base or 1 for the expansion, the first byte there, and how many bytes.
-fn tell_part(place: Place, part: &mut [usize; 3]) -> OpenPanelAnswer
-    ensures { λ r. ⌜ Stands place (now (part .entry)) (now (part .exit)) r ⌝ }
-{
-    part[0] = place.which;
-    part[1] = place.offset;
-    part[2] = place.size;
-    let verdict = place.verdict;
     verdict_in_numbers(verdict)
 }
 
@@ -265,16 +212,6 @@ pub extern "C" fn open_panel_first_move(card: &[u8], seats: &[u8]) -> OpenPanelA
 {
     let answer = first_move(card, seats);
     move_in_numbers(answer)
-}
-
-// 0 asks for the smallest, any other number for the largest.
-fn is_largest(aim: u8) -> bool
-    ensures { λ r. ⌜ aimOf r ≡ aimBy aim ⌝ }
-{
-    if aim == 0 {
-        return false;
-    }
-    true
 }
 
 // The chance that a question becomes true within m steps, in millionths; the rows hold round m and the round before it.

@@ -1,7 +1,7 @@
 -- `tablet::open_panel_box_judge` meets its contract: the deck's verdict, in numbers. Assumes nothing.
 use mathlib.Core.Path.{ap, _∙_}
 use borrow.Author.Needs.{needs}
-use Rattle.tablet.specs.Told.{verdictNumbers}
+use Rattle.answers.specs.Numbered.{verdictNumbers}
 use Rattle.tablet.proofs.open_panel_box_judge.Statement.{statement}
 use Rattle.tablet.proofs.open_panel_box_judge.Tie as tie
 

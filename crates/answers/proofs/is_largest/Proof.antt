@@ -1,8 +1,8 @@
--- `tablet::is_largest` meets its contract: by whether the number is 0. Assumes nothing.
+-- `answers::is_largest` meets its contract: by whether the number is 0. Assumes nothing.
 use borrow.Author.Tests.{eq-eqb, ne-eqb}
 use borrow.Author.Needs.{needs}
-use Rattle.tablet.proofs.is_largest.Statement.{statement}
-use Rattle.tablet.proofs.is_largest.Tie as tie
+use Rattle.answers.proofs.is_largest.Statement.{statement}
+use Rattle.answers.proofs.is_largest.Tie as tie
 
 returns : tie.Need-returns
 returns c = rw (eq-eqb (c .before .args .aim) 0 (c .if1 .taken))

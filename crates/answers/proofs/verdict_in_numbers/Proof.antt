@@ -1,9 +1,9 @@
--- `tablet::verdict_in_numbers` meets its contract, case by case. Assumes nothing.
+-- `answers::verdict_in_numbers` meets its contract, case by case. Assumes nothing.
 use borrow.Author.Needs.{needs}
 use mathlib.Core.Path.{ap, sym}
-use Rattle.tablet.specs.Told.{verdictNumbers}
-use Rattle.tablet.proofs.verdict_in_numbers.Statement.{statement}
-use Rattle.tablet.proofs.verdict_in_numbers.Tie as tie
+use Rattle.answers.specs.Numbered.{verdictNumbers}
+use Rattle.answers.proofs.verdict_in_numbers.Statement.{statement}
+use Rattle.answers.proofs.verdict_in_numbers.Tie as tie
 
 enum-told : tie.Need-enum-told
 enum-told c = search needs

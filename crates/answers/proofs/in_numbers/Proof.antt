@@ -1,9 +1,9 @@
--- `tablet::in_numbers` meets its contract, case by case. Assumes nothing.
-use Rattle.tablet.specs.Told.{numbers}
+-- `answers::in_numbers` meets its contract, case by case. Assumes nothing.
+use Rattle.answers.specs.Numbered.{numbers}
 use mathlib.Core.Path.{ap, sym}
 use borrow.Author.Needs.{needs}
-use Rattle.tablet.proofs.in_numbers.Statement.{statement}
-use Rattle.tablet.proofs.in_numbers.Tie as tie
+use Rattle.answers.proofs.in_numbers.Statement.{statement}
+use Rattle.answers.proofs.in_numbers.Tie as tie
 
 enum-known-answer : tie.Need-enum-known-answer
 enum-known-answer c = search needs

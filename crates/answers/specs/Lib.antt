@@ -1,0 +1,3 @@
+pub mod Numbered
+pub mod Stands
+pub mod Aims
