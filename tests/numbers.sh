@@ -9,7 +9,7 @@ wrong=0
 # proved NAME: the number that the promises give the name, by computation
 proved() {
     local given
-    given=$(sed -n "s/^  pub [a-z0-9-]* : $1 ≡ \([0-9]*\)$/\1/p" crates/promises/specs/Figures.antt)
+    given=$(sed -n "s/^  pub [a-z0-9-]* : $1 ≡ \([0-9]*\)$/\1/p" crates/card_promises/specs/Figures.antt)
     [[ $given =~ ^[0-9]+$ ]] || { echo "numbers: the promises give $1 no number, or two" >&2 && return 1; }
     echo "$given"
 }

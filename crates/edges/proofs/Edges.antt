@@ -6,10 +6,7 @@ use Rattle.room.specs.Digits.{decimal}
 use Rattle.meaning.specs.Panel.{panel}
 use Rattle.lines.specs.PanelText.{panelOf}
 use Rattle.meaning.specs.CardA.{cardA}
-use Rattle.counting.specs.Judged.{judgedSeats, judgedFrom}
-use Rattle.panel.specs.PanelSaid.{panelSaid}
-use Rattle.program.specs.Program.{programOf, answerTo, seatsLine, cardBehind}
-use Rattle.edges.specs.Edges.{Edges, MarkEdges, RunEdges, UnitEdges, Printing}
+use Rattle.edges.specs.Edges.{Edges, MarkEdges, RunEdges, UnitEdges}
 
 pub edges : Edges
 unfolding panelOf panel cardA decimal unitsOf readUnder
@@ -60,7 +57,3 @@ unit-edges = record {
   words = (refl, refl);
   retired = (refl, refl, refl, refl);
 }
-
-pub printing : Printing
-unfolding programOf answerTo seatsLine cardBehind panelSaid judgedSeats judgedFrom readUnder panelOf panel cardA decimal unitsOf
-printing = record { card-a = refl; no-card = refl }

@@ -1,4 +1,2 @@
 pub mod Edges
 pub mod DeckEdges
-pub mod SpectatorEdges
-pub mod MoveEdges

@@ -13,7 +13,6 @@ use Rattle.reading.specs.Reading.{Outcome, taken, refused, firstOutside, readUn
 use Rattle.room.specs.Digits.{decimal as digitsOf}
 use Rattle.meaning.specs.CardA.{cardA}
 use Rattle.lines.specs.PanelText.{panelOf}
-use Rattle.program.specs.Program.{programOf}
 
 -- card A's own text behind its mode
 abbrev pub behindMode : List ℕ
@@ -153,8 +152,3 @@ pub record UnitEdges : Type 0 where
       × (readUnder false (head ++ bytes " -> 1/2:(s1'=1) + 0.005:(s1'=2);\nendmodule\n") ≡ refused 17 75)
       × (readUnder false (head ++ bytes " -> 1/13:(s1'=1) + 0.5:(s1'=2);\nendmodule\n") ≡ refused 7 61)
       × (readUnder false (head ++ bytes " -> 1/2:(s1'=1) + 1/2:(s1'=2);\nendmodule\n") ≡ reads 1 none (to 138600 1 ∷ to 138600 2 ∷ []))
-
--- what the program prints, whole: for `001` and card A, and for a line without LF
-pub record Printing : Type 0 where
-  pub card-a : programOf (bytes "001\n" ++ textA probabilistic) ≡ asAbove
-  pub no-card : programOf (bytes "001") ≡ bytes "refused 3 0\n"

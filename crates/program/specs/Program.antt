@@ -5,15 +5,7 @@ use lib.Dec.{eqb}
 use lib.ListN.{take}
 use Rattle.card.specs.Text.{if_then_else_}
 use Rattle.panel.specs.PanelSaid.{panelSaid}
-pub use Rattle.program_lines.specs.Lines.{noState, seatOf, printed, refusalMost, Printed}
-
--- bytes behind these are not read
-abbrev pub inputBytes : ℕ
-inputBytes = 65536
-
--- LF
-abbrev pub lineEnd : ℕ
-lineEnd = 10
+pub use Rattle.program_lines.specs.Lines.{inputBytes, lineEnd, noState, seatOf, printed, refusalMost, Printed}
 
 -- a line of seats, up to LF; without LF it is all there is
 unfoldable pub seatsLine : List ℕ → List ℕ

@@ -1,4 +1,4 @@
--- The seats of a line, and what is printed for an answer ("Texts, byte for byte", the paragraph on the program). Assumes nothing.
+-- What of the input is read, the seats of a line, and what is printed for an answer ("Texts, byte for byte", the paragraph on the program). Assumes nothing.
 use Prim.Native.Nat.{ℕ, _-_, _≤_}
 use mathlib.Core.Path.{_≡_}
 use mathlib.Core.Bool.{_&&_}
@@ -10,6 +10,14 @@ use Rattle.room.specs.Digits.{digit}
 use Rattle.entry.specs.Said.{says as text, refused}
 use Rattle.room.specs.Answer.{Text}
 use Rattle.phrases.specs.Phrases.{_▸_, num}
+
+-- bytes behind these are not read
+abbrev pub inputBytes : ℕ
+inputBytes = 65536
+
+-- LF
+abbrev pub lineEnd : ℕ
+lineEnd = 10
 
 -- a seat that is no digit is in no card's states
 abbrev pub noState : ℕ

@@ -19,8 +19,8 @@ use Rattle.reducer.specs.ReduceSaid.{reduceSaid}
 use Rattle.panel.specs.PanelSaid.{panelSaid}
 use Rattle.lines.specs.PanelText.{panelOf}
 use Rattle.panel.proofs.Reordering.{equal-said, said-alike, alike}
-use Rattle.promises.proofs.Marks.{markings}
-use Rattle.promises.proofs.Readings.{readings}
+use Rattle.card_promises.proofs.Marks.{markings}
+use Rattle.card_promises.proofs.Readings.{readings}
 use Rattle.promises.specs.Demands.{Demand2, Demand3-of-bytes, Demand3, Total, Meanings}
 
 pub demand3 : Demand3

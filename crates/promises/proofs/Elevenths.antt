@@ -20,8 +20,8 @@ use Rattle.reader.specs.ReadingOf.{outlineOf, memoryOf}
 use Rattle.reader.specs.declared.Outline.{Outline}
 use Rattle.rereading.proofs.RoundTrip.{read-again}
 use Rattle.edges.proofs.Edges.{unit-edges}
-use Rattle.promises.proofs.CardMarks.{taken-marks}
-use Rattle.promises.proofs.Numbers.{number-some}
+use Rattle.card_promises.proofs.CardMarks.{taken-marks}
+use Rattle.card_promises.proofs.Numbers.{number-some}
 use Rattle.promises.specs.Elevenths.{Elevenths, ByRule}
 
 -- ---- without decimals, and with them

@@ -40,7 +40,7 @@ use Rattle.panel.specs.PanelSaid.{panelSaid}
 use Rattle.panel.proofs.Short.{panel-fits}
 use Rattle.panel.proofs.Theorems.{said, said-card, said-count, said-seat}
 use Rattle.promises.specs.Entries.{InNumbers, outcomeNumber, outcomePlace, Prints, Shows, Rooms, Unique, Demand1}
-use Rattle.promises.proofs.Numbers.{number-some}
+use Rattle.card_promises.proofs.Numbers.{number-some}
 use Rattle.promises.proofs.Program.{Way, of-card as card-way, of-count, of-seat, of-panel, way, input, responds, never-10}
 
 pub in-numbers : (a : Answer) → InNumbers a

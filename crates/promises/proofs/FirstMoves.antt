@@ -35,7 +35,7 @@ use Rattle.first_move.proofs.Theorems.{moves, moved-faithful}
 use Rattle.tablet.specs.Moves.{movedNumbers}
 use Rattle.promises.specs.ForC.{Answers}
 use Rattle.promises.specs.FirstMoves.{behindCounts, MoveMeaning, MoveTells, FirstMoves}
-use Rattle.promises.proofs.Numbers.{number-some}
+use Rattle.card_promises.proofs.Numbers.{number-some}
 
 -- ---- the panel's text
 

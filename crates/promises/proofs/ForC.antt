@@ -25,7 +25,7 @@ use Rattle.answers.specs.Numbered.{numbers}
 use Rattle.tablet.specs.Told.{judged, Told}
 use Rattle.promises.specs.Entries.{Prints, Shows}
 use Rattle.promises.specs.ForC.{Answers, JudgeTells, TextTells, PanelTells, ForC}
-use Rattle.promises.proofs.Numbers.{number-some}
+use Rattle.card_promises.proofs.Numbers.{number-some}
 use Rattle.promises.proofs.Entries.{write, reduce, panel}
 
 -- ---- an answer and its two numbers

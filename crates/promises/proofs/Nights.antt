@@ -43,7 +43,7 @@ use Rattle.chances.proofs.Rows.{row-holds}
 use Rattle.odds_edges.proofs.OddsEdges.{odds-edges}
 use Rattle.answers.specs.Numbered.{numbers}
 use Rattle.promises.specs.Nights.{OddsMeaning, OddsTells, Nights}
-use Rattle.promises.proofs.Numbers.{number-some}
+use Rattle.card_promises.proofs.Numbers.{number-some}
 use Rattle.promises.proofs.ForC.{tells-done, tells-refused, is-refused, number-of}
 
 -- ---- the rows

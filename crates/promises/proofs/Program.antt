@@ -31,7 +31,7 @@ use Rattle.panel.proofs.Theorems.{said, said-card, said-count, said-seat}
 use Rattle.entry.proofs.Stages.{among-up-to}
 use Rattle.program.specs.Program.{inputBytes, lineEnd, seatsLine, cardBehind, noState, seatOf, printed, programOf, answerTo}
 use Rattle.promises.specs.Entries.{Input, seatsRead, cardRead, Response, wrong-card, wrong-count, wrong-seat, the-panel}
-use Rattle.promises.proofs.Numbers.{number-some}
+use Rattle.card_promises.proofs.Numbers.{number-some}
 
 module _ (card seats : List ℕ) where
   pub data Way : Type 0 where

@@ -32,7 +32,7 @@ use Rattle.ask.proofs.Theorems.{asks}
 use Rattle.tablet.specs.Told.{answeredNumbers}
 use Rattle.promises.specs.ForC.{Answers}
 use Rattle.promises.specs.Questions.{QuestionMeaning, QuestionReadings, asSaid, AskTells, Questions}
-use Rattle.promises.proofs.Numbers.{number-some}
+use Rattle.card_promises.proofs.Numbers.{number-some}
 
 laid : (c : Card) → ValidCard c → (x : Seating) → ValidSeating c x → (own : ℕ) (q : Question)
     → holdsOn x q ≡ heldAt (c .n) own (counts (c .k) x) (over leafFor q)

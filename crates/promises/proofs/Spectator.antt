@@ -34,7 +34,7 @@ use Rattle.watch.proofs.Theorems.{said, watches}
 use Rattle.answers.specs.Numbered.{numbers}
 use Rattle.promises.specs.Entries.{RoomEnough}
 use Rattle.promises.specs.Spectator.{ClassCounts, Seen, WatchTells, Spectator}
-use Rattle.promises.proofs.Numbers.{number-some}
+use Rattle.card_promises.proofs.Numbers.{number-some}
 use Rattle.promises.proofs.ForC.{tells-done, tells-refused, is-refused, number-of, entered}
 
 class-counts : ClassCounts

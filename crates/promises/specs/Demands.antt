@@ -29,8 +29,8 @@ use Rattle.reducer.specs.ReduceSaid.{reduceSaid}
 use Rattle.lines.specs.PanelText.{panelText}
 use Rattle.panel.specs.PanelSaid.{panelSaid}
 use Rattle.panel.specs.Reordering.{SaidAlike, Alike}
-use Rattle.promises.specs.Marks.{Markings}
-use Rattle.promises.specs.Readings.{Readings}
+use Rattle.card_promises.specs.Marks.{Markings}
+use Rattle.card_promises.specs.Readings.{Readings}
 
 -- Demand 2 ("Marks on a card", "Shape of a card", "Texts, byte for byte", "Refusal numbers"): which bytes are a card, why others are not, and what is
 -- printed of a card

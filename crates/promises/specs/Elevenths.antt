@@ -20,7 +20,7 @@ use Rattle.reader.specs.ReadingOf.{outlineOf, ReadsUnder}
 use Rattle.reader.specs.declared.Outline.{Outline}
 use Rattle.texts.specs.Writing.{writeOf}
 use Rattle.edges.specs.Edges.{UnitEdges}
-use Rattle.promises.specs.CardMarks.{markOf, CardMarks}
+use Rattle.card_promises.specs.CardMarks.{markOf, CardMarks}
 
 pub record Elevenths : Type 0 where
   -- the unit is eleven times document 01's

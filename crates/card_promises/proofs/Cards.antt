@@ -14,7 +14,7 @@ use Rattle.card.specs.Refusals.{wrongWeight}
 use Rattle.card.specs.Weight.{unitsOf}
 use Rattle.card.specs.Judged.{judgedOf, weightNumber, weightUnits}
 use Rattle.entry.proofs.Exactly.{_↔∙_}
-use Rattle.promises.specs.Cards.{Cards}
+use Rattle.card_promises.specs.Cards.{Cards}
 
 card-a-valid : (mode : Mode) → ValidCard (cardA mode)
 unfolding cardA

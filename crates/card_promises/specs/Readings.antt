@@ -15,7 +15,7 @@ use Rattle.reading.specs.Judgements.{kindOf}
 use Rattle.grammar.specs.Rules.{OnceEach}
 use Rattle.reading.specs.Reading.{taken, refused, readOf}
 use Rattle.grammar.specs.Verdicts.{Accepted, TooLong, OutsideRules, OutOfShape, PastLimit, Broken}
-use Rattle.promises.specs.CardMarks.{markOf, CardMarks}
+use Rattle.card_promises.specs.CardMarks.{markOf, CardMarks}
 
 pub record Readings : Type 0 where
   -- a card is taken exactly when its marks have the grammar's shape within the limits and keep the rules; and it is the grammar's card

@@ -23,7 +23,7 @@ use Rattle.reading.specs.Reading.{taken, readUnder}
 use Rattle.grammar.proofs.Fair.{every-append}
 use Rattle.grammar.proofs.Along.{strictly, along-whole, guard-along}
 use Rattle.grammar.proofs.Theorems.{accepted}
-use Rattle.promises.specs.CardMarks.{sign, markOf, weightMarks, BranchMarks, branch, PlusMarks, plus, Repeated, done, again, GuardMarks, nothing, guarded, StatementMarks, statement, copyMarks, copies, CardMarks, card}
+use Rattle.card_promises.specs.CardMarks.{sign, markOf, weightMarks, BranchMarks, branch, PlusMarks, plus, Repeated, done, again, GuardMarks, nothing, guarded, StatementMarks, statement, copyMarks, copies, CardMarks, card}
 
 abbrev marks : Place → List Mark
 marks = map markOf

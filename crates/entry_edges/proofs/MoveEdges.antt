@@ -5,7 +5,7 @@ use Rattle.reading.specs.Reading.{readUnder}
 use Rattle.counting.specs.Judged.{judgedSeats, judgedFrom}
 use Rattle.moving.specs.FirstMove.{firstMove}
 use Rattle.first_move.specs.MoveSaid.{moveSaid}
-use Rattle.edges.specs.MoveEdges.{MoveEdges}
+use Rattle.entry_edges.specs.MoveEdges.{MoveEdges}
 
 pub move-edges : MoveEdges
 unfolding moveSaid readUnder unitsOf judgedSeats judgedFrom firstMove

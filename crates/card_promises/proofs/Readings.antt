@@ -15,9 +15,9 @@ use Rattle.grammar.specs.Rules.{OnceEach}
 use Rattle.grammar.proofs.Symmetry.{once-is, is-once}
 use Rattle.grammar.proofs.Theorems.{accepted, read-valid, refusal-1, refusal-2, refusal-3, refusal-4, refusal-5, refusal-6, refusal-7}
 use Rattle.reading.proofs.Numbers.{read-number}
-use Rattle.promises.proofs.CardMarks.{taken-marks}
-use Rattle.promises.proofs.Numbers.{number-some}
-use Rattle.promises.specs.Readings.{Readings}
+use Rattle.card_promises.proofs.CardMarks.{taken-marks}
+use Rattle.card_promises.proofs.Numbers.{number-some}
+use Rattle.card_promises.specs.Readings.{Readings}
 
 is-everyone : (a b : Bool) → (if a then some everyone else (if b then some others else none)) ≡ some everyone → a ≡ true
 is-everyone true b e = refl

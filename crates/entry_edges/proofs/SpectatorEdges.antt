@@ -7,7 +7,7 @@ use Rattle.counting.specs.Judged.{judgedSeats, judgedFrom}
 use Rattle.classes.specs.Classes.{classCounts, classesText, watchOf}
 use Rattle.classes.specs.ClassesSaid.{judgedClasses}
 use Rattle.watch.specs.WatchSaid.{watchSaid}
-use Rattle.edges.specs.SpectatorEdges.{SpectatorEdges}
+use Rattle.entry_edges.specs.SpectatorEdges.{SpectatorEdges}
 
 pub spectator-edges : SpectatorEdges
 unfolding watchSaid readUnder unitsOf judgedSeats judgedFrom judgedClasses watchOf classCounts classesText decimal

@@ -9,7 +9,7 @@ use Rattle.card.specs.Refusals.{wrongClasses}
 use Rattle.room.specs.Digits.{digit}
 use Rattle.texts.specs.Lengths.{writtenRoom, reducedRoom}
 use Rattle.panel_room.specs.PanelRoom.{panelRoom}
-use Rattle.program.specs.Program.{inputBytes, lineEnd, noState}
+use Rattle.program_lines.specs.Lines.{inputBytes, lineEnd, noState}
 use Rattle.asking.specs.Asking.{inQuestion}
 use Rattle.classes.specs.ClassesRoom.{classesRoom}
 use Rattle.evenings.specs.Limits.{mostNights, mostVectors, million, tooManyVectors, tooManyNights, wrongRow}

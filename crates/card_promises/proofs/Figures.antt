@@ -1,6 +1,6 @@
 -- Each by computing. Assumes nothing.
 use mathlib.Core.Path.{refl}
-use Rattle.promises.specs.Figures.{Figures}
+use Rattle.card_promises.specs.Figures.{Figures}
 
 pub figures : Figures
 figures = record {

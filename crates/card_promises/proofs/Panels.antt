@@ -23,7 +23,7 @@ use Rattle.meaning.proofs.AddUp.{adds-up}
 use Rattle.meaning.proofs.Bounds.{panel-enabled-most}
 use Rattle.shown.proofs.InOrder.{ordered}
 use Rattle.shown.proofs.Telling.{telling}
-use Rattle.promises.specs.Panels.{takers, Panels}
+use Rattle.card_promises.specs.Panels.{takers, Panels}
 
 -- a turn for each seat that may take the statement
 turns-takers : (s : Statement) (x : Seating) → length (turnsBy s x) ≡ takers s x

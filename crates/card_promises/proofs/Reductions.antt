@@ -8,7 +8,7 @@ use Rattle.meaning.specs.CardA.{cardA}
 use Rattle.meaning.specs.Reduced.{reduce, copy}
 use Rattle.meaning.proofs.Within.{stays-within}
 use Rattle.texts.proofs.Reductions.{reduced-once}
-use Rattle.promises.specs.Reductions.{Table, Translation, Reductions}
+use Rattle.card_promises.specs.Reductions.{Table, Translation, Reductions}
 
 table : Table
 table = record {

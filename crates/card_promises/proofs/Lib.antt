@@ -1,0 +1,8 @@
+pub mod Cards
+pub mod CardMarks
+pub mod Figures
+pub mod Marks
+pub mod Numbers
+pub mod Readings
+pub mod Reductions
+pub mod Panels

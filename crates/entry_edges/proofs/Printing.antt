@@ -1,0 +1,16 @@
+-- Each by computing. Assumes nothing.
+use mathlib.Core.Path.{refl}
+use Rattle.card.specs.Weight.{unitsOf}
+use Rattle.reading.specs.Reading.{readUnder}
+use Rattle.room.specs.Digits.{decimal}
+use Rattle.meaning.specs.Panel.{panel}
+use Rattle.meaning.specs.CardA.{cardA}
+use Rattle.lines.specs.PanelText.{panelOf}
+use Rattle.counting.specs.Judged.{judgedSeats, judgedFrom}
+use Rattle.panel.specs.PanelSaid.{panelSaid}
+use Rattle.program.specs.Program.{programOf, answerTo, seatsLine, cardBehind}
+use Rattle.entry_edges.specs.Printing.{Printing}
+
+pub printing : Printing
+unfolding programOf answerTo seatsLine cardBehind panelSaid judgedSeats judgedFrom readUnder panelOf panel cardA decimal unitsOf
+printing = record { card-a = refl; no-card = refl }
