@@ -21,9 +21,9 @@ use Rattle.reader.specs.ReadingOf.{ReadsInto}
 use Rattle.rows.proofs.ReadInto.{taken-holds, refused-said, taken-said}
 use Rattle.moving.specs.FirstMove.{firstMove, firstAt}
 use Rattle.moving.proofs.FirstMove.{walks-alike}
-use Rattle.first_move.specs.FirstRow.{firstRow}
+use Rattle.first_able.specs.FirstRow.{firstRow}
 use Rattle.first_move.specs.MoveSaid.{moveSeated, moveSaid}
-use Rattle.first_move.proofs.Laws.{rows-walk}
+use Rattle.first_able.proofs.Laws.{rows-walk}
 
 module _ (card seats : List ℕ) {r : Outline} {x : Lent} (h : ReadsInto card r x) where
   pub card-refused : {number place : ℕ} → r .verdict ≡ Refused number place → moveSaid card seats ≡ refused number place

@@ -21,7 +21,7 @@ use Rattle.rows.proofs.Theorems.{card-stage, card-first}
 use Rattle.moving.specs.FirstMove.{firstMove}
 use Rattle.moving.proofs.FirstTaken.{first-exactly, nobody-exactly}
 use Rattle.first_move.specs.MoveSaid.{moveSeated, moveSaid, Moves}
-use Rattle.first_move.specs.Moved.{moved}
+use Rattle.first_able.specs.Moved.{moved}
 
 module _ (card seats : List ℕ) where
   seated : (c : Card) → Stage (moveSeated seats c) seatsNumbers (ValidSeating c seats) (λ _. firstMove c seats)

@@ -1,3 +1,1 @@
-pub mod FirstRow
 pub mod MoveSaid
-pub mod Moved

@@ -30,7 +30,7 @@ use Rattle.moving.proofs.FirstMove.{first-by-counts, rest-unread, equal-counts,
 use Rattle.moving.proofs.FirstTaken.{first-exactly, nobody-exactly}
 use Rattle.moving.proofs.Shown.{shown-first}
 use Rattle.first_move.specs.MoveSaid.{moveSeated, moveSaid, Moves}
-use Rattle.first_move.specs.Moved.{moved}
+use Rattle.first_able.specs.Moved.{moved}
 use Rattle.first_move.proofs.Theorems.{moves, moved-faithful}
 use Rattle.tablet.specs.Moves.{movedNumbers}
 use Rattle.promises.specs.ForC.{Answers}

@@ -21,9 +21,9 @@ use Rattle.panel.specs.PanelSaid.{panelSaid}
 use Rattle.moving.specs.FirstMove.{firstMove, firstAt}
 use Rattle.moving.specs.FirstTaken.{FirstTaken}
 use Rattle.moving.specs.Shown.{FirstChoice}
-use Rattle.first_move.specs.declared.FirstMove.{FirstMove}
+use Rattle.first_able.specs.declared.FirstMove.{FirstMove}
 use Rattle.first_move.specs.MoveSaid.{moveSaid, Moves}
-use Rattle.first_move.specs.Moved.{moved}
+use Rattle.first_able.specs.Moved.{moved}
 use Rattle.answers.specs.declared.OpenPanelAnswer.{OpenPanelAnswer}
 use Rattle.tablet.specs.Moves.{movedNumbers}
 use Rattle.promises.specs.ForC.{Answers}

@@ -13,7 +13,7 @@ use card::limits::NODE_PLACES;
 use card::limits::ROW_PLACES;
 use contents::judge_deck;
 use deck_writer::write_deck;
-use first_move::FirstMove;
+use first_able::FirstMove;
 use first_move::first_move;
 use odds::odds;
 use panel::panel;

@@ -1,22 +1,17 @@
 -- What `watch` says, stage by stage: the card's refusal, the seats', the list's, or the line of the class counts. Assumes nothing.
-use Prim.Native.Nat.{ℕ, suc, _-_, _≤_, _<_}
+use Prim.Native.Nat.{ℕ, _≤_}
 use mathlib.Core.Path.{_≡_, sym, ap, _∙_}
 use mathlib.Core.List.{List}
 use native.Mathlib.Omega.{arith}
-use borrow.Author.Tests.{eq-eqb, ne-eqb}
 use lib.ListN.{length}
-use Rattle.card.specs.Limits.{mostSeats, topClass}
-use Rattle.card.specs.Refusals.{wrongClasses}
+use Rattle.card.specs.Limits.{mostSeats}
 use Rattle.card.specs.Lent.{Lent, cardIn}
 use Rattle.card.specs.declared.Verdict.{Verdict}
 use Rattle.card.specs.declared.Verdict.the-variants.{Taken, Refused}
 use Rattle.card.proofs.HeldIn.{holds-seats}
 use Rattle.entry.specs.Said.{says as text, refused}
-use Rattle.room.specs.Room.{Put}
-use Rattle.phrases.specs.Puts.{Puts}
-use Rattle.lines.specs.PanelText.{line}
 use Rattle.meaning.specs.Seats.{ValidSeating}
-use Rattle.counting.specs.Judged.{judgedFrom, judgedSeats}
+use Rattle.counting.specs.Judged.{judgedSeats}
 use Rattle.counting.proofs.Judging.{valid-exactly}
 use Rattle.reader.specs.declared.Outline.{Outline}
 use Rattle.reader.specs.ReadingOf.{ReadsInto}
@@ -27,27 +22,6 @@ use Rattle.classes.specs.ClassesRoom.{classesRoom}
 use Rattle.classes.proofs.ClassesStage.{fine-exactly}
 use Rattle.classes.proofs.Line.{fits}
 use Rattle.watch.specs.WatchSaid.{watchCard, watchSaid}
-
--- ---- a list by its length, as the code tests it
-
-module _ (top : ℕ) (list : List ℕ) where
-  pub right-length : top < length list → length list - top ≡ 1 → judgedFrom wrongClasses topClass 0 list ≡ judgedClasses top list
-  unfolding judgedClasses
-  right-length h e = let long : length list ≡ suc top = omega arith in rw (eq-eqb (length list) (suc top) long)
-
-  pub wrong-length : (length list ≡ suc top → ⊥) → Refused wrongClasses (length list) ≡ judgedClasses top list
-  unfolding judgedClasses
-  wrong-length h = rw (ne-eqb (length list) (suc top) h)
-
--- ---- the line, put into a room of no bytes or into the room
-
-module _ (v : List ℕ) {was is : List ℕ} {r : ℕ} (p : Puts was is 0 (line "classes" v) r) where
-  pub line-put : Put was is 0 (classesText v) r
-  unfolding classesText
-  line-put = p .put
-
-  pub measured : length (classesText v) ≤ classesRoom → r ≡ length (classesText v)
-  measured short = omega (arith, line-put .next)
 
 -- ---- the stages
 

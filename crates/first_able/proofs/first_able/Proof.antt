@@ -1,14 +1,14 @@
--- `first_move::first_able` meets its contract: before each turn the walk from the first statement is the walk from statement i on. Assumes nothing.
-use Rattle.first_move.proofs.Laws.{row-start, row-taken, row-passed, row-none}
-use Rattle.first_move.specs.Moved.{moved}
-use Rattle.first_move.specs.FirstRow.{firstRow}
+-- `first_able::first_able` meets its contract: before each turn the walk from the first statement is the walk from statement i on. Assumes nothing.
+use Rattle.first_able.proofs.Laws.{row-start, row-taken, row-passed, row-none}
+use Rattle.first_able.specs.Moved.{moved}
+use Rattle.first_able.specs.FirstRow.{firstRow}
 use Rattle.entry.specs.Said.{says}
 use borrow.Author.Needs.{needs}
 use mathlib.Core.Option.{Option}
 use mathlib.Core.Path.{_≡_, sym, ap, _∙_}
 use Prim.Native.Nat.{_≤_, _-_, ℕ}
-use Rattle.first_move.proofs.first_able.Statement.{statement}
-use Rattle.first_move.proofs.first_able.Tie as tie
+use Rattle.first_able.proofs.first_able.Statement.{statement}
+use Rattle.first_able.proofs.first_able.Tie as tie
 
 abbrev Inv-loop : tie.InvT-loop
 Inv-loop rows nodes counts n count i₀ i = (i ≤ count) × (firstRow n counts nodes rows 0 count ≡ firstRow n counts nodes rows i (count - i))

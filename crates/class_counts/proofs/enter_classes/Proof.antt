@@ -1,11 +1,11 @@
--- `watch::enter_classes` meets its contract: a line that fits is put, and one that does not has told its length. Assumes nothing.
-use Rattle.watch.proofs.Entry.{measured, line-put}
+-- `class_counts::enter_classes` meets its contract: a line that fits is put, and one that does not has told its length. Assumes nothing.
+use Rattle.class_counts.proofs.Laws.{measured, line-put}
 use Rattle.room.proofs.Entries.{entered-short, entered-whole}
 use native.Mathlib.Omega.{arith}
 use mathlib.Core.Path.{refl}
 use borrow.Author.Needs.{needs}
-use Rattle.watch.proofs.enter_classes.Statement.{statement}
-use Rattle.watch.proofs.enter_classes.Tie as tie
+use Rattle.class_counts.proofs.enter_classes.Statement.{statement}
+use Rattle.class_counts.proofs.enter_classes.Tie as tie
 
 slice-aggregate-put-line : tie.Need-slice-aggregate-put-line
 slice-aggregate-put-line c = search needs

@@ -13,7 +13,7 @@ use Rattle.card.specs.Rows.{rowsFrom}
 use Rattle.meaning.specs.ByCounts.{able}
 use Rattle.counting.specs.Taking.{takers}
 use Rattle.moving.specs.FirstMove.{firstAt}
-use Rattle.first_move.specs.FirstRow.{ableRow, firstRow}
+use Rattle.first_able.specs.FirstRow.{ableRow, firstRow}
 
 module _ (n : ℕ) (v nodes rows : List ℕ) where
   row-step : (i more : ℕ) → firstRow n v nodes rows i (suc more) ≡ (if ltb 0 (ableRow n v nodes rows i) then some (suc i) else firstRow n v nodes rows (suc i) more)

@@ -1,4 +1,4 @@
--- `watch::count_classes` meets its contract: after i turns the array has the class counts of the first i seats. Assumes nothing.
+-- `class_counts::count_classes` meets its contract: after i turns the array has the class counts of the first i seats. Assumes nothing.
 use Rattle.classes.proofs.Counts.{classes-none, classes-all, classes-next, classes-over, room-for-one}
 use Rattle.classes.specs.Classes.{classOf, classCounts}
 use lib.ListN.{length, take}
@@ -7,8 +7,8 @@ use native.Mathlib.Omega.{arith}
 use mathlib.Core.Path.{_≡_, ap, _∙_}
 use mathlib.Core.Logic.{⊎-elim}
 use Prim.Native.Nat.{_≤_, _-_}
-use Rattle.watch.proofs.count_classes.Statement.{statement}
-use Rattle.watch.proofs.count_classes.Tie as tie
+use Rattle.class_counts.proofs.count_classes.Statement.{statement}
+use Rattle.class_counts.proofs.count_classes.Tie as tie
 
 abbrev Inv-loop : tie.InvT-loop
 Inv-loop seats classes counts₀ i₀ counts i = (i ≤ length seats) × (counts ≡ classCounts classes (take i seats))

@@ -1,9 +1,9 @@
--- `watch::class_of` meets its contract: past the list's end there is no class. Assumes nothing.
+-- `class_counts::class_of` meets its contract: past the list's end there is no class. Assumes nothing.
 use lib.ListN.{List·getD-eq-default}
 use mathlib.Core.Path.{sym}
 use borrow.Author.Needs.{needs}
-use Rattle.watch.proofs.class_of.Statement.{statement}
-use Rattle.watch.proofs.class_of.Tie as tie
+use Rattle.class_counts.proofs.class_of.Statement.{statement}
+use Rattle.class_counts.proofs.class_of.Tie as tie
 
 shared-slice-read-wide : tie.Need-shared-slice-read-wide
 shared-slice-read-wide c = search needs

@@ -3,8 +3,8 @@
 use Prim.Native.Nat.{ℕ}
 use mathlib.Core.Option.{Option, none, some}
 use Rattle.entry.specs.Said.{Said, says, refused}
-use Rattle.first_move.specs.declared.FirstMove.{FirstMove}
-use Rattle.first_move.specs.declared.FirstMove.the-variants.{Statement, Nobody, Refused}
+use Rattle.first_able.specs.declared.FirstMove.{FirstMove}
+use Rattle.first_able.specs.declared.FirstMove.the-variants.{Statement, Nobody, Refused}
 
 abbrev pub moved : Said (Option ℕ) → FirstMove
 moved (says (some q)) = Statement q

@@ -1,10 +1,10 @@
--- `watch::judge_classes` meets its contract: the length first, then each class. Assumes nothing.
-use Rattle.watch.proofs.Entry.{right-length, wrong-length}
+-- `class_counts::judge_classes` meets its contract: the length first, then each class. Assumes nothing.
+use Rattle.class_counts.proofs.Laws.{right-length, wrong-length}
 use native.Mathlib.Omega.{arith}
 use mathlib.Core.Path.{_∙_}
 use borrow.Author.Needs.{needs}
-use Rattle.watch.proofs.judge_classes.Statement.{statement}
-use Rattle.watch.proofs.judge_classes.Tie as tie
+use Rattle.class_counts.proofs.judge_classes.Statement.{statement}
+use Rattle.class_counts.proofs.judge_classes.Tie as tie
 
 sub-if2 : tie.Need-sub-if2
 sub-if2 c = search needs
