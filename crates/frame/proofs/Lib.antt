@@ -1,3 +1,1 @@
 pub mod HeaderLaws
-pub mod ModuleLaws
-pub mod Written

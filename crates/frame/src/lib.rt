@@ -1,3 +1,2 @@
-// What stands around a card's statements, read from its bytes: its beginning, and its further modules up to the end.
+// What stands before a card's statements, read from its bytes.
 pub mod header;
-pub mod modules;

@@ -10,8 +10,8 @@ use Rattle.ask.proofs.ask.Met.{met as ask-met}
 use Rattle.contents.proofs.judge_deck.Met.{met as judge-deck-met}
 use Rattle.boxes.proofs.locate.Met.{met as locate-met}
 use Rattle.boxes.proofs.locate_with.Met.{met as locate-with-met}
-use Rattle.boxes.proofs.find.Met.{met as find-met}
-use Rattle.boxes.proofs.find_with.Met.{met as find-with-met}
+use Rattle.finding.proofs.find.Met.{met as find-met}
+use Rattle.finding.proofs.find_with.Met.{met as find-with-met}
 use Rattle.deck_writer.proofs.write_deck.Met.{met as write-deck-met}
 use Rattle.tablet.proofs.open_panel_judge.Met.{met as judge-for-c-met}
 use Rattle.tablet.proofs.open_panel_write.Met.{met as write-for-c-met}

@@ -13,8 +13,8 @@ use Rattle.ask.proofs.ask.Statement.{statement as askKeeps}
 use Rattle.contents.proofs.judge_deck.Statement.{statement as judgeDeckKeeps}
 use Rattle.boxes.proofs.locate.Statement.{statement as locateKeeps}
 use Rattle.boxes.proofs.locate_with.Statement.{statement as locateWithKeeps}
-use Rattle.boxes.proofs.find.Statement.{statement as findKeeps}
-use Rattle.boxes.proofs.find_with.Statement.{statement as findWithKeeps}
+use Rattle.finding.proofs.find.Statement.{statement as findKeeps}
+use Rattle.finding.proofs.find_with.Statement.{statement as findWithKeeps}
 use Rattle.deck_writer.proofs.write_deck.Statement.{statement as writeDeckKeeps}
 use Rattle.watch.proofs.watch.Statement.{statement as watchKeeps}
 use Rattle.tablet.proofs.open_panel_judge.Statement.{statement as judgeForCKeeps}

@@ -1,8 +1,8 @@
--- `boxes::tell` meets its contract: two numbers, put one after the other. Assumes nothing.
+-- `finding::tell` meets its contract: two numbers, put one after the other. Assumes nothing.
 use borrow.Author.Needs.{needs}
-use Rattle.boxes.proofs.Telling.{tell-refused, tell-taken}
-use Rattle.boxes.proofs.tell.Statement.{statement}
-use Rattle.boxes.proofs.tell.Tie as tie
+use Rattle.finding.proofs.Telling.{tell-refused, tell-taken}
+use Rattle.finding.proofs.tell.Statement.{statement}
+use Rattle.finding.proofs.tell.Tie as tie
 
 enum-known-verdict : tie.Need-enum-known-verdict
 enum-known-verdict c = search needs

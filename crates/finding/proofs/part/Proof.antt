@@ -1,10 +1,10 @@
--- `boxes::part` meets its contract: a range of the deck. Assumes nothing.
+-- `finding::part` meets its contract: a range of the deck. Assumes nothing.
 use Prim.Native.Nat.{_+_, _-_}
 use mathlib.Core.Path.{_≡_}
 use native.Mathlib.Omega.{arith}
 use borrow.Author.Needs.{needs}
-use Rattle.boxes.proofs.part.Statement.{statement}
-use Rattle.boxes.proofs.part.Tie as tie
+use Rattle.finding.proofs.part.Statement.{statement}
+use Rattle.finding.proofs.part.Tie as tie
 
 add-end : tie.Need-add-end
 add-end c = search needs

@@ -1,7 +1,7 @@
-use Rattle.frame.proofs.ModuleLaws.{end-stops, end-read}
+use Rattle.copies.proofs.ModuleLaws.{end-stops, end-read}
 use borrow.Author.Needs.{needs}
-use Rattle.frame.proofs.modules.ended.Statement.{statement}
-use Rattle.frame.proofs.modules.ended.Tie as tie
+use Rattle.copies.proofs.ended.Statement.{statement}
+use Rattle.copies.proofs.ended.Tie as tie
 
 stop-requires : tie.Need-stop-requires
 stop-requires c κs = c .before .before .before .pre

@@ -4,10 +4,10 @@ use native.Mathlib.Omega.{arith}
 use Rattle.card.specs.Limits.{mostSeats}
 use Rattle.late.specs.State.{lateIn}
 use Rattle.parts.proofs.Steps.{next-at}
-use Rattle.frame.proofs.ModuleLaws.{Going, going-start, going-ended, going-past, going-stops, going-more}
+use Rattle.copies.proofs.ModuleLaws.{Going, going-start, going-ended, going-past, going-stops, going-more}
 use borrow.Author.Needs.{needs}
-use Rattle.frame.proofs.modules.modules.Statement.{statement}
-use Rattle.frame.proofs.modules.modules.Tie as tie
+use Rattle.copies.proofs.modules.Statement.{statement}
+use Rattle.copies.proofs.modules.Tie as tie
 
 abbrev Inv-loop : tie.InvT-loop
 Inv-loop card at state₀ next₀ seats₀ state next seats = Going card (lateIn state₀) next₀ seats next state

@@ -2,10 +2,10 @@
 use mathlib.Core.Path.{sym, _∙_}
 use mathlib.Core.Bool.{true, false}
 use native.Mathlib.Omega.{arith}
-use Rattle.frame.proofs.Written.{one-digit-copy, two-digit-copy, too-short}
+use Rattle.copies.proofs.Written.{one-digit-copy, two-digit-copy, too-short}
 use borrow.Author.Needs.{needs}
-use Rattle.frame.proofs.modules.past_copy.Statement.{statement}
-use Rattle.frame.proofs.modules.past_copy.Tie as tie
+use Rattle.copies.proofs.past_copy.Statement.{statement}
+use Rattle.copies.proofs.past_copy.Tie as tie
 
 returns : tie.Need-returns
 returns c =

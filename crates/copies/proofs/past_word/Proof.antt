@@ -1,9 +1,9 @@
 use mathlib.Core.Path.{sym, _∙_}
 use native.Mathlib.Omega.{arith}
-use Rattle.frame.proofs.Written.{past-fits}
+use Rattle.copies.proofs.Written.{past-fits}
 use borrow.Author.Needs.{needs}
-use Rattle.frame.proofs.modules.past_word.Statement.{statement}
-use Rattle.frame.proofs.modules.past_word.Tie as tie
+use Rattle.copies.proofs.past_word.Statement.{statement}
+use Rattle.copies.proofs.past_word.Tie as tie
 
 word-here-requires : tie.Need-word-here-requires
 word-here-requires c κs = search needs

@@ -1,8 +1,8 @@
--- `boxes::find_with` meets its contract: the part that `locate_with` names, in the deck that it names. Assumes nothing.
+-- `finding::find_with` meets its contract: the part that `locate_with` names, in the deck that it names. Assumes nothing.
 use borrow.Author.Needs.{needs}
 use Rattle.boxes.proofs.Lookup.{expansion-inside, base-inside, expansion-found, base-found}
-use Rattle.boxes.proofs.find_with.Statement.{statement}
-use Rattle.boxes.proofs.find_with.Tie as tie
+use Rattle.finding.proofs.find_with.Statement.{statement}
+use Rattle.finding.proofs.find_with.Tie as tie
 
 locate-with-requires : tie.Need-locate-with-requires
 locate-with-requires c κs = search needs

@@ -1,8 +1,8 @@
--- `boxes::find` meets its contract: the part that `locate` names. Assumes nothing.
+-- `finding::find` meets its contract: the part that `locate` names. Assumes nothing.
 use borrow.Author.Needs.{needs}
 use Rattle.boxes.proofs.Lookup.{part-inside, find-found}
-use Rattle.boxes.proofs.find.Statement.{statement}
-use Rattle.boxes.proofs.find.Tie as tie
+use Rattle.finding.proofs.find.Statement.{statement}
+use Rattle.finding.proofs.find.Tie as tie
 
 locate-requires : tie.Need-locate-requires
 locate-requires c κs = search needs

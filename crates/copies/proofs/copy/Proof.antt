@@ -1,9 +1,9 @@
 -- Where its text stands, it is passed at once (proofs/Written.antt); else it goes mark by mark. Assumes nothing.
 use native.Mathlib.Omega.{arith}
-use Rattle.frame.proofs.Written.{copy-passed}
+use Rattle.copies.proofs.Written.{copy-passed}
 use borrow.Author.Needs.{needs}
-use Rattle.frame.proofs.modules.copy.Statement.{statement}
-use Rattle.frame.proofs.modules.copy.Tie as tie
+use Rattle.copies.proofs.copy.Statement.{statement}
+use Rattle.copies.proofs.copy.Tie as tie
 
 past-copy-requires : tie.Need-past-copy-requires
 past-copy-requires c κs = c .before .pre .1
