@@ -1,3 +1,4 @@
 pub mod Judging
-pub mod Reckoning
 pub mod Entry
+pub mod Preparing
+pub mod Reckoning

@@ -1,4 +1,6 @@
 pub mod Rows
 pub mod Kept
-pub mod Begun
 pub mod Turns
+pub mod Added
+pub mod Begun
+pub mod Taken

@@ -1,0 +1,5 @@
+pub mod Sums
+pub mod Adding
+pub mod Weighing
+pub mod Laws
+pub mod Ends
