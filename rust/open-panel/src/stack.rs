@@ -16,7 +16,7 @@ pub const WATCH: usize = 10_752;
 /// [`first_move`](crate::first_move)
 pub const FIRST_MOVE: usize = 10_752;
 /// [`odds`](crate::odds), in lent rows
-pub const ODDS: usize = 12_032;
+pub const ODDS: usize = 12_160;
 /// [`judge_deck`](crate::judge_deck)
 pub const JUDGE_DECK: usize = 256;
 /// [`find`](crate::find), [`locate`](crate::locate)
