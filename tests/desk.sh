@@ -5,7 +5,6 @@ set -eu
 cd "$(dirname "${BASH_SOURCE[0]}")/.."
 bin/library "$(uname -m)-linux" wasm32 >/dev/null
 . rust/library.sh
-export RUSTFLAGS='-D warnings'
 made=$(mktemp -d)
 trap 'rm -rf "$made"' EXIT
 runs=0

@@ -5,7 +5,6 @@ set -eu
 cd "$(dirname "${BASH_SOURCE[0]}")/.."
 bin/library "$(uname -m)-linux" >/dev/null
 . rust/library.sh
-export RUSTFLAGS='-D warnings'
 cd rust
 cargo test --release --offline --quiet
 cargo run --release --offline --quiet --package compare

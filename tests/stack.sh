@@ -5,5 +5,4 @@ set -eu
 cd "$(dirname "${BASH_SOURCE[0]}")/.."
 bin/library "$(uname -m)-linux" >/dev/null
 . rust/library.sh
-export RUSTFLAGS='-D warnings'
 cargo run --manifest-path rust/Cargo.toml --release --offline --quiet --package bench -- stack

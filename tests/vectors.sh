@@ -9,7 +9,6 @@ root=$PWD
 bin/library >/dev/null
 : | bin/open_panel >/dev/null
 . rust/library.sh
-export RUSTFLAGS='-D warnings'
 cargo build --manifest-path rust/Cargo.toml --release --offline --quiet --package vectors
 
 # held CASES ANSWERS ENTRY [SIDE..]

@@ -1,2 +1,1 @@
-pub mod AskSaid
 pub mod Answered

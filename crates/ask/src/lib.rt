@@ -3,17 +3,17 @@ use card::Verdict;
 use card::limits::BRANCH_PLACES;
 use card::limits::NODE_PLACES;
 use card::limits::ROW_PLACES;
-use counting::count_seats;
 use counting::held;
-use counting::judge_seats;
 use question::question_into;
 use reader::read_into;
+use seating::count_seats;
+use seating::judge_seats;
 ghost use mathlib.Core.Path.{_≡_};
 ghost use Prim.Native.Nat.{_≤_};
 ghost use Rattle.card.specs.Refusals.{notDue};
 ghost use Rattle.entry.specs.Said.{says, refused as refusedAt};
 ghost use Rattle.asking.specs.Asking.{inQuestion};
-ghost use Rattle.ask.specs.AskSaid.{askSaid};
+ghost use Rattle.ask_said.specs.AskSaid.{askSaid};
 ghost use Rattle.ask.specs.Answered.{asked};
 
 pub enum Asked {

@@ -16,7 +16,7 @@ use Rattle.entry.specs.Said.{Said, says, refused, saying}
 use Rattle.deck.specs.Contents.{byte, wordAt, Row, rowOf, rowsOf, countOf, contentsOf}
 use Rattle.deck.specs.Lookup.{partFor, isLive, liveRow}
 use Rattle.deck.specs.Sound.{Head}
-use Rattle.contents.proofs.Laws.{row-there}
+use Rattle.deck_entries.proofs.Laws.{row-there}
 use Rattle.boxes.specs.Boxes.{placed}
 use Rattle.boxes.specs.declared.Place.{Place}
 

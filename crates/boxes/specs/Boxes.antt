@@ -6,7 +6,7 @@ use lib.ListN.{set}
 use Rattle.card.specs.Verdict.{verdictNumber, verdictPlace}
 use Rattle.card.specs.declared.Verdict.{Verdict}
 use Rattle.card.specs.declared.Verdict.the-variants.{Taken, Refused}
-use Rattle.contents.specs.Verdicts.{verdictOf}
+use Rattle.deck_entries.specs.Verdicts.{verdictOf}
 use Rattle.entry.specs.Said.{Said, says, refused}
 use Rattle.entry.specs.Contract.{partOf}
 use Rattle.deck.specs.Lookup.{Part}

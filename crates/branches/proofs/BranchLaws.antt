@@ -17,9 +17,9 @@ use Rattle.card.specs.Text.{if_then_else_}
 use Rattle.card.specs.Laid.{packBranch}
 use Rattle.card.specs.Stored.{stored}
 use Rattle.card.specs.Weight.{Weight, whole, decimal as point, ratio, unitsOf, Rule}
-use Rattle.card.specs.Judged.{judgedOf}
-use Rattle.card.specs.declared.weight.Judged.{Judged}
-use Rattle.card.specs.declared.weight.Weight.{Weight as WeightRow}
+use Rattle.weights.specs.Judged.{judgedOf}
+use Rattle.weights.specs.declared.Judged.{Judged}
+use Rattle.weights.specs.declared.Weight.{Weight as WeightRow}
 use Rattle.marks.specs.Marks.{Mark, placeOf}
 use Rattle.marks.specs.Kinds.{kNumber, kDecimal, kind}
 use Rattle.marks.specs.Step.{marksAt}
@@ -36,8 +36,9 @@ use Rattle.late.specs.Late.{Late, blame, blamed, judge, judgeAll}
 use Rattle.late.specs.State.{atValue, Sized, lateIn, valueIn, withLate, After, after, Halted}
 use Rattle.late.proofs.Settling.{judge-append}
 use Rattle.late.proofs.StateLaws.{late-sized, set-sized, value-set, late-set}
+use Rattle.late_weights.specs.LateWeights.{formBy, sumBy}
 use Rattle.parts.specs.Parts.{from, Read, Answers, Went, NumberFrom, SignRead, SignFrom, Told, Sure, LineRead}
-use Rattle.branches.specs.Branches.{formBy, weightBy, Weighed, WeightRead, WeightFrom, updateDue, UpdateFrom, packedIn, Branched, BranchRead, BranchFrom, BranchesShape, branches, judgedBranches, sumBy, ClosedBy, PastBy, BranchesIn, BranchesRead, BranchesFrom}
+use Rattle.branches.specs.Branches.{weightBy, Weighed, WeightRead, WeightFrom, updateDue, UpdateFrom, packedIn, Branched, BranchRead, BranchFrom, BranchesShape, branches, judgedBranches, ClosedBy, PastBy, BranchesIn, BranchesRead, BranchesFrom}
 use Rattle.parts.proofs.Steps.{Next, place-seen, behind, Shown, valueBy, number-shown, weightBy as markWeight, weight-shown, told}
 use Rattle.parts.proofs.Answers.{onward, halted, made, fits, misses, next-is, next-is-not}
 use Rattle.parts.proofs.Counted.{upTo, with-first, another, too-many, no-other}
@@ -98,12 +99,6 @@ form-first false o p mid before e = ap (weightBy o p) e ∙ blamed-twice (isSome
 
 pub formed-sized : (start : List ℕ) → Sized start → {is : List ℕ} {x : Late} → is ≡ withLate start x → Sized is
 formed-sized start long {is} {x} e = rw e (late-sized start long x)
-
-pub form-fine : {decimals : Rule} (p : ℕ) (x : Late) → decimals ≡ true → x ≡ formBy decimals p x
-form-fine p x e = rw e
-
-pub form-wrong : {decimals : Rule} (p : ℕ) (x : Late) → decimals ≡ false → blame decimalWeight p x ≡ formBy decimals p x
-form-wrong p x e = rw e
 
 module _ {decimals : Rule} {s : List ℕ} {i : ℕ} {x : Step} (v : Next s i x) where
   pub weight-stops : {before : Late} {r : After} → (x .mark .kind ≡ kDecimal → ⊥) → (x .mark .kind ≡ kNumber → ⊥) → Halted outOfShape (x .mark .place) r → WeightFrom decimals s i before r
@@ -385,12 +380,6 @@ close-read {count = count} was e sized h = record {
   stops = λ f. absurd (f e);
   sized = valued-sized was sized h count;
 }
-
-pub sum-fine : (total p : ℕ) (late : Late) → total ≡ unit → late ≡ sumBy total p late
-sum-fine total p late e = rw (eq-eqb total unit e)
-
-pub sum-wrong : (total p : ℕ) (late : Late) → (total ≡ unit → ⊥) → blame wrongWeight p late ≡ sumBy total p late
-sum-wrong total p late e = rw (ne-eqb total unit e)
 
 module _ (m : Found) {r : After} where
   pub number-past : m .kind ≡ kNumber → Halted pastLimit (m .place) r → PastBy m r

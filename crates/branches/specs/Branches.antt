@@ -7,13 +7,13 @@ use mathlib.Core.Option.{Option}
 use lib.Dec.{eqb}
 use lib.ListN.{length, set}
 use Rattle.card.specs.Limits.{mostBranches, numbers, unit}
-use Rattle.card.specs.Refusals.{outOfShape, pastLimit, wrongWeight, decimalWeight}
+use Rattle.card.specs.Refusals.{outOfShape, pastLimit, wrongWeight}
 use Rattle.card.specs.Text.{if_then_else_}
 use Rattle.card.specs.Laid.{packBranch}
 use Rattle.card.specs.Stored.{stored}
 use Rattle.card.specs.Weight.{Weight, Rule}
-use Rattle.card.specs.Judged.{judgedOf}
-use Rattle.card.specs.declared.weight.Judged.{Judged}
+use Rattle.weights.specs.Judged.{judgedOf}
+use Rattle.weights.specs.declared.Judged.{Judged}
 use Rattle.marks.specs.Kinds.{kNumber, kDecimal, kind}
 use Rattle.marks.specs.declared.Found.{Found}
 use Rattle.marks.specs.Step.{marksAt}
@@ -24,13 +24,10 @@ use Rattle.reading.specs.Shape.{BranchShape, weight as readWeight, branch, more
 use Rattle.reading.specs.Checks.{weightIn, judgedBranch, judgedEach}
 use Rattle.late.specs.Late.{Late, blamed, judgeAll}
 use Rattle.late.specs.State.{Sized, lateIn, valueIn, After, Halted}
+use Rattle.late_weights.specs.LateWeights.{sumBy}
 use Rattle.parts.specs.Parts.{from, Answers, Went, Due, sign as due, seat, kindsIn, numbersIn, RunFrom}
 
 -- ---- a weight, by the rule of a weight: its units, or 0 and a late refusal where it is worth nothing
-
--- a decimal is a late refusal where none may be a weight
-abbrev pub formBy : Rule → ℕ → Late → Late
-formBy decimals p late = blamed (unless decimals decimalWeight) p late
 
 abbrev pub weightBy : Option ℕ → ℕ → Late → Late
 weightBy o p late = blamed (unless (isSome o) wrongWeight) p late
@@ -89,10 +86,6 @@ branches most = do
 
 abbrev pub judgedBranches : Rule → ℕ → BranchesShape → List Judgement
 judgedBranches decimals k x = judgedEach (judgedBranch decimals k) (x .branches) ++ (sum (map weightIn (x .branches)) (x .close) ∷ [])
-
--- a sum of units that is not the unit is a late refusal
-abbrev pub sumBy : ℕ → ℕ → Late → Late
-sumBy total p late = blamed (unless (eqb total unit) wrongWeight) p late
 
 -- by the mark behind the last branch
 pub record ClosedBy (m : Found) (next count total : ℕ) (late : Late) (r : After) : Type 0 where

@@ -1,20 +1,19 @@
 // Weights and branches, read from a card's bytes into the card's array of branches.
 use card::limits::BRANCH_PLACES;
 use card::limits::MOST_BRANCHES;
-use card::node::pack_branch;
-use card::refusals::DECIMAL_WEIGHT;
 use card::refusals::OUT_OF_SHAPE;
 use card::refusals::PAST_LIMIT;
 use card::refusals::WRONG_WEIGHT;
-use card::weight::Judged;
-use card::weight::Weight;
+use due_signs::step_further;
+use due_signs::step_slash;
+use due_words::step_number;
 use late::blame;
 use late::state::STATE;
 use late::state::VALUE;
 use late::stop;
-use looks::due::step_further;
-use looks::due::step_number;
-use looks::due::step_slash;
+use late_weights::judge_form;
+use late_weights::judge_sum;
+use late_weights::wide;
 use looks::look::all_here;
 use marks::Cursor;
 use marks::Found;
@@ -29,20 +28,16 @@ use marks::kinds::ROUND_OPEN;
 use marks::kinds::SEAT;
 use marks::kinds::SEMICOLON;
 use marks::kinds::SLASH;
+use packing::pack_branch;
 use parts::number;
 use parts::run;
 use parts::sign;
-ghost use mathlib.Core.Path.{_≡_};
+use weights::Judged;
+use weights::Weight;
 ghost use Prim.Native.Nat.{_+_, _≤_, _<_};
 ghost use Rattle.card.specs.Limits.{mostBranches, branchPlaces};
-ghost use Rattle.late.specs.State.{Sized, lateIn, withLate, after};
-ghost use Rattle.branches.specs.Branches.{formBy, sumBy, Weighed, WeightFrom, UpdateFrom, BranchFrom, ClosedBy, PastBy, BranchesFrom};
-
-fn wide(x: u32) -> usize
-    ensures { λ r. ⌜ r ≡ x ⌝ }
-{
-    x as usize
-}
+ghost use Rattle.late.specs.State.{Sized, lateIn, after};
+ghost use Rattle.branches.specs.Branches.{Weighed, WeightFrom, UpdateFrom, BranchFrom, ClosedBy, PastBy, BranchesFrom};
 
 // The units of a weight become the value. A weight that breaks its rule counts nothing, and is a late refusal.
 fn weighed(judged: Judged, place: usize, state: &mut [usize; STATE])
@@ -58,17 +53,6 @@ fn weighed(judged: Judged, place: usize, state: &mut [usize; STATE])
             state[VALUE] = 0;
         }
     }
-}
-
-// A decimal is a late refusal where none may be a weight.
-fn judge_form(decimals: bool, place: usize, state: &mut [usize; STATE])
-    requires { ⌜ Sized (now state) ⌝ }
-    ensures { λ r. ⌜ now (state .exit) ≡ withLate (now (state .entry)) (formBy decimals place (lateIn (now (state .entry)))) ⌝ }
-{
-    if decimals {
-        return;
-    }
-    blame(state, DECIMAL_WEIGHT, place);
 }
 
 // A number, two numbers with `/` between, or a decimal, by the rule of a weight; its units become the value.
@@ -154,16 +138,6 @@ fn branch(
     branches[place] = pack_branch(units as u32, state[VALUE]);
     state[VALUE] = units;
     close
-}
-
-fn judge_sum(total: usize, place: usize, state: &mut [usize; STATE])
-    requires { ⌜ Sized (now state) ⌝ }
-    ensures { λ r. ⌜ now (state .exit) ≡ withLate (now (state .entry)) (sumBy total place (lateIn (now (state .entry)))) ⌝ }
-{
-    if total == wide(Weight::UNIT) {
-        return;
-    }
-    blame(state, WRONG_WEIGHT, place);
 }
 
 // The mark behind the last branch has to be the `;`, where the sum is judged; the number of branches becomes the value.

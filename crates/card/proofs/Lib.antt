@@ -1,7 +1,6 @@
 pub mod Laws
 pub mod Atoms
 pub mod Weights
-pub mod Judging
 pub mod Packed
 pub mod GuardAt
 pub mod Storing

@@ -8,6 +8,5 @@ pub mod Laid
 pub mod Rows
 pub mod Lent
 pub mod Verdict
-pub mod Judged
 pub mod Stored
 pub mod Refusals

@@ -1,5 +1,5 @@
 -- The limits of a card and the unit of its weights ("What the box holds", "Shape of a card"), and those of a deck of cards and of public
--- classes (document 02, 2026-02 and 2026-05). Each number has its only home here, and its constant for the code in src/limits.rt, the unit's in src/weight.rt. Assumes nothing.
+-- classes (document 02, 2026-02 and 2026-05). Each number has its only home here, and its constant for the code in src/limits.rt, the unit's in the crate `weights`. Assumes nothing.
 use Prim.Native.Nat.{ℕ, suc, _*_, _^_}
 
 -- bytes of a card

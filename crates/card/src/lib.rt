@@ -1,8 +1,6 @@
 // A card that has been read, as the program holds it: statements, flat guard nodes and flat branches in fixed arrays.
 pub mod limits;
-pub mod node;
 pub mod refusals;
-pub mod weight;
 
 use limits::BRANCH_PLACES;
 use limits::MOST_STATEMENTS;

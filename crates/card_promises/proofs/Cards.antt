@@ -12,7 +12,7 @@ use Rattle.card.proofs.HeldIn.{lent-back}
 use Rattle.card.proofs.Laws.{units-worth, laid-back, laid-injective, laid-falls, valid-held, statements-long, nodes-long, branches-long, nodes-small, branches-small}
 use Rattle.card.specs.Refusals.{wrongWeight}
 use Rattle.card.specs.Weight.{unitsOf}
-use Rattle.card.specs.Judged.{judgedOf, weightNumber, weightUnits}
+use Rattle.weights.specs.Judged.{judgedOf, weightNumber, weightUnits}
 use Rattle.entry.proofs.Exactly.{_↔∙_}
 use Rattle.card_promises.specs.Cards.{Cards}
 

@@ -9,7 +9,7 @@ use Rattle.card.specs.Card.{Mode, Statement, Card}
 use Rattle.card.specs.Valid.{ValidCard}
 use Rattle.card.specs.Refusals.{wrongWeight}
 use Rattle.card.specs.Weight.{Weight, decimal, Worth, unitsOf}
-use Rattle.card.specs.Judged.{judgedOf, weightNumber, weightUnits}
+use Rattle.weights.specs.Judged.{judgedOf, weightNumber, weightUnits}
 use Rattle.card.specs.Lent.{headOf, lentOf, cardIn}
 use Rattle.meaning.specs.CardA.{cardA}
 use Rattle.card.specs.Laid.{opOf, leftOf, rightOf, opLeaf, guardSize, laid, cardOf}

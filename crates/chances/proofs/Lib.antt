@@ -1,3 +1,2 @@
-pub mod Theorems
 pub mod Bound
 pub mod Rows

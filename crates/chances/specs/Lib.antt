@@ -1,4 +1,3 @@
 pub mod Chances
 pub mod Chance
-pub mod OddsSaid
 pub mod Rows

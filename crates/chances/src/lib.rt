@@ -1,1 +1,1 @@
-// What the odds after several nights have to say of any bytes: definitions and theorems only (document 02, 2026-08).
+// The chance that a question becomes true within some steps, and the rows that hold it for every count vector: definitions and theorems only (document 02, 2026-08).

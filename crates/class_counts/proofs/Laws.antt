@@ -11,7 +11,7 @@ use Rattle.card.specs.declared.Verdict.the-variants.{Refused}
 use Rattle.room.specs.Room.{Put}
 use Rattle.phrases.specs.Puts.{Puts}
 use Rattle.lines.specs.PanelText.{line}
-use Rattle.counting.specs.Judged.{judgedFrom}
+use Rattle.seating.specs.Judged.{judgedFrom}
 use Rattle.classes.specs.Classes.{classesText}
 use Rattle.classes.specs.ClassesSaid.{judgedClasses}
 use Rattle.classes.specs.ClassesRoom.{classesRoom}

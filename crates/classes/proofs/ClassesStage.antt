@@ -12,10 +12,10 @@ use Rattle.card.specs.declared.Verdict.the-variants.{Taken, Refused}
 use Rattle.entry.specs.Said.{refused}
 use Rattle.entry.specs.Stage.{Stage}
 use Rattle.entry.proofs.Exactly.{_↔∙_}
-use Rattle.counting.specs.SeatsSaid.{verdictSaid}
-use Rattle.counting.specs.Judged.{judgedFrom, FirstAbove}
-use Rattle.counting.proofs.Judging.{Within, within-at, first-only, fine≢refused, same-refusal, judged-ways}
-use Rattle.counting.proofs.SeatsStage.{verdict-refused, verdict-fine}
+use Rattle.seating.specs.SeatsSaid.{verdictSaid}
+use Rattle.seating.specs.Judged.{judgedFrom, FirstAbove}
+use Rattle.seating.proofs.Judging.{Within, within-at, first-only, fine≢refused, same-refusal, judged-ways}
+use Rattle.seating.proofs.SeatsStage.{verdict-refused, verdict-fine}
 use Rattle.classes.specs.Classes.{ValidClasses}
 use Rattle.classes.specs.ClassesSaid.{judgedClasses, classesSaid, classesNumbers, WrongClasses}
 

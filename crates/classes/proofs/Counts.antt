@@ -16,8 +16,8 @@ use Rattle.meaning.specs.Seats.{Seating, count, counts}
 use Rattle.meaning.specs.Reduced.{noOf}
 use Rattle.meaning.proofs.Sums.{gate-zero, sum-every, sum-one, sum-gate, sum-map, length-upto, upto-cong, every-upto, sumBelow, sum-upto, below-cong, below-exchange, below-pick}
 use Rattle.meaning.proofs.Counting.{Within, no-count, count-le}
-use Rattle.counting.proofs.Counted.{counts-most, counts-next, counts-over}
-use Rattle.counting.proofs.Judging.{within-at}
+use Rattle.seating.proofs.Counted.{counts-most, counts-next, counts-over}
+use Rattle.seating.proofs.Judging.{within-at}
 use Rattle.classes.specs.Classes.{classOf, ValidClasses, inClass, classCounts, inClassAt, classCountsAt}
 
 -- ---- from the counts of the states

@@ -11,8 +11,8 @@ use Rattle.card.specs.declared.Verdict.{Verdict}
 use Rattle.card.specs.declared.Verdict.the-variants.{Refused}
 use Rattle.entry.specs.Said.{Said}
 use Rattle.entry.specs.Numbers.{Numbers, only}
-use Rattle.counting.specs.Judged.{judgedFrom, judgedList, FirstAbove}
-use Rattle.counting.specs.SeatsSaid.{verdictSaid}
+use Rattle.seating.specs.Judged.{judgedFrom, judgedList, FirstAbove}
+use Rattle.seating.specs.SeatsSaid.{verdictSaid}
 
 -- its length first, then its classes
 unfoldable pub judgedClasses : ℕ → List ℕ → Verdict

@@ -15,9 +15,9 @@ use lib.Seq.{drop-drop}
 use Rattle.card.specs.Limits.{mostSeats, wordDigits}
 use Rattle.card.specs.Text.{bytes}
 use Rattle.letters.specs.Bytes.{isDigit, isLetter, inWord, isAlone, begins, begun, run, every}
-use Rattle.letters.specs.Digits.{numberSpelt}
+use Rattle.digits.specs.Digits.{numberSpelt}
 use Rattle.letters.proofs.Lists.{cases, not-both, and-left, and-right}
-use Rattle.letters.proofs.Numbers.{one-digit}
+use Rattle.digits.proofs.Numbers.{one-digit}
 use Rattle.letters.proofs.Runs.{begins-at, run-empty}
 use Rattle.marks.specs.Kinds.{kSeat, kProcess, kind}
 use Rattle.marks.specs.Marks.{wordMark}

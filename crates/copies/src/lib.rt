@@ -2,11 +2,11 @@
 use card::limits::MOST_SEATS;
 use card::refusals::OUT_OF_SHAPE;
 use card::refusals::PAST_LIMIT;
+use due_words::step_module;
 use late::state::STATE;
 use late::state::VALUE;
 use late::stop;
 use letters::bytes::stands;
-use looks::due::step_module;
 use looks::look::word_here;
 use marks::Cursor;
 use marks::Found;

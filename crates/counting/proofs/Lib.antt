@@ -1,5 +1,2 @@
-pub mod Judging
-pub mod SeatsStage
-pub mod Counted
 pub mod Table
 pub mod Weighed

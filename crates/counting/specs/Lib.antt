@@ -1,3 +1,1 @@
-pub mod Judged
-pub mod SeatsSaid
 pub mod Taking

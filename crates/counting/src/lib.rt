@@ -1,73 +1,26 @@
-// From a seating to its counts, and from counts to who may take a statement and what it weighs ("What a card means").
-use card::Verdict;
+// From the counts of a seating to who may take a statement and what it weighs ("What a card means").
 use card::limits::MOST_BRANCHES;
 use card::limits::MOST_STATES;
-use card::node::AND;
-use card::node::LEAF;
-use card::node::NOT;
-use card::node::end_of;
-use card::node::left_of;
-use card::node::op_of;
-use card::node::right_of;
-use card::node::state_of;
-use card::node::units_of;
 use card::number_at;
-use card::refusals::SEAT_ABOVE_TOP;
-use card::refusals::WRONG_SEATS;
-use letters::bytes::wide;
+use packing::AND;
+use packing::LEAF;
+use packing::NOT;
+use packing::end_of;
+use packing::left_of;
+use packing::op_of;
+use packing::right_of;
+use packing::state_of;
+use packing::units_of;
 use table::bound_of;
 ghost use mathlib.Core.Path.{_≡_};
 ghost use mathlib.Core.List.{map};
 ghost use Prim.Native.Nat.{_+_, min};
 ghost use lib.ListN.{take, drop};
-ghost use Rattle.card.specs.Limits.{topState, mostBranches};
+ghost use Rattle.card.specs.Limits.{mostBranches};
 ghost use Rattle.card.specs.Laid.{leafOf, guardAt, guardOf, branchOf};
-ghost use Rattle.meaning.specs.Seats.{counts as countsOf};
 ghost use Rattle.meaning.specs.Reduced.{noOf, counterOf, passes as passesAt};
 ghost use Rattle.meaning.specs.ByCounts.{heldAt};
-ghost use Rattle.counting.specs.Judged.{judgedFrom, judgedSeats};
 ghost use Rattle.counting.specs.Taking.{takers, unitsToEach};
-
-// Is each of them at most `most`? The first above is refused with the number.
-pub fn judge_each(list: &[u8], most: usize, number: u8) -> Verdict
-    ensures { λ r. ⌜ r ≡ judgedFrom number most 0 (now (list .entry)) ⌝ }
-{
-    let mut i = 0;
-    while i < list.len() {
-        let value = wide(list[i]);
-        if most < value {
-            return Verdict::Refused(number, i);
-        }
-        i += 1;
-    }
-    Verdict::Taken
-}
-
-// Are they seats for a card of n seats and top state `top`?
-pub fn judge_seats(seats: &[u8], n: usize, top: usize) -> Verdict
-    ensures { λ r. ⌜ r ≡ judgedSeats n top (now (seats .entry)) ⌝ }
-{
-    if seats.len() != n {
-        return Verdict::Refused(WRONG_SEATS, 0);
-    }
-    judge_each(seats, top, SEAT_ABOVE_TOP)
-}
-
-// How many seats are in each state that there can be; any other seat is passed over.
-pub fn count_seats(seats: &[u8]) -> [usize; MOST_STATES]
-    ensures { λ r. ⌜ r ≡ countsOf topState (now (seats .entry)) ⌝ }
-{
-    let mut counts: [usize; MOST_STATES] = [0; MOST_STATES];
-    let mut i = 0;
-    while i < seats.len() {
-        let state = wide(seats[i]);
-        if state < MOST_STATES {
-            counts[state] = counts[state] + 1;
-        }
-        i += 1;
-    }
-    counts
-}
 
 // Where there is no count there stands 0.
 fn count_at(counts: &[usize], d: usize) -> usize

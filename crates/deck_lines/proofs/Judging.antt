@@ -14,7 +14,7 @@ use Rattle.card.specs.Limits.{mostCards, wordNumbers}
 use Rattle.card.specs.Refusals.{malformedDeck}
 use Rattle.entry.specs.Said.{Said, says, refused, _>>=_, _>>_, unless}
 use Rattle.deck.specs.Contents.{wordAt, byte, Row, rowOf, rowsOf}
-use Rattle.contents.proofs.Laws.{row-there}
+use Rattle.deck_entries.proofs.Laws.{row-there}
 use Rattle.deck_written.specs.WriteDeckSaid.{countIn, lines, countSaid, lineSaid, linesSaid, sizes}
 use Rattle.room.specs.declared.Answer.{Answer}
 use Rattle.room.specs.declared.Answer.the-variants.{Done, Refused}

@@ -5,7 +5,7 @@ use card::limits::MOST_CARDS;
 use card::limits::SIZE_AT;
 use card::limits::ZERO_BYTE_AT;
 use card::refusals::MALFORMED_DECK;
-use contents::word_at;
+use deck_entries::word_at;
 use room::Answer;
 ghost use mathlib.Core.Path.{_≡_};
 ghost use Prim.Native.Nat.{_*_, _≤_};

@@ -2,9 +2,9 @@
 use mathlib.Core.Path.{refl}
 use Rattle.card.specs.Weight.{unitsOf}
 use Rattle.reading.specs.Reading.{readUnder}
-use Rattle.counting.specs.Judged.{judgedSeats, judgedFrom}
+use Rattle.seating.specs.Judged.{judgedSeats, judgedFrom}
 use Rattle.moving.specs.FirstMove.{firstMove}
-use Rattle.first_move.specs.MoveSaid.{moveSaid}
+use Rattle.move_said.specs.MoveSaid.{moveSaid}
 use Rattle.entry_edges.specs.MoveEdges.{MoveEdges}
 
 pub move-edges : MoveEdges

@@ -6,9 +6,9 @@ use Rattle.room.specs.Digits.{decimal}
 use Rattle.meaning.specs.Panel.{panel}
 use Rattle.meaning.specs.CardA.{cardA}
 use Rattle.lines.specs.PanelText.{panelOf}
-use Rattle.counting.specs.Judged.{judgedSeats, judgedFrom}
-use Rattle.panel.specs.PanelSaid.{panelSaid}
-use Rattle.program.specs.Program.{programOf, answerTo, seatsLine, cardBehind}
+use Rattle.seating.specs.Judged.{judgedSeats, judgedFrom}
+use Rattle.panel_said.specs.PanelSaid.{panelSaid}
+use Rattle.panel_said.specs.Program.{programOf, answerTo, seatsLine, cardBehind}
 use Rattle.entry_edges.specs.Printing.{Printing}
 
 pub printing : Printing

@@ -3,10 +3,10 @@ use mathlib.Core.Path.{refl}
 use Rattle.card.specs.Weight.{unitsOf}
 use Rattle.reading.specs.Reading.{readUnder}
 use Rattle.room.specs.Digits.{decimal}
-use Rattle.counting.specs.Judged.{judgedSeats, judgedFrom}
+use Rattle.seating.specs.Judged.{judgedSeats, judgedFrom}
 use Rattle.classes.specs.Classes.{classCounts, classesText, watchOf}
 use Rattle.classes.specs.ClassesSaid.{judgedClasses}
-use Rattle.watch.specs.WatchSaid.{watchSaid}
+use Rattle.watch_said.specs.WatchSaid.{watchSaid}
 use Rattle.entry_edges.specs.SpectatorEdges.{SpectatorEdges}
 
 pub spectator-edges : SpectatorEdges

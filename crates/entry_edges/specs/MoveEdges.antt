@@ -6,7 +6,7 @@ use mathlib.Core.Option.{Option, none, some}
 use Rattle.card.specs.Text.{bytes}
 use Rattle.card.specs.Card.{Mode, nondeterministic, probabilistic}
 use Rattle.entry.specs.Said.{Said, says, refused}
-use Rattle.first_move.specs.MoveSaid.{moveSaid}
+use Rattle.move_said.specs.MoveSaid.{moveSaid}
 use Rattle.edges.specs.Edges.{textA}
 
 -- what is said of card A, where the seats are in these states

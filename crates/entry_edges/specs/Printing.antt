@@ -3,7 +3,7 @@ use mathlib.Core.Path.{_≡_}
 use mathlib.Core.List.{_++_}
 use Rattle.card.specs.Text.{bytes}
 use Rattle.card.specs.Card.{probabilistic}
-use Rattle.program.specs.Program.{programOf}
+use Rattle.panel_said.specs.Program.{programOf}
 use Rattle.edges.specs.Edges.{textA, asAbove}
 
 -- for `001` and card A, and for a line without LF

@@ -8,7 +8,7 @@ use Rattle.card.specs.Card.{probabilistic}
 use Rattle.entry.specs.Said.{says as text, refused}
 use Rattle.room.specs.Answer.{Text, answered, roomAfter}
 use Rattle.room.specs.declared.Answer.the-variants.{Done, Refused}
-use Rattle.watch.specs.WatchSaid.{watchSaid}
+use Rattle.watch_said.specs.WatchSaid.{watchSaid}
 use Rattle.edges.specs.Edges.{textA, head, modulesFrom}
 
 -- of card A with its seats in these states

@@ -3,7 +3,7 @@ use boxes::EXPANSION;
 use boxes::locate;
 use boxes::locate_with;
 use card::Verdict;
-use contents::wide;
+use deck_entries::wide;
 ghost use mathlib.Core.Path.{_≡_};
 ghost use Prim.Native.Nat.{_+_, _≤_};
 ghost use lib.ListN.{length, drop, take};

@@ -14,15 +14,15 @@ use Rattle.card.proofs.HeldIn.{holds-top, holds-count}
 use Rattle.entry.specs.Said.{Said, says, refused}
 use Rattle.meaning.specs.Seats.{ValidSeating, counts}
 use Rattle.meaning.proofs.Counting.{Within}
-use Rattle.counting.specs.Judged.{judgedSeats}
-use Rattle.counting.proofs.Judging.{valid-exactly}
-use Rattle.reader.specs.declared.Outline.{Outline}
-use Rattle.reader.specs.ReadingOf.{ReadsInto}
-use Rattle.rows.proofs.ReadInto.{taken-holds, refused-said, taken-said}
+use Rattle.seating.specs.Judged.{judgedSeats}
+use Rattle.seating.proofs.Judging.{valid-exactly}
+use Rattle.outline.specs.declared.Outline.{Outline}
+use Rattle.outline.specs.ReadingOf.{ReadsInto}
+use Rattle.outline.proofs.ReadInto.{taken-holds, refused-said, taken-said}
 use Rattle.moving.specs.FirstMove.{firstMove, firstAt}
 use Rattle.moving.proofs.FirstMove.{walks-alike}
 use Rattle.first_able.specs.FirstRow.{firstRow}
-use Rattle.first_move.specs.MoveSaid.{moveSeated, moveSaid}
+use Rattle.move_said.specs.MoveSaid.{moveSeated, moveSaid}
 use Rattle.first_able.proofs.Laws.{rows-walk}
 
 module _ (card seats : List ℕ) {r : Outline} {x : Lent} (h : ReadsInto card r x) where

@@ -3,14 +3,14 @@ use card::Verdict;
 use card::limits::BRANCH_PLACES;
 use card::limits::NODE_PLACES;
 use card::limits::ROW_PLACES;
-use counting::count_seats;
-use counting::judge_seats;
 use first_able::FirstMove;
 use first_able::first_able;
 use reader::read_into;
+use seating::count_seats;
+use seating::judge_seats;
 ghost use mathlib.Core.Path.{_≡_};
 ghost use Rattle.first_able.specs.Moved.{moved};
-ghost use Rattle.first_move.specs.MoveSaid.{moveSaid};
+ghost use Rattle.move_said.specs.MoveSaid.{moveSaid};
 
 // The whole card has to be read, since it is judged whole; only then is it asked who may move.
 pub fn first_move(card: &[u8], seats: &[u8]) -> FirstMove

@@ -21,34 +21,8 @@ use Rattle.reading.specs.Shape.{modeOf, zeroOf, top, moreModules, theEnd}
 use Rattle.reading.specs.Checks.{judgedState, judgedWords, judgedModules}
 use Rattle.late.specs.Late.{Late, judgeAll}
 use Rattle.late.specs.State.{atMode, atTop, atStart, Sized, lateIn, valueIn, After, Halted}
+use Rattle.mode_range.specs.ModeRange.{Valued, range}
 use Rattle.parts.specs.Parts.{from, Answers, Kept, Went, Due, sign as due, seat, process, kindsIn, numbersIn, RunFrom}
-
--- ---- the mode, and the top state
-
--- a number that is not judged
-pub record Valued (before : Late) (v : ℕ) (state : List ℕ) : Type 0 where
-  pub value : valueIn state ≡ v
-  pub late : lateIn state ≡ before
-
-abbrev pub ModeRead : List ℕ → Late → Result Mode → After → Type 0
-ModeRead s before = Answers s (λ m. Valued before (modeNumber m))
-
-pub record ModeFrom (s : List ℕ) (i : ℕ) (before : Late) (r : After) : Type 0 where
-  pub answers : (n : ℕ) → ModeRead s before (the modeOf (from s i n)) r
-  pub sized : Sized (r .state)
-
-abbrev pub range : Reader ℕ
-range = do
-  z ← the zeroOf
-  sign ".."
-  top
-
-abbrev pub RangeRead : List ℕ → Late → Result ℕ → After → Type 0
-RangeRead s before = Answers s (Valued before)
-
-pub record RangeFrom (s : List ℕ) (i : ℕ) (before : Late) (r : After) : Type 0 where
-  pub answers : (n : ℕ) → RangeRead s before (range (from s i n)) r
-  pub sized : Sized (r .state)
 
 -- ---- the beginning
 

@@ -2,14 +2,14 @@
 pub mod literal;
 pub mod seen;
 
-use card::node::pack_group;
 use card::refusals::OUT_OF_SHAPE;
+use due_signs::step_closing;
+use due_signs::step_joint;
+use due_words::step_seat;
 use literal::Tail;
 use literal::literal;
-use looks::due::step_closing;
-use looks::due::step_joint;
-use looks::due::step_seat;
 use marks::kinds;
+use packing::pack_group;
 use seen::SEATS;
 use seen::kind;
 use seen::note;

@@ -1,7 +1,8 @@
 // A literal, read from a part of the card.
 use card::refusals::OUT_OF_SHAPE;
-use looks::due::step_number;
-use looks::due::step_relation;
+use due_signs::step_relation;
+use due_words::step_number;
+use letters::bytes::stands;
 use looks::look::NO_DIGIT;
 use looks::look::digit_here;
 use looks::look::sign_here;
@@ -94,6 +95,32 @@ pub fn literal(part: &[u8], at: usize) -> Tail
         place: 0,
         next: first + 1,
         relation: 0,
+        d: d,
+        first: first,
+    }
+}
+
+// The same; most literals of a term but its first are `!=` and one digit, right behind each other.
+pub fn literal_apart(part: &[u8], at: usize) -> Tail
+    ensures { λ r. ⌜ ((o n i x : ℕ) → LiteralRead o (now (part .entry)) at n i (literalOf (from (placed (seatWord i) x ∷ marksAt o (now (part .entry)) at) n)) r) ⌝ }
+{
+    if !stands(part, at, b'!') {
+        return literal(part, at);
+    }
+    let equal = at + 1;
+    if !stands(part, equal, b'=') {
+        return long_literal(part, at);
+    }
+    let first = equal + 1;
+    let d = digit_here(part, first);
+    if NO_DIGIT <= d {
+        return long_literal(part, at);
+    }
+    Tail {
+        stop: 0,
+        place: 0,
+        next: first + 1,
+        relation: 1,
         d: d,
         first: first,
     }

@@ -1,20 +1,20 @@
 // What a bracket of a guard starts where it starts no expression, read and kept; and nodes, stored one after the other.
 use card::limits::NODE_PLACES;
-use card::node;
 use card::refusals::OUT_OF_SHAPE;
 use card::refusals::PAST_LIMIT;
+use due_words::step_inner;
 use group::Grouped;
 use group::group;
-use late::grouped;
 use late::judge_state;
 use late::state::FREE;
 use late::state::LEFT;
 use late::state::STATE;
 use late::stop;
-use looks::due::step_inner;
 use marks::kinds;
 use one_seat::exactly;
 use one_seat::twice;
+use packing as node;
+use seats_wanted::grouped;
 ghost use mathlib.Core.Path.{_≡_};
 ghost use Prim.Native.Nat.{_+_, _<_};
 ghost use lib.ListN.{set};

@@ -21,8 +21,9 @@ use Rattle.late.proofs.StateLaws.{set-sized, left-set, free-left, free-set, lef
 use Rattle.grouping.specs.Language.{Language, leavesOf, judgedOf}
 use Rattle.grouping.specs.Items.{Ready, operatorOf}
 use Rattle.grouping.proofs.Keeping.{spending, grown}
-use Rattle.guard.specs.GuardRead.{Read, GuardRead}
-use Rattle.guard.specs.Pieces.{joinOf, thenNot, Onward}
+use Rattle.items.specs.GuardRead.{Read, GuardRead}
+use Rattle.items.specs.Pieces.{joinOf, thenNot, Onward}
+use Rattle.items.proofs.Opening.{read-as}
 
 set-same : {a b : List ℕ} {i j v w : ℕ} → a ≡ b → i ≡ j → v ≡ w → set a i v ≡ set b j w
 set-same e f h = rw (e, f, h)
@@ -54,9 +55,6 @@ module _ (L : Language) where
       → (g .next ≡ 0 → ⊥) → ((h : Formula (L .Item)) (b : State) → x ≡ ok h b → Read L s k was mid used before h b g → C) → C
   went-well s k was mid used before g (ok h b) e z c = c h b refl e
   went-well s k was mid used before g (stop n p) e z c = absurd (z (e .none))
-
-  pub read-as : (s : List ℕ) (k : ℕ) (was is : List ℕ) (used : ℕ) (before : Late) {x y : Result (Formula (L .Item))} (r : After) → x ≡ y → GuardRead L s k was is used before y r → GuardRead L s k was is used before x r
-  read-as s k was is used before r e h = rw e h
 
   pub still-sized : (s : List ℕ) (k : ℕ) (was is : List ℕ) (used : ℕ) (before : Late) (x : Result (Formula (L .Item))) (r : After) → GuardRead L s k was is used before x r → Sized (r .state)
   still-sized s k was is used before (ok g b) r h = h .sized
@@ -145,7 +143,7 @@ module _ (L : Language) where
         → (s : List ℕ) (k : ℕ) → Onward L s k mid (set mid (freeIn (g .state)) v) g thenNot (after (grown (g .state)) (g .next))
     not-well v z l pack s k was used before x e =
         went-well s k was mid used before g x e z
-        (λ h b i d. read-as s k was (set mid (freeIn (g .state)) v) used before (after (grown (g .state)) (g .next)) (ap (λ y. bind y thenNot) i)
+        (λ h b i d. read-as L s k was (set mid (freeIn (g .state)) v) used before (after (grown (g .state)) (g .next)) (ap (λ y. bind y thenNot) i)
         (negated s k was mid used before g v h b l pack d))
 
     pub goes-on-wrong : (f : Formula (L .Item) → Reader (Formula (L .Item))) → g .next ≡ 0 → (s : List ℕ) (k : ℕ) → Onward L s k mid mid g f (after (g .state) 0)

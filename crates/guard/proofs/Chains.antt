@@ -25,12 +25,13 @@ use Rattle.late.proofs.StateLaws.{set-sized, free-set, left-free}
 use Rattle.grouping.specs.Language.{Language}
 use Rattle.grouping.specs.Items.{Ready, operatorOf}
 use Rattle.grouping.proofs.Keeping.{spending, grown}
-use Rattle.guard.specs.GuardRead.{Read, GuardRead}
-use Rattle.guard.specs.Pieces.{joinOf, joiner, unaryIn, operandOf, chained, Begun, Onward}
+use Rattle.items.specs.GuardRead.{Read, GuardRead}
+use Rattle.items.specs.Pieces.{joinOf, joiner, unaryIn, operandOf, chained, Begun, Onward}
 use Rattle.group.proofs.Groups.{joint-known}
+use Rattle.items.proofs.Opening.{place-here, sign-fits, next-yes, next-no, spent, none-left, read-as}
 use Rattle.guard.proofs.Spent.{Each, Keeping, Spent, Spends, unary-spends, conjunction-spends}
-use Rattle.guard.proofs.Building.{goes-wrong, went-well, read-as, read-spending, joined}
-use Rattle.guard.proofs.Ways.{place-here, state-is, sign-fits, next-yes, next-no, spent, none-left}
+use Rattle.guard.proofs.Building.{goes-wrong, went-well, read-spending, joined}
+use Rattle.guard.proofs.Ways.{state-is}
 
 -- a bracket right behind what was read joins nothing to it
 no-joint : (a : Bool) → kind ")" ≡ kind (joiner a) → ⊥

@@ -18,7 +18,7 @@ use Rattle.reading.specs.Guard.{seatNext, ifAhead, chain, conjunction, expressi
 use Rattle.reading.specs.Group.{Literal, literalOf, literalsOf, relationOf, literal, joint, joined, others, group}
 use Rattle.asking.specs.Question.{aGroup, exactlyOne, term, exactly, item}
 use Rattle.grouping.specs.Language.{Language, languageOf}
-use Rattle.guard.specs.Pieces.{unaryIn}
+use Rattle.items.specs.Pieces.{unaryIn}
 
 -- what holds of a value and the state behind it; and a refusal has a number
 abbrev pub Each : {A : Type 0} → (A → State → Type 0) → Result A → Type 0

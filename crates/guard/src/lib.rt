@@ -1,22 +1,21 @@
 // Guards of a card, and questions, read from their bytes: the recursion over brackets, `!` and chains. Which of them it is is told by a
 // flag; only what a bracket starts hangs on it.
 use card::limits::NODE_PLACES;
-use card::node;
 use card::refusals::OUT_OF_SHAPE;
 use card::refusals::PAST_LIMIT;
+use due_signs::step_after;
+use due_signs::step_opening;
+use due_signs::step_sign;
 use grouping::NO_ITEM;
-use grouping::item;
-use grouping::lay;
 use grouping::store;
+use items::keep_item;
 use late::state::FREE;
 use late::state::LEFT;
 use late::state::STATE;
 use late::stop;
-use looks::due::step_after;
-use looks::due::step_opening;
-use looks::due::step_sign;
 use looks::look::sign_here;
 use marks::kinds;
+use packing as node;
 ghost use mathlib.Core.Bool.{true, false};
 ghost use Rattle.marks.specs.Step.{marksAt};
 ghost use Rattle.reading.specs.Reader.{at as from};
@@ -24,38 +23,12 @@ ghost use Rattle.reading.specs.Guard.{conjunction as conjunctionOf, expression 
 ghost use Rattle.late.specs.State.{leftIn, freeIn, lateIn, after};
 ghost use Rattle.grouping.specs.Language.{languageOf};
 ghost use Rattle.grouping.specs.Items.{Ready};
-ghost use Rattle.guard.specs.GuardRead.{GuardRead};
-ghost use Rattle.guard.specs.Pieces.{unaryIn, chained, Begun, Onward, NoItem, ItemKept};
+ghost use Rattle.items.specs.GuardRead.{GuardRead};
+ghost use Rattle.items.specs.Pieces.{unaryIn, chained, Begun, Onward, NoItem};
 
 // Each node is stored once its parts are; each function has so many brackets and `!` left to open. The stack is spent here: for each
 // bracket a frame of `nested`, which `expression` and its chain become part of, and one of `conjunction` with its chain. So what reads an
 // item is apart from what calls itself, and each sign has a chain of its own.
-
-// An item, where the next mark is a bracket that starts one: it is read from the rest of the card as a part. Else NO_ITEM, and nothing has
-// changed.
-fn keep_item(
-    card: &[u8],
-    at: usize,
-    nodes: &mut [u32; NODE_PLACES],
-    state: &mut [usize; STATE],
-    top: usize,
-    question: bool,
-) -> usize
-    requires { ⌜ Ready (now state) ⌝ }
-    ensures { λ r. ⌜ ItemKept (languageOf question) (now (card .entry)) at top (now (nodes .entry)) (now (nodes .exit)) (now (state .entry)) (now (state .exit)) r ⌝ }
-{
-    let s = step_opening(card, at);
-    if s.mark.kind != kinds::ROUND_OPEN {
-        return NO_ITEM;
-    }
-    let begin = s.next.at;
-    let part = &card[begin..];
-    let g = item(part, question);
-    if g.stop == NO_ITEM {
-        return NO_ITEM;
-    }
-    lay(g, begin, s.mark.place, nodes, state, top)
-}
 
 // A bracket that starts an expression, with its closing bracket; or `!` and its operand.
 fn nested(

@@ -1,18 +1,18 @@
 // A guard's nodes put as text, in either of the two texts: leaves, `!`, `&` and `|`.
 use card::limits::NODE_PLACES;
-use card::node::ALL;
-use card::node::AND;
-use card::node::ANY;
-use card::node::LEAF;
-use card::node::NOT;
-use card::node::left_of;
-use card::node::op_of;
-use card::node::right_of;
 use card::number_at;
 use leaf_text::Style;
 use leaf_text::WRITTEN;
 use leaf_text::joint_of;
 use leaf_text::put_leaf;
+use packing::ALL;
+use packing::AND;
+use packing::ANY;
+use packing::LEAF;
+use packing::NOT;
+use packing::left_of;
+use packing::op_of;
+use packing::right_of;
 use pieces::put_three;
 use room::place;
 use room::put_byte;

@@ -1,32 +1,28 @@
 // The refusals 5, 6 and 7, kept while a card is read, and the stop.
 pub mod state;
 
-use crate::state::FIRST;
 use crate::state::LATE;
 use crate::state::LATE_PLACE;
-use crate::state::SECOND;
-use crate::state::SPLIT;
 use crate::state::STATE;
 use crate::state::STOP;
 use crate::state::STOP_PLACE;
-use crate::state::WANT;
 use card::refusals::ABOVE_TOP;
-use card::refusals::NOT_DUE;
 ghost use mathlib.Core.Path.{_≡_};
 ghost use lib.Dec.{leb};
 ghost use Rattle.card.specs.Refusals.{aboveTop};
 ghost use Rattle.reading.specs.Judgements.{unless};
-ghost use Rattle.late.specs.Late.{blame as blameAt, blamed, wants as wantsAt, grouped as groupedAt};
-ghost use Rattle.late.specs.Settled.{refusal, settled};
-ghost use Rattle.late.specs.State.{Sized, lateIn, refusalIn, withLate, withRefusal, after, Halted};
+ghost use Rattle.late.specs.Late.{blame as blameAt, blamed};
+ghost use Rattle.late.specs.Settled.{refusal};
+ghost use Rattle.late.specs.State.{Sized, lateIn, withLate, withRefusal, after, Halted};
 
-fn wide(number: u8) -> usize
+pub fn wide(number: u8) -> usize
     ensures { λ r. ⌜ r ≡ number ⌝ }
 {
     number as usize
 }
 
-fn refuse(state: &mut [usize; STATE], number: usize, place: usize)
+// The stop: a refusal's number and its place.
+pub fn refuse(state: &mut [usize; STATE], number: usize, place: usize)
     requires { ⌜ Sized (now state) ⌝ }
     ensures { λ r. ⌜ now (state .exit) ≡ withRefusal (now (state .entry)) (refusal number place) ⌝ }
 {
@@ -66,63 +62,4 @@ pub fn judge_state(state: &mut [usize; STATE], value: usize, top: usize, place: 
         return;
     }
     blame(state, ABOVE_TOP, place);
-}
-
-// A group that is symmetric for one number of seats only.
-fn wants(state: &mut [usize; STATE], want: usize, place: usize)
-    requires { ⌜ Sized (now state) ⌝ }
-    ensures { λ r. ⌜ now (state .exit) ≡ withLate (now (state .entry)) (wantsAt want place (lateIn (now (state .entry)))) ⌝ }
-{
-    if state[LATE] != 0 {
-        return;
-    }
-    if state[WANT] == 0 {
-        state[WANT] = want;
-        state[FIRST] = place;
-        return;
-    }
-    if state[WANT] == want {
-        return;
-    }
-    if state[SPLIT] != 0 {
-        return;
-    }
-    state[SPLIT] = 1;
-    state[SECOND] = place;
-}
-
-// A group that wants so many seats (0: it is symmetric for no number of seats), and its bracket.
-pub fn grouped(state: &mut [usize; STATE], want: usize, place: usize)
-    requires { ⌜ Sized (now state) ⌝ }
-    ensures { λ r. ⌜ now (state .exit) ≡ withLate (now (state .entry)) (groupedAt want place (lateIn (now (state .entry)))) ⌝ }
-{
-    if want == 0 {
-        blame(state, NOT_DUE, place);
-        return;
-    }
-    wants(state, want, place);
-}
-
-// What is wrong on a card of so many seats becomes the stop; its number is 0 where nothing is.
-pub fn settle(state: &mut [usize; STATE], seats: usize)
-    requires { ⌜ Sized (now state) ⌝ }
-    ensures refused { λ r. ⌜ refusalIn (now (state .exit)) ≡ settled seats (lateIn (now (state .entry))) ⌝ }
-    ensures array { λ r. ⌜ now (state .exit) ≡ withRefusal (now (state .entry)) (settled seats (lateIn (now (state .entry)))) ⌝ }
-{
-    let want = state[WANT];
-    if want != 0 {
-        if want != seats {
-            let first = state[FIRST];
-            refuse(state, wide(NOT_DUE), first);
-            return;
-        }
-    }
-    if state[SPLIT] != 0 {
-        let second = state[SECOND];
-        refuse(state, wide(NOT_DUE), second);
-        return;
-    }
-    let number = state[LATE];
-    let place = state[LATE_PLACE];
-    refuse(state, number, place);
 }

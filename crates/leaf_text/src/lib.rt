@@ -1,10 +1,10 @@
 // How a leaf of a guard is put, in the written card and in the reduced program ("Texts, byte for byte").
-use card::node::IS;
-use card::node::ONE;
-use card::node::kind_of;
-use card::node::relation_of;
-use card::node::sign_of;
-use card::node::state_of;
+use packing::IS;
+use packing::ONE;
+use packing::kind_of;
+use packing::relation_of;
+use packing::sign_of;
+use packing::state_of;
 use phrases::put_either;
 use phrases::put_numbered;
 use pieces::put_eight;
@@ -12,9 +12,9 @@ use pieces::put_five;
 use pieces::put_nine;
 use pieces::put_seven;
 use pieces::put_six;
+use put_numbers::put_number;
 use room::place;
 use room::put_byte;
-use room::put_number;
 use table::bound_of;
 ghost use mathlib.Core.Path.{_≡_};
 ghost use Prim.Native.Nat.{_-_};

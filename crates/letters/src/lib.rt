@@ -1,3 +1,2 @@
-// What stands at a place of a card, in bytes: classes of bytes, runs of them, digits, and beginnings.
+// What stands at a place of a card, in bytes: classes of bytes, runs of them, and beginnings.
 pub mod bytes;
-pub mod digits;

@@ -1,8 +1,8 @@
 // The panel's lines ("Texts, byte for byte"), one by one.
+use put_numbers::put_number;
 use room::place;
 use room::put_byte;
 use room::put_bytes;
-use room::put_number;
 ghost use mathlib.Core.List.{_++_};
 ghost use lib.ListN.{length, getD};
 ghost use Rattle.phrases.specs.Phrases.{_▸_};

@@ -14,7 +14,7 @@ use lib.Seq.{drop-drop, getD-drop}
 use Rattle.card.specs.Limits.{wordDigits}
 use Rattle.card.specs.Text.{bytes, if_then_else_}
 use Rattle.letters.specs.Bytes.{isDigit, isLetter, isBlank, isSign, inWord, begins, run, every, begun, isAlone, inNumber}
-use Rattle.letters.specs.Digits.{plain}
+use Rattle.digits.specs.Digits.{plain}
 use Rattle.marks.specs.Marks.{startAt, wordMark}
 use Rattle.marks.specs.Kinds.{kNumber, kSeat, kProcess}
 use Rattle.marks.specs.Step.{stepTo, stepped, stepFrom, stepAt}
@@ -23,7 +23,7 @@ use Rattle.looks.specs.Quick.{signAhead, noDigit, oneDigit, digitAhead, 
 use Rattle.marks.specs.declared.Step.{Step}
 use Rattle.letters.proofs.Lists.{cases, not-both, and-left, and-right, drop-at}
 use Rattle.letters.proofs.Runs.{begins-at, begins-place, eqb-sym, run-on, run-empty}
-use Rattle.letters.proofs.Numbers.{one-digit}
+use Rattle.digits.proofs.Numbers.{one-digit}
 use Rattle.marks.proofs.Starts.{among, sign-kind, alone-step, gap-blank, gap-none, step-gap, numeral-single, digit-starts, digit-in-word, step-at}
 use Rattle.looks.proofs.Words.{run-of, whole, bytes-stand}
 

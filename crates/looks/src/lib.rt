@@ -1,3 +1,2 @@
-// Quick looks for the marks that are due, and steps of the cursor that try them first.
-pub mod due;
+// Quick looks for the marks that are due.
 pub mod look;

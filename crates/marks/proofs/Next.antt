@@ -14,7 +14,7 @@ use lib.Seq.{drop-drop, drop-length}
 use Rattle.card.specs.Limits.{furtherDigits, numberDigits}
 use Rattle.card.specs.Text.{if_then_else_}
 use Rattle.letters.specs.Bytes.{notLF, run, begins, isDigit, inWord, isLetter, isBlank, isSign}
-use Rattle.letters.specs.Digits.{numberSpelt, pointed}
+use Rattle.digits.specs.Digits.{numberSpelt, pointed}
 use Rattle.marks.specs.Marks.{Mark, text, number, decimal, outside, Placed, placed, second, Start, blank, mark, decimalMark, numeralMark, numeral, word, sign1, sign2, sign, comment, startAt, emit, marks, marksOf}
 use Rattle.letters.proofs.Lists.{cases}
 use Rattle.letters.proofs.Runs.{run-length}

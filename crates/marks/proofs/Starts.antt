@@ -14,16 +14,16 @@ use borrow.Author.Tests.{le-leb, lt-leb, leb-true, eqb-true, eq-eqb, ne-eqb, not
 use Rattle.card.specs.Limits.{numberDigits, furtherDigits, wordDigits}
 use Rattle.card.specs.Text.{bytes, if_then_else_}
 use Rattle.letters.specs.Bytes.{within, isDigit, isLetter, inWord, isBlank, isSign, oneOf, notLF, run, begins, every, after, isAlone, inNumber, begun}
-use Rattle.letters.specs.Digits.{valueFrom, plain, numberSpelt, pointed, heldDigits, Counted}
+use Rattle.digits.specs.Digits.{valueFrom, plain, numberSpelt, pointed, heldDigits, Counted}
 use Rattle.marks.specs.Marks.{Mark, text, number, decimal, outside, second, Start, blank, mark, wordMark, word, decimalMark, numeralMark, numeral, sign1, sign2, sign, startAt}
 use Rattle.marks.specs.Kinds.{knowns, kindIn}
 use Rattle.marks.specs.Step.{stepTo, stepEnd, stepped, stepFrom, stepAt}
 use Rattle.marks.specs.Parts.{gapOf, Numbered}
-use Rattle.letters.specs.declared.digits.Digits.{Digits}
+use Rattle.digits.specs.declared.Digits.{Digits}
 use Rattle.marks.specs.declared.Step.{Step}
 use Rattle.letters.proofs.Lists.{cases, not-both, and-left, and-right, or-true, or-left, or-right, drop-at}
 use Rattle.letters.proofs.Runs.{run-on, run-empty, run-length, run-stops, run-narrow, run-same, after-run, after-not, run-begun}
-use Rattle.letters.proofs.Numbers.{one-digit, plain-short, plain-digits}
+use Rattle.digits.proofs.Numbers.{one-digit, plain-short, plain-digits}
 
 -- ---- numbers and decimals
 

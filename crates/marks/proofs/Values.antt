@@ -12,10 +12,10 @@ use lib.ListN.{length, drop}
 use Rattle.card.specs.Limits.{numberDigits, furtherDigits, wordDigits}
 use Rattle.card.specs.Text.{bytes, if_then_else_}
 use Rattle.letters.specs.Bytes.{isDigit, isLetter, isBlank, isSign, inWord, run, begins, every, after}
-use Rattle.letters.specs.Digits.{valueFrom, plain, numberSpelt, pointed}
+use Rattle.digits.specs.Digits.{valueFrom, plain, numberSpelt, pointed}
 use Rattle.letters.proofs.Lists.{and-left, and-right}
 use Rattle.letters.proofs.Runs.{run-passes}
-use Rattle.letters.proofs.Numbers.{plain-short, plain-digits}
+use Rattle.digits.proofs.Numbers.{plain-short, plain-digits}
 use Rattle.marks.specs.Marks.{Mark, text, seat, process, number, decimal, outside, second, Start, blank, mark, made, numbered, word, decimalMark, numeralMark, numeral, sign1, sign2, sign, comment, startAt}
 
 -- the numbers in a mark have so many digits at most

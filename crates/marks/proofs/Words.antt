@@ -9,7 +9,7 @@ use lib.Dec.{eqb}
 use lib.ListN.{length, getD, drop, length-drop}
 use Rattle.card.specs.Text.{bytes}
 use Rattle.letters.specs.Bytes.{isLetter, inWord, run, runEnd, begins, after}
-use Rattle.letters.specs.declared.digits.Digits.{Digits}
+use Rattle.digits.specs.declared.Digits.{Digits}
 use Rattle.letters.proofs.Runs.{run-length}
 use Rattle.marks.specs.Marks.{text, seat, process, numbered, wordMark, word}
 use Rattle.marks.specs.Kinds.{kSeat, kProcess, kWord, knowns}

@@ -8,7 +8,7 @@ use lib.ListN.{length, drop}
 use Rattle.card.specs.Limits.{numberDigits, furtherDigits, wordDigits}
 use Rattle.card.specs.Text.{bytes, if_then_else_}
 use Rattle.letters.specs.Bytes.{isDigit, isLetter, inWord, isBlank, isSign, notLF, run, begins, after}
-use Rattle.letters.specs.Digits.{valueFrom, numberSpelt, pointed}
+use Rattle.digits.specs.Digits.{valueFrom, numberSpelt, pointed}
 
 pub data Mark : Type 0 where
   text : List ℕ → Mark  -- a sign, a keyword or another word: its bytes

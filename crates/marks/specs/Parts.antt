@@ -5,7 +5,7 @@ use mathlib.Core.List.{List, [], _∷_}
 use lib.ListN.{length}
 use Rattle.card.specs.Text.{if_then_else_}
 use Rattle.letters.specs.Bytes.{begins, isLetter, after, begun}
-use Rattle.letters.specs.declared.digits.Digits.{Digits}
+use Rattle.digits.specs.declared.Digits.{Digits}
 use Rattle.marks.specs.Marks.{Mark, numbered, Start, blank, mark}
 use Rattle.marks.specs.Kinds.{Known, kWord}
 use Rattle.marks.specs.declared.Step.{Step}

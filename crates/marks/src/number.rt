@@ -17,9 +17,9 @@ use crate::kinds::NUMBER;
 use crate::kinds::OUTSIDE;
 use card::limits::FURTHER_DIGITS;
 use card::limits::NUMBER_DIGITS;
-use letters::digits::digits_from;
-use letters::digits::is_plain;
-use letters::digits::is_pointed;
+use digits::digits_from;
+use digits::is_plain;
+use digits::is_pointed;
 
 // The mark that starts with the digit at a place.
 pub fn numeral(card: &[u8], at: usize) -> Step

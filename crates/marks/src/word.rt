@@ -22,12 +22,12 @@ use crate::kinds::PROCESS;
 use crate::kinds::SEAT;
 use crate::kinds::WORD;
 use card::limits::WORD_DIGITS;
+use digits::Digits;
+use digits::digits_from;
+use digits::is_plain;
 use letters::bytes::begins_at;
 use letters::bytes::word_at;
 use letters::bytes::word_end;
-use letters::digits::Digits;
-use letters::digits::digits_from;
-use letters::digits::is_plain;
 
 // Is the word at a place this beginning and a number? Then its length and the number, and otherwise 0.
 fn numbered_at(card: &[u8], at: usize, these: &[u8]) -> Digits

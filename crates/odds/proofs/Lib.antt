@@ -1,4 +1,1 @@
-pub mod Judging
-pub mod Entry
-pub mod Preparing
 pub mod Reckoning

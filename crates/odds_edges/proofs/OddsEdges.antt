@@ -8,7 +8,7 @@ use Rattle.meaning.specs.Choices.{choicesOf}
 use Rattle.meaning.specs.Seats.{counts}
 use Rattle.meaning.specs.Reduced.{copy, reduce, canTake, reducedTurn, reducedTurnsBy, reducedChoices}
 use Rattle.meaning.specs.CardA.{cardA}
-use Rattle.counting.specs.Judged.{judgedSeats, judgedFrom}
+use Rattle.seating.specs.Judged.{judgedSeats, judgedFrom}
 use Rattle.asking.specs.Question.{mixedNext}
 use Rattle.asking.specs.Asking.{questionOf}
 use Rattle.evenings.specs.Rounds.{round}
@@ -17,7 +17,7 @@ use Rattle.evenings.specs.Evenings.{countTable}
 use Rattle.evenings.specs.Leader.{leaderCard}
 use Rattle.vectors.specs.Vectors.{vectors}
 use Rattle.chances.specs.Chances.{roundRow, rowBefore}
-use Rattle.chances.specs.OddsSaid.{oddsSaid}
+use Rattle.odds_said.specs.OddsSaid.{oddsSaid}
 use Rattle.odds_edges.specs.OddsEdges.{OddsEdges}
 
 pub odds-edges : OddsEdges

@@ -17,7 +17,7 @@ use Rattle.entry.specs.Contract.{Ends, Two, two}
 use Rattle.evenings.specs.Rounds.{Aim, largest, smallest}
 use Rattle.evenings.specs.Evenings.{countTable, exact, whole}
 use Rattle.evenings.specs.Leader.{leaderCard}
-use Rattle.chances.specs.OddsSaid.{oddsSaid}
+use Rattle.odds_said.specs.OddsSaid.{oddsSaid}
 use Rattle.edges.specs.Edges.{textA, modulesFrom}
 
 -- source 000's leader election, as it is printed there

@@ -1,13 +1,13 @@
 // Exactly one seat in a state, written out term by term in a question (document 02, 2026-01).
-use card::node::ONE;
-use card::node::pack_one;
+use due_signs::step_joint;
 use group::Grouped;
 use group::no_group;
 use group::seen::one_more;
-use looks::due::step_joint;
 use marks::kinds;
 use one_term::TermFound;
 use one_term::term;
+use packing::ONE;
+use packing::pack_one;
 ghost use mathlib.Core.Path.{_≡_};
 ghost use mathlib.Core.Bool.{_&&_};
 ghost use Prim.Native.Nat.{ℕ};

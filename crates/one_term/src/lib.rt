@@ -1,16 +1,18 @@
 // A term of an exactly-one, read from a question's bytes (document 02, 2026-01): literals in a bracket, joined by `&`.
-use card::node::IS;
-use card::node::ISNT;
 use card::refusals::OUT_OF_SHAPE;
+use due_signs::step_and;
+use due_signs::step_sign;
+use due_words::step_tight_seat;
 use group::literal::Tail;
 use group::literal::literal;
+use group::literal::literal_apart;
 use group::seen::SEATS;
 use group::seen::each_once;
 use group::seen::note;
 use group::seen::one_more;
-use looks::due::step_seat;
-use looks::due::step_sign;
 use marks::kinds;
+use packing::IS;
+use packing::ISNT;
 ghost use mathlib.Core.Path.{_≡_};
 ghost use mathlib.Core.Bool.{not, _&&_, _||_};
 ghost use mathlib.Core.List.{_∷_};
@@ -99,13 +101,14 @@ fn literals(part: &[u8], at: usize, seat: usize, i: usize) -> TermFound
     let mut count: usize = 1;
     let mut due = as_due(true, d, relation_due(i, seat), first);
     let mut mixed = false;
+    // this is where a long question spends its time: most of its literals are `!=` and a digit, with no blank between their marks
     while ahead.mark.kind == kinds::AND {
         let c = ahead.next;
-        let word = step_seat(part, c.at);
+        let word = step_tight_seat(part, c.at);
         if word.mark.kind != kinds::SEAT {
             return no_term(word.mark.place);
         }
-        let more = literal(part, word.next.at);
+        let more = literal_apart(part, word.next.at);
         if more.stop != 0 {
             return no_term(more.place);
         }
@@ -113,7 +116,7 @@ fn literals(part: &[u8], at: usize, seat: usize, i: usize) -> TermFound
         count = one_more(count);
         due = as_due(due, d, relation_due(i, word.mark.value), more);
         mixed = mixes(mixed, first.relation, more.relation);
-        ahead = step_sign(part, more.next, kinds::AND);
+        ahead = step_and(part, more.next);
     }
     if ahead.mark.kind != kinds::ROUND_CLOSE {
         return no_term(ahead.mark.place);
@@ -138,7 +141,7 @@ pub fn term(part: &[u8], at: usize, i: usize) -> TermFound
     if bracket.mark.kind != kinds::ROUND_OPEN {
         return no_term(bracket.mark.place);
     }
-    let word = step_seat(part, bracket.next.at);
+    let word = step_tight_seat(part, bracket.next.at);
     if word.mark.kind != kinds::SEAT {
         return no_term(word.mark.place);
     }

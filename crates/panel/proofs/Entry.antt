@@ -13,20 +13,20 @@ use Rattle.card.proofs.HeldIn.{holds-card}
 use Rattle.entry.specs.Said.{says as text, refused}
 use Rattle.meaning.specs.Seats.{Seating, ValidSeating}
 use Rattle.meaning.specs.Panel.{panel}
-use Rattle.counting.specs.Judged.{judgedSeats}
-use Rattle.counting.proofs.Judging.{valid-exactly}
-use Rattle.reader.specs.declared.Outline.{Outline}
-use Rattle.reader.specs.ReadingOf.{ReadsInto}
-use Rattle.rows.proofs.ReadInto.{taken-holds, refused-said, taken-said}
+use Rattle.seating.specs.Judged.{judgedSeats}
+use Rattle.seating.proofs.Judging.{valid-exactly}
+use Rattle.outline.specs.declared.Outline.{Outline}
+use Rattle.outline.specs.ReadingOf.{ReadsInto}
+use Rattle.outline.proofs.ReadInto.{taken-holds, refused-said, taken-said}
 use Rattle.weighing.specs.Table.{tablePlaces, tableOf}
 use Rattle.weighing.specs.Fitting.{Filling}
 use Rattle.weighing.proofs.Filled.{fitting}
 use Rattle.lines.specs.PanelText.{panelText, panelOf}
 use Rattle.lines.specs.PanelIn.{panelIn}
 use Rattle.panel_room.specs.PanelRoom.{Printable}
-use Rattle.panel.specs.PanelSaid.{shownSaid, panelSaid}
+use Rattle.panel_said.specs.PanelSaid.{shownSaid, panelSaid}
 use Rattle.panel.proofs.Shown.{is-panel}
-use Rattle.panel.proofs.Short.{panel-fits}
+use Rattle.panel_said.proofs.Short.{panel-fits}
 
 -- ---- the table of a card that is taken
 

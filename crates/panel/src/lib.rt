@@ -3,14 +3,14 @@ use card::Verdict;
 use card::limits::BRANCH_PLACES;
 use card::limits::NODE_PLACES;
 use card::limits::ROW_PLACES;
-use counting::judge_seats;
 use filling::fill;
 use panel_room::enter_panel;
 use reader::read_into;
 use room::Answer;
+use seating::judge_seats;
 use weighing::TABLE_PLACES;
 ghost use Rattle.room.specs.Answer.{Entered};
-ghost use Rattle.panel.specs.PanelSaid.{panelSaid};
+ghost use Rattle.panel_said.specs.PanelSaid.{panelSaid};
 
 // The card is judged first, then the seats; then the panel's text is stored where it fits.
 pub fn panel(card: &[u8], seats: &[u8], room: &mut [u8]) -> Answer

@@ -2,23 +2,20 @@
 use card::Head;
 use card::NONDETERMINISTIC;
 use card::limits::BRANCH_PLACES;
-use card::limits::MOST_STATES;
 use card::limits::ROW_PLACES;
-use choice_text::put_choices;
 use lines::put_line;
-use lines::put_moves;
 use lines::put_stay;
+use moves_text::put_choices;
+use moves_text::put_table;
 use phrases::put_mode;
-use room::place;
+use put_numbers::put_number;
 use room::put_bytes;
-use room::put_number;
 use weighing::ENABLED;
 use weighing::STAY;
 use weighing::TABLE_PLACES;
-use weighing::WEIGHTS;
 ghost use mathlib.Core.Path.{_≡_};
 ghost use mathlib.Core.List.{[], _∷_};
-ghost use Prim.Native.Nat.{suc, _+_, _≤_};
+ghost use Prim.Native.Nat.{_+_, _≤_};
 ghost use lib.ListN.{length, getD, take};
 ghost use Rattle.card.specs.Limits.{topState};
 ghost use Rattle.card.specs.Card.{nondeterministic, probabilistic};
@@ -26,11 +23,9 @@ ghost use Rattle.card.specs.Laid.{either};
 ghost use Rattle.room.specs.Room.{Put};
 ghost use Rattle.phrases.specs.Phrases.{_▸_, num, modeText};
 ghost use Rattle.phrases.specs.Puts.{Puts};
-ghost use Rattle.meaning.specs.Sums.{upto, flat};
-ghost use Rattle.meaning.specs.Panel.{moveLine};
-ghost use Rattle.weighing.specs.Table.{enabledPlace, tablePlaces, weightIn};
+ghost use Rattle.weighing.specs.Table.{enabledPlace, tablePlaces};
 ghost use Rattle.weighing.specs.Fitting.{Fitting};
-ghost use Rattle.lines.specs.PanelText.{line, movesText, panelText};
+ghost use Rattle.lines.specs.PanelText.{line, panelText};
 ghost use Rattle.lines.specs.PanelIn.{panelIn};
 
 // The lines before the weights; the mode by its number in a card's struct.
@@ -46,22 +41,6 @@ fn put_head(room: &mut [u8], at: usize, head: Head, table: &[usize]) -> usize
     let values = [enabled];
     let d = put_line(room, c, b" enabled", &values);
     put_line(room, d, b"counts", &table[..states])
-}
-
-// All moves of a probabilistic card, by old state.
-fn put_table(room: &mut [u8], at: usize, table: &[usize], top: usize) -> usize
-    requires { ⌜ (top ≤ topState) × (length (now table) ≡ tablePlaces) ⌝ }
-    ensures { λ r. ⌜ Puts (now (room .entry)) (now (room .exit)) at (movesText (flat (upto (suc top) (λ a. flat (upto (suc top) (λ b. moveLine a b (weightIn (now (table .entry)) a b))))))) r ⌝ }
-{
-    let mut to = place(at);
-    let mut old = 0;
-    while old <= top {
-        let from = WEIGHTS + old * MOST_STATES;
-        let end = from + top + 1;
-        to = put_moves(room, to, old, &table[from..end]);
-        old += 1;
-    }
-    to
 }
 
 // The whole panel, of a card that lies in lent arrays. On a nondeterministic card the table has a weight of no change only where no choice

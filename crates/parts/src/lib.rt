@@ -2,14 +2,14 @@
 // back the place behind what it read, or 0 where it stopped.
 use card::refusals::NOT_DUE;
 use card::refusals::OUT_OF_SHAPE;
+use due_signs::step_sign;
+use due_words::step_kind;
+use due_words::step_number;
 use late::blame;
 use late::judge_state;
 use late::state::STATE;
 use late::state::VALUE;
 use late::stop;
-use looks::due::step_kind;
-use looks::due::step_number;
-use looks::due::step_sign;
 use marks::kinds::NUMBER;
 ghost use mathlib.Core.Path.{_≡_};
 ghost use Prim.Native.Nat.{_≤_, _<_};

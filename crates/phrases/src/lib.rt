@@ -1,10 +1,10 @@
 // Texts that several entries print: the mode, and weights in lowest terms ("Texts, byte for byte").
 use card::limits::NUMBER_DIGITS;
-use card::weight::Weight;
+use put_numbers::put_long_number;
+use put_numbers::put_number;
 use room::put_byte;
 use room::put_bytes;
-use room::put_long_number;
-use room::put_number;
+use weights::Weight;
 ghost use mathlib.Core.Path.{_≡_};
 ghost use mathlib.Core.List.{_++_};
 ghost use Prim.Native.Nat.{ℕ, _<_, _≤_};

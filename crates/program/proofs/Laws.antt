@@ -9,7 +9,7 @@ use lib.Dec.{eqb}
 use lib.ListN.{length}
 use Rattle.card.specs.Text.{if_then_else_}
 use Rattle.letters.specs.Bytes.{notLF, run, runEnd}
-use Rattle.program.specs.Program.{lineEnd, seatsLine}
+use Rattle.panel_said.specs.Program.{lineEnd, seatsLine}
 
 run-line : (s : List ℕ) → run notLF s ≡ seatsLine s
 unfolding seatsLine

@@ -20,16 +20,16 @@ use Rattle.reading.specs.Reading.{Outcome, taken, refused as turned, readOf}
 use Rattle.entry.specs.Said.{refused, _>>=_, _>>_, return}
 use Rattle.card.specs.declared.Verdict.{Verdict}
 use Rattle.card.specs.declared.Verdict.the-variants.{Taken, Refused}
-use Rattle.counting.specs.Judged.{judgedSeats}
+use Rattle.seating.specs.Judged.{judgedSeats}
 use Rattle.rows.specs.Said.{outcomeSaid}
-use Rattle.counting.specs.SeatsSaid.{verdictSaid}
+use Rattle.seating.specs.SeatsSaid.{verdictSaid}
 use Rattle.lines.specs.PanelText.{panelOf}
-use Rattle.panel.specs.PanelSaid.{shownSaid, panelSaid}
-use Rattle.counting.proofs.Judging.{valid-exactly}
+use Rattle.panel_said.specs.PanelSaid.{shownSaid, panelSaid}
+use Rattle.seating.proofs.Judging.{valid-exactly}
 use Rattle.grammar.proofs.Theorems.{read-valid}
 use Rattle.panel_room.specs.PanelRoom.{panelRoom}
-use Rattle.panel.proofs.Short.{panel-fits}
-use Rattle.program.specs.Program.{lineEnd, seatsLine, cardBehind, seatOf, inputBytes, printed, answerTo, programOf}
+use Rattle.panel_said.proofs.Short.{panel-fits}
+use Rattle.panel_said.specs.Program.{lineEnd, seatsLine, cardBehind, seatOf, inputBytes, printed, answerTo, programOf}
 use Rattle.program_lines.proofs.Printing.{Short}
 use Rattle.program_lines.proofs.Seats.{sown}
 

@@ -8,9 +8,9 @@ use program_lines::put_seats;
 use room::Answer;
 ghost use Prim.Native.Nat.{_≤_};
 ghost use lib.ListN.{length};
-ghost use Rattle.panel.specs.PanelSaid.{panelSaid};
+ghost use Rattle.panel_said.specs.PanelSaid.{panelSaid};
 ghost use Rattle.panel_room.specs.PanelRoom.{panelRoom};
-ghost use Rattle.program.specs.Program.{printed, answerTo, programOf, Printed};
+ghost use Rattle.panel_said.specs.Program.{printed, answerTo, programOf, Printed};
 
 // Bytes behind these are not read.
 pub const INPUT_BYTES: usize = 65536;

@@ -1,8 +1,8 @@
 // What the panel program does with single lines: seats read from one, a refusal put as one ("Texts, byte for byte").
 use letters::bytes::wide;
+use put_numbers::put_number;
 use room::put_byte;
 use room::put_bytes;
-use room::put_number;
 ghost use mathlib.Core.Path.{_≡_};
 ghost use mathlib.Core.List.{map, _++_};
 ghost use Prim.Native.Nat.{_≤_, min};

@@ -24,8 +24,8 @@ use Rattle.room.specs.Answer.{told, answerNumber, answered, Entered}
 use Rattle.room.proofs.Entries.{told-faithful}
 use Rattle.answers.specs.Numbered.{numbers}
 use Rattle.promises.specs.DeckWriting.{deckFor, WritesDeck, WriteDeckTells, DeckWritten, DeckWriting, DeckWritingEdges}
-use Rattle.promises.proofs.Entries.{in-numbers, done≢refused}
-use Rattle.promises.proofs.ForC.{tells-done, tells-refused, is-refused, number-of, entered}
+use Rattle.entry_promises.proofs.Entries.{in-numbers, done≢refused}
+use Rattle.entry_promises.proofs.ForC.{tells-done, tells-refused, is-refused, number-of, entered}
 
 module _ (contents bodies : List ℕ) {was is : List ℕ} {a : Answer} (e : Entered was is (writeDeckSaid contents bodies) a) where
   room : InRoom told (Fine contents bodies) (λ _. deckFor contents bodies) was is a

@@ -25,15 +25,15 @@ use Rattle.deck.proofs.DeckStages.{rows-stage, deck-stage}
 use Rattle.deck.proofs.Lookups.{rows-malformed, located-here, located-nowhere, located-bad, located-one-of, located-exactly, located-none}
 use Rattle.deck.proofs.Lookups.{located-malformed, located-numbers, find-located, find-with-located, find-exactly, find-none, find-malformed}
 use Rattle.deck.proofs.Lookups.{find-numbers, with-exactly, with-none, with-malformed, with-numbers, gives-inside}
-use Rattle.contents.specs.Verdicts.{verdictOf}
-use Rattle.contents.proofs.Laws.{verdict-refused, verdict-fine}
+use Rattle.deck_entries.specs.Verdicts.{verdictOf}
+use Rattle.deck_entries.proofs.Laws.{verdict-refused, verdict-fine}
 use Rattle.boxes.specs.Boxes.{placed, told, Found}
 use Rattle.boxes.specs.declared.Place.{Place}
 use Rattle.answers.specs.declared.OpenPanelAnswer.{OpenPanelAnswer}
 use Rattle.answers.specs.Numbered.{verdictNumbers}
 use Rattle.answers.specs.Stands.{threeOf}
 use Rattle.tablet.specs.Parts.{PartTold}
-use Rattle.promises.specs.ForC.{Answers}
+use Rattle.entry_promises.specs.ForC.{Answers}
 use Rattle.promises.specs.Decks.{Decks, Lookups, LookupsWith, Judges, GivenIn, NoneIn, GivenWith, NoneWith, Locates, HandsBack, PartTells, BoxJudgeTells}
 use Rattle.promises.specs.Decks.{BoxEntries}
 

@@ -16,8 +16,8 @@ use Rattle.grammar.proofs.Fair.{every-append}
 use Rattle.reading.specs.Reading.{Outcome}
 use Rattle.grammar.proofs.Theorems.{accepted, read-valid, refusal-1, refusal-2, refusal-3, refusal-4, refusal-5, refusal-6, refusal-7, refusal-17}
 use Rattle.reading.proofs.Numbers.{read-number}
-use Rattle.reader.specs.ReadingOf.{outlineOf, memoryOf}
-use Rattle.reader.specs.declared.Outline.{Outline}
+use Rattle.outline.specs.ReadingOf.{outlineOf, memoryOf}
+use Rattle.outline.specs.declared.Outline.{Outline}
 use Rattle.rereading.proofs.RoundTrip.{read-again}
 use Rattle.edges.proofs.Edges.{unit-edges}
 use Rattle.card_promises.proofs.CardMarks.{taken-marks}

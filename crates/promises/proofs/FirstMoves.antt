@@ -19,21 +19,21 @@ use Rattle.entry.specs.Said.{Said, says, refused, _>>=_}
 use Rattle.entry.specs.Contract.{valued, lentNothing, Faithful}
 use Rattle.entry.proofs.Stages.{same-number, same-place, last}
 use Rattle.entry.proofs.Exactly.{_↔∙_}
-use Rattle.counting.proofs.Judging.{valid-exactly}
-use Rattle.counting.proofs.SeatsStage.{seats-stage}
+use Rattle.seating.proofs.Judging.{valid-exactly}
+use Rattle.seating.proofs.SeatsStage.{seats-stage}
 use Rattle.rows.specs.Said.{outcomeSaid}
 use Rattle.lines.specs.PanelText.{line, choiceText, stayText, movesText, blockText, blocksText, panelText, panelOf}
-use Rattle.panel.specs.PanelSaid.{shownSaid, panelSaid}
+use Rattle.panel_said.specs.PanelSaid.{shownSaid, panelSaid}
 use Rattle.moving.specs.FirstMove.{firstMove}
 use Rattle.moving.specs.Shown.{FirstChoice}
 use Rattle.moving.proofs.FirstMove.{first-by-counts, rest-unread, equal-counts, reordered-first}
 use Rattle.moving.proofs.FirstTaken.{first-exactly, nobody-exactly}
 use Rattle.moving.proofs.Shown.{shown-first}
-use Rattle.first_move.specs.MoveSaid.{moveSeated, moveSaid, Moves}
+use Rattle.move_said.specs.MoveSaid.{moveSeated, moveSaid, Moves}
 use Rattle.first_able.specs.Moved.{moved}
-use Rattle.first_move.proofs.Theorems.{moves, moved-faithful}
+use Rattle.move_said.proofs.Theorems.{moves, moved-faithful}
 use Rattle.tablet.specs.Moves.{movedNumbers}
-use Rattle.promises.specs.ForC.{Answers}
+use Rattle.entry_promises.specs.ForC.{Answers}
 use Rattle.promises.specs.FirstMoves.{behindCounts, MoveMeaning, MoveTells, FirstMoves}
 use Rattle.card_promises.proofs.Numbers.{number-some}
 

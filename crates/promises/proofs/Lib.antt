@@ -1,12 +1,7 @@
-pub mod Demands
-pub mod Entries
-pub mod ForC
-pub mod Program
 pub mod Writings
 pub mod Questions
 pub mod Decks
 pub mod DeckWriting
-pub mod Spectator
 pub mod Elevenths
 pub mod FirstMoves
 pub mod Nights

@@ -20,7 +20,7 @@ use Rattle.entry.specs.Said.{Said}
 use Rattle.entry.specs.Contract.{Ends, Two, Enters, inRows, valued}
 use Rattle.entry.proofs.Exactly.{_↔∙_}
 use Rattle.entry.proofs.Entries.{enters-unique}
-use Rattle.counting.proofs.Judging.{valid-exactly}
+use Rattle.seating.proofs.Judging.{valid-exactly}
 use Rattle.room.specs.Answer.{told}
 use Rattle.room.specs.declared.Answer.{Answer}
 use Rattle.room.specs.declared.Answer.the-variants.{Refused}
@@ -36,15 +36,15 @@ use Rattle.vectors.proofs.Laws.{how-many}
 use Rattle.listed.proofs.Order.{listed}
 use Rattle.listed.proofs.Seated.{counts-vector, vector-seated}
 use Rattle.chances.specs.Chances.{chanceAt, vectorsOf, roundRow, rowBefore}
-use Rattle.chances.specs.OddsSaid.{oddsSaid, Odds}
-use Rattle.chances.proofs.Bound.{chance}
-use Rattle.chances.proofs.Theorems.{odds}
+use Rattle.odds_said.specs.OddsSaid.{oddsSaid, Odds}
+use Rattle.odds_said.proofs.Chance.{chance}
+use Rattle.odds_said.proofs.Theorems.{odds}
 use Rattle.chances.proofs.Rows.{row-holds}
 use Rattle.odds_edges.proofs.OddsEdges.{odds-edges}
 use Rattle.answers.specs.Numbered.{numbers}
 use Rattle.promises.specs.Nights.{OddsMeaning, OddsTells, Nights}
 use Rattle.card_promises.proofs.Numbers.{number-some}
-use Rattle.promises.proofs.ForC.{tells-done, tells-refused, is-refused, number-of}
+use Rattle.entry_promises.proofs.ForC.{tells-done, tells-refused, is-refused, number-of}
 
 -- ---- the rows
 

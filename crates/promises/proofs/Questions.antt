@@ -27,10 +27,10 @@ use Rattle.asking.proofs.AsWritten.{as-written}
 use Rattle.asking.proofs.Looking.{starts-exactly}
 use Rattle.asking.proofs.Valid.{taken-valid}
 use Rattle.asking.proofs.Answers.{accepted, refusal-21, refusal-22, refusal-23, refusal-24, refusal-25, refusal-26, numbered}
-use Rattle.ask.specs.AskSaid.{askSaid, Asks}
-use Rattle.ask.proofs.Theorems.{asks}
-use Rattle.tablet.specs.Told.{answeredNumbers}
-use Rattle.promises.specs.ForC.{Answers}
+use Rattle.ask_said.specs.AskSaid.{askSaid, Asks}
+use Rattle.ask_said.proofs.Theorems.{asks}
+use Rattle.tablet.specs.AskedTold.{answeredNumbers}
+use Rattle.entry_promises.specs.ForC.{Answers}
 use Rattle.promises.specs.Questions.{QuestionMeaning, QuestionReadings, asSaid, AskTells, Questions}
 use Rattle.card_promises.proofs.Numbers.{number-some}
 

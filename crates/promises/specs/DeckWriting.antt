@@ -19,9 +19,9 @@ use Rattle.room.specs.declared.Answer.{Answer}
 use Rattle.room.specs.declared.Answer.the-variants.{Done, Refused}
 use Rattle.room.specs.Answer.{answered, roomAfter, Entered}
 use Rattle.answers.specs.declared.OpenPanelAnswer.{OpenPanelAnswer}
-use Rattle.tablet.specs.Told.{Told}
-use Rattle.promises.specs.Entries.{InNumbers, RoomEnough}
-use Rattle.promises.specs.ForC.{Answers}
+use Rattle.told.specs.Told.{Told}
+use Rattle.entry_promises.specs.Entries.{InNumbers, RoomEnough}
+use Rattle.entry_promises.specs.ForC.{Answers}
 
 -- the deck of the entries that contents and bodies say
 abbrev pub deckFor : (contents bodies : List ℕ) → List ℕ

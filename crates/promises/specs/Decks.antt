@@ -17,13 +17,13 @@ use Rattle.deck.specs.Deck.{Entry, bodyOf, heldBy, deckOf, deckText, Writable}
 use Rattle.deck.specs.Lookup.{find, findWith, Part, theBase, theExpansion, partFor, located, locatedWith, partBytes}
 use Rattle.deck.specs.Sound.{entryAt, Sound, MalformedAt}
 use Rattle.deck.specs.Given.{LiveAt, NoLive, Gives, BothSound, EitherMalformed}
-use Rattle.contents.specs.Verdicts.{verdictOf}
+use Rattle.deck_entries.specs.Verdicts.{verdictOf}
 use Rattle.boxes.specs.Boxes.{placed, Found}
 use Rattle.boxes.specs.declared.Place.{Place}
 use Rattle.answers.specs.declared.OpenPanelAnswer.{OpenPanelAnswer}
 use Rattle.answers.specs.Numbered.{verdictNumbers}
 use Rattle.tablet.specs.Parts.{PartTold}
-use Rattle.promises.specs.ForC.{Answers}
+use Rattle.entry_promises.specs.ForC.{Answers}
 
 -- ---- bytes and decks
 

@@ -16,8 +16,8 @@ use Rattle.card.specs.Lent.{Lent, headOf, noHead, lentOf, noneLent}
 use Rattle.marks.specs.Marks.{marksOf}
 use Rattle.reading.specs.Reading.{taken, refused, readUnder, mostRefusal}
 use Rattle.grammar.specs.Verdicts.{TooLong, OutsideRules, OutOfShape, PastLimit, Broken, Accepted}
-use Rattle.reader.specs.ReadingOf.{outlineOf, ReadsUnder}
-use Rattle.reader.specs.declared.Outline.{Outline}
+use Rattle.outline.specs.ReadingOf.{outlineOf, ReadsUnder}
+use Rattle.outline.specs.declared.Outline.{Outline}
 use Rattle.texts.specs.Writing.{writeOf}
 use Rattle.edges.specs.Edges.{UnitEdges}
 use Rattle.card_promises.specs.CardMarks.{markOf, CardMarks}

@@ -1,5 +1,5 @@
 -- Document 02, 2026-07: which statement is given to those who ask who may move, and what is answered for any bytes. The words on the right of an `↔`
--- are in `moving/specs` and `first_move/specs`. Assumes nothing.
+-- are in `moving/specs` and `move_said/specs`. Assumes nothing.
 use Prim.Native.Nat.{ℕ, _≤_}
 use mathlib.Core.Path.{_≡_}
 use mathlib.Core.Logic.{_↔_}
@@ -13,20 +13,20 @@ use Rattle.meaning.specs.Seats.{Seating, ValidSeating, counts, Stuck}
 use Rattle.meaning.specs.Panel.{Panel, panel}
 use Rattle.meaning.specs.Reordered.{Reordered}
 use Rattle.entry.specs.Said.{refused}
-use Rattle.counting.specs.Judged.{FirstAbove}
+use Rattle.seating.specs.Judged.{FirstAbove}
 use Rattle.rows.specs.Said.{Read}
 use Rattle.phrases.specs.Phrases.{_▸_, num, modeWord}
 use Rattle.lines.specs.PanelText.{line, panelOf}
-use Rattle.panel.specs.PanelSaid.{panelSaid}
+use Rattle.panel_said.specs.PanelSaid.{panelSaid}
 use Rattle.moving.specs.FirstMove.{firstMove, firstAt}
 use Rattle.moving.specs.FirstTaken.{FirstTaken}
 use Rattle.moving.specs.Shown.{FirstChoice}
 use Rattle.first_able.specs.declared.FirstMove.{FirstMove}
-use Rattle.first_move.specs.MoveSaid.{moveSaid, Moves}
+use Rattle.move_said.specs.MoveSaid.{moveSaid, Moves}
 use Rattle.first_able.specs.Moved.{moved}
 use Rattle.answers.specs.declared.OpenPanelAnswer.{OpenPanelAnswer}
 use Rattle.tablet.specs.Moves.{movedNumbers}
-use Rattle.promises.specs.ForC.{Answers}
+use Rattle.entry_promises.specs.ForC.{Answers}
 
 -- ---- which statement
 

@@ -16,12 +16,12 @@ use Rattle.meaning.specs.Seats.{Seating, ValidSeating, counts}
 use Rattle.meaning.specs.Reordered.{Reordered}
 use Rattle.entry.specs.Said.{Said, refused}
 use Rattle.entry.specs.Contract.{Ends, Two, Enters, inRows}
-use Rattle.counting.specs.Judged.{FirstAbove}
+use Rattle.seating.specs.Judged.{FirstAbove}
 use Rattle.rows.specs.Said.{Read}
 use Rattle.room.specs.Answer.{told}
 use Rattle.room.specs.declared.Answer.{Answer}
 use Rattle.asking.specs.Meant.{Question}
-use Rattle.ask.specs.AskSaid.{questionSaid, Understood}
+use Rattle.ask_said.specs.AskSaid.{questionSaid, Understood}
 use Rattle.evenings.specs.Limits.{mostNights, mostVectors}
 use Rattle.evenings.specs.Rounds.{Aim, largest, smallest, aimOf, extreme}
 use Rattle.evenings.specs.Best.{IsBest}
@@ -30,12 +30,12 @@ use Rattle.vectors.specs.Vectors.{vectors, IsVector, ways, valueIn}
 use Rattle.listed.specs.Listed.{Listed}
 use Rattle.chances.specs.Chances.{chanceAt, vectorsOf, roundRow, rowBefore}
 use Rattle.chances.specs.Chance.{Chance}
-use Rattle.chances.specs.OddsSaid.{oddsSaid, Fits, Odds}
+use Rattle.odds_said.specs.OddsSaid.{oddsSaid, Fits, Odds}
 use Rattle.odds_edges.specs.OddsEdges.{OddsEdges}
 use Rattle.answers.specs.declared.OpenPanelAnswer.{OpenPanelAnswer}
 use Rattle.answers.specs.Aims.{aimBy}
 use Rattle.tablet.specs.Rows.{RowsTold}
-use Rattle.promises.specs.ForC.{Answers}
+use Rattle.entry_promises.specs.ForC.{Answers}
 
 -- ---- what the value is
 

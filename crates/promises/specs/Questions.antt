@@ -1,5 +1,5 @@
 -- Document 02, 2026-01: what a question means, which bytes are one on a card of n seats with top state k, which refusal is given where, and what
--- the entry answers. The words on the right are in `asking/specs` and `ask/specs`. Assumes nothing.
+-- the entry answers. The words on the right are in `asking/specs` and `ask_said/specs`. Assumes nothing.
 use Prim.Native.Nat.{ℕ, _≤_}
 use mathlib.Core.Path.{_≡_}
 use mathlib.Core.Bool.{Bool, true}
@@ -22,16 +22,16 @@ use Rattle.meaning.specs.Reduced.{equalTo, counter, counterOf}
 use Rattle.meaning.specs.ByCounts.{heldAt}
 use Rattle.entry.specs.Said.{Said, says, refused}
 use Rattle.entry.specs.Contract.{yes-no}
-use Rattle.counting.specs.Judged.{FirstAbove}
+use Rattle.seating.specs.Judged.{FirstAbove}
 use Rattle.rows.specs.Said.{Read}
 use Rattle.asking.specs.Question.{Occurs, twiceNext, TermSaid}
 use Rattle.asking.specs.Meant.{ofAll, oneIn, Question, ValidQuestion, OneSeat, holdsAtom, holdsOn, testFor, passesOn, leafFor}
 use Rattle.asking.specs.Asking.{Everyone, ExactlyOne, isEveryone, isExactlyOne, inQuestion, questionOf, QuestionPastLimit, QuestionOutOfShape, QuestionBroken, QuestionAccepted}
 use Rattle.asking.specs.AsWritten.{itemHolds}
-use Rattle.ask.specs.AskSaid.{questionSaid, Understood, askSaid, Asks}
+use Rattle.ask_said.specs.AskSaid.{questionSaid, Understood, askSaid, Asks}
 use Rattle.answers.specs.declared.OpenPanelAnswer.{OpenPanelAnswer}
-use Rattle.tablet.specs.Told.{answeredNumbers}
-use Rattle.promises.specs.ForC.{Answers}
+use Rattle.tablet.specs.AskedTold.{answeredNumbers}
+use Rattle.entry_promises.specs.ForC.{Answers}
 
 -- ---- what a question means
 

@@ -1,4 +1,4 @@
--- A question's reader passes only marks that fit, so no mark outside the rules; by the card reader's lemmas (its Passed). Assumes nothing.
+-- A question's reader passes only marks that fit, so no mark outside the rules; by the lemmas of the search (its Passed). Assumes nothing.
 use Prim.Native.Nat.{ℕ}
 use mathlib.Core.Path.{_≡_}
 use mathlib.Core.Bool.{Bool, false}
@@ -12,7 +12,7 @@ use Rattle.reading.specs.Guard.{seatNext, unaryBy}
 use Rattle.reading.specs.Group.{joint, literal, joined, others, group}
 use Rattle.reading.specs.Shape.{theEnd}
 use Rattle.reading.specs.Reading.{isOutside}
-use Rattle.reader.proofs.Passed.{Safe, andThen, signP, choice, literalP, joinedP, groupP, expressionP, unaryP, ended-held}
+use Rattle.search.proofs.Passed.{Safe, andThen, signP, choice, literalP, joinedP, groupP, expressionP, unaryP, ended-held}
 use Rattle.asking.specs.Question.{aGroup, itemNext, term, exactly, item, asked, question}
 
 module _ (P : Place → Type 0) (pass : (m : Mark) (q : ℕ) (ms : Place) → isOutside m ≡ false → P (placed m q ∷ ms) → P ms) where

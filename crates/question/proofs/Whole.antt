@@ -30,16 +30,16 @@ use Rattle.late.specs.Late.{noneYet}
 use Rattle.late.specs.Settled.{Refusal, refusal, settled, verdict}
 use Rattle.late.specs.State.{atStop, atStopPlace, freeIn, lateIn, refusalIn, After}
 use Rattle.parts.proofs.Steps.{Next, end, one, next-at, place-seen}
-use Rattle.reader.specs.declared.Due.{Due}
-use Rattle.reader.specs.Search.{searched}
-use Rattle.reader.proofs.Passed.{Held}
-use Rattle.reader.proofs.Places.{Reached, reached-first, reached-next, outside-behind}
+use Rattle.search.specs.declared.Due.{Due}
+use Rattle.search.specs.Search.{searched}
+use Rattle.search.proofs.Passed.{Held}
+use Rattle.search.proofs.Places.{Reached, reached-first, reached-next, outside-behind}
 use Rattle.entry.specs.Said.{Said, says, refused}
 use Rattle.asking.specs.Question.{Item, asked, question}
 use Rattle.asking.specs.Meant.{Question, leafFor}
 use Rattle.asking.specs.Asking.{claims, firstUnfit, questionIn, inQuestion, judgedAs, shapedAs, markedAs, questionOf}
 use Rattle.grouping.specs.Language.{questions, leavesOf}
-use Rattle.guard.specs.GuardRead.{Read, GuardRead}
+use Rattle.items.specs.GuardRead.{Read, GuardRead}
 use Rattle.question.specs.declared.Understood.{Understood}
 use Rattle.question.specs.QuestionRead.{refusedWith, Understands, Refuses, QuestionRead}
 use Rattle.question.proofs.Claims.{settled-question, none-unfit, same-leaves}

@@ -6,7 +6,7 @@ use Rattle.card.specs.Formulas.{over}
 use Rattle.card.specs.Laid.{below, cells}
 use Rattle.card.specs.Stored.{stored}
 use Rattle.entry.specs.Said.{Said, says, refused}
-use Rattle.reader.specs.declared.Due.{Due}
+use Rattle.search.specs.declared.Due.{Due}
 use Rattle.asking.specs.Meant.{Question, leafFor}
 use Rattle.asking.specs.Asking.{inQuestion}
 use Rattle.question.specs.declared.Understood.{Understood}

@@ -2,10 +2,10 @@
 use mathlib.Core.Path.{refl}
 use Rattle.card.specs.Weight.{unitsOf}
 use Rattle.reading.specs.Reading.{readUnder}
-use Rattle.counting.specs.Judged.{judgedSeats, judgedFrom}
+use Rattle.seating.specs.Judged.{judgedSeats, judgedFrom}
 use Rattle.asking.specs.Question.{mixedNext}
 use Rattle.asking.specs.Asking.{questionOf}
-use Rattle.ask.specs.AskSaid.{askSaid}
+use Rattle.ask_said.specs.AskSaid.{askSaid}
 use Rattle.question_edges.specs.QuestionEdges.{QuestionEdges}
 
 pub question-edges : QuestionEdges

@@ -7,7 +7,7 @@ use mathlib.Core.List.{List, [], _∷_, _++_}
 use Rattle.card.specs.Text.{bytes}
 use Rattle.card.specs.Card.{probabilistic}
 use Rattle.entry.specs.Said.{Said, says, refused}
-use Rattle.ask.specs.AskSaid.{askSaid}
+use Rattle.ask_said.specs.AskSaid.{askSaid}
 use Rattle.edges.specs.Edges.{textA}
 
 -- three seats, states 0 to 2

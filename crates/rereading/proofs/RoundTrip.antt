@@ -13,7 +13,7 @@ use Rattle.card.specs.Card.{Mode, nondeterministic, probabilistic, Statement, C
 use Rattle.card.specs.Weight.{Rule, cardRule}
 use Rattle.card.specs.Valid.{Every, ValidCard}
 use Rattle.letters.specs.Bytes.{isDigit, begins}
-use Rattle.letters.specs.Digits.{pointed}
+use Rattle.digits.specs.Digits.{pointed}
 use Rattle.marks.specs.Marks.{text, number, placed, marks, marksOf}
 use Rattle.reading.specs.Reader.{Place, at, Result, ok, Numbered, Item}
 use Rattle.reading.specs.Group.{Literal, Literals}

@@ -14,7 +14,7 @@ use Rattle.card.specs.Card.{all, Formula, Guard, Branch, Statement}
 use Rattle.card.specs.Valid.{Every, total, size, middle, depth, ValidGuard, ValidBranch, ValidStatement}
 use Rattle.card.specs.Weight.{Weight, whole, ratio, unitsOf, Rule, allowed, weightRefusal}
 use Rattle.letters.specs.Bytes.{isDigit, begins}
-use Rattle.letters.specs.Digits.{pointed}
+use Rattle.digits.specs.Digits.{pointed}
 use Rattle.marks.specs.Marks.{number, placed, marks}
 use Rattle.reading.specs.Reader.{Place, Numbered, Item}
 use Rattle.reading.specs.Guard.{isSome}

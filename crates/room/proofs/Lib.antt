@@ -1,5 +1,5 @@
 pub mod Laws
 pub mod Decimal
 pub mod Entries
-mod Stores
+pub mod Stores
 pub mod Drafts

@@ -1,5 +1,4 @@
 pub mod Rows
-pub mod Kept
 pub mod Turns
 pub mod Added
 pub mod Begun

@@ -1,2 +1,1 @@
-pub mod ReadInto
 pub mod Theorems

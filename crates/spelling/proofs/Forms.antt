@@ -13,7 +13,7 @@ use lib.ListN.{length, drop, length-append}
 use lib.Seq.{drop-append-seam}
 use Rattle.card.specs.Text.{bytes, same, if_then_else_}
 use Rattle.letters.specs.Bytes.{within, isDigit, isLetter, inWord, isBlank, isSign, run, begins, every}
-use Rattle.letters.specs.Digits.{pointed}
+use Rattle.digits.specs.Digits.{pointed}
 use Rattle.marks.specs.Marks.{Mark, second}
 use Rattle.letters.proofs.Lists.{cases, not-both, and-left, and-right, or-true}
 use Rattle.marks.proofs.KindLaws.{same-eq}

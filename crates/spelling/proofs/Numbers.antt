@@ -11,7 +11,7 @@ use lib.Dec.{eqb, leb}
 use lib.ListN.{length}
 use Rattle.card.specs.Text.{same}
 use Rattle.letters.specs.Bytes.{isDigit, every}
-use Rattle.letters.specs.Digits.{valueFrom, plain, numberSpelt}
+use Rattle.digits.specs.Digits.{valueFrom, plain, numberSpelt}
 use Rattle.letters.proofs.Lists.{cases, not-both, and-left, and-right, or-true, none-left}
 use Rattle.marks.proofs.KindLaws.{same-eq}
 use Rattle.spelling.specs.Spells.{Digits, none as noDigit, digit, Numeral, Number}

@@ -12,7 +12,7 @@ use lib.Seq.{drop-append-seam, drop-length}
 use Rattle.card.specs.Limits.{numberDigits, furtherDigits, wordDigits}
 use Rattle.card.specs.Text.{bytes, same}
 use Rattle.letters.specs.Bytes.{isDigit, inWord, isSign, begins, every, after}
-use Rattle.letters.specs.Digits.{numberSpelt, pointed}
+use Rattle.digits.specs.Digits.{numberSpelt, pointed}
 use Rattle.marks.specs.Marks.{Mark, text, seat, process, number, decimal, outside, second, Start, blank, mark, made, numbered, numeralMark, numeral, sign1, sign2, startAt}
 use Rattle.letters.proofs.Lists.{cases, not-both, and-left, and-right}
 use Rattle.marks.proofs.KindLaws.{same-eq}

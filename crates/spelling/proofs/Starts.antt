@@ -13,7 +13,7 @@ use lib.ListN.{length, drop, length-append}
 use Rattle.card.specs.Limits.{numberDigits, furtherDigits, wordDigits}
 use Rattle.card.specs.Text.{bytes, if_then_else_}
 use Rattle.letters.specs.Bytes.{isDigit, isLetter, inWord, isBlank, isSign, notLF, run, begins, every, after}
-use Rattle.letters.specs.Digits.{valueFrom, numberSpelt, pointed}
+use Rattle.digits.specs.Digits.{valueFrom, numberSpelt, pointed}
 use Rattle.marks.specs.Marks.{Mark, text, seat, process, number, decimal, outside, second, Start, blank, mark, made, numbered, wordMark, word, decimalMark, numeralMark, numeral, sign1, sign2, sign, comment, startAt}
 use Rattle.letters.proofs.Lists.{cases, not-both, and-left, and-right}
 use Rattle.letters.proofs.Runs.{run-passes, run-stops}

@@ -39,7 +39,7 @@ use Rattle.grouping.specs.Language.{cards}
 use Rattle.grouping.specs.Items.{Ready}
 use Rattle.grouping.proofs.Answers.{card-judged}
 use Rattle.guard.proofs.Spent.{Each, Spent, keeping, unary-spends, conjunction-spends}
-use Rattle.guard.specs.GuardRead.{GuardRead}
+use Rattle.items.specs.GuardRead.{GuardRead}
 use Rattle.parts.specs.Parts.{from, Read, Answers, Kept, Went, NumberFrom, SignRead, SignFrom, Told, Due, Sure, LineRead}
 use Rattle.branches.specs.Branches.{BranchesShape, branches, judgedBranches, packedIn, BranchesFrom}
 use Rattle.statements.specs.Statements.{statementDue, OwnFrom, guarded, guardOrBy, GuardedIn, GuardedRead, GuardedFrom, rowBy, withStatement, StatementIn, StatementRead, StatementFrom, statements, filled, StatementsIn, StatementsRead, StatementsFrom}

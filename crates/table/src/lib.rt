@@ -1,12 +1,12 @@
 // The table of counter tests ("What a card means", second part), place by place.
-use card::node::ALL;
-use card::node::EVERYONE;
-use card::node::IS;
-use card::node::OTHERS;
-use card::node::kind_of;
-use card::node::relation_of;
-use card::node::sign_of;
-use card::node::state_of;
+use packing::ALL;
+use packing::EVERYONE;
+use packing::IS;
+use packing::OTHERS;
+use packing::kind_of;
+use packing::relation_of;
+use packing::sign_of;
+use packing::state_of;
 ghost use mathlib.Core.Path.{_≡_};
 ghost use mathlib.Core.Bool.{Bool};
 ghost use Prim.Native.Nat.{_-_};

@@ -4,8 +4,8 @@ use mathlib.Core.Path.{_≡_, refl, ap, subst, _∙_}
 use mathlib.Core.List.{List}
 use Rattle.card.specs.Lent.{Lent}
 use Rattle.reading.specs.Reading.{readOf}
-use Rattle.reader.specs.declared.Outline.{Outline}
-use Rattle.reader.specs.ReadingOf.{ReadsInto}
+use Rattle.outline.specs.declared.Outline.{Outline}
+use Rattle.outline.specs.ReadingOf.{ReadsInto}
 use Rattle.room.specs.declared.Answer.{Answer}
 use Rattle.room.specs.Answer.{Text, Entered, told as answerOf}
 use Rattle.answers.specs.declared.OpenPanelAnswer.{OpenPanelAnswer}
@@ -13,12 +13,12 @@ use Rattle.entry.specs.Said.{Said, says, refused}
 use Rattle.entry.specs.Contract.{Ends, Two, Enters, inRows}
 use Rattle.evenings.specs.Rounds.{Aim}
 use Rattle.deck.specs.Lookup.{Part}
-use Rattle.contents.specs.Verdicts.{verdictOf}
+use Rattle.deck_entries.specs.Verdicts.{verdictOf}
 use Rattle.boxes.specs.Boxes.{placed}
 use Rattle.boxes.specs.declared.Place.{Place}
 use Rattle.answers.specs.Numbered.{numbers, verdictNumbers}
 use Rattle.answers.specs.Stands.{threeOf, Stands}
-use Rattle.tablet.specs.Told.{judged, Told}
+use Rattle.told.specs.Told.{judged, Told}
 use Rattle.tablet.specs.Parts.{PartTold}
 use Rattle.tablet.specs.Rows.{RowsTold}
 

@@ -1,4 +1,4 @@
-pub mod Told
+pub mod AskedTold
 pub mod Parts
 pub mod Moves
 pub mod Rows

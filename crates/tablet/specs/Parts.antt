@@ -4,7 +4,7 @@ use mathlib.Core.Path.{_≡_}
 use mathlib.Core.List.{List}
 use Rattle.entry.specs.Said.{Said}
 use Rattle.deck.specs.Lookup.{Part}
-use Rattle.contents.specs.Verdicts.{verdictOf}
+use Rattle.deck_entries.specs.Verdicts.{verdictOf}
 use Rattle.boxes.specs.Boxes.{placed}
 use Rattle.answers.specs.Numbered.{verdictNumbers}
 use Rattle.answers.specs.Stands.{threeOf}

@@ -11,17 +11,17 @@ use Rattle.card.specs.declared.Verdict.the-variants.{Taken, Refused}
 use Rattle.card.proofs.HeldIn.{holds-seats}
 use Rattle.entry.specs.Said.{says as text, refused}
 use Rattle.meaning.specs.Seats.{ValidSeating}
-use Rattle.counting.specs.Judged.{judgedSeats}
-use Rattle.counting.proofs.Judging.{valid-exactly}
-use Rattle.reader.specs.declared.Outline.{Outline}
-use Rattle.reader.specs.ReadingOf.{ReadsInto}
-use Rattle.rows.proofs.ReadInto.{taken-holds, refused-said, taken-said}
+use Rattle.seating.specs.Judged.{judgedSeats}
+use Rattle.seating.proofs.Judging.{valid-exactly}
+use Rattle.outline.specs.declared.Outline.{Outline}
+use Rattle.outline.specs.ReadingOf.{ReadsInto}
+use Rattle.outline.proofs.ReadInto.{taken-holds, refused-said, taken-said}
 use Rattle.classes.specs.Classes.{classCounts, classesText, watchOf}
 use Rattle.classes.specs.ClassesSaid.{judgedClasses}
 use Rattle.classes.specs.ClassesRoom.{classesRoom}
 use Rattle.classes.proofs.ClassesStage.{fine-exactly}
 use Rattle.classes.proofs.Line.{fits}
-use Rattle.watch.specs.WatchSaid.{watchCard, watchSaid}
+use Rattle.watch_said.specs.WatchSaid.{watchCard, watchSaid}
 
 -- ---- the stages
 

@@ -6,11 +6,11 @@ use card::limits::ROW_PLACES;
 use class_counts::count_classes;
 use class_counts::enter_classes;
 use class_counts::judge_classes;
-use counting::judge_seats;
 use reader::read_into;
 use room::Answer;
+use seating::judge_seats;
 ghost use Rattle.room.specs.Answer.{Entered};
-ghost use Rattle.watch.specs.WatchSaid.{watchSaid};
+ghost use Rattle.watch_said.specs.WatchSaid.{watchSaid};
 
 // The first refusal of the three is the answer; else the line.
 pub fn watch(card: &[u8], seats: &[u8], classes: &[u8], room: &mut [u8]) -> Answer

@@ -29,7 +29,7 @@ use Rattle.meaning.proofs.Sums.{gate-le, getD-upto, upto-cong, below-cong, belo
 use Rattle.meaning.proofs.Counting.{length-counts}
 use Rattle.meaning.proofs.Bounds.{units-le}
 use Rattle.counting.specs.Taking.{takers}
-use Rattle.counting.proofs.Counted.{counts-most}
+use Rattle.seating.proofs.Counted.{counts-most}
 use Rattle.weighing.specs.Table.{enabledPlace, stayPlace, ablesFrom, weightsFrom, tablePlaces, ableIn, weightIn, over, total, ableAt}
 use Rattle.weighing.specs.Table.{takenIn, weighingRow, weighed, stayIn, modeIn, counted, abled, taken, stuckTable, enabledSet, weighedSet, movingTable, tableOf}
 use Rattle.weighing.specs.Fitting.{heaviest, FewAble, Light, Fitting, Weighing, Filling}

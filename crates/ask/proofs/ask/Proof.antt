@@ -1,6 +1,6 @@
-use Rattle.ask.proofs.Entry.{card-refused, seats-fit, question-number, question-refused, still-long, seats-refused, answered}
+use Rattle.ask_stages.proofs.Entry.{card-refused, seats-fit, question-number, question-refused, still-long, seats-refused, answered}
 use Rattle.ask.specs.Answered.{asked}
-use Rattle.rows.proofs.ReadInto.{arrays-none}
+use Rattle.outline.proofs.ReadInto.{arrays-none}
 use mathlib.Core.List.{[]}
 use mathlib.Core.Path.{sym, ap, _∙_}
 use borrow.Author.Needs.{needs}
@@ -10,9 +10,9 @@ use Rattle.ask.proofs.ask.Reads as reads
 use Rattle.ask.proofs.ask.Lts as lts
 use Rattle.ask.proofs.answer.Reads as answer-reads
 use Rattle.ask.proofs.refused.Reads as refused-reads
-use Rattle.counting.proofs.count_seats.Reads as count-seats-reads
+use Rattle.seating.proofs.count_seats.Reads as count-seats-reads
 use Rattle.counting.proofs.held.Reads as held-reads
-use Rattle.counting.proofs.judge_seats.Reads as judge-seats-reads
+use Rattle.seating.proofs.judge_seats.Reads as judge-seats-reads
 use Rattle.question.proofs.question_into.Reads as question-into-reads
 use Rattle.reader.proofs.read_into.Reads as read-into-reads
 

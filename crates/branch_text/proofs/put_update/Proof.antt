@@ -1,7 +1,7 @@
 -- `branch_text::put_update` meets its contract: by whether the branch leads to the own state, and by the digits. Assumes nothing.
+use Rattle.branch_text.proofs.Laws.{update-keep}
+use Rattle.phrases.proofs.Laws.{put-first, puts-as}
 use native.Mathlib.Omega.{arith}
-use Rattle.phrases.proofs.Laws.{put-first, puts-then, puts-as}
-use Rattle.branch_text.proofs.Laws.{update-keep, update-shift, update-digits}
 use borrow.Author.Needs.{needs}
 use Rattle.branch_text.proofs.put_update.Statement.{statement}
 use Rattle.branch_text.proofs.put_update.Tie as tie
@@ -20,96 +20,23 @@ returns c =
     let a = c .before .before .before .before .before .before .before .args in
     puts-as _ (update-keep (a .seats) (a .own) (a .end) (omega (arith, c .before .before .before .before .before .if1 .taken))) (put-first (c .before .before .put-bytes .ensures))
 
-cast-d : tie.Need-cast-d
-cast-d c = search needs
-
-add-d : tie.Need-add-d
-add-d c = search needs
-
-cast-e : tie.Need-cast-e
-cast-e c = search needs
-
-add-e : tie.Need-add-e
-add-e c = search needs
-
-put-six-requires : tie.Need-put-six-requires
-put-six-requires c κs = search needs
-
-put-eight-requires : tie.Need-put-eight-requires
-put-eight-requires c κs = search needs
-
-put-nine-requires : tie.Need-put-nine-requires
-put-nine-requires c κs = search needs
-
-put-nine-requires-2 : tie.Need-put-nine-requires-2
-put-nine-requires-2 c κs = search needs
-
-put-three-requires : tie.Need-put-three-requires
-put-three-requires c κs = search needs
-
-put-number-requires : tie.Need-put-number-requires
-put-number-requires c κs = search needs
-
-slice-aggregate-put-bytes-2 : tie.Need-slice-aggregate-put-bytes-2
-slice-aggregate-put-bytes-2 c = search needs
-
-put-bytes-requires-2 : tie.Need-put-bytes-requires-2
-put-bytes-requires-2 c κs = search needs
+put-digits-requires : tie.Need-put-digits-requires
+put-digits-requires c κs = search needs
 
 same-length-2 : tie.Need-same-length-2
 same-length-2 c = search needs
 
 returns-2 : tie.Need-returns-2
-returns-2 c =
-    let a = c .before .before .before .before .before .before .before .before .before .before .before .before .before .before .before .before .before .before .before .before .before .before .before .before .before .before .before .before .before .before .before .before .before .args in
-    puts-as _ (update-digits (a .seats) (a .own) (a .end) (λ e. omega (arith, e, c .before .before .before .before .before .before .before .before .before .before .before .before .before .before .before .before .before .before .before .before .before .before .before .before .before .before .before .before .before .before .before .if1 .left)) (c .before .before .before .before .before .before .before .before .before .before .before .before .before .before .before .before .before .before .before .before .before .before .before .before .before .before .before .before .before .before .if2 .taken) (c .before .before .before .before .before .before .before .before .before .before .before .before .before .before .before .before .before .before .before .before .before .before .before .before .before .before .before .before .before .if3 .taken))
-    (puts-then (put-first (c .before .before .before .before .before .before .before .before .before .before .before .before .before .before .before .before .before .before .before .before .before .before .before .before .before .before .before .put-six .ensures)) (puts-then (put-first (c .before .before .before .before .before .before .before .before .before .before .before .before .before .before .before .before .before .before .before .before .before .before .before .put-eight .ensures)) (puts-then (put-first (c .before .before .before .before .before .before .before .before .before .before .before .before .before .before .before .before .before .before .before .put-nine .ensures))
-    (puts-then (put-first (c .before .before .before .before .before .before .before .before .before .before .before .before .before .before .before .put-nine2 .ensures)) (puts-then (put-first (c .before .before .before .before .before .before .before .before .before .before .before .put-three .ensures)) (puts-then (put-first (c .before .before .before .before .before .before .before .put-number .ensures)) (put-first (c .before .before .put-bytes2 .ensures))))))))
+returns-2 c = c .before .before .put-digits .ensures
 
-slice-aggregate-put-numbered : tie.Need-slice-aggregate-put-numbered
-slice-aggregate-put-numbered c = search needs
-
-put-numbered-requires : tie.Need-put-numbered-requires
-put-numbered-requires c κs = search needs
-
-slice-aggregate-put-numbered-2 : tie.Need-slice-aggregate-put-numbered-2
-slice-aggregate-put-numbered-2 c = search needs
-
-put-numbered-requires-2 : tie.Need-put-numbered-requires-2
-put-numbered-requires-2 c κs = search needs
-
-slice-aggregate-put-numbered-3 : tie.Need-slice-aggregate-put-numbered-3
-slice-aggregate-put-numbered-3 c = search needs
-
-put-numbered-requires-3 : tie.Need-put-numbered-requires-3
-put-numbered-requires-3 c κs = search needs
-
-slice-aggregate-put-numbered-4 : tie.Need-slice-aggregate-put-numbered-4
-slice-aggregate-put-numbered-4 c = search needs
-
-put-numbered-requires-4 : tie.Need-put-numbered-requires-4
-put-numbered-requires-4 c κs = search needs
-
-slice-aggregate-put-numbered-5 : tie.Need-slice-aggregate-put-numbered-5
-slice-aggregate-put-numbered-5 c = search needs
-
-put-numbered-requires-5 : tie.Need-put-numbered-requires-5
-put-numbered-requires-5 c κs = search needs
-
-slice-aggregate-put-bytes-3 : tie.Need-slice-aggregate-put-bytes-3
-slice-aggregate-put-bytes-3 c = search needs
-
-put-bytes-requires-3 : tie.Need-put-bytes-requires-3
-put-bytes-requires-3 c κs = search needs
+put-shift-requires : tie.Need-put-shift-requires
+put-shift-requires c κs = search needs
 
 same-length-3 : tie.Need-same-length-3
 same-length-3 c = search needs
 
 returns-3 : tie.Need-returns-3
-returns-3 c =
-    let a = c .before .before .before .before .before .before .before .before .before .before .before .before .before .before .before .before .before .before .before .before .before .before .before .before .before .before .before .before .before .before .before .before .before .args in
-    puts-as _ (update-shift (a .seats) (a .own) (a .end) (λ e. omega (arith, e, c .before .before .before .before .before .before .before .before .before .before .before .before .before .before .before .before .before .before .before .before .before .before .before .before .before .before .before .before .before .before .before .if1 .left))) (puts-then (c .before .before .before .before .before .before .before .before .before .before .before .before .before .before .before .before .before .before .before .before .before .before .before .before .before .before .before .put-numbered .ensures) (puts-then (c .before .before .before .before .before .before .before .before .before .before .before .before .before .before .before .before .before .before .before .before .before .before .put-numbered2 .ensures) (puts-then (c .before .before .before .before .before .before .before .before .before .before .before .before .before .before .before .before .before .put-numbered3 .ensures)
-    (puts-then (c .before .before .before .before .before .before .before .before .before .before .before .before .put-numbered4 .ensures) (puts-then (c .before .before .before .before .before .before .before .put-numbered5 .ensures) (put-first (c .before .before .put-bytes3 .ensures)))))))
+returns-3 c = c .before .before .put-shift .ensures
 
 pub put-update-spec : {M : Type 1} → statement M
 put-update-spec =
@@ -119,31 +46,9 @@ put-update-spec =
     put-bytes-requires
     same-length
     returns
-    cast-d
-    add-d
-    cast-e
-    add-e
-    put-six-requires
-    put-eight-requires
-    put-nine-requires
-    put-nine-requires-2
-    put-three-requires
-    put-number-requires
-    slice-aggregate-put-bytes-2
-    put-bytes-requires-2
+    put-digits-requires
     same-length-2
     returns-2
-    slice-aggregate-put-numbered
-    put-numbered-requires
-    slice-aggregate-put-numbered-2
-    put-numbered-requires-2
-    slice-aggregate-put-numbered-3
-    put-numbered-requires-3
-    slice-aggregate-put-numbered-4
-    put-numbered-requires-4
-    slice-aggregate-put-numbered-5
-    put-numbered-requires-5
-    slice-aggregate-put-bytes-3
-    put-bytes-requires-3
+    put-shift-requires
     same-length-3
     returns-3)

@@ -6,9 +6,9 @@ use native.Mathlib.Omega.{arith}
 use borrow.Author.Needs.{needs}
 use borrow.Fn.Kinds.{In}
 use borrow.Fn.PlainCycle.{Measures, is, falls, and}
-use Rattle.card.proofs.node.left_of.Reads as left-of-reads
-use Rattle.card.proofs.node.op_of.Reads as op-of-reads
-use Rattle.card.proofs.node.right_of.Reads as right-of-reads
+use Rattle.packing.proofs.left_of.Reads as left-of-reads
+use Rattle.packing.proofs.op_of.Reads as op-of-reads
+use Rattle.packing.proofs.right_of.Reads as right-of-reads
 use Rattle.counting.proofs.Table.{held-leaf, held-not, held-and, held-not-and, held-or, held-else}
 use Rattle.counting.proofs.held.Reads as held
 use Rattle.counting.proofs.held.Kinds as held-kinds

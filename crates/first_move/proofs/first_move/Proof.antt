@@ -1,7 +1,7 @@
 -- `first_move::first_move` meets its contract: the stages in order, then what the walk finds. Assumes nothing.
 use Rattle.first_move.proofs.Entry.{card-refused, seats-refused, few, answered}
 use Rattle.first_able.specs.Moved.{moved}
-use Rattle.rows.proofs.ReadInto.{arrays-none}
+use Rattle.outline.proofs.ReadInto.{arrays-none}
 use mathlib.Core.List.{[]}
 use mathlib.Core.Path.{sym, ap, _∙_}
 use borrow.Author.Needs.{needs}

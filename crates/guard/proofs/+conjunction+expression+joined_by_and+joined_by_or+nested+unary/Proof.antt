@@ -14,7 +14,7 @@ use Rattle.late.specs.State.{leftIn, freeIn, lateIn, after}
 use Rattle.late.proofs.StateLaws.{left-set}
 use Rattle.grouping.specs.Language.{languageOf}
 use Rattle.grouping.specs.Items.{Ready, operatorOf}
-use Rattle.guard.specs.Pieces.{joiner, unaryIn, chained, thenNot, thenClose}
+use Rattle.items.specs.Pieces.{joiner, unaryIn, chained, thenNot, thenClose}
 use Rattle.guard.proofs.Spent.{keeping}
 use Rattle.guard.proofs.Building.{goes-wrong, goes-on-wrong, not-well, still-sized, spending-ready, read-spending}
 use Rattle.guard.proofs.Ways.{close-wrong, close-well, reads-closed, reads-inner, reads-unfit, reads-deep, reads-full, reads-not, read-from}
@@ -39,13 +39,13 @@ use Rattle.guard.proofs.+conjunction+expression+joined_by_and+joined_by
 use Rattle.guard.proofs.unary.Reads as unary
 use Rattle.guard.proofs.unary.Kinds as unary-kinds
 use Rattle.guard.proofs.+conjunction+expression+joined_by_and+joined_by_or+nested+unary.Lts-unary as unary-lts
-use Rattle.guard.proofs.keep_item.Reads as keep-item-reads
-use Rattle.card.proofs.node.pack_node.Reads as pack-node-reads
+use Rattle.items.proofs.keep_item.Reads as keep-item-reads
+use Rattle.packing.proofs.pack_node.Reads as pack-node-reads
 use Rattle.late.proofs.stop.Reads as stop-reads
 use Rattle.grouping.proofs.store.Reads as store-reads
-use Rattle.looks.proofs.due.step_after.Reads as step-after-reads
-use Rattle.looks.proofs.due.step_opening.Reads as step-opening-reads
-use Rattle.looks.proofs.due.step_sign.Reads as step-sign-reads
+use Rattle.due_signs.proofs.step_after.Reads as step-after-reads
+use Rattle.due_signs.proofs.step_opening.Reads as step-opening-reads
+use Rattle.due_signs.proofs.step_sign.Reads as step-sign-reads
 use Rattle.looks.proofs.look.sign_here.Reads as sign-here-reads
 use Rattle.guard.proofs.+conjunction+expression+joined_by_and+joined_by_or+nested+unary.{statement}
 use Rattle.guard.proofs.+conjunction+expression+joined_by_and+joined_by_or+nested+unary.Tie.{close}

@@ -12,8 +12,8 @@ use borrow.Fn.PlainCycle.{Measures, is, falls, and}
 use Rattle.guard_text.proofs.put_guard.Reads as put-guard
 use Rattle.guard_text.proofs.put_guard.Kinds as put-guard-kinds
 use Rattle.guard_text.proofs.+put_guard.Lts-put_guard as put-guard-lts
-use Rattle.card.proofs.node.left_of.Reads as left-of-reads
-use Rattle.card.proofs.node.right_of.Reads as right-of-reads
+use Rattle.packing.proofs.left_of.Reads as left-of-reads
+use Rattle.packing.proofs.right_of.Reads as right-of-reads
 use Rattle.card.proofs.number_at.Reads as number-at-reads
 use Rattle.guard_text.proofs.bracket_level.Reads as bracket-level-reads
 use Rattle.guard_text.proofs.operator_at.Reads as operator-at-reads
@@ -64,17 +64,30 @@ put-guard-put-byte-requires t c κs = search needs
 
 put-guard-put-guard-requires : (t : ℕ) → put-guard-lts.Need-put-guard-requires (put-guard-R t) (put-guard-at t) put-guard.Post
 put-guard-put-guard-requires t c κs =
-    omega (arith, c .before .before .before .before .before .before .left-of .ensures .1 (joined-above (c .before .before .before .before .before .before .before .before .before .before .before .before .args .n) (c .before .before .before .before .before .before .before .before .before .number-at .result) (c .before .before .before .before .before .before .before .before .operator-at .ensures) (c .before .before .before .before .before .before .before .if1 .left)), c .before .before .before .before .before .before .before .before .before .before .before .before .pre)
+    let b6 = c .before .before .before .before .before .before in
+    let b7 = b6 .before in
+    let b8 = b7 .before in
+    let b9 = b8 .before in
+    let b12 = b9 .before .before .before in
+    omega (arith, b6 .left-of .ensures .1 (joined-above (b12 .args .n) (b9 .number-at .result) (b8 .operator-at .ensures) (b7 .if1 .left)), b12 .pre)
 
 put-guard-same-length-2 : (t : ℕ) → put-guard-lts.Need-same-length-2 (put-guard-R t) (put-guard-at t) put-guard.Post
 put-guard-same-length-2 t c = search needs
 
 put-guard-returns-2 : (t : ℕ) → put-guard-lts.Need-returns-2 (put-guard-R t) (put-guard-at t) put-guard.Post
 put-guard-returns-2 t c =
-    let a = c .before .before .before .before .before .before .before .before .before .before .before .before .before .before .before .args in
-    let op = c .before .before .before .before .before .before .before .before .before .before .before .operator-at .ensures in
-    puts-as _ (text-not (a .text) (leafText (styleOf (a .text) (a .own) (a .seats) 1)) (a .level) (a .nodes .now) (a .n) (c .before .before .before .before .before .before .before .before .before .before .before .before .number-at .result) (c .before .before .before .before .before .before .before .before .before .before .before .before .number-at .ensures) (joined-op (a .n) (c .before .before .before .before .before .before .before .before .before .before .before .before .number-at .result) op (c .before .before .before .before .before .before .before .before .before .before .if1 .left)) (joined-above (a .n) (c .before .before .before .before .before .before .before .before .before .before .before .before .number-at .result) op (c .before .before .before .before .before .before .before .before .before .before .if1 .left)) (c .before .before .before .before .before .before .before .before .before .left-of .ensures .0) (c .before .before .before .before .before .before .before .before .if2 .taken))
-    (puts-then (put-first (c .before .before .before .before .before .before .put-byte .ensures)) (c .before .before .put-guard .ensures))
+    let b2 = c .before .before in
+    let b6 = b2 .before .before .before .before in
+    let b8 = b6 .before .before in
+    let b9 = b8 .before in
+    let b10 = b9 .before in
+    let b11 = b10 .before in
+    let b12 = b11 .before in
+    let b15 = b12 .before .before .before in
+    let a = b15 .args in
+    let op = b11 .operator-at .ensures in
+    puts-as _ (text-not (a .text) (leafText (styleOf (a .text) (a .own) (a .seats) 1)) (a .level) (a .nodes .now) (a .n) (b12 .number-at .result) (b12 .number-at .ensures) (joined-op (a .n) (b12 .number-at .result) op (b10 .if1 .left)) (joined-above (a .n) (b12 .number-at .result) op (b10 .if1 .left)) (b9 .left-of .ensures .0) (b8 .if2 .taken))
+    (puts-then (put-first (b6 .put-byte .ensures)) (b2 .put-guard .ensures))
 
 put-guard-right-of-requires : (t : ℕ) → put-guard-lts.Need-right-of-requires (put-guard-R t) (put-guard-at t) put-guard.Post
 put-guard-right-of-requires t c κs = search needs
@@ -99,14 +112,24 @@ put-guard-sub-put-guard t c = search needs
 
 put-guard-put-guard-requires-2 : (t : ℕ) → put-guard-lts.Need-put-guard-requires-2 (put-guard-R t) (put-guard-at t) put-guard.Post
 put-guard-put-guard-requires-2 t c κs =
-    omega (arith, c .before .before .before .before .before .before .before .before .before .before .left-of .ensures .1 (joined-above (c .before .before .before .before .before .before .before .before .before .before .before .before .before .before .before .before .args .n) (c .before .before .before .before .before .before .before .before .before .before .before .before .before .number-at .result) (c .before .before .before .before .before .before .before .before .before .before .before .before .operator-at .ensures) (c .before .before .before .before .before .before .before .before .before .before .before .if1 .left)), c .before .before .before .before .before .before .before .before .before .before .before .before .before .before .before .before .pre)
+    let b10 = c .before .before .before .before .before .before .before .before .before .before in
+    let b11 = b10 .before in
+    let b12 = b11 .before in
+    let b13 = b12 .before in
+    let b16 = b13 .before .before .before in
+    omega (arith, b10 .left-of .ensures .1 (joined-above (b16 .args .n) (b13 .number-at .result) (b12 .operator-at .ensures) (b11 .if1 .left)), b16 .pre)
 
 put-guard-put-three-requires : (t : ℕ) → put-guard-lts.Need-put-three-requires (put-guard-R t) (put-guard-at t) put-guard.Post
 put-guard-put-three-requires t c κs = search needs
 
 put-guard-put-guard-requires-3 : (t : ℕ) → put-guard-lts.Need-put-guard-requires-3 (put-guard-R t) (put-guard-at t) put-guard.Post
 put-guard-put-guard-requires-3 t c κs =
-    omega (arith, c .before .before .before .before .before .before .before .before .before .before .before .before .before .before .before .before .right-of .ensures .1 (joined-above (c .before .before .before .before .before .before .before .before .before .before .before .before .before .before .before .before .before .before .before .before .before .before .before .before .args .n) (c .before .before .before .before .before .before .before .before .before .before .before .before .before .before .before .before .before .before .before .before .before .number-at .result) (c .before .before .before .before .before .before .before .before .before .before .before .before .before .before .before .before .before .before .before .before .operator-at .ensures) (c .before .before .before .before .before .before .before .before .before .before .before .before .before .before .before .before .before .before .before .if1 .left)), c .before .before .before .before .before .before .before .before .before .before .before .before .before .before .before .before .before .before .before .before .before .before .before .before .pre)
+    let b16 = c .before .before .before .before .before .before .before .before .before .before .before .before .before .before .before .before in
+    let b19 = b16 .before .before .before in
+    let b20 = b19 .before in
+    let b21 = b20 .before in
+    let b24 = b21 .before .before .before in
+    omega (arith, b16 .right-of .ensures .1 (joined-above (b24 .args .n) (b21 .number-at .result) (b20 .operator-at .ensures) (b19 .if1 .left)), b24 .pre)
 
 put-guard-put-bracket-requires-2 : (t : ℕ) → put-guard-lts.Need-put-bracket-requires-2 (put-guard-R t) (put-guard-at t) put-guard.Post
 put-guard-put-bracket-requires-2 t c κs = search needs
@@ -116,11 +139,26 @@ put-guard-same-length-3 t c = search needs
 
 put-guard-returns-3 : (t : ℕ) → put-guard-lts.Need-returns-3 (put-guard-R t) (put-guard-at t) put-guard.Post
 put-guard-returns-3 t c =
-    let a = c .before .before .before .before .before .before .before .before .before .before .before .before .before .before .before .before .before .before .before .before .before .before .before .before .before .before .before .before .before .before .before .args in
-    let op = c .before .before .before .before .before .before .before .before .before .before .before .before .before .before .before .before .before .before .before .before .before .before .before .before .before .before .before .operator-at .ensures in
-    puts-as _ (text-joined (a .text) (leafText (styleOf (a .text) (a .own) (a .seats) 1)) (a .level) (a .nodes .now) (a .n) (c .before .before .before .before .before .before .before .before .before .before .before .before .before .before .before .before .before .before .before .before .before .before .before .before .before .before .before .before .number-at .result) (c .before .before .before .before .before .before .before .before .before .before .before .before .before .before .before .before .before .before .before .before .before .before .before .before .before .before .before .before .number-at .ensures) (joined-op (a .n) (c .before .before .before .before .before .before .before .before .before .before .before .before .before .before .before .before .before .before .before .before .before .before .before .before .before .before .before .before .number-at .result) op (c .before .before .before .before .before .before .before .before .before .before .before .before .before .before .before .before .before .before .before .before .before .before .before .before .before .before .if1 .left)) (joined-above (a .n) (c .before .before .before .before .before .before .before .before .before .before .before .before .before .before .before .before .before .before .before .before .before .before .before .before .before .before .before .before .number-at .result) op (c .before .before .before .before .before .before .before .before .before .before .before .before .before .before .before .before .before .before .before .before .before .before .before .before .before .before .if1 .left)) (c .before .before .before .before .before .before .before .before .before .before .before .before .before .before .before .before .before .before .before .before .before .before .before .before .before .left-of .ensures .0) (c .before .before .before .before .before .before .before .before .before .before .before .before .before .before .before .before .before .before .before .before .bracket-level .ensures) (c .before .before .before .before .before .before .before .before .before .before .before .before .before .before .before .before .before .before .before .before .before .before .before .right-of .ensures .0) (c .before .before .before .before .before .before .before .before .before .before .before .before .before .before .before .before .before .before .before .before .before .before .before .before .before .before .if1 .left) (c .before .before .before .before .before .before .before .before .before .before .before .before .before .before .before .before .before .before .before .before .before .before .before .before .if2 .left) (c .before .before .before .before .before .before .before .before .before .before .before .before .before .before .before .before .before .before .before .before .before .before .sign-between .ensures .0))
-    (puts-then (c .before .before .before .before .before .before .before .before .before .before .before .before .before .before .before .before .before .before .put-bracket .ensures) (puts-then (c .before .before .before .before .before .before .before .before .before .before .before .before .before .before .put-guard2 .ensures)
-    (puts-then (puts-as _ (sign-bytes (c .before .before .before .before .before .before .before .before .before .before .before .before .before .before .before .before .before .before .before .before .before .before .sign-between .result) (c .before .before .before .before .before .before .before .before .before .before .before .before .before .before .before .before .before .before .before .before .before .joint-of .ensures)) (put-first (c .before .before .before .before .before .before .before .before .before .before .put-three .ensures))) (puts-then (c .before .before .before .before .before .before .put-guard3 .ensures) (c .before .before .put-bracket2 .ensures)))))
+    let b2 = c .before .before in
+    let b6 = b2 .before .before .before .before in
+    let b10 = b6 .before .before .before .before in
+    let b14 = b10 .before .before .before .before in
+    let b18 = b14 .before .before .before .before in
+    let b20 = b18 .before .before in
+    let b21 = b20 .before in
+    let b22 = b21 .before in
+    let b23 = b22 .before in
+    let b24 = b23 .before in
+    let b25 = b24 .before in
+    let b26 = b25 .before in
+    let b27 = b26 .before in
+    let b28 = b27 .before in
+    let b31 = b28 .before .before .before in
+    let a = b31 .args in
+    let op = b27 .operator-at .ensures in
+    puts-as _ (text-joined (a .text) (leafText (styleOf (a .text) (a .own) (a .seats) 1)) (a .level) (a .nodes .now) (a .n) (b28 .number-at .result) (b28 .number-at .ensures) (joined-op (a .n) (b28 .number-at .result) op (b26 .if1 .left)) (joined-above (a .n) (b28 .number-at .result) op (b26 .if1 .left)) (b25 .left-of .ensures .0) (b20 .bracket-level .ensures) (b23 .right-of .ensures .0) (b26 .if1 .left) (b24 .if2 .left) (b22 .sign-between .ensures .0))
+    (puts-then (b18 .put-bracket .ensures) (puts-then (b14 .put-guard2 .ensures)
+    (puts-then (puts-as _ (sign-bytes (b22 .sign-between .result) (b21 .joint-of .ensures)) (put-first (b10 .put-three .ensures))) (puts-then (b6 .put-guard3 .ensures) (b2 .put-bracket2 .ensures)))))
 
 pub +put-guard-spec : {M : Type 1} → statement M
 +put-guard-spec = close μ-put-guard λ t. put-guard-lts.spec (put-guard-R t)

@@ -48,8 +48,8 @@ loop-holds c =
     let entry = at-literal .before .before in
     begins (now (entry .args .part)) (entry .args .at) (entry .args .seat) (entry .args .i) (at-literal .literal .result) (at-literal .literal .ensures) (at-if1 .if1 .left) (at-step-sign .step-sign .result) (at-step-sign .step-sign .ensures) _ (at-note .note .ensures) (at-relation-due .relation-due .result) (at-relation-due .relation-due .ensures) (c .as-due .result) (c .as-due .ensures)
 
-step-seat-requires : tie.Need-step-seat-requires Inv-loop μ-loop
-step-seat-requires c κs = tt
+step-tight-seat-requires : tie.Need-step-tight-seat-requires Inv-loop μ-loop
+step-tight-seat-requires c κs = tt
 
 no-term-requires-2 : tie.Need-no-term-requires-2 Inv-loop μ-loop
 no-term-requires-2 c κs = tt
@@ -57,13 +57,13 @@ no-term-requires-2 c κs = tt
 returns-2 : tie.Need-returns-2 Inv-loop μ-loop
 returns-2 c =
     let at-if3 = c .before in
-    let at-step-seat = at-if3 .before .before in
-    let at-if2 = at-step-seat .before .before in
+    let at-step-tight-seat = at-if3 .before .before in
+    let at-if2 = at-step-tight-seat .before .before in
     let at-loop = at-if2 .before .before in
-    rw (c .no-term2 .ensures) (turn-word (at-loop .loop .inv) (at-if2 .if2 .taken) (at-step-seat .step-seat .result) (at-step-seat .step-seat .ensures) (at-if3 .if3 .taken))
+    rw (c .no-term2 .ensures) (turn-word (at-loop .loop .inv) (at-if2 .if2 .taken) (at-step-tight-seat .step-tight-seat .result) (at-step-tight-seat .step-tight-seat .ensures) (at-if3 .if3 .taken))
 
-literal-requires-2 : tie.Need-literal-requires-2 Inv-loop μ-loop
-literal-requires-2 c κs = tt
+literal-apart-requires : tie.Need-literal-apart-requires Inv-loop μ-loop
+literal-apart-requires c κs = tt
 
 no-term-requires-3 : tie.Need-no-term-requires-3 Inv-loop μ-loop
 no-term-requires-3 c κs = tt
@@ -71,12 +71,12 @@ no-term-requires-3 c κs = tt
 returns-3 : tie.Need-returns-3 Inv-loop μ-loop
 returns-3 c =
     let at-if4 = c .before in
-    let at-literal2 = at-if4 .before .before in
-    let at-if3 = at-literal2 .before in
-    let at-step-seat = at-if3 .before .before in
-    let at-if2 = at-step-seat .before .before in
+    let at-literal-apart = at-if4 .before .before in
+    let at-if3 = at-literal-apart .before in
+    let at-step-tight-seat = at-if3 .before .before in
+    let at-if2 = at-step-tight-seat .before .before in
     let at-loop = at-if2 .before .before in
-    rw (c .no-term3 .ensures) (turn-literal (at-loop .loop .inv) (at-if2 .if2 .taken) (at-step-seat .step-seat .result) (at-step-seat .step-seat .ensures) (at-if3 .if3 .left) (at-literal2 .literal2 .result) (at-literal2 .literal2 .ensures) (at-if4 .if4 .taken))
+    rw (c .no-term3 .ensures) (turn-literal (at-loop .loop .inv) (at-if2 .if2 .taken) (at-step-tight-seat .step-tight-seat .result) (at-step-tight-seat .step-tight-seat .ensures) (at-if3 .if3 .left) (at-literal-apart .literal-apart .result) (at-literal-apart .literal-apart .ensures) (at-if4 .if4 .taken))
 
 note-requires-2 : tie.Need-note-requires-2 Inv-loop μ-loop
 note-requires-2 c κs = tt
@@ -93,18 +93,18 @@ as-due-requires-2 c κs = tt
 mixes-requires : tie.Need-mixes-requires Inv-loop μ-loop
 mixes-requires c κs = tt
 
-step-sign-requires-2 : tie.Need-step-sign-requires-2 Inv-loop μ-loop
-step-sign-requires-2 c κs = tt
+step-and-requires : tie.Need-step-and-requires Inv-loop μ-loop
+step-and-requires c κs = tt
 
 loop-less : tie.Need-loop-less Inv-loop μ-loop
 loop-less c =
     let at-if4 = c .before .before .before .before .before .before .before in
-    let at-literal2 = at-if4 .before .before in
-    let at-if3 = at-literal2 .before in
-    let at-step-seat = at-if3 .before .before in
-    let at-if2 = at-step-seat .before .before in
+    let at-literal-apart = at-if4 .before .before in
+    let at-if3 = at-literal-apart .before in
+    let at-step-tight-seat = at-if3 .before .before in
+    let at-if2 = at-step-tight-seat .before .before in
     let at-loop = at-if2 .before .before in
-    turn-less (at-loop .loop .inv) (at-if2 .if2 .taken) (at-step-seat .step-seat .result) (at-step-seat .step-seat .ensures) (at-if3 .if3 .left) (at-literal2 .literal2 .result) (at-literal2 .literal2 .ensures) (at-if4 .if4 .left) (c .step-sign2 .result) (c .step-sign2 .ensures)
+    turn-less (at-loop .loop .inv) (at-if2 .if2 .taken) (at-step-tight-seat .step-tight-seat .result) (at-step-tight-seat .step-tight-seat .ensures) (at-if3 .if3 .left) (at-literal-apart .literal-apart .result) (at-literal-apart .literal-apart .ensures) (at-if4 .if4 .left) (c .step-and .result) (c .step-and .ensures)
 
 loop-again : tie.Need-loop-again Inv-loop μ-loop
 loop-again c =
@@ -114,12 +114,12 @@ loop-again c =
     let at-one-more = at-relation-due2 .before in
     let at-note2 = at-one-more .before in
     let at-if4 = at-note2 .before .before in
-    let at-literal2 = at-if4 .before .before in
-    let at-if3 = at-literal2 .before in
-    let at-step-seat = at-if3 .before .before in
-    let at-if2 = at-step-seat .before .before in
+    let at-literal-apart = at-if4 .before .before in
+    let at-if3 = at-literal-apart .before in
+    let at-step-tight-seat = at-if3 .before .before in
+    let at-if2 = at-step-tight-seat .before .before in
     let at-loop = at-if2 .before .before in
-    turn-on (at-loop .loop .inv) (at-if2 .if2 .taken) (at-step-seat .step-seat .result) (at-step-seat .step-seat .ensures) (at-if3 .if3 .left) (at-literal2 .literal2 .result) (at-literal2 .literal2 .ensures) (at-if4 .if4 .left) (c .step-sign2 .result) (c .step-sign2 .ensures) (at-note2 .note2 .last .0) (at-note2 .note2 .ensures) (at-one-more .one-more .result) (at-one-more .one-more .ensures) (at-relation-due2 .relation-due2 .result) (at-relation-due2 .relation-due2 .ensures) (at-as-due2 .as-due2 .result) (at-as-due2 .as-due2 .ensures) (at-mixes .mixes .result) (at-mixes .mixes .ensures)
+    turn-on (at-loop .loop .inv) (at-if2 .if2 .taken) (at-step-tight-seat .step-tight-seat .result) (at-step-tight-seat .step-tight-seat .ensures) (at-if3 .if3 .left) (at-literal-apart .literal-apart .result) (at-literal-apart .literal-apart .ensures) (at-if4 .if4 .left) (c .step-and .result) (c .step-and .ensures) (at-note2 .note2 .last .0) (at-note2 .note2 .ensures) (at-one-more .one-more .result) (at-one-more .one-more .ensures) (at-relation-due2 .relation-due2 .result) (at-relation-due2 .relation-due2 .ensures) (at-as-due2 .as-due2 .result) (at-as-due2 .as-due2 .ensures) (at-mixes .mixes .result) (at-mixes .mixes .ensures)
 
 no-term-requires-4 : tie.Need-no-term-requires-4 Inv-loop μ-loop
 no-term-requires-4 c κs = tt
@@ -155,10 +155,10 @@ literals-spec =
     relation-due-requires
     as-due-requires
     loop-holds
-    step-seat-requires
+    step-tight-seat-requires
     no-term-requires-2
     returns-2
-    literal-requires-2
+    literal-apart-requires
     no-term-requires-3
     returns-3
     note-requires-2
@@ -166,7 +166,7 @@ literals-spec =
     relation-due-requires-2
     as-due-requires-2
     mixes-requires
-    step-sign-requires-2
+    step-and-requires
     loop-less
     loop-again
     no-term-requires-4

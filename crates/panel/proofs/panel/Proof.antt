@@ -1,6 +1,6 @@
 -- `panel::panel` meets its contract: the stages in order, then the panel that the table holds. Assumes nothing.
 use borrow.Author.Needs.{needs}
-use Rattle.rows.proofs.ReadInto.{arrays-none}
+use Rattle.outline.proofs.ReadInto.{arrays-none}
 use Rattle.panel.proofs.Entry.{card-refused, seats-refused, filling, entry-prints, entry-said}
 use Rattle.room.proofs.Entries.{entered-refused}
 use Rattle.panel.proofs.panel.Statement.{statement}

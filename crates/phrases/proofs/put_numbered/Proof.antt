@@ -6,7 +6,7 @@ use Rattle.phrases.proofs.put_numbered.Tie as tie
 use Rattle.phrases.proofs.put_numbered.Reads as reads
 use Rattle.phrases.proofs.put_numbered.Lts as lts
 use Rattle.room.proofs.put_bytes.Reads as put-bytes-reads
-use Rattle.room.proofs.put_number.Reads as put-number-reads
+use Rattle.put_numbers.proofs.put_number.Reads as put-number-reads
 
 put-bytes-requires : tie.Need-put-bytes-requires
 put-bytes-requires c κs = search needs

@@ -14,7 +14,7 @@ use Rattle.phrases.proofs.put_weight.Reads as reads
 use Rattle.phrases.proofs.put_weight.Lts as lts
 use Rattle.phrases.proofs.divisor.Reads as divisor-reads
 use Rattle.room.proofs.put_byte.Reads as put-byte-reads
-use Rattle.room.proofs.put_number.Reads as put-number-reads
+use Rattle.put_numbers.proofs.put_number.Reads as put-number-reads
 
 put-byte-requires : tie.Need-put-byte-requires
 put-byte-requires c κs = search needs

@@ -2,7 +2,7 @@ use mathlib.Core.Path.{sym}
 use Rattle.card.specs.Lent.{lent}
 use Rattle.card.specs.Limits.{rowPlaces, nodePlaces, branchPlaces}
 use Rattle.card.proofs.Filling.{zeros-repeat}
-use Rattle.reader.proofs.Structs.{reads-whole}
+use Rattle.outline.proofs.Structs.{reads-whole}
 use borrow.Author.Needs.{needs}
 use Rattle.reader.proofs.read.Statement.{statement}
 use Rattle.reader.proofs.read.Tie as tie

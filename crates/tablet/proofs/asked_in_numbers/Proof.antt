@@ -1,7 +1,7 @@
 -- `tablet::asked_in_numbers` meets its contract, case by case. Assumes nothing.
 use borrow.Author.Needs.{needs}
 use mathlib.Core.Path.{ap, sym}
-use Rattle.tablet.specs.Told.{askedNumbers}
+use Rattle.tablet.specs.AskedTold.{askedNumbers}
 use Rattle.tablet.proofs.asked_in_numbers.Statement.{statement}
 use Rattle.tablet.proofs.asked_in_numbers.Tie as tie
 

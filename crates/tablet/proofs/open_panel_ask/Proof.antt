@@ -1,7 +1,7 @@
 -- `tablet::open_panel_ask` meets its contract: the answer, in numbers. Assumes nothing.
 use borrow.Author.Needs.{needs}
 use mathlib.Core.Path.{ap, _∙_}
-use Rattle.tablet.specs.Told.{askedNumbers}
+use Rattle.tablet.specs.AskedTold.{askedNumbers}
 use Rattle.tablet.proofs.open_panel_ask.Statement.{statement}
 use Rattle.tablet.proofs.open_panel_ask.Tie as tie
 

@@ -1,6 +1,6 @@
 -- `tablet::open_panel_judge` meets its contract: the reader's verdict, in numbers. Assumes nothing.
 use borrow.Author.Needs.{needs}
-use Rattle.rows.proofs.ReadInto.{arrays-none}
+use Rattle.outline.proofs.ReadInto.{arrays-none}
 use Rattle.tablet.proofs.Laws.{judge-told}
 use Rattle.tablet.proofs.open_panel_judge.Statement.{statement}
 use Rattle.tablet.proofs.open_panel_judge.Tie as tie

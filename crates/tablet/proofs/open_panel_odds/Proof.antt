@@ -1,7 +1,7 @@
 -- `tablet::open_panel_odds` meets its contract: the entry's answer, in numbers, and the rows as it leaves them. Assumes nothing.
 use lib.ListN.{length}
 use Rattle.evenings.specs.Rounds.{Aim}
-use Rattle.chances.specs.OddsSaid.{oddsSaid}
+use Rattle.odds_said.specs.OddsSaid.{oddsSaid}
 use Rattle.tablet.proofs.Laws.{odds-told}
 use borrow.Author.Needs.{needs}
 use Rattle.tablet.proofs.open_panel_odds.Statement.{statement}

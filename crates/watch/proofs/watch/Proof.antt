@@ -1,7 +1,7 @@
 -- `watch::watch` meets its contract: the stages in order, then the line. Assumes nothing.
 use Rattle.watch.proofs.Entry.{card-refused, seats-refused, list-refused, line-fits, line-said}
 use Rattle.room.proofs.Entries.{entered-refused}
-use Rattle.rows.proofs.ReadInto.{arrays-none}
+use Rattle.outline.proofs.ReadInto.{arrays-none}
 use borrow.Author.Needs.{needs}
 use Rattle.watch.proofs.watch.Statement.{statement}
 use Rattle.watch.proofs.watch.Tie as tie

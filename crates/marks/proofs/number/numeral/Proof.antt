@@ -1,6 +1,6 @@
 -- Each exit has its law (proofs/Starts.antt), over the digits as they were counted.
 use Rattle.marks.proofs.Starts.{numeral-outside, read-number, read-long, read-decimal}
-use Rattle.letters.proofs.Numbers.{pointed-place, counted-fits}
+use Rattle.digits.proofs.Numbers.{pointed-place, counted-fits}
 use borrow.Author.Tests.{not-true, not-false}
 use native.Mathlib.Omega.{arith}
 use mathlib.Core.Path.{sym, _∙_}
@@ -11,9 +11,9 @@ use Rattle.marks.proofs.number.numeral.Statement.{statement}
 use Rattle.marks.proofs.number.numeral.Tie as tie
 use Rattle.marks.proofs.number.numeral.Reads as reads
 use Rattle.marks.proofs.number.numeral.Lts as lts
-use Rattle.letters.proofs.digits.digits_from.Reads as digits-from-reads
-use Rattle.letters.proofs.digits.is_plain.Reads as is-plain-reads
-use Rattle.letters.proofs.digits.is_pointed.Reads as is-pointed-reads
+use Rattle.digits.proofs.digits_from.Reads as digits-from-reads
+use Rattle.digits.proofs.is_plain.Reads as is-plain-reads
+use Rattle.digits.proofs.is_pointed.Reads as is-pointed-reads
 use Rattle.marks.proofs.answer.bare.Reads as bare-reads
 use Rattle.marks.proofs.answer.valued.Reads as valued-reads
 

@@ -4,7 +4,7 @@ use Rattle.letters.proofs.Runs.{begun-fits}
 use borrow.Author.Tests.{not-true, not-false}
 use native.Mathlib.Omega.{arith}
 use mathlib.Core.Path.{sym, _∙_}
-use Rattle.letters.proofs.Numbers.{counted-fits}
+use Rattle.digits.proofs.Numbers.{counted-fits}
 use lib.ListN.{length}
 use Prim.Native.Nat.{_+_}
 use borrow.Author.Needs.{needs}
@@ -14,8 +14,8 @@ use Rattle.marks.proofs.word.numbered_at.Reads as reads
 use Rattle.marks.proofs.word.numbered_at.Lts as lts
 use Rattle.letters.proofs.bytes.begins_at.Reads as begins-at-reads
 use Rattle.letters.proofs.bytes.word_at.Reads as word-at-reads
-use Rattle.letters.proofs.digits.digits_from.Reads as digits-from-reads
-use Rattle.letters.proofs.digits.is_plain.Reads as is-plain-reads
+use Rattle.digits.proofs.digits_from.Reads as digits-from-reads
+use Rattle.digits.proofs.is_plain.Reads as is-plain-reads
 
 begins-at-requires : tie.Need-begins-at-requires
 begins-at-requires c κs = search needs

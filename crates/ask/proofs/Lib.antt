@@ -1,2 +1,0 @@
-pub mod Theorems
-pub mod Entry

@@ -1,0 +1,80 @@
+-- What `ask` answers, refusal by refusal: each is that of the stage which gives its number, where the stages before it pass; by the theorem of
+-- stages, since no two stages share a number. Assumes nothing.
+use Prim.Native.Nat.{ℕ, suc, _≤_}
+use mathlib.Core.Path.{_≡_, refl, sym, ap, _∙_}
+use mathlib.Core.Bool.{Bool, true, false≢true}
+use mathlib.Core.Logic.{_↔_, _⊎_, inl, inr}
+use mathlib.Core.List.{List, [], _∷_, _++_}
+use native.Mathlib.Decide.{decLe}
+use native.Mathlib.Omega.{arith}
+use Rattle.card.specs.Refusals.{tooLong, notDue, wrongSeats, seatAboveTop}
+use Rattle.card.specs.Card.{Card}
+use Rattle.meaning.specs.Seats.{ValidSeating}
+use Rattle.entry.specs.Said.{Said, says, refused}
+use Rattle.entry.specs.Numbers.{Numbers, _to_, among}
+use Rattle.entry.specs.Contract.{Enters, lentNothing, Faithful}
+use Rattle.entry.specs.Stage.{Stage}
+use Rattle.entry.proofs.Stages.{in-span, apart-out, among-up-to, itself, value, followed, its, beyond, last}
+use Rattle.entry.proofs.Exactly.{_↔∙_}
+use Rattle.entry.proofs.Entries.{says-exactly, refused-exactly}
+use Rattle.seating.specs.SeatsSaid.{seatsNumbers}
+use Rattle.seating.proofs.SeatsStage.{seats-stage, wrong-count, wrong-seat}
+use Rattle.rows.specs.Said.{cardNumbers, Read}
+use Rattle.rows.proofs.Theorems.{card-stage, card-first}
+use Rattle.asking.specs.Meant.{Question, holdsOn}
+use Rattle.asking.specs.Asking.{inQuestion}
+use Rattle.asking.proofs.Answers.{numbered}
+use Rattle.ask_said.specs.AskSaid.{questionSaid, questionNumbers, askSeated, askCard, askSaid, Understood, Asks}
+
+module _ (card question seats : List ℕ) where
+  asked : (c : Card) → Stage (questionSaid question c) questionNumbers (Understood question c) (λ u. u .0)
+  asked c = itself (record { number = λ r p e. let (l, m) = numbered (c .n) (c .k) question r p e in rw (in-span (inQuestion tooLong) (inQuestion notDue) r l m) })
+
+  seated : (c : Card) (q : Question) → Stage (askSeated seats c q) seatsNumbers (ValidSeating c seats) (λ _. holdsOn seats q)
+  seated c q = value (seats-stage seats c) (λ _. holdsOn seats q)
+
+  behind : (c : Card) → Stage (askCard question seats c) (questionNumbers ++ seatsNumbers) ((u : Understood question c) × ValidSeating c seats) (λ z. holdsOn seats (z .0 .0))
+  behind c = followed (asked c) (askSeated seats c) (λ q. seated c q .numbers) (λ u. seated c (u .0) .found)
+
+  pub said : Stage (askSaid card question seats) (cardNumbers ++ (questionNumbers ++ seatsNumbers))
+      ((w : Read card) × ((u : Understood question (w .0)) × ValidSeating (w .0) seats)) (λ z. holdsOn seats (z .1 .0 .0))
+  unfolding askSaid
+  said = followed (card-stage card) (askCard question seats) (λ c. behind c .numbers) (λ w. behind (w .0) .found)
+
+  -- between the seats' numbers and the question's there is none
+  other : (r p : ℕ) → askSaid card question seats ≡ refused r p → (r ≤ seatAboveTop) ⊎ ((inQuestion tooLong ≤ r) × (r ≤ inQuestion notDue))
+  other r p e = go (decLe r seatAboveTop) (decLe (inQuestion tooLong) r)
+    where
+      all : Numbers
+      all = cardNumbers ++ (questionNumbers ++ seatsNumbers)
+
+      in-all : among all r ≡ true
+      in-all = said .numbers .number r p e
+
+      go : Dec (r ≤ seatAboveTop) → Dec (inQuestion tooLong ≤ r) → (r ≤ seatAboveTop) ⊎ ((inQuestion tooLong ≤ r) × (r ≤ inQuestion notDue))
+      go (yes l) m = inl l
+      go (no l) (yes m) = inr (m, among-up-to all r (inQuestion notDue) in-all refl)
+      go (no l) (no m) =
+          let between : among ((suc seatAboveTop to 20) ∷ []) r ≡ true = rw (in-span (suc seatAboveTop) 20 r (omega arith) (omega arith)) in
+          absurd (false≢true (sym (apart-out ((suc seatAboveTop to 20) ∷ []) all r refl between) ∙ in-all))
+
+  module _ {T : Type 0} {tell : Said Bool → T} (faithful : Faithful tell) {a : T} (e : Enters lentNothing tell tt tt (askSaid card question seats) a) where
+    pub asks : Asks tell card question seats a
+    unfolding askSaid
+    asks = record {
+      wrong-card = λ r p l. refused-exactly faithful e r p ↔∙ card-first card (askCard question seats) (λ c. behind c .numbers) r p l refl;
+      wrong-question = λ r p l m.
+          let q : among questionNumbers r ≡ true = rw (in-span (inQuestion tooLong) (inQuestion notDue) r l m) in
+          refused-exactly faithful e r p
+          ↔∙ beyond (card-stage card) (askCard question seats) r p (apart-out questionNumbers cardNumbers r refl q)
+          (λ w. its (asked (w .0)) (askSeated seats (w .0)) (λ u. seated (w .0) u .numbers) r p (apart-out questionNumbers seatsNumbers r refl q));
+      wrong-count = λ p. refused-exactly faithful e wrongSeats p ↔∙ beyond (card-stage card) (askCard question seats) wrongSeats p refl (λ w.
+          beyond (asked (w .0)) (askSeated seats (w .0)) wrongSeats p refl (λ u. last (seats-stage seats (w .0)) (λ _. holdsOn seats (u .0)) wrongSeats p ↔∙ wrong-count seats (w .0) p));
+      wrong-seat = λ p. refused-exactly faithful e seatAboveTop p ↔∙ beyond (card-stage card) (askCard question seats) seatAboveTop p refl (λ w.
+          beyond (asked (w .0)) (askSeated seats (w .0)) seatAboveTop p refl (λ u. last (seats-stage seats (w .0)) (λ _. holdsOn seats (u .0)) seatAboveTop p ↔∙ wrong-seat seats (w .0) p));
+      answered = λ yes. says-exactly faithful e yes ↔∙ (
+        (λ h. let (z, at) = said .found .only yes h in (z .0, (z .1 .0, (z .1 .1, at)))),
+        (λ h. said .found .each (h .0, (h .1 .0, h .1 .1 .0)) ∙ ap says (sym (h .1 .1 .1))),
+      );
+      no-other = λ r p h. other r p (refused-exactly faithful e r p .0 h);
+    }

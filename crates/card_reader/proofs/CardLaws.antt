@@ -1,0 +1,263 @@
+-- The whole card is its beginning, its statements and its further modules. Assumes nothing.
+use Prim.Native.Nat.{ℕ, zero, suc, _+_, _-_, _≤_, _<_}
+use mathlib.Core.Path.{_≡_, refl, sym, ap, _∙_}
+use mathlib.Core.Bool.{Bool, true, false, _&&_}
+use mathlib.Core.List.{List, [], _∷_, _++_}
+use mathlib.Core.Option.{Option, none, some}
+use native.Mathlib.Omega.{arith}
+use lib.Dec.{eqb, leb}
+use lib.ListN.{length, getD, length-map}
+use Rattle.card.specs.Limits.{cardBytes, mostStatements, mostSeats, unit}
+use Rattle.card.specs.Refusals.{outsideRules, aboveTop, notDue, wrongWeight, decimalWeight}
+use Rattle.card.specs.Card.{Mode, Card}
+use Rattle.card.specs.Text.{if_then_else_}
+use Rattle.card.specs.Weight.{unitsOf, Rule, allowed, weightRefusal}
+use Rattle.card.specs.Laid.{modeNumber}
+use Rattle.card.specs.Lent.{Lent, headOf, lentOf, noneLent}
+use Rattle.card.specs.declared.Head.{Head}
+use Rattle.card.specs.declared.Verdict.the-variants.{Taken}
+use Rattle.marks.specs.Marks.{placeOf}
+use Rattle.marks.specs.Step.{marksAt}
+use Rattle.reading.specs.Reader.{Place, State, at, Result, ok, stop, Reader, bind, return, the, sign, numberOf, Numbered, numbered, line}
+use Rattle.grammar.specs.Grammar.{cardRun}
+use Rattle.reading.specs.Shape.{StatementShape, CardShape, statement, moreStatements, moreModules, modeOf, zeroOf, top, theEnd, card}
+use Rattle.reading.specs.Guard.{isSome}
+use Rattle.reading.specs.Judgements.{Judgement, state, word, oneGroup, weight, sum, symmetric, totalUnits, placeIn, unless, broken, Verdict, fine, wrong, orElse, firstBroken}
+use Rattle.reading.specs.Checks.{judgedState, judgedWords, judgedEach, judgedStatement, judgedModules, judgedCard, statementIn, seatsIn, cardIn}
+use Rattle.reading.specs.Reading.{Outcome, taken, refused, firstOutside, judged, readUnder, mostRefusal}
+use Rattle.reading.proofs.Through.{none≢some}
+use Rattle.grammar.proofs.Fair.{FairCard, card-fair}
+use Rattle.reading.proofs.Numbers.{read-number}
+use Rattle.grammar.proofs.Shaping.{read-shape as shape-of}
+use Rattle.grammar.proofs.Valid.{read-valid}
+use Rattle.late.specs.Late.{noneYet, judgeAll}
+use Rattle.late.specs.Settled.{Refusal, settled, verdict}
+use Rattle.late.specs.State.{atStop, atStopPlace, atMode, atTop, atStart, lateIn, valueIn, after}
+use Rattle.late.proofs.Settling.{judge-append, settled-first}
+use Rattle.parts.specs.Parts.{from, Read, Answers}
+use Rattle.frame.specs.Frame.{HeaderShape, header, HeaderFrom, modules, ModulesFrom}
+use Rattle.search.specs.declared.Due.{Due}
+use Rattle.outline.specs.declared.Outline.{Outline}
+use Rattle.outline.specs.ReadingOf.{outlineOf, memoryOf, ReadsUnder}
+use Rattle.outline.specs.Refusing.{Judged}
+use Rattle.search.specs.Search.{searched}
+use Rattle.statements.specs.Statements.{statements, filled, StatementsFrom}
+use Rattle.parts.proofs.Answers.{onward, halted, made}
+use Rattle.parts.proofs.Lines.{assoc}
+use Rattle.card_reader.proofs.Outcomes.{orOutside, read-stop, read-shape}
+use Rattle.card_reader.proofs.FilledLaws.{card-lent}
+
+abbrev pub shapeOf : HeaderShape → List StatementShape → List (List Numbered) → CardShape
+shapeOf h xs ms = record { mode = h .mode; words = h .words; k = h .k; l = h .l; statements = xs; modules = ms }
+
+regroup : {A B C D E F G H : Type 0} (a : Result A) (b : Reader B) (z : Reader C) (d : Reader D) (k : Reader E) (u v w : Reader D) (l : Reader F) (x : Reader G) (xs : Reader (List G)) (y : Reader D) (ms : Reader H) (e : Reader D)
+    (f : A → B → E → F → HeaderShape) (g : HeaderShape → List G → H → CardShape)
+    → bind (bind a (λ m s₁. bind (b s₁) (λ ws s₂. bind (z s₂) (λ z₁ s₃. bind (d s₃) (λ d₁ s₄. bind (k s₄) (λ k₁ s₅. bind (u s₅) (λ u₁ s₆. bind (v s₆) (λ v₁ s₇. bind (l s₇) (λ l₁ s₈. bind (w s₈) (λ w₁ s₉.
+    bind (x s₉) (λ x₁ s₁₀. bind (xs s₁₀) (λ xs₁ s₁₁. bind (y s₁₁) (λ y₁ s₁₂. bind (ms s₁₂) (λ ms₁. return (g (f m ws k₁ l₁) (x₁ ∷ xs₁) ms₁))))))))))))))) (λ c s. bind (e s) (λ e₁. return c))
+    ≡ bind (bind a (λ m s₁. bind (b s₁) (λ ws s₂. bind (bind (z s₂) (λ z₁ s₃. bind (d s₃) (λ d₁. k))) (λ k₁ s₅. bind (u s₅) (λ u₁ s₆. bind (v s₆) (λ v₁ s₇. bind (l s₇) (λ l₁ s₈. bind (w s₈) (λ w₁. return (f m ws k₁ l₁)))))))))
+    (λ h s. bind (bind (x s) (λ x₁ s₁₀. bind (xs s₁₀) (λ xs₁ s₁₁. bind (y s₁₁) (λ y₁. return (x₁ ∷ xs₁))))) (λ all s₁. bind (bind (ms s₁) (λ ms₁ s₂. bind (e s₂) (λ e₁. return ms₁))) (λ ms₁. return (g h all ms₁))))
+regroup a b z d k u v w l x xs y ms e f g = simp assoc
+
+pub card-parts : (s : State) → card s ≡ bind (header s) (λ h s₁. bind (statements (mostStatements - 1) s₁) (λ xs s₂. bind (modules s₂) (λ ms. return (shapeOf h xs ms))))
+card-parts s =
+    regroup (the modeOf s) (line cardRun) (the zeroOf) (sign "..") top (sign "]") (sign "init") (sign ";") (numbered numberOf) statement (moreStatements (mostStatements - 1)) (sign "endmodule") (moreModules (mostSeats - 1)) theEnd
+    (λ m ws k l. record { mode = m; words = ws; k = k; l = l }) shapeOf
+
+-- what the three parts say of the card's shape: the states behind them are h, l and t
+record Whole (decimals : Rule) (s : List ℕ) (h l t : List ℕ) (was is : Lent) (c : CardShape) : Type 0 where
+  mode : getD h atMode 0 ≡ modeNumber (c .mode)
+  seats : valueIn t ≡ seatsIn c
+  top : getD h atTop 0 ≡ c .k
+  start : getD h atStart 0 ≡ c .l .value
+  late : lateIn t ≡ judgeAll (length s) (judgedCard decimals c) noneYet
+  count : valueIn l ≡ length (c .statements)
+  memory : is ≡ filled 0 (c .statements) was
+
+-- ---- a refusal has a number
+
+unless-number : (b : Bool) (a r : ℕ) → (a ≡ 0 → ⊥) → unless b a ≡ some r → r ≡ 0 → ⊥
+unless-number true a r f e z = none≢some e
+unless-number false a r f e z = let y : a ≡ r = cc in f (y ∙ z)
+
+weight-refusal : (b : Bool) → (if b then wrongWeight else decimalWeight) ≡ 0 → ⊥
+weight-refusal true z = omega arith
+weight-refusal false z = omega arith
+
+some-number : (n : ℕ) (j : Judgement) (r : ℕ) → broken n j ≡ some r → r ≡ 0 → ⊥
+some-number n (state most v p) r = unless-number (leb v most) aboveTop r (λ e. omega arith)
+some-number n (word due was p) r = unless-number (eqb was due) notDue r (λ e. omega arith)
+some-number n (oneGroup g) r = unless-number (symmetric n (g .literals)) notDue r (λ e. omega arith)
+some-number n (weight decimals w p) r = unless-number (allowed decimals w && isSome (unitsOf w)) (weightRefusal decimals w) r (weight-refusal (allowed decimals w))
+some-number n (sum ws p) r = unless-number (eqb (totalUnits ws) unit) wrongWeight r (λ e. omega arith)
+
+no-number : (e n : ℕ) (js : List Judgement) → verdict e (firstBroken n js) .number ≡ 0 → firstBroken n js ≡ fine
+no-number e n [] h = refl
+no-number e n (j ∷ js) h = go (broken n j) refl h (no-number e n js)
+  where
+    go : (o : Option ℕ) → broken n j ≡ o → verdict e (orElse o (placeIn j) (firstBroken n js)) .number ≡ 0
+        → (verdict e (firstBroken n js) .number ≡ 0 → firstBroken n js ≡ fine) → orElse o (placeIn j) (firstBroken n js) ≡ fine
+    go none q h f = f h
+    go (some r) q h f = absurd (some-number n j r q h)
+
+-- ---- the contract, by the outcome
+
+-- reading stops so, unless a mark outside the rules stands there or further on
+pub record Stops (decimals : Rule) (s : List ℕ) (n p : ℕ) : Type 0 where
+  pub outcome : readUnder decimals s ≡ orOutside n p (firstOutside (marksAt 0 s p))
+
+-- the number of a refusal is small
+pub small-number : (decimals : Rule) (s : List ℕ) {r p : ℕ} → readUnder decimals s ≡ refused r p → r ≤ decimalWeight
+small-number decimals s {r} e = go decimals (read-number decimals s e)
+  where
+    go : (b : Bool) → r ≤ mostRefusal b → r ≤ decimalWeight
+    go true h = omega arith
+    go false h = h
+
+pub searched-number : {decimals : Rule} {s : List ℕ} {n p : ℕ} → Stops decimals s n p → {x : Due} → x ≡ searched n p (firstOutside (marksAt 0 s p)) → x .number ≤ decimalWeight
+searched-number {decimals} {s} {n} {p} h {x} e = go (firstOutside (marksAt 0 s p)) (h .outcome) e
+  where
+    go : (o : Option ℕ) → readUnder decimals s ≡ orOutside n p o → x ≡ searched n p o → x .number ≤ decimalWeight
+    go none f g = rw g (small-number decimals s f)
+    go (some q) f g = rw g (small-number decimals s f)
+
+module _ {decimals : Rule} {s : List ℕ} {r : Outline} {x : Lent} where
+  by-outcome : (o : Outcome) → readUnder decimals s ≡ o → r ≡ outlineOf o → x ≡ memoryOf o → ReadsUnder decimals s r x
+  by-outcome o e f g = record { outline = rw e f; memory = rw e g; valid = read-valid decimals s }
+
+  pub reads-refused : {k p : ℕ} → readUnder decimals s ≡ refused k p → r ≡ outlineOf (refused k p) → x ≡ noneLent → ReadsUnder decimals s r x
+  reads-refused {k} {p} = by-outcome (refused k p)
+
+  pub reads-searched : {n p : ℕ} → Stops decimals s n p → {y : Due} → y ≡ searched n p (firstOutside (marksAt 0 s p))
+      → r ≡ outlineOf (refused (y .number) (y .place)) → x ≡ noneLent → ReadsUnder decimals s r x
+  reads-searched {n} {p} h {y} e f = go (firstOutside (marksAt 0 s p)) (h .outcome) e
+    where
+      go : (o : Option ℕ) → readUnder decimals s ≡ orOutside n p o → y ≡ searched n p o → x ≡ noneLent → ReadsUnder decimals s r x
+      go none a b = reads-refused a (f ∙ ap (λ (z : Due). outlineOf (refused (z .number) (z .place))) b)
+      go (some q) a b = reads-refused a (f ∙ ap (λ (z : Due). outlineOf (refused (z .number) (z .place))) b)
+
+  pub reads-taken : (c : Card) → readUnder decimals s ≡ taken c → r ≡ outlineOf (taken c) → x ≡ lentOf c → ReadsUnder decimals s r x
+  reads-taken c = by-outcome (taken c)
+
+-- ---- a stop anywhere is a stop of the whole card
+
+abbrev StopsAs : Rule → List ℕ → List ℕ → Type 0
+StopsAs decimals s now = Stops decimals s (getD now atStop 0) (getD now atStopPlace 0)
+
+abbrev none-so : CardShape → List ℕ → Type 0
+none-so c r = ⊥
+
+module _ (decimals : Rule) (s : List ℕ) (short : length s ≤ cardBytes) where
+  stopped-read : (x : Result CardShape) → card (from s 0 0) ≡ x → (now : List ℕ) → Answers s none-so x (after now 0) → StopsAs decimals s now
+  stopped-read (ok c b) e now y = absurd (y .told)
+  stopped-read (stop m p) e now y =
+      let a : getD now atStop 0 ≡ m = ap (λ (r : Refusal). r .number) (y .refused) in
+      let b : getD now atStopPlace 0 ≡ placeOf (length s) p = ap (λ (r : Refusal). r .place) (y .refused) in
+      rw (a, b) (record { outcome = read-stop decimals s short m p e })
+
+  module _ (h : List ℕ) {a : ℕ} (hh : HeaderFrom s 0 noneYet (after h a)) where
+    pub header-stops : a ≡ 0 → StopsAs decimals s h
+    header-stops e = stopped-read (card (from s 0 0)) refl h
+        (rw (card-parts (from s 0 0)) (halted s _ none-so (header (from s 0 0)) _ h a (hh .answers 0) e))
+
+    module _ (ea : a ≡ 0 → ⊥) (was is : Lent) (l : List ℕ) {b : ℕ} (hl : StatementsFrom decimals s a (getD h atTop 0) (lateIn h) was is (after l b)) where
+      pub statements-stop : b ≡ 0 → StopsAs decimals s l
+      statements-stop e = stopped-read (card (from s 0 0)) refl l
+          (rw (card-parts (from s 0 0)) (onward s _ none-so (header (from s 0 0)) _ h a _ (hh .answers 0) ea λ x n f.
+          halted s _ none-so (statements (mostStatements - 1) (from s a n)) _ l b (hl .answers n) e))
+
+      module _ (eb : b ≡ 0 → ⊥) (t : List ℕ) {c : ℕ} (ht : ModulesFrom s b (lateIn l) (after t c)) where
+        pub modules-stop : c ≡ 0 → StopsAs decimals s t
+        modules-stop e = stopped-read (card (from s 0 0)) refl t
+            (rw (card-parts (from s 0 0)) (onward s _ none-so (header (from s 0 0)) _ h a _ (hh .answers 0) ea λ x n f.
+            onward s _ none-so (statements (mostStatements - 1) (from s a n)) _ l b _ (hl .answers n) eb λ xs m g.
+            halted s _ none-so (modules (from s b m)) _ t c (ht .answers m) e))
+
+        module _ (ec : c ≡ 0 → ⊥) where
+          shape-told : Answers s (λ x r. Whole decimals s h l t was is x) (card (from s 0 0)) (after t c)
+          unfolding judgeAll
+          shape-told = rw (card-parts (from s 0 0)) (onward s _ _ (header (from s 0 0)) _ h a _ (hh .answers 0) ea λ x n f.
+              onward s _ _ (statements (mostStatements - 1) (from s a n)) _ l b _ (hl .answers n) eb λ xs m g.
+              made s _ _ (modules (from s b m)) (shapeOf x xs) (after t c) (ht .answers m) λ ms j. record {
+                mode = f .mode;
+                seats = j .value;
+                top = f .top;
+                start = f .start;
+                late = j .late
+                    ∙ ap (judgeAll (length s) (judgedModules 2 ms))
+                    (g .went .late ∙ ap (λ (k : ℕ). judgeAll (length s) (judgedEach (judgedStatement decimals k) xs) (lateIn h)) (f .top)
+                    ∙ ap (judgeAll (length s) (judgedEach (judgedStatement decimals (x .k)) xs)) (f .late ∙ judge-append (length s) (judgedWords (1 ∷ 1 ∷ []) (x .words)) (judgedState (x .k) (x .l) ∷ []) noneYet))
+                    ∙ sym (judge-append (length s) (judgedWords (1 ∷ 1 ∷ []) (x .words)) (judgedState (x .k) (x .l) ∷ (judgedEach (judgedStatement decimals (x .k)) xs ++ judgedModules 2 ms)) noneYet
+                    ∙ judge-append (length s) (judgedEach (judgedStatement decimals (x .k)) xs) (judgedModules 2 ms) _);
+                count = g .went .value;
+                memory = g .memory;
+              })
+
+          got : (x : Result CardShape) → card (from s 0 0) ≡ x → Answers s (λ x r. Whole decimals s h l t was is x) x (after t c)
+              → (x : CardShape) × (b : State) × (card (from s 0 0) ≡ ok x b) × Whole decimals s h l t was is x
+          got (ok x b) e y = (x, b, e, y .told)
+          got (stop n p) e y = absurd (ec (y .none))
+
+          -- z: what is due once it is settled
+          module _ (z : Refusal) (hz : z ≡ settled (valueIn t) (lateIn t)) where
+            -- what is settled is the first broken judgement, and reading hangs on it
+            by-verdict : (x : CardShape) (b : State) → card (from s 0 0) ≡ ok x b → Whole decimals s h l t was is x
+                → (z ≡ verdict (length s) (firstBroken (seatsIn x) (judgedCard decimals x))) × (readUnder decimals s ≡ judged (length s) (cardIn x) (firstBroken (seatsIn x) (judgedCard decimals x)))
+            by-verdict x b e w =
+                let g = shape-of (marksAt 0 s 0) x b e in
+                let f = card-fair (g .0) (g .1) in (
+                  hz ∙ ap (settled (valueIn t)) (w .late) ∙ ap (λ (n : ℕ). settled n (judgeAll (length s) (judgedCard decimals x) noneYet)) (w .seats)
+                      ∙ settled-first (length s) (seatsIn x) (omega arith) (omega (arith, f .modules)) (judgedCard decimals x),
+                  read-shape decimals s short x b e,
+                )
+
+            late-read : (z .number ≡ 0 → ⊥) → readUnder decimals s ≡ refused (z .number) (z .place)
+            late-read f = go (got (card (from s 0 0)) refl shape-told)
+              where
+                by : (x : CardShape) (v : Verdict) → z ≡ verdict (length s) v → judged (length s) (cardIn x) v ≡ refused (z .number) (z .place)
+                by x fine e = absurd (f (ap (λ (y : Refusal). y .number) e))
+                by x (wrong r p) e = sym (ap (λ (y : Refusal). refused (y .number) (y .place)) e)
+
+                go : (x : CardShape) × (b : State) × (card (from s 0 0) ≡ ok x b) × Whole decimals s h l t was is x → readUnder decimals s ≡ refused (z .number) (z .place)
+                go (x, b, e, w) = let y = by-verdict x b e w in y .1 ∙ by x (firstBroken (seatsIn x) (judgedCard decimals x)) (y .0)
+
+            -- the card, its head, and the arrays that it lies in
+            taken-read : z .number ≡ 0 → was ≡ noneLent
+                → (c : Card) × (readUnder decimals s ≡ taken c)
+                × (record { mode = getD h atMode 0; seats = valueIn t; top = getD h atTop 0; start = getD h atStart 0; count = valueIn l } ≡ headOf c) × (is ≡ lentOf c)
+            taken-read f zeros = go (got (card (from s 0 0)) refl shape-told)
+              where
+                go : (x : CardShape) × (b : State) × (card (from s 0 0) ≡ ok x b) × Whole decimals s h l t was is x → (c : Card) × (readUnder decimals s ≡ taken c)
+                    × (record { mode = getD h atMode 0; seats = valueIn t; top = getD h atTop 0; start = getD h atStart 0; count = valueIn l } ≡ headOf c) × (is ≡ lentOf c)
+                go (x, b, e, w) =
+                    let y = by-verdict x b e w in
+                    let v : firstBroken (seatsIn x) (judgedCard decimals x) ≡ fine = no-number (length s) (seatsIn x) (judgedCard decimals x) (sym (ap (λ (q : Refusal). q .number) (y .0)) ∙ f) in
+                    let t : readUnder decimals s ≡ taken (cardIn x) = y .1 ∙ ap (judged (length s) (cardIn x)) v in
+                    let count : valueIn l ≡ length (cardIn x .statements) = w .count ∙ sym (length-map (x .statements) (statementIn (seatsIn x))) in (
+                      cardIn x,
+                      t,
+                      (λ i. record { mode = w .mode i; seats = w .seats i; top = w .top i; start = w .start i; count = count i }),
+                      w .memory ∙ ap (filled 0 (x .statements)) zeros ∙ card-lent decimals x v (read-valid decimals s (cardIn x) t),
+                    )
+
+          -- what is settled decides
+          pub late-small : settled (valueIn t) (lateIn t) .number ≤ decimalWeight
+          late-small = go (settled (valueIn t) (lateIn t) .number) refl
+            where
+              go : (n : ℕ) → settled (valueIn t) (lateIn t) .number ≡ n → n ≤ decimalWeight
+              go zero e = omega arith
+              go (suc n) e = rw (← e) (small-number decimals s (late-read (settled (valueIn t) (lateIn t)) refl (λ z. omega (arith, e, z))))
+
+          pub judged-read : was ≡ noneLent → {r : Outline} {last : Lent}
+              → Judged (record { mode = getD h atMode 0; seats = valueIn t; top = getD h atTop 0; start = getD h atStart 0; count = valueIn l }) (settled (valueIn t) (lateIn t)) is last r
+              → ReadsUnder decimals s r last
+          judged-read zeros {r} {last} j = go (settled (valueIn t) (lateIn t) .number) refl
+            where
+              go : (n : ℕ) → settled (valueIn t) (lateIn t) .number ≡ n → ReadsUnder decimals s r last
+              go zero e =
+                  let y = taken-read (settled (valueIn t) (lateIn t)) refl e zeros in
+                  let x = j .takes e in
+                  reads-taken (y .0) (y .1) (x .0 ∙ ap (λ (g : Head). record { verdict = Taken; head = g }) (y .2)) (x .1 ∙ y .3)
+              go (suc n) e =
+                  let f : settled (valueIn t) (lateIn t) .number ≡ 0 → ⊥ = λ z. omega (arith, e, z) in
+                  let x = j .refuses f in
+                  reads-refused (late-read (settled (valueIn t) (lateIn t)) refl f) (x .0) (x .1)

@@ -1,0 +1,88 @@
+-- The loop's invariant: the digits passed, and the value kept (`Held`).
+use borrow.Author.Needs.{needs}
+use Rattle.digits.proofs.Numbers.{Held, held-none, held-next, held-all}
+use Rattle.letters.proofs.Runs.{end-off, end-none}
+use Rattle.letters.specs.Bytes.{isDigit}
+use borrow.Author.Tests.{not-true, not-false}
+use lib.ListN.{length}
+use native.Mathlib.Omega.{arith}
+use mathlib.Core.Path.{sym, subst, _∙_}
+use Prim.Native.Nat.{_+_, _-_}
+use Rattle.digits.proofs.digits_from.Statement.{statement}
+use Rattle.digits.proofs.digits_from.Tie as tie
+use Rattle.digits.proofs.digits_from.Reads as reads
+use Rattle.digits.proofs.digits_from.Lts as lts
+use Rattle.letters.proofs.bytes.is_digit.Reads as is-digit-reads
+use Rattle.digits.proofs.grown.Reads as grown-reads
+
+abbrev Inv-loop : tie.InvT-loop
+Inv-loop card from at₀ value₀ at value = Held card from at value
+
+abbrev μ-loop : tie.MeasureT-loop
+μ-loop card from at₀ value₀ at value = length card - at
+
+loop-holds : tie.Need-loop-holds Inv-loop μ-loop
+loop-holds c = held-none (c .before .args .card .now) (c .before .args .from)
+
+shared-slice-read-b : tie.Need-shared-slice-read-b Inv-loop μ-loop
+shared-slice-read-b c = search needs
+
+is-digit-requires : tie.Need-is-digit-requires Inv-loop μ-loop
+is-digit-requires c κs = search needs
+
+sub-t11 : tie.Need-sub-t11 Inv-loop μ-loop
+sub-t11 c = omega (arith, c .before .before .before .before .loop .inv .begun)
+
+returns : tie.Need-returns Inv-loop μ-loop
+returns c =
+    held-all (c .before .before .before .before .before .before .args .card .now) (c .before .before .before .before .before .before .args .from)
+    (c .before .before .before .before .loop .at) (c .before .before .before .before .loop .value) (c .before .before .before .before .loop .inv)
+    (end-off isDigit (c .before .before .before .before .before .before .args .card .now) (c .before .before .before .before .loop .at)
+    (c .before .before .before .loop-test .taken) (sym (c .before .is-digit .ensures) ∙ not-true (c .before .is-digit .result) (c .if1 .taken)))
+
+grown-requires : tie.Need-grown-requires Inv-loop μ-loop
+grown-requires c κs = sym (c .before .is-digit .ensures) ∙ not-false (c .before .is-digit .result) (c .if1 .left)
+
+add-at : tie.Need-add-at Inv-loop μ-loop
+add-at c = search needs
+
+loop-less : tie.Need-loop-less Inv-loop μ-loop
+loop-less c = search needs
+
+loop-again : tie.Need-loop-again Inv-loop μ-loop
+loop-again c =
+    subst
+    (λ v. Held (c .before .before .before .before .before .before .before .args .card .now) (c .before .before .before .before .before .before .before .args .from)
+    (c .before .before .before .before .before .loop .at + 1) v)
+    (sym (c .grown .ensures))
+    (held-next (c .before .before .before .before .before .before .before .args .card .now) (c .before .before .before .before .before .before .before .args .from)
+    (c .before .before .before .before .before .loop .at) (c .before .before .before .before .before .loop .value)
+    (c .before .before .before .before .loop-test .taken)
+    (sym (c .before .before .is-digit .ensures) ∙ not-false (c .before .before .is-digit .result) (c .before .if1 .left))
+    (c .before .before .before .before .before .loop .inv))
+
+sub-t12 : tie.Need-sub-t12 Inv-loop μ-loop
+sub-t12 c = omega (arith, c .before .loop .inv .begun)
+
+returns-2 : tie.Need-returns-2 Inv-loop μ-loop
+returns-2 c =
+    held-all (c .before .before .before .args .card .now) (c .before .before .before .args .from) (c .before .loop .at) (c .before .loop .value) (c .before .loop .inv)
+    (end-none isDigit (c .before .before .before .args .card .now) (c .before .loop .at) (c .loop-test .left))
+
+pub digits-from-spec : {M : Type 1} → statement M
+digits-from-spec =
+    tie.close
+    (tie.spec
+    Inv-loop
+    μ-loop
+    loop-holds
+    shared-slice-read-b
+    is-digit-requires
+    sub-t11
+    returns
+    grown-requires
+    add-at
+    loop-less
+    loop-again
+    sub-t12
+    returns-2)

@@ -1,0 +1,50 @@
+-- Each exit has its law on runs of digits.
+use Rattle.digits.proofs.Numbers.{plain-none, plain-many, plain-one, plain-more}
+use Rattle.letters.proofs.Runs.{run-length}
+use Rattle.letters.specs.Bytes.{isDigit}
+use lib.Seq.{getD-drop}
+use lib.ListN.{getD, drop, length-drop}
+use lib.Dec.{eqb}
+use native.Mathlib.Omega.{arith}
+use native.Mathlib.Nat.{add-zero}
+use mathlib.Core.Bool.{not}
+use mathlib.Core.Path.{sym, ap, _∙_}
+use Prim.Native.Nat.{ℕ}
+use Rattle.digits.proofs.is_plain.Statement.{statement}
+use Rattle.digits.proofs.is_plain.Tie as tie
+use Rattle.digits.proofs.is_plain.Reads as reads
+use Rattle.digits.proofs.is_plain.Lts as lts
+
+returns : tie.Need-returns
+returns c = sym (plain-none (c .before .args .most) (drop (c .before .args .from) (c .before .args .card .now)) (omega (arith, c .before .pre)))
+
+returns-2 : tie.Need-returns-2
+returns-2 c = sym (plain-many (c .before .before .args .most) (drop (c .before .before .args .from) (c .before .before .args .card .now)) (omega (arith, c .before .before .pre)))
+
+returns-3 : tie.Need-returns-3
+returns-3 c =
+    sym
+    (plain-one (c .before .before .before .args .most) (drop (c .before .before .before .args .from) (c .before .before .before .args .card .now))
+    (omega (arith, c .before .before .before .pre)) (omega arith))
+
+shared-slice-read-result : tie.Need-shared-slice-read-result
+shared-slice-read-result c =
+    omega (
+      arith,
+      c .before .before .before .before .pre,
+      run-length isDigit
+          (drop (c .before .before .before .before .args .from) (c .before .before .before .before .args .card .now)),
+      length-drop
+          (c .before .before .before .before .args .from) (c .before .before .before .before .args .card .now),
+    )
+
+returns-4 : tie.Need-returns-4
+returns-4 c =
+    let first = getD-drop (c .before .before .before .before .args .from) (c .before .before .before .before .args .card .now) 0 0 ∙ ap (λ (i : ℕ). getD (c .before .before .before .before .args .card .now) i 0) (add-zero (c .before .before .before .before .args .from)) in
+    sym
+    (plain-more (c .before .before .before .before .args .most)
+    (drop (c .before .before .before .before .args .from) (c .before .before .before .before .args .card .now))
+    (omega (arith, c .before .before .before .before .pre)) (omega (arith, c .before .before .before .before .pre)) ∙ ap (λ (b : ℕ). not (eqb b 48)) first)
+
+pub is-plain-spec : {M : Type 1} → statement M
+is-plain-spec = tie.close (tie.spec returns returns-2 returns-3 shared-slice-read-result returns-4)

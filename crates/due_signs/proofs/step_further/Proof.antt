@@ -1,0 +1,51 @@
+-- What the look found is what the step finds (proofs/Quick.antt of looks).
+use Rattle.looks.proofs.Quick.{sign-place, sign-step, past-step}
+use native.Mathlib.Omega.{arith}
+use mathlib.Core.Path.{sym, _∙_}
+use borrow.Author.Needs.{needs}
+use Rattle.due_signs.proofs.step_further.Statement.{statement}
+use Rattle.due_signs.proofs.step_further.Tie as tie
+use Rattle.due_signs.proofs.step_further.Reads as reads
+use Rattle.due_signs.proofs.step_further.Lts as lts
+use Rattle.marks.proofs.answer.bare.Reads as bare-reads
+use Rattle.due_signs.proofs.step_sign.Reads as step-sign-reads
+use Rattle.looks.proofs.look.past_blank.Reads as past-blank-reads
+use Rattle.looks.proofs.look.sign_here.Reads as sign-here-reads
+
+past-blank-requires : tie.Need-past-blank-requires
+past-blank-requires c κs = search needs
+
+sign-here-requires : tie.Need-sign-here-requires
+sign-here-requires c κs = search needs
+
+add-bare : tie.Need-add-bare
+add-bare c = omega (arith, sign-place (c .before .before .before .before .args .card .now) (c .before .before .past-blank .result) 59 (sym (c .before .sign-here .ensures) ∙ c .if1 .taken))
+
+bare-requires : tie.Need-bare-requires
+bare-requires c κs = search needs
+
+returns : tie.Need-returns
+returns c =
+    c .bare .ensures ∙ sym
+    (sign-step (c .before .before .before .before .before .args .card .now) (c .before .before .before .past-blank .result) 59
+    (sym (c .before .before .sign-here .ensures) ∙ c .before .if1 .taken))
+    ∙ past-step (c .before .before .before .before .before .args .card .now) (c .before .before .before .before .before .args .at)
+    (c .before .before .before .past-blank .ensures)
+
+step-sign-requires : tie.Need-step-sign-requires
+step-sign-requires c κs = search needs
+
+returns-2 : tie.Need-returns-2
+returns-2 c = c .step-sign .ensures ∙ past-step (c .before .before .before .before .before .args .card .now) (c .before .before .before .before .before .args .at) (c .before .before .before .past-blank .ensures)
+
+pub step-further-spec : {M : Type 1} → statement M
+step-further-spec =
+    tie.close
+    (tie.spec
+    past-blank-requires
+    sign-here-requires
+    add-bare
+    bare-requires
+    returns
+    step-sign-requires
+    returns-2)

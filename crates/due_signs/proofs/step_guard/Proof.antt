@@ -1,0 +1,51 @@
+-- What the look found is what the step finds (proofs/Quick.antt of looks).
+use Rattle.looks.proofs.Quick.{sign-place, sign-step, past-step}
+use native.Mathlib.Omega.{arith}
+use mathlib.Core.Path.{sym, _∙_}
+use borrow.Author.Needs.{needs}
+use Rattle.due_signs.proofs.step_guard.Statement.{statement}
+use Rattle.due_signs.proofs.step_guard.Tie as tie
+use Rattle.due_signs.proofs.step_guard.Reads as reads
+use Rattle.due_signs.proofs.step_guard.Lts as lts
+use Rattle.due_signs.proofs.step_arrow.Reads as step-arrow-reads
+use Rattle.looks.proofs.look.past_blank.Reads as past-blank-reads
+use Rattle.looks.proofs.look.sign_here.Reads as sign-here-reads
+use Rattle.marks.proofs.answer.bare.Reads as bare-reads
+
+past-blank-requires : tie.Need-past-blank-requires
+past-blank-requires c κs = search needs
+
+sign-here-requires : tie.Need-sign-here-requires
+sign-here-requires c κs = search needs
+
+add-bare : tie.Need-add-bare
+add-bare c = omega (arith, sign-place (c .before .before .before .before .args .card .now) (c .before .before .past-blank .result) 38 (sym (c .before .sign-here .ensures) ∙ c .if1 .taken))
+
+bare-requires : tie.Need-bare-requires
+bare-requires c κs = search needs
+
+returns : tie.Need-returns
+returns c =
+    c .bare .ensures ∙ sym
+    (sign-step (c .before .before .before .before .before .args .card .now) (c .before .before .before .past-blank .result) 38
+    (sym (c .before .before .sign-here .ensures) ∙ c .before .if1 .taken))
+    ∙ past-step (c .before .before .before .before .before .args .card .now) (c .before .before .before .before .before .args .at)
+    (c .before .before .before .past-blank .ensures)
+
+step-arrow-requires : tie.Need-step-arrow-requires
+step-arrow-requires c κs = search needs
+
+returns-2 : tie.Need-returns-2
+returns-2 c = c .step-arrow .ensures ∙ past-step (c .before .before .before .before .before .args .card .now) (c .before .before .before .before .before .args .at) (c .before .before .before .past-blank .ensures)
+
+pub step-guard-spec : {M : Type 1} → statement M
+step-guard-spec =
+    tie.close
+    (tie.spec
+    past-blank-requires
+    sign-here-requires
+    add-bare
+    bare-requires
+    returns
+    step-arrow-requires
+    returns-2)

@@ -1,0 +1,59 @@
+-- What the look found is what the step finds (proofs/Quick.antt of looks).
+use Rattle.looks.proofs.Quick.{slash-step, past-step}
+use Rattle.letters.proofs.Runs.{begins-place}
+use borrow.Author.Tests.{not-true}
+use lib.Dec.{eqb}
+use native.Mathlib.Omega.{arith}
+use mathlib.Core.Path.{sym, _∙_}
+use borrow.Author.Needs.{needs}
+use Rattle.due_signs.proofs.step_slash.Statement.{statement}
+use Rattle.due_signs.proofs.step_slash.Tie as tie
+use Rattle.due_signs.proofs.step_slash.Reads as reads
+use Rattle.due_signs.proofs.step_slash.Lts as lts
+use Rattle.due_signs.proofs.step_sign.Reads as step-sign-reads
+use Rattle.looks.proofs.look.past_blank.Reads as past-blank-reads
+use Rattle.marks.proofs.answer.bare.Reads as bare-reads
+use Rattle.letters.proofs.bytes.stands.Reads as stands-reads
+
+past-blank-requires : tie.Need-past-blank-requires
+past-blank-requires c κs = search needs
+
+stands-requires : tie.Need-stands-requires
+stands-requires c κs = search needs
+
+add-next : tie.Need-add-next
+add-next c = omega (arith, begins-place (eqb 47) (c .before .before .before .before .args .card .now) (c .before .before .past-blank .result) (sym (c .before .stands .ensures) ∙ c .if1 .taken))
+
+stands-requires-2 : tie.Need-stands-requires-2
+stands-requires-2 c κs = search needs
+
+bare-requires : tie.Need-bare-requires
+bare-requires c κs = search needs
+
+returns : tie.Need-returns
+returns c =
+    c .bare .ensures ∙ sym
+    (slash-step (c .before .before .before .before .before .before .before .args .card .now) (c .before .before .before .before .before .past-blank .result)
+    (sym (c .before .before .before .before .stands .ensures) ∙ c .before .before .before .if1 .taken)
+    (sym (c .before .before .stands2 .ensures) ∙ not-true (c .before .before .stands2 .result) (c .before .if2 .taken)))
+    ∙ past-step (c .before .before .before .before .before .before .before .args .card .now) (c .before .before .before .before .before .before .before .args .at)
+    (c .before .before .before .before .before .past-blank .ensures)
+
+step-sign-requires : tie.Need-step-sign-requires
+step-sign-requires c κs = search needs
+
+returns-2 : tie.Need-returns-2
+returns-2 c = c .step-sign .ensures ∙ past-step (c .before .before .before .before .before .args .card .now) (c .before .before .before .before .before .args .at) (c .before .before .before .past-blank .ensures)
+
+pub step-slash-spec : {M : Type 1} → statement M
+step-slash-spec =
+    tie.close
+    (tie.spec
+    past-blank-requires
+    stands-requires
+    add-next
+    stands-requires-2
+    bare-requires
+    returns
+    step-sign-requires
+    returns-2)

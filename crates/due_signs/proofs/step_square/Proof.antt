@@ -1,0 +1,51 @@
+-- What the look found is what the step finds (proofs/Quick.antt of looks).
+use Rattle.looks.proofs.Quick.{sign-place, sign-step, past-line-step}
+use mathlib.Core.Path.{sym, _∙_}
+use native.Mathlib.Omega.{arith}
+use borrow.Author.Needs.{needs}
+use Rattle.due_signs.proofs.step_square.Statement.{statement}
+use Rattle.due_signs.proofs.step_square.Tie as tie
+use Rattle.due_signs.proofs.step_square.Reads as reads
+use Rattle.due_signs.proofs.step_square.Lts as lts
+use Rattle.marks.proofs.answer.bare.Reads as bare-reads
+use Rattle.due_signs.proofs.step_from.Reads as step-from-reads
+use Rattle.looks.proofs.look.past_line.Reads as past-line-reads
+use Rattle.looks.proofs.look.sign_here.Reads as sign-here-reads
+
+past-line-requires : tie.Need-past-line-requires
+past-line-requires c κs = search needs
+
+sign-here-requires : tie.Need-sign-here-requires
+sign-here-requires c κs = search needs
+
+add-bare : tie.Need-add-bare
+add-bare c = omega (arith, sign-place (c .before .before .before .before .args .card .now) (c .before .before .past-line .result) 91 (sym (c .before .sign-here .ensures) ∙ c .if1 .taken))
+
+bare-requires : tie.Need-bare-requires
+bare-requires c κs = search needs
+
+returns : tie.Need-returns
+returns c =
+    c .bare .ensures ∙ sym
+    (sign-step (c .before .before .before .before .before .args .card .now) (c .before .before .before .past-line .result) 91
+    (sym (c .before .before .sign-here .ensures) ∙ c .before .if1 .taken))
+    ∙ past-line-step (c .before .before .before .before .before .args .card .now) (c .before .before .before .before .before .args .at)
+    (c .before .before .before .past-line .ensures)
+
+step-from-requires : tie.Need-step-from-requires
+step-from-requires c κs = search needs
+
+returns-2 : tie.Need-returns-2
+returns-2 c = c .step-from .ensures ∙ past-line-step (c .before .before .before .before .before .args .card .now) (c .before .before .before .before .before .args .at) (c .before .before .before .past-line .ensures)
+
+pub step-square-spec : {M : Type 1} → statement M
+step-square-spec =
+    tie.close
+    (tie.spec
+    past-line-requires
+    sign-here-requires
+    add-bare
+    bare-requires
+    returns
+    step-from-requires
+    returns-2)

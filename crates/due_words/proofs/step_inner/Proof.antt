@@ -1,0 +1,67 @@
+-- What the look found is what the step finds (proofs/Quick.antt of looks).
+use mathlib.Core.Path.{sym, _∙_}
+use native.Mathlib.Omega.{arith}
+use Rattle.looks.proofs.Quick.{seat-room, seat-step, past-step}
+use borrow.Author.Needs.{needs}
+use Rattle.due_words.proofs.step_inner.Statement.{statement}
+use Rattle.due_words.proofs.step_inner.Tie as tie
+use Rattle.due_words.proofs.step_inner.Reads as reads
+use Rattle.due_words.proofs.step_inner.Lts as lts
+use Rattle.due_signs.proofs.step_opening.Reads as step-opening-reads
+use Rattle.looks.proofs.look.past_blank.Reads as past-blank-reads
+use Rattle.looks.proofs.look.seat_here.Reads as seat-here-reads
+use Rattle.marks.proofs.answer.valued.Reads as valued-reads
+
+seat-here-requires : tie.Need-seat-here-requires
+seat-here-requires c κs = search needs
+
+add-valued : tie.Need-add-valued
+add-valued c = omega (arith, seat-room (c .before .before .before .args .card .now) (c .before .before .before .args .at) (c .before .seat-here .result) (c .before .seat-here .ensures) (c .if1 .taken))
+
+valued-requires : tie.Need-valued-requires
+valued-requires c κs = search needs
+
+returns : tie.Need-returns
+returns c = c .valued .ensures ∙ sym (seat-step (c .before .before .before .before .args .card .now) (c .before .before .before .before .args .at) (c .before .before .seat-here .result) (c .before .before .seat-here .ensures) (c .before .if1 .taken))
+
+past-blank-requires : tie.Need-past-blank-requires
+past-blank-requires c κs = search needs
+
+seat-here-requires-2 : tie.Need-seat-here-requires-2
+seat-here-requires-2 c κs = search needs
+
+add-valued-2 : tie.Need-add-valued-2
+add-valued-2 c = omega (arith, seat-room (c .before .before .before .before .before .before .args .card .now) (c .before .before .past-blank .result) (c .before .seat-here2 .result) (c .before .seat-here2 .ensures) (c .if2 .taken))
+
+valued-requires-2 : tie.Need-valued-requires-2
+valued-requires-2 c κs = search needs
+
+returns-2 : tie.Need-returns-2
+returns-2 c =
+    c .valued2 .ensures ∙ sym
+    (seat-step (c .before .before .before .before .before .before .before .args .card .now) (c .before .before .before .past-blank .result) (c .before .before .seat-here2 .result)
+    (c .before .before .seat-here2 .ensures) (c .before .if2 .taken))
+    ∙ past-step (c .before .before .before .before .before .before .before .args .card .now) (c .before .before .before .before .before .before .before .args .at)
+    (c .before .before .before .past-blank .ensures)
+
+step-opening-requires : tie.Need-step-opening-requires
+step-opening-requires c κs = search needs
+
+returns-3 : tie.Need-returns-3
+returns-3 c = c .step-opening .ensures ∙ past-step (c .before .before .before .before .before .before .before .args .card .now) (c .before .before .before .before .before .before .before .args .at) (c .before .before .before .past-blank .ensures)
+
+pub step-inner-spec : {M : Type 1} → statement M
+step-inner-spec =
+    tie.close
+    (tie.spec
+    seat-here-requires
+    add-valued
+    valued-requires
+    returns
+    past-blank-requires
+    seat-here-requires-2
+    add-valued-2
+    valued-requires-2
+    returns-2
+    step-opening-requires
+    returns-3)

@@ -1,0 +1,51 @@
+-- What the look found is what the step finds (proofs/Quick.antt of looks).
+use mathlib.Core.Path.{sym, _∙_}
+use native.Mathlib.Omega.{arith}
+use Rattle.looks.proofs.Quick.{process-room, process-step, past-step}
+use borrow.Author.Needs.{needs}
+use Rattle.due_words.proofs.step_process.Statement.{statement}
+use Rattle.due_words.proofs.step_process.Tie as tie
+use Rattle.due_words.proofs.step_process.Reads as reads
+use Rattle.due_words.proofs.step_process.Lts as lts
+use Rattle.due_signs.proofs.step_from.Reads as step-from-reads
+use Rattle.looks.proofs.look.past_blank.Reads as past-blank-reads
+use Rattle.looks.proofs.look.process_here.Reads as process-here-reads
+use Rattle.marks.proofs.answer.valued.Reads as valued-reads
+
+past-blank-requires : tie.Need-past-blank-requires
+past-blank-requires c κs = search needs
+
+process-here-requires : tie.Need-process-here-requires
+process-here-requires c κs = search needs
+
+add-valued : tie.Need-add-valued
+add-valued c = omega (arith, process-room (c .before .before .before .before .args .card .now) (c .before .before .past-blank .result) (c .before .process-here .result) (c .before .process-here .ensures) (c .if1 .taken))
+
+valued-requires : tie.Need-valued-requires
+valued-requires c κs = search needs
+
+returns : tie.Need-returns
+returns c =
+    c .valued .ensures ∙ sym
+    (process-step (c .before .before .before .before .before .args .card .now) (c .before .before .before .past-blank .result)
+    (c .before .before .process-here .result) (c .before .before .process-here .ensures) (c .before .if1 .taken))
+    ∙ past-step (c .before .before .before .before .before .args .card .now) (c .before .before .before .before .before .args .at)
+    (c .before .before .before .past-blank .ensures)
+
+step-from-requires : tie.Need-step-from-requires
+step-from-requires c κs = search needs
+
+returns-2 : tie.Need-returns-2
+returns-2 c = c .step-from .ensures ∙ past-step (c .before .before .before .before .before .args .card .now) (c .before .before .before .before .before .args .at) (c .before .before .before .past-blank .ensures)
+
+pub step-process-spec : {M : Type 1} → statement M
+step-process-spec =
+    tie.close
+    (tie.spec
+    past-blank-requires
+    process-here-requires
+    add-valued
+    valued-requires
+    returns
+    step-from-requires
+    returns-2)

@@ -1,0 +1,51 @@
+-- What the look found is what the step finds (proofs/Quick.antt of looks).
+use mathlib.Core.Path.{sym, _∙_}
+use native.Mathlib.Omega.{arith}
+use Rattle.looks.proofs.Quick.{seat-room, seat-step, past-step}
+use borrow.Author.Needs.{needs}
+use Rattle.due_words.proofs.step_short_seat.Statement.{statement}
+use Rattle.due_words.proofs.step_short_seat.Tie as tie
+use Rattle.due_words.proofs.step_short_seat.Reads as reads
+use Rattle.due_words.proofs.step_short_seat.Lts as lts
+use Rattle.marks.proofs.answer.valued.Reads as valued-reads
+use Rattle.due_signs.proofs.step_from.Reads as step-from-reads
+use Rattle.looks.proofs.look.past_blank.Reads as past-blank-reads
+use Rattle.looks.proofs.look.seat_here.Reads as seat-here-reads
+
+past-blank-requires : tie.Need-past-blank-requires
+past-blank-requires c κs = search needs
+
+seat-here-requires : tie.Need-seat-here-requires
+seat-here-requires c κs = search needs
+
+add-valued : tie.Need-add-valued
+add-valued c = omega (arith, seat-room (c .before .before .before .before .args .card .now) (c .before .before .past-blank .result) (c .before .seat-here .result) (c .before .seat-here .ensures) (c .if1 .taken))
+
+valued-requires : tie.Need-valued-requires
+valued-requires c κs = search needs
+
+returns : tie.Need-returns
+returns c =
+    c .valued .ensures ∙ sym
+    (seat-step (c .before .before .before .before .before .args .card .now) (c .before .before .before .past-blank .result) (c .before .before .seat-here .result)
+    (c .before .before .seat-here .ensures) (c .before .if1 .taken))
+    ∙ past-step (c .before .before .before .before .before .args .card .now) (c .before .before .before .before .before .args .at)
+    (c .before .before .before .past-blank .ensures)
+
+step-from-requires : tie.Need-step-from-requires
+step-from-requires c κs = search needs
+
+returns-2 : tie.Need-returns-2
+returns-2 c = c .step-from .ensures ∙ past-step (c .before .before .before .before .before .args .card .now) (c .before .before .before .before .before .args .at) (c .before .before .before .past-blank .ensures)
+
+pub step-short-seat-spec : {M : Type 1} → statement M
+step-short-seat-spec =
+    tie.close
+    (tie.spec
+    past-blank-requires
+    seat-here-requires
+    add-valued
+    valued-requires
+    returns
+    step-from-requires
+    returns-2)

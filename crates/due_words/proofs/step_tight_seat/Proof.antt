@@ -1,0 +1,62 @@
+-- What the look found is what the step finds (proofs/Quick.antt of looks).
+use Rattle.looks.proofs.Quick.{seat-room, seat-step, teen-room, teen-step}
+use native.Mathlib.Omega.{arith}
+use mathlib.Core.Path.{sym, _∙_}
+use borrow.Author.Needs.{needs}
+use Rattle.due_words.proofs.step_tight_seat.Statement.{statement}
+use Rattle.due_words.proofs.step_tight_seat.Tie as tie
+use Rattle.due_words.proofs.step_tight_seat.Reads as reads
+use Rattle.due_words.proofs.step_tight_seat.Lts as lts
+use Rattle.due_signs.proofs.step_from.Reads as step-from-reads
+use Rattle.looks.proofs.look.seat_here.Reads as seat-here-reads
+use Rattle.looks.proofs.look.teen_here.Reads as teen-here-reads
+use Rattle.marks.proofs.answer.valued.Reads as valued-reads
+
+seat-here-requires : tie.Need-seat-here-requires
+seat-here-requires c κs = search needs
+
+add-valued : tie.Need-add-valued
+add-valued c = omega (arith, seat-room (c .before .before .before .args .card .now) (c .before .before .before .args .at) (c .before .seat-here .result) (c .before .seat-here .ensures) (c .if1 .taken))
+
+valued-requires : tie.Need-valued-requires
+valued-requires c κs = search needs
+
+returns : tie.Need-returns
+returns c = c .valued .ensures ∙ sym (seat-step (c .before .before .before .before .args .card .now) (c .before .before .before .before .args .at) (c .before .before .seat-here .result) (c .before .before .seat-here .ensures) (c .before .if1 .taken))
+
+teen-here-requires : tie.Need-teen-here-requires
+teen-here-requires c κs = search needs
+
+add-valued-2 : tie.Need-add-valued-2
+add-valued-2 c = search needs
+
+add-valued-3 : tie.Need-add-valued-3
+add-valued-3 c = omega (arith, teen-room (c .before .before .before .before .before .args .card .now) (c .before .before .before .before .before .args .at) (c .before .teen-here .result) (c .before .teen-here .ensures) (c .if2 .taken))
+
+valued-requires-2 : tie.Need-valued-requires-2
+valued-requires-2 c κs = search needs
+
+returns-2 : tie.Need-returns-2
+returns-2 c = c .valued2 .ensures ∙ sym (teen-step (c .before .before .before .before .before .before .args .card .now) (c .before .before .before .before .before .before .args .at) (c .before .before .teen-here .result) (c .before .before .teen-here .ensures) (c .before .if2 .taken))
+
+step-from-requires : tie.Need-step-from-requires
+step-from-requires c κs = search needs
+
+returns-3 : tie.Need-returns-3
+returns-3 c = search needs
+
+pub step-tight-seat-spec : {M : Type 1} → statement M
+step-tight-seat-spec =
+    tie.close
+    (tie.spec
+    seat-here-requires
+    add-valued
+    valued-requires
+    returns
+    teen-here-requires
+    add-valued-2
+    add-valued-3
+    valued-requires-2
+    returns-2
+    step-from-requires
+    returns-3)

@@ -1,0 +1,5 @@
+pub mod Demands
+pub mod Entries
+pub mod ForC
+pub mod Program
+pub mod Spectator

@@ -1,0 +1,4 @@
+pub mod Demands
+pub mod Entries
+pub mod ForC
+pub mod Spectator

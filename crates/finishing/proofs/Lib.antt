@@ -1,0 +1,2 @@
+pub mod Finishing
+pub mod Tests

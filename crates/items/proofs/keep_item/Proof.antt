@@ -1,0 +1,92 @@
+-- What stands behind the bracket is the rest of the card, lent as a part (part-is); each way out is one of Opening's laws on an item.
+-- Assumes nothing.
+use Prim.Native.Nat.{_-_, _^_}
+use denote.Ref.{now}
+use borrow.Author.Needs.{needs}
+use lib.ListN.{length, take, drop}
+use Rattle.grouping.specs.Language.{languageOf}
+use Rattle.items.proofs.Opening.{step-within, part-is, part-placed, no-bracket, no-item, item-kept}
+use Rattle.items.proofs.keep_item.Statement.{statement}
+use Rattle.items.proofs.keep_item.Tie as tie
+use Rattle.items.proofs.keep_item.Reads as reads
+use Rattle.items.proofs.keep_item.Lts as lts
+use Rattle.grouping.proofs.item.Reads as item-reads
+use Rattle.grouping.proofs.lay.Reads as lay-reads
+use Rattle.due_signs.proofs.step_opening.Reads as step-opening-reads
+
+step-opening-requires : tie.Need-step-opening-requires
+step-opening-requires c κs = search needs
+
+returns : tie.Need-returns
+returns c =
+    let at-step = c .before .before in
+    let a = at-step .before .before .args in
+    no-bracket (languageOf (a .question)) (now (a .card)) (a .at) (a .top) (now (a .nodes)) (now (a .state)) (at-step .step-opening .result) (at-step .step-opening .ensures) (c .if1 .taken)
+
+sub-part : tie.Need-sub-part
+sub-part c =
+    let at-step = c .before .before in
+    let a = at-step .before .before .args in
+    step-within (now (a .card)) (a .at) (at-step .step-opening .result) (at-step .step-opening .ensures)
+
+part-part-start : tie.Need-part-part-start
+part-part-start c =
+    let at-step = c .before .before in
+    let a = at-step .before .before .args in
+    step-within (now (a .card)) (a .at) (at-step .step-opening .result) (at-step .step-opening .ensures)
+
+part-part-end : tie.Need-part-part-end
+part-part-end c = search needs
+
+item-requires : tie.Need-item-requires
+item-requires c κs = search needs
+
+returns-2 : tie.Need-returns-2
+returns-2 c =
+    let at-item = c .before .before in
+    let at-step = at-item .before .before .before .before in
+    let a = at-step .before .before .args in
+    let card = now (a .card) in
+    let s = at-step .step-opening .result in
+    let l = step-within card (a .at) s (at-step .step-opening .ensures) in
+    no-item (languageOf (a .question)) card (a .at) (a .top) (now (a .nodes)) (now (a .state)) s (at-step .step-opening .ensures) l
+    (take (length card - s .next .at) (drop (s .next .at) card)) (part-is card (s .next .at) l) (at-item .item .result) (at-item .item .ensures) (c .if2 .taken)
+
+lay-requires : tie.Need-lay-requires
+lay-requires c κs =
+    let at-item = c .before .before .before .before in
+    let at-step = at-item .before .before .before .before in
+    let entry = at-step .before .before in
+    let card = now (entry .args .card) in
+    let s = at-step .step-opening .result in
+    let l = step-within card (entry .args .at) s (at-step .step-opening .ensures) in
+    let placed = part-placed card (s .next .at) l (2 ^ 64) (entry .good .0 .0) (at-item .item .result) (at-item .item .ensures .inside) in
+    (entry .pre, record { place = placed .0; next = placed .1; first = placed .2 })
+
+returns-3 : tie.Need-returns-3
+returns-3 c =
+    let at-if2 = c .before .before .before in
+    let at-item = at-if2 .before .before in
+    let at-if1 = at-item .before .before in
+    let at-step = at-if1 .before .before in
+    let a = at-step .before .before .args in
+    let card = now (a .card) in
+    let s = at-step .step-opening .result in
+    let l = step-within card (a .at) s (at-step .step-opening .ensures) in
+    item-kept (languageOf (a .question)) card (a .at) (a .top) (now (a .nodes)) (now (a .state)) s (at-step .step-opening .ensures) l
+    (take (length card - s .next .at) (drop (s .next .at) card)) (part-is card (s .next .at) l) (at-item .item .result) (at-item .item .ensures)
+    (at-if1 .if1 .left) (at-if2 .if2 .left) _ _ _ (c .lay .ensures)
+
+pub keep-item-spec : {M : Type 1} → statement M
+keep-item-spec =
+    tie.close
+    (tie.spec
+    step-opening-requires
+    returns
+    sub-part
+    part-part-start
+    part-part-end
+    item-requires
+    returns-2
+    lay-requires
+    returns-3)

@@ -1,0 +1,4 @@
+pub mod Cleared
+pub mod Judging
+pub mod Structs
+pub mod ReadInto

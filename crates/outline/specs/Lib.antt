@@ -1,0 +1,2 @@
+pub mod ReadingOf
+pub mod Refusing

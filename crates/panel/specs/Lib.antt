@@ -1,2 +1,0 @@
-pub mod PanelSaid
-pub mod Reordering

@@ -1,0 +1,3 @@
+pub mod PanelSaid
+pub mod Reordering
+pub mod Program

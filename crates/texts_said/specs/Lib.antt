@@ -1,0 +1,2 @@
+pub mod WriteSaid
+pub mod ReduceSaid
