@@ -26,7 +26,7 @@ use Rattle.late.specs.State.{atValue, Sized, lateIn, valueIn, After, after, Hal
 use Rattle.late.proofs.Settling.{judge-append}
 use Rattle.late.proofs.StateLaws.{set-sized, value-set, late-set}
 use Rattle.parts.specs.Parts.{from, Read, Answers, Went, Told, itemsIn, duesIn, Sure, LineRead}
-use Rattle.mode_range.specs.ModeRange.{Valued}
+use Rattle.mode_and_range.specs.ModeRange.{Valued}
 use Rattle.frame.specs.Frame.{moduleDue, ModuleFrom, EndedBy, modules, ModulesRead, ModulesFrom}
 use Rattle.parts.proofs.Steps.{Next, end, one, place-seen, told}
 use Rattle.parts.proofs.Answers.{onward, halted, made}

@@ -27,7 +27,7 @@ use Rattle.late.proofs.Settling.{judge-append}
 use Rattle.late.proofs.StateLaws.{set-sized, value-set, late-set}
 use Rattle.parts.specs.Parts.{from, Read, Answers, NumberFrom, SignRead, SignFrom, Told, Sure, LineRead, RunFrom, kindsIn, numbersIn}
 use Rattle.frame.specs.Frame.{cardDue, HeaderShape, header, judgedHeader, HeaderIn, HeaderRead, HeaderFrom}
-use Rattle.mode_range.specs.ModeRange.{Valued, ModeFrom, range, RangeFrom}
+use Rattle.mode_and_range.specs.ModeRange.{Valued, ModeFrom, range, RangeFrom}
 use Rattle.parts.proofs.Steps.{Next, place-seen, behind, seen, valueBy, number-shown, zero-shown, modeBy, mode-shown, told}
 use Rattle.parts.proofs.Answers.{onward, halted, fits, misses}
 use Rattle.parts.proofs.Lines.{sign-fits, sign-misses}

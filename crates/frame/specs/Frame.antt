@@ -21,7 +21,7 @@ use Rattle.reading.specs.Shape.{modeOf, zeroOf, top, moreModules, theEnd}
 use Rattle.reading.specs.Checks.{judgedState, judgedWords, judgedModules}
 use Rattle.late.specs.Late.{Late, judgeAll}
 use Rattle.late.specs.State.{atMode, atTop, atStart, Sized, lateIn, valueIn, After, Halted}
-use Rattle.mode_range.specs.ModeRange.{Valued, range}
+use Rattle.mode_and_range.specs.ModeRange.{Valued, range}
 use Rattle.parts.specs.Parts.{from, Answers, Kept, Went, Due, sign as due, seat, process, kindsIn, numbersIn, RunFrom}
 
 -- ---- the beginning

@@ -100,7 +100,7 @@ pub fn literal(part: &[u8], at: usize) -> Tail
     }
 }
 
-// The same; most literals of a term but its first are `!=` and one digit, right behind each other.
+// A literal from behind its seat word on, as `literal` reads it; most literals of a term but its first are `!=` and one digit, right behind each other.
 pub fn literal_apart(part: &[u8], at: usize) -> Tail
     ensures { λ r. ⌜ ((o n i x : ℕ) → LiteralRead o (now (part .entry)) at n i (literalOf (from (placed (seatWord i) x ∷ marksAt o (now (part .entry)) at) n)) r) ⌝ }
 {

@@ -1,7 +1,7 @@
 -- The code keeps its contracts ("How tight the promises are"): of each function that is called from outside, the kit's statement that its
 -- routine meets what its source declares, for every memory that it may be called in. What the contracts say (`Reads`, `Entered`, `Printed`,
--- `Told`, `Found`, `PartTold`) is in `Entries.antt`, `ForC.antt`, `Questions.antt`, `Decks.antt`, `DeckWriting.antt`, `Spectator.antt`,
--- `Elevenths.antt` and `FirstMoves.antt` of `promises`. Assumes nothing.
+-- `Told`, `Found`, `PartTold`) is in `Entries.antt`, `ForC.antt` and `Spectator.antt` of `entry_promises`, and in `Questions.antt`,
+-- `Decks.antt`, `DeckWriting.antt`, `Elevenths.antt` and `FirstMoves.antt` of `promises`. Assumes nothing.
 use Rattle.reader.proofs.read.Statement.{statement as readKeeps}
 use Rattle.reader.proofs.read_into.Statement.{statement as readIntoKeeps}
 use Rattle.reader.proofs.read_under.Statement.{statement as readUnderKeeps}

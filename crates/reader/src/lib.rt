@@ -1,5 +1,4 @@
-// A card, from its bytes, in one pass: each mark of a card that is taken is read once, and only where reading stops is the rest searched
-// for a mark outside the rules.
+// A card, from its bytes: what is too long is refused, and all else is read in one pass (`card_reader`), into lent arrays or as one value.
 use card::Card;
 use card::limits::BRANCH_PLACES;
 use card::limits::CARD_BYTES;

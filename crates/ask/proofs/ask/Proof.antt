@@ -1,3 +1,4 @@
+-- `ask::ask` meets its contract: the stages in their order, each by the contract of what judges it. Assumes nothing.
 use Rattle.ask_stages.proofs.Entry.{card-refused, seats-fit, question-number, question-refused, still-long, seats-refused, answered}
 use Rattle.ask.specs.Answered.{asked}
 use Rattle.outline.proofs.ReadInto.{arrays-none}

@@ -1,3 +1,4 @@
+-- `branches::closed` meets its contract: at the `;` the sum is judged, and anything else is a stop. Assumes nothing.
 use Rattle.branches.proofs.BranchLaws.{close-stops, close-read}
 use borrow.Author.Needs.{needs}
 use Rattle.branches.proofs.closed.Statement.{statement}

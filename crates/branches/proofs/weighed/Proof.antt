@@ -1,3 +1,4 @@
+-- `branches::weighed` meets its contract: a weight's units are kept, or its place is blamed. Assumes nothing.
 use Rattle.branches.proofs.BranchLaws.{units-weighed, broken-weighed}
 use borrow.Author.Needs.{needs}
 use Rattle.branches.proofs.weighed.Statement.{statement}

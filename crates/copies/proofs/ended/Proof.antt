@@ -1,3 +1,4 @@
+-- `copies::ended` meets its contract: by whether anything stands behind the last module. Assumes nothing.
 use Rattle.copies.proofs.ModuleLaws.{end-stops, end-read}
 use borrow.Author.Needs.{needs}
 use Rattle.copies.proofs.ended.Statement.{statement}

@@ -1,3 +1,4 @@
+-- `copies::past_word` meets its contract: by the look for the word's text. Assumes nothing.
 use mathlib.Core.Path.{sym, _∙_}
 use native.Mathlib.Omega.{arith}
 use Rattle.copies.proofs.Written.{past-fits}

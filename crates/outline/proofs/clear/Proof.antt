@@ -1,3 +1,4 @@
+-- `outline::clear` meets its contract: after i turns the first i places are 0. Assumes nothing.
 use Prim.Native.Nat.{_≤_, _-_}
 use mathlib.Core.Path.{_≡_, refl}
 use lib.ListN.{length}

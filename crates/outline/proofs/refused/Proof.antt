@@ -1,3 +1,4 @@
+-- `outline::refused` meets its contract: the verdict is the refusal that is due, and the head is empty. Assumes nothing.
 use borrow.Author.Needs.{needs}
 use Rattle.outline.proofs.refused.Statement.{statement}
 use Rattle.outline.proofs.refused.Tie as tie

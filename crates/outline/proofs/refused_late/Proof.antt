@@ -1,3 +1,4 @@
+-- `outline::refused_late` meets its contract: the arrays are cleared, and the refusal is the one that is due. Assumes nothing.
 use Rattle.outline.proofs.Cleared.{all-cleared}
 use borrow.Author.Needs.{needs}
 use Rattle.outline.proofs.refused_late.Statement.{statement}

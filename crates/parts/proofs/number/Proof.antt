@@ -1,3 +1,4 @@
+-- `parts::number` meets its contract: the step finds a number, which is judged and kept, or stops. Assumes nothing.
 use Rattle.parts.proofs.Lines.{number-stops, number-read}
 use Rattle.parts.proofs.Steps.{next-at}
 use borrow.Author.Needs.{needs}

@@ -1,3 +1,4 @@
+-- `parts::sign` meets its contract: the step finds the sign, or stops at what stands there. Assumes nothing.
 use Rattle.parts.proofs.Lines.{sign-stops, sign-read}
 use Rattle.parts.proofs.Steps.{next-at}
 use borrow.Author.Needs.{needs}

@@ -1,5 +1,4 @@
 -- `put_numbers::digits` meets its contract: a number below a power of ten has so many digits. Assumes nothing.
--- The digits counted by tests: between ten to the k and ten times that a number has k + 1. Assumes nothing.
 use mathlib.Core.Path.{sym}
 use borrow.Author.Needs.{needs}
 use Rattle.room.proofs.Decimal.{length-one, decimal-size}

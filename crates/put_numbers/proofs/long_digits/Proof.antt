@@ -1,5 +1,4 @@
 -- `put_numbers::long_digits` meets its contract: a tenth has one digit less, so that each turn counts one. Assumes nothing.
--- The digits counted by a loop: what is left has as many as are still to be counted, and a last one. Assumes nothing.
 use Prim.Native.Nat.{_+_}
 use mathlib.Core.Path.{_≡_}
 use native.Mathlib.Omega.{arith}

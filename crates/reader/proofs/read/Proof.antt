@@ -1,3 +1,4 @@
+-- `reader::read` meets its contract: the one value is made of what stands in the arrays. Assumes nothing.
 use mathlib.Core.Path.{sym}
 use Rattle.card.specs.Lent.{lent}
 use Rattle.card.specs.Limits.{rowPlaces, nodePlaces, branchPlaces}

@@ -1,4 +1,4 @@
--- The quick way has the two steps by their looks (proofs/Quick.antt of marks).
+-- The quick way has the two steps by their looks (proofs/Quick.antt of looks).
 use Rattle.group.proofs.Literals.{literal-whole}
 use Rattle.looks.proofs.Quick.{sign-place, sign-step, digit-place, digit-step}
 use Rattle.marks.specs.Parts.{bareOf, valuedOf}

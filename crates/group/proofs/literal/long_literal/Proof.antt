@@ -1,3 +1,4 @@
+-- `literal::long_literal` meets its contract: a relation and a number, step by step, or the place of what stands there. Assumes nothing.
 use denote.Ref.{now}
 use Rattle.group.proofs.Literals.{literal-sign, literal-number, literal-whole}
 use Rattle.group.proofs.literal.long_literal.Statement.{statement}

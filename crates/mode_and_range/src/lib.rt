@@ -1,0 +1,70 @@
+// The mode of a card and its range of states, read from its bytes.
+use card::NONDETERMINISTIC as MODE_NONDETERMINISTIC;
+use card::PROBABILISTIC as MODE_PROBABILISTIC;
+use card::limits::TOP_STATE;
+use card::refusals::OUT_OF_SHAPE;
+use card::refusals::PAST_LIMIT;
+use due_words::step_number;
+use late::state::STATE;
+use late::state::VALUE;
+use late::stop;
+use marks::Cursor;
+use marks::kinds::DOTS;
+use marks::kinds::NONDETERMINISTIC;
+use marks::kinds::NUMBER;
+use marks::kinds::PROBABILISTIC;
+ghost use Rattle.late.specs.State.{Sized, lateIn, after};
+ghost use Rattle.mode_and_range.specs.ModeRange.{ModeFrom, RangeFrom};
+
+// The mode becomes the value.
+pub fn mode(card: &[u8], at: usize, state: &mut [usize; STATE]) -> usize
+    requires { ⌜ Sized (now state) ⌝ }
+    ensures { λ r. ⌜ ModeFrom (now (card .entry)) at (lateIn (now (state .entry))) (after (now (state .exit)) r) ⌝ }
+{
+    let cursor = Cursor { at };
+    let step = cursor.step(card);
+    let mark = step.mark;
+    let next = step.next;
+    if mark.kind == NONDETERMINISTIC {
+        state[VALUE] = MODE_NONDETERMINISTIC;
+        return next.at;
+    }
+    if mark.kind == PROBABILISTIC {
+        state[VALUE] = MODE_PROBABILISTIC;
+        return next.at;
+    }
+    stop(state, OUT_OF_SHAPE, mark.place)
+}
+
+// 0..k; k becomes the value.
+pub fn range(card: &[u8], at: usize, state: &mut [usize; STATE]) -> usize
+    requires { ⌜ Sized (now state) ⌝ }
+    ensures { λ r. ⌜ RangeFrom (now (card .entry)) at (lateIn (now (state .entry))) (after (now (state .exit)) r) ⌝ }
+{
+    let step = step_number(card, at);
+    let mark = step.mark;
+    let next = step.next;
+    if mark.kind != NUMBER {
+        return stop(state, OUT_OF_SHAPE, mark.place);
+    }
+    if mark.value != 0 {
+        return stop(state, OUT_OF_SHAPE, mark.place);
+    }
+    let between = next.step(card);
+    let dots = between.mark;
+    let behind = between.next;
+    if dots.kind != DOTS {
+        return stop(state, OUT_OF_SHAPE, dots.place);
+    }
+    let last = step_number(card, behind.at);
+    let top = last.mark;
+    let end = last.next;
+    if top.kind != NUMBER {
+        return stop(state, OUT_OF_SHAPE, top.place);
+    }
+    if top.value > TOP_STATE {
+        return stop(state, PAST_LIMIT, top.place);
+    }
+    state[VALUE] = top.value;
+    end.at
+}
