@@ -7,7 +7,7 @@
 // Each function of open_panel.h that answers about bytes is one here, under its name without `open_panel_` (box_find is boxFind). Rooms and
 // rows are lent by this module. A card or a question is a string or bytes, seats and classes are bytes or numbers. It needs nothing else.
 
-const VERSION = "0.8.2";
+const VERSION = "0.8.3";
 const NUMBERS = {
     CARD_BYTES: 16384,
     QUESTION_BYTES: 16384,

@@ -12,7 +12,7 @@ use lib.ListN.{length}
 use Rattle.card.specs.Limits.{cardBytes}
 use Rattle.card.specs.Refusals.{tooLong, outsideRules, outOfShape, pastLimit, aboveTop, notDue}
 use Rattle.card.specs.Card.{Formula}
-use Rattle.marks.specs.Marks.{Placed, marksOf, placeOf}
+use Rattle.marks_on_a_card.specs.Marks.{Placed, marksOf, placeOf}
 use Rattle.reading.specs.Reader.{Place, at, Result, ok, stop}
 use Rattle.reading.specs.Judgements.{Verdict, fine, wrong}
 use Rattle.reading.specs.Reading.{firstOutside}

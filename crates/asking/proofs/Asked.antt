@@ -10,7 +10,7 @@ use Rattle.card.specs.Limits.{mostNodes, mostDepth}
 use Rattle.card.specs.Refusals.{outOfShape, pastLimit}
 use Rattle.card.specs.Card.{any, Formula}
 use Rattle.card.specs.Valid.{Every}
-use Rattle.marks.specs.Marks.{Placed}
+use Rattle.marks_on_a_card.specs.Marks.{Placed}
 use Rattle.reading.specs.Reader.{Place, State, at, ok, stop, _>>=_, _>>_, return}
 use Rattle.reading.specs.Guard.{seatNext, Read, unaryBy}
 use Rattle.reading.specs.Group.{joint, Literal, joined}

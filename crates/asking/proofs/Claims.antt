@@ -7,7 +7,7 @@ use native.Mathlib.Omega.{arith}
 use Rattle.card.specs.Text.{if_then_else_}
 use Rattle.card.specs.Card.{Sign, all, any, Formula}
 use Rattle.card.specs.Valid.{Every}
-use Rattle.marks.specs.Marks.{seat, number, Placed, placed, placeOf}
+use Rattle.marks_on_a_card.specs.Marks.{seat, number, Placed, placed, placeOf}
 use Rattle.reading.specs.Reader.{Place}
 use Rattle.reading.specs.Group.{joint, relation}
 use Rattle.reading.specs.Judgements.{Verdict, fine, wrong}

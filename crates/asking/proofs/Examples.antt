@@ -5,7 +5,7 @@ use mathlib.Core.List.{_∷_, _++_, append-cancel-right, head-eq-of-cons-eq, tai
 use Rattle.card.specs.Refusals.{pastLimit}
 use Rattle.card.specs.Text.{bytes}
 use Rattle.card.specs.Card.{all, is, atom}
-use Rattle.marks.specs.Marks.{Placed}
+use Rattle.marks_on_a_card.specs.Marks.{Placed}
 use Rattle.reading.specs.Reader.{Place, at, stop}
 use Rattle.grammar.specs.Verdicts.{PastIn}
 use Rattle.asking.specs.Question.{mixedNext, itemNext, question, QuestionSaid, countedQuestion, QuestionPast}

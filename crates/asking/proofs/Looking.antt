@@ -11,7 +11,7 @@ use Rattle.card.specs.Limits.{mostNodes}
 use Rattle.card.specs.Refusals.{outOfShape, pastLimit}
 use Rattle.card.specs.Text.{bytes, same}
 use Rattle.card.specs.Card.{all, any, Relation, is as eq, isnt as ne, Formula, atom, and, or}
-use Rattle.marks.specs.Marks.{Mark, text, seat, number, Placed, placed}
+use Rattle.marks_on_a_card.specs.Marks.{Mark, text, seat, number, Placed, placed}
 use Rattle.reading.specs.Reader.{Place, State, at, Result, ok, stop, Reader, bind, _>>=_, return, is, nextIs, sign, here}
 use Rattle.reading.specs.Guard.{seatNext, Read, chain, conjunction, expression, unaryBy, grouped as readGrouped}
 use Rattle.reading.specs.Group.{joint, Literal, Literals, literalsOf, literal as readLiteral, joined, group}

@@ -6,7 +6,7 @@ use mathlib.Core.List.{List, [], _∷_, _++_, append-assoc, head?}
 use native.Mathlib.Omega.{arith}
 use lib.ListN.{length}
 use Rattle.card.specs.Card.{Sign, all, any, Relation, Formula}
-use Rattle.marks.specs.Marks.{text, seat, process, number, decimal, outside, placed}
+use Rattle.marks_on_a_card.specs.Marks.{text, seat, process, number, decimal, outside, placed}
 use Rattle.reading.specs.Reader.{Place, at, is}
 use Rattle.reading.specs.Guard.{seatNext, expression}
 use Rattle.reading.specs.Group.{joint, relation, Literal, literalOf, Literals, literalsOf, group}

@@ -13,7 +13,7 @@ use Rattle.card.specs.Text.{if_then_else_}
 use Rattle.card.specs.Card.{Relation, is as eq, isnt as ne, Formula}
 use Rattle.card.specs.Formulas.{over, eachAtom}
 use Rattle.card.specs.Valid.{Every}
-use Rattle.marks.specs.Marks.{Placed, marksOf, placeOf}
+use Rattle.marks_on_a_card.specs.Marks.{Placed, marksOf, placeOf}
 use Rattle.reading.specs.Reader.{Place, at, Result, ok, stop}
 use Rattle.reading.specs.Group.{Literal, Literals}
 use Rattle.reading.specs.Judgements.{once, sameRelation, alike, Verdict, fine, wrong}

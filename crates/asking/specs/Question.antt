@@ -6,7 +6,7 @@ use mathlib.Core.List.{List, [], _∷_}
 use lib.ListN.{length}
 use Rattle.card.specs.Limits.{mostNodes, mostDepth}
 use Rattle.card.specs.Card.{Sign, all, any, Relation, is as eq, isnt as ne, Formula}
-use Rattle.marks.specs.Marks.{placed}
+use Rattle.marks_on_a_card.specs.Marks.{placed}
 use Rattle.reading.specs.Reader.{Place, at, Result, ok, stop, Reader, bind, _>>=_, _>>_, return, is, sign, here}
 use Rattle.reading.specs.Guard.{seatNext, ifSeat, Read, expression, unaryBy}
 use Rattle.reading.specs.Group.{joint, Literal, Literals, literal, joined, others, group}

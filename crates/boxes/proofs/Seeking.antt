@@ -1,11 +1,9 @@
 -- A number sought from entry to entry: what is left of the contents decides. Assumes nothing.
 use Prim.Native.Nat.{ℕ, zero, suc, _+_, _-_, _*_, _≤_}
 use mathlib.Core.Path.{_≡_, refl, sym, ap, _∙_}
-use mathlib.Core.Bool.{Bool, true, false, _&&_}
+use mathlib.Core.Bool.{Bool, true, false}
 use mathlib.Core.List.{List}
 use native.Mathlib.Omega.{arith}
-use lib.Dec.{eqb}
-use borrow.Author.Tests.{eq-eqb, ne-eqb}
 use lib.ListN.{length, drop}
 use lib.Seq.{drop-drop}
 use Rattle.card.specs.Limits.{deckBytes}
@@ -13,26 +11,14 @@ use Rattle.card.specs.Refusals.{noLiveCard}
 use Rattle.card.specs.Text.{if_then_else_}
 use Rattle.card.specs.declared.Verdict.the-variants.{Taken}
 use Rattle.entry.specs.Said.{Said, says, refused, saying}
-use Rattle.deck.specs.Contents.{byte, wordAt, Row, rowOf, rowsOf, countOf, contentsOf}
+use Rattle.deck.specs.Contents.{wordAt, Row, rowOf, rowsOf, countOf, contentsOf}
 use Rattle.deck.specs.Lookup.{partFor, isLive, liveRow}
 use Rattle.deck.specs.Sound.{Head}
 use Rattle.deck_entries.proofs.Laws.{row-there}
 use Rattle.boxes.specs.Boxes.{placed}
 use Rattle.boxes.specs.declared.Place.{Place}
 
--- ---- one entry
-
-module _ (deck : List ℕ) (at number n : ℕ) (e : n ≡ wordAt deck at) where
-  live-there : isLive number (rowOf (drop at deck)) ≡ (eqb n number && eqb (byte deck (at + 6)) 1)
-  live-there = ap (isLive number) (row-there deck at 0 0 e refl refl refl refl)
-
-  pub not-named : (n ≡ number → ⊥) → false ≡ isLive number (rowOf (drop at deck))
-  not-named h = sym (live-there ∙ ap (λ (b : Bool). b && eqb (byte deck (at + 6)) 1) (ne-eqb n number h))
-
-  pub named : n ≡ number → eqb (byte deck (at + 6)) 1 ≡ isLive number (rowOf (drop at deck))
-  named h = sym (live-there ∙ ap (λ (b : Bool). b && eqb (byte deck (at + 6)) 1) (eq-eqb n number h))
-
--- ---- from entry to entry, with so many left
+-- from entry to entry, with so many left
 
 pub record Seeking (deck : List ℕ) (number left at : ℕ) : Type 0 where
   pub same : liveRow number (contentsOf deck) ≡ liveRow number (rowsOf left (drop at deck))

@@ -3,20 +3,17 @@ use card::Verdict;
 use card::limits::COUNT_BYTES;
 use card::limits::ENTRY_BYTES;
 use card::limits::EXPANSION_FROM;
-use card::limits::FLAG_AT;
 use card::limits::OFFSET_AT;
 use card::limits::SIZE_AT;
 use card::refusals::NO_LIVE_CARD;
 use contents::judge_deck;
 use deck_entries::wide;
 use deck_entries::word_at;
+use live_entries::is_live;
 ghost use mathlib.Core.Path.{_≡_};
-ghost use Prim.Native.Nat.{_+_, _≤_};
-ghost use lib.ListN.{length, drop};
-ghost use Rattle.card.specs.Limits.{entryBytes};
 ghost use Rattle.entry.specs.Said.{refused, saying};
-ghost use Rattle.deck.specs.Contents.{rowOf, contentsOf};
-ghost use Rattle.deck.specs.Lookup.{partFor, isLive, liveRow, located, locatedWith};
+ghost use Rattle.deck.specs.Contents.{contentsOf};
+ghost use Rattle.deck.specs.Lookup.{partFor, liveRow, located, locatedWith};
 ghost use Rattle.deck.specs.Sound.{Head};
 ghost use Rattle.boxes.specs.Boxes.{placed};
 
@@ -41,18 +38,6 @@ fn nowhere(number: u8, place: usize) -> Place
         offset: 0,
         size: 0,
     }
-}
-
-// Is the entry at a place live, and has it this number?
-fn is_live(deck: &[u8], at: usize, number: usize) -> bool
-    requires { ⌜ at + entryBytes ≤ length (now deck) ⌝ }
-    ensures { λ r. ⌜ r ≡ isLive number (rowOf (drop at (now (deck .entry)))) ⌝ }
-{
-    let named = word_at(deck, at);
-    if named != number {
-        return false;
-    }
-    deck[at + FLAG_AT] == 1
 }
 
 // The live card of a number, entry by entry, in a deck that is taken.

@@ -5,36 +5,15 @@ use mathlib.Core.Path.{_≡_, refl, ap}
 use mathlib.Core.List.{List, [], _∷_, _++_, map}
 use native.Mathlib.Numerals.{add-one}
 use native.Mathlib.Omega.{arith}
-use borrow.Author.Tests.{eq-eqb, ne-eqb}
 use lib.ListN.{length, getD, take, drop}
 use lib.Seq.{take-suc, take-all}
 use Rattle.card.specs.Card.{Branch}
 use Rattle.card.specs.Laid.{unitsPart, endPart, branchOf}
-use Rattle.meaning.specs.Reduced.{updateOf}
-use Rattle.phrases.specs.Phrases.{Text, _▸_, num, weightText}
+use Rattle.phrases.specs.Phrases.{Text, _▸_, weightText}
 use Rattle.phrases.specs.Puts.{Puts}
-use Rattle.room.specs.Digits.{digit}
-use Rattle.room.proofs.Decimal.{decimal-one}
 use Rattle.texts.specs.Shared.{more, summed}
-use Rattle.texts.specs.ReducedText.{updateText}
 use Rattle.leaf_text.specs.declared.Style.{Style}
 use Rattle.branch_text.specs.Branches.{endText, branchText}
-
--- ---- what a branch does to the counters
-
-module _ (n j t : ℕ) where
-  pub update-keep : j ≡ t → (r : List ℕ) → "true" ▸ r ≡ updateText (updateOf n j t) r
-  update-keep e r = rw (eq-eqb j t e)
-
-  pub update-shift : (j ≡ t → ⊥) → (r : List ℕ)
-      → "(no_" ▸ num j ("'=no_" ▸ num j ("-1) & (no_" ▸ num t ("'=min(no_" ▸ num t ("+1," ▸ num n ("))" ▸ r))))) ≡ updateText (updateOf n j t) r
-  update-shift h r = rw (ne-eqb j t h)
-
-  -- of one digit each
-  pub update-digits : (j ≡ t → ⊥) → j < 10 → t < 10 → (r : List ℕ)
-      → "(no_" ▸ (digit j ∷ ("'=no_" ▸ (digit j ∷ ("-1) & (no_" ▸ (digit t ∷ ("'=min(no_" ▸ (digit t ∷ ("+1," ▸ num n ("))" ▸ r)))))))))
-      ≡ updateText (updateOf n j t) r
-  update-digits h hj ht r = rw (decimal-one j hj, decimal-one t ht) at (update-shift h r)
 
 pub branch-parts : (s : Style) (x : ℕ) {u e : ℕ} → u ≡ unitsPart x → e ≡ endPart x → (r : List ℕ) → weightText u (endText s e r) ≡ branchText s (branchOf x) r
 unfolding branchOf

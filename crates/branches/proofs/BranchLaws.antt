@@ -20,8 +20,8 @@ use Rattle.card.specs.Weight.{Weight, whole, decimal as point, ratio, unitsOf, 
 use Rattle.weights.specs.Judged.{judgedOf}
 use Rattle.weights.specs.declared.Judged.{Judged}
 use Rattle.weights.specs.declared.Weight.{Weight as WeightRow}
-use Rattle.marks.specs.Marks.{Mark, placeOf}
-use Rattle.marks.specs.Kinds.{kNumber, kDecimal, kind}
+use Rattle.marks_on_a_card.specs.Marks.{Mark, placeOf}
+use Rattle.marks_on_a_card.specs.Kinds.{kNumber, kDecimal, kind}
 use Rattle.marks.specs.Step.{marksAt}
 use Rattle.marks.specs.declared.Found.{Found}
 use Rattle.marks.specs.declared.Step.{Step}

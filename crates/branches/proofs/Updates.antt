@@ -6,8 +6,8 @@ use mathlib.Core.List.{List, [], _∷_}
 use native.Mathlib.Omega.{arith}
 use lib.ListN.{length, drop}
 use Rattle.card.specs.Text.{bytes}
-use Rattle.letters.specs.Bytes.{inWord, begun}
-use Rattle.marks.specs.Kinds.{kSeat, kind}
+use Rattle.marks_on_a_card.specs.Bytes.{inWord, begun}
+use Rattle.marks_on_a_card.specs.Kinds.{kSeat, kind}
 use Rattle.marks.specs.Parts.{bareOf, valuedOf}
 use Rattle.reading.specs.Reader.{line}
 use Rattle.late.specs.State.{Sized, lateIn, after}

@@ -14,7 +14,7 @@ use Rattle.card.specs.Stored.{stored}
 use Rattle.card.specs.Weight.{Weight, Rule}
 use Rattle.weights.specs.Judged.{judgedOf}
 use Rattle.weights.specs.declared.Judged.{Judged}
-use Rattle.marks.specs.Kinds.{kNumber, kDecimal, kind}
+use Rattle.marks_on_a_card.specs.Kinds.{kNumber, kDecimal, kind}
 use Rattle.marks.specs.declared.Found.{Found}
 use Rattle.marks.specs.Step.{marksAt}
 use Rattle.reading.specs.Reader.{Place, State, Result, Reader, bind, _>>=_, _>>_, return, sign, here}

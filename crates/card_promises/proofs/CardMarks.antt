@@ -10,7 +10,7 @@ use Rattle.card.specs.Card.{Mode, Card, Formula}
 use Rattle.card.specs.Weight.{Weight, Worth, Rule}
 use Rattle.card.specs.Valid.{Every}
 use Rattle.card.proofs.Laws.{units-worth}
-use Rattle.marks.specs.Marks.{Mark, seat, process, number, placed, marksOf}
+use Rattle.marks_on_a_card.specs.Marks.{Mark, seat, process, number, placed, marksOf}
 use Rattle.reading.specs.Reader.{Place, Numbered, Item, exactly, seatWord, processWord}
 use Rattle.reading.specs.Group.{Literals}
 use Rattle.reading.specs.Judgements.{Judgement, orZero, unitsIn, placeIn, judgedGuard}

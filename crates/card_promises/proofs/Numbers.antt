@@ -13,7 +13,7 @@ use Rattle.card.specs.Refusals.{tooLong, aboveTop, notDue, wrongWeight, decimal
 use Rattle.card.specs.Text.{if_then_else_}
 use Rattle.card.specs.Card.{Card}
 use Rattle.card.specs.Weight.{unitsOf, Rule, allowed, weightRefusal}
-use Rattle.marks.specs.Marks.{Placed, marksOf}
+use Rattle.marks_on_a_card.specs.Marks.{Placed, marksOf}
 use Rattle.reading.specs.Reader.{Place, at, Result, ok, stop}
 use Rattle.reading.specs.Guard.{isSome}
 use Rattle.reading.specs.Judgements.{Judgement, state, word, oneGroup, weight, sum, placeIn, symmetric, totalUnits, unless, broken, Verdict, fine, wrong, orElse, firstBroken}

@@ -7,7 +7,7 @@ use mathlib.Core.Option.{Option, none, some}
 use Rattle.card.specs.Text.{bytes}
 use Rattle.card.specs.Card.{Mode, Guard, Branch, Statement, Card}
 use Rattle.card.specs.Weight.{Weight, whole, decimal as point, ratio, Worth}
-use Rattle.marks.specs.Marks.{Mark, text, seat, process, number, decimal, Placed, placed}
+use Rattle.marks_on_a_card.specs.Marks.{Mark, text, seat, process, number, decimal, Placed, placed}
 use Rattle.grammar.specs.Grammar.{modeWord}
 
 -- a sign or a keyword

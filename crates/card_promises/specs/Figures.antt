@@ -8,8 +8,8 @@ use Rattle.card.specs.Refusals.{malformedDeck, noLiveCard, decimalWeight}
 use Rattle.card.specs.Refusals.{wrongClasses}
 use Rattle.room.specs.Digits.{digit}
 use Rattle.texts.specs.Lengths.{writtenRoom, reducedRoom}
-use Rattle.panel_room.specs.PanelRoom.{panelRoom}
-use Rattle.program_lines.specs.Lines.{inputBytes, lineEnd, noState}
+use Rattle.panel_wording.specs.PanelRoom.{panelRoom}
+use Rattle.panel_wording.specs.Lines.{inputBytes, lineEnd, noState}
 use Rattle.asking.specs.Asking.{inQuestion}
 use Rattle.classes.specs.ClassesRoom.{classesRoom}
 use Rattle.evenings.specs.Limits.{mostNights, mostVectors, million, tooManyVectors, tooManyNights, wrongRow}

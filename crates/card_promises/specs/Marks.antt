@@ -4,7 +4,7 @@ use Prim.Native.Nat.{ℕ, _+_, _≤_}
 use mathlib.Core.Path.{_≡_}
 use mathlib.Core.Logic.{_↔_}
 use mathlib.Core.List.{List, _∷_, _++_}
-use Rattle.marks.specs.Marks.{Mark, Placed, placed, marksOf}
+use Rattle.marks_on_a_card.specs.Marks.{Mark, Placed, placed, marksOf}
 use Rattle.spelling.specs.Spells.{Spells}
 use Rattle.spelling.specs.Marked.{taken, Marked, StandsAt}
 

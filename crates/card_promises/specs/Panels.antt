@@ -14,7 +14,7 @@ use Rattle.meaning.specs.Seats.{Seating, ValidSeating, counts, mayTake, turn, S
 use Rattle.meaning.specs.Panel.{panel, blockOf, blockTotal, due}
 use Rattle.meaning.specs.ByCounts.{orOne, countPanel}
 use Rattle.meaning.specs.Reordered.{Reordered}
-use Rattle.lines.specs.PanelText.{panelOf}
+use Rattle.panel_wording.specs.PanelText.{panelOf}
 use Rattle.shown.specs.InOrder.{InOrder}
 
 -- a seat in state a moves to state b, whatever the others are in

@@ -9,7 +9,7 @@ use Rattle.card.specs.Card.{everyone, others, Card}
 use Rattle.card.specs.Weight.{cardRule}
 use Rattle.card.specs.Valid.{ValidCard}
 use Rattle.card.specs.Refusals.{tooLong, outsideRules, outOfShape, pastLimit, aboveTop, notDue, wrongWeight}
-use Rattle.marks.specs.Marks.{marksOf}
+use Rattle.marks_on_a_card.specs.Marks.{marksOf}
 use Rattle.reading.specs.Group.{Literal}
 use Rattle.reading.specs.Judgements.{kindOf}
 use Rattle.grammar.specs.Rules.{OnceEach}

@@ -16,7 +16,7 @@ use Rattle.card.specs.Laid.{modeNumber}
 use Rattle.card.specs.Lent.{Lent, headOf, lentOf, noneLent}
 use Rattle.card.specs.declared.Head.{Head}
 use Rattle.card.specs.declared.Verdict.the-variants.{Taken}
-use Rattle.marks.specs.Marks.{placeOf}
+use Rattle.marks_on_a_card.specs.Marks.{placeOf}
 use Rattle.marks.specs.Step.{marksAt}
 use Rattle.reading.specs.Reader.{Place, State, at, Result, ok, stop, Reader, bind, return, the, sign, numberOf, Numbered, numbered, line}
 use Rattle.grammar.specs.Grammar.{cardRun}

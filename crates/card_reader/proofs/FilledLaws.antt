@@ -26,7 +26,9 @@ use Rattle.reading.specs.Checks.{judgedState, judgedWords, judgedOr, weightIn, 
 use Rattle.late.specs.Late.{guardBy}
 use Rattle.late.proofs.Settling.{fine-cons, fine-append, same-guard}
 use Rattle.branches.specs.Branches.{packedIn}
-use Rattle.statements.specs.Statements.{guardOrBy, rowBy, withStatement, filled}
+use Rattle.statement_head.specs.StatementHead.{guardOrBy}
+use Rattle.statements.specs.OneStatement.{rowBy, withStatement}
+use Rattle.statements.specs.Statements.{filled}
 
 -- ---- the arrays with these statements in them
 

@@ -12,7 +12,7 @@ use lib.ListN.{length}
 use Rattle.card.specs.Limits.{cardBytes, mostSeats}
 use Rattle.card.specs.Refusals.{tooLong, outsideRules}
 use Rattle.card.specs.Weight.{Rule}
-use Rattle.marks.specs.Marks.{Placed, marksOf, placeOf}
+use Rattle.marks_on_a_card.specs.Marks.{Placed, marksOf, placeOf}
 use Rattle.marks.specs.Step.{marksAt}
 use Rattle.marks.proofs.Next.{marks-whole}
 use Rattle.reading.specs.Reader.{Place, State, at, Result, ok, stop, bind, return}

@@ -10,7 +10,7 @@ use Rattle.card.specs.Refusals.{wrongClasses}
 use Rattle.card.specs.declared.Verdict.the-variants.{Refused}
 use Rattle.room.specs.Room.{Put}
 use Rattle.phrases.specs.Puts.{Puts}
-use Rattle.lines.specs.PanelText.{line}
+use Rattle.panel_wording.specs.PanelText.{line}
 use Rattle.seating.specs.Judged.{judgedFrom}
 use Rattle.classes.specs.Classes.{classesText}
 use Rattle.classes.specs.ClassesSaid.{judgedClasses}

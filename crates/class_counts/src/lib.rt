@@ -1,10 +1,10 @@
 // A list of the states' classes judged, the seats counted by it, and their line in a room (document 02, 2026-05).
+use bytes_as_numbers::wide;
 use card::Verdict;
 use card::limits::PUBLIC_CLASSES;
 use card::limits::TOP_CLASS;
 use card::refusals::ROOM_TOO_SMALL;
 use card::refusals::WRONG_CLASSES;
-use letters::bytes::wide;
 use lines::put_line;
 use room::Answer;
 use seating::judge_each;

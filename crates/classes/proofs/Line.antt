@@ -11,7 +11,7 @@ use Rattle.card.specs.Valid.{Every}
 use Rattle.room.specs.Digits.{decimal}
 use Rattle.room.proofs.Decimal.{decimal-length}
 use Rattle.phrases.specs.Phrases.{_▸_, num}
-use Rattle.lines.specs.PanelText.{numbers, line}
+use Rattle.panel_wording.specs.PanelText.{numbers, line}
 use Rattle.meaning.specs.Sums.{sum}
 use Rattle.meaning.specs.Seats.{Seating}
 use Rattle.meaning.proofs.Sums.{every-imp}

@@ -10,7 +10,7 @@ use Rattle.card.specs.Valid.{Every}
 use Rattle.meaning.specs.Sums.{gate, sum, upto}
 use Rattle.meaning.specs.Seats.{Seating}
 use Rattle.meaning.specs.Reduced.{noOf}
-use Rattle.lines.specs.PanelText.{line}
+use Rattle.panel_wording.specs.PanelText.{line}
 
 -- the class that a list gives state d
 abbrev pub classOf : List ℕ → ℕ → ℕ

@@ -1,2 +1,1 @@
 pub mod ModuleLaws
-pub mod Written

@@ -12,10 +12,10 @@ use lib.ListN.{length, set}
 use Rattle.card.specs.Limits.{mostSeats}
 use Rattle.card.specs.Refusals.{outOfShape, pastLimit}
 use Rattle.card.specs.Text.{if_then_else_}
-use Rattle.marks.specs.Marks.{Placed, placed, placeOf}
-use Rattle.marks.specs.Kinds.{kEnd, kind}
+use Rattle.marks_on_a_card.specs.Marks.{Placed, placed, placeOf}
+use Rattle.marks_on_a_card.specs.Kinds.{kEnd, kind}
 use Rattle.marks.specs.Step.{marksAt}
-use Rattle.marks.proofs.KindLaws.{kind-some}
+use Rattle.marks_on_a_card.proofs.KindLaws.{kind-some}
 use Rattle.marks.specs.declared.Found.{Found}
 use Rattle.marks.specs.declared.Step.{Step}
 use Rattle.reading.specs.Reader.{State, Result, ok, stop, Reader, bind, return, refuse, Numbered, Item, line}

@@ -15,7 +15,7 @@ use Rattle.card.specs.Laid.{branchOf, unitsPart, endPart}
 use Rattle.meaning.specs.Sums.{gate}
 use Rattle.meaning.specs.ByCounts.{unitsTo}
 use Rattle.meaning.proofs.Sums.{length-upto, getD-upto, sum-append, map-append}
-use Rattle.counting.specs.Taking.{unitsToEach}
+use Rattle.panel_numbers.specs.Taking.{unitsToEach}
 
 pub each-none : replicate mostStates 0 ≡ unitsToEach []
 unfolding unitsToEach unitsTo

@@ -2,20 +2,16 @@
 ghost use mathlib.Core.Path.{_≡_};
 ghost use mathlib.Core.Bool.{true};
 ghost use lib.ListN.{length, drop};
-ghost use Rattle.letters.specs.Bytes.{run, isDigit};
-ghost use Rattle.digits.specs.Digits.{plain, pointed, Counted, grownBy};
+ghost use Rattle.marks_on_a_card.specs.Bytes.{run, isDigit};
+ghost use Rattle.marks_on_a_card.specs.Digits.{plain, pointed, Counted, grownBy};
+use bytes_as_numbers::wide;
 use letters::bytes::digit_at;
 use letters::bytes::is_digit;
 use letters::bytes::stands;
-use letters::bytes::wide;
+use marks_on_a_card::Digits;
 
 // A number below this takes one more digit.
 const HELD: usize = 1000000000000000000;
-
-pub struct Digits {
-    pub count: usize,
-    pub value: usize,
-}
 
 // One digit more, while the number is held.
 fn grown(value: usize, b: u8) -> usize

@@ -10,19 +10,19 @@ use looks::look::sign_here;
 use marks::Cursor;
 use marks::Step;
 use marks::answer::bare;
-use marks::kinds::AND;
-use marks::kinds::ARROW;
-use marks::kinds::COLON;
-use marks::kinds::EQUAL;
-use marks::kinds::NOT;
-use marks::kinds::NOT_EQUAL;
-use marks::kinds::OR;
-use marks::kinds::PLUS;
-use marks::kinds::ROUND_CLOSE;
-use marks::kinds::ROUND_OPEN;
-use marks::kinds::SEMICOLON;
-use marks::kinds::SLASH;
-use marks::kinds::SQUARE_OPEN;
+use marks_on_a_card::kinds::AND;
+use marks_on_a_card::kinds::ARROW;
+use marks_on_a_card::kinds::COLON;
+use marks_on_a_card::kinds::EQUAL;
+use marks_on_a_card::kinds::NOT;
+use marks_on_a_card::kinds::NOT_EQUAL;
+use marks_on_a_card::kinds::OR;
+use marks_on_a_card::kinds::PLUS;
+use marks_on_a_card::kinds::ROUND_CLOSE;
+use marks_on_a_card::kinds::ROUND_OPEN;
+use marks_on_a_card::kinds::SEMICOLON;
+use marks_on_a_card::kinds::SLASH;
+use marks_on_a_card::kinds::SQUARE_OPEN;
 
 // The cursor's step from a place on. The answer is made anew, so that the callers' quick answers need not lie in memory for it.
 pub fn step_from(card: &[u8], at: usize) -> Step

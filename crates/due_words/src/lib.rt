@@ -4,22 +4,22 @@ ghost use Rattle.marks.specs.Step.{stepAt};
 use due_signs::step_from;
 use due_signs::step_opening;
 use due_signs::step_sign;
-use looks::look::NO_DIGIT;
-use looks::look::digit_here;
 use looks::look::past_blank;
 use looks::look::past_line;
 use looks::look::process_here;
 use looks::look::seat_here;
 use looks::look::teen_here;
-use looks::look::word_here;
 use marks::Step;
 use marks::answer::bare;
 use marks::answer::valued;
-use marks::kinds::ENDMODULE;
-use marks::kinds::MODULE;
-use marks::kinds::NUMBER;
-use marks::kinds::PROCESS;
-use marks::kinds::SEAT;
+use marks_on_a_card::kinds::ENDMODULE;
+use marks_on_a_card::kinds::MODULE;
+use marks_on_a_card::kinds::NUMBER;
+use marks_on_a_card::kinds::PROCESS;
+use marks_on_a_card::kinds::SEAT;
+use word_and_digit_looks::NO_DIGIT;
+use word_and_digit_looks::digit_here;
+use word_and_digit_looks::word_here;
 
 // A number.
 pub fn step_number(card: &[u8], at: usize) -> Step

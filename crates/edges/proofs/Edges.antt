@@ -4,7 +4,7 @@ use Rattle.card.specs.Weight.{unitsOf}
 use Rattle.reading.specs.Reading.{readUnder}
 use Rattle.room.specs.Digits.{decimal}
 use Rattle.meaning.specs.Panel.{panel}
-use Rattle.lines.specs.PanelText.{panelOf}
+use Rattle.panel_wording.specs.PanelText.{panelOf}
 use Rattle.meaning.specs.CardA.{cardA}
 use Rattle.edges.specs.Edges.{Edges, MarkEdges, RunEdges, UnitEdges}
 

@@ -8,11 +8,11 @@ use mathlib.Core.List.{List, [], _∷_, _++_}
 use mathlib.Core.Option.{Option, none, some}
 use Rattle.card.specs.Text.{bytes}
 use Rattle.card.specs.Card.{Mode, nondeterministic, probabilistic, others, all, any, is, group, atom, neg, Guard, Branch}
-use Rattle.marks.specs.Marks.{text, seat, process, number, decimal, outside, Placed, placed, marksOf}
+use Rattle.marks_on_a_card.specs.Marks.{text, seat, process, number, decimal, outside, Placed, placed, marksOf}
 use Rattle.reading.specs.Reading.{Outcome, taken, refused, firstOutside, readUnder, readOf}
 use Rattle.room.specs.Digits.{decimal as digitsOf}
 use Rattle.meaning.specs.CardA.{cardA}
-use Rattle.lines.specs.PanelText.{panelOf}
+use Rattle.panel_wording.specs.PanelText.{panelOf}
 
 -- card A's own text behind its mode
 abbrev pub behindMode : List ℕ

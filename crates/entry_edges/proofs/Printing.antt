@@ -5,7 +5,7 @@ use Rattle.reading.specs.Reading.{readUnder}
 use Rattle.room.specs.Digits.{decimal}
 use Rattle.meaning.specs.Panel.{panel}
 use Rattle.meaning.specs.CardA.{cardA}
-use Rattle.lines.specs.PanelText.{panelOf}
+use Rattle.panel_wording.specs.PanelText.{panelOf}
 use Rattle.seating.specs.Judged.{judgedSeats, judgedFrom}
 use Rattle.panel_said.specs.PanelSaid.{panelSaid}
 use Rattle.panel_said.specs.Program.{programOf, answerTo, seatsLine, cardBehind}

@@ -17,7 +17,7 @@ use Rattle.rereading.proofs.RoundTrip.{read-again}
 use Rattle.texts_said.specs.WriteSaid.{writeSaid}
 use Rattle.texts_said.specs.ReduceSaid.{reduceSaid}
 use Rattle.panel_said.specs.PanelSaid.{panelSaid}
-use Rattle.lines.specs.PanelText.{panelOf}
+use Rattle.panel_wording.specs.PanelText.{panelOf}
 use Rattle.panel_said.proofs.Reordering.{equal-said, said-alike, alike}
 use Rattle.card_promises.proofs.Marks.{markings}
 use Rattle.card_promises.proofs.Readings.{readings}

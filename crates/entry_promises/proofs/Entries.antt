@@ -35,7 +35,7 @@ use Rattle.texts.proofs.WrittenShort.{written-room}
 use Rattle.texts.specs.ReducedText.{reducedOf}
 use Rattle.texts_said.specs.ReduceSaid.{reduceSaid}
 use Rattle.texts.proofs.ReducedShort.{short}
-use Rattle.lines.specs.PanelText.{panelOf}
+use Rattle.panel_wording.specs.PanelText.{panelOf}
 use Rattle.panel_said.specs.PanelSaid.{panelSaid}
 use Rattle.panel_said.proofs.Short.{panel-fits}
 use Rattle.panel_said.proofs.Theorems.{said, said-card, said-count, said-seat}

@@ -24,7 +24,7 @@ use Rattle.meaning.specs.Seats.{ValidSeating}
 use Rattle.seating.specs.Judged.{FirstAbove}
 use Rattle.seating.specs.SeatsSaid.{seatsNumbers}
 use Rattle.rows.specs.Said.{cardNumbers}
-use Rattle.lines.specs.PanelText.{panelOf}
+use Rattle.panel_wording.specs.PanelText.{panelOf}
 use Rattle.panel_said.specs.PanelSaid.{panelSaid}
 use Rattle.panel_said.proofs.Short.{panel-fits}
 use Rattle.panel_said.proofs.Theorems.{said, said-card, said-count, said-seat}

@@ -26,7 +26,7 @@ use Rattle.texts.specs.Writing.{writeOf}
 use Rattle.texts_said.specs.WriteSaid.{writeSaid}
 use Rattle.texts.specs.ReducedText.{programText}
 use Rattle.texts_said.specs.ReduceSaid.{reduceSaid}
-use Rattle.lines.specs.PanelText.{panelText}
+use Rattle.panel_wording.specs.PanelText.{panelText}
 use Rattle.panel_said.specs.PanelSaid.{panelSaid}
 use Rattle.panel_said.specs.Reordering.{SaidAlike, Alike}
 use Rattle.card_promises.specs.Marks.{Markings}

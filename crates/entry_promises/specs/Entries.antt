@@ -28,9 +28,9 @@ use Rattle.texts_said.specs.WriteSaid.{writeSaid}
 use Rattle.texts.specs.ReducedText.{reducedOf}
 use Rattle.texts.specs.Lengths.{reducedRoom}
 use Rattle.texts_said.specs.ReduceSaid.{reduceSaid}
-use Rattle.lines.specs.PanelText.{panelOf}
+use Rattle.panel_wording.specs.PanelText.{panelOf}
 use Rattle.panel_said.specs.PanelSaid.{panelSaid}
-use Rattle.panel_room.specs.PanelRoom.{panelRoom}
+use Rattle.panel_wording.specs.PanelRoom.{panelRoom}
 use Rattle.panel_said.specs.Program.{inputBytes, lineEnd, seatsLine, cardBehind, noState, seatOf, programOf, Printed}
 
 -- an answer in document 01's numbers: a refusal's number and place, and 0 with the length

@@ -15,7 +15,7 @@ use Rattle.texts.specs.Writing.{writeOf}
 use Rattle.texts_said.specs.WriteSaid.{writeSaid}
 use Rattle.texts.specs.ReducedText.{reducedOf}
 use Rattle.texts_said.specs.ReduceSaid.{reduceSaid}
-use Rattle.lines.specs.PanelText.{panelOf}
+use Rattle.panel_wording.specs.PanelText.{panelOf}
 use Rattle.panel_said.specs.PanelSaid.{panelSaid}
 use Rattle.answers.specs.declared.OpenPanelAnswer.{OpenPanelAnswer}
 use Rattle.told.specs.Told.{judged, Told}

@@ -4,19 +4,19 @@ use card::limits::BRANCH_PLACES;
 use card::limits::NODE_PLACES;
 use card::limits::ROW_PLACES;
 use seating::count_seats;
+use stored_weights::store_weights;
 use weighing::ENABLED;
 use weighing::STAY;
 use weighing::TABLE_PLACES;
 use weighing::stay_of;
 use weighing::store_ables;
 use weighing::store_counts;
-use weighing::store_weights;
 use weighing::taken_of;
 use weights::Weight;
 ghost use mathlib.Core.Path.{_≡_};
 ghost use Rattle.card.specs.Lent.{lent};
-ghost use Rattle.weighing.specs.Table.{tableOf};
-ghost use Rattle.weighing.specs.Fitting.{Filling};
+ghost use Rattle.panel_numbers.specs.Table.{tableOf};
+ghost use Rattle.panel_numbers.specs.Fitting.{Filling};
 
 // The table of a card and a seating of it. Where none can be taken no weight is added up: there is one step, which changes nothing.
 pub fn fill<'a>(

@@ -11,7 +11,7 @@ use Rattle.card.specs.Text.{if_then_else_}
 use Rattle.card.specs.Laid.{statementOf, statementsOf}
 use Rattle.card.specs.Rows.{rowsFrom}
 use Rattle.meaning.specs.ByCounts.{able}
-use Rattle.counting.specs.Taking.{takers}
+use Rattle.panel_numbers.specs.Taking.{takers}
 use Rattle.moving.specs.FirstMove.{firstAt}
 use Rattle.first_able.specs.FirstRow.{ableRow, firstRow}
 

@@ -7,7 +7,7 @@ use Rattle.card.specs.Limits.{mostNodes}
 use Rattle.card.specs.Text.{if_then_else_}
 use Rattle.card.specs.Laid.{guardOf}
 use Rattle.card.specs.Rows.{rowOf}
-use Rattle.counting.specs.Taking.{takers}
+use Rattle.panel_numbers.specs.Taking.{takers}
 
 module _ (n : ℕ) (v nodes rows : List ℕ) where
   -- how many of n seats, at counts v, may take statement i, counted from 0

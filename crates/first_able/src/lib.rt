@@ -1,10 +1,10 @@
 // The walk over a card's statements, at counts (document 02, 2026-07).
+use able_seats::able;
 use card::Head;
 use card::limits::MOST_NODES;
 use card::limits::NODE_PLACES;
 use card::limits::ROW;
 use card::limits::ROW_PLACES;
-use counting::able;
 ghost use mathlib.Core.Path.{_≡_};
 ghost use Prim.Native.Nat.{_≤_};
 ghost use Rattle.card.specs.Limits.{mostStatements};

@@ -10,10 +10,10 @@ use Rattle.card.specs.Text.{bytes, if_then_else_}
 use Rattle.card.specs.Refusals.{outOfShape}
 use Rattle.card.specs.Card.{Mode}
 use Rattle.card.specs.Laid.{modeNumber}
-use Rattle.letters.specs.Bytes.{begins}
-use Rattle.marks.specs.Kinds.{kEnd}
+use Rattle.marks_on_a_card.specs.Bytes.{begins}
+use Rattle.marks_on_a_card.specs.Kinds.{kEnd}
 use Rattle.marks.specs.declared.Found.{Found}
-use Rattle.looks.specs.Quick.{wordAhead}
+use Rattle.marks_on_a_card.specs.Quick.{wordAhead}
 use Rattle.reading.specs.Reader.{State, Result, Reader, bind, _>>=_, _>>_, return, the, sign, numberOf, Numbered, numbered, line}
 use Rattle.grammar.specs.Grammar.{cardRun}
 use Rattle.reading.specs.Judgements.{Judgement}

@@ -8,7 +8,7 @@ use native.Mathlib.Omega.{arith}
 use Rattle.card.specs.Card.{Sign, all, any, Formula}
 use Rattle.card.specs.Weight.{Weight, Rule}
 use Rattle.card.specs.Valid.{Every}
-use Rattle.marks.specs.Marks.{seat, process, number, decimal, Placed, placed, placeOf}
+use Rattle.marks_on_a_card.specs.Marks.{seat, process, number, decimal, Placed, placed, placeOf}
 use Rattle.reading.specs.Reader.{Place, Numbered, Item}
 use Rattle.reading.specs.Group.{joint, relation, Literal, Literals, literalsOf}
 use Rattle.reading.specs.Judgements.{Judgement, state, word, oneGroup, weight, sum, placeIn, broken, fine, wrong, firstBroken, judgedGroup, judgedGuard}

@@ -15,7 +15,7 @@ use Rattle.card.specs.Refusals.{outOfShape, pastLimit}
 use Rattle.card.specs.Text.{bytes, same, if_then_else_}
 use Rattle.card.specs.Card.{Mode, nondeterministic, probabilistic, Sign, all, any, Relation, is as eq, isnt as ne, Formula, atom, neg, and, or}
 use Rattle.card.specs.Weight.{Weight, whole, decimal as point, ratio}
-use Rattle.marks.specs.Marks.{Mark, text, seat, process, number, decimal, outside, Placed, placed}
+use Rattle.marks_on_a_card.specs.Marks.{Mark, text, seat, process, number, decimal, outside, Placed, placed}
 use Rattle.reading.specs.Reader.{Place, State, at, Result, ok, stop, Reader, bind, _>>=_, return, refuse, refuseAt, the, is, nextIs, ifNext, given, sign, seatOf, processOf, numberOf, here, numbered, Item, exactly, seatWord, processWord, line}
 use Rattle.reading.specs.Guard.{seatNext, ifAhead, Read, unaryBy, chain, conjunction, expression, grouped as readGrouped, unary as readUnary}
 use Rattle.reading.specs.Group.{joint, relation, Literal, literalOf, Literals, literalsOf, relationOf, literal as readLiteral, joined, others, group}

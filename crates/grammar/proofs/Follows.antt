@@ -16,7 +16,7 @@ use Rattle.card.specs.Text.{bytes, same}
 use Rattle.card.specs.Card.{Mode, nondeterministic, probabilistic, Sign, all, any, is as eq, isnt as ne, Formula, atom, neg}
 use Rattle.card.specs.Weight.{Weight}
 use Rattle.card.specs.Valid.{size, Every}
-use Rattle.marks.specs.Marks.{number, placed}
+use Rattle.marks_on_a_card.specs.Marks.{number, placed}
 use Rattle.reading.specs.Reader.{Place, at, Result, ok, stop, Reader, bind, _>>=_, _>>_, return, refuse, the, nextIs, sign, here, Numbered, Item, exactly, line}
 use Rattle.reading.specs.Guard.{seatNext, Read, chain, conjunction, expression, unaryBy}
 use Rattle.reading.specs.Guard.{grouped as readGrouped}

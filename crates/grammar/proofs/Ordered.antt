@@ -8,7 +8,7 @@ use Rattle.card.specs.Limits.{mostSeats, topState, mostStatements, mostNodes, m
 use Rattle.card.specs.Card.{Formula}
 use Rattle.card.specs.Valid.{size}
 use Rattle.card.specs.Weight.{cardRule}
-use Rattle.marks.specs.Marks.{number, Placed, placed}
+use Rattle.marks_on_a_card.specs.Marks.{number, Placed, placed}
 use Rattle.reading.specs.Reader.{Place, Numbered}
 use Rattle.reading.specs.Group.{joint, Literals}
 use Rattle.reading.specs.Judgements.{placeIn, judgedGroup}

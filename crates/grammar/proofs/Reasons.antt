@@ -16,7 +16,7 @@ use Rattle.card.specs.Refusals.{tooLong, outsideRules, outOfShape, pastLimit, a
 use Rattle.card.specs.Text.{if_then_else_}
 use Rattle.card.specs.Card.{Card}
 use Rattle.card.specs.Weight.{Rule, allowed}
-use Rattle.marks.specs.Marks.{Mark, text, seat, process, number, decimal, outside, Placed, placed, marksOf, placeOf}
+use Rattle.marks_on_a_card.specs.Marks.{Mark, text, seat, process, number, decimal, outside, Placed, placed, marksOf, placeOf}
 use Rattle.reading.specs.Reader.{Place, at, Result, ok, stop}
 use Rattle.reading.specs.Judgements.{Judgement, state, word, oneGroup, weight, sum, placeIn, Verdict, fine, wrong, firstBroken}
 use Rattle.reading.specs.Shape.{CardShape, card}

@@ -8,7 +8,7 @@ use mathlib.Core.List.{List, [], _∷_, _++_, append-assoc, append-cancel-right,
 use native.Mathlib.Omega.{arith}
 use Rattle.card.specs.Refusals.{outOfShape, pastLimit}
 use Rattle.card.specs.Valid.{Every}
-use Rattle.marks.specs.Marks.{Placed}
+use Rattle.marks_on_a_card.specs.Marks.{Placed}
 use Rattle.reading.specs.Reader.{Place, State, at, Result, ok, stop, Reader}
 use Rattle.grammar.specs.Counted.{Counted, Within, Past, FirstPast}
 use Rattle.grammar.specs.Verdicts.{CompletableIn, HopelessIn, UnfitIn, PastIn}

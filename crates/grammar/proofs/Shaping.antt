@@ -5,7 +5,7 @@ use mathlib.Core.Logic.{_⊎_}
 use mathlib.Core.List.{List, [], _∷_, _++_}
 use Rattle.card.specs.Refusals.{outOfShape, pastLimit}
 use Rattle.card.specs.Valid.{Every}
-use Rattle.marks.specs.Marks.{Placed}
+use Rattle.marks_on_a_card.specs.Marks.{Placed}
 use Rattle.reading.specs.Reader.{Place, State, at, Result, ok, stop}
 use Rattle.reading.specs.Guard.{seatNext}
 use Rattle.reading.specs.Shape.{CardShape, card}

@@ -10,7 +10,7 @@ use mathlib.Core.List.{[], _∷_, _++_, append-assoc, append-cancel-right, head?
 use mathlib.Core.Option.{Option, none, some}
 use Rattle.card.specs.Refusals.{outOfShape, pastLimit}
 use Rattle.card.specs.Text.{bytes, same, if_then_else_}
-use Rattle.marks.specs.Marks.{Mark, text, Placed, placed}
+use Rattle.marks_on_a_card.specs.Marks.{Mark, text, Placed, placed}
 use Rattle.reading.specs.Reader.{Place, State, at, Result, ok, stop, Reader, bind, _>>=_, return, refuse, took, the, is, nextIs, ifNext, given, sign, here, node}
 use Rattle.reading.specs.Guard.{seatNext}
 use Rattle.grammar.specs.Grammar.{Said, signAt}

@@ -5,7 +5,7 @@ use Prim.Native.Nat.{ℕ}
 use mathlib.Core.List.{List, [], map}
 use lib.ListN.{length}
 use Rattle.card.specs.Weight.{Rule}
-use Rattle.marks.specs.Marks.{marksOf, placeOf}
+use Rattle.marks_on_a_card.specs.Marks.{marksOf, placeOf}
 use Rattle.reading.specs.Reader.{Place}
 use Rattle.reading.specs.Judgements.{placeIn}
 use Rattle.reading.specs.Shape.{CardShape}

@@ -6,7 +6,7 @@ use mathlib.Core.Option.{Option}
 use Rattle.card.specs.Limits.{mostSeats, topState, mostStatements, mostBranches, mostNodes, mostDepth}
 use Rattle.card.specs.Card.{Formula}
 use Rattle.card.specs.Valid.{size, Every}
-use Rattle.marks.specs.Marks.{number, placed}
+use Rattle.marks_on_a_card.specs.Marks.{number, placed}
 use Rattle.reading.specs.Reader.{Place, Numbered}
 use Rattle.reading.specs.Group.{joint, Literals}
 use Rattle.reading.specs.Shape.{BranchShape, StatementShape, CardShape}

@@ -7,7 +7,7 @@ use mathlib.Core.Option.{Option, none, some}
 use Rattle.card.specs.Text.{bytes}
 use Rattle.card.specs.Card.{Mode, nondeterministic, probabilistic, Sign, all, any, Relation, Formula, atom, neg, and, or}
 use Rattle.card.specs.Weight.{Weight, whole, decimal as point, ratio}
-use Rattle.marks.specs.Marks.{text, seat, process, number, decimal, Placed, placed}
+use Rattle.marks_on_a_card.specs.Marks.{text, seat, process, number, decimal, Placed, placed}
 use Rattle.reading.specs.Reader.{Place, Numbered, Item, exactly, seatWord, processWord}
 use Rattle.reading.specs.Group.{joint, relation, Literal, literalOf, Literals, literalsOf}
 use Rattle.reading.specs.Shape.{BranchShape, StatementShape, CardShape}

@@ -9,7 +9,7 @@ use Rattle.card.specs.Limits.{cardBytes}
 use Rattle.card.specs.Card.{Card}
 use Rattle.card.specs.Weight.{Rule}
 use Rattle.card.specs.Valid.{Every}
-use Rattle.marks.specs.Marks.{outside, Placed, placed, marksOf, placeOf}
+use Rattle.marks_on_a_card.specs.Marks.{outside, Placed, placed, marksOf, placeOf}
 use Rattle.reading.specs.Reader.{Place, nextIs}
 use Rattle.reading.specs.Guard.{seatNext}
 use Rattle.reading.specs.Judgements.{Judgement, placeIn}

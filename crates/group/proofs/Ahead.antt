@@ -13,11 +13,11 @@ use Rattle.card.specs.Limits.{numbers}
 use Rattle.card.specs.Refusals.{outOfShape}
 use Rattle.card.specs.Text.{if_then_else_}
 use Rattle.card.specs.Card.{is as eq, isnt as ne}
-use Rattle.marks.specs.Marks.{Mark, placed, placeOf}
-use Rattle.marks.specs.Kinds.{kEnd, kSeat, kNumber, kind, kindOf}
-use Rattle.marks.specs.Step.{valueOf, marksAt}
+use Rattle.marks_on_a_card.specs.Marks.{Mark, placed, placeOf}
+use Rattle.marks_on_a_card.specs.Kinds.{kEnd, kSeat, kNumber, kind, kindOf, valueOf}
+use Rattle.marks.specs.Step.{marksAt}
 use Rattle.marks.specs.declared.Step.{Step}
-use Rattle.marks.proofs.KindLaws.{kind-number}
+use Rattle.marks_on_a_card.proofs.KindLaws.{kind-number}
 use Rattle.marks.proofs.Next.{Meet, over, met}
 use Rattle.reading.specs.Reader.{Place, at, Result, ok, stop, took, the, nextIs, given, sign, seatOf, numberOf}
 use Rattle.reading.specs.Guard.{isSome, seatNext}

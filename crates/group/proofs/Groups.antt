@@ -12,25 +12,26 @@ use Rattle.card.specs.Refusals.{outOfShape}
 use Rattle.card.specs.Card.{Kind, everyone, others as othersKind, Sign, all, any, Relation, is as eq, isnt as ne}
 use Rattle.card.specs.Laid.{kindNumber, signNumber, relationNumber, packGroup}
 use Rattle.card.proofs.Packed.{packed-group}
-use Rattle.marks.specs.Marks.{placed, seat}
-use Rattle.marks.specs.Kinds.{kSeat, kind}
+use Rattle.marks_on_a_card.specs.Marks.{placed, seat}
+use Rattle.marks_on_a_card.specs.Kinds.{kSeat, kind}
 use Rattle.marks.specs.Step.{stepAt, marksAt}
 use Rattle.marks.specs.declared.Step.{Step}
-use Rattle.marks.proofs.KindLaws.{kind-seat}
+use Rattle.marks_on_a_card.proofs.KindLaws.{kind-seat}
 use Rattle.marks.proofs.Next.{Meet, over, met, meet}
 use Rattle.reading.specs.Reader.{Place, State, at, Result, ok, stop, Reader, bind, return, the, nextIs, ifNext, sign, numberOf}
 use Rattle.reading.specs.Group.{Literal, literalOf, Literals, literalsOf, relationOf, joint, literal, others, group}
 use Rattle.reading.specs.Judgements.{state, alike}
 use Rattle.group.specs.declared.Grouped.{Grouped}
-use Rattle.group.specs.declared.literal.Tail.{Tail}
+use Rattle.literals_due.specs.declared.Tail.{Tail}
 use Rattle.late.specs.Late.{kindBy}
 use Rattle.group.specs.GroupRead.{noGroup, StoppedGroup, GroupRead}
-use Rattle.group.specs.LiteralRead.{ReadLiteral, StoppedLiteral, LiteralRead, noted, oneMore, wantIn, kindIn, signIn}
+use Rattle.seats_seen.specs.SeatsSeen.{noted, oneMore, wantIn, kindIn}
+use Rattle.group.specs.LiteralRead.{ReadLiteral, StoppedLiteral, LiteralRead, signIn}
 use Rattle.group.proofs.Signs.{Known}
 use Rattle.group.proofs.Ahead.{unfit, next-is, the-seat, place-next, place-within, next-within, next-past, one-less}
 use Rattle.group.proofs.Literals.{Reads}
 use Rattle.group.proofs.Joined.{Joining, one-stops, one-read, not-closed, closed}
-use Rattle.group.proofs.Seats.{noSeats, Seen, seen-first, seen-more-seats, long-more, one-counted, alike-so, kind-seen, want-seen}
+use Rattle.seats_seen.proofs.Seats.{noSeats, Seen, seen-first, seen-more-seats, long-more, one-counted, alike-so, kind-seen, want-seen}
 
 -- ---- the signs are known
 

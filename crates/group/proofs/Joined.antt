@@ -9,7 +9,7 @@ use native.Mathlib.Omega.{arith}
 use borrow.Author.Tests.{eq-eqb, ne-eqb}
 use lib.ListN.{length}
 use Rattle.card.specs.Refusals.{outOfShape}
-use Rattle.marks.specs.Kinds.{kind}
+use Rattle.marks_on_a_card.specs.Kinds.{kind}
 use Rattle.marks.specs.Step.{stepAt, marksAt}
 use Rattle.marks.proofs.Next.{meet}
 use Rattle.reading.specs.Reader.{Place, State, at, Result, ok, stop, Reader, bind, return, nextIs, sign}

@@ -3,7 +3,7 @@
 use Prim.Native.Nat.{ℕ}
 use mathlib.Core.Path.{_≡_, refl, sym, ap, _∙_}
 use mathlib.Core.Bool.{Bool, true, false}
-use mathlib.Core.List.{List, [], _∷_}
+use mathlib.Core.List.{List, _∷_}
 use native.Mathlib.Omega.{arith}
 use borrow.Author.Tests.{eqb-true}
 use lib.Dec.{eqb}
@@ -11,14 +11,14 @@ use Rattle.card.specs.Refusals.{outOfShape}
 use Rattle.card.specs.Text.{if_then_else_}
 use Rattle.card.specs.Card.{Relation, is as eq, isnt as ne}
 use Rattle.card.specs.Laid.{relationNumber, either}
-use Rattle.marks.specs.Marks.{placed, seat}
-use Rattle.marks.specs.Kinds.{kEnd, kNumber, kind}
+use Rattle.marks_on_a_card.specs.Marks.{placed, seat}
+use Rattle.marks_on_a_card.specs.Kinds.{kEnd, kNumber, kind}
 use Rattle.marks.specs.Step.{stepAt, marksAt}
 use Rattle.marks.specs.declared.Step.{Step}
 use Rattle.marks.proofs.Next.{meet}
 use Rattle.reading.specs.Reader.{at, Result, ok, stop, bind, return, the, numberOf}
 use Rattle.reading.specs.Group.{Literal, literalOf, relationOf, literal}
-use Rattle.group.specs.declared.literal.Tail.{Tail}
+use Rattle.literals_due.specs.declared.Tail.{Tail}
 use Rattle.group.specs.LiteralRead.{noRelation, relationBy, noTail, LiteralRead}
 use Rattle.group.proofs.Ahead.{fits, unfit, the-number, the-relation, place-next, place-within, one-less, number-small}
 

@@ -10,10 +10,9 @@ use borrow.Author.Tests.{eqb-true, eqb-false}
 use lib.Dec.{eqb}
 use Rattle.card.specs.Text.{bytes, same, if_then_else_}
 use Rattle.card.specs.Card.{is as eq, isnt as ne}
-use Rattle.marks.specs.Marks.{Mark, text, seat, process, number, decimal, outside}
-use Rattle.marks.specs.Kinds.{kWord, kSeat, kNumber, knowns, kind, kindOf}
-use Rattle.marks.specs.Step.{valueOf}
-use Rattle.marks.proofs.KindLaws.{spellings, same-eq, kind-is, kind-seat, kind-number}
+use Rattle.marks_on_a_card.specs.Marks.{Mark, text, seat, process, number, decimal, outside}
+use Rattle.marks_on_a_card.specs.Kinds.{kWord, kSeat, kNumber, knowns, kind, kindOf, valueOf}
+use Rattle.marks_on_a_card.proofs.KindLaws.{spellings, same-eq, kind-is, kind-seat, kind-number}
 use Rattle.reading.specs.Reader.{is, seatOf, numberOf}
 use Rattle.reading.specs.Group.{relationOf}
 

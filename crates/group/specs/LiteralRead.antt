@@ -1,22 +1,21 @@
 -- What the code keeps of a group's literals while it reads them ("Shape of a card"). Assumes nothing.
-use Prim.Native.Nat.{ℕ, zero, suc, _+_, _≤_, _<_}
+use Prim.Native.Nat.{ℕ, _+_, _≤_, _<_}
 use mathlib.Core.Path.{_≡_}
-use mathlib.Core.Bool.{Bool, true, false, not, _&&_}
-use mathlib.Core.List.{List, []}
-use lib.Dec.{eqb, leb}
-use lib.ListN.{length, getD, set}
-use Rattle.card.specs.Limits.{mostSeats, numbers}
+use mathlib.Core.Bool.{Bool, true, false}
+use mathlib.Core.List.{List}
+use lib.Dec.{eqb}
+use lib.ListN.{length}
+use Rattle.card.specs.Limits.{numbers}
 use Rattle.card.specs.Text.{if_then_else_}
-use Rattle.card.specs.Card.{everyone, others, Sign, all, any, is, isnt}
-use Rattle.card.specs.Laid.{kindNumber, relationNumber}
-use Rattle.marks.specs.Marks.{placeOf}
-use Rattle.marks.specs.Kinds.{kind}
+use Rattle.card.specs.Card.{Sign, all, any, is, isnt}
+use Rattle.card.specs.Laid.{relationNumber}
+use Rattle.marks_on_a_card.specs.Marks.{placeOf}
+use Rattle.marks_on_a_card.specs.Kinds.{kind}
 use Rattle.marks.specs.Step.{marksAt}
 use Rattle.card.specs.Refusals.{outOfShape}
 use Rattle.reading.specs.Reader.{Place, State, at, Result, ok, stop}
 use Rattle.reading.specs.Group.{Literal}
-use Rattle.group.specs.declared.literal.Tail.{Tail}
-use Rattle.late.specs.Late.{upToMost}
+use Rattle.literals_due.specs.declared.Tail.{Tail}
 
 -- ---- one literal
 
@@ -52,32 +51,6 @@ pub record StoppedLiteral (o : ℕ) (s : List ℕ) (n : ℕ) (p : Place) (r : Ta
 abbrev pub LiteralRead : ℕ → List ℕ → ℕ → ℕ → ℕ → Result Literal → Tail → Type 0
 LiteralRead o s from n i (ok l behind) r = ReadLiteral o s from n i l behind r
 LiteralRead o s from n i (stop m p) r = StoppedLiteral o s m p r
-
--- ---- which seats stand among the literals: place i of the array says whether seat i does
-
-abbrev pub noted : List ℕ → ℕ → List ℕ
-noted seen i = if leb i mostSeats then set seen i 1 else seen
-
--- each of the c seats from i on
-abbrev pub seenFrom : List ℕ → ℕ → ℕ → Bool
-seenFrom seen i zero = true
-seenFrom seen i (suc c) = not (eqb (getD seen i 0) 0) && seenFrom seen (suc i) c
-
--- one literal more, counted no further than it matters
-abbrev pub oneMore : ℕ → ℕ
-oneMore count = if leb count mostSeats then suc count else count
-
--- how many seats they want
-unfoldable pub wantIn : List ℕ → ℕ → Bool → ℕ
-wantIn seen count alike =
-    if alike
-    then (if eqb (getD seen 1 0) 0
-    then upToMost (suc count) (seenFrom seen 2 count)
-    else upToMost count (seenFrom seen 1 count))
-    else 0
-
-abbrev pub kindIn : List ℕ → ℕ
-kindIn seen = if eqb (getD seen 1 0) 0 then kindNumber others else kindNumber everyone
 
 -- ---- the sign that joins them
 

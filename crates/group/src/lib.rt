@@ -1,28 +1,27 @@
 // Groups of literals, read from a card's bytes.
 pub mod literal;
-pub mod seen;
 
 use card::refusals::OUT_OF_SHAPE;
 use due_signs::step_closing;
 use due_signs::step_joint;
 use due_words::step_seat;
-use literal::Tail;
 use literal::literal;
-use marks::kinds;
+use literals_due::Tail;
+use marks_on_a_card::kinds;
 use packing::pack_group;
-use seen::SEATS;
-use seen::kind;
-use seen::note;
-use seen::one_more;
-use seen::want;
+use seats_seen::SEATS;
+use seats_seen::kind;
+use seats_seen::note;
+use seats_seen::one_more;
+use seats_seen::want;
 ghost use mathlib.Core.Path.{_≡_};
 ghost use mathlib.Core.Bool.{_&&_};
 ghost use mathlib.Core.List.{_∷_};
 ghost use Prim.Native.Nat.{ℕ};
 ghost use lib.Dec.{eqb};
 ghost use Rattle.card.specs.Laid.{signNumber};
-ghost use Rattle.marks.specs.Marks.{placed, seat as seatWord};
-ghost use Rattle.marks.specs.Kinds.{kind as kindOf};
+ghost use Rattle.marks_on_a_card.specs.Marks.{placed, seat as seatWord};
+ghost use Rattle.marks_on_a_card.specs.Kinds.{kind as kindOf};
 ghost use Rattle.marks.specs.Step.{marksAt};
 ghost use Rattle.reading.specs.Reader.{Place, at as from};
 ghost use Rattle.reading.specs.Group.{joint as jointOf, group as groupOf};

@@ -3,29 +3,19 @@ use card::refusals::OUT_OF_SHAPE;
 use due_signs::step_relation;
 use due_words::step_number;
 use letters::bytes::stands;
-use looks::look::NO_DIGIT;
-use looks::look::digit_here;
+use literals_due::Tail;
 use looks::look::sign_here;
-use marks::kinds;
+use marks_on_a_card::kinds;
+use word_and_digit_looks::NO_DIGIT;
+use word_and_digit_looks::digit_here;
 ghost use mathlib.Core.Path.{_≡_};
 ghost use mathlib.Core.List.{_∷_};
 ghost use Prim.Native.Nat.{ℕ};
-ghost use Rattle.marks.specs.Marks.{placed, seat as seatWord};
+ghost use Rattle.marks_on_a_card.specs.Marks.{placed, seat as seatWord};
 ghost use Rattle.marks.specs.Step.{marksAt};
 ghost use Rattle.reading.specs.Reader.{at as from};
 ghost use Rattle.reading.specs.Group.{literal as literalOf};
 ghost use Rattle.group.specs.LiteralRead.{relationBy, noTail, LiteralRead};
-
-// What stands behind a seat word: stop 0, the next cursor, the relation, d and where d stands; or the number of a refusal and its
-// place.
-pub struct Tail {
-    pub stop: usize,
-    pub place: usize,
-    pub next: usize,
-    pub relation: usize,
-    pub d: usize,
-    pub first: usize,
-}
 
 fn no_tail(place: usize) -> Tail
     ensures { λ r. ⌜ r ≡ noTail place ⌝ }

@@ -12,8 +12,8 @@ use Rattle.card.specs.Refusals.{aboveTop}
 use Rattle.card.specs.Text.{if_then_else_}
 use Rattle.card.specs.Card.{everyone, others, Formula, atom, neg, and, or}
 use Rattle.card.specs.Laid.{kindNumber}
-use Rattle.marks.specs.Marks.{placed, seat, placeOf}
-use Rattle.marks.specs.Kinds.{kSeat}
+use Rattle.marks_on_a_card.specs.Marks.{placed, seat, placeOf}
+use Rattle.marks_on_a_card.specs.Kinds.{kSeat}
 use Rattle.marks.specs.Step.{stepAt, marksAt}
 use Rattle.marks.specs.declared.Step.{Step}
 use Rattle.marks.proofs.Next.{meet}
@@ -30,9 +30,10 @@ use Rattle.group.proofs.Groups.{seat-marks, Answers, inside}
 use Rattle.asking.specs.Question.{Item, aGroup, exactlyOne, twiceNext, itemNext, exactly as exactlyOf}
 use Rattle.asking.specs.Asking.{state as claimed, everyone as everyoneOf, firstD, claimsOf}
 use Rattle.one_seat.specs.OneRead.{ReadOne, OneRead}
-use Rattle.one_term.specs.Wanted.{wantOfTerms}
+use Rattle.term_literals.specs.Wanted.{wantOfTerms}
 use Rattle.grouping.specs.Language.{Language, cards, judgedOf, wantOfAll, claimAll, questions}
-use Rattle.grouping.specs.Items.{Inside, ReadItem, ItemRead, ItemIf, ItemAt, nothing, unwanted, ofAll}
+use Rattle.groups_asked.specs.GroupsAsked.{unwanted, ofAll}
+use Rattle.grouping.specs.Items.{Inside, ReadItem, ItemRead, ItemIf, ItemAt, nothing}
 
 -- whether an item starts
 pub item-if : (L : Language) (o : ℕ) (s : List ℕ) (n : ℕ) (p : Place) (r : Grouped) (a b : Bool) → a ≡ b → ItemIf L o s n p b r → ItemIf L o s n p a r
@@ -141,16 +142,6 @@ one-inside s (stop m q) r h = record {
   next = omega (arith, ap (λ (u : Grouped). u .next) (h .answer));
   first = omega (arith, ap (λ (u : Grouped). u .first) (h .answer));
 }
-
--- what the code makes of a group in a question
-chosen : (b c : Bool) (x y : Grouped) → b ≡ c → (if c then x else y) ≡ (if b then x else y)
-chosen b c x y e = rw e
-
-pub all-wanted : (g : Grouped) → g .kind ≡ 0 → g ≡ ofAll g
-all-wanted g e = chosen (eqb (g .kind) 0) true g (unwanted g) (eq-eqb (g .kind) 0 e)
-
-pub none-wanted : (g : Grouped) → (g .kind ≡ 0 → ⊥) → unwanted g ≡ ofAll g
-none-wanted g e = chosen (eqb (g .kind) 0) false g (unwanted g) (ne-eqb (g .kind) 0 e)
 
 of-all-inside : (s : List ℕ) (r : Grouped) → Inside s r → Inside s (ofAll r)
 of-all-inside s r h = go (eqb (r .kind) 0)

@@ -7,7 +7,7 @@ use Rattle.card.specs.Refusals.{aboveTop}
 use Rattle.card.specs.Text.{if_then_else_}
 use Rattle.card.specs.Card.{Leaf, one, Formula, atom, neg, and, or, Guard}
 use Rattle.card.specs.Formulas.{over}
-use Rattle.marks.specs.Marks.{placeOf}
+use Rattle.marks_on_a_card.specs.Marks.{placeOf}
 use Rattle.reading.specs.Reader.{Place, Reader}
 use Rattle.reading.specs.Guard.{seatNext}
 use Rattle.reading.specs.Group.{Literal, Literals, group}
@@ -15,7 +15,7 @@ use Rattle.reading.specs.Judgements.{has, unless, judgedGroup}
 use Rattle.late.specs.Late.{Late, wantOf, groupBy, grouped, blamed, judgeAll}
 use Rattle.asking.specs.Question as asking
 use Rattle.asking.specs.Asking.{Claim, state, everyone, exactly, claimsOf, termD}
-use Rattle.one_term.specs.Wanted.{wantOfTerms}
+use Rattle.term_literals.specs.Wanted.{wantOfTerms}
 
 -- What a bracket starts where it starts no expression: by which marks behind the bracket, how it is read from there (the place is the
 -- bracket's), the leaf that it is among the nodes, and what is judged of it: with top state k, in a text that ends at place e.

@@ -19,8 +19,9 @@ use Rattle.late.specs.Late.{Late}
 use Rattle.late.specs.State.{atLeft, atFree, Sized, leftIn, freeIn, lateIn, After, after}
 use Rattle.late.proofs.StateLaws.{set-sized, left-set, free-left, free-set, left-free, late-set}
 use Rattle.grouping.specs.Language.{Language, leavesOf, judgedOf}
-use Rattle.grouping.specs.Items.{Ready, operatorOf}
-use Rattle.grouping.proofs.Keeping.{spending, grown}
+use Rattle.kept_items.specs.KeptItems.{Ready}
+use Rattle.grouping.specs.Items.{operatorOf}
+use Rattle.kept_items.proofs.Keeping.{spending, grown}
 use Rattle.items.specs.GuardRead.{Read, GuardRead}
 use Rattle.items.specs.Pieces.{joinOf, thenNot, Onward}
 use Rattle.items.proofs.Opening.{read-as}

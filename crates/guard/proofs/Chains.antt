@@ -11,10 +11,10 @@ use Rattle.card.specs.Refusals.{pastLimit}
 use Rattle.card.specs.Card.{Formula, and}
 use Rattle.card.specs.Laid.{opOr, packNode}
 use Rattle.card.proofs.Storing.{size-below}
-use Rattle.marks.specs.Kinds.{kind}
+use Rattle.marks_on_a_card.specs.Kinds.{kind}
 use Rattle.marks.specs.Step.{stepAt, marksAt}
 use Rattle.marks.specs.Parts.{bareOf}
-use Rattle.looks.specs.Quick.{signAhead}
+use Rattle.marks_on_a_card.specs.Quick.{signAhead}
 use Rattle.marks.specs.declared.Step.{Step}
 use Rattle.looks.proofs.Quick.{sign-step}
 use Rattle.reading.specs.Reader.{State, at, Result, ok, stop, Reader, bind, _>>=_, _>>_, return, sign}
@@ -23,8 +23,9 @@ use Rattle.late.specs.Late.{Late}
 use Rattle.late.specs.State.{atFree, Sized, leftIn, freeIn, lateIn, After, after, Halted}
 use Rattle.late.proofs.StateLaws.{set-sized, free-set, left-free}
 use Rattle.grouping.specs.Language.{Language}
-use Rattle.grouping.specs.Items.{Ready, operatorOf}
-use Rattle.grouping.proofs.Keeping.{spending, grown}
+use Rattle.kept_items.specs.KeptItems.{Ready}
+use Rattle.grouping.specs.Items.{operatorOf}
+use Rattle.kept_items.proofs.Keeping.{spending, grown}
 use Rattle.items.specs.GuardRead.{Read, GuardRead}
 use Rattle.items.specs.Pieces.{joinOf, joiner, unaryIn, operandOf, chained, Begun, Onward}
 use Rattle.group.proofs.Groups.{joint-known}

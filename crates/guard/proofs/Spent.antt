@@ -11,7 +11,7 @@ use Rattle.card.specs.Limits.{mostNodes}
 use Rattle.card.specs.Text.{if_then_else_}
 use Rattle.card.specs.Card.{all, any, Formula, atom, neg, and, or}
 use Rattle.card.specs.Valid.{size}
-use Rattle.marks.specs.Marks.{Mark, Placed, placed}
+use Rattle.marks_on_a_card.specs.Marks.{Mark, Placed, placed}
 use Rattle.card.specs.Refusals.{pastLimit}
 use Rattle.reading.specs.Reader.{Place, State, at, Result, ok, stop, Reader, bind, _>>=_, _>>_, return, refuse, refuseAt, took, first, the, is, given, nextIs, ifNext, sign, seatOf, numberOf, here, spend, node}
 use Rattle.reading.specs.Guard.{seatNext, ifAhead, chain, conjunction, expression, grouped}

@@ -15,8 +15,8 @@ use lib.Seq.{take-all}
 use Rattle.card.specs.Refusals.{outOfShape, pastLimit, aboveTop}
 use Rattle.card.specs.Card.{Formula, atom}
 use Rattle.card.proofs.Storing.{stored-leaf}
-use Rattle.marks.specs.Marks.{placeOf}
-use Rattle.marks.specs.Kinds.{kind}
+use Rattle.marks_on_a_card.specs.Marks.{placeOf}
+use Rattle.marks_on_a_card.specs.Kinds.{kind}
 use Rattle.marks.specs.Step.{stepAt, marksAt}
 use Rattle.marks.specs.declared.Step.{Step}
 use Rattle.marks.proofs.Next.{meet, part-of-card}
@@ -29,7 +29,8 @@ use Rattle.late.specs.State.{leftIn, freeIn, lateIn, After, after}
 use Rattle.group.proofs.Signs.{Known}
 use Rattle.group.proofs.Ahead.{fits, unfit, next-is, sign-next, place-next, next-within, next-past}
 use Rattle.grouping.specs.Language.{Language}
-use Rattle.grouping.specs.Items.{Inside, ReadItem, ItemRead, noItem, ItemIf, ItemAt, LaidAt}
+use Rattle.kept_items.specs.KeptItems.{LaidAt}
+use Rattle.grouping.specs.Items.{Inside, ReadItem, ItemRead, noItem, ItemIf, ItemAt}
 use Rattle.items.specs.GuardRead.{Read, GuardRead}
 use Rattle.items.specs.Pieces.{Guards, unaryIn, thenClose, NoItem, ItemKept}
 

@@ -7,7 +7,7 @@ use Rattle.card.specs.Card.{Formula}
 use Rattle.card.specs.Valid.{size}
 use Rattle.card.specs.Laid.{cells}
 use Rattle.card.specs.Stored.{stored}
-use Rattle.marks.specs.Marks.{placeOf}
+use Rattle.marks_on_a_card.specs.Marks.{placeOf}
 use Rattle.marks.specs.Step.{marksAt}
 use Rattle.reading.specs.Reader.{State, Result, ok, stop}
 use Rattle.late.specs.Late.{Late}

@@ -6,7 +6,7 @@ use mathlib.Core.Bool.{Bool, true, false}
 use mathlib.Core.List.{List}
 use Rattle.card.specs.Limits.{mostNodes}
 use Rattle.card.specs.Card.{Formula, neg, and, or}
-use Rattle.marks.specs.Kinds.{kind}
+use Rattle.marks_on_a_card.specs.Kinds.{kind}
 use Rattle.marks.specs.Step.{stepAt, marksAt}
 use Rattle.reading.specs.Reader.{at as from, Result, Reader, bind, _>>_, return, sign}
 use Rattle.reading.specs.Guard.{chain, conjunction, unaryBy}
@@ -15,7 +15,8 @@ use Rattle.late.specs.Late.{Late}
 use Rattle.late.specs.State.{leftIn, freeIn, lateIn, After, after}
 use Rattle.group.specs.LiteralRead.{signIn}
 use Rattle.grouping.specs.Language.{Language}
-use Rattle.grouping.specs.Items.{noItem, Ready}
+use Rattle.kept_items.specs.KeptItems.{Ready}
+use Rattle.grouping.specs.Items.{noItem}
 use Rattle.items.specs.GuardRead.{GuardRead}
 
 abbrev pub joiner : Bool → String

@@ -3,11 +3,11 @@ use card::limits::NODE_PLACES;
 use due_signs::step_opening;
 use grouping::NO_ITEM;
 use grouping::item;
-use grouping::lay;
+use kept_items::lay;
 use late::state::STATE;
-use marks::kinds;
+use marks_on_a_card::kinds;
 ghost use Rattle.grouping.specs.Language.{languageOf};
-ghost use Rattle.grouping.specs.Items.{Ready};
+ghost use Rattle.kept_items.specs.KeptItems.{Ready};
 ghost use Rattle.items.specs.Pieces.{ItemKept};
 
 // An item, where the next mark is a bracket that starts one: it is read from the rest of the card as a part. Else NO_ITEM, and nothing has

@@ -13,7 +13,7 @@ use Rattle.card.specs.Refusals.{aboveTop, notDue, wrongWeight, decimalWeight}
 use Rattle.card.specs.Text.{if_then_else_}
 use Rattle.card.specs.Card.{Sign, group, Formula, atom, neg, and, or}
 use Rattle.card.specs.Weight.{unitsOf, allowed, weightRefusal}
-use Rattle.marks.specs.Marks.{placeOf}
+use Rattle.marks_on_a_card.specs.Marks.{placeOf}
 use Rattle.reading.specs.Reader.{Place}
 use Rattle.reading.specs.Guard.{isSome}
 use Rattle.reading.specs.Group.{Literal, Literals}

@@ -12,7 +12,7 @@ use Rattle.card.specs.Refusals.{notDue}
 use Rattle.card.specs.Text.{if_then_else_}
 use Rattle.card.specs.Card.{Kind, everyone, others, Sign, Leaf, group, is, Formula, Guard}
 use Rattle.card.specs.Formulas.{over}
-use Rattle.marks.specs.Marks.{placeOf}
+use Rattle.marks_on_a_card.specs.Marks.{placeOf}
 use Rattle.reading.specs.Group.{Literal, Literals}
 use Rattle.reading.specs.Judgements.{Judgement, state, word, oneGroup, weight, sum, has, hasFrom, alike, broken}
 

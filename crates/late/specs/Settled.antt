@@ -4,7 +4,7 @@ use mathlib.Core.Bool.{not, _&&_}
 use lib.Dec.{eqb}
 use Rattle.card.specs.Refusals.{notDue}
 use Rattle.card.specs.Text.{if_then_else_}
-use Rattle.marks.specs.Marks.{placeOf}
+use Rattle.marks_on_a_card.specs.Marks.{placeOf}
 use Rattle.reading.specs.Judgements.{Verdict, fine, wrong}
 use Rattle.late.specs.Late.{Late}
 

@@ -8,8 +8,8 @@ use borrow.Author.Tests.{eqb-true, eqb-false}
 use lib.Dec.{eqb}
 use mir.Val.{hasKey}
 use types.Run.{OneOf, hit, miss}
-use Rattle.letters.specs.Bytes.{every}
-use Rattle.letters.proofs.Lists.{cases, not-both, and-left, and-right, or-true}
+use Rattle.marks_on_a_card.specs.Bytes.{every}
+use Rattle.marks_on_a_card.proofs.Lists.{cases, not-both, and-left, and-right, or-true}
 
 -- the bytes from a on, n of them
 abbrev allFrom : (ℕ → Bool) → ℕ → ℕ → Bool

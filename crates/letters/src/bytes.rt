@@ -3,13 +3,7 @@ ghost use mathlib.Core.Path.{_≡_};
 ghost use Prim.Native.Nat.{_≤_};
 ghost use lib.ListN.{length, drop};
 ghost use lib.Dec.{eqb};
-ghost use Rattle.letters.specs.Bytes.{isDigit, isLetter, inWord, isBlank, isSign, oneOf, notLF, begins, isAlone, inNumber, runEnd, begun};
-
-pub fn wide(b: u8) -> usize
-    ensures { λ r. ⌜ r ≡ b ⌝ }
-{
-    b as usize
-}
+ghost use Rattle.marks_on_a_card.specs.Bytes.{isDigit, isLetter, inWord, isBlank, isSign, oneOf, begins, isAlone, inNumber, runEnd, begun};
 
 pub fn is_digit(b: u8) -> bool
     ensures { λ r. ⌜ r ≡ isDigit b ⌝ }
@@ -160,19 +154,6 @@ pub fn word_end(card: &[u8], from: usize) -> usize
     let mut at = from;
     while at < card.len() {
         if !in_word(card[at]) {
-            return at;
-        }
-        at += 1;
-    }
-    at
-}
-
-pub fn line_end(card: &[u8], from: usize) -> usize
-    ensures { λ r. ⌜ r ≡ runEnd notLF (now (card .entry)) from ⌝ }
-{
-    let mut at = from;
-    while at < card.len() {
-        if card[at] == b'\n' {
             return at;
         }
         at += 1;

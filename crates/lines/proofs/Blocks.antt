@@ -1,10 +1,9 @@
 -- The panel's blocks in the form in which the code puts them: a statement's moves all start from its own state, and the moves of the table
 -- stand in a row for each old state. Assumes nothing.
-use Prim.Native.Nat.{ℕ, zero, suc, _+_, _-_, _*_, _≤_, _<_, min}
-use mathlib.Core.Path.{_≡_, refl, sym, ap, _∙_}
-use mathlib.Core.List.{List, [], _∷_, map, append-nil}
+use Prim.Native.Nat.{ℕ, suc, _+_, _-_, _*_, _≤_, _<_, min}
+use mathlib.Core.Path.{_≡_, ap, _∙_}
+use mathlib.Core.List.{List, [], _∷_, map}
 use mathlib.Core.Option.{none, some}
-use native.Mathlib.Nat.{not-suc-le-zero, le-of-suc-le-suc}
 use native.Mathlib.Omega.{arith}
 use borrow.Author.Tests.{eq-eqb, ne-eqb, lt-ltb}
 use lib.Dec.{eqb}
@@ -17,37 +16,18 @@ use Rattle.card.specs.declared.Head.{Head}
 use Rattle.phrases.specs.Phrases.{_▸_, num, modeText}
 use Rattle.phrases.specs.Puts.{Puts}
 use Rattle.room.specs.Room.{Put}
-use Rattle.meaning.specs.Sums.{gate, upto, flat}
+use Rattle.meaning.specs.Sums.{upto, flat}
 use Rattle.meaning.specs.Panel.{Move, moveLine, block}
 use Rattle.meaning.specs.ByCounts.{unitsTo, stayOf, moveOf}
 use Rattle.meaning.proofs.Sums.{upto-cong}
-use Rattle.meaning.proofs.Panel.{flat-empty, no-line}
-use Rattle.counting.specs.Taking.{unitsToEach}
+use Rattle.panel_numbers.specs.Taking.{unitsToEach}
 use Rattle.counting.proofs.Weighed.{each-at, length-each}
-use Rattle.weighing.specs.Table.{enabledPlace, stayPlace, weightsFrom, tablePlaces, weightIn, weighing}
-use Rattle.lines.specs.PanelText.{line, movesText, stayText, blockText, blocksText, panelText}
-use Rattle.lines.specs.PanelIn.{choiceIf, choicesIn, panelIn}
+use Rattle.panel_numbers.specs.Table.{enabledPlace, stayPlace, weightsFrom, tablePlaces, weightIn, weighing}
+use Rattle.panel_wording.proofs.Moves.{own-moves}
+use Rattle.panel_wording.specs.PanelText.{line, movesText, stayText, blockText, blocksText, panelText}
+use Rattle.panel_wording.specs.PanelIn.{choiceIf, choicesIn, panelIn}
 
 -- ---- lists of moves
-
--- of lists that are all empty but one
-flat-only : {A : Type 0} (n j : ℕ) (f : ℕ → List A) → j < n → ((i : ℕ) → (i ≡ j → ⊥) → f i ≡ []) → flat (upto n f) ≡ f j
-flat-only zero j f l h = absurd (not-suc-le-zero l)
-flat-only (suc n) zero f l h = rw (flat-empty n (λ i. f (suc i)) (λ i. h (suc i) (λ e. omega arith))) (append-nil (f 0))
-flat-only (suc n) (suc j) f l h = rw (h 0 (λ e. omega arith)) (flat-only n j (λ i. f (suc i)) (le-of-suc-le-suc l) (λ i e. h (suc i) (λ z. e (omega arith))))
-
-module _ (k own : ℕ) (h : own ≤ k) (u v : ℕ → ℕ) (same : (b : ℕ) → b < suc k → u b ≡ v b) where
-  -- moves from one state only
-  pub own-moves : flat (upto (suc k) (λ a. flat (upto (suc k) (λ b. moveLine a b (gate (eqb own a) (v b)))))) ≡ flat (upto (suc k) (λ b. moveLine own b (u b)))
-  own-moves =
-      flat-only (suc k) own (λ a. flat (upto (suc k) (λ b. moveLine a b (gate (eqb own a) (v b))))) (omega arith) other
-      ∙ ap (λ (l : List (List Move)). flat l) (upto-cong (suc k) _ (λ b. moveLine own b (u b)) here)
-    where
-      other : (a : ℕ) → (a ≡ own → ⊥) → flat (upto (suc k) (λ b. moveLine a b (gate (eqb own a) (v b)))) ≡ []
-      other a ne = flat-empty (suc k) _ (λ b. no-line a b (gate (eqb own a) (v b)) (rw (ne-eqb own a (λ e. ne (sym e)))))
-
-      here : (b : ℕ) → b < suc k → moveLine own b (gate (eqb own own) (v b)) ≡ moveLine own b (u b)
-      here b l = rw (eq-eqb own own refl, ← same b l)
 
 -- a row of weights that is a part of an array
 module _ (weights : List ℕ) (from k old : ℕ) {to : ℕ} (e : to ≡ from + k + 1) (h : to ≤ length weights) where

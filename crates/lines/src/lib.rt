@@ -9,7 +9,7 @@ ghost use Rattle.phrases.specs.Phrases.{_▸_};
 ghost use Rattle.phrases.specs.Puts.{Puts};
 ghost use Rattle.meaning.specs.Sums.{upto, flat};
 ghost use Rattle.meaning.specs.Panel.{moveLine};
-ghost use Rattle.lines.specs.PanelText.{numbers, movesText, stayText};
+ghost use Rattle.panel_wording.specs.PanelText.{numbers, movesText, stayText};
 
 // Numbers, each behind a blank.
 fn put_numbers(room: &mut [u8], at: usize, values: &[usize]) -> usize

@@ -2,30 +2,32 @@
 -- (proofs/Words.antt, proofs/Starts.antt of marks).
 use Prim.Native.Nat.{ℕ, _+_, _-_, _≤_, _<_}
 use mathlib.Core.Path.{_≡_, refl, sym, ap, _∙_}
-use mathlib.Core.Bool.{Bool, true, false, not, _&&_, _||_, and-false}
+use mathlib.Core.Bool.{Bool, true, false, not, _&&_, _||_}
 use mathlib.Core.List.{List, [], _∷_, _++_}
 use native.Mathlib.Decide.{decLt}
 use native.Mathlib.Nat.{add-zero, zero-add}
 use native.Mathlib.Omega.{arith}
-use borrow.Author.Tests.{eqb-true, ne-eqb, leb-true, not-true}
-use lib.Dec.{eqb, leb}
+use borrow.Author.Tests.{eqb-true, ne-eqb, not-true}
+use lib.Dec.{eqb}
 use lib.ListN.{length, getD, drop, drop-of-length-le}
-use lib.Seq.{drop-drop, getD-drop}
+use lib.Seq.{drop-drop}
 use Rattle.card.specs.Limits.{wordDigits}
 use Rattle.card.specs.Text.{bytes, if_then_else_}
-use Rattle.letters.specs.Bytes.{isDigit, isLetter, isBlank, isSign, inWord, begins, run, every, begun, isAlone, inNumber}
-use Rattle.digits.specs.Digits.{plain}
-use Rattle.marks.specs.Marks.{startAt, wordMark}
-use Rattle.marks.specs.Kinds.{kNumber, kSeat, kProcess}
+use Rattle.marks_on_a_card.specs.Bytes.{isDigit, isLetter, isBlank, isSign, inWord, begins, run, every, begun, isAlone, inNumber}
+use Rattle.marks_on_a_card.specs.Digits.{plain}
+use Rattle.marks_on_a_card.specs.Marks.{startAt, wordMark, gapOf}
+use Rattle.marks_on_a_card.specs.Kinds.{kNumber, kSeat, kProcess}
 use Rattle.marks.specs.Step.{stepTo, stepped, stepFrom, stepAt}
-use Rattle.marks.specs.Parts.{bareOf, valuedOf, gapOf}
-use Rattle.looks.specs.Quick.{signAhead, noDigit, oneDigit, digitAhead, lastDigit, seatAhead, pastBlank, pastLine, bytesAhead, processAhead, teenAhead}
+use Rattle.marks.specs.Parts.{bareOf, valuedOf}
+use Rattle.marks_on_a_card.specs.Quick.{signAhead, noDigit, digitAhead, lastDigit, seatAhead, pastBlank, pastLine, bytesAhead, processAhead, teenAhead}
 use Rattle.marks.specs.declared.Step.{Step}
-use Rattle.letters.proofs.Lists.{cases, not-both, and-left, and-right, drop-at}
-use Rattle.letters.proofs.Runs.{begins-at, begins-place, eqb-sym, run-on, run-empty}
-use Rattle.digits.proofs.Numbers.{one-digit}
-use Rattle.marks.proofs.Starts.{among, sign-kind, alone-step, gap-blank, gap-none, step-gap, numeral-single, digit-starts, digit-in-word, step-at}
-use Rattle.looks.proofs.Words.{run-of, whole, bytes-stand}
+use Rattle.marks_on_a_card.proofs.Lists.{cases, not-both, and-left, and-right, drop-at}
+use Rattle.marks_on_a_card.proofs.Runs.{begins-at, begins-place, eqb-sym, run-on, run-empty}
+use Rattle.marks_on_a_card.proofs.Numbers.{one-digit}
+use Rattle.marks.proofs.Starts.{alone-step, step-gap, numeral-single, step-at}
+use Rattle.marks_on_a_card.proofs.StartLaws.{among, sign-kind, gap-blank, gap-none, digit-starts, digit-in-word}
+use Rattle.word_and_digit_looks.proofs.Looks.{bytes-stand, one-digit-at, digit-there, digit-ends, digit-is}
+use Rattle.looks.proofs.Words.{run-of, whole}
 
 -- ---- what a look answers, test by test
 
@@ -34,42 +36,6 @@ sign-none k s i h = rw (drop-of-length-le s h)
 
 pub sign-at : (k : ℕ) (s : List ℕ) (i : ℕ) → i < length s → signAhead k (drop i s) ≡ (eqb (getD s i 0) k && isAlone (getD s i 0))
 sign-at k s i h = rw (drop-at s i h)
-
-module _ (more : ℕ → Bool) (s : List ℕ) (i : ℕ) where
-  one-digit-at : oneDigit more (drop i s) ≡ (if begins isDigit (drop i s) && not (begins more (drop (i + 1) s)) then getD s i 0 - 48 else noDigit)
-  one-digit-at = tests (drop i s) ∙ rw (drop-drop 1 i s, getD-drop i s 0 0, add-zero i)
-    where
-      tests : (u : List ℕ) → oneDigit more u ≡ (if begins isDigit u && not (begins more (drop 1 u)) then getD u 0 0 - 48 else noDigit)
-      tests [] = refl
-      tests (b ∷ t) = refl
-
-  pub digit-none : begins isDigit (drop i s) ≡ false → oneDigit more (drop i s) ≡ noDigit
-  digit-none e = one-digit-at ∙ rw e
-
-  pub digit-more : begins more (drop (i + 1) s) ≡ true → oneDigit more (drop i s) ≡ noDigit
-  digit-more e = one-digit-at ∙ rw (e, and-false (begins isDigit (drop i s)))
-
-  pub digit-over : begins isDigit (drop i s) ≡ true → begins more (drop (i + 1) s) ≡ false → oneDigit more (drop i s) ≡ getD s i 0 - 48
-  digit-over d e = one-digit-at ∙ rw (d, e)
-
-  -- the other way round: what stands there if the look found a digit
-  module _ (v : ℕ) (is : v ≡ oneDigit more (drop i s)) (small : v < noDigit) where
-    both : (begins isDigit (drop i s) && not (begins more (drop (i + 1) s))) ≡ true
-    both = cases (begins isDigit (drop i s) && not (begins more (drop (i + 1) s))) (λ y. y) (λ n. let none : v ≡ noDigit = is ∙ one-digit-at ∙ rw n in absurd (omega arith))
-
-    pub digit-there : begins isDigit (drop i s) ≡ true
-    digit-there = and-left (begins isDigit (drop i s)) (not (begins more (drop (i + 1) s))) both
-
-    pub digit-ends : begins more (drop (i + 1) s) ≡ false
-    digit-ends = not-true (begins more (drop (i + 1) s)) (and-right (begins isDigit (drop i s)) (not (begins more (drop (i + 1) s))) both)
-
-    pub digit-is : v ≡ getD s i 0 - 48
-    digit-is = is ∙ digit-over digit-there digit-ends
-
-pub digit-low : (s : List ℕ) (i : ℕ) → begins isDigit (drop i s) ≡ true → 48 ≤ getD s i 0
-digit-low s i d =
-    let b = getD s i 0 in
-    leb-true 48 b (and-left (leb 48 b) (leb b 57) (sym (begins-at isDigit s i (begins-place isDigit s i d)) ∙ d))
 
 module _ (s : List ℕ) (i : ℕ) where
   pub seat-none : begins (eqb 115) (drop i s) ≡ false → seatAhead (drop i s) ≡ noDigit

@@ -5,18 +5,20 @@ use mathlib.Core.Bool.{Bool, true, false, not}
 use mathlib.Core.List.{List, [], _∷_, _++_}
 use native.Mathlib.Nat.{add-zero}
 use native.Mathlib.Omega.{arith}
-use borrow.Author.Tests.{eqb-true, leb-true, not-true}
-use lib.Dec.{eqb, leb}
+use borrow.Author.Tests.{eqb-true, not-true}
+use lib.Dec.{eqb}
 use lib.ListN.{length, getD, drop}
 use lib.Seq.{drop-drop, getD-drop}
-use Rattle.letters.specs.Bytes.{isLetter, inWord, begins, run, every, begun}
-use Rattle.marks.specs.Marks.{wordMark}
+use Rattle.marks_on_a_card.specs.Bytes.{isLetter, inWord, begins, run, every, begun}
+use Rattle.marks_on_a_card.specs.Marks.{wordMark}
 use Rattle.marks.specs.Step.{stepTo, stepped, stepFrom, stepAt}
-use Rattle.looks.specs.Quick.{bytesAhead, wordAhead}
+use Rattle.marks_on_a_card.specs.Quick.{bytesAhead, wordAhead}
 use Rattle.marks.specs.declared.Step.{Step}
-use Rattle.letters.proofs.Lists.{cases, not-both, and-left, and-right}
-use Rattle.letters.proofs.Runs.{run-empty, run-first, begun-fits}
-use Rattle.marks.proofs.Starts.{letter-starts, word-step, step-at}
+use Rattle.marks_on_a_card.proofs.Lists.{cases, not-both, and-left, and-right}
+use Rattle.marks_on_a_card.proofs.Runs.{run-empty, run-first}
+use Rattle.word_and_digit_looks.proofs.Looks.{bytes-stand, bytes-fit}
+use Rattle.marks.proofs.Starts.{word-step, step-at}
+use Rattle.marks_on_a_card.proofs.StartLaws.{letter-starts}
 
 -- a run that begins with these bytes
 pub run-of : (p : ℕ → Bool) (t s : List ℕ) → every p t ≡ true → begun t s ≡ true → run p s ≡ t ++ run p (drop (length t) s)
@@ -29,13 +31,6 @@ run-of p (a ∷ t) (b ∷ s) w e = cases (eqb a b)
     let g : p b ≡ true = ap p (sym q) ∙ and-left (p a) (every p t) w in
     rw (g, q) (ap (λ (u : List ℕ). b ∷ u) (run-of p t s (and-right (p a) (every p t) w) f)))
     (λ y. not-both false (rw y at e) refl)
-
-module _ (t s : List ℕ) (i : ℕ) (e : bytesAhead t s i ≡ true) where
-  pub bytes-stand : begun t (drop i s) ≡ true
-  bytes-stand = and-right (leb i (length s)) (begun t (drop i s)) e
-
-  pub bytes-fit : i + length t ≤ length s
-  bytes-fit = begun-fits t s i (leb-true i (length s) (and-left (leb i (length s)) (begun t (drop i s)) e)) bytes-stand
 
 module _ (s : List ℕ) (i : ℕ) where
   abbrev on : ℕ → Step

@@ -1,14 +1,14 @@
 // Quick looks: does a frequent mark stand right at a place? Each asks two or three bytes at most.
 ghost use mathlib.Core.Path.{_≡_};
 ghost use lib.ListN.{drop};
-ghost use Rattle.looks.specs.Quick.{signAhead, digitAhead, lastDigit, seatAhead, processAhead, teenAhead, pastBlank, pastLine, bytesAhead, wordAhead};
-use letters::bytes::begins_at;
+ghost use Rattle.marks_on_a_card.specs.Quick.{signAhead, lastDigit, seatAhead, processAhead, teenAhead, pastBlank, pastLine};
+use bytes_as_numbers::wide;
 use letters::bytes::digit_at;
 use letters::bytes::is_alone;
-use letters::bytes::number_at;
 use letters::bytes::stands;
-use letters::bytes::wide;
 use letters::bytes::word_at;
+use word_and_digit_looks::NO_DIGIT;
+use word_and_digit_looks::all_here;
 
 // The place behind one blank, where one stands: most marks that are set off are so by one.
 pub fn past_blank(card: &[u8], at: usize) -> usize
@@ -43,22 +43,6 @@ pub fn sign_here(card: &[u8], at: usize, kind: usize) -> bool
     false
 }
 
-// What the looks below answer where no such mark stands.
-pub const NO_DIGIT: usize = 10;
-
-// The number of one digit.
-pub fn digit_here(card: &[u8], at: usize) -> usize
-    ensures { λ r. ⌜ r ≡ digitAhead (drop at (now (card .entry))) ⌝ }
-{
-    if !digit_at(card, at) {
-        return NO_DIGIT;
-    }
-    if number_at(card, at + 1) {
-        return NO_DIGIT;
-    }
-    wide(card[at] - b'0')
-}
-
 // The number of the one digit that ends a word.
 fn last_digit(card: &[u8], at: usize) -> usize
     ensures { λ r. ⌜ r ≡ lastDigit (drop at (now (card .entry))) ⌝ }
@@ -80,26 +64,6 @@ pub fn seat_here(card: &[u8], at: usize) -> usize
         return last_digit(card, at + 1);
     }
     NO_DIGIT
-}
-
-// These bytes?
-pub fn all_here(card: &[u8], at: usize, these: &[u8]) -> bool
-    ensures { λ r. ⌜ r ≡ bytesAhead (now (these .entry)) (now (card .entry)) at ⌝ }
-{
-    if at <= card.len() {
-        return begins_at(card, at, these);
-    }
-    false
-}
-
-// These bytes, and no word that goes on behind them?
-pub fn word_here(card: &[u8], at: usize, these: &[u8]) -> bool
-    ensures { λ r. ⌜ r ≡ wordAhead (now (these .entry)) (now (card .entry)) at ⌝ }
-{
-    if !all_here(card, at, these) {
-        return false;
-    }
-    !word_at(card, at + these.len())
 }
 
 // The number of the module word with one digit.

@@ -13,12 +13,13 @@ use lib.ListN.{length, drop, length-drop, drop-of-length-le}
 use lib.Seq.{drop-drop, drop-length}
 use Rattle.card.specs.Limits.{furtherDigits, numberDigits}
 use Rattle.card.specs.Text.{if_then_else_}
-use Rattle.letters.specs.Bytes.{notLF, run, begins, isDigit, inWord, isLetter, isBlank, isSign}
-use Rattle.digits.specs.Digits.{numberSpelt, pointed}
-use Rattle.marks.specs.Marks.{Mark, text, number, decimal, outside, Placed, placed, second, Start, blank, mark, decimalMark, numeralMark, numeral, word, sign1, sign2, sign, comment, startAt, emit, marks, marksOf}
-use Rattle.letters.proofs.Lists.{cases}
-use Rattle.letters.proofs.Runs.{run-length}
-use Rattle.marks.proofs.Values.{Small, SmallStart, start-small}
+use Rattle.marks_on_a_card.specs.Bytes.{notLF, run, begins, isDigit, inWord, isLetter, isBlank, isSign}
+use Rattle.marks_on_a_card.specs.Digits.{numberSpelt, pointed}
+use Rattle.marks_on_a_card.specs.Marks.{Mark, text, number, decimal, outside, Placed, placed, second, Start, blank, mark, decimalMark, numeralMark, numeral, word, sign1, sign2, sign, comment, startAt, emit, marks, marksOf}
+use Rattle.marks_on_a_card.proofs.Lists.{cases}
+use Rattle.marks_on_a_card.proofs.Runs.{run-length}
+use Rattle.marks_on_a_card.proofs.StartLaws.{marks-skip}
+use Rattle.marks_on_a_card.proofs.Values.{Small, SmallStart, start-small}
 use Rattle.marks.specs.Step.{stepTo, stepEnd, stepped, stepFrom, stepAt, marksAt}
 
 -- ---- what starts at a byte lies within the text
@@ -70,13 +71,6 @@ start-fits b s =
     choose s (isDigit b) (numeral b s) (sign b s)
     (λ e. numeral-fits s (drop (length (run isDigit s)) s) (length (run isDigit s)) (numberSpelt numberDigits (b ∷ run isDigit s)) (omega (arith, length-drop (length (run isDigit s)) s, run-length isDigit s)))
     (λ e. sign-fits b s)
-
--- ---- skipped bytes are dropped
-
-pub marks-skip : (e k : ℕ) (s : List ℕ) → marks e k s ≡ marks e 0 (drop k s)
-marks-skip e zero s = refl
-marks-skip e (suc k) [] = refl
-marks-skip e (suc k) (b ∷ s) = marks-skip e k s
 
 -- ---- the two walks
 

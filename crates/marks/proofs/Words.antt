@@ -8,17 +8,19 @@ use native.Mathlib.Omega.{arith}
 use lib.Dec.{eqb}
 use lib.ListN.{length, getD, drop, length-drop}
 use Rattle.card.specs.Text.{bytes}
-use Rattle.letters.specs.Bytes.{isLetter, inWord, run, runEnd, begins, after}
-use Rattle.digits.specs.declared.Digits.{Digits}
-use Rattle.letters.proofs.Runs.{run-length}
-use Rattle.marks.specs.Marks.{text, seat, process, numbered, wordMark, word}
-use Rattle.marks.specs.Kinds.{kSeat, kProcess, kWord, knowns}
+use Rattle.marks_on_a_card.specs.Bytes.{isLetter, inWord, run, runEnd, begins, after}
+use Rattle.marks_on_a_card.specs.declared.Digits.{Digits}
+use Rattle.marks_on_a_card.proofs.Runs.{run-length}
+use Rattle.marks_on_a_card.specs.Marks.{text, seat, process, numbered, wordMark, word}
+use Rattle.marks_on_a_card.specs.Kinds.{kSeat, kProcess, kWord, knowns}
 use Rattle.marks.specs.Step.{stepTo, stepped}
-use Rattle.marks.specs.Parts.{valuedOf, bareOf, lettered, begunIn, Numbered}
+use Rattle.marks.specs.Parts.{valuedOf, bareOf}
+use Rattle.keywords.specs.Begun.{lettered, begunIn}
+use Rattle.numbered_words.specs.Numbered.{Numbered}
 use Rattle.marks.specs.declared.Step.{Step}
-use Rattle.marks.specs.declared.word.Keyword.{Keyword}
+use Rattle.keywords.specs.declared.Keyword.{Keyword}
 use Rattle.marks.proofs.Starts.{word-step}
-use Rattle.marks.proofs.Keywords.{keyword-is, keyword-not}
+use Rattle.keywords.proofs.Keywords.{keyword-is, keyword-not}
 
 pub numbered-fits : (t s : List ℕ) (i : ℕ) → i ≤ length s → (d : Digits) → Numbered t (run inWord (drop i s)) d → (d .count ≡ 0 → ⊥) → i + d .count ≤ length s
 numbered-fits t s i h d is n = omega (arith, is .long n, run-length inWord (drop i s), length-drop i s)

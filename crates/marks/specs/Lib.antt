@@ -1,4 +1,2 @@
-pub mod Marks
-pub mod Kinds
 pub mod Step
 pub mod Parts

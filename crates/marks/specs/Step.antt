@@ -2,36 +2,10 @@
 use Prim.Native.Nat.{ℕ, zero, suc, _+_, _-_}
 use mathlib.Core.List.{List, [], _∷_}
 use lib.ListN.{length, drop}
-use Rattle.marks.specs.Marks.{Mark, text, seat, process, number, decimal, outside, Placed, Start, blank, mark, startAt, marks}
-use Rattle.marks.specs.Kinds.{kindOf, kEnd}
+use Rattle.marks_on_a_card.specs.Marks.{Mark, Placed, Start, blank, mark, startAt, marks}
+use Rattle.marks_on_a_card.specs.Kinds.{kindOf, kEnd, valueOf, digitsOf, furtherOf}
 use Rattle.marks.specs.declared.Found.{Found}
 use Rattle.marks.specs.declared.Step.{Step}
-
--- the number of a word, a number, or before a decimal's point
-abbrev pub valueOf : Mark → ℕ
-valueOf (text s) = 0
-valueOf (seat i) = i
-valueOf (process i) = i
-valueOf (number v) = v
-valueOf (decimal v n f) = v
-valueOf outside = 0
-
--- of a decimal: how many digits stand after the point, and the number they spell
-abbrev pub digitsOf : Mark → ℕ
-digitsOf (text s) = 0
-digitsOf (seat i) = 0
-digitsOf (process i) = 0
-digitsOf (number v) = 0
-digitsOf (decimal v n f) = n
-digitsOf outside = 0
-
-abbrev pub furtherOf : Mark → ℕ
-furtherOf (text s) = 0
-furtherOf (seat i) = 0
-furtherOf (process i) = 0
-furtherOf (number v) = 0
-furtherOf (decimal v n f) = f
-furtherOf outside = 0
 
 abbrev pub found : Mark → ℕ → Found
 found m p = record { kind = kindOf m; value = valueOf m; digits = digitsOf m; further = furtherOf m; place = p }

@@ -1,6 +1,5 @@
 // A cursor by value over the bytes of a card: its step hands back the next mark and the cursor behind it.
 pub mod answer;
-pub mod kinds;
 mod number;
 mod sign;
 mod word;
@@ -8,18 +7,17 @@ mod word;
 ghost use mathlib.Core.Path.{_≡_};
 ghost use Prim.Native.Nat.{ℕ, _+_, _<_};
 ghost use lib.ListN.{length, drop, getD};
-ghost use Rattle.marks.specs.Marks.{startAt};
+ghost use Rattle.marks_on_a_card.specs.Marks.{startAt, gapOf};
 ghost use Rattle.marks.specs.Step.{stepped, stepAt};
-ghost use Rattle.marks.specs.Parts.{gapOf};
 ghost use Rattle.marks.specs.declared.Step as steps;
 use answer::bare;
-use kinds::END;
+use bytes_as_numbers::wide;
 use letters::bytes::is_alone;
 use letters::bytes::is_digit;
 use letters::bytes::is_letter;
-use letters::bytes::wide;
+use letters::gaps::gap;
+use marks_on_a_card::kinds::END;
 use number::numeral;
-use sign::gap;
 use sign::sign;
 use word::word;
 

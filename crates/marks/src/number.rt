@@ -3,8 +3,8 @@ ghost use mathlib.Core.Path.{_≡_};
 ghost use mathlib.Core.Bool.{true};
 ghost use Prim.Native.Nat.{ℕ, _+_, _<_};
 ghost use lib.ListN.{length, drop, getD};
-ghost use Rattle.letters.specs.Bytes.{isDigit};
-ghost use Rattle.marks.specs.Marks.{numeral as numeralOf};
+ghost use Rattle.marks_on_a_card.specs.Bytes.{isDigit};
+ghost use Rattle.marks_on_a_card.specs.Marks.{numeral as numeralOf};
 ghost use Rattle.marks.specs.Step.{stepped};
 ghost use Rattle.marks.specs.declared.Step as step;
 use crate::Cursor;
@@ -12,14 +12,14 @@ use crate::Found;
 use crate::Step;
 use crate::answer::bare;
 use crate::answer::valued;
-use crate::kinds::DECIMAL;
-use crate::kinds::NUMBER;
-use crate::kinds::OUTSIDE;
 use card::limits::FURTHER_DIGITS;
 use card::limits::NUMBER_DIGITS;
 use digits::digits_from;
 use digits::is_plain;
 use digits::is_pointed;
+use marks_on_a_card::kinds::DECIMAL;
+use marks_on_a_card::kinds::NUMBER;
+use marks_on_a_card::kinds::OUTSIDE;
 
 // The mark that starts with the digit at a place.
 pub fn numeral(card: &[u8], at: usize) -> Step

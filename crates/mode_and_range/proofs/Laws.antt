@@ -13,7 +13,7 @@ use Rattle.card.specs.Refusals.{outOfShape, pastLimit}
 use Rattle.card.specs.Text.{if_then_else_}
 use Rattle.card.specs.Card.{Mode, nondeterministic, probabilistic}
 use Rattle.card.specs.Laid.{modeNumber}
-use Rattle.marks.specs.Kinds.{kEnd, kNumber, kind}
+use Rattle.marks_on_a_card.specs.Kinds.{kEnd, kNumber, kind}
 use Rattle.marks.specs.Step.{marksAt}
 use Rattle.marks.specs.declared.Step.{Step}
 use Rattle.reading.specs.Reader.{State, Result, ok, stop, Reader, bind, return, refuseAt, the, sign, numberOf}

@@ -9,10 +9,10 @@ use late::state::STATE;
 use late::state::VALUE;
 use late::stop;
 use marks::Cursor;
-use marks::kinds::DOTS;
-use marks::kinds::NONDETERMINISTIC;
-use marks::kinds::NUMBER;
-use marks::kinds::PROBABILISTIC;
+use marks_on_a_card::kinds::DOTS;
+use marks_on_a_card::kinds::NONDETERMINISTIC;
+use marks_on_a_card::kinds::NUMBER;
+use marks_on_a_card::kinds::PROBABILISTIC;
 ghost use Rattle.late.specs.State.{Sized, lateIn, after};
 ghost use Rattle.mode_and_range.specs.ModeRange.{ModeFrom, RangeFrom};
 

@@ -21,10 +21,10 @@ ghost use Rattle.card.specs.Limits.{topState};
 ghost use Rattle.meaning.specs.Sums.{upto, flat};
 ghost use Rattle.meaning.specs.Panel.{moveLine};
 ghost use Rattle.phrases.specs.Puts.{Puts};
-ghost use Rattle.weighing.specs.Table.{tablePlaces, weightIn};
-ghost use Rattle.weighing.specs.Fitting.{Fitting};
-ghost use Rattle.lines.specs.PanelText.{blocksText, movesText};
-ghost use Rattle.lines.specs.PanelIn.{choiceAt, choicesIn};
+ghost use Rattle.panel_numbers.specs.Table.{tablePlaces, weightIn};
+ghost use Rattle.panel_numbers.specs.Fitting.{Fitting};
+ghost use Rattle.panel_wording.specs.PanelText.{blocksText, movesText};
+ghost use Rattle.panel_wording.specs.PanelIn.{choiceAt, choicesIn};
 
 // The block of statement i, if a seat is able to take it; places on a card count from 1.
 fn put_choice<'a>(

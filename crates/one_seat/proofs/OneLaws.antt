@@ -12,7 +12,7 @@ use Rattle.card.specs.Text.{if_then_else_}
 use Rattle.card.specs.Card.{any, one}
 use Rattle.card.specs.Laid.{oneKind, leafNumber}
 use Rattle.card.proofs.Packed.{packed-one}
-use Rattle.marks.specs.Kinds.{kind}
+use Rattle.marks_on_a_card.specs.Kinds.{kind}
 use Rattle.marks.specs.Step.{stepAt, marksAt}
 use Rattle.marks.specs.declared.Step.{Step}
 use Rattle.marks.proofs.Next.{meet}
@@ -21,20 +21,20 @@ use Rattle.reading.specs.Group.{Literal, joint, joined}
 use Rattle.grammar.proofs.Steady.{ok≢stop}
 use Rattle.group.specs.declared.Grouped.{Grouped}
 use Rattle.group.specs.GroupRead.{noGroup}
-use Rattle.group.specs.LiteralRead.{oneMore}
+use Rattle.seats_seen.specs.SeatsSeen.{oneMore}
 use Rattle.group.proofs.Ahead.{place-next, place-within, next-within, next-past}
-use Rattle.group.proofs.Seats.{one-counted}
+use Rattle.seats_seen.proofs.Seats.{one-counted}
 use Rattle.group.proofs.Joined.{Joining, one-stops, one-read, not-closed, closed}
 use Rattle.group.proofs.Groups.{joint-known, next-fewer, Inside, stopped-inside}
 use Rattle.asking.specs.Question.{Item, exactlyOne, relations, both, twiceNext, term, exactly, TermSaid}
 use Rattle.asking.specs.Asking.{isTerms}
 use Rattle.asking.proofs.Seen.{term-seen}
 use Rattle.asking.proofs.Looking.{twice-there, term-reads, termT}
-use Rattle.one_term.specs.declared.TermFound.{TermFound}
-use Rattle.one_term.specs.TermRead.{ReadTerm, StoppedTerm, TermRead}
+use Rattle.term_literals.specs.declared.TermFound.{TermFound}
+use Rattle.term_literals.specs.TermRead.{ReadTerm, StoppedTerm, TermRead}
 use Rattle.one_seat.specs.OneRead.{OneRead}
-use Rattle.one_term.proofs.TermLists.{few-seats, term-first, terms-so, want-so}
-use Rattle.one_term.proofs.TermLaws.{Terms}
+use Rattle.term_literals.proofs.TermLists.{few-seats, term-first, terms-so, want-so}
+use Rattle.term_literals.proofs.TermLaws.{Terms}
 
 -- ---- the look ahead
 

@@ -6,14 +6,14 @@ use mathlib.Core.List.{List, _∷_}
 use lib.ListN.{length}
 use Rattle.card.specs.Card.{one}
 use Rattle.card.specs.Laid.{leafNumber}
-use Rattle.marks.specs.Marks.{placeOf}
+use Rattle.marks_on_a_card.specs.Marks.{placeOf}
 use Rattle.marks.specs.Step.{marksAt}
 use Rattle.reading.specs.Reader.{Place, State, Result, ok, stop}
 use Rattle.reading.specs.Group.{Literal}
 use Rattle.group.specs.declared.Grouped.{Grouped}
 use Rattle.group.specs.GroupRead.{StoppedGroup}
 use Rattle.asking.specs.Question.{Item, exactlyOne}
-use Rattle.one_term.specs.Wanted.{wantOfTerms}
+use Rattle.term_literals.specs.Wanted.{wantOfTerms}
 
 -- with n nodes left, and the outer bracket at p
 pub record ReadOne (o : ℕ) (s : List ℕ) (n : ℕ) (p : Place) (x : Item) (behind : State) (r : Grouped) : Type 0 where

@@ -2,12 +2,12 @@
 use due_signs::step_joint;
 use group::Grouped;
 use group::no_group;
-use group::seen::one_more;
-use marks::kinds;
-use one_term::TermFound;
+use marks_on_a_card::kinds;
 use one_term::term;
 use packing::ONE;
 use packing::pack_one;
+use seats_seen::one_more;
+use term_literals::TermFound;
 ghost use mathlib.Core.Path.{_≡_};
 ghost use mathlib.Core.Bool.{_&&_};
 ghost use Prim.Native.Nat.{ℕ};

@@ -1,137 +1,15 @@
 // A term of an exactly-one, read from a question's bytes (document 02, 2026-01): literals in a bracket, joined by `&`.
-use card::refusals::OUT_OF_SHAPE;
-use due_signs::step_and;
 use due_signs::step_sign;
 use due_words::step_tight_seat;
-use group::literal::Tail;
-use group::literal::literal;
-use group::literal::literal_apart;
-use group::seen::SEATS;
-use group::seen::each_once;
-use group::seen::note;
-use group::seen::one_more;
-use marks::kinds;
-use packing::IS;
-use packing::ISNT;
-ghost use mathlib.Core.Path.{_≡_};
-ghost use mathlib.Core.Bool.{not, _&&_, _||_};
-ghost use mathlib.Core.List.{_∷_};
+use marks_on_a_card::kinds;
+use term_literals::TermFound;
+use term_literals::literals;
+use term_literals::no_term;
 ghost use Prim.Native.Nat.{ℕ};
-ghost use lib.Dec.{eqb};
-ghost use Rattle.marks.specs.Marks.{placed, seat as seatWord};
 ghost use Rattle.marks.specs.Step.{marksAt};
 ghost use Rattle.reading.specs.Reader.{at as from};
 ghost use Rattle.asking.specs.Question.{term as termOf};
-ghost use Rattle.one_term.specs.TermRead.{dueNumber, noTerm, literalsOf, TermRead};
-
-// What reading a term found: stop 0, the next cursor, for how many seats each stands in it once (0: for no number of seats), whether
-// each literal is as due in the term of this number, whether it has both relations, its first d and where that stands; or the number of
-// a refusal and its place.
-pub struct TermFound {
-    pub stop: usize,
-    pub place: usize,
-    pub next: usize,
-    pub seats: usize,
-    pub due: bool,
-    pub mixed: bool,
-    pub d: usize,
-    pub first: usize,
-}
-
-fn no_term(place: usize) -> TermFound
-    ensures { λ r. ⌜ r ≡ noTerm place ⌝ }
-{
-    TermFound {
-        stop: OUT_OF_SHAPE as usize,
-        place: place,
-        next: 0,
-        seats: 0,
-        due: false,
-        mixed: false,
-        d: 0,
-        first: 0,
-    }
-}
-
-// In the i-th term seat i is d, and all others are not.
-fn relation_due(i: usize, seat: usize) -> usize
-    ensures { λ r. ⌜ r ≡ dueNumber i seat ⌝ }
-{
-    if seat == i {
-        return IS;
-    }
-    ISNT
-}
-
-// One literal more, against this d and the relation that is due.
-fn as_due(due: bool, d: usize, relation: usize, t: Tail) -> bool
-    ensures { λ r. ⌜ r ≡ (due && (eqb (t .d) d && eqb (t .relation) relation)) ⌝ }
-{
-    if !due {
-        return false;
-    }
-    if t.d != d {
-        return false;
-    }
-    t.relation == relation
-}
-
-// One literal's relation more, against the first one's.
-fn mixes(mixed: bool, first: usize, more: usize) -> bool
-    ensures { λ r. ⌜ r ≡ (mixed || not (eqb first more)) ⌝ }
-{
-    if mixed {
-        return true;
-    }
-    first != more
-}
-
-// The rest of the i-th term, whose first seat word has the number `seat`; `at` stands behind that word in the part.
-fn literals(part: &[u8], at: usize, seat: usize, i: usize) -> TermFound
-    ensures { λ r. ⌜ ((o n x : ℕ) → TermRead o (now (part .entry)) at n i (literalsOf (from (placed (seatWord seat) x ∷ marksAt o (now (part .entry)) at) n)) r) ⌝ }
-{
-    let first = literal(part, at);
-    if first.stop != 0 {
-        return no_term(first.place);
-    }
-    let d = first.d;
-    let mut ahead = step_sign(part, first.next, kinds::AND);
-    let mut seen: [u8; SEATS] = [0; SEATS];
-    note(&mut seen, seat);
-    let mut count: usize = 1;
-    let mut due = as_due(true, d, relation_due(i, seat), first);
-    let mut mixed = false;
-    // this is where a long question spends its time: most of its literals are `!=` and a digit, with no blank between their marks
-    while ahead.mark.kind == kinds::AND {
-        let c = ahead.next;
-        let word = step_tight_seat(part, c.at);
-        if word.mark.kind != kinds::SEAT {
-            return no_term(word.mark.place);
-        }
-        let more = literal_apart(part, word.next.at);
-        if more.stop != 0 {
-            return no_term(more.place);
-        }
-        note(&mut seen, word.mark.value);
-        count = one_more(count);
-        due = as_due(due, d, relation_due(i, word.mark.value), more);
-        mixed = mixes(mixed, first.relation, more.relation);
-        ahead = step_and(part, more.next);
-    }
-    if ahead.mark.kind != kinds::ROUND_CLOSE {
-        return no_term(ahead.mark.place);
-    }
-    TermFound {
-        stop: 0,
-        place: 0,
-        next: ahead.next.at,
-        seats: each_once(&seen, count),
-        due: due,
-        mixed: mixed,
-        d: d,
-        first: first.first,
-    }
-}
+ghost use Rattle.term_literals.specs.TermRead.{TermRead};
 
 // The i-th term, from its bracket on.
 pub fn term(part: &[u8], at: usize, i: usize) -> TermFound

@@ -18,12 +18,12 @@ use Rattle.seating.proofs.Judging.{valid-exactly}
 use Rattle.outline.specs.declared.Outline.{Outline}
 use Rattle.outline.specs.ReadingOf.{ReadsInto}
 use Rattle.outline.proofs.ReadInto.{taken-holds, refused-said, taken-said}
-use Rattle.weighing.specs.Table.{tablePlaces, tableOf}
-use Rattle.weighing.specs.Fitting.{Filling}
+use Rattle.panel_numbers.specs.Table.{tablePlaces, tableOf}
+use Rattle.panel_numbers.specs.Fitting.{Filling}
 use Rattle.weighing.proofs.Filled.{fitting}
-use Rattle.lines.specs.PanelText.{panelText, panelOf}
-use Rattle.lines.specs.PanelIn.{panelIn}
-use Rattle.panel_room.specs.PanelRoom.{Printable}
+use Rattle.panel_wording.specs.PanelText.{panelText, panelOf}
+use Rattle.panel_wording.specs.PanelIn.{panelIn}
+use Rattle.panel_wording.specs.PanelRoom.{Printable}
 use Rattle.panel_said.specs.PanelSaid.{shownSaid, panelSaid}
 use Rattle.panel.proofs.Shown.{is-panel}
 use Rattle.panel_said.proofs.Short.{panel-fits}

@@ -6,7 +6,7 @@ use Rattle.card.specs.Card.{nondeterministic, probabilistic}
 use Rattle.room.specs.Digits.{decimal}
 use Rattle.meaning.specs.Panel.{panel}
 use Rattle.meaning.specs.CardA.{cardA}
-use Rattle.lines.specs.PanelText.{panelOf}
+use Rattle.panel_wording.specs.PanelText.{panelOf}
 
 pub record CardA : Type 0 where
   pub at-001 : panelOf (cardA probabilistic) (0 ∷ 0 ∷ 1 ∷ [])

@@ -18,10 +18,11 @@ use Rattle.meaning.specs.Panel.{Move, moveLine, Block, block, panel}
 use Rattle.meaning.specs.ByCounts.{able, stayOf, moveOf, choiceBlocks, takenBlocks, countTaken, stuckBlock, orStuck, countBlocks, countPanel}
 use Rattle.meaning.proofs.Sums.{upto-cong}
 use Rattle.meaning.proofs.Panel.{no-moves, panel-by-counts}
-use Rattle.weighing.specs.Table.{ableIn, weightIn, weighingRow, modeIn, taken, tableOf}
-use Rattle.weighing.proofs.Filled.{at, statements-upto, stuck-stay, stuck-weight, no-stay, table-counts}
+use Rattle.panel_numbers.specs.Table.{ableIn, weightIn, weighingRow, modeIn, taken, tableOf}
+use Rattle.panel_numbers.proofs.Statements.{at, statements-upto}
+use Rattle.weighing.proofs.Filled.{stuck-stay, stuck-weight, no-stay, table-counts}
 use Rattle.weighing.proofs.ByCounts.{able-row, taken-row, enabled-row, move-row, stay-row}
-use Rattle.lines.specs.PanelIn.{choiceIf, choiceAt, choicesIn, blocksIn, panelIn}
+use Rattle.panel_wording.specs.PanelIn.{choiceIf, choiceAt, choicesIn, blocksIn, panelIn}
 
 -- ---- a block by its weights up to k
 

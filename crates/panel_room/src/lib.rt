@@ -13,11 +13,11 @@ ghost use mathlib.Core.Path.{_≡_};
 ghost use lib.ListN.{length};
 ghost use Rattle.entry.specs.Said.{says as text};
 ghost use Rattle.room.specs.Answer.{Entered};
-ghost use Rattle.lines.specs.PanelText.{panelText};
-ghost use Rattle.lines.specs.PanelIn.{panelIn};
-ghost use Rattle.panel_room.specs.PanelRoom.{Printable};
+ghost use Rattle.panel_wording.specs.PanelText.{panelText};
+ghost use Rattle.panel_wording.specs.PanelIn.{panelIn};
+ghost use Rattle.panel_wording.specs.PanelRoom.{Printable};
 
-// A room that every panel fits into (specs/PanelRoom.antt).
+// A room that every panel fits into (panel_wording/specs/PanelRoom.antt).
 const MOVE_MOST: usize = 10 + NUMBER_DIGITS;
 
 const CHOICE_MOST: usize = 10 + (6 + NUMBER_DIGITS) + TOP_STATE * MOVE_MOST;

@@ -20,7 +20,7 @@ use Rattle.card.specs.declared.Verdict.{Verdict}
 use Rattle.card.specs.declared.Verdict.the-variants.{Taken, Refused}
 use Rattle.seating.specs.Judged.{judgedSeats}
 use Rattle.seating.proofs.Judging.{valid-exactly, wrong-seats-exactly, seat-above-exactly, judged-else}
-use Rattle.lines.specs.PanelText.{panelText, panelOf}
+use Rattle.panel_wording.specs.PanelText.{panelText, panelOf}
 use Rattle.panel_said.specs.PanelSaid.{panelSaid}
 use Rattle.panel_said.specs.Reordering.{SaidAlike, Alike}
 

@@ -26,10 +26,10 @@ use Rattle.meaning.proofs.Sums.{every-upto, sumBelow, below-pick}
 use Rattle.meaning.proofs.Counting.{count-le, length-counts}
 use Rattle.meaning.proofs.Bounds.{Few, counts-few, units-le, stay-le, all-able-le, all-stay-le, all-move-le, enabled-le}
 use Rattle.meaning.proofs.Panel.{panel-by-counts}
-use Rattle.lines.specs.PanelText.{numbers, line, movesText, stayText, blockText, blocksText, panelText, panelOf}
-use Rattle.lines.proofs.Laws.{moves-join}
-use Rattle.lines.proofs.Blocks.{own-moves}
-use Rattle.panel_room.specs.PanelRoom.{choiceMost, panelRoom}
+use Rattle.panel_wording.specs.PanelText.{numbers, line, movesText, stayText, blockText, blocksText, panelText, panelOf}
+use Rattle.panel_wording.proofs.Laws.{moves-join}
+use Rattle.panel_wording.proofs.Moves.{own-moves}
+use Rattle.panel_wording.specs.PanelRoom.{choiceMost, panelRoom}
 
 -- ---- lines
 

@@ -20,7 +20,7 @@ use Rattle.seating.specs.SeatsSaid.{seatsSaid, seatsNumbers}
 use Rattle.seating.proofs.SeatsStage.{seats-stage, wrong-count, wrong-seat}
 use Rattle.rows.specs.Said.{cardNumbers, Read}
 use Rattle.rows.proofs.Theorems.{card-stage, card-first}
-use Rattle.lines.specs.PanelText.{panelOf}
+use Rattle.panel_wording.specs.PanelText.{panelOf}
 use Rattle.panel_said.specs.PanelSaid.{shownSaid, panelSaid}
 
 module _ (card seats : List ℕ) where

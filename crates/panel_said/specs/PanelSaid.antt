@@ -7,7 +7,7 @@ use Rattle.entry.specs.Said.{_>>=_, _>>_, return}
 use Rattle.room.specs.Answer.{Text}
 use Rattle.seating.specs.SeatsSaid.{seatsSaid}
 use Rattle.rows.specs.Said.{cardSaid}
-use Rattle.lines.specs.PanelText.{panelOf}
+use Rattle.panel_wording.specs.PanelText.{panelOf}
 
 -- of a card that is taken
 abbrev pub shownSaid : List ℕ → Card → Text

@@ -5,7 +5,7 @@ use lib.Dec.{eqb}
 use lib.ListN.{take}
 use Rattle.card.specs.Text.{if_then_else_}
 use Rattle.panel_said.specs.PanelSaid.{panelSaid}
-pub use Rattle.program_lines.specs.Lines.{inputBytes, lineEnd, noState, seatOf, printed, refusalMost, Printed}
+pub use Rattle.panel_wording.specs.Lines.{inputBytes, lineEnd, noState, seatOf, printed, refusalMost, Printed}
 
 -- a line of seats, up to LF; without LF it is all there is
 unfoldable pub seatsLine : List ℕ → List ℕ

@@ -23,10 +23,10 @@ ghost use Rattle.card.specs.Laid.{either};
 ghost use Rattle.room.specs.Room.{Put};
 ghost use Rattle.phrases.specs.Phrases.{_▸_, num, modeText};
 ghost use Rattle.phrases.specs.Puts.{Puts};
-ghost use Rattle.weighing.specs.Table.{enabledPlace, tablePlaces};
-ghost use Rattle.weighing.specs.Fitting.{Fitting};
-ghost use Rattle.lines.specs.PanelText.{line, panelText};
-ghost use Rattle.lines.specs.PanelIn.{panelIn};
+ghost use Rattle.panel_numbers.specs.Table.{enabledPlace, tablePlaces};
+ghost use Rattle.panel_numbers.specs.Fitting.{Fitting};
+ghost use Rattle.panel_wording.specs.PanelText.{line, panelText};
+ghost use Rattle.panel_wording.specs.PanelIn.{panelIn};
 
 // The lines before the weights; the mode by its number in a card's struct.
 fn put_head(room: &mut [u8], at: usize, head: Head, table: &[usize]) -> usize

@@ -9,8 +9,8 @@ use native.Mathlib.Omega.{arith}
 use borrow.Author.Tests.{eq-eqb, ne-eqb}
 use lib.ListN.{length}
 use Rattle.card.specs.Refusals.{outOfShape}
-use Rattle.marks.specs.Marks.{Mark, placeOf}
-use Rattle.marks.specs.Kinds.{kind}
+use Rattle.marks_on_a_card.specs.Marks.{Mark, placeOf}
+use Rattle.marks_on_a_card.specs.Kinds.{kind}
 use Rattle.marks.specs.Step.{marksAt}
 use Rattle.marks.specs.declared.Found.{Found}
 use Rattle.marks.specs.declared.Step.{Step}

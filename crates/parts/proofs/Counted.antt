@@ -5,7 +5,7 @@ use Prim.Native.Nat.{ℕ, zero, suc}
 use Prim.Native.String.{String}
 use mathlib.Core.Path.{_≡_, refl, sym, ap, _∙_}
 use mathlib.Core.List.{List, [], _∷_}
-use Rattle.marks.specs.Kinds.{kind}
+use Rattle.marks_on_a_card.specs.Kinds.{kind}
 use Rattle.marks.specs.declared.Step.{Step}
 use Rattle.reading.specs.Reader.{State, Result, ok, stop, Reader, bind, return}
 use Rattle.reading.specs.Shape.{many}

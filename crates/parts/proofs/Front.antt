@@ -8,13 +8,13 @@ use native.Mathlib.Omega.{arith}
 use lib.Dec.{eqb, leb}
 use borrow.Author.Tests.{eqb-true}
 use lib.ListN.{length, getD, drop, drop-of-length-le}
-use Rattle.letters.specs.Bytes.{isDigit, inWord, begins, isAlone, begun}
-use Rattle.marks.specs.Kinds.{kSeat}
+use Rattle.marks_on_a_card.specs.Bytes.{isDigit, inWord, begins, isAlone, begun}
+use Rattle.marks_on_a_card.specs.Kinds.{kSeat}
 use Rattle.marks.specs.Step.{stepAt}
 use Rattle.marks.specs.Parts.{bareOf, valuedOf}
-use Rattle.looks.specs.Quick.{signAhead, seatAhead}
-use Rattle.letters.proofs.Lists.{cases, not-both, and-right, drop-at}
-use Rattle.letters.proofs.Runs.{begins-at}
+use Rattle.marks_on_a_card.specs.Quick.{signAhead, seatAhead}
+use Rattle.marks_on_a_card.proofs.Lists.{cases, not-both, and-right, drop-at}
+use Rattle.marks_on_a_card.proofs.Runs.{begins-at}
 use Rattle.looks.proofs.Quick.{sign-at, sign-step, seat-at, seat-step}
 
 -- as the look says

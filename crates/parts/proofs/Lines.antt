@@ -14,11 +14,11 @@ use lib.ListN.{length, getD, set, drop, drop-of-length-le}
 use lib.Seq.{drop-cons}
 use Rattle.card.specs.Refusals.{outOfShape, notDue}
 use Rattle.card.specs.Text.{if_then_else_}
-use Rattle.marks.specs.Marks.{Mark, text, seat as seatMark, process as processMark, number, decimal, outside, placeOf}
-use Rattle.marks.specs.Kinds.{kEnd, kNumber, kSeat, kProcess, kind, kindOf}
-use Rattle.marks.specs.Step.{marksAt, valueOf}
+use Rattle.marks_on_a_card.specs.Marks.{Mark, text, seat as seatMark, process as processMark, number, decimal, outside, placeOf}
+use Rattle.marks_on_a_card.specs.Kinds.{kEnd, kNumber, kSeat, kProcess, kind, kindOf, valueOf}
+use Rattle.marks.specs.Step.{marksAt}
 use Rattle.marks.specs.declared.Found.{Found}
-use Rattle.letters.proofs.Lists.{not-both}
+use Rattle.marks_on_a_card.proofs.Lists.{not-both}
 use Rattle.marks.specs.declared.Step.{Step}
 use Rattle.reading.specs.Reader.{Place, State, at, Result, ok, stop, Reader, bind, return, the, is, given, sign as readSign, seatOf, processOf, numberOf, Numbered, numbered, keep, line}
 use Rattle.reading.specs.Judgements.{Judgement, word}

@@ -15,11 +15,11 @@ use Rattle.card.specs.Refusals.{outOfShape}
 use Rattle.card.specs.Text.{bytes, same, if_then_else_}
 use Rattle.card.specs.Weight.{Weight, whole, decimal as point}
 use Rattle.card.specs.Card.{Mode, nondeterministic, probabilistic}
-use Rattle.marks.specs.Marks.{Mark, text, seat, process, number, decimal, outside, Placed, placed, placeOf}
-use Rattle.marks.specs.Kinds.{kEnd, kOutside, kNumber, kDecimal, kSeat, kProcess, kWord, Known, knowns, kindIn, kind, kindOf}
-use Rattle.marks.specs.Step.{valueOf, digitsOf, furtherOf, found, stepTo, stepEnd, stepAt, marksAt}
+use Rattle.marks_on_a_card.specs.Marks.{Mark, text, seat, process, number, decimal, outside, Placed, placed, placeOf}
+use Rattle.marks_on_a_card.specs.Kinds.{kEnd, kOutside, kNumber, kDecimal, kSeat, kProcess, kWord, Known, knowns, kindIn, kind, kindOf, valueOf, digitsOf, furtherOf}
+use Rattle.marks.specs.Step.{found, stepTo, stepEnd, stepAt, marksAt}
 use Rattle.marks.proofs.Next.{Meet, over, met, meet}
-use Rattle.marks.proofs.KindLaws.{kind-tells, kind-seat, kind-process, kind-number, kind-decimal}
+use Rattle.marks_on_a_card.proofs.KindLaws.{kind-tells, kind-seat, kind-process, kind-number, kind-decimal}
 use Rattle.reading.proofs.Through.{same-refl, is→eq}
 use Rattle.marks.specs.declared.Found.{Found}
 use Rattle.marks.specs.declared.Step.{Step}

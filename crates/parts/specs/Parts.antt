@@ -7,8 +7,8 @@ use mathlib.Core.List.{List, [], _∷_}
 use lib.Dec.{eqb, leb}
 use lib.ListN.{length}
 use Rattle.card.specs.Refusals.{aboveTop, notDue}
-use Rattle.marks.specs.Marks.{Mark, placeOf}
-use Rattle.marks.specs.Kinds.{kEnd, kSeat, kProcess, kind, kindOf}
+use Rattle.marks_on_a_card.specs.Marks.{Mark, placeOf}
+use Rattle.marks_on_a_card.specs.Kinds.{kEnd, kSeat, kProcess, kind, kindOf}
 use Rattle.marks.specs.Step.{marksAt}
 use Rattle.reading.specs.Reader.{State, at, Result, ok, stop, is, sign as readSign, numberOf, Numbered, numbered, Item, exactly, seatWord, processWord, line}
 use Rattle.reading.specs.Judgements.{Judgement, unless}

@@ -10,7 +10,7 @@ use late::judge_state;
 use late::state::STATE;
 use late::state::VALUE;
 use late::stop;
-use marks::kinds::NUMBER;
+use marks_on_a_card::kinds::NUMBER;
 ghost use mathlib.Core.Path.{_≡_};
 ghost use Prim.Native.Nat.{_≤_, _<_};
 ghost use lib.ListN.{length};

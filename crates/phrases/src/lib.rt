@@ -1,8 +1,6 @@
-// Texts that several entries print: the mode, and weights in lowest terms ("Texts, byte for byte").
+// Texts that several entries print: the mode, and a text with a number behind it; by what a weight is reduced ("Texts, byte for byte").
 use card::limits::NUMBER_DIGITS;
-use put_numbers::put_long_number;
 use put_numbers::put_number;
-use room::put_byte;
 use room::put_bytes;
 use weights::Weight;
 ghost use mathlib.Core.Path.{_≡_};
@@ -11,7 +9,7 @@ ghost use Prim.Native.Nat.{ℕ, _<_, _≤_};
 ghost use Rattle.card.specs.Limits.{unit};
 ghost use Rattle.card.specs.Card.{nondeterministic, probabilistic};
 ghost use Rattle.card.specs.Laid.{either};
-ghost use Rattle.phrases.specs.Phrases.{divisor as divisorOf, num, modeText, weightText};
+ghost use Rattle.phrases.specs.Phrases.{divisor as divisorOf, num, modeText};
 ghost use Rattle.phrases.specs.Puts.{Puts};
 
 // One of two texts, by a choice's number: the second for any but 0.
@@ -40,7 +38,7 @@ pub fn put_numbered(room: &mut [u8], at: usize, s: &[u8], n: usize) -> usize
 }
 
 // The greatest number that divides both the unit and `units`.
-fn divisor(units: u32) -> u32
+pub fn divisor(units: u32) -> u32
     requires { ⌜ units ≤ unit ⌝ }
     ensures { λ r. ⌜ (r ≡ divisorOf units) × (0 < r) ⌝ }
 {
@@ -56,19 +54,3 @@ fn divisor(units: u32) -> u32
 
 // A fraction has two numbers and a sign between them at most (specs/Phrases.antt).
 pub const WEIGHT_MOST: usize = 1 + 2 * NUMBER_DIGITS;
-
-// A weight in lowest terms; units beyond the unit are not a weight, and are put as the unit.
-pub fn put_weight(room: &mut [u8], at: usize, units: u32) -> usize
-    ensures { λ r. ⌜ Puts (now (room .entry)) (now (room .exit)) at (weightText units) r ⌝ }
-{
-    if units == 0 {
-        return put_byte(room, at, b'0');
-    }
-    if Weight::UNIT <= units {
-        return put_byte(room, at, b'1');
-    }
-    let by = divisor(units);
-    let a = put_number(room, at, (units / by) as usize);
-    let b = put_byte(room, a, b'/');
-    put_long_number(room, b, (Weight::UNIT / by) as usize)
-}

@@ -8,7 +8,7 @@ use native.Mathlib.Omega.{arith}
 use lib.Dec.{eqb}
 use lib.ListN.{length}
 use Rattle.card.specs.Text.{if_then_else_}
-use Rattle.letters.specs.Bytes.{notLF, run, runEnd}
+use Rattle.marks_on_a_card.specs.Bytes.{notLF, run, runEnd}
 use Rattle.panel_said.specs.Program.{lineEnd, seatsLine}
 
 run-line : (s : List ℕ) → run notLF s ≡ seatsLine s

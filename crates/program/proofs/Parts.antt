@@ -23,11 +23,11 @@ use Rattle.card.specs.declared.Verdict.the-variants.{Taken, Refused}
 use Rattle.seating.specs.Judged.{judgedSeats}
 use Rattle.rows.specs.Said.{outcomeSaid}
 use Rattle.seating.specs.SeatsSaid.{verdictSaid}
-use Rattle.lines.specs.PanelText.{panelOf}
+use Rattle.panel_wording.specs.PanelText.{panelOf}
 use Rattle.panel_said.specs.PanelSaid.{shownSaid, panelSaid}
 use Rattle.seating.proofs.Judging.{valid-exactly}
 use Rattle.grammar.proofs.Theorems.{read-valid}
-use Rattle.panel_room.specs.PanelRoom.{panelRoom}
+use Rattle.panel_wording.specs.PanelRoom.{panelRoom}
 use Rattle.panel_said.proofs.Short.{panel-fits}
 use Rattle.panel_said.specs.Program.{lineEnd, seatsLine, cardBehind, seatOf, inputBytes, printed, answerTo, programOf}
 use Rattle.program_lines.proofs.Printing.{Short}

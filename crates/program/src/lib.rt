@@ -1,6 +1,6 @@
 // The panel program as a function from the bytes that it reads to the bytes that it prints ("Texts, byte for byte").
 use card::limits::MOST_SEATS;
-use letters::bytes::line_end;
+use line_ends::line_end;
 use panel::panel;
 use panel_room::PANEL_ROOM;
 use program_lines::put_refusal;
@@ -9,7 +9,7 @@ use room::Answer;
 ghost use Prim.Native.Nat.{_≤_};
 ghost use lib.ListN.{length};
 ghost use Rattle.panel_said.specs.PanelSaid.{panelSaid};
-ghost use Rattle.panel_room.specs.PanelRoom.{panelRoom};
+ghost use Rattle.panel_wording.specs.PanelRoom.{panelRoom};
 ghost use Rattle.panel_said.specs.Program.{printed, answerTo, programOf, Printed};
 
 // Bytes behind these are not read.

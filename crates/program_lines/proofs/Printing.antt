@@ -17,7 +17,7 @@ use Rattle.room.proofs.Laws.{clip-start}
 use Rattle.room.proofs.Decimal.{decimal-length}
 use Rattle.room.proofs.Entries.{entered-refusal, entered-fits, entered-kept, entered-text}
 use Rattle.phrases.specs.Phrases.{_▸_, num}
-use Rattle.program_lines.specs.Lines.{printed, refusalMost, Printed}
+use Rattle.panel_wording.specs.Lines.{printed, refusalMost, Printed}
 
 done≢refused : {A : Type 0} {long number place : ℕ} → Done long ≡ Refused number place → A
 done≢refused e = let z : _≡_ {A = ℕ} 0 1 = cc in absurd (omega arith)

@@ -10,7 +10,7 @@ use lib.Dec.{leb}
 use lib.ListN.{length, getD, set, take, drop}
 use Rattle.card.specs.Text.{if_then_else_}
 use Rattle.room.specs.Digits.{digit}
-use Rattle.program_lines.specs.Lines.{noState, seatOf}
+use Rattle.panel_wording.specs.Lines.{noState, seatOf}
 
 -- ---- a seat
 

@@ -1,5 +1,5 @@
 // What the panel program does with single lines: seats read from one, a refusal put as one ("Texts, byte for byte").
-use letters::bytes::wide;
+use bytes_as_numbers::wide;
 use put_numbers::put_number;
 use room::put_byte;
 use room::put_bytes;
@@ -9,7 +9,7 @@ ghost use Prim.Native.Nat.{_≤_, min};
 ghost use lib.ListN.{length, take, drop};
 ghost use Rattle.room.specs.Room.{Put};
 ghost use Rattle.entry.specs.Said.{refused};
-ghost use Rattle.program_lines.specs.Lines.{seatOf, printed, refusalMost};
+ghost use Rattle.panel_wording.specs.Lines.{seatOf, printed, refusalMost};
 
 const NO_STATE: u8 = 255;
 

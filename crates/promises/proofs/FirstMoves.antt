@@ -22,7 +22,7 @@ use Rattle.entry.proofs.Exactly.{_↔∙_}
 use Rattle.seating.proofs.Judging.{valid-exactly}
 use Rattle.seating.proofs.SeatsStage.{seats-stage}
 use Rattle.rows.specs.Said.{outcomeSaid}
-use Rattle.lines.specs.PanelText.{line, choiceText, stayText, movesText, blockText, blocksText, panelText, panelOf}
+use Rattle.panel_wording.specs.PanelText.{line, choiceText, stayText, movesText, blockText, blocksText, panelText, panelOf}
 use Rattle.panel_said.specs.PanelSaid.{shownSaid, panelSaid}
 use Rattle.moving.specs.FirstMove.{firstMove}
 use Rattle.moving.specs.Shown.{FirstChoice}

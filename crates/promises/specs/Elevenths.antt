@@ -13,7 +13,7 @@ use Rattle.card.specs.Card.{Card}
 use Rattle.card.specs.Weight.{Weight, whole, decimal, ratio, Rule, cardRule, allowed}
 use Rattle.card.specs.Valid.{ValidCard}
 use Rattle.card.specs.Lent.{Lent, headOf, noHead, lentOf, noneLent}
-use Rattle.marks.specs.Marks.{marksOf}
+use Rattle.marks_on_a_card.specs.Marks.{marksOf}
 use Rattle.reading.specs.Reading.{taken, refused, readUnder, mostRefusal}
 use Rattle.grammar.specs.Verdicts.{TooLong, OutsideRules, OutOfShape, PastLimit, Broken, Accepted}
 use Rattle.outline.specs.ReadingOf.{outlineOf, ReadsUnder}

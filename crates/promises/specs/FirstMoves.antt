@@ -16,7 +16,7 @@ use Rattle.entry.specs.Said.{refused}
 use Rattle.seating.specs.Judged.{FirstAbove}
 use Rattle.rows.specs.Said.{Read}
 use Rattle.phrases.specs.Phrases.{_▸_, num, modeWord}
-use Rattle.lines.specs.PanelText.{line, panelOf}
+use Rattle.panel_wording.specs.PanelText.{line, panelOf}
 use Rattle.panel_said.specs.PanelSaid.{panelSaid}
 use Rattle.moving.specs.FirstMove.{firstMove, firstAt}
 use Rattle.moving.specs.FirstTaken.{FirstTaken}

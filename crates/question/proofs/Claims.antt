@@ -13,7 +13,7 @@ use Rattle.card.specs.Refusals.{aboveTop, notDue}
 use Rattle.card.specs.Text.{if_then_else_}
 use Rattle.card.specs.Card.{Kind, everyone, others, group, Formula, atom, neg, and, or}
 use Rattle.card.specs.Formulas.{over}
-use Rattle.marks.specs.Marks.{placeOf}
+use Rattle.marks_on_a_card.specs.Marks.{placeOf}
 use Rattle.reading.specs.Reader.{Place}
 use Rattle.reading.specs.Group.{Literal, Literals}
 use Rattle.reading.specs.Judgements.{has, hasFrom, alike, Verdict, fine, wrong}
@@ -24,7 +24,7 @@ use Rattle.late.proofs.Settling.{orNext, or-assoc, Sound, sound-blamed, sound-g
 use Rattle.asking.specs.Question.{Item, aGroup, exactlyOne}
 use Rattle.asking.specs.Meant.{leafFor}
 use Rattle.asking.specs.Asking.{Claim, state, everyone as everyoneOf, exactly, claimAt, due, firstD, claimsOf, claims, isEveryone, isTerms, termD, isExactlyOne, fits, firstUnfit, firstRelation, literalD, atomIn, questionIn}
-use Rattle.one_term.specs.Wanted.{wantOfTerms}
+use Rattle.term_literals.specs.Wanted.{wantOfTerms}
 use Rattle.grouping.specs.Language.{wantOfAll, judgeClaim, claimAll, leafBy, questions, leavesOf, judgedOf}
 
 -- ---- what an item wants is the number of seats for which it is as said

@@ -6,7 +6,7 @@ use mathlib.Core.List.{List, _∷_}
 use lib.ListN.{length}
 use Rattle.card.specs.Limits.{mostNodes, mostDepth}
 use Rattle.card.specs.Card.{all, any}
-use Rattle.marks.specs.Marks.{Mark, placed}
+use Rattle.marks_on_a_card.specs.Marks.{Mark, placed}
 use Rattle.reading.specs.Reader.{Place, at, Reader, bind, _>>=_, _>>_, return, sign}
 use Rattle.reading.specs.Guard.{seatNext, unaryBy}
 use Rattle.reading.specs.Group.{joint, literal, joined, others, group}

@@ -16,12 +16,12 @@ use Rattle.card.specs.Laid.{below, cells}
 use Rattle.card.specs.Stored.{stored}
 use Rattle.card.proofs.Atoms.{size-over}
 use Rattle.card.proofs.Storing.{size-below}
-use Rattle.marks.specs.Marks.{placed, marksOf, placeOf}
-use Rattle.marks.specs.Kinds.{kEnd}
+use Rattle.marks_on_a_card.specs.Marks.{placed, marksOf, placeOf}
+use Rattle.marks_on_a_card.specs.Kinds.{kEnd}
 use Rattle.marks.specs.Step.{stepAt, marksAt}
 use Rattle.marks.specs.declared.Step.{Step}
 use Rattle.marks.proofs.Next.{marks-whole}
-use Rattle.marks.proofs.KindLaws.{kind-some}
+use Rattle.marks_on_a_card.proofs.KindLaws.{kind-some}
 use Rattle.reading.specs.Reader.{Place, State, at, Result, ok, stop, bind, return}
 use Rattle.reading.specs.Judgements.{Verdict, fine, wrong}
 use Rattle.reading.specs.Shape.{ended, theEnd}

@@ -12,7 +12,7 @@ use late::state::STATE;
 use late::state::STOP;
 use late::state::STOP_PLACE;
 use marks::Cursor;
-use marks::kinds::END;
+use marks_on_a_card::kinds::END;
 use search::Due;
 use search::search;
 use seats_wanted::settle;

@@ -15,7 +15,7 @@ use Rattle.card.specs.Text.{if_then_else_}
 use Rattle.card.specs.Card.{any, all, Formula, atom, neg, and, or, Card}
 use Rattle.card.specs.Weight.{Weight, whole, decimal as point, ratio, unitsOf, Rule, allowed, weightRefusal}
 use Rattle.card.specs.Valid.{Every}
-use Rattle.marks.specs.Marks.{Mark, Placed, placed, marksOf}
+use Rattle.marks_on_a_card.specs.Marks.{Mark, Placed, placed, marksOf}
 use Rattle.reading.specs.Reader.{Place, State, at, Result, ok, stop, Reader, bind, _>>=_, _>>_, return, refuse, refuseAt, took, the, nextIs, ifNext, sign, numberOf, here, Numbered, numbered, spend, nodeAt, node, Item, exactly, seatWord, processWord, keep, line}
 use Rattle.reading.specs.Guard.{isSome, seatNext, ifSeat, Read, chain, conjunction, expression, grouped, unary}
 use Rattle.reading.specs.Group.{joint, literal, others, group, Literal, Literals}

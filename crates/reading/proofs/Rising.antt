@@ -5,7 +5,7 @@ use mathlib.Core.Path.{_≡_, refl, sym, ap₂}
 use mathlib.Core.List.{List, [], _∷_, _++_, head-eq-of-cons-eq, tail-eq-of-cons-eq}
 use native.Mathlib.Omega.{arith}
 use lib.ListN.{length}
-use Rattle.marks.specs.Marks.{Placed, placed, Start, blank, mark, startAt, emit, marks, marksOf, placeOf}
+use Rattle.marks_on_a_card.specs.Marks.{Placed, placed, Start, blank, mark, startAt, emit, marks, marksOf, placeOf}
 
 -- from a on, each behind the one before it, and before e
 abbrev pub Rises : ℕ → ℕ → List Placed → Type 0

@@ -10,7 +10,7 @@ use native.Mathlib.Omega.{arith}
 use lib.Dec.{eqb}
 use borrow.Author.Tests.{eqb-true, eq-eqb}
 use Rattle.card.specs.Text.{bytes, same, if_then_else_}
-use Rattle.marks.specs.Marks.{Mark, text, seat, process, number, decimal, outside, placed}
+use Rattle.marks_on_a_card.specs.Marks.{Mark, text, seat, process, number, decimal, outside, placed}
 use Rattle.reading.specs.Reader.{Place, State, at, Result, ok, stop, Reader, bind, took, the, is, given, sign}
 
 -- ---- tests

@@ -8,7 +8,7 @@ use lib.ListN.{length}
 use Rattle.card.specs.Text.{bytes, if_then_else_}
 use Rattle.card.specs.Refusals.{pastLimit}
 use Rattle.card.specs.Card.{Sign, all, any, Relation, is as eq, isnt as ne}
-use Rattle.marks.specs.Marks.{Mark, Placed}
+use Rattle.marks_on_a_card.specs.Marks.{Mark, Placed}
 use Rattle.reading.specs.Reader.{Place, State, at, Result, ok, stop, Reader, bind, _>>=_, _>>_, return, refuse, the, is, ifNext, sign, seatOf, numberOf, here}
 
 abbrev pub joint : Sign → String

@@ -8,7 +8,7 @@ use Rattle.card.specs.Limits.{mostNodes}
 use Rattle.card.specs.Refusals.{pastLimit}
 use Rattle.card.specs.Text.{if_then_else_}
 use Rattle.card.specs.Card.{Formula, atom, neg, and, or}
-use Rattle.marks.specs.Marks.{Mark, Placed, placed}
+use Rattle.marks_on_a_card.specs.Marks.{Mark, Placed, placed}
 use Rattle.reading.specs.Reader.{Place, State, at, Result, ok, stop, Reader, bind, _>>=_, _>>_, return, refuse, refuseAt, is, nextIs, ifNext, sign, seatOf, here, nodeAt, node}
 
 abbrev pub isSome : {A : Type 0} → Option A → Bool

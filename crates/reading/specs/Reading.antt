@@ -10,7 +10,7 @@ use Rattle.card.specs.Refusals.{tooLong, outsideRules, wrongWeight, decimalWeig
 use Rattle.card.specs.Text.{if_then_else_}
 use Rattle.card.specs.Card.{Card}
 use Rattle.card.specs.Weight.{Rule, cardRule}
-use Rattle.marks.specs.Marks.{Mark, text, seat, process, number, decimal, outside, Placed, placed, marksOf, placeOf}
+use Rattle.marks_on_a_card.specs.Marks.{Mark, text, seat, process, number, decimal, outside, Placed, placed, marksOf, placeOf}
 use Rattle.reading.specs.Reader.{Place, State, at, Result, ok, stop}
 use Rattle.reading.specs.Judgements.{Verdict, fine, wrong, firstBroken}
 use Rattle.reading.specs.Shape.{CardShape, card}

@@ -10,7 +10,7 @@ use Rattle.card.specs.Refusals.{outOfShape, pastLimit}
 use Rattle.card.specs.Text.{bytes, if_then_else_}
 use Rattle.card.specs.Card.{Mode, nondeterministic, probabilistic, Formula}
 use Rattle.card.specs.Weight.{Weight, whole, decimal as point, ratio}
-use Rattle.marks.specs.Marks.{Mark, text, seat, process, number, decimal, outside, Placed, placed}
+use Rattle.marks_on_a_card.specs.Marks.{Mark, text, seat, process, number, decimal, outside, Placed, placed}
 use Rattle.reading.specs.Reader.{Place, State, at, Result, ok, stop, Reader, bind, _>>=_, _>>_, return, refuse, refuseAt, the, is, ifNext, sign, seatOf, processOf, numberOf, here, Numbered, numbered, Item, exactly, seatWord, processWord, line}
 use Rattle.reading.specs.Guard.{isSome, conjunction, unary}
 use Rattle.reading.specs.Group.{Literals, group}

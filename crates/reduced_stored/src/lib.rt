@@ -9,7 +9,7 @@ use card::refusals::ROOM_TOO_SMALL;
 use reduced_text::put_program;
 use room::Answer;
 use room::put_run;
-use statement_text::TAIL_PLACES;
+use statement_copies::TAIL_PLACES;
 ghost use Rattle.card.specs.Lent.{lent, cardIn, HoldsIn};
 ghost use Rattle.room.specs.Answer.{Entered};
 ghost use Rattle.entry.specs.Said.{says as text};

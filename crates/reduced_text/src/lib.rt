@@ -2,13 +2,13 @@
 use card::Head;
 use card::limits::NODE_PLACES;
 use card::limits::ROW_PLACES;
+use counter_start::start_of;
 use leaf_text::REDUCED;
 use phrases::put_mode;
 use phrases::put_numbered;
 use room::place;
 use room::put_bytes;
 use statement_text::put_statements;
-ghost use mathlib.Core.Path.{_≡_};
 ghost use Prim.Native.Nat.{suc, _≤_};
 ghost use lib.Dec.{eqb};
 ghost use Rattle.card.specs.Limits.{topState};
@@ -20,16 +20,6 @@ ghost use Rattle.room.specs.Room.{Put};
 ghost use Rattle.phrases.specs.Phrases.{_▸_, modeText};
 ghost use Rattle.phrases.specs.Puts.{Puts};
 ghost use Rattle.texts.specs.ReducedText.{counterLine, counters, reducedOf};
-
-// What the counter of state d starts at.
-fn start_of(d: usize, seats: usize, start: usize) -> usize
-    ensures { λ r. ⌜ r ≡ gate (eqb start d) seats ⌝ }
-{
-    if start == d {
-        return seats;
-    }
-    0
-}
 
 fn put_counter(room: &mut [u8], at: usize, d: usize, seats: usize, start: usize) -> usize
     ensures { λ r. ⌜ Puts (now (room .entry)) (now (room .exit)) at (counterLine seats d (gate (eqb start d) seats)) r ⌝ }

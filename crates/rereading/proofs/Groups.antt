@@ -13,7 +13,7 @@ use lib.ListN.{length}
 use Rattle.card.specs.Limits.{numberDigits, wordDigits, mostNodes}
 use Rattle.card.specs.Card.{Kind, everyone, others, Sign, all, any, Relation, is, isnt, Leaf, group, one, atom}
 use Rattle.card.specs.Valid.{firstSeat, Enough, ValidLeaf, Every}
-use Rattle.marks.specs.Marks.{seat, marks}
+use Rattle.marks_on_a_card.specs.Marks.{seat, marks}
 use Rattle.reading.specs.Reader.{Place}
 use Rattle.reading.specs.Group.{relation, Literal, literalOf, Literals, literalsOf}
 use Rattle.reading.specs.Judgements.{Judgement, has, hasFrom, once, kindOf, sameRelation, alike, symmetric, broken, judgedGroup, groupIn}

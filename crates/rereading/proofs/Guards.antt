@@ -10,8 +10,8 @@ use lib.ListN.{length}
 use Rattle.card.specs.Limits.{numberDigits, wordDigits, mostNodes, mostDepth}
 use Rattle.card.specs.Card.{Sign, all, any, Leaf, group, one, Formula, atom, neg, and, or, Guard}
 use Rattle.card.specs.Valid.{ValidLeaves, Every, size, Level, loose, middle, tight, needsAnd, needsOr, depth}
-use Rattle.letters.specs.Bytes.{begins}
-use Rattle.marks.specs.Marks.{marks}
+use Rattle.marks_on_a_card.specs.Bytes.{begins}
+use Rattle.marks_on_a_card.specs.Marks.{marks}
 use Rattle.reading.specs.Reader.{Place}
 use Rattle.reading.specs.Group.{Literals}
 use Rattle.reading.specs.Judgements.{judgedGuard, guardIn}

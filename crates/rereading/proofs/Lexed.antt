@@ -12,9 +12,9 @@ use lib.ListN.{length, getD}
 use lib.Seq.{drop-append-seam}
 use Rattle.card.specs.Limits.{numberDigits, wordDigits}
 use Rattle.card.specs.Text.{same}
-use Rattle.letters.specs.Bytes.{isDigit, inWord, run, begins, every}
-use Rattle.digits.specs.Digits.{valueFrom, plain, numberSpelt, pointed}
-use Rattle.marks.specs.Marks.{text, seat, process, number, Placed, placed, startAt, numeral, marks}
+use Rattle.marks_on_a_card.specs.Bytes.{isDigit, inWord, run, begins, every}
+use Rattle.marks_on_a_card.specs.Digits.{valueFrom, plain, numberSpelt, pointed}
+use Rattle.marks_on_a_card.specs.Marks.{text, seat, process, number, Placed, placed, startAt, numeral, marks}
 use Rattle.room.specs.Digits.{decimal, AllDigits}
 use Rattle.room.proofs.Decimal.{decimal-digits, decimal-some, decimal-front, decimal-length, decimal-read}
 use Rattle.phrases.specs.Phrases.{_▸_, num}

@@ -12,9 +12,9 @@ use Rattle.card.specs.Limits.{cardBytes, numberDigits, wordDigits, mostSeats, t
 use Rattle.card.specs.Card.{Mode, nondeterministic, probabilistic, Statement, Card}
 use Rattle.card.specs.Weight.{Rule, cardRule}
 use Rattle.card.specs.Valid.{Every, ValidCard}
-use Rattle.letters.specs.Bytes.{isDigit, begins}
-use Rattle.digits.specs.Digits.{pointed}
-use Rattle.marks.specs.Marks.{text, number, placed, marks, marksOf}
+use Rattle.marks_on_a_card.specs.Bytes.{isDigit, begins}
+use Rattle.marks_on_a_card.specs.Digits.{pointed}
+use Rattle.marks_on_a_card.specs.Marks.{text, number, placed, marks, marksOf}
 use Rattle.reading.specs.Reader.{Place, at, Result, ok, Numbered, Item}
 use Rattle.reading.specs.Group.{Literal, Literals}
 use Rattle.reading.specs.Judgements.{Judgement, fine, broken, firstBroken}

@@ -13,9 +13,9 @@ use Rattle.card.specs.Limits.{numberDigits, wordDigits, unit, mostStatements, m
 use Rattle.card.specs.Card.{all, Formula, Guard, Branch, Statement}
 use Rattle.card.specs.Valid.{Every, total, size, middle, depth, ValidGuard, ValidBranch, ValidStatement}
 use Rattle.card.specs.Weight.{Weight, whole, ratio, unitsOf, Rule, allowed, weightRefusal}
-use Rattle.letters.specs.Bytes.{isDigit, begins}
-use Rattle.digits.specs.Digits.{pointed}
-use Rattle.marks.specs.Marks.{number, placed, marks}
+use Rattle.marks_on_a_card.specs.Bytes.{isDigit, begins}
+use Rattle.marks_on_a_card.specs.Digits.{pointed}
+use Rattle.marks_on_a_card.specs.Marks.{number, placed, marks}
 use Rattle.reading.specs.Reader.{Place, Numbered, Item}
 use Rattle.reading.specs.Guard.{isSome}
 use Rattle.card.specs.Refusals.{wrongWeight}

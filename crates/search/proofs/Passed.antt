@@ -15,7 +15,7 @@ use Rattle.card.specs.Refusals.{outOfShape, pastLimit}
 use Rattle.card.specs.Text.{if_then_else_}
 use Rattle.card.specs.Card.{Formula, and, or, any, all}
 use Rattle.card.specs.Weight.{Weight, whole, decimal as point, ratio}
-use Rattle.marks.specs.Marks.{Mark, text, seat, process, number, decimal, outside, Placed, placed}
+use Rattle.marks_on_a_card.specs.Marks.{Mark, text, seat, process, number, decimal, outside, Placed, placed}
 use Rattle.reading.specs.Reader.{Place, State, at, Result, ok, stop, Reader, bind, return, refuse, refuseAt, took, first, the, is, given, nextIs, ifNext, sign, seatOf, processOf, numberOf, here, numbered, spend, node, nodeAt, Item, exactly, seatWord, processWord, line}
 use Rattle.reading.specs.Guard.{seatNext, Read, chain, conjunction, expression, grouped, unaryBy, unary}
 use Rattle.reading.specs.Group.{joint, relationOf, literal, joined, others, group}

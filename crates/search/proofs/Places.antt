@@ -11,10 +11,10 @@ use borrow.Author.Tests.{leb-true, leb-false}
 use lib.Dec.{leb}
 use lib.ListN.{length, drop, length-drop, drop-of-length-le}
 use lib.Seq.{drop-drop, drop-length}
-use Rattle.marks.specs.Marks.{Mark, text, seat, process, number, decimal, outside, Placed, placed, Start, blank, mark, startAt, emit, marks, marksOf, placeOf}
-use Rattle.marks.specs.Kinds.{kEnd, kOutside, kindOf}
+use Rattle.marks_on_a_card.specs.Marks.{Mark, text, seat, process, number, decimal, outside, Placed, placed, Start, blank, mark, startAt, emit, marks, marksOf, placeOf}
+use Rattle.marks_on_a_card.specs.Kinds.{kEnd, kOutside, kindOf}
 use Rattle.marks.specs.Step.{stepAt, marksAt}
-use Rattle.marks.proofs.KindLaws.{kind-outside, kind-some}
+use Rattle.marks_on_a_card.proofs.KindLaws.{kind-outside, kind-some}
 use Rattle.marks.specs.declared.Step.{Step}
 use Rattle.reading.specs.Reader.{Place}
 use Rattle.reading.specs.Reading.{isOutside, firstOutside}

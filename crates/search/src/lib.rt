@@ -2,8 +2,8 @@
 // searched alike.
 use card::refusals::OUTSIDE_RULES;
 use marks::Cursor;
-use marks::kinds::END;
-use marks::kinds::OUTSIDE;
+use marks_on_a_card::kinds::END;
+use marks_on_a_card::kinds::OUTSIDE;
 ghost use mathlib.Core.Path.{_≡_};
 ghost use Rattle.marks.specs.Step.{marksAt};
 ghost use Rattle.reading.specs.Reading.{firstOutside};

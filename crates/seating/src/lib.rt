@@ -1,9 +1,9 @@
 // Seats judged, and counted by their states ("Refusal numbers", "What a card means").
+use bytes_as_numbers::wide;
 use card::Verdict;
 use card::limits::MOST_STATES;
 use card::refusals::SEAT_ABOVE_TOP;
 use card::refusals::WRONG_SEATS;
-use letters::bytes::wide;
 ghost use mathlib.Core.Path.{_≡_};
 ghost use Rattle.card.specs.Limits.{topState};
 ghost use Rattle.meaning.specs.Seats.{counts as countsOf};

@@ -16,7 +16,7 @@ use Rattle.phrases.specs.Phrases.{_▸_, num, modeWord}
 use Rattle.meaning.specs.Choices.{Choice}
 use Rattle.meaning.specs.Seats.{Seating, choices}
 use Rattle.meaning.specs.Panel.{Move, Block, Panel, block, blockOf, oneOf, blocks, panel}
-use Rattle.lines.specs.PanelText.{numbers, line, movesText, stayText, choiceText, blockText, blocksText, panelText, panelOf}
+use Rattle.panel_wording.specs.PanelText.{numbers, line, movesText, stayText, choiceText, blockText, blocksText, panelText, panelOf}
 use Rattle.shown.specs.Telling.{Chosen, Blocks, Telling}
 
 -- ---- bytes

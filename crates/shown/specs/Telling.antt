@@ -7,7 +7,7 @@ use Rattle.card.specs.Card.{Mode, nondeterministic, probabilistic, Card}
 use Rattle.card.specs.Valid.{Every}
 use Rattle.meaning.specs.Seats.{Seating}
 use Rattle.meaning.specs.Panel.{Block, Panel, panel}
-use Rattle.lines.specs.PanelText.{panelText, panelOf}
+use Rattle.panel_wording.specs.PanelText.{panelText, panelOf}
 
 -- a block for each choice, or one block without
 abbrev pub Chosen : Block → Type 0

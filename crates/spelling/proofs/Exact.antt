@@ -9,9 +9,9 @@ use native.Mathlib.Omega.{arith}
 use borrow.Author.Tests.{eq-eqb}
 use lib.ListN.{length, drop, length-append, length-drop}
 use lib.Seq.{drop-append-seam}
-use Rattle.letters.specs.Bytes.{notLF, begins, every}
-use Rattle.marks.specs.Marks.{Mark, text, seat, process, number, decimal, outside, Placed, placed, Start, blank, mark, startAt, emit, marks, marksOf}
-use Rattle.marks.proofs.Next.{marks-skip}
+use Rattle.marks_on_a_card.specs.Bytes.{notLF, begins, every}
+use Rattle.marks_on_a_card.specs.Marks.{Mark, text, seat, process, number, decimal, outside, Placed, placed, Start, blank, mark, startAt, emit, marks, marksOf}
+use Rattle.marks_on_a_card.proofs.StartLaws.{marks-skip}
 use Rattle.spelling.specs.Spells.{Spells}
 use Rattle.spelling.specs.Marked.{LineOver, Between, nothing, blank as aBlank, comment as aComment, Longest, Stands, taken, Marked, over, next}
 use Rattle.spelling.proofs.Lists.{run-front, same-front}

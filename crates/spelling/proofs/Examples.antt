@@ -3,7 +3,7 @@ use Prim.Native.String.{String}
 use Prim.Native.Nat.{ℕ}
 use mathlib.Core.List.{[], _∷_}
 use Rattle.card.specs.Text.{bytes}
-use Rattle.marks.specs.Marks.{text, seat, process, number, decimal, outside, Placed, placed}
+use Rattle.marks_on_a_card.specs.Marks.{text, seat, process, number, decimal, outside, Placed, placed}
 use Rattle.spelling.specs.Marked.{Marked}
 use Rattle.spelling.proofs.Exact.{marked}
 

@@ -12,12 +12,12 @@ use lib.Dec.{eqb, leb}
 use lib.ListN.{length, drop, length-append}
 use lib.Seq.{drop-append-seam}
 use Rattle.card.specs.Text.{bytes, same, if_then_else_}
-use Rattle.letters.specs.Bytes.{within, isDigit, isLetter, inWord, isBlank, isSign, run, begins, every}
-use Rattle.digits.specs.Digits.{pointed}
-use Rattle.marks.specs.Marks.{Mark, second}
-use Rattle.letters.proofs.Lists.{cases, not-both, and-left, and-right, or-true}
-use Rattle.marks.proofs.KindLaws.{same-eq}
-use Rattle.marks.proofs.Starts.{digit-in-word, among as of-bytes}
+use Rattle.marks_on_a_card.specs.Bytes.{within, isDigit, isLetter, inWord, isBlank, isSign, run, begins, every}
+use Rattle.marks_on_a_card.specs.Digits.{pointed}
+use Rattle.marks_on_a_card.specs.Marks.{Mark, second}
+use Rattle.marks_on_a_card.proofs.Lists.{cases, not-both, and-left, and-right, or-true}
+use Rattle.marks_on_a_card.proofs.KindLaws.{same-eq}
+use Rattle.marks_on_a_card.proofs.StartLaws.{digit-in-word, among as of-bytes}
 use Rattle.spelling.specs.Spells.{signs, OneOf, this, later, Numeral, Word, word, Stray, Spells, sign, seatWord, moduleWord, otherWord, aNumber, aDecimal, wrongNumber, wrongWhole, wrongFurther, stray}
 use Rattle.spelling.proofs.Lists.{run-covers, run-front, begins-front, every-wider}
 use Rattle.spelling.proofs.Numbers.{numeral-every}

@@ -8,8 +8,8 @@ use native.Mathlib.Omega.{arith}
 use borrow.Author.Tests.{eqb-true, eq-eqb}
 use lib.Dec.{eqb}
 use lib.ListN.{length, drop}
-use Rattle.letters.specs.Bytes.{run, begins, every, after}
-use Rattle.letters.proofs.Lists.{cases, and-left, and-right}
+use Rattle.marks_on_a_card.specs.Bytes.{run, begins, every, after}
+use Rattle.marks_on_a_card.proofs.Lists.{cases, and-left, and-right}
 
 module _ (p : ℕ → Bool) where
   pub run-split : (s : List ℕ) → s ≡ run p s ++ drop (length (run p s)) s

@@ -10,10 +10,10 @@ use borrow.Author.Tests.{eqb-true, eqb-false, leb-true, le-leb, not-true}
 use lib.Dec.{eqb, leb}
 use lib.ListN.{length}
 use Rattle.card.specs.Text.{same}
-use Rattle.letters.specs.Bytes.{isDigit, every}
-use Rattle.digits.specs.Digits.{valueFrom, plain, numberSpelt}
-use Rattle.letters.proofs.Lists.{cases, not-both, and-left, and-right, or-true, none-left}
-use Rattle.marks.proofs.KindLaws.{same-eq}
+use Rattle.marks_on_a_card.specs.Bytes.{isDigit, every}
+use Rattle.marks_on_a_card.specs.Digits.{valueFrom, plain, numberSpelt}
+use Rattle.marks_on_a_card.proofs.Lists.{cases, not-both, and-left, and-right, or-true, none-left}
+use Rattle.marks_on_a_card.proofs.KindLaws.{same-eq}
 use Rattle.spelling.specs.Spells.{Digits, none as noDigit, digit, Numeral, Number}
 
 -- the number that digits spell

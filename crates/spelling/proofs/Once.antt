@@ -11,12 +11,12 @@ use lib.ListN.{length, drop}
 use lib.Seq.{drop-append-seam, drop-length}
 use Rattle.card.specs.Limits.{numberDigits, furtherDigits, wordDigits}
 use Rattle.card.specs.Text.{bytes, same}
-use Rattle.letters.specs.Bytes.{isDigit, inWord, isSign, begins, every, after}
-use Rattle.digits.specs.Digits.{numberSpelt, pointed}
-use Rattle.marks.specs.Marks.{Mark, text, seat, process, number, decimal, outside, second, Start, blank, mark, made, numbered, numeralMark, numeral, sign1, sign2, startAt}
-use Rattle.letters.proofs.Lists.{cases, not-both, and-left, and-right}
-use Rattle.marks.proofs.KindLaws.{same-eq}
-use Rattle.marks.proofs.Starts.{letter-starts, digit-starts}
+use Rattle.marks_on_a_card.specs.Bytes.{isDigit, inWord, isSign, begins, every, after}
+use Rattle.marks_on_a_card.specs.Digits.{numberSpelt, pointed}
+use Rattle.marks_on_a_card.specs.Marks.{Mark, text, seat, process, number, decimal, outside, second, Start, blank, mark, made, numbered, numeralMark, numeral, sign1, sign2, startAt}
+use Rattle.marks_on_a_card.proofs.Lists.{cases, not-both, and-left, and-right}
+use Rattle.marks_on_a_card.proofs.KindLaws.{same-eq}
+use Rattle.marks_on_a_card.proofs.StartLaws.{letter-starts, digit-starts}
 use Rattle.spelling.specs.Spells.{signs, OneOf, Numeral, Number, Word, word as aWord, NumberedWord, Stray, Spells, sign as aSign, seatWord, moduleWord, otherWord, aNumber, aDecimal, wrongNumber, wrongWhole, wrongFurther, stray}
 use Rattle.spelling.proofs.Lists.{run-front, run-whole, after-is}
 use Rattle.spelling.proofs.Numbers.{numeral-every, numeral-value, number-of, of-number, not-number}

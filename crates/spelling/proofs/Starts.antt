@@ -12,11 +12,11 @@ use lib.Dec.{eqb, leb}
 use lib.ListN.{length, drop, length-append}
 use Rattle.card.specs.Limits.{numberDigits, furtherDigits, wordDigits}
 use Rattle.card.specs.Text.{bytes, if_then_else_}
-use Rattle.letters.specs.Bytes.{isDigit, isLetter, inWord, isBlank, isSign, notLF, run, begins, every, after}
-use Rattle.digits.specs.Digits.{valueFrom, numberSpelt, pointed}
-use Rattle.marks.specs.Marks.{Mark, text, seat, process, number, decimal, outside, second, Start, blank, mark, made, numbered, wordMark, word, decimalMark, numeralMark, numeral, sign1, sign2, sign, comment, startAt}
-use Rattle.letters.proofs.Lists.{cases, not-both, and-left, and-right}
-use Rattle.letters.proofs.Runs.{run-passes, run-stops}
+use Rattle.marks_on_a_card.specs.Bytes.{isDigit, isLetter, inWord, isBlank, isSign, notLF, run, begins, every, after}
+use Rattle.marks_on_a_card.specs.Digits.{valueFrom, numberSpelt, pointed}
+use Rattle.marks_on_a_card.specs.Marks.{Mark, text, seat, process, number, decimal, outside, second, Start, blank, mark, made, numbered, wordMark, word, decimalMark, numeralMark, numeral, sign1, sign2, sign, comment, startAt}
+use Rattle.marks_on_a_card.proofs.Lists.{cases, not-both, and-left, and-right}
+use Rattle.marks_on_a_card.proofs.Runs.{run-passes, run-stops}
 use Rattle.spelling.specs.Spells.{Numeral, Number, Word, word as aWord, NumberedWord, Spells, sign as aSign, seatWord, moduleWord, otherWord, aNumber, aDecimal, wrongNumber, wrongWhole, wrongFurther, stray}
 use Rattle.spelling.specs.Marked.{LineOver, Between, blank as aBlank, comment as aComment, Longest, Stands, taken}
 use Rattle.spelling.proofs.Lists.{run-on, run-split, after-is, after-front}

@@ -7,7 +7,7 @@ use native.Mathlib.Nat.{zero-add, add-zero}
 use native.Mathlib.Omega.{arith}
 use lib.ListN.{length, drop, length-append, length-drop}
 use lib.Seq.{drop-append-seam, drop-drop}
-use Rattle.marks.specs.Marks.{Mark, Placed, placed, marksOf}
+use Rattle.marks_on_a_card.specs.Marks.{Mark, Placed, placed, marksOf}
 use Rattle.spelling.specs.Spells.{Spells}
 use Rattle.spelling.specs.Marked.{Stands, taken, Marked, next, StandsAt}
 use Rattle.spelling.proofs.Lists.{same-front}

@@ -5,8 +5,8 @@ use mathlib.Core.Bool.{true}
 use mathlib.Core.List.{List, [], _∷_, _++_}
 use lib.ListN.{length, drop}
 use Rattle.card.specs.Text.{bytes}
-use Rattle.letters.specs.Bytes.{isBlank, notLF, every}
-use Rattle.marks.specs.Marks.{Mark, text, seat, process, number, decimal, outside, Placed, placed}
+use Rattle.marks_on_a_card.specs.Bytes.{isBlank, notLF, every}
+use Rattle.marks_on_a_card.specs.Marks.{Mark, text, seat, process, number, decimal, outside, Placed, placed}
 use Rattle.spelling.specs.Spells.{Spells}
 
 -- a comment is over before these bytes: LF follows, or nothing

@@ -7,8 +7,8 @@ use mathlib.Core.List.{List, [], _∷_, _++_}
 use lib.ListN.{length}
 use Rattle.card.specs.Limits.{numberDigits, furtherDigits, wordDigits}
 use Rattle.card.specs.Text.{bytes}
-use Rattle.letters.specs.Bytes.{isDigit, isLetter, inWord, isBlank, every}
-use Rattle.marks.specs.Marks.{Mark, text, seat, process, number, decimal, outside}
+use Rattle.marks_on_a_card.specs.Bytes.{isDigit, isLetter, inWord, isBlank, every}
+use Rattle.marks_on_a_card.specs.Marks.{Mark, text, seat, process, number, decimal, outside}
 
 -- ---- signs, by their bytes
 

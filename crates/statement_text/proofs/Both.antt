@@ -11,7 +11,8 @@ use Rattle.texts.specs.Writing.{statementText, statements as writtenStatements}
 use Rattle.texts.specs.ReducedText.{statements as reducedStatements}
 use Rattle.texts.specs.Copies.{reducedCopies}
 use Rattle.texts.proofs.Copies.{reducedCopy, copy-text, copies-text, statements-append}
-use Rattle.statement_text.specs.Statements.{copyText, styleIn, each}
+use Rattle.statement_copies.specs.Copies.{copyText}
+use Rattle.statement_text.specs.Statements.{styleIn, each}
 
 pub written-each : (mode : Mode) (n : ℕ) (xs : List Statement) (r : List ℕ) → each 0 mode n xs r ≡ writtenStatements n xs r
 unfolding counted statementText

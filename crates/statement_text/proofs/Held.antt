@@ -25,7 +25,7 @@ use Rattle.texts.specs.ReducedText.{counterText, updateText}
 use Rattle.texts.specs.Lengths.{tailPlaces}
 use Rattle.texts.proofs.ReducedShort.{short-rest}
 use Rattle.leaf_text.specs.Style.{styleOf}
-use Rattle.statement_text.specs.Statements.{restText, Fits, KeepsTail}
+use Rattle.statement_copies.specs.Copies.{restText, Fits, KeepsTail}
 
 -- what holds of each statement holds of the one at a row
 module _ (nodes bs rows : List ℕ) (P : Statement → Type 0) where

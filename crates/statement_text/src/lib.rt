@@ -1,120 +1,19 @@
-// Statements put as text, in either of the two texts: a first test, and behind it what all copies of a statement have in common.
-use branch_text::put_branches;
+// Statements put as text, in either of the two texts: one after the other, each in as many copies as the text and the mode ask for.
 use card::Head;
 use card::NONDETERMINISTIC;
-use card::Statement;
-use card::limits::MOST_BRANCHES;
-use card::limits::MOST_NODES;
 use card::limits::NODE_PLACES;
-use card::limits::ROW;
 use card::limits::ROW_PLACES;
-use guard_text::put_test;
 use leaf_text::Style;
 use leaf_text::WRITTEN;
-use phrases::WEIGHT_MOST;
-use phrases::put_numbered;
-use pieces::put_nine;
-use pieces::put_seven;
-use put_numbers::put_number;
 use room::place;
-use room::put_byte;
-use room::put_bytes;
-use room::put_run;
+use statement_copies::put_statement;
+use statement_copies::row_at;
 ghost use mathlib.Core.Path.{_≡_};
-ghost use Prim.Native.Nat.{_<_};
-ghost use Rattle.card.specs.Limits.{mostStatements};
 ghost use Rattle.card.specs.Card.{nondeterministic, probabilistic};
-ghost use Rattle.card.specs.Laid.{either, statementOf};
-ghost use Rattle.card.specs.Rows.{rowOf};
+ghost use Rattle.card.specs.Laid.{either};
 ghost use Rattle.card.specs.Lent.{lent, cardIn, HoldsIn};
-ghost use Rattle.phrases.specs.Phrases.{counted};
 ghost use Rattle.phrases.specs.Puts.{Puts};
-ghost use Rattle.statement_text.specs.Statements.{firstText, restText, copyText, keptCopy, copyNumber, statementsText, Fits, KeepsTail};
-
-// Enough for what stands behind a first test of the reduced program (texts/specs/Lengths.antt).
-pub const TAIL_PLACES: usize = 580 + MOST_BRANCHES * WEIGHT_MOST;
-
-// The first test: `s1=own`, or the counter of `own` above m.
-fn put_first(room: &mut [u8], at: usize, m: usize, style: Style) -> usize
-    ensures { λ r. ⌜ Puts (now (room .entry)) (now (room .exit)) at (firstText style m) r ⌝ }
-{
-    let own = style.own;
-    if style.text == WRITTEN {
-        if own < 10 {
-            let d = b'0' + own as u8;
-            return put_seven(room, at, b'[', b']', b' ', b's', b'1', b'=', d);
-        }
-        return put_numbered(room, at, b"[] s1=", own);
-    }
-    if own < 10 {
-        let d = b'0' + own as u8;
-        let a = put_nine(room, at, b'[', b']', b' ', b'(', b'n', b'o', b'_', d, b'>');
-        let b = put_number(room, a, m);
-        return put_byte(room, b, b')');
-    }
-    let a = put_numbered(room, at, b"[] (no_", own);
-    let b = put_numbered(room, a, b">", m);
-    put_byte(room, b, b')')
-}
-
-// Statement i behind its first test, by its row.
-fn put_rest<'a>(
-    room: &mut [u8],
-    at: usize,
-    i: usize,
-    x: Statement,
-    nodes: &'a [u32; NODE_PLACES],
-    branches: &'a [u32],
-    style: Style,
-) -> usize
-    requires { ⌜ Fits (now branches) x i ⌝ }
-    ensures { λ r. ⌜ Puts (now (room .entry)) (now (room .exit)) at (restText style (statementOf (now (nodes .entry)) (now (branches .entry)) x i)) r ⌝ }
-{
-    let from = i * MOST_BRANCHES;
-    let to = from + x.branches;
-    let a = put_test(room, at, nodes, i * MOST_NODES, x.nodes, style);
-    let b = put_bytes(room, a, b" -> ");
-    let c = put_branches(room, b, &branches[from..to], style);
-    put_bytes(room, c, b";\n")
-}
-
-// Copies that differ in the first test alone.
-fn put_copies(room: &mut [u8], at: usize, rest: &[u8], style: Style) -> usize
-    ensures { λ r. ⌜ Puts (now (room .entry)) (now (room .exit)) at (counted (keptCopy style (now (rest .entry))) 0 (style .copies)) r ⌝ }
-{
-    let copies = style.copies;
-    let mut to = place(at);
-    let mut m = 0;
-    while m < copies {
-        let a = put_first(room, to, m, style);
-        to = put_run(room, a, rest);
-        m += 1;
-    }
-    to
-}
-
-// All copies of statement i: what several have in common is put once, beside the room.
-fn put_statement<'a>(
-    room: &mut [u8],
-    at: usize,
-    i: usize,
-    x: Statement,
-    nodes: &'a [u32; NODE_PLACES],
-    branches: &'a [u32],
-    style: Style,
-) -> usize
-    requires { ⌜ Fits (now branches) x i ⌝ }
-    requires { ⌜ KeepsTail style (statementOf (now nodes) (now branches) x i) ⌝ }
-    ensures { λ r. ⌜ Puts (now (room .entry)) (now (room .exit)) at (counted (copyText style (statementOf (now (nodes .entry)) (now (branches .entry)) x i)) 0 (style .copies)) r ⌝ }
-{
-    if style.copies == 1 {
-        let a = put_first(room, at, 0, style);
-        return put_rest(room, a, i, x, nodes, branches, style);
-    }
-    let mut rest: [u8; TAIL_PLACES] = [0; TAIL_PLACES];
-    let end = put_rest(&mut rest, 0, i, x, nodes, branches, style);
-    put_copies(room, at, &rest[..end], style)
-}
+ghost use Rattle.statement_text.specs.Statements.{copyNumber, statementsText};
 
 // How many copies each statement has: one, but on a probabilistic card's reduced program one for each seat.
 fn copies_of(text: usize, mode: usize, seats: usize) -> usize
@@ -127,19 +26,6 @@ fn copies_of(text: usize, mode: usize, seats: usize) -> usize
         return 1;
     }
     seats
-}
-
-// The row of statement i.
-fn row_at(rows: &[usize; ROW_PLACES], i: usize) -> Statement
-    requires { ⌜ i < mostStatements ⌝ }
-    ensures { λ r. ⌜ r ≡ rowOf (now (rows .entry)) i ⌝ }
-{
-    let from = i * ROW;
-    Statement {
-        own: rows[from],
-        nodes: rows[from + 1],
-        branches: rows[from + 2],
-    }
 }
 
 // All statements of a card, by their rows.

@@ -1,2 +1,2 @@
-pub mod OwnPassed
 pub mod StatementLaws
+pub mod StatementsLaws

@@ -1,1 +1,2 @@
+pub mod OneStatement
 pub mod Statements

@@ -18,10 +18,11 @@ use Rattle.meaning.specs.Sums.{gate, sum}
 use Rattle.meaning.specs.Seats.{Seating, ValidSeating, counts}
 use Rattle.meaning.specs.ByCounts.{able, unitsTo, stayOf, moveOf, allAble, allStay, allMove, countTaken, orOne, countEnabled}
 use Rattle.meaning.proofs.Sums.{sumBelow, sum-upto, below-cong, below-exchange, below-pick}
-use Rattle.counting.specs.Taking.{takers}
-use Rattle.weighing.specs.Table.{enabledPlace, stayPlace, ableIn, weightIn, total, takenIn, weighingRow, stayIn, modeIn}
-use Rattle.weighing.specs.Table.{abled, taken, enabledSet, weighedSet, tableOf}
-use Rattle.weighing.proofs.Filled.{at, statements-upto, fitting, stuck-enabled, table-weight, table-stay, table-enabled, table-able, enabled-able, set-able, table-move}
+use Rattle.panel_numbers.specs.Taking.{takers}
+use Rattle.panel_numbers.specs.Table.{enabledPlace, stayPlace, ableIn, weightIn, total, takenIn, weighingRow, stayIn, modeIn}
+use Rattle.panel_numbers.specs.Table.{abled, taken, enabledSet, weighedSet, tableOf}
+use Rattle.panel_numbers.proofs.Statements.{at, statements-upto}
+use Rattle.weighing.proofs.Filled.{fitting, stuck-enabled, table-weight, table-stay, table-enabled, table-able, enabled-able, set-able, table-move}
 
 below-times : (c n : ℕ) (f : ℕ → ℕ) → sumBelow n (λ a. c * f a) ≡ c * sumBelow n f
 below-times c zero f = omega arith

@@ -3,9 +3,9 @@
 use Prim.Native.Nat.{ℕ, zero, suc, _+_, _*_, _≤_, _<_}
 use mathlib.Core.Path.{_≡_, refl, sym, ap, ap₂, _∙_}
 use mathlib.Core.Logic.{inl, inr}
-use mathlib.Core.List.{List, _∷_}
+use mathlib.Core.List.{List}
 use mathlib.Core.Option.{Option}
-use native.Mathlib.Nat.{add-zero, zero-add, not-suc-le-zero, le-of-suc-le-suc}
+use native.Mathlib.Nat.{zero-add, not-suc-le-zero, le-of-suc-le-suc}
 use native.Mathlib.Numerals.{add-one}
 use native.Mathlib.Decide.{ℕ-discrete}
 use native.Mathlib.Omega.{arith}
@@ -15,8 +15,8 @@ use lib.Seq.{getD-set-same, getD-set-other}
 use Rattle.card.specs.Limits.{mostSeats, topState, mostStates, unit}
 use Rattle.card.specs.Card.{Mode, nondeterministic, probabilistic, Guard, Statement}
 use Rattle.card.specs.Valid.{Every, ValidStatement}
-use Rattle.card.specs.Laid.{zeros, statementOf, statementsOf}
-use Rattle.card.specs.Rows.{rowOf, rowsFrom}
+use Rattle.card.specs.Laid.{zeros, statementOf}
+use Rattle.card.specs.Rows.{rowOf}
 use Rattle.card.specs.Lent.{Lent, cardIn, HoldsIn}
 use Rattle.card.specs.declared.Head.{Head}
 use Rattle.card.proofs.Filling.{length-zeros}
@@ -25,33 +25,19 @@ use Rattle.meaning.specs.Sums.{upto}
 use Rattle.meaning.specs.Seats.{Seating, ValidSeating, count, counts}
 use Rattle.meaning.specs.Reduced.{noOf}
 use Rattle.meaning.specs.ByCounts.{heldOr, moveOf}
-use Rattle.meaning.proofs.Sums.{gate-le, getD-upto, upto-cong, below-cong, below-zero}
+use Rattle.meaning.proofs.Sums.{gate-le, getD-upto, below-cong, below-zero}
 use Rattle.meaning.proofs.Counting.{length-counts}
 use Rattle.meaning.proofs.Bounds.{units-le}
-use Rattle.counting.specs.Taking.{takers}
+use Rattle.panel_numbers.specs.Taking.{takers}
 use Rattle.seating.proofs.Counted.{counts-most}
-use Rattle.weighing.specs.Table.{enabledPlace, stayPlace, ablesFrom, weightsFrom, tablePlaces, ableIn, weightIn, over, total, ableAt}
-use Rattle.weighing.specs.Table.{takenIn, weighingRow, weighed, stayIn, modeIn, counted, abled, taken, stuckTable, enabledSet, weighedSet, movingTable, tableOf}
-use Rattle.weighing.specs.Fitting.{heaviest, FewAble, Light, Fitting, Weighing, Filling}
-use Rattle.weighing.proofs.Stored.{over-else, over-at, over-long, take-is, upto-take}
+use Rattle.panel_numbers.specs.Table.{enabledPlace, stayPlace, ablesFrom, weightsFrom, tablePlaces, ableIn, weightIn, over, total, ableAt}
+use Rattle.panel_numbers.specs.Table.{takenIn, weighingRow, weighed, stayIn, modeIn, counted, abled, taken, stuckTable, enabledSet, weighedSet, movingTable, tableOf}
+use Rattle.panel_numbers.specs.Fitting.{heaviest, FewAble, Light, Fitting, Weighing, Filling}
+use Rattle.panel_numbers.proofs.Statements.{at, statements-upto}
+use Rattle.panel_numbers.proofs.Stored.{over-else, over-at, over-long, take-is, upto-take}
 use Rattle.weighing.proofs.Laws.{weighed-long, weighed-before, weighed-at, weighed-most}
 
 -- ---- the card's statements, one for each row
-
-module _ (nodes branches rows : List ℕ) where
-  abbrev pub at : ℕ → Statement
-  at i = statementOf nodes branches (rowOf rows i) i
-
-  statements-from : (i c : ℕ) → statementsOf nodes branches (rowsFrom rows i c) i ≡ upto c (λ j. at (i + j))
-  unfolding statementsOf
-  statements-from i zero = refl
-  statements-from i (suc c) =
-      ap₂ (λ (s : Statement) (l : List Statement). s ∷ l)
-      (ap at (sym (add-zero i)))
-      (statements-from (suc i) c ∙ upto-cong c _ (λ j. at (i + suc j)) (λ j l. ap at (omega arith)))
-
-  pub statements-upto : (c : ℕ) → statementsOf nodes branches (rowsFrom rows 0 c) 0 ≡ upto c at
-  statements-upto c = statements-from 0 c ∙ upto-cong c _ at (λ j l. ap at (omega arith))
 
 every-in : {A : Type 0} (P : A → Type 0) (n : ℕ) (f : ℕ → A) → Every P (upto n f) → (i : ℕ) → i < n → P (f i)
 every-in P zero f e i l = absurd (not-suc-le-zero l)

@@ -20,11 +20,11 @@ use Rattle.card.specs.declared.Head.{Head}
 use Rattle.meaning.specs.Sums.{gate}
 use Rattle.meaning.specs.ByCounts.{unitsTo, moveOf}
 use Rattle.meaning.proofs.Sums.{gate-le}
-use Rattle.counting.specs.Taking.{unitsToEach}
+use Rattle.panel_numbers.specs.Taking.{unitsToEach}
 use Rattle.counting.proofs.Weighed.{each-at, length-each}
-use Rattle.weighing.specs.Table.{ablesFrom, weightsFrom, tablePlaces, ableIn, weightIn, over, total, countsAs, takenIn, weighingRow, added, weighedTo, weighed}
-use Rattle.weighing.specs.Fitting.{Most, heaviest, FewAble, Adding, Fitting, Weighing}
-use Rattle.weighing.proofs.Stored.{over-else, over-at, over-long, total-suc, total-more, total-most}
+use Rattle.panel_numbers.specs.Table.{ablesFrom, weightsFrom, tablePlaces, ableIn, weightIn, over, total, countsAs, takenIn, weighingRow, added, weighedTo, weighed}
+use Rattle.panel_numbers.specs.Fitting.{Most, heaviest, FewAble, Adding, Fitting, Weighing}
+use Rattle.panel_numbers.proofs.Stored.{over-else, over-at, over-long, total-suc, total-more, total-most}
 
 -- ---- how many can be taken
 

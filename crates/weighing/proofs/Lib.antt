@@ -1,4 +1,3 @@
-pub mod Stored
 pub mod Laws
 pub mod Filled
 pub mod ByCounts

@@ -1,28 +1,25 @@
 // The numbers of a panel, from the counts alone, part by part into one table that is lent ("Texts, byte for byte"): each statement's guard
-// and weights are worked out once.
+// is worked out once. The weights stand in it too (stored_weights).
+use able_seats::able;
 use card::Head;
 use card::NONDETERMINISTIC;
-use card::limits::BRANCH_PLACES;
-use card::limits::MOST_BRANCHES;
 use card::limits::MOST_NODES;
 use card::limits::MOST_STATEMENTS;
 use card::limits::MOST_STATES;
 use card::limits::NODE_PLACES;
 use card::limits::ROW;
 use card::limits::ROW_PLACES;
-use counting::able;
-use counting::units_to;
 ghost use mathlib.Core.Path.{_≡_};
 ghost use Prim.Native.Nat.{_≤_};
 ghost use lib.ListN.{getD};
 ghost use Rattle.card.specs.Limits.{mostStates, mostStatements};
 ghost use Rattle.card.specs.Card.{nondeterministic, probabilistic};
 ghost use Rattle.card.specs.Laid.{either};
-ghost use Rattle.weighing.specs.Table.{over, ablesFrom, ableAt, countsAs, takenIn, added, weighed, stayIn};
-ghost use Rattle.weighing.specs.Fitting.{FewAble, Adding, Weighing, Light};
+ghost use Rattle.panel_numbers.specs.Table.{over, ablesFrom, ableAt, countsAs, takenIn, stayIn};
+ghost use Rattle.panel_numbers.specs.Fitting.{FewAble, Light};
 
 // The counts stand first; then the number of enabled, the weight of no change, how many seats are able to take each statement, and on a
-// probabilistic card a row of weights for each old state (specs/Table.antt).
+// probabilistic card a row of weights for each old state (panel_numbers/specs/Table.antt).
 pub const ENABLED: usize = MOST_STATES;
 
 pub const STAY: usize = ENABLED + 1;
@@ -92,50 +89,6 @@ pub fn taken_of(mode: usize, table: &[usize; TABLE_PLACES], count: usize) -> usi
         i += 1;
     }
     taken
-}
-
-// The weights of one statement, for all seats that are able to take it.
-fn add_weights(
-    table: &mut [usize; TABLE_PLACES],
-    own: usize,
-    able: usize,
-    units: &[usize; MOST_STATES],
-)
-    requires { ⌜ Adding (now table) own able (now units) ⌝ }
-    ensures { λ r. ⌜ now (table .exit) ≡ added (now (table .entry)) own able (now (units .entry)) ⌝ }
-{
-    let from = WEIGHTS + own * MOST_STATES;
-    let mut end = 0;
-    while end < MOST_STATES {
-        let at = from + end;
-        table[at] = table[at] + able * units[end];
-        end += 1;
-    }
-}
-
-// The weights of a probabilistic card.
-pub fn store_weights<'a>(
-    table: &mut [usize; TABLE_PLACES],
-    head: Head,
-    rows: &'a [usize; ROW_PLACES],
-    branches: &'a [u32; BRANCH_PLACES],
-)
-    requires { ⌜ Weighing head (now rows) (now branches) (now table) ⌝ }
-    ensures { λ r. ⌜ now (table .exit) ≡ weighed (either nondeterministic probabilistic (head .mode)) (now (rows .entry)) (now (branches .entry)) (head .count) (now (table .entry)) ⌝ }
-{
-    if head.mode == NONDETERMINISTIC {
-        return;
-    }
-    let count = head.count;
-    let mut i = 0;
-    while i < count {
-        let from = i * ROW;
-        let units = units_to(branches, i * MOST_BRANCHES, rows[from + 2]);
-        let at = ABLES + i;
-        let able = table[at];
-        add_weights(table, rows[from], able, &units);
-        i += 1;
-    }
 }
 
 // The weight of no change.

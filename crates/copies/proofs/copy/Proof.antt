@@ -1,6 +1,6 @@
 -- Where its text stands, it is passed at once (proofs/Written.antt); else it goes mark by mark. Assumes nothing.
 use native.Mathlib.Omega.{arith}
-use Rattle.copies.proofs.Written.{copy-passed}
+use Rattle.written_copy.proofs.Written.{copy-passed}
 use borrow.Author.Needs.{needs}
 use Rattle.copies.proofs.copy.Statement.{statement}
 use Rattle.copies.proofs.copy.Tie as tie

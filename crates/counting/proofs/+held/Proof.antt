@@ -14,7 +14,7 @@ use Rattle.counting.proofs.held.Reads as held
 use Rattle.counting.proofs.held.Kinds as held-kinds
 use Rattle.counting.proofs.+held.Lts-held as held-lts
 use Rattle.card.proofs.number_at.Reads as number-at-reads
-use Rattle.counting.proofs.leaf_holds.Reads as leaf-holds-reads
+use Rattle.held_leaves.proofs.leaf_holds.Reads as leaf-holds-reads
 use Rattle.counting.proofs.+held.{statement}
 use Rattle.counting.proofs.+held.Tie.{close}
 

@@ -7,7 +7,7 @@ use borrow.Author.Needs.{needs}
 use lib.ListN.{getD, take, drop, length-drop}
 use Rattle.card.specs.Laid.{branchOf}
 use Rattle.card.specs.Limits.{mostBranches, mostStates}
-use Rattle.counting.specs.Taking.{unitsToEach}
+use Rattle.panel_numbers.specs.Taking.{unitsToEach}
 use Rattle.counting.proofs.Weighed.{each-none, each-next, each-all, each-end, zeros-small, sums-next}
 use Rattle.counting.proofs.units_to.Statement.{statement}
 use Rattle.counting.proofs.units_to.Tie as tie

@@ -1,8 +1,8 @@
 -- The loop's invariant: the digits passed, and the value kept (`Held`).
 use borrow.Author.Needs.{needs}
-use Rattle.digits.proofs.Numbers.{Held, held-none, held-next, held-all}
-use Rattle.letters.proofs.Runs.{end-off, end-none}
-use Rattle.letters.specs.Bytes.{isDigit}
+use Rattle.marks_on_a_card.proofs.Numbers.{Held, held-none, held-next, held-all}
+use Rattle.marks_on_a_card.proofs.Runs.{end-off, end-none}
+use Rattle.marks_on_a_card.specs.Bytes.{isDigit}
 use borrow.Author.Tests.{not-true, not-false}
 use lib.ListN.{length}
 use native.Mathlib.Omega.{arith}

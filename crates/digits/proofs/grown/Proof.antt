@@ -1,5 +1,5 @@
 -- A number below the bound and one digit more fit.
-use Rattle.letters.proofs.Lists.{and-left, and-right}
+use Rattle.marks_on_a_card.proofs.Lists.{and-left, and-right}
 use lib.Dec.{leb}
 use borrow.Author.Tests.{lt-ltb, le-ltb, leb-true}
 use native.Mathlib.Omega.{arith}
@@ -8,7 +8,7 @@ use Rattle.digits.proofs.grown.Statement.{statement}
 use Rattle.digits.proofs.grown.Tie as tie
 use Rattle.digits.proofs.grown.Reads as reads
 use Rattle.digits.proofs.grown.Lts as lts
-use Rattle.letters.proofs.bytes.wide.Reads as wide-reads
+use Rattle.bytes_as_numbers.proofs.wide.Reads as wide-reads
 
 mul-result : tie.Need-mul-result
 mul-result c = search needs

@@ -1,7 +1,7 @@
 -- Each exit has its law on runs of digits.
-use Rattle.digits.proofs.Numbers.{plain-none, plain-many, plain-one, plain-more}
-use Rattle.letters.proofs.Runs.{run-length}
-use Rattle.letters.specs.Bytes.{isDigit}
+use Rattle.marks_on_a_card.proofs.Numbers.{plain-none, plain-many, plain-one, plain-more}
+use Rattle.marks_on_a_card.proofs.Runs.{run-length}
+use Rattle.marks_on_a_card.specs.Bytes.{isDigit}
 use lib.Seq.{getD-drop}
 use lib.ListN.{getD, drop, length-drop}
 use lib.Dec.{eqb}

@@ -1,6 +1,6 @@
 -- The definition looks at the point and at the byte behind it, as the code does.
-use Rattle.digits.proofs.Numbers.{pointed-at}
-use Rattle.letters.proofs.Runs.{begins-place}
+use Rattle.marks_on_a_card.proofs.Numbers.{pointed-at}
+use Rattle.marks_on_a_card.proofs.Runs.{begins-place}
 use lib.Dec.{eqb}
 use native.Mathlib.Omega.{arith}
 use mathlib.Core.Path.{sym, _∙_}

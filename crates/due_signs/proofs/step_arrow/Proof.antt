@@ -3,7 +3,7 @@ use mathlib.Core.Path.{sym, _∙_}
 use native.Mathlib.Omega.{arith}
 use Prim.Native.Nat.{_+_}
 use lib.Dec.{eqb}
-use Rattle.letters.proofs.Runs.{begins-place}
+use Rattle.marks_on_a_card.proofs.Runs.{begins-place}
 use Rattle.looks.proofs.Quick.{arrow-step, past-step}
 use borrow.Author.Needs.{needs}
 use Rattle.due_signs.proofs.step_arrow.Statement.{statement}

@@ -6,14 +6,15 @@ use mathlib.Core.Bool.{true, false}
 use native.Mathlib.Omega.{arith}
 use borrow.Author.Needs.{needs}
 use denote.Ref.{now}
-use Rattle.marks.specs.Kinds.{kind}
+use Rattle.marks_on_a_card.specs.Kinds.{kind}
 use Rattle.marks.specs.Step.{marksAt}
 use Rattle.reading.specs.Reader.{at}
 use Rattle.reading.specs.Guard as grammar
 use Rattle.late.specs.State.{leftIn, freeIn, lateIn, after}
 use Rattle.late.proofs.StateLaws.{left-set}
 use Rattle.grouping.specs.Language.{languageOf}
-use Rattle.grouping.specs.Items.{Ready, operatorOf}
+use Rattle.kept_items.specs.KeptItems.{Ready}
+use Rattle.grouping.specs.Items.{operatorOf}
 use Rattle.items.specs.Pieces.{joiner, unaryIn, chained, thenNot, thenClose}
 use Rattle.guard.proofs.Spent.{keeping}
 use Rattle.guard.proofs.Building.{goes-wrong, goes-on-wrong, not-well, still-sized, spending-ready, read-spending}
@@ -42,7 +43,7 @@ use Rattle.guard.proofs.+conjunction+expression+joined_by_and+joined_by
 use Rattle.items.proofs.keep_item.Reads as keep-item-reads
 use Rattle.packing.proofs.pack_node.Reads as pack-node-reads
 use Rattle.late.proofs.stop.Reads as stop-reads
-use Rattle.grouping.proofs.store.Reads as store-reads
+use Rattle.kept_items.proofs.store.Reads as store-reads
 use Rattle.due_signs.proofs.step_after.Reads as step-after-reads
 use Rattle.due_signs.proofs.step_opening.Reads as step-opening-reads
 use Rattle.due_signs.proofs.step_sign.Reads as step-sign-reads

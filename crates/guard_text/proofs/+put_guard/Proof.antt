@@ -3,7 +3,7 @@
 use borrow.Author.Needs.{needs}
 use native.Mathlib.Omega.{arith}
 use Rattle.phrases.proofs.Laws.{put-first, puts-then, puts-as}
-use Rattle.leaf_text.proofs.Laws.{sign-bytes}
+use Rattle.literal_text.proofs.Laws.{sign-bytes}
 use Rattle.leaf_text.specs.Style.{styleOf, leafText}
 use Rattle.guard_text.proofs.Laws.{text-at-leaf, joined-above, joined-op, text-not, text-joined}
 use Prim.Native.Nat.{ℕ, _<_}
@@ -19,9 +19,9 @@ use Rattle.guard_text.proofs.bracket_level.Reads as bracket-level-reads
 use Rattle.guard_text.proofs.operator_at.Reads as operator-at-reads
 use Rattle.guard_text.proofs.put_bracket.Reads as put-bracket-reads
 use Rattle.guard_text.proofs.sign_between.Reads as sign-between-reads
-use Rattle.leaf_text.proofs.joint_of.Reads as joint-of-reads
+use Rattle.literal_text.proofs.joint_of.Reads as joint-of-reads
 use Rattle.leaf_text.proofs.put_leaf.Reads as put-leaf-reads
-use Rattle.pieces.proofs.put_three.Reads as put-three-reads
+use Rattle.short_pieces.proofs.put_three.Reads as put-three-reads
 use Rattle.room.proofs.put_byte.Reads as put-byte-reads
 use Rattle.guard_text.proofs.+put_guard.{statement}
 use Rattle.guard_text.proofs.+put_guard.Tie.{close}

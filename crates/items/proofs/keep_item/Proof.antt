@@ -11,7 +11,7 @@ use Rattle.items.proofs.keep_item.Tie as tie
 use Rattle.items.proofs.keep_item.Reads as reads
 use Rattle.items.proofs.keep_item.Lts as lts
 use Rattle.grouping.proofs.item.Reads as item-reads
-use Rattle.grouping.proofs.lay.Reads as lay-reads
+use Rattle.kept_items.proofs.lay.Reads as lay-reads
 use Rattle.due_signs.proofs.step_opening.Reads as step-opening-reads
 
 step-opening-requires : tie.Need-step-opening-requires

@@ -1,7 +1,7 @@
 -- `lines::put_move` meets its contract: no line from a state to itself, nor of weight 0. Assumes nothing.
 use borrow.Author.Needs.{needs}
 use Rattle.phrases.proofs.Laws.{puts-as, puts-none}
-use Rattle.lines.proofs.Laws.{move-same, move-none, move-some}
+use Rattle.panel_wording.proofs.Laws.{move-same, move-none, move-some}
 use Rattle.lines.proofs.put_move.Statement.{statement}
 use Rattle.lines.proofs.put_move.Tie as tie
 

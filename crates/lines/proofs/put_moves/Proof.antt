@@ -6,8 +6,8 @@ use Rattle.meaning.specs.Panel.{moveLine}
 use Rattle.meaning.specs.Sums.{upto, flat}
 use Rattle.phrases.specs.Puts.{Puts}
 use Rattle.room.proofs.Laws.{put-length}
-use Rattle.lines.proofs.Laws.{moves-join, lists-start, lists-next, lists-end}
-use Rattle.lines.specs.PanelText.{movesText}
+use Rattle.panel_wording.proofs.Laws.{moves-join, lists-start, lists-next, lists-end}
+use Rattle.panel_wording.specs.PanelText.{movesText}
 use Rattle.lines.proofs.put_moves.Statement.{statement}
 use Rattle.lines.proofs.put_moves.Tie as tie
 

@@ -5,8 +5,8 @@ use lib.ListN.{length, take}
 use Rattle.phrases.proofs.Laws.{put-first, puts-then, puts-none}
 use Rattle.phrases.specs.Puts.{Puts}
 use Rattle.room.proofs.Laws.{put-length}
-use Rattle.lines.proofs.Laws.{numbers-next, numbers-end}
-use Rattle.lines.specs.PanelText.{numbers}
+use Rattle.panel_wording.proofs.Laws.{numbers-next, numbers-end}
+use Rattle.panel_wording.specs.PanelText.{numbers}
 use Rattle.lines.proofs.put_numbers.Statement.{statement}
 use Rattle.lines.proofs.put_numbers.Tie as tie
 

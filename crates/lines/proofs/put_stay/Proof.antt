@@ -1,7 +1,7 @@
 -- `lines::put_stay` meets its contract: a weight of 0 has no line. Assumes nothing.
 use borrow.Author.Needs.{needs}
 use Rattle.phrases.proofs.Laws.{puts-as, puts-none}
-use Rattle.lines.proofs.Laws.{stay-none, stay-some}
+use Rattle.panel_wording.proofs.Laws.{stay-none, stay-some}
 use Rattle.lines.proofs.put_stay.Statement.{statement}
 use Rattle.lines.proofs.put_stay.Tie as tie
 

@@ -6,10 +6,11 @@ use lib.Dec.{eqb}
 use lib.ListN.{drop}
 use Rattle.marks.specs.Parts.{bareOf}
 use Rattle.marks.specs.Step.{stepped}
-use Rattle.letters.specs.Bytes.{isDigit, isLetter, isSign}
-use Rattle.marks.specs.Marks.{word, numeral, sign, Start}
-use Rattle.letters.proofs.Lists.{and-left}
-use Rattle.marks.proofs.Starts.{alone-step, letter-starts, digit-starts, sign-starts, sign-kind}
+use Rattle.marks_on_a_card.specs.Bytes.{isDigit, isLetter, isSign}
+use Rattle.marks_on_a_card.specs.Marks.{word, numeral, sign, Start}
+use Rattle.marks_on_a_card.proofs.Lists.{and-left}
+use Rattle.marks.proofs.Starts.{alone-step}
+use Rattle.marks_on_a_card.proofs.StartLaws.{letter-starts, digit-starts, sign-starts, sign-kind}
 use borrow.Author.Needs.{needs}
 use Rattle.marks.proofs.start.Statement.{statement}
 use Rattle.marks.proofs.start.Tie as tie
@@ -19,7 +20,7 @@ use Rattle.marks.proofs.answer.bare.Reads as bare-reads
 use Rattle.letters.proofs.bytes.is_alone.Reads as is-alone-reads
 use Rattle.letters.proofs.bytes.is_digit.Reads as is-digit-reads
 use Rattle.letters.proofs.bytes.is_letter.Reads as is-letter-reads
-use Rattle.letters.proofs.bytes.wide.Reads as wide-reads
+use Rattle.bytes_as_numbers.proofs.wide.Reads as wide-reads
 use Rattle.marks.proofs.number.numeral.Reads as numeral-reads
 use Rattle.marks.proofs.sign.sign.Reads as sign-reads
 use Rattle.marks.proofs.word.word.Reads as word-reads

@@ -1,9 +1,9 @@
 -- `moves_text::put_choices` meets its contract: after i turns the blocks of the first i statements are put. Assumes nothing.
 use Prim.Native.Nat.{_≤_, _-_}
 use borrow.Author.Needs.{needs}
-use Rattle.lines.proofs.Laws.{blocks-join, lists-start, lists-next, lists-end}
-use Rattle.lines.specs.PanelIn.{choiceAt, choicesIn}
-use Rattle.lines.specs.PanelText.{blocksText}
+use Rattle.panel_wording.proofs.Laws.{blocks-join, lists-start, lists-next, lists-end}
+use Rattle.panel_wording.specs.PanelIn.{choiceAt, choicesIn}
+use Rattle.panel_wording.specs.PanelText.{blocksText}
 use Rattle.phrases.specs.Puts.{Puts}
 use Rattle.room.proofs.Laws.{put-length}
 use Rattle.moves_text.proofs.put_choices.Statement.{statement}

@@ -3,8 +3,8 @@ use Prim.Native.Nat.{suc, _≤_, _-_}
 use borrow.Author.Needs.{needs}
 use mathlib.Core.Path.{refl}
 use Rattle.lines.proofs.Blocks.{tableRow, table-row}
-use Rattle.lines.proofs.Laws.{moves-join, lists-start, lists-next, lists-end}
-use Rattle.lines.specs.PanelText.{movesText}
+use Rattle.panel_wording.proofs.Laws.{moves-join, lists-start, lists-next, lists-end}
+use Rattle.panel_wording.specs.PanelText.{movesText}
 use Rattle.meaning.specs.Sums.{upto, flat}
 use Rattle.phrases.proofs.Laws.{puts-as}
 use Rattle.phrases.specs.Puts.{Puts}

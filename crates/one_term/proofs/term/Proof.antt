@@ -1,5 +1,5 @@
 -- The bracket, the first seat word, and the rest by `literals`.
-use Rattle.one_term.proofs.TermLaws.{no-open, no-first, term-whole}
+use Rattle.term_literals.proofs.TermLaws.{no-open, no-first, term-whole}
 use denote.Ref.{now}
 use borrow.Author.Needs.{needs}
 use Rattle.one_term.proofs.term.Statement.{statement}

@@ -1,11 +1,11 @@
--- Invariant: an answer to the statements that are left answers the whole (Going, proofs/StatementLaws.antt). Assumes nothing.
+-- Invariant: an answer to the statements that are left answers the whole (Going, proofs/StatementsLaws.antt). Assumes nothing.
 use Prim.Native.Nat.{_-_}
 use native.Mathlib.Omega.{arith}
 use Rattle.card.specs.Limits.{mostStatements}
 use Rattle.card.specs.Lent.{lent}
 use Rattle.late.specs.State.{lateIn}
 use Rattle.parts.proofs.Steps.{next-at}
-use Rattle.statements.proofs.StatementLaws.{open-stops, Going, going-start, going-stops, going-unended, going-ended, going-more, going-past, opened-as}
+use Rattle.statements.proofs.StatementsLaws.{open-stops, Going, going-start, going-stops, going-unended, going-ended, going-more, going-past, opened-as}
 use borrow.Author.Needs.{needs}
 use Rattle.statements.proofs.statements.Statement.{statement}
 use Rattle.statements.proofs.statements.Tie as tie

@@ -4,9 +4,9 @@ use borrow.Author.Needs.{needs}
 use mathlib.Core.Path.{_≡_, refl, sym, _∙_, ap}
 use native.Mathlib.Omega.{arith}
 use Rattle.card.specs.Limits.{mostStates}
-use Rattle.weighing.proofs.Stored.{total-more, total-most, total-end}
-use Rattle.weighing.specs.Fitting.{heaviest}
-use Rattle.weighing.specs.Table.{total, weightIn, stayIn}
+use Rattle.panel_numbers.proofs.Stored.{total-more, total-most, total-end}
+use Rattle.panel_numbers.specs.Fitting.{heaviest}
+use Rattle.panel_numbers.specs.Table.{total, weightIn, stayIn}
 use Rattle.weighing.proofs.stay_of.Statement.{statement}
 use Rattle.weighing.proofs.stay_of.Tie as tie
 

@@ -2,8 +2,8 @@
 use Prim.Native.Nat.{_≤_, _-_}
 use borrow.Author.Needs.{needs}
 use mathlib.Core.Path.{_≡_, refl, _∙_}
-use Rattle.weighing.proofs.Stored.{over-start, over-next, over-end}
-use Rattle.weighing.specs.Table.{over, ablesFrom, ableAt}
+use Rattle.panel_numbers.proofs.Stored.{over-start, over-next, over-end}
+use Rattle.panel_numbers.specs.Table.{over, ablesFrom, ableAt}
 use Rattle.weighing.proofs.store_ables.Statement.{statement}
 use Rattle.weighing.proofs.store_ables.Tie as tie
 

@@ -5,8 +5,8 @@ use lib.ListN.{getD}
 use mathlib.Core.Path.{_≡_, refl, _∙_}
 use native.Mathlib.Omega.{arith}
 use Rattle.card.specs.Limits.{mostStates}
-use Rattle.weighing.proofs.Stored.{over-start, over-next, over-end}
-use Rattle.weighing.specs.Table.{over}
+use Rattle.panel_numbers.proofs.Stored.{over-start, over-next, over-end}
+use Rattle.panel_numbers.specs.Table.{over}
 use Rattle.weighing.proofs.store_counts.Statement.{statement}
 use Rattle.weighing.proofs.store_counts.Tie as tie
 

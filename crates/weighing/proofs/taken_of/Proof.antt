@@ -7,7 +7,7 @@ use native.Mathlib.Omega.{arith}
 use Rattle.card.specs.Card.{nondeterministic, probabilistic}
 use Rattle.card.specs.Laid.{either}
 use Rattle.weighing.proofs.Laws.{taken-start, taken-next, taken-end, taken-most, taken-more}
-use Rattle.weighing.specs.Table.{takenIn}
+use Rattle.panel_numbers.specs.Table.{takenIn}
 use Rattle.weighing.proofs.taken_of.Statement.{statement}
 use Rattle.weighing.proofs.taken_of.Tie as tie
 

@@ -2,7 +2,7 @@
 use Rattle.group.proofs.Literals.{literal-whole}
 use Rattle.looks.proofs.Quick.{sign-place, sign-step, digit-place, digit-step}
 use Rattle.marks.specs.Parts.{bareOf, valuedOf}
-use Rattle.marks.specs.Kinds.{kNumber}
+use Rattle.marks_on_a_card.specs.Kinds.{kNumber}
 use denote.Ref.{now}
 use borrow.Author.Tests.{not-false}
 use native.Mathlib.Omega.{arith}

@@ -5,9 +5,9 @@ use native.Mathlib.Omega.{arith}
 use borrow.Author.Tests.{not-false}
 use denote.Ref.{now}
 use lib.Dec.{eqb}
-use Rattle.marks.specs.Kinds.{kNumber}
+use Rattle.marks_on_a_card.specs.Kinds.{kNumber}
 use Rattle.marks.specs.Parts.{bareOf, valuedOf}
-use Rattle.letters.proofs.Runs.{begins-place}
+use Rattle.marks_on_a_card.proofs.Runs.{begins-place}
 use Rattle.looks.proofs.Quick.{unequal-step, digit-place, digit-step}
 use Rattle.group.proofs.Literals.{literal-whole}
 use borrow.Author.Needs.{needs}

@@ -1,7 +1,7 @@
 -- The loop's invariant: what the bytes passed leave to compare decides.
 use borrow.Author.Needs.{needs}
-use Rattle.letters.proofs.Runs.{begun-on, begun-off, begun-all, begun-short}
-use Rattle.letters.specs.Bytes.{begun}
+use Rattle.marks_on_a_card.proofs.Runs.{begun-on, begun-off, begun-all, begun-short}
+use Rattle.marks_on_a_card.specs.Bytes.{begun}
 use lib.ListN.{length, drop, length-drop}
 use Prim.Native.Nat.{ℕ, _+_, _-_, _≤_}
 use native.Mathlib.Omega.{arith}

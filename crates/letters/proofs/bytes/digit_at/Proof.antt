@@ -1,6 +1,6 @@
 -- The byte at the place, or the end.
-use Rattle.letters.proofs.Runs.{begins-at, begins-none}
-use Rattle.letters.specs.Bytes.{isDigit}
+use Rattle.marks_on_a_card.proofs.Runs.{begins-at, begins-none}
+use Rattle.marks_on_a_card.specs.Bytes.{isDigit}
 use mathlib.Core.Path.{sym, _∙_}
 use borrow.Author.Needs.{needs}
 use Rattle.letters.proofs.bytes.digit_at.Statement.{statement}

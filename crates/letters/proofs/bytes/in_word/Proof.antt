@@ -4,7 +4,7 @@ use mathlib.Core.Bool.{Bool, _||_}
 use native.Mathlib.Omega.{arith}
 use lib.Dec.{eqb}
 use borrow.Author.Tests.{ne-eqb}
-use Rattle.letters.specs.Bytes.{isDigit, isLetter, inWord}
+use Rattle.marks_on_a_card.specs.Bytes.{isDigit, isLetter, inWord}
 use Rattle.letters.proofs.Ranges.{agree}
 use borrow.Author.Needs.{needs}
 use Rattle.letters.proofs.bytes.in_word.Statement.{statement}

@@ -4,7 +4,7 @@ use mathlib.Core.Bool.{Bool, false, not, _||_}
 use native.Mathlib.Omega.{arith}
 use lib.Dec.{eqb}
 use borrow.Author.Tests.{ne-eqb}
-use Rattle.letters.specs.Bytes.{isAlone}
+use Rattle.marks_on_a_card.specs.Bytes.{isAlone}
 use Rattle.letters.proofs.Ranges.{agree}
 use Rattle.letters.proofs.bytes.is_alone.Statement.{statement}
 use Rattle.letters.proofs.bytes.is_alone.Tie as tie

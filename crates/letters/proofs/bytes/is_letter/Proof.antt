@@ -3,7 +3,7 @@ use mathlib.Core.Path.{refl}
 use mathlib.Core.Bool.{false}
 use native.Mathlib.Omega.{arith}
 use lib.Dec.{leb}
-use Rattle.letters.specs.Bytes.{isLetter}
+use Rattle.marks_on_a_card.specs.Bytes.{isLetter}
 use Rattle.letters.proofs.Ranges.{agree}
 use Rattle.letters.proofs.bytes.is_letter.Statement.{statement}
 use Rattle.letters.proofs.bytes.is_letter.Tie as tie

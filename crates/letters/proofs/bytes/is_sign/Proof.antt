@@ -1,6 +1,6 @@
 -- Each way through the `match` is a range of bytes or some of them, and the definition, computed there, agrees.
 use Rattle.letters.proofs.Ranges.{between, of-keys, but-keys}
-use Rattle.letters.specs.Bytes.{isSign}
+use Rattle.marks_on_a_card.specs.Bytes.{isSign}
 use borrow.Author.Tests.{not-true}
 use native.Mathlib.Omega.{arith}
 use mathlib.Core.List.{[], _∷_}

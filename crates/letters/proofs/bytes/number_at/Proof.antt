@@ -3,8 +3,8 @@ use mathlib.Core.Path.{sym, _∙_}
 use mathlib.Core.Bool.{or-false}
 use lib.ListN.{getD}
 use borrow.Author.Tests.{ne-eqb}
-use Rattle.letters.specs.Bytes.{inNumber}
-use Rattle.letters.proofs.Runs.{begins-at, begins-none}
+use Rattle.marks_on_a_card.specs.Bytes.{inNumber}
+use Rattle.marks_on_a_card.proofs.Runs.{begins-at, begins-none}
 use borrow.Author.Needs.{needs}
 use Rattle.letters.proofs.bytes.number_at.Statement.{statement}
 use Rattle.letters.proofs.bytes.number_at.Tie as tie

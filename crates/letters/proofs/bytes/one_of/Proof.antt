@@ -1,7 +1,7 @@
 -- The loop's invariant: the bytes from i on decide.
 use borrow.Author.Needs.{needs}
-use Rattle.letters.proofs.Runs.{oneOf-at, oneOf-none}
-use Rattle.letters.specs.Bytes.{oneOf}
+use Rattle.marks_on_a_card.proofs.Runs.{oneOf-at, oneOf-none}
+use Rattle.marks_on_a_card.specs.Bytes.{oneOf}
 use borrow.Author.Tests.{eq-eqb, ne-eqb}
 use lib.ListN.{length, drop}
 use Prim.Native.Nat.{_-_}

@@ -1,5 +1,5 @@
 -- The byte at the place, or the end.
-use Rattle.letters.proofs.Runs.{begins-at, begins-none}
+use Rattle.marks_on_a_card.proofs.Runs.{begins-at, begins-none}
 use mathlib.Core.Path.{sym}
 use lib.Dec.{eqb}
 use borrow.Author.Needs.{needs}

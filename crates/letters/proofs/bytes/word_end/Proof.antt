@@ -1,7 +1,7 @@
 -- The loop's invariant: the word that goes on at `at` ends where the one from the start on does.
 use borrow.Author.Needs.{needs}
-use Rattle.letters.proofs.Runs.{end-on, end-off, end-none}
-use Rattle.letters.specs.Bytes.{runEnd, inWord}
+use Rattle.marks_on_a_card.proofs.Runs.{end-on, end-off, end-none}
+use Rattle.marks_on_a_card.specs.Bytes.{runEnd, inWord}
 use borrow.Author.Tests.{not-true, not-false}
 use lib.ListN.{length}
 use Prim.Native.Nat.{_-_}

@@ -1,17 +1,17 @@
--- Each way out has its law (proofs/Quick.antt).
+-- Each way out has its law (proofs/Looks.antt of word_and_digit_looks).
 use mathlib.Core.Path.{sym, _∙_}
 use native.Mathlib.Omega.{arith}
 use borrow.Author.Tests.{not-true, not-false}
-use Rattle.letters.specs.Bytes.{isDigit, inWord}
-use Rattle.letters.proofs.Runs.{begins-place}
-use Rattle.looks.proofs.Quick.{digit-none, digit-low, digit-more, digit-over}
+use Rattle.marks_on_a_card.specs.Bytes.{isDigit, inWord}
+use Rattle.marks_on_a_card.proofs.Runs.{begins-place}
+use Rattle.word_and_digit_looks.proofs.Looks.{digit-none, digit-low, digit-more, digit-over}
 use borrow.Author.Needs.{needs}
 use Rattle.looks.proofs.look.last_digit.Statement.{statement}
 use Rattle.looks.proofs.look.last_digit.Tie as tie
 use Rattle.looks.proofs.look.last_digit.Reads as reads
 use Rattle.looks.proofs.look.last_digit.Lts as lts
 use Rattle.letters.proofs.bytes.digit_at.Reads as digit-at-reads
-use Rattle.letters.proofs.bytes.wide.Reads as wide-reads
+use Rattle.bytes_as_numbers.proofs.wide.Reads as wide-reads
 use Rattle.letters.proofs.bytes.word_at.Reads as word-at-reads
 
 digit-at-requires : tie.Need-digit-at-requires

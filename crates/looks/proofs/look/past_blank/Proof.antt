@@ -2,7 +2,7 @@
 use native.Mathlib.Omega.{arith}
 use mathlib.Core.Path.{sym, _∙_}
 use lib.Dec.{eqb}
-use Rattle.letters.proofs.Runs.{begins-place}
+use Rattle.marks_on_a_card.proofs.Runs.{begins-place}
 use borrow.Author.Needs.{needs}
 use Rattle.looks.proofs.look.past_blank.Statement.{statement}
 use Rattle.looks.proofs.look.past_blank.Tie as tie

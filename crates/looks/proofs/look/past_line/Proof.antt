@@ -1,5 +1,5 @@
 -- The definition's test.
-use Rattle.letters.proofs.Runs.{begins-place}
+use Rattle.marks_on_a_card.proofs.Runs.{begins-place}
 use lib.Dec.{eqb}
 use mathlib.Core.Path.{sym, _∙_}
 use native.Mathlib.Omega.{arith}

@@ -2,7 +2,7 @@
 use mathlib.Core.Path.{sym, _∙_}
 use native.Mathlib.Omega.{arith}
 use lib.Dec.{eqb}
-use Rattle.letters.proofs.Runs.{begins-place}
+use Rattle.marks_on_a_card.proofs.Runs.{begins-place}
 use Rattle.looks.proofs.Quick.{seat-none, seat-begun}
 use borrow.Author.Needs.{needs}
 use Rattle.looks.proofs.look.seat_here.Statement.{statement}

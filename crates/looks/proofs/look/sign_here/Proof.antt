@@ -9,7 +9,7 @@ use Rattle.looks.proofs.look.sign_here.Tie as tie
 use Rattle.looks.proofs.look.sign_here.Reads as reads
 use Rattle.looks.proofs.look.sign_here.Lts as lts
 use Rattle.letters.proofs.bytes.is_alone.Reads as is-alone-reads
-use Rattle.letters.proofs.bytes.wide.Reads as wide-reads
+use Rattle.bytes_as_numbers.proofs.wide.Reads as wide-reads
 
 shared-slice-read-b : tie.Need-shared-slice-read-b
 shared-slice-read-b c = search needs

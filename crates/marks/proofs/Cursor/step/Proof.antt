@@ -4,15 +4,16 @@ use mathlib.Core.Path.{_≡_, refl, sym, ap, _∙_}
 use native.Mathlib.Omega.{arith}
 use lib.ListN.{length, getD, drop, length-drop}
 use borrow.Author.Needs.{needs}
-use Rattle.marks.specs.Marks.{startAt}
+use Rattle.marks_on_a_card.specs.Marks.{startAt}
 use Rattle.marks.specs.Step.{stepAt}
-use Rattle.marks.proofs.Starts.{gap-fits, step-end, step-mark, step-gap}
+use Rattle.marks.proofs.Starts.{step-end, step-mark, step-gap}
+use Rattle.marks_on_a_card.proofs.StartLaws.{gap-fits}
 use Rattle.marks.proofs.Cursor.step.Statement.{statement}
 use Rattle.marks.proofs.Cursor.step.Tie as tie
 use Rattle.marks.proofs.Cursor.step.Reads as reads
 use Rattle.marks.proofs.Cursor.step.Lts as lts
 use Rattle.marks.proofs.answer.bare.Reads as bare-reads
-use Rattle.marks.proofs.sign.gap.Reads as gap-reads
+use Rattle.letters.proofs.gaps.gap.Reads as gap-reads
 use Rattle.marks.proofs.start.Reads as start-reads
 
 abbrev Inv-loop : tie.InvT-loop

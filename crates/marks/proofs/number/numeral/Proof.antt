@@ -1,6 +1,6 @@
 -- Each exit has its law (proofs/Starts.antt), over the digits as they were counted.
 use Rattle.marks.proofs.Starts.{numeral-outside, read-number, read-long, read-decimal}
-use Rattle.digits.proofs.Numbers.{pointed-place, counted-fits}
+use Rattle.marks_on_a_card.proofs.Numbers.{pointed-place, counted-fits}
 use borrow.Author.Tests.{not-true, not-false}
 use native.Mathlib.Omega.{arith}
 use mathlib.Core.Path.{sym, _∙_}

@@ -1,5 +1,6 @@
 -- Each exit has its law (proofs/Starts.antt); the kind of a sign of one byte is that byte.
-use Rattle.marks.proofs.Starts.{sign-two, sign-alone, sign-single, sign-one, sign-none, no-second, sign-second, sign-kind}
+use Rattle.marks.proofs.Starts.{sign-two, sign-alone, sign-single, sign-one, sign-none}
+use Rattle.marks_on_a_card.proofs.StartLaws.{no-second, sign-second, sign-kind}
 use Rattle.marks.specs.Parts.{bareOf}
 use lib.ListN.{drop}
 use mathlib.Core.Path.{refl, sym, ap, _∙_}
@@ -12,7 +13,7 @@ use Rattle.marks.proofs.sign.sign.Lts as lts
 use Rattle.marks.proofs.answer.bare.Reads as bare-reads
 use Rattle.letters.proofs.bytes.is_sign.Reads as is-sign-reads
 use Rattle.letters.proofs.bytes.stands.Reads as stands-reads
-use Rattle.letters.proofs.bytes.wide.Reads as wide-reads
+use Rattle.bytes_as_numbers.proofs.wide.Reads as wide-reads
 
 add-next : tie.Need-add-next
 add-next c = search needs

@@ -1,0 +1,100 @@
+-- Each exit has its law (proofs/StartLaws.antt of marks_on_a_card); from 33 on no byte is blank.
+use Prim.Native.Nat.{_+_}
+use mathlib.Core.Path.{sym, _∙_}
+use native.Mathlib.Omega.{arith}
+use lib.Dec.{eqb}
+use lib.ListN.{drop}
+use borrow.Author.Tests.{ne-eqb}
+use Rattle.marks_on_a_card.proofs.Lists.{and-off}
+use Rattle.marks_on_a_card.proofs.StartLaws.{not-blank, gap-blank, gap-comment, gap-none}
+use borrow.Author.Needs.{needs}
+use Rattle.letters.proofs.gaps.gap.Statement.{statement}
+use Rattle.letters.proofs.gaps.gap.Tie as tie
+use Rattle.letters.proofs.gaps.gap.Reads as reads
+use Rattle.letters.proofs.gaps.gap.Lts as lts
+use Rattle.letters.proofs.bytes.is_blank.Reads as is-blank-reads
+use Rattle.line_ends.proofs.line_end.Reads as line-end-reads
+use Rattle.letters.proofs.bytes.stands.Reads as stands-reads
+
+returns : tie.Need-returns
+returns c = sym (gap-blank (c .before .before .args .b) (drop (c .before .before .args .at + 1) (c .before .before .args .card .now)) (rw (c .if1 .taken)))
+
+returns-2 : tie.Need-returns-2
+returns-2 c =
+    sym
+    (gap-none (c .before .before .before .args .b) (drop (c .before .before .before .args .at + 1) (c .before .before .before .args .card .now))
+    (not-blank (c .before .before .before .args .b) (omega arith)) (rw (ne-eqb (c .before .before .before .args .b) 47 (λ q. omega arith))))
+
+add-next : tie.Need-add-next
+add-next c = search needs
+
+stands-requires : tie.Need-stands-requires
+stands-requires c κs = search needs
+
+line-end-requires : tie.Need-line-end-requires
+line-end-requires c κs = search needs
+
+sub-result : tie.Need-sub-result
+sub-result c = omega (arith, c .line-end .ensures)
+
+returns-3 : tie.Need-returns-3
+returns-3 c =
+    omega (
+      arith,
+      c .line-end .ensures,
+      gap-comment (c .before .before .before .before .before .before .before .args .b)
+          (drop (c .before .before .before .before .before .before .before .args .at + 1) (c .before .before .before .before .before .before .before .args .card .now))
+          (not-blank (c .before .before .before .before .before .before .before .args .b) (omega arith)) (c .before .before .before .if3 .taken)
+          (sym (c .before .before .stands .ensures) ∙ c .before .if4 .taken),
+    )
+
+returns-4 : tie.Need-returns-4
+returns-4 c =
+    sym
+    (gap-none (c .before .before .before .before .before .before .args .b)
+    (drop (c .before .before .before .before .before .before .args .at + 1) (c .before .before .before .before .before .before .args .card .now))
+    (not-blank (c .before .before .before .before .before .before .args .b) (omega arith))
+    (and-off (eqb (c .before .before .before .before .before .before .args .b) 47) _ (sym (c .before .stands .ensures) ∙ c .if4 .left)))
+
+returns-5 : tie.Need-returns-5
+returns-5 c =
+    sym
+    (gap-none (c .before .before .before .before .before .args .b)
+    (drop (c .before .before .before .before .before .args .at + 1) (c .before .before .before .before .before .args .card .now))
+    (not-blank (c .before .before .before .before .before .args .b) (omega arith))
+    (rw (ne-eqb (c .before .before .before .before .before .args .b) 47 (c .before .if3 .left))))
+
+is-blank-requires : tie.Need-is-blank-requires
+is-blank-requires c κs = search needs
+
+returns-6 : tie.Need-returns-6
+returns-6 c =
+    sym
+    (gap-blank (c .before .before .before .before .before .before .before .args .b)
+    (drop (c .before .before .before .before .before .before .before .args .at + 1) (c .before .before .before .before .before .before .before .args .card .now))
+    (sym (c .before .is-blank .ensures) ∙ c .if6 .taken))
+
+returns-7 : tie.Need-returns-7
+returns-7 c =
+    sym
+    (gap-none (c .before .before .before .before .before .before .before .args .b)
+    (drop (c .before .before .before .before .before .before .before .args .at + 1) (c .before .before .before .before .before .before .before .args .card .now))
+    (sym (c .before .is-blank .ensures) ∙ c .if6 .left)
+    (rw (ne-eqb (c .before .before .before .before .before .before .before .args .b) 47 (c .before .before .before .if3 .left))))
+
+pub gap-spec : {M : Type 1} → statement M
+gap-spec =
+    tie.close
+    (tie.spec
+    returns
+    returns-2
+    add-next
+    stands-requires
+    line-end-requires
+    sub-result
+    returns-3
+    returns-4
+    returns-5
+    is-blank-requires
+    returns-6
+    returns-7)

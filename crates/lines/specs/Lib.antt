@@ -1,2 +1,0 @@
-pub mod PanelText
-pub mod PanelIn

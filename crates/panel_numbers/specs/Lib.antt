@@ -1,0 +1,3 @@
+pub mod Taking
+pub mod Table
+pub mod Fitting

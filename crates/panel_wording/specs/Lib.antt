@@ -1,0 +1,4 @@
+pub mod PanelText
+pub mod PanelIn
+pub mod PanelRoom
+pub mod Lines

@@ -1,0 +1,64 @@
+-- `short_pieces::put_three` meets its contract: where there is place, each byte is stored behind the one before (proofs/Stored.antt). Assumes nothing.
+use lib.ListN.{length-set}
+use native.Mathlib.Omega.{arith}
+use Rattle.short_pieces.proofs.Stored.{put-stored}
+use borrow.Author.Needs.{needs}
+use Rattle.short_pieces.proofs.put_three.Statement.{statement}
+use Rattle.short_pieces.proofs.put_three.Tie as tie
+
+sub-if2 : tie.Need-sub-if2
+sub-if2 c = search needs
+
+slice-write-room : tie.Need-slice-write-room
+slice-write-room c = search needs
+
+add-room : tie.Need-add-room
+add-room c = search needs
+
+slice-write-room-2 : tie.Need-slice-write-room-2
+slice-write-room-2 c = simp length-set (omega arith)
+
+add-room-2 : tie.Need-add-room-2
+add-room-2 c = search needs
+
+slice-write-room-3 : tie.Need-slice-write-room-3
+slice-write-room-3 c = simp length-set (omega arith)
+
+add-result : tie.Need-add-result
+add-result c = search needs
+
+same-length : tie.Need-same-length
+same-length c = search needs
+
+returns : tie.Need-returns
+returns c = put-stored _ (search needs) (search needs) (search needs)
+
+slice-aggregate-put-run : tie.Need-slice-aggregate-put-run
+slice-aggregate-put-run c = search needs
+
+put-run-requires : tie.Need-put-run-requires
+put-run-requires c κs = search needs
+
+same-length-2 : tie.Need-same-length-2
+same-length-2 c = search needs
+
+returns-2 : tie.Need-returns-2
+returns-2 c = search needs
+
+pub put-three-spec : {M : Type 1} → statement M
+put-three-spec =
+    tie.close
+    (tie.spec
+    sub-if2
+    slice-write-room
+    add-room
+    slice-write-room-2
+    add-room-2
+    slice-write-room-3
+    add-result
+    same-length
+    returns
+    slice-aggregate-put-run
+    put-run-requires
+    same-length-2
+    returns-2)

@@ -1,0 +1,109 @@
+-- `statement_copies::put_first` meets its contract: by which text it is, and by the digits. Assumes nothing.
+use borrow.Author.Tests.{eq-eqb, ne-eqb}
+use Rattle.room.proofs.Decimal.{decimal-one}
+use Rattle.phrases.proofs.Laws.{put-first, puts-then, puts-as}
+use borrow.Author.Needs.{needs}
+use Rattle.statement_copies.proofs.put_first.Statement.{statement}
+use Rattle.statement_copies.proofs.put_first.Tie as tie
+
+cast-d : tie.Need-cast-d
+cast-d c = search needs
+
+add-d : tie.Need-add-d
+add-d c = search needs
+
+put-seven-requires : tie.Need-put-seven-requires
+put-seven-requires c κs = search needs
+
+same-length : tie.Need-same-length
+same-length c = search needs
+
+returns : tie.Need-returns
+returns c =
+    puts-as _ (λ t. rw (eq-eqb _ 0 (c .before .before .before .before .before .if1 .taken), decimal-one (c .before .before .before .before .before .before .before .before .args .style .own) (c .before .before .before .before .if2 .taken))) (put-first (c .before .before .put-seven .ensures))
+
+slice-aggregate-put-numbered : tie.Need-slice-aggregate-put-numbered
+slice-aggregate-put-numbered c = search needs
+
+put-numbered-requires : tie.Need-put-numbered-requires
+put-numbered-requires c κs = search needs
+
+same-length-2 : tie.Need-same-length-2
+same-length-2 c = search needs
+
+returns-2 : tie.Need-returns-2
+returns-2 c =
+    puts-as _ (λ t. rw (eq-eqb _ 0 (c .before .before .before .before .before .before .if1 .taken))) (c .before .before .put-numbered .ensures)
+
+cast-d-2 : tie.Need-cast-d-2
+cast-d-2 c = search needs
+
+add-d-2 : tie.Need-add-d-2
+add-d-2 c = search needs
+
+put-nine-requires : tie.Need-put-nine-requires
+put-nine-requires c κs = search needs
+
+put-number-requires : tie.Need-put-number-requires
+put-number-requires c κs = search needs
+
+put-byte-requires : tie.Need-put-byte-requires
+put-byte-requires c κs = search needs
+
+same-length-3 : tie.Need-same-length-3
+same-length-3 c = search needs
+
+returns-3 : tie.Need-returns-3
+returns-3 c =
+    puts-as _ (λ t. rw (ne-eqb _ 0 (c .before .before .before .before .before .before .before .before .before .before .before .before .before .if1 .left), decimal-one (c .before .before .before .before .before .before .before .before .before .before .before .before .before .before .before .before .args .style .own) (c .before .before .before .before .before .before .before .before .before .before .before .before .if3 .taken)))
+    (puts-then (put-first (c .before .before .before .before .before .before .before .before .before .before .put-nine .ensures)) (puts-then (put-first (c .before .before .before .before .before .before .put-number .ensures)) (put-first (c .before .before .put-byte .ensures))))
+
+slice-aggregate-put-numbered-2 : tie.Need-slice-aggregate-put-numbered-2
+slice-aggregate-put-numbered-2 c = search needs
+
+put-numbered-requires-2 : tie.Need-put-numbered-requires-2
+put-numbered-requires-2 c κs = search needs
+
+slice-aggregate-put-numbered-3 : tie.Need-slice-aggregate-put-numbered-3
+slice-aggregate-put-numbered-3 c = search needs
+
+put-numbered-requires-3 : tie.Need-put-numbered-requires-3
+put-numbered-requires-3 c κs = search needs
+
+put-byte-requires-2 : tie.Need-put-byte-requires-2
+put-byte-requires-2 c κs = search needs
+
+same-length-4 : tie.Need-same-length-4
+same-length-4 c = search needs
+
+returns-4 : tie.Need-returns-4
+returns-4 c =
+    puts-as _ (λ t. rw (ne-eqb _ 0 (c .before .before .before .before .before .before .before .before .before .before .before .before .before .before .before .if1 .left))) (puts-then (c .before .before .before .before .before .before .before .before .before .before .before .put-numbered2 .ensures) (puts-then (c .before .before .before .before .before .before .put-numbered3 .ensures) (put-first (c .before .before .put-byte2 .ensures))))
+
+pub put-first-spec : {M : Type 1} → statement M
+put-first-spec =
+    tie.close
+    (tie.spec
+    cast-d
+    add-d
+    put-seven-requires
+    same-length
+    returns
+    slice-aggregate-put-numbered
+    put-numbered-requires
+    same-length-2
+    returns-2
+    cast-d-2
+    add-d-2
+    put-nine-requires
+    put-number-requires
+    put-byte-requires
+    same-length-3
+    returns-3
+    slice-aggregate-put-numbered-2
+    put-numbered-requires-2
+    slice-aggregate-put-numbered-3
+    put-numbered-requires-3
+    put-byte-requires-2
+    same-length-4
+    returns-4)

@@ -1,0 +1,2 @@
+pub mod OwnPassed
+pub mod GuardedLaws

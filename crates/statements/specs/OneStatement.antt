@@ -1,0 +1,44 @@
+-- What reading a statement leaves behind it. Assumes nothing.
+use Prim.Native.Nat.{ℕ, _*_}
+use mathlib.Core.Path.{_≡_}
+use mathlib.Core.List.{List, [], _∷_, map}
+use lib.ListN.{length}
+use Rattle.card.specs.Limits.{rowNumbers, mostNodes, mostBranches}
+use Rattle.card.specs.Weight.{Rule}
+use Rattle.card.specs.Laid.{guardCells, guardSize}
+use Rattle.card.specs.Rows.{rowsOf}
+use Rattle.card.specs.Lent.{Lent, lent}
+use Rattle.card.specs.Stored.{stored}
+use Rattle.card.specs.declared.Statement.{Statement}
+use Rattle.reading.specs.Reader.{State, Result, ok, sign}
+use Rattle.reading.specs.Shape.{StatementShape, guard, statement}
+use Rattle.reading.specs.Checks.{judgedStatement}
+use Rattle.late.specs.Late.{Late}
+use Rattle.late.specs.State.{Sized, After}
+use Rattle.parts.specs.Parts.{from, Answers, Kept}
+use Rattle.branches.specs.Branches.{packedIn}
+use Rattle.statement_head.specs.StatementHead.{guardOrBy}
+
+-- a statement, by the rule of a weight
+
+abbrev pub rowBy : StatementShape → Statement
+rowBy x = record { own = x .own .value; nodes = guardSize (guardOrBy (x .guard)); branches = length (x .branches) }
+
+-- the i-th statement's places in the card's arrays, filled
+abbrev pub withStatement : ℕ → StatementShape → Lent → Lent
+withStatement i x a =
+    lent (stored (a .rows) (i * rowNumbers) (rowsOf (rowBy x ∷ [])))
+    (stored (a .nodes) (i * mostNodes) (guardCells (guardOrBy (x .guard)) (i * mostNodes)))
+    (stored (a .branches) (i * mostBranches) (map packedIn (x .branches)))
+
+pub record StatementIn (decimals : Rule) (s : List ℕ) (k : ℕ) (before : Late) (was is : Lent) (index : ℕ) (x : StatementShape) (state : List ℕ) : Type 0 where
+  pub late : Kept s before (judgedStatement decimals k x) state
+  pub memory : is ≡ withStatement index x was
+
+abbrev pub StatementRead : Rule → List ℕ → ℕ → Late → Lent → Lent → ℕ → Result StatementShape → After → Type 0
+StatementRead decimals s k before was is index = Answers s (StatementIn decimals s k before was is index)
+
+-- the cursor stands behind the statement's first mark
+pub record StatementFrom (decimals : Rule) (s : List ℕ) (i k : ℕ) (before : Late) (was is : Lent) (index : ℕ) (r : After) : Type 0 where
+  pub answers : (st : State) (n : ℕ) → sign "[" st ≡ ok tt (from s i n) → StatementRead decimals s k before was is index (statement st) r
+  pub sized : Sized (r .state)

@@ -1,0 +1,169 @@
+-- `update_text::put_update` meets its contract: by whether the branch leads to the own state, and by the digits. Assumes nothing.
+use native.Mathlib.Omega.{arith}
+use Rattle.phrases.proofs.Laws.{put-first, puts-then, puts-as}
+use Rattle.update_text.proofs.Laws.{update-keep, update-shift, update-digits}
+use borrow.Author.Needs.{needs}
+use Rattle.update_text.proofs.put_update.Statement.{statement}
+use Rattle.update_text.proofs.put_update.Tie as tie
+
+slice-aggregate-put-bytes : tie.Need-slice-aggregate-put-bytes
+slice-aggregate-put-bytes c = search needs
+
+put-bytes-requires : tie.Need-put-bytes-requires
+put-bytes-requires c κs = search needs
+
+same-length : tie.Need-same-length
+same-length c = search needs
+
+returns : tie.Need-returns
+returns c =
+    let at-put-bytes = c .before .before in
+    let at-if1 = at-put-bytes .before .before .before in
+    let a = at-if1 .before .before .args in
+    puts-as _ (update-keep (a .seats) (a .own) (a .end) (omega (arith, at-if1 .if1 .taken))) (put-first (at-put-bytes .put-bytes .ensures))
+
+cast-d : tie.Need-cast-d
+cast-d c = search needs
+
+add-d : tie.Need-add-d
+add-d c = search needs
+
+cast-e : tie.Need-cast-e
+cast-e c = search needs
+
+add-e : tie.Need-add-e
+add-e c = search needs
+
+put-six-requires : tie.Need-put-six-requires
+put-six-requires c κs = search needs
+
+put-eight-requires : tie.Need-put-eight-requires
+put-eight-requires c κs = search needs
+
+put-nine-requires : tie.Need-put-nine-requires
+put-nine-requires c κs = search needs
+
+put-nine-requires-2 : tie.Need-put-nine-requires-2
+put-nine-requires-2 c κs = search needs
+
+put-three-requires : tie.Need-put-three-requires
+put-three-requires c κs = search needs
+
+put-number-requires : tie.Need-put-number-requires
+put-number-requires c κs = search needs
+
+slice-aggregate-put-bytes-2 : tie.Need-slice-aggregate-put-bytes-2
+slice-aggregate-put-bytes-2 c = search needs
+
+put-bytes-requires-2 : tie.Need-put-bytes-requires-2
+put-bytes-requires-2 c κs = search needs
+
+same-length-2 : tie.Need-same-length-2
+same-length-2 c = search needs
+
+returns-2 : tie.Need-returns-2
+returns-2 c =
+    let at-put-bytes2 = c .before .before in
+    let at-put-number = at-put-bytes2 .before .before .before .before .before in
+    let at-put-three = at-put-number .before .before .before .before in
+    let at-put-nine2 = at-put-three .before .before .before .before in
+    let at-put-nine = at-put-nine2 .before .before .before .before in
+    let at-put-eight = at-put-nine .before .before .before .before in
+    let at-put-six = at-put-eight .before .before .before .before in
+    let at-if3 = at-put-six .before .before in
+    let at-if2 = at-if3 .before in
+    let at-if1 = at-if2 .before in
+    let a = at-if1 .before .before .args in
+    puts-as _ (update-digits (a .seats) (a .own) (a .end) (λ e. omega (arith, e, at-if1 .if1 .left)) (at-if2 .if2 .taken) (at-if3 .if3 .taken))
+    (puts-then (put-first (at-put-six .put-six .ensures)) (puts-then (put-first (at-put-eight .put-eight .ensures)) (puts-then (put-first (at-put-nine .put-nine .ensures))
+    (puts-then (put-first (at-put-nine2 .put-nine2 .ensures)) (puts-then (put-first (at-put-three .put-three .ensures)) (puts-then (put-first (at-put-number .put-number .ensures)) (put-first (at-put-bytes2 .put-bytes2 .ensures))))))))
+
+slice-aggregate-put-numbered : tie.Need-slice-aggregate-put-numbered
+slice-aggregate-put-numbered c = search needs
+
+put-numbered-requires : tie.Need-put-numbered-requires
+put-numbered-requires c κs = search needs
+
+slice-aggregate-put-numbered-2 : tie.Need-slice-aggregate-put-numbered-2
+slice-aggregate-put-numbered-2 c = search needs
+
+put-numbered-requires-2 : tie.Need-put-numbered-requires-2
+put-numbered-requires-2 c κs = search needs
+
+slice-aggregate-put-numbered-3 : tie.Need-slice-aggregate-put-numbered-3
+slice-aggregate-put-numbered-3 c = search needs
+
+put-numbered-requires-3 : tie.Need-put-numbered-requires-3
+put-numbered-requires-3 c κs = search needs
+
+slice-aggregate-put-numbered-4 : tie.Need-slice-aggregate-put-numbered-4
+slice-aggregate-put-numbered-4 c = search needs
+
+put-numbered-requires-4 : tie.Need-put-numbered-requires-4
+put-numbered-requires-4 c κs = search needs
+
+slice-aggregate-put-numbered-5 : tie.Need-slice-aggregate-put-numbered-5
+slice-aggregate-put-numbered-5 c = search needs
+
+put-numbered-requires-5 : tie.Need-put-numbered-requires-5
+put-numbered-requires-5 c κs = search needs
+
+slice-aggregate-put-bytes-3 : tie.Need-slice-aggregate-put-bytes-3
+slice-aggregate-put-bytes-3 c = search needs
+
+put-bytes-requires-3 : tie.Need-put-bytes-requires-3
+put-bytes-requires-3 c κs = search needs
+
+same-length-3 : tie.Need-same-length-3
+same-length-3 c = search needs
+
+returns-3 : tie.Need-returns-3
+returns-3 c =
+    let at-put-bytes3 = c .before .before in
+    let at-put-numbered5 = at-put-bytes3 .before .before .before .before .before in
+    let at-put-numbered4 = at-put-numbered5 .before .before .before .before .before in
+    let at-put-numbered3 = at-put-numbered4 .before .before .before .before .before in
+    let at-put-numbered2 = at-put-numbered3 .before .before .before .before .before in
+    let at-put-numbered = at-put-numbered2 .before .before .before .before .before in
+    let at-if1 = at-put-numbered .before .before .before .before in
+    let a = at-if1 .before .before .args in
+    puts-as _ (update-shift (a .seats) (a .own) (a .end) (λ e. omega (arith, e, at-if1 .if1 .left)))
+    (puts-then (at-put-numbered .put-numbered .ensures) (puts-then (at-put-numbered2 .put-numbered2 .ensures) (puts-then (at-put-numbered3 .put-numbered3 .ensures)
+    (puts-then (at-put-numbered4 .put-numbered4 .ensures) (puts-then (at-put-numbered5 .put-numbered5 .ensures) (put-first (at-put-bytes3 .put-bytes3 .ensures)))))))
+
+pub put-update-spec : {M : Type 1} → statement M
+put-update-spec =
+    tie.close
+    (tie.spec
+    slice-aggregate-put-bytes
+    put-bytes-requires
+    same-length
+    returns
+    cast-d
+    add-d
+    cast-e
+    add-e
+    put-six-requires
+    put-eight-requires
+    put-nine-requires
+    put-nine-requires-2
+    put-three-requires
+    put-number-requires
+    slice-aggregate-put-bytes-2
+    put-bytes-requires-2
+    same-length-2
+    returns-2
+    slice-aggregate-put-numbered
+    put-numbered-requires
+    slice-aggregate-put-numbered-2
+    put-numbered-requires-2
+    slice-aggregate-put-numbered-3
+    put-numbered-requires-3
+    slice-aggregate-put-numbered-4
+    put-numbered-requires-4
+    slice-aggregate-put-numbered-5
+    put-numbered-requires-5
+    slice-aggregate-put-bytes-3
+    put-bytes-requires-3
+    same-length-3
+    returns-3)
