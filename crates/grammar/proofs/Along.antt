@@ -14,7 +14,8 @@ use Rattle.reading.specs.Group.{joint, relation, Literal, Literals, literalsOf}
 use Rattle.reading.specs.Judgements.{Judgement, state, word, oneGroup, weight, sum, placeIn, broken, fine, wrong, firstBroken, judgedGroup, judgedGuard}
 use Rattle.reading.specs.Shape.{BranchShape, StatementShape, CardShape}
 use Rattle.reading.specs.Checks.{judgedWords, judgedBranch, judgedEach, judgedOr, weightIn, judgedStatement, moduleDues, judgedModules, judgedCard}
-use Rattle.grammar.specs.Grammar.{Said, signAt, LineSaid, ended, fixed, aSeat, aProcess, moduleRun, ManySaid, done, again, LiteralSaid, literal, OthersSaid, close, next, GroupSaid, conjoined, disjoined, Part, joining, GuardSaid, grouped, negated, bracketed, single, further, RestSaid, nothing, guarded, WeightSaid, aNumber, aRatio, aDecimal, BranchSaid, branch, PlusSaid, plus, StatementSaid, statement, modeWord, CardSaid, card}
+use Rattle.grammar.specs.Grammar.{Said, signAt, LineSaid, ended, fixed, aSeat, aProcess, moduleRun, ManySaid, done, again, LiteralSaid, literal, OthersSaid, close, next, GroupSaid, conjoined, disjoined, Part, joining, GuardSaid, grouped, negated, bracketed, single, further}
+use Rattle.grammar.specs.Grammar.{RestSaid, nothing, guarded, WeightSaid, aNumber, aRatio, aDecimal, BranchSaid, branch, PlusSaid, plus, StatementSaid, statement, modeWord, CardSaid, card}
 use Rattle.grammar.specs.Rules.{Kept}
 use Rattle.grammar.specs.Verdicts.{In, first, later}
 use Rattle.reading.proofs.Rising.{Rises, rises-part, later-place}

@@ -20,11 +20,13 @@ use Rattle.reading.specs.Reader.{Place, State, at, Result, ok, stop, Reader, bi
 use Rattle.reading.specs.Guard.{seatNext, ifAhead, Read, unaryBy, chain, conjunction, expression, grouped as readGrouped, unary as readUnary}
 use Rattle.reading.specs.Group.{joint, relation, Literal, literalOf, Literals, literalsOf, relationOf, literal as readLiteral, joined, others, group}
 use Rattle.reading.specs.Shape.{BranchShape, CardShape, many, weightOf, over, weight, branch as readBranch, nextBranch, pastBranches, moreBranches, guard, mayHave, statement as readStatement, moreStatements, copy, moreModules, modeOf, onlyZero, zeroOf, top, ended as readEnd, theEnd, body, card as readCard}
-use Rattle.grammar.specs.Grammar.{Said, signAt, valued, LineSaid, ended, fixed, aSeat, aProcess, cardRun, statementRun, branchRun, moduleRun, ManySaid, done, again, LiteralSaid, literal, JoinedSaid, OthersSaid, close, next, GroupSaid, conjoined, disjoined, Part, unary, joinedBy, operand, joining, GuardSaid, FormulaSaid, Anything, grouped, negated, bracketed, single, further, RestSaid, nothing, guarded, WeightSaid, aNumber, aRatio, aDecimal, BranchSaid, branch, PlusSaid, plus, StatementSaid, statement, modeWord, CardSaid, card}
+use Rattle.grammar.specs.Grammar.{Said, signAt, valued, LineSaid, ended, fixed, aSeat, aProcess, cardRun, statementRun, branchRun, moduleRun, ManySaid, done, again, LiteralSaid, literal, JoinedSaid, OthersSaid, close, next, GroupSaid, conjoined, disjoined, Part, unary, joinedBy, operand, joining, GuardSaid, FormulaSaid, Anything, grouped, negated, bracketed, single, further}
+use Rattle.grammar.specs.Grammar.{RestSaid, nothing, guarded, WeightSaid, aNumber, aRatio, aDecimal, BranchSaid, branch, PlusSaid, plus, StatementSaid, statement, modeWord, CardSaid, card}
 use Rattle.grammar.specs.Verdicts.{CompletableIn}
 use Rattle.grammar.proofs.Follows.{guard-no-seat}
 use Rattle.reading.proofs.Through.{same-refl, none≢some, is→eq, given-true, stop≢ok, ok-state, through, chose, sign-took}
-use Rattle.grammar.proofs.Steady.{Lang, Nil, _then_, _either_, One, Mark₁, OneThen, Saying, Word, SameHead, SameBracket, Alike, head-append, seat-head, free, Passed, Cause, unfit, excess, Stopped, Steady, Always, Next, At, Refused, Behind, ok≢stop, stop-number, stop-place, stopped, chose-stop, cause-as, steady-as, steady-on, steady-free, steady-bind, steady-the, steady-sign, steady-return, steady-here, steady-next, steady-limit, steady-node, steady-behind, behind-steady, steady-silent, steady-last, steady-like}
+use Rattle.grammar.proofs.Steady.{Lang, Nil, _then_, _either_, One, Mark₁, OneThen, Saying, Word, SameHead, SameBracket, Alike, head-append, seat-head, free, Passed, Cause, unfit, excess, Stopped, Steady, Always, Next, At, Refused, Behind, ok≢stop, stop-number, stop-place, stopped, chose-stop}
+use Rattle.grammar.proofs.Steady.{cause-as, steady-as, steady-on, steady-free, steady-bind, steady-the, steady-sign, steady-return, steady-here, steady-next, steady-limit, steady-node, steady-behind, behind-steady, steady-silent, steady-last, steady-like}
 
 -- ---- what a mark is that fits
 

@@ -22,7 +22,8 @@ use Rattle.reading.specs.Guard.{seatNext, Read, chain, conjunction, expression,
 use Rattle.reading.specs.Guard.{grouped as readGrouped}
 use Rattle.reading.specs.Group.{joint, Literal, Literals, literal as readLiteral, others, group}
 use Rattle.reading.specs.Shape.{BranchShape, StatementShape, CardShape, many, weight, branch as readBranch, nextBranch, pastBranches, moreBranches, guard, statement as readStatement, moreStatements, copy, moreModules, modeOf, body, card as readCard, theEnd}
-use Rattle.grammar.specs.Grammar.{Said, signAt, valued, LineSaid, ended, fixed, aSeat, aProcess, moduleRun, ManySaid, done, again, LiteralSaid, literal, OthersSaid, close, next, GroupSaid, conjoined, disjoined, Part, unary, joinedBy, operand, joining, GuardSaid, FormulaSaid, Anything, grouped, negated, bracketed, single, further, RestSaid, nothing, guarded, WeightSaid, aNumber, aRatio, aDecimal, BranchSaid, branch, PlusSaid, plus, StatementSaid, statement, modeWord, CardSaid, card}
+use Rattle.grammar.specs.Grammar.{Said, signAt, valued, LineSaid, ended, fixed, aSeat, aProcess, moduleRun, ManySaid, done, again, LiteralSaid, literal, OthersSaid, close, next, GroupSaid, conjoined, disjoined, Part, unary, joinedBy, operand, joining, GuardSaid, FormulaSaid, Anything, grouped, negated, bracketed, single, further}
+use Rattle.grammar.specs.Grammar.{RestSaid, nothing, guarded, WeightSaid, aNumber, aRatio, aDecimal, BranchSaid, branch, PlusSaid, plus, StatementSaid, statement, modeWord, CardSaid, card}
 use Rattle.grammar.specs.Counted.{Counted, counted, Within, Past, FirstPast, countedGuard, countedRest, countedMany, countedPlus, countedStatement, countedModule, countedCard}
 use Rattle.reading.proofs.Through.{same-refl}
 

@@ -54,7 +54,11 @@ pub e-one2 : readOf (bytes "probabilistic\nmodule process1\ns1 : [0..2] init 0;\
 unfolding readUnder unitsOf
 e-one2 = refl
 
-pub e-n17 : readOf (bytes "probabilistic\nmodule process1\ns1 : [0..2] init 0;\n[] s1=0 -> 1:(s1'=0);\nendmodule\nmodule process2 = process1 [s1=s2, s2=s1] endmodule\nmodule process3 = process1 [s1=s3, s3=s1] endmodule\nmodule process4 = process1 [s1=s4, s4=s1] endmodule\nmodule process5 = process1 [s1=s5, s5=s1] endmodule\nmodule process6 = process1 [s1=s6, s6=s1] endmodule\nmodule process7 = process1 [s1=s7, s7=s1] endmodule\nmodule process8 = process1 [s1=s8, s8=s1] endmodule\nmodule process9 = process1 [s1=s9, s9=s1] endmodule\nmodule process10 = process1 [s1=s10, s10=s1] endmodule\nmodule process11 = process1 [s1=s11, s11=s1] endmodule\nmodule process12 = process1 [s1=s12, s12=s1] endmodule\nmodule process13 = process1 [s1=s13, s13=s1] endmodule\nmodule process14 = process1 [s1=s14, s14=s1] endmodule\nmodule process15 = process1 [s1=s15, s15=s1] endmodule\nmodule process16 = process1 [s1=s16, s16=s1] endmodule\nmodule process17 = process1 [s1=s17, s17=s1] endmodule\n") ≡ refused 4 883
+pub e-n17 : readOf (bytes "probabilistic\nmodule process1\ns1 : [0..2] init 0;\n[] s1=0 -> 1:(s1'=0);\nendmodule\n"
+    ++ bytes "module process2 = process1 [s1=s2, s2=s1] endmodule\nmodule process3 = process1 [s1=s3, s3=s1] endmodule\nmodule process4 = process1 [s1=s4, s4=s1] endmodule\nmodule process5 = process1 [s1=s5, s5=s1] endmodule\n"
+    ++ bytes "module process6 = process1 [s1=s6, s6=s1] endmodule\nmodule process7 = process1 [s1=s7, s7=s1] endmodule\nmodule process8 = process1 [s1=s8, s8=s1] endmodule\nmodule process9 = process1 [s1=s9, s9=s1] endmodule\n"
+    ++ bytes "module process10 = process1 [s1=s10, s10=s1] endmodule\nmodule process11 = process1 [s1=s11, s11=s1] endmodule\nmodule process12 = process1 [s1=s12, s12=s1] endmodule\nmodule process13 = process1 [s1=s13, s13=s1] endmodule\n"
+    ++ bytes "module process14 = process1 [s1=s14, s14=s1] endmodule\nmodule process15 = process1 [s1=s15, s15=s1] endmodule\nmodule process16 = process1 [s1=s16, s16=s1] endmodule\nmodule process17 = process1 [s1=s17, s17=s1] endmodule\n") ≡ refused 4 883
 unfolding readUnder unitsOf
 e-n17 = refl
 

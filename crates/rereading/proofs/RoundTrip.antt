@@ -21,7 +21,8 @@ use Rattle.reading.specs.Judgements.{Judgement, fine, broken, firstBroken}
 use Rattle.reading.specs.Shape.{BranchShape, StatementShape, CardShape, card as readCard}
 use Rattle.reading.specs.Checks.{judgedWords, judgedEach, judgedStatement, judgedModules, judgedCard, statementIn, seatsIn, cardIn}
 use Rattle.reading.specs.Reading.{taken, firstOutside, shaped, readUnder}
-use Rattle.grammar.specs.Grammar.{Said, signAt, valued, LineSaid, ended, fixed, aSeat, aProcess, cardRun, moduleRun, ManySaid, done, again, LiteralSaid, literal, OthersSaid, close, next, GroupSaid, conjoined, disjoined, GuardSaid, grouped, negated, bracketed, single, further, RestSaid, nothing, guarded, WeightSaid, aNumber, aRatio, aDecimal, BranchSaid, branch, PlusSaid, plus, StatementSaid, statement, modeWord, CardSaid, card}
+use Rattle.grammar.specs.Grammar.{Said, signAt, valued, LineSaid, ended, fixed, aSeat, aProcess, cardRun, moduleRun, ManySaid, done, again, LiteralSaid, literal, OthersSaid, close, next, GroupSaid, conjoined, disjoined, GuardSaid, grouped, negated, bracketed, single, further}
+use Rattle.grammar.specs.Grammar.{RestSaid, nothing, guarded, WeightSaid, aNumber, aRatio, aDecimal, BranchSaid, branch, PlusSaid, plus, StatementSaid, statement, modeWord, CardSaid, card}
 use Rattle.grammar.specs.Counted.{Counted, Within, Past, FirstPast, countedMany, countedModule, countedStatement, countedCard}
 use Rattle.grammar.proofs.Follows.{Ran, came, fell, card-runs}
 use Rattle.grammar.proofs.Valid.{read-valid}

@@ -1,7 +1,7 @@
 -- The written form of card A; document 01's reduced text of its one-seat card, letter for letter, and those of card A in both modes: by
 -- computing. Assumes nothing.
 use mathlib.Core.Path.{_≡_, refl}
-use mathlib.Core.List.{[], _∷_}
+use mathlib.Core.List.{[], _∷_, _++_}
 use mathlib.Core.Option.{none}
 use Rattle.card.specs.Limits.{unit}
 use Rattle.card.specs.Text.{bytes}
@@ -31,7 +31,15 @@ pub one-seat : reducedOf oneSeat ≡ bytes "nondeterministic\nmodule generic_pro
 unfolding programText reduce copy oneSeat decimal gcd divisor
 one-seat = refl
 
-pub card-a : reducedOf (cardA probabilistic) ≡ bytes "probabilistic\nmodule generic_process\nno_0 : [0..3] init 3;\nno_1 : [0..3] init 0;\nno_2 : [0..3] init 0;\n[] (no_0>0) & (no_0>1) -> 1/2:(no_0'=no_0-1) & (no_1'=min(no_1+1,3)) + 1/2:(no_0'=no_0-1) & (no_2'=min(no_2+1,3));\n[] (no_0>1) & (no_0>1) -> 1/2:(no_0'=no_0-1) & (no_1'=min(no_1+1,3)) + 1/2:(no_0'=no_0-1) & (no_2'=min(no_2+1,3));\n[] (no_0>2) & (no_0>1) -> 1/2:(no_0'=no_0-1) & (no_1'=min(no_1+1,3)) + 1/2:(no_0'=no_0-1) & (no_2'=min(no_2+1,3));\n[] (no_1>0) & (no_2=0) -> 1/4:(no_1'=no_1-1) & (no_2'=min(no_2+1,3)) + 3/4:true;\n[] (no_1>1) & (no_2=0) -> 1/4:(no_1'=no_1-1) & (no_2'=min(no_2+1,3)) + 3/4:true;\n[] (no_1>2) & (no_2=0) -> 1/4:(no_1'=no_1-1) & (no_2'=min(no_2+1,3)) + 3/4:true;\nendmodule\n"
+pub card-a : reducedOf (cardA probabilistic)
+    ≡ bytes "probabilistic\nmodule generic_process\nno_0 : [0..3] init 3;\nno_1 : [0..3] init 0;\nno_2 : [0..3] init 0;\n"
+    ++ bytes "[] (no_0>0) & (no_0>1) -> 1/2:(no_0'=no_0-1) & (no_1'=min(no_1+1,3)) + 1/2:(no_0'=no_0-1) & (no_2'=min(no_2+1,3));\n"
+    ++ bytes "[] (no_0>1) & (no_0>1) -> 1/2:(no_0'=no_0-1) & (no_1'=min(no_1+1,3)) + 1/2:(no_0'=no_0-1) & (no_2'=min(no_2+1,3));\n"
+    ++ bytes "[] (no_0>2) & (no_0>1) -> 1/2:(no_0'=no_0-1) & (no_1'=min(no_1+1,3)) + 1/2:(no_0'=no_0-1) & (no_2'=min(no_2+1,3));\n"
+    ++ bytes "[] (no_1>0) & (no_2=0) -> 1/4:(no_1'=no_1-1) & (no_2'=min(no_2+1,3)) + 3/4:true;\n"
+    ++ bytes "[] (no_1>1) & (no_2=0) -> 1/4:(no_1'=no_1-1) & (no_2'=min(no_2+1,3)) + 3/4:true;\n"
+    ++ bytes "[] (no_1>2) & (no_2=0) -> 1/4:(no_1'=no_1-1) & (no_2'=min(no_2+1,3)) + 3/4:true;\n"
+    ++ bytes "endmodule\n"
 unfolding programText reduce copy cardA decimal gcd divisor
 card-a = refl
 

@@ -45,13 +45,19 @@ element-copy-out-table-2 c = search needs
 
 mul-table-3 : tie.Need-mul-table-3 Inv-loop μ-loop
 mul-table-3 c =
-    let start = c .before .before .before .before in
-    omega (arith, start .pre .light (c .before .before .before .loop .end), mul-le-mul (start .pre .few) (start .pre .light (c .before .before .before .loop .end)))
+    let at-loop = c .before .before .before in
+    let start = at-loop .before in
+    let light = start .pre .light (at-loop .loop .end) in
+    omega (arith, light, mul-le-mul (start .pre .few) light)
 
 add-table : tie.Need-add-table Inv-loop μ-loop
 add-table c =
-    let start = c .before .before .before .before in
-    omega (arith, start .pre .light (c .before .before .before .loop .end), mul-le-mul (start .pre .few) (start .pre .light (c .before .before .before .loop .end)), added-here (start .args .table .now) (start .args .own) (start .args .able) (start .args .units .now) (c .before .before .before .loop .end) refl (c .before .before .before .loop .inv .1), start .pre .most (c .before .before .before .loop .end) (c .before .before .loop-test .taken))
+    let at-loop = c .before .before .before in
+    let start = at-loop .before in
+    let args = start .args in
+    let light = start .pre .light (at-loop .loop .end) in
+    let here = added-here (args .table .now) (args .own) (args .able) (args .units .now) (at-loop .loop .end) refl (at-loop .loop .inv .1) in
+    omega (arith, light, mul-le-mul (start .pre .few) light, here, start .pre .most (at-loop .loop .end) (c .before .before .loop-test .taken))
 
 mul-table-4 : tie.Need-mul-table-4 Inv-loop μ-loop
 mul-table-4 c = search needs
@@ -69,12 +75,23 @@ loop-less c = search needs
 
 loop-again : tie.Need-loop-again Inv-loop μ-loop
 loop-again c =
-    let start = c .before .before .before .before in
-    (search needs, over-next (weightsFrom + start .args .own * mostStates) (weightMore (start .args .table .now) (start .args .own) (start .args .able) (start .args .units .now)) (start .args .table .now) (c .before .before .before .loop .end) (c .before .before .before .loop .inv .1) refl (ap (λ (w : ℕ). w + start .args .able * getD (start .args .units .now) (c .before .before .before .loop .end) 0) (added-here (start .args .table .now) (start .args .own) (start .args .able) (start .args .units .now) (c .before .before .before .loop .end) refl (c .before .before .before .loop .inv .1))))
+    let at-loop = c .before .before .before in
+    let start = at-loop .before in
+    let args = start .args in
+    let end = at-loop .loop .end in
+    let here = added-here (args .table .now) (args .own) (args .able) (args .units .now) end refl (at-loop .loop .inv .1) in
+    let more = ap (λ (w : ℕ). w + args .able * getD (args .units .now) end 0) here in
+    let value = weightMore (args .table .now) (args .own) (args .able) (args .units .now) in
+    (search needs, over-next (weightsFrom + args .own * mostStates) value (args .table .now) end (at-loop .loop .inv .1) refl more)
 
 returns : tie.Need-returns Inv-loop μ-loop
 unfolding added
-returns c = c .before .loop .inv .1 ∙ over-end (weightsFrom + c .before .before .args .own * mostStates) (weightMore (c .before .before .args .table .now) (c .before .before .args .own) (c .before .before .args .able) (c .before .before .args .units .now)) (c .before .before .args .table .now) (c .before .loop .end) mostStates (c .before .loop .inv .0) (c .loop-test .left)
+returns c =
+    let at-loop = c .before in
+    let start = at-loop .before in
+    let args = start .args in
+    let value = weightMore (args .table .now) (args .own) (args .able) (args .units .now) in
+    at-loop .loop .inv .1 ∙ over-end (weightsFrom + args .own * mostStates) value (args .table .now) (at-loop .loop .end) mostStates (at-loop .loop .inv .0) (c .loop-test .left)
 
 pub add-weights-spec : {M : Type 1} → statement M
 add-weights-spec =

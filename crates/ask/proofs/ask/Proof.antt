@@ -42,7 +42,11 @@ refused-requires c κs = question-number _ _ [] (c .before .before .before .befo
 
 -- src/lib.rt:60:9
 returns-2 : tie.Need-returns-2
-returns-2 c = c .refused .ensures ∙ sym (ap asked (question-refused _ _ _ (c .before .before .before .before .before .before .before .before .read-into .ensures) (c .before .before .before .before .before .enum-told .given .1) _ _ (c .before .before .before .question-into .ensures) (c .before .if1 .taken)))
+returns-2 c =
+    let at-question-into = c .before .before .before in
+    let at-enum-told = at-question-into .before .before in
+    let at-read-into = at-enum-told .before .before .before in
+    c .refused .ensures ∙ sym (ap asked (question-refused _ _ _ (at-read-into .read-into .ensures) (at-enum-told .enum-told .given .1) _ _ (at-question-into .question-into .ensures) (c .before .if1 .taken)))
 
 -- src/lib.rt:62:9
 judge-seats-requires : tie.Need-judge-seats-requires
@@ -54,7 +58,13 @@ enum-known-of-seats c = search needs
 
 -- src/lib.rt:64:9
 returns-3 : tie.Need-returns-3
-returns-3 c = sym (ap asked (seats-refused _ _ _ (c .before .before .before .before .before .before .before .before .before .before .before .read-into .ensures) (c .before .before .before .before .before .before .before .before .enum-told .given .1) _ _ (c .before .before .before .before .before .before .question-into .ensures) (c .before .before .before .before .if1 .left) (c .before .before .before .judge-seats .ensures) (c .before .of-seats .given .1)))
+returns-3 c =
+    let at-judge-seats = c .before .before .before in
+    let at-if1 = at-judge-seats .before in
+    let at-question-into = at-if1 .before .before in
+    let at-enum-told = at-question-into .before .before in
+    let at-read-into = at-enum-told .before .before .before in
+    sym (ap asked (seats-refused _ _ _ (at-read-into .read-into .ensures) (at-enum-told .enum-told .given .1) _ _ (at-question-into .question-into .ensures) (at-if1 .if1 .left) (at-judge-seats .judge-seats .ensures) (c .before .of-seats .given .1)))
 
 enum-told-2 : tie.Need-enum-told-2
 enum-told-2 c = search needs
@@ -65,7 +75,12 @@ count-seats-requires c κs = search needs
 
 -- src/lib.rt:67:17
 slice-aggregate-held : tie.Need-slice-aggregate-held
-slice-aggregate-held c = sym (still-long _ _ [] (c .before .before .before .before .before .before .before .before .before .before .before .before .read-into .ensures) (c .before .before .before .before .before .before .before .before .before .enum-told .given .1) _ _ (c .before .before .before .before .before .before .before .question-into .ensures) (c .before .before .before .before .before .if1 .left))
+slice-aggregate-held c =
+    let at-if1 = c .before .before .before .before .before in
+    let at-question-into = at-if1 .before .before in
+    let at-enum-told = at-question-into .before .before in
+    let at-read-into = at-enum-told .before .before .before in
+    sym (still-long _ _ [] (at-read-into .read-into .ensures) (at-enum-told .enum-told .given .1) _ _ (at-question-into .question-into .ensures) (at-if1 .if1 .left))
 
 -- src/lib.rt:67:57
 slice-aggregate-held-2 : tie.Need-slice-aggregate-held-2
@@ -81,7 +96,15 @@ answer-requires c κs = search needs
 
 -- src/lib.rt:46:1
 returns-4 : tie.Need-returns-4
-returns-4 c = c .answer .ensures ∙ sym (ap asked (answered _ _ _ (c .before .before .before .before .before .before .before .before .before .before .before .before .before .before .before .read-into .ensures) (c .before .before .before .before .before .before .before .before .before .before .before .before .enum-told .given .1) _ _ (c .before .before .before .before .before .before .before .before .before .before .question-into .ensures) (c .before .before .before .before .before .before .before .before .if1 .left) (c .before .before .before .before .before .before .before .judge-seats .ensures) (c .before .before .before .before .before .enum-told2 .given .1) (c .before .before .before .before .count-seats .ensures) (c .before .held .ensures)))
+returns-4 c =
+    let at-count-seats = c .before .before .before .before in
+    let at-enum-told2 = at-count-seats .before in
+    let at-judge-seats = at-enum-told2 .before .before in
+    let at-if1 = at-judge-seats .before in
+    let at-question-into = at-if1 .before .before in
+    let at-enum-told = at-question-into .before .before in
+    let at-read-into = at-enum-told .before .before .before in
+    c .answer .ensures ∙ sym (ap asked (answered _ _ _ (at-read-into .read-into .ensures) (at-enum-told .enum-told .given .1) _ _ (at-question-into .question-into .ensures) (at-if1 .if1 .left) (at-judge-seats .judge-seats .ensures) (at-enum-told2 .enum-told2 .given .1) (at-count-seats .count-seats .ensures) (c .before .held .ensures)))
 
 pub ask-spec : {M : Type 1} → statement M
 ask-spec =

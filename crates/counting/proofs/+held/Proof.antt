@@ -118,7 +118,10 @@ held-returns-7 t c =
     let at-if1 = at-if2 .before in
     let at-op-of = at-if1 .before in
     let at-number-at = at-op-of .before in
-    held-else _ _ _ _ _ _ (at-number-at .number-at .ensures) (at-if1 .if1 .left) (at-left-of .left-of .ensures .0) (λ z. at-if2 .if2 .left (at-op-of .op-of .ensures ∙ z)) (λ z. at-if3 .if3 .left (at-op-of .op-of .ensures ∙ z)) (λ z. c .before .before .before .if4 .left (at-op-of .op-of .ensures ∙ z)) (c .before .right-of2 .ensures .0) (sym (c .before .before .if6 .left) ∙ at-held .held .ensures) (c .held3 .ensures)
+    let op = at-op-of .op-of .ensures in
+    held-else _ _ _ _ _ _ (at-number-at .number-at .ensures) (at-if1 .if1 .left) (at-left-of .left-of .ensures .0)
+    (λ z. at-if2 .if2 .left (op ∙ z)) (λ z. at-if3 .if3 .left (op ∙ z)) (λ z. c .before .before .before .if4 .left (op ∙ z))
+    (c .before .right-of2 .ensures .0) (sym (c .before .before .if6 .left) ∙ at-held .held .ensures) (c .held3 .ensures)
 
 pub +held-spec : {M : Type 1} → statement M
 +held-spec = close μ-held λ t. held-lts.spec (held-R t)

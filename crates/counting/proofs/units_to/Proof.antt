@@ -28,8 +28,9 @@ returns c =
 
 returns-2 : tie.Need-returns-2 Inv-loop μ-loop
 returns-2 c =
-    let start = c .before .before .before .before .before in
-    c .before .before .before .loop .inv .2 ∙ each-all (start .args .branches .now) (start .args .at) (c .before .before .before .loop .i) (min (start .args .size) mostBranches) (omega arith) (omega (arith, length-drop (start .args .at) (start .args .branches .now)))
+    let at-loop = c .before .before .before in
+    let start = at-loop .before .before in
+    at-loop .loop .inv .2 ∙ each-all (start .args .branches .now) (start .args .at) (at-loop .loop .i) (min (start .args .size) mostBranches) (omega arith) (omega (arith, length-drop (start .args .at) (start .args .branches .now)))
 
 sub-if3 : tie.Need-sub-if3 Inv-loop μ-loop
 sub-if3 c = search needs

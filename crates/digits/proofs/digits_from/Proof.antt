@@ -35,10 +35,14 @@ sub-t11 c = omega (arith, c .before .before .before .before .loop .inv .begun)
 
 returns : tie.Need-returns Inv-loop μ-loop
 returns c =
-    held-all (c .before .before .before .before .before .before .args .card .now) (c .before .before .before .before .before .before .args .from)
-    (c .before .before .before .before .loop .at) (c .before .before .before .before .loop .value) (c .before .before .before .before .loop .inv)
-    (end-off isDigit (c .before .before .before .before .before .before .args .card .now) (c .before .before .before .before .loop .at)
-    (c .before .before .before .loop-test .taken) (sym (c .before .is-digit .ensures) ∙ not-true (c .before .is-digit .result) (c .if1 .taken)))
+    let at-is-digit = c .before in
+    let at-loop-test = at-is-digit .before .before in
+    let at-loop = at-loop-test .before in
+    let entry = at-loop .before .before in
+    held-all (entry .args .card .now) (entry .args .from)
+    (at-loop .loop .at) (at-loop .loop .value) (at-loop .loop .inv)
+    (end-off isDigit (entry .args .card .now) (at-loop .loop .at)
+    (at-loop-test .loop-test .taken) (sym (at-is-digit .is-digit .ensures) ∙ not-true (at-is-digit .is-digit .result) (c .if1 .taken)))
 
 grown-requires : tie.Need-grown-requires Inv-loop μ-loop
 grown-requires c κs = sym (c .before .is-digit .ensures) ∙ not-false (c .before .is-digit .result) (c .if1 .left)
@@ -51,15 +55,19 @@ loop-less c = search needs
 
 loop-again : tie.Need-loop-again Inv-loop μ-loop
 loop-again c =
+    let at-is-digit = c .before .before in
+    let at-loop-test = at-is-digit .before .before in
+    let at-loop = at-loop-test .before in
+    let entry = at-loop .before .before in
     subst
-    (λ v. Held (c .before .before .before .before .before .before .before .args .card .now) (c .before .before .before .before .before .before .before .args .from)
-    (c .before .before .before .before .before .loop .at + 1) v)
+    (λ v. Held (entry .args .card .now) (entry .args .from)
+    (at-loop .loop .at + 1) v)
     (sym (c .grown .ensures))
-    (held-next (c .before .before .before .before .before .before .before .args .card .now) (c .before .before .before .before .before .before .before .args .from)
-    (c .before .before .before .before .before .loop .at) (c .before .before .before .before .before .loop .value)
-    (c .before .before .before .before .loop-test .taken)
-    (sym (c .before .before .is-digit .ensures) ∙ not-false (c .before .before .is-digit .result) (c .before .if1 .left))
-    (c .before .before .before .before .before .loop .inv))
+    (held-next (entry .args .card .now) (entry .args .from)
+    (at-loop .loop .at) (at-loop .loop .value)
+    (at-loop-test .loop-test .taken)
+    (sym (at-is-digit .is-digit .ensures) ∙ not-false (at-is-digit .is-digit .result) (c .before .if1 .left))
+    (at-loop .loop .inv))
 
 sub-t12 : tie.Need-sub-t12 Inv-loop μ-loop
 sub-t12 c = omega (arith, c .before .loop .inv .begun)

@@ -23,28 +23,31 @@ returns-2 c = sym (plain-many (c .before .before .args .most) (drop (c .before .
 
 returns-3 : tie.Need-returns-3
 returns-3 c =
+    let entry = c .before .before .before in
     sym
-    (plain-one (c .before .before .before .args .most) (drop (c .before .before .before .args .from) (c .before .before .before .args .card .now))
-    (omega (arith, c .before .before .before .pre)) (omega arith))
+    (plain-one (entry .args .most) (drop (entry .args .from) (entry .args .card .now))
+    (omega (arith, entry .pre)) (omega arith))
 
 shared-slice-read-result : tie.Need-shared-slice-read-result
 shared-slice-read-result c =
+    let entry = c .before .before .before .before in
     omega (
       arith,
-      c .before .before .before .before .pre,
+      entry .pre,
       run-length isDigit
-          (drop (c .before .before .before .before .args .from) (c .before .before .before .before .args .card .now)),
+          (drop (entry .args .from) (entry .args .card .now)),
       length-drop
-          (c .before .before .before .before .args .from) (c .before .before .before .before .args .card .now),
+          (entry .args .from) (entry .args .card .now),
     )
 
 returns-4 : tie.Need-returns-4
 returns-4 c =
-    let first = getD-drop (c .before .before .before .before .args .from) (c .before .before .before .before .args .card .now) 0 0 ∙ ap (λ (i : ℕ). getD (c .before .before .before .before .args .card .now) i 0) (add-zero (c .before .before .before .before .args .from)) in
+    let entry = c .before .before .before .before in
+    let first = getD-drop (entry .args .from) (entry .args .card .now) 0 0 ∙ ap (λ (i : ℕ). getD (entry .args .card .now) i 0) (add-zero (entry .args .from)) in
     sym
-    (plain-more (c .before .before .before .before .args .most)
-    (drop (c .before .before .before .before .args .from) (c .before .before .before .before .args .card .now))
-    (omega (arith, c .before .before .before .before .pre)) (omega (arith, c .before .before .before .before .pre)) ∙ ap (λ (b : ℕ). not (eqb b 48)) first)
+    (plain-more (entry .args .most)
+    (drop (entry .args .from) (entry .args .card .now))
+    (omega (arith, entry .pre)) (omega (arith, entry .pre)) ∙ ap (λ (b : ℕ). not (eqb b 48)) first)
 
 pub is-plain-spec : {M : Type 1} → statement M
 is-plain-spec = tie.close (tie.spec returns returns-2 returns-3 shared-slice-read-result returns-4)

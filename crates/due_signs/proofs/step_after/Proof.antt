@@ -38,11 +38,13 @@ bare-requires-2 c κs = search needs
 
 returns-2 : tie.Need-returns-2
 returns-2 c =
+    let at-past-blank = c .before .before .before in
+    let entry = at-past-blank .before .before .before .before in
     c .bare2 .ensures ∙ sym
-    (sign-step (c .before .before .before .before .before .before .before .args .card .now) (c .before .before .before .past-blank .result) 41
+    (sign-step (entry .args .card .now) (at-past-blank .past-blank .result) 41
     (sym (c .before .before .sign-here2 .ensures) ∙ c .before .if2 .taken))
-    ∙ past-step (c .before .before .before .before .before .before .before .args .card .now) (c .before .before .before .before .before .before .before .args .at)
-    (c .before .before .before .past-blank .ensures)
+    ∙ past-step (entry .args .card .now) (entry .args .at)
+    (at-past-blank .past-blank .ensures)
 
 sign-here-requires-3 : tie.Need-sign-here-requires-3
 sign-here-requires-3 c κs = search needs
@@ -60,11 +62,13 @@ bare-requires-3 c κs = search needs
 
 returns-3 : tie.Need-returns-3
 returns-3 c =
+    let at-past-blank = c .before .before .before .before .before in
+    let entry = at-past-blank .before .before .before .before in
     c .bare3 .ensures ∙ sym
-    (sign-step (c .before .before .before .before .before .before .before .before .before .args .card .now) (c .before .before .before .before .before .past-blank .result) 38
+    (sign-step (entry .args .card .now) (at-past-blank .past-blank .result) 38
     (sym (c .before .before .sign-here3 .ensures) ∙ c .before .if3 .taken))
-    ∙ past-step (c .before .before .before .before .before .before .before .before .before .args .card .now) (c .before .before .before .before .before .before .before .before .before .args .at)
-    (c .before .before .before .before .before .past-blank .ensures)
+    ∙ past-step (entry .args .card .now) (entry .args .at)
+    (at-past-blank .past-blank .ensures)
 
 sign-here-requires-4 : tie.Need-sign-here-requires-4
 sign-here-requires-4 c κs = search needs
@@ -82,19 +86,23 @@ bare-requires-4 c κs = search needs
 
 returns-4 : tie.Need-returns-4
 returns-4 c =
+    let at-past-blank = c .before .before .before .before .before .before .before in
+    let entry = at-past-blank .before .before .before .before in
     c .bare4 .ensures ∙ sym
-    (sign-step (c .before .before .before .before .before .before .before .before .before .before .before .args .card .now)
-    (c .before .before .before .before .before .before .before .past-blank .result) 124 (sym (c .before .before .sign-here4 .ensures) ∙ c .before .if4 .taken))
-    ∙ past-step (c .before .before .before .before .before .before .before .before .before .before .before .args .card .now)
-    (c .before .before .before .before .before .before .before .before .before .before .before .args .at) (c .before .before .before .before .before .before .before .past-blank .ensures)
+    (sign-step (entry .args .card .now)
+    (at-past-blank .past-blank .result) 124 (sym (c .before .before .sign-here4 .ensures) ∙ c .before .if4 .taken))
+    ∙ past-step (entry .args .card .now)
+    (entry .args .at) (at-past-blank .past-blank .ensures)
 
 step-arrow-requires : tie.Need-step-arrow-requires
 step-arrow-requires c κs = search needs
 
 returns-5 : tie.Need-returns-5
 returns-5 c =
-    c .step-arrow .ensures ∙ past-step (c .before .before .before .before .before .before .before .before .before .before .before .args .card .now)
-    (c .before .before .before .before .before .before .before .before .before .before .before .args .at) (c .before .before .before .before .before .before .before .past-blank .ensures)
+    let at-past-blank = c .before .before .before .before .before .before .before in
+    let entry = at-past-blank .before .before .before .before in
+    c .step-arrow .ensures ∙ past-step (entry .args .card .now)
+    (entry .args .at) (at-past-blank .past-blank .ensures)
 
 pub step-after-spec : {M : Type 1} → statement M
 step-after-spec =

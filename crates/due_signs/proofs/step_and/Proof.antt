@@ -27,13 +27,17 @@ sign-here-requires-2 : tie.Need-sign-here-requires-2
 sign-here-requires-2 c κs = search needs
 
 add-bare-2 : tie.Need-add-bare-2
-add-bare-2 c = omega (arith, sign-place (c .before .before .before .before .before .args .card .now) (c .before .before .before .before .before .args .at) 41 (sym (c .before .sign-here2 .ensures) ∙ c .if2 .taken))
+add-bare-2 c =
+    let entry = c .before .before .before .before .before in
+    omega (arith, sign-place (entry .args .card .now) (entry .args .at) 41 (sym (c .before .sign-here2 .ensures) ∙ c .if2 .taken))
 
 bare-requires-2 : tie.Need-bare-requires-2
 bare-requires-2 c κs = search needs
 
 returns-2 : tie.Need-returns-2
-returns-2 c = c .bare2 .ensures ∙ sym (sign-step (c .before .before .before .before .before .before .args .card .now) (c .before .before .before .before .before .before .args .at) 41 (sym (c .before .before .sign-here2 .ensures) ∙ c .before .if2 .taken))
+returns-2 c =
+    let entry = c .before .before .before .before .before .before in
+    c .bare2 .ensures ∙ sym (sign-step (entry .args .card .now) (entry .args .at) 41 (sym (c .before .before .sign-here2 .ensures) ∙ c .before .if2 .taken))
 
 step-from-requires : tie.Need-step-from-requires
 step-from-requires c κs = search needs

@@ -40,18 +40,25 @@ bare-requires c κs = search needs
 
 returns : tie.Need-returns
 returns c =
+    let at-if1 = c .before .before .before in
+    let at-stands = at-if1 .before in
+    let at-past-blank = at-stands .before in
+    let entry = at-past-blank .before .before in
     c .bare .ensures ∙ sym
-    (arrow-step (c .before .before .before .before .before .before .before .args .card .now) (c .before .before .before .before .before .past-blank .result)
-    (sym (c .before .before .before .before .stands .ensures) ∙ c .before .before .before .if1 .taken)
+    (arrow-step (entry .args .card .now) (at-past-blank .past-blank .result)
+    (sym (at-stands .stands .ensures) ∙ at-if1 .if1 .taken)
     (sym (c .before .before .stands2 .ensures) ∙ c .before .if2 .taken))
-    ∙ past-step (c .before .before .before .before .before .before .before .args .card .now) (c .before .before .before .before .before .before .before .args .at)
-    (c .before .before .before .before .before .past-blank .ensures)
+    ∙ past-step (entry .args .card .now) (entry .args .at)
+    (at-past-blank .past-blank .ensures)
 
 step-from-requires : tie.Need-step-from-requires
 step-from-requires c κs = search needs
 
 returns-2 : tie.Need-returns-2
-returns-2 c = c .step-from .ensures ∙ past-step (c .before .before .before .before .before .args .card .now) (c .before .before .before .before .before .args .at) (c .before .before .before .past-blank .ensures)
+returns-2 c =
+    let at-past-blank = c .before .before .before in
+    let entry = at-past-blank .before .before in
+    c .step-from .ensures ∙ past-step (entry .args .card .now) (entry .args .at) (at-past-blank .past-blank .ensures)
 
 pub step-arrow-spec : {M : Type 1} → statement M
 step-arrow-spec =

@@ -22,7 +22,9 @@ bare-requires : tie.Need-bare-requires
 bare-requires c κs = search needs
 
 returns : tie.Need-returns
-returns c = c .bare .ensures ∙ sym (sign-step (c .before .before .before .before .args .card .now) (c .before .before .before .before .args .at) (c .before .before .before .before .args .kind) (sym (c .before .before .sign-here .ensures) ∙ c .before .if1 .taken))
+returns c =
+    let entry = c .before .before .before .before in
+    c .bare .ensures ∙ sym (sign-step (entry .args .card .now) (entry .args .at) (entry .args .kind) (sym (c .before .before .sign-here .ensures) ∙ c .before .if1 .taken))
 
 past-blank-requires : tie.Need-past-blank-requires
 past-blank-requires c κs = search needs
@@ -32,9 +34,10 @@ sign-here-requires-2 c κs = search needs
 
 add-bare-2 : tie.Need-add-bare-2
 add-bare-2 c =
+    let entry = c .before .before .before .before .before .before in
     omega (
       arith,
-      sign-place (c .before .before .before .before .before .before .args .card .now) (c .before .before .past-blank .result) (c .before .before .before .before .before .before .args .kind)
+      sign-place (entry .args .card .now) (c .before .before .past-blank .result) (entry .args .kind)
           (sym (c .before .sign-here2 .ensures) ∙ c .if2 .taken),
     )
 
@@ -43,11 +46,13 @@ bare-requires-2 c κs = search needs
 
 returns-2 : tie.Need-returns-2
 returns-2 c =
+    let at-past-blank = c .before .before .before in
+    let entry = at-past-blank .before .before .before .before in
     c .bare2 .ensures ∙ sym
-    (sign-step (c .before .before .before .before .before .before .before .args .card .now) (c .before .before .before .past-blank .result)
-    (c .before .before .before .before .before .before .before .args .kind) (sym (c .before .before .sign-here2 .ensures) ∙ c .before .if2 .taken))
-    ∙ past-step (c .before .before .before .before .before .before .before .args .card .now) (c .before .before .before .before .before .before .before .args .at)
-    (c .before .before .before .past-blank .ensures)
+    (sign-step (entry .args .card .now) (at-past-blank .past-blank .result)
+    (entry .args .kind) (sym (c .before .before .sign-here2 .ensures) ∙ c .before .if2 .taken))
+    ∙ past-step (entry .args .card .now) (entry .args .at)
+    (at-past-blank .past-blank .ensures)
 
 sign-here-requires-3 : tie.Need-sign-here-requires-3
 sign-here-requires-3 c κs = search needs
@@ -65,19 +70,23 @@ bare-requires-3 c κs = search needs
 
 returns-3 : tie.Need-returns-3
 returns-3 c =
+    let at-past-blank = c .before .before .before .before .before in
+    let entry = at-past-blank .before .before .before .before in
     c .bare3 .ensures ∙ sym
-    (sign-step (c .before .before .before .before .before .before .before .before .before .args .card .now) (c .before .before .before .before .before .past-blank .result) 41
+    (sign-step (entry .args .card .now) (at-past-blank .past-blank .result) 41
     (sym (c .before .before .sign-here3 .ensures) ∙ c .before .if3 .taken))
-    ∙ past-step (c .before .before .before .before .before .before .before .before .before .args .card .now) (c .before .before .before .before .before .before .before .before .before .args .at)
-    (c .before .before .before .before .before .past-blank .ensures)
+    ∙ past-step (entry .args .card .now) (entry .args .at)
+    (at-past-blank .past-blank .ensures)
 
 step-arrow-requires : tie.Need-step-arrow-requires
 step-arrow-requires c κs = search needs
 
 returns-4 : tie.Need-returns-4
 returns-4 c =
-    c .step-arrow .ensures ∙ past-step (c .before .before .before .before .before .before .before .before .before .args .card .now)
-    (c .before .before .before .before .before .before .before .before .before .args .at) (c .before .before .before .before .before .past-blank .ensures)
+    let at-past-blank = c .before .before .before .before .before in
+    let entry = at-past-blank .before .before .before .before in
+    c .step-arrow .ensures ∙ past-step (entry .args .card .now)
+    (entry .args .at) (at-past-blank .past-blank .ensures)
 
 pub step-closing-spec : {M : Type 1} → statement M
 step-closing-spec =

@@ -42,11 +42,13 @@ bare-requires-2 c κs = search needs
 
 returns-2 : tie.Need-returns-2
 returns-2 c =
+    let at-past-blank = c .before .before .before in
+    let entry = at-past-blank .before .before .before .before in
     c .bare2 .ensures ∙ sym
-    (sign-step (c .before .before .before .before .before .before .before .args .card .now) (c .before .before .before .past-blank .result) 40
+    (sign-step (entry .args .card .now) (at-past-blank .past-blank .result) 40
     (sym (c .before .before .sign-here2 .ensures) ∙ c .before .if2 .taken))
-    ∙ past-step (c .before .before .before .before .before .before .before .args .card .now) (c .before .before .before .before .before .before .before .args .at)
-    (c .before .before .before .past-blank .ensures)
+    ∙ past-step (entry .args .card .now) (entry .args .at)
+    (at-past-blank .past-blank .ensures)
 
 stands-requires : tie.Need-stands-requires
 stands-requires c κs = search needs
@@ -67,21 +69,28 @@ bare-requires-3 c κs = search needs
 
 returns-3 : tie.Need-returns-3
 returns-3 c =
+    let at-stands2 = c .before .before in
+    let at-if3 = at-stands2 .before in
+    let at-stands = at-if3 .before in
+    let at-past-blank = at-stands .before .before .before in
+    let entry = at-past-blank .before .before .before .before in
     c .bare3 .ensures ∙ sym
-    (not-step (c .before .before .before .before .before .before .before .before .before .before .before .args .card .now)
-    (c .before .before .before .before .before .before .before .past-blank .result)
-    (sym (c .before .before .before .before .stands .ensures) ∙ c .before .before .before .if3 .taken)
-    (sym (c .before .before .stands2 .ensures) ∙ not-true (c .before .before .stands2 .result) (c .before .if4 .taken)))
-    ∙ past-step (c .before .before .before .before .before .before .before .before .before .before .before .args .card .now)
-    (c .before .before .before .before .before .before .before .before .before .before .before .args .at) (c .before .before .before .before .before .before .before .past-blank .ensures)
+    (not-step (entry .args .card .now)
+    (at-past-blank .past-blank .result)
+    (sym (at-stands .stands .ensures) ∙ at-if3 .if3 .taken)
+    (sym (at-stands2 .stands2 .ensures) ∙ not-true (at-stands2 .stands2 .result) (c .before .if4 .taken)))
+    ∙ past-step (entry .args .card .now)
+    (entry .args .at) (at-past-blank .past-blank .ensures)
 
 step-from-requires : tie.Need-step-from-requires
 step-from-requires c κs = search needs
 
 returns-4 : tie.Need-returns-4
 returns-4 c =
-    c .step-from .ensures ∙ past-step (c .before .before .before .before .before .before .before .before .before .args .card .now)
-    (c .before .before .before .before .before .before .before .before .before .args .at) (c .before .before .before .before .before .past-blank .ensures)
+    let at-past-blank = c .before .before .before .before .before in
+    let entry = at-past-blank .before .before .before .before in
+    c .step-from .ensures ∙ past-step (entry .args .card .now)
+    (entry .args .at) (at-past-blank .past-blank .ensures)
 
 pub step-opening-spec : {M : Type 1} → statement M
 step-opening-spec =

@@ -30,11 +30,13 @@ bare-requires c κs = search needs
 
 returns : tie.Need-returns
 returns c =
+    let at-past-blank = c .before .before .before in
+    let entry = at-past-blank .before .before in
     c .bare .ensures ∙ sym
-    (sign-step (c .before .before .before .before .before .args .card .now) (c .before .before .before .past-blank .result) 61
+    (sign-step (entry .args .card .now) (at-past-blank .past-blank .result) 61
     (sym (c .before .before .sign-here .ensures) ∙ c .before .if1 .taken))
-    ∙ past-step (c .before .before .before .before .before .args .card .now) (c .before .before .before .before .before .args .at)
-    (c .before .before .before .past-blank .ensures)
+    ∙ past-step (entry .args .card .now) (entry .args .at)
+    (at-past-blank .past-blank .ensures)
 
 stands-requires : tie.Need-stands-requires
 stands-requires c κs = search needs
@@ -63,13 +65,17 @@ bare-requires-2 c κs = search needs
 
 returns-2 : tie.Need-returns-2
 returns-2 c =
+    let at-if2 = c .before .before .before in
+    let at-stands = at-if2 .before in
+    let at-past-blank = at-stands .before .before .before in
+    let entry = at-past-blank .before .before in
     c .bare2 .ensures ∙ sym
-    (unequal-step (c .before .before .before .before .before .before .before .before .before .args .card .now)
-    (c .before .before .before .before .before .before .before .past-blank .result)
-    (sym (c .before .before .before .before .stands .ensures) ∙ c .before .before .before .if2 .taken)
+    (unequal-step (entry .args .card .now)
+    (at-past-blank .past-blank .result)
+    (sym (at-stands .stands .ensures) ∙ at-if2 .if2 .taken)
     (sym (c .before .before .stands2 .ensures) ∙ c .before .if3 .taken))
-    ∙ past-step (c .before .before .before .before .before .before .before .before .before .args .card .now)
-    (c .before .before .before .before .before .before .before .before .before .args .at) (c .before .before .before .before .before .before .before .past-blank .ensures)
+    ∙ past-step (entry .args .card .now)
+    (entry .args .at) (at-past-blank .past-blank .ensures)
 
 step-from-requires : tie.Need-step-from-requires
 step-from-requires c κs = search needs

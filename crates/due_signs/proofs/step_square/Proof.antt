@@ -26,17 +26,22 @@ bare-requires c κs = search needs
 
 returns : tie.Need-returns
 returns c =
+    let at-past-line = c .before .before .before in
+    let entry = at-past-line .before .before in
     c .bare .ensures ∙ sym
-    (sign-step (c .before .before .before .before .before .args .card .now) (c .before .before .before .past-line .result) 91
+    (sign-step (entry .args .card .now) (at-past-line .past-line .result) 91
     (sym (c .before .before .sign-here .ensures) ∙ c .before .if1 .taken))
-    ∙ past-line-step (c .before .before .before .before .before .args .card .now) (c .before .before .before .before .before .args .at)
-    (c .before .before .before .past-line .ensures)
+    ∙ past-line-step (entry .args .card .now) (entry .args .at)
+    (at-past-line .past-line .ensures)
 
 step-from-requires : tie.Need-step-from-requires
 step-from-requires c κs = search needs
 
 returns-2 : tie.Need-returns-2
-returns-2 c = c .step-from .ensures ∙ past-line-step (c .before .before .before .before .before .args .card .now) (c .before .before .before .before .before .args .at) (c .before .before .before .past-line .ensures)
+returns-2 c =
+    let at-past-line = c .before .before .before in
+    let entry = at-past-line .before .before in
+    c .step-from .ensures ∙ past-line-step (entry .args .card .now) (entry .args .at) (at-past-line .past-line .ensures)
 
 pub step-square-spec : {M : Type 1} → statement M
 step-square-spec =

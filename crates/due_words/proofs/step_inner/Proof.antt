@@ -22,7 +22,10 @@ valued-requires : tie.Need-valued-requires
 valued-requires c κs = search needs
 
 returns : tie.Need-returns
-returns c = c .valued .ensures ∙ sym (seat-step (c .before .before .before .before .args .card .now) (c .before .before .before .before .args .at) (c .before .before .seat-here .result) (c .before .before .seat-here .ensures) (c .before .if1 .taken))
+returns c =
+    let at-seat-here = c .before .before in
+    let entry = at-seat-here .before .before in
+    c .valued .ensures ∙ sym (seat-step (entry .args .card .now) (entry .args .at) (at-seat-here .seat-here .result) (at-seat-here .seat-here .ensures) (c .before .if1 .taken))
 
 past-blank-requires : tie.Need-past-blank-requires
 past-blank-requires c κs = search needs
@@ -38,17 +41,23 @@ valued-requires-2 c κs = search needs
 
 returns-2 : tie.Need-returns-2
 returns-2 c =
+    let at-seat-here2 = c .before .before in
+    let at-past-blank = at-seat-here2 .before in
+    let entry = at-past-blank .before .before .before .before in
     c .valued2 .ensures ∙ sym
-    (seat-step (c .before .before .before .before .before .before .before .args .card .now) (c .before .before .before .past-blank .result) (c .before .before .seat-here2 .result)
-    (c .before .before .seat-here2 .ensures) (c .before .if2 .taken))
-    ∙ past-step (c .before .before .before .before .before .before .before .args .card .now) (c .before .before .before .before .before .before .before .args .at)
-    (c .before .before .before .past-blank .ensures)
+    (seat-step (entry .args .card .now) (at-past-blank .past-blank .result) (at-seat-here2 .seat-here2 .result)
+    (at-seat-here2 .seat-here2 .ensures) (c .before .if2 .taken))
+    ∙ past-step (entry .args .card .now) (entry .args .at)
+    (at-past-blank .past-blank .ensures)
 
 step-opening-requires : tie.Need-step-opening-requires
 step-opening-requires c κs = search needs
 
 returns-3 : tie.Need-returns-3
-returns-3 c = c .step-opening .ensures ∙ past-step (c .before .before .before .before .before .before .before .args .card .now) (c .before .before .before .before .before .before .before .args .at) (c .before .before .before .past-blank .ensures)
+returns-3 c =
+    let at-past-blank = c .before .before .before in
+    let entry = at-past-blank .before .before .before .before in
+    c .step-opening .ensures ∙ past-step (entry .args .card .now) (entry .args .at) (at-past-blank .past-blank .ensures)
 
 pub step-inner-spec : {M : Type 1} → statement M
 step-inner-spec =

@@ -31,11 +31,13 @@ bare-requires c κs = search needs
 
 returns : tie.Need-returns
 returns c =
+    let at-past-line = c .before .before .before .before in
+    let entry = at-past-line .before .before in
     c .bare .ensures ∙ sym
-    (keyword-step (c .before .before .before .before .before .before .args .card .now) (c .before .before .before .before .past-line .result) 109 (bytes "odule")
+    (keyword-step (entry .args .card .now) (at-past-line .past-line .result) 109 (bytes "odule")
     (sym (c .before .before .word-here .ensures) ∙ c .before .if1 .taken) refl refl)
-    ∙ past-line-step (c .before .before .before .before .before .before .args .card .now) (c .before .before .before .before .before .before .args .at)
-    (c .before .before .before .before .past-line .ensures)
+    ∙ past-line-step (entry .args .card .now) (entry .args .at)
+    (at-past-line .past-line .ensures)
 
 step-from-requires : tie.Need-step-from-requires
 step-from-requires c κs = search needs

@@ -22,7 +22,10 @@ valued-requires : tie.Need-valued-requires
 valued-requires c κs = search needs
 
 returns : tie.Need-returns
-returns c = c .valued .ensures ∙ sym (digit-step (c .before .before .before .before .args .card .now) (c .before .before .before .before .args .at) (c .before .before .digit-here .result) (c .before .before .digit-here .ensures) (c .before .if1 .taken))
+returns c =
+    let at-digit-here = c .before .before in
+    let entry = at-digit-here .before .before in
+    c .valued .ensures ∙ sym (digit-step (entry .args .card .now) (entry .args .at) (at-digit-here .digit-here .result) (at-digit-here .digit-here .ensures) (c .before .if1 .taken))
 
 past-blank-requires : tie.Need-past-blank-requires
 past-blank-requires c κs = search needs
@@ -38,17 +41,23 @@ valued-requires-2 c κs = search needs
 
 returns-2 : tie.Need-returns-2
 returns-2 c =
+    let at-digit-here2 = c .before .before in
+    let at-past-blank = at-digit-here2 .before in
+    let entry = at-past-blank .before .before .before .before in
     c .valued2 .ensures ∙ sym
-    (digit-step (c .before .before .before .before .before .before .before .args .card .now) (c .before .before .before .past-blank .result) (c .before .before .digit-here2 .result)
-    (c .before .before .digit-here2 .ensures) (c .before .if2 .taken))
-    ∙ past-step (c .before .before .before .before .before .before .before .args .card .now) (c .before .before .before .before .before .before .before .args .at)
-    (c .before .before .before .past-blank .ensures)
+    (digit-step (entry .args .card .now) (at-past-blank .past-blank .result) (at-digit-here2 .digit-here2 .result)
+    (at-digit-here2 .digit-here2 .ensures) (c .before .if2 .taken))
+    ∙ past-step (entry .args .card .now) (entry .args .at)
+    (at-past-blank .past-blank .ensures)
 
 step-from-requires : tie.Need-step-from-requires
 step-from-requires c κs = search needs
 
 returns-3 : tie.Need-returns-3
-returns-3 c = c .step-from .ensures ∙ past-step (c .before .before .before .before .before .before .before .args .card .now) (c .before .before .before .before .before .before .before .args .at) (c .before .before .before .past-blank .ensures)
+returns-3 c =
+    let at-past-blank = c .before .before .before in
+    let entry = at-past-blank .before .before .before .before in
+    c .step-from .ensures ∙ past-step (entry .args .card .now) (entry .args .at) (at-past-blank .past-blank .ensures)
 
 pub step-number-spec : {M : Type 1} → statement M
 step-number-spec =

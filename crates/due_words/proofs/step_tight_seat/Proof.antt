@@ -22,7 +22,10 @@ valued-requires : tie.Need-valued-requires
 valued-requires c κs = search needs
 
 returns : tie.Need-returns
-returns c = c .valued .ensures ∙ sym (seat-step (c .before .before .before .before .args .card .now) (c .before .before .before .before .args .at) (c .before .before .seat-here .result) (c .before .before .seat-here .ensures) (c .before .if1 .taken))
+returns c =
+    let at-seat-here = c .before .before in
+    let entry = at-seat-here .before .before in
+    c .valued .ensures ∙ sym (seat-step (entry .args .card .now) (entry .args .at) (at-seat-here .seat-here .result) (at-seat-here .seat-here .ensures) (c .before .if1 .taken))
 
 teen-here-requires : tie.Need-teen-here-requires
 teen-here-requires c κs = search needs
@@ -31,13 +34,19 @@ add-valued-2 : tie.Need-add-valued-2
 add-valued-2 c = search needs
 
 add-valued-3 : tie.Need-add-valued-3
-add-valued-3 c = omega (arith, teen-room (c .before .before .before .before .before .args .card .now) (c .before .before .before .before .before .args .at) (c .before .teen-here .result) (c .before .teen-here .ensures) (c .if2 .taken))
+add-valued-3 c =
+    let at-teen-here = c .before in
+    let entry = at-teen-here .before .before .before .before in
+    omega (arith, teen-room (entry .args .card .now) (entry .args .at) (at-teen-here .teen-here .result) (at-teen-here .teen-here .ensures) (c .if2 .taken))
 
 valued-requires-2 : tie.Need-valued-requires-2
 valued-requires-2 c κs = search needs
 
 returns-2 : tie.Need-returns-2
-returns-2 c = c .valued2 .ensures ∙ sym (teen-step (c .before .before .before .before .before .before .args .card .now) (c .before .before .before .before .before .before .args .at) (c .before .before .teen-here .result) (c .before .before .teen-here .ensures) (c .before .if2 .taken))
+returns-2 c =
+    let at-teen-here = c .before .before in
+    let entry = at-teen-here .before .before .before .before in
+    c .valued2 .ensures ∙ sym (teen-step (entry .args .card .now) (entry .args .at) (at-teen-here .teen-here .result) (at-teen-here .teen-here .ensures) (c .before .if2 .taken))
 
 step-from-requires : tie.Need-step-from-requires
 step-from-requires c κs = search needs

@@ -42,7 +42,9 @@ loop-holds c =
     let at-if1 = at-step-joint .before in
     let at-literal = at-if1 .before .before in
     let entry = at-literal .before .before in
-    begins (now (entry .args .part)) (entry .args .at) (entry .args .seat) (at-literal .literal .result) _ (at-joint .joint .result) (at-joint .joint .ensures) (at-literal .literal .ensures) (at-if1 .if1 .left) (at-step-joint .step-joint .result) (at-step-joint .step-joint .ensures) refl _ (c .note .ensures)
+    begins (now (entry .args .part)) (entry .args .at) (entry .args .seat)
+    (at-literal .literal .result) _ (at-joint .joint .result) (at-joint .joint .ensures)
+    (at-literal .literal .ensures) (at-if1 .if1 .left) (at-step-joint .step-joint .result) (at-step-joint .step-joint .ensures) refl _ (c .note .ensures)
 
 step-seat-requires : tie.Need-step-seat-requires Inv-loop μ-loop
 step-seat-requires c κs = tt
@@ -58,7 +60,11 @@ returns-2 c =
     let at-joint = at-loop .before .before .before in
     let at-literal = at-joint .before .before .before .before .before in
     let entry = at-literal .before .before in
-    rw (c .no-group2 .ensures) (turn-word (now (entry .args .part)) (entry .args .at) (entry .args .seat) (at-literal .literal .result) _ (at-joint .joint .result) (at-joint .joint .ensures) (at-loop .loop .seen) (at-loop .loop .count) (at-loop .loop .alike) (at-loop .loop .ahead) (at-loop .loop .inv) (at-if2 .if2 .taken) (at-step-seat .step-seat .result) (at-step-seat .step-seat .ensures) (c .before .if3 .taken))
+    rw (c .no-group2 .ensures)
+    (turn-word (now (entry .args .part)) (entry .args .at) (entry .args .seat)
+    (at-literal .literal .result) _ (at-joint .joint .result) (at-joint .joint .ensures)
+    (at-loop .loop .seen) (at-loop .loop .count) (at-loop .loop .alike) (at-loop .loop .ahead) (at-loop .loop .inv)
+    (at-if2 .if2 .taken) (at-step-seat .step-seat .result) (at-step-seat .step-seat .ensures) (c .before .if3 .taken))
 
 literal-requires-2 : tie.Need-literal-requires-2 Inv-loop μ-loop
 literal-requires-2 c κs = tt
@@ -76,7 +82,12 @@ returns-3 c =
     let at-joint = at-loop .before .before .before in
     let at-literal = at-joint .before .before .before .before .before in
     let entry = at-literal .before .before in
-    rw (c .no-group3 .ensures) (turn-literal (now (entry .args .part)) (entry .args .at) (entry .args .seat) (at-literal .literal .result) _ (at-joint .joint .result) (at-joint .joint .ensures) (at-loop .loop .seen) (at-loop .loop .count) (at-loop .loop .alike) (at-loop .loop .ahead) (at-loop .loop .inv) (at-if2 .if2 .taken) (at-step-seat .step-seat .result) (at-step-seat .step-seat .ensures) (at-if3 .if3 .left) (at-literal2 .literal2 .result) (at-literal2 .literal2 .ensures) (c .before .if4 .taken))
+    rw (c .no-group3 .ensures)
+    (turn-literal (now (entry .args .part)) (entry .args .at) (entry .args .seat)
+    (at-literal .literal .result) _ (at-joint .joint .result) (at-joint .joint .ensures)
+    (at-loop .loop .seen) (at-loop .loop .count) (at-loop .loop .alike) (at-loop .loop .ahead) (at-loop .loop .inv)
+    (at-if2 .if2 .taken) (at-step-seat .step-seat .result) (at-step-seat .step-seat .ensures)
+    (at-if3 .if3 .left) (at-literal2 .literal2 .result) (at-literal2 .literal2 .ensures) (c .before .if4 .taken))
 
 note-requires-2 : tie.Need-note-requires-2 Inv-loop μ-loop
 note-requires-2 c κs = tt
@@ -101,7 +112,12 @@ loop-less c =
     let at-joint = at-loop .before .before .before in
     let at-literal = at-joint .before .before .before .before .before in
     let entry = at-literal .before .before in
-    turn-less (now (entry .args .part)) (entry .args .at) (entry .args .seat) (at-literal .literal .result) _ (at-joint .joint .result) (at-joint .joint .ensures) (at-loop .loop .seen) (at-loop .loop .count) (at-loop .loop .alike) (at-loop .loop .ahead) (at-loop .loop .inv) (at-if2 .if2 .taken) (at-step-seat .step-seat .result) (at-step-seat .step-seat .ensures) (at-if3 .if3 .left) (at-literal2 .literal2 .result) (at-literal2 .literal2 .ensures) (at-if4 .if4 .left) (c .step-closing .result) (c .step-closing .ensures)
+    turn-less (now (entry .args .part)) (entry .args .at) (entry .args .seat)
+    (at-literal .literal .result) _ (at-joint .joint .result) (at-joint .joint .ensures)
+    (at-loop .loop .seen) (at-loop .loop .count) (at-loop .loop .alike) (at-loop .loop .ahead) (at-loop .loop .inv)
+    (at-if2 .if2 .taken) (at-step-seat .step-seat .result) (at-step-seat .step-seat .ensures)
+    (at-if3 .if3 .left) (at-literal2 .literal2 .result) (at-literal2 .literal2 .ensures)
+    (at-if4 .if4 .left) (c .step-closing .result) (c .step-closing .ensures)
 
 loop-again : tie.Need-loop-again Inv-loop μ-loop
 loop-again c =
@@ -116,7 +132,14 @@ loop-again c =
     let at-joint = at-loop .before .before .before in
     let at-literal = at-joint .before .before .before .before .before in
     let entry = at-literal .before .before in
-    turn-on (now (entry .args .part)) (entry .args .at) (entry .args .seat) (at-literal .literal .result) _ (at-joint .joint .result) (at-joint .joint .ensures) (at-loop .loop .seen) (at-loop .loop .count) (at-loop .loop .alike) (at-loop .loop .ahead) (at-loop .loop .inv) (at-if2 .if2 .taken) (at-step-seat .step-seat .result) (at-step-seat .step-seat .ensures) (at-if3 .if3 .left) (at-literal2 .literal2 .result) (at-literal2 .literal2 .ensures) (at-if4 .if4 .left) (c .step-closing .result) (c .step-closing .ensures) (at-note2 .note2 .last .0) (at-note2 .note2 .ensures) (at-one-more .one-more .result) (at-one-more .one-more .ensures) (c .before .same .result) (c .before .same .ensures)
+    turn-on (now (entry .args .part)) (entry .args .at) (entry .args .seat)
+    (at-literal .literal .result) _ (at-joint .joint .result) (at-joint .joint .ensures)
+    (at-loop .loop .seen) (at-loop .loop .count) (at-loop .loop .alike) (at-loop .loop .ahead) (at-loop .loop .inv)
+    (at-if2 .if2 .taken) (at-step-seat .step-seat .result) (at-step-seat .step-seat .ensures)
+    (at-if3 .if3 .left) (at-literal2 .literal2 .result) (at-literal2 .literal2 .ensures)
+    (at-if4 .if4 .left) (c .step-closing .result) (c .step-closing .ensures)
+    (at-note2 .note2 .last .0) (at-note2 .note2 .ensures) (at-one-more .one-more .result) (at-one-more .one-more .ensures)
+    (c .before .same .result) (c .before .same .ensures)
 
 no-group-requires-4 : tie.Need-no-group-requires-4 Inv-loop μ-loop
 no-group-requires-4 c κs = tt
@@ -128,7 +151,11 @@ returns-4 c =
     let at-joint = at-loop .before .before .before in
     let at-literal = at-joint .before .before .before .before .before in
     let entry = at-literal .before .before in
-    rw (c .no-group4 .ensures) (ends-open (now (entry .args .part)) (entry .args .at) (entry .args .seat) (at-literal .literal .result) _ (at-joint .joint .result) (at-joint .joint .ensures) (at-loop .loop .seen) (at-loop .loop .count) (at-loop .loop .alike) (at-loop .loop .ahead) (at-loop .loop .inv) (at-if2 .if2 .left) (c .before .if5 .taken))
+    rw (c .no-group4 .ensures)
+    (ends-open (now (entry .args .part)) (entry .args .at) (entry .args .seat)
+    (at-literal .literal .result) _ (at-joint .joint .result) (at-joint .joint .ensures)
+    (at-loop .loop .seen) (at-loop .loop .count) (at-loop .loop .alike) (at-loop .loop .ahead) (at-loop .loop .inv)
+    (at-if2 .if2 .left) (c .before .if5 .taken))
 
 kind-requires : tie.Need-kind-requires Inv-loop μ-loop
 kind-requires c κs = tt
@@ -152,7 +179,12 @@ returns-5 c =
     let at-joint = at-loop .before .before .before in
     let at-literal = at-joint .before .before .before .before .before in
     let entry = at-literal .before .before in
-    ends-closed (now (entry .args .part)) (entry .args .at) (entry .args .seat) (at-literal .literal .result) _ (at-joint .joint .result) (at-joint .joint .ensures) (at-loop .loop .seen) (at-loop .loop .count) (at-loop .loop .alike) (at-loop .loop .ahead) (at-loop .loop .inv) (at-if2 .if2 .left) (at-if5 .if5 .left) (c .before .want .result) (c .pack-group .result) (at-kind .kind .result) (at-sign .sign .result) (c .before .want .ensures) (at-kind .kind .ensures) (at-sign .sign .ensures) (c .pack-group .ensures)
+    ends-closed (now (entry .args .part)) (entry .args .at) (entry .args .seat)
+    (at-literal .literal .result) _ (at-joint .joint .result) (at-joint .joint .ensures)
+    (at-loop .loop .seen) (at-loop .loop .count) (at-loop .loop .alike) (at-loop .loop .ahead) (at-loop .loop .inv)
+    (at-if2 .if2 .left) (at-if5 .if5 .left)
+    (c .before .want .result) (c .pack-group .result) (at-kind .kind .result) (at-sign .sign .result)
+    (c .before .want .ensures) (at-kind .kind .ensures) (at-sign .sign .ensures) (c .pack-group .ensures)
 
 pub group-spec : {M : Type 1} → statement M
 group-spec =

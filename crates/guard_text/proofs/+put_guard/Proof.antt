@@ -37,7 +37,32 @@ put-guard-below t =
     and 2 put-guard-kinds.ps (falls 2 put-guard-kinds.ps _<_ μ-put-guard t) put-guard.Pre
 
 abbrev put-guard-R : ℕ → put-guard-lts.Claims
-put-guard-R t = (number-at-reads.Asked, number-at-reads.Learnt, operator-at-reads.Asked, operator-at-reads.Learnt, put-leaf-reads.Asked, put-leaf-reads.Learnt, left-of-reads.Asked, left-of-reads.Learnt, put-byte-reads.Asked, put-byte-reads.Learnt, put-guard-below t, put-guard.Post, right-of-reads.Asked, right-of-reads.Learnt, sign-between-reads.Asked, sign-between-reads.Learnt, joint-of-reads.Asked, joint-of-reads.Learnt, bracket-level-reads.Asked, bracket-level-reads.Learnt, put-bracket-reads.Asked, put-bracket-reads.Learnt, put-three-reads.Asked, put-three-reads.Learnt)
+put-guard-R t = (
+  number-at-reads.Asked,
+  number-at-reads.Learnt,
+  operator-at-reads.Asked,
+  operator-at-reads.Learnt,
+  put-leaf-reads.Asked,
+  put-leaf-reads.Learnt,
+  left-of-reads.Asked,
+  left-of-reads.Learnt,
+  put-byte-reads.Asked,
+  put-byte-reads.Learnt,
+  put-guard-below t,
+  put-guard.Post,
+  right-of-reads.Asked,
+  right-of-reads.Learnt,
+  sign-between-reads.Asked,
+  sign-between-reads.Learnt,
+  joint-of-reads.Asked,
+  joint-of-reads.Learnt,
+  bracket-level-reads.Asked,
+  bracket-level-reads.Learnt,
+  put-bracket-reads.Asked,
+  put-bracket-reads.Learnt,
+  put-three-reads.Asked,
+  put-three-reads.Learnt,
+)
 
 put-guard-number-at-requires : (t : ℕ) → put-guard-lts.Need-number-at-requires (put-guard-R t) (put-guard-at t) put-guard.Post
 put-guard-number-at-requires t c κs = search needs
@@ -53,8 +78,13 @@ put-guard-same-length t c = search needs
 
 put-guard-returns : (t : ℕ) → put-guard-lts.Need-returns (put-guard-R t) (put-guard-at t) put-guard.Post
 put-guard-returns t c =
-    let a = c .before .before .before .before .before .before .before .before .before .args in
-    puts-as _ (text-at-leaf (a .text) (leafText (styleOf (a .text) (a .own) (a .seats) 1)) (a .level) (a .nodes .now) (a .n) (c .before .before .before .before .before .before .number-at .result) (c .before .before .before .before .before .before .number-at .ensures) (c .before .before .before .before .before .operator-at .ensures) (c .before .before .before .before .if1 .taken)) (c .before .before .put-leaf .ensures)
+    let at-if1 = c .before .before .before .before in
+    let at-operator-at = at-if1 .before in
+    let at-number-at = at-operator-at .before in
+    let a = at-number-at .before .before .before .args in
+    let leaf = leafText (styleOf (a .text) (a .own) (a .seats) 1) in
+    puts-as _ (text-at-leaf (a .text) leaf (a .level) (a .nodes .now) (a .n) (at-number-at .number-at .result) (at-number-at .number-at .ensures) (at-operator-at .operator-at .ensures) (at-if1 .if1 .taken))
+    (c .before .before .put-leaf .ensures)
 
 put-guard-left-of-requires : (t : ℕ) → put-guard-lts.Need-left-of-requires (put-guard-R t) (put-guard-at t) put-guard.Post
 put-guard-left-of-requires t c κs = search needs
@@ -64,30 +94,32 @@ put-guard-put-byte-requires t c κs = search needs
 
 put-guard-put-guard-requires : (t : ℕ) → put-guard-lts.Need-put-guard-requires (put-guard-R t) (put-guard-at t) put-guard.Post
 put-guard-put-guard-requires t c κs =
-    let b6 = c .before .before .before .before .before .before in
-    let b7 = b6 .before in
-    let b8 = b7 .before in
-    let b9 = b8 .before in
-    let b12 = b9 .before .before .before in
-    omega (arith, b6 .left-of .ensures .1 (joined-above (b12 .args .n) (b9 .number-at .result) (b8 .operator-at .ensures) (b7 .if1 .left)), b12 .pre)
+    let at-left-of = c .before .before .before .before .before .before in
+    let at-if1 = at-left-of .before in
+    let at-operator-at = at-if1 .before in
+    let at-number-at = at-operator-at .before in
+    let entry = at-number-at .before .before .before in
+    omega (arith, at-left-of .left-of .ensures .1 (joined-above (entry .args .n) (at-number-at .number-at .result) (at-operator-at .operator-at .ensures) (at-if1 .if1 .left)), entry .pre)
 
 put-guard-same-length-2 : (t : ℕ) → put-guard-lts.Need-same-length-2 (put-guard-R t) (put-guard-at t) put-guard.Post
 put-guard-same-length-2 t c = search needs
 
 put-guard-returns-2 : (t : ℕ) → put-guard-lts.Need-returns-2 (put-guard-R t) (put-guard-at t) put-guard.Post
 put-guard-returns-2 t c =
-    let b2 = c .before .before in
-    let b6 = b2 .before .before .before .before in
-    let b8 = b6 .before .before in
-    let b9 = b8 .before in
-    let b10 = b9 .before in
-    let b11 = b10 .before in
-    let b12 = b11 .before in
-    let b15 = b12 .before .before .before in
-    let a = b15 .args in
-    let op = b11 .operator-at .ensures in
-    puts-as _ (text-not (a .text) (leafText (styleOf (a .text) (a .own) (a .seats) 1)) (a .level) (a .nodes .now) (a .n) (b12 .number-at .result) (b12 .number-at .ensures) (joined-op (a .n) (b12 .number-at .result) op (b10 .if1 .left)) (joined-above (a .n) (b12 .number-at .result) op (b10 .if1 .left)) (b9 .left-of .ensures .0) (b8 .if2 .taken))
-    (puts-then (put-first (b6 .put-byte .ensures)) (b2 .put-guard .ensures))
+    let at-put-guard = c .before .before in
+    let at-put-byte = at-put-guard .before .before .before .before in
+    let at-if2 = at-put-byte .before .before in
+    let at-left-of = at-if2 .before in
+    let at-if1 = at-left-of .before in
+    let at-operator-at = at-if1 .before in
+    let at-number-at = at-operator-at .before in
+    let a = at-number-at .before .before .before .args in
+    let leaf = leafText (styleOf (a .text) (a .own) (a .seats) 1) in
+    let number = at-number-at .number-at .result in
+    let op = at-operator-at .operator-at .ensures in
+    let joins = at-if1 .if1 .left in
+    puts-as _ (text-not (a .text) leaf (a .level) (a .nodes .now) (a .n) number (at-number-at .number-at .ensures) (joined-op (a .n) number op joins) (joined-above (a .n) number op joins) (at-left-of .left-of .ensures .0) (at-if2 .if2 .taken))
+    (puts-then (put-first (at-put-byte .put-byte .ensures)) (at-put-guard .put-guard .ensures))
 
 put-guard-right-of-requires : (t : ℕ) → put-guard-lts.Need-right-of-requires (put-guard-R t) (put-guard-at t) put-guard.Post
 put-guard-right-of-requires t c κs = search needs
@@ -112,24 +144,24 @@ put-guard-sub-put-guard t c = search needs
 
 put-guard-put-guard-requires-2 : (t : ℕ) → put-guard-lts.Need-put-guard-requires-2 (put-guard-R t) (put-guard-at t) put-guard.Post
 put-guard-put-guard-requires-2 t c κs =
-    let b10 = c .before .before .before .before .before .before .before .before .before .before in
-    let b11 = b10 .before in
-    let b12 = b11 .before in
-    let b13 = b12 .before in
-    let b16 = b13 .before .before .before in
-    omega (arith, b10 .left-of .ensures .1 (joined-above (b16 .args .n) (b13 .number-at .result) (b12 .operator-at .ensures) (b11 .if1 .left)), b16 .pre)
+    let at-left-of = c .before .before .before .before .before .before .before .before .before .before in
+    let at-if1 = at-left-of .before in
+    let at-operator-at = at-if1 .before in
+    let at-number-at = at-operator-at .before in
+    let entry = at-number-at .before .before .before in
+    omega (arith, at-left-of .left-of .ensures .1 (joined-above (entry .args .n) (at-number-at .number-at .result) (at-operator-at .operator-at .ensures) (at-if1 .if1 .left)), entry .pre)
 
 put-guard-put-three-requires : (t : ℕ) → put-guard-lts.Need-put-three-requires (put-guard-R t) (put-guard-at t) put-guard.Post
 put-guard-put-three-requires t c κs = search needs
 
 put-guard-put-guard-requires-3 : (t : ℕ) → put-guard-lts.Need-put-guard-requires-3 (put-guard-R t) (put-guard-at t) put-guard.Post
 put-guard-put-guard-requires-3 t c κs =
-    let b16 = c .before .before .before .before .before .before .before .before .before .before .before .before .before .before .before .before in
-    let b19 = b16 .before .before .before in
-    let b20 = b19 .before in
-    let b21 = b20 .before in
-    let b24 = b21 .before .before .before in
-    omega (arith, b16 .right-of .ensures .1 (joined-above (b24 .args .n) (b21 .number-at .result) (b20 .operator-at .ensures) (b19 .if1 .left)), b24 .pre)
+    let at-right-of = c .before .before .before .before .before .before .before .before .before .before .before .before .before .before .before .before in
+    let at-if1 = at-right-of .before .before .before in
+    let at-operator-at = at-if1 .before in
+    let at-number-at = at-operator-at .before in
+    let entry = at-number-at .before .before .before in
+    omega (arith, at-right-of .right-of .ensures .1 (joined-above (entry .args .n) (at-number-at .number-at .result) (at-operator-at .operator-at .ensures) (at-if1 .if1 .left)), entry .pre)
 
 put-guard-put-bracket-requires-2 : (t : ℕ) → put-guard-lts.Need-put-bracket-requires-2 (put-guard-R t) (put-guard-at t) put-guard.Post
 put-guard-put-bracket-requires-2 t c κs = search needs
@@ -139,26 +171,29 @@ put-guard-same-length-3 t c = search needs
 
 put-guard-returns-3 : (t : ℕ) → put-guard-lts.Need-returns-3 (put-guard-R t) (put-guard-at t) put-guard.Post
 put-guard-returns-3 t c =
-    let b2 = c .before .before in
-    let b6 = b2 .before .before .before .before in
-    let b10 = b6 .before .before .before .before in
-    let b14 = b10 .before .before .before .before in
-    let b18 = b14 .before .before .before .before in
-    let b20 = b18 .before .before in
-    let b21 = b20 .before in
-    let b22 = b21 .before in
-    let b23 = b22 .before in
-    let b24 = b23 .before in
-    let b25 = b24 .before in
-    let b26 = b25 .before in
-    let b27 = b26 .before in
-    let b28 = b27 .before in
-    let b31 = b28 .before .before .before in
-    let a = b31 .args in
-    let op = b27 .operator-at .ensures in
-    puts-as _ (text-joined (a .text) (leafText (styleOf (a .text) (a .own) (a .seats) 1)) (a .level) (a .nodes .now) (a .n) (b28 .number-at .result) (b28 .number-at .ensures) (joined-op (a .n) (b28 .number-at .result) op (b26 .if1 .left)) (joined-above (a .n) (b28 .number-at .result) op (b26 .if1 .left)) (b25 .left-of .ensures .0) (b20 .bracket-level .ensures) (b23 .right-of .ensures .0) (b26 .if1 .left) (b24 .if2 .left) (b22 .sign-between .ensures .0))
-    (puts-then (b18 .put-bracket .ensures) (puts-then (b14 .put-guard2 .ensures)
-    (puts-then (puts-as _ (sign-bytes (b22 .sign-between .result) (b21 .joint-of .ensures)) (put-first (b10 .put-three .ensures))) (puts-then (b6 .put-guard3 .ensures) (b2 .put-bracket2 .ensures)))))
+    let at-put-bracket2 = c .before .before in
+    let at-put-guard3 = at-put-bracket2 .before .before .before .before in
+    let at-put-three = at-put-guard3 .before .before .before .before in
+    let at-put-guard2 = at-put-three .before .before .before .before in
+    let at-put-bracket = at-put-guard2 .before .before .before .before in
+    let at-bracket-level = at-put-bracket .before .before in
+    let at-joint-of = at-bracket-level .before in
+    let at-sign-between = at-joint-of .before in
+    let at-right-of = at-sign-between .before in
+    let at-if2 = at-right-of .before in
+    let at-left-of = at-if2 .before in
+    let at-if1 = at-left-of .before in
+    let at-operator-at = at-if1 .before in
+    let at-number-at = at-operator-at .before in
+    let a = at-number-at .before .before .before .args in
+    let leaf = leafText (styleOf (a .text) (a .own) (a .seats) 1) in
+    let number = at-number-at .number-at .result in
+    let op = at-operator-at .operator-at .ensures in
+    let joins = at-if1 .if1 .left in
+    puts-as _ (text-joined (a .text) leaf (a .level) (a .nodes .now) (a .n) number (at-number-at .number-at .ensures) (joined-op (a .n) number op joins) (joined-above (a .n) number op joins)
+    (at-left-of .left-of .ensures .0) (at-bracket-level .bracket-level .ensures) (at-right-of .right-of .ensures .0) joins (at-if2 .if2 .left) (at-sign-between .sign-between .ensures .0))
+    (puts-then (at-put-bracket .put-bracket .ensures) (puts-then (at-put-guard2 .put-guard2 .ensures)
+    (puts-then (puts-as _ (sign-bytes (at-sign-between .sign-between .result) (at-joint-of .joint-of .ensures)) (put-first (at-put-three .put-three .ensures))) (puts-then (at-put-guard3 .put-guard3 .ensures) (at-put-bracket2 .put-bracket2 .ensures)))))
 
 pub +put-guard-spec : {M : Type 1} → statement M
 +put-guard-spec = close μ-put-guard λ t. put-guard-lts.spec (put-guard-R t)

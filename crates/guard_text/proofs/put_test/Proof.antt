@@ -32,8 +32,10 @@ same-length c = search needs
 
 returns-2 : tie.Need-returns-2
 returns-2 c =
-    let a = c .before .before .before .before .before .before .before .before .before .before .args in
-    puts-as _ (test-some (bracketsOf (a .style)) (leafText (a .style)) (a .nodes .now) (a .from) (a .count) _ (c .before .before .before .before .before .before .before .before .if1 .left) (omega arith)) (puts-then (put-first (c .before .before .before .before .before .before .put-three .ensures)) (c .before .before .put-guard .ensures))
+    let at-put-three = c .before .before .before .before .before .before in
+    let at-if1 = at-put-three .before .before in
+    let a = at-if1 .before .before .args in
+    puts-as _ (test-some (bracketsOf (a .style)) (leafText (a .style)) (a .nodes .now) (a .from) (a .count) _ (at-if1 .if1 .left) (omega arith)) (puts-then (put-first (at-put-three .put-three .ensures)) (c .before .before .put-guard .ensures))
 
 pub put-test-spec : {M : Type 1} → statement M
 put-test-spec =

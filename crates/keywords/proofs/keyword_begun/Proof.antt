@@ -49,13 +49,19 @@ begins-at-requires-4 c κs = search needs
 
 returns-4 : tie.Need-returns-4
 returns-4 c =
+    let at-if3 = c .before .before .before in
+    let at-begins-at3 = at-if3 .before in
+    let at-if2 = at-begins-at3 .before .before in
+    let at-begins-at2 = at-if2 .before in
+    let at-if1 = at-begins-at2 .before .before in
+    let at-begins-at = at-if1 .before in
     rw (
-      ← c .before .before .before .before .before .before .before .before .before .before .begins-at .ensures,
-      c .before .before .before .before .before .before .before .before .before .if1 .left,
-      ← c .before .before .before .before .before .before .before .begins-at2 .ensures,
-      c .before .before .before .before .before .before .if2 .left,
-      ← c .before .before .before .before .begins-at3 .ensures,
-      c .before .before .before .if3 .left,
+      ← at-begins-at .begins-at .ensures,
+      at-if1 .if1 .left,
+      ← at-begins-at2 .begins-at2 .ensures,
+      at-if2 .if2 .left,
+      ← at-begins-at3 .begins-at3 .ensures,
+      at-if3 .if3 .left,
       ← c .before .begins-at4 .ensures,
       c .if4 .taken,
     )
@@ -68,30 +74,46 @@ begins-at-requires-5 c κs = search needs
 
 returns-5 : tie.Need-returns-5
 returns-5 c =
+    let at-if4 = c .before .before .before in
+    let at-begins-at4 = at-if4 .before in
+    let at-if3 = at-begins-at4 .before .before in
+    let at-begins-at3 = at-if3 .before in
+    let at-if2 = at-begins-at3 .before .before in
+    let at-begins-at2 = at-if2 .before in
+    let at-if1 = at-begins-at2 .before .before in
+    let at-begins-at = at-if1 .before in
     rw (
-      ← c .before .before .before .before .before .before .before .before .before .before .before .before .before .begins-at .ensures,
-      c .before .before .before .before .before .before .before .before .before .before .before .before .if1 .left,
-      ← c .before .before .before .before .before .before .before .before .before .before .begins-at2 .ensures,
-      c .before .before .before .before .before .before .before .before .before .if2 .left,
-      ← c .before .before .before .before .before .before .before .begins-at3 .ensures,
-      c .before .before .before .before .before .before .if3 .left,
-      ← c .before .before .before .before .begins-at4 .ensures,
-      c .before .before .before .if4 .left,
+      ← at-begins-at .begins-at .ensures,
+      at-if1 .if1 .left,
+      ← at-begins-at2 .begins-at2 .ensures,
+      at-if2 .if2 .left,
+      ← at-begins-at3 .begins-at3 .ensures,
+      at-if3 .if3 .left,
+      ← at-begins-at4 .begins-at4 .ensures,
+      at-if4 .if4 .left,
       ← c .before .begins-at5 .ensures,
       c .if5 .taken,
     )
 
 returns-6 : tie.Need-returns-6
 returns-6 c =
+    let at-if4 = c .before .before .before in
+    let at-begins-at4 = at-if4 .before in
+    let at-if3 = at-begins-at4 .before .before in
+    let at-begins-at3 = at-if3 .before in
+    let at-if2 = at-begins-at3 .before .before in
+    let at-begins-at2 = at-if2 .before in
+    let at-if1 = at-begins-at2 .before .before in
+    let at-begins-at = at-if1 .before in
     rw (
-      ← c .before .before .before .before .before .before .before .before .before .before .before .before .before .begins-at .ensures,
-      c .before .before .before .before .before .before .before .before .before .before .before .before .if1 .left,
-      ← c .before .before .before .before .before .before .before .before .before .before .begins-at2 .ensures,
-      c .before .before .before .before .before .before .before .before .before .if2 .left,
-      ← c .before .before .before .before .before .before .before .begins-at3 .ensures,
-      c .before .before .before .before .before .before .if3 .left,
-      ← c .before .before .before .before .begins-at4 .ensures,
-      c .before .before .before .if4 .left,
+      ← at-begins-at .begins-at .ensures,
+      at-if1 .if1 .left,
+      ← at-begins-at2 .begins-at2 .ensures,
+      at-if2 .if2 .left,
+      ← at-begins-at3 .begins-at3 .ensures,
+      at-if3 .if3 .left,
+      ← at-begins-at4 .begins-at4 .ensures,
+      at-if4 .if4 .left,
       ← c .before .begins-at5 .ensures,
       c .if5 .left,
     )

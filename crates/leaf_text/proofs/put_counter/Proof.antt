@@ -32,8 +32,12 @@ same-length c = search needs
 
 returns : tie.Need-returns
 returns c =
-    puts-as _ (counter-text _ _ _ (c .before .before .before .before .before .before .before .before .before .before .before .before .before .state-of .ensures .0) (omega (arith, c .before .before .before .before .before .before .before .before .before .before .before .before .before .state-of .ensures .1)) (c .before .before .before .before .before .before .before .before .before .before .before .before .bound-of .ensures))
-    (puts-then (put-first (c .before .before .before .before .before .before .before .before .before .before .put-six .ensures)) (puts-then (put-first (c .before .before .before .before .before .before .put-number .ensures)) (put-first (c .before .before .put-byte .ensures))))
+    let at-put-number = c .before .before .before .before .before .before in
+    let at-put-six = at-put-number .before .before .before .before in
+    let at-bound-of = at-put-six .before .before in
+    let at-state-of = at-bound-of .before in
+    puts-as _ (counter-text _ _ _ (at-state-of .state-of .ensures .0) (omega (arith, at-state-of .state-of .ensures .1)) (at-bound-of .bound-of .ensures))
+    (puts-then (put-first (at-put-six .put-six .ensures)) (puts-then (put-first (at-put-number .put-number .ensures)) (put-first (c .before .before .put-byte .ensures))))
 
 pub put-counter-spec : {M : Type 1} → statement M
 put-counter-spec =

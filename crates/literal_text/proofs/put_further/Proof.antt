@@ -32,8 +32,12 @@ same-length c = search needs
 
 returns : tie.Need-returns
 returns c =
-    let a = c .before .before .before .before .before .before .before .before .before .args in
-    puts-as _ (further-is (a .sign) (a .relation) (a .state) (a .seat) (c .before .before .before .before .before .before .before .if1 .taken) (decimal-one (a .seat) (c .before .before .before .before .before .if2 .taken)) (c .before .before .before .before .before .before .joint-of .ensures) (c .before .before .before .before .if3 .taken)) (put-first (c .before .before .put-seven .ensures))
+    let at-if3 = c .before .before .before .before in
+    let at-if2 = at-if3 .before in
+    let at-joint-of = at-if2 .before in
+    let at-if1 = at-joint-of .before in
+    let a = at-if1 .before .before .args in
+    puts-as _ (further-is (a .sign) (a .relation) (a .state) (a .seat) (at-if1 .if1 .taken) (decimal-one (a .seat) (at-if2 .if2 .taken)) (at-joint-of .joint-of .ensures) (at-if3 .if3 .taken)) (put-first (c .before .before .put-seven .ensures))
 
 put-eight-requires : tie.Need-put-eight-requires
 put-eight-requires c κs = search needs
@@ -43,8 +47,12 @@ same-length-2 c = search needs
 
 returns-2 : tie.Need-returns-2
 returns-2 c =
-    let a = c .before .before .before .before .before .before .before .before .before .args in
-    puts-as _ (further-isnt (a .sign) (a .relation) (a .state) (a .seat) (c .before .before .before .before .before .before .before .if1 .taken) (decimal-one (a .seat) (c .before .before .before .before .before .if2 .taken)) (c .before .before .before .before .before .before .joint-of .ensures) (c .before .before .before .before .if3 .left)) (put-first (c .before .before .put-eight .ensures))
+    let at-if3 = c .before .before .before .before in
+    let at-if2 = at-if3 .before in
+    let at-joint-of = at-if2 .before in
+    let at-if1 = at-joint-of .before in
+    let a = at-if1 .before .before .args in
+    puts-as _ (further-isnt (a .sign) (a .relation) (a .state) (a .seat) (at-if1 .if1 .taken) (decimal-one (a .seat) (at-if2 .if2 .taken)) (at-joint-of .joint-of .ensures) (at-if3 .if3 .left)) (put-first (c .before .before .put-eight .ensures))
 
 cast-i-2 : tie.Need-cast-i-2
 cast-i-2 c = search needs
@@ -60,8 +68,13 @@ same-length-3 c = search needs
 
 returns-3 : tie.Need-returns-3
 returns-3 c =
-    let a = c .before .before .before .before .before .before .before .before .before .before .args in
-    puts-as _ (further-is (a .sign) (a .relation) (a .state) (a .seat) (c .before .before .before .before .before .before .before .before .if1 .taken) (decimal-teen (a .seat) (c .before .before .before .before .before .before .if2 .left) (c .before .before .before .before .before .if4 .taken)) (c .before .before .before .before .before .before .before .joint-of .ensures) (c .before .before .before .before .if5 .taken)) (put-first (c .before .before .put-eight2 .ensures))
+    let at-if5 = c .before .before .before .before in
+    let at-if4 = at-if5 .before in
+    let at-if2 = at-if4 .before in
+    let at-joint-of = at-if2 .before in
+    let at-if1 = at-joint-of .before in
+    let a = at-if1 .before .before .args in
+    puts-as _ (further-is (a .sign) (a .relation) (a .state) (a .seat) (at-if1 .if1 .taken) (decimal-teen (a .seat) (at-if2 .if2 .left) (at-if4 .if4 .taken)) (at-joint-of .joint-of .ensures) (at-if5 .if5 .taken)) (put-first (c .before .before .put-eight2 .ensures))
 
 put-nine-requires : tie.Need-put-nine-requires
 put-nine-requires c κs = search needs
@@ -71,8 +84,13 @@ same-length-4 c = search needs
 
 returns-4 : tie.Need-returns-4
 returns-4 c =
-    let a = c .before .before .before .before .before .before .before .before .before .before .args in
-    puts-as _ (further-isnt (a .sign) (a .relation) (a .state) (a .seat) (c .before .before .before .before .before .before .before .before .if1 .taken) (decimal-teen (a .seat) (c .before .before .before .before .before .before .if2 .left) (c .before .before .before .before .before .if4 .taken)) (c .before .before .before .before .before .before .before .joint-of .ensures) (c .before .before .before .before .if5 .left)) (put-first (c .before .before .put-nine .ensures))
+    let at-if5 = c .before .before .before .before in
+    let at-if4 = at-if5 .before in
+    let at-if2 = at-if4 .before in
+    let at-joint-of = at-if2 .before in
+    let at-if1 = at-joint-of .before in
+    let a = at-if1 .before .before .args in
+    puts-as _ (further-isnt (a .sign) (a .relation) (a .state) (a .seat) (at-if1 .if1 .taken) (decimal-teen (a .seat) (at-if2 .if2 .left) (at-if4 .if4 .taken)) (at-joint-of .joint-of .ensures) (at-if5 .if5 .left)) (put-first (c .before .before .put-nine .ensures))
 
 slice-aggregate-put-either : tie.Need-slice-aggregate-put-either
 slice-aggregate-put-either c = search needs
@@ -91,7 +109,9 @@ same-length-5 c = search needs
 
 returns-5 : tie.Need-returns-5
 returns-5 c =
-    puts-then (puts-as _ (either-text all any signText (c .before .before .before .before .before .before .before .before .before .before .before .before .args .sign)) (c .before .before .before .before .before .before .put-either .ensures)) (c .before .before .put-literal .ensures)
+    let at-put-either = c .before .before .before .before .before .before in
+    let entry = at-put-either .before .before .before .before .before .before in
+    puts-then (puts-as _ (either-text all any signText (entry .args .sign)) (at-put-either .put-either .ensures)) (c .before .before .put-literal .ensures)
 
 pub put-further-spec : {M : Type 1} → statement M
 put-further-spec =

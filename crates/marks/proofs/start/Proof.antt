@@ -39,24 +39,29 @@ bare-requires c κs = search needs
 
 returns : tie.Need-returns
 returns c =
-    let b = c .before .before .before .before .before .args .b in
-    let i = c .before .before .before .before .before .args .at in
-    let y = sym (c .before .before .before .is-alone .ensures) ∙ c .before .before .if1 .taken in
+    let at-is-alone = c .before .before .before in
+    let entry = at-is-alone .before .before in
+    let b = entry .args .b in
+    let i = entry .args .at in
+    let y = sym (at-is-alone .is-alone .ensures) ∙ c .before .before .if1 .taken in
     λ k. c .bare .ensures ∙ ap (λ (v : ℕ). bareOf v i (i + 1)) (c .before .wide .ensures ∙ sym (sign-kind b (and-left (isSign b) (not (eqb b 33 || eqb b 47)) y))) ∙ sym
-    (alone-step b (drop (i + 1) (c .before .before .before .before .before .args .card .now)) i k y (c .before .before .before .before .before .pre .2))
+    (alone-step b (drop (i + 1) (entry .args .card .now)) i k y (entry .pre .2))
 
 is-digit-requires : tie.Need-is-digit-requires
 is-digit-requires c κs = search needs
 
 numeral-requires : tie.Need-numeral-requires
-numeral-requires c κs = (c .before .before .before .before .before .pre .0, ap isDigit (sym (c .before .before .before .before .before .pre .1)) ∙ sym (c .before .is-digit .ensures) ∙ c .if2 .taken)
+numeral-requires c κs =
+    let entry = c .before .before .before .before .before in
+    (entry .pre .0, ap isDigit (sym (entry .pre .1)) ∙ sym (c .before .is-digit .ensures) ∙ c .if2 .taken)
 
 returns-2 : tie.Need-returns-2
 returns-2 c =
-    let b = c .before .before .before .before .before .before .args .b in
-    let i = c .before .before .before .before .before .before .args .at in
-    let s = drop (i + 1) (c .before .before .before .before .before .before .args .card .now) in
-    λ k. c .numeral .ensures k ∙ ap (λ (x : ℕ). stepped i (numeral x s) k) (sym (c .before .before .before .before .before .before .pre .1)) ∙ ap
+    let entry = c .before .before .before .before .before .before in
+    let b = entry .args .b in
+    let i = entry .args .at in
+    let s = drop (i + 1) (entry .args .card .now) in
+    λ k. c .numeral .ensures k ∙ ap (λ (x : ℕ). stepped i (numeral x s) k) (sym (entry .pre .1)) ∙ ap
     (λ (x : Start). stepped i x k) (sym (digit-starts b s (sym (c .before .before .is-digit .ensures) ∙ c .before .if2 .taken)))
 
 is-letter-requires : tie.Need-is-letter-requires
@@ -71,10 +76,11 @@ word-requires c κs = (
 
 returns-3 : tie.Need-returns-3
 returns-3 c =
-    let b = c .before .before .before .before .before .before .before .before .args .b in
-    let i = c .before .before .before .before .before .before .before .before .args .at in
-    let s = drop (i + 1) (c .before .before .before .before .before .before .before .before .args .card .now) in
-    λ k. c .word .ensures k ∙ ap (λ (x : ℕ). stepped i (word x s) k) (sym (c .before .before .before .before .before .before .before .before .pre .1)) ∙ ap
+    let entry = c .before .before .before .before .before .before .before .before in
+    let b = entry .args .b in
+    let i = entry .args .at in
+    let s = drop (i + 1) (entry .args .card .now) in
+    λ k. c .word .ensures k ∙ ap (λ (x : ℕ). stepped i (word x s) k) (sym (entry .pre .1)) ∙ ap
     (λ (x : Start). stepped i x k) (sym (letter-starts b s (sym (c .before .before .is-letter .ensures) ∙ c .before .if3 .taken)))
 
 sign-requires : tie.Need-sign-requires
@@ -82,14 +88,17 @@ sign-requires c κs = search needs
 
 returns-4 : tie.Need-returns-4
 returns-4 c =
-    let b = c .before .before .before .before .before .before .before .before .args .b in
-    let i = c .before .before .before .before .before .before .before .before .args .at in
-    let s = drop (i + 1) (c .before .before .before .before .before .before .before .before .args .card .now) in
+    let at-if2 = c .before .before .before in
+    let at-is-digit = at-if2 .before in
+    let entry = at-is-digit .before .before .before .before in
+    let b = entry .args .b in
+    let i = entry .args .at in
+    let s = drop (i + 1) (entry .args .card .now) in
     λ k. c .sign .ensures k ∙ ap (λ (x : Start). stepped i x k)
     (sym
     (sign-starts b s (sym (c .before .before .is-letter .ensures) ∙ c .before .if3 .left)
-    (sym (c .before .before .before .before .is-digit .ensures) ∙ c .before .before .before .if2 .left)
-    (c .before .before .before .before .before .before .before .before .pre .2)))
+    (sym (at-is-digit .is-digit .ensures) ∙ at-if2 .if2 .left)
+    (entry .pre .2)))
 
 pub start-spec : {M : Type 1} → statement M
 start-spec =

@@ -100,7 +100,11 @@ returns-2 c =
     let at-units-to = at-put-line .before .before .before .before .before in
     let at-if1 = at-units-to .before .before .before .before in
     let start = at-if1 .before .before .before in
-    puts-as _ (choice-text (start .args .head .top) (start .args .i) _ _ _ (start .args .branches .now) (at-if1 .if1 .left) (start .pre .0 .top) (start .pre .0 .own (start .args .i) (start .pre .1)) (start .pre .0 .fit .each (start .args .i) (start .pre .1) .branches) refl refl refl (at-units-to .units-to .ensures)) (puts-then (at-put-line .put-line .ensures) (puts-then (at-put-stay .put-stay .ensures) (c .before .before .put-moves .ensures)))
+    let args = start .args in
+    let own = start .pre .0 .own (args .i) (start .pre .1) in
+    let branches = start .pre .0 .fit .each (args .i) (start .pre .1) .branches in
+    puts-as _ (choice-text (args .head .top) (args .i) _ _ _ (args .branches .now) (at-if1 .if1 .left) (start .pre .0 .top) own branches refl refl refl (at-units-to .units-to .ensures))
+    (puts-then (at-put-line .put-line .ensures) (puts-then (at-put-stay .put-stay .ensures) (c .before .before .put-moves .ensures)))
 
 pub put-choice-spec : {M : Type 1} → statement M
 put-choice-spec =

@@ -22,17 +22,21 @@ begins-at-requires c κs = search needs
 
 returns : tie.Need-returns
 returns c =
-    numbered-off (c .before .before .before .before .args .these .now) (c .before .before .before .before .args .card .now) (c .before .before .before .before .args .at)
-    (sym (c .before .begins-at .ensures) ∙ not-true (c .before .begins-at .result) (c .if1 .taken))
+    let at-begins-at = c .before in
+    let entry = at-begins-at .before .before .before in
+    numbered-off (entry .args .these .now) (entry .args .card .now) (entry .args .at)
+    (sym (at-begins-at .begins-at .ensures) ∙ not-true (at-begins-at .begins-at .result) (c .if1 .taken))
 
 add-from : tie.Need-add-from
 add-from c =
+    let at-begins-at = c .before in
+    let entry = at-begins-at .before .before .before in
     omega (
       arith,
-      begun-fits (c .before .before .before .before .args .these .now) (c .before .before .before .before .args .card .now)
-          (c .before .before .before .before .args .at) (c .before .before .before .before .pre .0)
-          (sym (c .before .begins-at .ensures) ∙ not-false (c .before .begins-at .result) (c .if1 .left)),
-      c .before .before .before .before .good .0,
+      begun-fits (entry .args .these .now) (entry .args .card .now)
+          (entry .args .at) (entry .pre .0)
+          (sym (at-begins-at .begins-at .ensures) ∙ not-false (at-begins-at .begins-at .result) (c .if1 .left)),
+      entry .good .0,
     )
 
 digits-from-requires : tie.Need-digits-from-requires
@@ -43,27 +47,35 @@ is-plain-requires c κs = c .digits-from .ensures .count-is
 
 returns-2 : tie.Need-returns-2
 returns-2 c =
-    numbered-unplain (c .before .before .before .before .before .before .before .args .these .now)
-    (c .before .before .before .before .before .before .before .args .card .now) (c .before .before .before .before .before .before .before .args .at)
-    (c .before .before .before .before .before .before .before .pre .1)
-    (sym (c .before .before .before .before .begins-at .ensures) ∙ not-false (c .before .before .before .before .begins-at .result)
-    (c .before .before .before .if1 .left))
-    (sym (c .before .is-plain .ensures) ∙ not-true (c .before .is-plain .result) (c .if2 .taken))
+    let at-is-plain = c .before in
+    let at-if1 = at-is-plain .before .before in
+    let at-begins-at = at-if1 .before in
+    let entry = at-begins-at .before .before .before in
+    numbered-unplain (entry .args .these .now)
+    (entry .args .card .now) (entry .args .at)
+    (entry .pre .1)
+    (sym (at-begins-at .begins-at .ensures) ∙ not-false (at-begins-at .begins-at .result)
+    (at-if1 .if1 .left))
+    (sym (at-is-plain .is-plain .ensures) ∙ not-true (at-is-plain .is-plain .result) (c .if2 .taken))
 
 add-word-at : tie.Need-add-word-at
 add-word-at c =
+    let at-digits-from = c .before .before in
+    let at-if1 = at-digits-from .before in
+    let at-begins-at = at-if1 .before in
+    let entry = at-begins-at .before .before .before in
     let behind =
-    begun-fits (c .before .before .before .before .before .before .before .args .these .now)
-    (c .before .before .before .before .before .before .before .args .card .now) (c .before .before .before .before .before .before .before .args .at)
-    (c .before .before .before .before .before .before .before .pre .0)
-    (sym (c .before .before .before .before .begins-at .ensures) ∙ not-false (c .before .before .before .before .begins-at .result)
-    (c .before .before .before .if1 .left)) in
+    begun-fits (entry .args .these .now)
+    (entry .args .card .now) (entry .args .at)
+    (entry .pre .0)
+    (sym (at-begins-at .begins-at .ensures) ∙ not-false (at-begins-at .begins-at .result)
+    (at-if1 .if1 .left)) in
     omega (
       arith,
-      counted-fits (c .before .before .before .before .before .before .before .args .card .now)
-          (c .before .before .before .before .before .before .before .args .at + length (c .before .before .before .before .before .before .before .args .these .now))
-          behind (c .before .before .digits-from .result) (c .before .before .digits-from .ensures),
-      c .before .before .before .before .before .before .before .good .0,
+      counted-fits (entry .args .card .now)
+          (entry .args .at + length (entry .args .these .now))
+          behind (at-digits-from .digits-from .result) (at-digits-from .digits-from .ensures),
+      entry .good .0,
     )
 
 word-at-requires : tie.Need-word-at-requires
@@ -71,42 +83,55 @@ word-at-requires c κs = search needs
 
 returns-3 : tie.Need-returns-3
 returns-3 c =
-    numbered-more (c .before .before .before .before .before .before .before .before .before .args .these .now)
-    (c .before .before .before .before .before .before .before .before .before .args .card .now)
-    (c .before .before .before .before .before .before .before .before .before .args .at)
-    (c .before .before .before .before .before .before .before .before .before .pre .1)
-    (sym (c .before .before .before .before .before .before .begins-at .ensures) ∙ not-false (c .before .before .before .before .before .before .begins-at .result)
-    (c .before .before .before .before .before .if1 .left))
-    (c .before .before .before .before .digits-from .result) (c .before .before .before .before .digits-from .ensures) (sym (c .before .word-at .ensures) ∙ c .if3 .taken)
+    let at-digits-from = c .before .before .before .before in
+    let at-if1 = at-digits-from .before in
+    let at-begins-at = at-if1 .before in
+    let entry = at-begins-at .before .before .before in
+    numbered-more (entry .args .these .now)
+    (entry .args .card .now)
+    (entry .args .at)
+    (entry .pre .1)
+    (sym (at-begins-at .begins-at .ensures) ∙ not-false (at-begins-at .begins-at .result)
+    (at-if1 .if1 .left))
+    (at-digits-from .digits-from .result) (at-digits-from .digits-from .ensures) (sym (c .before .word-at .ensures) ∙ c .if3 .taken)
 
 add-t11 : tie.Need-add-t11
 add-t11 c =
+    let at-digits-from = c .before .before .before .before in
+    let at-if1 = at-digits-from .before in
+    let at-begins-at = at-if1 .before in
+    let entry = at-begins-at .before .before .before in
     let behind =
-    begun-fits (c .before .before .before .before .before .before .before .before .before .args .these .now)
-    (c .before .before .before .before .before .before .before .before .before .args .card .now)
-    (c .before .before .before .before .before .before .before .before .before .args .at)
-    (c .before .before .before .before .before .before .before .before .before .pre .0)
-    (sym (c .before .before .before .before .before .before .begins-at .ensures) ∙ not-false (c .before .before .before .before .before .before .begins-at .result)
-    (c .before .before .before .before .before .if1 .left)) in
+    begun-fits (entry .args .these .now)
+    (entry .args .card .now)
+    (entry .args .at)
+    (entry .pre .0)
+    (sym (at-begins-at .begins-at .ensures) ∙ not-false (at-begins-at .begins-at .result)
+    (at-if1 .if1 .left)) in
     omega (
       arith,
-      counted-fits (c .before .before .before .before .before .before .before .before .before .args .card .now)
-          (c .before .before .before .before .before .before .before .before .before .args .at + length
-          (c .before .before .before .before .before .before .before .before .before .args .these .now))
-          behind (c .before .before .before .before .digits-from .result) (c .before .before .before .before .digits-from .ensures),
-      c .before .before .before .before .before .before .before .before .before .good .0,
+      counted-fits (entry .args .card .now)
+          (entry .args .at + length
+          (entry .args .these .now))
+          behind (at-digits-from .digits-from .result) (at-digits-from .digits-from .ensures),
+      entry .good .0,
     )
 
 returns-4 : tie.Need-returns-4
 returns-4 c =
-    numbered-yes (c .before .before .before .before .before .before .before .before .before .args .these .now)
-    (c .before .before .before .before .before .before .before .before .before .args .card .now)
-    (c .before .before .before .before .before .before .before .before .before .args .at)
-    (c .before .before .before .before .before .before .before .before .before .pre .1)
-    (sym (c .before .before .before .before .before .before .begins-at .ensures) ∙ not-false (c .before .before .before .before .before .before .begins-at .result)
-    (c .before .before .before .before .before .if1 .left))
-    (c .before .before .before .before .digits-from .result) (c .before .before .before .before .digits-from .ensures)
-    (sym (c .before .before .before .is-plain .ensures) ∙ not-false (c .before .before .before .is-plain .result) (c .before .before .if2 .left))
+    let at-is-plain = c .before .before .before in
+    let at-digits-from = at-is-plain .before in
+    let at-if1 = at-digits-from .before in
+    let at-begins-at = at-if1 .before in
+    let entry = at-begins-at .before .before .before in
+    numbered-yes (entry .args .these .now)
+    (entry .args .card .now)
+    (entry .args .at)
+    (entry .pre .1)
+    (sym (at-begins-at .begins-at .ensures) ∙ not-false (at-begins-at .begins-at .result)
+    (at-if1 .if1 .left))
+    (at-digits-from .digits-from .result) (at-digits-from .digits-from .ensures)
+    (sym (at-is-plain .is-plain .ensures) ∙ not-false (at-is-plain .is-plain .result) (c .before .before .if2 .left))
     (sym (c .before .word-at .ensures) ∙ c .if3 .left)
 
 pub numbered-at-spec : {M : Type 1} → statement M

@@ -20,7 +20,10 @@ same-length c = search needs
 
 returns : tie.Need-returns
 returns c =
-    puts-as _ (λ t. rw (eq-eqb _ 0 (c .before .before .before .before .before .if1 .taken), decimal-one (c .before .before .before .before .before .before .before .before .args .style .own) (c .before .before .before .before .if2 .taken))) (put-first (c .before .before .put-seven .ensures))
+    let at-if2 = c .before .before .before .before in
+    let at-if1 = at-if2 .before in
+    let entry = at-if1 .before .before .before in
+    puts-as _ (λ t. rw (eq-eqb _ 0 (at-if1 .if1 .taken), decimal-one (entry .args .style .own) (at-if2 .if2 .taken))) (put-first (c .before .before .put-seven .ensures))
 
 slice-aggregate-put-numbered : tie.Need-slice-aggregate-put-numbered
 slice-aggregate-put-numbered c = search needs
@@ -55,8 +58,13 @@ same-length-3 c = search needs
 
 returns-3 : tie.Need-returns-3
 returns-3 c =
-    puts-as _ (λ t. rw (ne-eqb _ 0 (c .before .before .before .before .before .before .before .before .before .before .before .before .before .if1 .left), decimal-one (c .before .before .before .before .before .before .before .before .before .before .before .before .before .before .before .before .args .style .own) (c .before .before .before .before .before .before .before .before .before .before .before .before .if3 .taken)))
-    (puts-then (put-first (c .before .before .before .before .before .before .before .before .before .before .put-nine .ensures)) (puts-then (put-first (c .before .before .before .before .before .before .put-number .ensures)) (put-first (c .before .before .put-byte .ensures))))
+    let at-put-number = c .before .before .before .before .before .before in
+    let at-put-nine = at-put-number .before .before .before .before in
+    let at-if3 = at-put-nine .before .before in
+    let at-if1 = at-if3 .before in
+    let entry = at-if1 .before .before .before in
+    puts-as _ (λ t. rw (ne-eqb _ 0 (at-if1 .if1 .left), decimal-one (entry .args .style .own) (at-if3 .if3 .taken)))
+    (puts-then (put-first (at-put-nine .put-nine .ensures)) (puts-then (put-first (at-put-number .put-number .ensures)) (put-first (c .before .before .put-byte .ensures))))
 
 slice-aggregate-put-numbered-2 : tie.Need-slice-aggregate-put-numbered-2
 slice-aggregate-put-numbered-2 c = search needs
@@ -78,7 +86,10 @@ same-length-4 c = search needs
 
 returns-4 : tie.Need-returns-4
 returns-4 c =
-    puts-as _ (λ t. rw (ne-eqb _ 0 (c .before .before .before .before .before .before .before .before .before .before .before .before .before .before .before .if1 .left))) (puts-then (c .before .before .before .before .before .before .before .before .before .before .before .put-numbered2 .ensures) (puts-then (c .before .before .before .before .before .before .put-numbered3 .ensures) (put-first (c .before .before .put-byte2 .ensures))))
+    let at-put-numbered3 = c .before .before .before .before .before .before in
+    let at-put-numbered2 = at-put-numbered3 .before .before .before .before .before in
+    let at-if1 = at-put-numbered2 .before .before .before .before in
+    puts-as _ (λ t. rw (ne-eqb _ 0 (at-if1 .if1 .left))) (puts-then (at-put-numbered2 .put-numbered2 .ensures) (puts-then (at-put-numbered3 .put-numbered3 .ensures) (put-first (c .before .before .put-byte2 .ensures))))
 
 pub put-first-spec : {M : Type 1} → statement M
 put-first-spec =

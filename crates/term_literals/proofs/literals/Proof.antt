@@ -119,7 +119,13 @@ loop-again c =
     let at-step-tight-seat = at-if3 .before .before in
     let at-if2 = at-step-tight-seat .before .before in
     let at-loop = at-if2 .before .before in
-    turn-on (at-loop .loop .inv) (at-if2 .if2 .taken) (at-step-tight-seat .step-tight-seat .result) (at-step-tight-seat .step-tight-seat .ensures) (at-if3 .if3 .left) (at-literal-apart .literal-apart .result) (at-literal-apart .literal-apart .ensures) (at-if4 .if4 .left) (c .step-and .result) (c .step-and .ensures) (at-note2 .note2 .last .0) (at-note2 .note2 .ensures) (at-one-more .one-more .result) (at-one-more .one-more .ensures) (at-relation-due2 .relation-due2 .result) (at-relation-due2 .relation-due2 .ensures) (at-as-due2 .as-due2 .result) (at-as-due2 .as-due2 .ensures) (at-mixes .mixes .result) (at-mixes .mixes .ensures)
+    turn-on (at-loop .loop .inv) (at-if2 .if2 .taken)
+    (at-step-tight-seat .step-tight-seat .result) (at-step-tight-seat .step-tight-seat .ensures) (at-if3 .if3 .left)
+    (at-literal-apart .literal-apart .result) (at-literal-apart .literal-apart .ensures) (at-if4 .if4 .left)
+    (c .step-and .result) (c .step-and .ensures)
+    (at-note2 .note2 .last .0) (at-note2 .note2 .ensures) (at-one-more .one-more .result) (at-one-more .one-more .ensures)
+    (at-relation-due2 .relation-due2 .result) (at-relation-due2 .relation-due2 .ensures) (at-as-due2 .as-due2 .result) (at-as-due2 .as-due2 .ensures)
+    (at-mixes .mixes .result) (at-mixes .mixes .ensures)
 
 no-term-requires-4 : tie.Need-no-term-requires-4 Inv-loop μ-loop
 no-term-requires-4 c κs = tt

@@ -35,7 +35,10 @@ element-copy-out-stay : tie.Need-element-copy-out-stay Inv-loop μ-loop
 element-copy-out-stay c = search needs
 
 add-stay : tie.Need-add-stay Inv-loop μ-loop
-add-stay c = omega (arith, c .before .before .loop .inv .1, c .before .before .before .pre (c .before .before .loop .a) (c .before .loop-test .taken), total-most (c .before .before .loop .a) (λ s. weightIn (c .before .before .before .args .table .now) s s) heaviest (λ s l. c .before .before .before .pre s (omega arith)))
+add-stay c =
+    let at-loop = c .before .before in
+    let entry = at-loop .before in
+    omega (arith, at-loop .loop .inv .1, entry .pre (at-loop .loop .a) (c .before .loop-test .taken), total-most (at-loop .loop .a) (λ s. weightIn (entry .args .table .now) s s) heaviest (λ s l. entry .pre s (omega arith)))
 
 add-a : tie.Need-add-a Inv-loop μ-loop
 add-a c = search needs
@@ -44,7 +47,10 @@ loop-less : tie.Need-loop-less Inv-loop μ-loop
 loop-less c = search needs
 
 loop-again : tie.Need-loop-again Inv-loop μ-loop
-loop-again c = (search needs, ap (λ (w : ℕ). w + weightIn (c .before .before .before .args .table .now) (c .before .before .loop .a) (c .before .before .loop .a)) (c .before .before .loop .inv .1) ∙ sym (total-more (c .before .before .loop .a) (λ s. weightIn (c .before .before .before .args .table .now) s s)))
+loop-again c =
+    let at-loop = c .before .before in
+    let entry = at-loop .before in
+    (search needs, ap (λ (w : ℕ). w + weightIn (entry .args .table .now) (at-loop .loop .a) (at-loop .loop .a)) (at-loop .loop .inv .1) ∙ sym (total-more (at-loop .loop .a) (λ s. weightIn (entry .args .table .now) s s)))
 
 returns : tie.Need-returns Inv-loop μ-loop
 unfolding stayIn

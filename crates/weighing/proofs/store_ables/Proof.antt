@@ -62,7 +62,10 @@ loop-again c =
     (search needs, over-next ablesFrom (ableAt (start .args .head .seats) (start .args .counts .now) (start .args .nodes .now) (start .args .rows .now)) (start .args .table .now) (at-loop .loop .i) (at-loop .loop .inv .1) refl (c .able .ensures))
 
 returns : tie.Need-returns Inv-loop μ-loop
-returns c = c .before .loop .inv .1 ∙ over-end ablesFrom (ableAt (c .before .before .before .args .head .seats) (c .before .before .before .args .counts .now) (c .before .before .before .args .nodes .now) (c .before .before .before .args .rows .now)) (c .before .before .before .args .table .now) (c .before .loop .i) _ (c .before .loop .inv .0) (c .loop-test .left)
+returns c =
+    let at-loop = c .before in
+    let entry = at-loop .before .before in
+    at-loop .loop .inv .1 ∙ over-end ablesFrom (ableAt (entry .args .head .seats) (entry .args .counts .now) (entry .args .nodes .now) (entry .args .rows .now)) (entry .args .table .now) (at-loop .loop .i) _ (at-loop .loop .inv .0) (c .loop-test .left)
 
 pub store-ables-spec : {M : Type 1} → statement M
 store-ables-spec =

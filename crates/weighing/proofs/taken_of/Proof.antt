@@ -34,8 +34,12 @@ counts-as-requires c κs = search needs
 
 add-taken : tie.Need-add-taken Inv-loop μ-loop
 add-taken c =
-    let start = c .before .before .before .before in
-    omega (arith, c .before .before .before .loop .inv .1, c .counts-as .ensures, start .pre .statements, taken-most (either nondeterministic probabilistic (start .args .mode)) (start .args .table .now) (start .pre) (c .before .before .before .loop .i) (c .before .before .before .loop .inv .0), taken-more (either nondeterministic probabilistic (start .args .mode)) (start .args .table .now) (start .pre) (c .before .before .before .loop .i) (c .before .before .loop-test .taken))
+    let at-loop = c .before .before .before in
+    let start = at-loop .before in
+    let mode = either nondeterministic probabilistic (start .args .mode) in
+    let most = taken-most mode (start .args .table .now) (start .pre) (at-loop .loop .i) (at-loop .loop .inv .0) in
+    let more = taken-more mode (start .args .table .now) (start .pre) (at-loop .loop .i) (c .before .before .loop-test .taken) in
+    omega (arith, at-loop .loop .inv .1, c .counts-as .ensures, start .pre .statements, most, more)
 
 add-i : tie.Need-add-i Inv-loop μ-loop
 add-i c =
@@ -47,8 +51,9 @@ loop-less c = search needs
 
 loop-again : tie.Need-loop-again Inv-loop μ-loop
 loop-again c =
-    let start = c .before .before .before .before in
-    (search needs, taken-next (either nondeterministic probabilistic (start .args .mode)) (start .args .table .now) (c .before .before .before .loop .i) (c .before .before .before .loop .inv .1) (c .counts-as .ensures))
+    let at-loop = c .before .before .before in
+    let start = at-loop .before in
+    (search needs, taken-next (either nondeterministic probabilistic (start .args .mode)) (start .args .table .now) (at-loop .loop .i) (at-loop .loop .inv .1) (c .counts-as .ensures))
 
 returns : tie.Need-returns Inv-loop μ-loop
 returns c = c .before .loop .inv .1 ∙ taken-end (either nondeterministic probabilistic (c .before .before .args .mode)) (c .before .before .args .table .now) (c .before .loop .i) _ (c .before .loop .inv .0) (c .loop-test .left)

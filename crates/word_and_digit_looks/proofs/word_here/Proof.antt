@@ -19,10 +19,12 @@ returns c = rw (sym (c .before .all-here .ensures) ∙ not-true (c .before .all-
 
 add-word-at : tie.Need-add-word-at
 add-word-at c =
+    let at-all-here = c .before in
+    let entry = at-all-here .before .before .before in
     omega (
       arith,
-      bytes-fit (c .before .before .before .before .args .these .now) (c .before .before .before .before .args .card .now)
-          (c .before .before .before .before .args .at) (sym (c .before .all-here .ensures) ∙ not-false (c .before .all-here .result) (c .if1 .left)),
+      bytes-fit (entry .args .these .now) (entry .args .card .now)
+          (entry .args .at) (sym (at-all-here .all-here .ensures) ∙ not-false (at-all-here .all-here .result) (c .if1 .left)),
     )
 
 word-at-requires : tie.Need-word-at-requires

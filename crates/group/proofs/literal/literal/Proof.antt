@@ -45,7 +45,11 @@ returns-3 c =
     let at-if1 = c .before .before in
     let at-sign-here = at-if1 .before in
     let entry = at-sign-here .before .before in
-    literal-whole (now (entry .args .part)) (entry .args .at) 0 (bareOf 61 (entry .args .at) (entry .args .at + 1)) (valuedOf kNumber (c .before .digit-here .result) (entry .args .at + 1) (entry .args .at + 1 + 1)) (sym (sign-step (entry .args .part .now) (entry .args .at) 61 (sym (at-sign-here .sign-here .ensures) ∙ not-false (at-sign-here .sign-here .result) (at-if1 .if1 .left)))) (sym (digit-step (entry .args .part .now) (entry .args .at + 1) (c .before .digit-here .result) (c .before .digit-here .ensures) (c .if2 .left))) refl (λ z. omega arith) refl
+    let place = entry .args .at in
+    let sign = sign-step (entry .args .part .now) place 61 (sym (at-sign-here .sign-here .ensures) ∙ not-false (at-sign-here .sign-here .result) (at-if1 .if1 .left)) in
+    let digit = digit-step (entry .args .part .now) (place + 1) (c .before .digit-here .result) (c .before .digit-here .ensures) (c .if2 .left) in
+    literal-whole (now (entry .args .part)) place 0 (bareOf 61 place (place + 1)) (valuedOf kNumber (c .before .digit-here .result) (place + 1) (place + 1 + 1))
+    (sym sign) (sym digit) refl (λ z. omega arith) refl
 
 pub literal-spec : {M : Type 1} → statement M
 literal-spec =

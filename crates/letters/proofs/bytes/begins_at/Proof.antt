@@ -38,10 +38,12 @@ shared-slice-read-if2-2 c = search needs
 
 returns-2 : tie.Need-returns-2 Inv-loop μ-loop
 returns-2 c =
+    let at-loop = c .before .before .before .before in
+    let entry = at-loop .before .before in
     sym
-    (c .before .before .before .before .loop .inv .2 ∙ begun-off (c .before .before .before .before .before .before .args .these .now)
-    (c .before .before .before .before .before .before .args .card .now) (c .before .before .before .before .loop .i)
-    (c .before .before .before .before .before .before .args .at + c .before .before .before .before .loop .i) (omega arith) (omega arith) (c .if2 .taken))
+    (at-loop .loop .inv .2 ∙ begun-off (entry .args .these .now)
+    (entry .args .card .now) (at-loop .loop .i)
+    (entry .args .at + at-loop .loop .i) (omega arith) (omega arith) (c .if2 .taken))
 
 add-i : tie.Need-add-i Inv-loop μ-loop
 add-i c = search needs

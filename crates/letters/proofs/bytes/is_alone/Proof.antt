@@ -34,9 +34,10 @@ returns-7 c = rw (c .if7 .taken)
 
 returns-8 : tie.Need-returns-8
 returns-8 c =
+    let entry = c .before .before .before .before .before in
     sym
-    (ap (λ (t : Bool). t || eqb (c .before .before .before .before .before .args .b) 93) (ne-eqb (c .before .before .before .before .before .args .b) 91 (c .if7 .left)))
-    ∙ agree (λ b. eqb b 91 || eqb b 93) isAlone 35 62 refl (c .before .before .before .before .before .args .b) (omega arith) (omega arith)
+    (ap (λ (t : Bool). t || eqb (entry .args .b) 93) (ne-eqb (entry .args .b) 91 (c .if7 .left)))
+    ∙ agree (λ b. eqb b 91 || eqb b 93) isAlone 35 62 refl (entry .args .b) (omega arith) (omega arith)
 
 pub is-alone-spec : {M : Type 1} → statement M
 is-alone-spec =

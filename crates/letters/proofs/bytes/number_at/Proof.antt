@@ -23,10 +23,12 @@ is-digit-requires c κs = search needs
 
 returns-2 : tie.Need-returns-2
 returns-2 c =
+    let at-if1 = c .before .before .before in
+    let entry = at-if1 .before .before in
     sym
-    (begins-at inNumber (c .before .before .before .before .before .args .card .now) (c .before .before .before .before .before .args .at)
-    (c .before .before .before .if1 .taken) ∙ rw (
-      ne-eqb (getD (c .before .before .before .before .before .args .card .now) (c .before .before .before .before .before .args .at) 0) 46 (c .before .if2 .left),
+    (begins-at inNumber (entry .args .card .now) (entry .args .at)
+    (at-if1 .if1 .taken) ∙ rw (
+      ne-eqb (getD (entry .args .card .now) (entry .args .at) 0) 46 (c .before .if2 .left),
       or-false,
     )
     (sym (c .is-digit .ensures)))

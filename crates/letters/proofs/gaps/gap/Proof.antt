@@ -21,9 +21,10 @@ returns c = sym (gap-blank (c .before .before .args .b) (drop (c .before .before
 
 returns-2 : tie.Need-returns-2
 returns-2 c =
+    let entry = c .before .before .before in
     sym
-    (gap-none (c .before .before .before .args .b) (drop (c .before .before .before .args .at + 1) (c .before .before .before .args .card .now))
-    (not-blank (c .before .before .before .args .b) (omega arith)) (rw (ne-eqb (c .before .before .before .args .b) 47 (λ q. omega arith))))
+    (gap-none (entry .args .b) (drop (entry .args .at + 1) (entry .args .card .now))
+    (not-blank (entry .args .b) (omega arith)) (rw (ne-eqb (entry .args .b) 47 (λ q. omega arith))))
 
 add-next : tie.Need-add-next
 add-next c = search needs
@@ -39,48 +40,55 @@ sub-result c = omega (arith, c .line-end .ensures)
 
 returns-3 : tie.Need-returns-3
 returns-3 c =
+    let at-if3 = c .before .before .before in
+    let entry = at-if3 .before .before .before .before in
     omega (
       arith,
       c .line-end .ensures,
-      gap-comment (c .before .before .before .before .before .before .before .args .b)
-          (drop (c .before .before .before .before .before .before .before .args .at + 1) (c .before .before .before .before .before .before .before .args .card .now))
-          (not-blank (c .before .before .before .before .before .before .before .args .b) (omega arith)) (c .before .before .before .if3 .taken)
+      gap-comment (entry .args .b)
+          (drop (entry .args .at + 1) (entry .args .card .now))
+          (not-blank (entry .args .b) (omega arith)) (at-if3 .if3 .taken)
           (sym (c .before .before .stands .ensures) ∙ c .before .if4 .taken),
     )
 
 returns-4 : tie.Need-returns-4
 returns-4 c =
+    let entry = c .before .before .before .before .before .before in
     sym
-    (gap-none (c .before .before .before .before .before .before .args .b)
-    (drop (c .before .before .before .before .before .before .args .at + 1) (c .before .before .before .before .before .before .args .card .now))
-    (not-blank (c .before .before .before .before .before .before .args .b) (omega arith))
-    (and-off (eqb (c .before .before .before .before .before .before .args .b) 47) _ (sym (c .before .stands .ensures) ∙ c .if4 .left)))
+    (gap-none (entry .args .b)
+    (drop (entry .args .at + 1) (entry .args .card .now))
+    (not-blank (entry .args .b) (omega arith))
+    (and-off (eqb (entry .args .b) 47) _ (sym (c .before .stands .ensures) ∙ c .if4 .left)))
 
 returns-5 : tie.Need-returns-5
 returns-5 c =
+    let entry = c .before .before .before .before .before in
     sym
-    (gap-none (c .before .before .before .before .before .args .b)
-    (drop (c .before .before .before .before .before .args .at + 1) (c .before .before .before .before .before .args .card .now))
-    (not-blank (c .before .before .before .before .before .args .b) (omega arith))
-    (rw (ne-eqb (c .before .before .before .before .before .args .b) 47 (c .before .if3 .left))))
+    (gap-none (entry .args .b)
+    (drop (entry .args .at + 1) (entry .args .card .now))
+    (not-blank (entry .args .b) (omega arith))
+    (rw (ne-eqb (entry .args .b) 47 (c .before .if3 .left))))
 
 is-blank-requires : tie.Need-is-blank-requires
 is-blank-requires c κs = search needs
 
 returns-6 : tie.Need-returns-6
 returns-6 c =
+    let entry = c .before .before .before .before .before .before .before in
     sym
-    (gap-blank (c .before .before .before .before .before .before .before .args .b)
-    (drop (c .before .before .before .before .before .before .before .args .at + 1) (c .before .before .before .before .before .before .before .args .card .now))
+    (gap-blank (entry .args .b)
+    (drop (entry .args .at + 1) (entry .args .card .now))
     (sym (c .before .is-blank .ensures) ∙ c .if6 .taken))
 
 returns-7 : tie.Need-returns-7
 returns-7 c =
+    let at-if3 = c .before .before .before in
+    let entry = at-if3 .before .before .before .before in
     sym
-    (gap-none (c .before .before .before .before .before .before .before .args .b)
-    (drop (c .before .before .before .before .before .before .before .args .at + 1) (c .before .before .before .before .before .before .before .args .card .now))
+    (gap-none (entry .args .b)
+    (drop (entry .args .at + 1) (entry .args .card .now))
     (sym (c .before .is-blank .ensures) ∙ c .if6 .left)
-    (rw (ne-eqb (c .before .before .before .before .before .before .before .args .b) 47 (c .before .before .before .if3 .left))))
+    (rw (ne-eqb (entry .args .b) 47 (at-if3 .if3 .left))))
 
 pub gap-spec : {M : Type 1} → statement M
 gap-spec =

@@ -32,29 +32,41 @@ word-at-requires : tie.Need-word-at-requires
 word-at-requires c κs = search needs
 
 returns-2 : tie.Need-returns-2
-returns-2 c = sym (digit-more inWord (c .before .before .before .before .before .args .card .now) (c .before .before .before .before .before .args .at) (sym (c .before .word-at .ensures) ∙ c .if2 .taken))
+returns-2 c =
+    let entry = c .before .before .before .before .before in
+    sym (digit-more inWord (entry .args .card .now) (entry .args .at) (sym (c .before .word-at .ensures) ∙ c .if2 .taken))
 
 shared-slice-read-wide : tie.Need-shared-slice-read-wide
 shared-slice-read-wide c =
-    begins-place isDigit (c .before .before .before .before .before .before .args .card .now) (c .before .before .before .before .before .before .args .at)
-    (sym (c .before .before .before .before .digit-at .ensures) ∙ not-false (c .before .before .before .before .digit-at .result) (c .before .before .before .if1 .left))
+    let at-if1 = c .before .before .before in
+    let at-digit-at = at-if1 .before in
+    let entry = at-digit-at .before .before in
+    begins-place isDigit (entry .args .card .now) (entry .args .at)
+    (sym (at-digit-at .digit-at .ensures) ∙ not-false (at-digit-at .digit-at .result) (at-if1 .if1 .left))
 
 sub-wide : tie.Need-sub-wide
 sub-wide c =
-    digit-low (c .before .before .before .before .before .before .args .card .now) (c .before .before .before .before .before .before .args .at)
-    (sym (c .before .before .before .before .digit-at .ensures) ∙ not-false (c .before .before .before .before .digit-at .result) (c .before .before .before .if1 .left))
+    let at-if1 = c .before .before .before in
+    let at-digit-at = at-if1 .before in
+    let entry = at-digit-at .before .before in
+    digit-low (entry .args .card .now) (entry .args .at)
+    (sym (at-digit-at .digit-at .ensures) ∙ not-false (at-digit-at .digit-at .result) (at-if1 .if1 .left))
 
 wide-requires : tie.Need-wide-requires
 wide-requires c κs = search needs
 
 returns-3 : tie.Need-returns-3
 returns-3 c =
+    let at-word-at = c .before .before .before in
+    let at-if1 = at-word-at .before in
+    let at-digit-at = at-if1 .before in
+    let entry = at-digit-at .before .before in
     c .wide .ensures ∙ sym
-    (digit-over inWord (c .before .before .before .before .before .before .before .args .card .now)
-    (c .before .before .before .before .before .before .before .args .at)
-    (sym (c .before .before .before .before .before .digit-at .ensures) ∙ not-false (c .before .before .before .before .before .digit-at .result)
-    (c .before .before .before .before .if1 .left))
-    (sym (c .before .before .before .word-at .ensures) ∙ c .before .before .if2 .left))
+    (digit-over inWord (entry .args .card .now)
+    (entry .args .at)
+    (sym (at-digit-at .digit-at .ensures) ∙ not-false (at-digit-at .digit-at .result)
+    (at-if1 .if1 .left))
+    (sym (at-word-at .word-at .ensures) ∙ c .before .before .if2 .left))
 
 pub last-digit-spec : {M : Type 1} → statement M
 last-digit-spec =

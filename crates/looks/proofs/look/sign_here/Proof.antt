@@ -22,19 +22,23 @@ is-alone-requires c κs = search needs
 
 returns : tie.Need-returns
 returns c =
+    let at-if1 = c .before .before .before .before in
+    let entry = at-if1 .before .before in
     c .is-alone .ensures ∙ sym
-    (sign-at (c .before .before .before .before .before .before .args .kind) (c .before .before .before .before .before .before .args .card .now)
-    (c .before .before .before .before .before .before .args .at) (c .before .before .before .before .if1 .taken) ∙ rw
-    (eq-eqb (getD (c .before .before .before .before .before .before .args .card .now) (c .before .before .before .before .before .before .args .at) 0)
-    (c .before .before .before .before .before .before .args .kind) (sym (c .before .before .wide .ensures) ∙ c .before .if2 .taken)))
+    (sign-at (entry .args .kind) (entry .args .card .now)
+    (entry .args .at) (at-if1 .if1 .taken) ∙ rw
+    (eq-eqb (getD (entry .args .card .now) (entry .args .at) 0)
+    (entry .args .kind) (sym (c .before .before .wide .ensures) ∙ c .before .if2 .taken)))
 
 returns-2 : tie.Need-returns-2
 returns-2 c =
+    let at-if1 = c .before .before .before in
+    let entry = at-if1 .before .before in
     sym
-    (sign-at (c .before .before .before .before .before .args .kind) (c .before .before .before .before .before .args .card .now)
-    (c .before .before .before .before .before .args .at) (c .before .before .before .if1 .taken) ∙ rw
-    (ne-eqb (getD (c .before .before .before .before .before .args .card .now) (c .before .before .before .before .before .args .at) 0)
-    (c .before .before .before .before .before .args .kind) (λ q. c .if2 .left (c .before .wide .ensures ∙ q))))
+    (sign-at (entry .args .kind) (entry .args .card .now)
+    (entry .args .at) (at-if1 .if1 .taken) ∙ rw
+    (ne-eqb (getD (entry .args .card .now) (entry .args .at) 0)
+    (entry .args .kind) (λ q. c .if2 .left (c .before .wide .ensures ∙ q))))
 
 returns-3 : tie.Need-returns-3
 returns-3 c = sym (sign-none (c .before .before .args .kind) (c .before .before .args .card .now) (c .before .before .args .at) (c .if1 .left))

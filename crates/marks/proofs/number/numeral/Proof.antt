@@ -31,18 +31,22 @@ bare-requires c κs = search needs
 
 returns : tie.Need-returns
 returns c =
+    let at-is-plain = c .before .before in
+    let entry = at-is-plain .before .before .before in
     λ k. c .bare .ensures ∙ sym
-    (numeral-outside (c .before .before .before .before .before .args .card .now) (c .before .before .before .before .before .args .at)
-    (c .before .before .before .before .before .pre .0) (c .before .before .before .before .before .pre .1) k
-    (sym (c .before .before .is-plain .ensures) ∙ not-true (c .before .before .is-plain .result) (c .before .if1 .taken)))
+    (numeral-outside (entry .args .card .now) (entry .args .at)
+    (entry .pre .0) (entry .pre .1) k
+    (sym (at-is-plain .is-plain .ensures) ∙ not-true (at-is-plain .is-plain .result) (c .before .if1 .taken)))
 
 add-point : tie.Need-add-point
 add-point c =
+    let at-digits-from = c .before .before in
+    let entry = at-digits-from .before .before in
     omega (
       arith,
-      counted-fits (c .before .before .before .before .args .card .now) (c .before .before .before .before .args .at)
-          (omega (arith, c .before .before .before .before .pre .0)) (c .before .before .digits-from .result) (c .before .before .digits-from .ensures),
-      c .before .before .before .before .good .0,
+      counted-fits (entry .args .card .now) (entry .args .at)
+          (omega (arith, entry .pre .0)) (at-digits-from .digits-from .result) (at-digits-from .digits-from .ensures),
+      entry .good .0,
     )
 
 is-pointed-requires : tie.Need-is-pointed-requires
@@ -53,22 +57,30 @@ valued-requires c κs = search needs
 
 returns-2 : tie.Need-returns-2
 returns-2 c =
+    let at-is-pointed = c .before .before in
+    let at-if1 = at-is-pointed .before in
+    let at-is-plain = at-if1 .before in
+    let at-digits-from = at-is-plain .before in
+    let entry = at-digits-from .before .before in
     λ k. c .valued .ensures ∙ sym
-    (read-number (c .before .before .before .before .before .before .before .args .card .now) (c .before .before .before .before .before .before .before .args .at)
-    (c .before .before .before .before .before .before .before .pre .0) (c .before .before .before .before .before .before .before .pre .1) k
-    (c .before .before .before .before .before .digits-from .result) (c .before .before .before .before .before .digits-from .ensures)
-    (sym (c .before .before .before .before .is-plain .ensures) ∙ not-false (c .before .before .before .before .is-plain .result)
-    (c .before .before .before .if1 .left))
-    (sym (c .before .before .is-pointed .ensures) ∙ not-true (c .before .before .is-pointed .result) (c .before .if2 .taken)))
+    (read-number (entry .args .card .now) (entry .args .at)
+    (entry .pre .0) (entry .pre .1) k
+    (at-digits-from .digits-from .result) (at-digits-from .digits-from .ensures)
+    (sym (at-is-plain .is-plain .ensures) ∙ not-false (at-is-plain .is-plain .result)
+    (at-if1 .if1 .left))
+    (sym (at-is-pointed .is-pointed .ensures) ∙ not-true (at-is-pointed .is-pointed .result) (c .before .if2 .taken)))
 
 add-from : tie.Need-add-from
 add-from c =
+    let at-is-pointed = c .before in
+    let at-digits-from = at-is-pointed .before .before .before in
+    let entry = at-digits-from .before .before in
     omega (
       arith,
-      pointed-place (c .before .before .before .before .before .before .args .card .now)
-          (c .before .before .before .before .before .before .args .at + c .before .before .before .before .digits-from .result .count)
-          (sym (c .before .is-pointed .ensures) ∙ not-false (c .before .is-pointed .result) (c .if2 .left)),
-      c .before .before .before .before .before .before .good .0,
+      pointed-place (entry .args .card .now)
+          (entry .args .at + at-digits-from .digits-from .result .count)
+          (sym (at-is-pointed .is-pointed .ensures) ∙ not-false (at-is-pointed .is-pointed .result) (c .if2 .left)),
+      entry .good .0,
     )
 
 digits-from-requires-2 : tie.Need-digits-from-requires-2
@@ -82,45 +94,62 @@ bare-requires-2 c κs = search needs
 
 returns-3 : tie.Need-returns-3
 returns-3 c =
+    let at-digits-from2 = c .before .before in
+    let at-if2 = at-digits-from2 .before in
+    let at-is-pointed = at-if2 .before in
+    let at-if1 = at-is-pointed .before in
+    let at-is-plain = at-if1 .before in
+    let at-digits-from = at-is-plain .before in
+    let entry = at-digits-from .before .before in
     λ k. c .bare2 .ensures ∙ sym
-    (read-long (c .before .before .before .before .before .before .before .before .before .args .card .now)
-    (c .before .before .before .before .before .before .before .before .before .args .at)
-    (c .before .before .before .before .before .before .before .before .before .pre .0)
-    (c .before .before .before .before .before .before .before .before .before .pre .1) k
-    (c .before .before .before .before .before .before .before .digits-from .result) (c .before .before .before .before .before .before .before .digits-from .ensures)
-    (c .before .before .digits-from2 .result) (c .before .before .digits-from2 .ensures)
-    (sym (c .before .before .before .before .before .before .is-plain .ensures) ∙ not-false (c .before .before .before .before .before .before .is-plain .result)
-    (c .before .before .before .before .before .if1 .left))
-    (sym (c .before .before .before .before .is-pointed .ensures) ∙ not-false (c .before .before .before .before .is-pointed .result)
-    (c .before .before .before .if2 .left))
+    (read-long (entry .args .card .now)
+    (entry .args .at)
+    (entry .pre .0)
+    (entry .pre .1) k
+    (at-digits-from .digits-from .result) (at-digits-from .digits-from .ensures)
+    (at-digits-from2 .digits-from2 .result) (at-digits-from2 .digits-from2 .ensures)
+    (sym (at-is-plain .is-plain .ensures) ∙ not-false (at-is-plain .is-plain .result)
+    (at-if1 .if1 .left))
+    (sym (at-is-pointed .is-pointed .ensures) ∙ not-false (at-is-pointed .is-pointed .result)
+    (at-if2 .if2 .left))
     (c .before .if3 .taken))
 
 add-t14 : tie.Need-add-t14
 add-t14 c =
+    let at-digits-from2 = c .before in
+    let at-is-pointed = at-digits-from2 .before .before in
+    let at-digits-from = at-is-pointed .before .before .before in
+    let entry = at-digits-from .before .before in
     let point :
-    c .before .before .before .before .before .before .before .before .args .at + c .before .before .before .before .before .before .digits-from .result .count + 1 <
-    length (c .before .before .before .before .before .before .before .before .args .card .now) =
-    pointed-place (c .before .before .before .before .before .before .before .before .args .card .now)
-    (c .before .before .before .before .before .before .before .before .args .at + c .before .before .before .before .before .before .digits-from .result .count)
-    (sym (c .before .before .before .is-pointed .ensures) ∙ not-false (c .before .before .before .is-pointed .result) (c .before .before .if2 .left)) in
+    entry .args .at + at-digits-from .digits-from .result .count + 1 <
+    length (entry .args .card .now) =
+    pointed-place (entry .args .card .now)
+    (entry .args .at + at-digits-from .digits-from .result .count)
+    (sym (at-is-pointed .is-pointed .ensures) ∙ not-false (at-is-pointed .is-pointed .result) (c .before .before .if2 .left)) in
     omega (
       arith,
-      counted-fits (c .before .before .before .before .before .before .before .before .args .card .now)
-          (c .before .before .before .before .before .before .before .before .args .at + c .before .before .before .before .before .before .digits-from .result .count + 1)
-          (omega arith) (c .before .digits-from2 .result) (c .before .digits-from2 .ensures),
-      c .before .before .before .before .before .before .before .before .good .0,
+      counted-fits (entry .args .card .now)
+          (entry .args .at + at-digits-from .digits-from .result .count + 1)
+          (omega arith) (at-digits-from2 .digits-from2 .result) (at-digits-from2 .digits-from2 .ensures),
+      entry .good .0,
     )
 
 returns-4 : tie.Need-returns-4
 returns-4 c =
+    let at-digits-from2 = c .before in
+    let at-is-pointed = at-digits-from2 .before .before in
+    let at-if1 = at-is-pointed .before in
+    let at-is-plain = at-if1 .before in
+    let at-digits-from = at-is-plain .before in
+    let entry = at-digits-from .before .before in
     λ k. sym
-    (read-decimal (c .before .before .before .before .before .before .before .before .args .card .now)
-    (c .before .before .before .before .before .before .before .before .args .at) (c .before .before .before .before .before .before .before .before .pre .0)
-    (c .before .before .before .before .before .before .before .before .pre .1) k (c .before .before .before .before .before .before .digits-from .result)
-    (c .before .before .before .before .before .before .digits-from .ensures) (c .before .digits-from2 .result) (c .before .digits-from2 .ensures)
-    (sym (c .before .before .before .before .before .is-plain .ensures) ∙ not-false (c .before .before .before .before .before .is-plain .result)
-    (c .before .before .before .before .if1 .left))
-    (sym (c .before .before .before .is-pointed .ensures) ∙ not-false (c .before .before .before .is-pointed .result) (c .before .before .if2 .left)) (c .if3 .left))
+    (read-decimal (entry .args .card .now)
+    (entry .args .at) (entry .pre .0)
+    (entry .pre .1) k (at-digits-from .digits-from .result)
+    (at-digits-from .digits-from .ensures) (at-digits-from2 .digits-from2 .result) (at-digits-from2 .digits-from2 .ensures)
+    (sym (at-is-plain .is-plain .ensures) ∙ not-false (at-is-plain .is-plain .result)
+    (at-if1 .if1 .left))
+    (sym (at-is-pointed .is-pointed .ensures) ∙ not-false (at-is-pointed .is-pointed .result) (c .before .before .if2 .left)) (c .if3 .left))
 
 pub numeral-spec : {M : Type 1} → statement M
 numeral-spec =

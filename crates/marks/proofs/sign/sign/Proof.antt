@@ -29,22 +29,26 @@ bare-requires c κs = search needs
 
 returns : tie.Need-returns
 returns c =
-    λ k. rw (c .before .before .before .if1 .taken)
+    let at-if1 = c .before .before .before in
+    let entry = at-if1 .before .before in
+    λ k. rw (at-if1 .if1 .taken)
     (c .bare .ensures ∙ sym
-    (sign-two 33 (drop (c .before .before .before .before .before .args .at + 1) (c .before .before .before .before .before .args .card .now))
-    (c .before .before .before .before .before .args .at) k 61 refl (sym (c .before .before .stands .ensures) ∙ c .before .if2 .taken)))
+    (sign-two 33 (drop (entry .args .at + 1) (entry .args .card .now))
+    (entry .args .at) k 61 refl (sym (c .before .before .stands .ensures) ∙ c .before .if2 .taken)))
 
 bare-requires-2 : tie.Need-bare-requires-2
 bare-requires-2 c κs = search needs
 
 returns-2 : tie.Need-returns-2
 returns-2 c =
-    λ k. rw (c .before .before .before .if1 .taken)
+    let at-if1 = c .before .before .before in
+    let entry = at-if1 .before .before in
+    λ k. rw (at-if1 .if1 .taken)
     (c .bare2 .ensures ∙ sym
-    (sign-one 33 (drop (c .before .before .before .before .before .args .at + 1) (c .before .before .before .before .before .args .card .now))
-    (c .before .before .before .before .before .args .at) k
-    (sign-alone 33 (drop (c .before .before .before .before .before .args .at + 1) (c .before .before .before .before .before .args .card .now))
-    (c .before .before .before .before .before .args .at) k 61 refl (sym (c .before .before .stands .ensures) ∙ c .before .if2 .left))
+    (sign-one 33 (drop (entry .args .at + 1) (entry .args .card .now))
+    (entry .args .at) k
+    (sign-alone 33 (drop (entry .args .at + 1) (entry .args .card .now))
+    (entry .args .at) k 61 refl (sym (c .before .before .stands .ensures) ∙ c .before .if2 .left))
     refl))
 
 is-sign-requires : tie.Need-is-sign-requires
@@ -58,12 +62,15 @@ bare-requires-3 c κs = search needs
 
 returns-3 : tie.Need-returns-3
 returns-3 c =
-    let b = c .before .before .before .before .before .before .args .b in
-    let i = c .before .before .before .before .before .before .args .at in
-    let y = sym (c .before .before .before .is-sign .ensures) ∙ c .before .before .if3 .taken in
-    let s = drop (i + 1) (c .before .before .before .before .before .before .args .card .now) in
+    let at-is-sign = c .before .before .before in
+    let at-if1 = at-is-sign .before in
+    let entry = at-if1 .before .before in
+    let b = entry .args .b in
+    let i = entry .args .at in
+    let y = sym (at-is-sign .is-sign .ensures) ∙ c .before .before .if3 .taken in
+    let s = drop (i + 1) (entry .args .card .now) in
     λ k. c .bare3 .ensures ∙ ap (λ (v : ℕ). bareOf v i (i + 1)) (c .before .wide .ensures ∙ sym (sign-kind b y)) ∙ sym
-    (sign-one b s i k (sign-single b s i k (sign-second b (c .before .before .before .before .if1 .left) y)) y)
+    (sign-one b s i k (sign-single b s i k (sign-second b (at-if1 .if1 .left) y)) y)
 
 stands-requires-2 : tie.Need-stands-requires-2
 stands-requires-2 c κs = search needs
@@ -76,28 +83,32 @@ bare-requires-4 c κs = search needs
 
 returns-4 : tie.Need-returns-4
 returns-4 c =
-    λ k. rw (c .before .before .before .if4 .taken)
+    let at-if4 = c .before .before .before in
+    let entry = at-if4 .before .before .before .before .before in
+    λ k. rw (at-if4 .if4 .taken)
     (c .bare4 .ensures ∙ sym
     (sign-two 46
-    (drop (c .before .before .before .before .before .before .before .before .args .at + 1)
-    (c .before .before .before .before .before .before .before .before .args .card .now))
-    (c .before .before .before .before .before .before .before .before .args .at) k 46 refl (sym (c .before .before .stands2 .ensures) ∙ c .before .if5 .taken)))
+    (drop (entry .args .at + 1)
+    (entry .args .card .now))
+    (entry .args .at) k 46 refl (sym (c .before .before .stands2 .ensures) ∙ c .before .if5 .taken)))
 
 bare-requires-5 : tie.Need-bare-requires-5
 bare-requires-5 c κs = search needs
 
 returns-5 : tie.Need-returns-5
 returns-5 c =
-    λ k. rw (c .before .before .before .if4 .taken)
+    let at-if4 = c .before .before .before in
+    let entry = at-if4 .before .before .before .before .before in
+    λ k. rw (at-if4 .if4 .taken)
     (c .bare5 .ensures ∙ sym
     (sign-none 46
-    (drop (c .before .before .before .before .before .before .before .before .args .at + 1)
-    (c .before .before .before .before .before .before .before .before .args .card .now))
-    (c .before .before .before .before .before .before .before .before .args .at) k
+    (drop (entry .args .at + 1)
+    (entry .args .card .now))
+    (entry .args .at) k
     (sign-alone 46
-    (drop (c .before .before .before .before .before .before .before .before .args .at + 1)
-    (c .before .before .before .before .before .before .before .before .args .card .now))
-    (c .before .before .before .before .before .before .before .before .args .at) k 46 refl (sym (c .before .before .stands2 .ensures) ∙ c .before .if5 .left))
+    (drop (entry .args .at + 1)
+    (entry .args .card .now))
+    (entry .args .at) k 46 refl (sym (c .before .before .stands2 .ensures) ∙ c .before .if5 .left))
     refl))
 
 stands-requires-3 : tie.Need-stands-requires-3
@@ -111,12 +122,14 @@ bare-requires-6 c κs = search needs
 
 returns-6 : tie.Need-returns-6
 returns-6 c =
-    λ k. rw (c .before .before .before .if6 .taken)
+    let at-if6 = c .before .before .before in
+    let entry = at-if6 .before .before .before .before .before .before in
+    λ k. rw (at-if6 .if6 .taken)
     (c .bare6 .ensures ∙ sym
     (sign-two 45
-    (drop (c .before .before .before .before .before .before .before .before .before .args .at + 1)
-    (c .before .before .before .before .before .before .before .before .before .args .card .now))
-    (c .before .before .before .before .before .before .before .before .before .args .at) k 62 refl
+    (drop (entry .args .at + 1)
+    (entry .args .card .now))
+    (entry .args .at) k 62 refl
     (sym (c .before .before .stands3 .ensures) ∙ c .before .if7 .taken)))
 
 bare-requires-7 : tie.Need-bare-requires-7
@@ -124,16 +137,18 @@ bare-requires-7 c κs = search needs
 
 returns-7 : tie.Need-returns-7
 returns-7 c =
-    λ k. rw (c .before .before .before .if6 .taken)
+    let at-if6 = c .before .before .before in
+    let entry = at-if6 .before .before .before .before .before .before in
+    λ k. rw (at-if6 .if6 .taken)
     (c .bare7 .ensures ∙ sym
     (sign-none 45
-    (drop (c .before .before .before .before .before .before .before .before .before .args .at + 1)
-    (c .before .before .before .before .before .before .before .before .before .args .card .now))
-    (c .before .before .before .before .before .before .before .before .before .args .at) k
+    (drop (entry .args .at + 1)
+    (entry .args .card .now))
+    (entry .args .at) k
     (sign-alone 45
-    (drop (c .before .before .before .before .before .before .before .before .before .args .at + 1)
-    (c .before .before .before .before .before .before .before .before .before .args .card .now))
-    (c .before .before .before .before .before .before .before .before .before .args .at) k 62 refl
+    (drop (entry .args .at + 1)
+    (entry .args .card .now))
+    (entry .args .at) k 62 refl
     (sym (c .before .before .stands3 .ensures) ∙ c .before .if7 .left))
     refl))
 
@@ -142,16 +157,20 @@ bare-requires-8 c κs = search needs
 
 returns-8 : tie.Need-returns-8
 returns-8 c =
+    let at-if3 = c .before .before .before in
+    let at-is-sign = at-if3 .before in
+    let at-if1 = at-is-sign .before in
+    let entry = at-if1 .before .before in
     λ k. c .bare8 .ensures ∙ sym
-    (sign-none (c .before .before .before .before .before .before .before .args .b)
-    (drop (c .before .before .before .before .before .before .before .args .at + 1) (c .before .before .before .before .before .before .before .args .card .now))
-    (c .before .before .before .before .before .before .before .args .at) k
-    (sign-single (c .before .before .before .before .before .before .before .args .b)
-    (drop (c .before .before .before .before .before .before .before .args .at + 1) (c .before .before .before .before .before .before .before .args .card .now))
-    (c .before .before .before .before .before .before .before .args .at) k
-    (no-second (c .before .before .before .before .before .before .before .args .b) (c .before .before .before .before .before .if1 .left)
+    (sign-none (entry .args .b)
+    (drop (entry .args .at + 1) (entry .args .card .now))
+    (entry .args .at) k
+    (sign-single (entry .args .b)
+    (drop (entry .args .at + 1) (entry .args .card .now))
+    (entry .args .at) k
+    (no-second (entry .args .b) (at-if1 .if1 .left)
     (c .before .before .if4 .left) (c .before .if6 .left)))
-    (sym (c .before .before .before .before .is-sign .ensures) ∙ c .before .before .before .if3 .left))
+    (sym (at-is-sign .is-sign .ensures) ∙ at-if3 .if3 .left))
 
 pub sign-spec : {M : Type 1} → statement M
 sign-spec =
