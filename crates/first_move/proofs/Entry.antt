@@ -15,7 +15,9 @@ use Rattle.entry.specs.Said.{Said, says, refused}
 use Rattle.meaning.specs.Seats.{ValidSeating, counts}
 use Rattle.meaning.proofs.Counting.{Within}
 use Rattle.seating.specs.Judged.{judgedSeats}
+use Rattle.seating.specs.FirstRefusal.{firstRefusal}
 use Rattle.seating.proofs.Judging.{valid-exactly}
+use Rattle.seating.proofs.FirstRefusal.{both-taken, first-told}
 use Rattle.outline.specs.declared.Outline.{Outline}
 use Rattle.outline.specs.ReadingOf.{ReadsInto}
 use Rattle.outline.proofs.ReadInto.{taken-holds, refused-said, taken-said}
@@ -25,14 +27,21 @@ use Rattle.first_able.specs.FirstRow.{firstRow}
 use Rattle.move_said.specs.MoveSaid.{moveSeated, moveSaid}
 use Rattle.first_able.proofs.Laws.{rows-walk}
 
-module _ (card seats : List ℕ) {r : Outline} {x : Lent} (h : ReadsInto card r x) where
-  pub card-refused : {number place : ℕ} → r .verdict ≡ Refused number place → moveSaid card seats ≡ refused number place
+module _ (card seats : List ℕ) {r : Outline} {x : Lent} (h : ReadsInto card r x) {s : Verdict} (e : s ≡ judgedSeats (r .head .seats) (r .head .top) seats)
+    {told : Verdict} (f : told ≡ firstRefusal (r .verdict) s) where
+  pub move-refused : {number place : ℕ} → told ≡ Refused number place → moveSaid card seats ≡ refused number place
   unfolding moveSaid
-  card-refused e = refused-said card h (moveSeated seats) e
+  move-refused k =
+      first-told (r .verdict) s (sym f ∙ k)
+      (refused-said card h (moveSeated seats))
+      (λ taken l. sym (taken-said card h (moveSeated seats) taken) ∙ rw (← e, l))
 
-  module _ (taken : r .verdict ≡ Taken) where
+  module _ (fine : told ≡ Taken) where
+    both : (r .verdict ≡ Taken) × (s ≡ Taken)
+    both = both-taken (r .verdict) s (sym f ∙ fine)
+
     holds : HoldsIn (r .head) x
-    holds = taken-holds card h taken
+    holds = taken-holds card h (both .0)
 
     pub few : r .head .count ≤ mostStatements
     few = holds-count holds
@@ -40,31 +49,26 @@ module _ (card seats : List ℕ) {r : Outline} {x : Lent} (h : ReadsInto card r 
     abbrev the-card : Card
     the-card = cardIn (r .head) x
 
-    module _ {s : Verdict} (e : s ≡ judgedSeats (r .head .seats) (r .head .top) seats) where
-      pub seats-refused : {number place : ℕ} → s ≡ Refused number place → moveSaid card seats ≡ refused number place
+    module _ {v : List ℕ} (counted : v ≡ counts topState seats) where
+      seating : ValidSeating the-card seats
+      seating = valid-exactly the-card seats .0 (sym e ∙ both .1)
+
+      low : Within topState seats
+      low = every-map (λ (d : ℕ) (l : d ≤ r .head .top). le-trans l (holds-top holds)) seats (seating .states)
+
+      abbrev found : Option ℕ
+      found = firstRow (r .head .seats) v (x .nodes) (x .rows) 0 (r .head .count)
+
+      walked : firstMove the-card seats ≡ found
+      unfolding firstMove
+      walked =
+          walks-alike topState seats low 1 (the-card .statements)
+          ∙ ap (λ (n : ℕ). firstAt n (counts topState seats) 1 (the-card .statements)) (seating .seats)
+          ∙ ap (λ (w : List ℕ). firstAt (r .head .seats) w 1 (the-card .statements)) (sym counted)
+          ∙ rows-walk (r .head .seats) v (x .nodes) (x .rows) (x .branches) 0 (r .head .count)
+
+      pub answered : moveSaid card seats ≡ says found
       unfolding moveSaid
-      seats-refused k = sym (taken-said card h (moveSeated seats) taken) ∙ rw (← e, k)
-
-      module _ (fine : s ≡ Taken) {v : List ℕ} (counted : v ≡ counts topState seats) where
-        seating : ValidSeating the-card seats
-        seating = valid-exactly the-card seats .0 (sym e ∙ fine)
-
-        low : Within topState seats
-        low = every-map (λ (d : ℕ) (l : d ≤ r .head .top). le-trans l (holds-top holds)) seats (seating .states)
-
-        abbrev found : Option ℕ
-        found = firstRow (r .head .seats) v (x .nodes) (x .rows) 0 (r .head .count)
-
-        walked : firstMove the-card seats ≡ found
-        unfolding firstMove
-        walked =
-            walks-alike topState seats low 1 (the-card .statements)
-            ∙ ap (λ (n : ℕ). firstAt n (counts topState seats) 1 (the-card .statements)) (seating .seats)
-            ∙ ap (λ (w : List ℕ). firstAt (r .head .seats) w 1 (the-card .statements)) (sym counted)
-            ∙ rows-walk (r .head .seats) v (x .nodes) (x .rows) (x .branches) 0 (r .head .count)
-
-        pub answered : moveSaid card seats ≡ says found
-        unfolding moveSaid
-        answered =
-            let seated : moveSeated seats the-card ≡ says (firstMove the-card seats) = rw (← e, fine) in
-            sym (taken-said card h (moveSeated seats) taken) ∙ seated ∙ ap says walked
+      answered =
+          let seated : moveSeated seats the-card ≡ says (firstMove the-card seats) = rw (← e, both .1) in
+          sym (taken-said card h (moveSeated seats) (both .0)) ∙ seated ∙ ap says walked

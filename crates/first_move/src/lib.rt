@@ -7,6 +7,7 @@ use first_able::FirstMove;
 use first_able::first_able;
 use reader::read_into;
 use seating::count_seats;
+use seating::first_refusal;
 use seating::judge_seats;
 ghost use mathlib.Core.Path.{_≡_};
 ghost use Rattle.first_able.specs.Moved.{moved};
@@ -23,10 +24,8 @@ pub fn first_move(card: &[u8], seats: &[u8]) -> FirstMove
     let head = outline.head;
     let of_card = outline.verdict;
     let of_seats = judge_seats(seats, head.seats, head.top);
-    if let Verdict::Refused(number, place) = of_card {
-        return FirstMove::Refused(number, place);
-    }
-    if let Verdict::Refused(number, place) = of_seats {
+    let verdict = first_refusal(of_card, of_seats);
+    if let Verdict::Refused(number, place) = verdict {
         return FirstMove::Refused(number, place);
     }
     let counts = count_seats(seats);

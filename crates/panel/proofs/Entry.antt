@@ -14,7 +14,9 @@ use Rattle.entry.specs.Said.{says as text, refused}
 use Rattle.meaning.specs.Seats.{Seating, ValidSeating}
 use Rattle.meaning.specs.Panel.{panel}
 use Rattle.seating.specs.Judged.{judgedSeats}
+use Rattle.seating.specs.FirstRefusal.{firstRefusal}
 use Rattle.seating.proofs.Judging.{valid-exactly}
+use Rattle.seating.proofs.FirstRefusal.{both-taken, first-told}
 use Rattle.outline.specs.declared.Outline.{Outline}
 use Rattle.outline.specs.ReadingOf.{ReadsInto}
 use Rattle.outline.proofs.ReadInto.{taken-holds, refused-said, taken-said}
@@ -47,29 +49,34 @@ module _ {h : Head} {x : Lent} {seats : Seating} (v : HoldsIn h x) (ok : ValidSe
 -- ---- the card's judgement and the seats'
 
 -- the arrays that are lent to the reader
-module _ (s : List ℕ) {r : Outline} {x : Lent} (h : ReadsInto s r x) (seats : List ℕ) where
-  pub card-refused : {number place : ℕ} → r .verdict ≡ Refused number place → panelSaid s seats ≡ refused number place
+module _ (s : List ℕ) {r : Outline} {x : Lent} (h : ReadsInto s r x) (seats : List ℕ) {j : Verdict} (e : j ≡ judgedSeats (r .head .seats) (r .head .top) seats)
+    {told : Verdict} (f : told ≡ firstRefusal (r .verdict) j) where
+  pub entry-refused : {number place : ℕ} → told ≡ Refused number place → panelSaid s seats ≡ refused number place
   unfolding panelSaid
-  card-refused k = refused-said s h (shownSaid seats) k
+  entry-refused k =
+      first-told (r .verdict) j (sym f ∙ k)
+      (refused-said s h (shownSaid seats))
+      (λ taken l. sym (taken-said s h (shownSaid seats) taken) ∙ rw (← e, l))
 
-  module _ {j : Verdict} (e : j ≡ judgedSeats (r .head .seats) (r .head .top) seats) (taken : r .verdict ≡ Taken) where
-    pub seats-refused : {number place : ℕ} → j ≡ Refused number place → panelSaid s seats ≡ refused number place
-    unfolding panelSaid
-    seats-refused k = sym (taken-said s h (shownSaid seats) taken) ∙ rw (← e, k)
+  module _ (fine : told ≡ Taken) where
+    both : (r .verdict ≡ Taken) × (j ≡ Taken)
+    both = both-taken (r .verdict) j (sym f ∙ fine)
 
-    module _ (fine : j ≡ Taken) where
-      seating : ValidSeating (cardIn (r .head) x) seats
-      seating = valid-exactly (cardIn (r .head) x) seats .0 (sym e ∙ fine)
+    holds : HoldsIn (r .head) x
+    holds = taken-holds s h (both .0)
 
-      pub filling : Filling (replicate tablePlaces 0) (r .head) x seats
-      filling = record { empty = sym (zeros-repeat tablePlaces); holds = taken-holds s h taken; seating = seating }
+    seating : ValidSeating (cardIn (r .head) x) seats
+    seating = valid-exactly (cardIn (r .head) x) seats .0 (sym e ∙ both .1)
 
-      module _ {table : List ℕ} (filled : table ≡ tableOf (r .head) x seats) where
-        pub entry-prints : Printable (r .head) table (x .rows) (x .branches)
-        entry-prints = printable (taken-holds s h taken) seating filled
+    pub filling : Filling (replicate tablePlaces 0) (r .head) x seats
+    filling = record { empty = sym (zeros-repeat tablePlaces); holds = holds; seating = seating }
 
-        pub entry-said : text (panelText (panelIn (r .head) table (x .rows) (x .branches))) ≡ panelSaid s seats
-        unfolding panelSaid
-        entry-said =
-            let a : text (panelOf (cardIn (r .head) x) seats) ≡ shownSaid seats (cardIn (r .head) x) = rw (← e, fine) in
-            ap (λ (t : List ℕ). text t) (sym (shown-text (taken-holds s h taken) seating filled)) ∙ a ∙ taken-said s h (shownSaid seats) taken
+    module _ {table : List ℕ} (filled : table ≡ tableOf (r .head) x seats) where
+      pub entry-prints : Printable (r .head) table (x .rows) (x .branches)
+      entry-prints = printable holds seating filled
+
+      pub entry-said : text (panelText (panelIn (r .head) table (x .rows) (x .branches))) ≡ panelSaid s seats
+      unfolding panelSaid
+      entry-said =
+          let a : text (panelOf (cardIn (r .head) x) seats) ≡ shownSaid seats (cardIn (r .head) x) = rw (← e, both .1) in
+          ap (λ (t : List ℕ). text t) (sym (shown-text holds seating filled)) ∙ a ∙ taken-said s h (shownSaid seats) (both .0)

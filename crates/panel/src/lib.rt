@@ -7,6 +7,7 @@ use filling::fill;
 use panel_room::enter_panel;
 use reader::read_into;
 use room::Answer;
+use seating::first_refusal;
 use seating::judge_seats;
 use weighing::TABLE_PLACES;
 ghost use Rattle.room.specs.Answer.{Entered};
@@ -23,10 +24,8 @@ pub fn panel(card: &[u8], seats: &[u8], room: &mut [u8]) -> Answer
     let head = outline.head;
     let of_card = outline.verdict;
     let of_seats = judge_seats(seats, head.seats, head.top);
-    if let Verdict::Refused(number, place) = of_card {
-        return Answer::Refused(number, place);
-    }
-    if let Verdict::Refused(number, place) = of_seats {
+    let verdict = first_refusal(of_card, of_seats);
+    if let Verdict::Refused(number, place) = verdict {
         return Answer::Refused(number, place);
     }
     let mut table: [usize; TABLE_PLACES] = [0; TABLE_PLACES];

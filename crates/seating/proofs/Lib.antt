@@ -1,3 +1,4 @@
 pub mod Judging
 pub mod SeatsStage
 pub mod Counted
+pub mod FirstRefusal

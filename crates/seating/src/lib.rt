@@ -1,4 +1,4 @@
-// Seats judged, and counted by their states ("Refusal numbers", "What a card means").
+// Seats judged, and counted by their states; of two verdicts the one that is told ("Refusal numbers", "What a card means").
 use bytes_as_numbers::wide;
 use card::Verdict;
 use card::limits::MOST_STATES;
@@ -8,6 +8,7 @@ ghost use mathlib.Core.Path.{_≡_};
 ghost use Rattle.card.specs.Limits.{topState};
 ghost use Rattle.meaning.specs.Seats.{counts as countsOf};
 ghost use Rattle.seating.specs.Judged.{judgedFrom, judgedSeats};
+ghost use Rattle.seating.specs.FirstRefusal.{firstRefusal};
 
 // Is each of them at most `most`? The first above is refused with the number.
 pub fn judge_each(list: &[u8], most: usize, number: u8) -> Verdict
@@ -32,6 +33,18 @@ pub fn judge_seats(seats: &[u8], n: usize, top: usize) -> Verdict
         return Verdict::Refused(WRONG_SEATS, 0);
     }
     judge_each(seats, top, SEAT_ABOVE_TOP)
+}
+
+// What is told of two judgements, one after the other: the first, where it refuses.
+pub fn first_refusal(first: Verdict, second: Verdict) -> Verdict
+    ensures { λ r. ⌜ r ≡ firstRefusal first second ⌝ }
+{
+    let earlier = first;
+    let later = second;
+    if let Verdict::Refused(number, place) = earlier {
+        return Verdict::Refused(number, place);
+    }
+    later
 }
 
 // How many seats are in each state that there can be; any other seat is passed over.

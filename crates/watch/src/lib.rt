@@ -8,6 +8,7 @@ use class_counts::enter_classes;
 use class_counts::judge_classes;
 use reader::read_into;
 use room::Answer;
+use seating::first_refusal;
 use seating::judge_seats;
 ghost use Rattle.room.specs.Answer.{Entered};
 ghost use Rattle.watch_said.specs.WatchSaid.{watchSaid};
@@ -24,13 +25,9 @@ pub fn watch(card: &[u8], seats: &[u8], classes: &[u8], room: &mut [u8]) -> Answ
     let of_card = outline.verdict;
     let of_seats = judge_seats(seats, head.seats, head.top);
     let of_list = judge_classes(classes, head.top);
-    if let Verdict::Refused(number, place) = of_card {
-        return Answer::Refused(number, place);
-    }
-    if let Verdict::Refused(number, place) = of_seats {
-        return Answer::Refused(number, place);
-    }
-    if let Verdict::Refused(number, place) = of_list {
+    let seated = first_refusal(of_card, of_seats);
+    let verdict = first_refusal(seated, of_list);
+    if let Verdict::Refused(number, place) = verdict {
         return Answer::Refused(number, place);
     }
     let counts = count_classes(seats, classes);

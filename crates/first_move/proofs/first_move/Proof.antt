@@ -1,8 +1,7 @@
--- `first_move::first_move` meets its contract: the stages in order, then what the walk finds. Assumes nothing.
-use Rattle.first_move.proofs.Entry.{card-refused, seats-refused, few, answered}
+-- `first_move::first_move` meets its contract: the first refusal of card and seats, or what the walk finds. Assumes nothing.
+use Rattle.first_move.proofs.Entry.{move-refused, few, answered}
 use Rattle.first_able.specs.Moved.{moved}
 use Rattle.outline.proofs.ReadInto.{arrays-none}
-use mathlib.Core.List.{[]}
 use mathlib.Core.Path.{sym, ap, _∙_}
 use borrow.Author.Needs.{needs}
 use Rattle.first_move.proofs.first_move.Statement.{statement}
@@ -14,27 +13,21 @@ read-into-requires c κs = arrays-none
 judge-seats-requires : tie.Need-judge-seats-requires
 judge-seats-requires c κs = search needs
 
-enum-known-of-card : tie.Need-enum-known-of-card
-enum-known-of-card c = search needs
+first-refusal-requires : tie.Need-first-refusal-requires
+first-refusal-requires c κs = search needs
+
+enum-known-verdict : tie.Need-enum-known-verdict
+enum-known-verdict c = search needs
 
 returns : tie.Need-returns
-returns c = sym (ap moved (card-refused _ _ (c .before .before .before .before .before .read-into .ensures) (c .before .of-card .given .1)))
+returns c =
+    let at-first-refusal = c .before .before .before in
+    let at-judge-seats = at-first-refusal .before in
+    let at-read-into = at-judge-seats .before .before in
+    sym (ap moved (move-refused _ _ (at-read-into .read-into .ensures) (at-judge-seats .judge-seats .ensures) (at-first-refusal .first-refusal .ensures) (c .before .verdict .given .1)))
 
 enum-told : tie.Need-enum-told
 enum-told c = search needs
-
-enum-known-of-seats : tie.Need-enum-known-of-seats
-enum-known-of-seats c = search needs
-
-returns-2 : tie.Need-returns-2
-returns-2 c =
-    let at-enum-told = c .before .before .before in
-    let at-judge-seats = at-enum-told .before .before in
-    let at-read-into = at-judge-seats .before .before in
-    sym (ap moved (seats-refused _ _ (at-read-into .read-into .ensures) (at-enum-told .enum-told .given .1) (at-judge-seats .judge-seats .ensures) (c .before .of-seats .given .1)))
-
-enum-told-2 : tie.Need-enum-told-2
-enum-told-2 c = search needs
 
 count-seats-requires : tie.Need-count-seats-requires
 count-seats-requires c κs = search needs
@@ -43,16 +36,23 @@ slice-aggregate-first-able : tie.Need-slice-aggregate-first-able
 slice-aggregate-first-able c = search needs
 
 first-able-requires : tie.Need-first-able-requires
-first-able-requires c κs = few _ [] (c .before .before .before .before .before .before .before .before .before .before .read-into .ensures) (c .before .before .before .before .before .before .enum-told .given .1)
-
-returns-3 : tie.Need-returns-3
-returns-3 c =
-    let at-count-seats = c .before .before .before .before in
-    let at-enum-told2 = at-count-seats .before in
-    let at-enum-told = at-enum-told2 .before .before in
-    let at-judge-seats = at-enum-told .before .before in
+first-able-requires c κs =
+    let at-enum-told = c .before .before .before .before in
+    let at-first-refusal = at-enum-told .before .before in
+    let at-judge-seats = at-first-refusal .before in
     let at-read-into = at-judge-seats .before .before in
-    c .first-able .ensures ∙ sym (ap moved (answered _ _ (at-read-into .read-into .ensures) (at-enum-told .enum-told .given .1) (at-judge-seats .judge-seats .ensures) (at-enum-told2 .enum-told2 .given .1) (at-count-seats .count-seats .ensures)))
+    few _ _ (at-read-into .read-into .ensures) (at-judge-seats .judge-seats .ensures) (at-first-refusal .first-refusal .ensures) (at-enum-told .enum-told .given .1)
+
+returns-2 : tie.Need-returns-2
+returns-2 c =
+    let at-count-seats = c .before .before .before .before in
+    let at-enum-told = at-count-seats .before in
+    let at-first-refusal = at-enum-told .before .before in
+    let at-judge-seats = at-first-refusal .before in
+    let at-read-into = at-judge-seats .before .before in
+    c .first-able .ensures
+    ∙ sym (ap moved (answered _ _ (at-read-into .read-into .ensures) (at-judge-seats .judge-seats .ensures) (at-first-refusal .first-refusal .ensures) (at-enum-told .enum-told .given .1)
+    (at-count-seats .count-seats .ensures)))
 
 pub first-move-spec : {M : Type 1} → statement M
 first-move-spec =
@@ -60,13 +60,11 @@ first-move-spec =
     (tie.spec
     read-into-requires
     judge-seats-requires
-    enum-known-of-card
+    first-refusal-requires
+    enum-known-verdict
     returns
     enum-told
-    enum-known-of-seats
-    returns-2
-    enum-told-2
     count-seats-requires
     slice-aggregate-first-able
     first-able-requires
-    returns-3)
+    returns-2)
