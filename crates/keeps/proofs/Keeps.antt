@@ -5,7 +5,7 @@ use Rattle.reader.proofs.read_under.Met.{met as read-under-met}
 use Rattle.writer.proofs.write.Met.{met as write-met}
 use Rattle.reducer.proofs.reduce.Met.{met as reduce-met}
 use Rattle.panel.proofs.panel.Met.{met as panel-met}
-use Rattle.program.proofs.respond.Met.{met as respond-met}
+use Rattle.panel.proofs.program.respond.Met.{met as respond-met}
 use Rattle.ask.proofs.ask.Met.{met as ask-met}
 use Rattle.contents.proofs.judge_deck.Met.{met as judge-deck-met}
 use Rattle.boxes.proofs.locate.Met.{met as locate-met}

@@ -8,7 +8,7 @@ use Rattle.reader.proofs.read_under.Statement.{statement as readUnderKeeps}
 use Rattle.writer.proofs.write.Statement.{statement as writeKeeps}
 use Rattle.reducer.proofs.reduce.Statement.{statement as reduceKeeps}
 use Rattle.panel.proofs.panel.Statement.{statement as panelKeeps}
-use Rattle.program.proofs.respond.Statement.{statement as respondKeeps}
+use Rattle.panel.proofs.program.respond.Statement.{statement as respondKeeps}
 use Rattle.ask.proofs.ask.Statement.{statement as askKeeps}
 use Rattle.contents.proofs.judge_deck.Statement.{statement as judgeDeckKeeps}
 use Rattle.boxes.proofs.locate.Statement.{statement as locateKeeps}

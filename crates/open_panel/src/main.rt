@@ -1,8 +1,8 @@
-// The panel program: reads standard input, prints the panel or the refusal. All that it prints is `program::respond`'s.
+// The panel program: reads standard input, prints the panel or the refusal. All that it prints is `panel::program::respond`'s.
 use libc::STDIN_FILENO;
 use libc::STDOUT_FILENO;
-use program::OUTPUT_BYTES;
-use program::respond;
+use panel::program::OUTPUT_BYTES;
+use panel::program::respond;
 
 fn main() {
     let mut input = io::large_buffer();

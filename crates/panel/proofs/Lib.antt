@@ -1,3 +1,5 @@
 pub mod Shown
 pub mod Entry
 pub mod Examples
+pub mod SeatsLine
+pub mod Parts

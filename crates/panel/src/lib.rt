@@ -1,4 +1,6 @@
 // The panel of a card and its seats ("Texts, byte for byte"), computed from the counts alone.
+pub mod program;
+
 use card::Verdict;
 use card::limits::BRANCH_PLACES;
 use card::limits::NODE_PLACES;

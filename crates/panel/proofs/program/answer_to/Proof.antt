@@ -1,12 +1,12 @@
--- `program::answer_to` meets its contract: the line of seats ends where it was found, and the card is what stands behind it. Assumes nothing.
+-- `panel::program::answer_to` meets its contract: the line of seats ends where it was found, and the card is what stands behind it. Assumes nothing.
 use borrow.Author.Needs.{needs}
 use lib.Seq.{length-take-le}
 use mathlib.Core.Path.{refl, sym}
 use native.Mathlib.Omega.{arith}
-use Rattle.program.proofs.Laws.{line-found, found-within}
-use Rattle.program.proofs.Parts.{handed-count, answer-said, card-from, card-left}
-use Rattle.program.proofs.answer_to.Statement.{statement}
-use Rattle.program.proofs.answer_to.Tie as tie
+use Rattle.panel.proofs.SeatsLine.{line-found, found-within}
+use Rattle.panel.proofs.Parts.{handed-count, answer-said, card-from, card-left}
+use Rattle.panel.proofs.program.answer_to.Statement.{statement}
+use Rattle.panel.proofs.program.answer_to.Tie as tie
 
 line-end-requires : tie.Need-line-end-requires
 line-end-requires c κs = search needs

@@ -1,7 +1,7 @@
 // The panel program as a function from the bytes that it reads to the bytes that it prints ("Texts, byte for byte").
+use crate::panel;
 use card::limits::MOST_SEATS;
 use line_ends::line_end;
-use panel::panel;
 use panel_room::PANEL_ROOM;
 use program_lines::put_refusal;
 use program_lines::put_seats;

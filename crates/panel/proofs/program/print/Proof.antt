@@ -1,10 +1,10 @@
--- `program::print` meets its contract: the panel, or the line of its refusal. Assumes nothing.
-use Rattle.program.proofs.Parts.{panel-short}
+-- `panel::program::print` meets its contract: the panel, or the line of its refusal. Assumes nothing.
+use Rattle.panel.proofs.Parts.{panel-short}
 use Rattle.program_lines.proofs.Printing.{printed-done, printed-refused}
 use native.Mathlib.Omega.{arith}
 use borrow.Author.Needs.{needs}
-use Rattle.program.proofs.print.Statement.{statement}
-use Rattle.program.proofs.print.Tie as tie
+use Rattle.panel.proofs.program.print.Statement.{statement}
+use Rattle.panel.proofs.program.print.Tie as tie
 
 panel-requires : tie.Need-panel-requires
 panel-requires c κs = search needs

@@ -1,11 +1,11 @@
--- `program::respond` meets its contract: the input is cut after so many bytes. Assumes nothing.
+-- `panel::program::respond` meets its contract: the input is cut after so many bytes. Assumes nothing.
 use mathlib.Core.Path.{sym}
 use lib.Seq.{length-take-le}
 use native.Mathlib.Nat.{le-of-lt}
-use Rattle.program.proofs.Parts.{program-short, program-long}
+use Rattle.panel.proofs.Parts.{program-short, program-long}
 use borrow.Author.Needs.{needs}
-use Rattle.program.proofs.respond.Statement.{statement}
-use Rattle.program.proofs.respond.Tie as tie
+use Rattle.panel.proofs.program.respond.Statement.{statement}
+use Rattle.panel.proofs.program.respond.Tie as tie
 
 slice-aggregate-answer-to : tie.Need-slice-aggregate-answer-to
 slice-aggregate-answer-to c = sym (length-take-le _ (c .before .before .before .args .input .now) (le-of-lt (c .before .if1 .taken)))
