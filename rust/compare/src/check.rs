@@ -422,7 +422,7 @@ impl Entry {
     }
 }
 
-/// The library's bound for the written cards of so many seats and statements (crate `writer`).
+/// The library's bound for the written cards of so many seats and statements (crate `texts`).
 const fn one_walk_write_room(seats: usize, statements: usize) -> usize {
     63 + statements * (265 + 144 * seats) + seats * 55
 }

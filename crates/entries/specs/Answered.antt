@@ -2,8 +2,8 @@
 use Prim.Native.Nat.{ℕ}
 use mathlib.Core.Bool.{Bool, true, false}
 use Rattle.entry.specs.Said.{Said, says, refused}
-use Rattle.ask.specs.declared.Asked.{Asked}
-use Rattle.ask.specs.declared.Asked.the-variants.{Yes, No, Refused}
+use Rattle.entries.specs.declared.Asked.{Asked}
+use Rattle.entries.specs.declared.Asked.the-variants.{Yes, No, Refused}
 
 abbrev pub asked : Said Bool → Asked
 asked (says true) = Yes

@@ -1,18 +1,14 @@
--- `writer::write` meets its contract: a refusal of the card is the card's, and of a card that is taken its text is what is said. Assumes
+-- `entries::write` meets its contract: a refusal of the card is the card's, and of a card that is taken its text is what is said. Assumes
 -- nothing.
 use Rattle.texts_said.specs.WriteSaid.{writeSaid, writeCard}
-use Rattle.outline.proofs.ReadInto.{refused-said, taken-holds, taken-said}
+use Rattle.outline.proofs.ReadInto.{arrays-none, refused-said, taken-holds, taken-said}
 use Rattle.room.proofs.Entries.{entered-refused}
-use Rattle.card.proofs.Filling.{zeros-repeat}
-use Rattle.card.specs.Lent.{lent}
-use Rattle.card.specs.Limits.{rowPlaces, nodePlaces, branchPlaces}
-use mathlib.Core.Path.{sym}
 use borrow.Author.Needs.{needs}
-use Rattle.writer.proofs.write.Statement.{statement}
-use Rattle.writer.proofs.write.Tie as tie
+use Rattle.entries.proofs.write.Statement.{statement}
+use Rattle.entries.proofs.write.Tie as tie
 
 read-into-requires : tie.Need-read-into-requires
-read-into-requires c κs = λ i. lent (sym (zeros-repeat rowPlaces) i) (sym (zeros-repeat nodePlaces) i) (sym (zeros-repeat branchPlaces) i)
+read-into-requires c κs = arrays-none
 
 enum-known-verdict : tie.Need-enum-known-verdict
 enum-known-verdict c = search needs

@@ -1,10 +1,10 @@
--- `watch::watch` meets its contract: the first refusal of card, seats and list, or the line. Assumes nothing.
-use Rattle.watch.proofs.Entry.{watch-refused, line-fits, line-said}
+-- `entries::watch` meets its contract: the first refusal of card, seats and list, or the line. Assumes nothing.
+use Rattle.entries.proofs.WatchStages.{watch-refused, line-fits, line-said}
 use Rattle.room.proofs.Entries.{entered-refused}
 use Rattle.outline.proofs.ReadInto.{arrays-none}
 use borrow.Author.Needs.{needs}
-use Rattle.watch.proofs.watch.Statement.{statement}
-use Rattle.watch.proofs.watch.Tie as tie
+use Rattle.entries.proofs.watch.Statement.{statement}
+use Rattle.entries.proofs.watch.Tie as tie
 
 read-into-requires : tie.Need-read-into-requires
 read-into-requires c κs = arrays-none

@@ -1,11 +1,11 @@
--- `first_move::first_move` meets its contract: the first refusal of card and seats, or what the walk finds. Assumes nothing.
-use Rattle.first_move.proofs.Entry.{move-refused, few, answered}
+-- `entries::first_move` meets its contract: the first refusal of card and seats, or what the walk finds. Assumes nothing.
+use Rattle.entries.proofs.MoveStages.{move-refused, few, answered}
 use Rattle.first_able.specs.Moved.{moved}
 use Rattle.outline.proofs.ReadInto.{arrays-none}
 use mathlib.Core.Path.{sym, ap, _∙_}
 use borrow.Author.Needs.{needs}
-use Rattle.first_move.proofs.first_move.Statement.{statement}
-use Rattle.first_move.proofs.first_move.Tie as tie
+use Rattle.entries.proofs.first_move.Statement.{statement}
+use Rattle.entries.proofs.first_move.Tie as tie
 
 read-into-requires : tie.Need-read-into-requires
 read-into-requires c κs = arrays-none

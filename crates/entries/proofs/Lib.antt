@@ -1,0 +1,2 @@
+pub mod MoveStages
+pub mod WatchStages
