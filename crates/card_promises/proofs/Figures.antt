@@ -61,4 +61,5 @@ figures = record {
   public-classes = refl;
   wrong-classes = refl;
   classes-room = refl;
+  list-room = refl;
 }

@@ -12,6 +12,7 @@ use Rattle.panel_wording.specs.PanelRoom.{panelRoom}
 use Rattle.panel_wording.specs.Lines.{inputBytes, lineEnd, noState}
 use Rattle.asking.specs.Asking.{inQuestion}
 use Rattle.classes.specs.ClassesRoom.{classesRoom}
+use Rattle.mending.specs.Mending.{listRoom}
 use Rattle.evenings.specs.Limits.{mostNights, mostVectors, million, tooManyVectors, tooManyNights, wrongRow}
 
 pub record Figures : Type 0 where
@@ -84,3 +85,4 @@ pub record Figures : Type 0 where
   pub reduced-room : reducedRoom ≡ 356082
   pub panel-room : panelRoom ≡ 4357
   pub classes-room : classesRoom ≡ 25
+  pub list-room : listRoom ≡ 640

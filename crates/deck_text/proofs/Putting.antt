@@ -1,7 +1,7 @@
 -- The deck put part by part: each entry leaves the others still to be put, and count, entries and bodies one behind the other are the deck's text.
 -- Assumes nothing.
 use Prim.Native.Nat.{ℕ, zero, suc, _+_, _-_, _*_, _/_, _≤_, _<_, min}
-use mathlib.Core.Path.{_≡_, refl, sym, ap, _∙_, subst}
+use mathlib.Core.Path.{_≡_, refl, sym, ap, _∙_}
 use mathlib.Core.List.{List, [], _∷_, _++_}
 use native.Mathlib.Omega.{arith}
 use lib.ListN.{length, drop, length-append}
@@ -14,10 +14,11 @@ use Rattle.deck_written.specs.Fine.{Fine}
 use Rattle.deck_written.proofs.Exactly.{counts}
 use Rattle.deck_written.proofs.Entries.{length-rows, count-said, bodies-said, rows-said}
 use Rattle.room.specs.Room.{clip, cap, Put}
-use Rattle.room.proofs.Laws.{clip-append, then, put-as, put-none, put-length}
+use Rattle.room.proofs.Laws.{clip-append, then, put-as}
 use Rattle.deck_lines.specs.Measured.{rowWith}
 use Rattle.deck_lines.proofs.Judging.{row-is}
 use Rattle.deck_text.specs.Parts.{linesText, DeckPut}
+use Rattle.deck_text.proofs.Still.{Still, still-all, still-none, still-less}
 
 -- ---- what is still to be put
 
@@ -25,29 +26,18 @@ use Rattle.deck_text.specs.Parts.{linesText, DeckPut}
 abbrev pub leftText : (contents : List ℕ) (left from offset : ℕ) → List ℕ
 leftText contents left from offset = rowsText (linesFor offset (rowsOf left (drop from contents))) []
 
--- whoever puts them at `to` has put all of them at `at`
-pub record Still (was is contents : List ℕ) (first at left from offset to : ℕ) : Type 0 where
-  pub completes : (b : List ℕ) (r : ℕ) → Put is b to (leftText contents left from offset) r → Put was b at (linesText first contents) r
-  pub long : length is ≡ length was
-  pub small : length is < cap
-  pub capped : to ≤ cap
+pub record LinesLeft (was is contents : List ℕ) (first at left from offset to : ℕ) : Type 0 where
+  pub still : Still was is at (linesText first contents) (leftText contents left from offset) to
   pub inside : from + 8 * left ≤ length contents
   pub short : offset + sizes (rowsOf left (drop from contents)) ≤ 65535
 
-pub still-all : {was : List ℕ} {at to : ℕ} (contents : List ℕ) (first : ℕ) → length was < cap → to ≡ min at cap → first + sizes (lines contents) ≤ 65535
-    → Still was was contents first at (length contents / 8) 0 first to
-still-all {was} {at} {to} contents first s e h = record {
-  completes = λ b r p. then (put-none s e) p;
-  long = refl;
-  small = s;
-  capped = omega arith;
-  inside = omega arith;
-  short = h;
-}
+pub lines-start : {was : List ℕ} {at to : ℕ} (contents : List ℕ) (first : ℕ) → length was < cap → to ≡ min at cap → first + sizes (lines contents) ≤ 65535
+    → LinesLeft was was contents first at (length contents / 8) 0 first to
+lines-start {was} {at} {to} contents first s e h = record { still = still-all (linesText first contents) s e; inside = omega arith; short = h }
 
-module _ {was is contents : List ℕ} {first at left from offset to : ℕ} (s : Still was is contents first at left from offset to) where
-  pub still-none : left ≡ 0 → Put was is at (linesText first contents) to
-  still-none e = s .completes is to (put-as (ap (λ (k : ℕ). leftText contents k from offset) e) (put-none (s .small) (omega (arith, s .capped))))
+module _ {was is contents : List ℕ} {first at left from offset to : ℕ} (s : LinesLeft was is contents first at left from offset to) where
+  pub lines-end : left ≡ 0 → Put was is at (linesText first contents) to
+  lines-end e = still-none (s .still) (ap (λ (k : ℕ). leftText contents k from offset) e)
 
   module _ (some : left ≡ 0 → ⊥) where
     abbrev row : Row
@@ -88,12 +78,9 @@ module _ {was is contents : List ℕ} {first at left from offset to : ℕ} (s : 
           ∙ ap (λ (k : ℕ). rowText (rowWith n offset z f o) (rowsText (linesFor (offset + k) rest) [])) sized
           ∙ ap (λ (rs : List Row). rowText (rowWith n offset z f o) (rowsText (linesFor (offset + z) rs) [])) behind-8
 
-      pub still-less : {b : List ℕ} {m : ℕ} → Put is b to (rowText (rowWith n offset z f o) []) m → Still was b contents first at (left - 1) (from + 8) (offset + z) m
-      still-less {b} {m} p = record {
-        completes = λ d r q. s .completes d r (put-as left-text (then p q));
-        long = put-length p ∙ s .long;
-        small = omega (arith, put-length p, s .small);
-        capped = omega (arith, p .next);
+      pub lines-next : {b : List ℕ} {m : ℕ} → Put is b to (rowText (rowWith n offset z f o) []) m → LinesLeft was b contents first at (left - 1) (from + 8) (offset + z) m
+      lines-next p = record {
+        still = still-less (s .still) (leftText contents (left - 1) (from + 8) (offset + z)) left-text p;
         inside = omega (arith, s .inside, some);
         short = omega (arith, s .short, left-sizes, ap sizes behind-8);
       }
@@ -107,7 +94,7 @@ deck-put {contents = contents} {bodies = bodies} {first = first} p q s =
     let front = then p q in
     record { small = p .small; wrote = s .wrote ∙ ap (λ (x : List ℕ). clip x first bodies) (front .wrote); next = s .next }
 
-rows-before : (rs : List Row) (rest : List ℕ) → rowsText rs rest ≡ rowsText rs [] ++ rest
+pub rows-before : (rs : List Row) (rest : List ℕ) → rowsText rs rest ≡ rowsText rs [] ++ rest
 rows-before [] rest = refl
 rows-before (r ∷ rs) rest = ap (rowText r) (rows-before rs rest)
 

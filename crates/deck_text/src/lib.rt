@@ -28,7 +28,7 @@ fn put_word(room: &mut [u8], at: usize, n: usize) -> usize
 }
 
 // The eight bytes of an entry.
-fn put_row(
+pub fn put_row(
     room: &mut [u8],
     at: usize,
     number: usize,

@@ -5,3 +5,4 @@ pub mod DeckWriting
 pub mod Elevenths
 pub mod FirstMoves
 pub mod Nights
+pub mod Mendings

@@ -17,6 +17,8 @@ use entries::first_move;
 use entries::watch;
 use entries::write;
 use first_able::FirstMove;
+use mend::mend;
+use mended_told::tell_mended;
 use odds::odds;
 use panel::panel;
 use reader::read_into;
@@ -28,6 +30,8 @@ ghost use Rattle.deck.specs.Contents.{judged as deckJudged};
 ghost use Rattle.deck.specs.Lookup.{located, locatedWith};
 ghost use Rattle.deck_entries.specs.Verdicts.{verdictOf};
 ghost use Rattle.deck_written.specs.WriteDeckSaid.{writeDeckSaid};
+ghost use Rattle.mending.specs.Mending.{mendSaid};
+ghost use Rattle.mended_told.specs.LentRooms.{lent, RoomsTold};
 ghost use Rattle.texts_said.specs.WriteSaid.{writeSaid};
 ghost use Rattle.texts_said.specs.ReduceSaid.{reduceSaid};
 ghost use Rattle.panel_said.specs.PanelSaid.{panelSaid};
@@ -165,6 +169,20 @@ pub extern "C" fn open_panel_box_write(
 {
     let answer = write_deck(contents, bodies, room);
     in_numbers(answer)
+}
+
+// A damaged box mended: the new deck, and a list with a line for each entry, whose length goes into the lent number.
+#[no_mangle]
+pub extern "C" fn open_panel_mend(
+    deck: &[u8],
+    room: &mut [u8],
+    list: &mut [u8],
+    list_length: &mut [usize; 1],
+) -> OpenPanelAnswer
+    ensures { λ r. ⌜ RoomsTold (lent (two (now (room .entry)) (now (list .entry))) (now («list_length» .entry))) (lent (two (now (room .exit)) (now (list .exit))) (now («list_length» .exit))) (mendSaid (now (deck .entry))) r ⌝ }
+{
+    let mended = mend(deck, room, list);
+    tell_mended(mended, list_length)
 }
 
 // The line of class counts for a spectator, by a list of the states' classes.

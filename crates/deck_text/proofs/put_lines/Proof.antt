@@ -2,12 +2,12 @@
 use mathlib.Core.Path.{refl}
 use native.Mathlib.Omega.{arith}
 use borrow.Author.Needs.{needs}
-use Rattle.deck_text.proofs.Putting.{Still, still-all, still-none, still-less, first-offset}
+use Rattle.deck_text.proofs.Putting.{LinesLeft, lines-start, lines-end, lines-next, first-offset}
 use Rattle.deck_text.proofs.put_lines.Statement.{statement}
 use Rattle.deck_text.proofs.put_lines.Tie as tie
 
 abbrev Inv-loop : tie.InvT-loop
-Inv-loop room₀ at contents first left₀ from₀ offset₀ to₀ room left from offset to = Still room₀ room contents first at left from offset to
+Inv-loop room₀ at contents first left₀ from₀ offset₀ to₀ room left from offset to = LinesLeft room₀ room contents first at left from offset to
 
 abbrev μ-loop : tie.MeasureT-loop
 μ-loop room₀ at contents first left₀ from₀ offset₀ to₀ room left from offset to = left
@@ -18,7 +18,7 @@ place-requires c κs = search needs
 loop-holds : tie.Need-loop-holds Inv-loop μ-loop
 loop-holds c =
     let start = c .before .before .before in
-    still-all (start .args .contents .now) (start .args .first) (search needs) (c .place .ensures) (start .pre)
+    lines-start (start .args .contents .now) (start .args .first) (search needs) (c .place .ensures) (start .pre)
 
 word-at-requires : tie.Need-word-at-requires Inv-loop μ-loop
 word-at-requires c κs = omega (arith, c .before .loop .inv .inside, c .loop-test .taken)
@@ -98,13 +98,13 @@ loop-again c =
     let at-word-at = at-word-at2 .before in
     let at-loop-test = at-word-at .before in
     let at-loop = at-loop-test .before in
-    still-less (at-loop .loop .inv) (at-loop-test .loop-test .taken) (at-word-at .word-at .ensures .0) (at-word-at2 .word-at2 .ensures .0) refl refl (at-put-row .put-row .ensures)
+    lines-next (at-loop .loop .inv) (at-loop-test .loop-test .taken) (at-word-at .word-at .ensures .0) (at-word-at2 .word-at2 .ensures .0) refl refl (at-put-row .put-row .ensures)
 
 same-length : tie.Need-same-length Inv-loop μ-loop
-same-length c = c .before .loop .inv .long
+same-length c = c .before .loop .inv .still .long
 
 returns : tie.Need-returns Inv-loop μ-loop
-returns c = still-none (c .before .loop .inv) (c .loop-test .left)
+returns c = lines-end (c .before .loop .inv) (c .loop-test .left)
 
 pub put-lines-spec : {M : Type 1} → statement M
 put-lines-spec =

@@ -1,0 +1,4 @@
+mod Accepting
+mod Judging
+mod Going
+mod Ready

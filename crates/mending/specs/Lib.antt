@@ -1,0 +1,3 @@
+pub mod Mending
+pub mod Accepted
+pub mod Rules
