@@ -28,7 +28,7 @@ const char *open_panel_words(uint8_t number) {
     case OPEN_PANEL_SEAT_COUNT: return "not as many seats as the card has";
     case OPEN_PANEL_SEAT_STATE: return "a seat above the card's top state";
     case OPEN_PANEL_ROOM: return "the room is too small";
-    case OPEN_PANEL_DECK: return "a malformed deck, or contents and bodies that make none";
+    case OPEN_PANEL_DECK: return "a malformed deck, contents and bodies that make none, or nothing to keep";
     case OPEN_PANEL_NO_CARD: return "no live card has this number";
     case OPEN_PANEL_CLASSES: return "not one class for each state, or a class above " TEXT(OPEN_PANEL_TOP_CLASS);
     case OPEN_PANEL_VECTORS: return "the table has more than " TEXT(OPEN_PANEL_ODDS_ROW) " count vectors";

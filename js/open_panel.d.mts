@@ -8,6 +8,12 @@ export interface Part {
     length: number;
 }
 
+/** What can be kept of a damaged deck, and a line for each of its entries: `kept`, or `dropped` and a rule from 1 to 4. */
+export interface Mended {
+    deck: Uint8Array;
+    list: string;
+}
+
 /** What a function throws when it turns something down. */
 export declare class Refusal extends Error {
     /** Which refusal: one of the numbers of open_panel.h. */

@@ -17,6 +17,7 @@ export const numbers = Object.freeze(NUMBERS);
 
 const ANSWER_BYTES = 16;
 const PART_BYTES = 24;
+const LENGTH_BYTES = 8;
 const ROW_NUMBER_BYTES = 4;
 const PAGE = 65536;
 const UNKNOWN = "a refusal that this library does not know";
@@ -87,9 +88,10 @@ class Panel {
         const texts = {};
         const copied = [];
         const lent = {};
-        const room = NUMBERS[`${name.toUpperCase()}_ROOM`] ?? NUMBERS.DECK_BYTES;
+        // a list has its own room, a text its entry's, and a deck one that is always enough
+        const roomOf = (of) => NUMBERS[`${(of === "room" ? name : of).toUpperCase()}_ROOM`] ?? NUMBERS.DECK_BYTES;
         const row = NUMBERS[`${name.toUpperCase()}_ROW`];
-        const due = takes.filter(([kind]) => !["room", "row", "part"].includes(kind));
+        const due = takes.filter(([kind]) => !["room", "row", "part", "length"].includes(kind));
         if (given.length !== due.length) throw new TypeError(`${name} takes ${due.map(([, of]) => of).join(", ")}`);
         let next = 0;
         const handed = takes.flatMap(([kind, of]) => {
@@ -102,13 +104,16 @@ class Panel {
                     return [place, BigInt(bytes.length)];
                 }
                 case "room":
-                    lent.room = lend(room);
-                    return [lent.room, BigInt(room)];
+                    lent[of] = lend(roomOf(of));
+                    return [lent[of], BigInt(roomOf(of))];
                 case "row":
                     return [lend(row * ROW_NUMBER_BYTES), BigInt(row)];
                 case "part":
                     lent.part = lend(PART_BYTES);
                     return [lent.part];
+                case "length":
+                    lent[of] = lend(LENGTH_BYTES);
+                    return [lent[of]];
                 case "u64":
                     return [BigInt(whole(of, given[next++], 64))];
                 default:
@@ -126,11 +131,16 @@ class Panel {
         const number = told.getUint8(answerAt);
         const value = Number(told.getBigUint64(answerAt + 8, true));
         if (number !== 0) throw new Refusal(number, value, texts);
+        const text = (place, length) => new TextDecoder().decode(bytes.subarray(place, place + length));
         switch (answer) {
             case "text":
-                return new TextDecoder().decode(bytes.subarray(lent.room, lent.room + value));
+                return text(lent.room, value);
             case "bytes":
                 return bytes.slice(lent.room, lent.room + value);
+            case "mended": {
+                const listed = Number(told.getBigUint64(lent.listed, true));
+                return { deck: bytes.slice(lent.room, lent.room + value), list: text(lent.list, listed) };
+            }
             case "part": {
                 const [inExpansion, offset, length] = [0, 8, 16].map((at) => Number(told.getBigUint64(lent.part + at, true)));
                 return { inExpansion: inExpansion === 1, offset, length };

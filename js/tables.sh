@@ -12,7 +12,8 @@ made=$2
 entries=$("$root/bin/entries" | awk '
     {
         answer = "number"
-        if (/ room:/) answer = $1 ~ /^box_/ ? "bytes" : "text"
+        if (/ length:/) answer = "mended"
+        else if (/ room:/) answer = $1 ~ /^box_/ ? "bytes" : "text"
         else if (/ part:/) answer = "part"
         else if ($1 == "ask") answer = "yes"
         else if ($1 ~ /judge$/) answer = "nothing"
@@ -52,7 +53,7 @@ entries=$("$root/bin/entries" | awk '
 awk '
     BEGIN {
         type["text"] = "string"; type["bytes"] = "Uint8Array"; type["part"] = "Part"; type["yes"] = "boolean"
-        type["nothing"] = "void"; type["number"] = "number"
+        type["nothing"] = "void"; type["number"] = "number"; type["mended"] = "Mended"
     }
     {
         name = $1
@@ -60,7 +61,7 @@ awk '
         out = ""
         for (i = 3; i <= NF; i++) {
             split($i, take, ":")
-            if (take[1] ~ /^(room|row|part)$/) continue
+            if (take[1] ~ /^(room|row|part|length)$/) continue
             out = out (out ? ", " : "") take[2] ": " (take[1] == "bytes" ? "Bytes" : "number")
         }
         print "    /** `open_panel_" $1 "` of open_panel.h. */"

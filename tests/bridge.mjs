@@ -2,7 +2,8 @@
 //
 // An entry takes where its answer goes, and for each piece where it lies (a number) and its length (a BigInt). One that finds a card takes
 // the card's number as a number, and of the part only where it lies. Odds take the steps as a BigInt and the aim as a number, and each row as
-// where it lies and how many numbers it has.
+// where it lies and how many numbers it has. Mending takes both its rooms so, and of the list's length only where it goes; each of the three
+// lies apart from the others while it runs.
 import { readFileSync, readSync, writeSync } from "node:fs";
 
 const GUARD = 64;
@@ -34,6 +35,13 @@ function give(bytes) {
 for (let guard = 0; ; guard = guard >= 122 ? 32 : guard + 1) {
     const lengths = Array.from({ length: takeNumber() }, takeNumber);
     const [name, ...pieces] = lengths.map(take);
+    const mends = name.toString() === "open_panel_mend";
+    if (mends) {
+        const [inRoom, all] = [Number(pieces.at(-2).readBigUInt64LE()), pieces.at(-1)];
+        pieces.splice(-2, 2, all.subarray(0, inRoom), all.subarray(inRoom, -NUMBER), all.subarray(-NUMBER));
+    }
+    // what is written: the room, or both rooms and the list's length
+    const written = pieces.length - (mends ? 3 : 1);
     let end = answerAt + ANSWER + GUARD;
     const places = pieces.map((piece) => {
         const place = Math.ceil(end / NUMBER) * NUMBER;
@@ -55,15 +63,17 @@ for (let guard = 0; ; guard = guard >= 122 ? 32 : guard + 1) {
         const rowsAt = places.at(-1);
         words.splice(3, 4, [steps.readBigUInt64LE()], [aim[0]], [rowsAt, inFirst], [rowsAt + 4 * Number(inFirst), inBoth - inFirst]);
     }
+    if (mends) words.splice(-1, 1, [places.at(-1)]);
     entries[name.toString()](answerAt, ...words.flat());
 
-    const roomAt = places.at(-1);
-    const behind = roomAt + pieces.at(-1).length;
     const kept = (from, to) => Buffer.compare(lent.subarray(from, to), before.subarray(from - answerAt, to - answerAt)) === 0;
-    const spoilt = !kept(answerAt + ANSWER, roomAt) || !kept(behind, end);
+    const rooms = pieces.map((piece, i) => [places[i], places[i] + piece.length]).slice(written);
+    const between = [answerAt + ANSWER, ...rooms.flat(), end];
+    let spoilt = false;
+    for (let i = 0; i < between.length; i += 2) spoilt ||= !kept(between[i], between[i + 1]);
     const answer = new DataView(memory.buffer, answerAt, ANSWER);
     const head = Buffer.alloc(ANSWER);
     head.writeBigUInt64LE(spoilt ? SPOILT : BigInt(answer.getUint8(0)), 0);
     head.writeBigUInt64LE(answer.getBigUint64(NUMBER, true), NUMBER);
-    give(Buffer.concat([head, lent.subarray(roomAt, behind)]));
+    give(Buffer.concat([head, ...rooms.map(([from, to]) => lent.subarray(from, to))]));
 }

@@ -169,6 +169,35 @@ expect 1 '' '*: refused 11 7: the flag of entry 1 is 2, and *byte 1 | 01 00 19 0
 expect 1 '' '*: refused 11 65543: the flag of entry 1 is 2, and *' box find "$made/night.box" "$made/bad.box" 1
 expect 1 '' '*: refused 11 8: entry 2 has the number 1, and one above 1 was due' box write "$made/none.box" 1=examples/card-a 1=examples/card-a
 
+# damaged boxes mended: one that is whole stays, byte for byte; an entry is dropped for its flag, another for its card
+became='entry  number  became
+    1       1  kept
+    2       2  kept
+    3       9  kept'
+expect 0 "$became" '' box mend "$made/night.box" "$made/same.box"
+cmp "$made/night.box" "$made/same.box" || { echo "desk: a box that is whole does not stay" && wrong=$((wrong + 1)); }
+became='entry  number  became
+    1       1  dropped 1: the flag of entry 1 is 2, and 1 for live or 0 for withdrawn was due
+    2       2  kept
+    3       9  kept'
+expect 0 "$became" '' box mend "$made/bad.box" "$made/mended.box"
+expect 0 "number *2  live *9  withdrawn *" '' box list "$made/mended.box"
+expect 0 "$(bin/desk box find "$made/night.box" 2)" '' box find "$made/mended.box" 2
+expect 1 '' '*: refused 12 0: card 1 is not in the box*' box find "$made/mended.box" 1
+given 0 "$became" '' "$(od -An -v -to1 "$made/bad.box" | sed 's/ \([0-7]\)/\\0\1/g' | tr -d ' \n')" box mend - "$made/again.box"
+cmp "$made/mended.box" "$made/again.box" || { echo "desk: a box from standard input is mended otherwise" && wrong=$((wrong + 1)); }
+# to standard output, which a pipe carries on
+[ "$(bin/desk box mend "$made/bad.box" - 2>&1 >/dev/null)" = "$became" ] || { echo "desk: what became of a box in a pipe" && wrong=$((wrong + 1)); }
+[ "$(bin/desk box mend "$made/bad.box" - 2>/dev/null | bin/desk box list -)" = "$(bin/desk box list "$made/mended.box")" ] || { echo "desk: a mended box in a pipe" && wrong=$((wrong + 1)); }
+refusal="$made/unread.box: refused 11 0: the box says that it holds 1 card, and none of it can be kept
+entry  number  became
+    1       1  dropped 4: refused 6 60: the group leaves out seat 3, *"
+expect 1 '' "$refusal" box mend "$made/unread.box" "$made/none.box"
+printf '\101' >"$made/count.box"
+expect 1 '' '*: refused 11 0: the box says that it holds 65 cards, and 1 to 64 were due*byte 0 | 41*^^' box mend "$made/count.box" "$made/none.box"
+[ ! -e "$made/none.box" ] || { echo "desk: a box past mending was written" && wrong=$((wrong + 1)); }
+expect 2 '' 'desk: `desk box mend` takes the damaged box, and the box to write*' box mend "$made/bad.box"
+
 # wrong words
 expect 2 '' 'desk: a command is due*'
 expect 2 '' 'desk: there is no command `show`*' show examples/card-a

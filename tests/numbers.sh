@@ -64,6 +64,7 @@ number WRITE_ROOM writtenRoom
 number REDUCE_ROOM reducedRoom
 number SHOW_ROOM panelRoom
 number WATCH_ROOM classesRoom
+number LIST_ROOM listRoom
 
 refusal LONG Long tooLong
 refusal MARK Mark outsideRules
@@ -103,6 +104,7 @@ stack BOX_JUDGE JUDGE_DECK
 stack BOX_FIND FIND
 stack BOX_FIND_WITH FIND_WITH
 stack BOX_WRITE WRITE_DECK
+stack MEND MEND
 for entry in $(sed -n 's/^open_panel_answer open_panel_\([a-z_]*\)(.*/\1/p' include/open_panel.h); do
     grep -q "^#define OPEN_PANEL_STACK_${entry^^} " include/open_panel.h || { echo "numbers: no stack of $entry" && wrong=$((wrong + 1)); }
 done

@@ -33,6 +33,7 @@ through() {
     held requests/2026-07 requests/2026-07 first_move "${@:2}"
     # the JavaScript module lends rows itself, and does not hand them out
     [[ $1 = *mjs ]] || held requests/2026-08 requests/2026-08 odds "${@:2}"
+    held requests/2026-09 requests/2026-09 mend "${@:2}"
 }
 
 through "$machine-linux, by the Rust wrapper"

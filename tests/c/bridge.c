@@ -5,9 +5,11 @@
  * A request is numbers of eight bytes, low byte first: how many pieces, and the
  * length of each; then the pieces: the name of an entry, what it only reads, and
  * its room (of no length for an entry without one; for one that finds a card the
- * part, as three such numbers; for odds both rows). A card number is a piece of
+ * part, as three such numbers; for odds both rows; for mending the deck's room, the
+ * list's, and the length of the list as such a number). A card number is a piece of
  * two bytes, low byte first; odds take the steps and the first row's length as
- * such numbers, between them a byte for the aim. The answer is the entry's number and value and then the whole room. Before and behind each piece stand
+ * such numbers, between them a byte for the aim, and mending the length of the
+ * deck's room. The answer is the entry's number and value and then the whole room. Before and behind each piece stand
  * bytes that the library must not write: the number is SPOILT if one of them, or
  * of what is only read, is not what it was.
  */
@@ -33,7 +35,7 @@ static size_t number_of(const uint8_t *bytes);
 
 /* Rows of numbers, with bytes around each that the library must not write. */
 enum { ROW_NUMBER = 4, AROUND = 16 };
-static int rows_spoilt;
+static int lent_spoilt;
 
 static uint32_t *row_of(const uint8_t *bytes, size_t length) {
     uint32_t *row = malloc((length + 2 * AROUND) * ROW_NUMBER);
@@ -50,7 +52,7 @@ static uint32_t *row_of(const uint8_t *bytes, size_t length) {
 static void put_row(uint8_t *bytes, uint32_t *row, size_t length) {
     size_t i;
     for (i = 0; i < AROUND; i++) {
-        rows_spoilt |= row[i] != 0xa5a5a5a5 || row[AROUND + length + i] != 0xa5a5a5a5;
+        lent_spoilt |= row[i] != 0xa5a5a5a5 || row[AROUND + length + i] != 0xa5a5a5a5;
     }
     if (length > 0) {
         memcpy(bytes, row + AROUND, length * ROW_NUMBER);
@@ -66,6 +68,43 @@ static open_panel_answer odds(const piece *p) {
                                                number_of(p[3].at), p[4].at[0], a + AROUND, first, b + AROUND, second);
     put_row(p[6].at, a, first);
     put_row(behind, b, second);
+    return answer;
+}
+
+/* A room for each of two that are lent as one, with bytes around each that the library must not write. */
+static uint8_t *room_of(const uint8_t *bytes, size_t length) {
+    uint8_t *room = malloc(length + 2 * GUARD);
+    if (room == NULL) {
+        exit(1);
+    }
+    memset(room, 0xa5, length + 2 * GUARD);
+    if (length > 0) {
+        memcpy(room + GUARD, bytes, length);
+    }
+    return room;
+}
+
+static void put_room(uint8_t *bytes, uint8_t *room, size_t length) {
+    size_t i;
+    for (i = 0; i < GUARD; i++) {
+        lent_spoilt |= room[i] != 0xa5 || room[GUARD + length + i] != 0xa5;
+    }
+    if (length > 0) {
+        memcpy(bytes, room + GUARD, length);
+    }
+    free(room);
+}
+
+static open_panel_answer mend(const piece *p) {
+    const size_t length = number_of(p[1].at), list_length = p[2].length - NUMBER - length;
+    uint8_t *behind = p[2].at + length, *told = behind + list_length;
+    uint8_t *room = room_of(p[2].at, length), *list = room_of(behind, list_length);
+    size_t listed = number_of(told);
+    open_panel_answer answer = open_panel_mend(p[0].at, p[0].length, length == 0 ? NULL : room + GUARD, length,
+                                               list_length == 0 ? NULL : list + GUARD, list_length, &listed);
+    put_room(p[2].at, room, length);
+    put_room(behind, list, list_length);
+    put_number(told, listed);
     return answer;
 }
 
@@ -106,6 +145,8 @@ static int enter(const char *name, const piece *p, open_panel_answer *answer) {
         put_part(p + 3, &part);
     } else if (strcmp(name, "open_panel_box_write") == 0) {
         *answer = open_panel_box_write(p[0].at, p[0].length, p[1].at, p[1].length, p[2].at, p[2].length);
+    } else if (strcmp(name, "open_panel_mend") == 0) {
+        *answer = mend(p);
     } else {
         return 0;
     }
@@ -222,7 +263,7 @@ int main(void) {
             return 1;
         }
         i = p[pieces - 1].length;
-        spoilt = rows_spoilt || memcmp(store, before, (size_t)(room - store)) != 0 || memcmp(room + i, before + (room + i - store), GUARD) != 0;
+        spoilt = lent_spoilt || memcmp(store, before, (size_t)(room - store)) != 0 || memcmp(room + i, before + (room + i - store), GUARD) != 0;
         /* The answer goes where the guard before the room was, so that all is given at once. */
         put_number(room - 2 * NUMBER, spoilt ? SPOILT : answer.number);
         put_number(room - NUMBER, answer.value);

@@ -44,6 +44,11 @@ static const uint8_t contents[] = {5, 0, 0, 0, 3, 0, 1, 0, 7, 1, 0, 0, 2, 0, 0, 
 static const char bodies[] = "onetw";
 static const char deck[] = "\2\5\0\21\0\3\0\1\0\7\1\24\0\2\0\0\0onetw";
 
+/* Card 1 withdrawn behind a gap, card 2 live and no card, card 3 withdrawn with a flag that is none; and what can be kept of it. */
+static const char damaged[] = "\3\1\0\32\0\2\0\0\0\2\0\34\0\1\0\1\0\3\0\35\0\1\0\2\0-abcd";
+static const char mended[] = "\1\1\0\11\0\2\0\0\0ab";
+static const char what_became[] = "kept\ndropped 4\ndropped 1\n";
+
 enum { GUARD = 16, UNTOUCHED = 0xa5 };
 
 /* A room with bytes on both sides that nothing may touch. */
@@ -73,6 +78,32 @@ static void answers(open_panel_answer answer, unsigned number, size_t value, con
     }
     expect(untouched, what);
     memset(store, UNTOUCHED, sizeof store);
+}
+
+/* A room for a list, with bytes on both sides, and its length. */
+static uint8_t list_store[GUARD + OPEN_PANEL_LIST_ROOM + GUARD];
+static uint8_t *const list = list_store + GUARD;
+static size_t listed = UNTOUCHED;
+
+/* Whether mending answers this, with both texts, and nothing else is touched. */
+static void mends(open_panel_answer answer, unsigned number, size_t value, const char *made, size_t made_len, const char *lines,
+                  const char *what) {
+    const size_t lines_len = strlen(lines);
+    size_t i;
+    int untouched = 1;
+    expect(answer.number == number && answer.value == value, what);
+    expect(listed == (number == 0 ? lines_len : UNTOUCHED), what);
+    expect(memcmp(room, made, made_len) == 0 && memcmp(list, lines, lines_len) == 0, what);
+    for (i = 0; i < sizeof store; i++) {
+        untouched &= (i >= GUARD && i < GUARD + made_len) || store[i] == UNTOUCHED;
+    }
+    for (i = 0; i < sizeof list_store; i++) {
+        untouched &= (i >= GUARD && i < GUARD + lines_len) || list_store[i] == UNTOUCHED;
+    }
+    expect(untouched, what);
+    memset(store, UNTOUCHED, sizeof store);
+    memset(list_store, UNTOUCHED, sizeof list_store);
+    listed = UNTOUCHED;
 }
 
 static const uint8_t *bytes(const char *text) {
@@ -117,9 +148,13 @@ int main(void) {
     const size_t a_len = sizeof card_a - 1;
     const size_t panel_len = sizeof panel_at_001 - 1;
     const size_t deck_len = sizeof deck - 1;
+    const size_t damaged_len = sizeof damaged - 1;
+    const size_t mended_len = sizeof mended - 1;
+    const size_t lines_len = sizeof what_became - 1;
     open_panel_part part = {UNTOUCHED, UNTOUCHED, UNTOUCHED};
     open_panel_answer answer;
     memset(store, UNTOUCHED, sizeof store);
+    memset(list_store, UNTOUCHED, sizeof list_store);
 
     answers(open_panel_judge(a, a_len), OPEN_PANEL_TAKEN, 0, "", "judge takes card A");
     answers(open_panel_judge(a, a_len - 1), OPEN_PANEL_TAKEN, 0, "", "judge takes card A without its last LF");
@@ -211,6 +246,24 @@ int main(void) {
     answers(open_panel_box_write(contents, sizeof contents, bytes(bodies), sizeof bodies, room, deck_len), OPEN_PANEL_DECK,
             sizeof contents, "", "bodies longer than the contents say");
     answers(open_panel_box_write(NULL, 0, NULL, 0, NULL, 0), OPEN_PANEL_DECK, 0, "", "no contents");
+
+    mends(open_panel_mend(bytes(damaged), damaged_len, room, damaged_len, list, OPEN_PANEL_LIST_ROOM, &listed), OPEN_PANEL_TAKEN,
+          mended_len, mended, mended_len, what_became, "a damaged deck, mended");
+    mends(open_panel_mend(bytes(damaged), damaged_len, room, mended_len, list, lines_len, &listed), OPEN_PANEL_TAKEN, mended_len,
+          mended, mended_len, what_became, "the same in rooms that just fit");
+    mends(open_panel_mend(bytes(mended), mended_len, room, mended_len, list, OPEN_PANEL_LIST_ROOM, &listed), OPEN_PANEL_TAKEN,
+          mended_len, mended, mended_len, "kept\n", "a mended deck, mended");
+    mends(open_panel_mend(bytes(damaged), damaged_len, room, mended_len - 1, list, lines_len - 1, &listed), OPEN_PANEL_ROOM,
+          mended_len, "", 0, "", "both rooms one byte short");
+    mends(open_panel_mend(bytes(damaged), damaged_len, room, mended_len, list, lines_len - 1, &listed), OPEN_PANEL_ROOM, lines_len,
+          "", 0, "", "a list one byte short");
+    mends(open_panel_mend(bytes(damaged), damaged_len, NULL, 0, NULL, 0, &listed), OPEN_PANEL_ROOM, mended_len, "", 0, "",
+          "the length of a mended deck");
+    mends(open_panel_mend(bytes(damaged), damaged_len, room, mended_len, NULL, 0, &listed), OPEN_PANEL_ROOM, lines_len, "", 0, "",
+          "the length of a list");
+    mends(open_panel_mend(bytes(damaged), 24, NULL, 0, NULL, 0, &listed), OPEN_PANEL_DECK, 0, "", 0, "", "contents cut short");
+    mends(open_panel_mend(bytes(damaged), 25, room, GUARD, list, GUARD, &listed), OPEN_PANEL_DECK, 0, "", 0, "", "nothing to keep");
+    mends(open_panel_mend(NULL, 0, NULL, 0, NULL, 0, &listed), OPEN_PANEL_DECK, 0, "", 0, "", "no deck to mend");
 
     words_are_known();
     at(a, a_len, 0, 1, 1, "the first byte");

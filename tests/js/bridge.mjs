@@ -38,6 +38,7 @@ function answered(name, pieces, room) {
         pieces.push(pieces.pop().readUInt16LE());
         room.fill(0);
     }
+    const inRoom = called === "mend" && pieces.pop();
     try {
         const answer = panel[called](...pieces);
         if (answer === undefined) return [0, 0];
@@ -45,6 +46,16 @@ function answered(name, pieces, room) {
         if (called.startsWith("boxFind")) {
             Buffer.concat([answer.inExpansion ? 1 : 0, answer.offset, answer.length].map(eightBytes)).copy(room);
             return [0, 0];
+        }
+        if (called === "mend") {
+            const [deck, list] = [answer.deck, answer.list].map((made) => Buffer.from(made));
+            const listAt = Number(inRoom.readBigUInt64LE());
+            if (deck.length > listAt) return [ROOM, deck.length];
+            if (list.length > room.length - NUMBER - listAt) return [ROOM, list.length];
+            deck.copy(room);
+            list.copy(room, listAt);
+            eightBytes(list.length).copy(room, room.length - NUMBER);
+            return [0, deck.length];
         }
         const text = Buffer.from(answer);
         if (text.length > room.length) return [ROOM, text.length];

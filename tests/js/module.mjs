@@ -46,6 +46,16 @@ assert.deepEqual(panel.boxFind(base, 5), { inExpansion: false, offset: 9, length
 assert.deepEqual(panel.boxFindWith(base, expansion, 5), { inExpansion: true, offset: 9, length: 4 });
 // what it answered stays when it is asked again
 assert.equal(new TextDecoder().decode(base.subarray(9)), "base");
+// a deck of which the second of two withdrawn cards has a flag that is none
+const damaged = [2, 5, 0, 17, 0, 2, 0, 0, 0, 6, 0, 19, 0, 1, 0, 7, 0, 97, 98, 99];
+const mended = panel.mend(damaged);
+assert.deepEqual(mended, { deck: Uint8Array.of(1, 5, 0, 9, 0, 2, 0, 0, 0, 97, 98), list: "kept\ndropped 1\n" });
+assert.deepEqual(panel.mend(mended.deck), { deck: mended.deck, list: "kept\n" });
+const bodies = new Uint8Array(numbers.DECK_BYTES - 1 - 8 * numbers.DECK_CARDS).fill(7);
+const full = Array.from({ length: numbers.DECK_CARDS }, (_, i) => [i, 0, 0, 0, ...(i === 0 ? [bodies.length & 255, bodies.length >> 8] : [0, 0]), 0, 0]).flat();
+const longest = panel.boxWrite(full, bodies);
+assert.equal(longest.length, numbers.DECK_BYTES);
+assert.deepEqual(panel.mend(longest), { deck: longest, list: "kept\n".repeat(numbers.DECK_CARDS) });
 // a card of more bytes than the memory has to begin with is copied whole, and refused
 assert.throws(() => panel.judge(" ".repeat(3_000_000)), { number: 1, place: 0 });
 
@@ -70,6 +80,9 @@ refused(() => panel.ask(card, "(s1=0)\n& ?", seats), { number: 22, place: 9, of:
 refused(() => panel.show(card, [0, 9, 0]), { number: 9, place: 1, of: undefined, line: undefined, words: words(9) });
 refused(() => panel.watch(card, seats, []), { number: 13, place: 0 });
 refused(() => panel.boxFind(base, 6), { number: 12, place: 0, message: "no live card has this number (refusal 12, place 0)" });
+refused(() => panel.mend([]), { number: 11, place: 0 });
+refused(() => panel.mend(base), { number: 11, place: 0 });
+assert.throws(() => panel.mend(), TypeError);
 refused(() => panel.judge(""), { number: 3, place: 0, line: 1, column: 1 });
 
 assert.throws(() => panel.show(card, [0, 0, 256]), RangeError);

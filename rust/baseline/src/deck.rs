@@ -1,20 +1,20 @@
-//! Decks: cards in a box, behind a table of contents. No card is read here.
+//! Decks: cards in a box, behind a table of contents. No card is read here; `mend` does that.
 
 use crate::limits::{DECK_BYTES, DECK_CARDS};
 use crate::refusal::{Refusal, DECK, IN_EXPANSION, NO_LIVE_CARD, ROOM};
 
 /// Bytes before the contents: the number of cards.
-const COUNT_BYTES: usize = 1;
+pub(crate) const COUNT_BYTES: usize = 1;
 /// Bytes of an entry of the contents.
-const ENTRY_BYTES: usize = 8;
+pub(crate) const ENTRY_BYTES: usize = 8;
 
 /// Where an entry's fields start within it.
-mod field {
-    pub(super) const NUMBER: usize = 0;
-    pub(super) const OFFSET: usize = 2;
-    pub(super) const LENGTH: usize = 4;
-    pub(super) const FLAG: usize = 6;
-    pub(super) const ZERO: usize = 7;
+pub(crate) mod field {
+    pub(crate) const NUMBER: usize = 0;
+    pub(crate) const OFFSET: usize = 2;
+    pub(crate) const LENGTH: usize = 4;
+    pub(crate) const FLAG: usize = 6;
+    pub(crate) const ZERO: usize = 7;
 }
 
 /// A part of one of two decks.
@@ -113,16 +113,16 @@ const NOWHERE: Refusal = Refusal::new(NO_LIVE_CARD, 0);
 
 /// An entry of the contents.
 #[derive(Clone, Copy)]
-struct Entry {
-    number: u16,
-    offset: usize,
-    length: usize,
+pub(crate) struct Entry {
+    pub(crate) number: u16,
+    pub(crate) offset: usize,
+    pub(crate) length: usize,
     flag: u8,
     zero: u8,
 }
 
 impl Entry {
-    fn new(bytes: &[u8; ENTRY_BYTES]) -> Entry {
+    pub(crate) fn new(bytes: &[u8; ENTRY_BYTES]) -> Entry {
         let two = |field: usize| u16::from_le_bytes([bytes[field], bytes[field + 1]]);
         Entry {
             number: two(field::NUMBER),
@@ -133,7 +133,7 @@ impl Entry {
         }
     }
 
-    fn is_live(self) -> bool {
+    pub(crate) fn is_live(self) -> bool {
         self.flag == 1
     }
 
@@ -146,13 +146,13 @@ impl Entry {
     }
 
     /// The card number's field, if it does not rise.
-    fn wrong_number(self, last: Option<u16>) -> Option<usize> {
+    pub(crate) fn wrong_number(self, last: Option<u16>) -> Option<usize> {
         let rises = last.is_none_or(|last| self.number > last);
         (!rises).then_some(field::NUMBER)
     }
 
     /// The first wrong field of the two that say where the body lies, behind the last one and within the deck.
-    fn wrong_range(self, last_end: usize, deck_length: usize) -> Option<usize> {
+    pub(crate) fn wrong_range(self, last_end: usize, deck_length: usize) -> Option<usize> {
         if self.offset < last_end {
             Some(field::OFFSET)
         } else if self.offset + self.length > deck_length {
@@ -163,7 +163,7 @@ impl Entry {
     }
 
     /// The first wrong field of the last two.
-    fn wrong_end(self) -> Option<usize> {
+    pub(crate) fn wrong_end(self) -> Option<usize> {
         match (self.flag, self.zero) {
             (0 | 1, 0) => None,
             (0 | 1, _) => Some(field::ZERO),
@@ -172,18 +172,19 @@ impl Entry {
     }
 }
 
+/// The entries of a deck, as many as it says and none of them judged; nothing if their number is wrong, they are cut short, or the deck is too long.
+pub(crate) fn entries(deck: &[u8]) -> Option<&[[u8; ENTRY_BYTES]]> {
+    let (&count, behind) = deck.split_first()?;
+    let count = usize::from(count);
+    let (entries, _) = behind.as_chunks();
+    let right = (1..=DECK_CARDS).contains(&count) && deck.len() <= DECK_BYTES;
+    entries.get(..count).filter(|_| right)
+}
+
 /// The contents of a deck that is well formed.
 fn contents(deck: &[u8]) -> Result<&[[u8; ENTRY_BYTES]], Refusal> {
     let malformed = |place: usize| Refusal::new(DECK, place);
-    let Some((&count, behind)) = deck.split_first() else {
-        return Err(malformed(0));
-    };
-    let count = usize::from(count);
-    let (entries, _) = behind.as_chunks();
-    if !(1..=DECK_CARDS).contains(&count) || count > entries.len() || deck.len() > DECK_BYTES {
-        return Err(malformed(0));
-    }
-    let entries = &entries[..count];
+    let entries = entries(deck).ok_or(malformed(0))?;
     let mut last_number = None;
     let mut last_end = COUNT_BYTES + entries.as_flattened().len();
     for (place, entry) in (COUNT_BYTES..).step_by(ENTRY_BYTES).zip(entries) {

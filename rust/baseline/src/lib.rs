@@ -4,7 +4,7 @@
 //! cards are found in decks, a table where nobody can move has a step, a
 //! spectator sees how many seats are in each public class, weights may be
 //! elevenths, one may ask whether anyone can move, and how likely a question
-//! becomes true within some steps.
+//! becomes true within some steps, and damaged decks are mended.
 //!
 //! It was written from the documents alone, so that a slip in it and a slip in
 //! the verified library are unlikely to be the same one; `compare` runs both on
@@ -31,6 +31,7 @@ mod deck;
 mod expression;
 mod first_move;
 pub mod limits;
+mod mend;
 mod odds;
 mod panel;
 mod program;
@@ -46,6 +47,7 @@ mod write;
 pub use card::{Branch, Card, Group, Mode, Node, Statement};
 pub use deck::{find, find_with, judge_deck, locate, locate_with, write_deck, Part};
 pub use first_move::first_move;
+pub use mend::{mend, mend_into, Mended};
 pub use odds::{odds, Aim};
 pub use panel::panel;
 pub use program::program;

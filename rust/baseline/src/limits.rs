@@ -42,3 +42,5 @@ pub const INPUT_BYTES: usize = 65_536;
 pub const DECK_BYTES: usize = 65_535;
 /// Most cards in a deck; the least is one.
 pub const DECK_CARDS: usize = 64;
+/// Longest list of what became of a deck's entries: a line `dropped N` for each, LF included.
+pub const LIST_BYTES: usize = DECK_CARDS * 10;

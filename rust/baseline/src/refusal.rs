@@ -29,9 +29,9 @@ pub const WEIGHT: u8 = 7;
 pub const SEAT_COUNT: u8 = 8;
 /// A seat's state lies above the top state.
 pub const SEAT_STATE: u8 = 9;
-/// The text or the deck does not fit into the room.
+/// The text, the deck or the list does not fit into the room.
 pub const ROOM: u8 = 10;
-/// A deck is malformed, or contents and bodies make none.
+/// A deck is malformed, contents and bodies make none, or a deck is past mending.
 pub const DECK: u8 = 11;
 /// What is added to a [`DECK`]'s place in an expansion.
 pub const IN_EXPANSION: usize = 65_536;

@@ -1,6 +1,6 @@
 //! The inputs on which the entries need most stack: guards and questions nested as deep as may be, behind as many operands
 //! as there may be nodes, with each refusal at their innermost; guards whose nodes hang on each other in the longest line;
-//! the largest cards and texts; and decks, sound and wrong in the last place.
+//! the largest cards and texts; and decks, sound and wrong in the last place, also with such cards in them.
 
 use std::iter;
 
@@ -247,4 +247,17 @@ pub fn deck_parts() -> Vec<Case> {
             ..Case::new(contents, Vec::new())
         })
         .collect()
+}
+
+/// Decks to be mended: with each of the cards live behind an empty one that is kept, and those that are looked into.
+pub fn damaged() -> Vec<Case> {
+    let with = |case: Case| {
+        let length = u16::try_from(case.card.len()).expect("a card fits into a deck");
+        let [low, high] = length.to_le_bytes();
+        let head = [2, 1, 0, 17, 0, 0, 0, 0, 0, 2, 0, 17, 0, low, high, 1, 0];
+        Case::new([&head[..], &case.card].concat(), Vec::new())
+    };
+    let card_fits = |case: &Case| case.card.len() <= open_panel::DECK_BYTES - 17;
+    let with_cards = cards().into_iter().filter(card_fits).map(with);
+    with_cards.chain(decks()).collect()
 }

@@ -4,7 +4,7 @@
 //! both sides measure a text before they put it; then questions, which take no
 //! room, and what a spectator sees, beside judging a card alone; whether anyone
 //! can move, beside judging and the whole panel; odds after the most steps; then
-//! a card looked for in a deck. Each round goes through all rows, so that a
+//! a card looked for in a deck, and decks mended. Each round goes through all rows, so that a
 //! while in which the machine is slow spoils none of them. Then the stack that
 //! the entries use, on the inputs that need most; `bench stack` prints that table
 //! alone, and fails where an entry uses more than the wrapper says.
@@ -23,7 +23,7 @@ use compare::extremes::{extremes, Extreme};
 use compare::marks::{lay_out, Layout};
 use compare::model::{Expression, Model, Statement, Unary};
 use compare::random::Random;
-use open_panel::ODDS_STEPS;
+use open_panel::{LIST_ROOM, ODDS_STEPS};
 use vectors::stored::{base, Input};
 
 /// Rounds of which the best counts, for each side.
@@ -466,6 +466,56 @@ const WRITE_DECK: Entry = (
     |case, room| baseline::write_deck(&case.card, &case.question, room).ok(),
 );
 
+/// The entry that mends a deck. The list goes into the first bytes of the room, and the deck behind them; so much of the room is told.
+const MEND: Entry = (
+    "mend",
+    |case, room| {
+        let (list, room) = room.split_at_mut(room.len().min(LIST_ROOM));
+        let mended = open_panel::mend(&case.card, room, list);
+        mended.ok().map(|mended| LIST_ROOM + mended.deck)
+    },
+    |case, room| {
+        let (list, room) = room.split_at_mut(room.len().min(LIST_ROOM));
+        let mended = baseline::mend_into(&case.card, room, list);
+        mended.ok().map(|mended| LIST_ROOM + mended.deck)
+    },
+);
+
+/// Decks of the most cards: live ones, all of them kept; the same with every second entry wrong; and withdrawn ones, which are not read, in the longest deck.
+fn mend_sets() -> Vec<Set> {
+    let most = (open_panel::DECK_BYTES - 1) / open_panel::DECK_CARDS - 8;
+    let stored = base();
+    let cards = stored.iter().map(Input::card).filter(|card| {
+        let length = card.len();
+        (200..=most).contains(&length) && baseline::judge(card).is_ok()
+    });
+    let cards: Vec<&[u8]> = cards.take(open_panel::DECK_CARDS).collect();
+    assert_eq!(cards.len(), open_panel::DECK_CARDS);
+    let entries = (1..).zip(&cards).flat_map(|(number, card)| {
+        let fields = [number, 0, card.len() as u16].map(u16::to_le_bytes);
+        [fields.as_flattened(), &[1, 0]].concat()
+    });
+    let entries: Vec<u8> = entries.collect();
+    let live = open_panel::write_deck_to_vec(&entries, &cards.concat()).expect("it fits");
+    let mut damaged = live.clone();
+    for flag in damaged[1 + 6..1 + entries.len()].iter_mut().step_by(16) {
+        *flag = 7;
+    }
+    let mut withdrawn = deck();
+    for flag in withdrawn[1 + 6..1 + entries.len()].iter_mut().step_by(8) {
+        *flag = 0;
+    }
+    let set = |name, deck| Set {
+        name,
+        cases: vec![Case::new(deck, Vec::new())],
+    };
+    vec![
+        set("64 live cards", live),
+        set("64 live cards, every second entry wrong", damaged),
+        set("64 withdrawn cards, the longest deck", withdrawn),
+    ]
+}
+
 /// Contents of the most cards, all of them live, and bodies that make the longest deck, the last as long as the others leave it.
 fn contents() -> (Vec<u8>, Vec<u8>) {
     let left = open_panel::DECK_BYTES - 1 - 8 * open_panel::DECK_CARDS;
@@ -604,7 +654,7 @@ fn print_table(rows: &[Row]) {
 }
 
 /// How much stack the wrapper says that each entry takes, in the order of the table below.
-const BOUNDS: [usize; 12] = [
+const BOUNDS: [usize; 13] = [
     open_panel::stack::JUDGE,
     open_panel::stack::WRITE,
     open_panel::stack::REDUCE,
@@ -617,16 +667,18 @@ const BOUNDS: [usize; 12] = [
     open_panel::stack::FIND,
     open_panel::stack::FIND_WITH,
     open_panel::stack::WRITE_DECK,
+    open_panel::stack::MEND,
 ];
 
 /// The stack of every entry, on the inputs that need most: false where one takes more than it is said to.
 fn print_stack() -> bool {
-    let (cards, questions, watched, decks, parts) = (
+    let (cards, questions, watched, decks, parts, damaged) = (
         deepest::cards(),
         deepest::questions(),
         deepest::watched(),
         deepest::decks(),
         deepest::deck_parts(),
+        deepest::damaged(),
     );
     let reckoned: Vec<Case> = odds_sets()
         .into_iter()
@@ -643,7 +695,7 @@ fn print_stack() -> bool {
             (ODDS_IN_LENT_ROWS, &reckoned),
         ])
         .chain(of_decks)
-        .chain([(WRITE_DECK, &parts)]);
+        .chain([(WRITE_DECK, &parts), (MEND, &damaged)]);
     println!("| Entry | Library, bytes of stack | Bound | Baseline, bytes of stack |\n|---|---:|---:|---:|");
     let mut kept = true;
     for (((entry, library, baseline), cases), bound) in all.zip(BOUNDS) {
@@ -664,7 +716,7 @@ fn main() -> ExitCode {
     }
     let (sets, question_sets, deck_sets) = (sets(), question_sets(), vec![full_deck()]);
     let (spectator_sets, first_move_sets) = (spectator_sets(), first_move_sets());
-    let odds_sets = odds_sets();
+    let (odds_sets, mend_sets) = (odds_sets(), mend_sets());
     let [judge, _, _, show] = ENTRIES;
     let mut room = vec![0; open_panel::REDUCE_ROOM];
     let mut tables = [
@@ -680,6 +732,7 @@ fn main() -> ExitCode {
         ),
         rows(&[ODDS], &odds_sets, whole_room, &mut room),
         rows(&[FIND], &deck_sets, whole_room, &mut room),
+        rows(&[MEND], &mend_sets, whole_room, &mut room),
     ];
     for beside in [2, 3] {
         let judged = Row::new(judge, &sets[0], whole_room, &mut room);
@@ -690,7 +743,7 @@ fn main() -> ExitCode {
             row.round(round, &mut room);
         }
     }
-    let [always_enough, just_fit, questions, spectators, first_moves, odds, decks] = tables;
+    let [always_enough, just_fit, questions, spectators, first_moves, odds, decks, mended] = tables;
     println!("In a room of {} bytes:\n", room.len());
     print_table(&always_enough);
     println!("\nIn rooms that just fit each text:\n");
@@ -705,6 +758,8 @@ fn main() -> ExitCode {
     print_table(&odds);
     println!("\nA full deck:\n");
     print_table(&decks);
+    println!("\nDecks mended:\n");
+    print_table(&mended);
     println!();
     print_stack();
     ExitCode::SUCCESS

@@ -97,6 +97,56 @@ impl Rooms {
     }
 }
 
+impl Rooms {
+    /// The same with a room for a deck and one for a list, which have to be told by their lengths.
+    pub(crate) fn probe_both(
+        &mut self,
+        what: &str,
+        expected: Result<[&[u8]; 2], Refusal>,
+        [room, list]: [usize; 2],
+        ask: impl FnOnce(&mut [u8], &mut [u8]) -> Result<[usize; 2], open_panel::Refusal>,
+    ) -> Result<(), Fault> {
+        let expected = match expected {
+            Ok([deck, _]) if deck.len() > room => Err(Refusal::new(10, deck.len())),
+            Ok([_, lines]) if lines.len() > list => Err(Refusal::new(10, lines.len())),
+            other => other,
+        };
+        let from = (self.probes % 251) as usize;
+        self.probes += 1;
+        let list_at = GUARD + room + GUARD;
+        let whole = list_at + list + GUARD;
+        let store = &mut self.store[..whole];
+        store.copy_from_slice(&self.pattern[from..from + whole]);
+        let (before_list, lists) = store.split_at_mut(list_at);
+        let answer = ask(&mut before_list[GUARD..GUARD + room], &mut lists[..list]);
+        let answer = answer.map_err(|refusal| Refusal::new(refusal.number(), refusal.place()));
+        let lengths = expected.map(|texts| texts.map(<[u8]>::len));
+        if answer != lengths {
+            return Err(format!(
+                "{what}, rooms {room} and {list}: the library says {answer:?}, and due is {lengths:?}"
+            ));
+        }
+        // As all has to be afterwards.
+        let mut due = self.pattern[from..from + whole].to_vec();
+        for (place, text) in [GUARD, list_at]
+            .into_iter()
+            .zip(expected.unwrap_or_default())
+        {
+            due[place..place + text.len()].copy_from_slice(text);
+        }
+        let differs = store.iter().zip(&due).position(|(found, due)| found != due);
+        differs.map_or(Ok(()), |place| {
+            let (of, place) = match place.checked_sub(list_at) {
+                None => ("deck's room", place as isize - GUARD as isize),
+                Some(place) => ("list", place as isize),
+            };
+            Err(format!(
+                "{what}, rooms {room} and {list}: byte {place} of the {of} is wrong"
+            ))
+        })
+    }
+}
+
 impl Checker {
     /// Lends the long rooms too, once in so many inputs.
     pub fn new(long_rooms_once_in: usize) -> Self {

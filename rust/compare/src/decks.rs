@@ -26,7 +26,7 @@ pub struct Entry {
 }
 
 impl Entry {
-    fn put(&self, bytes: &mut Vec<u8>) {
+    pub(crate) fn put(&self, bytes: &mut Vec<u8>) {
         for number in [self.number, self.offset, self.length] {
             bytes.extend(number.to_le_bytes());
         }

@@ -12,13 +12,14 @@
 //! and wrong ones watch each table, and it is asked who can move first
 //! ([`first_moves`]). [`odds`] are reckoned and held to [`exact`] chances, on
 //! small tables to those of seats told apart. Cards are looked for in generated [`decks`],
-//! sound and malformed, and decks are written.
+//! sound and malformed, and decks are written; [`damaged_decks`] are mended.
 
 pub mod big;
 pub mod by_seats;
 pub mod cards;
 pub mod check;
 pub mod damage;
+pub mod damaged_decks;
 pub mod deck_check;
 pub mod decks;
 pub mod exact;
@@ -26,6 +27,7 @@ pub mod extremes;
 pub mod first_moves;
 pub mod inputs;
 pub mod marks;
+pub mod mending;
 pub mod model;
 pub mod odds;
 pub mod questions;

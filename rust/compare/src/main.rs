@@ -135,6 +135,7 @@ fn one(seed: u64, index: u64, checker: &mut Checker, tally: &mut Tally) -> Resul
         if random.once_in(DECKS_ONCE_IN) {
             check_lookup(&mut random, &mut tally.decks)?;
             checker.check_deck_writer(&mut random, &mut tally.decks)?;
+            checker.check_mending(&input, &mut random, &mut tally.mending)?;
         }
         Ok(())
     })

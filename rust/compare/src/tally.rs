@@ -9,6 +9,7 @@ use crate::check::Entry;
 use crate::deck_check::DeckTally;
 use crate::first_moves::FirstMoveTally;
 use crate::inputs::Kind;
+use crate::mending::MendTally;
 use crate::odds::OddsTally;
 use crate::questions::{self, Question};
 use crate::spectators::SpectatorTally;
@@ -151,6 +152,8 @@ pub struct Tally {
     pub odds: OddsTally,
     /// Decks.
     pub decks: DeckTally,
+    /// Decks that are mended.
+    pub mending: MendTally,
 }
 
 impl Tally {
@@ -274,6 +277,7 @@ impl Tally {
         self.first_moves.add(&other.first_moves);
         self.odds.add(&other.odds);
         self.decks.add(&other.decks);
+        self.mending.add(&other.mending);
     }
 
     /// How many inputs there were.
@@ -387,6 +391,7 @@ impl Tally {
         self.first_moves.shortfalls(&mut least);
         self.odds.shortfalls(&mut least);
         self.decks.shortfalls(&mut least);
+        self.mending.shortfalls(&mut least);
         shortfalls
     }
 }
@@ -469,7 +474,7 @@ impl fmt::Display for Tally {
         writeln!(f)?;
         self.print_questions(f)?;
         write!(f, "\n{}\n{}", self.spectators, self.first_moves)?;
-        write!(f, "\n{}\n{}", self.odds, self.decks)
+        write!(f, "\n{}\n{}\n{}", self.odds, self.decks, self.mending)
     }
 }
 

@@ -1,10 +1,12 @@
-//! `desk box`: what a box holds, a card out of one, and boxes of cards.
+//! `desk box`: what a box holds, a card out of one, boxes of cards, and damaged boxes mended.
 
 use std::fs;
 use std::io::{self, Write};
 use std::process::ExitCode;
 
-use desk::reason::{of_deck, of_number, of_written, pair, Given, Reason, ENTRY};
+use desk::reason::{
+    of_deck, of_entries, of_mended, of_number, of_written, pair, Given, Reason, ENTRY,
+};
 use desk::report;
 use open_panel::Refusal;
 
@@ -207,12 +209,59 @@ pub fn write(words: &[&str], withdrawn: &[&str], unread: bool) -> ExitCode {
             return ExitCode::FAILURE;
         }
     };
-    let written = match *name {
-        "-" => io::stdout().write_all(&deck),
-        _ => fs::write(name, &deck),
+    keep(name, &deck);
+    ExitCode::SUCCESS
+}
+
+/// Writes a box, to standard output for `-`.
+fn keep(name: &str, deck: &[u8]) {
+    let written = match name {
+        "-" => io::stdout().write_all(deck),
+        _ => fs::write(name, deck),
     };
-    match written {
-        Ok(()) => ExitCode::SUCCESS,
-        Err(error) => unreachable(name, &error),
+    if let Err(error) = written {
+        unreachable(name, &error);
     }
+}
+
+/// `box mend BOX MENDED`.
+pub fn mend(words: &[&str]) -> ExitCode {
+    let [name, mended] = words else {
+        wrong_words("`desk box mend` takes the damaged box, and the box to write");
+    };
+    let Deck { bytes, .. } = Deck::read(name);
+    match open_panel::mend_to_vecs(&bytes) {
+        Ok((deck, list)) => {
+            let told = became(&bytes, Some(&list));
+            keep(mended, &deck);
+            if *mended == "-" {
+                eprint!("{told}");
+                return ExitCode::SUCCESS;
+            }
+            put(told.as_bytes())
+        }
+        Err(refusal) => {
+            let reason = of_mended(&bytes, refusal);
+            eprint!("{}", in_hex(name, &bytes, 0, &reason));
+            eprint!("{}", became(&bytes, None));
+            ExitCode::FAILURE
+        }
+    }
+}
+
+/// A line for each entry of a box: what became of it, and why.
+fn became(deck: &[u8], list: Option<&[u8]>) -> String {
+    let entries = of_entries(deck, list);
+    let mut made = String::new();
+    for (entry, became) in entries.iter().enumerate() {
+        if entry == 0 {
+            made += "entry  number  became\n";
+        }
+        made += &format!("{:>5}  {:>6}  ", entry + 1, became.number);
+        made += &match became.rule {
+            0 => "kept\n".to_string(),
+            rule => format!("dropped {rule}: {}\n", became.why),
+        };
+    }
+    made
 }

@@ -102,6 +102,7 @@ fn main() -> ExitCode {
         }
         ("box", ["list", rest @ ..]) if words.options.is_empty() => boxes::list(rest),
         ("box", ["find", rest @ ..]) if words.options.is_empty() => boxes::find(rest),
+        ("box", ["mend", rest @ ..]) if words.options.is_empty() => boxes::mend(rest),
         ("box", ["write", rest @ ..]) => {
             let withdrawn = words
                 .options

@@ -1203,6 +1203,118 @@ fn field(deck: &[u8], entry: usize, byte: usize) -> Option<Found> {
     })
 }
 
+/// Why a box is past mending: 11.
+pub fn of_mended(deck: &[u8], refusal: Refusal) -> Reason {
+    let reason = match contents_end(deck) {
+        None => whole_deck(deck),
+        Some(_) => {
+            let count = usize::from(deck[0]);
+            found("deck.nothing", 0, vec![("found", many(count, "card"))])
+        }
+    };
+    reason.said(refusal, 0)
+}
+
+/// Where the contents of a box end, if it has all of them and is not too long.
+fn contents_end(deck: &[u8]) -> Option<usize> {
+    let count = usize::from(*deck.first()?);
+    let end = 1 + ENTRY * count;
+    let right = (1..=DECK_CARDS).contains(&count) && (end..=DECK_BYTES).contains(&deck.len());
+    right.then_some(end)
+}
+
+/// What became of an entry of a box when that was mended.
+#[derive(Clone, PartialEq, Eq, Debug)]
+pub struct Became {
+    /// The number of its card.
+    pub number: usize,
+    /// The rule for which it was dropped, from 1 on; 0 if it was kept.
+    pub rule: usize,
+    /// Why it was dropped.
+    pub why: String,
+}
+
+/// What became of each entry of a box, by the lines of the library's list; without a list nothing was kept, and which rule an entry
+/// breaks first is found here. None of a box whose count, contents or length are wrong.
+pub fn of_entries(deck: &[u8], list: Option<&[u8]>) -> Vec<Became> {
+    let Some(contents) = contents_end(deck) else {
+        return Vec::new();
+    };
+    let mut lines = list.map(|list| list.split(|&byte| byte == b'\n'));
+    let (mut last_number, mut last_end) = (None, contents);
+    let mut all = Vec::new();
+    for entry in 0..usize::from(deck[0]) {
+        let this = &deck[1 + ENTRY * entry..][..ENTRY];
+        let (number, offset, length) = (pair(this, 0), pair(this, 2), pair(this, 4));
+        let (rule, why) = match lines.as_mut().map(|lines| lines.next().unwrap_or_default()) {
+            Some(b"kept") => (0, String::new()),
+            Some(line) => {
+                let digit = line.last().map_or(0, |digit| digit.wrapping_sub(b'0'));
+                let rule = usize::from(digit);
+                (rule, of_rule(deck, entry, rule, last_number, last_end))
+            }
+            None => {
+                let why = |rule| of_rule(deck, entry, rule, last_number, last_end);
+                let rules = (1..=4).map(|rule| (rule, why(rule)));
+                let broken = rules.into_iter().find(|(_, why)| !why.is_empty());
+                broken.unwrap_or_default()
+            }
+        };
+        if rule == 0 {
+            (last_number, last_end) = (Some(number), offset + length);
+        }
+        all.push(Became { number, rule, why });
+    }
+    all
+}
+
+/// How an entry, from 0, breaks a rule of mending behind what was kept before it; nothing if it does not.
+fn of_rule(
+    deck: &[u8],
+    entry: usize,
+    rule: usize,
+    last_number: Option<usize>,
+    last_end: usize,
+) -> String {
+    let this = &deck[1 + ENTRY * entry..][..ENTRY];
+    let (number, offset, length) = (pair(this, 0), pair(this, 2), pair(this, 4));
+    let end = offset + length;
+    let name = ("entry", fill(entry + 1));
+    let (of, fills) = match (rule, last_number) {
+        (1, _) if this[6] > 1 => ("deck.flag", vec![name, ("found", fill(this[6]))]),
+        (1, _) if this[7] != 0 => ("deck.zero", vec![name, ("found", fill(this[7]))]),
+        (2, Some(last)) if number <= last => (
+            "deck.number",
+            vec![name, ("found", fill(number)), ("last", fill(last))],
+        ),
+        (3, _) if offset < last_end => (
+            "deck.offset",
+            vec![name, ("found", grouped(offset)), ("due", grouped(last_end))],
+        ),
+        (3, _) if end > deck.len() => (
+            "deck.length",
+            vec![name, ("found", grouped(end)), ("due", grouped(deck.len()))],
+        ),
+        (4, _) if this[6] == 1 => {
+            let card = deck.get(offset..end).unwrap_or_default();
+            let Err(refusal) = open_panel::judge(card) else {
+                return String::new();
+            };
+            let given = Given {
+                card,
+                ..Given::default()
+            };
+            let (number, place) = (refusal.number(), refusal.place());
+            return format!(
+                "refused {number} {place}: {}",
+                given.reason(refusal).sentence
+            );
+        }
+        _ => return String::new(),
+    };
+    sentence(of, &fills)
+}
+
 /// Why no live card was found: 12. The boxes are sound.
 pub fn of_number(number: u16, decks: &[&[u8]], refusal: Refusal) -> Reason {
     let numbers = |deck: &&[u8]| {

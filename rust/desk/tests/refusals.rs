@@ -3,9 +3,11 @@
 
 use std::collections::BTreeSet;
 
-use desk::reason::{of_deck, of_number, of_written, Given, Of, Reason};
+use desk::reason::{of_deck, of_entries, of_mended, of_number, of_written, Given, Of, Reason};
 use desk::words;
-use open_panel::{find, judge_deck, odds_in_own_rows, write_deck_to_vec, Aim, Refusal};
+use open_panel::{
+    find, judge_deck, mend_to_vecs, odds_in_own_rows, write_deck_to_vec, Aim, Refusal,
+};
 
 const TABLE: &str = include_str!("../../../desk/wrong-cards.txt");
 
@@ -301,6 +303,93 @@ fn each_wrong_field_of_a_box_is_named() {
         assert_eq!(
             said(&of_deck(&deck, refusal.place(), refusal)),
             (11, 0, sentence)
+        );
+    }
+}
+
+#[test]
+fn what_becomes_of_each_entry_is_told() {
+    // The box holds `live`, which is no card, and a withdrawn one, which is not read.
+    let edits: [(usize, u8, [usize; 2], &str); 7] = [
+        (0, 2, [4, 0], "refused 3 0: `live` stands here"),
+        (
+            7,
+            2,
+            [1, 0],
+            "the flag of entry 1 is 2, and 1 for live or 0 for withdrawn was due",
+        ),
+        (8, 5, [1, 0], "the last byte of entry 1 is 5, and 0 was due"),
+        (
+            3,
+            16,
+            [3, 0],
+            "the body of entry 1 begins at 16, and 17 or later was due",
+        ),
+        (
+            5,
+            7,
+            [3, 0],
+            "the body of entry 1 ends at 24, and the box ends at 23",
+        ),
+        (7, 0, [0, 0], ""),
+        (16, 9, [4, 1], "refused 3 0: `live` stands here"),
+    ];
+    for (at, byte, rules, why) in edits {
+        let mut deck = deck();
+        deck[at] = byte;
+        let list = mend_to_vecs(&deck).ok().map(|(_, list)| list);
+        let became = of_entries(&deck, list.as_deref());
+        let found: Vec<usize> = became.iter().map(|became| became.rule).collect();
+        assert_eq!(found, rules, "{at}");
+        assert!(became[0].why.starts_with(why), "{}", became[0].why);
+        assert_eq!(list.is_none(), !rules.contains(&0));
+    }
+    // By what was kept before, and not by what was dropped.
+    let mut deck = deck();
+    deck[7] = 0;
+    deck[9] = 3;
+    let (_, list) = mend_to_vecs(&deck).unwrap();
+    let became = of_entries(&deck, Some(&list));
+    assert_eq!(
+        became[1].why,
+        "entry 2 has the number 3, and one above 3 was due"
+    );
+    deck[7] = 7;
+    let (_, list) = mend_to_vecs(&deck).unwrap();
+    assert_eq!(list, b"dropped 1\nkept\n");
+}
+
+#[test]
+fn a_box_past_mending_is_told() {
+    let mut nothing = deck();
+    nothing[16] = 9;
+    for (deck, sentence) in [
+        (
+            nothing,
+            "the box says that it holds 2 cards, and none of it can be kept",
+        ),
+        (
+            vec![],
+            "the box has no byte, and at least its count was due",
+        ),
+        (
+            vec![65; 999],
+            "the box says that it holds 65 cards, and 1 to 64 were due",
+        ),
+        (
+            vec![2; 16],
+            "the box has 16 bytes, and its contents of 2 cards alone take 17",
+        ),
+        (
+            vec![1; 65_536],
+            "the box has 65,536 bytes, and a box has at most 65,535",
+        ),
+    ] {
+        let refusal = mend_to_vecs(&deck).unwrap_err();
+        assert_eq!(said(&of_mended(&deck, refusal)), (11, 0, sentence));
+        assert_eq!(
+            of_entries(&deck, None).len(),
+            if deck.len() == 23 { 2 } else { 0 }
         );
     }
 }

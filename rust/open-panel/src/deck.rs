@@ -1,4 +1,4 @@
-//! Decks: cards in a box, found by their numbers.
+//! Decks: cards in a box, found by their numbers, and damaged boxes mended.
 
 use crate::{in_own_room, library, Answer, Refusal};
 
@@ -6,6 +6,8 @@ use crate::{in_own_room, library, Answer, Refusal};
 pub const DECK_BYTES: usize = 65_535;
 /// Most cards in a deck.
 pub const DECK_CARDS: usize = 64;
+/// A room in which every list of [`mend`] fits: a line of ten bytes at most for each entry.
+pub const LIST_ROOM: usize = 640;
 
 /// A part of one of two decks.
 #[derive(Clone, Copy, PartialEq, Eq, Hash, Debug)]
@@ -117,4 +119,57 @@ pub fn write_deck(contents: &[u8], bodies: &[u8], room: &mut [u8]) -> Result<usi
 /// The deck without gaps. Refusal: 11.
 pub fn write_deck_to_vec(contents: &[u8], bodies: &[u8]) -> Result<Vec<u8>, Refusal> {
     in_own_room(DECK_BYTES, |room| write_deck(contents, bodies, room))
+}
+
+/// How much of its two rooms [`mend`] has filled.
+#[derive(Clone, Copy, PartialEq, Eq, Hash, Debug)]
+pub struct Mended {
+    /// Bytes of the new deck.
+    pub deck: usize,
+    /// Bytes of the list.
+    pub list: usize,
+}
+
+/// Puts what can be kept of a damaged deck into a lent room, as a deck without gaps, and a line for each of its entries into a
+/// lent list: `kept`, or `dropped` and the first of four rules that the entry breaks. Refusals: 11 at 0, then 10 with the deck's
+/// length, then 10 with the list's.
+///
+/// By rule 1 an entry's flag is 0 or 1 and its last byte 0; by rule 2 its number is higher than all kept before; by rule 3 its body
+/// lies within the deck, behind the contents and the last body kept; by rule 4 its card is taken, if it is live. The new
+/// deck is never longer than the old one, so a room of the old one's length is always enough; for the list [`LIST_ROOM`] is.
+///
+/// ```
+/// // Of two withdrawn cards the second has a flag that is none.
+/// let damaged = [2, 5, 0, 17, 0, 2, 0, 0, 0, 6, 0, 19, 0, 1, 0, 7, 0, b'a', b'b', b'c'];
+/// let (mut room, mut list) = ([0; 20], [0; open_panel::LIST_ROOM]);
+/// let mended = open_panel::mend(&damaged, &mut room, &mut list)?;
+/// assert_eq!(room[..mended.deck], [1, 5, 0, 9, 0, 2, 0, 0, 0, b'a', b'b']);
+/// assert_eq!(&list[..mended.list], b"kept\ndropped 1\n");
+/// # Ok::<(), open_panel::Refusal>(())
+/// ```
+pub fn mend(deck: &[u8], room: &mut [u8], list: &mut [u8]) -> Result<Mended, Refusal> {
+    // What no list is long.
+    const UNSET: usize = usize::MAX;
+    let mut listed = UNSET;
+    let answer = library::mend(deck, room, list, &mut listed).into_result();
+    if answer.is_err() {
+        assert_eq!(listed, UNSET, "with a refusal there is no list");
+    }
+    let deck = answer?;
+    assert!(listed <= list.len(), "a list lies in its room");
+    Ok(Mended { deck, list: listed })
+}
+
+/// The mended deck, and the list of what became of each entry. Refusal: 11.
+pub fn mend_to_vecs(deck: &[u8]) -> Result<(Vec<u8>, Vec<u8>), Refusal> {
+    let mut list = vec![0; LIST_ROOM];
+    let mut listed = 0;
+    let mended = in_own_room(deck.len().min(DECK_BYTES), |room| {
+        let mended = mend(deck, room, &mut list)?;
+        listed = mended.list;
+        Ok(mended.deck)
+    })?;
+    list.truncate(listed);
+    list.shrink_to_fit();
+    Ok((mended, list))
 }

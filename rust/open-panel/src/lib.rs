@@ -1,13 +1,13 @@
 //! The open panel for Rust: rule cards are judged, written, reduced to
 //! counters, and shown, spectators are shown what they may see, questions about
 //! a seating are answered, also whether they come true within some steps, it is
-//! said whether anyone can move, and cards are found in decks, by the verified
-//! library.
+//! said whether anyone can move, cards are found in decks, and damaged decks are
+//! mended, by the verified library.
 //!
 //! Every entry that takes a card takes it as bytes and judges it first. A text goes into a
 //! room that the caller lends: an entry answers the text's length, and leaves
 //! the room behind it as it was; a [`Refusal`] leaves the whole room as it was.
-//! The functions that end in `_to_vec` bring their own room.
+//! The functions that end in `_to_vec` or `_to_vecs` bring their own room.
 //!
 //! ```
 //! let card = b"nondeterministic module process1 s1 : [0..1] init 0;
@@ -28,8 +28,8 @@ mod refusal;
 pub mod stack;
 
 pub use deck::{
-    find, find_with, judge_deck, locate, locate_with, write_deck, write_deck_to_vec, Part,
-    DECK_BYTES, DECK_CARDS,
+    find, find_with, judge_deck, locate, locate_with, mend, mend_to_vecs, write_deck,
+    write_deck_to_vec, Mended, Part, DECK_BYTES, DECK_CARDS, LIST_ROOM,
 };
 pub use odds::{odds, odds_in_own_rows, Aim, CERTAIN, ODDS_ROW, ODDS_STEPS};
 pub use refusal::Refusal;

@@ -86,9 +86,18 @@ extern "C" {
         room: *mut u8,
         room_len: usize,
     ) -> Answer;
+    fn open_panel_mend(
+        deck: *const u8,
+        deck_len: usize,
+        room: *mut u8,
+        room_len: usize,
+        list: *mut u8,
+        list_len: usize,
+        listed: *mut usize,
+    ) -> Answer;
 }
 
-// The library asks for nothing but pieces of memory, of which the room, the
+// The library asks for nothing but pieces of memory, of which the rooms, the
 // part or the rows are its alone while it runs: slices and references are that.
 
 pub(crate) fn judge(card: &[u8]) -> Answer {
@@ -222,6 +231,21 @@ pub(crate) fn box_write(contents: &[u8], bodies: &[u8], room: &mut [u8]) -> Answ
             bodies.len(),
             room.as_mut_ptr(),
             room.len(),
+        )
+    }
+}
+
+pub(crate) fn mend(deck: &[u8], room: &mut [u8], list: &mut [u8], listed: &mut usize) -> Answer {
+    // SAFETY: as above.
+    unsafe {
+        open_panel_mend(
+            deck.as_ptr(),
+            deck.len(),
+            room.as_mut_ptr(),
+            room.len(),
+            list.as_mut_ptr(),
+            list.len(),
+            listed,
         )
     }
 }

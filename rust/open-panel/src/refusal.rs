@@ -50,16 +50,16 @@ pub enum Refusal {
         /// The index of the first one.
         seat: usize,
     },
-    /// 10: a room that the text or the deck does not fit into.
+    /// 10: a room that the text, the deck or the list does not fit into.
     Room {
         /// Its length.
         needed: usize,
     },
-    /// 11: a malformed deck, or contents and bodies that make none.
+    /// 11: a malformed deck, contents and bodies that make none, or a deck of which nothing can be kept.
     Deck {
         /// Where the first wrong field starts, in the expansion 65,536 more; 0
         /// if the deck as a whole is wrong. From [`write_deck`](crate::write_deck)
-        /// a byte of the contents, or their length.
+        /// a byte of the contents, or their length; from [`mend`](crate::mend) always 0.
         at: usize,
     },
     /// 12: no live card has the number.

@@ -25,3 +25,5 @@ pub const FIND: usize = 256;
 pub const FIND_WITH: usize = 256;
 /// [`write_deck`](crate::write_deck)
 pub const WRITE_DECK: usize = 256;
+/// [`mend`](crate::mend)
+pub const MEND: usize = 11_008;

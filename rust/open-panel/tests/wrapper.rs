@@ -61,7 +61,7 @@ fn refusals_have_number_place_and_words() {
         (
             11,
             7,
-            "byte 7 of a deck, an expansion's from 65536 on, or of its contents: a malformed deck, or contents and bodies that make none (refusal 11)",
+            "byte 7 of a deck, an expansion's from 65536 on, or of its contents: a malformed deck, contents and bodies that make none, or nothing to keep (refusal 11)",
         ),
         (12, 0, "no live card has this number (refusal 12)"),
         (
@@ -288,6 +288,55 @@ fn an_expansion_before_the_base() {
         find(&base, 4)
     };
     assert_eq!(found, Ok(&b"y"[..]));
+}
+
+#[test]
+fn mended_decks_and_their_refusals() {
+    // Card 3 is live and taken; card 4 is live and empty; card 5 is withdrawn, behind a gap.
+    let length = CARD.len() as u8;
+    let contents = [3, 0, 0, 0, length, 0, 1, 0, 4, 0, 0, 0, 0, 0, 1, 0];
+    let contents = [&contents[..], &[5, 0, 0, 0, 2, 0, 0, 0]].concat();
+    let mut damaged = write_deck_to_vec(&contents, &[CARD, b"ab"].concat()).unwrap();
+    assert_eq!(judge_deck(&damaged), Ok(()));
+    let contents = [&contents[..8], &contents[16..]].concat();
+    let due = write_deck_to_vec(&contents, &[CARD, b"ab"].concat()).unwrap();
+    let list = b"kept\ndropped 4\nkept\n";
+    let (mended, lines) = mend_to_vecs(&damaged).unwrap();
+    assert_eq!((&mended[..], &lines[..]), (&due[..], &list[..]));
+    let (again, lines) = mend_to_vecs(&mended).unwrap();
+    assert_eq!((again, &lines[..]), (mended, &b"kept\nkept\n"[..]));
+
+    let in_rooms = |room: usize, list: usize| {
+        let (mut room, mut list) = (vec![7; room], vec![7; list]);
+        let answer = mend(&damaged, &mut room, &mut list);
+        let lengths = answer.map_or((0, 0), |mended| (mended.deck, mended.list));
+        let mut behind = room[lengths.0..].iter().chain(&list[lengths.1..]);
+        assert!(behind.all(|byte| *byte == 7));
+        answer
+    };
+    let mended = Mended {
+        deck: due.len(),
+        list: list.len(),
+    };
+    assert_eq!(in_rooms(due.len(), list.len()), Ok(mended));
+    assert_eq!(in_rooms(damaged.len(), LIST_ROOM), Ok(mended));
+    let refused = |needed: usize| Err(Refusal::Room { needed });
+    assert_eq!(in_rooms(due.len() - 1, 0), refused(due.len()));
+    assert_eq!(in_rooms(due.len(), list.len() - 1), refused(list.len()));
+    assert_eq!(in_rooms(0, 0), refused(due.len()));
+
+    // What cannot be mended is told before the rooms.
+    let past_mending = Err(Refusal::Deck { at: 0 });
+    assert_eq!(mend(b"", &mut [], &mut []), past_mending);
+    assert_eq!(mend(&damaged[..24], &mut [], &mut []), past_mending);
+    assert_eq!(
+        mend(&[damaged[0]; DECK_BYTES + 1], &mut [], &mut []),
+        past_mending
+    );
+    damaged[0] = 65;
+    assert_eq!(mend_to_vecs(&damaged), Err(Refusal::Deck { at: 0 }));
+    let nothing_kept = write_deck_to_vec(&[4, 0, 0, 0, 1, 0, 1, 0], b"x").unwrap();
+    assert_eq!(mend_to_vecs(&nothing_kept), Err(Refusal::Deck { at: 0 }));
 }
 
 #[test]

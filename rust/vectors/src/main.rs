@@ -16,7 +16,7 @@ use std::path::Path;
 use std::process::{Command, ExitCode, Stdio};
 use std::thread;
 
-use vectors::sides::{self, row_numbers, Side, PART_BYTES, ROW_NUMBER_BYTES};
+use vectors::sides::{self, row_numbers, Side, LISTED_BYTES, PART_BYTES, ROW_NUMBER_BYTES};
 use vectors::stored::{file, Answer, Cases};
 
 /// What a room holds before: a byte of no text.
@@ -124,6 +124,7 @@ fn answers_as(side: &mut Side, entry: &str, call: &Call) -> Result<(), Fault> {
             let stored = deck.as_deref().map_or(call.stored, Answer::Text);
             writes(side, "open_panel_box_write", read, room, stored)
         }
+        ("mend", [deck, room, list]) => mends(side, deck, [room, list], call.stored),
         ("odds", [read @ .., steps, largest, first, second]) => {
             reckons(side, read, [steps, largest], [first, second], call.stored)
         }
@@ -226,6 +227,60 @@ fn reckons(
     same(answer, due)?;
     let numbers = |bytes: &[u8]| row_numbers(bytes);
     same(numbers(&lent), numbers(&rows)).map_err(|fault| format!("rows {fault}"))
+}
+
+/// A mended deck and its list, into rooms of the sizes that are told in digits, and into rooms around their own lengths.
+fn mends(side: &mut Side, deck: &[u8], rooms: [&[u8]; 2], stored: Answer) -> Result<(), Fault> {
+    let [room, list] = rooms.map(told::<usize>);
+    let lent = [
+        room.ok_or("a room of no size")?,
+        list.ok_or("a list of no size")?,
+    ];
+    if let Answer::Refused(number, place) = stored {
+        return in_two_rooms(side, deck, lent, Err((number, place)));
+    }
+    let (mended, lines) = stored.mended().ok_or("no deck with a list")?;
+    let due = [&mended[..], lines];
+    in_two_rooms(side, deck, lent, Ok(due))?;
+    let [length, listed] = due.map(<[u8]>::len);
+    for more in [[0, 0], [1, 1], [0, 90], [90, 0]] {
+        in_two_rooms(side, deck, [length + more[0], listed + more[1]], Ok(due))?;
+    }
+    let short = |length| Err((ROOM_TOO_SMALL, length));
+    in_two_rooms(side, deck, [length - 1, listed], short(length))?;
+    in_two_rooms(side, deck, [length - 1, listed - 1], short(length))?;
+    in_two_rooms(side, deck, [length, listed - 1], short(listed))?;
+    in_two_rooms(side, deck, [length + 1, 0], short(listed))
+}
+
+/// The answer in two rooms, every byte of both, and the length of the list behind them.
+fn in_two_rooms(
+    side: &mut Side,
+    deck: &[u8],
+    rooms: [usize; 2],
+    due: Result<[&[u8]; 2], (u8, usize)>,
+) -> Result<(), Fault> {
+    let [room, list] = rooms;
+    let mut lent = vec![UNTOUCHED; room + list + LISTED_BYTES];
+    let told = (room as u64).to_le_bytes();
+    let answer = side("open_panel_mend", &[deck, &told], &mut lent);
+    let wrong = |fault| format!("in rooms of {room} and {list}: {fault}");
+    same(answer, due.map(|[deck, _]| deck.len())).map_err(wrong)?;
+    // As it has to be afterwards.
+    let mut whole = vec![UNTOUCHED; lent.len()];
+    if let Ok([deck, lines]) = due {
+        whole[..deck.len()].copy_from_slice(deck);
+        whole[room..room + lines.len()].copy_from_slice(lines);
+        whole[room + list..].copy_from_slice(&(lines.len() as u64).to_le_bytes());
+    }
+    let differs = lent.iter().zip(&whole).position(|(a, b)| a != b);
+    differs.map_or(Ok(()), |place| {
+        Err(wrong(match place {
+            place if place < room => format!("byte {place} of the deck's room"),
+            place if place < room + list => format!("byte {} of the list", place - room),
+            _ => "the list's length".to_owned(),
+        }))
+    })
 }
 
 /// A number that is told in digits.

@@ -3,7 +3,9 @@
 //! first. What is found is a part of a deck, put into a room of [`PART_BYTES`].
 //! Odds are handed the steps and the first row's length as pieces of eight bytes,
 //! low byte first, between them a byte 1 for the largest or 0 for the smallest,
-//! and both rows, one behind the other, as the room.
+//! and both rows, one behind the other, as the room. Mending is handed the deck
+//! room's length as such a piece, and as the room the deck's, the list's, and eight
+//! bytes for the length of the list.
 
 use std::ffi::OsString;
 use std::io::{Read, Write};
@@ -62,6 +64,22 @@ fn in_rows<T>(
     answer
 }
 
+/// Mends into the two rooms that one holds, and puts the length of the list behind them; with a refusal all stays.
+fn in_two_rooms<R>(
+    deck_room: &[u8],
+    room: &mut [u8],
+    mend: impl FnOnce(&mut [u8], &mut [u8]) -> Result<(usize, usize), R>,
+) -> Result<usize, R> {
+    let (rooms, listed) = room.split_at_mut(room.len() - LISTED_BYTES);
+    let (deck, list) = rooms.split_at_mut(eight_bytes(deck_room));
+    let (length, list_length) = mend(deck, list)?;
+    listed.copy_from_slice(&(list_length as u64).to_le_bytes());
+    Ok(length)
+}
+
+/// How many bytes hold the length of a list, low byte first.
+pub const LISTED_BYTES: usize = 8;
+
 fn eight_bytes(piece: &[u8]) -> usize {
     u64::from_le_bytes(piece.try_into().expect("eight bytes")) as usize
 }
@@ -106,6 +124,9 @@ pub fn wrapper(entry: &str, pieces: &[&[u8]], room: &mut [u8]) -> Answer {
         ("open_panel_box_write", [contents, bodies]) => {
             open_panel::write_deck(contents, bodies, room)
         }
+        ("open_panel_mend", [deck, deck_room]) => in_two_rooms(deck_room, room, |room, list| {
+            open_panel::mend(deck, room, list).map(|mended| (mended.deck, mended.list))
+        }),
         _ => panic!("the wrapper has no {entry}"),
     }
     .map_err(|refusal| (refusal.number(), refusal.place()))
@@ -146,6 +167,9 @@ pub fn baseline(entry: &str, pieces: &[&[u8]], room: &mut [u8]) -> Answer {
         ("open_panel_box_write", [contents, bodies]) => {
             baseline::write_deck(contents, bodies, room)
         }
+        ("open_panel_mend", [deck, deck_room]) => in_two_rooms(deck_room, room, |room, list| {
+            baseline::mend_into(deck, room, list).map(|mended| (mended.deck, mended.list))
+        }),
         _ => panic!("the baseline has no {entry}"),
     }
     .map_err(|refusal| (refusal.number, refusal.place))

@@ -94,18 +94,23 @@ pub enum Answer<'a> {
     Words(&'a [u8]),
 }
 
-impl Answer<'_> {
+impl<'a> Answer<'a> {
     /// A deck: `ok LENGTH`, LF, twice as many hex digits, LF.
     pub fn deck(&self) -> Option<Vec<u8>> {
         let Answer::Words(words) = self else {
             return None;
         };
-        let words = str::from_utf8(words).ok()?;
-        let (length, digits) = words.strip_prefix("ok ")?.split_once('\n')?;
-        let (pairs, rest) = digits.strip_suffix('\n')?.as_bytes().as_chunks::<2>();
-        let byte = |pair: &[u8; 2]| u8::from_str_radix(str::from_utf8(pair).ok()?, 16).ok();
-        let deck: Vec<u8> = pairs.iter().map(byte).collect::<Option<_>>()?;
-        (rest.is_empty() && length.parse() == Ok(deck.len())).then_some(deck)
+        let (deck, behind) = digits(words)?;
+        behind.is_empty().then_some(deck)
+    }
+
+    /// A mended deck, and behind it its list as a text: `ok LENGTH`, LF, so many bytes, LF.
+    pub fn mended(&self) -> Option<(Vec<u8>, &'a [u8])> {
+        let Answer::Words(words) = self else {
+            return None;
+        };
+        let (deck, behind) = digits(words)?;
+        Some((deck, counted(behind)?))
     }
 }
 
@@ -132,6 +137,19 @@ fn refusal(stored: &[u8]) -> Option<Answer<'_>> {
     let words = str::from_utf8(stored).ok()?;
     let (number, place) = words.strip_prefix("refused ")?.trim_end().split_once(' ')?;
     Some(Answer::Refused(number.parse().ok()?, place.parse().ok()?))
+}
+
+/// A deck in digits, and what stands behind its line.
+fn digits(words: &[u8]) -> Option<(Vec<u8>, &[u8])> {
+    let end_of_line = |words: &[u8]| words.iter().position(|&byte| byte == b'\n');
+    let words = words.strip_prefix(b"ok ")?;
+    let (length, words) = words.split_at(end_of_line(words)?);
+    let (digits, behind) = words[1..].split_at(end_of_line(&words[1..])?);
+    let (pairs, rest) = digits.as_chunks::<2>();
+    let byte = |pair: &[u8; 2]| u8::from_str_radix(str::from_utf8(pair).ok()?, 16).ok();
+    let deck: Vec<u8> = pairs.iter().map(byte).collect::<Option<_>>()?;
+    let right = rest.is_empty() && str::from_utf8(length).ok()?.parse() == Ok(deck.len());
+    right.then_some((deck, &behind[1..]))
 }
 
 /// A text behind its length: `ok LENGTH`, LF, so many bytes, LF.

@@ -74,6 +74,25 @@ fn decks_are_stored_as_digits() {
 }
 
 #[test]
+fn mended_decks_are_stored_with_their_lists() {
+    let cases = Cases::new(&call(&["mend", "", "5", "5"]).repeat(4));
+    let answers = cases.answers(
+        b"case 0\nok 3\n00ff1a\nok 6\na\nb\n\n\n\ncase 1\nok 3\n00ff1a\nok 5\nkept\n\ncase 2\nok 3\n00ff1a\ncase 3\nok 3\n00ff1a\nok 7\nkept\n\n",
+    );
+    let mended: Vec<_> = answers.iter().map(Answer::mended).collect();
+    let deck = || vec![0, 255, 26];
+    let due = [
+        Some((deck(), &b"a\nb\n\n\n"[..])),
+        Some((deck(), b"kept\n")),
+        None,
+        None,
+    ];
+    assert_eq!(mended, due);
+    assert_eq!(answers[1].deck(), None);
+    assert_eq!(answers[2].deck(), Some(deck()));
+}
+
+#[test]
 fn odds_are_stored_with_both_rows() {
     let cases = Cases::new(&[call(&["odds"]), call(&["odds"]), call(&["odds"])].concat());
     let answers =
