@@ -1,7 +1,8 @@
 /*
  * The open panel: rule cards judged, written, reduced to counters, and shown;
  * questions about a seating answered, and who may move; cards found in decks,
- * and decks written; a line of public classes for spectators.
+ * decks written, and damaged ones mended; a line of public classes for
+ * spectators.
  *
  * Link libopen_panel.a or libopen_panel.so, which dist/ has and `bin/library`
  * makes, for x86-64 and for aarch64 Linux (Android's too). Of the C library it
@@ -17,7 +18,7 @@
  *     its bodies and a room are a pointer and a length in bytes. The pointer
  *     leads to so many bytes, which nothing else writes during the call; only
  *     for a length of 0 may it be null. None of them has a closing zero byte.
- *   - The room and the part must not overlap what is only read: all others.
+ *   - A room and the part must not overlap what is only read: all others.
  *     Those may overlap each other.
  *   - Any bytes may be passed as what is only read; what is wrong with them is
  *     answered, with a number and a place.
@@ -39,7 +40,7 @@ extern "C" {
 #endif
 
 /* The version of this header; open_panel_version gives the library's. CHANGELOG.md says what each one changed. */
-#define OPEN_PANEL_VERSION "0.8.3"
+#define OPEN_PANEL_VERSION "0.9.0"
 
 /* Lengths have 64 bits: a size_t of fewer would be read as another number. */
 typedef char open_panel_needs_a_size_t_of_8_bytes[sizeof(size_t) == 8 ? 1 : -1];
@@ -64,6 +65,9 @@ typedef char open_panel_needs_a_size_t_of_8_bytes[sizeof(size_t) == 8 ? 1 : -1];
 /* Longest deck, and most cards in it. A deck of OPEN_PANEL_DECK_BYTES is a room that every deck fits into. */
 #define OPEN_PANEL_DECK_BYTES 65535
 #define OPEN_PANEL_DECK_CARDS 64
+
+/* A room that every list of open_panel_mend fits into: a line of ten bytes at most for each of OPEN_PANEL_DECK_CARDS entries. */
+#define OPEN_PANEL_LIST_ROOM 640
 
 /*
  * Rooms, in bytes, that are always enough, whatever the card and the seats:
@@ -96,6 +100,7 @@ typedef char open_panel_needs_a_size_t_of_8_bytes[sizeof(size_t) == 8 ? 1 : -1];
 #define OPEN_PANEL_STACK_BOX_FIND 256
 #define OPEN_PANEL_STACK_BOX_FIND_WITH 256
 #define OPEN_PANEL_STACK_BOX_WRITE 256
+#define OPEN_PANEL_STACK_MEND 11008
 
 /* The numbers of the refusals, and behind the semicolon what `value` is: bytes of the card, from 21 on of the question, count from 0. */
 enum open_panel_refusal {
@@ -110,10 +115,11 @@ enum open_panel_refusal {
     OPEN_PANEL_WEIGHT = 7,     /* a weight that is none; where it begins. Or weights that do not come to 1; their closing `;` */
     OPEN_PANEL_SEAT_COUNT = 8, /* seats_len differs from the number of the card's modules; 0 */
     OPEN_PANEL_SEAT_STATE = 9, /* a seat in a state higher than the card's highest; the index in seats of the first one */
-    OPEN_PANEL_ROOM = 10,      /* a room that the text or the deck does not fit into; its length */
+    OPEN_PANEL_ROOM = 10,      /* a room that the text, the deck or the list does not fit into; its length */
     OPEN_PANEL_DECK = 11,      /* a malformed deck; the first byte of the first wrong field, 65,536 more in the expansion, or 0 (that much
                                   more) where the count, the contents or the length is wrong. From open_panel_box_write: the field in
-                                  the contents, or contents_len where no field is wrong */
+                                  the contents, or contents_len where no field is wrong. From open_panel_mend: 0, also where no entry
+                                  can be kept */
     OPEN_PANEL_NO_CARD = 12,   /* no live card has the number; 0 */
     OPEN_PANEL_CLASSES = 13,   /* a list that has not one class for each state of the card; classes_len. Or a class above
                                   OPEN_PANEL_TOP_CLASS; the index in classes of the first one */
@@ -319,6 +325,41 @@ open_panel_answer open_panel_box_find_with(const uint8_t *base, size_t base_len,
 open_panel_answer open_panel_box_write(const uint8_t *contents, size_t contents_len,
                                        const uint8_t *bodies, size_t bodies_len,
                                        uint8_t *room, size_t room_len);
+
+/*
+ * Mends a damaged deck: what can be kept of it goes into a new deck without gaps,
+ * and what became of each entry into a list. Number 0, value the length of the new
+ * deck, and in `listed` the length of the list. The list has a line for each entry
+ * that the deck says it has, in their order: `kept`, or `dropped` and the number of
+ * the first of these rules that the entry breaks.
+ *
+ *   1. Its flag is 0 or 1, and its last byte 0.
+ *   2. Its card number is higher than that of every entry kept before it.
+ *   3. Its body begins behind all of the contents, those of dropped entries too, and
+ *      behind the last body kept, and ends within the deck; so does an empty body.
+ *   4. Its card is taken (open_panel_judge), if it is live. A withdrawn one is not read.
+ *
+ * A dropped entry counts for no other. What is kept has the number, flag and body that
+ * it had. Mending the new deck gives it once more, and a sound deck without gaps whose
+ * live cards are all taken comes out as it is.
+ *
+ * Refusals: 11 at 0 where the count is wrong, the contents are cut short, the deck is
+ * longer than OPEN_PANEL_DECK_BYTES, or nothing can be kept; then 10 with the length
+ * of the new deck if that does not fit into its room, then 10 with the length of the
+ * list if that does not fit into its own.
+ *
+ * A room of deck_len bytes is always enough for the new deck, and so is one of
+ * OPEN_PANEL_DECK_BYTES; OPEN_PANEL_LIST_ROOM bytes are for the list. A null room of
+ * length 0 gets 10 with the length to lend, and so does a null list of length 0 if the
+ * room is enough; a null deck of length 0 gets 11 at 0. `listed` must not be null. The
+ * room, the list and `listed` must not overlap each other or the deck. Untouched are
+ * the deck, and what stands behind the new deck and behind the list in their rooms; on
+ * a refusal all of both rooms and what `listed` leads to.
+ */
+open_panel_answer open_panel_mend(const uint8_t *deck, size_t deck_len,
+                                  uint8_t *room, size_t room_len,
+                                  uint8_t *list, size_t list_len,
+                                  size_t *listed);
 
 /*
  * What is below is plain C (c/open_panel_words.c) that stands beside the module

@@ -8,6 +8,12 @@ export interface Part {
     length: number;
 }
 
+/** What can be kept of a damaged deck, and a line for each of its entries: `kept`, or `dropped` and a rule from 1 to 4. */
+export interface Mended {
+    deck: Uint8Array;
+    list: string;
+}
+
 /** What a function throws when it turns something down. */
 export declare class Refusal extends Error {
     /** Which refusal: one of the numbers of open_panel.h. */
@@ -49,6 +55,8 @@ export interface Panel {
     boxFindWith(base: Bytes, expansion: Bytes, number: number): Part;
     /** `open_panel_box_write` of open_panel.h. */
     boxWrite(contents: Bytes, bodies: Bytes): Uint8Array;
+    /** `open_panel_mend` of open_panel.h. */
+    mend(deck: Bytes): Mended;
 }
 
 /** The version of this module, and of the library that it was made with. */

@@ -7,7 +7,7 @@
 // Each function of open_panel.h that answers about bytes is one here, under its name without `open_panel_` (box_find is boxFind). Rooms and
 // rows are lent by this module. A card or a question is a string or bytes, seats and classes are bytes or numbers. It needs nothing else.
 
-const VERSION = "0.8.3";
+const VERSION = "0.9.0";
 const NUMBERS = {
     CARD_BYTES: 16384,
     QUESTION_BYTES: 16384,
@@ -20,6 +20,7 @@ const NUMBERS = {
     UNIT: 277200,
     DECK_BYTES: 65535,
     DECK_CARDS: 64,
+    LIST_ROOM: 640,
     WRITE_ROOM: 83151,
     REDUCE_ROOM: 356082,
     SHOW_ROOM: 4357,
@@ -36,7 +37,7 @@ const WORDS = {
     8: "not as many seats as the card has",
     9: "a seat above the card's top state",
     10: "the room is too small",
-    11: "a malformed deck, or contents and bodies that make none",
+    11: "a malformed deck, contents and bodies that make none, or nothing to keep",
     12: "no live card has this number",
     13: "not one class for each state, or a class above 7",
     14: "the table has more than 512 count vectors",
@@ -62,6 +63,7 @@ const ENTRIES = {
     box_find: { answer: "part", takes: [["bytes", "deck"], ["u16", "number"], ["part", "part"]] },
     box_find_with: { answer: "part", takes: [["bytes", "base"], ["bytes", "expansion"], ["u16", "number"], ["part", "part"]] },
     box_write: { answer: "bytes", takes: [["bytes", "contents"], ["bytes", "bodies"], ["room", "room"]] },
+    mend: { answer: "mended", takes: [["bytes", "deck"], ["room", "room"], ["room", "list"], ["length", "listed"]] },
 };
 
 /** The version of this module, and of the library that it was made with. */
@@ -72,6 +74,7 @@ export const numbers = Object.freeze(NUMBERS);
 
 const ANSWER_BYTES = 16;
 const PART_BYTES = 24;
+const LENGTH_BYTES = 8;
 const ROW_NUMBER_BYTES = 4;
 const PAGE = 65536;
 const UNKNOWN = "a refusal that this library does not know";
@@ -142,9 +145,10 @@ class Panel {
         const texts = {};
         const copied = [];
         const lent = {};
-        const room = NUMBERS[`${name.toUpperCase()}_ROOM`] ?? NUMBERS.DECK_BYTES;
+        // a list has its own room, a text its entry's, and a deck one that is always enough
+        const roomOf = (of) => NUMBERS[`${(of === "room" ? name : of).toUpperCase()}_ROOM`] ?? NUMBERS.DECK_BYTES;
         const row = NUMBERS[`${name.toUpperCase()}_ROW`];
-        const due = takes.filter(([kind]) => !["room", "row", "part"].includes(kind));
+        const due = takes.filter(([kind]) => !["room", "row", "part", "length"].includes(kind));
         if (given.length !== due.length) throw new TypeError(`${name} takes ${due.map(([, of]) => of).join(", ")}`);
         let next = 0;
         const handed = takes.flatMap(([kind, of]) => {
@@ -157,13 +161,16 @@ class Panel {
                     return [place, BigInt(bytes.length)];
                 }
                 case "room":
-                    lent.room = lend(room);
-                    return [lent.room, BigInt(room)];
+                    lent[of] = lend(roomOf(of));
+                    return [lent[of], BigInt(roomOf(of))];
                 case "row":
                     return [lend(row * ROW_NUMBER_BYTES), BigInt(row)];
                 case "part":
                     lent.part = lend(PART_BYTES);
                     return [lent.part];
+                case "length":
+                    lent[of] = lend(LENGTH_BYTES);
+                    return [lent[of]];
                 case "u64":
                     return [BigInt(whole(of, given[next++], 64))];
                 default:
@@ -181,11 +188,16 @@ class Panel {
         const number = told.getUint8(answerAt);
         const value = Number(told.getBigUint64(answerAt + 8, true));
         if (number !== 0) throw new Refusal(number, value, texts);
+        const text = (place, length) => new TextDecoder().decode(bytes.subarray(place, place + length));
         switch (answer) {
             case "text":
-                return new TextDecoder().decode(bytes.subarray(lent.room, lent.room + value));
+                return text(lent.room, value);
             case "bytes":
                 return bytes.slice(lent.room, lent.room + value);
+            case "mended": {
+                const listed = Number(told.getBigUint64(lent.listed, true));
+                return { deck: bytes.slice(lent.room, lent.room + value), list: text(lent.list, listed) };
+            }
             case "part": {
                 const [inExpansion, offset, length] = [0, 8, 16].map((at) => Number(told.getBigUint64(lent.part + at, true)));
                 return { inExpansion: inExpansion === 1, offset, length };
