@@ -4,7 +4,7 @@ use leaf_text::WRITTEN;
 use packing::end_of;
 use packing::units_of;
 use phrases::put_numbered;
-use pieces::put_eight;
+use pieces::put_seven;
 use room::place;
 use room::put_byte;
 use room::put_bytes;
@@ -23,7 +23,8 @@ fn put_end(room: &mut [u8], at: usize, end: usize, style: Style) -> usize
     if style.text == WRITTEN {
         if end < 10 {
             let d = b'0' + end as u8;
-            return put_eight(room, at, b':', b'(', b's', b'1', b'\'', b'=', d, b')');
+            let a = put_seven(room, at, b':', b'(', b's', b'1', b'\'', b'=', d);
+            return put_byte(room, a, b')');
         }
         let a = put_numbered(room, at, b":(s1'=", end);
         return put_byte(room, a, b')');

@@ -2,8 +2,8 @@
 use packing::IS;
 use phrases::put_either;
 use phrases::put_numbered;
-use pieces::put_eight;
-use pieces::put_nine;
+use pieces::put_joined_five;
+use pieces::put_joined_four;
 use pieces::put_seven;
 use put_numbers::put_number;
 ghost use mathlib.Core.Path.{_≡_};
@@ -50,14 +50,14 @@ pub fn put_further(
             if relation == IS {
                 return put_seven(room, at, b' ', joint, b' ', b's', i, b'=', d);
             }
-            return put_eight(room, at, b' ', joint, b' ', b's', i, b'!', b'=', d);
+            return put_joined_four(room, at, joint, i, b'!', b'=', d);
         }
         if seat < 20 {
             let i = b'0' + (seat - 10) as u8;
             if relation == IS {
-                return put_eight(room, at, b' ', joint, b' ', b's', b'1', i, b'=', d);
+                return put_joined_four(room, at, joint, b'1', i, b'=', d);
             }
-            return put_nine(room, at, b' ', joint, b' ', b's', b'1', i, b'!', b'=', d);
+            return put_joined_five(room, at, joint, b'1', i, b'!', b'=', d);
         }
     }
     let a = put_either(room, at, sign, b" & ", b" | ");

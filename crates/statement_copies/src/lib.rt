@@ -11,7 +11,7 @@ use leaf_text::Style;
 use leaf_text::WRITTEN;
 use phrases::WEIGHT_MOST;
 use phrases::put_numbered;
-use pieces::put_nine;
+use pieces::put_above;
 use pieces::put_seven;
 use put_numbers::put_number;
 use room::place;
@@ -44,7 +44,7 @@ fn put_first(room: &mut [u8], at: usize, m: usize, style: Style) -> usize
     }
     if own < 10 {
         let d = b'0' + own as u8;
-        let a = put_nine(room, at, b'[', b']', b' ', b'(', b'n', b'o', b'_', d, b'>');
+        let a = put_above(room, at, d);
         let b = put_number(room, a, m);
         return put_byte(room, b, b')');
     }

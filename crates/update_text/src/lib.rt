@@ -1,11 +1,8 @@
 // What a branch does to the counters, put as text: the part of a reduced statement behind its weight.
 use phrases::put_numbered;
-use pieces::put_eight;
-use pieces::put_nine;
-use pieces::put_six;
+use pieces::put_seven;
 use put_numbers::put_number;
 use room::put_bytes;
-use short_pieces::put_three;
 ghost use Rattle.meaning.specs.Reduced.{updateOf};
 ghost use Rattle.phrases.specs.Puts.{Puts};
 ghost use Rattle.texts.specs.ReducedText.{updateText};
@@ -21,11 +18,11 @@ pub fn put_update(room: &mut [u8], at: usize, own: usize, end: usize, seats: usi
         if end < 10 {
             let d = b'0' + own as u8;
             let e = b'0' + end as u8;
-            let a = put_six(room, at, b'(', b'n', b'o', b'_', d, b'\'');
-            let b = put_eight(room, a, b'=', b'n', b'o', b'_', d, b'-', b'1', b')');
-            let c = put_nine(room, b, b' ', b'&', b' ', b'(', b'n', b'o', b'_', e, b'\'');
-            let f = put_nine(room, c, b'=', b'm', b'i', b'n', b'(', b'n', b'o', b'_', e);
-            let g = put_three(room, f, b'+', b'1', b',');
+            let a = put_seven(room, at, b'(', b'n', b'o', b'_', d, b'\'', b'=');
+            let b = put_seven(room, a, b'n', b'o', b'_', d, b'-', b'1', b')');
+            let c = put_seven(room, b, b' ', b'&', b' ', b'(', b'n', b'o', b'_');
+            let f = put_seven(room, c, e, b'\'', b'=', b'm', b'i', b'n', b'(');
+            let g = put_seven(room, f, b'n', b'o', b'_', e, b'+', b'1', b',');
             let h = put_number(room, g, seats);
             return put_bytes(room, h, b"))");
         }

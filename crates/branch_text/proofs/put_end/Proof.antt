@@ -12,15 +12,24 @@ cast-d c = search needs
 add-d : tie.Need-add-d
 add-d c = search needs
 
-put-eight-requires : tie.Need-put-eight-requires
-put-eight-requires c κs = search needs
+put-seven-requires : tie.Need-put-seven-requires
+put-seven-requires c κs = search needs
+
+put-byte-requires : tie.Need-put-byte-requires
+put-byte-requires c κs = search needs
 
 same-length : tie.Need-same-length
 same-length c = search needs
 
 returns : tie.Need-returns
 returns c =
-    puts-as _ (λ t. rw (eq-eqb _ 0 (c .before .before .before .before .before .if1 .taken), decimal-one (c .before .before .before .before .before .before .before .before .args .end) (c .before .before .before .before .if2 .taken))) (put-first (c .before .before .put-eight .ensures))
+    let at-put-byte = c .before .before in
+    let at-put-seven = at-put-byte .before .before .before .before in
+    let at-if2 = at-put-seven .before .before in
+    let at-if1 = at-if2 .before in
+    let entry = at-if1 .before .before .before in
+    puts-as _ (λ t. rw (eq-eqb _ 0 (at-if1 .if1 .taken), decimal-one (entry .args .end) (at-if2 .if2 .taken)))
+    (puts-then (put-first (at-put-seven .put-seven .ensures)) (put-first (at-put-byte .put-byte .ensures)))
 
 slice-aggregate-put-numbered : tie.Need-slice-aggregate-put-numbered
 slice-aggregate-put-numbered c = search needs
@@ -28,18 +37,21 @@ slice-aggregate-put-numbered c = search needs
 put-numbered-requires : tie.Need-put-numbered-requires
 put-numbered-requires c κs = search needs
 
-put-byte-requires : tie.Need-put-byte-requires
-put-byte-requires c κs = search needs
+put-byte-requires-2 : tie.Need-put-byte-requires-2
+put-byte-requires-2 c κs = search needs
 
 same-length-2 : tie.Need-same-length-2
 same-length-2 c = search needs
 
 returns-2 : tie.Need-returns-2
 returns-2 c =
-    puts-as _ (λ t. rw (eq-eqb _ 0 (c .before .before .before .before .before .before .before .before .before .before .if1 .taken))) (puts-then (c .before .before .before .before .before .before .put-numbered .ensures) (put-first (c .before .before .put-byte .ensures)))
+    let at-put-byte2 = c .before .before in
+    let at-put-numbered = at-put-byte2 .before .before .before .before in
+    let at-if1 = at-put-numbered .before .before .before .before in
+    puts-as _ (λ t. rw (eq-eqb _ 0 (at-if1 .if1 .taken))) (puts-then (at-put-numbered .put-numbered .ensures) (put-first (at-put-byte2 .put-byte2 .ensures)))
 
-put-byte-requires-2 : tie.Need-put-byte-requires-2
-put-byte-requires-2 c κs = search needs
+put-byte-requires-3 : tie.Need-put-byte-requires-3
+put-byte-requires-3 c κs = search needs
 
 put-update-requires : tie.Need-put-update-requires
 put-update-requires c κs = search needs
@@ -49,7 +61,10 @@ same-length-3 c = search needs
 
 returns-3 : tie.Need-returns-3
 returns-3 c =
-    puts-as _ (λ t. rw (ne-eqb _ 0 (c .before .before .before .before .before .before .before .before .if1 .left))) (puts-then (put-first (c .before .before .before .before .before .before .put-byte2 .ensures)) (c .before .before .put-update .ensures))
+    let at-put-update = c .before .before in
+    let at-put-byte3 = at-put-update .before .before .before .before in
+    let at-if1 = at-put-byte3 .before .before in
+    puts-as _ (λ t. rw (ne-eqb _ 0 (at-if1 .if1 .left))) (puts-then (put-first (at-put-byte3 .put-byte3 .ensures)) (at-put-update .put-update .ensures))
 
 pub put-end-spec : {M : Type 1} → statement M
 put-end-spec =
@@ -57,15 +72,16 @@ put-end-spec =
     (tie.spec
     cast-d
     add-d
-    put-eight-requires
+    put-seven-requires
+    put-byte-requires
     same-length
     returns
     slice-aggregate-put-numbered
     put-numbered-requires
-    put-byte-requires
+    put-byte-requires-2
     same-length-2
     returns-2
-    put-byte-requires-2
+    put-byte-requires-3
     put-update-requires
     same-length-3
     returns-3)

@@ -39,8 +39,8 @@ returns c =
     let a = at-if1 .before .before .args in
     puts-as _ (further-is (a .sign) (a .relation) (a .state) (a .seat) (at-if1 .if1 .taken) (decimal-one (a .seat) (at-if2 .if2 .taken)) (at-joint-of .joint-of .ensures) (at-if3 .if3 .taken)) (put-first (c .before .before .put-seven .ensures))
 
-put-eight-requires : tie.Need-put-eight-requires
-put-eight-requires c κs = search needs
+put-joined-four-requires : tie.Need-put-joined-four-requires
+put-joined-four-requires c κs = search needs
 
 same-length-2 : tie.Need-same-length-2
 same-length-2 c = search needs
@@ -52,7 +52,7 @@ returns-2 c =
     let at-joint-of = at-if2 .before in
     let at-if1 = at-joint-of .before in
     let a = at-if1 .before .before .args in
-    puts-as _ (further-isnt (a .sign) (a .relation) (a .state) (a .seat) (at-if1 .if1 .taken) (decimal-one (a .seat) (at-if2 .if2 .taken)) (at-joint-of .joint-of .ensures) (at-if3 .if3 .left)) (put-first (c .before .before .put-eight .ensures))
+    puts-as _ (further-isnt (a .sign) (a .relation) (a .state) (a .seat) (at-if1 .if1 .taken) (decimal-one (a .seat) (at-if2 .if2 .taken)) (at-joint-of .joint-of .ensures) (at-if3 .if3 .left)) (put-first (c .before .before .put-joined-four .ensures))
 
 cast-i-2 : tie.Need-cast-i-2
 cast-i-2 c = search needs
@@ -60,8 +60,8 @@ cast-i-2 c = search needs
 add-i-2 : tie.Need-add-i-2
 add-i-2 c = search needs
 
-put-eight-requires-2 : tie.Need-put-eight-requires-2
-put-eight-requires-2 c κs = search needs
+put-joined-four-requires-2 : tie.Need-put-joined-four-requires-2
+put-joined-four-requires-2 c κs = search needs
 
 same-length-3 : tie.Need-same-length-3
 same-length-3 c = search needs
@@ -74,10 +74,10 @@ returns-3 c =
     let at-joint-of = at-if2 .before in
     let at-if1 = at-joint-of .before in
     let a = at-if1 .before .before .args in
-    puts-as _ (further-is (a .sign) (a .relation) (a .state) (a .seat) (at-if1 .if1 .taken) (decimal-teen (a .seat) (at-if2 .if2 .left) (at-if4 .if4 .taken)) (at-joint-of .joint-of .ensures) (at-if5 .if5 .taken)) (put-first (c .before .before .put-eight2 .ensures))
+    puts-as _ (further-is (a .sign) (a .relation) (a .state) (a .seat) (at-if1 .if1 .taken) (decimal-teen (a .seat) (at-if2 .if2 .left) (at-if4 .if4 .taken)) (at-joint-of .joint-of .ensures) (at-if5 .if5 .taken)) (put-first (c .before .before .put-joined-four2 .ensures))
 
-put-nine-requires : tie.Need-put-nine-requires
-put-nine-requires c κs = search needs
+put-joined-five-requires : tie.Need-put-joined-five-requires
+put-joined-five-requires c κs = search needs
 
 same-length-4 : tie.Need-same-length-4
 same-length-4 c = search needs
@@ -90,7 +90,7 @@ returns-4 c =
     let at-joint-of = at-if2 .before in
     let at-if1 = at-joint-of .before in
     let a = at-if1 .before .before .args in
-    puts-as _ (further-isnt (a .sign) (a .relation) (a .state) (a .seat) (at-if1 .if1 .taken) (decimal-teen (a .seat) (at-if2 .if2 .left) (at-if4 .if4 .taken)) (at-joint-of .joint-of .ensures) (at-if5 .if5 .left)) (put-first (c .before .before .put-nine .ensures))
+    puts-as _ (further-isnt (a .sign) (a .relation) (a .state) (a .seat) (at-if1 .if1 .taken) (decimal-teen (a .seat) (at-if2 .if2 .left) (at-if4 .if4 .taken)) (at-joint-of .joint-of .ensures) (at-if5 .if5 .left)) (put-first (c .before .before .put-joined-five .ensures))
 
 slice-aggregate-put-either : tie.Need-slice-aggregate-put-either
 slice-aggregate-put-either c = search needs
@@ -125,15 +125,15 @@ put-further-spec =
     put-seven-requires
     same-length
     returns
-    put-eight-requires
+    put-joined-four-requires
     same-length-2
     returns-2
     cast-i-2
     add-i-2
-    put-eight-requires-2
+    put-joined-four-requires-2
     same-length-3
     returns-3
-    put-nine-requires
+    put-joined-five-requires
     same-length-4
     returns-4
     slice-aggregate-put-either

@@ -44,8 +44,8 @@ cast-d-2 c = search needs
 add-d-2 : tie.Need-add-d-2
 add-d-2 c = search needs
 
-put-nine-requires : tie.Need-put-nine-requires
-put-nine-requires c κs = search needs
+put-above-requires : tie.Need-put-above-requires
+put-above-requires c κs = search needs
 
 put-number-requires : tie.Need-put-number-requires
 put-number-requires c κs = search needs
@@ -59,12 +59,12 @@ same-length-3 c = search needs
 returns-3 : tie.Need-returns-3
 returns-3 c =
     let at-put-number = c .before .before .before .before .before .before in
-    let at-put-nine = at-put-number .before .before .before .before in
-    let at-if3 = at-put-nine .before .before in
+    let at-put-above = at-put-number .before .before .before .before in
+    let at-if3 = at-put-above .before .before in
     let at-if1 = at-if3 .before in
     let entry = at-if1 .before .before .before in
     puts-as _ (λ t. rw (ne-eqb _ 0 (at-if1 .if1 .left), decimal-one (entry .args .style .own) (at-if3 .if3 .taken)))
-    (puts-then (put-first (at-put-nine .put-nine .ensures)) (puts-then (put-first (at-put-number .put-number .ensures)) (put-first (c .before .before .put-byte .ensures))))
+    (puts-then (put-first (at-put-above .put-above .ensures)) (puts-then (put-first (at-put-number .put-number .ensures)) (put-first (c .before .before .put-byte .ensures))))
 
 slice-aggregate-put-numbered-2 : tie.Need-slice-aggregate-put-numbered-2
 slice-aggregate-put-numbered-2 c = search needs
@@ -106,7 +106,7 @@ put-first-spec =
     returns-2
     cast-d-2
     add-d-2
-    put-nine-requires
+    put-above-requires
     put-number-requires
     put-byte-requires
     same-length-3

@@ -1,4 +1,5 @@
 -- `update_text::put_update` meets its contract: by whether the branch leads to the own state, and by the digits. Assumes nothing.
+use mathlib.Core.Path.{_∙_}
 use native.Mathlib.Omega.{arith}
 use Rattle.phrases.proofs.Laws.{put-first, puts-then, puts-as}
 use Rattle.update_text.proofs.Laws.{update-keep, update-shift, update-digits}
@@ -34,20 +35,20 @@ cast-e c = search needs
 add-e : tie.Need-add-e
 add-e c = search needs
 
-put-six-requires : tie.Need-put-six-requires
-put-six-requires c κs = search needs
+put-seven-requires : tie.Need-put-seven-requires
+put-seven-requires c κs = search needs
 
-put-eight-requires : tie.Need-put-eight-requires
-put-eight-requires c κs = search needs
+put-seven-requires-2 : tie.Need-put-seven-requires-2
+put-seven-requires-2 c κs = search needs
 
-put-nine-requires : tie.Need-put-nine-requires
-put-nine-requires c κs = search needs
+put-seven-requires-3 : tie.Need-put-seven-requires-3
+put-seven-requires-3 c κs = search needs
 
-put-nine-requires-2 : tie.Need-put-nine-requires-2
-put-nine-requires-2 c κs = search needs
+put-seven-requires-4 : tie.Need-put-seven-requires-4
+put-seven-requires-4 c κs = search needs
 
-put-three-requires : tie.Need-put-three-requires
-put-three-requires c κs = search needs
+put-seven-requires-5 : tie.Need-put-seven-requires-5
+put-seven-requires-5 c κs = search needs
 
 put-number-requires : tie.Need-put-number-requires
 put-number-requires c κs = search needs
@@ -59,24 +60,33 @@ put-bytes-requires-2 : tie.Need-put-bytes-requires-2
 put-bytes-requires-2 c κs = search needs
 
 same-length-2 : tie.Need-same-length-2
-same-length-2 c = search needs
+same-length-2 c =
+    let at-put-bytes2 = c .before .before in
+    let at-put-number = at-put-bytes2 .before .before .before .before .before in
+    let at-put-seven5 = at-put-number .before .before .before .before in
+    let at-put-seven4 = at-put-seven5 .before .before .before .before in
+    let at-put-seven3 = at-put-seven4 .before .before .before .before in
+    let at-put-seven2 = at-put-seven3 .before .before .before .before in
+    let at-put-seven = at-put-seven2 .before .before .before .before in
+    at-put-bytes2 .put-bytes2 .kept .0 ∙ at-put-number .put-number .kept .0 ∙ at-put-seven5 .put-seven5 .kept .0 ∙ at-put-seven4 .put-seven4 .kept .0
+    ∙ at-put-seven3 .put-seven3 .kept .0 ∙ at-put-seven2 .put-seven2 .kept .0 ∙ at-put-seven .put-seven .kept .0
 
 returns-2 : tie.Need-returns-2
 returns-2 c =
     let at-put-bytes2 = c .before .before in
     let at-put-number = at-put-bytes2 .before .before .before .before .before in
-    let at-put-three = at-put-number .before .before .before .before in
-    let at-put-nine2 = at-put-three .before .before .before .before in
-    let at-put-nine = at-put-nine2 .before .before .before .before in
-    let at-put-eight = at-put-nine .before .before .before .before in
-    let at-put-six = at-put-eight .before .before .before .before in
-    let at-if3 = at-put-six .before .before in
+    let at-put-seven5 = at-put-number .before .before .before .before in
+    let at-put-seven4 = at-put-seven5 .before .before .before .before in
+    let at-put-seven3 = at-put-seven4 .before .before .before .before in
+    let at-put-seven2 = at-put-seven3 .before .before .before .before in
+    let at-put-seven = at-put-seven2 .before .before .before .before in
+    let at-if3 = at-put-seven .before .before in
     let at-if2 = at-if3 .before in
     let at-if1 = at-if2 .before in
     let a = at-if1 .before .before .args in
     puts-as _ (update-digits (a .seats) (a .own) (a .end) (λ e. omega (arith, e, at-if1 .if1 .left)) (at-if2 .if2 .taken) (at-if3 .if3 .taken))
-    (puts-then (put-first (at-put-six .put-six .ensures)) (puts-then (put-first (at-put-eight .put-eight .ensures)) (puts-then (put-first (at-put-nine .put-nine .ensures))
-    (puts-then (put-first (at-put-nine2 .put-nine2 .ensures)) (puts-then (put-first (at-put-three .put-three .ensures)) (puts-then (put-first (at-put-number .put-number .ensures)) (put-first (at-put-bytes2 .put-bytes2 .ensures))))))))
+    (puts-then (put-first (at-put-seven .put-seven .ensures)) (puts-then (put-first (at-put-seven2 .put-seven2 .ensures)) (puts-then (put-first (at-put-seven3 .put-seven3 .ensures))
+    (puts-then (put-first (at-put-seven4 .put-seven4 .ensures)) (puts-then (put-first (at-put-seven5 .put-seven5 .ensures)) (puts-then (put-first (at-put-number .put-number .ensures)) (put-first (at-put-bytes2 .put-bytes2 .ensures))))))))
 
 slice-aggregate-put-numbered : tie.Need-slice-aggregate-put-numbered
 slice-aggregate-put-numbered c = search needs
@@ -143,11 +153,11 @@ put-update-spec =
     add-d
     cast-e
     add-e
-    put-six-requires
-    put-eight-requires
-    put-nine-requires
-    put-nine-requires-2
-    put-three-requires
+    put-seven-requires
+    put-seven-requires-2
+    put-seven-requires-3
+    put-seven-requires-4
+    put-seven-requires-5
     put-number-requires
     slice-aggregate-put-bytes-2
     put-bytes-requires-2
