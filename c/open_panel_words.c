@@ -22,23 +22,23 @@ const char *open_panel_words(uint8_t number) {
     case OPEN_PANEL_MARK: return "no mark of a card, or too many digits";
     case OPEN_PANEL_SHAPE: return "this cannot stand here, or the card ends early";
     case OPEN_PANEL_LIMIT: return "one more than a card may have";
-    case OPEN_PANEL_STATE: return "a state above the card's top state";
+    case OPEN_PANEL_STATE: return "a state above the card's top state, or a shared number above its highest";
     case OPEN_PANEL_WORD: return "not the seat or module due, or a group that is not symmetric";
     case OPEN_PANEL_WEIGHT: return "not a weight, or weights that do not sum to 1";
-    case OPEN_PANEL_SEAT_COUNT: return "not as many seats as the card has";
-    case OPEN_PANEL_SEAT_STATE: return "a seat above the card's top state";
+    case OPEN_PANEL_SEAT_COUNT: return "not as many seats as the card has, and one byte more if it shares a number";
+    case OPEN_PANEL_SEAT_STATE: return "a seat above the card's top state, or the shared number above its highest";
     case OPEN_PANEL_ROOM: return "the room is too small";
     case OPEN_PANEL_DECK: return "a malformed deck, contents and bodies that make none, or nothing to keep";
     case OPEN_PANEL_NO_CARD: return "no live card has this number";
     case OPEN_PANEL_CLASSES: return "not one class for each state, or a class above " TEXT(OPEN_PANEL_TOP_CLASS);
-    case OPEN_PANEL_VECTORS: return "the table has more than " TEXT(OPEN_PANEL_ODDS_ROW) " count vectors";
+    case OPEN_PANEL_VECTORS: return "the table has more than " TEXT(OPEN_PANEL_ODDS_ROW) " count vectors, or pairs of one and a shared number";
     case OPEN_PANEL_STEPS: return "more than " TEXT(OPEN_PANEL_ODDS_STEPS) " steps";
     case OPEN_PANEL_ROWS: return "a lent row does not have " TEXT(OPEN_PANEL_ODDS_ROW) " numbers";
     case OPEN_PANEL_QUESTION_LONG: return "the question is longer than " TEXT(OPEN_PANEL_QUESTION_BYTES) " bytes";
     case OPEN_PANEL_QUESTION_MARK: return "no mark of a question, or too many digits";
     case OPEN_PANEL_QUESTION_SHAPE: return "this cannot stand here, or the question ends early";
     case OPEN_PANEL_QUESTION_LIMIT: return "one more than a question may have";
-    case OPEN_PANEL_QUESTION_STATE: return "a state above the card's top state";
+    case OPEN_PANEL_QUESTION_STATE: return "a state above the card's top state, or a shared number above its highest";
     case OPEN_PANEL_QUESTION_GROUP: return "a group that is not of all seats alike, or no exactly-one";
     default: return "a refusal that this library does not know";
     }

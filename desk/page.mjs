@@ -90,8 +90,12 @@ useSentences(plainText("sentences"));
 const library = await load(Uint8Array.from(atob(plainText("library").replace(/\s/g, "")), (byte) => byte.charCodeAt(0)));
 const [cardEditor, questionEditor] = [new Editor("card"), new Editor("question")];
 
-/** What is shown: the seats, the last card that was taken, whether the editor has another by now, its panel, and so on. */
-const now = { seats: [], card: undefined, stale: false, panel: undefined, choice: undefined, text: undefined, name: undefined };
+/** What is shown: the seats and the number that they share, the last card that was taken, whether the editor has another by now, its panel, and so on. */
+const now = { seats: [], shared: undefined, card: undefined, stale: false, panel: undefined, choice: undefined, text: undefined, name: undefined };
+
+/** The seats as the library is handed them: with the number that they share behind them, where the card has one. */
+const seating = () => Uint8Array.from(now.shared === undefined ? now.seats : [...now.seats, now.shared]);
+const seatingTyped = () => seating().join("");
 
 /** What an entry answers, or its refusal. */
 function tried(entry) {
@@ -151,11 +155,18 @@ function readCard(delay = 250) {
     if (!refused) {
         const text = bytesAsText(card);
         const walk = walkCard(text);
-        const read = { bytes: card, text, walk, seats: walk.modules.length, top: walk.top.value, begins: walk.states[0][0].value };
+        const read = {
+            bytes: card, text, walk, seats: walk.modules.length, top: walk.top.value, begins: walk.states[0][0].value,
+            sharedTop: walk.sharedTop?.value, sharedBegins: walk.values[0]?.[0].value,
+        };
         if (seats !== undefined) refused = tried(() => library.firstMove(card, values(seats))).refusal;
         if (!refused) {
             now.card = read;
-            now.seats = seats === undefined ? repeated(read.seats, (i) => (now.seats[i] <= read.top ? now.seats[i] : read.begins)) : [...seats].map(Number);
+            const digits = seats === undefined ? undefined : [...seats].map(Number);
+            const [given, shared] = digits ? [digits, digits.at(-1)] : [now.seats, now.shared];
+            now.seats = repeated(read.seats, (i) => (given[i] <= read.top ? given[i] : read.begins));
+            // nothing is below what there is not
+            now.shared = shared <= read.sharedTop ? shared : read.sharedBegins;
         }
     }
     if (refused) {
@@ -166,9 +177,10 @@ function readCard(delay = 250) {
         say("card-says", delay, ...refusalSaid(said, lineAndColumn(cardEditor.text, place.from)));
     } else {
         cardEditor.mark();
-        const { walk, top } = now.card;
+        const { walk, top, sharedTop } = now.card;
         const roles = top === 0 ? "role 0" : `roles 0 to ${top}`;
-        const words = [walk.nondeterministic ? "nondeterministic" : "probabilistic", count(now.card.seats, "seat"), roles, count(walk.statements.length, "statement")];
+        const shared = sharedTop === undefined ? [] : [`g up to ${sharedTop}`];
+        const words = [walk.nondeterministic ? "nondeterministic" : "probabilistic", count(now.card.seats, "seat"), roles, ...shared, count(walk.statements.length, "statement")];
         say("card-says", delay, element("span", { class: "good" }, "Taken: "), words.join(", "), ".");
     }
     $("go").hidden = !refused;
@@ -200,12 +212,12 @@ function showText(kind) {
 
 // ---- the seats
 
-function setSeats(seats) {
-    now.seats = seats;
+function setSeats(seats, shared = now.shared) {
+    [now.seats, now.shared] = [seats, shared];
     const { line } = typed();
     if (line > 0 && !now.stale) {
         const end = cardEditor.text.indexOf("\n");
-        cardEditor.field.setRangeText(seats.join(""), 0, end < 0 ? cardEditor.text.length : end, "preserve");
+        cardEditor.field.setRangeText(seatingTyped(), 0, end < 0 ? cardEditor.text.length : end, "preserve");
         cardEditor.mark();
     }
     $("shuffled").replaceChildren();
@@ -217,16 +229,19 @@ function setSeats(seats) {
 function showSeats() {
     const seats = now.card ? now.seats : [];
     const focused = [...$("seats").children].indexOf(document.activeElement);
-    $("seats").replaceChildren(...seats.map((role, i) => {
+    const next = (is, top, { shiftKey }) => (is + (shiftKey ? top : 1)) % (top + 1);
+    const buttons = seats.map((role, i) => {
         const button = element("button", { type: "button", class: "seat", "aria-label": `Seat ${i + 1}: role ${role}` },
             element("b", { class: `role-${role}` }, String(role)), `seat ${i + 1}`);
-        button.addEventListener("click", (event) => {
-            const roles = now.card.top + 1;
-            const next = (role + (event.shiftKey ? roles - 1 : 1)) % roles;
-            setSeats(now.seats.map((other, j) => (j === i ? next : other)));
-        });
+        button.addEventListener("click", (event) => setSeats(now.seats.map((other, j) => (j === i ? next(role, now.card.top, event) : other))));
         return button;
-    }));
+    });
+    if (now.card && now.shared !== undefined) {
+        const button = element("button", { type: "button", class: "seat shared", "aria-label": `The number g that all seats share: ${now.shared}` }, element("b", {}, String(now.shared)), "g");
+        button.addEventListener("click", (event) => setSeats(now.seats, next(now.shared, now.card.sharedTop, event)));
+        buttons.push(button);
+    }
+    $("seats").replaceChildren(...buttons);
     if (focused >= 0) $("seats").children[focused]?.focus();
 }
 
@@ -261,7 +276,7 @@ function shuffle() {
 
 // ---- the panel
 
-/** A panel's lines as what they say: the moves of each choice; of a probabilistic card there is one, of no statement. */
+/** A panel's lines as what they say: the moves of each choice, with what the shared number is after them; of a probabilistic card there is one, of no statement. */
 function parsed(panel) {
     const [mode, ...lines] = panel.trimEnd().split("\n").map((line) => line.split(" "));
     const made = { mode: mode[0], choices: [] };
@@ -269,10 +284,13 @@ function parsed(panel) {
         const numbers = rest.filter((part) => part !== "enabled").map(Number);
         if (word === "seats") [made.seats, made.enabled] = numbers;
         else if (word === "counts") made.counts = numbers;
+        else if (word === "shared") [made.shared] = numbers;
         else if (word === "choice") made.choices.push({ statement: numbers[0], moves: [] });
         else {
             if (made.choices.length === 0) made.choices.push({ moves: [] });
-            made.choices.at(-1).moves.push(word === "stay" ? { weight: numbers[0] } : { from: numbers[0], to: numbers[1], weight: numbers[2] });
+            const [from, to] = word === "move" ? numbers.splice(0, 2) : [];
+            const [weight, shared] = numbers;
+            made.choices.at(-1).moves.push({ from, to, weight, before: made.shared, shared });
         }
     }
     made.whole = made.mode === "probabilistic" ? made.enabled * UNIT : UNIT;
@@ -280,7 +298,7 @@ function parsed(panel) {
 }
 
 function showPanel() {
-    now.panel = now.card && library.show(now.card.bytes, Uint8Array.from(now.seats));
+    now.panel = now.card && library.show(now.card.bytes, seating());
     $("panel").hidden = !now.panel;
     $("no-panel").hidden = Boolean(now.panel);
     if (!now.panel) return;
@@ -296,10 +314,10 @@ function draw(panel) {
         element("div", { class: many ? "stack" : "stack none", "aria-hidden": "true" }, ...repeated(many, () => element("i", { class: `role-${role}` }))),
         element("span", {}, chip(role)),
         element("span", {}, element("b", {}, String(many)), ` in role ${role}`)));
-    const stuck = library.firstMove(now.card.bytes, Uint8Array.from(now.seats)) === 0;
+    const stuck = library.firstMove(now.card.bytes, seating()) === 0;
     const pairs = panel.mode === "probabilistic" ? `${count(panel.enabled, "pair")} of a seat and a statement can move` : `${count(panel.enabled, "statement")} can be taken`;
     const parts = [
-        element("h3", {}, `${count(panel.seats, "seat")}, ${panel.mode}`),
+        element("h3", {}, `${count(panel.seats, "seat")}, ${panel.mode}${panel.shared === undefined ? "" : `, g is ${panel.shared}`}`),
         element("ul", { class: "stacks", "aria-label": "How many seats are in each role" }, ...stacks),
         element("h3", {}, stuck ? "Nobody can move" : "What may happen next"),
         element("p", { class: "quiet" }, stuck ? "One step is left, which changes nothing." : `${pairs}.`),
@@ -337,11 +355,14 @@ function tabs(panel, chosen) {
     return element("div", { class: "tabs", role: "tablist", "aria-label": "Choices of the players" }, ...all);
 }
 
-function moveDrawn({ from, to, weight }, whole) {
-    const what = from === undefined ? [element("span", {}, "no change")] : [chip(from), " → ", chip(to)];
+function moveDrawn({ from, to, weight, before, shared }, whole) {
+    const sets = shared !== before;
+    const what = from === undefined ? [element("span", {}, sets ? "no seat" : "no change")] : [chip(from), " → ", chip(to)];
+    if (sets) what.push(element("span", { class: "after" }, `g ${before} → ${shared}`));
     const bar = element("span");
     bar.style.width = `${(100 * weight) / whole}%`;
-    const label = from === undefined ? "no change" : `from role ${from} to role ${to}`;
+    const seat = from === undefined ? (sets ? "no seat moves" : "no change") : `from role ${from} to role ${to}`;
+    const label = sets ? `${seat}, g becomes ${shared}` : seat;
     return element("li", { "aria-label": `${label}: ${fraction(weight, whole)}, ${percent(weight, whole)}` },
         element("span", {}, ...what),
         element("span", { class: "track", "aria-hidden": "true" }, bar),
@@ -351,12 +372,15 @@ function moveDrawn({ from, to, weight }, whole) {
 // ---- the question
 
 function setRoles() {
-    const roles = now.card.top + 1;
-    if ($("role").options.length !== roles) {
-        const chosen = $("role").value;
-        $("role").replaceChildren(...repeated(roles, (role) => element("option", { value: String(role) }, String(role))));
-        if (Number(chosen) < roles) $("role").value = chosen || "0";
-    }
+    const fill = (id, many) => {
+        if ($(id).options.length === many) return;
+        const chosen = $(id).value;
+        $(id).replaceChildren(...repeated(many, (one) => element("option", { value: String(one) }, String(one))));
+        if (Number(chosen) < many) $(id).value = chosen || "0";
+    };
+    fill("role", now.card.top + 1);
+    fill("value", 1 + (now.card.sharedTop ?? 0));
+    $("ask-shared").hidden = now.card.sharedTop === undefined;
 }
 
 /** A question of one kind about a role, written out for so many seats. */
@@ -386,15 +410,16 @@ function readQuestion(delay = 250) {
         say("question-says", delay, ...(now.card ? [element("span", { class: "quiet" }, "A question gets yes or no at the seats that are set.")] : []));
         return;
     }
-    const { answer, refusal } = tried(() => library.ask(now.card.bytes, bytes, Uint8Array.from(now.seats)));
+    const { answer, refusal } = tried(() => library.ask(now.card.bytes, bytes, seating()));
     if (refusal) {
-        const said = explain(refusal, { card: now.card.text, question: bytesAsText(bytes), seats: now.seats.join("") });
+        const said = explain(refusal, { card: now.card.text, question: bytesAsText(bytes), seats: seatingTyped() });
         const place = placeIn(bytes, said.from, said.to);
         questionEditor.mark(place);
         say("question-says", delay, ...refusalSaid(said, lineAndColumn(questionEditor.text, place.from)));
     } else {
         questionEditor.mark();
-        say("question-says", delay, element("span", { class: "answer" }, answer ? "yes" : "no"), ` at ${now.seats.join("")}`);
+        const shared = now.shared === undefined ? "" : `, g ${now.shared}`;
+        say("question-says", delay, element("span", { class: "answer" }, answer ? "yes" : "no"), ` at ${now.seats.join("")}${shared}`);
     }
 }
 
@@ -419,7 +444,7 @@ const inMillionths = (chance) => (chance / CERTAIN).toFixed(6);
  */
 function oddsOf(question) {
     const { bytes, text, walk } = now.card;
-    const seats = Uint8Array.from(now.seats);
+    const seats = seating();
     const kinds = walk.nondeterministic ? KINDS : [["chance", 1]];
     const { answer, refusal } = tried(() => kinds.map(([name, largest]) => {
         const at = (night) => library.odds(bytes, question, seats, night, largest);
@@ -437,7 +462,7 @@ function showOdds() {
         $("odds").hidden = !curves && !said;
         for (const id of ["odds-help", "odds-nights", "curve", "odds-all"]) $(id).hidden = !curves;
         now.curves = curves;
-        $("odds").dataset.asked = `${now.seats.join("")} ${questionEditor.text}`;
+        $("odds").dataset.asked = `${seatingTyped()} ${questionEditor.text}`;
         if (said) $("odds-says").replaceChildren(...refusalSaid(said, ""));
         if (curves) drawOdds();
     }, 150);
@@ -515,6 +540,8 @@ function start({ dataset: { example: name, kind, role } }) {
     cardEditor.field.value = text.slice(line + 1);
     cardEditor.field.setSelectionRange(0, 0);
     now.seats = [...text.slice(0, line)].map(Number);
+    // on a card with a shared number it is the last digit, and on any other it is not looked at
+    now.shared = now.seats.at(-1);
     now.choice = undefined;
     now.name = name;
     questionEditor.field.value = "";
@@ -539,8 +566,9 @@ $("copy").addEventListener("click", async () => {
     $("copied").textContent = copied ? "Copied." : "The browser does not let the page copy: select the text.";
 });
 $("shuffle").addEventListener("click", shuffle);
-$("begin").addEventListener("click", () => setSeats(now.seats.map(() => now.card.begins)));
+$("begin").addEventListener("click", () => setSeats(now.seats.map(() => now.card.begins), now.card.sharedBegins));
 $("put").addEventListener("click", () => questionEditor.put(written($("kind").value, Number($("role").value), now.card.seats)));
+$("put-shared").addEventListener("click", () => questionEditor.put(`(g=${$("value").value})`));
 $("open").addEventListener("change", async ({ target }) => {
     const [file] = target.files;
     if (!file) return;

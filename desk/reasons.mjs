@@ -12,6 +12,7 @@ const BRANCHES = 8;
 const NODES = 32;
 const DEPTH = 8;
 const TOP = 7;
+const SHARED = "g";
 const ODDS_ROW = 512;
 export const ODDS_NIGHTS = 32;
 export const UNIT = 277200;
@@ -103,15 +104,15 @@ class Stop {
 /** Walks along a card: where the shape stops and what was due there, and what stands on the way. */
 export const walkCard = (text) => new Walker(text).walk((walker) => walker.card());
 
-/** Walks along a question. */
-export const walkQuestion = (text) => new Walker(text).walk((walker) => walker.question());
+/** Walks along a question about a card. */
+export const walkQuestion = (text, { shares }) => new Walker(text).walk((walker) => walker.question(shares));
 
 class Walker {
     constructor(text) {
         Object.assign(this, { text, next: 0, nodes: 0, asks: false });
         this.met = {
             marks: marks(text), stop: undefined, groups: [], ones: [], states: [], words: [], weights: [], sums: [], statements: [],
-            modules: [], copies: [], top: undefined, nondeterministic: false,
+            modules: [], copies: [], top: undefined, shares: false, sharedTop: undefined, values: [], nondeterministic: false,
         };
     }
 
@@ -188,7 +189,8 @@ class Walker {
     card() {
         this.met.nondeterministic = this.is("nondeterministic");
         if (!this.takes("nondeterministic") && !this.takes("probabilistic")) this.stop("mode", "probabilistic", "nondeterministic");
-        this.due("module", "module");
+        if (this.takes("global")) this.declaration();
+        if (!this.takes("module")) this.stop("module", ...(this.met.shares ? ["module"] : ["module", "global"]));
         this.met.modules.push(1);
         this.module(1, "first module");
         this.seat(1, "roles");
@@ -218,6 +220,32 @@ class Walker {
             if (this.met.modules.length === SEATS) this.passes("seats");
             this.copy();
         }
+    }
+
+    // The shared number, from behind `global` on.
+    declaration() {
+        this.met.shares = true;
+        this.due(SHARED, "shared name");
+        this.due(":", "declaration");
+        this.due("[", "declaration");
+        if (!this.takes("0")) this.stop("lowest value", "0");
+        this.due("..", "declaration");
+        const mark = this.next;
+        const top = this.number("@highest-value", "declaration");
+        if (top.value > TOP) {
+            this.next = mark;
+            this.passes("shared");
+        }
+        this.met.sharedTop = top;
+        this.due("]", "declaration");
+        this.due("init", "declaration");
+        this.value("init", "declaration");
+        this.due(";", "declaration");
+    }
+
+    // A value of the shared number.
+    value(of, within) {
+        this.met.values.push([this.number("@value", within), of]);
     }
 
     copy() {
@@ -271,12 +299,24 @@ class Walker {
             this.due("=", "update");
             this.state("branch", "update");
             this.due(")", "update");
+            const sets = this.met.shares && this.takes("&");
+            if (sets) this.sharedUpdate();
             if (this.is(";")) {
                 this.met.sums.push([this.take(), sum, first]);
                 return;
             }
-            if (!this.takes("+")) this.stop("branch", "+", ";");
+            if (!this.takes("+")) this.stop("branch", ...(this.met.shares && !sets ? ["&"] : []), "+", ";");
         }
+    }
+
+    // What a branch sets the shared number to, from behind `&` on.
+    sharedUpdate() {
+        this.due("(", "shared update");
+        this.due(SHARED, "shared update");
+        this.due("'", "shared prime");
+        this.due("=", "shared update");
+        this.value("branch", "shared update");
+        this.due(")", "shared update");
     }
 
     weight() {
@@ -288,8 +328,9 @@ class Walker {
         return units(first, below) ?? 0;
     }
 
-    question() {
+    question(shares) {
         this.asks = true;
+        this.met.shares = shares;
         this.expression(0, "question");
         if (this.peek().kind !== "end") this.stop("question", "&", "|", "@question-end");
     }
@@ -326,10 +367,15 @@ class Walker {
             this.unary(depth + 1, "condition");
             return;
         }
-        if (!this.is("(")) this.stop(within, ...(within === "bracket" ? ["@seat", "(", "!"] : ["(", "!"]));
+        if (!this.is("(")) this.stop(within, ...(within === "bracket" ? ["@seat", ...(this.met.shares ? [SHARED] : [])] : []), "(", "!");
         if (this.peek(1).kind === "seat") {
             this.node();
             this.met.groups.push(this.group(["&", "|"]));
+            return;
+        }
+        if (this.met.shares && this.peek(1).shown === SHARED) {
+            this.node();
+            this.test();
             return;
         }
         if (this.asks && this.startsOne()) {
@@ -341,6 +387,15 @@ class Walker {
         this.take();
         this.expression(depth + 1, "bracket");
         if (!this.takes(")")) this.stop("expression", "&", "|", ")");
+    }
+
+    // A test of the shared number.
+    test() {
+        this.take();
+        this.take();
+        if (!this.takes("=") && !this.takes("!=")) this.stop("relation", "=", "!=");
+        this.value("test", "test");
+        this.due(")", "test");
     }
 
     group(signs) {
@@ -441,7 +496,7 @@ export function explain({ number, place }, { card = "", question = "", seats = "
 function ofText(text, number, at, what, walkText, on) {
     if (number === 1) return long(text, what);
     if (number === 2) return wrongMark(text, at, what);
-    const walk = walkText(text);
+    const walk = walkText(text, on);
     const table = on ?? walk;
     switch (number) {
         case 3:
@@ -537,7 +592,7 @@ function wrongCharacter(text, at, what) {
     return reason;
 }
 
-const KEYWORDS = ["probabilistic", "nondeterministic", "module", "endmodule", "init"];
+const KEYWORDS = ["probabilistic", "nondeterministic", "global", "module", "endmodule", "init"];
 const MODES = { dtmc: "probabilistic", mdp: "nondeterministic", ctmc: "probabilistic" };
 const dueInWords = (due) => (due.startsWith("@") ? sentence(`due.${due.slice(1)}`) : `\`${due}\``);
 const doubled = (before, mark) => before !== undefined && touching(before, mark) && before.shown === mark.shown;
@@ -559,7 +614,8 @@ function shape(walk, at, what) {
     else if (stop.within === "guard" && mark.shown === "|") reason = found("shape.or", mark.end);
     else if (stop.within === "group" && joining && !doubled(before, mark)) reason = found("shape.mixed", mark.end, { found: mark.shown, sign: stop.due[0] });
     else reason = found("shape", mark.end, { found: cut(mark.shown), due });
-    const hint = shapeHint(walk, stop);
+    const shared = sharedHint(walk, stop, what);
+    const hint = shared ? [shared] : shapeHint(walk, stop);
     return hint ? hinted(reason, ...hint) : reason;
 }
 
@@ -614,6 +670,28 @@ function shapeHint(walk, stop) {
     }
 }
 
+// What may help where the shared number, or its declaration, does not fit.
+function sharedHint({ marks: all, shares }, { mark, within, due }, what) {
+    const { shown } = all[mark];
+    const behind = (more) => all[mark + more]?.shown;
+    const named = shown === SHARED;
+    const missing = what === "question" ? "hint.not-shared" : "hint.undeclared";
+    if (shown === "global") return "hint.global";
+    if (within === "module" && named) return "hint.undeclared";
+    if (["bracket", "condition", "question", "literal", "update"].includes(within) && named && !shares) return missing;
+    if ((within === "literal" && named) || (within === "test" && (shown === "&" || shown === "|"))) return "hint.test-alone";
+    if ((within === "condition" || within === "question") && named) return "hint.test-brackets";
+    if (within === "update" && named) return "hint.seat-first";
+    if (within === "branch" && shown === "&") return shares ? "hint.set-once" : behind(2) === SHARED ? missing : undefined;
+    if (within === "branch" && shown === "(" && shares && behind(1) === SHARED) return "hint.seat-first";
+    if (within === "shared prime" && shown === "=") return "hint.shared-prime";
+    if (within === "lowest value") return "hint.lowest-value";
+    if (within === "declaration" && due[0] === ";") return "hint.declaration";
+    // in capitals it is the case that is wrong
+    if (within === "shared name" && shown.toLowerCase() !== SHARED) return "hint.name";
+    return undefined;
+}
+
 const copyAt = (walk, mark) => 1 + walk.copies.filter((copy) => copy <= mark).length;
 
 // How many letters have to be put, dropped or changed to make one word of another.
@@ -631,11 +709,16 @@ function limit(walk, at, part) {
     const { stop } = walk;
     const mark = stop && walk.marks[stop.mark];
     if (!stop?.limit || mark.at !== at) return undefined;
-    const most = { seats: SEATS, statements: STATEMENTS, branches: BRANCHES, nodes: NODES, depth: DEPTH, top: TOP }[stop.limit];
+    const most = { seats: SEATS, statements: STATEMENTS, branches: BRANCHES, nodes: NODES, depth: DEPTH, top: TOP, shared: TOP }[stop.limit];
     return found(`limit.${stop.limit}`, mark.end, { most, part, found: mark.shown });
 }
 
 function state(walk, table, at) {
+    const [valued, of] = walk.values.find(([mark]) => mark.at === at) ?? [];
+    if (valued) {
+        const top = table.sharedTop?.shown ?? "";
+        return hinted(found(`value.${of}`, valued.end, { found: valued.shown, top }), "hint.value", { top });
+    }
     const [mark, role] = walk.states.find(([mark]) => mark.at === at) ?? [];
     if (!mark) return undefined;
     const top = table.top?.shown ?? "";
@@ -796,26 +879,46 @@ function ofSeats(typed, card, number, place) {
     if (typed.startsWith("\xef\xbb\xbf")) return { at: 0, reason: hinted(found("seats.bom", 3), "hint.seats-bom") };
     if (typed.endsWith("\r")) return { at: typed.length - 1, reason: hinted(found("seats.crlf", typed.length), "hint.crlf") };
     if (blank >= 0) return { at: blank, reason: hinted(found("seats.blank", blank + 1), "hint.digits", { mended: cut(digits) }) };
-    if (number === 8) return { at: 0, reason: found("seats.count", typed.length, { found: many(typed.length, "seat"), due: walk.modules.length }) };
+    if (number === 8) return { at: 0, reason: seatCount(typed, walk) };
     const seat = place + 1;
     if (place >= typed.length) return { at: place, reason: plain(9, place) };
+    if (walk.shares && place === walk.modules.length) {
+        const { character, length } = characterAt(typed, place) ?? { character: `0x${hex(typed.charCodeAt(place), 2)}`, length: 1 };
+        const name = /[0-9]/.test(typed[place]) ? "seats.value" : "seats.value-letter";
+        return { at: place, reason: found(name, place + length, { found: character, top: walk.sharedTop?.shown ?? "" }) };
+    }
     if (/[0-9]/.test(typed[place])) return { at: place, reason: found("seats.role", seat, { seat, found: typed[place], top }) };
     const { character, length } = characterAt(typed, place) ?? { character: `0x${hex(typed.charCodeAt(place), 2)}`, length: 1 };
     return { at: place, reason: found("seats.letter", place + length, { seat, found: character, top }) };
 }
 
+// Not as many digits as the card wants: one for each seat, and behind them one for the shared number.
+function seatCount(typed, walk) {
+    const seats = walk.modules.length;
+    if (!walk.shares) return found("seats.count", typed.length, { found: many(typed.length, "seat"), due: seats });
+    if (typed.length !== seats) return found("seats.digits", typed.length, { found: many(typed.length, "digit"), seats: many(seats, "seat") });
+    const mended = cut(typed) + walk.values[0][0].shown;
+    return hinted(found("seats.no-value", typed.length, { seats: many(seats, "seat") }), "hint.value-last", { mended });
+}
+
 /** Why there are no odds of a card that is taken. */
 function ofTable(card) {
-    const { top: { at, end, value: top }, modules: { length: seats } } = walkCard(card);
+    const { top: { at, end, value: top }, modules: { length: seats }, sharedTop } = walkCard(card);
+    const values = 1 + (sharedTop?.value ?? 0);
+    const all = ways(seats, top);
     const down = (from, to, fits) => {
         let number = from;
         while (number > to && !fits(number)) number -= 1;
         return number;
     };
-    const less = down(top - 1, 0, (less) => ways(seats, less) <= ODDS_ROW);
-    const fewer = down(seats - 1, 1, (fewer) => ways(fewer, top) <= ODDS_ROW);
-    const reason = found("odds.vectors", end, { seats: many(seats, "seat"), top, found: grouped(ways(seats, top)), most: ODDS_ROW });
-    return { at, reason: hinted(reason, "hint.vectors", { seats: many(seats, "seat"), less, top, fewer: many(fewer, "seat") }) };
+    const less = down(top - 1, 0, (less) => ways(seats, less) * values <= ODDS_ROW);
+    const fewer = down(seats - 1, 1, (fewer) => ways(fewer, top) * values <= ODDS_ROW);
+    const name = values > 1 ? "odds.pairs" : "odds.vectors";
+    const reason = found(name, end, { seats: many(seats, "seat"), top, ways: grouped(all), values, found: grouped(all * values), most: ODDS_ROW });
+    // a lower highest value helps only where the seats and roles alone are not too many
+    const lower = Math.floor(ODDS_ROW / all) - 1;
+    const hint = values > 1 && lower >= 0 ? "hint.pairs" : "hint.vectors";
+    return { at, reason: hinted(reason, hint, { seats: many(seats, "seat"), less, top, fewer: many(fewer, "seat"), lower }) };
 }
 
 /** In how many ways seats can be spread over the roles from 0 to the top. */

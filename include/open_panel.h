@@ -22,6 +22,11 @@
  *     Those may overlap each other.
  *   - Any bytes may be passed as what is only read; what is wrong with them is
  *     answered, with a number and a place.
+ *   - The seats are a byte for each seat of the card, its state as a number (0,
+ *     not '0'), and their order does not matter. On a card that declares a number
+ *     which all seats share (`global g : [0..2] init 0;`) one byte more stands
+ *     behind them, the value that it has now; seats_len counts it. So a seating
+ *     has up to OPEN_PANEL_SEATS + 1 bytes. On any other card there is none.
  *   - On success `number` is 0. With a room `value` is the length of the text,
  *     which stands at the room's start; the rest of the room is as it was.
  *   - On a refusal `number` says which and `value` where. The whole room is as
@@ -40,12 +45,12 @@ extern "C" {
 #endif
 
 /* The version of this header; open_panel_version gives the library's. CHANGELOG.md says what each one changed. */
-#define OPEN_PANEL_VERSION "0.9.0"
+#define OPEN_PANEL_VERSION "0.10.0"
 
 /* Lengths have 64 bits: a size_t of fewer would be read as another number. */
 typedef char open_panel_needs_a_size_t_of_8_bytes[sizeof(size_t) == 8 ? 1 : -1];
 
-/* Longest card and longest question, most seats and highest state. */
+/* Longest card and longest question, most seats and highest state, which is the highest value of a shared number too. */
 #define OPEN_PANEL_CARD_BYTES 16384
 #define OPEN_PANEL_QUESTION_BYTES 16384
 #define OPEN_PANEL_SEATS 16
@@ -77,9 +82,9 @@ typedef char open_panel_needs_a_size_t_of_8_bytes[sizeof(size_t) == 8 ? 1 : -1];
  * measured first, so that a refusal leaves the room as it was. A spectator's
  * line is short, and always measured.
  */
-#define OPEN_PANEL_WRITE_ROOM 83151
-#define OPEN_PANEL_REDUCE_ROOM 356082
-#define OPEN_PANEL_SHOW_ROOM 4357
+#define OPEN_PANEL_WRITE_ROOM 85481
+#define OPEN_PANEL_REDUCE_ROOM 392972
+#define OPEN_PANEL_SHOW_ROOM 5774
 #define OPEN_PANEL_WATCH_ROOM 25
 
 /*
@@ -109,12 +114,15 @@ enum open_panel_refusal {
     OPEN_PANEL_LONG = 1,       /* a card of more than OPEN_PANEL_CARD_BYTES; 0 */
     OPEN_PANEL_MARK = 2,       /* bytes that make no mark of a card, or a number written too long; where they begin */
     OPEN_PANEL_SHAPE = 3,      /* a mark that does not fit there; where it begins. Or none is left where one is due; card_len */
-    OPEN_PANEL_LIMIT = 4,      /* more of something, or a higher top state, than any card may have; where the excess begins */
-    OPEN_PANEL_STATE = 5,      /* a state higher than the card's highest; where its number begins */
+    OPEN_PANEL_LIMIT = 4,      /* more of something, or a higher top state or highest shared number, than any card may have; where the
+                                  excess begins */
+    OPEN_PANEL_STATE = 5,      /* a state higher than the card's highest, or a value of the shared number higher than its highest;
+                                  where that begins */
     OPEN_PANEL_WORD = 6,       /* another seat or module than has to stand there, or an asymmetric group; where that begins */
     OPEN_PANEL_WEIGHT = 7,     /* a weight that is none; where it begins. Or weights that do not come to 1; their closing `;` */
-    OPEN_PANEL_SEAT_COUNT = 8, /* seats_len differs from the number of the card's modules; 0 */
-    OPEN_PANEL_SEAT_STATE = 9, /* a seat in a state higher than the card's highest; the index in seats of the first one */
+    OPEN_PANEL_SEAT_COUNT = 8, /* seats_len differs from the number of the card's modules, or with a shared number from one more; 0 */
+    OPEN_PANEL_SEAT_STATE = 9, /* a seat in a state higher than the card's highest; the index in seats of the first one. Or the
+                                  shared number, behind seats that are right, is higher than its highest; its own index */
     OPEN_PANEL_ROOM = 10,      /* a room that the text, the deck or the list does not fit into; its length */
     OPEN_PANEL_DECK = 11,      /* a malformed deck; the first byte of the first wrong field, 65,536 more in the expansion, or 0 (that much
                                   more) where the count, the contents or the length is wrong. From open_panel_box_write: the field in
@@ -123,7 +131,8 @@ enum open_panel_refusal {
     OPEN_PANEL_NO_CARD = 12,   /* no live card has the number; 0 */
     OPEN_PANEL_CLASSES = 13,   /* a list that has not one class for each state of the card; classes_len. Or a class above
                                   OPEN_PANEL_TOP_CLASS; the index in classes of the first one */
-    OPEN_PANEL_VECTORS = 14,   /* the seats can be spread over the states in more than OPEN_PANEL_ODDS_ROW ways; 0 */
+    OPEN_PANEL_VECTORS = 14,   /* the seats can be spread over the states in more than OPEN_PANEL_ODDS_ROW ways, each way counted
+                                  once for every value of the shared number; 0 */
     OPEN_PANEL_STEPS = 15,     /* more than OPEN_PANEL_ODDS_STEPS steps; 0 */
     OPEN_PANEL_ROWS = 16,      /* a row that has not OPEN_PANEL_ODDS_ROW numbers; 0 */
 
@@ -131,7 +140,7 @@ enum open_panel_refusal {
     OPEN_PANEL_QUESTION_MARK = 22,  /* bytes that make no mark, or a number written too long; where in the question they begin */
     OPEN_PANEL_QUESTION_SHAPE = 23, /* a mark that does not fit there; where it begins. Or none is left where one is due; question_len */
     OPEN_PANEL_QUESTION_LIMIT = 24, /* more nodes, or more open brackets and `!`, than a question may have; where the excess begins */
-    OPEN_PANEL_QUESTION_STATE = 25, /* a state higher than the card's highest; where its number begins */
+    OPEN_PANEL_QUESTION_STATE = 25, /* a state or a value of the shared number higher than the card's highest; where that begins */
     OPEN_PANEL_QUESTION_GROUP = 26  /* a group that is not of all seats alike, or an exactly-one that is none; its (outer) bracket */
 };
 
@@ -176,9 +185,10 @@ open_panel_answer open_panel_reduce(const uint8_t *card, size_t card_len,
                                     uint8_t *room, size_t room_len);
 
 /*
- * Writes the panel of a seating: one byte for each seat, its state as a
- * number (0, not '0'). The order of the seats does not matter. Refusals: 1 to
- * 10; the card is judged before the seats, and the seats before the room.
+ * Writes the panel of a seating. On a card with a shared number its value stands
+ * on a line of its own, `shared 1` behind the counts, and every `stay` and `move`
+ * ends in what it is after that; there is a `stay` for each such value. Refusals:
+ * 1 to 10; the card is judged before the seats, and the seats before the room.
  *
  * A room of OPEN_PANEL_SHOW_ROOM bytes is always enough. A null room of length
  * 0 gets 10 with the length to lend, if card and seats are taken. Null seats
@@ -196,8 +206,8 @@ open_panel_answer open_panel_show(const uint8_t *card, size_t card_len,
  * many seats are in each public class, 0 to OPEN_PANEL_TOP_CLASS. The list has
  * one byte for each state of the card, from 0 on: that state's class. Two
  * seatings with as many seats in each class give the same bytes, so nothing
- * else about the seats can be told from it. Refusals: 1 to 9, then 13 of the
- * list, its length before its classes, then 10.
+ * else about the seats can be told from it, and nothing about a shared number.
+ * Refusals: 1 to 9, then 13 of the list, its length before its classes, then 10.
  *
  * A room of OPEN_PANEL_WATCH_ROOM bytes is always enough. A null room of length
  * 0 gets 10 with the length to lend, if card, seats and list are taken. A null
@@ -215,8 +225,9 @@ open_panel_answer open_panel_watch(const uint8_t *card, size_t card_len,
  * and 0 if it does not. A question is an expression of groups that name every
  * seat, such as `!(s1=0 | s2=0)`, joined by `&` and `|`; exactly one seat in a
  * state is written out, a bracketed term for each seat:
- * `((s1=0 & s2!=0) | (s1!=0 & s2=0))`. The order of the seats does not matter.
- * Refusals: 1 to 7 of the card, then 21 to 26 of the question, then 8 and 9.
+ * `((s1=0 & s2!=0) | (s1!=0 & s2=0))`. On a card with a shared number `(g=1)` and
+ * `(g!=1)` stand like groups. Refusals: 1 to 7 of the card, then 21 to 26 of the
+ * question, then 8 and 9.
  *
  * Nothing is written anywhere. A null card of length 0 gets 3 at 0; a null
  * question of length 0 gets 23 at 0 with any card that is taken.
@@ -230,8 +241,8 @@ open_panel_answer open_panel_ask(const uint8_t *card, size_t card_len,
  * of the first statement that some seat may take; 0 if nobody may take any. It
  * does not ask what the statement does, and it tries no statement behind the
  * one it gives, so it takes hardly longer than open_panel_judge. On a
- * nondeterministic card it is the q of the panel's first `choice q`. The order
- * of the seats does not matter. Refusals: 1 to 9, those of open_panel_show.
+ * nondeterministic card it is the q of the panel's first `choice q`. Refusals: 1
+ * to 9, those of open_panel_show.
  *
  * Nothing is written anywhere. A null card of length 0 gets 3 at 0; null seats
  * of length 0 get 8 with any card that is taken.
@@ -246,13 +257,14 @@ open_panel_answer open_panel_first_move(const uint8_t *card, size_t card_len,
  * card it is the smallest chance over the ways to choose if `largest` is 0, and
  * the largest if it is anything else; on a probabilistic card `largest` makes no
  * difference. A seating where the question holds has chance 1, and where nothing
- * can be taken more steps change nothing. The order of the seats does not matter.
+ * can be taken more steps change nothing.
  *
  * Both rows have OPEN_PANEL_ODDS_ROW numbers; first_len and second_len count
  * numbers, not bytes. Afterwards the first holds the chance within m steps for
  * every way to spread the seats over the states, the second the chance within
  * m - 1 steps, or zeros if m is 0. These count vectors are ordered by how many
- * seats are in state 0, then in state 1 and so on, rising; behind them stand
+ * seats are in state 0, then in state 1 and so on, rising; on a card with a shared
+ * number each stands there once for every value of it, from 0 on. Behind them stand
  * zeros. The rows are aligned as uint32_t is, and must not overlap each other or
  * anything else that is lent.
  *

@@ -29,7 +29,10 @@ export declare class Refusal extends Error {
     readonly column?: number;
 }
 
-/** The library. A function whose answer is nothing throws or does not; one of a number answers the header's `value`. */
+/**
+ * The library. A function whose answer is nothing throws or does not; one of a number answers the header's `value`. Seats are a state each; on a
+ * card whose seats share a number (`global g`), the value that it has now stands behind them.
+ */
 export interface Panel {
     // ENTRIES
 }

@@ -5,7 +5,8 @@
 //     panel.show(card, [0, 0, 1]);    // a text, or a Refusal is thrown
 //
 // Each function of open_panel.h that answers about bytes is one here, under its name without `open_panel_` (box_find is boxFind). Rooms and
-// rows are lent by this module. A card or a question is a string or bytes, seats and classes are bytes or numbers. It needs nothing else.
+// rows are lent by this module. A card or a question is a string or bytes, seats and classes are bytes or numbers; on a card whose seats share
+// a number, that stands behind them. It needs nothing else.
 
 // TABLES
 

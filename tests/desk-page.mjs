@@ -9,6 +9,7 @@ import { browser } from "./browser.mjs";
 const [command, file, desk, out] = process.argv.slice(2);
 const root = new URL("..", import.meta.url).pathname;
 const EXAMPLES = ["card-a", "leader-election", "coin-toss"];
+const NIGHT = "day-and-night";
 const SHIFT = 8;
 
 const began = Date.now();
@@ -138,7 +139,7 @@ async function wrongAndMended() {
 const digits = (count, top) => Array.from({ length: (top + 1) ** count }, (_, i) => i.toString(top + 1).padStart(count, "0"));
 
 async function panels() {
-    for (const name of [...EXAMPLES, "card-a-stuck"]) {
+    for (const name of [...EXAMPLES, NIGHT, "card-a-stuck"]) {
         const [line] = readFileSync(`${root}/examples/${name}`, "utf8").split("\n");
         await example(name.replace("-stuck", ""));
         await seat(line);
@@ -156,9 +157,56 @@ async function panels() {
     }
 }
 
+/** The number that seats share: beside them, on the panel, kept by a shuffle, in the seats' line and in a question. */
+async function shared() {
+    await example(NIGHT);
+    await says("card-says", "Taken: probabilistic, 5 seats, roles 0 to 2, g up to 1, 3 statements.");
+    for (const seating of ["000111", "000110", "012120", "012121", "222111", "222110", "000001"]) {
+        await seat(seating);
+        hold(`${NIGHT} at ${seating}`, await text("bytes"), asked("panel", `examples/${NIGHT}`, seating));
+    }
+    await seat("000110");
+    hold("it is told", await page.ask(`document.querySelector("#drawn h3").textContent`), "5 seats, probabilistic, g is 0");
+    const told = (name) => page.ask(`[...document.querySelectorAll("#moves li")].map((row) => row.getAttribute("aria-label").replace(/: .*/, "")).join("; ")`).then((is) => hold(name, is, "no seat moves, g becomes 1; from role 0 to role 2, g becomes 1; from role 1 to role 2, g becomes 1"));
+    await told("what becomes of it");
+    await seat("222111");
+    hold("and where nothing does", await page.ask(`document.querySelector("#moves li").getAttribute("aria-label")`), "no change: 1, 100%");
+    await seat("000121");
+    const was = await text("bytes");
+    await click("#shuffle");
+    const after = await seats();
+    hold("it stays in a shuffle", after.at(-1), "1");
+    hold("the same bytes", await text("bytes"), was);
+    await click("#begin");
+    hold("as the card begins", await seats(), "000001");
+    await page.ask(`document.querySelector("#seats .shared").dispatchEvent(new MouseEvent("click", { shiftKey: true, bubbles: true }))`);
+    hold("a click on it", await seats(), "000000");
+    await page.ask(`document.getElementById("value").value = "1"`);
+    await fill("question", "");
+    await click("#put-shared");
+    hold("a question about it", await page.ask(`document.getElementById("question").value`), "(g=1)");
+    await says("question-says", "no at 00000, g 0");
+    await fill("question", "(g=2)");
+    await says("question-says", "the test is of the value 2 of g, and its highest is 1");
+    // in the line before the card
+    const card = readFileSync(`${root}/examples/${NIGHT}`, "utf8");
+    await fill("card", card.replace("000111", "01201"));
+    await says("card-says", "Line 1, column 1: 5 seats given, and one more digit was due behind them: the value of g");
+    await fill("card", card.replace("000111", "012010"));
+    await says("card-says", "Taken: ");
+    hold("read from the line", await seats(), "012010");
+    await click("#seats .shared");
+    hold("and put there", await page.ask(`document.getElementById("card").value.split("\\n")[0]`), "012011");
+    // a card without one has none
+    await example("card-a");
+    hold("no such button, no such question", await page.ask(`document.querySelectorAll("#seats .shared").length === 0 && document.getElementById("ask-shared").hidden`));
+    await fill("question", "(g=1)");
+    await says("question-says", "the card declares no g, so that a question cannot ask about it");
+}
+
 /** What is drawn says what the command says: a fraction and a percentage for each line. */
 async function drawn() {
-    for (const name of EXAMPLES) {
+    for (const name of [...EXAMPLES, NIGHT]) {
         await example(name);
         const lines = asked("panel", "--chances", `examples/${name}`).split("\n");
         const due = lines.filter((line) => /^(stay|move)/.test(line)).map((line) => line.trim().split(/ +/).slice(-2).join(" "));
@@ -238,7 +286,7 @@ const CURVES = `(() => {
 
 /** What an example starts with: a question that the fields beside it have written, and a curve that begins at 0 and rises. */
 async function starts() {
-    for (const [name, kind, role] of [["card-a", "some", "2"], ["leader-election", "one", "1"], ["coin-toss", "all", "3"]]) {
+    for (const [name, kind, role] of [["card-a", "some", "2"], ["leader-election", "one", "1"], ["coin-toss", "all", "3"], [NIGHT, "none", "0"]]) {
         await example(name);
         await reckoned();
         hold(`${name} starts with`, await page.ask(`document.getElementById("kind").value + " " + document.getElementById("role").value`), `${kind} ${role}`);
@@ -255,13 +303,14 @@ async function starts() {
 async function odds() {
     for (const [name, seating, question] of [
         ["card-a", "000", "(s1=2 | s2=2 | s3=2)"],
+        [NIGHT, "000111", "(s1!=1 & s2!=1 & s3!=1 & s4!=1 & s5!=1) & (g=1)"],
         ["leader-election", "011", "((s1=1 & s2!=1 & s3!=1) | (s1!=1 & s2=1 & s3!=1) | (s1!=1 & s2!=1 & s3=1))"],
     ]) {
         await example(name);
         await seat(seating);
         await fill("question", question);
         const read = (...words) => asked("odds", ...words, `examples/${name}`, seating, question, "12").trim().split("\n").map((line) => line.split(/ +/).slice(2, 4).join(" · "));
-        const due = name === "card-a" ? [read()] : [read(), read("--smallest")];
+        const due = name === "leader-election" ? [read(), read("--smallest")] : [read()];
         await page.until(`document.getElementById("odds").dataset.asked === ${JSON.stringify(`${seating} ${question}`)}`);
         await page.until(`document.querySelectorAll("#odds-table tr").length === 14 && document.querySelectorAll("#curve polyline").length === ${due.length}`);
         const shown = await page.ask(`[...document.querySelectorAll("#odds-table tr")].slice(1).map((row) => [...row.querySelectorAll("td")].map((cell) => cell.textContent))`);
@@ -408,6 +457,7 @@ async function forEverybody() {
         "a refused card": () => fill("card", "probabilistic\nmodul process1\n"),
         choices: () => example("leader-election"),
         "the reduced text": () => click("#reduced"),
+        "a shared number": () => example(NIGHT),
         "a refused question": () => fill("question", "(s2=0 | s3=0)"),
         "sixteen seats": async () => {
             await fill("card", `0123456701234567\n${large}`);
@@ -425,7 +475,7 @@ async function forEverybody() {
         await window(768);
         await reach();
         await reckoned();
-        if (name === "a refused card") await says("card-says", "modul stands here, and module was due");
+        if (name === "a refused card") await says("card-says", "modul stands here, and module or global was due");
         if (name === "a refused question") await says("question-says", "refused 26 0");
         hold(`${name}, 768: sideways`, await sideways(), 0);
         for (const colours of ["dark", "light"]) {
@@ -492,7 +542,7 @@ try {
     await page.tell("Page.navigate", { url });
     await page.until("document.documentElement?.dataset.ready === 'yes'", 30);
     await screenshot("desk");
-    for (const part of [starts, wrongAndMended, panels, drawn, shuffles, questions, odds, texts, files, forEverybody, byTab]) await part();
+    for (const part of [starts, wrongAndMended, panels, shared, drawn, shuffles, questions, odds, texts, files, forEverybody, byTab]) await part();
     hold("requests", requests.join(" "), url);
     // a request would be stopped, and the browser would say so
     const before = wrong.length;

@@ -48,7 +48,10 @@ printf '%s\n' "$card_a" >"$made/card-a"
 for panel in examples/*.panel; do
     example=${panel%.panel}
     seats=$(head -n 1 "$example")
-    expect 0 "$example: taken: *; seats $seats" '' check "$example"
+    said="seats $seats"
+    # the number that seats share has the last digit
+    ! grep -q '^global g' "$example" || said="seats ${seats%?}, g ${seats: -1}"
+    expect 0 "$example: taken: *; $said" '' check "$example"
     expect 0 "$(cat "$panel")" '' panel "$example"
     expect 0 "$(cat "$panel")" '' panel "$example" "$seats"
 done
@@ -91,6 +94,34 @@ expect 0 "statement 3, line 9: [] s1=0 & *" '' first examples/leader-election
 expect 0 'nobody can move' '' first examples/card-a 012
 expect 0 'classes 2 1 0 0 0 0 0 0' '' watch examples/card-a 001 012
 expect 1 '' 'classes:1:3: refused 13 2: role 2 has the class 8, and 0 to 7 was due*' watch examples/card-a 018
+
+# a number that the seats share: its digit stands behind theirs
+night=examples/day-and-night
+expect 0 "$night: taken: probabilistic, 5 seats, roles 0 to 2, g up to 1, 3 statements; seats 00011, g 1" '' check "$night"
+chances='probabilistic
+seats 5 enabled 5
+counts 3 2 0
+shared 0
+stay 1034880 1     56/75   74.67%
+move 0 2 166320 1   3/25      12%
+move 1 2 184800 1   2/15   13.33%'
+expect 0 "$chances" '' panel --chances "$night" 000110
+expect 0 "statement 2, line 10: *" '' first "$night" 222110
+expect 0 'nobody can move' '' first "$night" 222111
+expect 0 no '' ask "$night" '(g=0) | (s1=2 | s2=2 | s3=2 | s4=2 | s5=2)'
+expect 0 'classes 3 2 0 0 0 0 0 0' '' watch "$night" 000110 011
+expect 0 'classes 3 2 0 0 0 0 0 0' '' watch "$night" 000111 011
+expect 0 'night  0  0.000000 *night  1  1.000000 *' '' odds "$night" '(g=0)' 1
+refusal='seats:1:1: refused 8 0: 5 seats given, and one more digit was due behind them: the value of `g`
+   1 | 00010
+     | ^^^^^
+     = hint: with `g` as it begins that is `000101`'
+expect 1 '' "$refusal" panel "$night" 00010
+expect 1 '' 'seats:1:6: refused 9 5: `g` is 2, and its highest value is 1*' panel "$night" 000112
+expect 1 '' 'question:1:4: refused 25 3: the test is of the value 2 of `g`, and its highest is 1*' ask "$night" '(g=2)'
+expect 1 '' 'question:1:2: refused 23 1: *hint: the card declares no `g`, *' ask examples/card-a '(g=1)'
+sed '/^global/d' "$night" >"$made/undeclared"
+expect 1 '' "$made/undeclared:7:12: refused 3 *: \`g\` stands here, and a seat, *" check "$made/undeclared"
 
 # odds, night by night
 odds='night  0  0.000000       0%  |                                        |

@@ -61,5 +61,16 @@ printf '001\n' >"$made/in" && expect "$made/in" 'refused 3 0'
 # a place counts from the card's first byte
 printf '001\n?' >"$made/in" && expect "$made/in" 'refused 2 0'
 
+# a number that the seats share has a digit behind theirs
+tail -n +2 examples/day-and-night >"$made/night"
+{ echo 000111 && cat "$made/night"; } >"$made/in" && expect "$made/in" "$(cat examples/day-and-night.panel)"
+{ echo 101001 && cat "$made/night"; } >"$made/in" && expect "$made/in" "$(cat examples/day-and-night.panel)"
+{ echo 00011 && cat "$made/night"; } >"$made/in" && expect "$made/in" 'refused 8 0'
+{ echo 0001111 && cat "$made/night"; } >"$made/in" && expect "$made/in" 'refused 8 0'
+{ echo 000112 && cat "$made/night"; } >"$made/in" && expect "$made/in" 'refused 9 5'
+{ echo 00011n && cat "$made/night"; } >"$made/in" && expect "$made/in" 'refused 9 5'
+{ echo 000311 && cat "$made/night"; } >"$made/in" && expect "$made/in" 'refused 9 3'
+{ echo 0011 && cat "$made/card"; } >"$made/in" && expect "$made/in" 'refused 8 0'
+
 echo "program: $runs runs, $wrong wrong"
 [ "$wrong" -eq 0 ]

@@ -34,6 +34,8 @@ through() {
     # the JavaScript module lends rows itself, and does not hand them out
     [[ $1 = *mjs ]] || held requests/2026-08 requests/2026-08 odds "${@:2}"
     held requests/2026-09 requests/2026-09 mend "${@:2}"
+    for entry in read write reduce panel ask spectator first_move; do held requests/2026-10 requests/2026-10 $entry "${@:2}"; done
+    [[ $1 = *mjs ]] || held requests/2026-10 requests/2026-10 odds "${@:2}"
 }
 
 through "$machine-linux, by the Rust wrapper"

@@ -5,9 +5,10 @@
 //     panel.show(card, [0, 0, 1]);    // a text, or a Refusal is thrown
 //
 // Each function of open_panel.h that answers about bytes is one here, under its name without `open_panel_` (box_find is boxFind). Rooms and
-// rows are lent by this module. A card or a question is a string or bytes, seats and classes are bytes or numbers. It needs nothing else.
+// rows are lent by this module. A card or a question is a string or bytes, seats and classes are bytes or numbers; on a card whose seats share
+// a number, that stands behind them. It needs nothing else.
 
-const VERSION = "0.9.0";
+const VERSION = "0.10.0";
 const NUMBERS = {
     CARD_BYTES: 16384,
     QUESTION_BYTES: 16384,
@@ -21,9 +22,9 @@ const NUMBERS = {
     DECK_BYTES: 65535,
     DECK_CARDS: 64,
     LIST_ROOM: 640,
-    WRITE_ROOM: 83151,
-    REDUCE_ROOM: 356082,
-    SHOW_ROOM: 4357,
+    WRITE_ROOM: 85481,
+    REDUCE_ROOM: 392972,
+    SHOW_ROOM: 5774,
     WATCH_ROOM: 25,
 };
 const WORDS = {
@@ -31,23 +32,23 @@ const WORDS = {
     2: "no mark of a card, or too many digits",
     3: "this cannot stand here, or the card ends early",
     4: "one more than a card may have",
-    5: "a state above the card's top state",
+    5: "a state above the card's top state, or a shared number above its highest",
     6: "not the seat or module due, or a group that is not symmetric",
     7: "not a weight, or weights that do not sum to 1",
-    8: "not as many seats as the card has",
-    9: "a seat above the card's top state",
+    8: "not as many seats as the card has, and one byte more if it shares a number",
+    9: "a seat above the card's top state, or the shared number above its highest",
     10: "the room is too small",
     11: "a malformed deck, contents and bodies that make none, or nothing to keep",
     12: "no live card has this number",
     13: "not one class for each state, or a class above 7",
-    14: "the table has more than 512 count vectors",
+    14: "the table has more than 512 count vectors, or pairs of one and a shared number",
     15: "more than 32 steps",
     16: "a lent row does not have 512 numbers",
     21: "the question is longer than 16384 bytes",
     22: "no mark of a question, or too many digits",
     23: "this cannot stand here, or the question ends early",
     24: "one more than a question may have",
-    25: "a state above the card's top state",
+    25: "a state above the card's top state, or a shared number above its highest",
     26: "a group that is not of all seats alike, or no exactly-one",
 };
 const ENTRIES = {

@@ -35,6 +35,34 @@ static const char one_seat_reduced[] =
     "[] (no_0>0) -> 1:(no_0'=no_0-1) & (no_1'=min(no_1+1,1));\n"
     "endmodule\n";
 
+/* Two seats that share a number: at night, which is 1, one may wake, and then it is day. */
+static const char night[] =
+    "nondeterministic\n"
+    "global g : [0..1] init 1;\n"
+    "module process1\n"
+    "s1 : [0..1] init 0;\n"
+    "[] s1=0 & (g=1) -> 1/2:(s1'=1) & (g'=0) + 1/2:(s1'=0);\n"
+    "endmodule\n"
+    "module process2 = process1 [s1=s2, s2=s1] endmodule\n";
+
+static const char night_reduced[] =
+    "nondeterministic\n"
+    "global g : [0..1] init 1;\n"
+    "module generic_process\n"
+    "no_0 : [0..2] init 2;\n"
+    "no_1 : [0..2] init 0;\n"
+    "[] (no_0>0) & (g=1) -> 1/2:(no_0'=no_0-1) & (no_1'=min(no_1+1,2)) & (g'=0) + 1/2:true;\n"
+    "endmodule\n";
+
+static const char night_panel[] =
+    "nondeterministic\n"
+    "seats 2 enabled 1\n"
+    "counts 2 0\n"
+    "shared 1\n"
+    "choice 1\n"
+    "stay 138600 1\n"
+    "move 0 1 138600 0\n";
+
 /* Exactly one of three seats is in state 1; then the same with a term too few. */
 static const char one_leads[] = "((s1=1 & s2!=1 & s3!=1) | (s2=1 & s1!=1 & s3!=1) | (s3=1 & s1!=1 & s2!=1))";
 static const char two_terms[] = "((s1=1 & s2!=1 & s3!=1) | (s2=1 & s1!=1 & s3!=1))";
@@ -114,6 +142,36 @@ static const uint8_t *bytes(const char *text) {
 static void lies(open_panel_part *part, size_t in_expansion, size_t offset, size_t length, const char *what) {
     expect(part->in_expansion == in_expansion && part->offset == offset && part->length == length, what);
     part->in_expansion = part->offset = part->length = UNTOUCHED;
+}
+
+/* The byte of the shared number stands behind those of the seats. */
+static void shared_number(void) {
+    const uint8_t at_night[] = {0, 0, 1, 0};
+    const uint8_t at_day[] = {0, 0, 0};
+    const uint8_t above[] = {0, 0, 2};
+    const uint8_t classes[] = {3, 3};
+    const uint8_t *n = bytes(night);
+    const size_t n_len = sizeof night - 1;
+    uint32_t first[OPEN_PANEL_ODDS_ROW], second[OPEN_PANEL_ODDS_ROW];
+    answers(open_panel_write(n, n_len, room, OPEN_PANEL_WRITE_ROOM), OPEN_PANEL_TAKEN, n_len, night, "a shared number, written");
+    answers(open_panel_reduce(n, n_len, room, OPEN_PANEL_REDUCE_ROOM), OPEN_PANEL_TAKEN, sizeof night_reduced - 1, night_reduced,
+            "a shared number, reduced");
+    answers(open_panel_show(n, n_len, at_night, 3, room, OPEN_PANEL_SHOW_ROOM), OPEN_PANEL_TAKEN, sizeof night_panel - 1, night_panel,
+            "a shared number on a panel");
+    answers(open_panel_show(n, n_len, at_night, 2, room, GUARD), OPEN_PANEL_SEAT_COUNT, 0, "", "seats without the shared number");
+    answers(open_panel_show(n, n_len, at_night, 4, room, GUARD), OPEN_PANEL_SEAT_COUNT, 0, "", "a byte behind the shared number");
+    answers(open_panel_show(n, n_len, above, 3, room, GUARD), OPEN_PANEL_SEAT_STATE, 2, "", "a shared number above its highest");
+    answers(open_panel_first_move(n, n_len, at_night, 3), OPEN_PANEL_TAKEN, 1, "", "somebody may move at night");
+    answers(open_panel_first_move(n, n_len, at_day, 3), OPEN_PANEL_TAKEN, 0, "", "nobody by day");
+    answers(open_panel_ask(n, n_len, bytes("!(g!=1)"), 7, at_night, 3), OPEN_PANEL_TAKEN, 1, "", "is it night?");
+    answers(open_panel_ask(n, n_len, bytes("(g=2)"), 5, at_night, 3), OPEN_PANEL_QUESTION_STATE, 3, "", "a question above the highest");
+    answers(open_panel_watch(n, n_len, at_day, 3, classes, 2, room, 24), OPEN_PANEL_TAKEN, 24, "classes 0 0 0 2 0 0 0 0\n",
+            "a spectator by day");
+    answers(open_panel_watch(n, n_len, at_night, 3, classes, 2, room, 24), OPEN_PANEL_TAKEN, 24, "classes 0 0 0 2 0 0 0 0\n",
+            "a spectator at night");
+    answers(open_panel_odds(n, n_len, bytes("(g=0)"), 5, at_night, 3, 1, 1, first, OPEN_PANEL_ODDS_ROW, second, OPEN_PANEL_ODDS_ROW),
+            OPEN_PANEL_TAKEN, 500000, "", "the chance of day");
+    expect(first[4] == OPEN_PANEL_CERTAIN && first[5] == 500000 && second[5] == 0 && first[6] == 0, "rows of pairs");
 }
 
 /* The library is of this header's version, and says of each refusal something else than of a number that is none. */
@@ -265,6 +323,7 @@ int main(void) {
     mends(open_panel_mend(bytes(damaged), 25, room, GUARD, list, GUARD, &listed), OPEN_PANEL_DECK, 0, "", 0, "", "nothing to keep");
     mends(open_panel_mend(NULL, 0, NULL, 0, NULL, 0, &listed), OPEN_PANEL_DECK, 0, "", 0, "", "no deck to mend");
 
+    shared_number();
     words_are_known();
     at(a, a_len, 0, 1, 1, "the first byte");
     at(bytes("ab\ncd\n"), 6, 2, 1, 3, "the end of a line");

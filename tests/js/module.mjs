@@ -38,6 +38,15 @@ assert.equal(panel.firstMove(card, seats), 1);
 assert.equal(panel.firstMove(card, [0, 1, 2]), 0);
 assert.equal(panel.odds(card, "(s1=0 | s2=0 | s3=0)", seats, 5, 1), numbers.CERTAIN);
 refused(() => panel.odds(card, "(s1=0 | s2=0 | s3=0)", seats, numbers.ODDS_STEPS + 1, 1), { number: 15, place: 0 });
+// a number that the seats share stands behind them
+const night = "nondeterministic global g : [0..1] init 1; module process1 s1 : [0..1] init 0; [] s1=0 & (g=1) -> 1:(s1'=1) & (g'=0); endmodule";
+assert.equal(panel.show(night, [0, 1]), "nondeterministic\nseats 1 enabled 1\ncounts 1 0\nshared 1\nchoice 1\nmove 0 1 277200 0\n");
+assert.equal(panel.firstMove(night, [0, 0]), 0);
+assert.equal(panel.ask(night, "(g=0) | (s1=0)", [1, 0]), true);
+assert.equal(panel.watch(night, [1, 0], [2, 3]), panel.watch(night, [1, 1], [2, 3]));
+assert.equal(panel.odds(night, "(g=0)", [0, 1], 1, 1), numbers.CERTAIN);
+refused(() => panel.show(night, [0]), { number: 8, place: 0 });
+refused(() => panel.show(night, [0, 2]), { number: 9, place: 1, of: undefined, words: words(9) });
 const entry = [5, 0, 0, 0, 4, 0, 1, 0];
 const [base, expansion] = ["base", "more"].map((body) => panel.boxWrite(entry, body));
 assert.ok(base instanceof Uint8Array && base.length === 13);

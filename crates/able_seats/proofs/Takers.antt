@@ -11,6 +11,7 @@ use lib.ListN.{length, getD, List·getD-eq-default}
 use Rattle.card.specs.Laid.{opOf, guardAt, guardOf}
 use Rattle.card.proofs.GuardAt.{guard-at-leaf, guard-of-none, guard-of-some}
 use Rattle.meaning.specs.Sums.{gate}
+use Rattle.meaning.specs.Position.{Position}
 use Rattle.meaning.specs.Reduced.{noOf}
 use Rattle.meaning.specs.ByCounts.{heldAt, heldOr}
 use Rattle.panel_numbers.specs.Taking.{takers}
@@ -30,16 +31,16 @@ same-guard nodes p q e = go (decLt p (length nodes)) (decLt q (length nodes))
     go (no h) (yes l) = absurd (omega arith)
     go (no h) (no l) = guard-behind nodes p (omega arith) ∙ sym (guard-behind nodes q (omega arith))
 
-module _ (n : ℕ) (v : List ℕ) (own : ℕ) where
+module _ (n : ℕ) (v : Position) (own : ℕ) where
   gate-none : (b : Bool) (w : ℕ) → w ≡ 0 → 0 ≡ gate b w
   gate-none true w h = sym h
   gate-none false w h = refl
 
-  pub takers-none : (nodes : List ℕ) (at size : ℕ) → noOf v own ≡ 0 → 0 ≡ takers n v own (guardOf nodes at size)
+  pub takers-none : (nodes : List ℕ) (at size : ℕ) → noOf (v .each) own ≡ 0 → 0 ≡ takers n v own (guardOf nodes at size)
   unfolding takers
-  takers-none nodes at size h = gate-none (heldOr n own v (guardOf nodes at size)) (noOf v own) h
+  takers-none nodes at size h = gate-none (heldOr n own v (guardOf nodes at size)) (noOf (v .each) own) h
 
-  pub takers-free : (nodes : List ℕ) (at size : ℕ) → size ≡ 0 → noOf v own ≡ takers n v own (guardOf nodes at size)
+  pub takers-free : (nodes : List ℕ) (at size : ℕ) → size ≡ 0 → noOf (v .each) own ≡ takers n v own (guardOf nodes at size)
   unfolding takers
   takers-free nodes at size h = rw (guard-of-none nodes at size h)
 
@@ -48,7 +49,7 @@ module _ (n : ℕ) (v : List ℕ) (own : ℕ) where
     guard-is =
         guard-of-some nodes at size (at + (size - 1)) guarded (omega arith) ∙ ap some (same-guard nodes (at + (size - 1)) root (sym last))
 
-    pub takers-held : true ≡ heldAt n own v (guardAt nodes root) → noOf v own ≡ takers n v own (guardOf nodes at size)
+    pub takers-held : true ≡ heldAt n own v (guardAt nodes root) → noOf (v .each) own ≡ takers n v own (guardOf nodes at size)
     unfolding takers
     takers-held h = rw (guard-is, ← h)
 

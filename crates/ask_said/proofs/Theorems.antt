@@ -9,7 +9,7 @@ use native.Mathlib.Decide.{decLe}
 use native.Mathlib.Omega.{arith}
 use Rattle.card.specs.Refusals.{tooLong, notDue, wrongSeats, seatAboveTop}
 use Rattle.card.specs.Card.{Card}
-use Rattle.meaning.specs.Seats.{ValidSeating}
+use Rattle.card.specs.Valid.{valuesOf}
 use Rattle.entry.specs.Said.{Said, says, refused}
 use Rattle.entry.specs.Numbers.{Numbers, _to_, among}
 use Rattle.entry.specs.Contract.{Enters, lentNothing, Faithful}
@@ -17,6 +17,7 @@ use Rattle.entry.specs.Stage.{Stage}
 use Rattle.entry.proofs.Stages.{in-span, apart-out, among-up-to, itself, value, followed, its, beyond, last}
 use Rattle.entry.proofs.Exactly.{_↔∙_}
 use Rattle.entry.proofs.Entries.{says-exactly, refused-exactly}
+use Rattle.seating.specs.Judged.{seatingOf, Seated}
 use Rattle.seating.specs.SeatsSaid.{seatsNumbers}
 use Rattle.seating.proofs.SeatsStage.{seats-stage, wrong-count, wrong-seat}
 use Rattle.rows.specs.Said.{cardNumbers, Read}
@@ -28,16 +29,16 @@ use Rattle.ask_said.specs.AskSaid.{questionSaid, questionNumbers, askSea
 
 module _ (card question seats : List ℕ) where
   asked : (c : Card) → Stage (questionSaid question c) questionNumbers (Understood question c) (λ u. u .0)
-  asked c = itself (record { number = λ r p e. let (l, m) = numbered (c .n) (c .k) question r p e in rw (in-span (inQuestion tooLong) (inQuestion notDue) r l m) })
+  asked c = itself (record { number = λ r p e. let (l, m) = numbered (c .n) (c .k) (valuesOf (c .shared)) question r p e in rw (in-span (inQuestion tooLong) (inQuestion notDue) r l m) })
 
-  seated : (c : Card) (q : Question) → Stage (askSeated seats c q) seatsNumbers (ValidSeating c seats) (λ _. holdsOn seats q)
-  seated c q = value (seats-stage seats c) (λ _. holdsOn seats q)
+  seated : (c : Card) (q : Question) → Stage (askSeated seats c q) seatsNumbers (Seated c seats) (λ _. holdsOn (seatingOf c seats) q)
+  seated c q = value (seats-stage seats c) (λ _. holdsOn (seatingOf c seats) q)
 
-  behind : (c : Card) → Stage (askCard question seats c) (questionNumbers ++ seatsNumbers) ((u : Understood question c) × ValidSeating c seats) (λ z. holdsOn seats (z .0 .0))
+  behind : (c : Card) → Stage (askCard question seats c) (questionNumbers ++ seatsNumbers) ((u : Understood question c) × Seated c seats) (λ z. holdsOn (seatingOf c seats) (z .0 .0))
   behind c = followed (asked c) (askSeated seats c) (λ q. seated c q .numbers) (λ u. seated c (u .0) .found)
 
   pub said : Stage (askSaid card question seats) (cardNumbers ++ (questionNumbers ++ seatsNumbers))
-      ((w : Read card) × ((u : Understood question (w .0)) × ValidSeating (w .0) seats)) (λ z. holdsOn seats (z .1 .0 .0))
+      ((w : Read card) × ((u : Understood question (w .0)) × Seated (w .0) seats)) (λ z. holdsOn (seatingOf (z .0 .0) seats) (z .1 .0 .0))
   unfolding askSaid
   said = followed (card-stage card) (askCard question seats) (λ c. behind c .numbers) (λ w. behind (w .0) .found)
 
@@ -69,9 +70,9 @@ module _ (card question seats : List ℕ) where
           ↔∙ beyond (card-stage card) (askCard question seats) r p (apart-out questionNumbers cardNumbers r refl q)
           (λ w. its (asked (w .0)) (askSeated seats (w .0)) (λ u. seated (w .0) u .numbers) r p (apart-out questionNumbers seatsNumbers r refl q));
       wrong-count = λ p. refused-exactly faithful e wrongSeats p ↔∙ beyond (card-stage card) (askCard question seats) wrongSeats p refl (λ w.
-          beyond (asked (w .0)) (askSeated seats (w .0)) wrongSeats p refl (λ u. last (seats-stage seats (w .0)) (λ _. holdsOn seats (u .0)) wrongSeats p ↔∙ wrong-count seats (w .0) p));
+          beyond (asked (w .0)) (askSeated seats (w .0)) wrongSeats p refl (λ u. last (seats-stage seats (w .0)) (λ _. holdsOn (seatingOf (w .0) seats) (u .0)) wrongSeats p ↔∙ wrong-count seats (w .0) p));
       wrong-seat = λ p. refused-exactly faithful e seatAboveTop p ↔∙ beyond (card-stage card) (askCard question seats) seatAboveTop p refl (λ w.
-          beyond (asked (w .0)) (askSeated seats (w .0)) seatAboveTop p refl (λ u. last (seats-stage seats (w .0)) (λ _. holdsOn seats (u .0)) seatAboveTop p ↔∙ wrong-seat seats (w .0) p));
+          beyond (asked (w .0)) (askSeated seats (w .0)) seatAboveTop p refl (λ u. last (seats-stage seats (w .0)) (λ _. holdsOn (seatingOf (w .0) seats) (u .0)) seatAboveTop p ↔∙ wrong-seat seats (w .0) p));
       answered = λ yes. says-exactly faithful e yes ↔∙ (
         (λ h. let (z, at) = said .found .only yes h in (z .0, (z .1 .0, (z .1 .1, at)))),
         (λ h. said .found .each (h .0, (h .1 .0, h .1 .1 .0)) ∙ ap says (sym (h .1 .1 .1))),

@@ -8,18 +8,18 @@ use mathlib.Core.List.{List, [], _∷_}
 use lib.ListN.{length}
 use Rattle.card.specs.Refusals.{tooLong, notDue, wrongWeight, wrongSeats, seatAboveTop}
 use Rattle.card.specs.Card.{Card}
+use Rattle.card.specs.Valid.{valuesOf}
 use Rattle.reading.specs.Reading.{refused as turned, readOf}
-use Rattle.meaning.specs.Seats.{ValidSeating}
 use Rattle.entry.specs.Said.{Said, says, refused, _>>=_, _>>_, return}
 use Rattle.entry.specs.Numbers.{Numbers, _to_}
-use Rattle.seating.specs.Judged.{FirstAbove}
+use Rattle.seating.specs.Judged.{seatsDue, FirstWrong, seatingOf, Seated}
 use Rattle.seating.specs.SeatsSaid.{seatsSaid}
 use Rattle.rows.specs.Said.{cardSaid, Read}
 use Rattle.asking.specs.Meant.{Question, holdsOn}
 use Rattle.asking.specs.Asking.{inQuestion, questionOf}
 
 abbrev pub questionSaid : List ℕ → Card → Said Question
-questionSaid question c = questionOf (c .n) (c .k) question
+questionSaid question c = questionOf (c .n) (c .k) (valuesOf (c .shared)) question
 
 -- its numbers: 21 to 26
 abbrev pub questionNumbers : Numbers
@@ -29,7 +29,7 @@ questionNumbers = (inQuestion tooLong to inQuestion notDue) ∷ []
 abbrev pub askSeated : List ℕ → Card → Question → Said Bool
 askSeated seats c q = do
   seatsSaid seats c
-  return (holdsOn seats q)
+  return (holdsOn (seatingOf c seats) q)
 
 -- of a card that is taken
 abbrev pub askCard : List ℕ → List ℕ → Card → Said Bool
@@ -53,11 +53,11 @@ pub record Asks {T : Type 0} (tell : Said Bool → T) (card question seats : Lis
   pub wrong-question : (number place : ℕ) → inQuestion tooLong ≤ number → number ≤ inQuestion notDue
       → (a ≡ tell (refused number place)) ↔ ((c : Read card) × (questionSaid question (c .0) ≡ refused number place))
   pub wrong-count : (place : ℕ) → (a ≡ tell (refused wrongSeats place))
-      ↔ ((c : Read card) × (Understood question (c .0) × ((length seats ≡ c .0 .n → ⊥) × (place ≡ 0))))
+      ↔ ((c : Read card) × (Understood question (c .0) × ((length seats ≡ seatsDue (c .0) → ⊥) × (place ≡ 0))))
   pub wrong-seat : (place : ℕ) → (a ≡ tell (refused seatAboveTop place))
-      ↔ ((c : Read card) × (Understood question (c .0) × ((length seats ≡ c .0 .n) × FirstAbove (c .0 .k) seats place)))
+      ↔ ((c : Read card) × (Understood question (c .0) × ((length seats ≡ seatsDue (c .0)) × FirstWrong (c .0) seats place)))
   -- yes or no
   pub answered : (yes : Bool) → (a ≡ tell (says yes))
-      ↔ ((c : Read card) × ((q : Understood question (c .0)) × (ValidSeating (c .0) seats × (yes ≡ holdsOn seats (q .0)))))
+      ↔ ((c : Read card) × ((q : Understood question (c .0)) × (Seated (c .0) seats × (yes ≡ holdsOn (seatingOf (c .0) seats) (q .0)))))
   -- there is no other refusal
   pub no-other : (number place : ℕ) → a ≡ tell (refused number place) → (number ≤ seatAboveTop) ⊎ ((inQuestion tooLong ≤ number) × (number ≤ inQuestion notDue))

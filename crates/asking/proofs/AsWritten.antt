@@ -13,6 +13,7 @@ use lib.ListN.{length}
 use Rattle.card.specs.Text.{if_then_else_}
 use Rattle.card.specs.Card.{Sign, all, any, Relation, is, isnt, Formula, atom, neg, and, or}
 use Rattle.card.specs.Valid.{Every}
+use Rattle.late.specs.Values.{mostOf}
 use Rattle.reading.specs.Group.{Literal}
 use Rattle.grammar.specs.Rules.{timesIn, OnceEach}
 use Rattle.grammar.specs.Verdicts.{In, first, later}
@@ -20,7 +21,7 @@ use Rattle.grammar.proofs.Fair.{every-append}
 use Rattle.meaning.specs.Sums.{upto}
 use Rattle.meaning.specs.Formulas.{value}
 use Rattle.meaning.specs.Seats.{Seating, state, without, literal, joined, alone, anyOf}
-use Rattle.asking.specs.Question.{Item, aGroup, exactlyOne}
+use Rattle.asking.specs.Question.{Item, aGroup, exactlyOne, aTest}
 use Rattle.asking.specs.Meant.{oneIn, Question, holdsAtom, holdsOn}
 use Rattle.asking.specs.Asking.{claimsOf, claims, Everyone, Term, Terms, ExactlyOne, KeptIn, firstRelation, literalD, termD, atomIn, questionIn, QuestionAccepted}
 use Rattle.asking.specs.AsWritten.{literalHolds, together, itemHolds}
@@ -136,15 +137,15 @@ module _ (n : ℕ) (x : Seating) (ls : List Literal) (o : OnceEach 1 n ls) (f : 
           let u : l .seat - 1 ≡ j = omega arith in
           settles (literalHolds x) s ls l m (h l m (omega arith) ∙ ap f u ∙ sym y ∙ z)
 
-same-literal : (x : Seating) (l : Literal) (q : Relation) (d : ℕ) → l .relation ≡ q → l .d ≡ d → literalHolds x l ≡ literal q (eqb (state x (l .seat - 1)) d)
+same-literal : (x : Seating) (l : Literal) (q : Relation) (d : ℕ) → l .relation ≡ q → l .d ≡ d → literalHolds x l ≡ literal q (eqb (state (x .each) (l .seat - 1)) d)
 same-literal x l q d p e =
-    ap (λ (r : Relation). literal r (eqb (state x (l .seat - 1)) (l .d))) p ∙ ap (λ (v : ℕ). literal q (eqb (state x (l .seat - 1)) v)) e
+    ap (λ (r : Relation). literal r (eqb (state (x .each) (l .seat - 1)) (l .d))) p ∙ ap (λ (v : ℕ). literal q (eqb (state (x .each) (l .seat - 1)) v)) e
 
 -- the literal of one relation and d, of seat i
-abbrev ofSeat : Relation → ℕ → Seating → ℕ → Bool
+abbrev ofSeat : Relation → ℕ → List ℕ → ℕ → Bool
 ofSeat q d x i = literal q (eqb (state x i) d)
 
-joined-order : (s : Sign) (q : Relation) (d : ℕ) (x : Seating) → inOrder s (length x) (ofSeat q d x) ≡ joined s q d x
+joined-order : (s : Sign) (q : Relation) (d : ℕ) (x : List ℕ) → inOrder s (length x) (ofSeat q d x) ≡ joined s q d x
 joined-order all q d [] = refl
 joined-order any q d [] = refl
 joined-order all q d (a ∷ x) = ap (λ (b : Bool). literal q (eqb a d) && b) (joined-order all q d x)
@@ -152,14 +153,14 @@ joined-order any q d (a ∷ x) = ap (λ (b : Bool). literal q (eqb a d) || b) (j
 
 -- ---- a group
 
-group-holds : (n : ℕ) (x : Seating) → length x ≡ n → (s : Sign) (ls : List Literal) → Everyone n ls
-    → together s (literalHolds x) ls ≡ joined s (firstRelation ls) (literalD ls) x
+group-holds : (n : ℕ) (x : Seating) → length (x .each) ≡ n → (s : Sign) (ls : List Literal) → Everyone n ls
+    → together s (literalHolds x) ls ≡ joined s (firstRelation ls) (literalD ls) (x .each)
 group-holds n x e s [] h = absurd (omega (arith, h .some))
 group-holds n x e s (l ∷ ls) h =
-    in-order n x (l ∷ ls) (h .seats) (ofSeat (l .relation) (l .d) x) each s ∙ ap (λ (m : ℕ). inOrder s m (ofSeat (l .relation) (l .d) x)) (sym e)
-    ∙ joined-order s (l .relation) (l .d) x
+    in-order n x (l ∷ ls) (h .seats) (ofSeat (l .relation) (l .d) (x .each)) each s ∙ ap (λ (m : ℕ). inOrder s m (ofSeat (l .relation) (l .d) (x .each))) (sym e)
+    ∙ joined-order s (l .relation) (l .d) (x .each)
   where
-    each : (m : Literal) → In m (l ∷ ls) → 1 ≤ m .seat → literalHolds x m ≡ ofSeat (l .relation) (l .d) x (m .seat - 1)
+    each : (m : Literal) → In m (l ∷ ls) → 1 ≤ m .seat → literalHolds x m ≡ ofSeat (l .relation) (l .d) (x .each) (m .seat - 1)
     each m i a =
         same-literal x m (l .relation) (l .d)
         (of-every (λ (y : Literal). y .relation ≡ h .relation) (l ∷ ls) (h .relations) m i ∙ sym (h .relations .0))
@@ -171,7 +172,7 @@ group-holds n x e s (l ∷ ls) h =
 abbrev dueAt : ℕ → ℕ → Relation
 dueAt i j = if eqb j i then is else isnt
 
-abbrev inTerm : ℕ → Seating → ℕ → ℕ → Bool
+abbrev inTerm : ℕ → List ℕ → ℕ → ℕ → Bool
 inTerm d x i j = literal (dueAt i j) (eqb (state x j) d)
 
 and-swap : (a b c : Bool) → (a && (b && c)) ≡ (b && (a && c))
@@ -179,7 +180,7 @@ and-swap true b c = refl
 and-swap false true c = refl
 and-swap false false c = refl
 
-alone-order : (d : ℕ) (x : Seating) (i : ℕ) → i < length x → inOrder all (length x) (inTerm d x i) ≡ alone d x i
+alone-order : (d : ℕ) (x : List ℕ) (i : ℕ) → i < length x → inOrder all (length x) (inTerm d x i) ≡ alone d x i
 alone-order d [] i l = absurd (omega arith)
 alone-order d (a ∷ x) zero l =
     ap (λ (f : ℕ → Bool). eqb a d && inOrder all (length x) f)
@@ -196,40 +197,40 @@ seat-from-0 : (a i : ℕ) → 1 ≤ a → eqb a (suc i) ≡ eqb (a - 1) i
 seat-from-0 zero i h = absurd (omega arith)
 seat-from-0 (suc a) i h = let z : suc a - 1 ≡ a = omega arith in rw z (eqb·suc-suc a i)
 
-module _ (n d : ℕ) (x : Seating) (seats : length x ≡ n) where
-  term-holds : (i : ℕ) → i < n → (t : List Literal) → Term n d (suc i) t → together all (literalHolds x) t ≡ alone d x i
+module _ (n d : ℕ) (x : Seating) (seats : length (x .each) ≡ n) where
+  term-holds : (i : ℕ) → i < n → (t : List Literal) → Term n d (suc i) t → together all (literalHolds x) t ≡ alone d (x .each) i
   term-holds i l t h =
-      in-order n x t (h .seats) (inTerm d x i) each all ∙ ap (λ (m : ℕ). inOrder all m (inTerm d x i)) (sym seats)
-      ∙ alone-order d x i (omega (arith, seats))
+      in-order n x t (h .seats) (inTerm d (x .each) i) each all ∙ ap (λ (m : ℕ). inOrder all m (inTerm d (x .each) i)) (sym seats)
+      ∙ alone-order d (x .each) i (omega (arith, seats))
     where
-      each : (m : Literal) → In m t → 1 ≤ m .seat → literalHolds x m ≡ inTerm d x i (m .seat - 1)
+      each : (m : Literal) → In m t → 1 ≤ m .seat → literalHolds x m ≡ inTerm d (x .each) i (m .seat - 1)
       each m j a =
           same-literal x m (dueAt i (m .seat - 1)) d
           (of-every (λ (y : Literal). y .relation ≡ (if eqb (y .seat) (suc i) then is else isnt)) t (h .relations) m j
           ∙ ap (λ (b : Bool). if b then is else isnt) (seat-from-0 (m .seat) i a))
           (of-every (λ (y : Literal). y .d ≡ d) t (h .ds) m j)
 
-  terms-hold : (i : ℕ) (ts : List (List Literal)) → i + length ts ≡ n → Terms n d (suc i) ts → (f : ℕ → Bool) → ((j : ℕ) → f j ≡ alone d x (i + j))
+  terms-hold : (i : ℕ) (ts : List (List Literal)) → i + length ts ≡ n → Terms n d (suc i) ts → (f : ℕ → Bool) → ((j : ℕ) → f j ≡ alone d (x .each) (i + j))
       → together any (together all (literalHolds x)) ts ≡ anyOf (upto (length ts) f)
   terms-hold i [] l h f k = refl
   terms-hold i (t ∷ ts) l h f k =
       let z : i + 0 ≡ i = omega arith in
-      ap₂ _||_ (term-holds i (omega arith) t (h .0) ∙ sym (k 0 ∙ ap (alone d x) z))
-      (terms-hold (suc i) ts (omega arith) (h .1) (λ j. f (suc j)) (λ j. k (suc j) ∙ ap (alone d x) (moved j)))
+      ap₂ _||_ (term-holds i (omega arith) t (h .0) ∙ sym (k 0 ∙ ap (alone d (x .each)) z))
+      (terms-hold (suc i) ts (omega arith) (h .1) (λ j. f (suc j)) (λ j. k (suc j) ∙ ap (alone d (x .each)) (moved j)))
     where
       moved : (j : ℕ) → i + suc j ≡ suc i + j
       moved j = omega arith
 
   all-terms : (ts : List (List Literal)) → length ts ≡ n → Terms n d 1 ts → together any (together all (literalHolds x)) ts ≡ holdsAtom x (oneIn d)
   all-terms ts e h =
-      terms-hold 0 ts (omega arith) h (alone d x) (λ j. ap (alone d x) (none-more j)) ∙ ap (λ (m : ℕ). anyOf (upto m (alone d x))) (e ∙ sym seats)
+      terms-hold 0 ts (omega arith) h (alone d (x .each)) (λ j. ap (alone d (x .each)) (none-more j)) ∙ ap (λ (m : ℕ). anyOf (upto m (alone d (x .each)))) (e ∙ sym seats)
     where
       none-more : (j : ℕ) → j ≡ 0 + j
       none-more j = omega arith
 
-one-holds : (n : ℕ) (x : Seating) → length x ≡ n → (ts : List (List Literal)) → ExactlyOne n ts
+one-holds : (n : ℕ) (x : Seating) → length (x .each) ≡ n → (ts : List (List Literal)) → ExactlyOne n ts
     → together any (together all (literalHolds x)) ts ≡ holdsAtom x (oneIn (termD ts))
-one-holds n x e [] h = let z : 0 ≡ length x = omega (arith, h .number) in ap (λ (m : ℕ). anyOf (upto m (alone 0 x))) z
+one-holds n x e [] h = let z : 0 ≡ length (x .each) = omega (arith, h .number) in ap (λ (m : ℕ). anyOf (upto m (alone 0 (x .each)))) z
 one-holds n x e ([] ∷ ts) h =
     let m : 1 ≤ n = omega (arith, h .number) in
     let z = h .terms .0 .seats .once 1 (omega arith) m in absurd (omega arith)
@@ -238,17 +239,18 @@ one-holds n x e ((l ∷ t) ∷ ts) h =
 
 -- ---- a question
 
-module _ (n k : ℕ) (x : Seating) (seats : length x ≡ n) where
-  item-holds : (i : Item) → Every (KeptIn n) (claimsOf k i) → itemHolds x i ≡ holdsAtom x (atomIn i)
+module _ (n k m : ℕ) (x : Seating) (seats : length (x .each) ≡ n) where
+  item-holds : (i : Item) → Every (KeptIn n) (claimsOf k m i) → itemHolds x i ≡ holdsAtom x (atomIn i)
   item-holds (aGroup g) h = group-holds n x seats (g .sign) (g .literals) (h .0)
   item-holds (exactlyOne p ts) h = one-holds n x seats ts (h .0)
+  item-holds (aTest t) h = refl
 
-  shape-holds : (g : Formula Item) → Every (KeptIn n) (claims k g) → value (itemHolds x) g ≡ holdsOn x (questionIn g)
+  shape-holds : (g : Formula Item) → Every (KeptIn n) (claims k m g) → value (itemHolds x) g ≡ holdsOn x (questionIn g)
   shape-holds (atom i) w = item-holds i w
   shape-holds (neg g) w = ap not (shape-holds g w)
-  shape-holds (and g h) w = let (p, q) = every-append (KeptIn n) (claims k g) (claims k h) w in ap₂ _&&_ (shape-holds g p) (shape-holds h q)
-  shape-holds (or g h) w = let (p, q) = every-append (KeptIn n) (claims k g) (claims k h) w in ap₂ _||_ (shape-holds g p) (shape-holds h q)
+  shape-holds (and g h) w = let (p, q) = every-append (KeptIn n) (claims k m g) (claims k m h) w in ap₂ _&&_ (shape-holds g p) (shape-holds h q)
+  shape-holds (or g h) w = let (p, q) = every-append (KeptIn n) (claims k m g) (claims k m h) w in ap₂ _||_ (shape-holds g p) (shape-holds h q)
 
-pub as-written : (n k : ℕ) (s : List ℕ) (q : Question) (a : QuestionAccepted n k s q) (x : Seating) → length x ≡ n
+pub as-written : (n k values : ℕ) (s : List ℕ) (q : Question) (a : QuestionAccepted n k values s q) (x : Seating) → length (x .each) ≡ n
     → value (itemHolds x) (a .shaped .shape) ≡ holdsOn x q
-as-written n k s q a x e = shape-holds n k x e (a .shaped .shape) (a .kept) ∙ ap (holdsOn x) (sym (a .question))
+as-written n k values s q a x e = shape-holds n k (mostOf values) x e (a .shaped .shape) (a .kept) ∙ ap (holdsOn x) (sym (a .question))

@@ -12,10 +12,10 @@ use Rattle.reading.specs.Reader.{Place}
 use Rattle.reading.specs.Group.{joint, relation}
 use Rattle.reading.specs.Judgements.{Verdict, fine, wrong}
 use Rattle.grammar.specs.Verdicts.{In, first, later}
-use Rattle.grammar.specs.Grammar.{signAt, literal, conjoined, disjoined, Part, joining, FormulaSaid, grouped, negated, bracketed, single, further}
+use Rattle.grammar.specs.Grammar.{signAt, literal, conjoined, disjoined, sharedTest, Part, joining, FormulaSaid, grouped, negated, bracketed, single, further}
 use Rattle.reading.proofs.Rising.{Rises, rises-part, later-place}
 use Rattle.grammar.proofs.Along.{strictly, Along, along-then, along-behind, along-before}
-use Rattle.asking.specs.Question.{Item, ItemSaid, ofGroup, ofTerms, aTerm, NoneStarts, QuestionSaid, asks}
+use Rattle.asking.specs.Question.{Item, ItemSaid, ofGroup, ofTerms, ofTest, aTerm, NoneStarts, QuestionSaid, asks}
 use Rattle.asking.specs.Asking.{Claim, claimAt, due, claimsOf, claims, KeptIn, fits, firstUnfit}
 use Rattle.asking.proofs.Seen.{others-move, joined-suffix}
 use Rattle.asking.proofs.Fitting.{fits-kept, kept-fits}
@@ -25,14 +25,14 @@ Claiming = Along strictly claimAt
 
 -- ---- in the order of the text
 
-item-claims : (k : ℕ) {a : ℕ} {ms r : Place} {x : Item} → ItemSaid (signAt "(" a ∷ ms) ms x r → Claiming (signAt "(" a ∷ ms) (claimsOf k x) r
-item-claims k {a} (ofGroup (conjoined {ns = ns} (literal {i} {d} {a = b} {b = c} {c = e} {q}) o)) =
+item-claims : (k m : ℕ) {shared : Bool} {a : ℕ} {ms r : Place} {x : Item} → ItemSaid shared (signAt "(" a ∷ ms) ms x r → Claiming (signAt "(" a ∷ ms) (claimsOf k m x) r
+item-claims k m {a = a} (ofGroup (conjoined {ns = ns} (literal {i} {d} {a = b} {b = c} {c = e} {q}) o)) =
     let v = others-move o in
     ([], signAt "(" a, _, refl, refl, (placed (seat i) b ∷ signAt (relation q) c ∷ [], placed (number d) e, ns, refl, refl, (v .pre, v .split)))
-item-claims k {a} (ofGroup (disjoined {ns = ns} (literal {i} {d} {a = b} {b = c} {c = e} {q}) o)) =
+item-claims k m {a = a} (ofGroup (disjoined {ns = ns} (literal {i} {d} {a = b} {b = c} {c = e} {q}) o)) =
     let v = others-move o in
     ([], signAt "(" a, _, refl, refl, (placed (seat i) b ∷ signAt (relation q) c ∷ [], placed (number d) e, ns, refl, refl, (v .pre, v .split)))
-item-claims k {a} {r = r} (ofTerms (aTerm {a = z} {ns = ns} (literal {i} {d} {a = b} {b = c} {c = e} {q}) o) f j) =
+item-claims k m {a = a} {r = r} (ofTerms (aTerm {a = z} {ns = ns} (literal {i} {d} {a = b} {b = c} {c = e} {q}) o) f j) =
     let v = others-move o in
     let (w, y) = joined-suffix j in (
       [],
@@ -42,25 +42,27 @@ item-claims k {a} {r = r} (ofTerms (aTerm {a = z} {ns = ns} (literal {i} {d} {a 
       refl,
       (signAt "(" z ∷ placed (seat i) b ∷ signAt (relation q) c ∷ [], placed (number d) e, ns, refl, refl, (v .pre ++ w, v .split ∙ ap (λ x. v .pre ++ x) y ∙ sym (append-assoc (v .pre) w r))),
     )
+item-claims k m {a = o} (ofTest (sharedTest {v} {a} {b} {c} {d} {q} {r})) =
+    (signAt "(" o ∷ signAt "g" a ∷ signAt (relation q) b ∷ [], placed (number v) c, signAt ")" d ∷ r, refl, refl, (signAt ")" d ∷ [], refl))
 
-joined-claims : (k : ℕ) (s : Sign) (ms r : Place) (g h : Formula Item) → Claiming ms (claims k g ++ claims k h) r → Claiming ms (claims k (joining s g h)) r
-joined-claims k all ms r g h c = c
-joined-claims k any ms r g h c = c
+joined-claims : (k m : ℕ) (s : Sign) (ms r : Place) (g h : Formula Item) → Claiming ms (claims k m g ++ claims k m h) r → Claiming ms (claims k m (joining s g h)) r
+joined-claims k m all ms r g h c = c
+joined-claims k m any ms r g h c = c
 
-pub formula-claims : (k : ℕ) {v : Part} {ms r : Place} {g : Formula Item} → FormulaSaid NoneStarts ItemSaid v ms g r → Claiming ms (claims k g) r
-formula-claims k (grouped d) = item-claims k d
-formula-claims k (negated {a} {ms} {r} {g} u) = along-behind strictly claimAt (signAt "!" a) ms r (claims k g) (formula-claims k u)
-formula-claims k (bracketed {a} {b} {ms} {r} {g} f u) =
-    along-behind strictly claimAt (signAt "(" a) ms r (claims k g)
-    (along-before strictly claimAt ms (signAt ")" b ∷ r) r (claims k g) (formula-claims k u) (signAt ")" b ∷ []) refl)
-formula-claims k (single u) = formula-claims k u
-formula-claims k (further {s} {a} {ms} {ns} {r} {g} {h} us u) =
-    joined-claims k s ms r g h
-    (along-then strictly claimAt ms (signAt (joint s) a ∷ ns) r (claims k g) (claims k h) (formula-claims k us)
-    (along-behind strictly claimAt (signAt (joint s) a) ns r (claims k h) (formula-claims k u)))
+pub formula-claims : (k m : ℕ) {shared : Bool} {v : Part} {ms r : Place} {g : Formula Item} → FormulaSaid NoneStarts (ItemSaid shared) v ms g r → Claiming ms (claims k m g) r
+formula-claims k m (grouped d) = item-claims k m d
+formula-claims k m (negated {a} {ms} {r} {g} u) = along-behind strictly claimAt (signAt "!" a) ms r (claims k m g) (formula-claims k m u)
+formula-claims k m (bracketed {a} {b} {ms} {r} {g} f u) =
+    along-behind strictly claimAt (signAt "(" a) ms r (claims k m g)
+    (along-before strictly claimAt ms (signAt ")" b ∷ r) r (claims k m g) (formula-claims k m u) (signAt ")" b ∷ []) refl)
+formula-claims k m (single u) = formula-claims k m u
+formula-claims k m (further {s} {a} {ms} {ns} {r} {g} {h} us u) =
+    joined-claims k m s ms r g h
+    (along-then strictly claimAt ms (signAt (joint s) a ∷ ns) r (claims k m g) (claims k m h) (formula-claims k m us)
+    (along-behind strictly claimAt (signAt (joint s) a) ns r (claims k m h) (formula-claims k m u)))
 
-pub question-claims : (k : ℕ) {ms : Place} {g : Formula Item} → QuestionSaid ms g → Claiming ms (claims k g) []
-question-claims k (asks d) = formula-claims k d
+pub question-claims : (k m : ℕ) {shared : Bool} {ms : Place} {g : Formula Item} → QuestionSaid shared ms g → Claiming ms (claims k m g) []
+question-claims k m (asks d) = formula-claims k m d
 
 -- ---- so the first that does not fit is the earliest
 

@@ -1,19 +1,19 @@
 -- What the look ahead sees: how the marks of a group, a term or an expression settle it. Assumes nothing.
 use Prim.Native.Nat.{zero, _+_}
 use mathlib.Core.Path.{_≡_, refl, sym, ap, _∙_}
-use mathlib.Core.Bool.{false, false≢true}
+use mathlib.Core.Bool.{Bool, false, false≢true}
 use mathlib.Core.List.{List, [], _∷_, _++_, append-assoc, head?}
 use native.Mathlib.Omega.{arith}
 use lib.ListN.{length}
 use Rattle.card.specs.Card.{Sign, all, any, Relation, Formula}
 use Rattle.marks_on_a_card.specs.Marks.{text, seat, process, number, decimal, outside, placed}
-use Rattle.reading.specs.Reader.{Place, at, is}
-use Rattle.reading.specs.Guard.{seatNext, expression}
+use Rattle.reading.specs.Reader.{Place, at, is, nextIs}
+use Rattle.reading.specs.Guard.{seatNext, testNext, expression}
 use Rattle.reading.specs.Group.{joint, relation, Literal, literalOf, Literals, literalsOf, group}
-use Rattle.grammar.specs.Grammar.{signAt, LiteralSaid, literal, JoinedSaid, OthersSaid, close, next, GroupSaid, conjoined, disjoined, Part, FormulaSaid, grouped, negated, bracketed, single, further}
+use Rattle.grammar.specs.Grammar.{signAt, LiteralSaid, literal, JoinedSaid, OthersSaid, close, next, GroupSaid, conjoined, disjoined, sharedTest, Part, FormulaSaid, grouped, negated, bracketed, single, further}
 use Rattle.grammar.proofs.Steady.{SameHead, seat-head}
-use Rattle.grammar.proofs.Follows.{group-reads}
-use Rattle.asking.specs.Question.{Item, relations, both, mixed, mixedRead, mixedNext, twiceNext, term, TermSaid, aTerm, ItemSaid, ofGroup, ofTerms, NoneStarts, twice, other, seen}
+use Rattle.grammar.proofs.Follows.{group-reads, and-false}
+use Rattle.asking.specs.Question.{Item, relations, both, mixed, mixedRead, mixedNext, twiceNext, term, TermSaid, aTerm, ItemSaid, ofGroup, ofTerms, ofTest, NoneStarts, twice, other, seen}
 
 -- ---- without a seat word there is no term
 
@@ -157,14 +157,17 @@ joined-suffix {s} (next {a} {ms} {ns} {r} d o) =
 pub bracket-no-seat : {ms r : Place} {ls : List Literal} → TermSaid ms ls r → seatNext ms ≡ false
 bracket-no-seat (aTerm d o) = refl
 
+pub bracket-no-number : {ms r : Place} {ls : List Literal} → TermSaid ms ls r → nextIs "g" ms ≡ false
+bracket-no-number (aTerm d o) = refl
+
 pub same-not-mixed : (x y : Place) → SameHead x y → seatNext y ≡ false → mixedNext x ≡ mixedNext y
 same-not-mixed x y h e = no-seat-not-mixed x (seat-head x y h ∙ e) ∙ sym (no-seat-not-mixed y e)
 
-pub item-follows : {p ms r : Place} {x : Item} → ItemSaid p ms x r → Follows ms r
+pub item-follows : {shared : Bool} {p ms r : Place} {x : Item} → ItemSaid shared p ms x r → Follows ms r
 item-follows (ofGroup g) =
     let m = group-moves g in
     record { pre = m .pre; split = m .split; head = m .head; mixed = λ t. mixed-moved g t ∙ sym (mixed-said g) }
-item-follows (ofTerms {ms} {ns} {r} d b o) =
+item-follows (ofTerms {ms = ms} {ns} {r} d b o) =
     let u = term-settles d in
     let (w, e) = joined-suffix o in
     let h : (t : Place) → SameHead ((u .pre ++ w) ++ t) ms = λ t. rw (append-assoc (u .pre) w t) (u .head (w ++ t)) in
@@ -174,15 +177,34 @@ item-follows (ofTerms {ms} {ns} {r} d b o) =
       head = h;
       mixed = λ t. same-not-mixed ((u .pre ++ w) ++ t) ms (h t) (bracket-no-seat d);
     }
+item-follows (ofTest (sharedTest {v} {a} {b} {c} {d} {q} {r})) = record {
+  pre = signAt "g" a ∷ signAt (relation q) b ∷ placed (number v) c ∷ signAt ")" d ∷ [];
+  split = refl;
+  head = λ t. refl;
+  mixed = λ t. same-not-mixed (signAt "g" a ∷ signAt (relation q) b ∷ placed (number v) c ∷ signAt ")" d ∷ t) (signAt "g" a ∷ signAt (relation q) b ∷ placed (number v) c ∷ signAt ")" d ∷ r) refl refl;
+}
 
-pub formula-no-seat : {v : Part} {ms r : Place} {g : Formula Item} → FormulaSaid NoneStarts ItemSaid v ms g r → seatNext ms ≡ false
-formula-no-seat (grouped x) = refl
-formula-no-seat (negated u) = refl
-formula-no-seat (bracketed f u) = refl
-formula-no-seat (single u) = formula-no-seat u
-formula-no-seat (further us u) = formula-no-seat us
+-- an expression begins with a bracket or a `!`
+pub formula-no-test : {shared : Bool} {v : Part} {ms r : Place} {g : Formula Item} → FormulaSaid NoneStarts (ItemSaid shared) v ms g r → testNext shared ms ≡ false
+formula-no-test {shared} (grouped x) = and-false shared
+formula-no-test {shared} (negated u) = and-false shared
+formula-no-test {shared} (bracketed f u) = and-false shared
+formula-no-test (single u) = formula-no-test u
+formula-no-test (further us u) = formula-no-test us
 
-pub formula-settles : {v : Part} {ms r : Place} {g : Formula Item} → FormulaSaid NoneStarts ItemSaid v ms g r → Settles ms r
+pub no-test-no-seat : (shared : Bool) (ms : Place) → testNext shared ms ≡ false → seatNext ms ≡ false
+no-test-no-seat shared [] e = refl
+no-test-no-seat shared (placed (text s) p ∷ ms) e = refl
+no-test-no-seat shared (placed (seat i) p ∷ ms) e = absurd (false≢true (sym e))
+no-test-no-seat shared (placed (process i) p ∷ ms) e = refl
+no-test-no-seat shared (placed (number v) p ∷ ms) e = refl
+no-test-no-seat shared (placed (decimal v n f) p ∷ ms) e = refl
+no-test-no-seat shared (placed outside p ∷ ms) e = refl
+
+formula-no-seat : {shared : Bool} {v : Part} {ms r : Place} {g : Formula Item} → FormulaSaid NoneStarts (ItemSaid shared) v ms g r → seatNext ms ≡ false
+formula-no-seat {shared} {ms = ms} d = no-test-no-seat shared ms (formula-no-test d)
+
+pub formula-settles : {shared : Bool} {v : Part} {ms r : Place} {g : Formula Item} → FormulaSaid NoneStarts (ItemSaid shared) v ms g r → Settles ms r
 formula-settles (grouped {a} {ms} {r} x) =
     let m = item-follows x in
     record { pre = signAt "(" a ∷ m .pre; split = ap (λ x. signAt "(" a ∷ x) (m .split); head = λ t. refl; twice = m .mixed }

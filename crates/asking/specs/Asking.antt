@@ -1,5 +1,5 @@
--- Reading a question on a card of n seats with top state k: refusals 21 to 26 in their order, or the question ("2026-01"); and what each of
--- these is, in terms of its marks, the grammar, the limits and the rules. Assumes nothing.
+-- Reading a question on a card of n seats with top state k, whose shared number has so many values: refusals 21 to 26 in their order, or the
+-- question ("2026-01"; 2026-10); and what each of these is, in terms of its marks, the grammar, the limits and the rules. Assumes nothing.
 use Prim.Native.Nat.{ℕ, zero, suc, _+_, _≤_, _<_}
 use mathlib.Core.Path.{_≡_}
 use mathlib.Core.Bool.{Bool, true, false, _&&_}
@@ -14,6 +14,7 @@ use Rattle.card.specs.Card.{Relation, is as eq, isnt as ne, Formula}
 use Rattle.card.specs.Formulas.{over, eachAtom}
 use Rattle.card.specs.Valid.{Every}
 use Rattle.marks_on_a_card.specs.Marks.{Placed, marksOf, placeOf}
+use Rattle.late.specs.Values.{shares, mostOf}
 use Rattle.reading.specs.Reader.{Place, at, Result, ok, stop}
 use Rattle.reading.specs.Group.{Literal, Literals}
 use Rattle.reading.specs.Judgements.{once, sameRelation, alike, Verdict, fine, wrong}
@@ -22,13 +23,13 @@ use Rattle.reading.specs.Reading.{firstOutside}
 use Rattle.grammar.specs.Counted.{Within}
 use Rattle.grammar.specs.Verdicts.{Clean, In}
 use Rattle.entry.specs.Said.{Said, says, refused}
-use Rattle.asking.specs.Question.{Item, aGroup, exactlyOne, question, QuestionSaid, countedQuestion, QuestionUnfit, QuestionPast}
-use Rattle.asking.specs.Meant.{Atom, ofAll, oneIn, Question}
+use Rattle.asking.specs.Question.{Item, aGroup, exactlyOne, aTest, question, QuestionSaid, countedQuestion, QuestionUnfit, QuestionPast}
+use Rattle.asking.specs.Meant.{Atom, ofAll, oneIn, sharedAt, Question}
 
 -- ---- what is judged, and where
 
 pub data Claim : Type 0 where
-  state : ℕ → ℕ → Place → Claim  -- the most that the first d of an item may be, and what stands there
+  state : ℕ → ℕ → Place → Claim  -- the most that the first d of an item may be, or the shared number, and what stands there
   everyone : Literals → Claim
   exactly : Place → List (List Literal) → Claim
 
@@ -50,13 +51,14 @@ abbrev pub firstTermD : ℕ → List (List Literal) → List Claim
 firstTermD k [] = []
 firstTermD k (t ∷ ts) = firstD k t
 
-abbrev pub claimsOf : ℕ → Item → List Claim
-claimsOf k (aGroup g) = everyone g ∷ firstD k (g .literals)
-claimsOf k (exactlyOne p ts) = exactly p ts ∷ firstTermD k ts
+abbrev pub claimsOf : ℕ → ℕ → Item → List Claim
+claimsOf k m (aGroup g) = everyone g ∷ firstD k (g .literals)
+claimsOf k m (exactlyOne p ts) = exactly p ts ∷ firstTermD k ts
+claimsOf k m (aTest x) = state m (x .value .value) (x .value .place) ∷ []
 
--- in the order of the text, on a card with top state k
-abbrev pub claims : ℕ → Formula Item → List Claim
-claims k g = eachAtom (claimsOf k) g
+-- in the order of the text, on a card with top state k, whose shared number may be m
+abbrev pub claims : ℕ → ℕ → Formula Item → List Claim
+claims k m g = eachAtom (claimsOf k m) g
 
 -- ---- the rules
 
@@ -137,6 +139,7 @@ firstRelation (l ∷ ls) = l .relation
 abbrev pub atomIn : Item → Atom
 atomIn (aGroup g) = ofAll (g .sign) (firstRelation (g .literals)) (literalD (g .literals))
 atomIn (exactlyOne p ts) = oneIn (termD ts)
+atomIn (aTest x) = sharedAt (x .relation) (x .value .value)
 
 abbrev pub questionIn : Formula Item → Question
 questionIn g = over atomIn g
@@ -151,49 +154,50 @@ abbrev pub judgedAs : ℕ → Question → Verdict → Said Question
 judgedAs e q fine = says q
 judgedAs e q (wrong r p) = refused (inQuestion r) (placeOf e p)
 
-abbrev pub shapedAs : ℕ → ℕ → ℕ → Result (Formula Item) → Said Question
-shapedAs n k e (ok g _) = judgedAs e (questionIn g) (firstUnfit n (claims k g))
-shapedAs n k e (stop r p) = refused (inQuestion r) (placeOf e p)
+abbrev pub shapedAs : ℕ → ℕ → ℕ → ℕ → Result (Formula Item) → Said Question
+shapedAs n k values e (ok g _) = judgedAs e (questionIn g) (firstUnfit n (claims k (mostOf values) g))
+shapedAs n k values e (stop r p) = refused (inQuestion r) (placeOf e p)
 
-abbrev pub markedAs : ℕ → ℕ → ℕ → List Placed → Option ℕ → Said Question
-markedAs n k e ms none = shapedAs n k e (question (at ms zero))
-markedAs n k e ms (some p) = refused (inQuestion outsideRules) p
+abbrev pub markedAs : ℕ → ℕ → ℕ → ℕ → List Placed → Option ℕ → Said Question
+markedAs n k values e ms none = shapedAs n k values e (question (shares values) (at ms zero))
+markedAs n k values e ms (some p) = refused (inQuestion outsideRules) p
 
-unfoldable pub questionOf : ℕ → ℕ → List ℕ → Said Question
-questionOf n k s = if leb (length s) cardBytes then markedAs n k (length s) (marksOf s) (firstOutside (marksOf s)) else refused (inQuestion tooLong) 0
+unfoldable pub questionOf : ℕ → ℕ → ℕ → List ℕ → Said Question
+questionOf n k values s =
+    if leb (length s) cardBytes then markedAs n k values (length s) (marksOf s) (firstOutside (marksOf s)) else refused (inQuestion tooLong) 0
 
 -- ---- what it is to be taken, and each refusal
 
-pub record QuestionPastLimit (s : List ℕ) (p : ℕ) : Type 0 where
+pub record QuestionPastLimit (values : ℕ) (s : List ℕ) (p : ℕ) : Type 0 where
   pub clean : Clean s
   pub at : Place
-  pub past : QuestionPast (marksOf s) at
+  pub past : QuestionPast (shares values) (marksOf s) at
   pub place : placeOf (length s) at ≡ p
 
-pub record QuestionOutOfShape (s : List ℕ) (p : ℕ) : Type 0 where
+pub record QuestionOutOfShape (values : ℕ) (s : List ℕ) (p : ℕ) : Type 0 where
   pub clean : Clean s
   pub at : Place
-  pub unfit : QuestionUnfit (marksOf s) at
+  pub unfit : QuestionUnfit (shares values) (marksOf s) at
   pub place : placeOf (length s) at ≡ p
-  pub earlier : (q : ℕ) → q < p → QuestionPastLimit s q → ⊥
+  pub earlier : (q : ℕ) → q < p → QuestionPastLimit values s q → ⊥
 
-pub record QuestionShaped (s : List ℕ) : Type 0 where
+pub record QuestionShaped (values : ℕ) (s : List ℕ) : Type 0 where
   pub clean : Clean s
   pub shape : Formula Item
-  pub said : QuestionSaid (marksOf s) shape
+  pub said : QuestionSaid (shares values) (marksOf s) shape
   pub within : Every Within (countedQuestion (marksOf s) shape said)
 
 -- a rule is broken at p to which refusal r is due, and all that stand earlier are kept
-pub record QuestionBroken (n k r : ℕ) (s : List ℕ) (p : ℕ) : Type 0 where
-  pub shaped : QuestionShaped s
+pub record QuestionBroken (n k values r : ℕ) (s : List ℕ) (p : ℕ) : Type 0 where
+  pub shaped : QuestionShaped values s
   pub claim : Claim
-  pub judged : In claim (claims k (shaped .shape))
+  pub judged : In claim (claims k (mostOf values) (shaped .shape))
   pub number : due claim ≡ r
   pub broken : KeptIn n claim → ⊥
   pub place : placeOf (length s) (claimAt claim) ≡ p
-  pub earlier : (j : Claim) → In j (claims k (shaped .shape)) → placeOf (length s) (claimAt j) < p → KeptIn n j
+  pub earlier : (j : Claim) → In j (claims k (mostOf values) (shaped .shape)) → placeOf (length s) (claimAt j) < p → KeptIn n j
 
-pub record QuestionAccepted (n k : ℕ) (s : List ℕ) (q : Question) : Type 0 where
-  pub shaped : QuestionShaped s
-  pub kept : Every (KeptIn n) (claims k (shaped .shape))
+pub record QuestionAccepted (n k values : ℕ) (s : List ℕ) (q : Question) : Type 0 where
+  pub shaped : QuestionShaped values s
+  pub kept : Every (KeptIn n) (claims k (mostOf values) (shaped .shape))
   pub question : q ≡ questionIn (shaped .shape)

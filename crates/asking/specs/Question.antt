@@ -1,4 +1,5 @@
--- A question ("2026-01"): a formula over groups and exactly-ones, with a card's limits; its reader and its grammar. Assumes nothing.
+-- A question ("2026-01"): a formula over groups and exactly-ones, on a card that shares a number also over tests of that (2026-10), with a card's
+-- limits; its reader and its grammar. Assumes nothing.
 use Prim.Native.Nat.{ℕ, zero}
 use mathlib.Core.Path.{_≡_}
 use mathlib.Core.Bool.{Bool, true, false, _&&_, _||_}
@@ -7,19 +8,20 @@ use lib.ListN.{length}
 use Rattle.card.specs.Limits.{mostNodes, mostDepth}
 use Rattle.card.specs.Card.{Sign, all, any, Relation, is as eq, isnt as ne, Formula}
 use Rattle.marks_on_a_card.specs.Marks.{placed}
-use Rattle.reading.specs.Reader.{Place, at, Result, ok, stop, Reader, bind, _>>=_, _>>_, return, is, sign, here}
-use Rattle.reading.specs.Guard.{seatNext, ifSeat, Read, expression, unaryBy}
-use Rattle.reading.specs.Group.{joint, Literal, Literals, literal, joined, others, group}
+use Rattle.reading.specs.Reader.{Place, at, Result, ok, stop, Reader, bind, _>>=_, _>>_, return, is, ifNext, sign, here}
+use Rattle.reading.specs.Guard.{testNext, ifSeat, Read, expression, unaryBy}
+use Rattle.reading.specs.Group.{joint, Literal, Literals, literal, joined, others, group, SharedTest, sharedTest}
 use Rattle.reading.specs.Shape.{mayHave, theEnd}
 use Rattle.grammar.specs.Counted.{Counted, countedGuard}
 use Rattle.grammar.specs.Verdicts.{UnfitIn, PastIn, In}
-use Rattle.grammar.specs.Grammar.{signAt, LiteralSaid, JoinedSaid, OthersSaid, GroupSaid, joinedBy, FormulaSaid}
+use Rattle.grammar.specs.Grammar.{signAt, LiteralSaid, JoinedSaid, OthersSaid, GroupSaid, SharedTestSaid, joinedBy, FormulaSaid}
 
 -- ---- what stands in a question where a formula has its atoms
 
 pub data Item : Type 0 where
   aGroup : Literals → Item
   exactlyOne : Place → List (List Literal) → Item  -- its outer bracket, and its terms
+  aTest : SharedTest → Item
 
 -- ---- where an exactly-one starts
 
@@ -62,9 +64,9 @@ abbrev pub twiceNext : Place → Bool
 twiceNext [] = false
 twiceNext (placed m p ∷ ms) = is "(" m && mixedNext ms
 
--- behind a bracket: does it start a group or an exactly-one?
-abbrev pub itemNext : Place → Bool
-itemNext ms = seatNext ms || twiceNext ms
+-- behind a bracket, on a card that shares a number or not: does it start a group, a test of that number or an exactly-one?
+abbrev pub itemNext : Bool → Place → Bool
+itemNext shared ms = testNext shared ms || twiceNext ms
 
 -- ---- the reader
 
@@ -85,15 +87,15 @@ exactly p = do
   return (exactlyOne p (t ∷ ts))
 
 abbrev pub item : Place → Reader Item
-item p = ifSeat (group p >>= λ x. return (aGroup x)) (exactly p)
+item p = ifNext "g" (sharedTest >>= λ x. return (aTest x)) (ifSeat (group p >>= λ x. return (aGroup x)) (exactly p))
 
-abbrev pub asked : Read Item
-asked = expression (unaryBy itemNext item mostDepth)
+abbrev pub asked : Bool → Read Item
+asked shared = expression (unaryBy (itemNext shared) item mostDepth)
 
-abbrev pub question : Read Item
-question = do
+abbrev pub question : Bool → Read Item
+question shared = do
   mayHave mostNodes
-  g ← asked
+  g ← asked shared
   theEnd
   return g
 
@@ -104,18 +106,19 @@ pub data TermSaid : Place → List Literal → Place → Type 0 where
       → LiteralSaid ms l ns → OthersSaid all ns ls r → TermSaid (signAt "(" a ∷ ms) (l ∷ ls) r
 
 -- behind a bracket at p; the first term of an exactly-one has both relations
-pub data ItemSaid (p : Place) : Place → Item → Place → Type 0 where
-  ofGroup : {ms r : Place} {x : Literals} → GroupSaid p ms x r → ItemSaid p ms (aGroup x) r
-  ofTerms : {ms ns r : Place} {t : List Literal} {ts : List (List Literal)}
+pub data ItemSaid : Bool → Place → Place → Item → Place → Type 0 where
+  ofGroup : {shared : Bool} {p ms r : Place} {x : Literals} → GroupSaid p ms x r → ItemSaid shared p ms (aGroup x) r
+  ofTerms : {shared : Bool} {p ms ns r : Place} {t : List Literal} {ts : List (List Literal)}
       → TermSaid ms t ns → both (relations t) ≡ true → JoinedSaid TermSaid any ns ts r
-      → ItemSaid p ms (exactlyOne p (t ∷ ts)) r
+      → ItemSaid shared p ms (exactlyOne p (t ∷ ts)) r
+  ofTest : {p ms r : Place} {x : SharedTest} → SharedTestSaid ms x r → ItemSaid true p ms (aTest x) r
 
 -- an expression's bracket stands where no exactly-one starts
 abbrev pub NoneStarts : Place → Type 0
 NoneStarts ms = twiceNext ms ≡ false
 
-pub data QuestionSaid (ms : Place) (g : Formula Item) : Type 0 where
-  asks : FormulaSaid NoneStarts ItemSaid (joinedBy any) ms g [] → QuestionSaid ms g
+pub data QuestionSaid (shared : Bool) (ms : Place) (g : Formula Item) : Type 0 where
+  asks : FormulaSaid NoneStarts (ItemSaid shared) (joinedBy any) ms g [] → QuestionSaid shared ms g
 
 -- ---- what is seen behind a bracket: what it starts, and what the bracket before it starts
 
@@ -128,17 +131,17 @@ seen true false c = words
 seen false b true = twice
 seen false b false = other
 
-abbrev pub sight : Place → Sight
-sight ms = seen (seatNext ms) (mixedNext ms) (twiceNext ms)
+abbrev pub sight : Bool → Place → Sight
+sight shared ms = seen (testNext shared ms) (mixedNext ms) (twiceNext ms)
 
 -- ---- what the limits count, and when a question is out of shape or past a limit
 
-abbrev pub countedQuestion : (ms : Place) (g : Formula Item) → QuestionSaid ms g → List Counted
+abbrev pub countedQuestion : {shared : Bool} (ms : Place) (g : Formula Item) → QuestionSaid shared ms g → List Counted
 countedQuestion ms g (asks d) = countedGuard 0 0 d
 
-abbrev pub QuestionUnfit : Place → Place → Type 0
-QuestionUnfit ms r = UnfitIn QuestionSaid ms r
+abbrev pub QuestionUnfit : Bool → Place → Place → Type 0
+QuestionUnfit shared ms r = UnfitIn (QuestionSaid shared) ms r
 
 -- what an opening bracket starts, and what the one before it starts, is told by the marks behind it
-abbrev pub QuestionPast : Place → Place → Type 0
-QuestionPast ms r = PastIn QuestionSaid countedQuestion sight ms r
+abbrev pub QuestionPast : Bool → Place → Place → Type 0
+QuestionPast shared ms r = PastIn (QuestionSaid shared) countedQuestion (sight shared) ms r

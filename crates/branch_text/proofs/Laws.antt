@@ -1,23 +1,43 @@
 -- The text of branches in the form in which the code puts them: a branch by its parts, and one branch more after each turn of a loop.
 -- Assumes nothing.
-use Prim.Native.Nat.{ℕ, suc, _+_, _-_, _≤_, _<_}
+use Prim.Native.Nat.{ℕ, zero, suc, _+_, _-_, _≤_, _<_}
 use mathlib.Core.Path.{_≡_, refl, ap}
 use mathlib.Core.List.{List, [], _∷_, _++_, map}
+use mathlib.Core.Option.{some}
 use native.Mathlib.Numerals.{add-one}
 use native.Mathlib.Omega.{arith}
+use borrow.Author.Tests.{eq-eqb, ne-eqb}
 use lib.ListN.{length, getD, take, drop}
 use lib.Seq.{take-suc, take-all}
 use Rattle.card.specs.Card.{Branch}
-use Rattle.card.specs.Laid.{unitsPart, endPart, branchOf}
-use Rattle.phrases.specs.Phrases.{Text, _▸_, weightText}
+use Rattle.card.specs.Laid.{unitsPart, setPart, endPart, setOf, branchOf}
+use Rattle.meaning.specs.Reduced.{updateOf}
+use Rattle.phrases.specs.Phrases.{Text, _▸_, num, weightText}
 use Rattle.phrases.specs.Puts.{Puts}
-use Rattle.texts.specs.Shared.{more, summed}
+use Rattle.texts.specs.Shared.{more, summed, setLast}
+use Rattle.texts.specs.ReducedText.{updateText}
 use Rattle.leaf_text.specs.declared.Style.{Style}
 use Rattle.branch_text.specs.Branches.{endText, branchText}
 
-pub branch-parts : (s : Style) (x : ℕ) {u e : ℕ} → u ≡ unitsPart x → e ≡ endPart x → (r : List ℕ) → weightText u (endText s e r) ≡ branchText s (branchOf x) r
+pub branch-parts : (s : Style) (x : ℕ) {u g e : ℕ} → u ≡ unitsPart x → g ≡ setPart x → e ≡ endPart x → (r : List ℕ)
+    → weightText u (endText s e (setOf g) r) ≡ branchText s (branchOf x) r
 unfolding branchOf
-branch-parts s x h k r = rw (h, k)
+branch-parts s x h j k r = rw (h, j, k)
+
+-- behind its weight, by which text it is and by what it sets
+sets-some : (sets : ℕ) → (sets ≡ 0 → ⊥) → (r : List ℕ) → setLast (some (sets - 1)) r ≡ setLast (setOf sets) r
+sets-some zero h r = absurd (h refl)
+sets-some (suc v) h r = let e : suc v - 1 ≡ v = omega arith in rw e
+
+module _ (s : Style) (e sets : ℕ) where
+  pub written-bare : s .text ≡ 0 → sets ≡ 0 → (r : List ℕ) → ":(s1'=" ▸ num e (")" ▸ r) ≡ endText s e (setOf sets) r
+  written-bare h k r = rw (eq-eqb (s .text) 0 h, k)
+
+  pub written-set : s .text ≡ 0 → (sets ≡ 0 → ⊥) → (r : List ℕ) → ":(s1'=" ▸ num e (")" ▸ setLast (some (sets - 1)) r) ≡ endText s e (setOf sets) r
+  written-set h k r = rw (eq-eqb (s .text) 0 h, sets-some sets k r)
+
+  pub reduced-end : (s .text ≡ 0 → ⊥) → (r : List ℕ) → ":" ▸ updateText (updateOf (s .seats) (s .own) e) (setOf sets) r ≡ endText s e (setOf sets) r
+  reduced-end h r = rw (ne-eqb (s .text) 0 h)
 
 -- ---- several branches
 

@@ -29,16 +29,18 @@ use Rattle.reading.specs.Reader.{Place, State, at, Result, ok, stop, Reader, bi
 use Rattle.grammar.specs.Grammar.{branchRun}
 use Rattle.reading.specs.Judgements.{Judgement, weight as judgedWeight, sum, unless, broken, orZero, unitsIn, totalUnits}
 use Rattle.reading.specs.Guard.{isSome}
-use Rattle.reading.specs.Shape.{BranchShape, weightOf, over, weight, branch, nextBranch, pastBranches}
-use Rattle.reading.specs.Checks.{judgedState, judgedWords, weightIn, judgedBranch, judgedEach}
+use Rattle.reading.specs.Shape.{BranchShape, weightOf, over, weight, sets, nextBranch, pastBranches}
+use Rattle.reading.specs.Checks.{judgedState, judgedWords, judgedSet, weightIn, judgedEach}
 use Rattle.grammar.proofs.Valid.{units-most}
 use Rattle.late.specs.Late.{Late, blame, blamed, judge, judgeAll}
+use Rattle.late.specs.Values.{shares, mostOf}
 use Rattle.late.specs.State.{atValue, Sized, lateIn, valueIn, withLate, After, after, Halted}
 use Rattle.late.proofs.Settling.{judge-append}
 use Rattle.late.proofs.StateLaws.{late-sized, set-sized, value-set, late-set}
 use Rattle.late_weights.specs.LateWeights.{formBy, sumBy}
 use Rattle.parts.specs.Parts.{from, Read, Answers, Went, NumberFrom, SignRead, SignFrom, Told, Sure, LineRead}
-use Rattle.branches.specs.Branches.{weightBy, Weighed, WeightRead, WeightFrom, updateDue, UpdateFrom, packedIn, Branched, BranchRead, BranchFrom, BranchesShape, branches, judgedBranches, ClosedBy, PastBy, BranchesIn, BranchesRead, BranchesFrom}
+use Rattle.branches.specs.declared.Bounds.{Bounds}
+use Rattle.branches.specs.Branches.{weightBy, Weighed, WeightRead, WeightFrom, updateDue, UpdateFrom, setIn, SetsFrom, packedIn, branchBy, judgedBy, Branched, BranchRead, BranchFrom, BranchesShape, branches, judgedBranches, ClosedBy, PastBy, BranchesIn, BranchesRead, BranchesFrom}
 use Rattle.parts.proofs.Steps.{Next, place-seen, behind, Shown, valueBy, number-shown, weightBy as markWeight, weight-shown, told}
 use Rattle.parts.proofs.Answers.{onward, halted, made, fits, misses, next-is, next-is-not}
 use Rattle.parts.proofs.Counted.{upTo, with-first, another, too-many, no-other}
@@ -181,11 +183,11 @@ update-sure = (told ":" (omega arith), (told "(" (omega arith), (told "'" (omega
 close : Told ")"
 close = told ")" (omega arith)
 
-module _ (decimals : Rule) (s : List ℕ) (i k : ℕ) (before : Late) (was is : List ℕ) (place : ℕ) where
+module _ (bounds : Bounds) (s : List ℕ) (i : ℕ) (before : Late) (was is : List ℕ) (place : ℕ) where
   abbrev BranchIs : After → Type 0
-  BranchIs = BranchFrom decimals s i k before was is place
+  BranchIs = BranchFrom bounds s i before was is place
 
-  module _ (a : List ℕ) {w : ℕ} (hw : WeightFrom decimals s i before (after a w)) where
+  module _ (a : List ℕ) {w : ℕ} (hw : WeightFrom (bounds .decimals) s i before (after a w)) where
     pub weight-halts : w ≡ 0 → BranchIs (after a 0)
     weight-halts e = record { answers = λ n. halted s _ _ (weight (from s i n)) _ a w (hw .answers n) e; sized = hw .sized }
 
@@ -200,7 +202,7 @@ module _ (decimals : Rule) (s : List ℕ) (i k : ℕ) (before : Late) (was is : 
         sized = hu .sized;
       }
 
-      module _ (eu : u ≡ 0 → ⊥) (c : List ℕ) {t : ℕ} (ht : NumberFrom s u k (lateIn b) (after c t)) where
+      module _ (eu : u ≡ 0 → ⊥) (c : List ℕ) {t : ℕ} (ht : NumberFrom s u (bounds .top) (lateIn b) (after c t)) where
         pub end-halts : t ≡ 0 → BranchIs (after c 0)
         end-halts e = record {
           answers = λ n. onward s _ _ (weight (from s i n)) _ a w _ (hw .answers n) ew λ x m g.
@@ -213,44 +215,73 @@ module _ (decimals : Rule) (s : List ℕ) (i k : ℕ) (before : Late) (was is : 
           closed : (n : ℕ) → SignRead s c (sign ")" (from s t n)) (after d f)
           closed n = hf .answers ")" close refl n
 
-          closing : (r : After) (n : ℕ)
-              → ((b : BranchShape) (m : ℕ) → valueIn a ≡ unitsIn (b .weight) → valueIn c ≡ b .end .value → lateIn c ≡ judgeAll (length s) (judgedBranch decimals k b) before
-              → BranchRead decimals s k before was is place (bind (sign ")" (from s t m)) (λ u. return b)) r)
-              → BranchRead decimals s k before was is place (branch (from s i n)) r
+          -- the branch, once it is known what it sets
+          abbrev shape : Weight → List Numbered → Numbered → Option Numbered → BranchShape
+          shape x ws e v = record { place = marksAt 0 s i; weight = x; words = ws; end = e; sets = v }
+
+          -- behind its state
+          abbrev closing : Weight → List Numbered → Numbered → Reader BranchShape
+          closing x ws e s₁ = bind (sign ")" s₁) (λ u s₂. bind (sets (shares (bounds .values)) s₂) (λ v. return (shape x ws e v)))
+
+          -- what is judged so far, and what it sets behind that
+          judged-so : (x : Weight) (ws : List Numbered) (e : Numbered) (v : Option Numbered) (mid : Late)
+              → mid ≡ judge (length s) (judgedState (bounds .top) e) (judgeAll (length s) (judgedWords (1 ∷ []) ws) (judge (length s) (judgedWeight (bounds .decimals) x (marksAt 0 s i)) before))
+              → judgeAll (length s) (judgedSet (mostOf (bounds .values)) v) mid ≡ judgeAll (length s) (judgedBy bounds (shape x ws e v)) before
           unfolding judgeAll
-          closing r n h = onward s _ _ (weight (from s i n)) _ a w r (hw .answers n) ew λ x m g.
+          judged-so x ws e v mid z =
+              ap (judgeAll (length s) (judgedSet (mostOf (bounds .values)) v)) z
+              ∙ sym (judge-append (length s) (judgedWords (1 ∷ []) ws) (judgedState (bounds .top) e ∷ judgedSet (mostOf (bounds .values)) v) (judge (length s) (judgedWeight (bounds .decimals) x (marksAt 0 s i)) before))
+
+          behind-end : (r : After) (n : ℕ)
+              → ((x : Weight) (ws : List Numbered) (e : Numbered) (m : ℕ) → valueIn a ≡ unitsIn x → valueIn c ≡ e .value
+              → ((v : Option Numbered) → judgeAll (length s) (judgedSet (mostOf (bounds .values)) v) (lateIn c) ≡ judgeAll (length s) (judgedBy bounds (shape x ws e v)) before)
+              → BranchRead bounds s before was is place (closing x ws e (from s t m)) r)
+              → BranchRead bounds s before was is place (branchBy bounds (from s i n)) r
+          unfolding judgeAll
+          behind-end r n h = onward s _ _ (weight (from s i n)) _ a w r (hw .answers n) ew λ x m g.
               onward s _ _ (line branchRun (from s w m)) _ b u r (updated m) eu λ ws m₁ g₁.
               onward s _ _ (numbered numberOf (from s u m₁)) _ c t r (ht .answers m₁) et λ e m₂ g₂.
-              h (record { place = marksAt 0 s i; weight = x; words = ws; end = e }) m₂ (g .value) (g₂ .value)
-              (g₂ .late ∙ ap (judge (length s) (judgedState k e)) (g₁ ∙ ap (judgeAll (length s) (judgedWords (1 ∷ []) ws)) (g .late))
-              ∙ sym (judge-append (length s) (judgedWords (1 ∷ []) ws) (judgedState k e ∷ []) (judge (length s) (judgedWeight decimals x (marksAt 0 s i)) before)))
+              h x ws e m₂ (g .value) (g₂ .value) λ v.
+              judged-so x ws e v (lateIn c) (g₂ .late ∙ ap (judge (length s) (judgedState (bounds .top) e)) (g₁ ∙ ap (judgeAll (length s) (judgedWords (1 ∷ []) ws)) (g .late)))
 
           pub close-halts : f ≡ 0 → BranchIs (after d 0)
-          close-halts e = record { answers = λ n. closing _ n λ b m g h j. halted s _ _ (sign ")" (from s t m)) _ d f (closed m) e; sized = hf .sized }
+          close-halts e = record { answers = λ n. behind-end _ n λ x ws y m g h j. halted s _ _ (sign ")" (from s t m)) _ d f (closed m) e; sized = hf .sized }
 
-          pub branch-read : (f ≡ 0 → ⊥) → is ≡ set was place (packBranch (min (valueIn a) unit) (min (valueIn d) numbers)) → BranchIs (after (set d atValue (valueIn a)) f)
-          branch-read e array = record {
-            answers = λ n. closing _ n λ b m g h j. onward s _ _ (sign ")" (from s t m)) _ d f _ (closed m) e λ y m₁ z.
-                record {
-                  went = e;
-                  rest = refl;
-                  told = record {
-                    went = record { value = value-set d (hf .sized) (valueIn a) ∙ g; late = late-set d atValue (valueIn a) (omega arith) ∙ ap lateIn z ∙ j };
-                    array = array ∙ packed b g (ap valueIn z ∙ h);
+          module _ (ef : f ≡ 0 → ⊥) (g : List ℕ) {l : ℕ} (hl : SetsFrom s f (bounds .values) (lateIn d) (after g l)) where
+            pub sets-halt : l ≡ 0 → BranchIs (after g 0)
+            sets-halt e = record {
+              answers = λ n. behind-end _ n λ x ws y m p h j. onward s _ _ (sign ")" (from s t m)) _ d f _ (closed m) ef λ u m₁ z.
+                  halted s _ _ (sets (shares (bounds .values)) (from s f m₁)) _ g l (hl .answers m₁) e;
+              sized = hl .sized;
+            }
+
+            pub branch-read : (l ≡ 0 → ⊥) → is ≡ set was place (packBranch (min (valueIn a) unit) (min (valueIn g) numbers) (min (valueIn d) numbers)) → BranchIs (after (set g atValue (valueIn a)) l)
+            branch-read e array = record {
+              answers = λ n. behind-end _ n λ x ws y m p h j. onward s _ _ (sign ")" (from s t m)) _ d f _ (closed m) ef λ u m₁ z.
+                  onward s _ _ (sets (shares (bounds .values)) (from s f m₁)) _ g l _ (hl .answers m₁) e λ v m₂ q.
+                  record {
+                    went = e;
+                    rest = refl;
+                    told = record {
+                      went = record {
+                        value = value-set g (hl .sized) (valueIn a) ∙ p;
+                        late = late-set g atValue (valueIn a) (omega arith) ∙ q .late ∙ ap (λ (state : List ℕ). judgeAll (length s) (judgedSet (mostOf (bounds .values)) v) (lateIn state)) z ∙ j v;
+                      };
+                      array = array ∙ packed (shape x ws y v) p (q .value) (ap valueIn z ∙ h);
+                    };
                   };
-                };
-            sized = set-sized d (hf .sized) atValue (valueIn a);
-          }
-            where
-              packed : (b : BranchShape) → valueIn a ≡ unitsIn (b .weight) → valueIn d ≡ b .end .value
-                  → set was place (packBranch (min (valueIn a) unit) (min (valueIn d) numbers)) ≡ set was place (packedIn b)
-              packed b g h = rw (g, h)
+              sized = set-sized g (hl .sized) atValue (valueIn a);
+            }
+              where
+                packed : (b : BranchShape) → valueIn a ≡ unitsIn (b .weight) → valueIn g ≡ setIn (b .sets) → valueIn d ≡ b .end .value
+                    → set was place (packBranch (min (valueIn a) unit) (min (valueIn g) numbers) (min (valueIn d) numbers)) ≡ set was place (packedIn b)
+                packed b p q h = rw (p, q, h)
 
-pub branch-few : {decimals : Rule} {s : List ℕ} {i k : ℕ} {before : Late} {was is : List ℕ} {place : ℕ} (state : List ℕ) {next : ℕ} → BranchFrom decimals s i k before was is place (after state next)
+pub branch-few : {bounds : Bounds} {s : List ℕ} {i : ℕ} {before : Late} {was is : List ℕ} {place : ℕ} (state : List ℕ) {next : ℕ} → BranchFrom bounds s i before was is place (after state next)
     → (next ≡ 0 → ⊥) → valueIn state ≤ unit
-branch-few {decimals} {s} {i} {k} {before} {was} {is} {place} state {next} h e = go (branch (from s i 0)) (h .answers 0)
+branch-few {bounds} {s} {i} {before} {was} {is} {place} state {next} h e = go (branchBy bounds (from s i 0)) (h .answers 0)
   where
-    go : (x : Result BranchShape) → BranchRead decimals s k before was is place x (after state next) → valueIn state ≤ unit
+    go : (x : Result BranchShape) → BranchRead bounds s before was is place x (after state next) → valueIn state ≤ unit
     go (ok b t) y = omega (arith, y .told .went .value, units-most (b .weight))
     go (stop n p) y = absurd (e (y .none))
 
@@ -273,44 +304,48 @@ step a bs s = go (sign ";" s)
 plus : Told "+"
 plus = told "+" (omega arith)
 
--- behind a branch
-abbrev pub further : ℕ → Reader BranchesShape
-further = upTo "+" nextBranch pastBranches ends
+abbrev nextBy : Bounds → Reader BranchShape
+nextBy bounds = nextBranch (shares (bounds .values))
 
--- behind a `+` or the arrow: so many branches may still stand there
-abbrev pub rest : ℕ → Reader BranchesShape
-rest zero = λ s. bind (the weightOf s) (λ w. refuseAt pastLimit (s .marks))
-rest (suc most) = λ s. bind (branch s) (λ a s₁. bind (further most s₁) (λ x. return (more a x)))
+module _ (bounds : Bounds) where
+  -- behind a branch
+  abbrev pub further : ℕ → Reader BranchesShape
+  further = upTo "+" (nextBy bounds) pastBranches ends
 
-pub rest-whole : (most : ℕ) (s : State) → branches most s ≡ rest (suc most) s
-rest-whole most s = with-first "+" nextBranch pastBranches ends more step (branch s) most
+  -- behind a `+` or the arrow: so many branches may still stand there
+  abbrev pub rest : ℕ → Reader BranchesShape
+  rest zero = λ s. bind (the weightOf s) (λ w. refuseAt pastLimit (s .marks))
+  rest (suc most) = λ s. bind (branchBy bounds s) (λ a s₁. bind (further most s₁) (λ x. return (more a x)))
 
-behind-plus : (most : ℕ) (s : List ℕ) (i : ℕ) (x : Step) (v : Next s i x) → x .mark .kind ≡ kind "+" → (n : ℕ) → further most (from s i n) ≡ rest most (from s (x .next .at) n)
-behind-plus zero s i x v e n =
-    too-many "+" nextBranch pastBranches ends more step plus s i x v e n
-    ∙ ap (λ (y : Result (Unit {0})). bind (bind y (λ u s₁. bind (the weightOf s₁) (λ w. refuseAt pastLimit (s₁ .marks)))) ends) (sign-took "+" plus s i x v e n)
-    ∙ go (from s (x .next .at) n) (the weightOf (from s (x .next .at) n))
-  where
-    go : (t : State) (y : Result Weight) → bind (bind y (λ w. refuseAt pastLimit (t .marks))) ends ≡ bind y (λ w. refuseAt pastLimit (t .marks))
-    go t (ok w t₁) = refl
-    go t (stop m p) = refl
-behind-plus (suc most) s i x v e n =
-    another "+" nextBranch pastBranches ends more step plus s i x v e most n
-    ∙ ap (λ (y : Result (Unit {0})). bind (bind y (λ u. branch)) (λ a s₁. bind (further most s₁) (λ x. return (more a x)))) (sign-took "+" plus s i x v e n)
+  pub rest-whole : (most : ℕ) (s : State) → branches bounds most s ≡ rest (suc most) s
+  rest-whole most s = with-first "+" (nextBy bounds) pastBranches ends more step (branchBy bounds s) most
+
+  behind-plus : (most : ℕ) (s : List ℕ) (i : ℕ) (x : Step) (v : Next s i x) → x .mark .kind ≡ kind "+" → (n : ℕ) → further most (from s i n) ≡ rest most (from s (x .next .at) n)
+  behind-plus zero s i x v e n =
+      too-many "+" (nextBy bounds) pastBranches ends more step plus s i x v e n
+      ∙ ap (λ (y : Result (Unit {0})). bind (bind y (λ u s₁. bind (the weightOf s₁) (λ w. refuseAt pastLimit (s₁ .marks)))) ends) (sign-took "+" plus s i x v e n)
+      ∙ go (from s (x .next .at) n) (the weightOf (from s (x .next .at) n))
+    where
+      go : (t : State) (y : Result Weight) → bind (bind y (λ w. refuseAt pastLimit (t .marks))) ends ≡ bind y (λ w. refuseAt pastLimit (t .marks))
+      go t (ok w t₁) = refl
+      go t (stop m p) = refl
+  behind-plus (suc most) s i x v e n =
+      another "+" (nextBy bounds) pastBranches ends more step plus s i x v e most n
+      ∙ ap (λ (y : Result (Unit {0})). bind (bind y (λ u. branchBy bounds)) (λ a s₁. bind (further most s₁) (λ x. return (more a x)))) (sign-took "+" plus s i x v e n)
 
 -- with the branches so far counted in
-pub record Counted (decimals : Rule) (s : List ℕ) (k first count total : ℕ) (before : Late) (was is : List ℕ) (x : BranchesShape) (state : List ℕ) : Type 0 where
+pub record Counted (bounds : Bounds) (s : List ℕ) (first count total : ℕ) (before : Late) (was is : List ℕ) (x : BranchesShape) (state : List ℕ) : Type 0 where
   pub value : valueIn state ≡ count + length (x .branches)
-  pub late : lateIn state ≡ sumBy (total + totalUnits (map weightIn (x .branches))) (placeOf (length s) (x .close)) (judgeAll (length s) (judgedEach (judgedBranch decimals k) (x .branches)) before)
+  pub late : lateIn state ≡ sumBy (total + totalUnits (map weightIn (x .branches))) (placeOf (length s) (x .close)) (judgeAll (length s) (judgedEach (judgedBy bounds) (x .branches)) before)
   pub array : is ≡ stored was (first + count) (map packedIn (x .branches))
 
-abbrev pub RestRead : Rule → List ℕ → ℕ → ℕ → ℕ → ℕ → Late → List ℕ → List ℕ → Result BranchesShape → After → Type 0
-RestRead decimals s k first count total late was is = Answers s (Counted decimals s k first count total late was is)
+abbrev pub RestRead : Bounds → List ℕ → ℕ → ℕ → ℕ → Late → List ℕ → List ℕ → Result BranchesShape → After → Type 0
+RestRead bounds s first count total late was is = Answers s (Counted bounds s first count total late was is)
 
 -- before the first branch
-pub none-counted : (decimals : Rule) (s : List ℕ) (k first : ℕ) (late : Late) (was is : List ℕ) (x : Result BranchesShape) (r : After) → RestRead decimals s k first 0 0 late was is x r → BranchesRead decimals s k late was is first x r
+pub none-counted : (bounds : Bounds) (s : List ℕ) (first : ℕ) (late : Late) (was is : List ℕ) (x : Result BranchesShape) (r : After) → RestRead bounds s first 0 0 late was is x r → BranchesRead bounds s late was is first x r
 unfolding judgeAll
-none-counted decimals s k first late was is (ok x b) r y =
+none-counted bounds s first late was is (ok x b) r y =
     let z = y .told in
     record {
       went = y .went;
@@ -318,47 +353,47 @@ none-counted decimals s k first late was is (ok x b) r y =
       told = record {
         went = record {
           value = z .value ∙ zero-add (length (x .branches));
-          late = z .late ∙ ap (λ (t : ℕ). sumBy t (placeOf (length s) (x .close)) (judgeAll (length s) (judgedEach (judgedBranch decimals k) (x .branches)) late)) (zero-add (totalUnits (map weightIn (x .branches))))
-              ∙ sym (judge-append (length s) (judgedEach (judgedBranch decimals k) (x .branches)) (sum (map weightIn (x .branches)) (x .close) ∷ []) late);
+          late = z .late ∙ ap (λ (t : ℕ). sumBy t (placeOf (length s) (x .close)) (judgeAll (length s) (judgedEach (judgedBy bounds) (x .branches)) late)) (zero-add (totalUnits (map weightIn (x .branches))))
+              ∙ sym (judge-append (length s) (judgedEach (judgedBy bounds) (x .branches)) (sum (map weightIn (x .branches)) (x .close) ∷ []) late);
         };
         array = z .array ∙ ap (λ (f : ℕ). stored was f (map packedIn (x .branches))) (add-zero first);
       };
     }
-none-counted decimals s k first late was is (stop n p) r y = y
+none-counted bounds s first late was is (stop n p) r y = y
 
-module _ (decimals : Rule) (s : List ℕ) (k first count total : ℕ) (late : Late) (was is : List ℕ) (i most n : ℕ) where
+module _ (bounds : Bounds) (s : List ℕ) (first count total : ℕ) (late : Late) (was is : List ℕ) (i most n : ℕ) where
   abbrev RestIs : After → Type 0
-  RestIs = RestRead decimals s k first count total late was is (rest (suc most) (from s i n))
+  RestIs = RestRead bounds s first count total late was is (rest bounds (suc most) (from s i n))
 
-  module _ (state : List ℕ) (b : ℕ) (now : List ℕ) (hb : (n : ℕ) → BranchRead decimals s k late was now (first + count) (branch (from s i n)) (after state b)) where
+  module _ (state : List ℕ) (b : ℕ) (now : List ℕ) (hb : (n : ℕ) → BranchRead bounds s late was now (first + count) (branchBy bounds (from s i n)) (after state b)) where
     pub branch-stops : b ≡ 0 → RestIs (after state 0)
-    branch-stops e = halted s _ _ (branch (from s i n)) _ state b (hb n) e
+    branch-stops e = halted s _ _ (branchBy bounds (from s i n)) _ state b (hb n) e
 
     module _ (e : b ≡ 0 → ⊥) where
       -- one branch is counted, and the rest is read behind it
-      one-counted : (r : After) → ((m : ℕ) → RestRead decimals s k first (count + 1) (total + valueIn state) (lateIn state) now is (further most (from s b m)) r) → RestIs r
+      one-counted : (r : After) → ((m : ℕ) → RestRead bounds s first (count + 1) (total + valueIn state) (lateIn state) now is (further bounds most (from s b m)) r) → RestIs r
       unfolding judgeAll stored
-      one-counted r y = onward s _ _ (branch (from s i n)) _ state b r (hb n) e λ a m g.
-          made s _ _ (further most (from s b m)) (more a) r (y m) λ z h.
+      one-counted r y = onward s _ _ (branchBy bounds (from s i n)) _ state b r (hb n) e λ a m g.
+          made s _ _ (further bounds most (from s b m)) (more a) r (y m) λ z h.
           let units : total + valueIn state + totalUnits (map weightIn (z .branches)) ≡ total + (unitsIn (a .weight) + totalUnits (map weightIn (z .branches))) = omega (arith, g .went .value) in
           let place : first + (count + 1) ≡ first + count + 1 = omega arith in
           record {
             value = omega (arith, h .value);
             late = h .late
-                ∙ ap (λ (u : ℕ). sumBy u (placeOf (length s) (z .close)) (judgeAll (length s) (judgedEach (judgedBranch decimals k) (z .branches)) (lateIn state))) units
+                ∙ ap (λ (u : ℕ). sumBy u (placeOf (length s) (z .close)) (judgeAll (length s) (judgedEach (judgedBy bounds) (z .branches)) (lateIn state))) units
                 ∙ ap (λ (l : Late). sumBy (total + (unitsIn (a .weight) + totalUnits (map weightIn (z .branches)))) (placeOf (length s) (z .close)) l)
-                (ap (judgeAll (length s) (judgedEach (judgedBranch decimals k) (z .branches))) (g .went .late) ∙ sym (judge-append (length s) (judgedBranch decimals k a) (judgedEach (judgedBranch decimals k) (z .branches)) late));
+                (ap (judgeAll (length s) (judgedEach (judgedBy bounds) (z .branches))) (g .went .late) ∙ sym (judge-append (length s) (judgedBy bounds a) (judgedEach (judgedBy bounds) (z .branches)) late));
             array = h .array ∙ rw (g .array) (ap (λ (u : ℕ). stored (set was (first + count) (packedIn a)) u (map packedIn (z .branches))) place);
           }
 
       module _ (x : Step) (v : Next s b x) where
         pub one-more : x .mark .kind ≡ kind "+" → (r : After)
-            → ((m : ℕ) → RestRead decimals s k first (count + 1) (total + valueIn state) (lateIn state) now is (rest most (from s (x .next .at) m)) r) → RestIs r
-        one-more f r y = one-counted r λ m. rw (behind-plus most s b x v f m) (y m)
+            → ((m : ℕ) → RestRead bounds s first (count + 1) (total + valueIn state) (lateIn state) now is (rest bounds most (from s (x .next .at) m)) r) → RestIs r
+        one-more f r y = one-counted r λ m. rw (behind-plus bounds most s b x v f m) (y m)
 
         module _ (d : x .mark .kind ≡ kind "+" → ⊥) where
-          last : (r : After) → ((m : ℕ) → RestRead decimals s k first (count + 1) (total + valueIn state) (lateIn state) now is (ends [] (from s b m)) r) → RestIs r
-          last r y = one-counted r λ m. rw (no-other "+" nextBranch pastBranches ends more step plus s b x v d most m) (y m)
+          last : (r : After) → ((m : ℕ) → RestRead bounds s first (count + 1) (total + valueIn state) (lateIn state) now is (ends [] (from s b m)) r) → RestIs r
+          last r y = one-counted r λ m. rw (no-other "+" (nextBy bounds) pastBranches ends more step plus s b x v d most m) (y m)
 
           pub sum-stops : (x .mark .kind ≡ kind ";" → ⊥) → (r : After) → Halted outOfShape (x .mark .place) r → RestIs r
           sum-stops f r h = last r λ m. sign-misses ";" semicolon s b _ x v m _ r f h
@@ -392,9 +427,9 @@ module _ (m : Found) {r : After} where
   none-past d e h = rw (ne-eqb (m .kind) kNumber d, ne-eqb (m .kind) kDecimal e) h
 
 -- one branch too many
-module _ (decimals : Rule) (s : List ℕ) (k first count total : ℕ) (late : Late) (was is : List ℕ) (i n : ℕ) (x : Step) (v : Next s i x) (r : After) where
+module _ (bounds : Bounds) (s : List ℕ) (first count total : ℕ) (late : Late) (was is : List ℕ) (i n : ℕ) (x : Step) (v : Next s i x) (r : After) where
   abbrev PastIs : Type 0
-  PastIs = RestRead decimals s k first count total late was is (rest 0 (from s i n)) r
+  PastIs = RestRead bounds s first count total late was is (rest bounds 0 (from s i n)) r
 
   past-weight : (w : Weight) → markWeight (x .mark) ≡ some w → Halted pastLimit (x .mark .place) r → PastIs
   past-weight w e h = fits s _ weightOf markWeight weight-shown i x v n w e _ _ (rw (← place-seen s i x v) h)
@@ -410,58 +445,58 @@ module _ (decimals : Rule) (s : List ℕ) (k first count total : ℕ) (late : La
 
 -- ---- the loop: an answer to what is left answers the whole
 
-pub record Going (decimals : Rule) (s : List ℕ) (k first : ℕ) (before : Late) (was : List ℕ) (i count total : ℕ) (now : List ℕ) (next : ℕ) (state : List ℕ) : Type 0 where
+pub record Going (bounds : Bounds) (s : List ℕ) (first : ℕ) (before : Late) (was : List ℕ) (i count total : ℕ) (now : List ℕ) (next : ℕ) (state : List ℕ) : Type 0 where
   pub few : count ≤ mostBranches
   pub small : total ≤ count * unit
   pub sized : Sized state
-  pub whole : (r : After) (is : List ℕ) → ((m : ℕ) → RestRead decimals s k first count total (lateIn state) now is (rest (mostBranches - count) (from s next m)) r)
-      → (n : ℕ) → BranchesRead decimals s k before was is first (branches (mostBranches - 1) (from s i n)) r
+  pub whole : (r : After) (is : List ℕ) → ((m : ℕ) → RestRead bounds s first count total (lateIn state) now is (rest bounds (mostBranches - count) (from s next m)) r)
+      → (n : ℕ) → BranchesRead bounds s before was is first (branches bounds (mostBranches - 1) (from s i n)) r
 
-pub going-start : {decimals : Rule} {s : List ℕ} {k first : ℕ} {was : List ℕ} {i : ℕ} (state : List ℕ) → Sized state → Going decimals s k first (lateIn state) was i 0 0 was i state
-going-start {decimals} {s} {k} {first} {was} {i} state sized = record {
+pub going-start : {bounds : Bounds} {s : List ℕ} {first : ℕ} {was : List ℕ} {i : ℕ} (state : List ℕ) → Sized state → Going bounds s first (lateIn state) was i 0 0 was i state
+going-start {bounds} {s} {first} {was} {i} state sized = record {
   few = omega arith;
   small = omega arith;
   sized = sized;
-  whole = λ r is y n. none-counted decimals s k first (lateIn state) was is (branches (mostBranches - 1) (from s i n)) r (rw (rest-whole (mostBranches - 1) (from s i n)) (y n));
+  whole = λ r is y n. none-counted bounds s first (lateIn state) was is (branches bounds (mostBranches - 1) (from s i n)) r (rw (rest-whole bounds (mostBranches - 1) (from s i n)) (y n));
 }
 
-module _ {decimals : Rule} {s : List ℕ} {k first : ℕ} {before : Late} {was : List ℕ} {i count total : ℕ} {now : List ℕ} {next : ℕ} {state : List ℕ} (g : Going decimals s k first before was i count total now next state) where
-  module _ (l : count < mostBranches) {new : List ℕ} (after-one : List ℕ) {b : ℕ} (hb : BranchFrom decimals s next k (lateIn state) now new (first + count) (after after-one b)) where
+module _ {bounds : Bounds} {s : List ℕ} {first : ℕ} {before : Late} {was : List ℕ} {i count total : ℕ} {now : List ℕ} {next : ℕ} {state : List ℕ} (g : Going bounds s first before was i count total now next state) where
+  module _ (l : count < mostBranches) {new : List ℕ} (after-one : List ℕ) {b : ℕ} (hb : BranchFrom bounds s next (lateIn state) now new (first + count) (after after-one b)) where
     one-less : mostBranches - count ≡ suc (mostBranches - (count + 1))
     one-less = omega arith
 
     -- the rest as the reader of one branch and what follows
-    opened : (is : List ℕ) (r : After) → ((m : ℕ) → RestRead decimals s k first count total (lateIn state) now is (rest (suc (mostBranches - (count + 1))) (from s next m)) r)
-        → (n : ℕ) → BranchesRead decimals s k before was is first (branches (mostBranches - 1) (from s i n)) r
+    opened : (is : List ℕ) (r : After) → ((m : ℕ) → RestRead bounds s first count total (lateIn state) now is (rest bounds (suc (mostBranches - (count + 1))) (from s next m)) r)
+        → (n : ℕ) → BranchesRead bounds s before was is first (branches bounds (mostBranches - 1) (from s i n)) r
     opened is r y = g .whole r is λ m. rw one-less (y m)
 
-    pub going-stops : b ≡ 0 → BranchesFrom decimals s i k before was new first (after after-one 0)
+    pub going-stops : b ≡ 0 → BranchesFrom bounds s i before was new first (after after-one 0)
     going-stops e = record {
-      answers = opened new _ λ m. branch-stops decimals s k first count total (lateIn state) now new next (mostBranches - (count + 1)) m after-one b new (hb .answers) e;
+      answers = opened new _ λ m. branch-stops bounds s first count total (lateIn state) now new next (mostBranches - (count + 1)) m after-one b new (hb .answers) e;
       sized = hb .sized;
     }
 
     module _ (e : b ≡ 0 → ⊥) {x : Step} (v : Next s b x) where
       pub going-closed : (x .mark .kind ≡ kind "+" → ⊥) → {r : After} → ClosedBy (x .mark) (x .next .at) (count + 1) (total + valueIn after-one) (lateIn after-one) r
-          → BranchesFrom decimals s i k before was new first r
+          → BranchesFrom bounds s i before was new first r
       going-closed d {r} c = record { answers = opened new r λ m. by m (eqb (x .mark .kind) (kind ";")) refl; sized = c .sized }
         where
-          by : (m : ℕ) (t : Bool) → eqb (x .mark .kind) (kind ";") ≡ t → RestRead decimals s k first count total (lateIn state) now new (rest (suc (mostBranches - (count + 1))) (from s next m)) r
+          by : (m : ℕ) (t : Bool) → eqb (x .mark .kind) (kind ";") ≡ t → RestRead bounds s first count total (lateIn state) now new (rest bounds (suc (mostBranches - (count + 1))) (from s next m)) r
           by m true f =
               let h = c .closes (eqb-true _ _ f) in
               let same : r ≡ after (r .state) (x .next .at) = λ q. after (r .state) (h .0 q) in
-              rw same (sum-read decimals s k first count total (lateIn state) now new next (mostBranches - (count + 1)) m after-one b new (hb .answers) e x v d (eqb-true _ _ f) refl (r .state) (h .1) (h .2))
-          by m false f = sum-stops decimals s k first count total (lateIn state) now new next (mostBranches - (count + 1)) m after-one b new (hb .answers) e x v d (eqb-false _ _ f) r (c .stops (eqb-false _ _ f))
+              rw same (sum-read bounds s first count total (lateIn state) now new next (mostBranches - (count + 1)) m after-one b new (hb .answers) e x v d (eqb-true _ _ f) refl (r .state) (h .1) (h .2))
+          by m false f = sum-stops bounds s first count total (lateIn state) now new next (mostBranches - (count + 1)) m after-one b new (hb .answers) e x v d (eqb-false _ _ f) r (c .stops (eqb-false _ _ f))
 
-      pub going-more : x .mark .kind ≡ kind "+" → Going decimals s k first before was i (count + 1) (total + valueIn after-one) new (x .next .at) after-one
+      pub going-more : x .mark .kind ≡ kind "+" → Going bounds s first before was i (count + 1) (total + valueIn after-one) new (x .next .at) after-one
       going-more f = record {
         few = omega arith;
         small = omega (arith, g .small, branch-few after-one hb e);
         sized = hb .sized;
-        whole = λ r is y. opened is r λ m. one-more decimals s k first count total (lateIn state) now is next (mostBranches - (count + 1)) m after-one b new (hb .answers) e x v f r y;
+        whole = λ r is y. opened is r λ m. one-more bounds s first count total (lateIn state) now is next (mostBranches - (count + 1)) m after-one b new (hb .answers) e x v f r y;
       }
 
-  pub going-past : mostBranches ≤ count → {x : Step} → Next s next x → {r : After} → PastBy (x .mark) r → BranchesFrom decimals s i k before was now first r
+  pub going-past : mostBranches ≤ count → {x : Step} → Next s next x → {r : After} → PastBy (x .mark) r → BranchesFrom bounds s i before was now first r
   going-past l {x} v {r} h = record {
     answers = g .whole r now λ m.
         let z : mostBranches - count ≡ 0 = omega arith in
@@ -469,7 +504,7 @@ module _ {decimals : Rule} {s : List ℕ} {k first : ℕ} {before : Late} {was :
     sized = h .sized;
   }
     where
-      by : (m : ℕ) (t : Bool) → eqb (x .mark .kind) kNumber ≡ t → (u : Bool) → eqb (x .mark .kind) kDecimal ≡ u → RestRead decimals s k first count total (lateIn state) now now (rest 0 (from s next m)) r
-      by m true e u f = past-number decimals s k first count total (lateIn state) now now next m x v r (eqb-true _ _ e) (rw e at h)
-      by m false e true f = past-decimal decimals s k first count total (lateIn state) now now next m x v r (eqb-true _ _ f) (rw (e, f) at h)
-      by m false e false f = past-misses decimals s k first count total (lateIn state) now now next m x v r (eqb-false _ _ f) (eqb-false _ _ e) (rw (e, f) at h)
+      by : (m : ℕ) (t : Bool) → eqb (x .mark .kind) kNumber ≡ t → (u : Bool) → eqb (x .mark .kind) kDecimal ≡ u → RestRead bounds s first count total (lateIn state) now now (rest bounds 0 (from s next m)) r
+      by m true e u f = past-number bounds s first count total (lateIn state) now now next m x v r (eqb-true _ _ e) (rw e at h)
+      by m false e true f = past-decimal bounds s first count total (lateIn state) now now next m x v r (eqb-true _ _ f) (rw (e, f) at h)
+      by m false e false f = past-misses bounds s first count total (lateIn state) now now next m x v r (eqb-false _ _ f) (eqb-false _ _ e) (rw (e, f) at h)

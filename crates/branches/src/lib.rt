@@ -5,6 +5,7 @@ use card::refusals::OUT_OF_SHAPE;
 use card::refusals::PAST_LIMIT;
 use card::refusals::WRONG_WEIGHT;
 use due_signs::step_further;
+use due_signs::step_sign;
 use due_signs::step_slash;
 use due_words::step_number;
 use late::blame;
@@ -16,6 +17,7 @@ use late_weights::judge_sum;
 use late_weights::wide;
 use marks::Cursor;
 use marks::Found;
+use marks_on_a_card::kinds::AND;
 use marks_on_a_card::kinds::COLON;
 use marks_on_a_card::kinds::DECIMAL;
 use marks_on_a_card::kinds::EQUAL;
@@ -26,6 +28,7 @@ use marks_on_a_card::kinds::ROUND_CLOSE;
 use marks_on_a_card::kinds::ROUND_OPEN;
 use marks_on_a_card::kinds::SEAT;
 use marks_on_a_card::kinds::SEMICOLON;
+use marks_on_a_card::kinds::SHARED;
 use marks_on_a_card::kinds::SLASH;
 use packing::pack_branch;
 use parts::number;
@@ -34,10 +37,19 @@ use parts::sign;
 use weights::Judged;
 use weights::Weight;
 use word_and_digit_looks::all_here;
+ghost use mathlib.Core.Path.{_≡_};
 ghost use Prim.Native.Nat.{_+_, _≤_, _<_};
 ghost use Rattle.card.specs.Limits.{mostBranches, branchPlaces};
 ghost use Rattle.late.specs.State.{Sized, lateIn, after};
-ghost use Rattle.branches.specs.Branches.{Weighed, WeightFrom, UpdateFrom, BranchFrom, ClosedBy, PastBy, BranchesFrom};
+ghost use Rattle.branches.specs.Branches.{Weighed, WeightFrom, UpdateFrom, SettingFrom, SetsFrom, BranchFrom, ClosedBy, PastBy, BranchesFrom};
+
+// What the numbers in a card's branches are held to: its top state, how many values its shared number has (0: there is none), and whether
+// a decimal may be a weight.
+pub struct Bounds {
+    pub top: usize,
+    pub values: usize,
+    pub decimals: bool,
+}
 
 // The units of a weight become the value. A weight that breaks its rule counts nothing, and is a late refusal.
 fn weighed(judged: Judged, place: usize, state: &mut [usize; STATE])
@@ -104,21 +116,65 @@ fn updated(card: &[u8], at: usize, state: &mut [usize; STATE]) -> usize
     run(card, at, &kinds, &dues, state)
 }
 
-// weight:(s1'=t); the units become the value.
+// & (g'=v) if it stands there, where v may be `most`; one more than v becomes the value, or 0 where nothing is set.
+fn setting(card: &[u8], at: usize, most: usize, state: &mut [usize; STATE]) -> usize
+    requires { ⌜ Sized (now state) ⌝ }
+    requires { ⌜ (at ≡ 0 → ⊥) ⌝ }
+    ensures { λ r. ⌜ SettingFrom (now (card .entry)) at most (lateIn (now (state .entry))) (after (now (state .exit)) r) ⌝ }
+{
+    let step = step_sign(card, at, AND);
+    let mark = step.mark;
+    if mark.kind != AND {
+        state[VALUE] = 0;
+        return at;
+    }
+    let kinds = [AND, ROUND_OPEN, SHARED, PRIME, EQUAL];
+    let dues = [0, 0, 0, 0, 0];
+    let words = run(card, at, &kinds, &dues, state);
+    if words == 0 {
+        return 0;
+    }
+    let read = number(card, words, most, state);
+    if read == 0 {
+        return 0;
+    }
+    let close = sign(card, read, ROUND_CLOSE, state);
+    if close == 0 {
+        return 0;
+    }
+    let value = state[VALUE];
+    state[VALUE] = value + 1;
+    close
+}
+
+// The same where a number of so many values is shared; a branch sets nothing where there is none.
+fn sets(card: &[u8], at: usize, values: usize, state: &mut [usize; STATE]) -> usize
+    requires { ⌜ Sized (now state) ⌝ }
+    requires { ⌜ (at ≡ 0 → ⊥) ⌝ }
+    ensures { λ r. ⌜ SetsFrom (now (card .entry)) at values (lateIn (now (state .entry))) (after (now (state .exit)) r) ⌝ }
+{
+    if values == 0 {
+        state[VALUE] = 0;
+        return at;
+    }
+    let most = values - 1;
+    setting(card, at, most, state)
+}
+
+// weight:(s1'=t) and what is set; the units become the value.
 fn branch(
     card: &[u8],
     at: usize,
-    top: usize,
+    bounds: Bounds,
     branches: &mut [u32; BRANCH_PLACES],
     place: usize,
-    decimals: bool,
     state: &mut [usize; STATE],
 ) -> usize
     requires { ⌜ Sized (now state) ⌝ }
     requires { ⌜ place < branchPlaces ⌝ }
-    ensures { λ r. ⌜ BranchFrom decimals (now (card .entry)) at top (lateIn (now (state .entry))) (now (branches .entry)) (now (branches .exit)) place (after (now (state .exit)) r) ⌝ }
+    ensures { λ r. ⌜ BranchFrom bounds (now (card .entry)) at (lateIn (now (state .entry))) (now (branches .entry)) (now (branches .exit)) place (after (now (state .exit)) r) ⌝ }
 {
-    let weighed = weight(card, at, decimals, state);
+    let weighed = weight(card, at, bounds.decimals, state);
     if weighed == 0 {
         return 0;
     }
@@ -127,7 +183,7 @@ fn branch(
     if update == 0 {
         return 0;
     }
-    let end = number(card, update, top, state);
+    let end = number(card, update, bounds.top, state);
     if end == 0 {
         return 0;
     }
@@ -135,9 +191,14 @@ fn branch(
     if close == 0 {
         return 0;
     }
-    branches[place] = pack_branch(units as u32, state[VALUE]);
+    let to = state[VALUE];
+    let last = sets(card, close, bounds.values, state);
+    if last == 0 {
+        return 0;
+    }
+    branches[place] = pack_branch(units as u32, state[VALUE], to);
     state[VALUE] = units;
-    close
+    last
 }
 
 // The mark behind the last branch has to be the `;`, where the sum is judged; the number of branches becomes the value.
@@ -171,21 +232,20 @@ fn past(mark: Found, state: &mut [usize; STATE]) -> usize
 pub fn branches(
     card: &[u8],
     at: usize,
-    top: usize,
+    bounds: Bounds,
     array: &mut [u32; BRANCH_PLACES],
     first: usize,
-    decimals: bool,
     state: &mut [usize; STATE],
 ) -> usize
     requires { ⌜ Sized (now state) ⌝ }
     requires { ⌜ first + mostBranches ≤ branchPlaces ⌝ }
-    ensures { λ r. ⌜ BranchesFrom decimals (now (card .entry)) at top (lateIn (now (state .entry))) (now (array .entry)) (now (array .exit)) first (after (now (state .exit)) r) ⌝ }
+    ensures { λ r. ⌜ BranchesFrom bounds (now (card .entry)) at (lateIn (now (state .entry))) (now (array .entry)) (now (array .exit)) first (after (now (state .exit)) r) ⌝ }
 {
     let mut next = at;
     let mut total = 0;
     let mut count = 0;
     while count < MOST_BRANCHES {
-        let read = branch(card, next, top, array, first + count, decimals, state);
+        let read = branch(card, next, bounds, array, first + count, state);
         if read == 0 {
             return 0;
         }

@@ -1,15 +1,15 @@
 -- What a card's arrays and packed numbers can hold: the limits alone, of all that makes a card valid. Assumes nothing.
-use Prim.Native.Nat.{ℕ, zero, suc, _≤_, _<_, zero-le}
+use Prim.Native.Nat.{ℕ, zero, suc, _≤_, _<_, zero-le, suc-le-suc}
 use mathlib.Core.List.{List, [], _∷_}
 use mathlib.Core.Option.{Option, none, some}
 use native.Mathlib.Nat.{le-trans, not-suc-le-zero, le-of-suc-le-suc}
 use lib.ListN.{length, getD}
-use Rattle.card.specs.Limits.{topState, mostStatements, mostNodes, mostBranches}
-use Rattle.card.specs.Card.{Leaf, group, one, Guard, Branch, Statement, Card}
-use Rattle.card.specs.Valid.{Every, ValidLeaf, ValidGuard, ValidStatement, ValidCard}
+use Rattle.card.specs.Limits.{topState, mostShared, mostStatements, mostNodes, mostBranches}
+use Rattle.card.specs.Card.{Leaf, group, one, sharedIs, Guard, Branch, Statement, Shared, Card}
+use Rattle.card.specs.Valid.{Every, valuesOf, ValidSet, ValidShared, ValidBranch, ValidLeaf, ValidGuard, ValidStatement, ValidCard}
 use Rattle.card.specs.Formulas.{EveryAtom}
 use Rattle.card.specs.Laid.{guardSize, nodeRow, branchRow}
-use Rattle.card.proofs.Packed.{HeldLeaf}
+use Rattle.card.proofs.Packed.{HeldLeaf, HeldSet}
 use Rattle.card.proofs.Atoms.{every-atom}
 use Rattle.card.proofs.Filling.{FewNodes, FewBranches, Narrow, narrow-nodes, narrow-branches}
 
@@ -22,7 +22,7 @@ GuardStates none = Unit {0}
 GuardStates (some g) = States g
 
 abbrev pub EndsThere : Branch → Type 0
-EndsThere b = b .end ≤ topState
+EndsThere b = (b .end ≤ topState) × HeldSet (b .sets)
 
 pub record Held (x : Statement) : Type 0 where
   pub nodes : FewNodes x
@@ -55,32 +55,42 @@ held-branches c v = narrow-branches (c .statements) (every-map (λ x w. w .branc
 
 -- ---- a valid card is held
 
-module _ (n k : ℕ) (top : k ≤ topState) where
-  valid-leaf : (a : Leaf) → ValidLeaf n k a → HeldLeaf a
+module _ (n k values : ℕ) (top : k ≤ topState) (few : values ≤ mostShared) where
+  valid-leaf : (a : Leaf) → ValidLeaf n k values a → HeldLeaf a
   valid-leaf (group kind s q d) v = le-trans (v .1) top
   valid-leaf (one d) v = absurd v
+  valid-leaf (sharedIs q v) h = le-of-suc-le-suc (le-trans h few)
 
-  valid-guard : (g : Option Guard) → ValidGuard n k g → GuardStates g
+  valid-set : (s : Option ℕ) → ValidSet values s → HeldSet s
+  valid-set none v = tt
+  valid-set (some v) h = le-of-suc-le-suc (le-trans h few)
+
+  valid-guard : (g : Option Guard) → ValidGuard n k values g → GuardStates g
   valid-guard none v = tt
   valid-guard (some g) v = every-atom valid-leaf g (v .0)
 
-  valid-nodes : (x : Statement) → ValidStatement n k x → FewNodes x
+  valid-nodes : (x : Statement) → ValidStatement n k values x → FewNodes x
   valid-nodes x v = go (x .guard) (v .guard)
     where
-      go : (g : Option Guard) → ValidGuard n k g → guardSize g ≤ mostNodes
+      go : (g : Option Guard) → ValidGuard n k values g → guardSize g ≤ mostNodes
       go none h = zero-le
       go (some g) h = h .2
 
-  valid-statement : (x : Statement) → ValidStatement n k x → Held x
+  valid-statement : (x : Statement) → ValidStatement n k values x → Held x
   valid-statement x v = record {
     nodes = valid-nodes x v;
     branches = v .some .1;
     states = valid-guard (x .guard) (v .guard);
-    ends = every-map (λ b w. le-trans (w .end) top) (x .branches) (v .branches);
+    ends = every-map (λ b w. (le-trans (w .end) top, valid-set (b .sets) (w .sets))) (x .branches) (v .branches);
   }
+
+-- the shared number has so many values at most
+pub few-values : (s : Option Shared) → ValidShared s → valuesOf s ≤ mostShared
+few-values none v = zero-le
+few-values (some s) v = suc-le-suc (v .0)
 
 pub valid-held : (c : Card) → ValidCard c → HeldCard c
 valid-held c v = record {
   few = v .some .1;
-  each = every-map (valid-statement (c .n) (c .k) (v .top)) (c .statements) (v .statements);
+  each = every-map (valid-statement (c .n) (c .k) (valuesOf (c .shared)) (v .top) (few-values (c .shared) (v .shared))) (c .statements) (v .statements);
 }

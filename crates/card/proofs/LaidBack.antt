@@ -10,9 +10,9 @@ use native.Mathlib.Omega.{arith}
 use lib.ListN.{length, getD, take, drop, length-map, length-take}
 use lib.Seq.{getD-take}
 use Rattle.card.specs.Limits.{mostStatements, mostNodes, mostBranches, nodePlaces, branchPlaces}
-use Rattle.card.specs.Card.{Mode, nondeterministic, probabilistic, Guard, atom, neg, and, or, Branch, Statement, Card}
-use Rattle.card.specs.Valid.{size, Every, ValidCard}
-use Rattle.card.specs.Laid.{modeNumber, either, opNot, opAnd, opOr, packNode, opOf, leftOf, rightOf, leafNumber, branchNumber, branchOf, below, cells, guardCells, guardSize, padded, rows, nodeRow, branchRow, statementRow, noStatement, statementRows, laid, guardAt, guardOf, statementOf, statementsOf, cardOf}
+use Rattle.card.specs.Card.{Mode, nondeterministic, probabilistic, Guard, atom, neg, and, or, Branch, Statement, Shared, Card}
+use Rattle.card.specs.Valid.{size, Every, valuesOf, ValidCard}
+use Rattle.card.specs.Laid.{modeNumber, either, opNot, opAnd, opOr, packNode, opOf, leftOf, rightOf, leafNumber, branchNumber, branchOf, startOf, sharedOf, below, cells, guardCells, guardSize, padded, rows, nodeRow, branchRow, statementRow, noStatement, statementRows, laid, guardAt, guardOf, statementOf, statementsOf, cardOf}
 use Rattle.card.specs.declared.Statement.{Statement as StatementRow}
 use Rattle.card.proofs.Packed.{op-back, left-back, right-back, leaf-op, leaf-back, branch-back}
 use Rattle.card.proofs.GuardAt.{guard-at-leaf, guard-at-not, guard-at-and, guard-at-or}
@@ -101,7 +101,7 @@ module _ (nodes : List ℕ) where
 
 numbers-back : (bs : List Branch) → Every EndsThere bs → map branchOf (map branchNumber bs) ≡ bs
 numbers-back [] h = refl
-numbers-back (b ∷ bs) h = ap₂ (λ (a : Branch) (r : List Branch). a ∷ r) (branch-back b (h .0)) (numbers-back bs (h .1))
+numbers-back (b ∷ bs) h = ap₂ (λ (a : Branch) (r : List Branch). a ∷ r) (branch-back b (h .0 .0) (h .0 .1)) (numbers-back bs (h .1))
 
 pub branches-back : (branches : List ℕ) (at : ℕ) (bs : List Branch) → Stands branches at (map branchNumber bs) → Every EndsThere bs
     → map branchOf (take (length bs) (drop at branches)) ≡ bs
@@ -194,6 +194,10 @@ mode-back : (m : Mode) → either nondeterministic probabilistic (modeNumber m) 
 mode-back nondeterministic = refl
 mode-back probabilistic = refl
 
+shared-back : (s : Option Shared) → sharedOf (valuesOf s) (startOf s) ≡ s
+shared-back none = refl
+shared-back (some s) = refl
+
 -- no statement of any card
 nothing : Statement
 nothing = record { own = 0; guard = none; branches = [] }
@@ -209,7 +213,7 @@ statements-back c v =
 -- by what the arrays can hold, and so for every valid card
 pub held-back : (c : Card) → HeldCard c → cardOf (laid c) ≡ c
 unfolding cardOf laid
-held-back c v = λ i. record { mode = mode-back (c .mode) i; n = c .n; k = c .k; l = c .l; statements = statements-back c v i }
+held-back c v = λ i. record { mode = mode-back (c .mode) i; shared = shared-back (c .shared) i; n = c .n; k = c .k; l = c .l; statements = statements-back c v i }
 
 pub laid-back : (c : Card) → ValidCard c → cardOf (laid c) ≡ c
 laid-back c v = held-back c (valid-held c v)

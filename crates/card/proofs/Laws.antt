@@ -3,7 +3,7 @@
 -- the units of a weight are those that it is worth, and no more than the unit
 pub use Rattle.card.proofs.Weights.{units-most, units-worth}
 -- a node, a leaf and a branch come back from their number, and fit it; in range a packer takes its arguments as they are
-pub use Rattle.card.proofs.Packed.{words, op-back, left-back, right-back, node-fits, HeldLeaf, leaf-op, leaf-fits, leaf-back, leaf-group, leaf-one, branch-fits, branch-back, packed-node, packed-group, packed-one, packed-branch}
+pub use Rattle.card.proofs.Packed.{words, op-back, left-back, right-back, node-fits, HeldLeaf, leaf-op, leaf-fits, leaf-back, leaf-group, leaf-one, leaf-shared, HeldSet, set-small, branch-fits, branch-back, packed-node, packed-group, packed-one, packed-shared, packed-branch}
 -- the guard at a node, by what stands there
 pub use Rattle.card.proofs.GuardAt.{guard-at-leaf, guard-at-not, guard-at-and, guard-at-or, guard-of-none, guard-of-some}
 -- numbers stored in an array piece by piece, and a guard's nodes so
@@ -11,7 +11,7 @@ pub use Rattle.card.proofs.Storing.{stored-none, stored-one, stored-app
 -- a card's arrays filled statement by statement
 pub use Rattle.card.proofs.Filling.{zeros-repeat, FewNodes, FewBranches, length-guard-cells, no-statements, fill-nodes, fill-branches, fill-statements}
 -- what the arrays can hold, as every valid card is
-pub use Rattle.card.proofs.Held.{States, GuardStates, EndsThere, Held, HeldCard, valid-held, every-map, every-at}
+pub use Rattle.card.proofs.Held.{States, GuardStates, EndsThere, Held, HeldCard, few-values, valid-held, every-map, every-at}
 -- a laid card, its statements one by one, and that it comes back
 pub use Rattle.card.proofs.LaidBack.{laid-statements, laid-nodes, laid-branches, statement-row, statement-guard, statement-branches, statement-back, held-back, laid-back, laid-injective}
 -- node numbers fall from parent to child

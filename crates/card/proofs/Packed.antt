@@ -1,11 +1,12 @@
 -- A node and a branch come back from their number: each part is below what the part left of it is multiplied by. Assumes nothing.
-use Prim.Native.Nat.{ℕ, _-_, _*_, _≤_, _<_, _^_, min}
+use Prim.Native.Nat.{ℕ, zero, suc, _-_, _*_, _≤_, _<_, _^_, min}
 use mathlib.Core.Path.{_≡_, refl}
+use mathlib.Core.Option.{Option, none, some}
 use native.Mathlib.Omega.{arith}
 use borrow.Author.Tests.{lt-ltb, le-ltb}
-use Rattle.card.specs.Limits.{topState, nodePlaces, numbers, unit}
-use Rattle.card.specs.Card.{Kind, everyone, others, Sign, all, any, Relation, is, isnt, Leaf, group, one, Branch}
-use Rattle.card.specs.Laid.{kindNumber, oneKind, signNumber, relationNumber, either, opLeaf, opOr, packNode, opOf, leftOf, rightOf, packGroup, kindPart, signPart, relationPart, statePart, groupOf, leafNumber, leafOf, packBranch, unitsPart, endPart, branchNumber, branchOf}
+use Rattle.card.specs.Limits.{topState, topShared, mostShared, nodePlaces, numbers, unit}
+use Rattle.card.specs.Card.{Kind, everyone, others, Sign, all, any, Relation, is, isnt, Leaf, group, one, sharedIs, Branch}
+use Rattle.card.specs.Laid.{kindNumber, oneKind, sharedKind, signNumber, relationNumber, either, opLeaf, opOr, packNode, opOf, leftOf, rightOf, packGroup, kindPart, signPart, relationPart, statePart, groupOf, leafNumber, leafOf, setNumber, setOf, packBranch, unitsPart, setPart, endPart, branchNumber, branchOf}
 
 -- what a u32 holds is below this
 abbrev pub words : ℕ
@@ -32,7 +33,7 @@ module _ (op left right : ℕ) (g : left < nodePlaces) (h : right < nodePlaces) 
 
 -- ---- a leaf's parts
 
-module _ (kind s q d : ℕ) (hk : kind ≤ oneKind) (hs : s ≤ 1) (hq : q ≤ 1) where
+module _ (kind s q d : ℕ) (hk : kind ≤ sharedKind) (hs : s ≤ 1) (hq : q ≤ 1) where
   pub group-op : d ≤ numbers → opOf (packGroup kind s q d) ≡ opLeaf
   unfolding packGroup packNode opOf
   group-op h = omega arith
@@ -83,25 +84,28 @@ relation-again isnt = refl
 
 -- ---- a leaf, by what it is
 
--- its state is one that there can be
+-- its state, or its value of the shared number, is one that there can be
 abbrev pub HeldLeaf : Leaf → Type 0
 HeldLeaf (group k s q d) = d ≤ topState
 HeldLeaf (one d) = d ≤ topState
+HeldLeaf (sharedIs q v) = v ≤ topShared
 
 pub leaf-op : (a : Leaf) → HeldLeaf a → opOf (leafNumber a) ≡ opLeaf
 leaf-op (group k s q d) h =
     group-op (kindNumber k) (signNumber s) (relationNumber q) d (omega (arith, kind-small k)) (sign-small s) (relation-small q) (omega arith)
 leaf-op (one d) h = group-op oneKind 0 0 d (omega arith) (omega arith) (omega arith) (omega arith)
+leaf-op (sharedIs q v) h = group-op sharedKind 0 (relationNumber q) v (omega arith) (omega arith) (relation-small q) (omega arith)
 
 pub leaf-fits : (a : Leaf) → HeldLeaf a → leafNumber a < words
 leaf-fits (group k s q d) h =
     group-fits (kindNumber k) (signNumber s) (relationNumber q) d (omega (arith, kind-small k)) (sign-small s) (relation-small q) (omega arith)
 leaf-fits (one d) h = group-fits oneKind 0 0 d (omega arith) (omega arith) (omega arith) (omega arith)
+leaf-fits (sharedIs q v) h = group-fits sharedKind 0 (relationNumber q) v (omega arith) (omega arith) (relation-small q) (omega arith)
 
 pub leaf-back : (a : Leaf) → HeldLeaf a → leafOf (leafNumber a) ≡ a
 unfolding leafOf groupOf
 leaf-back (group k s q d) h =
-    let hk : kindNumber k ≤ oneKind = omega (arith, kind-small k) in
+    let hk : kindNumber k ≤ sharedKind = omega (arith, kind-small k) in
     let hs = sign-small s in
     let hq = relation-small q in
     rw (
@@ -115,34 +119,69 @@ leaf-back (group k s q d) h =
       relation-again q,
     )
 leaf-back (one d) h = rw (kind-back oneKind 0 0 d (omega arith) (omega arith) (omega arith) h, state-back oneKind 0 0 d (omega arith) (omega arith) (omega arith) h)
+leaf-back (sharedIs q v) h =
+    let hq = relation-small q in
+    rw (
+      kind-back sharedKind 0 (relationNumber q) v (omega arith) (omega arith) hq h,
+      relation-back sharedKind 0 (relationNumber q) v (omega arith) (omega arith) hq h,
+      state-back sharedKind 0 (relationNumber q) v (omega arith) (omega arith) hq h,
+      relation-again q,
+    )
 
 -- what stands in a number, by the kind of leaf
 pub leaf-group : (x : ℕ) → kindPart x < oneKind → leafOf x ≡ groupOf x
 unfolding leafOf
 leaf-group x h = rw (lt-ltb (kindPart x) oneKind h)
 
-pub leaf-one : (x : ℕ) → oneKind ≤ kindPart x → leafOf x ≡ one (statePart x)
+pub leaf-one : (x : ℕ) → kindPart x ≡ oneKind → leafOf x ≡ one (statePart x)
 unfolding leafOf
-leaf-one x h = rw (le-ltb (kindPart x) oneKind h)
+leaf-one x h = rw h
+
+pub leaf-shared : (x : ℕ) → sharedKind ≤ kindPart x → leafOf x ≡ sharedIs (either is isnt (relationPart x)) (statePart x)
+unfolding leafOf
+leaf-shared x h = rw (le-ltb (kindPart x) oneKind (omega arith), le-ltb (kindPart x) sharedKind h)
 
 -- ---- a branch
 
-module _ (units end : ℕ) where
-  pub units-back : end ≤ topState → unitsPart (packBranch units end) ≡ units
+module _ (units sets end : ℕ) where
+  pub units-back : sets ≤ mostShared → end ≤ topState → unitsPart (packBranch units sets end) ≡ units
   unfolding packBranch unitsPart
-  units-back h = omega arith
+  units-back g h = omega arith
 
-  pub end-back : end ≤ topState → endPart (packBranch units end) ≡ end
+  pub set-back : sets ≤ mostShared → end ≤ topState → setPart (packBranch units sets end) ≡ sets
+  unfolding packBranch setPart
+  set-back g h = omega arith
+
+  pub end-back : end ≤ topState → endPart (packBranch units sets end) ≡ end
   unfolding packBranch endPart
   end-back h = omega arith
 
-  pub branch-fits : units ≤ unit → end ≤ numbers → packBranch units end < words
+  pub branch-fits : units ≤ unit → sets ≤ numbers → end ≤ numbers → packBranch units sets end < words
   unfolding packBranch
-  branch-fits g h = omega arith
+  branch-fits f g h = omega arith
 
-pub branch-back : (b : Branch) → b .end ≤ topState → branchOf (branchNumber b) ≡ b
+-- what a branch sets is one of the values that there can be
+abbrev pub HeldSet : Option ℕ → Type 0
+HeldSet none = Unit {0}
+HeldSet (some v) = v ≤ topShared
+
+pub set-small : (s : Option ℕ) → HeldSet s → setNumber s ≤ mostShared
+set-small none h = omega arith
+set-small (some v) h = omega arith
+
+set-again : (s : Option ℕ) → setOf (setNumber s) ≡ s
+set-again none = refl
+set-again (some v) = refl
+
+pub branch-back : (b : Branch) → b .end ≤ topState → HeldSet (b .sets) → branchOf (branchNumber b) ≡ b
 unfolding branchOf
-branch-back b h = rw (units-back (b .units) (b .end) h, end-back (b .units) (b .end) h)
+branch-back b h g =
+    rw (
+      units-back (b .units) (setNumber (b .sets)) (b .end) (set-small (b .sets) g) h,
+      set-back (b .units) (setNumber (b .sets)) (b .end) (set-small (b .sets) g) h,
+      end-back (b .units) (setNumber (b .sets)) (b .end) h,
+      set-again (b .sets),
+    )
 
 -- ---- in range, the packers of the code take their arguments as they are
 
@@ -168,8 +207,16 @@ packed-one d h =
     let a : min d numbers ≡ d = omega arith in
     rw a
 
-pub packed-branch : (units end : ℕ) → units ≤ unit → end ≤ numbers → packBranch (min units unit) (min end numbers) ≡ packBranch units end
-packed-branch units end g h =
+pub packed-branch : (units sets end : ℕ) → units ≤ unit → sets ≤ numbers → end ≤ numbers
+    → packBranch (min units unit) (min sets numbers) (min end numbers) ≡ packBranch units sets end
+packed-branch units sets end f g h =
     let a : min units unit ≡ units = omega arith in
-    let b : min end numbers ≡ end = omega arith in
+    let b : min sets numbers ≡ sets = omega arith in
+    let c : min end numbers ≡ end = omega arith in
+    rw (a, b, c)
+
+pub packed-shared : (q v : ℕ) → q ≤ 1 → v ≤ numbers → packGroup sharedKind 0 (min q 1) (min v numbers) ≡ packGroup sharedKind 0 q v
+packed-shared q v g h =
+    let a : min q 1 ≡ q = omega arith in
+    let b : min v numbers ≡ v = omega arith in
     rw (a, b)

@@ -6,14 +6,14 @@ use mathlib.Core.Option.{Option, none, some}
 use native.Mathlib.Nat.{suc-mul, le-trans, mul-le-mul-right}
 use native.Mathlib.Omega.{arith}
 use lib.ListN.{length, getD}
-use Rattle.card.specs.Limits.{topState, mostStatements, mostNodes, mostBranches, nodePlaces, branchPlaces}
+use Rattle.card.specs.Limits.{topState, mostShared, numbers, mostStatements, mostNodes, mostBranches, nodePlaces, branchPlaces}
 use Rattle.card.specs.Card.{Guard, atom, neg, and, or, Branch, Statement, Card}
-use Rattle.card.specs.Valid.{size, Every, ValidBranch, ValidCard}
-use Rattle.card.specs.Laid.{opNot, opAnd, opOr, packNode, branchNumber, below, cells, guardCells, guardSize, zeros, padded, rows, nodeRow, branchRow, laid}
+use Rattle.card.specs.Valid.{size, Every, valuesOf, ValidSet, ValidBranch, ValidCard}
+use Rattle.card.specs.Laid.{opNot, opAnd, opOr, packNode, setNumber, branchNumber, below, cells, guardCells, guardSize, zeros, padded, rows, nodeRow, branchRow, laid}
 use Rattle.card.proofs.Packed.{words, node-fits, leaf-fits, branch-fits}
 use Rattle.card.proofs.Storing.{size-below}
 use Rattle.card.proofs.Filling.{Narrow, length-padded, length-rows, rows-none, rows-one}
-use Rattle.card.proofs.Held.{States, GuardStates, Held, HeldCard, every-map, held-nodes, held-branches}
+use Rattle.card.proofs.Held.{States, GuardStates, Held, HeldCard, every-map, few-values, held-nodes, held-branches}
 use Rattle.card.proofs.Standing.{padded-parts}
 use Rattle.card.proofs.LaidBack.{laid-statements, laid-nodes, laid-branches, length-statement-rows}
 
@@ -101,10 +101,15 @@ small-nodes x v at h = go (x .guard) (v .states) (v .nodes)
     go none t l = tt
     go (some g) t l = cells-small g at t (omega arith)
 
-small-branches : (k : ℕ) → k ≤ topState → (bs : List Branch) → Every (ValidBranch k) bs → Every Small (map branchNumber bs)
-small-branches k top [] v = tt
-small-branches k top (b ∷ bs) v =
-    (branch-fits (b .units) (b .end) (omega (arith, v .0 .units)) (omega (arith, v .0 .end)), small-branches k top bs (v .1))
+small-set : (values : ℕ) → values ≤ mostShared → (s : Option ℕ) → ValidSet values s → setNumber s ≤ numbers
+small-set values few none v = omega arith
+small-set values few (some a) v = omega arith
+
+module _ (k values : ℕ) (top : k ≤ topState) (few : values ≤ mostShared) where
+  small-branches : (bs : List Branch) → Every (ValidBranch k values) bs → Every Small (map branchNumber bs)
+  small-branches [] v = tt
+  small-branches (b ∷ bs) v =
+      (branch-fits (b .units) (setNumber (b .sets)) (b .end) (v .0 .units) (small-set values few (b .sets) (v .0 .sets)) (omega (arith, v .0 .end)), small-branches bs (v .1))
 
 module _ (c : Card) where
   pub nodes-small : HeldCard c → (i : ℕ) → getD (laid c .nodes) i 0 < words
@@ -120,4 +125,4 @@ module _ (c : Card) where
       (small-at (padded branchPlaces (rows mostBranches branchRow 0 (c .statements))) i
       (small-padded branchPlaces (rows mostBranches branchRow 0 (c .statements))
       (small-rows mostBranches branchPlaces branchRow 0 (c .statements)
-      (every-map (λ x w at h. small-branches (c .k) (v .top) (x .branches) (w .branches)) (c .statements) (v .statements)) (omega (arith, v .some .1)))))
+      (every-map (λ x w at h. small-branches (c .k) (valuesOf (c .shared)) (v .top) (few-values (c .shared) (v .shared)) (x .branches) (w .branches)) (c .statements) (v .statements)) (omega (arith, v .some .1)))))

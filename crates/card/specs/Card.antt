@@ -18,10 +18,12 @@ pub data Sign : Type 0 where
 pub data Relation : Type 0 where
   is isnt : Relation
 
--- what a guard tests: a group, whose last is d; and what a question may test besides (document 02, 2026-01): exactly one seat is in state d
+-- what a guard tests: a group, whose last is d; the shared number, `(g=v)` or `(g!=v)` (document 02, 2026-10); and what a question may test
+-- besides (2026-01): exactly one seat is in state d
 pub data Leaf : Type 0 where
   group : Kind → Sign → Relation → ℕ → Leaf
   one : ℕ → Leaf
+  sharedIs : Relation → ℕ → Leaf
 
 -- `!`, `&` and `|` over atoms
 pub data Formula (A : Type 0) : Type 0 where
@@ -32,10 +34,11 @@ pub data Formula (A : Type 0) : Type 0 where
 abbrev pub Guard : Type 0
 Guard = Formula Leaf
 
--- weight:(s1'=end)
+-- weight:(s1'=end), and where it sets the shared number & (g'=v)
 pub record Branch : Type 0 where
   pub units : ℕ
   pub end : ℕ
+  pub sets : Option ℕ
 
 -- [] s1=own & guard -> branches
 pub record Statement : Type 0 where
@@ -43,8 +46,14 @@ pub record Statement : Type 0 where
   pub guard : Option Guard
   pub branches : List Branch
 
+-- global g : [0..most] init start; one number that all seats share (document 02, 2026-10)
+pub record Shared : Type 0 where
+  pub most : ℕ
+  pub start : ℕ
+
 pub record Card : Type 0 where
   pub mode : Mode
+  pub shared : Option Shared
   pub n : ℕ
   pub k : ℕ
   pub l : ℕ

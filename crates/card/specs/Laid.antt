@@ -5,10 +5,10 @@ use mathlib.Core.List.{List, [], _∷_, _++_, map}
 use mathlib.Core.Option.{Option, none, some}
 use lib.Dec.{eqb, ltb}
 use lib.ListN.{length, getD, take, drop}
-use Rattle.card.specs.Limits.{mostStates, mostStatements, mostBranches, mostNodes, nodePlaces, branchPlaces, freePlace}
+use Rattle.card.specs.Limits.{mostStates, mostStatements, mostBranches, mostNodes, nodePlaces, branchPlaces, setPlaces}
 use Rattle.card.specs.Text.{if_then_else_}
-use Rattle.card.specs.Card.{Mode, nondeterministic, probabilistic, Kind, everyone, others, Sign, all, any, Relation, is, isnt, Leaf, group, one, Formula, atom, neg, and, or, Guard, Branch, Statement, Card}
-use Rattle.card.specs.Valid.{size}
+use Rattle.card.specs.Card.{Mode, nondeterministic, probabilistic, Kind, everyone, others, Sign, all, any, Relation, is, isnt, Leaf, group, one, sharedIs, Formula, atom, neg, and, or, Guard, Branch, Statement, Shared, Card}
+use Rattle.card.specs.Valid.{size, valuesOf}
 use Rattle.card.specs.declared.Statement.{Statement as StatementRow}
 use Rattle.card.specs.declared.Card.{Card as CardRow}
 
@@ -22,9 +22,12 @@ abbrev pub kindNumber : Kind → ℕ
 kindNumber everyone = 0
 kindNumber others = 1
 
--- behind a group's kinds: exactly one seat
+-- behind a group's kinds: exactly one seat, and the shared number
 abbrev pub oneKind : ℕ
 oneKind = 2
+
+abbrev pub sharedKind : ℕ
+sharedKind = 3
 
 abbrev pub signNumber : Sign → ℕ
 signNumber all = 0
@@ -89,27 +92,52 @@ groupOf x = group (either everyone others (kindPart x)) (either all any (signPar
 abbrev pub leafNumber : Leaf → ℕ
 leafNumber (group kind s q d) = packGroup (kindNumber kind) (signNumber s) (relationNumber q) d
 leafNumber (one d) = packGroup oneKind 0 0 d
+leafNumber (sharedIs q v) = packGroup sharedKind 0 (relationNumber q) v
 
 unfoldable pub leafOf : ℕ → Leaf
 unfolding groupOf
-leafOf x = if ltb (kindPart x) oneKind then groupOf x else one (statePart x)
+leafOf x =
+    if ltb (kindPart x) oneKind then groupOf x
+    else (if ltb (kindPart x) sharedKind then one (statePart x)
+    else sharedIs (either is isnt (relationPart x)) (statePart x))
 
--- a branch: the place between its two parts is free
-unfoldable pub packBranch : ℕ → ℕ → ℕ
-packBranch units end = units * (freePlace * mostStates) + end
+-- what is set, as a number: 0 for nothing
+abbrev pub setNumber : Option ℕ → ℕ
+setNumber none = 0
+setNumber (some v) = suc v
+
+abbrev pub setOf : ℕ → Option ℕ
+setOf zero = none
+setOf (suc v) = some v
+
+-- a branch
+unfoldable pub packBranch : ℕ → ℕ → ℕ → ℕ
+packBranch units sets end = units * (setPlaces * mostStates) + (sets * mostStates + end)
 
 unfoldable pub unitsPart : ℕ → ℕ
-unitsPart x = x / (freePlace * mostStates)
+unitsPart x = x / (setPlaces * mostStates)
+
+unfoldable pub setPart : ℕ → ℕ
+setPart x = x / mostStates % setPlaces
 
 unfoldable pub endPart : ℕ → ℕ
 endPart x = x % mostStates
 
 abbrev pub branchNumber : Branch → ℕ
-branchNumber b = packBranch (b .units) (b .end)
+branchNumber b = packBranch (b .units) (setNumber (b .sets)) (b .end)
 
 unfoldable pub branchOf : ℕ → Branch
-unfolding unitsPart endPart
-branchOf x = record { units = unitsPart x; end = endPart x }
+unfolding unitsPart setPart endPart
+branchOf x = record { units = unitsPart x; end = endPart x; sets = setOf (setPart x) }
+
+-- the shared number of a card: how many values it has, and what it starts at; 0 and 0 where there is none
+abbrev pub startOf : Option Shared → ℕ
+startOf none = 0
+startOf (some s) = s .start
+
+abbrev pub sharedOf : ℕ → ℕ → Option Shared
+sharedOf zero start = none
+sharedOf (suc most) start = some (record { most = most; start = start })
 
 -- ---- laid: from the card to the arrays
 
@@ -173,6 +201,8 @@ unfoldable pub laid : Card → CardRow
 unfolding cells padded rows statementRows
 laid c = record {
   mode = modeNumber (c .mode);
+  shared = valuesOf (c .shared);
+  initial = startOf (c .shared);
   seats = c .n;
   top = c .k;
   start = c .l;
@@ -187,6 +217,8 @@ unfoldable pub blank : CardRow
 unfolding statementRows padded
 blank = record {
   mode = 0;
+  shared = 0;
+  initial = 0;
   seats = 0;
   top = 0;
   start = 0;
@@ -243,6 +275,7 @@ unfoldable pub cardOf : CardRow → Card
 unfolding statementsOf
 cardOf c = record {
   mode = either nondeterministic probabilistic (c .mode);
+  shared = sharedOf (c .shared) (c .initial);
   n = c .seats;
   k = c .top;
   l = c .start;

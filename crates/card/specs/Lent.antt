@@ -6,8 +6,8 @@ use mathlib.Core.List.{List}
 use lib.ListN.{length}
 use Rattle.card.specs.Limits.{rowPlaces, nodePlaces, branchPlaces}
 use Rattle.card.specs.Card.{nondeterministic, probabilistic, Card}
-use Rattle.card.specs.Valid.{ValidCard}
-use Rattle.card.specs.Laid.{either, modeNumber, zeros, laid, statementsOf}
+use Rattle.card.specs.Valid.{valuesOf, ValidCard}
+use Rattle.card.specs.Laid.{either, modeNumber, startOf, sharedOf, zeros, laid, statementsOf}
 use Rattle.card.specs.Rows.{rowsOf, rowsFrom}
 use Rattle.card.specs.declared.Head.{Head}
 
@@ -22,10 +22,10 @@ lent rows nodes branches = record { rows = rows; nodes = nodes; branches = branc
 -- ---- from the card to its head and the arrays; zeros where there is none
 
 abbrev pub headOf : Card → Head
-headOf c = record { mode = modeNumber (c .mode); seats = c .n; top = c .k; start = c .l; count = length (c .statements) }
+headOf c = record { mode = modeNumber (c .mode); shared = valuesOf (c .shared); initial = startOf (c .shared); seats = c .n; top = c .k; start = c .l; count = length (c .statements) }
 
 abbrev pub noHead : Head
-noHead = record { mode = 0; seats = 0; top = 0; start = 0; count = 0 }
+noHead = record { mode = 0; shared = 0; initial = 0; seats = 0; top = 0; start = 0; count = 0 }
 
 abbrev pub lentOf : Card → Lent
 lentOf c = lent (rowsOf (laid c .statements)) (laid c .nodes) (laid c .branches)
@@ -38,6 +38,7 @@ noneLent = lent (zeros rowPlaces) (zeros nodePlaces) (zeros branchPlaces)
 abbrev pub cardIn : Head → Lent → Card
 cardIn h x = record {
   mode = either nondeterministic probabilistic (h .mode);
+  shared = sharedOf (h .shared) (h .initial);
   n = h .seats;
   k = h .top;
   l = h .start;

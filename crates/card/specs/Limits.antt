@@ -17,6 +17,13 @@ topState = 7
 abbrev pub mostStates : ℕ
 mostStates = suc topState
 
+-- the most that the number shared by all seats may be, and how many values it can have (document 02, 2026-10)
+abbrev pub topShared : ℕ
+topShared = 7
+
+abbrev pub mostShared : ℕ
+mostShared = suc topShared
+
 -- statements of a card, of which there is one at least; branches, guard nodes, open brackets and `!` of one statement
 abbrev pub mostStatements : ℕ
 mostStatements = 32
@@ -58,9 +65,9 @@ nodePlaces = mostStatements * mostNodes
 abbrev pub branchPlaces : ℕ
 branchPlaces = mostStatements * mostBranches
 
--- a branch's number leaves a place free with nine values: none, or one of eight ("Day and night")
-abbrev pub freePlace : ℕ
-freePlace = suc mostStates
+-- what a branch sets the shared number to has so many values: none, or one of its own
+abbrev pub setPlaces : ℕ
+setPlaces = suc mostShared
 
 -- a statement's row has so many numbers: its own state, how many nodes, how many branches
 abbrev pub rowNumbers : ℕ

@@ -6,8 +6,8 @@ use mathlib.Core.Bool.{Bool, true, false}
 use mathlib.Core.List.{List, [], _∷_}
 use mathlib.Core.Option.{Option, none, some}
 use lib.ListN.{length}
-use Rattle.card.specs.Limits.{mostSeats, topState, mostStatements, mostBranches, mostNodes, mostDepth, unit}
-use Rattle.card.specs.Card.{Kind, everyone, others, Sign, all, any, Leaf, group, one, Formula, atom, neg, and, or, Guard, Branch, Statement, Card}
+use Rattle.card.specs.Limits.{mostSeats, topState, topShared, mostStatements, mostBranches, mostNodes, mostDepth, unit}
+use Rattle.card.specs.Card.{Kind, everyone, others, Sign, all, any, Leaf, group, one, sharedIs, Formula, atom, neg, and, or, Guard, Branch, Statement, Shared, Card}
 use Rattle.card.specs.Formulas.{EveryAtom}
 
 -- the first seat that a group names
@@ -20,12 +20,19 @@ abbrev pub Enough : Sign → Kind → ℕ → Type 0
 Enough all kind n = firstSeat kind ≤ n
 Enough any kind n = firstSeat kind < n
 
-abbrev pub ValidLeaf : ℕ → ℕ → Leaf → Type 0
-ValidLeaf n k (group kind s q d) = Enough s kind n × (d ≤ k)
-ValidLeaf n k (one d) = ⊥  -- no card has one
+-- how many values the shared number has: none where no such number is declared, so that nothing can be tested or set then
+abbrev pub valuesOf : Option Shared → ℕ
+valuesOf none = 0
+valuesOf (some s) = suc (s .most)
 
-abbrev pub ValidLeaves : ℕ → ℕ → Guard → Type 0
-ValidLeaves n k g = EveryAtom (ValidLeaf n k) g
+-- on a card of n seats with top state k, whose shared number has so many values
+abbrev pub ValidLeaf : ℕ → ℕ → ℕ → Leaf → Type 0
+ValidLeaf n k values (group kind s q d) = Enough s kind n × (d ≤ k)
+ValidLeaf n k values (one d) = ⊥  -- no card has one
+ValidLeaf n k values (sharedIs q v) = v < values
+
+abbrev pub ValidLeaves : ℕ → ℕ → ℕ → Guard → Type 0
+ValidLeaves n k values g = EveryAtom (ValidLeaf n k values) g
 
 -- ---- nodes and depth
 
@@ -61,9 +68,9 @@ depth v (neg g) = suc (depth tight g)
 depth v (and g h) = bracketed (needsAnd v) (max (depth middle g) (depth tight h))
 depth v (or g h) = bracketed (needsOr v) (max (depth loose g) (depth middle h))
 
-abbrev pub ValidGuard : ℕ → ℕ → Option Guard → Type 0
-ValidGuard n k none = Unit {0}
-ValidGuard n k (some g) = ValidLeaves n k g × (depth middle g ≤ mostDepth) × (size g ≤ mostNodes)
+abbrev pub ValidGuard : ℕ → ℕ → ℕ → Option Guard → Type 0
+ValidGuard n k values none = Unit {0}
+ValidGuard n k values (some g) = ValidLeaves n k values g × (depth middle g ≤ mostDepth) × (size g ≤ mostNodes)
 
 -- ---- statements
 
@@ -80,21 +87,32 @@ abbrev pub total : List Branch → ℕ
 total [] = 0
 total (b ∷ bs) = b .units + total bs
 
-pub record ValidBranch (k : ℕ) (b : Branch) : Type 0 where
+-- what it sets, if anything
+abbrev pub ValidSet : ℕ → Option ℕ → Type 0
+ValidSet values none = Unit {0}
+ValidSet values (some v) = v < values
+
+pub record ValidBranch (k values : ℕ) (b : Branch) : Type 0 where
   pub units : b .units ≤ unit
   pub end : b .end ≤ k
+  pub sets : ValidSet values (b .sets)
 
-pub record ValidStatement (n k : ℕ) (x : Statement) : Type 0 where
+pub record ValidStatement (n k values : ℕ) (x : Statement) : Type 0 where
   pub own : x .own ≤ k
-  pub guard : ValidGuard n k (x .guard)
+  pub guard : ValidGuard n k values (x .guard)
   pub some : Some mostBranches (x .branches)
-  pub branches : Every (ValidBranch k) (x .branches)
+  pub branches : Every (ValidBranch k values) (x .branches)
   pub sum : total (x .branches) ≡ unit
 
+abbrev pub ValidShared : Option Shared → Type 0
+ValidShared none = Unit {0}
+ValidShared (some s) = (s .most ≤ topShared) × (s .start ≤ s .most)
+
 pub record ValidCard (c : Card) : Type 0 where
+  pub shared : ValidShared (c .shared)
   pub seats : 1 ≤ c .n
   pub seats-most : c .n ≤ mostSeats
   pub top : c .k ≤ topState
   pub init : c .l ≤ c .k
   pub some : Some mostStatements (c .statements)
-  pub statements : Every (ValidStatement (c .n) (c .k)) (c .statements)
+  pub statements : Every (ValidStatement (c .n) (c .k) (valuesOf (c .shared))) (c .statements)

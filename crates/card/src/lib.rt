@@ -21,9 +21,11 @@ pub struct Statement {
     pub branches: usize,
 }
 
-// Statement i's nodes stand from MOST_NODES * i on, the root last; its branches from MOST_BRANCHES * i on.
+// The number that all seats share has so many values (0: there is none), and starts at `initial`. Statement i's nodes stand from MOST_NODES * i on, the root last; its branches from MOST_BRANCHES * i on.
 pub struct Card {
     pub mode: usize,
+    pub shared: usize,
+    pub initial: usize,
     pub seats: usize,
     pub top: usize,
     pub start: usize,
@@ -36,6 +38,8 @@ pub struct Card {
 // A card beside its arrays: what is handed on by value.
 pub struct Head {
     pub mode: usize,
+    pub shared: usize,
+    pub initial: usize,
     pub seats: usize,
     pub top: usize,
     pub start: usize,

@@ -8,6 +8,11 @@ pub const TOP_STATE: usize = 7;
 
 pub const MOST_STATES: usize = TOP_STATE + 1;
 
+// of the number that all seats share (2026-10)
+pub const TOP_SHARED: usize = 7;
+
+pub const MOST_SHARED: usize = TOP_SHARED + 1;
+
 pub const MOST_STATEMENTS: usize = 32;
 
 pub const MOST_BRANCHES: usize = 8;
@@ -31,8 +36,8 @@ pub const NODE_PLACES: usize = MOST_STATEMENTS * MOST_NODES;
 
 pub const BRANCH_PLACES: usize = MOST_STATEMENTS * MOST_BRANCHES;
 
-// a branch's number leaves a place free for one of the states, or none ("Day and night")
-pub const FREE_PLACE: usize = MOST_STATES + 1;
+// what a branch sets the shared number to: nothing, or one of its values
+pub const SET_PLACES: usize = MOST_SHARED + 1;
 
 // a statement's row: its own state, how many nodes, how many branches
 pub const ROW: usize = 3;

@@ -2,28 +2,30 @@
 -- one due. Assumes nothing.
 use Prim.Native.Nat.{ℕ, suc}
 use mathlib.Core.Path.{_≡_, refl, sym, ap, _∙_}
+use mathlib.Core.Bool.{Bool}
 use mathlib.Core.List.{List, [], _∷_, _++_, append-assoc, map}
 use mathlib.Core.Option.{Option, none, some}
 use native.Mathlib.Omega.{arith}
 use lib.ListN.{length}
-use Rattle.card.specs.Card.{Mode, Card, Formula}
+use Rattle.card.specs.Card.{Mode, Shared, Card, Formula}
 use Rattle.card.specs.Weight.{Weight, Worth, Rule}
 use Rattle.card.specs.Valid.{Every}
 use Rattle.card.proofs.Laws.{units-worth}
 use Rattle.marks_on_a_card.specs.Marks.{Mark, seat, process, number, placed, marksOf}
 use Rattle.reading.specs.Reader.{Place, Numbered, Item, exactly, seatWord, processWord}
-use Rattle.reading.specs.Group.{Literals}
+use Rattle.reading.specs.Group.{Tested}
+use Rattle.reading.specs.Guard.{isSome}
 use Rattle.reading.specs.Judgements.{Judgement, orZero, unitsIn, placeIn, judgedGuard}
-use Rattle.reading.specs.Shape.{BranchShape, StatementShape, CardShape}
-use Rattle.reading.specs.Checks.{judgedWords, judgedBranch, judgedEach, judgedOr, judgedStatement, moduleDues, judgedModules, judgedCard, branchIn, guardOr, statementIn, cardIn}
-use Rattle.grammar.specs.Grammar.{Said, signAt, LineSaid, ended, fixed, aSeat, aProcess, moduleRun, ManySaid, done as said-done, again as said-again, RestSaid, nothing as no-guard, guarded as a-guard, WeightSaid, aNumber, aRatio, aDecimal, BranchSaid, branch as said-branch, PlusSaid, plus as said-plus, StatementSaid, statement as said-statement, modeWord, CardSaid, card as said-card}
+use Rattle.reading.specs.Shape.{BranchShape, StatementShape, Range, CardShape}
+use Rattle.reading.specs.Checks.{judgedWords, judgedSet, judgedBranch, judgedEach, judgedOr, judgedStatement, moduleDues, judgedModules, judgedShared, judgedCard, mostIn, valueOr, branchIn, guardOr, statementIn, sharedIn, cardIn}
+use Rattle.grammar.specs.Grammar.{Said, signAt, LineSaid, ended, fixed, aSeat, aProcess, moduleRun, ManySaid, done as said-done, again as said-again, RestSaid, nothing as no-guard, guarded as a-guard, WeightSaid, aNumber, aRatio, aDecimal, SetSaid, keeps, setsTo, BranchSaid, branch as said-branch, PlusSaid, plus as said-plus, StatementSaid, statement as said-statement, modeWord, RangeSaid, range, SharedSaid, unshared, sharing, CardSaid, card as said-card}
 use Rattle.grammar.specs.Rules.{Kept}
 use Rattle.grammar.specs.Verdicts.{KeptOn}
 use Rattle.reading.specs.Reading.{taken, readUnder}
 use Rattle.grammar.proofs.Fair.{every-append}
 use Rattle.grammar.proofs.Along.{strictly, along-whole, guard-along}
 use Rattle.grammar.proofs.Theorems.{accepted}
-use Rattle.card_promises.specs.CardMarks.{sign, markOf, weightMarks, BranchMarks, branch, PlusMarks, plus, Repeated, done, again, GuardMarks, nothing, guarded, StatementMarks, statement, copyMarks, copies, CardMarks, card}
+use Rattle.card_promises.specs.CardMarks.{sign, markOf, weightMarks, setMarks, BranchMarks, branch, PlusMarks, plus, Repeated, done, again, GuardMarks, nothing, guarded, StatementMarks, statement, copyMarks, copies, sharedMarks, CardMarks, card}
 
 abbrev marks : Place → List Mark
 marks = map markOf
@@ -38,7 +40,20 @@ filled (seatWord ∷ items) (due ∷ dues) = seat due ∷ filled items dues
 filled (processWord ∷ items) [] = []
 filled (processWord ∷ items) (due ∷ dues) = process due ∷ filled items dues
 
-module _ (decimals : Rule) (n k : ℕ) where
+-- a run without a word in it
+abbrev Wordless : List Item → Type 0
+Wordless [] = Unit {0}
+Wordless (exactly t ∷ items) = Wordless items
+Wordless (seatWord ∷ items) = ⊥
+Wordless (processWord ∷ items) = ⊥
+
+fixed-marks : {items : List Item} {ms r : Place} {ws : List Numbered} → Wordless items → LineSaid items ms ws r → marks ms ≡ filled items [] ++ marks r
+fixed-marks h ended = refl
+fixed-marks h (fixed {t} d) = ap (λ (x : List Mark). sign t ∷ x) (fixed-marks h d)
+fixed-marks h (aSeat d) = absurd h
+fixed-marks h (aProcess d) = absurd h
+
+module _ (decimals : Rule) (n k m : ℕ) where
   abbrev Holds : List Judgement → Type 0
   Holds = Every (Kept n)
 
@@ -65,17 +80,27 @@ module _ (decimals : Rule) (n k : ℕ) where
   abbrev Front : {A : Type 0} → (A → List Mark → Type 0) → A → Place → Place → Type 0
   Front One x ms r = (front : List Mark) × One x front × (marks ms ≡ front ++ marks r)
 
+  -- & (g'=v)
+  set-marks : {shared : Bool} (ms r : Place) (v : Option Numbered) → SetSaid shared ms v r → marks ms ≡ setMarks (valueOr v) ++ marks r
+  set-marks ms r none keeps = refl
+  set-marks ms r (some v) (setsTo {ws = ws} d) = fixed-marks tt d
+
   -- :(s1'=t)
-  abbrev behindWeight : ℕ → List Mark
-  behindWeight t = sign ":" ∷ sign "(" ∷ seat 1 ∷ sign "'" ∷ sign "=" ∷ number t ∷ sign ")" ∷ []
+  abbrev behindWeight : ℕ → List Mark → List Mark
+  behindWeight t rest = sign ":" ∷ sign "(" ∷ seat 1 ∷ sign "'" ∷ sign "=" ∷ number t ∷ sign ")" ∷ rest
 
-  branch-marks : (ms r : Place) (x : BranchShape) → BranchSaid ms x r → Holds (judgedBranch decimals k x) → Front BranchMarks (branchIn x) ms r
-  branch-marks ms r x (said-branch {t} {w = w} {ws} d l) h =
+  branch-marks : {shared : Bool} (ms r : Place) (x : BranchShape) → BranchSaid shared ms x r → Holds (judgedBranch decimals k m x) → Front BranchMarks (branchIn x) ms r
+  branch-marks ms r x (said-branch {t} {os = os} {w = w} {ws} {v} d l g) h =
       let (_, (u, worth)) = h .0 in
-      let (due, end) = every-append (Kept n) (judgedWords (1 ∷ []) ws) _ (h .1) in
-      (weightMarks w ++ behindWeight t, rw (units-in w u worth) (branch w worth), weight-marks d ∙ ap (λ (y : List Mark). weightMarks w ++ y) (line-marks l (1 ∷ []) due) ∙ sym (append-assoc (weightMarks w) (behindWeight t) (marks r)))
+      let (due, end) = every-append (Kept n) (judgedWords (1 ∷ []) ws) _ (h .1) in (
+        weightMarks w ++ behindWeight t (setMarks (valueOr v)),
+        rw (units-in w u worth) (branch w worth),
+        weight-marks d
+            ∙ ap (λ (y : List Mark). weightMarks w ++ y) (line-marks l (1 ∷ []) due ∙ ap (behindWeight t) (set-marks os r v g))
+            ∙ sym (append-assoc (weightMarks w) (behindWeight t (setMarks (valueOr v))) (marks r)),
+      )
 
-  plus-marks : (ms r : Place) (x : BranchShape) → PlusSaid ms x r → Holds (judgedBranch decimals k x) → Front PlusMarks (branchIn x) ms r
+  plus-marks : {shared : Bool} (ms r : Place) (x : BranchShape) → PlusSaid shared ms x r → Holds (judgedBranch decimals k m x) → Front PlusMarks (branchIn x) ms r
   plus-marks ms r x (said-plus {ms = ns} d) h =
       let (front, b, e) = branch-marks ns r x d h in
       (sign "+" ∷ front, plus b, ap (λ (y : List Mark). sign "+" ∷ y) e)
@@ -98,10 +123,10 @@ module _ (decimals : Rule) (n k : ℕ) where
   append-marks [] v = refl
   append-marks (placed m p ∷ u) v = ap (λ (y : List Mark). m ∷ y) (append-marks u v)
 
-  rest-marks : (ms r : Place) (g : Option (Formula Literals)) → RestSaid ms g r → Front GuardMarks (guardOr n g) ms r
+  rest-marks : {shared : Bool} (ms r : Place) (g : Option (Formula Tested)) → RestSaid shared ms g r → Front GuardMarks (guardOr n g) ms r
   rest-marks ms r none no-guard = ([], nothing, refl)
   rest-marks ms r (some g) (a-guard {ms = ns} u) =
-      let (v, e) = along-whole strictly placeIn ns r (judgedGuard k g) (guard-along k u) in
+      let (v, e) = along-whole strictly placeIn ns r (judgedGuard k m g) (guard-along k m u) in
       (sign "&" ∷ marks v, guarded, ap (λ (y : List Mark). sign "&" ∷ y) (ap marks e ∙ append-marks v r))
 
   -- [] s1=j
@@ -111,15 +136,15 @@ module _ (decimals : Rule) (n k : ℕ) where
   ends : (gs bs ps rest : List Mark) → (gs ++ (sign "->" ∷ (bs ++ (ps ++ (sign ";" ∷ []))))) ++ rest ≡ gs ++ (sign "->" ∷ (bs ++ (ps ++ (sign ";" ∷ rest))))
   ends gs bs ps rest = rw (append-assoc gs (sign "->" ∷ (bs ++ (ps ++ (sign ";" ∷ [])))) rest, append-assoc bs (ps ++ (sign ";" ∷ [])) rest, append-assoc ps (sign ";" ∷ []) rest)
 
-  statement-marks : (ms r : Place) (x : StatementShape) → StatementSaid ms x r → Holds (judgedStatement decimals k x) → Front StatementMarks (statementIn n x) ms r
+  statement-marks : {shared : Bool} (ms r : Place) (x : StatementShape) → StatementSaid shared ms x r → Holds (judgedStatement decimals k m x) → Front StatementMarks (statementIn n x) ms r
   statement-marks ms r x (said-statement {j} {a} {b} {c} {ns = ns} {os} {qs} {ws = ws} {g} {x = y} {xs = ys} l u d ds) h =
       let (due, h₁) = every-append (Kept n) (judgedWords (1 ∷ []) ws) _ h in
-      let (_, h₂) = every-append (Kept n) (judgedOr k g) _ (h₁ .1) in
-      let (h₃, _) = every-append (Kept n) (judgedEach (judgedBranch decimals k) (y ∷ ys)) _ h₂ in
-      let (h₄, h₅) = every-append (Kept n) (judgedBranch decimals k y) (judgedEach (judgedBranch decimals k) ys) h₃ in
+      let (_, h₂) = every-append (Kept n) (judgedOr k m g) _ (h₁ .1) in
+      let (h₃, _) = every-append (Kept n) (judgedEach (judgedBranch decimals k m) (y ∷ ys)) _ h₂ in
+      let (h₄, h₅) = every-append (Kept n) (judgedBranch decimals k m y) (judgedEach (judgedBranch decimals k m) ys) h₃ in
       let (gs, guard, e₁) = rest-marks ns (signAt "->" b ∷ os) g u in
       let (bs, first, e₂) = branch-marks os qs y d h₄ in
-      let (ps, more, e₃) = many-marks (judgedBranch decimals k) branchIn PlusMarks plus-marks ds h₅ in (
+      let (ps, more, e₃) = many-marks (judgedBranch decimals k m) branchIn PlusMarks plus-marks ds h₅ in (
         begins j (gs ++ (sign "->" ∷ (bs ++ (ps ++ (sign ";" ∷ []))))),
         statement guard first more,
         line-marks l (1 ∷ []) due ∙ ap (begins j) (e₁ ∙ ap (λ (z : List Mark). gs ++ (sign "->" ∷ z)) (e₂ ∙ ap (λ (z : List Mark). bs ++ z) e₃) ∙ sym (ends gs bs ps (marks r))),
@@ -135,23 +160,37 @@ module _ (decimals : Rule) (n k : ℕ) where
 
 -- ---- the card
 
--- the mode, module process1 s1 : [0..k] init l;
-abbrev opens : Mode → ℕ → ℕ → List Mark → List Mark
-opens mode k l rest =
-    sign (modeWord mode) ∷ sign "module" ∷ process 1
+-- module process1 s1 : [0..k] init l;
+abbrev opens : ℕ → ℕ → List Mark → List Mark
+opens k l rest =
+    sign "module" ∷ process 1
     ∷ seat 1 ∷ sign ":" ∷ sign "[" ∷ number 0 ∷ sign ".." ∷ number k ∷ sign "]" ∷ sign "init" ∷ number l ∷ sign ";" ∷ rest
 
+-- behind `[`
+range-marks : {ms r : Place} (x : Range) → RangeSaid ms x r → marks ms ≡ number 0 ∷ sign ".." ∷ number (x .top) ∷ sign "]" ∷ sign "init" ∷ number (x .start .value) ∷ sign ";" ∷ marks r
+range-marks x range = refl
+
+shared-marks : {ms r : Place} (g : Option Range) → SharedSaid ms g r → marks ms ≡ sharedMarks (sharedIn g) ++ marks r
+shared-marks none unshared = refl
+shared-marks (some x) (sharing l y) = fixed-marks tt l ∙ ap (λ (z : List Mark). sign "global" ∷ sign "g" ∷ sign ":" ∷ sign "[" ∷ z) (range-marks x y)
+
 card-marks : (decimals : Rule) {ms : Place} {c : CardShape} → CardSaid ms c → Every (KeptOn c) (judgedCard decimals c) → CardMarks (cardIn c) (marks ms)
-card-marks decimals (said-card {mode} {k} {l} {i = i} {ms = ms} {ns} {os} {qs} {ws} {x} {xs} {ys} w s ss ts) h =
+card-marks decimals (said-card {mode} {ms = ms} {ns} {os} {ps} {qs} {rs} {g} {ws} {y} {x} {xs} {ys} u w v s ss ts) h =
     let n = suc (length ys) in
-    let (due, h₁) = every-append (Kept n) (judgedWords (1 ∷ 1 ∷ []) ws) _ h in
-    let (h₂, h₃) = every-append (Kept n) (judgedEach (judgedStatement decimals k) (x ∷ xs)) (judgedModules 2 ys) (h₁ .1) in
-    let (h₄, h₅) = every-append (Kept n) (judgedStatement decimals k x) (judgedEach (judgedStatement decimals k) xs) h₂ in
-    let (fs, first, e₁) = statement-marks decimals n k ns os x s h₄ in
-    let (gs, more, e₂) = many-marks decimals n k (judgedStatement decimals k) (statementIn n) StatementMarks (statement-marks decimals n k) ss h₅ in
-    let e : marks (signAt (modeWord mode) 0 ∷ ms) ≡ opens mode k l (fs ++ (gs ++ (sign "endmodule" ∷ copies 2 (length ys)))) =
-    ap (λ (z : List Mark). sign (modeWord mode) ∷ z) (line-marks decimals n k w (1 ∷ 1 ∷ []) due)
-    ∙ ap (opens mode k l) (e₁ ∙ ap (λ (z : List Mark). fs ++ z) (e₂ ∙ ap (λ (z : List Mark). gs ++ (sign "endmodule" ∷ z)) (modules-marks decimals n k 2 ts h₃))) in
+    let k = y .top in
+    let m = mostIn g in
+    let (_, h₀) = every-append (Kept n) (judgedShared g) _ h in
+    let (due, h₁) = every-append (Kept n) (judgedWords (1 ∷ 1 ∷ []) ws) _ h₀ in
+    let (h₂, h₃) = every-append (Kept n) (judgedEach (judgedStatement decimals k m) (x ∷ xs)) (judgedModules 2 ys) (h₁ .1) in
+    let (h₄, h₅) = every-append (Kept n) (judgedStatement decimals k m x) (judgedEach (judgedStatement decimals k m) xs) h₂ in
+    let (fs, first, e₁) = statement-marks decimals n k m ps qs x s h₄ in
+    let (gs, more, e₂) = many-marks decimals n k m (judgedStatement decimals k m) (statementIn n) StatementMarks (statement-marks decimals n k m) ss h₅ in
+    let e₃ : marks ps ≡ fs ++ (gs ++ (sign "endmodule" ∷ copies 2 (length ys))) =
+    e₁ ∙ ap (λ (z : List Mark). fs ++ z) (e₂ ∙ ap (λ (z : List Mark). gs ++ (sign "endmodule" ∷ z)) (modules-marks decimals n k m 2 ts h₃)) in
+    let e₄ : marks ns ≡ opens k (y .start .value) (fs ++ (gs ++ (sign "endmodule" ∷ copies 2 (length ys)))) =
+    line-marks decimals n k m w (1 ∷ 1 ∷ []) due ∙ ap (λ (z : List Mark). sign "module" ∷ process 1 ∷ seat 1 ∷ sign ":" ∷ sign "[" ∷ z) (range-marks y v) ∙ ap (opens k (y .start .value)) e₃ in
+    let e : marks (signAt (modeWord mode) 0 ∷ ms) ≡ sign (modeWord mode) ∷ (sharedMarks (sharedIn g) ++ opens k (y .start .value) (fs ++ (gs ++ (sign "endmodule" ∷ copies 2 (length ys))))) =
+    ap (λ (z : List Mark). sign (modeWord mode) ∷ z) (shared-marks g u ∙ ap (λ (z : List Mark). sharedMarks (sharedIn g) ++ z) e₄) in
     rw e (card first more)
 
 pub taken-marks : (decimals : Rule) (s : List ℕ) (c : Card) → readUnder decimals s ≡ taken c → CardMarks c (marks (marksOf s))

@@ -19,8 +19,9 @@ use Rattle.card_promises.specs.Cards.{Cards}
 card-a-valid : (mode : Mode) → ValidCard (cardA mode)
 unfolding cardA
 card-a-valid mode =
-    let branch : (u t : ℕ) → u ≤ unit → t ≤ 2 → ValidBranch 2 (record { units = u; end = t }) = λ u t h l. record { units = h; end = l } in
+    let branch : (u t : ℕ) → u ≤ unit → t ≤ 2 → ValidBranch 2 0 (record { units = u; end = t; sets = none }) = λ u t h l. record { units = h; end = l; sets = tt } in
     record {
+      shared = tt;
       seats = omega arith;
       seats-most = omega arith;
       top = omega arith;

@@ -53,6 +53,7 @@ figures = record {
   too-many-vectors = refl;
   too-many-nights = refl;
   wrong-row = refl;
+  top-shared = refl;
   decimal-weight = refl;
   written-room = refl;
   reduced-room = refl;

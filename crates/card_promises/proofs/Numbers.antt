@@ -69,7 +69,7 @@ some-shaped : (decimals : Rule) (e : ℕ) (ms : Place) (x : Result CardShape) �
 some-shaped decimals e ms (ok c s) h = some-judged e (cardIn c) (firstBroken (seatsIn c) (judgedCard decimals c)) (some-first (seatsIn c) (judgedCard decimals c))
 some-shaped decimals e ms (stop r p) h = go (card-stops ms zero r p h .cause)
   where
-    go : {pre : Place} → CardCause pre r p → 1 ≤ r
+    go : {pre : Place} → CardCause ms pre r p → 1 ≤ r
     go (unfits z _) = omega arith
     go (exceeds z _ _ _ _ _ _ _) = omega arith
 

@@ -8,12 +8,12 @@ use borrow.Author.Tests.{lt-ltb}
 use lib.Dec.{ltb}
 use lib.ListN.{length}
 use Rattle.card.specs.Card.{Mode, Statement, Card}
-use Rattle.meaning.specs.Sums.{gate, sum, upto, those}
+use Rattle.meaning.specs.Sums.{gate, orOne, sum, upto, those}
 use Rattle.meaning.specs.Steps.{Turn}
 use Rattle.meaning.specs.Choices.{choice, choicesOf, turnsIn}
-use Rattle.meaning.specs.Seats.{Seating, mayTake, turn, turnsBy, choicesFrom, choices, turns, Stuck}
+use Rattle.meaning.specs.Seats.{Seating, ValidSeating, mayTake, turn, turnsBy, choicesFrom, choices, turns, Stuck}
 use Rattle.meaning.specs.Panel.{Panel, enabled, panel}
-use Rattle.meaning.specs.ByCounts.{orOne, stuckBlock}
+use Rattle.meaning.specs.ByCounts.{stuckBlock}
 use Rattle.meaning.proofs.Sums.{sum-cong, sum-one, sum-map, sum-those}
 use Rattle.meaning.proofs.Choices.{choices-some, choices-sum, or-stay-length, or-stay-turns}
 use Rattle.meaning.proofs.Turns.{takes}
@@ -29,7 +29,7 @@ use Rattle.card_promises.specs.Panels.{takers, Panels}
 turns-takers : (s : Statement) (x : Seating) → length (turnsBy s x) ≡ takers s x
 unfolding turnsBy
 turns-takers s x =
-    let seats = upto (length x) (λ i. i) in
+    let seats = upto (length (x .each)) (λ i. i) in
     sym (sum-one (map (turn s x) (those (mayTake s x) seats))) ∙ sum-map (λ t. 1) (turn s x) (those (mayTake s x) seats) ∙ sum-those (λ i. 1) (mayTake s x) seats
 
 -- without the stuck one
@@ -61,10 +61,10 @@ unfolding choices
 able c x = or-stay-length x (choicesFrom 1 (c .statements) x) ∙ ap orOne (statements-able 1 (c .statements) x)
 
 -- a stuck panel's two parts, by its mode
-stuck-parts : (c : Card) (x : Seating) → Stuck c x → {m : Mode} → c .mode ≡ m → (panel c x .enabled ≡ 1) × (panel c x .blocks ≡ stuckBlock m ∷ [])
-stuck-parts c x h e = (
-  ap (λ (p : Panel). p .enabled) (stuck-panel c x h),
-  ap (λ (p : Panel). p .blocks) (stuck-panel c x h) ∙ ap (λ (m : Mode). stuckBlock m ∷ []) e,
+stuck-parts : (c : Card) (x : Seating) → ValidSeating c x → Stuck c x → {m : Mode} → c .mode ≡ m → (panel c x .enabled ≡ 1) × (panel c x .blocks ≡ stuckBlock m (x .shared) ∷ [])
+stuck-parts c x ok h e = (
+  ap (λ (p : Panel). p .enabled) (stuck-panel c x (ok .shared) h),
+  ap (λ (p : Panel). p .blocks) (stuck-panel c x (ok .shared) h) ∙ ap (λ (m : Mode). stuckBlock m (x .shared) ∷ []) e,
 )
 
 pub panels : Panels
@@ -73,14 +73,15 @@ panels = record {
   by-counts = panel-by-counts;
   equal-counts = equal-counts;
   reordered = λ c r ok. (reordered-valid c r ok, reordered-panel c r ok);
-  any-seat = λ c x ok s i j l m p q b.
-      seat-block s x i l (takes (c .k) x (ok .states) s i l p .0) (c .k) b ∙ sym (seat-block s x j m (takes (c .k) x (ok .states) s j m q .0) (c .k) b);
+  any-seat = λ c x ok s i j l m p q values b.
+      seat-block s x i l (takes (c .k) x (ok .states) s i l p .0) (c .k) values b ∙ sym (seat-block s x j m (takes (c .k) x (ok .states) s j m q .0) (c .k) values b);
   adds-up = adds-up;
   enabled-pairs = λ c x e. ap (λ (m : Mode). enabled m c x) e ∙ pairs c x;
   enabled-statements = λ c x e. ap (λ (m : Mode). enabled m c x) e ∙ able c x;
-  stuck-pairs = λ c x h e. stuck-parts c x h e;
-  stuck-statements = λ c x h e. stuck-parts c x h e;
+  stuck-pairs = λ c x ok h e. stuck-parts c x ok h e;
+  stuck-statements = λ c x ok h e. stuck-parts c x ok h e;
   enabled-most = panel-enabled-most;
+  shared = λ c x. refl;
   in-order = ordered;
   order = refl;
   read-off = telling .same-data;

@@ -5,7 +5,8 @@ use Rattle.room.specs.Digits.{decimal}
 use Rattle.phrases.specs.Phrases.{gcd, divisor}
 use Rattle.texts.specs.ReducedText.{programText}
 use Rattle.meaning.specs.CardA.{cardA}
-use Rattle.meaning.specs.Reduced.{reduce, copy}
+use Rattle.meaning.specs.Reduced.{Outcome, reduce, copy}
+use Rattle.meaning.proofs.Sums.{map-map}
 use Rattle.meaning.proofs.Within.{stays-within}
 use Rattle.texts.proofs.Reductions.{reduced-once}
 use Rattle.card_promises.specs.Reductions.{Table, Translation, Reductions}
@@ -23,6 +24,9 @@ unfolding reduce copy
 translation = record {
   mode = λ c. refl;
   most = λ c. refl;
+  shared = λ c. refl;
+  test = λ n j q v. refl;
+  sets = λ n s m. map-map (λ (o : Outcome). o .sets) _ (s .branches);
   copies = λ c e. rw e;
   one-copy = λ c e. rw e;
   guard = λ n s m. refl;

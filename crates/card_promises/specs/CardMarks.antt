@@ -5,7 +5,7 @@ use Prim.Native.String.{String}
 use mathlib.Core.List.{List, [], _∷_, _++_}
 use mathlib.Core.Option.{Option, none, some}
 use Rattle.card.specs.Text.{bytes}
-use Rattle.card.specs.Card.{Mode, Guard, Branch, Statement, Card}
+use Rattle.card.specs.Card.{Mode, Guard, Branch, Statement, Shared, Card}
 use Rattle.card.specs.Weight.{Weight, whole, decimal as point, ratio, Worth}
 use Rattle.marks_on_a_card.specs.Marks.{Mark, text, seat, process, number, decimal, Placed, placed}
 use Rattle.grammar.specs.Grammar.{modeWord}
@@ -18,16 +18,21 @@ sign t = text (bytes t)
 abbrev pub markOf : Placed → Mark
 markOf (placed m p) = m
 
--- ---- weight:(s1'=t)
+-- ---- weight:(s1'=t), and & (g'=v) where it sets the shared number
 
 abbrev pub weightMarks : Weight → List Mark
 weightMarks (whole v) = number v ∷ []
 weightMarks (point v n f) = decimal v n f ∷ []
 weightMarks (ratio a b) = number a ∷ sign "/" ∷ number b ∷ []
 
+abbrev pub setMarks : Option ℕ → List Mark
+setMarks none = []
+setMarks (some v) = sign "&" ∷ sign "(" ∷ sign "g" ∷ sign "'" ∷ sign "=" ∷ number v ∷ sign ")" ∷ []
+
 pub data BranchMarks : Branch → List Mark → Type 0 where
-  branch : {units t : ℕ} (w : Weight) → Worth w units
-      → BranchMarks (record { units = units; end = t }) (weightMarks w ++ (sign ":" ∷ sign "(" ∷ seat 1 ∷ sign "'" ∷ sign "=" ∷ number t ∷ sign ")" ∷ []))
+  branch : {units t : ℕ} {sets : Option ℕ} (w : Weight) → Worth w units
+      → BranchMarks (record { units = units; end = t; sets = sets })
+      (weightMarks w ++ (sign ":" ∷ sign "(" ∷ seat 1 ∷ sign "'" ∷ sign "=" ∷ number t ∷ sign ")" ∷ setMarks sets))
 
 -- + and a branch
 pub data PlusMarks : Branch → List Mark → Type 0 where
@@ -63,12 +68,19 @@ abbrev pub copies : ℕ → ℕ → List Mark
 copies i zero = []
 copies i (suc more) = copyMarks i ++ copies (suc i) more
 
+-- ---- global g : [0..m] init v;
+
+abbrev pub sharedMarks : Option Shared → List Mark
+sharedMarks none = []
+sharedMarks (some s) =
+    sign "global" ∷ sign "g" ∷ sign ":" ∷ sign "[" ∷ number 0 ∷ sign ".." ∷ number (s .most) ∷ sign "]" ∷ sign "init" ∷ number (s .start) ∷ sign ";" ∷ []
+
 -- ---- the card
 
 pub data CardMarks : Card → List Mark → Type 0 where
-  card : {mode : Mode} {more k l : ℕ} {x : Statement} {xs : List Statement} {ms ns : List Mark}
+  card : {mode : Mode} {shared : Option Shared} {more k l : ℕ} {x : Statement} {xs : List Statement} {ms ns : List Mark}
       → StatementMarks x ms → Repeated StatementMarks xs ns
-      → CardMarks (record { mode = mode; n = suc more; k = k; l = l; statements = x ∷ xs })
-      (sign (modeWord mode) ∷ sign "module" ∷ process 1
+      → CardMarks (record { mode = mode; shared = shared; n = suc more; k = k; l = l; statements = x ∷ xs })
+      (sign (modeWord mode) ∷ (sharedMarks shared ++ (sign "module" ∷ process 1
       ∷ seat 1 ∷ sign ":" ∷ sign "[" ∷ number 0 ∷ sign ".." ∷ number k ∷ sign "]" ∷ sign "init" ∷ number l ∷ sign ";"
-      ∷ (ms ++ (ns ++ (sign "endmodule" ∷ copies 2 more))))
+      ∷ (ms ++ (ns ++ (sign "endmodule" ∷ copies 2 more))))))

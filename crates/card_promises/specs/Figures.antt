@@ -1,6 +1,6 @@
 -- The documents' figures, each beside the name by which every definition and every contract speaks of it. Assumes nothing.
 use mathlib.Core.Path.{_≡_}
-use Rattle.card.specs.Limits.{cardBytes, mostSeats, topState, mostStatements, mostBranches, mostNodes, mostDepth, numberDigits, furtherDigits, wordDigits, unit, weightDigits}
+use Rattle.card.specs.Limits.{cardBytes, mostSeats, topState, topShared, mostStatements, mostBranches, mostNodes, mostDepth, numberDigits, furtherDigits, wordDigits, unit, weightDigits}
 use Rattle.card.specs.Limits.{deckBytes, mostCards, countBytes, entryBytes, offsetAt, sizeAt, flagAt, zeroByteAt, expansionFrom}
 use Rattle.card.specs.Refusals.{tooLong, outsideRules, outOfShape, pastLimit, aboveTop, notDue, wrongWeight, wrongSeats, seatAboveTop, roomTooSmall}
 use Rattle.card.specs.Limits.{topClass, publicClasses}
@@ -78,11 +78,13 @@ pub record Figures : Type 0 where
   pub too-many-vectors : tooManyVectors ≡ 14
   pub too-many-nights : tooManyNights ≡ 15
   pub wrong-row : wrongRow ≡ 16
+  -- document 02, 2026-10: the most that the shared number may be
+  pub top-shared : topShared ≡ 7
   -- document 02, 2026-11: a decimal under a rule that takes none
   pub decimal-weight : decimalWeight ≡ 17
   -- rooms that every text fits into; they are the project's own figures
-  pub written-room : writtenRoom ≡ 83151
-  pub reduced-room : reducedRoom ≡ 356082
-  pub panel-room : panelRoom ≡ 4357
+  pub written-room : writtenRoom ≡ 85481
+  pub reduced-room : reducedRoom ≡ 392972
+  pub panel-room : panelRoom ≡ 5774
   pub classes-room : classesRoom ≡ 25
   pub list-room : listRoom ≡ 640

@@ -6,10 +6,10 @@ use mathlib.Core.List.{List, [], _∷_, _++_, append-assoc, append-nil, map}
 use mathlib.Core.Option.{Option, none, some}
 use native.Mathlib.Omega.{arith}
 use lib.ListN.{length, set, length-append, length-map}
-use Rattle.card.specs.Limits.{mostStatements, rowNumbers, mostNodes, mostBranches, nodePlaces, branchPlaces, topState, numbers, unit}
-use Rattle.card.specs.Card.{Formula, Guard, Branch, Statement, Card}
+use Rattle.card.specs.Limits.{mostShared, mostStatements, rowNumbers, mostNodes, mostBranches, nodePlaces, branchPlaces, topState, numbers, unit}
+use Rattle.card.specs.Card.{Formula, Guard, Branch, Statement, Shared, Card}
 use Rattle.card.specs.Weight.{Rule}
-use Rattle.card.specs.Valid.{Every, ValidGuard, ValidBranch, ValidStatement, ValidCard}
+use Rattle.card.specs.Valid.{valuesOf, Every, ValidGuard, ValidSet, ValidBranch, ValidStatement, ValidShared, ValidCard}
 use Rattle.card.specs.Laid.{branchNumber, guardCells, guardSize, zeros, padded, rows, nodeRow, branchRow, statementRow, statementRows, laid}
 use Rattle.card.specs.Rows.{rowsOf}
 use Rattle.card.specs.Lent.{Lent, lent, lentOf, noneLent}
@@ -19,13 +19,13 @@ use Rattle.card.proofs.Packed.{packed-branch}
 use Rattle.card.proofs.Filling.{FewNodes, FewBranches, fill-nodes, fill-branches, fill-statements}
 use Rattle.card.proofs.LaidBack.{length-statement-rows}
 use Rattle.reading.specs.Reader.{Numbered}
-use Rattle.reading.specs.Group.{Literals}
+use Rattle.reading.specs.Group.{Tested}
 use Rattle.reading.specs.Judgements.{Judgement, sum, fine, firstBroken, unitsIn}
 use Rattle.reading.specs.Shape.{BranchShape, StatementShape, CardShape}
-use Rattle.reading.specs.Checks.{judgedState, judgedWords, judgedOr, weightIn, judgedBranch, judgedEach, judgedStatement, judgedModules, judgedCard, branchIn, guardOr, statementIn, seatsIn, cardIn}
+use Rattle.reading.specs.Checks.{judgedState, judgedWords, judgedOr, weightIn, judgedBranch, judgedEach, judgedStatement, judgedModules, judgedShared, mostIn, judgedCard, valueOr, branchIn, guardOr, statementIn, seatsIn, sharedIn, cardIn}
 use Rattle.late.specs.Late.{guardBy}
 use Rattle.late.proofs.Settling.{fine-cons, fine-append, same-guard}
-use Rattle.branches.specs.Branches.{packedIn}
+use Rattle.branches.specs.Branches.{setIn, packedIn}
 use Rattle.statement_head.specs.StatementHead.{guardOrBy}
 use Rattle.statements.specs.OneStatement.{rowBy, withStatement}
 use Rattle.statements.specs.Statements.{filled}
@@ -68,37 +68,43 @@ record Fits (n : ℕ) (x : StatementShape) : Type 0 where
   branches : map packedIn (x .branches) ≡ map branchNumber (map branchIn (x .branches))
   few : Few (statementIn n x)
 
-abbrev inBranches : Rule → ℕ → StatementShape → List Judgement
-inBranches decimals k x = judgedEach (judgedBranch decimals k) (x .branches) ++ (sum (map weightIn (x .branches)) (x .close) ∷ [])
+abbrev inBranches : Rule → ℕ → ℕ → StatementShape → List Judgement
+inBranches decimals k m x = judgedEach (judgedBranch decimals k m) (x .branches) ++ (sum (map weightIn (x .branches)) (x .close) ∷ [])
 
-module _ (decimals : Rule) (n k : ℕ) where
-  guard-fits : (g : Option (Formula Literals)) → firstBroken n (judgedOr k g) ≡ fine → guardOrBy g ≡ guardOr n g
+-- m is the most that the shared number may be, and `values` how many values it has
+module _ (decimals : Rule) (n k m values : ℕ) where
+  guard-fits : (g : Option (Formula Tested)) → firstBroken n (judgedOr k m g) ≡ fine → guardOrBy g ≡ guardOr n g
   guard-fits none h = refl
-  guard-fits (some g) h = ap some (same-guard n k g h)
+  guard-fits (some g) h = ap some (same-guard n k m g h)
 
-  branches-fit : (bs : List BranchShape) → k ≤ topState → Every (ValidBranch k) (map branchIn bs) → map packedIn bs ≡ map branchNumber (map branchIn bs)
-  branches-fit [] t h = refl
-  branches-fit (b ∷ bs) t h = rw (packed-branch (unitsIn (b .weight)) (b .end .value) (h .0 .units) (omega (arith, h .0 .end)), branches-fit bs t (h .1))
+  set-small : (v : Option Numbered) → values ≤ mostShared → ValidSet values (valueOr v) → setIn v ≤ numbers
+  set-small none few h = omega arith
+  set-small (some v) few h = omega arith
 
-  few-nodes : (g : Option Guard) → ValidGuard n k g → guardSize g ≤ mostNodes
+  branches-fit : (bs : List BranchShape) → k ≤ topState → values ≤ mostShared → Every (ValidBranch k values) (map branchIn bs) → map packedIn bs ≡ map branchNumber (map branchIn bs)
+  branches-fit [] t few h = refl
+  branches-fit (b ∷ bs) t few h =
+      rw (packed-branch (unitsIn (b .weight)) (setIn (b .sets)) (b .end .value) (h .0 .units) (set-small (b .sets) few (h .0 .sets)) (omega (arith, h .0 .end)), branches-fit bs t few (h .1))
+
+  few-nodes : (g : Option Guard) → ValidGuard n k values g → guardSize g ≤ mostNodes
   few-nodes none h = omega arith
   few-nodes (some g) h = h .2
 
-  statement-fits : (x : StatementShape) → k ≤ topState → firstBroken n (judgedStatement decimals k x) ≡ fine → ValidStatement n k (statementIn n x) → Fits n x
-  statement-fits x t h v =
-      let own = fine-append n (judgedWords (1 ∷ []) (x .words)) (judgedState k (x .own) ∷ (judgedOr k (x .guard) ++ inBranches decimals k x)) h .1 in
-      let guard = fine-append n (judgedOr k (x .guard)) (inBranches decimals k x) (fine-cons n (judgedState k (x .own)) (judgedOr k (x .guard) ++ inBranches decimals k x) own .1) .0 in
+  statement-fits : (x : StatementShape) → k ≤ topState → values ≤ mostShared → firstBroken n (judgedStatement decimals k m x) ≡ fine → ValidStatement n k values (statementIn n x) → Fits n x
+  statement-fits x t l h v =
+      let own = fine-append n (judgedWords (1 ∷ []) (x .words)) (judgedState k (x .own) ∷ (judgedOr k m (x .guard) ++ inBranches decimals k m x)) h .1 in
+      let guard = fine-append n (judgedOr k m (x .guard)) (inBranches decimals k m x) (fine-cons n (judgedState k (x .own)) (judgedOr k m (x .guard) ++ inBranches decimals k m x) own .1) .0 in
       record {
         guard = guard-fits (x .guard) guard;
-        branches = branches-fit (x .branches) t (v .branches);
+        branches = branches-fit (x .branches) t l (v .branches);
         few = (few-nodes (guardOr n (x .guard)) (v .guard), v .some .1);
       }
 
-  all-fit : (xs : List StatementShape) → k ≤ topState → firstBroken n (judgedEach (judgedStatement decimals k) xs) ≡ fine → Every (ValidStatement n k) (map (statementIn n) xs) → Every (Fits n) xs
-  all-fit [] t h v = tt
-  all-fit (x ∷ xs) t h v =
-      let both = fine-append n (judgedStatement decimals k x) (judgedEach (judgedStatement decimals k) xs) h in
-      (statement-fits x t (both .0) (v .0), all-fit xs t (both .1) (v .1))
+  all-fit : (xs : List StatementShape) → k ≤ topState → values ≤ mostShared → firstBroken n (judgedEach (judgedStatement decimals k m) xs) ≡ fine → Every (ValidStatement n k values) (map (statementIn n) xs) → Every (Fits n) xs
+  all-fit [] t l h v = tt
+  all-fit (x ∷ xs) t l h v =
+      let both = fine-append n (judgedStatement decimals k m x) (judgedEach (judgedStatement decimals k m) xs) h in
+      (statement-fits x t l (both .0) (v .0), all-fit xs t l (both .1) (v .1))
 
 -- ---- statement by statement
 
@@ -145,13 +151,19 @@ none-yet = refl
 
 -- ---- the card's arrays
 
+few-values : (o : Option Shared) → ValidShared o → valuesOf o ≤ mostShared
+few-values none h = omega arith
+few-values (some x) h = omega (arith, h .0)
+
 pub card-lent : (decimals : Rule) (c : CardShape) → firstBroken (seatsIn c) (judgedCard decimals c) ≡ fine → ValidCard (cardIn c) → filled 0 (c .statements) noneLent ≡ lentOf (cardIn c)
 unfolding laid
 card-lent decimals c h v =
     let n = seatsIn c in
-    let body = judgedEach (judgedStatement decimals (c .k)) (c .statements) ++ judgedModules 2 (c .modules) in
-    let words = fine-append n (judgedWords (1 ∷ 1 ∷ []) (c .words)) (judgedState (c .k) (c .l) ∷ body) h .1 in
-    let each = fine-append n (judgedEach (judgedStatement decimals (c .k)) (c .statements)) (judgedModules 2 (c .modules)) (fine-cons n (judgedState (c .k) (c .l)) body words .1) .0 in
-    let fit = all-fit decimals n (c .k) (c .statements) (v .top) each (v .statements) in
+    let m = mostIn (c .shared) in
+    let body = judgedEach (judgedStatement decimals (c .k) m) (c .statements) ++ judgedModules 2 (c .modules) in
+    let behind = fine-append n (judgedShared (c .shared)) (judgedWords (1 ∷ 1 ∷ []) (c .words) ++ (judgedState (c .k) (c .l) ∷ body)) h .1 in
+    let words = fine-append n (judgedWords (1 ∷ 1 ∷ []) (c .words)) (judgedState (c .k) (c .l) ∷ body) behind .1 in
+    let each = fine-append n (judgedEach (judgedStatement decimals (c .k) m) (c .statements)) (judgedModules 2 (c .modules)) (fine-cons n (judgedState (c .k) (c .l)) body words .1) .0 in
+    let fit = all-fit decimals n (c .k) m (valuesOf (sharedIn (c .shared))) (c .statements) (v .top) (few-values (sharedIn (c .shared)) (v .shared)) each (v .statements) in
     let few : length (c .statements) ≤ mostStatements = rw (length-map (c .statements) (statementIn n)) at (v .some .1) in
     ap (filled 0 (c .statements)) none-yet ∙ all-filled n (c .statements) [] 0 refl tt fit (omega arith)

@@ -1,11 +1,14 @@
 // A card of no more bytes than a card may have: its beginning, its statements and its further modules, one after the other.
+use branches::Bounds;
 use card::Head;
 use card::limits::BRANCH_PLACES;
 use card::limits::NODE_PLACES;
 use card::limits::ROW_PLACES;
 use copies::modules as further_modules;
 use frame::header::header as beginning;
+use late::state::INITIAL;
 use late::state::MODE;
+use late::state::SHARED;
 use late::state::START;
 use late::state::STATE;
 use late::state::STOP;
@@ -43,18 +46,16 @@ pub fn read_short(
         return refused(search(card, state[STOP], state[STOP_PLACE]));
     }
     let mode = state[MODE];
+    let values = state[SHARED];
+    let initial = state[INITIAL];
     let top = state[TOP];
     let start = state[START];
-    let list = all_statements(
-        card,
-        begun,
+    let bounds = Bounds {
         top,
-        rows,
-        nodes,
-        branches,
+        values,
         decimals,
-        &mut state,
-    );
+    };
+    let list = all_statements(card, begun, bounds, rows, nodes, branches, &mut state);
     if list == 0 {
         return stopped(card, state[STOP], state[STOP_PLACE], rows, nodes, branches);
     }
@@ -66,6 +67,8 @@ pub fn read_short(
     let seats = state[VALUE];
     let head = Head {
         mode,
+        shared: values,
+        initial,
         seats,
         top,
         start,

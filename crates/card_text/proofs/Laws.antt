@@ -30,10 +30,10 @@ modules-counted i zero r = refl
 modules-counted i (suc c) r = rw (add-one, modules-counted (suc i) c r)
 
 pub write-text : (c : Card) {a b : List ℕ} {m : ℕ}
-    → Puts a b 0 (λ r. headText (c .mode) (c .k) (c .l) (statementsText 0 c ("endmodule\n" ▸ modules 1 (c .n - 1) r))) m → Put a b 0 (writeOf c) m
+    → Puts a b 0 (λ r. headText (c .mode) (c .shared) (c .k) (c .l) (statementsText 0 c ("endmodule\n" ▸ modules 1 (c .n - 1) r))) m → Put a b 0 (writeOf c) m
 unfolding writeOf
 write-text c p =
-    put-as (ap (headText (c .mode) (c .k) (c .l)) (sym (written-each (c .mode) (c .n) (c .statements) ("endmodule\n" ▸ modules 1 (c .n - 1) [])))) (p .put)
+    put-as (ap (headText (c .mode) (c .shared) (c .k) (c .l)) (sym (written-each (c .mode) (c .n) (c .statements) ("endmodule\n" ▸ modules 1 (c .n - 1) [])))) (p .put)
 
 -- ---- of a head and arrays that hold a card
 

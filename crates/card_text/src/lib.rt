@@ -9,13 +9,14 @@ use phrases::put_mode;
 use phrases::put_numbered;
 use room::place;
 use room::put_bytes;
+use shared_text::put_declaration;
 use statement_text::put_statements;
 ghost use mathlib.Core.Path.{_≡_};
 ghost use lib.ListN.{length};
 ghost use Prim.Native.Nat.{_-_, _≤_};
 ghost use Rattle.card.specs.Limits.{mostSeats, mostStatements};
 ghost use Rattle.card.specs.Card.{nondeterministic, probabilistic};
-ghost use Rattle.card.specs.Laid.{either};
+ghost use Rattle.card.specs.Laid.{either, sharedOf};
 ghost use Rattle.card.specs.Lent.{lent, cardIn, HoldsIn};
 ghost use Rattle.room.specs.Room.{Put};
 ghost use Rattle.phrases.specs.Puts.{Puts};
@@ -47,12 +48,13 @@ fn put_modules(room: &mut [u8], at: usize, seats: usize) -> usize
 
 // All before the statements.
 fn put_head(room: &mut [u8], at: usize, head: Head) -> usize
-    ensures { λ r. ⌜ Puts (now (room .entry)) (now (room .exit)) at (headText (either nondeterministic probabilistic (head .mode)) (head .top) (head .start)) r ⌝ }
+    ensures { λ r. ⌜ Puts (now (room .entry)) (now (room .exit)) at (headText (either nondeterministic probabilistic (head .mode)) (sharedOf (head .shared) (head .initial)) (head .top) (head .start)) r ⌝ }
 {
     let a = put_mode(room, at, head.mode);
-    let b = put_numbered(room, a, b"\nmodule process1\ns1 : [0..", head.top);
-    let c = put_numbered(room, b, b"] init ", head.start);
-    put_bytes(room, c, b";\n")
+    let b = put_declaration(room, a, head.shared, head.initial);
+    let c = put_numbered(room, b, b"\nmodule process1\ns1 : [0..", head.top);
+    let d = put_numbered(room, c, b"] init ", head.start);
+    put_bytes(room, d, b";\n")
 }
 
 // The whole card.
@@ -87,9 +89,9 @@ pub fn written_length<'a>(
 }
 
 // What each part of a written card comes to at most (texts/specs/Lengths.antt).
-const HEAD_MOST: usize = 63;
+const HEAD_MOST: usize = 89;
 
-const BARE_MOST: usize = 161 + MOST_BRANCHES * WEIGHT_MOST;
+const BARE_MOST: usize = 233 + MOST_BRANCHES * WEIGHT_MOST;
 
 const SEAT_MOST: usize = 144;
 

@@ -10,7 +10,7 @@ use room::Answer;
 use seating::judge_each;
 ghost use mathlib.Core.Path.{_≡_};
 ghost use Prim.Native.Nat.{_≤_};
-ghost use lib.ListN.{length};
+ghost use lib.ListN.{length, take};
 ghost use Rattle.entry.specs.Said.{says as text};
 ghost use Rattle.room.specs.Answer.{Entered};
 ghost use Rattle.classes.specs.Classes.{classOf, classCounts, classesText};
@@ -39,13 +39,16 @@ fn class_of(classes: &[u8], state: usize) -> usize
     0
 }
 
-// How many seats are in each class; a class above the top is passed over.
-pub fn count_classes(seats: &[u8], classes: &[u8]) -> [usize; PUBLIC_CLASSES]
-    ensures { λ r. ⌜ r ≡ classCounts (now (classes .entry)) (now (seats .entry)) ⌝ }
+// How many of the first n seats are in each class; a class above the top is passed over.
+pub fn count_classes(seats: &[u8], n: usize, classes: &[u8]) -> [usize; PUBLIC_CLASSES]
+    ensures { λ r. ⌜ r ≡ classCounts (now (classes .entry)) (take n (now (seats .entry))) ⌝ }
 {
     let mut counts: [usize; PUBLIC_CLASSES] = [0; PUBLIC_CLASSES];
     let mut i = 0;
-    while i < seats.len() {
+    while i < n {
+        if seats.len() <= i {
+            return counts;
+        }
         let state = wide(seats[i]);
         let class = class_of(classes, state);
         if class < PUBLIC_CLASSES {

@@ -13,7 +13,7 @@ use Rattle.entry.specs.Said.{refused}
 use Rattle.entry.specs.Stage.{Stage}
 use Rattle.entry.proofs.Exactly.{_↔∙_}
 use Rattle.seating.specs.SeatsSaid.{verdictSaid}
-use Rattle.seating.specs.Judged.{judgedFrom, FirstAbove}
+use Rattle.seating.specs.Judged.{judgedBy, FirstAbove}
 use Rattle.seating.proofs.Judging.{Within, within-at, first-only, fine≢refused, same-refusal, judged-ways}
 use Rattle.seating.proofs.SeatsStage.{verdict-refused, verdict-fine}
 use Rattle.classes.specs.Classes.{ValidClasses}
@@ -43,7 +43,7 @@ module _ (k : ℕ) (list : List ℕ) where
       ))
       (λ h q f e. (
         λ z. inr (h, rw (same-refusal (sym e ∙ z) .1) at f),
-        ⊎-elim (λ g. absurd (g .0 h)) (λ g. e ∙ ap (Refused wrongClasses) (first-only topClass list q p f (g .1))),
+        ⊎-elim (λ g. absurd (g .0 h)) (λ g. e ∙ ap (Refused wrongClasses) (first-only (λ i. topClass) list q p f (g .1))),
       ))
       (λ h w e. (
         λ z. fine≢refused (sym e ∙ z),

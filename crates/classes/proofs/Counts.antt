@@ -12,7 +12,7 @@ use lib.Seq.{take-all}
 use Rattle.card.specs.Limits.{topClass, publicClasses}
 use Rattle.card.specs.Valid.{Every}
 use Rattle.meaning.specs.Sums.{gate, sum, upto}
-use Rattle.meaning.specs.Seats.{Seating, count, counts}
+use Rattle.meaning.specs.Seats.{count, counts}
 use Rattle.meaning.specs.Reduced.{noOf}
 use Rattle.meaning.proofs.Sums.{gate-zero, sum-every, sum-one, sum-gate, sum-map, length-upto, upto-cong, every-upto, sumBelow, sum-upto, below-cong, below-exchange, below-pick}
 use Rattle.meaning.proofs.Counting.{Within, no-count, count-le}
@@ -26,7 +26,7 @@ gate-swap : (b c : Bool) (w : ℕ) → gate b (gate c w) ≡ gate c (gate b w)
 gate-swap true c w = refl
 gate-swap false c w = sym (gate-zero c)
 
-module _ (k : ℕ) (list : List ℕ) (x : Seating) (long : length list ≡ suc k) (w : Within k x) where
+module _ (k : ℕ) (list : List ℕ) (x : List ℕ) (long : length list ≡ suc k) (w : Within k x) where
   class-by-counts : (g : ℕ) → inClass list x g ≡ inClassAt list (counts k x) g
   class-by-counts g = sym (states ∙ by-seats ∙ below-exchange (suc k) (λ d a. gate (here d) (gate (eqb a d) 1)) x ∙ sum-every x w each)
     where
@@ -51,7 +51,7 @@ module _ (k : ℕ) (list : List ℕ) (x : Seating) (long : length list ≡ suc k
 
 -- ---- all of them together
 
-pub adds-up : (k : ℕ) (list : List ℕ) (x : Seating) → ValidClasses k list → Within k x → sum (λ v. v) (classCounts list x) ≡ length x
+pub adds-up : (k : ℕ) (list : List ℕ) (x : List ℕ) → ValidClasses k list → Within k x → sum (λ v. v) (classCounts list x) ≡ length x
 unfolding classCounts
 adds-up k list x ok w =
     below-exchange publicClasses (λ g a. gate (eqb (classOf list a) g) 1) x ∙ sum-every x w one ∙ sum-one x
@@ -63,7 +63,7 @@ adds-up k list x ok w =
 
 -- ---- none is above the number of seats
 
-module _ (list : List ℕ) (x : Seating) where
+module _ (list : List ℕ) (x : List ℕ) where
   -- the seats' classes, seat by seat
   abbrev seatsClasses : List ℕ
   seatsClasses = map (classOf list) x
@@ -103,14 +103,15 @@ pub classes-none : (list : List ℕ) → replicate publicClasses 0 ≡ classCoun
 unfolding classCounts
 classes-none list = refl
 
-module _ (list : List ℕ) (x : Seating) (i : ℕ) where
+module _ (list : List ℕ) (x : List ℕ) (i : ℕ) where
   part-counts : classCounts list (take i x) ≡ counts topClass (take i (seatsClasses list x))
   part-counts = as-counts list (take i x) ∙ ap (counts topClass) (map-take (classOf list) i x)
 
-  pub classes-all : length x ≤ i → classCounts list (take i x) ≡ classCounts list x
-  classes-all h = ap (classCounts list) (take-all i x h)
+  -- behind the last seat there is none
+  pub classes-all : (n : ℕ) → length x ≤ i → i ≤ n → classCounts list (take i x) ≡ classCounts list (take n x)
+  classes-all n h l = ap (classCounts list) (take-all i x h ∙ sym (take-all n x (omega arith)))
 
-module _ (list : List ℕ) (x : Seating) (i : ℕ) (l : i < length x) {v : List ℕ} (e : v ≡ classCounts list (take i x)) where
+module _ (list : List ℕ) (x : List ℕ) (i : ℕ) (l : i < length x) {v : List ℕ} (e : v ≡ classCounts list (take i x)) where
   seat-there : i < length (seatsClasses list x)
   seat-there = omega (arith, length-map x (classOf list), l)
 

@@ -13,11 +13,10 @@ use Rattle.room.proofs.Decimal.{decimal-length}
 use Rattle.phrases.specs.Phrases.{_▸_, num}
 use Rattle.panel_wording.specs.PanelText.{numbers, line}
 use Rattle.meaning.specs.Sums.{sum}
-use Rattle.meaning.specs.Seats.{Seating}
 use Rattle.meaning.proofs.Sums.{every-imp}
 use Rattle.meaning.proofs.Counting.{Within}
 use Rattle.shown.proofs.Telling.{line-cancel}
-use Rattle.classes.specs.Classes.{ValidClasses, classCounts, classesText, watchOf}
+use Rattle.classes.specs.Classes.{ValidClasses, classCounts, classesText}
 use Rattle.classes.specs.ClassesRoom.{classesRoom}
 use Rattle.classes.proofs.Counts.{adds-up, each-most, how-many}
 
@@ -46,8 +45,8 @@ numbers-short [] r e = omega arith
 numbers-short (v ∷ l) r e = omega (arith, length-append (decimal v) (numbers l r), number-short v (e .0), numbers-short l r (e .1))
 
 -- the counts add up to the seats, so one of them at most has two digits
-pub fits : (k : ℕ) (list : List ℕ) (x : Seating) → ValidClasses k list → Within k x → length x ≤ mostSeats → length (watchOf list x) ≤ classesRoom
-unfolding watchOf classesText
+pub fits : (k : ℕ) (list : List ℕ) (x : List ℕ) → ValidClasses k list → Within k x → length x ≤ mostSeats → length (classesText (classCounts list x)) ≤ classesRoom
+unfolding classesText
 fits k list x ok w few =
     let small : (v : ℕ) → v ≤ length x → v < 100 = λ v h. omega arith in
     let low : Every (λ v. v < 100) (classCounts list x) = every-imp (λ v. v ≤ length x) (classCounts list x) (each-most list x) small in

@@ -1,5 +1,5 @@
--- What a spectator sees of the seats (document 02, 2026-05): how many are in each public class, by a list that gives each state its class.
--- Assumes nothing.
+-- What a spectator sees of the seats (document 02, 2026-05): how many are in each public class, by a list that gives each state its class. The
+-- shared number is not shown (2026-10). Assumes nothing.
 use Prim.Native.Nat.{ℕ, suc, _≤_}
 use mathlib.Core.Path.{_≡_}
 use mathlib.Core.List.{List, []}
@@ -24,11 +24,11 @@ pub record ValidClasses (k : ℕ) (list : List ℕ) : Type 0 where
 -- ---- by seats
 
 -- how many seats are in a state of class g
-abbrev pub inClass : List ℕ → Seating → ℕ → ℕ
+abbrev pub inClass : List ℕ → List ℕ → ℕ → ℕ
 inClass list x g = sum (λ a. gate (eqb (classOf list a) g) 1) x
 
 -- the class counts: of class 0, 1 and so on
-unfoldable pub classCounts : List ℕ → Seating → List ℕ
+unfoldable pub classCounts : List ℕ → List ℕ → List ℕ
 classCounts list x = upto publicClasses (inClass list x)
 
 -- ---- from the counts of the states
@@ -48,4 +48,4 @@ classesText v = line "classes" v []
 
 unfoldable pub watchOf : List ℕ → Seating → List ℕ
 unfolding classCounts classesText
-watchOf list x = classesText (classCounts list x)
+watchOf list x = classesText (classCounts list (x .each))

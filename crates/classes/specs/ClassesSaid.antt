@@ -11,12 +11,12 @@ use Rattle.card.specs.declared.Verdict.{Verdict}
 use Rattle.card.specs.declared.Verdict.the-variants.{Refused}
 use Rattle.entry.specs.Said.{Said}
 use Rattle.entry.specs.Numbers.{Numbers, only}
-use Rattle.seating.specs.Judged.{judgedFrom, judgedList, FirstAbove}
+use Rattle.seating.specs.Judged.{judgedBy, judgedList, FirstAbove}
 use Rattle.seating.specs.SeatsSaid.{verdictSaid}
 
 -- its length first, then its classes
 unfoldable pub judgedClasses : ℕ → List ℕ → Verdict
-unfolding judgedFrom
+unfolding judgedBy
 judgedClasses k list = judgedList (suc k) topClass (Refused wrongClasses (length list)) wrongClasses list
 
 abbrev pub classesSaid : List ℕ → Card → Said (Unit {0})

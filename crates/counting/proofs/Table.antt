@@ -7,10 +7,11 @@ use mathlib.Core.List.{List}
 use lib.ListN.{getD}
 use Rattle.card.specs.Laid.{opLeaf, opNot, opAnd, opOf, leftOf, rightOf, leafOf, guardAt}
 use Rattle.card.proofs.GuardAt.{guard-at-leaf, guard-at-not, guard-at-and, guard-at-or}
+use Rattle.meaning.specs.Position.{Position}
 use Rattle.meaning.specs.Reduced.{counterOf, passes}
 use Rattle.meaning.specs.ByCounts.{heldAt}
 
-module _ (nodes : List ℕ) (root own n : ℕ) (v : List ℕ) (x : ℕ) (is : x ≡ getD nodes root 0) where
+module _ (nodes : List ℕ) (root own n : ℕ) (v : Position) (x : ℕ) (is : x ≡ getD nodes root 0) where
   pub held-leaf : (opOf x ≡ opLeaf) ⊎ (root ≡ 0) → passes v (counterOf n own (leafOf x)) ≡ heldAt n own v (guardAt nodes root)
   held-leaf h = rw (guard-at-leaf nodes root x is h)
 

@@ -11,7 +11,7 @@ use lib.ListN.{length, getD, take, drop, set, replicate, length-set, length-drop
 use lib.Seq.{getD-set-same, getD-set-other, getD-drop, set-out, take-suc, take-all, ext-getD}
 use Rattle.card.specs.Limits.{mostStates}
 use Rattle.card.specs.Card.{Branch}
-use Rattle.card.specs.Laid.{branchOf, unitsPart, endPart}
+use Rattle.card.specs.Laid.{branchOf, unitsPart, setOf, setPart, endPart}
 use Rattle.meaning.specs.Sums.{gate}
 use Rattle.meaning.specs.ByCounts.{unitsTo}
 use Rattle.meaning.proofs.Sums.{length-upto, getD-upto, sum-append, map-append}
@@ -62,7 +62,7 @@ module _ (branches : List ℕ) (at i : ℕ) where
   unfolding branchOf
   each-next x {end} {units} is l e f h {v} p =
       let here : i < length (drop at branches) = rw length-drop (omega arith) in
-      let b : Branch = record { units = unitsPart x; end = endPart x } in
+      let b : Branch = record { units = unitsPart x; end = endPart x; sets = setOf (setPart x) } in
       rw (p, add-one i, take-suc (drop at branches) i 0 here, getD-drop at branches i 0, ← is, map-append branchOf (take i (drop at branches)) (x ∷ []), e, f)
       (each-more (map branchOf (take i (drop at branches))) b (rw (← e) h))
 

@@ -17,35 +17,43 @@ ghost use Prim.Native.Nat.{_+_, min};
 ghost use lib.ListN.{take, drop};
 ghost use Rattle.card.specs.Limits.{mostBranches};
 ghost use Rattle.card.specs.Laid.{guardAt, branchOf};
+ghost use Rattle.meaning.specs.Position.{position};
 ghost use Rattle.meaning.specs.ByCounts.{heldAt};
 ghost use Rattle.panel_numbers.specs.Taking.{unitsToEach};
 
 // Does the guard whose root is node `root` hold for a seat in state `own`, of n seats? Node numbers fall.
-pub fn held(nodes: &[u32], root: usize, own: usize, n: usize, counts: &[usize]) -> bool
-    ensures { λ r. ⌜ r ≡ heldAt n own (now (counts .entry)) (guardAt (now (nodes .entry)) root) ⌝ }
+pub fn held(
+    nodes: &[u32],
+    root: usize,
+    own: usize,
+    n: usize,
+    counts: &[usize],
+    shared: usize,
+) -> bool
+    ensures { λ r. ⌜ r ≡ heldAt n own (position (now (counts .entry)) shared) (guardAt (now (nodes .entry)) root) ⌝ }
 {
     let node = number_at(nodes, root);
     let op = op_of(node);
     if root == 0 {
-        return leaf_holds(node, own, n, counts);
+        return leaf_holds(node, own, n, counts, shared);
     }
     if op == LEAF {
-        return leaf_holds(node, own, n, counts);
+        return leaf_holds(node, own, n, counts, shared);
     }
-    let left = held(nodes, left_of(node, root), own, n, counts);
+    let left = held(nodes, left_of(node, root), own, n, counts, shared);
     if op == NOT {
         return !left;
     }
     if op == AND {
         if left {
-            return held(nodes, right_of(node, root), own, n, counts);
+            return held(nodes, right_of(node, root), own, n, counts, shared);
         }
         return false;
     }
     if left {
         return true;
     }
-    held(nodes, right_of(node, root), own, n, counts)
+    held(nodes, right_of(node, root), own, n, counts, shared)
 }
 
 // The units of `size` branches from `at` on, by where they end; no statement has more than MOST_BRANCHES.

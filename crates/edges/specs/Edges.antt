@@ -11,6 +11,7 @@ use Rattle.card.specs.Card.{Mode, nondeterministic, probabilistic, others, all,
 use Rattle.marks_on_a_card.specs.Marks.{text, seat, process, number, decimal, outside, Placed, placed, marksOf}
 use Rattle.reading.specs.Reading.{Outcome, taken, refused, firstOutside, readUnder, readOf}
 use Rattle.room.specs.Digits.{decimal as digitsOf}
+use Rattle.meaning.specs.Position.{position}
 use Rattle.meaning.specs.CardA.{cardA}
 use Rattle.panel_wording.specs.PanelText.{panelOf}
 
@@ -25,7 +26,7 @@ textA nondeterministic = bytes "nondeterministic" ++ behindMode
 
 -- what card A's panel prints, where the seats are in these states
 abbrev pub at : Mode → ℕ → ℕ → ℕ → List ℕ
-at mode a b c = panelOf (cardA mode) (a ∷ b ∷ c ∷ [])
+at mode a b c = panelOf (cardA mode) (position (a ∷ b ∷ c ∷ []) 0)
 
 abbrev pub asAbove : List ℕ
 asAbove = bytes "probabilistic\nseats 3 enabled 3\ncounts 2 1 0\nstay 207900\nmove 0 1 277200\nmove 0 2 277200\nmove 1 2 69300\n"
@@ -43,10 +44,10 @@ three = two ++ bytes "module process3 = process1 [s1=s3, s3=s1] endmodule\n"
 
 -- read as a card of n seats with this guard and these branches
 abbrev pub reads : ℕ → Option Guard → List Branch → Outcome
-reads n guard branches = taken (record { mode = probabilistic; n = n; k = 2; l = 0; statements = record { own = 0; guard = guard; branches = branches } ∷ [] })
+reads n guard branches = taken (record { mode = probabilistic; shared = none; n = n; k = 2; l = 0; statements = record { own = 0; guard = guard; branches = branches } ∷ [] })
 
 abbrev pub to : ℕ → ℕ → Branch
-to units end = record { units = units; end = end }
+to units end = record { units = units; end = end; sets = none }
 
 -- ---- the edges
 

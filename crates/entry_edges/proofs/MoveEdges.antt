@@ -2,13 +2,13 @@
 use mathlib.Core.Path.{refl}
 use Rattle.card.specs.Weight.{unitsOf}
 use Rattle.reading.specs.Reading.{readUnder}
-use Rattle.seating.specs.Judged.{judgedSeats, judgedFrom}
+use Rattle.seating.specs.Judged.{judgedSeats, judgedBy}
 use Rattle.moving.specs.FirstMove.{firstMove}
 use Rattle.move_said.specs.MoveSaid.{moveSaid}
 use Rattle.entry_edges.specs.MoveEdges.{MoveEdges}
 
 pub move-edges : MoveEdges
-unfolding moveSaid readUnder unitsOf judgedSeats judgedFrom firstMove
+unfolding moveSaid readUnder unitsOf judgedSeats judgedBy firstMove
 move-edges = record {
   at-001 = (refl, refl);
   at-100 = (refl, refl);

@@ -1,9 +1,10 @@
 -- The demands, by citing. Assumes nothing.
 use Prim.Native.Nat.{ℕ}
-use Rattle.meaning.proofs.Vectors.{same-right}
+use Rattle.meaning.proofs.Vectors.{position-right}
 use mathlib.Core.Path.{ap}
 use mathlib.Core.List.{List}
 use lib.ListN.{length}
+use Rattle.meaning.specs.Position.{Position}
 use Rattle.meaning.specs.Steps.{Step}
 use Rattle.meaning.specs.Seats.{Seating}
 use Rattle.meaning.specs.Reduced.{reduce}
@@ -12,7 +13,9 @@ use Rattle.meaning.proofs.Stuck.{nothing-taken, stuck, moving, stuck-step, none
 use Rattle.meaning.proofs.Total.{seats-full, seats-total, counts-full, counts-total}
 use Rattle.card.specs.Weight.{cardRule}
 use Rattle.grammar.proofs.Theorems.{read-valid}
+use Rattle.seating.specs.Judged.{bytesOf}
 use Rattle.seating.proofs.Judging.{valid-exactly}
+use Rattle.seating.proofs.Bytes.{bytes-back, bytes-seated, seated-bytes}
 use Rattle.rereading.proofs.RoundTrip.{read-again}
 use Rattle.texts_said.specs.WriteSaid.{writeSaid}
 use Rattle.texts_said.specs.ReduceSaid.{reduceSaid}
@@ -29,7 +32,7 @@ demand3 = record {
   stuck-alike = stuck-alike;
   stuck-step = stuck-step;
   stuck-step-at = λ c. stuck-step-at (reduce c);
-  vectors = same-right;
+  positions = position-right;
 }
 
 pub meanings : Meanings
@@ -54,7 +57,9 @@ demand2 = record {
   readings = readings;
   written = λ b c h. rw h;
   reduced = λ b c h. rw h;
-  shown = λ b c x h ok. rw (h, valid-exactly c x .1 ok);
+  seats = λ c x ok. (bytes-seated c x ok, bytes-back c x ok);
+  bytes-of = λ c x ok. (ok .valid, seated-bytes c x ok);
+  shown = λ b c x h ok. rw (h, valid-exactly c (bytesOf c x) .1 (bytes-seated c x ok), bytes-back c x ok);
   again = read-again cardRule cardRule;
 }
 
@@ -64,7 +69,7 @@ demand3-of-bytes = record {
   some-step = λ b c x h ok. (seats-total c (read-valid cardRule b c h) x, counts-total c (read-valid cardRule b c h) _);
   one-step = λ b c x h ok s. (
     ap (λ (l : List (Step Seating)). length l) (stuck-steps c x ok s .0),
-    ap (λ (l : List (Step (List ℕ))). length l) (stuck-steps c x ok s .1),
+    ap (λ (l : List (Step Position)). length l) (stuck-steps c x ok s .1),
   );
   equal-counts = λ b c x y h ok ok′ e. equal-said b h x y ok ok′ e;
   reordered = λ b r. said-alike b r;

@@ -26,7 +26,7 @@ use Rattle.room.specs.declared.Answer.{Answer}
 use Rattle.room.specs.declared.Answer.the-variants.{Done, Refused}
 use Rattle.room.specs.Answer.{told, answerNumber, answerValue, Entered}
 use Rattle.room.proofs.Entries.{told-faithful}
-use Rattle.meaning.specs.Seats.{ValidSeating}
+use Rattle.seating.specs.Judged.{seatingOf, Seated}
 use Rattle.rows.specs.Said.{cardSaid, Read}
 use Rattle.rows.proofs.Theorems.{of-card, card-stage, card-first}
 use Rattle.texts.specs.Writing.{writeOf}
@@ -104,18 +104,18 @@ reduce card was is a e = prints reducedOf card e
 
 -- the panel of a card and its seats
 module _ (card seats was is : List ℕ) (a : Answer) (e : Entered was is (panelSaid card seats) a) where
-  shown : InRoom told ((w : Read card) × ValidSeating (w .0) seats) (λ z. panelOf (z .0 .0) seats) was is a
+  shown : InRoom told ((w : Read card) × Seated (w .0) seats) (λ z. panelOf (z .0 .0) (seatingOf (z .0 .0) seats)) was is a
   shown = in-room told-faithful e (said card seats) refl
 
   wrong-shown : (r p : ℕ) → r ≤ wrongWeight → (a ≡ Refused r p) ↔ (readOf card ≡ refused r p)
   wrong-shown r p l = before-room told-faithful e r p (of-card (only roomTooSmall) r l refl) ↔∙ said-card card seats r p l
 
   other-shown : (r p : ℕ) → a ≡ Refused r p → Way card seats → (1 ≤ r) × (r ≤ roomTooSmall)
-  other-shown r p h (of-panel c k ok _) = go (decLe (length (panelOf c seats)) (length was))
+  other-shown r p h (of-panel c k ok _) = go (decLe (length (panelOf c (seatingOf c seats))) (length was))
     where
-      go : Dec (length (panelOf c seats) ≤ length was) → (1 ≤ r) × (r ≤ roomTooSmall)
-      go (yes l) = done≢refused (sym (shown .done (length (panelOf c seats)) .1 (((c, k), ok), l, refl)) ∙ h)
-      go (no l) = let z : roomTooSmall ≡ r = ap answerNumber (sym (shown .small-room (length (panelOf c seats)) .1 (((c, k), ok), omega arith, refl)) ∙ h) in (omega (arith, z), omega (arith, z))
+      go : Dec (length (panelOf c (seatingOf c seats)) ≤ length was) → (1 ≤ r) × (r ≤ roomTooSmall)
+      go (yes l) = done≢refused (sym (shown .done (length (panelOf c (seatingOf c seats))) .1 (((c, k), ok), l, refl)) ∙ h)
+      go (no l) = let z : roomTooSmall ≡ r = ap answerNumber (sym (shown .small-room (length (panelOf c (seatingOf c seats))) .1 (((c, k), ok), omega arith, refl)) ∙ h) in (omega (arith, z), omega (arith, z))
   other-shown r p h (card-way n q k _) =
       let z : n ≡ r = ap answerNumber (sym (wrong-shown n q (read-number cardRule card k) .1 k) ∙ h) in
       (omega (arith, z, number-some cardRule card k), omega (arith, z, read-number cardRule card k))
@@ -143,7 +143,7 @@ pub rooms : Rooms
 rooms = record {
   written = λ card was is a e l p r. let (c, t, g, _) = write card was is a e .small-room p .0 r in omega (arith, g, written-room c (read-valid cardRule card c t));
   reduced = λ card was is a e l p r. let (c, t, g, _) = reduce card was is a e .small-room p .0 r in omega (arith, g, short c (read-valid cardRule card c t));
-  shown = λ card seats was is a e l p r. let (c, t, ok, g, _) = panel card seats was is a e .small-room p .0 r in omega (arith, g, panel-fits c (read-valid cardRule card c t) seats ok);
+  shown = λ card seats was is a e l p r. let (c, t, ok, g, _) = panel card seats was is a e .small-room p .0 r in omega (arith, g, panel-fits c (read-valid cardRule card c t) (seatingOf c seats) (ok .valid));
   written-most = written-room;
   reduced-most = short;
   shown-most = panel-fits;

@@ -20,8 +20,7 @@ use Rattle.reading.proofs.Numbers.{read-number}
 use Rattle.entry.specs.Said.{says as text, refused as refusal}
 use Rattle.room.specs.Digits.{digit}
 use Rattle.room.specs.Answer.{Text}
-use Rattle.meaning.specs.Seats.{ValidSeating}
-use Rattle.seating.specs.Judged.{FirstAbove}
+use Rattle.seating.specs.Judged.{seatsDue, FirstWrong, seatingOf, Seated}
 use Rattle.seating.specs.SeatsSaid.{seatsNumbers}
 use Rattle.rows.specs.Said.{cardNumbers}
 use Rattle.panel_wording.specs.PanelText.{panelOf}
@@ -36,9 +35,9 @@ use Rattle.card_promises.proofs.Numbers.{number-some}
 module _ (card seats : List ℕ) where
   pub data Way : Type 0 where
     of-card : (number place : ℕ) → readOf card ≡ refused number place → panelSaid card seats ≡ refusal number place → Way
-    of-count : (c : Card) → readOf card ≡ taken c → (length seats ≡ c .n → ⊥) → panelSaid card seats ≡ refusal wrongSeats 0 → Way
-    of-seat : (c : Card) → readOf card ≡ taken c → length seats ≡ c .n → (place : ℕ) → FirstAbove (c .k) seats place → panelSaid card seats ≡ refusal seatAboveTop place → Way
-    of-panel : (c : Card) → readOf card ≡ taken c → ValidSeating c seats → panelSaid card seats ≡ text (panelOf c seats) → Way
+    of-count : (c : Card) → readOf card ≡ taken c → (length seats ≡ seatsDue c → ⊥) → panelSaid card seats ≡ refusal wrongSeats 0 → Way
+    of-seat : (c : Card) → readOf card ≡ taken c → length seats ≡ seatsDue c → (place : ℕ) → FirstWrong c seats place → panelSaid card seats ≡ refusal seatAboveTop place → Way
+    of-panel : (c : Card) → readOf card ≡ taken c → Seated c seats → panelSaid card seats ≡ text (panelOf c (seatingOf c seats)) → Way
 
   most : (r p : ℕ) → panelSaid card seats ≡ refusal r p → r ≤ seatAboveTop
   most r p e = among-up-to (cardNumbers ++ seatsNumbers) r seatAboveTop (said card seats .numbers .number r p e) refl
@@ -117,4 +116,4 @@ responds input = go (way (cardRead input) (seatsRead input))
     go (of-card number place h k) = wrong-card number place h (number-some cardRule (cardRead input) h) (read-number cardRule (cardRead input) h) (prints k)
     go (of-count c h n k) = wrong-count c h n (prints k)
     go (of-seat c h n p f k) = wrong-seat c h n p f (prints k)
-    go (of-panel c h ok k) = the-panel c h ok (panel-fits c (read-valid cardRule (cardRead input) c h) (seatsRead input) ok) (prints k)
+    go (of-panel c h ok k) = the-panel c h ok (panel-fits c (read-valid cardRule (cardRead input) c h) (seatingOf c (seatsRead input)) (ok .valid)) (prints k)

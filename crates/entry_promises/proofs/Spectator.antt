@@ -22,7 +22,9 @@ use Rattle.room.specs.declared.Answer.{Answer}
 use Rattle.room.specs.declared.Answer.the-variants.{Refused}
 use Rattle.room.specs.Answer.{Text, told, answered, Entered}
 use Rattle.room.proofs.Entries.{told-faithful}
+use Rattle.seating.specs.Judged.{seatingOf, bytesOf}
 use Rattle.seating.proofs.Judging.{valid-exactly}
+use Rattle.seating.proofs.Bytes.{bytes-back, bytes-seated}
 use Rattle.classes.specs.Classes.{ValidClasses, classCounts, classCountsAt, classesText, watchOf}
 use Rattle.classes.specs.ClassesSaid.{classesSaid}
 use Rattle.classes.specs.ClassesRoom.{classesRoom}
@@ -39,9 +41,9 @@ use Rattle.entry_promises.proofs.ForC.{tells-done, tells-refused, is-re
 
 class-counts : ClassCounts
 class-counts = record {
-  by-counts = λ c x ok list long. by-counts (c .k) list x long (ok .states);
+  by-counts = λ c x ok list long. by-counts (c .k) list (x .each) long (ok .states);
   eight = how-many;
-  adds-up = λ c x ok list good. adds-up (c .k) list x good (ok .states) ∙ ok .seats;
+  adds-up = λ c x ok list good. adds-up (c .k) list (x .each) good (ok .states) ∙ ok .seats;
 }
 
 -- ---- the entry
@@ -50,31 +52,33 @@ watch : (card seats list was is : List ℕ) (a : Answer) → Entered was is (wat
 watch card seats list was is a e = watches card seats list told-faithful e
 
 shown : (card list : List ℕ) (c : Card) (x : Seating) → readOf card ≡ taken c → ValidSeating c x → ValidClasses (c .k) list
-    → watchSaid card x list ≡ text (watchOf list x)
-shown card list c x k ok good = said card x list .found .each ((c, k), (ok, good))
+    → watchSaid card (bytesOf c x) list ≡ text (watchOf list x)
+shown card list c x k ok good =
+    said card (bytesOf c x) list .found .each ((c, k), (bytes-seated c x ok, good)) ∙ ap (λ (y : Seating). text (watchOf list y)) (bytes-back c x ok)
 
 -- a card has at most 16 seats
 line-fits : (c : Card) → ValidCard c → (x : Seating) → ValidSeating c x → (list : List ℕ) → ValidClasses (c .k) list → length (watchOf list x) ≤ classesRoom
-line-fits c valid x ok list good = fits (c .k) list x good (ok .states) (omega (arith, ok .seats, valid .seats-most))
+unfolding watchOf
+line-fits c valid x ok list good = fits (c .k) list (x .each) good (ok .states) (omega (arith, ok .seats, valid .seats-most))
 
 room : (card seats list : List ℕ) → RoomEnough classesRoom (watchSaid card seats list)
 room card seats list was is a e l p r =
     let (w, g, _) = watch card seats list was is a e .small-room p .0 r in
-    omega (arith, g, line-fits (w .0 .0) (read-valid cardRule card (w .0 .0) (w .0 .1)) seats (w .1 .0) list (w .1 .1))
+    omega (arith, g, line-fits (w .0 .0) (read-valid cardRule card (w .0 .0) (w .0 .1)) (seatingOf (w .0 .0) seats) (w .1 .0 .valid) list (w .1 .1))
 
 -- ---- what can be told
 
 module _ (card list : List ℕ) (c : Card) (k : readOf card ≡ taken c) where
-  behind-seats : (x : Seating) → ValidSeating c x → watchSaid card x list ≡ watchSeated x list c
+  behind-seats : (x : Seating) → ValidSeating c x → watchSaid card (bytesOf c x) list ≡ (classesSaid list c >> return (watchOf list x))
   unfolding watchSaid
-  behind-seats x ok = rw (k, valid-exactly c x .1 ok)
+  behind-seats x ok = rw (k, valid-exactly c (bytesOf c x) .1 (bytes-seated c x ok), bytes-back c x ok)
 
-  same-line : (x y : Seating) → classCounts list x ≡ classCounts list y → watchOf list x ≡ watchOf list y
+  same-line : (x y : Seating) → classCounts list (x .each) ≡ classCounts list (y .each) → watchOf list x ≡ watchOf list y
   unfolding watchOf
   same-line x y e = ap classesText e
 
   -- the list's refusal does not depend on the seats
-  same-said : (x y : Seating) → ValidSeating c x → ValidSeating c y → classCounts list x ≡ classCounts list y → watchSaid card x list ≡ watchSaid card y list
+  same-said : (x y : Seating) → ValidSeating c x → ValidSeating c y → classCounts list (x .each) ≡ classCounts list (y .each) → watchSaid card (bytesOf c x) list ≡ watchSaid card (bytesOf c y) list
   same-said x y ok ok′ e = behind-seats x ok ∙ ap (λ (t : List ℕ). classesSaid list c >> return t) (same-line x y e) ∙ sym (behind-seats y ok′)
 
 seen : Seen
@@ -82,24 +86,25 @@ unfolding watchOf
 seen = record {
   equal-classes = λ card list was c k x y ok ok′ e p q. same card list was c k x y ok ok′ e p q;
   exactly = λ card list was c k x y ok ok′ good enough p q. (
-    λ b. tells (classCounts list x) (classCounts list y) (drop (length (watchOf list x)) was) (drop (length (watchOf list y)) was)
+    λ b. tells (classCounts list (x .each)) (classCounts list (y .each)) (drop (length (watchOf list x)) was) (drop (length (watchOf list y)) was)
         (sym (there card list was c k x ok good enough p) ∙ b ∙ there card list was c k y ok′ good enough q),
     λ e. same card list was c k x y ok ok′ e p q .1,
   );
   equal-counts = λ c x y ok ok′ list good e.
-      by-counts (c .k) list x (good .states) (ok .states) ∙ ap (classCountsAt list) e ∙ sym (by-counts (c .k) list y (good .states) (ok′ .states));
+      by-counts (c .k) list (x .each) (good .states) (ok .states) ∙ ap (classCountsAt list) e ∙ sym (by-counts (c .k) list (y .each) (good .states) (ok′ .states));
 }
   where
-    same : (card list was : List ℕ) (c : Card) → readOf card ≡ taken c → (x y : Seating) → ValidSeating c x → ValidSeating c y → classCounts list x ≡ classCounts list y
-        → {is-x is-y : List ℕ} {a b : Answer} → Entered was is-x (watchSaid card x list) a → Entered was is-y (watchSaid card y list) b → (a ≡ b) × (is-x ≡ is-y)
+    same : (card list was : List ℕ) (c : Card) → readOf card ≡ taken c → (x y : Seating) → ValidSeating c x → ValidSeating c y → classCounts list (x .each) ≡ classCounts list (y .each)
+        → {is-x is-y : List ℕ} {a b : Answer} → Entered was is-x (watchSaid card (bytesOf c x) list) a → Entered was is-y (watchSaid card (bytesOf c y) list) b → (a ≡ b) × (is-x ≡ is-y)
     same card list was c k x y ok ok′ e {is-x} {is-y} {a} {b} p q =
         enters-unique (subst (λ (s : Text). Entered was is-x s a) (same-said card list c k x y ok ok′ e) p) q
 
     there : (card list was : List ℕ) (c : Card) → readOf card ≡ taken c → (x : Seating) → ValidSeating c x → ValidClasses (c .k) list → classesRoom ≤ length was
-        → {is : List ℕ} {a : Answer} → Entered was is (watchSaid card x list) a → is ≡ onto (watchOf list x) was
+        → {is : List ℕ} {a : Answer} → Entered was is (watchSaid card (bytesOf c x) list) a → is ≡ onto (watchOf list x) was
     there card list was c k x ok good enough {is} {a} p =
         let short = line-fits c (read-valid cardRule card c k) x ok list good in
-        watch card x list was is a p .stands ((c, k), (ok, good)) (omega (arith, short))
+        let back = ap (λ (y : Seating). watchOf list y) (bytes-back c x ok) in
+        watch card (bytesOf c x) list was is a p .stands ((c, k), (bytes-seated c x ok, good)) (subst (λ (t : List ℕ). length t ≤ length was) (sym back) (omega (arith, short))) ∙ ap (λ (t : List ℕ). onto t was) back
 
 -- ---- the answer in numbers
 

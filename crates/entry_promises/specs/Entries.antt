@@ -20,8 +20,8 @@ use Rattle.room.specs.declared.Answer.the-variants.{Done, Refused}
 use Rattle.room.specs.Digits.{digit, decimal}
 use Rattle.entry.specs.Said.{refused as refusal}
 use Rattle.room.specs.Answer.{Text, answerNumber, answerValue, Entered}
-use Rattle.meaning.specs.Seats.{ValidSeating}
-use Rattle.seating.specs.Judged.{FirstAbove}
+use Rattle.meaning.specs.Seats.{Seating, ValidSeating}
+use Rattle.seating.specs.Judged.{seatsDue, FirstWrong, seatingOf, Seated}
 use Rattle.texts.specs.Writing.{writeOf}
 use Rattle.texts.specs.Lengths.{writtenRoom}
 use Rattle.texts_said.specs.WriteSaid.{writeSaid}
@@ -67,16 +67,16 @@ pub record Prints (f : Card → List ℕ) (card was is : List ℕ) (a : Answer) 
 -- the entry that shows the panel of a card and its seats
 pub record Shows (card seats was is : List ℕ) (a : Answer) : Type 0 where
   pub wrong-card : (number place : ℕ) → number ≤ wrongWeight → (a ≡ Refused number place) ↔ (readOf card ≡ refused number place)
-  -- 8: as many seats as the card has are due
-  pub wrong-count : (place : ℕ) → (a ≡ Refused wrongSeats place) ↔ ((c : Card) × (readOf card ≡ taken c) × (length seats ≡ c .n → ⊥) × (place ≡ 0))
-  -- 9: the first seat above k
-  pub wrong-seat : (place : ℕ) → (a ≡ Refused seatAboveTop place) ↔ ((c : Card) × (readOf card ≡ taken c) × (length seats ≡ c .n) × FirstAbove (c .k) seats place)
+  -- 8: as many seats as the card has are due, and one byte more where it has a shared number
+  pub wrong-count : (place : ℕ) → (a ≡ Refused wrongSeats place) ↔ ((c : Card) × (readOf card ≡ taken c) × (length seats ≡ seatsDue c → ⊥) × (place ≡ 0))
+  -- 9: the first seat above k, or the shared number above its most
+  pub wrong-seat : (place : ℕ) → (a ≡ Refused seatAboveTop place) ↔ ((c : Card) × (readOf card ≡ taken c) × (length seats ≡ seatsDue c) × FirstWrong c seats place)
   pub small-room : (place : ℕ) → (a ≡ Refused roomTooSmall place)
-      ↔ ((c : Card) × (readOf card ≡ taken c) × ValidSeating c seats × (length was < length (panelOf c seats)) × (place ≡ length (panelOf c seats)))
+      ↔ ((c : Card) × (readOf card ≡ taken c) × Seated c seats × (length was < length (panelOf c (seatingOf c seats))) × (place ≡ length (panelOf c (seatingOf c seats))))
   pub done : (long : ℕ) → (a ≡ Done long)
-      ↔ ((c : Card) × (readOf card ≡ taken c) × ValidSeating c seats × (length (panelOf c seats) ≤ length was) × (long ≡ length (panelOf c seats)))
-  pub stands : (c : Card) → readOf card ≡ taken c → ValidSeating c seats → length (panelOf c seats) ≤ length was
-      → is ≡ panelOf c seats ++ drop (length (panelOf c seats)) was
+      ↔ ((c : Card) × (readOf card ≡ taken c) × Seated c seats × (length (panelOf c (seatingOf c seats)) ≤ length was) × (long ≡ length (panelOf c (seatingOf c seats))))
+  pub stands : (c : Card) → readOf card ≡ taken c → Seated c seats → length (panelOf c (seatingOf c seats)) ≤ length was
+      → is ≡ panelOf c (seatingOf c seats) ++ drop (length (panelOf c (seatingOf c seats))) was
   pub no-other : (number place : ℕ) → a ≡ Refused number place → (1 ≤ number) × (number ≤ roomTooSmall)
   pub untouched : (number place : ℕ) → a ≡ Refused number place → is ≡ was
   pub in-numbers : InNumbers a
@@ -93,7 +93,7 @@ pub record Rooms : Type 0 where
   -- because no text is longer
   pub written-most : (c : Card) → ValidCard c → length (writeOf c) ≤ writtenRoom
   pub reduced-most : (c : Card) → ValidCard c → length (reducedOf c) ≤ reducedRoom
-  pub shown-most : (c : Card) → ValidCard c → (seats : List ℕ) → ValidSeating c seats → length (panelOf c seats) ≤ panelRoom
+  pub shown-most : (c : Card) → ValidCard c → (x : Seating) → ValidSeating c x → length (panelOf c x) ≤ panelRoom
 
 -- two results that keep one contract are the same
 pub record Unique : Type 0 where
@@ -125,12 +125,12 @@ refusalLine number place = bytes "refused " ++ (decimal number ++ (bytes " " ++ 
 pub data Response (input : List ℕ) : Type 0 where
   wrong-card : (number place : ℕ) → readOf (cardRead input) ≡ refused number place → 1 ≤ number → number ≤ wrongWeight
       → programOf input ≡ refusalLine number place → Response input
-  wrong-count : (c : Card) → readOf (cardRead input) ≡ taken c → (length (seatsRead input) ≡ c .n → ⊥)
+  wrong-count : (c : Card) → readOf (cardRead input) ≡ taken c → (length (seatsRead input) ≡ seatsDue c → ⊥)
       → programOf input ≡ refusalLine wrongSeats 0 → Response input
-  wrong-seat : (c : Card) → readOf (cardRead input) ≡ taken c → length (seatsRead input) ≡ c .n → (place : ℕ) → FirstAbove (c .k) (seatsRead input) place
+  wrong-seat : (c : Card) → readOf (cardRead input) ≡ taken c → length (seatsRead input) ≡ seatsDue c → (place : ℕ) → FirstWrong c (seatsRead input) place
       → programOf input ≡ refusalLine seatAboveTop place → Response input
-  the-panel : (c : Card) → readOf (cardRead input) ≡ taken c → ValidSeating c (seatsRead input) → length (panelOf c (seatsRead input)) ≤ panelRoom
-      → programOf input ≡ panelOf c (seatsRead input) → Response input
+  the-panel : (c : Card) → readOf (cardRead input) ≡ taken c → Seated c (seatsRead input) → length (panelOf c (seatingOf c (seatsRead input))) ≤ panelRoom
+      → programOf input ≡ panelOf c (seatingOf c (seatsRead input)) → Response input
 
 pub record Demand1 : Type 0 where
   -- the reader: its verdict in numbers, and the struct that it hands back

@@ -9,8 +9,7 @@ use Rattle.card.specs.Refusals.{wrongWeight, wrongSeats, seatAboveTop, roomTooS
 use Rattle.card.specs.Card.{Card}
 use Rattle.reading.specs.Reading.{taken, refused, readOf}
 use Rattle.room.specs.Answer.{Text}
-use Rattle.meaning.specs.Seats.{ValidSeating}
-use Rattle.seating.specs.Judged.{FirstAbove}
+use Rattle.seating.specs.Judged.{seatsDue, FirstWrong, seatingOf, Seated}
 use Rattle.texts.specs.Writing.{writeOf}
 use Rattle.texts_said.specs.WriteSaid.{writeSaid}
 use Rattle.texts.specs.ReducedText.{reducedOf}
@@ -48,16 +47,16 @@ pub record TextTells (f : Card → List ℕ) (card was is : List ℕ) (a : OpenP
 -- the panel of a card and its seats
 pub record PanelTells (card seats was is : List ℕ) (a : OpenPanelAnswer) : Type 0 where
   pub done : (long : ℕ) → Answers a 0 long
-      ↔ ((c : Card) × (readOf card ≡ taken c) × ValidSeating c seats × (length (panelOf c seats) ≤ length was) × (long ≡ length (panelOf c seats)))
-  pub stands : (c : Card) → readOf card ≡ taken c → ValidSeating c seats → length (panelOf c seats) ≤ length was
-      → is ≡ panelOf c seats ++ drop (length (panelOf c seats)) was
+      ↔ ((c : Card) × (readOf card ≡ taken c) × Seated c seats × (length (panelOf c (seatingOf c seats)) ≤ length was) × (long ≡ length (panelOf c (seatingOf c seats))))
+  pub stands : (c : Card) → readOf card ≡ taken c → Seated c seats → length (panelOf c (seatingOf c seats)) ≤ length was
+      → is ≡ panelOf c (seatingOf c seats) ++ drop (length (panelOf c (seatingOf c seats))) was
   pub wrong-card : (number place : ℕ) → 1 ≤ number → number ≤ wrongWeight → Answers a number place ↔ (readOf card ≡ refused number place)
   -- 8 and 0
-  pub wrong-count : (place : ℕ) → Answers a wrongSeats place ↔ ((c : Card) × (readOf card ≡ taken c) × (length seats ≡ c .n → ⊥) × (place ≡ 0))
-  -- 9 and the first seat above k
-  pub wrong-seat : (place : ℕ) → Answers a seatAboveTop place ↔ ((c : Card) × (readOf card ≡ taken c) × (length seats ≡ c .n) × FirstAbove (c .k) seats place)
+  pub wrong-count : (place : ℕ) → Answers a wrongSeats place ↔ ((c : Card) × (readOf card ≡ taken c) × (length seats ≡ seatsDue c → ⊥) × (place ≡ 0))
+  -- 9 and the first seat above k, or place n for the shared number
+  pub wrong-seat : (place : ℕ) → Answers a seatAboveTop place ↔ ((c : Card) × (readOf card ≡ taken c) × (length seats ≡ seatsDue c) × FirstWrong c seats place)
   pub small-room : (place : ℕ) → Answers a roomTooSmall place
-      ↔ ((c : Card) × (readOf card ≡ taken c) × ValidSeating c seats × (length was < length (panelOf c seats)) × (place ≡ length (panelOf c seats)))
+      ↔ ((c : Card) × (readOf card ≡ taken c) × Seated c seats × (length was < length (panelOf c (seatingOf c seats))) × (place ≡ length (panelOf c (seatingOf c seats))))
   pub no-other : a .number ≤ roomTooSmall
   pub untouched : (a .number ≡ 0 → ⊥) → is ≡ was
 

@@ -1,20 +1,22 @@
-// All numbers of a panel, in one table that is lent ("Texts, byte for byte").
+// All numbers of a panel that are kept, in one table that is lent ("Texts, byte for byte").
 use card::Head;
 use card::limits::BRANCH_PLACES;
 use card::limits::NODE_PLACES;
 use card::limits::ROW_PLACES;
 use seating::count_seats;
-use stored_weights::store_weights;
+use seating::shared_of;
+use stored_weights::store_stays;
 use weighing::ENABLED;
-use weighing::STAY;
+use weighing::SHARED;
+use weighing::STAYS;
 use weighing::TABLE_PLACES;
-use weighing::stay_of;
+use weighing::store;
 use weighing::store_ables;
-use weighing::store_counts;
 use weighing::taken_of;
 use weights::Weight;
 ghost use mathlib.Core.Path.{_≡_};
 ghost use Rattle.card.specs.Lent.{lent};
+ghost use Rattle.seating.specs.Judged.{seatingIn};
 ghost use Rattle.panel_numbers.specs.Table.{tableOf};
 ghost use Rattle.panel_numbers.specs.Fitting.{Filling};
 
@@ -27,22 +29,23 @@ pub fn fill<'a>(
     nodes: &'a [u32; NODE_PLACES],
     branches: &'a [u32; BRANCH_PLACES],
 )
-    requires { ⌜ Filling (now table) head (lent (now rows) (now nodes) (now branches)) (now seats) ⌝ }
-    ensures { λ r. ⌜ now (table .exit) ≡ tableOf head (lent (now (rows .entry)) (now (nodes .entry)) (now (branches .entry))) (now (seats .entry)) ⌝ }
+    requires { ⌜ Filling (now table) head (lent (now rows) (now nodes) (now branches)) (seatingIn (head .seats) (head .shared) (now seats)) ⌝ }
+    ensures { λ r. ⌜ now (table .exit) ≡ tableOf head (lent (now (rows .entry)) (now (nodes .entry)) (now (branches .entry))) (seatingIn (head .seats) (head .shared) (now (seats .entry))) ⌝ }
 {
-    let counts = count_seats(seats);
-    store_counts(table, &counts);
+    let counts = count_seats(seats, head.seats);
+    let shared = shared_of(seats, head.seats, head.shared);
+    store(table, 0, &counts);
+    table[SHARED] = shared;
     let states = head.top + 1;
-    store_ables(table, head, rows, nodes, &counts[..states]);
+    store_ables(table, head, rows, nodes, &counts[..states], shared);
     let taken = taken_of(head.mode, table, head.count);
     if taken == 0 {
         let unit = Weight::UNIT as usize;
+        let stay = STAYS + shared;
         table[ENABLED] = 1;
-        table[STAY] = unit;
+        table[stay] = unit;
         return;
     }
     table[ENABLED] = taken;
-    store_weights(table, head, rows, branches);
-    let stay = stay_of(table);
-    table[STAY] = stay;
+    store_stays(table, head, rows, branches);
 }

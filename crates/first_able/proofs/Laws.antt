@@ -10,12 +10,13 @@ use lib.Dec.{ltb}
 use Rattle.card.specs.Text.{if_then_else_}
 use Rattle.card.specs.Laid.{statementOf, statementsOf}
 use Rattle.card.specs.Rows.{rowsFrom}
+use Rattle.meaning.specs.Position.{Position}
 use Rattle.meaning.specs.ByCounts.{able}
 use Rattle.panel_numbers.specs.Taking.{takers}
 use Rattle.moving.specs.FirstMove.{firstAt}
 use Rattle.first_able.specs.FirstRow.{ableRow, firstRow}
 
-module _ (n : ℕ) (v nodes rows : List ℕ) where
+module _ (n : ℕ) (v : Position) (nodes rows : List ℕ) where
   row-step : (i more : ℕ) → firstRow n v nodes rows i (suc more) ≡ (if ltb 0 (ableRow n v nodes rows i) then some (suc i) else firstRow n v nodes rows (suc i) more)
   unfolding firstRow
   row-step i more = refl

@@ -7,9 +7,10 @@ use Rattle.card.specs.Limits.{mostNodes}
 use Rattle.card.specs.Text.{if_then_else_}
 use Rattle.card.specs.Laid.{guardOf}
 use Rattle.card.specs.Rows.{rowOf}
+use Rattle.meaning.specs.Position.{Position}
 use Rattle.panel_numbers.specs.Taking.{takers}
 
-module _ (n : ℕ) (v nodes rows : List ℕ) where
+module _ (n : ℕ) (v : Position) (nodes rows : List ℕ) where
   -- how many of n seats, at counts v, may take statement i, counted from 0
   abbrev pub ableRow : ℕ → ℕ
   ableRow i = takers n v (rowOf rows i .own) (guardOf nodes (i * mostNodes) (rowOf rows i .nodes))

@@ -1,1 +1,2 @@
+pub mod SharedLaws
 pub mod HeaderLaws

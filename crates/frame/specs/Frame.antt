@@ -1,11 +1,12 @@
 -- What reading the beginning of a card, up to its statements, and its further modules, up to its end, leaves behind it. Assumes nothing.
-use Prim.Native.Nat.{ℕ, suc, _+_, _-_}
+use Prim.Native.Nat.{ℕ, suc, _+_, _-_, _≤_}
 use mathlib.Core.Path.{_≡_}
 use mathlib.Core.Bool.{Bool, true, false}
 use mathlib.Core.List.{List, [], _∷_, _++_}
+use mathlib.Core.Option.{Option, none, some}
 use lib.Dec.{eqb, ltb}
 use lib.ListN.{length, getD, drop}
-use Rattle.card.specs.Limits.{mostSeats}
+use Rattle.card.specs.Limits.{mostSeats, topState, mostShared}
 use Rattle.card.specs.Text.{bytes, if_then_else_}
 use Rattle.card.specs.Refusals.{outOfShape}
 use Rattle.card.specs.Card.{Mode}
@@ -14,46 +15,70 @@ use Rattle.marks_on_a_card.specs.Bytes.{begins}
 use Rattle.marks_on_a_card.specs.Kinds.{kEnd}
 use Rattle.marks.specs.declared.Found.{Found}
 use Rattle.marks_on_a_card.specs.Quick.{wordAhead}
-use Rattle.reading.specs.Reader.{State, Result, Reader, bind, _>>=_, _>>_, return, the, sign, numberOf, Numbered, numbered, line}
-use Rattle.grammar.specs.Grammar.{cardRun}
+use Rattle.reading.specs.Reader.{State, Result, Reader, bind, _>>=_, _>>_, return, the, ifNext, Numbered, line}
 use Rattle.reading.specs.Judgements.{Judgement}
-use Rattle.reading.specs.Shape.{modeOf, zeroOf, top, moreModules, theEnd}
-use Rattle.reading.specs.Checks.{judgedState, judgedWords, judgedModules}
+use Rattle.reading.specs.Shape.{Range, modeOf, range, declaration, moreModules, theEnd}
+use Rattle.reading.specs.Checks.{judgedState, judgedWords, judgedModules, judgedShared}
 use Rattle.late.specs.Late.{Late, judgeAll}
-use Rattle.late.specs.State.{atMode, atTop, atStart, Sized, lateIn, valueIn, After, Halted}
-use Rattle.mode_and_range.specs.ModeRange.{Valued, range}
-use Rattle.parts.specs.Parts.{from, Answers, Kept, Went, Due, sign as due, seat, process, kindsIn, numbersIn, RunFrom}
+use Rattle.late.specs.Values.{valuesIn, initialIn}
+use Rattle.late.specs.State.{atMode, atTop, atStart, atShared, atInitial, Sized, lateIn, valueIn, After, Halted}
+use Rattle.mode_and_range.specs.ModeRange.{Valued}
+use Rattle.parts.specs.Parts.{from, Answers, Kept, Went, Due, sign as due, seat, process, itemsIn, kindsIn, numbersIn, RunFrom}
+
+-- ---- the shared number, where one is declared behind the mode (document 02, 2026-10)
+
+-- what is due before its range
+abbrev pub sharedDue : List Due
+sharedDue = due "global" ∷ due "g" ∷ due ":" ∷ due "[" ∷ []
+
+abbrev pub sharing : Reader (Option Range)
+sharing = ifNext "global" (declaration >>= λ x. return (some x)) (return none)
+
+pub record SharedIn (s : List ℕ) (before : Late) (g : Option Range) (state : List ℕ) : Type 0 where
+  pub values : getD state atShared 0 ≡ valuesIn g
+  pub initial : getD state atInitial 0 ≡ initialIn g
+  pub late : Kept s before (judgedShared g) state
+
+abbrev pub SharedRead : List ℕ → Late → Result (Option Range) → After → Type 0
+SharedRead s before = Answers s (SharedIn s before)
+
+pub record SharedFrom (s : List ℕ) (i : ℕ) (before : Late) (r : After) : Type 0 where
+  pub answers : (n : ℕ) → SharedRead s before (sharing (from s i n)) r
+  pub within : (r .next ≡ 0 → ⊥) → getD (r .state) atShared 0 ≤ mostShared
+  pub sized : Sized (r .state)
 
 -- ---- the beginning
 
--- what is due behind the mode
+-- what is due behind the mode and the shared number
 abbrev pub cardDue : List Due
 cardDue = due "module" ∷ process 1 ∷ seat 1 ∷ due ":" ∷ due "[" ∷ []
 
 pub record HeaderShape : Type 0 where
   pub mode : Mode
+  pub shared : Option Range
   pub words : List Numbered
-  pub k : ℕ
-  pub l : Numbered
+  pub states : Range
 
 abbrev pub header : Reader HeaderShape
 header = do
   mode ← the modeOf
-  ws ← line cardRun
-  k ← range
-  sign "]"
-  sign "init"
-  l ← numbered numberOf
-  sign ";"
-  return (record { mode = mode; words = ws; k = k; l = l })
+  g ← sharing
+  ws ← line (itemsIn cardDue)
+  x ← range topState
+  return (record { mode = mode; shared = g; words = ws; states = x })
 
 abbrev pub judgedHeader : HeaderShape → List Judgement
-judgedHeader h = judgedWords (1 ∷ 1 ∷ []) (h .words) ++ (judgedState (h .k) (h .l) ∷ [])
+judgedHeader h =
+    judgedShared (h .shared)
+    ++ (judgedWords (1 ∷ 1 ∷ []) (h .words)
+    ++ (judgedState (h .states .top) (h .states .start) ∷ []))
 
 pub record HeaderIn (s : List ℕ) (before : Late) (h : HeaderShape) (state : List ℕ) : Type 0 where
   pub mode : getD state atMode 0 ≡ modeNumber (h .mode)
-  pub top : getD state atTop 0 ≡ h .k
-  pub start : getD state atStart 0 ≡ h .l .value
+  pub values : getD state atShared 0 ≡ valuesIn (h .shared)
+  pub initial : getD state atInitial 0 ≡ initialIn (h .shared)
+  pub top : getD state atTop 0 ≡ h .states .top
+  pub start : getD state atStart 0 ≡ h .states .start .value
   pub late : Kept s before (judgedHeader h) state
 
 abbrev pub HeaderRead : List ℕ → Late → Result HeaderShape → After → Type 0
@@ -61,6 +86,7 @@ HeaderRead s before = Answers s (HeaderIn s before)
 
 pub record HeaderFrom (s : List ℕ) (i : ℕ) (before : Late) (r : After) : Type 0 where
   pub answers : (n : ℕ) → HeaderRead s before (header (from s i n)) r
+  pub within : (r .next ≡ 0 → ⊥) → getD (r .state) atShared 0 ≤ mostShared
   pub sized : Sized (r .state)
 
 -- ---- a further module for seat i, behind its keyword

@@ -2,6 +2,7 @@
 -- broken in the list is the one at the earliest place. Assumes nothing.
 use Prim.Native.Nat.{ℕ, suc, _≤_, _<_}
 use mathlib.Core.Path.{_≡_, refl, sym, ap, _∙_, subst}
+use mathlib.Core.Bool.{Bool}
 use mathlib.Core.List.{List, [], _∷_, _++_, append-assoc, map}
 use mathlib.Core.Option.{Option}
 use native.Mathlib.Omega.{arith}
@@ -10,12 +11,12 @@ use Rattle.card.specs.Weight.{Weight, Rule}
 use Rattle.card.specs.Valid.{Every}
 use Rattle.marks_on_a_card.specs.Marks.{seat, process, number, decimal, Placed, placed, placeOf}
 use Rattle.reading.specs.Reader.{Place, Numbered, Item}
-use Rattle.reading.specs.Group.{joint, relation, Literal, Literals, literalsOf}
-use Rattle.reading.specs.Judgements.{Judgement, state, word, oneGroup, weight, sum, placeIn, broken, fine, wrong, firstBroken, judgedGroup, judgedGuard}
-use Rattle.reading.specs.Shape.{BranchShape, StatementShape, CardShape}
-use Rattle.reading.specs.Checks.{judgedWords, judgedBranch, judgedEach, judgedOr, weightIn, judgedStatement, moduleDues, judgedModules, judgedCard}
-use Rattle.grammar.specs.Grammar.{Said, signAt, LineSaid, ended, fixed, aSeat, aProcess, moduleRun, ManySaid, done, again, LiteralSaid, literal, OthersSaid, close, next, GroupSaid, conjoined, disjoined, Part, joining, GuardSaid, grouped, negated, bracketed, single, further}
-use Rattle.grammar.specs.Grammar.{RestSaid, nothing, guarded, WeightSaid, aNumber, aRatio, aDecimal, BranchSaid, branch, PlusSaid, plus, StatementSaid, statement, modeWord, CardSaid, card}
+use Rattle.reading.specs.Group.{joint, relation, Literal, Literals, literalsOf, SharedTest, Tested}
+use Rattle.reading.specs.Judgements.{Judgement, state, word, oneGroup, weight, sum, placeIn, broken, fine, wrong, firstBroken, judgedGroup, judgedTest, judgedGuard}
+use Rattle.reading.specs.Shape.{BranchShape, StatementShape, Range, CardShape}
+use Rattle.reading.specs.Checks.{judgedState, judgedWords, judgedSet, judgedBranch, judgedEach, judgedOr, weightIn, judgedStatement, moduleDues, judgedModules, judgedShared, mostIn, judgedCard}
+use Rattle.grammar.specs.Grammar.{Said, signAt, LineSaid, ended, fixed, aSeat, aProcess, moduleRun, ManySaid, done, again, LiteralSaid, literal, OthersSaid, close, next, GroupSaid, conjoined, disjoined, SharedTestSaid, sharedTest, TestedSaid, testSeats, testShared, Part, joining, GuardSaid, grouped, negated, bracketed, single, further}
+use Rattle.grammar.specs.Grammar.{RestSaid, nothing, guarded, WeightSaid, aNumber, aRatio, aDecimal, SetSaid, keeps, setsTo, BranchSaid, branch, PlusSaid, plus, StatementSaid, statement, modeWord, RangeSaid, range, SharedSaid, unshared, sharing, CardSaid, card}
 use Rattle.grammar.specs.Rules.{Kept}
 use Rattle.grammar.specs.Verdicts.{In, first, later}
 use Rattle.reading.proofs.Rising.{Rises, rises-part, later-place}
@@ -128,25 +129,35 @@ group-along most {a} (disjoined {ms} {ns} {r} {l} {k} {ls} d o) =
     along-at placeIn (signAt "(" a) ms r (oneGroup (literalsOf (signAt "(" a ∷ ms) any (l ∷ k ∷ ls))) (state most (l .d) (l .place) ∷ []) refl
     (along-then strictly placeIn ms ns r (state most (l .d) (l .place) ∷ []) [] (literal-along most d) (others-along o))
 
-joined-along : (most : ℕ) (s : Sign) (ms r : Place) (g h : Formula Literals) → Judging ms (judgedGuard most g ++ judgedGuard most h) r → Judging ms (judgedGuard most (joining s g h)) r
-joined-along most all ms r g h k = k
-joined-along most any ms r g h k = k
+shared-test-along : (m : ℕ) {ms r : Place} {x : SharedTest} → SharedTestSaid ms x r → Judging ms (judgedState m (x .value) ∷ []) r
+shared-test-along m (sharedTest {v} {a} {b} {c} {d} {q} {r}) =
+    (signAt "g" a ∷ signAt (relation q) b ∷ [], placed (number v) c, signAt ")" d ∷ r, refl, refl, (signAt ")" d ∷ [], refl))
 
-pub guard-along : (most : ℕ) {v : Part} {ms r : Place} {g : Formula Literals} → GuardSaid GroupSaid v ms g r → Judging ms (judgedGuard most g) r
-guard-along most (grouped d) = group-along most d
-guard-along most (negated {a} {ms} {r} {g} u) = along-behind strictly placeIn (signAt "!" a) ms r (judgedGuard most g) (guard-along most u)
-guard-along most (bracketed {a} {b} {ms} {r} {g} f u) =
-    along-behind strictly placeIn (signAt "(" a) ms r (judgedGuard most g)
-    (along-before strictly placeIn ms (signAt ")" b ∷ r) r (judgedGuard most g) (guard-along most u) (signAt ")" b ∷ []) refl)
-guard-along most (single u) = guard-along most u
-guard-along most (further {s} {a} {ms} {ns} {r} {g} {h} us u) =
-    joined-along most s ms r g h
-    (along-then strictly placeIn ms (signAt (joint s) a ∷ ns) r (judgedGuard most g) (judgedGuard most h) (guard-along most us)
-    (along-behind strictly placeIn (signAt (joint s) a) ns r (judgedGuard most h) (guard-along most u)))
+pub test-along : (k m : ℕ) {shared : Bool} {a : ℕ} {ms r : Place} {x : Tested} → TestedSaid shared (signAt "(" a ∷ ms) ms x r
+    → Judging (signAt "(" a ∷ ms) (judgedTest k m x) r
+test-along k m (testSeats d) = group-along k d
+test-along k m {a = a} {ms} {r} (testShared {x = x} d) = along-behind strictly placeIn (signAt "(" a) ms r (judgedState m (x .value) ∷ []) (shared-test-along m d)
 
-rest-along : (most : ℕ) {ms r : Place} {g : Option (Formula Literals)} → RestSaid ms g r → Judging ms (judgedOr most g) r
-rest-along most (nothing {r}) = along-none strictly placeIn r
-rest-along most (guarded {a} {ms} {r} {g} u) = along-behind strictly placeIn (signAt "&" a) ms r (judgedGuard most g) (guard-along most u)
+joined-along : (k m : ℕ) (s : Sign) (ms r : Place) (g h : Formula Tested) → Judging ms (judgedGuard k m g ++ judgedGuard k m h) r
+    → Judging ms (judgedGuard k m (joining s g h)) r
+joined-along k m all ms r g h j = j
+joined-along k m any ms r g h j = j
+
+pub guard-along : (k m : ℕ) {shared : Bool} {v : Part} {ms r : Place} {g : Formula Tested} → GuardSaid (TestedSaid shared) v ms g r → Judging ms (judgedGuard k m g) r
+guard-along k m (grouped d) = test-along k m d
+guard-along k m (negated {a} {ms} {r} {g} u) = along-behind strictly placeIn (signAt "!" a) ms r (judgedGuard k m g) (guard-along k m u)
+guard-along k m (bracketed {a} {b} {ms} {r} {g} f u) =
+    along-behind strictly placeIn (signAt "(" a) ms r (judgedGuard k m g)
+    (along-before strictly placeIn ms (signAt ")" b ∷ r) r (judgedGuard k m g) (guard-along k m u) (signAt ")" b ∷ []) refl)
+guard-along k m (single u) = guard-along k m u
+guard-along k m (further {s} {a} {ms} {ns} {r} {g} {h} us u) =
+    joined-along k m s ms r g h
+    (along-then strictly placeIn ms (signAt (joint s) a ∷ ns) r (judgedGuard k m g) (judgedGuard k m h) (guard-along k m us)
+    (along-behind strictly placeIn (signAt (joint s) a) ns r (judgedGuard k m h) (guard-along k m u)))
+
+rest-along : (k m : ℕ) {shared : Bool} {ms r : Place} {g : Option (Formula Tested)} → RestSaid shared ms g r → Judging ms (judgedOr k m g) r
+rest-along k m (nothing {r}) = along-none strictly placeIn r
+rest-along k m (guarded {a} {ms} {r} {g} u) = along-behind strictly placeIn (signAt "&" a) ms r (judgedGuard k m g) (guard-along k m u)
 
 -- ---- branches
 
@@ -155,15 +166,24 @@ weight-along decimals (aNumber {v} {a} {r}) = ([], placed (number v) a, r, refl,
 weight-along decimals (aRatio {v} {w} {a} {b} {c} {r}) = ([], placed (number v) a, signAt "/" b ∷ placed (number w) c ∷ r, refl, refl, (signAt "/" b ∷ placed (number w) c ∷ [], refl))
 weight-along decimals (aDecimal {v} {n} {f} {a} {r}) = ([], placed (decimal v n f) a, r, refl, refl, along-none strictly placeIn r)
 
-pub branch-along : (decimals : Rule) (most : ℕ) {ms r : Place} {x : BranchShape} → BranchSaid ms x r → Judging ms (judgedBranch decimals most x) r
-branch-along decimals most (branch {t} {a} {b} {ms} {ns} {r} {w} {ws} d l) =
-    let end = placed (number t) a ∷ signAt ")" b ∷ r in
-    along-then strictly placeIn ms ns r (weight decimals w ms ∷ []) (judgedWords (1 ∷ []) ws ++ (state most t end ∷ [])) (weight-along decimals d)
-    (along-then strictly placeIn ns end r (judgedWords (1 ∷ []) ws) (state most t end ∷ []) (line-along l (1 ∷ []))
-    (along-at placeIn (placed (number t) a) (signAt ")" b ∷ r) r (state most t end) [] refl (along-behind strictly placeIn (signAt ")" b) r r [] (along-none strictly placeIn r))))
+set-along : (m : ℕ) {shared : Bool} {ms r : Place} {v : Option Numbered} → SetSaid shared ms v r → Judging ms (judgedSet m v) r
+set-along m (keeps {r = r}) = along-none strictly placeIn r
+set-along m (setsTo {v} {a} {b} {ms} {r} {ws} l) =
+    let value = placed (number v) a ∷ signAt ")" b ∷ r in
+    let (u, e) = along-whole strictly placeIn ms value (judgedWords [] ws) (line-along l []) in
+    rw e (along-from strictly placeIn u value r (state m v value ∷ [])
+    (along-at placeIn (placed (number v) a) (signAt ")" b ∷ r) r (state m v value) [] refl (along-behind strictly placeIn (signAt ")" b) r r [] (along-none strictly placeIn r))))
 
-plus-along : (decimals : Rule) (most : ℕ) (ms r : Place) (x : BranchShape) → PlusSaid ms x r → Judging ms (judgedBranch decimals most x) r
-plus-along decimals most ms r x (plus {a} {ms = ns} d) = along-behind strictly placeIn (signAt "+" a) ns r (judgedBranch decimals most x) (branch-along decimals most d)
+pub branch-along : (decimals : Rule) (k m : ℕ) {shared : Bool} {ms r : Place} {x : BranchShape} → BranchSaid shared ms x r → Judging ms (judgedBranch decimals k m x) r
+branch-along decimals k m (branch {t} {a} {b} {ms} {ns} {os} {r} {w} {ws} {v} d l s) =
+    let end = placed (number t) a ∷ signAt ")" b ∷ os in
+    let sets = judgedSet m v in
+    along-then strictly placeIn ms ns r (weight decimals w ms ∷ []) (judgedWords (1 ∷ []) ws ++ (state k t end ∷ sets)) (weight-along decimals d)
+    (along-then strictly placeIn ns end r (judgedWords (1 ∷ []) ws) (state k t end ∷ sets) (line-along l (1 ∷ []))
+    (along-at placeIn (placed (number t) a) (signAt ")" b ∷ os) r (state k t end) sets refl (along-behind strictly placeIn (signAt ")" b) os r sets (set-along m s))))
+
+plus-along : (decimals : Rule) (k m : ℕ) {shared : Bool} (ms r : Place) (x : BranchShape) → PlusSaid shared ms x r → Judging ms (judgedBranch decimals k m x) r
+plus-along decimals k m ms r x (plus {a} {ms = ns} d) = along-behind strictly placeIn (signAt "+" a) ns r (judgedBranch decimals k m x) (branch-along decimals k m d)
 
 many-along : {A : Type 0} {One : Said A} (f : A → List Judgement) → ((ms r : Place) (x : A) → One ms x r → Judging ms (f x) r)
     → {ms r : Place} {xs : List A} → ManySaid One ms xs r → Judging ms (judgedEach f xs) r
@@ -172,18 +192,19 @@ many-along f h (again {ms} {ns} {r} {x} {xs} d ds) = along-then strictly placeIn
 
 -- ---- statements and the card
 
-statement-along : (decimals : Rule) (most : ℕ) (ms r : Place) (x : StatementShape) → StatementSaid ms x r → Judging ms (judgedStatement decimals most x) r
-statement-along decimals most ms r x (statement {j} {a} {b} {c} {ns = ns} {os} {qs} {ws = ws} {g} {x = y} {xs = ys} l u d ds) =
+statement-along : (decimals : Rule) (k m : ℕ) {shared : Bool} (ms r : Place) (x : StatementShape) → StatementSaid shared ms x r → Judging ms (judgedStatement decimals k m x) r
+statement-along decimals k m ms r x (statement {j} {a} {b} {c} {ns = ns} {os} {qs} {ws = ws} {g} {x = y} {xs = ys} l u d ds) =
     let own = placed (number j) a ∷ ns in
     let end = signAt ";" c ∷ r in
     let total : List Judgement = sum (map weightIn (y ∷ ys)) end ∷ [] in
-    let moves = judgedEach (judgedBranch decimals most) (y ∷ ys) ++ total in
-    along-then strictly placeIn ms own r (judgedWords (1 ∷ []) ws) (state most j own ∷ (judgedOr most g ++ moves)) (line-along l (1 ∷ []))
-    (along-at placeIn (placed (number j) a) ns r (state most j own) (judgedOr most g ++ moves) refl
-    (along-then strictly placeIn ns (signAt "->" b ∷ os) r (judgedOr most g) moves (rest-along most u)
+    let each = judgedBranch decimals k m in
+    let moves = judgedEach each (y ∷ ys) ++ total in
+    along-then strictly placeIn ms own r (judgedWords (1 ∷ []) ws) (state k j own ∷ (judgedOr k m g ++ moves)) (line-along l (1 ∷ []))
+    (along-at placeIn (placed (number j) a) ns r (state k j own) (judgedOr k m g ++ moves) refl
+    (along-then strictly placeIn ns (signAt "->" b ∷ os) r (judgedOr k m g) moves (rest-along k m u)
     (along-behind strictly placeIn (signAt "->" b) os r moves
-    (along-then strictly placeIn os end r (judgedEach (judgedBranch decimals most) (y ∷ ys)) total
-    (along-then strictly placeIn os qs end (judgedBranch decimals most y) (judgedEach (judgedBranch decimals most) ys) (branch-along decimals most d) (many-along (judgedBranch decimals most) (plus-along decimals most) ds))
+    (along-then strictly placeIn os end r (judgedEach each (y ∷ ys)) total
+    (along-then strictly placeIn os qs end (each y) (judgedEach each ys) (branch-along decimals k m d) (many-along each (plus-along decimals k m) ds))
     (along-at placeIn (signAt ";" c) r r (sum (map weightIn (y ∷ ys)) end) [] refl (along-none strictly placeIn r))))))
 
 modules-along : {ms r : Place} {ys : List (List Numbered)} (i : ℕ) → ManySaid (LineSaid moduleRun) ms ys r → Judging ms (judgedModules i ys) r
@@ -191,21 +212,37 @@ modules-along i (done {r}) = along-none strictly placeIn r
 modules-along i (again {ms} {ns} {r} {x = y} {xs = ys} d ds) =
     along-then strictly placeIn ms ns r (judgedWords (moduleDues i) y) (judgedModules (suc i) ys) (line-along d (moduleDues i)) (modules-along (suc i) ds)
 
+range-along : {ms r : Place} {y : Range} → RangeSaid ms y r → Judging ms (judgedState (y .top) (y .start) ∷ []) r
+range-along (range {k} {l} {a} {b} {c} {d} {e} {f} {g} {r}) = (
+  placed (number 0) a ∷ signAt ".." b ∷ placed (number k) c ∷ signAt "]" d ∷ signAt "init" e ∷ [],
+  placed (number l) f,
+  signAt ";" g ∷ r,
+  refl,
+  refl,
+  (signAt ";" g ∷ [], refl),
+)
+
+shared-along : {ms r : Place} {g : Option Range} → SharedSaid ms g r → Judging ms (judgedShared g) r
+shared-along (unshared {r}) = along-none strictly placeIn r
+shared-along (sharing {ms} {ns} {r} {ws} {x} l d) =
+    let (u, e) = along-whole strictly placeIn ms ns (judgedWords [] ws) (line-along l []) in
+    rw e (along-from strictly placeIn u ns r (judgedState (x .top) (x .start) ∷ []) (range-along d))
+
 pub card-along : (decimals : Rule) {ms : Place} {c : CardShape} → CardSaid ms c → Judging ms (judgedCard decimals c) []
-card-along decimals (card {mode} {k} {l} {a} {b} {c} {d} {e} {f} {g} {h} {i} {ms} {ns} {os} {qs} {ws} {x} {xs} {ys} w s ss t) =
-    let start = placed (number l) g ∷ signAt ";" h ∷ ns in
-    let top = placed (number 0) b ∷ signAt ".." c ∷ placed (number k) d ∷ signAt "]" e ∷ signAt "init" f ∷ start in
+card-along decimals (card {mode} {a} {b} {ms} {ns} {os} {ps} {qs} {rs} {g} {ws} {y} {x} {xs} {ys} d w v s ss t) =
+    let start = judgedState (y .top) (y .start) in
+    let each = judgedStatement decimals (y .top) (mostIn g) in
     let modules = judgedModules 2 ys in
-    let rest = judgedEach (judgedStatement decimals k) (x ∷ xs) ++ modules in
-    along-behind strictly placeIn (signAt (modeWord mode) a) ms [] (judgedWords (1 ∷ 1 ∷ []) ws ++ (state k l start ∷ rest))
-    (along-then strictly placeIn ms top [] (judgedWords (1 ∷ 1 ∷ []) ws) (state k l start ∷ rest) (line-along w (1 ∷ 1 ∷ []))
-    (along-from strictly placeIn (placed (number 0) b ∷ signAt ".." c ∷ placed (number k) d ∷ signAt "]" e ∷ signAt "init" f ∷ []) start [] (state k l start ∷ rest)
-    (along-at placeIn (placed (number l) g) (signAt ";" h ∷ ns) [] (state k l start) rest refl
-    (along-behind strictly placeIn (signAt ";" h) ns [] rest
-    (along-then strictly placeIn ns (signAt "endmodule" i ∷ qs) [] (judgedEach (judgedStatement decimals k) (x ∷ xs)) modules
-    (along-then strictly placeIn ns os (signAt "endmodule" i ∷ qs) (judgedStatement decimals k x) (judgedEach (judgedStatement decimals k) xs) (statement-along decimals k ns os x s)
-    (many-along (judgedStatement decimals k) (statement-along decimals k) ss))
-    (along-behind strictly placeIn (signAt "endmodule" i) qs [] modules (modules-along 2 t)))))))
+    let rest = judgedEach each (x ∷ xs) ++ modules in
+    let words = judgedWords (1 ∷ 1 ∷ []) ws in
+    along-behind strictly placeIn (signAt (modeWord mode) a) ms [] (judgedShared g ++ (words ++ (start ∷ rest)))
+    (along-then strictly placeIn ms ns [] (judgedShared g) (words ++ (start ∷ rest)) (shared-along d)
+    (along-then strictly placeIn ns os [] words (start ∷ rest) (line-along w (1 ∷ 1 ∷ []))
+    (along-then strictly placeIn os ps [] (start ∷ []) rest (range-along v)
+    (along-then strictly placeIn ps (signAt "endmodule" b ∷ rs) [] (judgedEach each (x ∷ xs)) modules
+    (along-then strictly placeIn ps qs (signAt "endmodule" b ∷ rs) (each x) (judgedEach each xs) (statement-along decimals (y .top) (mostIn g) ps qs x s)
+    (many-along each (statement-along decimals (y .top) (mostIn g)) ss))
+    (along-behind strictly placeIn (signAt "endmodule" b) rs [] modules (modules-along 2 t))))))
 
 -- ---- so the first is the earliest
 

@@ -1,32 +1,32 @@
 -- Each reader of the shape is steady, and its language is the grammar's. One line for each line of a reader. Assumes nothing.
 use Prim.Native.Nat.{ℕ, zero, suc, _+_, _-_, _≤_}
 use Prim.Native.String.{String}
-use mathlib.Core.Path.{_≡_, refl, sym, ap, _∙_}
+use mathlib.Core.Path.{_≡_, refl, sym, ap, _∙_, subst}
 use mathlib.Core.Logic.{_⊎_, inl, inr}
 use mathlib.Core.Bool.{Bool, true, false, false≢true}
-use mathlib.Core.List.{List, [], _∷_, _++_, append-assoc, append-cancel-right, head?}
+use mathlib.Core.List.{List, [], _∷_, _++_, append-assoc, append-cancel-right, head?, tail-eq-of-cons-eq}
 use mathlib.Core.Option.{Option, none, some}
 use native.Mathlib.Omega.{arith}
 use lib.Dec.{eqb, leb}
 use borrow.Author.Tests.{eqb-true}
 use lib.ListN.{length, length-append}
-use Rattle.card.specs.Limits.{mostSeats, topState, mostStatements, mostBranches, mostNodes, mostDepth}
+use Rattle.card.specs.Limits.{mostSeats, topState, topShared, mostStatements, mostBranches, mostNodes, mostDepth}
 use Rattle.card.specs.Refusals.{outOfShape, pastLimit}
 use Rattle.card.specs.Text.{bytes, same, if_then_else_}
 use Rattle.card.specs.Card.{Mode, nondeterministic, probabilistic, Sign, all, any, Relation, is as eq, isnt as ne, Formula, atom, neg, and, or}
 use Rattle.card.specs.Weight.{Weight, whole, decimal as point, ratio}
 use Rattle.marks_on_a_card.specs.Marks.{Mark, text, seat, process, number, decimal, outside, Placed, placed}
 use Rattle.reading.specs.Reader.{Place, State, at, Result, ok, stop, Reader, bind, _>>=_, return, refuse, refuseAt, the, is, nextIs, ifNext, given, sign, seatOf, processOf, numberOf, here, numbered, Item, exactly, seatWord, processWord, line}
-use Rattle.reading.specs.Guard.{seatNext, ifAhead, Read, unaryBy, chain, conjunction, expression, grouped as readGrouped, unary as readUnary}
-use Rattle.reading.specs.Group.{joint, relation, Literal, literalOf, Literals, literalsOf, relationOf, literal as readLiteral, joined, others, group}
-use Rattle.reading.specs.Shape.{BranchShape, CardShape, many, weightOf, over, weight, branch as readBranch, nextBranch, pastBranches, moreBranches, guard, mayHave, statement as readStatement, moreStatements, copy, moreModules, modeOf, onlyZero, zeroOf, top, ended as readEnd, theEnd, body, card as readCard}
-use Rattle.grammar.specs.Grammar.{Said, signAt, valued, LineSaid, ended, fixed, aSeat, aProcess, cardRun, statementRun, branchRun, moduleRun, ManySaid, done, again, LiteralSaid, literal, JoinedSaid, OthersSaid, close, next, GroupSaid, conjoined, disjoined, Part, unary, joinedBy, operand, joining, GuardSaid, FormulaSaid, Anything, grouped, negated, bracketed, single, further}
-use Rattle.grammar.specs.Grammar.{RestSaid, nothing, guarded, WeightSaid, aNumber, aRatio, aDecimal, BranchSaid, branch, PlusSaid, plus, StatementSaid, statement, modeWord, CardSaid, card}
-use Rattle.grammar.specs.Verdicts.{CompletableIn}
-use Rattle.grammar.proofs.Follows.{guard-no-seat}
-use Rattle.reading.proofs.Through.{same-refl, none≢some, is→eq, given-true, stop≢ok, ok-state, through, chose, sign-took}
-use Rattle.grammar.proofs.Steady.{Lang, Nil, _then_, _either_, One, Mark₁, OneThen, Saying, Word, SameHead, SameBracket, Alike, head-append, seat-head, free, Passed, Cause, unfit, excess, Stopped, Steady, Always, Next, At, Refused, Behind, ok≢stop, stop-number, stop-place, stopped, chose-stop}
-use Rattle.grammar.proofs.Steady.{cause-as, steady-as, steady-on, steady-free, steady-bind, steady-the, steady-sign, steady-return, steady-here, steady-next, steady-limit, steady-node, steady-behind, behind-steady, steady-silent, steady-last, steady-like}
+use Rattle.reading.specs.Guard.{isSome, seatNext, testNext, ifAhead, Read, unaryBy, chain, conjunction, expression, grouped as readGrouped, unary as readUnary}
+use Rattle.reading.specs.Group.{joint, relation, Literal, literalOf, Literals, literalsOf, relationOf, literal as readLiteral, joined, others, group, ofSeats, ofShared, sharedTest as readSharedTest, tested}
+use Rattle.reading.specs.Shape.{BranchShape, Range, CardShape, many, weightOf, over, weight, sets as readSets, branch as readBranch, nextBranch, pastBranches, moreBranches, guard, mayHave, statement as readStatement, moreStatements, copy, moreModules, modeOf, onlyZero, zeroOf, top, range as readRange, declaration, ended as readEnd, theEnd, modules, body, card as readCard}
+use Rattle.grammar.specs.Grammar.{Said, signAt, valued, LineSaid, ended, fixed, aSeat, aProcess, sharedRun, cardRun, statementRun, branchRun, setRun, moduleRun, ManySaid, done, again, LiteralSaid, literal, JoinedSaid, OthersSaid, close, next, GroupSaid, conjoined, disjoined, SharedTestSaid, sharedTest, TestedSaid, testSeats, testShared, Part, unary, joinedBy, operand, joining, GuardSaid, FormulaSaid, Anything, grouped, negated, bracketed, single, further}
+use Rattle.grammar.specs.Grammar.{RestSaid, nothing, guarded, WeightSaid, aNumber, aRatio, aDecimal, SetSaid, keeps, setsTo, BranchSaid, branch, PlusSaid, plus, StatementSaid, statement, modeWord, RangeSaid, range, SharedSaid, unshared, sharing, CardSaid, card}
+use Rattle.grammar.specs.Verdicts.{CompletableIn, shares}
+use Rattle.grammar.proofs.Follows.{and-false, guard-no-test}
+use Rattle.reading.proofs.Through.{same-refl, none≢some, is→eq, given-true, stop≢ok, ok-state, through, chose, the-took, sign-took}
+use Rattle.grammar.proofs.Steady.{Lang, Nil, _then_, _either_, One, Mark₁, OneThen, Saying, Word, SameHead, SameBracket, Alike, head-append, seat-head, test-head, free, Passed, Cause, unfit, excess, Stopped, Steady, Always, Next, At, Refused, Behind, ok≢stop, stop-number, stop-place, the-stopped, stopped, chose-stop}
+use Rattle.grammar.proofs.Steady.{cause-as, steady-as, steady-on, steady-free, steady-into, steady-bind, steady-the, steady-sign, steady-return, steady-here, steady-next, steady-taken, steady-left, steady-limit, steady-node, steady-behind, behind-steady, steady-silent, steady-last, steady-like}
 
 -- ---- what a mark is that fits
 
@@ -473,27 +473,74 @@ module _ {A Look : Type 0} {look : Place → Look} (starts : Place → Bool) (Fr
       (steady-next "!" (steady-node "!" refl (steady-last (unaryT d) λ g g₁ _. steady-return (neg g) (neg g₁)))
       (steady-behind (text (bytes "(")) tt refl (steady-behind-bracket d (unaryT d))))
 
--- ---- a card's groups: one mark behind a bracket decides
+-- ---- a card's tests: one mark behind a bracket decides
 
 pub seat-still : (b : Bool) (ms pre r y : Place) → seatNext ms ≡ b → ms ≡ pre ++ r → SameHead r y → seatNext (pre ++ y) ≡ b
 seat-still b ms pre r y e z h = sym (seat-head ms (pre ++ y) (ap head? z ∙ head-append pre r y h)) ∙ e
 
-cardLeaves : Leaves seatNext seatNext Anything GroupSaid group
-cardLeaves = record {
+pub test-still : (shared b : Bool) (ms pre r y : Place) → testNext shared ms ≡ b → ms ≡ pre ++ r → SameHead r y → testNext shared (pre ++ y) ≡ b
+test-still shared b ms pre r y e z h = sym (test-head shared ms (pre ++ y) (ap head? z ∙ head-append pre r y h)) ∙ e
+
+shared-test-said : (ms r : Place) → (Mark₁ "g" then One relationOf then One numberOf then Mark₁ ")") ms r → Saying SharedTestSaid ms r
+shared-test-said ms r (q, s, (q₁, (m, p, k, e, i), (q₂, n, c))) =
+    let (a, z) = one-sign "g" ms q s in
+    let (d, o, y) = one-number q₁ q₂ n in
+    let (b, x) = one-sign ")" q₂ r c in
+    let w : ms ≡ signAt "g" a ∷ signAt (relation k) p ∷ placed (number d) o ∷ signAt ")" b ∷ r = cc (relation→eq m k i) in
+    rw w (_, sharedTest {v = d} {a = a} {b = p} {c = o} {d = b} {q = k} {r = r})
+
+abbrev TestsL : Bool → Lang
+TestsL shared = GroupsL Anything (TestedSaid shared)
+
+either-tests : (shared : Bool) (ms r : Place) → (TestsL shared either TestsL shared) ms r → TestsL shared ms r
+either-tests shared ms r (inl l) = l
+either-tests shared ms r (inr l) = l
+
+module _ {Look : Type 0} {look : Place → Look} where
+  pub sharedTestT : Steady look Always free (Saying SharedTestSaid) readSharedTest readSharedTest
+  sharedTestT = steady-as shared-test-said
+      (steady-bind (steady-sign "g") λ _ _ _. steady-bind (steady-free (steady-the relationOf (text (bytes "=")) eq refl)) λ q q₁ _. steady-bind (numberedT numberT) λ v v₁ _.
+      steady-last (steady-sign ")") λ _ _ _. steady-return (record { relation = q; value = v }) (record { relation = q₁; value = v₁ }))
+
+  seatsT : (shared : Bool) (p p₁ : Place) → Steady look Always free (TestsL shared) (group p >>= λ x. return (ofSeats x)) (group p₁ >>= λ x. return (ofSeats x))
+  seatsT shared p p₁ = steady-as (λ ms r g o. let (x, d) = g o in (ofSeats x, testSeats d)) (steady-last (groupT p p₁) λ x x₁ _. steady-return (ofSeats x) (ofSeats x₁))
+
+  numberTestT : Steady look Always free (TestsL true) (readSharedTest >>= λ x. return (ofShared x)) (readSharedTest >>= λ x. return (ofShared x))
+  numberTestT = steady-as (λ ms r (x, d) o. (ofShared x, testShared d)) (steady-last sharedTestT λ x x₁ _. steady-return (ofShared x) (ofShared x₁))
+
+  -- without a shared number no `g` is read
+  testT : (shared : Bool) (p p₁ : Place) → Steady look (λ ms. testNext shared ms ≡ true) free (TestsL shared) (tested p) (tested p₁)
+  testT true p p₁ = steady-on _ (steady-as (either-tests true) (steady-next "g" (steady-on (Next "g") numberTestT) (seatsT true p p₁)))
+  testT false p p₁ = steady-left "g" no-number (steady-on _ (seatsT false p p₁))
+    where
+      no-number : (ms : Place) → testNext false ms ≡ true → nextIs "g" ms ≡ false
+      no-number [] h = absurd (false≢true h)
+      no-number (placed (text s) p ∷ ms) h = absurd (false≢true h)
+      no-number (placed (seat i) p ∷ ms) h = refl
+      no-number (placed (process i) p ∷ ms) h = refl
+      no-number (placed (number v) p ∷ ms) h = refl
+      no-number (placed (decimal v n f) p ∷ ms) h = refl
+      no-number (placed outside p ∷ ms) h = refl
+
+here-stays : (P : Place → Type 0) (s s₁ : State) (a : Place) → P (s .marks) → here s ≡ ok a s₁ → P (s₁ .marks)
+here-stays P s s₁ a h e = subst (λ (x : State). P (x .marks)) (ok-state e) h
+
+cardLeaves : (shared : Bool) → Leaves (testNext shared) (testNext shared) Anything (TestedSaid shared) tested
+cardLeaves shared = record {
   decided = λ x y e. e;
   allows = λ ms e. tt;
-  steady = λ m. steady-on (λ ms. seatNext ms ≡ true) (steady-silent steady-here λ q q₁ _. groupT (m ∷ q) (m ∷ q₁));
-  group-ends = λ m s s₁ a y e pre z u h. seat-still true (s .marks) pre (s₁ .marks) u y z h;
-  group-halts = λ m s n r y e pre z u h. seat-still true (s .marks) pre r u y z (h .0);
-  word = λ ms y. (a-literal, (λ t. y), (λ t o. (_, conjoined (literal {q = eq}) close)));
+  steady = λ m. steady-as (λ ms r (q, e, l). rw e l) (steady-into (here-stays (λ ms. testNext shared ms ≡ true)) (steady-on _ steady-here) λ q q₁ _. testT shared (m ∷ q) (m ∷ q₁));
+  group-ends = λ m s s₁ a y e pre z u h. test-still shared true (s .marks) pre (s₁ .marks) u y z h;
+  group-halts = λ m s n r y e pre z u h. test-still shared true (s .marks) pre r u y z (h .0);
+  word = λ ms y. (a-literal, (λ t. y), (λ t o. (_, testSeats (conjoined (literal {q = eq}) close))));
   sample = a-literal;
   sampled = refl;
   closed = signAt "(" 0 ∷ (a-literal ++ (signAt ")" 0 ∷ []));
-  closes = λ t. (signAt ")" 0 ∷ t, (_, single {s = any} (single {s = all} (grouped (conjoined (literal {q = eq}) close)))), a-sign ")" 0 t);
-  shut = λ t. refl;
-  alike = λ ms y t. y;
-  settled = λ pre r y f t. guard-no-seat (f t .1 .1);
-  halts = λ d x s n r y e pre z u h. seat-still false (s .marks) pre r u y z (h .0);
+  closes = λ t. (signAt ")" 0 ∷ t, (_, single {s = any} (single {s = all} (grouped (testSeats (conjoined (literal {q = eq}) close))))), a-sign ")" 0 t);
+  shut = λ t. and-false shared;
+  alike = λ ms y t. y ∙ sym (and-false shared);
+  settled = λ pre r y f t. guard-no-test (f t .1 .1);
+  halts = λ d x s n r y e pre z u h. test-still shared false (s .marks) pre r u y z (h .0);
   completes = λ pre r post y f. (post, λ t. inr (tt, f t));
 }
   where
@@ -506,12 +553,6 @@ abbrev OverL : Weight → Lang
 OverL (whole a) = (Mark₁ "/" then One numberOf) either Nil
 OverL (point v n f) = Nil
 OverL (ratio a b) = Nil
-
-overT : (w : Weight) → Steady seatNext Always free (OverL w) (over w) (over w)
-overT (whole a) = steady-next "/"
-    (steady-on (Next "/") (steady-bind (steady-sign "/") λ _ _ _. steady-last numberT λ b b₁ _. steady-return (ratio a b) (ratio a b₁))) (steady-return (whole a) (whole a))
-overT (point v n f) = steady-return (point v n f) (point v n f)
-overT (ratio a b) = steady-return (ratio a b) (ratio a b)
 
 weight-said : (ms r : Place) → OneThen weightOf OverL ms r → Saying WeightSaid ms r
 weight-said ms r (m, p, w, q, e, i, l) = rw e (go m w i l)
@@ -532,43 +573,27 @@ weight-said ms r (m, p, w, q, e, i, l) = rw e (go m w i l)
     go (decimal v n f) w i l = let z : point v n f ≡ w = cc in let e : q ≡ r = rw (← z) at l in rw e (_, aDecimal)
     go outside w i l = none≢some i
 
-weightT : Steady seatNext Always free (Saying WeightSaid) weight weight
-weightT = steady-as weight-said (steady-behind (number 0) (whole 0) refl (behind-steady (whole 0) overT))
-
 -- behind its weight
-abbrev TargetL : Lang
-TargetL = Saying (LineSaid branchRun) then One numberOf then Mark₁ ")"
+abbrev TargetL : Bool → Lang
+TargetL shared = Saying (LineSaid branchRun) then One numberOf then Mark₁ ")" then Saying (SetSaid shared)
 
-branch-said : (ms r : Place) → (Saying WeightSaid then TargetL) ms r → Saying BranchSaid ms r
-branch-said ms r (q, (w, d), (q₁, (ws, l), (q₂, n, c))) =
+branch-said : (shared : Bool) (ms r : Place) → (Saying WeightSaid then TargetL shared) ms r → Saying (BranchSaid shared) ms r
+branch-said shared ms r (q, (w, d), (q₁, (ws, l), (q₂, n, (q₃, c, (v, s))))) =
     let (t, a, y) = one-number q₁ q₂ n in
-    let (b, z) = one-sign ")" q₂ r c in
-    let e : q₁ ≡ placed (number t) a ∷ signAt ")" b ∷ r = cc in
-    (_, branch d (rw e at l))
+    let (b, z) = one-sign ")" q₂ q₃ c in
+    let e : q₁ ≡ placed (number t) a ∷ signAt ")" b ∷ q₃ = cc in
+    (_, branch d (rw e at l) s)
 
-branchT : Steady seatNext Always free (Saying BranchSaid) readBranch readBranch
-branchT = steady-as branch-said
-    (steady-silent steady-here λ p p₁ _. steady-bind weightT λ w w₁ _. steady-bind (lineT branchRun) λ ws ws₁ _. steady-bind (numberedT numberT) λ t t₁ _.
-    steady-last (steady-sign ")") λ _ _ _. steady-return (record { place = p; weight = w; words = ws; end = t }) (record { place = p₁; weight = w₁; words = ws₁; end = t₁ }))
+set-said : (ms r : Place) → ((Saying (LineSaid setRun) then One numberOf then Mark₁ ")") either Nil) ms r → Saying (SetSaid true) ms r
+set-said ms r (inl (q, (ws, l), (q₁, n, c))) =
+    let (v, a, y) = one-number q q₁ n in
+    let (b, z) = one-sign ")" q₁ r c in
+    let e : q ≡ placed (number v) a ∷ signAt ")" b ∷ r = cc in
+    (_, setsTo (rw e at l))
+set-said ms r (inr e) = rw e (none, keeps)
 
-plus-said : (ms r : Place) → (Mark₁ "+" then Saying BranchSaid) ms r → Saying PlusSaid ms r
-plus-said ms r (q, m, (x, d)) = let (a, e) = one-sign "+" ms q m in rw e (x, plus d)
-
-plusT : Steady seatNext Always free (Saying PlusSaid) nextBranch nextBranch
-plusT = steady-as plus-said (steady-bind (steady-sign "+") λ _ _ _. branchT)
-
--- ---- any number of things
-
-module _ {A : Type 0} (S : Said A) (t : String) (one : Reader A) (over : Reader (List A)) (x : Steady seatNext Always free (Saying S) one one)
-    (z : Steady seatNext Always free (Saying (ManySaid S)) (many zero t one over) (many zero t one over)) where
-  again-said : (ms r : Place) → ((Saying S then Saying (ManySaid S)) either Nil) ms r → Saying (ManySaid S) ms r
-  again-said ms r (inl (q, (a, d), (l, o))) = (a ∷ l, again d o)
-  again-said ms r (inr e) = rw e ([], done)
-
-  manyT : (f : ℕ) → Steady seatNext Always free (Saying (ManySaid S)) (many f t one over) (many f t one over)
-  manyT zero = z
-  manyT (suc f) = steady-as again-said
-      (steady-next t (steady-on (Next t) (steady-bind x λ a a₁ _. steady-last (manyT f) λ l l₁ _. steady-return (a ∷ l) (a₁ ∷ l₁))) (steady-return [] []))
+plus-said : (shared : Bool) (ms r : Place) → (Mark₁ "+" then Saying (BranchSaid shared)) ms r → Saying (PlusSaid shared) ms r
+plus-said shared ms r (q, m, (x, d)) = let (a, e) = one-sign "+" ms q m in rw e (x, plus d)
 
 -- one too many begins with the mark t
 none-or : {A : Type 0} (S : Said A) (L : Lang) → ((ms r : Place) → L ms r → Saying (ManySaid S) ms r) → (ms r : Place) → (L either Nil) ms r
@@ -576,35 +601,6 @@ none-or : {A : Type 0} (S : Said A) (L : Lang) → ((ms r : Place) → L ms r �
 none-or S L h ms r (inl l) = h ms r l
 none-or S L h ms r (inr e) = rw e ([], done)
 
--- ---- too many branches
-
-no-weight-bracket : (m : Mark) (w : Weight) → weightOf m ≡ some w → (a : ℕ) (x y : Place) → SameBracket seatNext (placed m a ∷ x) y
-no-weight-bracket (text s) w i a x y e = none≢some i
-no-weight-bracket (seat j) w i a x y e = absurd (false≢true e)
-no-weight-bracket (process j) w i a x y e = absurd (false≢true e)
-no-weight-bracket (number v) w i a x y e = absurd (false≢true e)
-no-weight-bracket (decimal v n f) w i a x y e = absurd (false≢true e)
-no-weight-bracket outside w i a x y e = absurd (false≢true e)
-
-target : Word TargetL
-target = steady-bind {look = seatNext} (lineT branchRun) (λ ws ws₁ _. steady-bind numberT λ t t₁ _. steady-sign ")") .word
-
-limit-weight : Behind seatNext free weightOf (λ _. TargetL) (λ p w. refuseAt {A = List BranchShape} pastLimit p) (λ p w. refuseAt {A = List BranchShape} pastLimit p)
-limit-weight = record {
-  passes = λ m a w i s s₁ d e. stop≢ok e;
-  stops = λ m a w i s n r e. inr (record {
-    number = sym (stop-number {A = List BranchShape} e);
-    place = sym (stop-place {A = List BranchShape} e);
-    post = target .0;
-    bracket = λ t. no-weight-bracket m w i a (s .marks) (placed m a ∷ (target .0 ++ t));
-    said = target .1;
-    same = λ u h. refl;
-  });
-  word = λ _. target;
-  sample = [];
-}
-
--- the first mark of a weight alone is one
 first-weight : (m : Mark) (w : Weight) → weightOf m ≡ some w → (a : ℕ) (r : Place) → Saying WeightSaid (placed m a ∷ r) r
 first-weight (text s) w i a r = none≢some i
 first-weight (seat j) w i a r = none≢some i
@@ -613,28 +609,101 @@ first-weight (number v) w i a r = (_, aNumber)
 first-weight (decimal v n f) w i a r = (_, aDecimal)
 first-weight outside w i a r = none≢some i
 
-past-said : (ms r : Place) → (Mark₁ "+" then OneThen weightOf (λ _. TargetL)) ms r → Saying (ManySaid PlusSaid) ms r
-past-said ms r (q, p, (m, a, w, o, e, i, l)) =
-    let (x, d) = plus-said ms r (q, p, rw e (branch-said (placed m a ∷ o) r (o, first-weight m w i a o, l))) in
+no-weight-bracket : {Look : Type 0} (look : Place → Look) (m : Mark) (w : Weight) → weightOf m ≡ some w → (a : ℕ) (x y : Place) → SameBracket look (placed m a ∷ x) y
+no-weight-bracket look (text s) w i a x y e = none≢some i
+no-weight-bracket look (seat j) w i a x y e = absurd (false≢true e)
+no-weight-bracket look (process j) w i a x y e = absurd (false≢true e)
+no-weight-bracket look (number v) w i a x y e = absurd (false≢true e)
+no-weight-bracket look (decimal v n f) w i a x y e = absurd (false≢true e)
+no-weight-bracket look outside w i a x y e = absurd (false≢true e)
+
+past-said : (shared : Bool) (ms r : Place) → (Mark₁ "+" then OneThen weightOf (λ _. TargetL shared)) ms r → Saying (ManySaid (PlusSaid shared)) ms r
+past-said shared ms r (q, p, (m, a, w, o, e, i, l)) =
+    let (x, d) = plus-said shared ms r (q, p, rw e (branch-said shared (placed m a ∷ o) r (o, first-weight m w i a o, l))) in
     (x ∷ [], again d done)
 
-pastT : Steady seatNext Always free (Saying (ManySaid PlusSaid)) pastBranches pastBranches
-pastT = steady-as past-said (steady-bind (steady-sign "+") λ _ _ _. steady-behind (number 0) (whole 0) refl limit-weight)
+module _ {Look : Type 0} {look : Place → Look} where
+  overT : (w : Weight) → Steady look Always free (OverL w) (over w) (over w)
+  overT (whole a) = steady-next "/"
+      (steady-on (Next "/") (steady-bind (steady-sign "/") λ _ _ _. steady-last numberT λ b b₁ _. steady-return (ratio a b) (ratio a b₁))) (steady-return (whole a) (whole a))
+  overT (point v n f) = steady-return (point v n f) (point v n f)
+  overT (ratio a b) = steady-return (ratio a b) (ratio a b)
 
-moreBranchesT : (f : ℕ) → Steady seatNext Always free (Saying (ManySaid PlusSaid)) (moreBranches f) (moreBranches f)
-moreBranchesT = manyT PlusSaid "+" nextBranch pastBranches plusT
-    (steady-as (none-or PlusSaid (Saying (ManySaid PlusSaid)) (λ ms r l. l)) (steady-next "+" (steady-on (Next "+") pastT) (steady-return [] [])))
+  weightT : Steady look Always free (Saying WeightSaid) weight weight
+  weightT = steady-as weight-said (steady-behind (number 0) (whole 0) refl (behind-steady (whole 0) overT))
+
+  setsT : (shared : Bool) → Steady look Always free (Saying (SetSaid shared)) (readSets shared) (readSets shared)
+  setsT false = steady-as (λ ms r e. rw e (none, keeps)) (steady-return none none)
+  setsT true = steady-as set-said
+      (steady-next "&"
+      (steady-on (Next "&") (steady-bind (lineT setRun) λ _ _ _. steady-bind (numberedT numberT) λ v v₁ _. steady-last (steady-sign ")") λ _ _ _. steady-return (some v) (some v₁)))
+      (steady-return none none))
+
+  branchT : (shared : Bool) → Steady look Always free (Saying (BranchSaid shared)) (readBranch shared) (readBranch shared)
+  branchT shared = steady-as (branch-said shared)
+      (steady-silent steady-here λ p p₁ _. steady-bind weightT λ w w₁ _. steady-bind (lineT branchRun) λ ws ws₁ _. steady-bind (numberedT numberT) λ t t₁ _.
+      steady-bind (steady-sign ")") λ _ _ _. steady-last (setsT shared) λ v v₁ _.
+      steady-return (record { place = p; weight = w; words = ws; end = t; sets = v }) (record { place = p₁; weight = w₁; words = ws₁; end = t₁; sets = v₁ }))
+
+  plusT : (shared : Bool) → Steady look Always free (Saying (PlusSaid shared)) (nextBranch shared) (nextBranch shared)
+  plusT shared = steady-as (plus-said shared) (steady-bind (steady-sign "+") λ _ _ _. branchT shared)
+
+  -- ---- any number of things
+
+  module _ {A : Type 0} (S : Said A) (t : String) (one : Reader A) (over : Reader (List A)) (x : Steady look Always free (Saying S) one one)
+      (z : Steady look Always free (Saying (ManySaid S)) (many zero t one over) (many zero t one over)) where
+    again-said : (ms r : Place) → ((Saying S then Saying (ManySaid S)) either Nil) ms r → Saying (ManySaid S) ms r
+    again-said ms r (inl (q, (a, d), (l, o))) = (a ∷ l, again d o)
+    again-said ms r (inr e) = rw e ([], done)
+
+    manyT : (f : ℕ) → Steady look Always free (Saying (ManySaid S)) (many f t one over) (many f t one over)
+    manyT zero = z
+    manyT (suc f) = steady-as again-said
+        (steady-next t (steady-on (Next t) (steady-bind x λ a a₁ _. steady-last (manyT f) λ l l₁ _. steady-return (a ∷ l) (a₁ ∷ l₁))) (steady-return [] []))
+
+  -- ---- too many branches
+
+  targetT : (shared : Bool)
+      → Steady look Always free (TargetL shared) (line branchRun >>= λ ws. the numberOf >>= λ t. sign ")" >>= λ _. readSets shared) (line branchRun >>= λ ws. the numberOf >>= λ t. sign ")" >>= λ _. readSets shared)
+  targetT shared = steady-bind (lineT branchRun) λ ws ws₁ _. steady-bind numberT λ t t₁ _. steady-bind (steady-sign ")") λ _ _ _. setsT shared
+
+  limit-weight : (shared : Bool)
+      → Behind look free weightOf (λ _. TargetL shared) (λ p w. refuseAt {A = List BranchShape} pastLimit p) (λ p w. refuseAt {A = List BranchShape} pastLimit p)
+  limit-weight shared = record {
+    passes = λ m a w i s s₁ d e. stop≢ok e;
+    stops = λ m a w i s n r e. inr (record {
+      number = sym (stop-number {A = List BranchShape} e);
+      place = sym (stop-place {A = List BranchShape} e);
+      post = targetT shared .word .0;
+      bracket = λ t. no-weight-bracket look m w i a (s .marks) (placed m a ∷ (targetT shared .word .0 ++ t));
+      said = targetT shared .word .1;
+      same = λ u h. refl;
+    });
+    word = λ _. targetT shared .word;
+    sample = [];
+  }
+
+  -- the first mark of a weight alone is one
+
+  pastT : (shared : Bool) → Steady look Always free (Saying (ManySaid (PlusSaid shared))) pastBranches pastBranches
+  pastT shared = steady-as (past-said shared) (steady-bind (steady-sign "+") λ _ _ _. steady-behind (number 0) (whole 0) refl (limit-weight shared))
+
+  moreBranchesT : (shared : Bool) (f : ℕ) → Steady look Always free (Saying (ManySaid (PlusSaid shared))) (moreBranches shared f) (moreBranches shared f)
+  moreBranchesT shared = manyT (PlusSaid shared) "+" (nextBranch shared) pastBranches (plusT shared)
+      (steady-as (none-or (PlusSaid shared) (Saying (ManySaid (PlusSaid shared))) (λ ms r l. l)) (steady-next "+" (steady-on (Next "+") (pastT shared)) (steady-return [] [])))
 
 -- ---- statements
 
-rest-said : (ms r : Place) → ((Mark₁ "&" then GuardL Anything GroupSaid (joinedBy all)) either Nil) ms r → Saying RestSaid ms r
-rest-said ms r (inl (q, m, (g, d))) = let (a, e) = one-sign "&" ms q m in rw e (some g, guarded d)
-rest-said ms r (inr e) = rw e (none, nothing)
+rest-said : (shared : Bool) (ms r : Place) → ((Mark₁ "&" then GuardL Anything (TestedSaid shared) (joinedBy all)) either Nil) ms r → Saying (RestSaid shared) ms r
+rest-said shared ms r (inl (q, m, (g, d))) = let (a, e) = one-sign "&" ms q m in rw e (some g, guarded d)
+rest-said shared ms r (inr e) = rw e (none, nothing)
 
-guardT : Steady seatNext Always free (Saying RestSaid) guard guard
-guardT = steady-as rest-said
+guardT : (shared : Bool) → Steady (testNext shared) Always free (Saying (RestSaid shared)) (guard shared) (guard shared)
+unfolding guard
+guardT shared = steady-as (rest-said shared)
     (steady-next "&"
-    (steady-on (Next "&") (steady-bind (steady-sign "&") λ _ _ _. steady-last (conjunctionT Anything GroupSaid (readUnary group mostDepth) (unaryT seatNext Anything GroupSaid group cardLeaves mostDepth)) λ g g₁ _.
+    (steady-on (Next "&") (steady-bind (steady-sign "&") λ _ _ _.
+    steady-last (conjunctionT Anything (TestedSaid shared) (readUnary shared tested mostDepth) (unaryT (testNext shared) Anything (TestedSaid shared) tested (cardLeaves shared) mostDepth)) λ g g₁ _.
     steady-return (some g) (some g₁)))
     (steady-return none none))
 
@@ -646,18 +715,19 @@ mayHaveT n = record {
   sample = tt;
 }
 
-statement-said : (ms r : Place)
-    → (Saying (LineSaid statementRun) then One numberOf then Saying RestSaid then Mark₁ "->" then Saying BranchSaid then Saying (ManySaid PlusSaid) then Mark₁ ";") ms r → Saying StatementSaid ms r
-statement-said ms r (q, (ws, l), (q₁, n, (q₂, (g, d), (q₃, m, (q₄, (b, e), (q₅, (bs, f), c)))))) =
+statement-said : (shared : Bool) (ms r : Place)
+    → (Saying (LineSaid statementRun) then One numberOf then Saying (RestSaid shared) then Mark₁ "->" then Saying (BranchSaid shared) then Saying (ManySaid (PlusSaid shared)) then Mark₁ ";") ms r
+    → Saying (StatementSaid shared) ms r
+statement-said shared ms r (q, (ws, l), (q₁, n, (q₂, (g, d), (q₃, m, (q₄, (b, e), (q₅, (bs, f), c)))))) =
     let (j, a, w) = one-number q q₁ n in
     let (i, x) = one-sign "->" q₂ q₃ m in
     let (o, y) = one-sign ";" q₅ r c in
     (_, statement {a = a} {b = i} {c = o} (rw w at l) (rw x at d) e (rw y at f))
 
-statementT : Steady seatNext Always free (Saying StatementSaid) readStatement readStatement
-statementT = steady-as statement-said
-    (steady-bind (lineT statementRun) λ ws ws₁ _. steady-bind (numberedT numberT) λ j j₁ _. steady-silent (mayHaveT mostNodes) λ _ _ _. steady-bind guardT λ g g₁ _.
-    steady-bind (steady-sign "->") λ _ _ _. steady-bind branchT λ b b₁ _. steady-bind (moreBranchesT (mostBranches - 1)) λ bs bs₁ _. steady-silent steady-here λ p p₁ _.
+statementT : (shared : Bool) → Steady (testNext shared) Always free (Saying (StatementSaid shared)) (readStatement shared) (readStatement shared)
+statementT shared = steady-as (statement-said shared)
+    (steady-bind (lineT statementRun) λ ws ws₁ _. steady-bind (numberedT numberT) λ j j₁ _. steady-silent (mayHaveT mostNodes) λ _ _ _. steady-bind (guardT shared) λ g g₁ _.
+    steady-bind (steady-sign "->") λ _ _ _. steady-bind (branchT shared) λ b b₁ _. steady-bind (moreBranchesT shared (mostBranches - 1)) λ bs bs₁ _. steady-silent steady-here λ p p₁ _.
     steady-last (steady-sign ";") λ _ _ _.
     steady-return (record { words = ws; own = j; guard = g; branches = b ∷ bs; close = p }) (record { words = ws₁; own = j₁; guard = g₁; branches = b₁ ∷ bs₁; close = p₁ }))
 
@@ -671,20 +741,20 @@ behind-said t S ms r (q, m, k) =
     let (x, d) = k p in
     rw e (x ∷ [], again d done)
 
-module _ {A : Type 0} (S : Said A) (t : String) (miss : is "(" (text (bytes t)) ≡ false) (one : Reader A) (x : Steady seatNext Always free (Saying S) one one) (w : Word (BehindL t S)) where
-  limitedT : (f : ℕ) → Steady seatNext Always free (Saying (ManySaid S)) (many f t one (refuse pastLimit)) (many f t one (refuse pastLimit))
+module _ {A Look : Type 0} {look : Place → Look} (S : Said A) (t : String) (miss : is "(" (text (bytes t)) ≡ false) (one : Reader A) (x : Steady look Always free (Saying S) one one) (w : Word (BehindL t S)) where
+  limitedT : (f : ℕ) → Steady look Always free (Saying (ManySaid S)) (many f t one (refuse pastLimit)) (many f t one (refuse pastLimit))
   limitedT = manyT S t one (refuse pastLimit) x
       (steady-as (none-or S (Mark₁ t then BehindL t S) (behind-said t S)) (steady-next t (steady-limit t miss w []) (steady-return [] [])))
 
-a-statement : Word (BehindL "[" StatementSaid)
-a-statement = (
+a-statement : (shared : Bool) → Word (BehindL "[" (StatementSaid shared))
+a-statement shared = (
   signAt "]" 0 ∷ placed (seat 1) 0 ∷ signAt "=" 0 ∷ placed (number 0) 0 ∷ signAt "->" 0 ∷ placed (number 1) 0 ∷ signAt ":" 0 ∷ signAt "(" 0 ∷ placed (seat 1) 0 ∷ signAt "'" 0 ∷ signAt "=" 0
       ∷ placed (number 0) 0 ∷ signAt ")" 0 ∷ signAt ";" 0 ∷ [],
-  λ t p. (_, statement (fixed (fixed (aSeat (fixed ended)))) nothing (branch aNumber (fixed (fixed (aSeat (fixed (fixed ended)))))) done),
+  λ t p. (_, statement (fixed (fixed (aSeat (fixed ended)))) nothing (branch aNumber (fixed (fixed (aSeat (fixed (fixed ended))))) keeps) done),
 )
 
-moreStatementsT : (f : ℕ) → Steady seatNext Always free (Saying (ManySaid StatementSaid)) (moreStatements f) (moreStatements f)
-moreStatementsT = limitedT StatementSaid "[" refl readStatement statementT a-statement
+moreStatementsT : (shared : Bool) (f : ℕ) → Steady (testNext shared) Always free (Saying (ManySaid (StatementSaid shared))) (moreStatements shared f) (moreStatements shared f)
+moreStatementsT shared = limitedT (StatementSaid shared) "[" refl (readStatement shared) (statementT shared) (a-statement shared)
 
 -- ---- the further modules
 
@@ -695,57 +765,13 @@ a-module = (
   λ t p. (_, fixed (aProcess (fixed (aProcess (fixed (aSeat (fixed (aSeat (fixed (aSeat (fixed (aSeat (fixed (fixed ended)))))))))))))),
 )
 
-moreModulesT : (f : ℕ) → Steady seatNext Always free (Saying (ManySaid (LineSaid moduleRun))) (moreModules f) (moreModules f)
+moreModulesT : {Look : Type 0} {look : Place → Look} (f : ℕ) → Steady look Always free (Saying (ManySaid (LineSaid moduleRun))) (moreModules f) (moreModules f)
 moreModulesT = limitedT (LineSaid moduleRun) "module" refl copy (lineT moduleRun) a-module
 
--- ---- the card
+-- ---- ranges
 
-no-number-bracket : (m : Mark) (k : ℕ) → numberOf m ≡ some k → (a : ℕ) (x y : Place) → SameBracket seatNext (placed m a ∷ x) y
-no-number-bracket (text s) k i a x y e = none≢some i
-no-number-bracket (seat j) k i a x y e = absurd (false≢true e)
-no-number-bracket (process j) k i a x y e = absurd (false≢true e)
-no-number-bracket (number v) k i a x y e = absurd (false≢true e)
-no-number-bracket (decimal v n f) k i a x y e = absurd (false≢true e)
-no-number-bracket outside k i a x y e = absurd (false≢true e)
-
-abbrev limited : Place → ℕ → Reader ℕ
-limited p k = if leb k topState then return k else refuseAt pastLimit p
-
-top-behind : Behind seatNext free numberOf (λ _. Nil) limited limited
-top-behind = record {
-  passes = λ m a k i s s₁ d. passes m a k (leb k topState) s s₁ d refl;
-  stops = λ m a k i s n r. stops m a k i (leb k topState) s n r refl;
-  word = λ _. ([], λ t. refl);
-  sample = 0;
-}
-  where
-    passes : (m : Mark) (a k : ℕ) (b : Bool) (s s₁ : State) (d : ℕ) → leb k topState ≡ b
-        → (if b then return k else refuseAt pastLimit (placed m a ∷ s .marks)) s ≡ ok d s₁
-        → Passed free Nil (λ s. limited (placed m a ∷ s .marks) k s) s d s₁
-    passes m a k true s s₁ d y e = record {
-      pre = [];
-      split = ap (λ (x : State). x .marks) (ok-state e);
-      said = λ t. refl;
-      same = λ u h. (k, rw y (ap (λ (x : State). ok k (at u (x .nodes))) (ok-state e)), tt);
-    }
-    passes m a k false s s₁ d y e = stop≢ok e
-
-    stops : (m : Mark) (a k : ℕ) → numberOf m ≡ some k → (b : Bool) (s : State) (n : ℕ) (r : Place) → leb k topState ≡ b
-        → (if b then return k else refuseAt pastLimit (placed m a ∷ s .marks)) s ≡ stop n r
-        → Stopped seatNext Nil (λ s. limited (placed m a ∷ s .marks) k s) s n r
-        ⊎ Refused seatNext Nil (λ s. limited (placed m a ∷ s .marks) k s) (placed m a) (s .marks) (s .nodes) n r
-    stops m a k i true s n r y e = ok≢stop e
-    stops m a k i false s n r y e = inr (record {
-      number = sym (stop-number {A = ℕ} e);
-      place = sym (stop-place {A = ℕ} e);
-      post = [];
-      bracket = λ t. no-number-bracket m k i a (s .marks) (placed m a ∷ t);
-      said = λ t. refl;
-      same = λ u h. rw y;
-    })
-
-topT : Steady seatNext Always free (One numberOf) top top
-topT = steady-as (λ ms r (m, p, v, q, e, i, z). (m, p, v, e ∙ ap (λ x. placed m p ∷ x) z, i)) (steady-behind (number 0) 0 refl top-behind)
+abbrev limited : ℕ → Place → ℕ → Reader ℕ
+limited most p k = if leb k most then return k else refuseAt pastLimit p
 
 zero→eq : (m : Mark) (v : ℕ) → zeroOf m ≡ some v → m ≡ number 0
 zero→eq m v e = go (numberOf m) refl e
@@ -758,31 +784,125 @@ zero→eq m v e = go (numberOf m) refl e
     go none i e = none≢some e
     go (some w) i e = only w (eqb w 0) refl e i
 
-abbrev BodyL : Lang
-BodyL = One modeOf then Saying (LineSaid cardRun) then One zeroOf then Mark₁ ".." then One numberOf then Mark₁ "]" then Mark₁ "init" then One numberOf then Mark₁ ";"
-    then Saying StatementSaid then Saying (ManySaid StatementSaid) then Mark₁ "endmodule" then Saying (ManySaid (LineSaid moduleRun))
+range-said : (ms r : Place) → (One zeroOf then Mark₁ ".." then One numberOf then Mark₁ "]" then Mark₁ "init" then One numberOf then Mark₁ ";") ms r → Saying RangeSaid ms r
+range-said ms r (q₁, (m, a, v, e, i), (q₂, s₂, (q₃, n₃, (q₄, s₄, (q₅, s₅, (q₆, n₆, s₇)))))) =
+    let (b, w₂) = one-sign ".." q₁ q₂ s₂ in
+    let (k, c, w₃) = one-number q₂ q₃ n₃ in
+    let (d, w₄) = one-sign "]" q₃ q₄ s₄ in
+    let (f, w₅) = one-sign "init" q₄ q₅ s₅ in
+    let (j, g, w₆) = one-number q₅ q₆ n₆ in
+    let (h, w₇) = one-sign ";" q₆ r s₇ in
+    let line = placed (number 0) a ∷ signAt ".." b ∷ placed (number k) c ∷ signAt "]" d ∷ signAt "init" f ∷ placed (number j) g ∷ signAt ";" h ∷ r in
+    let z : ms ≡ line = cc (zero→eq m v i) in
+    rw z (_, range)
 
-body-said : (ms : Place) → BodyL ms [] → (c : CardShape) × CardSaid ms c
-body-said ms (q, (m, p, d, e, i), (q₁, (ws, l), (q₂, (m₂, p₂, v₂, e₂, i₂), (q₃, s₃, (q₄, n₄, (q₅, s₅, (q₆, s₆, (q₇, n₇, (q₈, s₈, (q₉, (x, dx), (q₁₀, (xs, ds), (q₁₁, s₁₁, (ys, dy))))))))))))) =
-    let (a₃, w₃) = one-sign ".." q₂ q₃ s₃ in
-    let (k, a₄, w₄) = one-number q₃ q₄ n₄ in
-    let (a₅, w₅) = one-sign "]" q₄ q₅ s₅ in
-    let (a₆, w₆) = one-sign "init" q₅ q₆ s₆ in
-    let (j, a₇, w₇) = one-number q₆ q₇ n₇ in
-    let (a₈, w₈) = one-sign ";" q₇ q₈ s₈ in
-    let (a₁₁, w₁₁) = one-sign "endmodule" q₁₀ q₁₁ s₁₁ in
-    let line = placed (number 0) p₂ ∷ signAt ".." a₃ ∷ placed (number k) a₄ ∷ signAt "]" a₅ ∷ signAt "init" a₆ ∷ placed (number j) a₇ ∷ signAt ";" a₈ ∷ q₈ in
-    let z : q₁ ≡ line = cc (zero→eq m₂ v₂ i₂) in
-    let y : ms ≡ signAt (modeWord d) p ∷ q = e ∙ ap (λ o. placed o p ∷ q) (mode→eq m d i) in
-    rw y (_, card {mode = d} {a = p} {i = a₁₁} (rw z at l) dx (rw w₁₁ at ds) dy)
+no-number-bracket : {Look : Type 0} (look : Place → Look) (m : Mark) (k : ℕ) → numberOf m ≡ some k → (a : ℕ) (x y : Place) → SameBracket look (placed m a ∷ x) y
+no-number-bracket look (text s) k i a x y e = none≢some i
+no-number-bracket look (seat j) k i a x y e = absurd (false≢true e)
+no-number-bracket look (process j) k i a x y e = absurd (false≢true e)
+no-number-bracket look (number v) k i a x y e = absurd (false≢true e)
+no-number-bracket look (decimal v n f) k i a x y e = absurd (false≢true e)
+no-number-bracket look outside k i a x y e = absurd (false≢true e)
 
-bodyT : Steady seatNext Always free BodyL body body
-bodyT =
-    steady-bind (steady-free (steady-the modeOf (text (bytes "probabilistic")) probabilistic refl)) λ m m₁ _. steady-bind (lineT cardRun) λ ws ws₁ _.
-    steady-bind (steady-free (steady-the zeroOf (number 0) 0 refl)) λ z z₁ _. steady-bind (steady-sign "..") λ _ _ _. steady-bind topT λ k k₁ _. steady-bind (steady-sign "]") λ _ _ _.
-    steady-bind (steady-sign "init") λ _ _ _. steady-bind (numberedT numberT) λ l l₁ _. steady-bind (steady-sign ";") λ _ _ _. steady-bind statementT λ x x₁ _.
-    steady-bind (moreStatementsT (mostStatements - 1)) λ xs xs₁ _. steady-bind (steady-sign "endmodule") λ _ _ _. steady-last (moreModulesT (mostSeats - 1)) λ ms ms₁ _.
-    steady-return (record { mode = m; words = ws; k = k; l = l; statements = x ∷ xs; modules = ms }) (record { mode = m₁; words = ws₁; k = k₁; l = l₁; statements = x₁ ∷ xs₁; modules = ms₁ })
+module _ {Look : Type 0} {look : Place → Look} where
+  top-behind : (most : ℕ) → Behind look free numberOf (λ _. Nil) (limited most) (limited most)
+  top-behind most = record {
+    passes = λ m a k i s s₁ d. passes m a k (leb k most) s s₁ d refl;
+    stops = λ m a k i s n r. stops m a k i (leb k most) s n r refl;
+    word = λ _. ([], λ t. refl);
+    sample = 0;
+  }
+    where
+      passes : (m : Mark) (a k : ℕ) (b : Bool) (s s₁ : State) (d : ℕ) → leb k most ≡ b
+          → (if b then return k else refuseAt pastLimit (placed m a ∷ s .marks)) s ≡ ok d s₁
+          → Passed free Nil (λ s. limited most (placed m a ∷ s .marks) k s) s d s₁
+      passes m a k true s s₁ d y e = record {
+        pre = [];
+        split = ap (λ (x : State). x .marks) (ok-state e);
+        said = λ t. refl;
+        same = λ u h. (k, rw y (ap (λ (x : State). ok k (at u (x .nodes))) (ok-state e)), tt);
+      }
+      passes m a k false s s₁ d y e = stop≢ok e
+
+      stops : (m : Mark) (a k : ℕ) → numberOf m ≡ some k → (b : Bool) (s : State) (n : ℕ) (r : Place) → leb k most ≡ b
+          → (if b then return k else refuseAt pastLimit (placed m a ∷ s .marks)) s ≡ stop n r
+          → Stopped look Nil (λ s. limited most (placed m a ∷ s .marks) k s) s n r
+          ⊎ Refused look Nil (λ s. limited most (placed m a ∷ s .marks) k s) (placed m a) (s .marks) (s .nodes) n r
+      stops m a k i true s n r y e = ok≢stop e
+      stops m a k i false s n r y e = inr (record {
+        number = sym (stop-number {A = ℕ} e);
+        place = sym (stop-place {A = ℕ} e);
+        post = [];
+        bracket = λ t. no-number-bracket look m k i a (s .marks) (placed m a ∷ t);
+        said = λ t. refl;
+        same = λ u h. rw y;
+      })
+
+  topT : (most : ℕ) → Steady look Always free (One numberOf) (top most) (top most)
+  topT most = steady-as (λ ms r (m, p, v, q, e, i, z). (m, p, v, e ∙ ap (λ x. placed m p ∷ x) z, i)) (steady-behind (number 0) 0 refl (top-behind most))
+
+  rangeT : (most : ℕ) → Steady look Always free (Saying RangeSaid) (readRange most) (readRange most)
+  rangeT most = steady-as range-said
+      (steady-bind (steady-free (steady-the zeroOf (number 0) 0 refl)) λ z z₁ _. steady-bind (steady-sign "..") λ _ _ _. steady-bind (topT most) λ k k₁ _. steady-bind (steady-sign "]") λ _ _ _.
+      steady-bind (steady-sign "init") λ _ _ _. steady-bind (numberedT numberT) λ l l₁ _. steady-last (steady-sign ";") λ _ _ _.
+      steady-return (record { top = k; start = l }) (record { top = k₁; start = l₁ }))
+
+  declarationT : Steady look Always free (Saying (LineSaid sharedRun) then Saying RangeSaid) declaration declaration
+  declarationT = steady-bind (lineT sharedRun) λ _ _ _. rangeT topShared
+
+-- ---- the card: whether it shares a number is told by its second mark
+
+abbrev ModulesL : Bool → Lang
+ModulesL shared =
+    Saying (LineSaid cardRun) then Saying RangeSaid then Saying (StatementSaid shared) then Saying (ManySaid (StatementSaid shared)) then Mark₁ "endmodule"
+    then Saying (ManySaid (LineSaid moduleRun))
+
+abbrev BodyL : Bool → Lang
+BodyL false = One modeOf then ModulesL false
+BodyL true = One modeOf then (Saying (LineSaid sharedRun) then Saying RangeSaid) then ModulesL true
+
+module _ (mode : Mode) (a : ℕ) {ms ns : Place} (g : Option Range) (d : SharedSaid ms g ns) where
+  modules-said : ModulesL (isSome g) ns [] → (c : CardShape) × CardSaid (signAt (modeWord mode) a ∷ ms) c
+  modules-said (q₁, (ws, l), (q₂, (y, dy), (q₃, (x, dx), (q₄, (xs, ds), (q₅, s, (ys, dm)))))) =
+      let (b, w) = one-sign "endmodule" q₄ q₅ s in
+      (_, card {mode = mode} {a = a} {b = b} d l dy dx (rw w at ds) dm)
+
+mode-said : (ms q : Place) (m : Mark) (p : ℕ) (d : Mode) → ms ≡ placed m p ∷ q → modeOf m ≡ some d → ms ≡ signAt (modeWord d) p ∷ q
+mode-said ms q m p d e i = e ∙ ap (λ o. placed o p ∷ q) (mode→eq m d i)
+
+body-said : (shared : Bool) (ms : Place) → BodyL shared ms [] → (c : CardShape) × CardSaid ms c
+body-said false ms (q, (m, p, d, e, i), l) = rw (mode-said ms q m p d e i) (modules-said d p none unshared l)
+body-said true ms (q, (m, p, d, e, i), (q₁, (q₂, (ws, w), (x, y)), l)) =
+    rw (mode-said ms q m p d e i) (modules-said d p (some x) (sharing w y) l)
+
+-- `modules` of a number that is shared, or not
+abbrev modulesBy : Bool → Mode → Option Range → Reader CardShape
+modulesBy shared mode g =
+    line cardRun >>= λ ws. readRange topState >>= λ r. readStatement shared >>= λ x. moreStatements shared (mostStatements - 1) >>= λ xs. sign "endmodule" >>= λ _.
+    moreModules (mostSeats - 1) >>= λ ms. return (record { mode = mode; shared = g; words = ws; k = r .top; l = r .start; statements = x ∷ xs; modules = ms })
+
+modulesT : (shared : Bool) (m m₁ : Mode) (g g₁ : Option Range) → Steady (testNext shared) Always free (ModulesL shared) (modulesBy shared m g) (modulesBy shared m₁ g₁)
+modulesT shared m m₁ g g₁ =
+    steady-bind (lineT cardRun) λ ws ws₁ _. steady-bind (rangeT topState) λ r r₁ _. steady-bind (statementT shared) λ x x₁ _. steady-bind (moreStatementsT shared (mostStatements - 1)) λ xs xs₁ _.
+    steady-bind (steady-sign "endmodule") λ _ _ _. steady-last (moreModulesT (mostSeats - 1)) λ ms ms₁ _.
+    steady-return (record { mode = m; shared = g; words = ws; k = r .top; l = r .start; statements = x ∷ xs; modules = ms })
+    (record { mode = m₁; shared = g₁; words = ws₁; k = r₁ .top; l = r₁ .start; statements = x₁ ∷ xs₁; modules = ms₁ })
+
+modeT : {Look : Type 0} {look : Place → Look} → Steady look Always free (One modeOf) (the modeOf) (the modeOf)
+modeT = steady-free (steady-the modeOf (text (bytes "probabilistic")) probabilistic refl)
+
+-- behind the mode
+shares-next : (b : Bool) (s s₁ : State) (m : Mode) → shares (s .marks) ≡ b → the modeOf s ≡ ok m s₁ → nextIs "global" (s₁ .marks) ≡ b
+shares-next b s s₁ m h = the-took modeOf s s₁ m _ λ k p q i n. rw q at h
+
+declaredT : (m m₁ : Mode)
+    → Steady (testNext true) Always free ((Saying (LineSaid sharedRun) then Saying RangeSaid) then ModulesL true) (declaration >>= λ g. modules m (some g)) (declaration >>= λ g. modules m₁ (some g))
+declaredT m m₁ = steady-bind declarationT λ g g₁ _. modulesT true m m₁ (some g) (some g₁)
+
+bodyT : (shared : Bool) → Steady (testNext shared) (λ ms. shares ms ≡ shared) free (BodyL shared) body body
+bodyT false = steady-into (shares-next false) (steady-on _ modeT) λ m m₁ _.
+    steady-left "global" (λ ms h. h) (steady-on _ (modulesT false m m₁ none none))
+bodyT true = steady-into (shares-next true) (steady-on _ modeT) λ m m₁ _. steady-taken "global" (λ ms h. h) (steady-on _ (declaredT m m₁))
 
 -- ---- a whole: a thing and then the end
 
@@ -801,12 +921,12 @@ pub record HaltedIn {C Look : Type 0} (look : Place → Look) (Said : Place → 
 abbrev pub toEnd : {C : Type 0} → Reader C → Reader C
 toEnd read = read >>= λ c. theEnd >>= λ _. return c
 
-module _ {C Look : Type 0} {look : Place → Look} (Said : Place → C → Type 0) (L : Lang) (said : (ms : Place) → L ms [] → (c : C) × Said ms c) (read : Reader C)
-    (x : Steady look Always free L read read) where
+module _ {C Look : Type 0} {look : Place → Look} {P : Place → Type 0} (Said : Place → C → Type 0) (L : Lang) (said : (ms : Place) → L ms [] → (c : C) × Said ms c) (read : Reader C)
+    (x : Steady look P free L read read) where
   -- what is read has the shape
-  pub whole-passes : (ms : Place) (n : ℕ) (c : C) (s : State) → toEnd read (at ms n) ≡ ok c s → (d : C) × Said ms d
-  whole-passes ms n c s = through (read (at ms n)) _ c s _ λ b s₁ e. through (theEnd s₁) _ c s _ λ u s₂ e₁ _.
-      let w = x .passes (at ms n) s₁ b tt e in
+  pub whole-passes : (ms : Place) (n : ℕ) → P ms → (c : C) (s : State) → toEnd read (at ms n) ≡ ok c s → (d : C) × Said ms d
+  whole-passes ms n h c s = through (read (at ms n)) _ c s _ λ b s₁ e. through (theEnd s₁) _ c s _ λ u s₂ e₁ _.
+      let w = x .passes (at ms n) s₁ b h e in
       let z : ms ≡ w .pre ++ [] = w .split ∙ ap (λ x. w .pre ++ x) (nothing-left (s₁ .marks) (s₁ .nodes) u s₂ e₁) in
       rw z (said (w .pre ++ []) (w .said []))
     where
@@ -818,13 +938,13 @@ module _ {C Look : Type 0} {look : Place → Look} (Said : Place → C → Type 
   whole-cause pre n r (unfit e post f) = let (c, d) = said (pre ++ (post ++ [])) (f []) in unfits e (post ++ [], c, d)
   whole-cause pre n r (excess e m x post z k f) = let (c, d) = said (pre ++ (m ∷ (post ++ []))) (f []) in exceeds e m x (post ++ []) z (k []) c d
 
-  pub whole-stops : (ms : Place) (i n : ℕ) (r : Place) → toEnd read (at ms i) ≡ stop n r → HaltedIn look Said (toEnd read) ms i n r
-  whole-stops ms i n r = stopped (read (at ms i)) _ n r _
-      (λ e. let w = x .stops (at ms i) n r tt e in
+  pub whole-stops : (ms : Place) (i : ℕ) → P ms → (n : ℕ) (r : Place) → toEnd read (at ms i) ≡ stop n r → HaltedIn look Said (toEnd read) ms i n r
+  whole-stops ms i o n r = stopped (read (at ms i)) _ n r _
+      (λ e. let w = x .stops (at ms i) n r o e in
       record { pre = w .pre; split = w .split; cause = whole-cause (w .pre) n r (w .cause); same = λ y h. rw (w .same y h) })
       (λ b s e. stopped (theEnd s) _ n r _
       (λ e₁.
-      let w = x .passes (at ms i) s b tt e in
+      let w = x .passes (at ms i) s b o e in
       let (k, z, f) = something-left (s .marks) (s .nodes) e₁ in
       record {
         pre = w .pre;
@@ -845,12 +965,32 @@ module _ {C Look : Type 0} {look : Place → Look} (Said : Place → C → Type 
           let w = stop-place {A = Unit {0}} e in
           (sym z, w, stays m l z w)
 
-abbrev pub CardCause : Place → ℕ → Place → Type 0
-CardCause pre n r = CauseIn seatNext CardSaid pre n r
+-- no limit is passed at the mode
+pub mode-within : (m : Placed) (y : Place) → readCard (at (m ∷ y) zero) ≡ stop pastLimit (m ∷ y) → ⊥
+mode-within (placed m p) y = stopped (body (at (placed m p ∷ y) zero)) _ pastLimit (placed m p ∷ y) ⊥
+    (stopped (the modeOf (at (placed m p ∷ y) zero)) _ pastLimit (placed m p ∷ y) ⊥
+    (the-stopped modeOf (at (placed m p ∷ y) zero) pastLimit (placed m p ∷ y) ⊥ (λ z _ _. omega arith))
+    (λ d s e. the-took modeOf (at (placed m p ∷ y) zero) s d _ (λ k q c i n. later d s (tail-eq-of-cons-eq c)) e))
+    (λ c s e. stopped (theEnd s) _ pastLimit (placed m p ∷ y) ⊥ (λ e₁. no-end (s .marks) (s .nodes) e₁) (λ u s₁ e₁ e₂. ok≢stop e₂))
+  where
+    no-end : (l : Place) (k : ℕ) → readEnd l k ≡ stop pastLimit (placed m p ∷ y) → ⊥
+    no-end [] k e = ok≢stop e
+    no-end (o ∷ l) k e = let z : outOfShape ≡ pastLimit = stop-number {A = Unit {0}} e in omega arith
+
+    longer : (pre : Place) → y ≡ pre ++ (placed m p ∷ y) → ⊥
+    longer pre e = let z : length y ≡ length (pre ++ (placed m p ∷ y)) = ap length e in omega (arith, length-append pre (placed m p ∷ y))
+
+    later : (d : Mode) (s : State) → y ≡ s .marks → ifNext "global" (declaration >>= λ g. modules d (some g)) (modules d none) s ≡ stop pastLimit (placed m p ∷ y) → ⊥
+    later d s c = chose-stop (nextIs "global" (s .marks)) _ _ s pastLimit (placed m p ∷ y) ⊥
+        (λ _ e. let w = declaredT d d .stops s pastLimit (placed m p ∷ y) tt e in longer (w .pre) (c ∙ w .split))
+        (λ _ e. let w = modulesT false d d none none .stops s pastLimit (placed m p ∷ y) tt e in longer (w .pre) (c ∙ w .split))
+
+abbrev pub CardCause : Place → Place → ℕ → Place → Type 0
+CardCause ms pre n r = CauseIn (testNext (shares ms)) CardSaid pre n r
 
 -- what is read has a card's shape
 pub card-passes : (ms : Place) (n : ℕ) (c : CardShape) (s : State) → readCard (at ms n) ≡ ok c s → (d : CardShape) × CardSaid ms d
-card-passes = whole-passes CardSaid BodyL body-said body bodyT
+card-passes ms n = whole-passes CardSaid (BodyL (shares ms)) (body-said (shares ms)) body (bodyT (shares ms)) ms n refl
 
-pub card-stops : (ms : Place) (i n : ℕ) (r : Place) → readCard (at ms i) ≡ stop n r → HaltedIn seatNext CardSaid readCard ms i n r
-card-stops = whole-stops CardSaid BodyL body-said body bodyT
+pub card-stops : (ms : Place) (i n : ℕ) (r : Place) → readCard (at ms i) ≡ stop n r → HaltedIn (testNext (shares ms)) CardSaid readCard ms i n r
+card-stops ms i = whole-stops CardSaid (BodyL (shares ms)) (body-said (shares ms)) body (bodyT (shares ms)) ms i refl

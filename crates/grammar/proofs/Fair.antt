@@ -1,19 +1,22 @@
 -- A shape whose counted things are all within their limits is within the limits of a valid card: each count bounds what it counts. By
 -- induction over what is said. Assumes nothing.
 use Prim.Native.Nat.{ℕ, suc, _+_, _-_, _≤_, _<_}
+use mathlib.Core.Path.{_≡_, refl}
+use mathlib.Core.Bool.{Bool, true}
 use mathlib.Core.List.{List, [], _∷_, _++_}
 use mathlib.Core.Option.{Option, none, some}
 use native.Mathlib.Omega.{arith}
 use lib.ListN.{length}
-use Rattle.card.specs.Limits.{mostSeats, topState, mostStatements, mostBranches, mostNodes, mostDepth}
+use Rattle.card.specs.Limits.{mostSeats, topState, topShared, mostStatements, mostBranches, mostNodes, mostDepth}
 use Rattle.card.specs.Card.{Sign, all, any, Formula, atom, neg, and, or}
 use Rattle.card.specs.Formulas.{EveryAtom}
 use Rattle.card.specs.Valid.{size, Level, loose, middle, tight, depth, Every, Some}
-use Rattle.reading.specs.Reader.{Place}
-use Rattle.reading.specs.Group.{Literal, Literals}
-use Rattle.reading.specs.Shape.{BranchShape, StatementShape, CardShape}
-use Rattle.grammar.specs.Grammar.{Said, ManySaid, done, again, GroupSaid, conjoined, disjoined, Part, unary, joinedBy, operand, joining, FormulaSaid, grouped, negated, bracketed, single, further, RestSaid, nothing, guarded, PlusSaid, plus, StatementSaid, statement, CardSaid, card}
-use Rattle.grammar.specs.Counted.{Counted, Within, countedGuard, countedRest, countedMany, countedPlus, countedStatement, countedModule, countedCard}
+use Rattle.reading.specs.Reader.{Place, Numbered}
+use Rattle.reading.specs.Guard.{isSome}
+use Rattle.reading.specs.Group.{Literal, Literals, Tested, ofSeats, ofShared}
+use Rattle.reading.specs.Shape.{BranchShape, StatementShape, Range, CardShape}
+use Rattle.grammar.specs.Grammar.{Said, ManySaid, done, again, GroupSaid, conjoined, disjoined, TestedSaid, testSeats, testShared, Part, unary, joinedBy, operand, joining, FormulaSaid, grouped, negated, bracketed, single, further, RestSaid, nothing, guarded, SetSaid, keeps, setsTo, BranchSaid, branch, PlusSaid, plus, StatementSaid, statement, RangeSaid, range, SharedSaid, unshared, sharing, CardSaid, card}
+use Rattle.grammar.specs.Counted.{Counted, Within, countedGuard, countedRest, countedMany, countedPlus, countedStatement, countedModule, countedRange, countedShared, countedCard}
 
 pub every-append : {A : Type 0} (P : A → Type 0) (xs ys : List A) → Every P (xs ++ ys) → Every P xs × Every P ys
 every-append P [] ys e = (tt, e)
@@ -32,6 +35,15 @@ FairGroup a = Fair (a .sign) (a .literals)
 group-fair : (p ms r : Place) (x : Literals) → GroupSaid p ms x r → FairGroup x
 group-fair p ms r _ (conjoined d o) = omega arith
 group-fair p ms r _ (disjoined d o) = omega arith
+
+-- a test of the shared number stands only on a card that shares one
+abbrev pub FairTest : Bool → Tested → Type 0
+FairTest shared (ofSeats a) = FairGroup a
+FairTest shared (ofShared x) = shared ≡ true
+
+test-fair : {shared : Bool} (p ms r : Place) (x : Tested) → TestedSaid shared p ms x r → FairTest shared x
+test-fair p ms r _ (testSeats {x = x} d) = group-fair p ms r x d
+test-fair p ms r _ (testShared d) = refl
 
 -- ---- guards
 
@@ -80,13 +92,13 @@ module _ {A : Type 0} (P : A → Type 0) where
       joined-fits s (mostDepth - around) (mostNodes - nodes) (mostNodes - suc (nodes + size g)) g h
       (formula-fits each us nodes around v) (formula-fits each u (suc (nodes + size g)) around (c .1)) (omega (arith, c .0))
 
-abbrev pub FairGuard : Option (Formula Literals) → Type 0
-FairGuard none = Unit {0}
-FairGuard (some g) = (depth middle g ≤ mostDepth) × EveryAtom FairGroup g × (size g ≤ mostNodes)
+abbrev pub FairGuard : Bool → Option (Formula Tested) → Type 0
+FairGuard shared none = Unit {0}
+FairGuard shared (some g) = (depth middle g ≤ mostDepth) × EveryAtom (FairTest shared) g × (size g ≤ mostNodes)
 
-rest-fair : {ms r : Place} {g : Option (Formula Literals)} (u : RestSaid ms g r) → Every Within (countedRest u) → FairGuard g
+rest-fair : {shared : Bool} {ms r : Place} {g : Option (Formula Tested)} (u : RestSaid shared ms g r) → Every Within (countedRest u) → FairGuard shared g
 rest-fair nothing w = tt
-rest-fair (guarded u) w = let f = formula-fits FairGroup group-fair u 0 0 w in (f .deep, f .fair, f .large)
+rest-fair {shared} (guarded u) w = let f = formula-fits (FairTest shared) test-fair u 0 0 w in (f .deep, f .fair, f .large)
 
 -- ---- any number of things
 
@@ -106,35 +118,71 @@ Anything a = Unit {0}
 
 -- ---- statements and the card
 
-pub record FairStatement (x : StatementShape) : Type 0 where
-  pub guard : FairGuard (x .guard)
+-- it is set only on a card that shares one
+abbrev pub FairSet : Bool → Option Numbered → Type 0
+FairSet shared none = Unit {0}
+FairSet shared (some v) = shared ≡ true
+
+abbrev pub FairBranch : Bool → BranchShape → Type 0
+FairBranch shared b = FairSet shared (b .sets)
+
+set-fair : {shared : Bool} {ms r : Place} {v : Option Numbered} → SetSaid shared ms v r → FairSet shared v
+set-fair keeps = tt
+set-fair (setsTo l) = refl
+
+branch-fair : {shared : Bool} {ms r : Place} {x : BranchShape} → BranchSaid shared ms x r → FairBranch shared x
+branch-fair (branch d l s) = set-fair s
+
+pub record FairStatement (shared : Bool) (x : StatementShape) : Type 0 where
+  pub guard : FairGuard shared (x .guard)
   pub some : Some mostBranches (x .branches)
+  pub branches : Every (FairBranch shared) (x .branches)
 
-plus-fair : (ms r : Place) (x : BranchShape) (i : ℕ) (d : PlusSaid ms x r) → Every Within (countedPlus ms r x i d) → (i ≤ mostBranches) × Anything x
-plus-fair ms r x i (plus d) w = (w .0, tt)
+plus-fair : {shared : Bool} (ms r : Place) (x : BranchShape) (i : ℕ) (d : PlusSaid shared ms x r) → Every Within (countedPlus ms r x i d)
+    → (i ≤ mostBranches) × FairBranch shared x
+plus-fair ms r x i (plus d) w = (w .0, branch-fair d)
 
-statement-fair : (ms r : Place) (x : StatementShape) (i : ℕ) (d : StatementSaid ms x r) → Every Within (countedStatement ms r x i d)
-    → (i ≤ mostStatements) × FairStatement x
-statement-fair ms r x i (statement front u d ds) w =
+statement-fair : {shared : Bool} (ms r : Place) (x : StatementShape) (i : ℕ) (d : StatementSaid shared ms x r) → Every Within (countedStatement ms r x i d)
+    → (i ≤ mostStatements) × FairStatement shared x
+statement-fair {shared} ms r x i (statement front u d ds) w =
     let (v, c) = every-append Within (countedRest u) _ (w .1) in
-    let k = many-fair Anything mostBranches countedPlus plus-fair 2 ds (omega arith) (c .1) in
-    (w .0, record { guard = rest-fair u v; some = (omega arith, omega (arith, k .1)) })
+    let k = many-fair (FairBranch shared) mostBranches countedPlus plus-fair 2 ds (omega arith) (c .1) in
+    (w .0, record { guard = rest-fair u v; some = (omega arith, omega (arith, k .1)); branches = (branch-fair d, k .0) })
+
+-- so far a range may go
+abbrev pub FairRange : ℕ → Range → Type 0
+FairRange most y = y .top ≤ most
+
+abbrev pub FairShared : Option Range → Type 0
+FairShared none = Unit {0}
+FairShared (some y) = FairRange topShared y
+
+range-fair : {ms r : Place} {y : Range} (d : RangeSaid ms y r) (most : ℕ) → Every Within (countedRange most d) → FairRange most y
+range-fair range most w = w .0
+
+shared-fair : {ms r : Place} {g : Option Range} (d : SharedSaid ms g r) → Every Within (countedShared d) → FairShared g
+shared-fair unshared w = tt
+shared-fair (sharing l d) w = range-fair d topShared w
 
 pub record FairCard (c : CardShape) : Type 0 where
+  pub shared : FairShared (c .shared)
   pub top : c .k ≤ topState
-  pub statements : Every FairStatement (c .statements)
+  pub statements : Every (FairStatement (isSome (c .shared))) (c .statements)
   pub some : Some mostStatements (c .statements)
   pub modules : length (c .modules) ≤ mostSeats - 1
 
 pub card-fair : {ms : Place} {c : CardShape} (d : CardSaid ms c) → Every Within (countedCard d) → FairCard c
-card-fair (card {ns = ns} {os} {x = x} front s ss ys) w =
-    let (v, c) = every-append Within (countedStatement ns os x 1 s) _ (w .1) in
+card-fair (card {ps = ps} {qs} {g = g} {x = x} d front y s ss ys) w =
+    let (w₁, w₂) = every-append Within (countedShared d) _ w in
+    let (w₃, w₄) = every-append Within (countedRange topState y) _ w₂ in
+    let (v, c) = every-append Within (countedStatement ps qs x 1 s) _ w₄ in
     let (u, e) = every-append Within (countedMany countedStatement 2 ss) _ c in
-    let k = many-fair FairStatement mostStatements countedStatement statement-fair 2 ss (omega arith) u in
+    let k = many-fair (FairStatement (isSome g)) mostStatements countedStatement statement-fair 2 ss (omega arith) u in
     let l = many-fair Anything mostSeats countedModule (λ ms r ws i d w. (w .0, tt)) 2 ys (omega arith) e in
     record {
-      top = w .0;
-      statements = (statement-fair ns os x 1 s v .1, k .0);
+      shared = shared-fair d w₁;
+      top = range-fair y topState w₃;
+      statements = (statement-fair ps qs x 1 s v .1, k .0);
       some = (omega arith, omega (arith, k .1));
       modules = omega (arith, l .1);
     }

@@ -3,28 +3,28 @@
 use Prim.Native.Nat.{ℕ, zero, suc, _+_, _-_, _≤_, _<_}
 use Prim.Native.String.{String}
 use mathlib.Core.Path.{_≡_, refl, sym, _∙_, subst}
-use mathlib.Core.Bool.{Bool, true, false}
+use mathlib.Core.Bool.{Bool, true, false, _&&_}
 use mathlib.Core.List.{List, [], _∷_, _++_, append-assoc}
-use mathlib.Core.Option.{Option, some}
+use mathlib.Core.Option.{Option, none, some}
 use native.Mathlib.Omega.{arith}
 use native.Mathlib.Decide.{decLe}
 use borrow.Author.Tests.{le-leb, lt-leb}
 use lib.ListN.{length}
-use Rattle.card.specs.Limits.{mostSeats, topState, mostStatements, mostBranches, mostNodes, mostDepth}
+use Rattle.card.specs.Limits.{mostSeats, topState, topShared, mostStatements, mostBranches, mostNodes, mostDepth}
 use Rattle.card.specs.Refusals.{pastLimit}
 use Rattle.card.specs.Text.{bytes, same}
 use Rattle.card.specs.Card.{Mode, nondeterministic, probabilistic, Sign, all, any, is as eq, isnt as ne, Formula, atom, neg}
 use Rattle.card.specs.Weight.{Weight}
 use Rattle.card.specs.Valid.{size, Every}
 use Rattle.marks_on_a_card.specs.Marks.{number, placed}
-use Rattle.reading.specs.Reader.{Place, at, Result, ok, stop, Reader, bind, _>>=_, _>>_, return, refuse, the, nextIs, sign, here, Numbered, Item, exactly, line}
-use Rattle.reading.specs.Guard.{seatNext, Read, chain, conjunction, expression, unaryBy}
+use Rattle.reading.specs.Reader.{Place, State, at, Result, ok, stop, Reader, bind, _>>=_, _>>_, return, refuse, the, nextIs, ifNext, sign, here, Numbered, Item, exactly, line}
+use Rattle.reading.specs.Guard.{isSome, seatNext, testNext, Read, chain, conjunction, expression, unaryBy}
 use Rattle.reading.specs.Guard.{grouped as readGrouped}
-use Rattle.reading.specs.Group.{joint, Literal, Literals, literal as readLiteral, others, group}
-use Rattle.reading.specs.Shape.{BranchShape, StatementShape, CardShape, many, weight, branch as readBranch, nextBranch, pastBranches, moreBranches, guard, statement as readStatement, moreStatements, copy, moreModules, modeOf, body, card as readCard, theEnd}
-use Rattle.grammar.specs.Grammar.{Said, signAt, valued, LineSaid, ended, fixed, aSeat, aProcess, moduleRun, ManySaid, done, again, LiteralSaid, literal, OthersSaid, close, next, GroupSaid, conjoined, disjoined, Part, unary, joinedBy, operand, joining, GuardSaid, FormulaSaid, Anything, grouped, negated, bracketed, single, further}
-use Rattle.grammar.specs.Grammar.{RestSaid, nothing, guarded, WeightSaid, aNumber, aRatio, aDecimal, BranchSaid, branch, PlusSaid, plus, StatementSaid, statement, modeWord, CardSaid, card}
-use Rattle.grammar.specs.Counted.{Counted, counted, Within, Past, FirstPast, countedGuard, countedRest, countedMany, countedPlus, countedStatement, countedModule, countedCard}
+use Rattle.reading.specs.Group.{joint, Literal, Literals, literal as readLiteral, others, group, Tested, tested}
+use Rattle.reading.specs.Shape.{BranchShape, StatementShape, Range, CardShape, many, weight, sets, branch as readBranch, nextBranch, pastBranches, moreBranches, guard, statement as readStatement, moreStatements, copy, moreModules, modeOf, range as readRange, modules, body, card as readCard, theEnd}
+use Rattle.grammar.specs.Grammar.{Said, signAt, valued, LineSaid, ended, fixed, aSeat, aProcess, cardRun, moduleRun, ManySaid, done, again, LiteralSaid, literal, OthersSaid, close, next, GroupSaid, conjoined, disjoined, sharedTest, TestedSaid, testSeats, testShared, Part, unary, joinedBy, operand, joining, GuardSaid, FormulaSaid, Anything, grouped, negated, bracketed, single, further}
+use Rattle.grammar.specs.Grammar.{RestSaid, nothing, guarded, WeightSaid, aNumber, aRatio, aDecimal, SetSaid, keeps, setsTo, BranchSaid, branch, PlusSaid, plus, StatementSaid, statement, modeWord, RangeSaid, range, SharedSaid, unshared, sharing, CardSaid, card}
+use Rattle.grammar.specs.Counted.{Counted, counted, Within, Past, FirstPast, countedGuard, countedRest, countedMany, countedPlus, countedStatement, countedModule, countedRange, countedCard}
 use Rattle.reading.proofs.Through.{same-refl}
 
 -- ---- what is counted
@@ -149,14 +149,33 @@ pub group-opens : {p ms r : Place} {x : Literals} → GroupSaid p ms x r → sea
 group-opens (conjoined literal o) = refl
 group-opens (disjoined literal o) = refl
 
+pub group-no-number : {p ms r : Place} {x : Literals} → GroupSaid p ms x r → nextIs "g" ms ≡ false
+group-no-number (conjoined literal o) = refl
+group-no-number (disjoined literal o) = refl
+
+-- ---- tests
+
+pub test-reads : {shared : Bool} {p ms r : Place} {x : Tested} → TestedSaid shared p ms x r → (n : ℕ) → tested p (at ms n) ≡ ok x (at r n)
+test-reads (testSeats d) n = rw (group-no-number d, group-reads d n)
+test-reads (testShared (sharedTest {q = eq})) n = refl
+test-reads (testShared (sharedTest {q = ne})) n = refl
+
+test-opens : {shared : Bool} {p ms r : Place} {x : Tested} → TestedSaid shared p ms x r → testNext shared ms ≡ true
+test-opens (testSeats d) = rw (group-opens d)
+test-opens (testShared sharedTest) = refl
+
 -- ---- guards, over a reader of what a group is
 
-pub guard-no-seat : {v : Part} {ms r : Place} {g : Formula Literals} → GuardSaid GroupSaid v ms g r → seatNext ms ≡ false
-guard-no-seat (grouped x) = refl
-guard-no-seat (negated u) = refl
-guard-no-seat (bracketed f u) = refl
-guard-no-seat (single u) = guard-no-seat u
-guard-no-seat (further us u) = guard-no-seat us
+pub and-false : (b : Bool) → b && false ≡ false
+and-false true = refl
+and-false false = refl
+
+pub guard-no-test : {shared : Bool} {v : Part} {ms r : Place} {g : Formula Tested} → GuardSaid (TestedSaid shared) v ms g r → testNext shared ms ≡ false
+guard-no-test {shared} (grouped x) = and-false shared
+guard-no-test {shared} (negated u) = and-false shared
+guard-no-test {shared} (bracketed f u) = and-false shared
+guard-no-test (single u) = guard-no-test u
+guard-no-test (further us u) = guard-no-test us
 
 -- `starts` holds behind each group's bracket, and behind no expression's
 module _ {A : Type 0} (starts : Place → Bool) (Free : Place → Type 0) (Group : Place → Said A) (p : Place → Reader A)
@@ -294,11 +313,17 @@ module _ {A : Type 0} (starts : Place → Bool) (Free : Place → Type 0) (Group
   unfolding readOperand
   conjunction-runs {r = r} {g} u q = ran-as (λ h. let k = chained-ends all mostDepth mostNodes g r _ q h in (k .0, k .1, tt)) (runs u mostDepth mostNodes 0 0 refl refl tt)
 
-rest-runs : {ms r : Place} {g : Option (Formula Literals)} (u : RestSaid ms g r) → nextIs "&" r ≡ false
-    → Ran (countedRest u) (Came Anyway g r) (guard (at ms mostNodes))
-rest-runs nothing q = rw q (came tt (mostNodes, refl, tt))
-rest-runs (guarded u) q =
-    ran-last (λ k. return (some k)) (conjunction-runs seatNext Anything GroupSaid group (λ q ms r x s. group-opens s) (λ ms r g f s. guard-no-seat s) (λ q ms r x s. group-reads s) u q) λ left m. (left, refl, tt)
+if-not : {A : Type 0} (t : String) (p q : Reader A) (s : State) → nextIs t (s .marks) ≡ false → ifNext t p q s ≡ q s
+if-not t p q s e = rw e
+
+rest-runs : {shared : Bool} {ms r : Place} {g : Option (Formula Tested)} (u : RestSaid shared ms g r) → nextIs "&" r ≡ false
+    → Ran (countedRest u) (Came Anyway g r) (guard shared (at ms mostNodes))
+unfolding guard
+rest-runs (nothing {r}) q = came tt (mostNodes, if-not "&" _ (return none) (at r mostNodes) q, tt)
+rest-runs {shared} (guarded u) q =
+    ran-last (λ k. return (some k))
+    (conjunction-runs (testNext shared) Anything (TestedSaid shared) tested (λ q ms r x s. test-opens s) (λ ms r g f s. guard-no-test s) (λ q ms r x s. test-reads s) u q) λ left m.
+    (left, refl, tt)
 
 -- ---- branches
 
@@ -310,83 +335,114 @@ weight-reads aDecimal q n = refl
 colon-next : {items : List Item} {ms r : Place} {ws : List Numbered} → LineSaid (exactly ":" ∷ items) ms ws r → nextIs "/" ms ≡ false
 colon-next (fixed d) = refl
 
-branch-reads : {ms r : Place} {x : BranchShape} → BranchSaid ms x r → (n : ℕ) → readBranch (at ms n) ≡ ok x (at r n)
-branch-reads (branch w d) n = rw (weight-reads w (colon-next d) n, line-reads d n)
+-- before anything but `&`
+set-reads : {shared : Bool} {ms r : Place} {v : Option Numbered} → SetSaid shared ms v r → nextIs "&" r ≡ false → (n : ℕ) → sets shared (at ms n) ≡ ok v (at r n)
+set-reads (keeps {shared} {r}) q n = go shared
+  where
+    go : (b : Bool) → sets b (at r n) ≡ ok none (at r n)
+    go false = refl
+    go true = rw q
+set-reads (setsTo (fixed d)) q n = rw (line-reads d n)
 
--- ---- any number of things
+branch-reads : {shared : Bool} {ms r : Place} {x : BranchShape} → BranchSaid shared ms x r → nextIs "&" r ≡ false → (n : ℕ)
+    → readBranch shared (at ms n) ≡ ok x (at r n)
+branch-reads (branch w d s) q n = rw (weight-reads w (colon-next d) n, line-reads d n, set-reads s q n)
+
+-- ---- any number of things, each before what may follow it
 
 module _ {A : Type 0} {One : Said A} (t : String) (one : Reader A) (past : Reader (List A)) (most : ℕ)
     (each : (ms r : Place) (x : A) → ℕ → One ms x r → List Counted)
+    (May : Place → Type 0)
     (starts : (ms r : Place) (x : A) → One ms x r → nextIs t ms ≡ true)
-    (few : (ms r : Place) (x : A) (d : One ms x r) (i n : ℕ) → i ≤ most → Ran (each ms r x i d) (Came Anyway x r) (one (at ms n)))
+    (may : (ms r : Place) (x : A) → One ms x r → May ms)
+    (few : (ms r : Place) (x : A) (d : One ms x r) (i n : ℕ) → i ≤ most → May r → Ran (each ms r x i d) (Came Anyway x r) (one (at ms n)))
     (over : (ms r : Place) (x : A) (d : One ms x r) (i n : ℕ) → most < i → (q : Place) × FirstPast (each ms r x i d) q × (past (at ms n) ≡ stop pastLimit q)) where
-  many-runs : {ms r : Place} {xs : List A} (ds : ManySaid One ms xs r) (f i n : ℕ) → i + f ≡ suc most → nextIs t r ≡ false
+  before-many : {ms r : Place} {xs : List A} → ManySaid One ms xs r → May r → May ms
+  before-many done m = m
+  before-many (again {ms} {ns} {x = x} d ds) m = may ms ns x d
+
+  many-runs : {ms r : Place} {xs : List A} (ds : ManySaid One ms xs r) (f i n : ℕ) → i + f ≡ suc most → nextIs t r ≡ false → May r
       → Ran (countedMany each i ds) (Came Anyway xs r) (many f t one past (at ms n))
-  many-runs done zero i n e q = rw q (came tt (n, refl, tt))
-  many-runs done (suc f) i n e q = rw q (came tt (n, refl, tt))
-  many-runs (again {ms} {ns} {x = x} d ds) zero i n e q =
+  many-runs done zero i n e q m = rw q (came tt (n, refl, tt))
+  many-runs done (suc f) i n e q m = rw q (came tt (n, refl, tt))
+  many-runs (again {ms} {ns} {x = x} d ds) zero i n e q m =
       let (z, g, y) = over ms ns x d i n (omega arith) in
       rw (starts ms ns x d) (fell z (past-left (each ms ns x i d) (countedMany each (suc i) ds) z g) y)
-  many-runs (again {ms} {ns} {r} {x} d ds) (suc f) i n e q =
+  many-runs (again {ms} {ns} {r} {x} d ds) (suc f) i n e q m =
       rw (starts ms ns x d)
-      (ran-bind (countedMany each (suc i) ds) (λ y. many f t one past >>= λ ys. return (y ∷ ys)) (few ms ns x d i n (omega arith)) λ left _.
-      ran-last (λ ys. return (x ∷ ys)) (many-runs ds f (suc i) left (omega arith) q) λ rest _. (rest, refl, tt))
+      (ran-bind (countedMany each (suc i) ds) (λ y. many f t one past >>= λ ys. return (y ∷ ys)) (few ms ns x d i n (omega arith) (before-many ds m)) λ left _.
+      ran-last (λ ys. return (x ∷ ys)) (many-runs ds f (suc i) left (omega arith) q m) λ rest _. (rest, refl, tt))
+
+-- before anything
+abbrev Whatever : Place → Type 0
+Whatever ms = Unit {0}
 
 -- ---- statements
 
-plus-next : (ms r : Place) (x : BranchShape) → PlusSaid ms x r → nextIs "+" ms ≡ true
+plus-next : {shared : Bool} (ms r : Place) (x : BranchShape) → PlusSaid shared ms x r → nextIs "+" ms ≡ true
 plus-next ms r x (plus d) = refl
 
-weight-next : {ms r : Place} {x : BranchShape} → BranchSaid ms x r → (n : ℕ) → pastBranches (at (signAt "+" 0 ∷ ms) n) ≡ stop pastLimit ms
-weight-next (branch aNumber d) n = refl
-weight-next (branch aRatio d) n = refl
-weight-next (branch aDecimal d) n = refl
+plus-no-and : {shared : Bool} (ms r : Place) (x : BranchShape) → PlusSaid shared ms x r → nextIs "&" ms ≡ false
+plus-no-and ms r x (plus d) = refl
 
-branches-run : {ms r : Place} {xs : List BranchShape} (ds : ManySaid PlusSaid ms xs r) (n : ℕ) → nextIs "+" r ≡ false
-    → Ran (countedMany countedPlus 2 ds) (Came Anyway xs r) (moreBranches (mostBranches - 1) (at ms n))
-branches-run ds n q = many-runs "+" nextBranch pastBranches mostBranches countedPlus plus-next few over ds (mostBranches - 1) 2 n refl q
+-- behind a branch
+branch-ends : {shared : Bool} {ms r : Place} {c : ℕ} {xs : List BranchShape} → ManySaid (PlusSaid shared) ms xs (signAt ";" c ∷ r) → nextIs "&" ms ≡ false
+branch-ends done = refl
+branch-ends (again {ms} {ns} {x = x} d ds) = plus-no-and ms ns x d
+
+weight-next : {shared : Bool} {ms r : Place} {x : BranchShape} → BranchSaid shared ms x r → (n : ℕ) → pastBranches (at (signAt "+" 0 ∷ ms) n) ≡ stop pastLimit ms
+weight-next (branch aNumber d s) n = refl
+weight-next (branch aRatio d s) n = refl
+weight-next (branch aDecimal d s) n = refl
+
+branches-run : {shared : Bool} {ms r : Place} {xs : List BranchShape} (ds : ManySaid (PlusSaid shared) ms xs r) (n : ℕ) → nextIs "+" r ≡ false → nextIs "&" r ≡ false
+    → Ran (countedMany countedPlus 2 ds) (Came Anyway xs r) (moreBranches shared (mostBranches - 1) (at ms n))
+branches-run {shared} ds n q m =
+    many-runs "+" (nextBranch shared) pastBranches mostBranches countedPlus (λ ms. nextIs "&" ms ≡ false) plus-next plus-no-and few over ds (mostBranches - 1) 2 n refl q m
   where
-    few : (ms r : Place) (x : BranchShape) (d : PlusSaid ms x r) (i n : ℕ) → i ≤ mostBranches → Ran (countedPlus ms r x i d) (Came Anyway x r) (nextBranch (at ms n))
-    few ms r x (plus d) i n h = ran-one (λ _. came tt (n, branch-reads d n, tt)) (λ p. absurd (omega arith))
+    few : (ms r : Place) (x : BranchShape) (d : PlusSaid shared ms x r) (i n : ℕ) → i ≤ mostBranches → nextIs "&" r ≡ false
+        → Ran (countedPlus ms r x i d) (Came Anyway x r) (nextBranch shared (at ms n))
+    few ms r x (plus d) i n h m = ran-one (λ _. came tt (n, branch-reads d m n, tt)) (λ p. absurd (omega arith))
 
-    over : (ms r : Place) (x : BranchShape) (d : PlusSaid ms x r) (i n : ℕ) → mostBranches < i
+    over : (ms r : Place) (x : BranchShape) (d : PlusSaid shared ms x r) (i n : ℕ) → mostBranches < i
         → (q : Place) × FirstPast (countedPlus ms r x i d) q × (pastBranches (at ms n) ≡ stop pastLimit q)
     over ms r x (plus {ms = ns} d) i n h = (ns, past-here (counted i mostBranches ns) [] h, weight-next d n)
 
-abbrev finished : List Numbered → Numbered → Option (Formula Literals) → BranchShape → List BranchShape → Reader StatementShape
+abbrev finished : List Numbered → Numbered → Option (Formula Tested) → BranchShape → List BranchShape → Reader StatementShape
 finished ws j g b bs = do
   p ← here
   sign ";"
   return (record { words = ws; own = j; guard = g; branches = b ∷ bs; close = p })
 
-abbrev moves : List Numbered → Numbered → Option (Formula Literals) → Reader StatementShape
-moves ws j g = do
+abbrev moves : Bool → List Numbered → Numbered → Option (Formula Tested) → Reader StatementShape
+moves shared ws j g = do
   sign "->"
-  b ← readBranch
-  bs ← moreBranches (mostBranches - 1)
+  b ← readBranch shared
+  bs ← moreBranches shared (mostBranches - 1)
   finished ws j g b bs
 
-statement-runs : (ms r : Place) (x : StatementShape) (d : StatementSaid ms x r) (i n : ℕ) → i ≤ mostStatements
-    → Ran (countedStatement ms r x i d) (Came Anyway x r) (readStatement (at ms n))
-statement-runs ms r x (statement {j} {a} {b} {c} {ns = ns} {os} {qs} {ws = ws} {g} {x = y} front rest d ds) i n h =
+statement-runs : {shared : Bool} (ms r : Place) (x : StatementShape) (d : StatementSaid shared ms x r) (i n : ℕ) → i ≤ mostStatements
+    → Ran (countedStatement ms r x i d) (Came Anyway x r) (readStatement shared (at ms n))
+statement-runs {shared} ms r x (statement {j} {a} {b} {c} {ns = ns} {os} {qs} {ws = ws} {g} {x = y} front rest d ds) i n h =
     let own = valued j (placed (number j) a ∷ ns) in
     ran-one (λ _. rw (line-reads front n)
-    (ran-bind (counted 1 mostBranches os ∷ countedMany countedPlus 2 ds) (moves ws own) (rest-runs rest refl) λ left _.
-    ran-one (λ _. rw (branch-reads d left) (ran-last (finished ws own g y) (branches-run ds left refl) λ left _. (left, refl, tt)))
+    (ran-bind (counted 1 mostBranches os ∷ countedMany countedPlus 2 ds) (moves shared ws own) (rest-runs rest refl) λ left _.
+    ran-one (λ _. rw (branch-reads d (branch-ends ds) left) (ran-last (finished ws own g y) (branches-run ds left refl refl) λ left _. (left, refl, tt)))
     (λ p. absurd (omega arith))))
     (λ p. absurd (omega arith))
 
-statement-next : (ms r : Place) (x : StatementShape) → StatementSaid ms x r → nextIs "[" ms ≡ true
+statement-next : {shared : Bool} (ms r : Place) (x : StatementShape) → StatementSaid shared ms x r → nextIs "[" ms ≡ true
 statement-next ms r x (statement (fixed front) rest d ds) = refl
 
-statement-first : (ms r : Place) (x : StatementShape) (d : StatementSaid ms x r) (i : ℕ) → mostStatements < i → FirstPast (countedStatement ms r x i d) ms
+statement-first : {shared : Bool} (ms r : Place) (x : StatementShape) (d : StatementSaid shared ms x r) (i : ℕ) → mostStatements < i → FirstPast (countedStatement ms r x i d) ms
 statement-first ms r x (statement front rest d ds) i h = past-here (counted i mostStatements ms) _ h
 
-statements-run : {ms r : Place} {xs : List StatementShape} (ds : ManySaid StatementSaid ms xs r) (n : ℕ) → nextIs "[" r ≡ false
-    → Ran (countedMany countedStatement 2 ds) (Came Anyway xs r) (moreStatements (mostStatements - 1) (at ms n))
-statements-run ds n q =
-    many-runs "[" readStatement (refuse pastLimit) mostStatements countedStatement statement-next statement-runs
-    (λ ms r x d i n h. (ms, statement-first ms r x d i h, refl)) ds (mostStatements - 1) 2 n refl q
+statements-run : {shared : Bool} {ms r : Place} {xs : List StatementShape} (ds : ManySaid (StatementSaid shared) ms xs r) (n : ℕ) → nextIs "[" r ≡ false
+    → Ran (countedMany countedStatement 2 ds) (Came Anyway xs r) (moreStatements shared (mostStatements - 1) (at ms n))
+statements-run {shared} ds n q =
+    many-runs "[" (readStatement shared) (refuse pastLimit) mostStatements countedStatement Whatever statement-next (λ ms r x d. tt)
+    (λ ms r x d i n h m. statement-runs ms r x d i n h)
+    (λ ms r x d i n h. (ms, statement-first ms r x d i h, refl)) ds (mostStatements - 1) 2 n refl q tt
 
 -- ---- the further modules
 
@@ -396,9 +452,9 @@ module-next ms r ws (fixed d) = refl
 modules-run : {ms r : Place} {ys : List (List Numbered)} (ds : ManySaid (LineSaid moduleRun) ms ys r) (n : ℕ) → nextIs "module" r ≡ false
     → Ran (countedMany countedModule 2 ds) (Came Anyway ys r) (moreModules (mostSeats - 1) (at ms n))
 modules-run ds n q =
-    many-runs "module" copy (refuse pastLimit) mostSeats countedModule module-next
-    (λ ms r ws d i n h. ran-one (λ _. came tt (n, line-reads d n, tt)) (λ p. absurd (omega arith)))
-    (λ ms r ws d i n h. (ms, past-here (counted i mostSeats ms) [] h, refl)) ds (mostSeats - 1) 2 n refl q
+    many-runs "module" copy (refuse pastLimit) mostSeats countedModule Whatever module-next (λ ms r ws d. tt)
+    (λ ms r ws d i n h m. ran-one (λ _. came tt (n, line-reads d n, tt)) (λ p. absurd (omega arith)))
+    (λ ms r ws d i n h. (ms, past-here (counted i mostSeats ms) [] h, refl)) ds (mostSeats - 1) 2 n refl q tt
 
 -- ---- the card
 
@@ -406,28 +462,48 @@ mode-reads : (mode : Mode) (a : ℕ) (ms : Place) (n : ℕ) → the modeOf (at (
 mode-reads nondeterministic a ms n = refl
 mode-reads probabilistic a ms n = refl
 
-abbrev modulesThen : Mode → List Numbered → ℕ → Numbered → StatementShape → List StatementShape → Reader CardShape
-modulesThen mode ws k l x xs = do
+range-runs : {ms r : Place} {x : Range} (d : RangeSaid ms x r) (most n : ℕ) → Ran (countedRange most d) (Came Anyway x r) (readRange most (at ms n))
+range-runs (range {k = k}) most n = ran-one (λ w. rw (le-leb k most w) (came tt (n, refl, tt))) (λ p. rw (lt-leb k most p))
+
+abbrev modulesThen : Mode → Option Range → List Numbered → Range → StatementShape → List StatementShape → Reader CardShape
+modulesThen mode g ws y x xs = do
   sign "endmodule"
   ms ← moreModules (mostSeats - 1)
-  return (record { mode = mode; words = ws; k = k; l = l; statements = x ∷ xs; modules = ms })
+  return (record { mode = mode; shared = g; words = ws; k = y .top; l = y .start; statements = x ∷ xs; modules = ms })
 
-abbrev statementsThen : Mode → List Numbered → ℕ → Numbered → StatementShape → Reader CardShape
-statementsThen mode ws k l x = do
-  xs ← moreStatements (mostStatements - 1)
-  modulesThen mode ws k l x xs
+abbrev statementsThen : Mode → Option Range → List Numbered → Range → StatementShape → Reader CardShape
+statementsThen mode g ws y x = do
+  xs ← moreStatements (isSome g) (mostStatements - 1)
+  modulesThen mode g ws y x xs
+
+abbrev rangeThen : Mode → Option Range → List Numbered → Range → Reader CardShape
+rangeThen mode g ws y = do
+  x ← readStatement (isSome g)
+  statementsThen mode g ws y x
+
+module _ (mode : Mode) (g : Option Range) {b : ℕ} {ms os ps qs rs : Place} {ws : List Numbered} {y : Range} {x : StatementShape} {xs : List StatementShape} {ys : List (List Numbered)}
+    (front : LineSaid cardRun ms ws os) (d : RangeSaid os y ps) (s : StatementSaid (isSome g) ps x qs) (ss : ManySaid (StatementSaid (isSome g)) qs xs (signAt "endmodule" b ∷ rs))
+    (ds : ManySaid (LineSaid moduleRun) rs ys []) where
+  all-modules-run : (n : ℕ)
+      → Ran (countedRange topState d ++ (countedStatement ps qs x 1 s ++ (countedMany countedStatement 2 ss ++ countedMany countedModule 2 ds)))
+      (Came Anyway (record { mode = mode; shared = g; words = ws; k = y .top; l = y .start; statements = x ∷ xs; modules = ys }) []) (modules mode g (at ms n))
+  all-modules-run n =
+      rw (line-reads front n)
+      (ran-bind _ (rangeThen mode g ws) (range-runs d topState n) λ left _.
+      ran-bind _ (statementsThen mode g ws y) (statement-runs ps qs x s 1 left (omega arith)) λ left _.
+      ran-bind _ (modulesThen mode g ws y x) (statements-run ss left refl) λ left _.
+      ran-last (λ ms. return (record { mode = mode; shared = g; words = ws; k = y .top; l = y .start; statements = x ∷ xs; modules = ms })) (modules-run ds left refl) λ left _.
+      (left, refl, tt))
+
+module-first : {ms r : Place} {ws : List Numbered} → LineSaid cardRun ms ws r → nextIs "global" ms ≡ false
+module-first (fixed d) = refl
 
 body-runs : {ms : Place} {c : CardShape} (d : CardSaid ms c) (n : ℕ) → Ran (countedCard d) (Came Anyway c []) (body (at ms n))
-body-runs (card {mode} {k} {l} {a} {g = g} {h = h} {ms = ms} {ns} {os} {qs} {ws = ws} {x} {xs} front s ss ys) n =
-    let start = valued l (placed (number l) g ∷ signAt ";" h ∷ ns) in
-    rw (mode-reads mode a ms n, line-reads front n)
-    (ran-one
-    (λ w. rw (le-leb k topState w)
-    (ran-bind _ (statementsThen mode ws k start) (statement-runs ns os x s 1 n (omega arith)) λ left _.
-    ran-bind _ (modulesThen mode ws k start x) (statements-run ss left refl) λ left _.
-    ran-last (λ ms. return (record { mode = mode; words = ws; k = k; l = start; statements = x ∷ xs; modules = ms })) (modules-run ys left refl) λ left _.
-    (left, refl, tt)))
-    (λ p. rw (lt-leb k topState p)))
+body-runs (card {mode} {a} {ms = ms} unshared front y s ss ys) n =
+    rw (mode-reads mode a ms n, module-first front) (all-modules-run mode none front y s ss ys n)
+body-runs (card {mode} {a} {ms = ms} (sharing (fixed l) x) front y s ss ys) n =
+    rw (mode-reads mode a ms n, line-reads l n)
+    (ran-bind _ (λ g. modules mode (some g)) (range-runs x topShared n) λ left _. all-modules-run mode (some _) front y s ss ys left)
 
 -- a card of the right shape is read, or stopped at the first thing past its limit
 pub card-runs : {ms : Place} {c : CardShape} (d : CardSaid ms c) (n : ℕ) → Ran (countedCard d) (Came Anyway c []) (readCard (at ms n))

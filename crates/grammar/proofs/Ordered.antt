@@ -2,21 +2,22 @@
 -- By induction over what is said. Assumes nothing.
 use Prim.Native.Nat.{ℕ, suc, _+_}
 use mathlib.Core.Path.{_≡_, refl}
+use mathlib.Core.Bool.{Bool}
 use mathlib.Core.List.{List, [], _∷_, _++_}
 use mathlib.Core.Option.{Option}
-use Rattle.card.specs.Limits.{mostSeats, topState, mostStatements, mostNodes, mostDepth}
+use Rattle.card.specs.Limits.{mostSeats, topState, topShared, mostStatements, mostNodes, mostDepth}
 use Rattle.card.specs.Card.{Formula}
 use Rattle.card.specs.Valid.{size}
 use Rattle.card.specs.Weight.{cardRule}
 use Rattle.marks_on_a_card.specs.Marks.{number, Placed, placed}
 use Rattle.reading.specs.Reader.{Place, Numbered}
-use Rattle.reading.specs.Group.{joint, Literals}
-use Rattle.reading.specs.Judgements.{placeIn, judgedGroup}
+use Rattle.reading.specs.Group.{joint, Tested}
+use Rattle.reading.specs.Judgements.{placeIn, judgedTest}
 use Rattle.reading.specs.Checks.{judgedWords, judgedBranch}
-use Rattle.reading.specs.Shape.{BranchShape, StatementShape, CardShape}
-use Rattle.grammar.specs.Grammar.{Said, signAt, LineSaid, fixed, moduleRun, ManySaid, done, again, GroupSaid, Part, GuardSaid, grouped, negated, bracketed, single, further, RestSaid, nothing, guarded, aNumber, aRatio, aDecimal, BranchSaid, branch, PlusSaid, plus, StatementSaid, statement, modeWord, CardSaid, card}
-use Rattle.grammar.specs.Counted.{Counted, counted, countedGuard, countedRest, countedMany, countedBranch, countedPlus, countedStatement, countedModule, countedCard}
-use Rattle.grammar.proofs.Along.{strictly, weakly, Along, along-none, along-from, along-then, along-behind, along-before, along-whole, line-along, group-along, branch-along}
+use Rattle.reading.specs.Shape.{BranchShape, StatementShape, Range, CardShape}
+use Rattle.grammar.specs.Grammar.{Said, signAt, LineSaid, fixed, moduleRun, ManySaid, done, again, TestedSaid, Part, GuardSaid, grouped, negated, bracketed, single, further, RestSaid, nothing, guarded, aNumber, aRatio, aDecimal, BranchSaid, branch, PlusSaid, plus, StatementSaid, statement, modeWord, RangeSaid, range, SharedSaid, unshared, sharing, CardSaid, card}
+use Rattle.grammar.specs.Counted.{Counted, counted, countedGuard, countedRest, countedMany, countedBranch, countedPlus, countedStatement, countedModule, countedRange, countedShared, countedCard}
+use Rattle.grammar.proofs.Along.{strictly, weakly, Along, along-none, along-from, along-then, along-behind, along-before, along-whole, line-along, test-along, branch-along}
 
 abbrev placeAt : Counted → Place
 placeAt c = c .place
@@ -30,9 +31,9 @@ counting-at m ms r c cs e k = ([], m, ms, refl, e, k)
 
 -- ---- guards
 
-guard-counting : {v : Part} {ms r : Place} {g : Formula Literals} (u : GuardSaid GroupSaid v ms g r) (nodes around : ℕ) → Counting ms (countedGuard nodes around u) r
+guard-counting : {shared : Bool} {v : Part} {ms r : Place} {g : Formula Tested} (u : GuardSaid (TestedSaid shared) v ms g r) (nodes around : ℕ) → Counting ms (countedGuard nodes around u) r
 guard-counting (grouped {a} {ms} {r} {x} d) nodes around =
-    counting-at (signAt "(" a) ms r (counted (suc nodes) mostNodes (signAt "(" a ∷ ms)) [] refl (along-whole strictly placeIn (signAt "(" a ∷ ms) r (judgedGroup 0 x) (group-along 0 d))
+    counting-at (signAt "(" a) ms r (counted (suc nodes) mostNodes (signAt "(" a ∷ ms)) [] refl (along-whole strictly placeIn (signAt "(" a ∷ ms) r (judgedTest 0 0 x) (test-along 0 0 d))
 guard-counting (negated {a} {ms} {r} u) nodes around =
     let cs = countedGuard (suc nodes) (suc around) u in
     let c = counted (suc around) mostDepth (signAt "!" a ∷ ms) in
@@ -49,7 +50,7 @@ guard-counting (further {s} {a} {ms} {ns} {r} {g} us u) nodes around =
     along-then weakly placeAt ms (signAt (joint s) a ∷ ns) r (countedGuard nodes around us) (c ∷ cs) (guard-counting us nodes around)
     (counting-at (signAt (joint s) a) ns r c cs refl (along-behind weakly placeAt (signAt (joint s) a) ns r cs (guard-counting u (suc (nodes + size g)) around)))
 
-rest-counting : {ms r : Place} {g : Option (Formula Literals)} (u : RestSaid ms g r) → Counting ms (countedRest u) r
+rest-counting : {shared : Bool} {ms r : Place} {g : Option (Formula Tested)} (u : RestSaid shared ms g r) → Counting ms (countedRest u) r
 rest-counting (nothing {r}) = along-none weakly placeAt r
 rest-counting (guarded {a} {ms} {r} u) = along-behind weakly placeAt (signAt "&" a) ms r (countedGuard 0 0 u) (guard-counting u 0 0)
 
@@ -64,18 +65,20 @@ many-counting each h i (again {ms} {ns} {r} {x} d ds) =
 
 -- ---- branches and statements
 
-branch-counting : (ms r : Place) (x : BranchShape) (i : ℕ) (d : BranchSaid ms x r) → Counting ms (countedBranch ms r x i d) r
-branch-counting ms r x i d = let (m, q, z) = starts d in ([], m, q, z, z, rw (← z) (along-whole strictly placeIn ms r (judgedBranch cardRule 0 x) (branch-along cardRule 0 d)))
+branch-counting : {shared : Bool} (ms r : Place) (x : BranchShape) (i : ℕ) (d : BranchSaid shared ms x r) → Counting ms (countedBranch ms r x i d) r
+branch-counting {shared} ms r x i d =
+    let (m, q, z) = starts d in
+    ([], m, q, z, z, rw (← z) (along-whole strictly placeIn ms r (judgedBranch cardRule 0 0 x) (branch-along cardRule 0 0 d)))
   where
-    starts : {ms : Place} {x : BranchShape} → BranchSaid ms x r → (m : Placed) × (q : Place) × (ms ≡ m ∷ q)
-    starts (branch aNumber l) = (_, _, refl)
-    starts (branch aRatio l) = (_, _, refl)
-    starts (branch aDecimal l) = (_, _, refl)
+    starts : {ms : Place} {x : BranchShape} → BranchSaid shared ms x r → (m : Placed) × (q : Place) × (ms ≡ m ∷ q)
+    starts (branch aNumber l s) = (_, _, refl)
+    starts (branch aRatio l s) = (_, _, refl)
+    starts (branch aDecimal l s) = (_, _, refl)
 
-plus-counting : (ms r : Place) (x : BranchShape) (i : ℕ) (d : PlusSaid ms x r) → Counting ms (countedPlus ms r x i d) r
+plus-counting : {shared : Bool} (ms r : Place) (x : BranchShape) (i : ℕ) (d : PlusSaid shared ms x r) → Counting ms (countedPlus ms r x i d) r
 plus-counting ms r x i (plus {a} {ms = ns} d) = along-behind weakly placeAt (signAt "+" a) ns r (countedBranch ns r x i d) (branch-counting ns r x i d)
 
-statement-counting : (ms r : Place) (x : StatementShape) (i : ℕ) (d : StatementSaid ms x r) → Counting ms (countedStatement ms r x i d) r
+statement-counting : {shared : Bool} (ms r : Place) (x : StatementShape) (i : ℕ) (d : StatementSaid shared ms x r) → Counting ms (countedStatement ms r x i d) r
 statement-counting ms r x i (statement {j} {a} {b} {c} {ns = ns} {os} {qs} {ws = ws} {x = y} (fixed {p = p} {ms = ls} l) u d ds) =
     let own = placed (number j) a ∷ ns in
     let end = signAt ";" c ∷ r in
@@ -99,20 +102,29 @@ module-counting ms r ws i (fixed {p = p} {ms = ls} l) =
 
 -- ---- the card
 
+range-counting : {ms r : Place} {y : Range} (d : RangeSaid ms y r) (most : ℕ) → Counting ms (countedRange most d) r
+range-counting (range {k} {l} {a} {b} {c} {d} {e} {f} {g} {r}) most =
+    let rest = signAt "]" d ∷ signAt "init" e ∷ placed (number l) f ∷ signAt ";" g ∷ [] in
+    (placed (number 0) a ∷ signAt ".." b ∷ [], placed (number k) c, rest ++ r, refl, refl, (placed (number k) c ∷ rest, refl))
+
+shared-counting : {ms r : Place} {g : Option Range} (d : SharedSaid ms g r) → Counting ms (countedShared d) r
+shared-counting (unshared {r}) = along-none weakly placeAt r
+shared-counting (sharing {ms} {ns} {r} {ws} l d) =
+    let (u, e) = along-whole strictly placeIn ms ns (judgedWords [] ws) (line-along l []) in
+    rw e (along-from weakly placeAt u ns r (countedRange topShared d) (range-counting d topShared))
+
 pub card-counting : {ms : Place} {c : CardShape} (d : CardSaid ms c) → Counting ms (countedCard d) []
-card-counting (card {mode} {k} {l} {a} {b} {c} {d} {e} {f} {g} {h} {i} {ms} {ns} {os} {qs} {ws} {x} {xs} {ys} w s ss t) =
-    let behind = signAt "]" e ∷ signAt "init" f ∷ placed (number l) g ∷ signAt ";" h ∷ ns in
-    let top = placed (number k) d ∷ behind in
-    let (u, z) = along-whole strictly placeIn ms (placed (number 0) b ∷ signAt ".." c ∷ top) (judgedWords [] ws) (line-along w []) in
+card-counting (card {mode} {a} {b} {ms} {ns} {os} {ps} {qs} {rs} {g} {ws} {y} {x} d w v s ss t) =
+    let (u, z) = along-whole strictly placeIn ns os (judgedWords [] ws) (line-along w []) in
     let modules = countedMany countedModule 2 t in
     let further = countedMany countedStatement 2 ss ++ modules in
-    let most = countedStatement ns os x 1 s ++ further in
-    along-behind weakly placeAt (signAt (modeWord mode) a) ms [] (counted k topState top ∷ most)
+    let most = countedStatement ps qs x 1 s ++ further in
+    let top = countedRange topState v in
+    along-behind weakly placeAt (signAt (modeWord mode) a) ms [] (countedShared d ++ (top ++ most))
+    (along-then weakly placeAt ms ns [] (countedShared d) (top ++ most) (shared-counting d)
     (rw z
-    (along-from weakly placeAt u (placed (number 0) b ∷ signAt ".." c ∷ top) [] (counted k topState top ∷ most)
-    (along-from weakly placeAt (placed (number 0) b ∷ signAt ".." c ∷ []) top [] (counted k topState top ∷ most)
-    (counting-at (placed (number k) d) behind [] (counted k topState top) most refl
-    (along-from weakly placeAt (placed (number k) d ∷ signAt "]" e ∷ signAt "init" f ∷ placed (number l) g ∷ signAt ";" h ∷ []) ns [] most
-    (along-then weakly placeAt ns os [] (countedStatement ns os x 1 s) further (statement-counting ns os x 1 s)
-    (along-then weakly placeAt os (signAt "endmodule" i ∷ qs) [] (countedMany countedStatement 2 ss) modules (many-counting countedStatement statement-counting 2 ss)
-    (along-behind weakly placeAt (signAt "endmodule" i) qs [] modules (many-counting countedModule module-counting 2 t)))))))))
+    (along-from weakly placeAt u os [] (top ++ most)
+    (along-then weakly placeAt os ps [] top most (range-counting v topState)
+    (along-then weakly placeAt ps qs [] (countedStatement ps qs x 1 s) further (statement-counting ps qs x 1 s)
+    (along-then weakly placeAt qs (signAt "endmodule" b ∷ rs) [] (countedMany countedStatement 2 ss) modules (many-counting countedStatement statement-counting 2 ss)
+    (along-behind weakly placeAt (signAt "endmodule" b) rs [] modules (many-counting countedModule module-counting 2 t))))))))

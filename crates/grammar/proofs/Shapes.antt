@@ -41,12 +41,13 @@ past-place cs p q f g =
     let e = one-first (f .before) (g .before) (f .first) (g .first) (f .after) (g .after) (sym (f .split) ∙ g .split) (f .within) (g .within) (f .past) (g .past) in
     sym (f .place) ∙ ap (λ (c : Counted). c .place) e ∙ g .place
 
--- ---- over a language, what is looked for behind its brackets, its reader, and what its limits count
+-- ---- over a language, what is looked for behind the brackets of some marks, its reader, and what its limits count
 
-module _ {C Look : Type 0} (look : Place → Look) (read : Reader C) (Said : Place → C → Type 0) (counts : (ms : Place) (c : C) → Said ms c → List Counted)
+module _ {C Look : Type 0} (look : Place → Place → Look) (read : Reader C) (Said : Place → C → Type 0) (counts : (ms : Place) (c : C) → Said ms c → List Counted)
     (runs : (ms : Place) (c : C) (d : Said ms c) → Ran (counts ms c d) (Came Anyway c []) (read (at ms zero)))
     (passes : (ms : Place) (c : C) (s : State) → read (at ms zero) ≡ ok c s → (d : C) × Said ms d)
-    (stops : (ms : Place) (n : ℕ) (r : Place) → read (at ms zero) ≡ stop n r → HaltedIn look Said read ms zero n r) where
+    (stops : (ms : Place) (n : ℕ) (r : Place) → read (at ms zero) ≡ stop n r → HaltedIn (look ms) Said read ms zero n r)
+    (alike : (pre : Place) (m : Placed) (x y : Place) → read (at (pre ++ (m ∷ y)) zero) ≡ stop pastLimit (m ∷ y) → look (pre ++ (m ∷ x)) ≡ look (pre ++ (m ∷ y))) where
   -- ---- on marks of a card's shape
 
   module _ {ms : Place} {c : C} (d : Said ms c) where
@@ -101,13 +102,13 @@ module _ {C Look : Type 0} (look : Place → Look) (read : Reader C) (Said : Pla
 
   -- ---- stopped by a limit
 
-  pub stopped-past : (ms r : Place) → read (at ms zero) ≡ stop pastLimit r → PastIn Said counts look ms r
+  pub stopped-past : (ms r : Place) → read (at ms zero) ≡ stop pastLimit r → PastIn Said counts (look ms) ms r
   stopped-past ms r e = go (stops ms pastLimit r e)
     where
-      go : HaltedIn look Said read ms zero pastLimit r → PastIn Said counts look ms r
+      go : HaltedIn (look ms) Said read ms zero pastLimit r → PastIn Said counts (look ms) ms r
       go h = because (h .cause)
         where
-          because : CauseIn look Said (h .pre) pastLimit r → PastIn Said counts look ms r
+          because : CauseIn (look ms) Said (h .pre) pastLimit r → PastIn Said counts (look ms) ms r
           because (unfits z k) = absurd (omega arith)
           because (exceeds z m x post q b c d) = record {
             before = h .pre;
@@ -122,12 +123,13 @@ module _ {C Look : Type 0} (look : Place → Look) (read : Reader C) (Said : Pla
             past = shape-stopped d (m ∷ post) (h .same (m ∷ post) (ap head? q, λ _. rw q b));
           }
 
-  pub past-stopped : (ms r : Place) → PastIn Said counts look ms r → read (at ms zero) ≡ stop pastLimit r
+  pub past-stopped : (ms r : Place) → PastIn Said counts (look ms) ms r → read (at ms zero) ≡ stop pastLimit r
   past-stopped ms r p =
       let e = shape-past (p .said) (p .mark ∷ p .other) (p .past) in
       let h = stops (p .before ++ (p .mark ∷ p .other)) pastLimit (p .mark ∷ p .other) e in
       let z : h .pre ≡ p .before = append-cancel-right (h .pre) (p .before) (p .mark ∷ p .other) (sym (h .split)) in
-      rw (p .split, p .place) (rw z at (h .same (p .mark ∷ p .after) (refl, λ _ y. sym (p .starts y))))
+      let f : look ms ≡ look (p .before ++ (p .mark ∷ p .other)) = ap look (p .split) ∙ alike (p .before) (p .mark) (p .after) (p .other) e in
+      rw (p .split, p .place) (rw z at (h .same (p .mark ∷ p .after) (refl, λ _ y. sym (subst (λ (g : Place → Look). g (p .after) ≡ g (p .other)) f (p .starts y)))))
 
   -- ---- stopped by a mark that does not fit
 
@@ -138,14 +140,14 @@ module _ {C Look : Type 0} (look : Place → Look) (read : Reader C) (Said : Pla
       no-limit z = absurd (omega arith)
 
       hopeless : (pre : Place) (r : Place) → ms ≡ pre ++ r → read (at ms zero) ≡ stop outOfShape r
-          → ((y : Place) → Alike look outOfShape r y → read (at (pre ++ y) zero) ≡ stop outOfShape y) → HopelessIn Said pre r
+          → ((y : Place) → Alike (look ms) outOfShape r y → read (at (pre ++ y) zero) ≡ stop outOfShape y) → HopelessIn Said pre r
       hopeless pre [] q e f = λ c d. shape-fits d [] (rw (q, append-nil pre) at e)
       hopeless pre (m ∷ x) q e f = λ (post, c, d). shape-fits (rw (append-assoc pre (m ∷ []) post) at d) (m ∷ post) (f (m ∷ post) (refl, no-limit))
 
-      go : HaltedIn look Said read ms zero outOfShape r → UnfitIn Said ms r
+      go : HaltedIn (look ms) Said read ms zero outOfShape r → UnfitIn Said ms r
       go h = record { before = h .pre; split = h .split; possible = because (h .cause); impossible = hopeless (h .pre) r (h .split) e (h .same) }
         where
-          because : CauseIn look Said (h .pre) outOfShape r → CompletableIn Said (h .pre)
+          because : CauseIn (look ms) Said (h .pre) outOfShape r → CompletableIn Said (h .pre)
           because (unfits z k) = k
           because (exceeds z m x post q b c d) = absurd (omega arith)
 
@@ -181,7 +183,7 @@ module _ {C Look : Type 0} (look : Place → Look) (read : Reader C) (Said : Pla
       go (behind m w q z) = absurd (unfit-here v (u .before) r (u .split) (u .possible) m w q z)
 
   -- a limit is passed only before it
-  pub past-earlier : (ms r t : Place) (u : UnfitIn Said ms r) (p : PastIn Said counts look ms t) → (m : Placed) × (w : Place) × (t ≡ m ∷ (w ++ r))
+  pub past-earlier : (ms r t : Place) (u : UnfitIn Said ms r) (p : PastIn Said counts (look ms) ms t) → (m : Placed) × (w : Place) × (t ≡ m ∷ (w ++ r))
   past-earlier ms r t u p = go (order (p .before) t (u .before) r (sym (p .split ∙ ap (λ x. p .before ++ x) (sym (p .place))) ∙ u .split))
     where
       -- the marks before, and the one at t, can be completed
@@ -200,11 +202,11 @@ module _ {C Look : Type 0} (look : Place → Look) (read : Reader C) (Said : Pla
           (z ∙ ap (λ x. m ∷ (w ++ x)) (p .place) ∙ ap (λ x. m ∷ x) (sym (append-assoc w (p .mark ∷ []) (p .after)))))
 
   -- reading stops where a mark cannot go on, unless a limit is passed before
-  pub unfit-stopped : (ms r : Place) → UnfitIn Said ms r → ((t : Place) → PastIn Said counts look ms t → (m : Placed) (w : Place) → t ≡ m ∷ (w ++ r) → ⊥)
+  pub unfit-stopped : (ms r : Place) → UnfitIn Said ms r → ((t : Place) → PastIn Said counts (look ms) ms t → (m : Placed) (w : Place) → t ≡ m ∷ (w ++ r) → ⊥)
       → read (at ms zero) ≡ stop outOfShape r
   unfit-stopped ms r u first = go (read (at ms zero)) refl
     where
-      halted : (n : ℕ) (t : Place) → read (at ms zero) ≡ stop n t → (h : HaltedIn look Said read ms zero n t) → CauseIn look Said (h .pre) n t
+      halted : (n : ℕ) (t : Place) → read (at ms zero) ≡ stop n t → (h : HaltedIn (look ms) Said read ms zero n t) → CauseIn (look ms) Said (h .pre) n t
           → _≡_ {A = Result C} (stop n t) (stop outOfShape r)
       halted n t e h (unfits z k) =
           let q : t ≡ r = unfit-one ms t r (stopped-unfit ms t (e ∙ ap (λ i. stop i t) z)) u in
@@ -222,6 +224,6 @@ module _ {C Look : Type 0} (look : Place → Look) (read : Reader C) (Said : Pla
   pub stop-numbers : (ms : Place) (n : ℕ) (r : Place) → read (at ms zero) ≡ stop n r → (n ≡ outOfShape) ⊎ (n ≡ pastLimit)
   stop-numbers ms n r e = let h = stops ms n r e in go (h .pre) (h .cause)
     where
-      go : (pre : Place) → CauseIn look Said pre n r → (n ≡ outOfShape) ⊎ (n ≡ pastLimit)
+      go : (pre : Place) → CauseIn (look ms) Said pre n r → (n ≡ outOfShape) ⊎ (n ≡ pastLimit)
       go pre (unfits z k) = inl z
       go pre (exceeds z m x post q b c d) = inr z

@@ -12,7 +12,7 @@ use Rattle.card.specs.Refusals.{outOfShape, pastLimit}
 use Rattle.card.specs.Text.{bytes, same, if_then_else_}
 use Rattle.marks_on_a_card.specs.Marks.{Mark, text, Placed, placed}
 use Rattle.reading.specs.Reader.{Place, State, at, Result, ok, stop, Reader, bind, _>>=_, return, refuse, took, the, is, nextIs, ifNext, given, sign, here, node}
-use Rattle.reading.specs.Guard.{seatNext}
+use Rattle.reading.specs.Guard.{seatNext, testNext}
 use Rattle.grammar.specs.Grammar.{Said, signAt}
 use Rattle.reading.proofs.Through.{same-refl, none≢some, is→eq, stop≢ok, ok-state, through, chose, the-took}
 
@@ -80,6 +80,9 @@ seat-head [] [] h = refl
 seat-head [] (m ∷ y) h = none≢some h
 seat-head (m ∷ x) [] h = none≢some (sym h)
 seat-head (placed m p ∷ x) (placed k q ∷ y) h = let z : placed m p ≡ placed k q = some-eq h in let w : m ≡ k = cc in ap (λ k. seatNext (placed k 0 ∷ [])) w
+
+pub test-head : (shared : Bool) (x y : Place) → SameHead x y → testNext shared x ≡ testNext shared y
+test-head shared x y h = rw (seat-head x y h, next-head "g" x y h)
 
 -- ---- what two values of one step have in common
 
@@ -203,7 +206,7 @@ module _ (L M : Lang) where
 
 module _ {A : Type 0} (f : Mark → Option A) where
   -- the next mark did not fit
-  the-stopped : (s : State) (n : ℕ) (r : Place) (C : Type 0)
+  pub the-stopped : (s : State) (n : ℕ) (r : Place) (C : Type 0)
       → (n ≡ outOfShape → s .marks ≡ r → ((y : Place) (k : ℕ) → SameHead r y → the f (at y k) ≡ stop outOfShape y) → C) → the f s ≡ stop n r → C
   the-stopped s n r C c e = go (s .marks) refl
     where
@@ -222,6 +225,10 @@ module _ {A : Type 0} (f : Mark → Option A) where
       go : (l : Place) → s .marks ≡ l → C
       go [] q = let z : stop outOfShape [] ≡ stop n r = rw q at e in c (sym (stop-number {A = A} z)) (q ∙ stop-place {A = A} z) (λ y k h. none-left y k (ap head? (stop-place {A = A} z) ∙ h))
       go (placed m p ∷ ms) q = took-not (f m) m p ms q refl (rw q at e)
+
+-- a test of the next mark that is decided stays so
+still : (t : String) (c : Bool) (ms r pre u : Place) → nextIs t ms ≡ c → ms ≡ pre ++ r → SameHead r u → nextIs t (pre ++ u) ≡ c
+still t c ms r pre u h e z = sym (next-head t ms (pre ++ u) (ap head? e ∙ head-append pre r u z)) ∙ h
 
 -- a sign other than an opening bracket
 no-bracket : {Look : Type 0} (look : Place → Look) (t : String) → is "(" (text (bytes t)) ≡ false → (p : ℕ) (x y : Place) → SameBracket look (signAt t p ∷ x) y
@@ -245,8 +252,11 @@ module _ {Look : Type 0} {look : Place → Look} where
 
   module _ {A : Type 0} {b : Bond} {L : Lang} {p q : Reader A} where
     -- on fewer marks
+    pub steady-under : {P Q : Place → Type 0} → ((ms : Place) → Q ms → P ms) → Steady look P b L p q → Steady look Q b L p q
+    steady-under h x = record { passes = λ s s₁ a y. x .passes s s₁ a (h (s .marks) y); stops = λ s n r y. x .stops s n r (h (s .marks) y); word = x .word; sample = x .sample }
+
     pub steady-on : (P : Place → Type 0) → Steady look Always b L p q → Steady look P b L p q
-    steady-on P x = record { passes = λ s s₁ a y. x .passes s s₁ a tt; stops = λ s n r y. x .stops s n r tt; word = x .word; sample = x .sample }
+    steady-on P x = steady-under (λ ms h. tt) x
 
     -- the values forgotten
     pub steady-free : {P : Place → Type 0} → Steady look P b L p q → Steady look P free L p q
@@ -271,23 +281,25 @@ module _ {Look : Type 0} {look : Place → Look} where
     cause-right pre pre₁ n r h (excess e m x post z k f) =
         excess e m x post z k (λ t. (pre₁ ++ (m ∷ (post ++ t)), rw (append-assoc pre pre₁ (m ∷ (post ++ t))) (h (pre₁ ++ (m ∷ (post ++ t)))), f t))
 
-  module _ {A B : Type 0} {P : Place → Type 0} {b c : Bond} {L M : Lang} {p q : Reader A} {f g : A → Reader B} where
-    pub steady-bind : Steady look P b L p q → ((a a₁ : A) → Bound b a a₁ → Steady look Always c M (f a) (g a₁)) → Steady look P c (L then M) (p >>= f) (q >>= g)
-    steady-bind x y = record {
-      passes = λ s s₁ d h. through (p s) f d s₁ _ λ a s₂ e e₁. passes s s₁ d a s₂ (x .passes s s₂ a h e) e₁;
-      stops = λ s n r h. stopped (p s) f n r _ (λ e. halts s n r (x .stops s n r h e)) (λ a s₂ e e₁. halts-then s n r a s₂ (x .passes s s₂ a h e) e₁);
+  module _ {A B : Type 0} {P Q : Place → Type 0} {b c : Bond} {L M : Lang} {p q : Reader A} {f g : A → Reader B} where
+    -- the second on marks of which Q holds behind the first
+    pub steady-into : ((s s₁ : State) (a : A) → P (s .marks) → p s ≡ ok a s₁ → Q (s₁ .marks)) → Steady look P b L p q
+        → ((a a₁ : A) → Bound b a a₁ → Steady look Q c M (f a) (g a₁)) → Steady look P c (L then M) (p >>= f) (q >>= g)
+    steady-into k x y = record {
+      passes = λ s s₁ d h. through (p s) f d s₁ _ λ a s₂ e e₁. passes s s₁ d a s₂ (x .passes s s₂ a h e) (k s s₂ a h e) e₁;
+      stops = λ s n r h. stopped (p s) f n r _ (λ e. halts s n r (x .stops s n r h e)) (λ a s₂ e e₁. halts-then s n r a s₂ (x .passes s s₂ a h e) (k s s₂ a h e) e₁);
       word = word-then L M (x .word) (y (x .sample) (x .sample) (bound b (x .sample)) .word);
       sample = y (x .sample) (x .sample) (bound b (x .sample)) .sample;
     }
       where
-        passes : (s s₁ : State) (d : B) (a : A) (s₂ : State) → Passed b L q s a s₂ → f a s₂ ≡ ok d s₁ → Passed c (L then M) (q >>= g) s d s₁
-        passes s s₁ d a s₂ u e₁ = let v = y a a (bound b a) .passes s₂ s₁ d tt e₁ in record {
+        passes : (s s₁ : State) (d : B) (a : A) (s₂ : State) → Passed b L q s a s₂ → Q (s₂ .marks) → f a s₂ ≡ ok d s₁ → Passed c (L then M) (q >>= g) s d s₁
+        passes s s₁ d a s₂ u l e₁ = let v = y a a (bound b a) .passes s₂ s₁ d l e₁ in record {
           pre = u .pre ++ v .pre;
           split = u .split ∙ ap (λ l. u .pre ++ l) (v .split) ∙ sym (append-assoc (u .pre) (v .pre) (s₁ .marks));
           said = λ t. (v .pre ++ t, rw (append-assoc (u .pre) (v .pre) t) (u .said (v .pre ++ t)), v .said t);
           same = λ t h.
               let (a₁, e₂, r₁) = u .same (v .pre ++ t) (ap head? (v .split) ∙ head-append (v .pre) (s₁ .marks) t h) in
-              let w = y a a₁ r₁ .passes s₂ s₁ d tt e₁ in
+              let w = y a a₁ r₁ .passes s₂ s₁ d l e₁ in
               let (d₁, e₃, r₂) = w .same t h in (
                 d₁,
                 twin q g (u .pre) (v .pre) t (s .nodes) (s₂ .nodes) a₁ _ e₂
@@ -304,17 +316,21 @@ module _ {Look : Type 0} {look : Place → Look} where
           same = λ t h. rw (u .same t h);
         }
 
-        halts-then : (s : State) (n : ℕ) (r : Place) (a : A) (s₂ : State) → Passed b L q s a s₂ → f a s₂ ≡ stop n r → Stopped look (L then M) (q >>= g) s n r
-        halts-then s n r a s₂ u e₁ = let v = y a a (bound b a) .stops s₂ n r tt e₁ in record {
+        halts-then : (s : State) (n : ℕ) (r : Place) (a : A) (s₂ : State) → Passed b L q s a s₂ → Q (s₂ .marks) → f a s₂ ≡ stop n r → Stopped look (L then M) (q >>= g) s n r
+        halts-then s n r a s₂ u l e₁ = let v = y a a (bound b a) .stops s₂ n r l e₁ in record {
           pre = u .pre ++ v .pre;
           split = u .split ∙ ap (λ l. u .pre ++ l) (v .split) ∙ sym (append-assoc (u .pre) (v .pre) r);
           cause = cause-right L M (u .pre) (v .pre) n r (u .said) (v .cause);
           same = λ t h.
               let (a₁, e₂, r₁) = u .same (v .pre ++ t) (ap head? (v .split) ∙ head-append (v .pre) r t (h .0)) in
-              let w = y a a₁ r₁ .stops s₂ n r tt e₁ in
+              let w = y a a₁ r₁ .stops s₂ n r l e₁ in
               twin q g (u .pre) (v .pre) t (s .nodes) (s₂ .nodes) a₁ _ e₂
               (moved q g (w .pre) (v .pre) (s₂ .nodes) a₁ t _ (append-cancel-right (w .pre) (v .pre) r (sym (w .split) ∙ v .split)) (w .same t h));
         }
+
+  module _ {A B : Type 0} {P : Place → Type 0} {b c : Bond} {L M : Lang} {p q : Reader A} {f g : A → Reader B} where
+    pub steady-bind : Steady look P b L p q → ((a a₁ : A) → Bound b a a₁ → Steady look Always c M (f a) (g a₁)) → Steady look P c (L then M) (p >>= f) (q >>= g)
+    steady-bind x y = steady-into (λ s s₁ a h e. tt) x y
 
   -- ---- readers of one mark
 
@@ -361,41 +377,82 @@ module _ {Look : Type 0} {look : Place → Look} where
 
   -- ---- tests of the next mark
 
-  module _ {A : Type 0} {b : Bond} {L M : Lang} {p q p₁ q₁ : Reader A} where
-    pub steady-next : (t : String) → Steady look (Next t) b L p q → Steady look Always b M p₁ q₁ → Steady look Always b (L either M) (ifNext t p p₁) (ifNext t q q₁)
-    steady-next t x y = record {
-      passes = λ s s₁ a _. chose (nextIs t (s .marks)) p p₁ s s₁ a _
-          (λ z e. let w = x .passes s s₁ a z e in record {
+  module _ {A : Type 0} {P : Place → Type 0} {b : Bond} {L M : Lang} {p q p₁ q₁ : Reader A} where
+    -- one of two readers, by the next mark
+    pub steady-choose : (t : String) → Steady look (λ ms. P ms × (nextIs t ms ≡ true)) b L p q → Steady look (λ ms. P ms × (nextIs t ms ≡ false)) b M p₁ q₁
+        → Steady look P b (L either M) (ifNext t p p₁) (ifNext t q q₁)
+    steady-choose t x y = record {
+      passes = λ s s₁ a h. chose (nextIs t (s .marks)) p p₁ s s₁ a _
+          (λ z e. let w = x .passes s s₁ a (h, z) e in record {
             pre = w .pre;
             split = w .split;
             said = λ u. inl (w .said u);
-            same = λ u h. let v = w .same u h in (v .0, rw (sym (tests s (s₁ .marks) (w .pre) u (w .split) h) ∙ z) (v .1), v .2);
+            same = λ u h. let v = w .same u h in (v .0, rw (still t true (s .marks) (s₁ .marks) (w .pre) u z (w .split) h) (v .1), v .2);
           })
-          (λ z e. let w = y .passes s s₁ a tt e in record {
+          (λ z e. let w = y .passes s s₁ a (h, z) e in record {
             pre = w .pre;
             split = w .split;
             said = λ u. inr (w .said u);
-            same = λ u h. let v = w .same u h in (v .0, rw (sym (tests s (s₁ .marks) (w .pre) u (w .split) h) ∙ z) (v .1), v .2);
+            same = λ u h. let v = w .same u h in (v .0, rw (still t false (s .marks) (s₁ .marks) (w .pre) u z (w .split) h) (v .1), v .2);
           });
-      stops = λ s n r _. chose-stop (nextIs t (s .marks)) p p₁ s n r _
-          (λ z e. let w = x .stops s n r z e in record {
+      stops = λ s n r h. chose-stop (nextIs t (s .marks)) p p₁ s n r _
+          (λ z e. let w = x .stops s n r (h, z) e in record {
             pre = w .pre;
             split = w .split;
             cause = cause-as (λ ms r l. inl l) (w .cause);
-            same = λ u h. rw (sym (tests s r (w .pre) u (w .split) (h .0)) ∙ z) (w .same u h);
+            same = λ u h. rw (still t true (s .marks) r (w .pre) u z (w .split) (h .0)) (w .same u h);
           })
-          (λ z e. let w = y .stops s n r tt e in record {
+          (λ z e. let w = y .stops s n r (h, z) e in record {
             pre = w .pre;
             split = w .split;
             cause = cause-as (λ ms r l. inr l) (w .cause);
-            same = λ u h. rw (sym (tests s r (w .pre) u (w .split) (h .0)) ∙ z) (w .same u h);
+            same = λ u h. rw (still t false (s .marks) r (w .pre) u z (w .split) (h .0)) (w .same u h);
           });
       word = (y .word .0, λ u. inr (y .word .1 u));
       sample = y .sample;
     }
-      where
-        tests : (s : State) (r pre u : Place) → s .marks ≡ pre ++ r → SameHead r u → nextIs t (s .marks) ≡ nextIs t (pre ++ u)
-        tests s r pre u e h = next-head t (s .marks) (pre ++ u) (ap head? e ∙ head-append pre r u h)
+
+  module _ {A : Type 0} {b : Bond} {L M : Lang} {p q p₁ q₁ : Reader A} where
+    pub steady-next : (t : String) → Steady look (Next t) b L p q → Steady look Always b M p₁ q₁ → Steady look Always b (L either M) (ifNext t p p₁) (ifNext t q q₁)
+    steady-next t x y = steady-choose t (steady-under (λ ms h. h .1) x) (steady-on _ y)
+
+  -- the same where the test is decided
+  module _ {A : Type 0} {P : Place → Type 0} {b : Bond} {L : Lang} {p q p₁ q₁ : Reader A} (t : String) where
+    pub steady-taken : ((ms : Place) → P ms → nextIs t ms ≡ true) → Steady look P b L p q → Steady look P b L (ifNext t p p₁) (ifNext t q q₁)
+    steady-taken k x = record {
+      passes = λ s s₁ a h e. let w = x .passes s s₁ a h (rw (k (s .marks) h) at e) in record {
+        pre = w .pre;
+        split = w .split;
+        said = w .said;
+        same = λ u z. let v = w .same u z in (v .0, rw (still t true (s .marks) (s₁ .marks) (w .pre) u (k (s .marks) h) (w .split) z) (v .1), v .2);
+      };
+      stops = λ s n r h e. let w = x .stops s n r h (rw (k (s .marks) h) at e) in record {
+        pre = w .pre;
+        split = w .split;
+        cause = w .cause;
+        same = λ u z. rw (still t true (s .marks) r (w .pre) u (k (s .marks) h) (w .split) (z .0)) (w .same u z);
+      };
+      word = x .word;
+      sample = x .sample;
+    }
+
+    pub steady-left : ((ms : Place) → P ms → nextIs t ms ≡ false) → Steady look P b L p₁ q₁ → Steady look P b L (ifNext t p p₁) (ifNext t q q₁)
+    steady-left k x = record {
+      passes = λ s s₁ a h e. let w = x .passes s s₁ a h (rw (k (s .marks) h) at e) in record {
+        pre = w .pre;
+        split = w .split;
+        said = w .said;
+        same = λ u z. let v = w .same u z in (v .0, rw (still t false (s .marks) (s₁ .marks) (w .pre) u (k (s .marks) h) (w .split) z) (v .1), v .2);
+      };
+      stops = λ s n r h e. let w = x .stops s n r h (rw (k (s .marks) h) at e) in record {
+        pre = w .pre;
+        split = w .split;
+        cause = w .cause;
+        same = λ u z. rw (still t false (s .marks) r (w .pre) u (k (s .marks) h) (w .split) (z .0)) (w .same u z);
+      };
+      word = x .word;
+      sample = x .sample;
+    }
 
   -- one too many, at the sign
   module _ {A : Type 0} {M : Lang} where

@@ -1,16 +1,17 @@
 -- What the limits of a card count ("What the box holds"), in the order of the text, each with its place ("Refusal numbers"). Assumes nothing.
 use Prim.Native.Nat.{ℕ, suc, _+_, _≤_, _<_}
 use mathlib.Core.Path.{_≡_}
+use mathlib.Core.Bool.{Bool}
 use mathlib.Core.List.{List, [], _∷_, _++_}
 use mathlib.Core.Option.{Option}
-use Rattle.card.specs.Limits.{mostSeats, topState, mostStatements, mostBranches, mostNodes, mostDepth}
+use Rattle.card.specs.Limits.{mostSeats, topState, topShared, mostStatements, mostBranches, mostNodes, mostDepth}
 use Rattle.card.specs.Card.{Formula}
 use Rattle.card.specs.Valid.{size, Every}
 use Rattle.marks_on_a_card.specs.Marks.{number, placed}
 use Rattle.reading.specs.Reader.{Place, Numbered}
-use Rattle.reading.specs.Group.{joint, Literals}
-use Rattle.reading.specs.Shape.{BranchShape, StatementShape, CardShape}
-use Rattle.grammar.specs.Grammar.{Said, signAt, LineSaid, moduleRun, ManySaid, done, again, Part, FormulaSaid, grouped, negated, bracketed, single, further, RestSaid, nothing, guarded, BranchSaid, PlusSaid, plus, StatementSaid, statement, CardSaid, card}
+use Rattle.reading.specs.Group.{joint, Tested}
+use Rattle.reading.specs.Shape.{BranchShape, StatementShape, Range, CardShape}
+use Rattle.grammar.specs.Grammar.{Said, signAt, LineSaid, moduleRun, ManySaid, done, again, Part, FormulaSaid, grouped, negated, bracketed, single, further, RestSaid, nothing, guarded, BranchSaid, PlusSaid, plus, StatementSaid, statement, RangeSaid, range, SharedSaid, unshared, sharing, CardSaid, card}
 
 -- the how-manieth of its kind it is, or its value; the most that there may be; where it stands
 pub record Counted : Type 0 where
@@ -37,7 +38,7 @@ pub record FirstPast (cs : List Counted) (p : Place) : Type 0 where
   pub past : Past first
   pub place : first .place ≡ p
 
--- ---- guards: nodes, a group at its bracket and a joined node at its sign; and open brackets and `!`
+-- ---- guards: nodes, a test at its bracket and a joined node at its sign; and open brackets and `!`
 
 -- so many nodes of the statement stand before it, and so many brackets and `!` are open around it
 abbrev pub countedGuard : {A : Type 0} {Free : Place → Type 0} {Group : Place → Said A} {v : Part} {ms r : Place} {g : Formula A} → ℕ → ℕ → FormulaSaid Free Group v ms g r → List Counted
@@ -50,7 +51,7 @@ countedGuard nodes around (further {s} {a} {ns = ns} {g = g} us u) =
     countedGuard nodes around us
     ++ (counted (suc (nodes + size g)) mostNodes (signAt (joint s) a ∷ ns) ∷ countedGuard (suc (nodes + size g)) around u)
 
-abbrev pub countedRest : {ms r : Place} {g : Option (Formula Literals)} → RestSaid ms g r → List Counted
+abbrev pub countedRest : {shared : Bool} {ms r : Place} {g : Option (Formula Tested)} → RestSaid shared ms g r → List Counted
 countedRest nothing = []
 countedRest (guarded u) = countedGuard 0 0 u
 
@@ -63,23 +64,33 @@ countedMany each i (again {ms} {ns} {x = x} d ds) = each ms ns x i d ++ countedM
 
 -- ---- branches, at their weights
 
-abbrev pub countedBranch : (ms r : Place) (x : BranchShape) → ℕ → BranchSaid ms x r → List Counted
+abbrev pub countedBranch : {shared : Bool} (ms r : Place) (x : BranchShape) → ℕ → BranchSaid shared ms x r → List Counted
 countedBranch ms r x i d = counted i mostBranches ms ∷ []
 
-abbrev pub countedPlus : (ms r : Place) (x : BranchShape) → ℕ → PlusSaid ms x r → List Counted
+abbrev pub countedPlus : {shared : Bool} (ms r : Place) (x : BranchShape) → ℕ → PlusSaid shared ms x r → List Counted
 countedPlus ms r x i (plus {ms = ns} d) = countedBranch ns r x i d
 
 -- ---- statements and modules
 
-abbrev pub countedStatement : (ms r : Place) (x : StatementShape) → ℕ → StatementSaid ms x r → List Counted
+abbrev pub countedStatement : {shared : Bool} (ms r : Place) (x : StatementShape) → ℕ → StatementSaid shared ms x r → List Counted
 countedStatement ms r x i (statement {os = os} {qs} {x = b} line rest d ds) =
     counted i mostStatements ms ∷ (countedRest rest ++ (countedBranch os qs b 1 d ++ countedMany countedPlus 2 ds))
 
 abbrev pub countedModule : (ms r : Place) (ws : List Numbered) → ℕ → LineSaid moduleRun ms ws r → List Counted
 countedModule ms r ws i d = counted i mostSeats ms ∷ []
 
+-- ---- the card
+
+-- how far a range goes
+abbrev pub countedRange : {ms r : Place} {x : Range} → ℕ → RangeSaid ms x r → List Counted
+countedRange most (range {k} {l} {c = c} {d} {e} {f} {g} {r}) =
+    counted k most (placed (number k) c ∷ signAt "]" d ∷ signAt "init" e ∷ placed (number l) f ∷ signAt ";" g ∷ r) ∷ []
+
+abbrev pub countedShared : {ms r : Place} {g : Option Range} → SharedSaid ms g r → List Counted
+countedShared unshared = []
+countedShared (sharing line x) = countedRange topShared x
+
 -- the first module stands at the front
 abbrev pub countedCard : {ms : Place} {c : CardShape} → CardSaid ms c → List Counted
-countedCard (card {k = k} {l} {d = d} {e} {f} {g} {h} {ns = ns} {os} {x = x} line s ss ys) =
-    counted k topState (placed (number k) d ∷ signAt "]" e ∷ signAt "init" f ∷ placed (number l) g ∷ signAt ";" h ∷ ns)
-    ∷ (countedStatement ns os x 1 s ++ (countedMany countedStatement 2 ss ++ countedMany countedModule 2 ys))
+countedCard (card {ps = ps} {qs} {x = x} g line y s ss ys) =
+    countedShared g ++ (countedRange topState y ++ (countedStatement ps qs x 1 s ++ (countedMany countedStatement 2 ss ++ countedMany countedModule 2 ys)))

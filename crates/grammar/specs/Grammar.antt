@@ -1,7 +1,8 @@
--- The grammar of a card ("Shape of a card"), without its limits. Each relation says: the marks ms begin with such a thing, which says x, and
--- go on with r. The places in marks are any. Assumes nothing.
+-- The grammar of a card ("Shape of a card"), without its limits, and with a number that its seats share (document 02, 2026-10). Each relation
+-- says: the marks ms begin with such a thing, which says x, and go on with r. The places in marks are any. Assumes nothing.
 use Prim.Native.Nat.{ℕ}
 use Prim.Native.String.{String}
+use mathlib.Core.Bool.{Bool, true}
 use mathlib.Core.List.{List, [], _∷_}
 use mathlib.Core.Option.{Option, none, some}
 use Rattle.card.specs.Text.{bytes}
@@ -9,8 +10,9 @@ use Rattle.card.specs.Card.{Mode, nondeterministic, probabilistic, Sign, all, a
 use Rattle.card.specs.Weight.{Weight, whole, decimal as point, ratio}
 use Rattle.marks_on_a_card.specs.Marks.{text, seat, process, number, decimal, Placed, placed}
 use Rattle.reading.specs.Reader.{Place, Numbered, Item, exactly, seatWord, processWord}
-use Rattle.reading.specs.Group.{joint, relation, Literal, literalOf, Literals, literalsOf}
-use Rattle.reading.specs.Shape.{BranchShape, StatementShape, CardShape}
+use Rattle.reading.specs.Group.{joint, relation, Literal, literalOf, Literals, literalsOf, SharedTest, Tested, ofSeats, ofShared}
+use Rattle.reading.specs.Guard.{isSome}
+use Rattle.reading.specs.Shape.{BranchShape, StatementShape, Range, CardShape}
 
 abbrev pub Said : Type 0 → Type 1
 Said A = Place → A → Place → Type 0
@@ -36,7 +38,11 @@ pub data LineSaid : List Item → Place → List Numbered → Place → Type 0 w
       → LineSaid items ms ws r
       → LineSaid (processWord ∷ items) (placed (process i) p ∷ ms) (valued i (placed (process i) p ∷ ms) ∷ ws) r
 
--- behind the mode: module process1 s1 : [
+-- behind the mode: global g : [
+abbrev pub sharedRun : List Item
+sharedRun = exactly "global" ∷ exactly "g" ∷ exactly ":" ∷ exactly "[" ∷ []
+
+-- module process1 s1 : [
 abbrev pub cardRun : List Item
 cardRun = exactly "module" ∷ processWord ∷ seatWord ∷ exactly ":" ∷ exactly "[" ∷ []
 
@@ -47,6 +53,10 @@ statementRun = exactly "[" ∷ exactly "]" ∷ seatWord ∷ exactly "=" ∷ []
 -- :(s1'=
 abbrev pub branchRun : List Item
 branchRun = exactly ":" ∷ exactly "(" ∷ seatWord ∷ exactly "'" ∷ exactly "=" ∷ []
+
+-- & (g'=
+abbrev pub setRun : List Item
+setRun = exactly "&" ∷ exactly "(" ∷ exactly "g" ∷ exactly "'" ∷ exactly "=" ∷ []
 
 -- module process2 = process1 [s1=s2, s2=s1] endmodule
 abbrev pub moduleRun : List Item
@@ -86,6 +96,19 @@ pub data GroupSaid (p : Place) : Place → Literals → Place → Type 0 where
       → LiteralSaid ms l ns → OthersSaid any ns (k ∷ ls) r
       → GroupSaid p ms (literalsOf p any (l ∷ k ∷ ls)) r
 
+-- ---- tests of the shared number, behind a bracket
+
+pub data SharedTestSaid : Place → SharedTest → Place → Type 0 where
+  sharedTest : {v a b c d : ℕ} {q : Relation} {r : Place}
+      → SharedTestSaid (signAt "g" a ∷ signAt (relation q) b ∷ placed (number v) c ∷ signAt ")" d ∷ r)
+      (record { relation = q; value = valued v (placed (number v) c ∷ signAt ")" d ∷ r) }) r
+
+-- ---- what a guard tests, behind a bracket at p: on a card that shares a number also that number
+
+pub data TestedSaid : Bool → Place → Place → Tested → Place → Type 0 where
+  testSeats : {shared : Bool} {p ms r : Place} {x : Literals} → GroupSaid p ms x r → TestedSaid shared p ms (ofSeats x) r
+  testShared : {p ms r : Place} {x : SharedTest} → SharedTestSaid ms x r → TestedSaid true p ms (ofShared x) r
+
 -- ---- guards
 
 -- a unary, or operands joined by a sign
@@ -122,9 +145,9 @@ abbrev pub GuardSaid : {A : Type 0} → (Place → Said A) → Part → Place �
 GuardSaid Group v ms g r = FormulaSaid Anything Group v ms g r
 
 -- behind the local guard: any number of `& unary`
-pub data RestSaid : Place → Option (Formula Literals) → Place → Type 0 where
-  nothing : {r : Place} → RestSaid r none r
-  guarded : {a : ℕ} {ms r : Place} {g : Formula Literals} → GuardSaid GroupSaid (joinedBy all) ms g r → RestSaid (signAt "&" a ∷ ms) (some g) r
+pub data RestSaid (shared : Bool) : Place → Option (Formula Tested) → Place → Type 0 where
+  nothing : {r : Place} → RestSaid shared r none r
+  guarded : {a : ℕ} {ms r : Place} {g : Formula Tested} → GuardSaid (TestedSaid shared) (joinedBy all) ms g r → RestSaid shared (signAt "&" a ∷ ms) (some g) r
 
 -- ---- branches
 
@@ -133,25 +156,33 @@ pub data WeightSaid : Place → Weight → Place → Type 0 where
   aRatio : {v w a b c : ℕ} {r : Place} → WeightSaid (placed (number v) a ∷ signAt "/" b ∷ placed (number w) c ∷ r) (ratio v w) r
   aDecimal : {v n f a : ℕ} {r : Place} → WeightSaid (placed (decimal v n f) a ∷ r) (point v n f) r
 
-pub data BranchSaid : Place → BranchShape → Place → Type 0 where
-  branch : {t a b : ℕ} {ms ns r : Place} {w : Weight} {ws : List Numbered}
+-- the update of the shared number, if there is one
+pub data SetSaid : Bool → Place → Option Numbered → Place → Type 0 where
+  keeps : {shared : Bool} {r : Place} → SetSaid shared r none r
+  setsTo : {v a b : ℕ} {ms r : Place} {ws : List Numbered}
+      → LineSaid setRun ms ws (placed (number v) a ∷ signAt ")" b ∷ r)
+      → SetSaid true ms (some (valued v (placed (number v) a ∷ signAt ")" b ∷ r))) r
+
+pub data BranchSaid (shared : Bool) : Place → BranchShape → Place → Type 0 where
+  branch : {t a b : ℕ} {ms ns os r : Place} {w : Weight} {ws : List Numbered} {v : Option Numbered}
       → WeightSaid ms w ns
-      → LineSaid branchRun ns ws (placed (number t) a ∷ signAt ")" b ∷ r)
-      → BranchSaid ms (record { place = ms; weight = w; words = ws; end = valued t (placed (number t) a ∷ signAt ")" b ∷ r) }) r
+      → LineSaid branchRun ns ws (placed (number t) a ∷ signAt ")" b ∷ os)
+      → SetSaid shared os v r
+      → BranchSaid shared ms (record { place = ms; weight = w; words = ws; end = valued t (placed (number t) a ∷ signAt ")" b ∷ os); sets = v }) r
 
 -- + and a branch
-pub data PlusSaid : Place → BranchShape → Place → Type 0 where
-  plus : {a : ℕ} {ms r : Place} {x : BranchShape} → BranchSaid ms x r → PlusSaid (signAt "+" a ∷ ms) x r
+pub data PlusSaid (shared : Bool) : Place → BranchShape → Place → Type 0 where
+  plus : {a : ℕ} {ms r : Place} {x : BranchShape} → BranchSaid shared ms x r → PlusSaid shared (signAt "+" a ∷ ms) x r
 
 -- ---- statements
 
-pub data StatementSaid : Place → StatementShape → Place → Type 0 where
-  statement : {j a b c : ℕ} {ms ns os qs r : Place} {ws : List Numbered} {g : Option (Formula Literals)} {x : BranchShape} {xs : List BranchShape}
+pub data StatementSaid (shared : Bool) : Place → StatementShape → Place → Type 0 where
+  statement : {j a b c : ℕ} {ms ns os qs r : Place} {ws : List Numbered} {g : Option (Formula Tested)} {x : BranchShape} {xs : List BranchShape}
       → LineSaid statementRun ms ws (placed (number j) a ∷ ns)
-      → RestSaid ns g (signAt "->" b ∷ os)
-      → BranchSaid os x qs
-      → ManySaid PlusSaid qs xs (signAt ";" c ∷ r)
-      → StatementSaid ms (record { words = ws; own = valued j (placed (number j) a ∷ ns); guard = g; branches = x ∷ xs; close = signAt ";" c ∷ r }) r
+      → RestSaid shared ns g (signAt "->" b ∷ os)
+      → BranchSaid shared os x qs
+      → ManySaid (PlusSaid shared) qs xs (signAt ";" c ∷ r)
+      → StatementSaid shared ms (record { words = ws; own = valued j (placed (number j) a ∷ ns); guard = g; branches = x ∷ xs; close = signAt ";" c ∷ r }) r
 
 -- ---- the card
 
@@ -159,11 +190,24 @@ abbrev pub modeWord : Mode → String
 modeWord nondeterministic = "nondeterministic"
 modeWord probabilistic = "probabilistic"
 
+-- [0..k] init l; behind its opening bracket
+pub data RangeSaid : Place → Range → Place → Type 0 where
+  range : {k l a b c d e f g : ℕ} {r : Place}
+      → RangeSaid (placed (number 0) a ∷ signAt ".." b ∷ placed (number k) c ∷ signAt "]" d ∷ signAt "init" e ∷ placed (number l) f ∷ signAt ";" g ∷ r)
+      (record { top = k; start = valued l (placed (number l) f ∷ signAt ";" g ∷ r) }) r
+
+-- behind the mode: the shared number, if there is one
+pub data SharedSaid : Place → Option Range → Place → Type 0 where
+  unshared : {r : Place} → SharedSaid r none r
+  sharing : {ms ns r : Place} {ws : List Numbered} {x : Range} → LineSaid sharedRun ms ws ns → RangeSaid ns x r → SharedSaid ms (some x) r
+
 pub data CardSaid : Place → CardShape → Type 0 where
-  card : {mode : Mode} {k l a b c d e f g h i : ℕ} {ms ns os qs : Place} {ws : List Numbered} {x : StatementShape} {xs : List StatementShape} {ys : List (List Numbered)}
-      → LineSaid cardRun ms ws (placed (number 0) b ∷ signAt ".." c ∷ placed (number k) d ∷ signAt "]" e ∷ signAt "init" f ∷ placed (number l) g ∷ signAt ";" h ∷ ns)
-      → StatementSaid ns x os
-      → ManySaid StatementSaid os xs (signAt "endmodule" i ∷ qs)
-      → ManySaid (LineSaid moduleRun) qs ys []
+  card : {mode : Mode} {a b : ℕ} {ms ns os ps qs rs : Place} {g : Option Range} {ws : List Numbered} {y : Range} {x : StatementShape} {xs : List StatementShape} {ys : List (List Numbered)}
+      → SharedSaid ms g ns
+      → LineSaid cardRun ns ws os
+      → RangeSaid os y ps
+      → StatementSaid (isSome g) ps x qs
+      → ManySaid (StatementSaid (isSome g)) qs xs (signAt "endmodule" b ∷ rs)
+      → ManySaid (LineSaid moduleRun) rs ys []
       → CardSaid (signAt (modeWord mode) a ∷ ms)
-      (record { mode = mode; words = ws; k = k; l = valued l (placed (number l) g ∷ signAt ";" h ∷ ns); statements = x ∷ xs; modules = ys })
+      (record { mode = mode; shared = g; words = ws; k = y .top; l = y .start; statements = x ∷ xs; modules = ys })

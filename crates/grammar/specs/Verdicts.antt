@@ -2,7 +2,7 @@
 -- marks, the grammar, the limits and the rules. Assumes nothing.
 use Prim.Native.Nat.{ℕ, _≤_, _<_}
 use mathlib.Core.Path.{_≡_}
-use mathlib.Core.Bool.{true}
+use mathlib.Core.Bool.{Bool, true, false}
 use mathlib.Core.List.{List, [], _∷_, _++_}
 use lib.ListN.{length}
 use Rattle.card.specs.Limits.{cardBytes}
@@ -11,7 +11,7 @@ use Rattle.card.specs.Weight.{Rule}
 use Rattle.card.specs.Valid.{Every}
 use Rattle.marks_on_a_card.specs.Marks.{outside, Placed, placed, marksOf, placeOf}
 use Rattle.reading.specs.Reader.{Place, nextIs}
-use Rattle.reading.specs.Guard.{seatNext}
+use Rattle.reading.specs.Guard.{testNext}
 use Rattle.reading.specs.Judgements.{Judgement, placeIn}
 use Rattle.reading.specs.Shape.{CardShape}
 use Rattle.reading.specs.Checks.{judgedCard, seatsIn, cardIn}
@@ -76,7 +76,12 @@ pub record PastIn {C Look : Type 0} (Said : Place → C → Type 0) (counts : (m
   pub said : Said (before ++ (mark ∷ other)) shape
   pub past : FirstPast (counts (before ++ (mark ∷ other)) shape said) (mark ∷ other)
 
--- ---- on a card: whether an opening bracket starts a group is told by the mark behind it
+-- ---- on a card: whether an opening bracket starts a test is told by the mark behind it, and by whether the card shares a number, which its
+-- second mark tells
+
+abbrev pub shares : Place → Bool
+shares [] = false
+shares (m ∷ ms) = nextIs "global" ms
 
 abbrev pub countsOf : (ms : Place) (c : CardShape) → CardSaid ms c → List Counted
 countsOf ms c d = countedCard d
@@ -85,7 +90,7 @@ abbrev pub UnfitAt : Place → Place → Type 0
 UnfitAt ms r = UnfitIn CardSaid ms r
 
 abbrev pub PastAt : Place → Place → Type 0
-PastAt ms r = PastIn CardSaid countsOf seatNext ms r
+PastAt ms r = PastIn CardSaid countsOf (testNext (shares ms)) ms r
 
 -- ---- 3 and 4 on a card, by place; a mark that passes a limit is still one of the shape, so no 3 stands before it or there
 

@@ -13,7 +13,8 @@ use Rattle.marks.specs.Step.{marksAt}
 use Rattle.reading.specs.Reader.{Place, State, at as from, Result, ok, stop}
 use Rattle.reading.specs.Judgements.{unless}
 use Rattle.group.specs.declared.Grouped.{Grouped}
-use Rattle.late.specs.Late.{Late, blamed, grouped}
+use Rattle.late.specs.Late.{Late, blamed}
+use Rattle.kept_items.specs.KeptItems.{wantedBy, boundBy}
 use Rattle.group.specs.GroupRead.{StoppedGroup}
 use Rattle.grouping.specs.Language.{Language}
 
@@ -30,9 +31,10 @@ pub record ReadItem (L : Language) (o : ℕ) (s : List ℕ) (n : ℕ) (p : Place
   pub left : behind .nodes ≡ n
   pub past : r .next ≡ 0 → ⊥
   pub node : r .node ≡ leafNumber (L .leaf a)
-  -- how many seats it wants, and its first d
+  -- the seats that it wants, and its first number
   pub judged : (k : ℕ) (x : Late)
-      → L .judged k (o + length s) a x ≡ blamed (unless (leb (r .d) k) aboveTop) (o + r .first) (grouped (r .want) (placeOf (o + length s) p) x)
+      → L .judged k (o + length s) a x
+      ≡ blamed (unless (leb (r .d) (boundBy (L .most) (r .kind) k)) aboveTop) (o + r .first) (wantedBy (r .kind) (r .want) (placeOf (o + length s) p) x)
 
 abbrev pub ItemRead : (L : Language) → ℕ → List ℕ → ℕ → Place → Result (L .Item) → Grouped → Type 0
 ItemRead L o s n p (ok a behind) r = ReadItem L o s n p a behind r

@@ -1,18 +1,20 @@
--- The languages that one reader reads: formulas over items, of which each language has its own. Assumes nothing.
-use Prim.Native.Nat.{ℕ}
+-- The languages that one reader reads: formulas over items, of which each language has its own, on a card whose shared number has so many values
+-- (document 02, 2026-10; 0 where none is declared). Assumes nothing.
+use Prim.Native.Nat.{ℕ, _/_, _%_}
 use mathlib.Core.Bool.{Bool, true, false}
 use mathlib.Core.List.{List, [], _∷_}
-use lib.Dec.{leb}
+use lib.Dec.{eqb, leb}
 use Rattle.card.specs.Refusals.{aboveTop}
 use Rattle.card.specs.Text.{if_then_else_}
-use Rattle.card.specs.Card.{Leaf, one, Formula, atom, neg, and, or, Guard}
+use Rattle.card.specs.Card.{Leaf, one, sharedIs, Formula, atom, neg, and, or, Guard}
 use Rattle.card.specs.Formulas.{over}
 use Rattle.marks_on_a_card.specs.Marks.{placeOf}
 use Rattle.reading.specs.Reader.{Place, Reader}
-use Rattle.reading.specs.Guard.{seatNext}
-use Rattle.reading.specs.Group.{Literal, Literals, group}
-use Rattle.reading.specs.Judgements.{has, unless, judgedGroup}
-use Rattle.late.specs.Late.{Late, wantOf, groupBy, grouped, blamed, judgeAll}
+use Rattle.reading.specs.Guard.{testNext}
+use Rattle.reading.specs.Group.{Literal, Tested, tested}
+use Rattle.reading.specs.Judgements.{has, unless, judgedTest}
+use Rattle.late.specs.Values.{shares, mostOf}
+use Rattle.late.specs.Late.{Late, wantOf, groupBy, leafBy, grouped, blamed, judgeAll}
 use Rattle.asking.specs.Question as asking
 use Rattle.asking.specs.Asking.{Claim, state, everyone, exactly, claimsOf, termD}
 use Rattle.term_literals.specs.Wanted.{wantOfTerms}
@@ -24,19 +26,21 @@ pub record Language : Type 1 where
   pub starts : Place → Bool
   pub item : Place → Reader Item
   pub leaf : Item → Leaf
+  pub most : ℕ  -- that the shared number may be
   pub judged : (k e : ℕ) → Item → Late → Late
 
--- ---- a card's guards: groups, each started by a seat word
-abbrev pub cards : Language
-cards = record {
-  Item = Literals;
-  starts = seatNext;
-  item = group;
-  leaf = λ x. groupBy (x .sign) (x .literals);
-  judged = λ k e x. judgeAll e (judgedGroup k x);
+-- ---- a card's guards: groups, each started by a seat word, and tests of the shared number
+abbrev pub cards : ℕ → Language
+cards values = record {
+  Item = Tested;
+  starts = testNext (shares values);
+  item = tested;
+  leaf = leafBy;
+  most = mostOf values;
+  judged = λ k e x. judgeAll e (judgedTest k (mostOf values) x);
 }
 
--- ---- a question's: groups of everyone, and exactly-ones ("2026-01")
+-- ---- a question's: groups of everyone, exactly-ones ("2026-01"), and tests of the shared number
 
 -- how many seats a group of everyone wants; one of the others is symmetric for no question
 abbrev pub wantOfAll : List Literal → ℕ
@@ -51,23 +55,35 @@ unfoldable pub claimAll : ℕ → List Claim → Late → Late
 claimAll e [] x = x
 claimAll e (c ∷ cs) x = claimAll e cs (judgeClaim e c x)
 
-abbrev pub leafBy : asking.Item → Leaf
-leafBy (asking.aGroup g) = groupBy (g .sign) (g .literals)
-leafBy (asking.exactlyOne p ts) = one (termD ts)
+abbrev pub itemBy : asking.Item → Leaf
+itemBy (asking.aGroup g) = groupBy (g .sign) (g .literals)
+itemBy (asking.exactlyOne p ts) = one (termD ts)
+itemBy (asking.aTest x) = sharedIs (x .relation) (x .value .value)
 
-abbrev pub questions : Language
-questions = record {
+abbrev pub questions : ℕ → Language
+questions values = record {
   Item = asking.Item;
-  starts = asking.itemNext;
+  starts = asking.itemNext (shares values);
   item = asking.item;
-  leaf = leafBy;
-  judged = λ k e x. claimAll e (claimsOf k x);
+  leaf = itemBy;
+  most = mostOf values;
+  judged = λ k e x. claimAll e (claimsOf k (mostOf values) x);
 }
 
--- the code's flag: is it a question?
-abbrev pub languageOf : Bool → Language
-languageOf false = cards
-languageOf true = questions
+-- ---- the code's number: twice how many values the shared number has, and one more for a question
+
+abbrev pub valuesBy : ℕ → ℕ
+valuesBy language = language / 2
+
+abbrev pub asksBy : ℕ → Bool
+asksBy language = eqb (language % 2) 1
+
+abbrev pub languageBy : Bool → ℕ → Language
+languageBy false values = cards values
+languageBy true values = questions values
+
+abbrev pub languageOf : ℕ → Language
+languageOf language = languageBy (asksBy language) (valuesBy language)
 
 -- ---- a formula of any language
 

@@ -6,8 +6,11 @@ use groups_asked::of_all;
 use marks_on_a_card::kinds;
 use one_seat::exactly;
 use one_seat::twice;
+use packing as node;
+use shared_tests::shared_test;
 ghost use mathlib.Core.Path.{_≡_};
-ghost use Rattle.grouping.specs.Language.{languageOf};
+ghost use Rattle.grouping.specs.Language.{valuesBy, asksBy, languageOf};
+ghost use Rattle.kept_items.specs.KeptItems.{boundBy};
 ghost use Rattle.grouping.specs.Items.{ItemAt, nothing};
 
 // The stop of an answer where no item starts; what did not fit has the number of its refusal.
@@ -28,11 +31,40 @@ fn no_item() -> Grouped
     }
 }
 
-// What a bracket starts, from the rest of the card or question behind that bracket: with a seat word there a group, and in a question
-// also an exactly-one.
-pub fn item(part: &[u8], question: bool) -> Grouped
-    ensures { λ r. ⌜ ItemAt (languageOf question) (now (part .entry)) r ⌝ }
+// ---- which language it is, as one number: twice how many values the shared number has (0: none is declared), and one more for a question
+
+pub fn values(language: usize) -> usize
+    ensures { λ r. ⌜ r ≡ valuesBy language ⌝ }
 {
+    language / 2
+}
+
+fn is_question(language: usize) -> bool
+    ensures { λ r. ⌜ r ≡ asksBy language ⌝ }
+{
+    language % 2 == 1
+}
+
+// The most that the number in an item of this kind may be: what the shared number may be in a test of it, else the top state.
+pub fn bound(kind: usize, top: usize, language: usize) -> usize
+    ensures { λ r. ⌜ r ≡ boundBy (languageOf language .most) kind top ⌝ }
+{
+    if kind != node::SHARED {
+        return top;
+    }
+    let values = values(language);
+    if values == 0 {
+        return 0;
+    }
+    values - 1
+}
+
+// What a bracket starts, from the rest of the card or question behind that bracket: with a seat word there a group, with the name of the
+// shared number a test of that, where one is declared, and in a question also an exactly-one.
+pub fn item(part: &[u8], language: usize) -> Grouped
+    ensures { λ r. ⌜ ItemAt (languageOf language) (now (part .entry)) r ⌝ }
+{
+    let question = is_question(language);
     let word = step_inner(part, 0);
     if word.mark.kind == kinds::SEAT {
         let g = group(part, word.next.at, word.mark.value);
@@ -40,6 +72,12 @@ pub fn item(part: &[u8], question: bool) -> Grouped
             return g;
         }
         return of_all(g);
+    }
+    if word.mark.kind == kinds::SHARED {
+        if values(language) == 0 {
+            return no_item();
+        }
+        return shared_test(part, word.next.at);
     }
     if question {
         if twice(part) {

@@ -13,11 +13,11 @@ use Rattle.card.specs.Card.{all, any, Formula, atom, neg, and, or}
 use Rattle.card.specs.Valid.{size}
 use Rattle.marks_on_a_card.specs.Marks.{Mark, Placed, placed}
 use Rattle.card.specs.Refusals.{pastLimit}
-use Rattle.reading.specs.Reader.{Place, State, at, Result, ok, stop, Reader, bind, _>>=_, _>>_, return, refuse, refuseAt, took, first, the, is, given, nextIs, ifNext, sign, seatOf, numberOf, here, spend, node}
-use Rattle.reading.specs.Guard.{seatNext, ifAhead, chain, conjunction, expression, grouped}
-use Rattle.reading.specs.Group.{Literal, literalOf, literalsOf, relationOf, literal, joint, joined, others, group}
-use Rattle.asking.specs.Question.{aGroup, exactlyOne, term, exactly, item}
-use Rattle.grouping.specs.Language.{Language, languageOf}
+use Rattle.reading.specs.Reader.{Place, State, at, Result, ok, stop, Reader, bind, _>>=_, _>>_, return, refuse, refuseAt, took, first, the, is, given, nextIs, ifNext, sign, seatOf, numberOf, here, Numbered, numbered, spend, node}
+use Rattle.reading.specs.Guard.{seatNext, ifSeat, ifAhead, chain, conjunction, expression, grouped}
+use Rattle.reading.specs.Group.{Literal, literalOf, literalsOf, relationOf, literal, joint, joined, others, group, sharedTest, ofSeats, ofShared, tested}
+use Rattle.asking.specs.Question.{aGroup, aTest, exactlyOne, term, exactly, item}
+use Rattle.grouping.specs.Language.{Language, valuesBy, asksBy, languageBy, languageOf}
 use Rattle.items.specs.Pieces.{unaryIn}
 
 -- what holds of a value and the state behind it; and a refusal has a number
@@ -97,6 +97,24 @@ group-keeps p =
     (if-keeps (joint any) (return any) (return all) (return-keeps any) (return-keeps all))
     (λ s. bind-keeps (others (joint s) (length (b .marks))) (λ ls. return (literalsOf p s (l ∷ ls))) (joined-keeps literal literal-keeps (joint s) (length (b .marks))) (λ ls s. refl)) b)
 
+-- ---- a test of the shared number, and what a card's guard tests
+
+test-keeps : Keeps sharedTest
+test-keeps =
+    bind-keeps (sign "g") (λ _. the relationOf >>= λ q. numbered numberOf >>= λ v. sign ")" >> return (record { relation = q; value = v })) (sign-keeps "g")
+    (λ _. bind-keeps (the relationOf) (λ q. numbered numberOf >>= λ v. sign ")" >> return (record { relation = q; value = v })) (the-keeps relationOf)
+    (λ q. bind-keeps (numbered numberOf) (λ v. sign ")" >> return (record { relation = q; value = v })) number-keeps
+    (λ v. bind-keeps (sign ")") (λ _. return (record { relation = q; value = v })) (sign-keeps ")") (λ _ s. refl))))
+  where
+    number-keeps : Keeps (numbered numberOf)
+    number-keeps s = bind-keeps (the numberOf) (λ v. return (record { value = v; place = s .marks })) (the-keeps numberOf) (λ v b. refl) s
+
+pub tested-keeps : (p : Place) → Keeps (tested p)
+tested-keeps p =
+    if-keeps "g" (sharedTest >>= λ x. return (ofShared x)) (group p >>= λ x. return (ofSeats x))
+    (bind-keeps sharedTest (λ x. return (ofShared x)) test-keeps (λ x s. refl))
+    (bind-keeps (group p) (λ x. return (ofSeats x)) (group-keeps p) (λ x s. refl))
+
 -- ---- and a question's items
 
 term-keeps : Keeps term
@@ -111,11 +129,16 @@ exactly-keeps p =
     (λ t b. bind-keeps (joined term (joint any) (length (b .marks))) (λ ts. return (exactlyOne p (t ∷ ts))) (joined-keeps term term-keeps (joint any) (length (b .marks))) (λ ts s. refl) b)
 
 item-keeps : (p : Place) → Keeps (item p)
-item-keeps p s = go (seatNext (s .marks))
+item-keeps p =
+    if-keeps "g" (sharedTest >>= λ x. return (aTest x)) (ifSeat (group p >>= λ x. return (aGroup x)) (exactly p))
+    (bind-keeps sharedTest (λ x. return (aTest x)) test-keeps (λ x s. refl)) words
   where
-    go : (b : Bool) → Each (Left (s .nodes)) ((if b then (group p >>= λ x. return (aGroup x)) else exactly p) s)
-    go true = bind-keeps (group p) (λ x. return (aGroup x)) (group-keeps p) (λ x s. refl) s
-    go false = exactly-keeps p s
+    words : Keeps (ifSeat (group p >>= λ x. return (aGroup x)) (exactly p))
+    words s = go (seatNext (s .marks))
+      where
+        go : (b : Bool) → Each (Left (s .nodes)) ((if b then (group p >>= λ x. return (aGroup x)) else exactly p) s)
+        go true = bind-keeps (group p) (λ x. return (aGroup x)) (group-keeps p) (λ x s. refl) s
+        go false = exactly-keeps p s
 
 -- ---- readers that spend a guard's nodes
 
@@ -184,9 +207,12 @@ module _ {A : Type 0} where
 abbrev pub Keeping : Language → Type 0
 Keeping L = (p : Place) → Keeps (L .item p)
 
-pub keeping : (question : Bool) → Keeping (languageOf question)
-keeping false = group-keeps
-keeping true = item-keeps
+pub keeping : (language : ℕ) → Keeping (languageOf language)
+keeping language = go (asksBy language)
+  where
+    go : (b : Bool) → Keeping (languageBy b (valuesBy language))
+    go false = tested-keeps
+    go true = item-keeps
 
 module _ (L : Language) (keeps : Keeping L) where
   grouped-ends : (p : Place) (s : State) → Each (Spent (s .nodes)) (grouped (L .item) p s)

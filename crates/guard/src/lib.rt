@@ -1,5 +1,5 @@
-// Guards of a card, and questions, read from their bytes: the recursion over brackets, `!` and chains. Which of them it is is told by a
-// flag; only what a bracket starts hangs on it.
+// Guards of a card, and questions, read from their bytes: the recursion over brackets, `!` and chains. Which of them it is, and how many
+// values the card's shared number has, is told by the number of a language (`grouping`); only what a bracket starts hangs on it.
 use card::limits::NODE_PLACES;
 use card::refusals::OUT_OF_SHAPE;
 use card::refusals::PAST_LIMIT;
@@ -38,17 +38,17 @@ fn nested(
     state: &mut [usize; STATE],
     depth: usize,
     top: usize,
-    question: bool,
+    language: usize,
 ) -> usize
-    requires { ⌜ Ready (now state) × NoItem (languageOf question) (now card) at ⌝ }
-    ensures { λ r. ⌜ GuardRead (languageOf question) (now (card .entry)) top (now (nodes .entry)) (now (nodes .exit)) (freeIn (now (state .entry))) (lateIn (now (state .entry))) (unaryIn (languageOf question) depth (from (marksAt 0 (now (card .entry)) at) (leftIn (now (state .entry))))) (after (now (state .exit)) r) ⌝ }
+    requires { ⌜ Ready (now state) × NoItem (languageOf language) (now card) at ⌝ }
+    ensures { λ r. ⌜ GuardRead (languageOf language) (now (card .entry)) top (now (nodes .entry)) (now (nodes .exit)) (freeIn (now (state .entry))) (lateIn (now (state .entry))) (unaryIn (languageOf language) depth (from (marksAt 0 (now (card .entry)) at) (leftIn (now (state .entry))))) (after (now (state .exit)) r) ⌝ }
 {
     let s = step_opening(card, at);
     if s.mark.kind == kinds::ROUND_OPEN {
         if depth == 0 {
             return stop(state, PAST_LIMIT, s.mark.place);
         }
-        let inner = expression(card, s.next.at, nodes, state, depth - 1, top, question);
+        let inner = expression(card, s.next.at, nodes, state, depth - 1, top, language);
         if inner == 0 {
             return 0;
         }
@@ -69,7 +69,7 @@ fn nested(
         return stop(state, PAST_LIMIT, s.mark.place);
     }
     state[LEFT] = left - 1;
-    let next = unary(card, s.next.at, nodes, state, depth - 1, top, question);
+    let next = unary(card, s.next.at, nodes, state, depth - 1, top, language);
     if next == 0 {
         return 0;
     }
@@ -85,16 +85,16 @@ fn unary(
     state: &mut [usize; STATE],
     depth: usize,
     top: usize,
-    question: bool,
+    language: usize,
 ) -> usize
     requires { ⌜ Ready (now state) ⌝ }
-    ensures { λ r. ⌜ GuardRead (languageOf question) (now (card .entry)) top (now (nodes .entry)) (now (nodes .exit)) (freeIn (now (state .entry))) (lateIn (now (state .entry))) (unaryIn (languageOf question) depth (from (marksAt 0 (now (card .entry)) at) (leftIn (now (state .entry))))) (after (now (state .exit)) r) ⌝ }
+    ensures { λ r. ⌜ GuardRead (languageOf language) (now (card .entry)) top (now (nodes .entry)) (now (nodes .exit)) (freeIn (now (state .entry))) (lateIn (now (state .entry))) (unaryIn (languageOf language) depth (from (marksAt 0 (now (card .entry)) at) (leftIn (now (state .entry))))) (after (now (state .exit)) r) ⌝ }
 {
-    let next = keep_item(card, at, nodes, state, top, question);
+    let next = keep_item(card, at, nodes, state, top, language);
     if next != NO_ITEM {
         return next;
     }
-    nested(card, at, nodes, state, depth, top, question)
+    nested(card, at, nodes, state, depth, top, language)
 }
 
 // What was read so far, up to the place `first`; then as often as `&` follows the sign and a unary, joined to the left.
@@ -105,10 +105,10 @@ fn joined_by_and(
     state: &mut [usize; STATE],
     depth: usize,
     top: usize,
-    question: bool,
+    language: usize,
 ) -> usize
     requires { ⌜ Begun (after (now state) first) ⌝ }
-    ensures { λ r. ⌜ Onward (languageOf question) (now (card .entry)) top (now (nodes .entry)) (now (nodes .exit)) (after (now (state .entry)) first) (chained (languageOf question) false depth) (after (now (state .exit)) r) ⌝ }
+    ensures { λ r. ⌜ Onward (languageOf language) (now (card .entry)) top (now (nodes .entry)) (now (nodes .exit)) (after (now (state .entry)) first) (chained (languageOf language) false depth) (after (now (state .exit)) r) ⌝ }
 {
     let mut next = first;
     while next != 0 {
@@ -122,7 +122,7 @@ fn joined_by_and(
         }
         let first_root = state[FREE] - 1;
         state[LEFT] = left - 1;
-        next = unary(card, s.next.at, nodes, state, depth, top, question);
+        next = unary(card, s.next.at, nodes, state, depth, top, language);
         if next == 0 {
             return 0;
         }
@@ -144,10 +144,10 @@ fn joined_by_or(
     state: &mut [usize; STATE],
     depth: usize,
     top: usize,
-    question: bool,
+    language: usize,
 ) -> usize
     requires { ⌜ Begun (after (now state) first) ⌝ }
-    ensures { λ r. ⌜ Onward (languageOf question) (now (card .entry)) top (now (nodes .entry)) (now (nodes .exit)) (after (now (state .entry)) first) (chained (languageOf question) true depth) (after (now (state .exit)) r) ⌝ }
+    ensures { λ r. ⌜ Onward (languageOf language) (now (card .entry)) top (now (nodes .entry)) (now (nodes .exit)) (after (now (state .entry)) first) (chained (languageOf language) true depth) (after (now (state .exit)) r) ⌝ }
 {
     let mut next = first;
     while next != 0 {
@@ -161,7 +161,7 @@ fn joined_by_or(
         }
         let first_root = state[FREE] - 1;
         state[LEFT] = left - 1;
-        next = conjunction(card, s.next.at, nodes, state, depth, top, question);
+        next = conjunction(card, s.next.at, nodes, state, depth, top, language);
         if next == 0 {
             return 0;
         }
@@ -182,12 +182,12 @@ pub fn conjunction(
     state: &mut [usize; STATE],
     depth: usize,
     top: usize,
-    question: bool,
+    language: usize,
 ) -> usize
     requires { ⌜ Ready (now state) ⌝ }
-    ensures { λ r. ⌜ GuardRead (languageOf question) (now (card .entry)) top (now (nodes .entry)) (now (nodes .exit)) (freeIn (now (state .entry))) (lateIn (now (state .entry))) (conjunctionOf (unaryIn (languageOf question) depth) (from (marksAt 0 (now (card .entry)) at) (leftIn (now (state .entry))))) (after (now (state .exit)) r) ⌝ }
+    ensures { λ r. ⌜ GuardRead (languageOf language) (now (card .entry)) top (now (nodes .entry)) (now (nodes .exit)) (freeIn (now (state .entry))) (lateIn (now (state .entry))) (conjunctionOf (unaryIn (languageOf language) depth) (from (marksAt 0 (now (card .entry)) at) (leftIn (now (state .entry))))) (after (now (state .exit)) r) ⌝ }
 {
-    let first = unary(card, at, nodes, state, depth, top, question);
+    let first = unary(card, at, nodes, state, depth, top, language);
     if first == 0 {
         return 0;
     }
@@ -195,7 +195,7 @@ pub fn conjunction(
     if sign_here(card, first, kinds::ROUND_CLOSE) {
         return first;
     }
-    joined_by_and(card, first, nodes, state, depth, top, question)
+    joined_by_and(card, first, nodes, state, depth, top, language)
 }
 
 pub fn expression(
@@ -205,17 +205,17 @@ pub fn expression(
     state: &mut [usize; STATE],
     depth: usize,
     top: usize,
-    question: bool,
+    language: usize,
 ) -> usize
     requires { ⌜ Ready (now state) ⌝ }
-    ensures { λ r. ⌜ GuardRead (languageOf question) (now (card .entry)) top (now (nodes .entry)) (now (nodes .exit)) (freeIn (now (state .entry))) (lateIn (now (state .entry))) (expressionOf (unaryIn (languageOf question) depth) (from (marksAt 0 (now (card .entry)) at) (leftIn (now (state .entry))))) (after (now (state .exit)) r) ⌝ }
+    ensures { λ r. ⌜ GuardRead (languageOf language) (now (card .entry)) top (now (nodes .entry)) (now (nodes .exit)) (freeIn (now (state .entry))) (lateIn (now (state .entry))) (expressionOf (unaryIn (languageOf language) depth) (from (marksAt 0 (now (card .entry)) at) (leftIn (now (state .entry))))) (after (now (state .exit)) r) ⌝ }
 {
-    let first = conjunction(card, at, nodes, state, depth, top, question);
+    let first = conjunction(card, at, nodes, state, depth, top, language);
     if first == 0 {
         return 0;
     }
     if sign_here(card, first, kinds::ROUND_CLOSE) {
         return first;
     }
-    joined_by_or(card, first, nodes, state, depth, top, question)
+    joined_by_or(card, first, nodes, state, depth, top, language)
 }

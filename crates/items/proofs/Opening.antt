@@ -24,12 +24,12 @@ use Rattle.reading.specs.Reader.{Place, State, at, Result, ok, stop, Reader, bi
 use Rattle.reading.specs.Guard.{ifAhead, expression, grouped}
 use Rattle.reading.specs.Judgements.{unless}
 use Rattle.group.specs.declared.Grouped.{Grouped}
-use Rattle.late.specs.Late.{Late, blamed, grouped as groupedLate}
+use Rattle.late.specs.Late.{Late, blamed}
 use Rattle.late.specs.State.{leftIn, freeIn, lateIn, After, after}
 use Rattle.group.proofs.Signs.{Known}
 use Rattle.group.proofs.Ahead.{fits, unfit, next-is, sign-next, place-next, next-within, next-past}
 use Rattle.grouping.specs.Language.{Language}
-use Rattle.kept_items.specs.KeptItems.{LaidAt}
+use Rattle.kept_items.specs.KeptItems.{wantedBy, boundBy, LaidAt}
 use Rattle.grouping.specs.Items.{Inside, ReadItem, ItemRead, noItem, ItemIf, ItemAt}
 use Rattle.items.specs.GuardRead.{Read, GuardRead}
 use Rattle.items.specs.Pieces.{Guards, unaryIn, thenClose, NoItem, ItemKept}
@@ -106,8 +106,12 @@ module _ (L : Language) where
   abbrev thenAtom : L .Item → Reader (Formula (L .Item))
   thenAtom a = return (atom a)
 
+  -- the most that its number may be, with top state k
+  abbrev boundOf : Grouped → ℕ → ℕ
+  boundOf g k = boundBy (L .most) (g .kind) k
+
   -- the item of the answer g behind its bracket: read from the part of the card s from place q on
-  module _ (s : List ℕ) (q p k : ℕ) (l : q ≤ length s) (was is state : List ℕ) (g : Grouped) (r : After) (laid : LaidAt g q p k was is state r) (bracket : Place) (place : placeOf (length s) bracket ≡ p) where
+  module _ (s : List ℕ) (q p k : ℕ) (l : q ≤ length s) (was is state : List ℕ) (g : Grouped) (r : After) (laid : LaidAt g q p (boundOf g k) was is state r) (bracket : Place) (place : placeOf (length s) bracket ≡ p) where
     abbrev Lays : Type 0
     Lays = GuardRead L s k was is (freeIn state) (lateIn state) (grouped (L .item) bracket (at (marksAt 0 s q) (leftIn state))) r
 
@@ -125,7 +129,7 @@ module _ (L : Language) where
           left = kept .judged .left ∙ sym (h .left);
           late =
               kept .judged .late
-              ∙ ap (λ n. blamed (unless (leb (g .d) k) aboveTop) (q + g .first) (groupedLate (g .want) n (lateIn state))) (sym place ∙ ap (λ e. placeOf e bracket) (sym long))
+              ∙ ap (λ n. blamed (unless (leb (g .d) (boundOf g k)) aboveTop) (q + g .first) (wantedBy (g .kind) (g .want) n (lateIn state))) (sym place ∙ ap (λ e. placeOf e bracket) (sym long))
               ∙ sym (h .judged k (lateIn state))
               ∙ ap (λ e. L .judged k e a (lateIn state)) long;
           nodes = kept .nodes ∙ ap (set was (freeIn state)) (h .node) ∙ sym (stored-leaf was (freeIn state) (L .leaf a));
@@ -238,7 +242,7 @@ module _ (L : Language) where
     found : ItemAt L (drop q s) g
     found = rw same at item
 
-    bracket-items : (g .stop ≡ noItem → ⊥) → (p depth k : ℕ) (was is state : List ℕ) (r : After) → LaidAt g q p k was is state r
+    bracket-items : (g .stop ≡ noItem → ⊥) → (p depth k : ℕ) (was is state : List ℕ) (r : After) → LaidAt g q p (boundOf g k) was is state r
         → Bracketed s q p (leftIn state) depth k was is (freeIn state) (lateIn state) r
     bracket-items h p depth k was is state r laid bracket e =
         read-as s k was is (freeIn state) (lateIn state) r (bracket-item s q (leftIn state) bracket depth (item-starts s q l g found h))
@@ -276,14 +280,14 @@ module _ (L : Language) where
       pub no-item : g .stop ≡ noItem → ItemKept L s i k was was state state noItem
       no-item h = unchanged (λ e. ap (λ (u : Step). L .starts (marksAt 0 s (u .next .at))) (sym step) ∙ starts-none s (a .next .at) l part same g item h)
 
-      pub item-kept : a .mark .kind ≡ kind "(" → (g .stop ≡ noItem → ⊥) → (is behind : List ℕ) (r : ℕ) → LaidAt g (a .next .at) (a .mark .place) k was is state (after behind r)
+      pub item-kept : a .mark .kind ≡ kind "(" → (g .stop ≡ noItem → ⊥) → (is behind : List ℕ) (r m : ℕ) → m ≡ boundOf g k → LaidAt g (a .next .at) (a .mark .place) m was is state (after behind r)
           → ItemKept L s i k was is state behind r
-      item-kept opens h is behind r laid = record {
+      item-kept opens h is behind r m most laid = record {
         some = λ _ depth. reads-bracket s i (leftIn state) depth k was is (freeIn state) (lateIn state) a step opens (after behind r)
-            (bracket-items s (a .next .at) l part same g item h (a .mark .place) depth k was is state (after behind r) laid);
+            (bracket-items s (a .next .at) l part same g item h (a .mark .place) depth k was is state (after behind r) (rw most at laid));
         none = λ e. absurd (past-item s (a .next .at) l part same g item h
             (λ z. next-past 0 s (stepAt s i) (marksAt 0 s i) (meet 0 s i) (λ y. omega (arith, opens, ap (λ (m : Step). m .mark .kind) step, y)) (ap (λ (m : Step). m .next .at) (sym step) ∙ z))
-            (a .mark .place) k was is state (after behind r) laid e);
+            (a .mark .place) m was is state (after behind r) laid e);
       }
 
 -- ---- what the code's calls ask

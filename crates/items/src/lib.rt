@@ -2,6 +2,7 @@
 use card::limits::NODE_PLACES;
 use due_signs::step_opening;
 use grouping::NO_ITEM;
+use grouping::bound;
 use grouping::item;
 use kept_items::lay;
 use late::state::STATE;
@@ -18,10 +19,10 @@ pub fn keep_item(
     nodes: &mut [u32; NODE_PLACES],
     state: &mut [usize; STATE],
     top: usize,
-    question: bool,
+    language: usize,
 ) -> usize
     requires { ⌜ Ready (now state) ⌝ }
-    ensures { λ r. ⌜ ItemKept (languageOf question) (now (card .entry)) at top (now (nodes .entry)) (now (nodes .exit)) (now (state .entry)) (now (state .exit)) r ⌝ }
+    ensures { λ r. ⌜ ItemKept (languageOf language) (now (card .entry)) at top (now (nodes .entry)) (now (nodes .exit)) (now (state .entry)) (now (state .exit)) r ⌝ }
 {
     let s = step_opening(card, at);
     if s.mark.kind != kinds::ROUND_OPEN {
@@ -29,9 +30,10 @@ pub fn keep_item(
     }
     let begin = s.next.at;
     let part = &card[begin..];
-    let g = item(part, question);
+    let g = item(part, language);
     if g.stop == NO_ITEM {
         return NO_ITEM;
     }
-    lay(g, begin, s.mark.place, nodes, state, top)
+    let most = bound(g.kind, top, language);
+    lay(g, begin, s.mark.place, nodes, state, most)
 }

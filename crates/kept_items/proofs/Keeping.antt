@@ -10,10 +10,10 @@ use lib.ListN.{set}
 use Rattle.card.specs.Refusals.{outOfShape, pastLimit, aboveTop}
 use Rattle.reading.specs.Judgements.{unless}
 use Rattle.group.specs.declared.Grouped.{Grouped}
-use Rattle.late.specs.Late.{Late, blamed, grouped}
+use Rattle.late.specs.Late.{Late, blamed}
 use Rattle.late.specs.State.{atLeft, atFree, Sized, leftIn, freeIn, lateIn, withLate, After, after, Halted}
 use Rattle.late.proofs.StateLaws.{late-sized, set-sized, left-set, free-set, late-set, free-left, left-free, left-late, free-late}
-use Rattle.kept_items.specs.KeptItems.{Judged, LaidAt}
+use Rattle.kept_items.specs.KeptItems.{wantedBy, Judged, LaidAt}
 
 -- the state with one node fewer left, and with one more stored
 abbrev pub spending : List ℕ → List ℕ
@@ -32,20 +32,20 @@ module _ (state : List ℕ) (sized : Sized state) where
     grouped-sized two x f = rw f (late-sized one stored-sized x)
 
   module _ (one : List ℕ) (e : one ≡ grown (spending state)) where
-    judged : (m p : ℕ) (o : Option ℕ) (q : ℕ) (two three : List ℕ) → two ≡ withLate one (grouped m p (lateIn one)) → three ≡ withLate two (blamed o q (lateIn two))
-        → Judged state (blamed o q (grouped m p (lateIn state))) three
-    judged m p o q two three f g = record {
+    judged : (i m p : ℕ) (o : Option ℕ) (q : ℕ) (two three : List ℕ) → two ≡ withLate one (wantedBy i m p (lateIn one)) → three ≡ withLate two (blamed o q (lateIn two))
+        → Judged state (blamed o q (wantedBy i m p (lateIn state))) three
+    judged i m p o q two three f g = record {
       free =
-          ap freeIn g ∙ free-late two (blamed o q (lateIn two)) ∙ ap freeIn f ∙ free-late one (grouped m p (lateIn one)) ∙ ap freeIn e
+          ap freeIn g ∙ free-late two (blamed o q (lateIn two)) ∙ ap freeIn f ∙ free-late one (wantedBy i m p (lateIn one)) ∙ ap freeIn e
           ∙ free-set (spending state) (set-sized state sized atLeft (leftIn state - 1)) (freeIn (spending state) + 1) ∙ ap (λ n. n + 1) (free-left state (leftIn state - 1));
       left =
-          ap leftIn g ∙ left-late two (blamed o q (lateIn two)) ∙ ap leftIn f ∙ left-late one (grouped m p (lateIn one)) ∙ ap leftIn e
+          ap leftIn g ∙ left-late two (blamed o q (lateIn two)) ∙ ap leftIn f ∙ left-late one (wantedBy i m p (lateIn one)) ∙ ap leftIn e
           ∙ left-free (spending state) (freeIn (spending state) + 1) ∙ left-set state sized (leftIn state - 1);
       late =
           ap lateIn g
           ∙ ap (blamed o q) (ap lateIn f
-          ∙ ap (grouped m p) (ap lateIn e ∙ late-set (spending state) atFree (freeIn (spending state) + 1) (omega arith) ∙ late-set state atLeft (leftIn state - 1) (omega arith)));
-      sized = rw g (late-sized two (grouped-sized (leftIn state - 1) one e two (grouped m p (lateIn one)) f) (blamed o q (lateIn two)));
+          ∙ ap (wantedBy i m p) (ap lateIn e ∙ late-set (spending state) atFree (freeIn (spending state) + 1) (omega arith) ∙ late-set state atLeft (leftIn state - 1) (omega arith)));
+      sized = rw g (late-sized two (grouped-sized (leftIn state - 1) one e two (wantedBy i m p (lateIn one)) f) (blamed o q (lateIn two)));
     }
 
 -- the three ways out
@@ -58,14 +58,14 @@ module _ (g : Grouped) (q p k : ℕ) (was state : List ℕ) where
     laid-wrong z is r h = record { full = λ e. absurd (some e); wrong = λ _ _. h; well = λ _ e. absurd (z e) }
 
     pub laid-well : g .stop ≡ 0 → Sized state → (is one two three : List ℕ) → is ≡ set was (freeIn (spending state)) (g .node) → one ≡ grown (spending state)
-        → two ≡ withLate one (grouped (g .want) p (lateIn one)) → three ≡ withLate two (blamed (unless (leb (g .d) k) aboveTop) (q + g .first) (lateIn two))
+        → two ≡ withLate one (wantedBy (g .kind) (g .want) p (lateIn one)) → three ≡ withLate two (blamed (unless (leb (g .d) k) aboveTop) (q + g .first) (lateIn two))
         → LaidAt g q p k was is state (after three (q + g .next))
     laid-well z sized is one two three e f h i = record {
       full = λ e. absurd (some e);
       wrong = λ _ y. absurd (y z);
       well = λ _ _. record {
         nodes = e ∙ ap (λ n. set was n (g .node)) (free-left state (leftIn state - 1));
-        judged = judged state sized one f (g .want) p (unless (leb (g .d) k) aboveTop) (q + g .first) two three h i;
+        judged = judged state sized one f (g .kind) (g .want) p (unless (leb (g .d) k) aboveTop) (q + g .first) two three h i;
         next = refl;
       };
     }

@@ -8,13 +8,14 @@ use late::state::FREE;
 use late::state::LEFT;
 use late::state::STATE;
 use late::stop;
+use packing as node;
 use seats_wanted::grouped;
 ghost use mathlib.Core.Path.{_≡_};
 ghost use Prim.Native.Nat.{_+_, _<_};
 ghost use lib.ListN.{set};
 ghost use Rattle.card.specs.Limits.{nodePlaces};
-ghost use Rattle.late.specs.State.{atFree, freeIn, after};
-ghost use Rattle.kept_items.specs.KeptItems.{Ready, Placed, LaidAt};
+ghost use Rattle.late.specs.State.{atFree, Sized, freeIn, lateIn, withLate, after};
+ghost use Rattle.kept_items.specs.KeptItems.{Ready, Placed, wantedBy, LaidAt};
 
 // A node more in the next free place.
 pub fn store(nodes: &mut [u32; NODE_PLACES], state: &mut [usize; STATE], node: u32)
@@ -27,17 +28,29 @@ pub fn store(nodes: &mut [u32; NODE_PLACES], state: &mut [usize; STATE], node: u
     state[FREE] = free + 1;
 }
 
-// An item's node and what is judged of it. It was read from place `begin` of the card on, behind its bracket, which is at `place`.
+// The seats that an item wants: a test of the shared number wants none.
+fn wanted(state: &mut [usize; STATE], kind: usize, want: usize, place: usize)
+    requires { ⌜ Sized (now state) ⌝ }
+    ensures { λ r. ⌜ now (state .exit) ≡ withLate (now (state .entry)) (wantedBy kind want place (lateIn (now (state .entry)))) ⌝ }
+{
+    if kind == node::SHARED {
+        return;
+    }
+    grouped(state, want, place);
+}
+
+// An item's node and what is judged of it: the number in it may be `most`. It was read from place `begin` of the card on, behind its bracket,
+// which is at `place`.
 pub fn lay(
     g: Grouped,
     begin: usize,
     place: usize,
     nodes: &mut [u32; NODE_PLACES],
     state: &mut [usize; STATE],
-    top: usize,
+    most: usize,
 ) -> usize
     requires { ⌜ Ready (now state) × Placed begin g ⌝ }
-    ensures { λ r. ⌜ LaidAt g begin place top (now (nodes .entry)) (now (nodes .exit)) (now (state .entry)) (after (now (state .exit)) r) ⌝ }
+    ensures { λ r. ⌜ LaidAt g begin place most (now (nodes .entry)) (now (nodes .exit)) (now (state .entry)) (after (now (state .exit)) r) ⌝ }
 {
     let left = state[LEFT];
     if left == 0 {
@@ -49,7 +62,7 @@ pub fn lay(
     let rest = left - 1;
     state[LEFT] = rest;
     store(nodes, state, g.node);
-    grouped(state, g.want, place);
-    judge_state(state, g.d, top, begin + g.first);
+    wanted(state, g.kind, g.want, place);
+    judge_state(state, g.d, most, begin + g.first);
     begin + g.next
 }

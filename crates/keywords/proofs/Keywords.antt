@@ -1,5 +1,5 @@
--- The kind of a word, by the keyword that it begins with: no two keywords begin with the same letter, so a word that goes on behind one is
--- no other.
+-- The kind of a word, by the first keyword that it begins with: a later one with the same first letter is no longer, so a word that goes on
+-- behind a keyword is no other.
 use Prim.Native.Nat.{ℕ, suc, _+_, _≤_, _<_}
 use mathlib.Core.Path.{_≡_, refl, sym, ap, _∙_}
 use mathlib.Core.Bool.{Bool, true, false, not, _&&_, _||_}
@@ -58,39 +58,43 @@ first-begun [] s h e = absurd (omega arith)
 first-begun (a ∷ t) [] h e = not-both false e refl
 first-begun (a ∷ t) (b ∷ s) h e = cases (eqb a b) (λ f. eqb-true a b f) (λ f. not-both false (rw f at e) refl)
 
--- keywords that are words, and no two of which begin with the same letter
-abbrev apart : ℕ → List Known → Bool
-apart a [] = true
-apart a (y ∷ ys) = not (eqb a (getD (y .spelt) 0 0)) && apart a ys
+-- keywords that are words, and of which those with the same first letter stand from the longest on
+abbrev other : List ℕ → List ℕ → Bool
+other t u = not (eqb (getD t 0 0) (getD u 0 0)) || leb (length u) (length t)
+
+abbrev apart : List ℕ → List Known → Bool
+apart t [] = true
+apart t (y ∷ ys) = other t (y .spelt) && apart t ys
 
 abbrev fit : List Known → Bool
 fit [] = true
-fit (x ∷ xs) = (leb 1 (length (x .spelt)) && every inWord (x .spelt)) && (apart (getD (x .spelt) 0 0) xs && fit xs)
+fit (x ∷ xs) = (leb 1 (length (x .spelt)) && every inWord (x .spelt)) && (apart (x .spelt) xs && fit xs)
 
 pub record Fit (x : Known) (xs : List Known) : Type 0 where
   pub some-byte : 0 < length (x .spelt)
   pub a-word : every inWord (x .spelt) ≡ true
-  pub other-letters : apart (getD (x .spelt) 0 0) xs ≡ true
+  pub no-others : apart (x .spelt) xs ≡ true
   pub others : fit xs ≡ true
 
 fits : (x : Known) (xs : List Known) → fit (x ∷ xs) ≡ true → Fit x xs
 fits x xs f =
-    let p = and-left (leb 1 (length (x .spelt)) && every inWord (x .spelt)) (apart (getD (x .spelt) 0 0) xs && fit xs) f in
-    let q = and-right (leb 1 (length (x .spelt)) && every inWord (x .spelt)) (apart (getD (x .spelt) 0 0) xs && fit xs) f in
+    let p = and-left (leb 1 (length (x .spelt)) && every inWord (x .spelt)) (apart (x .spelt) xs && fit xs) f in
+    let q = and-right (leb 1 (length (x .spelt)) && every inWord (x .spelt)) (apart (x .spelt) xs && fit xs) f in
     record {
       some-byte = leb-true 1 (length (x .spelt)) (and-left (leb 1 (length (x .spelt))) (every inWord (x .spelt)) p);
       a-word = and-right (leb 1 (length (x .spelt))) (every inWord (x .spelt)) p;
-      other-letters = and-left (apart (getD (x .spelt) 0 0) xs) (fit xs) q;
-      others = and-right (apart (getD (x .spelt) 0 0) xs) (fit xs) q;
+      no-others = and-left (apart (x .spelt) xs) (fit xs) q;
+      others = and-right (apart (x .spelt) xs) (fit xs) q;
     }
 
 module _ (s : List ℕ) where
   -- the word at the front, which begins with t: longer than t, or t
   module _ (t : List ℕ) (i : every inWord t ≡ true) (e : begun t s ≡ true) where
+    more-bytes : begins inWord (drop (length t) s) ≡ true → length t < length (run inWord s)
+    more-bytes b = omega (arith, run-begun inWord t s i e, run-some inWord (drop (length t) s) b)
+
     longer : begins inWord (drop (length t) s) ≡ true → same (run inWord s) t ≡ false
-    longer b = cases (same (run inWord s) t)
-        (λ q. absurd (omega (arith, same-length (run inWord s) t q, run-begun inWord t s i e, run-some inWord (drop (length t) s) b)))
-        (λ q. q)
+    longer b = cases (same (run inWord s) t) (λ q. absurd (omega (arith, same-length (run inWord s) t q, more-bytes b))) (λ q. q)
 
     ended : begins inWord (drop (length t) s) ≡ false → length (run inWord s) ≡ length t
     ended b =
@@ -100,15 +104,19 @@ module _ (s : List ℕ) where
   unbegun : (t : List ℕ) → begun t s ≡ false → same (run inWord s) t ≡ false
   unbegun t g = cases (same (run inWord s) t) (λ y. not-both (begun t s) (same-begun-by inWord t s y) g) (λ y. y)
 
-  none-apart : (a : ℕ) (xs : List Known) → a ≡ getD s 0 0 → apart a xs ≡ true → fit xs ≡ true → kindIn xs (run inWord s) ≡ kWord
-  none-apart a [] q p f = refl
-  none-apart a (y ∷ ys) q p f =
+  -- a word longer than t, with its first letter
+  none-apart : (t : List ℕ) (xs : List Known) → getD t 0 0 ≡ getD s 0 0 → length t < length (run inWord s) → apart t xs ≡ true → fit xs ≡ true
+      → kindIn xs (run inWord s) ≡ kWord
+  none-apart t [] q l p f = refl
+  none-apart t (y ∷ ys) q l p f =
       let o = fits y ys f in
       cases (same (run inWord s) (y .spelt))
       (λ e.
       let z : getD (y .spelt) 0 0 ≡ getD s 0 0 = first-begun (y .spelt) s (o .some-byte) (same-begun-by inWord (y .spelt) s e) in
-      not-both (eqb a (getD (y .spelt) 0 0)) (eq-eqb a (getD (y .spelt) 0 0) (q ∙ sym z)) (not-true (eqb a (getD (y .spelt) 0 0)) (and-left (not (eqb a (getD (y .spelt) 0 0))) (apart a ys) p)))
-      (λ e. rw e (none-apart a ys q (and-right (not (eqb a (getD (y .spelt) 0 0))) (apart a ys) p) (o .others)))
+      let u : not (eqb (getD t 0 0) (getD (y .spelt) 0 0)) ≡ false = ap not (eq-eqb (getD t 0 0) (getD (y .spelt) 0 0) (q ∙ sym z)) in
+      let v : leb (length (y .spelt)) (length t) ≡ true = rw u at (and-left (other t (y .spelt)) (apart t ys) p) in
+      absurd (omega (arith, leb-true (length (y .spelt)) (length t) v, same-length (run inWord s) (y .spelt) e)))
+      (λ e. rw e (none-apart t ys q l (and-right (other t (y .spelt)) (apart t ys) p) (o .others)))
 
   taken : (x : Known) (xs : List Known) → begun (x .spelt) s ≡ true → begunIn (x ∷ xs) s ≡ record { kind = x .kind; size = length (x .spelt) }
   taken x xs g = rw g
@@ -139,7 +147,7 @@ module _ (s : List ℕ) where
       (λ g.
       let z : k .size ≡ length (x .spelt) = ap (λ (y : Keyword). y .size) (e ∙ taken x xs g) in
       let more : begins inWord (drop (length (x .spelt)) s) ≡ true = ap (λ (n : ℕ). begins inWord (drop n s)) (sym z) ∙ b (λ q. omega (arith, o .some-byte)) in
-      rw (longer (x .spelt) (o .a-word) g more) (none-apart (getD (x .spelt) 0 0) xs (first-begun (x .spelt) s (o .some-byte) g) (o .other-letters) (o .others)))
+      rw (longer (x .spelt) (o .a-word) g more) (none-apart (x .spelt) xs (first-begun (x .spelt) s (o .some-byte) g) (more-bytes (x .spelt) (o .a-word) g more) (o .no-others) (o .others)))
       (λ g. rw (unbegun (x .spelt) g) (kind-other xs (o .others) k (e ∙ passed x xs g) b))
 
 module _ (s : List ℕ) (i : ℕ) (h : i < length s) where

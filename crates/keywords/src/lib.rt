@@ -10,10 +10,12 @@ ghost use Rattle.keywords.specs.Begun.{lettered, begunIn};
 use letters::bytes::begins_at;
 use letters::bytes::word_at;
 use marks_on_a_card::kinds::ENDMODULE;
+use marks_on_a_card::kinds::GLOBAL;
 use marks_on_a_card::kinds::INIT;
 use marks_on_a_card::kinds::MODULE;
 use marks_on_a_card::kinds::NONDETERMINISTIC;
 use marks_on_a_card::kinds::PROBABILISTIC;
+use marks_on_a_card::kinds::SHARED;
 use marks_on_a_card::kinds::WORD;
 
 // A keyword's kind and its size; size 0: none.
@@ -55,6 +57,19 @@ pub fn keyword_begun(card: &[u8], at: usize) -> Keyword
         return Keyword {
             kind: INIT,
             size: 4,
+        };
+    }
+    // before the word that it begins with
+    if begins_at(card, at, b"global") {
+        return Keyword {
+            kind: GLOBAL,
+            size: 6,
+        };
+    }
+    if begins_at(card, at, b"g") {
+        return Keyword {
+            kind: SHARED,
+            size: 1,
         };
     }
     Keyword {

@@ -2,3 +2,4 @@ pub mod StateLaws
 pub mod Keeping
 pub mod Symmetric
 pub mod Settling
+pub mod ValueLaws

@@ -16,9 +16,9 @@ use Rattle.card.specs.Weight.{unitsOf, allowed, weightRefusal}
 use Rattle.marks_on_a_card.specs.Marks.{placeOf}
 use Rattle.reading.specs.Reader.{Place}
 use Rattle.reading.specs.Guard.{isSome}
-use Rattle.reading.specs.Group.{Literal, Literals}
-use Rattle.reading.specs.Judgements.{Judgement, state, word, oneGroup, weight, sum, placeIn, symmetric, unless, broken, Verdict, fine, wrong, orElse, firstBroken, totalUnits, firstState, judgedGuard, groupIn, guardIn}
-use Rattle.late.specs.Late.{Late, wantOf, noneYet, blame, splitAt, wants, grouped, blamed, judge, judgeAll, groupBy, guardBy}
+use Rattle.reading.specs.Group.{Literal, Tested, ofSeats, ofShared}
+use Rattle.reading.specs.Judgements.{Judgement, state, word, oneGroup, weight, sum, placeIn, symmetric, unless, broken, Verdict, fine, wrong, orElse, firstBroken, totalUnits, firstState, judgedTest, judgedGuard, groupIn, leafIn, guardIn}
+use Rattle.late.specs.Late.{Late, wantOf, noneYet, blame, splitAt, wants, grouped, blamed, judge, judgeAll, groupBy, leafBy, guardBy}
 use Rattle.late.specs.Settled.{Refusal, refusal, settled, verdict}
 use Rattle.late.proofs.Symmetric.{symmetric-want, symmetric-kind}
 
@@ -255,13 +255,17 @@ module _ (n : ℕ) where
   same-group s [] h = refl
   same-group s (l ∷ ls) h = ap (λ kind. group kind s (l .relation) (l .d)) (symmetric-kind n l ls h)
 
-  pub same-guard : (k : ℕ) (g : Formula Literals) → firstBroken n (judgedGuard k g) ≡ fine → guardBy g ≡ guardIn n g
-  same-guard k (atom g) h =
-      ap atom (same-group (g .sign) (g .literals) (not-broken (symmetric n (g .literals)) notDue (fine-cons (oneGroup g) (firstState k (g .literals)) h .0)))
-  same-guard k (neg g) h = ap neg (same-guard k g h)
-  same-guard k (and g i) h =
-      let both = fine-append (judgedGuard k g) (judgedGuard k i) h in
-      rw (same-guard k g (both .0), same-guard k i (both .1))
-  same-guard k (or g i) h =
-      let both = fine-append (judgedGuard k g) (judgedGuard k i) h in
-      rw (same-guard k g (both .0), same-guard k i (both .1))
+  same-leaf : (k m : ℕ) (x : Tested) → firstBroken n (judgedTest k m x) ≡ fine → leafBy x ≡ leafIn n x
+  same-leaf k m (ofSeats g) h =
+      same-group (g .sign) (g .literals) (not-broken (symmetric n (g .literals)) notDue (fine-cons (oneGroup g) (firstState k (g .literals)) h .0))
+  same-leaf k m (ofShared x) h = refl
+
+  pub same-guard : (k m : ℕ) (g : Formula Tested) → firstBroken n (judgedGuard k m g) ≡ fine → guardBy g ≡ guardIn n g
+  same-guard k m (atom x) h = ap atom (same-leaf k m x h)
+  same-guard k m (neg g) h = ap neg (same-guard k m g h)
+  same-guard k m (and g i) h =
+      let both = fine-append (judgedGuard k m g) (judgedGuard k m i) h in
+      rw (same-guard k m g (both .0), same-guard k m i (both .1))
+  same-guard k m (or g i) h =
+      let both = fine-append (judgedGuard k m g) (judgedGuard k m i) h in
+      rw (same-guard k m g (both .0), same-guard k m i (both .1))

@@ -10,10 +10,10 @@ use lib.ListN.{length}
 use Rattle.card.specs.Limits.{mostSeats}
 use Rattle.card.specs.Refusals.{notDue}
 use Rattle.card.specs.Text.{if_then_else_}
-use Rattle.card.specs.Card.{Kind, everyone, others, Sign, Leaf, group, is, Formula, Guard}
+use Rattle.card.specs.Card.{Kind, everyone, others, Sign, Leaf, group, sharedIs, is, Formula, Guard}
 use Rattle.card.specs.Formulas.{over}
 use Rattle.marks_on_a_card.specs.Marks.{placeOf}
-use Rattle.reading.specs.Group.{Literal, Literals}
+use Rattle.reading.specs.Group.{Literal, Tested, ofSeats, ofShared}
 use Rattle.reading.specs.Judgements.{Judgement, state, word, oneGroup, weight, sum, has, hasFrom, alike, broken}
 
 -- ---- how many seats a group wants: its seats are 1 to m, or 2 to m, once each; 0 where it is symmetric for no card
@@ -38,8 +38,12 @@ abbrev pub groupBy : Sign → List Literal → Leaf
 groupBy s [] = group everyone s is 0
 groupBy s (l ∷ ls) = group (kindBy (l ∷ ls)) s (l .relation) (l .d)
 
-abbrev pub guardBy : Formula Literals → Guard
-guardBy g = over (λ (x : Literals). groupBy (x .sign) (x .literals)) g
+abbrev pub leafBy : Tested → Leaf
+leafBy (ofSeats x) = groupBy (x .sign) (x .literals)
+leafBy (ofShared x) = sharedIs (x .relation) (x .value .value)
+
+abbrev pub guardBy : Formula Tested → Guard
+guardBy g = over leafBy g
 
 -- ---- what is kept
 

@@ -1,3 +1,4 @@
 pub mod Late
 pub mod Settled
 pub mod State
+pub mod Values

@@ -55,8 +55,15 @@ atTop = 12
 abbrev pub atStart : ℕ
 atStart = 13
 
+-- how many values the shared number has (specs/Values.antt), and what it starts at
+abbrev pub atShared : ℕ
+atShared = 14
+
+abbrev pub atInitial : ℕ
+atInitial = 15
+
 abbrev pub statePlaces : ℕ
-statePlaces = 14
+statePlaces = 16
 
 -- the array has all of them
 abbrev pub Sized : List ℕ → Type 0

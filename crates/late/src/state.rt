@@ -35,4 +35,9 @@ pub const TOP: usize = 12;
 
 pub const START: usize = 13;
 
-pub const STATE: usize = 14;
+// How many values the shared number has (0: none is declared), and what it starts at.
+pub const SHARED: usize = 14;
+
+pub const INITIAL: usize = 15;
+
+pub const STATE: usize = 16;

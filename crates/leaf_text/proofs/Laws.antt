@@ -1,5 +1,5 @@
 -- A leaf's texts in the form in which the code puts them: literals one after the other, the first byte for byte behind its bracket, and the
--- parts of a node that are read one by one. Assumes nothing.
+-- parts of a node that are read one by one. A test of the shared number is the same in both texts. Assumes nothing.
 use Prim.Native.Nat.{ℕ, zero, suc, _+_, _-_, _≤_, _<_}
 use mathlib.Core.Path.{_≡_, refl, sym, ap, _∙_}
 use mathlib.Core.List.{List, _∷_, _++_}
@@ -8,8 +8,8 @@ use native.Mathlib.Omega.{arith}
 use borrow.Author.Tests.{eq-eqb, ne-eqb}
 use Rattle.card.specs.Card.{everyone, others, Sign, all, any, Relation, is, isnt}
 use Rattle.card.specs.Valid.{firstSeat}
-use Rattle.card.specs.Laid.{either, kindPart, signPart, relationPart, statePart, oneKind, groupOf, leafOf}
-use Rattle.card.proofs.Packed.{leaf-group, leaf-one}
+use Rattle.card.specs.Laid.{either, kindPart, signPart, relationPart, statePart, oneKind, sharedKind, groupOf, leafOf}
+use Rattle.card.proofs.Packed.{leaf-group, leaf-one, leaf-shared}
 use Rattle.meaning.specs.Reduced.{Bound, equalTo, moreThan, lessThan, counterOf}
 use Rattle.table.specs.declared.Bound.{Bound as BoundRow}
 use Rattle.table.specs.Bounds.{boundRow, boundOf}
@@ -17,6 +17,7 @@ use Rattle.table.proofs.Laws.{of-state}
 use Rattle.room.specs.Digits.{digit}
 use Rattle.room.proofs.Decimal.{decimal-one}
 use Rattle.phrases.specs.Phrases.{Text, _▸_, num, counted}
+use Rattle.texts.specs.Shared.{sharedText}
 use Rattle.texts.specs.Writing.{signText, literal, literals, groupText}
 use Rattle.texts.specs.ReducedText.{boundText, counterText}
 
@@ -56,8 +57,8 @@ module _ (x n : ℕ) {s q d k first : ℕ} (es : s ≡ signPart x) (eq : q ≡ r
   unfolding groupOf
   group-text r = rw (leaf-group x (rw ek at h), ← es, ← eq, ← ed, ← ek, first-seat k h, ef)
 
-pub one-text : (x n : ℕ) {k : ℕ} → k ≡ kindPart x → oneKind ≤ k → (r : List ℕ) → r ≡ groupText n (leafOf x) r
-one-text x n ek h r = rw (leaf-one x (rw ek at h))
+pub one-text : (x n : ℕ) {k : ℕ} → k ≡ kindPart x → k ≡ oneKind → (r : List ℕ) → r ≡ groupText n (leafOf x) r
+one-text x n ek e r = rw (leaf-one x (rw ek at e))
 
 -- ---- a leaf as its counter test
 
@@ -66,10 +67,19 @@ bound-text (equalTo m) r = refl
 bound-text (moreThan m) r = refl
 bound-text (lessThan m) r = refl
 
-pub counter-text : (n j x : ℕ) {d : ℕ} {b : BoundRow} → d ≡ statePart x → d < 10 → b ≡ boundRow (boundOf (counterOf n j (leafOf x))) → (r : List ℕ)
+pub counter-text : (n j x : ℕ) {k d : ℕ} {b : BoundRow} → k ≡ kindPart x → k < sharedKind → d ≡ statePart x → d < 10 → b ≡ boundRow (boundOf (counterOf n j (leafOf x))) → (r : List ℕ)
     → 40 ∷ 110 ∷ 111 ∷ 95 ∷ digit d ∷ b .sign ∷ num (b .number) (")" ▸ r) ≡ counterText (counterOf n j (leafOf x)) r
-counter-text n j x {d} {b} ed hd eb r =
+counter-text n j x {d = d} {b} ek h ed hd eb r =
     ap (λ (l : List ℕ). "(no_" ▸ (l ++ (b .sign ∷ num (b .number) (")" ▸ r)))) (sym (decimal-one d hd))
     ∙ ap (λ (y : BoundRow). "(no_" ▸ num d (y .sign ∷ num (y .number) (")" ▸ r))) eb
-    ∙ rw (ed, of-state n j x)
+    ∙ rw (ed, of-state n j x (rw ek at h))
     (ap (λ (l : List ℕ). "(no_" ▸ num (statePart x) l) (bound-text (boundOf (counterOf n j (leafOf x))) (")" ▸ r)))
+
+-- ---- a test of the shared number, in either text
+
+module _ (x n : ℕ) {q v k : ℕ} (eq : q ≡ relationPart x) (ev : v ≡ statePart x) (ek : k ≡ kindPart x) (h : sharedKind ≤ k) where
+  pub shared-written : (r : List ℕ) → sharedText (either is isnt q) v r ≡ groupText n (leafOf x) r
+  shared-written r = rw (leaf-shared x (rw ek at h), eq, ev)
+
+  pub shared-reduced : (j : ℕ) (r : List ℕ) → sharedText (either is isnt q) v r ≡ counterText (counterOf n j (leafOf x)) r
+  shared-reduced j r = rw (leaf-shared x (rw ek at h), eq, ev)

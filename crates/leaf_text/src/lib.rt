@@ -3,6 +3,7 @@ use literal_text::put_further;
 use literal_text::put_literal;
 use packing::IS;
 use packing::ONE;
+use packing::SHARED;
 use packing::kind_of;
 use packing::relation_of;
 use packing::sign_of;
@@ -12,6 +13,7 @@ use pieces::put_six;
 use put_numbers::put_number;
 use room::place;
 use room::put_byte;
+use shared_text::put_shared;
 use table::bound_of;
 ghost use Prim.Native.Nat.{_-_};
 ghost use Rattle.card.specs.Card.{all, any, is, isnt};
@@ -75,28 +77,36 @@ fn put_opened(room: &mut [u8], at: usize, relation: usize, state: usize, seat: u
     put_literal(room, a, relation, state, seat)
 }
 
-// A group as its literals; of exactly one seat nothing, for no card has it.
+// A group as its literals, and a test of the shared number as it stands; of exactly one seat nothing, for no card has it.
 fn put_group(room: &mut [u8], at: usize, node: u32, seats: usize) -> usize
     ensures { λ r. ⌜ Puts (now (room .entry)) (now (room .exit)) at (groupText seats (leafOf node)) r ⌝ }
 {
     let kind = kind_of(node);
-    if ONE <= kind {
-        return place(at);
-    }
-    let sign = sign_of(node);
     let relation = relation_of(node);
     let state = state_of(node);
+    if ONE <= kind {
+        if kind == ONE {
+            return place(at);
+        }
+        return put_shared(room, at, relation, state);
+    }
+    let sign = sign_of(node);
     let first = kind + 1;
     let a = put_opened(room, at, relation, state, first);
     let b = put_literals(room, a, sign, relation, state, first, seats);
     put_byte(room, b, b')')
 }
 
-// A leaf as its counter test.
+// A leaf as its counter test, and a test of the shared number as it stands.
 fn put_counter(room: &mut [u8], at: usize, node: u32, own: usize, seats: usize) -> usize
     ensures { λ r. ⌜ Puts (now (room .entry)) (now (room .exit)) at (counterText (counterOf seats own (leafOf node))) r ⌝ }
 {
+    let kind = kind_of(node);
     let d = state_of(node);
+    if SHARED <= kind {
+        let relation = relation_of(node);
+        return put_shared(room, at, relation, d);
+    }
     let bound = bound_of(node, own, seats);
     let name = b'0' + d as u8;
     let a = put_six(room, at, b'(', b'n', b'o', b'_', name, bound.sign);

@@ -1,15 +1,17 @@
--- What it is for a list of vectors to be complete, without repetition, and in order (document 02, 2026-08). Assumes nothing.
+-- What it is for a list of positions to be complete, without repetition, and in order (document 02, 2026-08 and 2026-10). Assumes nothing.
 use Prim.Native.Nat.{ℕ, _<_}
 use mathlib.Core.Path.{_≡_}
-use mathlib.Core.List.{List, []}
+use mathlib.Core.List.{[]}
 use lib.ListN.{length, getD}
-use Rattle.vectors.specs.Vectors.{vectors, IsVector, Before, rank}
+use Rattle.meaning.specs.Position.{Position, position}
+use Rattle.vectors.specs.Positions.{IsPosition, positions, Earlier, placeOf}
 
-abbrev pub vectorAt : ℕ → ℕ → ℕ → List ℕ
-vectorAt p n i = getD (vectors p n) i []
+-- what stands at a place of the list
+abbrev pub listedAt : ℕ → ℕ → ℕ → ℕ → Position
+listedAt p n values i = getD (positions p n values) i (position [] 0)
 
-pub record Listed (p n : ℕ) : Type 0 where
-  pub complete : (v : List ℕ) → IsVector p n v → (rank v < length (vectors p n)) × (vectorAt p n (rank v) ≡ v)
-  pub only : (i : ℕ) → i < length (vectors p n) → IsVector p n (vectorAt p n i)
-  pub once : (i : ℕ) → i < length (vectors p n) → rank (vectorAt p n i) ≡ i
-  pub rising : (i j : ℕ) → i < j → j < length (vectors p n) → Before (vectorAt p n i) (vectorAt p n j)
+pub record Listed (p n values : ℕ) : Type 0 where
+  pub complete : (x : Position) → IsPosition p n values x → (placeOf values x < length (positions p n values)) × (listedAt p n values (placeOf values x) ≡ x)
+  pub only : (i : ℕ) → i < length (positions p n values) → IsPosition p n values (listedAt p n values i)
+  pub once : (i : ℕ) → i < length (positions p n values) → placeOf values (listedAt p n values i) ≡ i
+  pub rising : (i j : ℕ) → i < j → j < length (positions p n values) → Earlier (listedAt p n values i) (listedAt p n values j)

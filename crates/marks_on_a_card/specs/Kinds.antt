@@ -27,7 +27,7 @@ kProcess = 5
 abbrev pub kWord : ℕ
 kWord = 6
 
--- the signs and keywords
+-- the signs and keywords; among these the two words of the shared number (document 02, 2026-10)
 pub record Known : Type 0 where
   pub spelt : List ℕ
   pub kind : ℕ
@@ -41,6 +41,7 @@ knowns =
     ∷ known "(" 40 ∷ known ")" 41 ∷ known "+" 43 ∷ known "'" 39 ∷ known "," 44 ∷ known "/" 47
     ∷ known ".." 46 ∷ known "->" 45 ∷ known "!=" 7
     ∷ known "nondeterministic" 8 ∷ known "probabilistic" 9 ∷ known "module" 10 ∷ known "endmodule" 11 ∷ known "init" 12
+    ∷ known "global" 13 ∷ known "g" 14
     ∷ []
 
 abbrev pub kindIn : List Known → List ℕ → ℕ

@@ -26,6 +26,11 @@ pub const ENDMODULE: usize = 11;
 
 pub const INIT: usize = 12;
 
+// the two words of the number that all seats share (document 02, 2026-10)
+pub const GLOBAL: usize = 13;
+
+pub const SHARED: usize = 14;
+
 pub const SQUARE_OPEN: usize = b'[' as usize;
 
 pub const SQUARE_CLOSE: usize = b']' as usize;

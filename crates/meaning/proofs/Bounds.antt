@@ -1,6 +1,7 @@
 -- Bounds that let machine numbers hold what the panel shows: no more seats than n may take a statement, and one seat's weights are parts of
 -- the unit. For any list of valid statements, so also for those of a card seen so far. Assumes nothing.
 use Prim.Native.Nat.{ℕ, zero, suc, _*_, _≤_}
+use mathlib.Core.Bool.{_&&_}
 use mathlib.Core.List.{List, [], _∷_}
 use native.Mathlib.Nat.{le-trans, mul-suc, mul-le-mul-left, mul-le-mul}
 use native.Mathlib.Omega.{arith}
@@ -9,11 +10,12 @@ use lib.ListN.{length, take}
 use Rattle.card.specs.Limits.{unit, mostSeats, mostStatements}
 use Rattle.card.specs.Valid.{Every, total, ValidStatement, ValidCard}
 use Rattle.card.specs.Card.{Mode, nondeterministic, probabilistic, Branch, Statement, Card}
-use Rattle.meaning.specs.Sums.{gate, sum}
-use Rattle.meaning.specs.Seats.{Seating, ValidSeating, counts}
+use Rattle.meaning.specs.Sums.{gate, orOne, sum}
+use Rattle.meaning.specs.Seats.{Seating, ValidSeating, counts, counted}
+use Rattle.meaning.specs.Position.{Position, setTo}
 use Rattle.meaning.specs.Reduced.{noOf}
 use Rattle.meaning.specs.Panel.{panel}
-use Rattle.meaning.specs.ByCounts.{heldOr, able, unitsTo, stayOf, moveOf, allAble, allStay, allMove, countTaken, orOne, countEnabled, countPanel}
+use Rattle.meaning.specs.ByCounts.{heldOr, able, unitsTo, unitsInto, stayOf, moveOf, allAble, allStay, allMove, countTaken, countEnabled, countPanel}
 use Rattle.meaning.proofs.Sums.{gate-le, sum-mono, sum-times}
 use Rattle.meaning.proofs.Counting.{count-le, no-count}
 use Rattle.meaning.proofs.Panel.{panel-by-counts}
@@ -24,13 +26,18 @@ use Rattle.meaning.proofs.Panel.{panel-by-counts}
 abbrev pub Few : ℕ → List ℕ → Type 0
 Few n v = (d : ℕ) → noOf v d ≤ n
 
-pub counts-few : (k : ℕ) (x : Seating) → Every (λ a. a ≤ k) x → Few (length x) (counts k x)
+pub counts-few : (k : ℕ) (x : List ℕ) → Every (λ a. a ≤ k) x → Few (length x) (counts k x)
 counts-few k x w d = rw (no-count k x w d) (count-le d x)
 
 pub units-le : (t : ℕ) (l : List Branch) → unitsTo t l ≤ total l
 unfolding unitsTo
 units-le t [] = omega arith
 units-le t (b ∷ l) = omega (arith, gate-le (eqb (b .end) t) (b .units), units-le t l)
+
+pub into-le : (g t h : ℕ) (l : List Branch) → unitsInto g t h l ≤ total l
+unfolding unitsInto
+into-le g t h [] = omega arith
+into-le g t h (b ∷ l) = omega (arith, gate-le (eqb (b .end) t && eqb (setTo g (b .sets)) h) (b .units), into-le g t h l)
 
 pub total-take : (i : ℕ) (l : List Branch) → total (take i l) ≤ total l
 total-take zero l = omega arith
@@ -42,19 +49,19 @@ every-take P zero l e = tt
 every-take P (suc i) [] e = tt
 every-take P (suc i) (a ∷ l) e = (e .0, every-take P i l (e .1))
 
-module _ (n k : ℕ) (s : Statement) (ok : ValidStatement n k s) where
-  pub stay-le : stayOf s ≤ unit
+module _ (n k values g : ℕ) (s : Statement) (ok : ValidStatement n k values s) where
+  pub stay-le : (h : ℕ) → stayOf g s h ≤ unit
   unfolding stayOf
-  stay-le = omega (arith, units-le (s .own) (s .branches), ok .sum)
+  stay-le h = omega (arith, into-le g (s .own) h (s .branches), ok .sum)
 
-  pub move-le : (a b : ℕ) → moveOf s a b ≤ unit
+  pub move-le : (a b h : ℕ) → moveOf g s a b h ≤ unit
   unfolding moveOf
-  move-le a b = omega (arith, gate-le (eqb (s .own) a) (unitsTo b (s .branches)), units-le b (s .branches), ok .sum)
+  move-le a b h = omega (arith, gate-le (eqb (s .own) a) (unitsInto g b h (s .branches)), into-le g b h (s .branches), ok .sum)
 
-module _ (n : ℕ) (v : List ℕ) (few : Few n v) where
+module _ (n : ℕ) (v : Position) (few : Few n (v .each)) where
   pub able-le : (s : Statement) → able n v s ≤ n
   unfolding able
-  able-le s = omega (arith, gate-le (heldOr n (s .own) v (s .guard)) (noOf v (s .own)), few (s .own))
+  able-le s = omega (arith, gate-le (heldOr n (s .own) v (s .guard)) (noOf (v .each) (s .own)), few (s .own))
 
   pub all-able-le : (l : List Statement) → allAble n v l ≤ n * length l
   unfolding allAble
@@ -62,18 +69,18 @@ module _ (n : ℕ) (v : List ℕ) (few : Few n v) where
   all-able-le (s ∷ l) = rw (mul-suc n (length l)) (omega (arith, able-le s, all-able-le l))
 
   -- what each seat weighs is at most the unit
-  weights-le : (k : ℕ) (f : Statement → ℕ) → ((s : Statement) → ValidStatement n k s → f s ≤ unit) → (l : List Statement) → Every (ValidStatement n k) l
+  weights-le : (k values : ℕ) (f : Statement → ℕ) → ((s : Statement) → ValidStatement n k values s → f s ≤ unit) → (l : List Statement) → Every (ValidStatement n k values) l
       → sum (λ s. able n v s * f s) l ≤ allAble n v l * unit
   unfolding allAble
-  weights-le k f h l ok = rw (← sum-times (able n v) unit l) (sum-mono _ _ l ok (λ s v₁. mul-le-mul-left (able n v s) (h s v₁)))
+  weights-le k values f h l ok = rw (← sum-times (able n v) unit l) (sum-mono _ _ l ok (λ s v₁. mul-le-mul-left (able n v s) (h s v₁)))
 
-  pub all-stay-le : (k : ℕ) (l : List Statement) → Every (ValidStatement n k) l → allStay n v l ≤ allAble n v l * unit
+  pub all-stay-le : (k values : ℕ) (l : List Statement) → Every (ValidStatement n k values) l → (h : ℕ) → allStay n v l h ≤ allAble n v l * unit
   unfolding allStay
-  all-stay-le k l ok = weights-le k stayOf (stay-le n k) l ok
+  all-stay-le k values l ok h = weights-le k values (λ s. stayOf (v .shared) s h) (λ s v₁. stay-le n k values (v .shared) s v₁ h) l ok
 
-  pub all-move-le : (k : ℕ) (l : List Statement) → Every (ValidStatement n k) l → (a b : ℕ) → allMove n v l a b ≤ allAble n v l * unit
+  pub all-move-le : (k values : ℕ) (l : List Statement) → Every (ValidStatement n k values) l → (a b h : ℕ) → allMove n v l a b h ≤ allAble n v l * unit
   unfolding allMove
-  all-move-le k l ok a b = weights-le k (λ s. moveOf s a b) (λ s v₁. move-le n k s v₁ a b) l ok
+  all-move-le k values l ok a b h = weights-le k values (λ s. moveOf (v .shared) s a b h) (λ s v₁. move-le n k values (v .shared) s v₁ a b h) l ok
 
   -- statements that can be taken are statements
   some-able-le : 1 ≤ n → (l : List Statement) → sum (λ s. gate (ltb 0 (able n v s)) 1) l ≤ n * length l
@@ -100,7 +107,7 @@ module _ (c : Card) (valid : ValidCard c) (x : Seating) (ok : ValidSeating c x) 
   pub panel-enabled-le : panel c x .enabled ≤ c .n * length (c .statements)
   unfolding countPanel
   panel-enabled-le = rw (panel-by-counts c x ok)
-      (enabled-le (c .n) (counts (c .k) x) (λ d. rw (← ok .seats) (counts-few (c .k) x (ok .states) d)) (valid .seats) (c .mode) (c .statements) (valid .some .0))
+      (enabled-le (c .n) (counted (c .k) x) (λ d. rw (← ok .seats) (counts-few (c .k) (x .each) (ok .states) d)) (valid .seats) (c .mode) (c .statements) (valid .some .0))
 
   pub panel-enabled-most : panel c x .enabled ≤ mostSeats * mostStatements
   panel-enabled-most = le-trans panel-enabled-le (mul-le-mul (valid .seats-most) (valid .some .1))

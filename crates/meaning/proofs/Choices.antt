@@ -10,11 +10,10 @@ use lib.ListN.{length}
 use Rattle.card.specs.Limits.{unit}
 use Rattle.card.specs.Card.{Mode, nondeterministic, probabilistic}
 use Rattle.card.specs.Valid.{Every}
-use Rattle.meaning.specs.Sums.{sum, flat}
+use Rattle.meaning.specs.Sums.{orOne, sum, flat}
 use Rattle.meaning.specs.Steps.{Step, Turn}
 use Rattle.meaning.specs.Choices.{Choice, choice, choicesOf, stay, stuckChoices, orStay, turnsIn, stepsIn}
 use Rattle.meaning.specs.Offers.{Offers}
-use Rattle.meaning.specs.ByCounts.{orOne}
 use Rattle.meaning.proofs.Sums.{sum-append, every-append, every-imp}
 
 -- ---- what a choice has

@@ -15,46 +15,46 @@ use lib.Seq.{ext-getD, getD-set-same, getD-set-other}
 use Rattle.card.specs.Text.{if_then_else_}
 use Rattle.card.specs.Valid.{Every}
 use Rattle.meaning.specs.Sums.{gate}
-use Rattle.meaning.specs.Seats.{Seating, state, without, count, counts}
+use Rattle.meaning.specs.Seats.{state, without, count, counts}
 use Rattle.meaning.specs.Reduced.{noOf, keep, shift, updateOf, raised, updated}
 use Rattle.meaning.proofs.Sums.{gate-le, length-upto, getD-upto, sumBelow}
 
-abbrev pub Within : ℕ → Seating → Type 0
+abbrev pub Within : ℕ → List ℕ → Type 0
 Within k x = Every (λ a. a ≤ k) x
 
 -- ---- seats
 
-pub length-without : (x : Seating) (i : ℕ) → i < length x → length x ≡ suc (length (without x i))
+pub length-without : (x : List ℕ) (i : ℕ) → i < length x → length x ≡ suc (length (without x i))
 length-without [] i h = absurd (not-suc-le-zero h)
 length-without (a ∷ x) zero h = refl
 length-without (a ∷ x) (suc i) h = ap suc (length-without x i (le-of-suc-le-suc h))
 
-pub state-within : (k : ℕ) (x : Seating) → Within k x → (i : ℕ) → i < length x → state x i ≤ k
+pub state-within : (k : ℕ) (x : List ℕ) → Within k x → (i : ℕ) → i < length x → state x i ≤ k
 state-within k [] w i l = absurd (not-suc-le-zero l)
 state-within k (a ∷ x) w zero l = w .0
 state-within k (a ∷ x) w (suc i) l = state-within k x (w .1) i (le-of-suc-le-suc l)
 
 module _ (d : ℕ) where
-  pub count-le : (x : Seating) → count d x ≤ length x
+  pub count-le : (x : List ℕ) → count d x ≤ length x
   count-le [] = omega arith
   count-le (a ∷ x) = omega (arith, gate-le (eqb a d) 1, count-le x)
 
-  pub count-without : (x : Seating) (i : ℕ) → i < length x → count d x ≡ gate (eqb (state x i) d) 1 + count d (without x i)
+  pub count-without : (x : List ℕ) (i : ℕ) → i < length x → count d x ≡ gate (eqb (state x i) d) 1 + count d (without x i)
   count-without [] i h = absurd (not-suc-le-zero h)
   count-without (a ∷ x) zero h = refl
   count-without (a ∷ x) (suc i) h = omega (arith, count-without x i (le-of-suc-le-suc h))
 
-  pub count-set : (x : Seating) (i t : ℕ) → i < length x → count d (set x i t) ≡ gate (eqb t d) 1 + count d (without x i)
+  pub count-set : (x : List ℕ) (i t : ℕ) → i < length x → count d (set x i t) ≡ gate (eqb t d) 1 + count d (without x i)
   count-set [] i t h = absurd (not-suc-le-zero h)
   count-set (a ∷ x) zero t h = refl
   count-set (a ∷ x) (suc i) t h = omega (arith, count-set x i t (le-of-suc-le-suc h))
 
-  pub count-outside : (k : ℕ) (x : Seating) → Within k x → k < d → count d x ≡ 0
+  pub count-outside : (k : ℕ) (x : List ℕ) → Within k x → k < d → count d x ≡ 0
   count-outside k [] w h = refl
   count-outside k (a ∷ x) w h = rw (ne-eqb a d (omega arith)) (omega (arith, count-outside k x (w .1) h))
 
   -- every seat in state d brings w
-  pub over-seats : (w : ℕ) (x : Seating) → sumBelow (length x) (λ i. gate (eqb (state x i) d) w) ≡ count d x * w
+  pub over-seats : (w : ℕ) (x : List ℕ) → sumBelow (length x) (λ i. gate (eqb (state x i) d) w) ≡ count d x * w
   over-seats w [] = omega arith
   over-seats w (a ∷ x) = omega (arith, gate-one (eqb a d), over-seats w x)
     where
@@ -76,10 +76,10 @@ module _ (d : ℕ) where
       go false = refl
 
 -- some seat is in state j exactly where its count is not 0
-pub present : (j : ℕ) (x : Seating) (i : ℕ) → i < length x → state x i ≡ j → 0 < count j x
+pub present : (j : ℕ) (x : List ℕ) (i : ℕ) → i < length x → state x i ≡ j → 0 < count j x
 present j x i l e = rw (count-without j x i l, eq-eqb (state x i) j e) (omega arith)
 
-pub find : (j : ℕ) (x : Seating) → 0 < count j x → (i : ℕ) × (i < length x) × (state x i ≡ j)
+pub find : (j : ℕ) (x : List ℕ) → 0 < count j x → (i : ℕ) × (i < length x) × (state x i ≡ j)
 find j [] h = absurd (not-suc-le-zero h)
 find j (a ∷ x) h = go (eqb a j) refl (find j x)
   where
@@ -89,12 +89,12 @@ find j (a ∷ x) h = go (eqb a j) refl (find j x)
 
 -- ---- the counts
 
-pub length-counts : (k : ℕ) (x : Seating) → length (counts k x) ≡ suc k
+pub length-counts : (k : ℕ) (x : List ℕ) → length (counts k x) ≡ suc k
 unfolding counts
 length-counts k x = length-upto (suc k) (λ d. count d x)
 
 -- no_d is the count of d, also of a d above k
-pub no-count : (k : ℕ) (x : Seating) → Within k x → (d : ℕ) → noOf (counts k x) d ≡ count d x
+pub no-count : (k : ℕ) (x : List ℕ) → Within k x → (d : ℕ) → noOf (counts k x) d ≡ count d x
 unfolding counts
 no-count k x w d = go (decLe d k)
   where
@@ -105,14 +105,14 @@ no-count k x w d = go (decLe d k)
         List·getD-eq-default (counts k x) 0 short ∙ sym (count-outside d k x w (omega arith))
 
 -- a list is the counts of x if it has their length and each no_d
-pub are-counts : (k : ℕ) (x : Seating) (v : List ℕ) → length v ≡ suc k → ((d : ℕ) → d < suc k → noOf v d ≡ count d x) → counts k x ≡ v
+pub are-counts : (k : ℕ) (x : List ℕ) (v : List ℕ) → length v ≡ suc k → ((d : ℕ) → d < suc k → noOf v d ≡ count d x) → counts k x ≡ v
 unfolding counts
 are-counts k x v e h = sym (ext-getD 0 _ _ (e ∙ sym (length-counts k x))
     λ d l. let l′ : d < suc k = omega arith in h d l′ ∙ sym (getD-upto (suc k) (λ d. count d x) d 0 l′))
 
 -- ---- one seat, in state j, goes to t
 
-module _ (k : ℕ) (x : Seating) (w : Within k x) (i : ℕ) (l : i < length x) (j t : ℕ) (own : state x i ≡ j) where
+module _ (k : ℕ) (x : List ℕ) (w : Within k x) (i : ℕ) (l : i < length x) (j t : ℕ) (own : state x i ≡ j) where
   was : (d : ℕ) → count d x ≡ gate (eqb j d) 1 + count d (without x i)
   was d = rw (← own) (count-without d x i l)
 

@@ -4,8 +4,9 @@ use mathlib.Core.Path.{_≡_, refl}
 use mathlib.Core.List.{List, [], _∷_}
 use Rattle.card.specs.Limits.{unit}
 use Rattle.card.specs.Card.{Mode, nondeterministic, probabilistic}
+use Rattle.meaning.specs.Position.{position}
 use Rattle.meaning.specs.Steps.{weight}
-use Rattle.meaning.specs.Seats.{Seating, counts, steps}
+use Rattle.meaning.specs.Seats.{counts, steps}
 use Rattle.meaning.specs.Reduced.{reduce, reducedSteps}
 use Rattle.meaning.specs.Demand.{byCounts, into}
 use Rattle.meaning.specs.Panel.{panel}
@@ -13,12 +14,14 @@ use Rattle.meaning.specs.ByCounts.{countPanel}
 use Rattle.meaning.specs.CardA.{cardA}
 
 -- the weight from a seating into counts u
-abbrev Into : Seating → List ℕ → ℕ → Type 0
-Into x u w = (into u (byCounts 2 (steps (cardA probabilistic) x)) ≡ w) × (into u (reducedSteps (reduce (cardA probabilistic)) (counts 2 x)) ≡ w)
+abbrev Into : List ℕ → List ℕ → ℕ → Type 0
+Into x u w =
+    (into (position u 0) (byCounts 2 (steps (cardA probabilistic) (position x 0))) ≡ w)
+    × (into (position u 0) (reducedSteps (reduce (cardA probabilistic)) (position (counts 2 x) 0)) ≡ w)
 
 -- what a panel calls enabled
-abbrev Enabled : Mode → Seating → ℕ → Type 0
-Enabled mode x m = (panel (cardA mode) x .enabled ≡ m) × (countPanel (cardA mode) (counts 2 x) .enabled ≡ m)
+abbrev Enabled : Mode → List ℕ → ℕ → Type 0
+Enabled mode x m = (panel (cardA mode) (position x 0) .enabled ≡ m) × (countPanel (cardA mode) (position (counts 2 x) 0) .enabled ≡ m)
 
 pub record CardA : Type 0 where
   -- each of two seats goes from 0 to 1 with weight 1/2

@@ -1,40 +1,49 @@
 -- Reordering the seats changes nothing that the panel shows: it keeps the number of seats, their states and every count. Assumes nothing.
-use Prim.Native.Nat.{ℕ, suc}
+use Prim.Native.Nat.{ℕ, suc, _<_}
 use mathlib.Core.Path.{_≡_, refl, sym, ap, _∙_}
+use mathlib.Core.List.{List}
 use native.Mathlib.Omega.{arith}
 use lib.ListN.{length}
 use Rattle.card.specs.Card.{Card}
-use Rattle.meaning.specs.Seats.{Seating, ValidSeating, count, counts}
+use Rattle.meaning.specs.Seats.{Seating, ValidSeating, count, counts, counted}
+use Rattle.meaning.specs.Position.{position, sharedValues}
 use Rattle.meaning.specs.Panel.{panel}
-use Rattle.meaning.specs.Reordered.{Reordered, done, keep, swap, then}
+use Rattle.meaning.specs.Reordered.{Swapped, done, keep, swap, then, Reordered}
 use Rattle.meaning.proofs.Sums.{upto-cong}
 use Rattle.meaning.proofs.Counting.{Within}
 use Rattle.meaning.proofs.Panel.{equal-counts}
 
-pub reordered-length : {x y : Seating} → Reordered x y → length x ≡ length y
-reordered-length done = refl
-reordered-length (keep a r) = ap suc (reordered-length r)
-reordered-length (swap a b x) = refl
-reordered-length (then r s) = reordered-length r ∙ reordered-length s
+swapped-length : {x y : List ℕ} → Swapped x y → length x ≡ length y
+swapped-length done = refl
+swapped-length (keep a r) = ap suc (swapped-length r)
+swapped-length (swap a b x) = refl
+swapped-length (then r s) = swapped-length r ∙ swapped-length s
 
-reordered-within : (k : ℕ) {x y : Seating} → Reordered x y → Within k x → Within k y
-reordered-within k done w = tt
-reordered-within k (keep a r) w = (w .0, reordered-within k r (w .1))
-reordered-within k (swap a b x) w = (w .1 .0, (w .0, w .1 .1))
-reordered-within k (then r s) w = reordered-within k s (reordered-within k r w)
+swapped-within : (k : ℕ) {x y : List ℕ} → Swapped x y → Within k x → Within k y
+swapped-within k done w = tt
+swapped-within k (keep a r) w = (w .0, swapped-within k r (w .1))
+swapped-within k (swap a b x) w = (w .1 .0, (w .0, w .1 .1))
+swapped-within k (then r s) w = swapped-within k s (swapped-within k r w)
 
-reordered-count : (d : ℕ) {x y : Seating} → Reordered x y → count d x ≡ count d y
-reordered-count d done = refl
-reordered-count d (keep a r) = omega (arith, reordered-count d r)
-reordered-count d (swap a b x) = omega arith
-reordered-count d (then r s) = reordered-count d r ∙ reordered-count d s
+swapped-count : (d : ℕ) {x y : List ℕ} → Swapped x y → count d x ≡ count d y
+swapped-count d done = refl
+swapped-count d (keep a r) = omega (arith, swapped-count d r)
+swapped-count d (swap a b x) = omega arith
+swapped-count d (then r s) = swapped-count d r ∙ swapped-count d s
+
+pub reordered-length : {x y : Seating} → Reordered x y → length (x .each) ≡ length (y .each)
+reordered-length r = swapped-length (r .seats)
 
 pub reordered-valid : (c : Card) {x y : Seating} → Reordered x y → ValidSeating c x → ValidSeating c y
-reordered-valid c r ok = record { seats = sym (reordered-length r) ∙ ok .seats; states = reordered-within (c .k) r (ok .states) }
+reordered-valid c r ok = record {
+  seats = sym (reordered-length r) ∙ ok .seats;
+  states = swapped-within (c .k) (r .seats) (ok .states);
+  shared = rw (r .shared) at (ok .shared);
+}
 
-pub reordered-counts : (k : ℕ) {x y : Seating} → Reordered x y → counts k x ≡ counts k y
+pub reordered-counts : (k : ℕ) {x y : Seating} → Reordered x y → counted k x ≡ counted k y
 unfolding counts
-reordered-counts k r = upto-cong (suc k) _ _ (λ d l. reordered-count d r)
+reordered-counts k r = λ i. position (upto-cong (suc k) _ _ (λ d l. swapped-count d (r .seats)) i) (r .shared i)
 
 pub reordered-panel : (c : Card) {x y : Seating} → Reordered x y → ValidSeating c x → panel c x ≡ panel c y
 reordered-panel c {x} {y} r ok = equal-counts c x y ok (reordered-valid c r ok) (reordered-counts (c .k) r)

@@ -11,6 +11,7 @@ use lib.ListN.{length}
 use Rattle.card.specs.Valid.{Every}
 use Rattle.card.specs.Card.{Statement, Card}
 use Rattle.meaning.specs.Sums.{upto, those}
+use Rattle.meaning.specs.Position.{Position}
 use Rattle.meaning.specs.Steps.{Turn}
 use Rattle.meaning.specs.Choices.{choicesOf, stay, stuckChoices}
 use Rattle.meaning.specs.Seats.{Seating, mayTake, turn, turnsBy, choicesFrom, choices, turns, steps, Stuck}
@@ -39,11 +40,11 @@ map-none : {A B : Type 0} (f : A → B) (l : List A) → map f l ≡ [] → l �
 map-none f [] e = refl
 map-none f (a ∷ l) e = absurd (cons≢nil e)
 
-pub no-taker : (s : Statement) (x : Seating) → turnsBy s x ≡ [] → (i : ℕ) → i < length x → mayTake s x i ≡ false
+pub no-taker : (s : Statement) (x : Seating) → turnsBy s x ≡ [] → (i : ℕ) → i < length (x .each) → mayTake s x i ≡ false
 unfolding turnsBy
-no-taker s x e = none-below (mayTake s x) (length x) (λ i. i) (map-none (turn s x) _ e)
+no-taker s x e = none-below (mayTake s x) (length (x .each)) (λ i. i) (map-none (turn s x) _ e)
 
-no-turn : (s : Statement) (x : Seating) → ((i : ℕ) → i < length x → mayTake s x i ≡ false) → turnsBy s x ≡ []
+no-turn : (s : Statement) (x : Seating) → ((i : ℕ) → i < length (x .each) → mayTake s x i ≡ false) → turnsBy s x ≡ []
 no-turn s x h = go (turnsBy s x) (takers s x)
   where
     go : (m : List (Turn Seating)) → Every (Taker s x) m → m ≡ []
@@ -53,10 +54,10 @@ no-turn s x h = go (turnsBy s x) (takers s x)
 -- ---- all statements
 
 module _ (x : Seating) where
-  to : (l : List Statement) → Every (λ s. (i : ℕ) → i < length x → mayTake s x i ≡ false) l → Every (λ s. turnsBy s x ≡ []) l
+  to : (l : List Statement) → Every (λ s. (i : ℕ) → i < length (x .each) → mayTake s x i ≡ false) l → Every (λ s. turnsBy s x ≡ []) l
   to l h = every-imp _ l h (λ s. no-turn s x)
 
-  from : (l : List Statement) → Every (λ s. turnsBy s x ≡ []) l → Every (λ s. (i : ℕ) → i < length x → mayTake s x i ≡ false) l
+  from : (l : List Statement) → Every (λ s. turnsBy s x ≡ []) l → Every (λ s. (i : ℕ) → i < length (x .each) → mayTake s x i ≡ false) l
   from l h = every-imp _ l h (λ s. no-taker s x)
 
 module _ (c : Card) (x : Seating) where
@@ -85,7 +86,7 @@ module _ (c : Card) (x : Seating) where
 
 -- ---- by counts
 
-no-copy : (v : List ℕ) (r : Reduced) → (canTake v r ≡ false) ↔ (reducedTurnsBy v r ≡ [])
+no-copy : (v : Position) (r : Reduced) → (canTake v r ≡ false) ↔ (reducedTurnsBy v r ≡ [])
 unfolding reducedTurnsBy
 no-copy v r = go (canTake v r)
   where
@@ -93,7 +94,7 @@ no-copy v r = go (canTake v r)
     go true = (λ e. absurd (true≢false e), λ e. absurd (cons≢nil e))
     go false = (λ e. refl, λ e. refl)
 
-module _ (p : Program) (v : List ℕ) where
+module _ (p : Program) (v : Position) where
   pub none-taken-at : StuckAt p v ↔ (choicesOf (reducedTurnsBy v) 1 (p .statements) ≡ [])
   none-taken-at = (
     λ h. choices-none (reducedTurnsBy v) 1 (p .statements) (every-imp _ (p .statements) h (λ r. no-copy v r .0)),

@@ -1,6 +1,6 @@
 -- The table is right: a group holds for a seat exactly where its counter test passes at the seating's counts. Over everyone by adding one
 -- seat at a time; "others" is everyone without one seat, which is one seat less and one count less where that seat's state is d. An
--- exactly-one too by adding a seat: if it is d no other seat is, and else one of the others alone is.
+-- exactly-one too by adding a seat: if it is d no other seat is, and else one of the others alone is. The shared number is the same on both sides.
 -- Assumes nothing.
 use Prim.Native.Nat.{ℕ, zero, suc, _+_, _≤_, _<_}
 use mathlib.Core.Path.{_≡_, refl, ap, ap₂, fun-ext, _∙_}
@@ -13,11 +13,12 @@ use native.Mathlib.Omega.{arith}
 use borrow.Author.Tests.{ne-eqb, le-leb}
 use lib.Dec.{eqb, leb·zero, leb·suc-zero, leb·suc-suc, eqb·suc-suc, eqb·suc-zero, eqb·zero-suc}
 use lib.ListN.{length}
-use Rattle.card.specs.Card.{Kind, everyone, others, Sign, all, any, Relation, is, isnt, Leaf, group, one, Formula, atom, neg, and, or, Guard}
+use Rattle.card.specs.Card.{Kind, everyone, others, Sign, all, any, Relation, is, isnt, Leaf, group, one, sharedIs, Formula, atom, neg, and, or, Guard}
 use Rattle.card.specs.Formulas.{over}
 use Rattle.meaning.specs.Sums.{gate, upto}
 use Rattle.meaning.specs.Formulas.{value, valueOr}
-use Rattle.meaning.specs.Seats.{Seating, state, without, count, counts, literal, joined, alone, anyOf, holds}
+use Rattle.meaning.specs.Seats.{Seating, state, without, count, counted, literal, joined, alone, anyOf, holds}
+use Rattle.meaning.specs.Position.{Position}
 use Rattle.meaning.specs.Reduced.{table, meets, passes, counterOf, testOf}
 use Rattle.meaning.specs.ByCounts.{heldOr}
 use Rattle.meaning.proofs.Counting.{Within, count-le, count-without, length-without, no-count}
@@ -53,7 +54,7 @@ module _ (e : Bool) where
   none-joined all isnt d = refl
   none-joined any isnt d = refl
 
-  joined-right : (s : Sign) (q : Relation) (d : ℕ) (x : Seating) → joined s q d x ≡ test s q (length x) (count d x)
+  joined-right : (s : Sign) (q : Relation) (d : ℕ) (x : List ℕ) → joined s q d x ≡ test s q (length x) (count d x)
   joined-right s q d [] = none-joined s q d
   joined-right s q d (a ∷ x) = first s ∙ rw (joined-right s q d x) (one-more s q (eqb a d) (count d x) (length x) (count-le d x))
     where
@@ -91,11 +92,11 @@ or-false true = refl
 or-false false = refl
 
 -- a term where one seat more is there: b says whether its state is d
-alone-more : (d : ℕ) (x : Seating) (b : Bool) (i : ℕ) → (eqb (state x i) d && (not b && joined all isnt d (without x i))) ≡ (not b && alone d x i)
+alone-more : (d : ℕ) (x : List ℕ) (b : Bool) (i : ℕ) → (eqb (state x i) d && (not b && joined all isnt d (without x i))) ≡ (not b && alone d x i)
 alone-more d x true i = and-false (eqb (state x i) d)
 alone-more d x false i = refl
 
-pub one-by-count : (d : ℕ) (x : Seating) → anyOf (upto (length x) (alone d x)) ≡ eqb (count d x) 1
+pub one-by-count : (d : ℕ) (x : List ℕ) → anyOf (upto (length x) (alone d x)) ≡ eqb (count d x) 1
 one-by-count d [] = refl
 one-by-count d (a ∷ x) =
     ap (λ c. (eqb a d && joined all isnt d x) || c) (any-same (length x) _ (λ i. not (eqb a d) && alone d x i) (alone-more d x (eqb a d)))
@@ -108,18 +109,21 @@ one-by-count d (a ∷ x) =
 
 -- ---- guards
 
-module _ (k : ℕ) (x : Seating) (w : Within k x) (i : ℕ) (l : i < length x) where
-  by-count : (kind : Kind) (s : Sign) (q : Relation) (d : ℕ) → holds x i (group kind s q d) ≡ meets (table (length x) kind (eqb (state x i) d) s q) (count d x)
-  by-count everyone s q d = joined-right (eqb (state x i) d) s q d x
+module _ (k : ℕ) (x : Seating) (w : Within k (x .each)) (i : ℕ) (l : i < length (x .each)) where
+  by-count : (kind : Kind) (s : Sign) (q : Relation) (d : ℕ)
+      → holds x i (group kind s q d) ≡ meets (table (length (x .each)) kind (eqb (state (x .each) i) d) s q) (count d (x .each))
+  by-count everyone s q d = joined-right (eqb (state (x .each) i) d) s q d (x .each)
   by-count others s q d =
-      let b = eqb (state x i) d in
-      rw (length-without x i l, count-without d x i l) (joined-right b s q d (without x i) ∙ but-one b s q b (count d (without x i)) (length (without x i)))
+      let b = eqb (state (x .each) i) d in
+      let rest = without (x .each) i in
+      rw (length-without (x .each) i l, count-without d (x .each) i l) (joined-right b s q d rest ∙ but-one b s q b (count d rest) (length rest))
 
-  pub leaf-right : (a : Leaf) → holds x i a ≡ passes (counts k x) (counterOf (length x) (state x i) a)
-  leaf-right (group kind s q d) = rw (no-count k x w d) (by-count kind s q d)
-  leaf-right (one d) = rw (no-count k x w d) (one-by-count d x)
+  pub leaf-right : (a : Leaf) → holds x i a ≡ passes (counted k x) (counterOf (length (x .each)) (state (x .each) i) a)
+  leaf-right (group kind s q d) = rw (no-count k (x .each) w d) (by-count kind s q d)
+  leaf-right (one d) = rw (no-count k (x .each) w d) (one-by-count d (x .each))
+  leaf-right (sharedIs q v) = refl
 
-  pub guard-right : (g : Option Guard) → valueOr (holds x i) g ≡ heldOr (length x) (state x i) (counts k x) g
+  pub guard-right : (g : Option Guard) → valueOr (holds x i) g ≡ heldOr (length (x .each)) (state (x .each) i) (counted k x) g
   guard-right g = ap (λ (p : Leaf → Bool). valueOr p g) (fun-ext leaf-right)
 
 -- the translated guard's value
@@ -129,6 +133,6 @@ value-over p f (neg g) = ap not (value-over p f g)
 value-over p f (and g h) = ap₂ _&&_ (value-over p f g) (value-over p f h)
 value-over p f (or g h) = ap₂ _||_ (value-over p f g) (value-over p f h)
 
-pub test-held : (n j : ℕ) (v : List ℕ) (g : Option Guard) → valueOr (passes v) (testOf n j g) ≡ heldOr n j v g
+pub test-held : (n j : ℕ) (v : Position) (g : Option Guard) → valueOr (passes v) (testOf n j g) ≡ heldOr n j v g
 test-held n j v none = refl
 test-held n j v (some g) = value-over (passes v) (counterOf n j) g

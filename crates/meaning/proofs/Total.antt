@@ -10,6 +10,7 @@ use Rattle.card.specs.Text.{if_then_else_}
 use Rattle.card.specs.Card.{Mode, nondeterministic, probabilistic, Branch, Statement, Card}
 use Rattle.card.specs.Valid.{Every, total, ValidStatement, ValidCard}
 use Rattle.meaning.specs.Sums.{sum}
+use Rattle.meaning.specs.Position.{Position}
 use Rattle.meaning.specs.Steps.{Step}
 use Rattle.meaning.specs.Choices.{choicesOf, turnsIn}
 use Rattle.meaning.specs.Seats.{Seating, turn, turnsBy, choicesFrom, choices, turns, steps}
@@ -25,7 +26,7 @@ total-sum : (l : List Branch) → sum (λ (b : Branch). b .units) l ≡ total l
 total-sum [] = refl
 total-sum (b ∷ l) = ap (λ (r : ℕ). b .units + r) (total-sum l)
 
-module _ {n k : ℕ} (s : Statement) (v : ValidStatement n k s) where
+module _ {n k values : ℕ} (s : Statement) (v : ValidStatement n k values s) where
   pub turn-full : (x : Seating) (i : ℕ) → Full (turn s x i)
   unfolding turn
   turn-full x i = sum-map (λ (s : Step Seating). s .units) _ (s .branches) ∙ total-sum (s .branches) ∙ v .sum
@@ -33,16 +34,16 @@ module _ {n k : ℕ} (s : Statement) (v : ValidStatement n k s) where
   turns-full : (x : Seating) → Every Full (turnsBy s x)
   turns-full x = every-imp (Taker s x) (turnsBy s x) (takers s x) (λ t m. let (i, l, may, e) = m in rw e (turn-full x i))
 
-  copy-full : (u : List ℕ) (c m : ℕ) → Full (reducedTurn u (copy c s m))
+  copy-full : (u : Position) (c m : ℕ) → Full (reducedTurn u (copy c s m))
   unfolding reducedTurn copy
   copy-full u c m =
-      sum-map (λ (s : Step (List ℕ)). s .units) _ (map (λ (b : Branch). record { units = b .units; update = updateOf c (s .own) (b .end) }) (s .branches))
+      sum-map (λ (s : Step Position). s .units) _ (map (λ (b : Branch). record { units = b .units; update = updateOf c (s .own) (b .end); sets = b .sets }) (s .branches))
       ∙ sum-map (λ (o : Outcome). o .units) _ (s .branches)
       ∙ total-sum (s .branches)
       ∙ v .sum
 
 -- the one turn of a reduced statement, if any
-once-full : (u : List ℕ) (r : Reduced) → Full (reducedTurn u r) → Every Full (reducedTurnsBy u r)
+once-full : (u : Position) (r : Reduced) → Full (reducedTurn u r) → Every Full (reducedTurnsBy u r)
 unfolding reducedTurnsBy
 once-full u r f = go (canTake u r)
   where
@@ -50,7 +51,7 @@ once-full u r f = go (canTake u r)
     go true = (f, tt)
     go false = tt
 
-copies-full : {n k : ℕ} (m : Mode) (c : ℕ) (s : Statement) → ValidStatement n k s → (u : List ℕ) → Every (λ r. Full (reducedTurn u r)) (copies m c s)
+copies-full : {n k values : ℕ} (m : Mode) (c : ℕ) (s : Statement) → ValidStatement n k values s → (u : Position) → Every (λ r. Full (reducedTurn u r)) (copies m c s)
 copies-full nondeterministic c s v u = (copy-full s v u c 0, tt)
 copies-full probabilistic c s v u = every-upto (λ r. Full (reducedTurn u r)) c (copy c s) (λ m l. copy-full s v u c m)
 
@@ -69,7 +70,7 @@ module _ (c : Card) (valid : ValidCard c) where
     unfolding steps turns choices
     seats-total = some-step x (choicesFrom 1 (c .statements) x) (choices-some (λ s. turnsBy s x) 1 (c .statements)) taken-full
 
-  module _ (u : List ℕ) where
+  module _ (u : Position) where
     program-full : Every (λ r. Every Full (reducedTurnsBy u r)) (reduce c .statements)
     unfolding reduce
     program-full = every-flat _ (map (copies (c .mode) (c .n)) (c .statements))

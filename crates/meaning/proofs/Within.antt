@@ -11,6 +11,7 @@ use Rattle.card.specs.Text.{if_then_else_}
 use Rattle.card.specs.Card.{Mode, nondeterministic, probabilistic, Branch, Statement, Card}
 use Rattle.card.specs.Valid.{Every}
 use Rattle.meaning.specs.Sums.{flat}
+use Rattle.meaning.specs.Position.{Position, position, setTo}
 use Rattle.meaning.specs.Steps.{Step}
 use Rattle.meaning.specs.Choices.{choicesOf, choicesAt, turnsIn}
 use Rattle.meaning.specs.Reduced.{keep, shift, updateOf, Outcome, Reduced, copy, copies, reduce, noOf, raised, updated, canTake, reducedTurn, reducedTurnsBy, reducedChoices, reducedTurns, reducedSteps}
@@ -39,27 +40,27 @@ updated-few n j t v w = go (eqb j t)
     go false = set-few n (set v j (noOf v j - 1)) t (raised n (noOf v t)) (set-few n v j (noOf v j - 1) w (omega (arith, no-few n v j w))) (omega arith)
 
 -- a step's next counters
-abbrev Next : ℕ → Step (List ℕ) → Type 0
-Next n s = Few n (s .next)
+abbrev Next : ℕ → Step Position → Type 0
+Next n s = Few n (s .next .each)
 
 -- all of a reduced statement's
-abbrev Steady : ℕ → List ℕ → Reduced → Type 0
+abbrev Steady : ℕ → Position → Reduced → Type 0
 Steady n v r = Every (Next n) (reducedTurn v r)
 
-copy-few : (n : ℕ) (s : Statement) (m : ℕ) (v : List ℕ) → Few n v → Steady n v (copy n s m)
+copy-few : (n : ℕ) (s : Statement) (m : ℕ) (v : Position) → Few n (v .each) → Steady n v (copy n s m)
 unfolding reducedTurn copy
 copy-few n s m v w = branches (s .branches)
   where
     branches : (l : List Branch)
-        → Every (Next n) (map (λ (o : Outcome). record { units = o .units; next = updated v (o .update) }) (map (λ (b : Branch). record { units = b .units; update = updateOf n (s .own) (b .end) }) l))
+        → Every (Next n) (map (λ (o : Outcome). record { units = o .units; next = position (updated (v .each) (o .update)) (setTo (v .shared) (o .sets)) }) (map (λ (b : Branch). record { units = b .units; update = updateOf n (s .own) (b .end); sets = b .sets }) l))
     branches [] = tt
-    branches (b ∷ l) = (updated-few n (s .own) (b .end) v w, branches l)
+    branches (b ∷ l) = (updated-few n (s .own) (b .end) (v .each) w, branches l)
 
-copies-few : (mode : Mode) (n : ℕ) (s : Statement) (v : List ℕ) → Few n v → Every (Steady n v) (copies mode n s)
+copies-few : (mode : Mode) (n : ℕ) (s : Statement) (v : Position) → Few n (v .each) → Every (Steady n v) (copies mode n s)
 copies-few nondeterministic n s v w = (copy-few n s 0 v w, tt)
 copies-few probabilistic n s v w = every-upto (Steady n v) n (copy n s) λ m h. copy-few n s m v w
 
-all-few : (mode : Mode) (n : ℕ) (l : List Statement) (v : List ℕ) → Few n v → Every (Steady n v) (flat (map (copies mode n) l))
+all-few : (mode : Mode) (n : ℕ) (l : List Statement) (v : Position) → Few n (v .each) → Every (Steady n v) (flat (map (copies mode n) l))
 all-few mode n l v w = every-flat (Steady n v) (map (copies mode n) l) (every-map (Every (Steady n v)) (copies mode n) l (each l))
   where
     each : (l : List Statement) → Every (λ s. Every (Steady n v) (copies mode n s)) l
@@ -67,7 +68,7 @@ all-few mode n l v w = every-flat (Steady n v) (map (copies mode n) l) (every-ma
     each (s ∷ l) = (copies-few mode n s v w, each l)
 
 -- the one turn, if any
-turns-few : (n : ℕ) (v : List ℕ) (r : Reduced) → Steady n v r → Every (Every (Next n)) (reducedTurnsBy v r)
+turns-few : (n : ℕ) (v : Position) (r : Reduced) → Steady n v r → Every (Every (Next n)) (reducedTurnsBy v r)
 unfolding reducedTurnsBy
 turns-few n v r h = go (canTake v r)
   where
@@ -75,7 +76,7 @@ turns-few n v r h = go (canTake v r)
     go true = (h, tt)
     go false = tt
 
-pub stays-within : (c : Card) (v : List ℕ) → Few (c .n) v → Every (λ (s : Step (List ℕ)). Few (reduce c .most) (s .next)) (reducedSteps (reduce c) v)
+pub stays-within : (c : Card) (v : Position) → Few (c .n) (v .each) → Every (λ (s : Step Position). Few (reduce c .most) (s .next .each)) (reducedSteps (reduce c) v)
 unfolding reduce reducedSteps reducedTurns reducedChoices
 stays-within c v w =
     let program = flat (map (copies (c .mode) (c .n)) (c .statements)) in

@@ -1,5 +1,6 @@
 pub mod Sums
 pub mod Formulas
+pub mod Position
 pub mod Steps
 pub mod Choices
 pub mod Offers

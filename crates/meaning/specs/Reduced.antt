@@ -1,4 +1,4 @@
--- The reduced program, and what it means, by counts ("What a card means", second part). Assumes nothing.
+-- The reduced program, and what it means, by counts ("What a card means", second part; document 02, 2026-10). Assumes nothing.
 use Prim.Native.Nat.{ℕ, suc, _+_, _-_, min}
 use mathlib.Core.Path.{_≡_}
 use mathlib.Core.Bool.{Bool, true, false, _&&_}
@@ -8,11 +8,13 @@ use lib.Dec.{eqb, ltb}
 use lib.ListN.{getD, set}
 use Rattle.card.specs.Text.{if_then_else_}
 use Rattle.card.specs.Card.{Mode, nondeterministic, probabilistic, Kind, everyone, others, Sign, all, any, Relation, is, isnt}
-use Rattle.card.specs.Card.{Leaf, group, one, Formula, Guard, Branch, Statement, Card}
+use Rattle.card.specs.Card.{Leaf, group, one, sharedIs, Formula, Guard, Branch, Statement, Shared, Card}
 use Rattle.card.specs.Formulas.{overOr}
 use Rattle.card.specs.Valid.{Every}
 use Rattle.meaning.specs.Sums.{gate, upto, flat}
 use Rattle.meaning.specs.Formulas.{valueOr}
+use Rattle.meaning.specs.Position.{Position, position, setTo}
+use Rattle.meaning.specs.Seats.{literal}
 use Rattle.meaning.specs.Steps.{Step, Turn}
 use Rattle.meaning.specs.Choices.{Choice, choicesOf, choicesAt, turnsIn}
 
@@ -22,8 +24,10 @@ use Rattle.meaning.specs.Choices.{Choice, choicesOf, choicesAt, turnsIn}
 pub data Bound : Type 0 where
   equalTo moreThan lessThan : ℕ → Bound
 
+-- of a counter, or of the shared number as it stands on the card
 pub data Counter : Type 0 where
   counter : ℕ → Bound → Counter
+  sharedTest : Relation → ℕ → Counter
 
 abbrev pub Test : Type 0
 Test = Formula Counter
@@ -33,9 +37,11 @@ pub data Update : Type 0 where
   keep : Update
   shift : ℕ → ℕ → ℕ → Update
 
+-- and what the shared number is set to, if anything
 pub record Outcome : Type 0 where
   pub units : ℕ
   pub update : Update
+  pub sets : Option ℕ
 
 -- [] (no_own>least) & guard -> outcomes
 pub record Reduced : Type 0 where
@@ -44,9 +50,10 @@ pub record Reduced : Type 0 where
   pub guard : Option Test
   pub outcomes : List Outcome
 
--- counters no_0 to no_k, each from 0 to most, with what they start at
+-- counters no_0 to no_k, each from 0 to most, with what they start at, and the card's shared number
 pub record Program : Type 0 where
   pub mode : Mode
+  pub shared : Option Shared
   pub most : ℕ
   pub start : List ℕ
   pub statements : List Reduced
@@ -72,6 +79,7 @@ table n others false any isnt = lessThan (n - 1)
 abbrev pub counterOf : ℕ → ℕ → Leaf → Counter
 counterOf n j (group kind s q d) = counter d (table n kind (eqb j d) s q)
 counterOf n j (one d) = counter d (equalTo 1)
+counterOf n j (sharedIs q v) = sharedTest q v
 
 abbrev pub testOf : ℕ → ℕ → Option Guard → Option Test
 testOf n j g = overOr (counterOf n j) g
@@ -86,7 +94,7 @@ copy n s m = record {
   own = s .own;
   least = m;
   guard = testOf n (s .own) (s .guard);
-  outcomes = map (λ (b : Branch). record { units = b .units; update = updateOf n (s .own) (b .end) }) (s .branches);
+  outcomes = map (λ (b : Branch). record { units = b .units; update = updateOf n (s .own) (b .end); sets = b .sets }) (s .branches);
 }
 
 -- one on a nondeterministic card; on a probabilistic one n running, with no_j>0 to no_j>n-1
@@ -98,12 +106,13 @@ unfoldable pub reduce : Card → Program
 unfolding copy
 reduce c = record {
   mode = c .mode;
+  shared = c .shared;
   most = c .n;
   start = upto (suc (c .k)) (λ d. gate (eqb (c .l) d) (c .n));
   statements = flat (map (copies (c .mode) (c .n)) (c .statements));
 }
 
--- ---- its meaning, at counts v
+-- ---- its meaning, at counts v and the shared number beside them
 
 abbrev pub noOf : List ℕ → ℕ → ℕ
 noOf v d = getD v d 0
@@ -113,11 +122,12 @@ meets (equalTo m) a = eqb a m
 meets (moreThan m) a = ltb m a
 meets (lessThan m) a = ltb a m
 
-abbrev pub passes : List ℕ → Counter → Bool
-passes v (counter d b) = meets b (noOf v d)
+abbrev pub passes : Position → Counter → Bool
+passes v (counter d b) = meets b (noOf (v .each) d)
+passes v (sharedTest q a) = literal q (eqb (v .shared) a)
 
-unfoldable pub canTake : List ℕ → Reduced → Bool
-canTake v r = ltb (r .least) (noOf v (r .own)) && valueOr (passes v) (r .guard)
+unfoldable pub canTake : Position → Reduced → Bool
+canTake v r = ltb (r .least) (noOf (v .each) (r .own)) && valueOr (passes v) (r .guard)
 
 -- a counter is raised to n at most
 abbrev pub raised : ℕ → ℕ → ℕ
@@ -127,27 +137,27 @@ abbrev pub updated : List ℕ → Update → List ℕ
 updated v keep = v
 updated v (shift j t n) = set (set v j (noOf v j - 1)) t (raised n (noOf v t))
 
-unfoldable pub reducedTurn : List ℕ → Reduced → Turn (List ℕ)
-reducedTurn v r = map (λ (o : Outcome). record { units = o .units; next = updated v (o .update) }) (r .outcomes)
+unfoldable pub reducedTurn : Position → Reduced → Turn Position
+reducedTurn v r = map (λ (o : Outcome). record { units = o .units; next = position (updated (v .each) (o .update)) (setTo (v .shared) (o .sets)) }) (r .outcomes)
 
 -- the one turn of a statement that can be taken
-unfoldable pub reducedTurnsBy : List ℕ → Reduced → List (Turn (List ℕ))
+unfoldable pub reducedTurnsBy : Position → Reduced → List (Turn Position)
 unfolding canTake reducedTurn
 reducedTurnsBy v r = if canTake v r then reducedTurn v r ∷ [] else []
 
 -- all that can happen at counts v, by place in the program
-unfoldable pub reducedChoices : Program → List ℕ → List (Choice (List ℕ))
+unfoldable pub reducedChoices : Program → Position → List (Choice Position)
 unfolding choicesOf reducedTurnsBy
 reducedChoices p v = choicesAt (reducedTurnsBy v) (p .statements) v
 
-unfoldable pub reducedTurns : Program → List ℕ → List (Turn (List ℕ))
+unfoldable pub reducedTurns : Program → Position → List (Turn Position)
 unfolding reducedChoices
 reducedTurns p v = turnsIn (reducedChoices p v)
 
-unfoldable pub reducedSteps : Program → List ℕ → List (Step (List ℕ))
+unfoldable pub reducedSteps : Program → Position → List (Step Position)
 unfolding reducedTurns
 reducedSteps p v = flat (reducedTurns p v)
 
 -- no statement can be taken
-abbrev pub StuckAt : Program → List ℕ → Type 0
+abbrev pub StuckAt : Program → Position → Type 0
 StuckAt p v = Every (λ r. canTake v r ≡ false) (p .statements)

@@ -9,6 +9,11 @@ abbrev pub gate : Bool → ℕ → ℕ
 gate true w = w
 gate false w = 0
 
+-- one at least
+abbrev pub orOne : ℕ → ℕ
+orOne zero = 1
+orOne (suc m) = suc m
+
 -- f summed over a list
 abbrev pub sum : {A : Type 0} → (A → ℕ) → List A → ℕ
 sum f [] = 0

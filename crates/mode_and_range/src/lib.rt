@@ -1,20 +1,26 @@
-// The mode of a card and its range of states, read from its bytes.
+// The mode of a card, and a range with its start, read from its bytes.
 use card::NONDETERMINISTIC as MODE_NONDETERMINISTIC;
 use card::PROBABILISTIC as MODE_PROBABILISTIC;
-use card::limits::TOP_STATE;
 use card::refusals::OUT_OF_SHAPE;
 use card::refusals::PAST_LIMIT;
 use due_words::step_number;
+use late::state::START;
 use late::state::STATE;
+use late::state::TOP;
 use late::state::VALUE;
 use late::stop;
 use marks::Cursor;
 use marks_on_a_card::kinds::DOTS;
+use marks_on_a_card::kinds::INIT;
 use marks_on_a_card::kinds::NONDETERMINISTIC;
 use marks_on_a_card::kinds::NUMBER;
 use marks_on_a_card::kinds::PROBABILISTIC;
+use marks_on_a_card::kinds::SEMICOLON;
+use marks_on_a_card::kinds::SQUARE_CLOSE;
+use parts::number;
+use parts::sign;
 ghost use Rattle.late.specs.State.{Sized, lateIn, after};
-ghost use Rattle.mode_and_range.specs.ModeRange.{ModeFrom, RangeFrom};
+ghost use Rattle.mode_and_range.specs.ModeRange.{ModeFrom, SpanFrom, RangeFrom};
 
 // The mode becomes the value.
 pub fn mode(card: &[u8], at: usize, state: &mut [usize; STATE]) -> usize
@@ -36,10 +42,10 @@ pub fn mode(card: &[u8], at: usize, state: &mut [usize; STATE]) -> usize
     stop(state, OUT_OF_SHAPE, mark.place)
 }
 
-// 0..k; k becomes the value.
-pub fn range(card: &[u8], at: usize, state: &mut [usize; STATE]) -> usize
+// 0..k, where k may be `most`; k becomes the value.
+fn span(card: &[u8], at: usize, most: usize, state: &mut [usize; STATE]) -> usize
     requires { ⌜ Sized (now state) ⌝ }
-    ensures { λ r. ⌜ RangeFrom (now (card .entry)) at (lateIn (now (state .entry))) (after (now (state .exit)) r) ⌝ }
+    ensures { λ r. ⌜ SpanFrom (now (card .entry)) at most (lateIn (now (state .entry))) (after (now (state .exit)) r) ⌝ }
 {
     let step = step_number(card, at);
     let mark = step.mark;
@@ -62,9 +68,41 @@ pub fn range(card: &[u8], at: usize, state: &mut [usize; STATE]) -> usize
     if top.kind != NUMBER {
         return stop(state, OUT_OF_SHAPE, top.place);
     }
-    if top.value > TOP_STATE {
+    if top.value > most {
         return stop(state, PAST_LIMIT, top.place);
     }
     state[VALUE] = top.value;
     end.at
+}
+
+// 0..k] init l; of the states, or of the shared number: k goes to the top state's place and l to the start state's.
+pub fn range(card: &[u8], at: usize, most: usize, state: &mut [usize; STATE]) -> usize
+    requires { ⌜ Sized (now state) ⌝ }
+    ensures { λ r. ⌜ RangeFrom (now (card .entry)) at most (lateIn (now (state .entry))) (after (now (state .exit)) r) ⌝ }
+{
+    let values = span(card, at, most, state);
+    if values == 0 {
+        return 0;
+    }
+    let top = state[VALUE];
+    let close = sign(card, values, SQUARE_CLOSE, state);
+    if close == 0 {
+        return 0;
+    }
+    let init = sign(card, close, INIT, state);
+    if init == 0 {
+        return 0;
+    }
+    let last = number(card, init, top, state);
+    if last == 0 {
+        return 0;
+    }
+    let start = state[VALUE];
+    let end = sign(card, last, SEMICOLON, state);
+    if end == 0 {
+        return 0;
+    }
+    state[TOP] = top;
+    state[START] = start;
+    end
 }

@@ -7,13 +7,13 @@ use mathlib.Core.Option.{Option, none, some}
 use native.Mathlib.Omega.{arith}
 use Rattle.card.specs.Refusals.{wrongSeats, seatAboveTop}
 use Rattle.card.specs.Card.{Card}
-use Rattle.meaning.specs.Seats.{ValidSeating}
 use Rattle.entry.specs.Said.{Said, says, refused}
 use Rattle.entry.specs.Contract.{Enters, lentNothing, Faithful}
 use Rattle.entry.specs.Stage.{Stage}
 use Rattle.entry.proofs.Stages.{among-up-to, value, followed, beyond, last}
 use Rattle.entry.proofs.Exactly.{_↔∙_}
 use Rattle.entry.proofs.Entries.{says-exactly, refused-exactly}
+use Rattle.seating.specs.Judged.{seatingOf, Seated}
 use Rattle.seating.specs.SeatsSaid.{seatsNumbers}
 use Rattle.seating.proofs.SeatsStage.{seats-stage, wrong-count, wrong-seat}
 use Rattle.rows.specs.Said.{cardNumbers, Read}
@@ -24,10 +24,10 @@ use Rattle.move_said.specs.MoveSaid.{moveSeated, moveSaid, Moves}
 use Rattle.first_able.specs.Moved.{moved}
 
 module _ (card seats : List ℕ) where
-  seated : (c : Card) → Stage (moveSeated seats c) seatsNumbers (ValidSeating c seats) (λ _. firstMove c seats)
-  seated c = value (seats-stage seats c) (λ _. firstMove c seats)
+  seated : (c : Card) → Stage (moveSeated seats c) seatsNumbers (Seated c seats) (λ _. firstMove c (seatingOf c seats))
+  seated c = value (seats-stage seats c) (λ _. firstMove c (seatingOf c seats))
 
-  pub said : Stage (moveSaid card seats) (cardNumbers ++ seatsNumbers) ((w : Read card) × ValidSeating (w .0) seats) (λ z. firstMove (z .0 .0) seats)
+  pub said : Stage (moveSaid card seats) (cardNumbers ++ seatsNumbers) ((w : Read card) × Seated (w .0) seats) (λ z. firstMove (z .0 .0) (seatingOf (z .0 .0) seats))
   unfolding moveSaid
   said = followed (card-stage card) (moveSeated seats) (λ c. seated c .numbers) (λ w. seated (w .0) .found)
 
@@ -37,16 +37,16 @@ module _ (card seats : List ℕ) where
     moves = record {
       wrong-card = λ r p l. refused-exactly faithful e r p ↔∙ card-first card (moveSeated seats) (λ c. seated c .numbers) r p l refl;
       wrong-count = λ p. refused-exactly faithful e wrongSeats p ↔∙ beyond (card-stage card) (moveSeated seats) wrongSeats p refl (λ w.
-          last (seats-stage seats (w .0)) (λ _. firstMove (w .0) seats) wrongSeats p ↔∙ wrong-count seats (w .0) p);
+          last (seats-stage seats (w .0)) (λ _. firstMove (w .0) (seatingOf (w .0) seats)) wrongSeats p ↔∙ wrong-count seats (w .0) p);
       wrong-seat = λ p. refused-exactly faithful e seatAboveTop p ↔∙ beyond (card-stage card) (moveSeated seats) seatAboveTop p refl (λ w.
-          last (seats-stage seats (w .0)) (λ _. firstMove (w .0) seats) seatAboveTop p ↔∙ wrong-seat seats (w .0) p);
+          last (seats-stage seats (w .0)) (λ _. firstMove (w .0) (seatingOf (w .0) seats)) seatAboveTop p ↔∙ wrong-seat seats (w .0) p);
       statement = λ q. says-exactly faithful e (some q) ↔∙ (
-        (λ h. let (z, at) = said .found .only (some q) h in (z .0, (z .1, first-exactly (z .0 .0) seats q .0 (sym at)))),
-        (λ h. said .found .each (h .0, h .1 .0) ∙ ap says (first-exactly (h .0 .0) seats q .1 (h .1 .1))),
+        (λ h. let (z, at) = said .found .only (some q) h in (z .0, (z .1, first-exactly (z .0 .0) (seatingOf (z .0 .0) seats) q .0 (sym at)))),
+        (λ h. said .found .each (h .0, h .1 .0) ∙ ap says (first-exactly (h .0 .0) (seatingOf (h .0 .0) seats) q .1 (h .1 .1))),
       );
       nobody = says-exactly faithful e none ↔∙ (
-        (λ h. let (z, at) = said .found .only none h in (z .0, (z .1, nobody-exactly (z .0 .0) seats .0 (sym at)))),
-        (λ h. said .found .each (h .0, h .1 .0) ∙ ap says (nobody-exactly (h .0 .0) seats .1 (h .1 .1))),
+        (λ h. let (z, at) = said .found .only none h in (z .0, (z .1, nobody-exactly (z .0 .0) (seatingOf (z .0 .0) seats) .0 (sym at)))),
+        (λ h. said .found .each (h .0, h .1 .0) ∙ ap says (nobody-exactly (h .0 .0) (seatingOf (h .0 .0) seats) .1 (h .1 .1))),
       );
       no-other = λ r p h. among-up-to (cardNumbers ++ seatsNumbers) r seatAboveTop (said .numbers .number r p (refused-exactly faithful e r p .0 h)) refl;
     }

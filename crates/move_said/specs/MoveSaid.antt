@@ -9,9 +9,9 @@ use lib.ListN.{length}
 use Rattle.card.specs.Refusals.{wrongWeight, wrongSeats, seatAboveTop}
 use Rattle.card.specs.Card.{Card}
 use Rattle.reading.specs.Reading.{refused as turned, readOf}
-use Rattle.meaning.specs.Seats.{ValidSeating, Stuck}
+use Rattle.meaning.specs.Seats.{Stuck}
 use Rattle.entry.specs.Said.{Said, says, refused, _>>=_, _>>_, return}
-use Rattle.seating.specs.Judged.{FirstAbove}
+use Rattle.seating.specs.Judged.{seatsDue, FirstWrong, seatingOf, Seated}
 use Rattle.seating.specs.SeatsSaid.{seatsSaid}
 use Rattle.rows.specs.Said.{cardSaid, Read}
 use Rattle.moving.specs.FirstMove.{firstMove}
@@ -21,7 +21,7 @@ use Rattle.moving.specs.FirstTaken.{FirstTaken}
 abbrev pub moveSeated : List ℕ → Card → Said (Option ℕ)
 moveSeated seats c = do
   seatsSaid seats c
-  return (firstMove c seats)
+  return (firstMove c (seatingOf c seats))
 
 unfoldable pub moveSaid : (card seats : List ℕ) → Said (Option ℕ)
 moveSaid card seats = do
@@ -32,11 +32,11 @@ moveSaid card seats = do
 
 pub record Moves {T : Type 0} (tell : Said (Option ℕ) → T) (card seats : List ℕ) (a : T) : Type 0 where
   pub wrong-card : (number place : ℕ) → number ≤ wrongWeight → (a ≡ tell (refused number place)) ↔ (readOf card ≡ turned number place)
-  pub wrong-count : (place : ℕ) → (a ≡ tell (refused wrongSeats place)) ↔ ((c : Read card) × ((length seats ≡ c .0 .n → ⊥) × (place ≡ 0)))
-  pub wrong-seat : (place : ℕ) → (a ≡ tell (refused seatAboveTop place)) ↔ ((c : Read card) × ((length seats ≡ c .0 .n) × FirstAbove (c .0 .k) seats place))
+  pub wrong-count : (place : ℕ) → (a ≡ tell (refused wrongSeats place)) ↔ ((c : Read card) × ((length seats ≡ seatsDue (c .0) → ⊥) × (place ≡ 0)))
+  pub wrong-seat : (place : ℕ) → (a ≡ tell (refused seatAboveTop place)) ↔ ((c : Read card) × ((length seats ≡ seatsDue (c .0)) × FirstWrong (c .0) seats place))
   -- some seat may take this statement, and none may take one before it
-  pub statement : (q : ℕ) → (a ≡ tell (says (some q))) ↔ ((c : Read card) × (ValidSeating (c .0) seats × FirstTaken (c .0 .statements) seats q))
+  pub statement : (q : ℕ) → (a ≡ tell (says (some q))) ↔ ((c : Read card) × (Seated (c .0) seats × FirstTaken (c .0 .statements) (seatingOf (c .0) seats) q))
   -- nobody exactly where the seating is stuck
-  pub nobody : (a ≡ tell (says none)) ↔ ((c : Read card) × (ValidSeating (c .0) seats × Stuck (c .0) seats))
+  pub nobody : (a ≡ tell (says none)) ↔ ((c : Read card) × (Seated (c .0) seats × Stuck (c .0) (seatingOf (c .0) seats)))
   -- there is no other refusal
   pub no-other : (number place : ℕ) → a ≡ tell (refused number place) → number ≤ seatAboveTop

@@ -6,6 +6,7 @@ use mathlib.Core.Option.{Option, none, some}
 use lib.Dec.{ltb}
 use Rattle.card.specs.Text.{if_then_else_}
 use Rattle.card.specs.Card.{Statement, Card}
+use Rattle.meaning.specs.Position.{Position}
 use Rattle.meaning.specs.Choices.{Choice, choicesOf}
 use Rattle.meaning.specs.Seats.{Seating, turnsBy, choicesFrom}
 use Rattle.meaning.specs.ByCounts.{able}
@@ -22,10 +23,10 @@ unfoldable pub firstMove : Card → Seating → Option ℕ
 unfolding choicesOf turnsBy
 firstMove c x = firstOf (choicesFrom 1 (c .statements) x)
 
--- ---- by counts v of n seats: no statement behind the first that can be taken is looked at
+-- ---- by counts v of n seats, the shared number beside them: no statement behind the first that can be taken is looked at
 
 -- among the statements from place q on
-unfoldable pub firstAt : ℕ → List ℕ → ℕ → List Statement → Option ℕ
+unfoldable pub firstAt : ℕ → Position → ℕ → List Statement → Option ℕ
 unfolding able
 firstAt n v q [] = none
 firstAt n v q (s ∷ l) = if ltb 0 (able n v s) then some q else firstAt n v (suc q) l

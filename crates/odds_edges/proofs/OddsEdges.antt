@@ -8,7 +8,7 @@ use Rattle.meaning.specs.Choices.{choicesOf}
 use Rattle.meaning.specs.Seats.{counts}
 use Rattle.meaning.specs.Reduced.{copy, reduce, canTake, reducedTurn, reducedTurnsBy, reducedChoices}
 use Rattle.meaning.specs.CardA.{cardA}
-use Rattle.seating.specs.Judged.{judgedSeats, judgedFrom}
+use Rattle.seating.specs.Judged.{judgedSeats, judgedBy}
 use Rattle.asking.specs.Question.{mixedNext}
 use Rattle.asking.specs.Asking.{questionOf}
 use Rattle.evenings.specs.Rounds.{round}
@@ -16,12 +16,13 @@ use Rattle.evenings.specs.Scales.{bottom, exactly, millionths}
 use Rattle.evenings.specs.Evenings.{countTable}
 use Rattle.evenings.specs.Leader.{leaderCard}
 use Rattle.vectors.specs.Vectors.{vectors}
+use Rattle.vectors.specs.Positions.{positions}
 use Rattle.chances.specs.Chances.{roundRow, rowBefore}
 use Rattle.odds_said.specs.OddsSaid.{oddsSaid}
 use Rattle.odds_edges.specs.OddsEdges.{OddsEdges}
 
 pub odds-edges : OddsEdges
-unfolding oddsSaid decimal questionOf mixedNext readUnder unitsOf judgedSeats judgedFrom vectors roundRow rowBefore padded zeros counts round millionths exactly bottom countTable reducedChoices reducedTurnsBy choicesOf reduce canTake reducedTurn copy cardA leaderCard
+unfolding oddsSaid decimal questionOf mixedNext readUnder unitsOf judgedSeats judgedBy vectors positions roundRow rowBefore padded zeros counts round millionths exactly bottom countTable reducedChoices reducedTurnsBy choicesOf reduce canTake reducedTurn copy cardA leaderCard
 odds-edges = record {
   card-a = (refl, refl, refl, refl);
   card-a-exact = (refl, refl, refl);

@@ -9,6 +9,7 @@ use lib.ListN.{take}
 use Rattle.card.specs.Text.{bytes}
 use Rattle.card.specs.Card.{Mode, nondeterministic, probabilistic}
 use Rattle.reading.specs.Reading.{taken, readOf}
+use Rattle.meaning.specs.Position.{position}
 use Rattle.meaning.specs.Sums.{upto}
 use Rattle.meaning.specs.Reduced.{noOf}
 use Rattle.meaning.specs.CardA.{cardA}
@@ -122,10 +123,10 @@ zeroSeats n = upto n (λ i. 0)
 
 abbrev pub ExactA : Mode → Aim → ℕ → ℕ → ℕ → Type 0
 ExactA mode aim m a b =
-    b * exact (cardA mode) aim (countTable (cardA mode) (λ v. ltb 0 (noOf v 2))) m (2 ∷ 1 ∷ 0 ∷ []) ≡ a * whole (cardA mode) m
+    b * exact (cardA mode) aim (countTable (cardA mode) (λ v. ltb 0 (noOf (v .each) 2))) m (position (2 ∷ 1 ∷ 0 ∷ []) 0) ≡ a * whole (cardA mode) m
 
 abbrev pub ExactLeader : Aim → ℕ → ℕ → ℕ → Type 0
-ExactLeader aim m a b = b * exact leaderCard aim (countTable leaderCard (λ v. eqb (noOf v 1) 1)) m (1 ∷ 2 ∷ 0 ∷ []) ≡ a * whole leaderCard m
+ExactLeader aim m a b = b * exact leaderCard aim (countTable leaderCard (λ v. eqb (noOf (v .each) 1) 1)) m (position (1 ∷ 2 ∷ 0 ∷ []) 0) ≡ a * whole leaderCard m
 
 pub record OddsEdges : Type 0 where
   -- card A at 001: some seat in state 2

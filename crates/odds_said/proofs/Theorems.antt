@@ -12,7 +12,8 @@ use lib.Dec.{eqb, leb}
 use lib.ListN.{length}
 use Rattle.card.specs.Refusals.{tooLong, notDue, wrongSeats, seatAboveTop}
 use Rattle.card.specs.Card.{Card}
-use Rattle.meaning.specs.Seats.{ValidSeating, counts}
+use Rattle.card.specs.Valid.{valuesOf}
+use Rattle.meaning.specs.Seats.{counted}
 use Rattle.entry.specs.Said.{Said, says, refused, _>>=_, unless}
 use Rattle.entry.specs.Numbers.{Numbers, _to_, only, among}
 use Rattle.entry.specs.Contract.{Ends, Two, two, Enters, inRows, Faithful}
@@ -20,6 +21,7 @@ use Rattle.entry.specs.Stage.{Stage}
 use Rattle.entry.proofs.Stages.{in-span, apart-out, among-up-to, refused-unless, itself, test, value, followed, its, beyond, last}
 use Rattle.entry.proofs.Exactly.{_↔∙_}
 use Rattle.entry.proofs.Entries.{ends-left, answer-refused, answer-says, refused-left}
+use Rattle.seating.specs.Judged.{seatingOf, Seated}
 use Rattle.seating.specs.SeatsSaid.{seatsSaid, seatsNumbers}
 use Rattle.seating.proofs.SeatsStage.{seats-stage, wrong-count, wrong-seat}
 use Rattle.rows.specs.Said.{cardSaid, cardNumbers, Read}
@@ -30,7 +32,7 @@ use Rattle.asking.proofs.Answers.{numbered}
 use Rattle.ask_said.specs.AskSaid.{questionSaid, questionNumbers, Understood}
 use Rattle.evenings.specs.Limits.{mostNights, mostVectors, tooManyVectors, tooManyNights, wrongRow}
 use Rattle.evenings.specs.Rounds.{Aim}
-use Rattle.chances.specs.Chances.{chanceAt, vectorsOf}
+use Rattle.chances.specs.Chances.{chanceAt, positionsOf}
 use Rattle.odds_said.specs.OddsSaid.{vectorsSaid, nightsSaid, rowsSaid, oddsOf, oddsSeated, oddsCard, oddsSaid, Fits, Odds}
 
 -- ---- tests and what they say
@@ -62,7 +64,7 @@ same = (λ a. a, λ a. a)
 
 module _ (card question seats : List ℕ) (m : ℕ) (a : Aim) (long long₁ : ℕ) where
   abbrev few : Card → Bool
-  few c = leb (length (vectorsOf c)) mostVectors
+  few c = leb (length (positionsOf c)) mostVectors
 
   abbrev near : Bool
   near = leb m mostNights
@@ -71,11 +73,11 @@ module _ (card question seats : List ℕ) (m : ℕ) (a : Aim) (long long₁ : �
   right = eqb long mostVectors && eqb long₁ mostVectors
 
   asked : (c : Card) → Stage (questionSaid question c) questionNumbers (Understood question c) (λ u. u .0)
-  asked c = itself (record { number = λ r p e. let (l, m) = numbered (c .n) (c .k) question r p e in rw (in-span (inQuestion tooLong) (inQuestion notDue) r l m) })
+  asked c = itself (record { number = λ r p e. let (l, m) = numbered (c .n) (c .k) (valuesOf (c .shared)) question r p e in rw (in-span (inQuestion tooLong) (inQuestion notDue) r l m) })
 
   module _ (c : Card) (q : Question) where
     abbrev ends : Ends ℕ (Two (List ℕ))
-    ends = oddsOf c q a m (counts (c .k) seats)
+    ends = oddsOf c q a m (counted (c .k) (seatingOf c seats))
 
     abbrev afterNights : Said (Ends ℕ (Two (List ℕ)))
     afterNights = rowsSaid long long₁ >>= (λ _. says ends)
@@ -96,7 +98,7 @@ module _ (card question seats : List ℕ) (m : ℕ) (a : Aim) (long long₁ : �
     after-seats = followed (test (few c) tooManyVectors 0) (λ _. afterVectors) (λ _. after-vectors .numbers) (λ _. after-vectors .found)
 
     seated : Stage (oddsSeated seats m a long long₁ c q) (seatsNumbers ++ (only tooManyVectors ++ (only tooManyNights ++ (only wrongRow ++ []))))
-        ((s : ValidSeating c seats) × ((w : few c ≡ true) × ((u : near ≡ true) × (right ≡ true)))) (λ _. ends)
+        ((s : Seated c seats) × ((w : few c ≡ true) × ((u : near ≡ true) × (right ≡ true)))) (λ _. ends)
     seated = followed (seats-stage seats c) (λ _. afterSeats) (λ _. after-seats .numbers) (λ _. after-seats .found)
 
     -- each refusal behind the question
@@ -104,34 +106,34 @@ module _ (card question seats : List ℕ) (m : ℕ) (a : Aim) (long long₁ : �
         → (oddsSeated seats m a long long₁ c q ≡ refused r p) ↔ (seatsSaid seats c ≡ refused r p)
     seats-number r p h = its (seats-stage seats c) (λ _. afterSeats) (λ _. after-seats .numbers) r p h
 
-    vectors-number : (p : ℕ) → (oddsSeated seats m a long long₁ c q ≡ refused tooManyVectors p) ↔ (ValidSeating c seats × ((mostVectors < length (vectorsOf c)) × (p ≡ 0)))
+    vectors-number : (p : ℕ) → (oddsSeated seats m a long long₁ c q ≡ refused tooManyVectors p) ↔ (Seated c seats × ((mostVectors < length (positionsOf c)) × (p ≡ 0)))
     vectors-number p = beyond (seats-stage seats c) (λ _. afterSeats) tooManyVectors p refl (λ _.
         its (test (few c) tooManyVectors 0) (λ _. afterVectors) (λ _. after-vectors .numbers) tooManyVectors p refl
-        ↔∙ refused-unless tooManyVectors 0 (few c) p ↔∙ both (more (length (vectorsOf c)) mostVectors) same)
+        ↔∙ refused-unless tooManyVectors 0 (few c) p ↔∙ both (more (length (positionsOf c)) mostVectors) same)
 
     nights-number : (p : ℕ) → (oddsSeated seats m a long long₁ c q ≡ refused tooManyNights p)
-        ↔ (ValidSeating c seats × ((length (vectorsOf c) ≤ mostVectors) × ((mostNights < m) × (p ≡ 0))))
+        ↔ (Seated c seats × ((length (positionsOf c) ≤ mostVectors) × ((mostNights < m) × (p ≡ 0))))
     nights-number p = beyond (seats-stage seats c) (λ _. afterSeats) tooManyNights p refl (λ _.
         beyond (test (few c) tooManyVectors 0) (λ _. afterVectors) tooManyNights p refl (λ _.
         its (test near tooManyNights 0) (λ _. afterNights) (λ _. after-nights .numbers) tooManyNights p refl
         ↔∙ refused-unless tooManyNights 0 near p ↔∙ both (more m mostNights) same)
-        ↔∙ both (fewer (length (vectorsOf c)) mostVectors) same)
+        ↔∙ both (fewer (length (positionsOf c)) mostVectors) same)
 
     rows-number : (p : ℕ) → (oddsSeated seats m a long long₁ c q ≡ refused wrongRow p)
-        ↔ (ValidSeating c seats × ((length (vectorsOf c) ≤ mostVectors) × ((m ≤ mostNights) × (((long ≡ mostVectors) × (long₁ ≡ mostVectors) → ⊥) × (p ≡ 0)))))
+        ↔ (Seated c seats × ((length (positionsOf c) ≤ mostVectors) × ((m ≤ mostNights) × (((long ≡ mostVectors) × (long₁ ≡ mostVectors) → ⊥) × (p ≡ 0)))))
     rows-number p = beyond (seats-stage seats c) (λ _. afterSeats) wrongRow p refl (λ _.
         beyond (test (few c) tooManyVectors 0) (λ _. afterVectors) wrongRow p refl (λ _.
         beyond (test near tooManyNights 0) (λ _. afterNights) wrongRow p refl (λ _.
         last (test right wrongRow 0) (λ _. ends) wrongRow p
         ↔∙ refused-unless wrongRow 0 right p ↔∙ both (not-true right (rows-right long long₁)) same)
         ↔∙ both (fewer m mostNights) same)
-        ↔∙ both (fewer (length (vectorsOf c)) mostVectors) same)
+        ↔∙ both (fewer (length (positionsOf c)) mostVectors) same)
 
   abbrev rowNumbers : Numbers
   rowNumbers = only tooManyVectors ++ (only tooManyNights ++ (only wrongRow ++ []))
 
   abbrev Taken : Card → Type 0
-  Taken c = (s : ValidSeating c seats) × ((w : few c ≡ true) × ((u : near ≡ true) × (right ≡ true)))
+  Taken c = (s : Seated c seats) × ((w : few c ≡ true) × ((u : near ≡ true) × (right ≡ true)))
 
   behind : (c : Card) → Stage (oddsCard question seats m a long long₁ c) (questionNumbers ++ (seatsNumbers ++ rowNumbers))
       ((u : Understood question c) × Taken c) (λ z. ends c (z .0 .0))
@@ -183,14 +185,14 @@ module _ (card question seats : List ℕ) (m : ℕ) (aim : Aim) (was is : Two (L
   what = oddsSaid card question seats m aim (length (was .first)) (length (was .second))
 
   module _ {T : Type 0} {tell : Said ℕ → T} (faithful : Faithful tell) {a : T} (e : Enters inRows tell was is what a) where
-    found : (c : Read card) (q : Understood question (c .0)) → Fits (c .0) seats m was → what ≡ says (oddsOf (c .0) (q .0) aim m (counts (c .0 .k) seats))
+    found : (c : Read card) (q : Understood question (c .0)) → Fits (c .0) seats m was → what ≡ says (oddsOf (c .0) (q .0) aim m (counted (c .0 .k) (seatingOf (c .0) seats)))
     found c q f = said card question seats m aim (length (was .first)) (length (was .second)) .found .each (
       c,
       (
         q,
         (
           f .seating,
-          (fewer (length (vectorsOf (c .0))) mostVectors .1 (f .few), (fewer m mostNights .1 (f .near), rows-right (length (was .first)) (length (was .second)) .1 (f .first-row, f .second-row))),
+          (fewer (length (positionsOf (c .0))) mostVectors .1 (f .few), (fewer m mostNights .1 (f .near), rows-right (length (was .first)) (length (was .second)) .1 (f .first-row, f .second-row))),
         ),
       ),
     )
@@ -231,7 +233,7 @@ module _ (card question seats : List ℕ) (m : ℕ) (aim : Aim) (was is : Two (L
                     (
                       record {
                         seating = z .1 .1 .0;
-                        few = fewer (length (vectorsOf (z .0 .0))) mostVectors .0 (z .1 .1 .1 .0);
+                        few = fewer (length (positionsOf (z .0 .0))) mostVectors .0 (z .1 .1 .1 .0);
                         near = fewer m mostNights .0 (z .1 .1 .1 .1 .0);
                         first-row = right .0;
                         second-row = right .1;
@@ -240,7 +242,7 @@ module _ (card question seats : List ℕ) (m : ℕ) (aim : Aim) (was is : Two (L
                     ),
                   ),
                 )),
-            (λ h. (oddsOf (h .0 .0) (h .1 .0 .0) aim m (counts (h .0 .0 .k) seats), found (h .0) (h .1 .0) (h .1 .1 .0), h .1 .1 .1)),
+            (λ h. (oddsOf (h .0 .0) (h .1 .0 .0) aim m (counted (h .0 .0 .k) (seatingOf (h .0 .0) seats)), found (h .0) (h .1 .0) (h .1 .1 .0), h .1 .1 .1)),
           );
           first-holds = λ c q f. ap (λ (y : Two (List ℕ)). y .first) (ends-left e (found c q f));
           second-holds = λ c q f. ap (λ (y : Two (List ℕ)). y .second) (ends-left e (found c q f));

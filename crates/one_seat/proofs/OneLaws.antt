@@ -212,6 +212,7 @@ module _ (s : List ℕ) (first : TermFound) (count : ℕ) (all : Bool) (c : ℕ)
           later = so .later;
           item = refl;
           want = we ∙ want-so all count (first .seats) (so .head ∷ so .more) (so .later) (so .counted) (so .read .seats) (so .agreed);
+          kind = refl;
           node = ne ∙ packed-one (first .d) (omega (arith, so .read .small)) ∙ ap (λ d. leafNumber (one d)) (so .read .d);
           d = so .read .d;
           first = so .read .first;

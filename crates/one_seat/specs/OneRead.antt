@@ -5,7 +5,7 @@ use mathlib.Core.Path.{_≡_}
 use mathlib.Core.List.{List, _∷_}
 use lib.ListN.{length}
 use Rattle.card.specs.Card.{one}
-use Rattle.card.specs.Laid.{leafNumber}
+use Rattle.card.specs.Laid.{oneKind, leafNumber}
 use Rattle.marks_on_a_card.specs.Marks.{placeOf}
 use Rattle.marks.specs.Step.{marksAt}
 use Rattle.reading.specs.Reader.{Place, State, Result, ok, stop}
@@ -27,6 +27,7 @@ pub record ReadOne (o : ℕ) (s : List ℕ) (n : ℕ) (p : Place) (x : Item) (be
   pub later : List (List Literal)
   pub item : x ≡ exactlyOne p ((head ∷ more) ∷ later)
   pub want : r .want ≡ wantOfTerms ((head ∷ more) ∷ later)
+  pub kind : r .kind ≡ oneKind
   pub node : r .node ≡ leafNumber (one (head .d))
   -- its first d, and where that stands
   pub d : r .d ≡ head .d

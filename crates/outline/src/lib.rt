@@ -71,6 +71,8 @@ pub fn refused(due: Due) -> Outline
     let verdict = Verdict::Refused(number as u8, due.place);
     let head = Head {
         mode: 0,
+        shared: 0,
+        initial: 0,
         seats: 0,
         top: 0,
         start: 0,

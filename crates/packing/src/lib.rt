@@ -1,15 +1,15 @@
 // A node and a branch as one number each ("What the box holds"). A packer takes an argument that is too large as the largest that it
 // takes; a reader of a packed number takes any.
-use card::limits::FREE_PLACE;
 use card::limits::MOST_STATES;
 use card::limits::NODE_PLACES;
 use card::limits::NUMBERS;
+use card::limits::SET_PLACES;
 use weights::Weight;
 ghost use mathlib.Core.Path.{_≡_};
 ghost use Prim.Native.Nat.{_-_, _<_, min};
-ghost use Rattle.card.specs.Limits.{mostStates, nodePlaces, numbers, unit};
+ghost use Rattle.card.specs.Limits.{mostStates, setPlaces, nodePlaces, numbers, unit};
 ghost use Rattle.card.specs.Card.{one};
-ghost use Rattle.card.specs.Laid.{opOr, leafNumber, packNode, packGroup, packBranch, opOf, leftOf, rightOf, kindPart, signPart, relationPart, statePart, unitsPart, endPart};
+ghost use Rattle.card.specs.Laid.{opOr, sharedKind, leafNumber, packNode, packGroup, packBranch, opOf, leftOf, rightOf, kindPart, signPart, relationPart, statePart, unitsPart, setPart, endPart};
 
 // what a node is: its operator
 pub const LEAF: usize = 0;
@@ -20,12 +20,14 @@ pub const AND: usize = 2;
 
 pub const OR: usize = 3;
 
-// and of a leaf its kind: two for a group, and behind them exactly one seat
+// and of a leaf its kind: two for a group, and behind them exactly one seat and the shared number
 pub const EVERYONE: usize = 0;
 
 pub const OTHERS: usize = 1;
 
 pub const ONE: usize = 2;
+
+pub const SHARED: usize = 3;
 
 // and of a group its sign and its relation
 pub const ALL: usize = 0;
@@ -36,8 +38,8 @@ pub const IS: usize = 0;
 
 pub const ISNT: usize = 1;
 
-// a branch's units stand above the free place and its end
-const BELOW_UNITS: usize = FREE_PLACE * MOST_STATES;
+// a branch's units stand above what it sets and its end
+const BELOW_UNITS: usize = SET_PLACES * MOST_STATES;
 
 // the smaller of the two
 fn at_most(x: usize, most: usize) -> usize
@@ -76,12 +78,23 @@ pub fn pack_one(d: usize) -> u32
     (ONE * (4 * MOST_STATES) + d) as u32
 }
 
-pub fn pack_branch(units: u32, end: usize) -> u32
-    ensures { λ r. ⌜ r ≡ packBranch (min units unit) (min end numbers) ⌝ }
+// a leaf that tests the shared number
+pub fn pack_shared(relation: usize, value: usize) -> u32
+    ensures { λ r. ⌜ r ≡ packGroup sharedKind 0 (min relation 1) (min value numbers) ⌝ }
+{
+    let relation = at_most(relation, ISNT);
+    let value = at_most(value, NUMBERS);
+    (SHARED * (4 * MOST_STATES) + (relation * MOST_STATES + value)) as u32
+}
+
+// `sets` is 0 where a branch sets nothing, and else one more than what it sets the shared number to
+pub fn pack_branch(units: u32, sets: usize, end: usize) -> u32
+    ensures { λ r. ⌜ r ≡ packBranch (min units unit) (min sets numbers) (min end numbers) ⌝ }
 {
     let units = at_most(units as usize, Weight::UNIT as usize);
+    let sets = at_most(sets, NUMBERS);
     let end = at_most(end, NUMBERS);
-    (units * BELOW_UNITS + end) as u32
+    (units * BELOW_UNITS + (sets * MOST_STATES + end)) as u32
 }
 
 // what a packed node or branch holds, part by part
@@ -143,6 +156,13 @@ pub fn units_of(branch: u32) -> u32
     ensures { λ r. ⌜ r ≡ unitsPart branch ⌝ }
 {
     branch / (BELOW_UNITS as u32)
+}
+
+pub fn set_of(branch: u32) -> usize
+    ensures part { λ r. ⌜ r ≡ setPart branch ⌝ }
+    ensures small { λ r. ⌜ r < setPlaces ⌝ }
+{
+    (branch as usize) / MOST_STATES % SET_PLACES
 }
 
 pub fn end_of(branch: u32) -> usize

@@ -1,6 +1,6 @@
 -- The input in the parts that the code lends: the line of seats ends where it was found, the card begins behind LF, and of a line of more
 -- seats than any card has the first few are refused as all of them are. Assumes nothing.
-use Prim.Native.Nat.{ℕ, suc, _+_, _-_, _≤_, _<_, min}
+use Prim.Native.Nat.{ℕ, zero, suc, _+_, _-_, _≤_, _<_, min}
 use mathlib.Core.Path.{_≡_, refl, sym, ap, _∙_}
 use mathlib.Core.Bool.{Bool, true, false}
 use mathlib.Core.List.{List, [], _∷_, map}
@@ -20,7 +20,8 @@ use Rattle.reading.specs.Reading.{Outcome, taken, refused as turned, readOf}
 use Rattle.entry.specs.Said.{refused, _>>=_, _>>_, return}
 use Rattle.card.specs.declared.Verdict.{Verdict}
 use Rattle.card.specs.declared.Verdict.the-variants.{Taken, Refused}
-use Rattle.seating.specs.Judged.{judgedSeats}
+use Rattle.card.specs.Valid.{valuesOf}
+use Rattle.seating.specs.Judged.{bytesDue, judgedSeats, seatingOf}
 use Rattle.rows.specs.Said.{outcomeSaid}
 use Rattle.seating.specs.SeatsSaid.{verdictSaid}
 use Rattle.panel_wording.specs.PanelText.{panelOf}
@@ -69,12 +70,16 @@ card-none (b ∷ s) {end} e h =
 
 -- ---- the seats
 
-wrong : {n : ℕ} (k : ℕ) (x : List ℕ) → n ≤ mostSeats → mostSeats < length x → judgedSeats n k x ≡ Refused wrongSeats 0
-unfolding judgedSeats
-wrong {n} k x h l = rw (ne-eqb (length x) n (λ e. omega arith))
+due-most : (n values : ℕ) → n ≤ mostSeats → bytesDue n values ≤ suc mostSeats
+due-most n zero h = omega arith
+due-most n (suc most) h = omega arith
 
--- more seats than any card has are alike
-module _ (card x y : List ℕ) (h : mostSeats < length x) (l : mostSeats < length y) where
+wrong : {n : ℕ} (k values : ℕ) (x : List ℕ) → n ≤ mostSeats → suc mostSeats < length x → judgedSeats n k values x ≡ Refused wrongSeats 0
+unfolding judgedSeats
+wrong {n} k values x h l = rw (ne-eqb (length x) (bytesDue n values) (λ e. omega (arith, due-most n values h)))
+
+-- more bytes than any card has seats, and one for the shared number, are alike
+module _ (card x y : List ℕ) (h : suc mostSeats < length x) (l : suc mostSeats < length y) where
   pub too-many : panelSaid card x ≡ panelSaid card y
   unfolding panelSaid
   too-many = go (readOf card) refl
@@ -82,7 +87,7 @@ module _ (card x y : List ℕ) (h : mostSeats < length x) (l : mostSeats < lengt
       go : (o : Outcome) → readOf card ≡ o → outcomeSaid (readOf card) >>= shownSaid x ≡ outcomeSaid (readOf card) >>= shownSaid y
       go (taken c) e =
           let v = read-valid cardRule card c e .seats-most in
-          rw (e, wrong (c .k) x v h, wrong (c .k) y v l)
+          rw (e, wrong (c .k) (valuesOf (c .shared)) x v h, wrong (c .k) (valuesOf (c .shared)) y v l)
       go (turned r p) e = rw e
 
 sown-part : (line was : List ℕ) (i : ℕ) → i ≤ length line → take i (sown line was i) ≡ map seatOf (take i line)
@@ -97,7 +102,7 @@ module _ (line was : List ℕ) {i : ℕ} {is : List ℕ} (few : i ≡ min (lengt
   pub handed-count : i ≡ length (take i is)
   handed-count = sym (ap length handed ∙ length-map (take i line) seatOf ∙ length-take-le i line (omega arith))
 
-  pub seats-said : (card : List ℕ) → mostSeats < length was → panelSaid card (take i is) ≡ panelSaid card (map seatOf line)
+  pub seats-said : (card : List ℕ) → suc mostSeats < length was → panelSaid card (take i is) ≡ panelSaid card (map seatOf line)
   seats-said card room = go (decLe (length line) (length was))
     where
       go : Dec (length line ≤ length was) → panelSaid card (take i is) ≡ panelSaid card (map seatOf line)
@@ -113,16 +118,16 @@ pub panel-short : (card seats : List ℕ) → Short panelRoom (panelSaid card se
 unfolding panelSaid
 panel-short card seats = go (readOf card) refl
   where
-    by-seats : (c : Card) → readOf card ≡ taken c → (s : Verdict) → judgedSeats (c .n) (c .k) seats ≡ s → Short panelRoom (verdictSaid s >> return (panelOf c seats))
-    by-seats c e Taken j = panel-fits c (read-valid cardRule card c e) seats (valid-exactly c seats .0 j)
+    by-seats : (c : Card) → readOf card ≡ taken c → (s : Verdict) → judgedSeats (c .n) (c .k) (valuesOf (c .shared)) seats ≡ s → Short panelRoom (verdictSaid s >> return (panelOf c (seatingOf c seats)))
+    by-seats c e Taken j = panel-fits c (read-valid cardRule card c e) (seatingOf c seats) (valid-exactly c seats .0 j .valid)
     by-seats c e (Refused number place) j = tt
 
     go : (o : Outcome) → readOf card ≡ o → Short panelRoom (outcomeSaid o >>= shownSaid seats)
-    go (taken c) e = by-seats c e (judgedSeats (c .n) (c .k) seats) refl
+    go (taken c) e = by-seats c e (judgedSeats (c .n) (c .k) (valuesOf (c .shared)) seats) refl
     go (turned number place) e = tt
 
 -- the parts of an input are its line of seats and its card
-module _ (s card was : List ℕ) {end count : ℕ} {is : List ℕ} (found : end ≡ length (seatsLine s)) (room : mostSeats < length was)
+module _ (s card was : List ℕ) {end count : ℕ} {is : List ℕ} (found : end ≡ length (seatsLine s)) (room : suc mostSeats < length was)
     (few : count ≡ min (length (take end s)) (length was)) (wrote : is ≡ sown (take end s) was count) where
   pub answer-said : card ≡ cardBehind s → printed (panelSaid card (take count is)) ≡ answerTo s
   unfolding answerTo

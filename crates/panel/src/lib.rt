@@ -25,7 +25,7 @@ pub fn panel(card: &[u8], seats: &[u8], room: &mut [u8]) -> Answer
     let outline = read_into(card, &mut rows, &mut nodes, &mut branches);
     let head = outline.head;
     let of_card = outline.verdict;
-    let of_seats = judge_seats(seats, head.seats, head.top);
+    let of_seats = judge_seats(seats, head.seats, head.top, head.shared);
     let verdict = first_refusal(of_card, of_seats);
     if let Verdict::Refused(number, place) = verdict {
         return Answer::Refused(number, place);

@@ -18,8 +18,8 @@ pub const INPUT_BYTES: usize = 65536;
 // Enough for every panel and every refusal, so that none is refused for its length.
 pub const OUTPUT_BYTES: usize = PANEL_ROOM;
 
-// One more than any card has: more seats than that are refused as these are.
-const SEAT_PLACES: usize = MOST_SEATS + 1;
+// One more than any card has seats, with a shared number behind them: more bytes than that are refused as these are.
+const SEAT_PLACES: usize = MOST_SEATS + 2;
 
 // The panel, or a refusal's line.
 fn print<'a>(card: &'a [u8], seats: &'a [u8], room: &mut [u8]) -> usize

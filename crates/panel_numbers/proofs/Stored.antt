@@ -1,6 +1,6 @@
 -- Numbers stored one after the other: each stands in its place, and every other place is as it was. Sums grow by a term. Assumes nothing.
 use Prim.Native.Nat.{ℕ, zero, suc, _+_, _*_, _≤_, _<_}
-use mathlib.Core.Path.{_≡_, refl, sym, ap, _∙_}
+use mathlib.Core.Path.{_≡_, refl, sym, ap, ap₂, _∙_}
 use mathlib.Core.Logic.{_⊎_, inl, inr}
 use mathlib.Core.List.{List, _∷_}
 use native.Mathlib.Nat.{not-suc-le-zero, le-of-suc-le-suc}
@@ -49,6 +49,12 @@ module _ (from : ℕ) (f : ℕ → ℕ) (table : List ℕ) where
       go (no k) at =
           let same : i ≡ n = omega arith in
           rw same (getD-set-same (over from n f table) (from + n) (f n) 0 (omega (arith, over-long n)))
+
+-- the same numbers
+pub over-cong : (from : ℕ) (f g : ℕ → ℕ) (table : List ℕ) (n : ℕ) → ((i : ℕ) → i < n → f i ≡ g i) → over from n f table ≡ over from n g table
+unfolding over
+over-cong from f g table zero h = refl
+over-cong from f g table (suc n) h = ap₂ (λ (l : List ℕ) (w : ℕ). set l (from + n) w) (over-cong from f g table n (λ i l. h i (omega arith))) (h n (omega arith))
 
 -- the first places of a table, one by one
 pub take-is : (k : ℕ) (table v : List ℕ) → length v ≡ k → k ≤ length table → ((d : ℕ) → d < k → getD table d 0 ≡ getD v d 0) → take k table ≡ v

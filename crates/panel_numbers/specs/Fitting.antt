@@ -1,16 +1,16 @@
--- What the functions that fill the table ask of their caller: numbers that fit, so that no sum runs over. Assumes nothing.
+-- What the functions that fill the table, and rows of weights, ask of their caller: numbers that fit, so that no sum runs over. Assumes nothing.
 use Prim.Native.Nat.{ℕ, _*_, _≤_, _<_}
 use mathlib.Core.Path.{_≡_}
 use mathlib.Core.List.{List}
 use lib.ListN.{length, getD}
-use Rattle.card.specs.Limits.{mostSeats, topState, mostStates, mostStatements, unit}
+use Rattle.card.specs.Limits.{mostSeats, topState, mostShared, mostStatements, mostBranches, branchPlaces, unit}
 use Rattle.card.specs.Laid.{zeros}
 use Rattle.card.specs.Rows.{rowOf, FitRows}
 use Rattle.card.specs.Lent.{Lent, cardIn, HoldsIn}
 use Rattle.card.specs.declared.Head.{Head}
 use Rattle.meaning.specs.Seats.{Seating, ValidSeating}
-use Rattle.meaning.specs.ByCounts.{unitsTo}
-use Rattle.panel_numbers.specs.Table.{tablePlaces, ableIn, weightIn, weighingRow}
+use Rattle.meaning.specs.ByCounts.{unitsInto}
+use Rattle.panel_numbers.specs.Table.{tablePlaces, sharedIn, ableIn, weighingRow}
 
 -- none is above m
 abbrev pub Most : ℕ → List ℕ → Type 0
@@ -24,29 +24,29 @@ pub record FewAble (table : List ℕ) (count : ℕ) : Type 0 where
   pub statements : count ≤ mostStatements
   pub seats : (i : ℕ) → i < count → ableIn table i ≤ mostSeats
 
-pub record Adding (table : List ℕ) (own able : ℕ) (units : List ℕ) : Type 0 where
-  pub old : own < mostStates
+-- so many branches of statement i, added to n weights for so many seats, where the shared number is g
+pub record Adding (able g i many : ℕ) (branches : List ℕ) (n : ℕ) (weights : List ℕ) : Type 0 where
   pub few : able ≤ mostSeats
-  pub light : Most unit units
-  pub most : (b : ℕ) → b < mostStates → weightIn table own b ≤ heaviest
-
--- no weight from a state to itself is too large
-abbrev pub Light : List ℕ → Type 0
-Light table = (a : ℕ) → a < mostStates → weightIn table a a ≤ heaviest
+  pub shared : g < mostShared
+  pub statement : i < mostStatements
+  pub fit : many ≤ mostBranches
+  pub there : length branches ≡ branchPlaces
+  pub light : Most heaviest weights
+  pub long : length weights ≡ n
 
 -- rows and branches of a valid card with top state k
 pub record Fitting (k : ℕ) (rows branches : List ℕ) (count : ℕ) : Type 0 where
   pub top : k ≤ topState
   pub fit : FitRows rows count
+  pub there : length branches ≡ branchPlaces
   pub own : (i : ℕ) → i < count → rowOf rows i .own ≤ k
-  pub units : (i : ℕ) → i < count → (t : ℕ) → unitsTo t (weighingRow rows branches i .branches) ≤ unit
+  pub units : (i : ℕ) → i < count → (g b h : ℕ) → unitsInto g b h (weighingRow rows branches i .branches) ≤ unit
 
--- a table that has its ables, and no weights yet
+-- and a table that has its ables and the shared number
 pub record Weighing (h : Head) (rows branches table : List ℕ) : Type 0 where
   pub fitting : Fitting (h .top) rows branches (h .count)
   pub able : FewAble table (h .count)
-  pub none : (a b : ℕ) → a < mostStates → b < mostStates → weightIn table a b ≡ 0
-  pub long : length table ≡ tablePlaces
+  pub shared : sharedIn table < mostShared
 
 -- an empty table, a card that lies there and a seating of it
 pub record Filling (table : List ℕ) (h : Head) (x : Lent) (seats : Seating) : Type 0 where

@@ -1,10 +1,9 @@
 // A panel stored in a room that it fits into, or the length that it needs.
 use card::Head;
 use card::limits::BRANCH_PLACES;
+use card::limits::MOST_BRANCHES;
 use card::limits::MOST_STATEMENTS;
-use card::limits::NUMBER_DIGITS;
 use card::limits::ROW_PLACES;
-use card::limits::TOP_STATE;
 use card::refusals::ROOM_TOO_SMALL;
 use panel_text::put_panel;
 use room::Answer;
@@ -18,11 +17,11 @@ ghost use Rattle.panel_wording.specs.PanelIn.{panelIn};
 ghost use Rattle.panel_wording.specs.PanelRoom.{Printable};
 
 // A room that every panel fits into (panel_wording/specs/PanelRoom.antt).
-const MOVE_MOST: usize = 10 + NUMBER_DIGITS;
+const LINE_MOST: usize = 21;
 
-const CHOICE_MOST: usize = 10 + (6 + NUMBER_DIGITS) + TOP_STATE * MOVE_MOST;
+const CHOICE_MOST: usize = 10 + MOST_BRANCHES * LINE_MOST;
 
-pub const PANEL_ROOM: usize = 69 + MOST_STATEMENTS * CHOICE_MOST;
+pub const PANEL_ROOM: usize = 78 + MOST_STATEMENTS * CHOICE_MOST;
 
 // How long a panel's text is: it is put into a room of no bytes.
 fn measure<'a>(

@@ -1,3 +1,4 @@
+pub mod Lines
 pub mod Short
 pub mod Theorems
 pub mod Reordering

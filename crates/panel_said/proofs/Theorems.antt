@@ -14,8 +14,7 @@ use Rattle.entry.specs.Numbers.{among}
 use Rattle.entry.specs.Stage.{Stage}
 use Rattle.entry.proofs.Stages.{value, followed, beyond, last}
 use Rattle.entry.proofs.Exactly.{_↔∙_, under}
-use Rattle.meaning.specs.Seats.{ValidSeating}
-use Rattle.seating.specs.Judged.{FirstAbove}
+use Rattle.seating.specs.Judged.{seatsDue, FirstWrong, seatingOf, Seated}
 use Rattle.seating.specs.SeatsSaid.{seatsSaid, seatsNumbers}
 use Rattle.seating.proofs.SeatsStage.{seats-stage, wrong-count, wrong-seat}
 use Rattle.rows.specs.Said.{cardNumbers, Read}
@@ -24,10 +23,10 @@ use Rattle.panel_wording.specs.PanelText.{panelOf}
 use Rattle.panel_said.specs.PanelSaid.{shownSaid, panelSaid}
 
 module _ (card seats : List ℕ) where
-  shown : (c : Card) → Stage (shownSaid seats c) seatsNumbers (ValidSeating c seats) (λ _. panelOf c seats)
-  shown c = value (seats-stage seats c) (λ _. panelOf c seats)
+  shown : (c : Card) → Stage (shownSaid seats c) seatsNumbers (Seated c seats) (λ _. panelOf c (seatingOf c seats))
+  shown c = value (seats-stage seats c) (λ _. panelOf c (seatingOf c seats))
 
-  pub said : Stage (panelSaid card seats) (cardNumbers ++ seatsNumbers) ((w : Read card) × ValidSeating (w .0) seats) (λ z. panelOf (z .0 .0) seats)
+  pub said : Stage (panelSaid card seats) (cardNumbers ++ seatsNumbers) ((w : Read card) × Seated (w .0) seats) (λ z. panelOf (z .0 .0) (seatingOf (z .0 .0) seats))
   unfolding panelSaid
   said = followed (card-stage card) (shownSaid seats) (λ c. shown c .numbers) (λ w. shown (w .0) .found)
 
@@ -37,10 +36,10 @@ module _ (card seats : List ℕ) where
 
   pub said-seats : (r p : ℕ) → among cardNumbers r ≡ false → (panelSaid card seats ≡ refused r p) ↔ ((w : Read card) × (seatsSaid seats (w .0) ≡ refused r p))
   unfolding panelSaid
-  said-seats r p h = beyond (card-stage card) (shownSaid seats) r p h (λ w. last (seats-stage seats (w .0)) (λ _. panelOf (w .0) seats) r p)
+  said-seats r p h = beyond (card-stage card) (shownSaid seats) r p h (λ w. last (seats-stage seats (w .0)) (λ _. panelOf (w .0) (seatingOf (w .0) seats)) r p)
 
-  pub said-count : (p : ℕ) → (panelSaid card seats ≡ refused wrongSeats p) ↔ ((c : Card) × (readOf card ≡ taken c) × (length seats ≡ c .n → ⊥) × (p ≡ 0))
+  pub said-count : (p : ℕ) → (panelSaid card seats ≡ refused wrongSeats p) ↔ ((c : Card) × (readOf card ≡ taken c) × (length seats ≡ seatsDue c → ⊥) × (p ≡ 0))
   said-count p = said-seats wrongSeats p refl ↔∙ under (λ w. wrong-count seats (w .0) p) ↔∙ (λ h. (h .0 .0, h .0 .1, h .1 .0, h .1 .1), λ h. ((h .0, h .1), (h .2, h .3)))
 
-  pub said-seat : (p : ℕ) → (panelSaid card seats ≡ refused seatAboveTop p) ↔ ((c : Card) × (readOf card ≡ taken c) × (length seats ≡ c .n) × FirstAbove (c .k) seats p)
+  pub said-seat : (p : ℕ) → (panelSaid card seats ≡ refused seatAboveTop p) ↔ ((c : Card) × (readOf card ≡ taken c) × (length seats ≡ seatsDue c) × FirstWrong c seats p)
   said-seat p = said-seats seatAboveTop p refl ↔∙ under (λ w. wrong-seat seats (w .0) p) ↔∙ (λ h. (h .0 .0, h .0 .1, h .1 .0, h .1 .1), λ h. ((h .0, h .1), (h .2, h .3)))

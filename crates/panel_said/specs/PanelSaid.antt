@@ -5,6 +5,7 @@ use mathlib.Core.List.{List}
 use Rattle.card.specs.Card.{Card}
 use Rattle.entry.specs.Said.{_>>=_, _>>_, return}
 use Rattle.room.specs.Answer.{Text}
+use Rattle.seating.specs.Judged.{seatingOf}
 use Rattle.seating.specs.SeatsSaid.{seatsSaid}
 use Rattle.rows.specs.Said.{cardSaid}
 use Rattle.panel_wording.specs.PanelText.{panelOf}
@@ -13,7 +14,7 @@ use Rattle.panel_wording.specs.PanelText.{panelOf}
 abbrev pub shownSaid : List ℕ → Card → Text
 shownSaid seats c = do
   seatsSaid seats c
-  return (panelOf c seats)
+  return (panelOf c (seatingOf c seats))
 
 unfoldable pub panelSaid : List ℕ → List ℕ → Text
 panelSaid card seats = do

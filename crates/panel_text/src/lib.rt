@@ -1,17 +1,20 @@
-// The panel's text ("Texts, byte for byte"), from the table of its numbers.
+// The panel's text ("Texts, byte for byte"; document 02, 2026-10), from the table of its numbers.
 use card::Head;
 use card::NONDETERMINISTIC;
 use card::limits::BRANCH_PLACES;
 use card::limits::ROW_PLACES;
 use lines::put_line;
 use lines::put_stay;
+use lines::put_stays;
 use moves_text::put_choices;
 use moves_text::put_table;
 use phrases::put_mode;
 use put_numbers::put_number;
+use room::place;
 use room::put_bytes;
 use weighing::ENABLED;
-use weighing::STAY;
+use weighing::SHARED;
+use weighing::STAYS;
 use weighing::TABLE_PLACES;
 ghost use mathlib.Core.Path.{_≡_};
 ghost use mathlib.Core.List.{[], _∷_};
@@ -23,28 +26,40 @@ ghost use Rattle.card.specs.Laid.{either};
 ghost use Rattle.room.specs.Room.{Put};
 ghost use Rattle.phrases.specs.Phrases.{_▸_, num, modeText};
 ghost use Rattle.phrases.specs.Puts.{Puts};
-ghost use Rattle.panel_numbers.specs.Table.{enabledPlace, tablePlaces};
-ghost use Rattle.panel_numbers.specs.Fitting.{Fitting};
-ghost use Rattle.panel_wording.specs.PanelText.{line, panelText};
-ghost use Rattle.panel_wording.specs.PanelIn.{panelIn};
+ghost use Rattle.panel_numbers.specs.Table.{enabledPlace, sharedIn, tablePlaces};
+ghost use Rattle.panel_wording.specs.PanelText.{line, sharedText, panelText};
+ghost use Rattle.panel_wording.specs.PanelIn.{Showing, shownIf, panelIn};
+
+// The shared number, where it has values at all.
+fn put_shared(room: &mut [u8], at: usize, shared: usize, present: usize) -> usize
+    ensures { λ r. ⌜ Puts (now (room .entry)) (now (room .exit)) at (sharedText (shownIf shared present)) r ⌝ }
+{
+    if shared == 0 {
+        return place(at);
+    }
+    let values = [present];
+    put_line(room, at, b"shared", &values)
+}
 
 // The lines before the weights; the mode by its number in a card's struct.
 fn put_head(room: &mut [u8], at: usize, head: Head, table: &[usize]) -> usize
     requires { ⌜ (head .top ≤ topState) × (length (now table) ≡ tablePlaces) ⌝ }
-    ensures { λ r. ⌜ Puts (now (room .entry)) (now (room .exit)) at (λ t. modeText (either nondeterministic probabilistic (head .mode)) ("\nseats " ▸ num (head .seats) (line " enabled" (getD (now (table .entry)) enabledPlace 0 ∷ []) (line "counts" (take (head .top + 1) (now (table .entry))) t)))) r ⌝ }
+    ensures { λ r. ⌜ Puts (now (room .entry)) (now (room .exit)) at (λ t. modeText (either nondeterministic probabilistic (head .mode)) ("\nseats " ▸ num (head .seats) (line " enabled" (getD (now (table .entry)) enabledPlace 0 ∷ []) (line "counts" (take (head .top + 1) (now (table .entry))) (sharedText (shownIf (head .shared) (sharedIn (now (table .entry)))) t))))) r ⌝ }
 {
     let states = head.top + 1;
     let enabled = table[ENABLED];
+    let present = table[SHARED];
     let a = put_mode(room, at, head.mode);
     let b = put_bytes(room, a, b"\nseats ");
     let c = put_number(room, b, head.seats);
     let values = [enabled];
     let d = put_line(room, c, b" enabled", &values);
-    put_line(room, d, b"counts", &table[..states])
+    let e = put_line(room, d, b"counts", &table[..states]);
+    put_shared(room, e, head.shared, present)
 }
 
 // The whole panel, of a card that lies in lent arrays. On a nondeterministic card the table has a weight of no change only where no choice
-// can be taken.
+// can be taken: then the shared number stays too.
 pub fn put_panel<'a>(
     room: &mut [u8],
     at: usize,
@@ -53,19 +68,20 @@ pub fn put_panel<'a>(
     rows: &'a [usize; ROW_PLACES],
     branches: &'a [u32; BRANCH_PLACES],
 ) -> usize
-    requires { ⌜ Fitting (head .top) (now rows) (now branches) (head .count) ⌝ }
+    requires { ⌜ Showing head (now table) (now rows) (now branches) ⌝ }
     ensures { λ r. ⌜ Put (now (room .entry)) (now (room .exit)) at (panelText (panelIn head (now (table .entry)) (now (rows .entry)) (now (branches .entry)))) r ⌝ }
 {
-    let stay = table[STAY];
+    let present = table[SHARED];
+    let stay = table[STAYS + present];
     let a = put_head(room, at, head, table);
     if head.mode != NONDETERMINISTIC {
-        let b = put_stay(room, a, stay);
-        return put_table(room, b, table, head.top);
+        let b = put_stays(room, a, table, STAYS, head.shared);
+        return put_table(room, b, head, table, rows, branches);
     }
     if stay == 0 {
         return put_choices(room, a, head, table, rows, branches);
     }
     let values = [0];
     let b = put_line(room, a, b"choice", &values);
-    put_stay(room, b, stay)
+    put_stay(room, b, stay, present, head.shared)
 }

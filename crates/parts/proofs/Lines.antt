@@ -12,6 +12,7 @@ use borrow.Author.Tests.{eq-eqb, ne-eqb}
 use lib.Dec.{eqb}
 use lib.ListN.{length, getD, set, drop, drop-of-length-le}
 use lib.Seq.{drop-cons}
+use Rattle.card.specs.Limits.{numbers}
 use Rattle.card.specs.Refusals.{outOfShape, notDue}
 use Rattle.card.specs.Text.{if_then_else_}
 use Rattle.marks_on_a_card.specs.Marks.{Mark, text, seat as seatMark, process as processMark, number, decimal, outside, placeOf}
@@ -58,18 +59,19 @@ module _ (was : List ℕ) {is : List ℕ} {late : Late} (sized : Sized was) (e :
 
 module _ {s : List ℕ} {k i : ℕ} {x : Step} (v : Next s i x) where
   pub number-stops : {before : Late} {r : After} → (x .mark .kind ≡ kNumber → ⊥) → Halted outOfShape (x .mark .place) r → NumberFrom s i k before r
-  number-stops e h = record { answers = λ n. misses s _ numberOf (valueBy kNumber) number-shown i x v n (rw (ne-eqb _ _ e)) _ _ h; sized = h .sized }
+  number-stops e h = record { answers = λ n. misses s _ numberOf (valueBy kNumber) number-shown i x v n (rw (ne-eqb _ _ e)) _ _ h; small = λ z. absurd (z (h .none)); sized = h .sized }
 
-  pub number-read : (was : List ℕ) {is : List ℕ} → x .mark .kind ≡ kNumber → Sized was → is ≡ withLate was (stateBy k (x .mark .value) (x .mark .place) (lateIn was))
+  pub number-read : (was : List ℕ) {is : List ℕ} → x .mark .kind ≡ kNumber → x .mark .value < numbers → Sized was → is ≡ withLate was (stateBy k (x .mark .value) (x .mark .place) (lateIn was))
       → NumberFrom s i k (lateIn was) (after (set is atValue (x .mark .value)) (x .next .at))
   unfolding judgeAll
-  number-read was e sized h = record {
+  number-read was e few sized h = record {
     answers = λ n. fits s _ numberOf (valueBy kNumber) number-shown i x v n (x .mark .value) (rw (eq-eqb _ _ e)) _ _
         (record {
           went = behind s i x v (number-no-end e);
           rest = refl;
           told = record { value = valued was sized h (x .mark .value); late = valued-late was sized h (x .mark .value) ∙ ap (λ (p : ℕ). stateBy k (x .mark .value) p (lateIn was)) (place-seen s i x v) };
         });
+    small = λ z. omega (arith, valued was sized h (x .mark .value), few);
     sized = valued-sized was sized h (x .mark .value);
   }
 
@@ -278,3 +280,37 @@ module _ {s : List ℕ} {i : ℕ} {kinds dues : List ℕ} {before : Late} {j nex
             there = λ y. run-there s n next (lateIn state) x v (getD kinds j 0) (drop (suc j) kinds) (getD dues j 0 ∷ drop (suc j) dues) o d;
           });
     }
+
+-- ---- a run of signs alone has no words, and nothing in it is judged
+
+abbrev pub Signs : List Due → Type 0
+Signs [] = Unit {0}
+Signs (sign t ∷ run) = Signs run
+Signs (seat i ∷ run) = ⊥
+Signs (process i ∷ run) = ⊥
+
+abbrev Wordless : Result (List Numbered) → Type 0
+Wordless (ok ws b) = ws ≡ []
+Wordless (stop n p) = Unit {0}
+
+wordless : (run : List Due) → Signs run → (st : State) → Wordless (line (itemsIn run) st)
+wordless [] h st = refl
+wordless (sign t ∷ run) h st = go (readSign t st) (wordless run h)
+  where
+    go : (x : Result (Unit {0})) → ((s : State) → Wordless (line (itemsIn run) s)) → Wordless (bind x (λ u. line (itemsIn run)))
+    go (ok u s) f = f s
+    go (stop n p) f = tt
+wordless (seat i ∷ run) h st = absurd h
+wordless (process i ∷ run) h st = absurd h
+
+pub signs-read : (s : List ℕ) (before : Late) (run : List Due) → Signs run → (st : State) (r : After) → LineRead s before [] (line (itemsIn run) st) r
+    → Answers s (λ ws state. lateIn state ≡ before) (line (itemsIn run) st) r
+unfolding judgeAll
+signs-read s before run h st r = go (line (itemsIn run) st) (wordless run h st)
+  where
+    kept : (ws : List Numbered) → ws ≡ [] → judgeAll (length s) (judgedWords [] ws) before ≡ before
+    kept ws e = rw e
+
+    go : (x : Result (List Numbered)) → Wordless x → LineRead s before [] x r → Answers s (λ ws state. lateIn state ≡ before) x r
+    go (ok ws b) e y = record { went = y .went; rest = y .rest; told = y .told ∙ kept ws e }
+    go (stop n p) e y = y

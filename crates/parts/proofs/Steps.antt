@@ -11,6 +11,7 @@ use native.Mathlib.Omega.{arith}
 use borrow.Author.Tests.{eq-eqb, ne-eqb, eqb-true, leb-false}
 use lib.Dec.{eqb, leb}
 use lib.ListN.{length, drop}
+use Rattle.card.specs.Limits.{numbers}
 use Rattle.card.specs.Refusals.{outOfShape}
 use Rattle.card.specs.Text.{bytes, same, if_then_else_}
 use Rattle.card.specs.Weight.{Weight, whole, decimal as point}
@@ -48,6 +49,14 @@ next-at s i x h = rw h (go (stepAt s i) (marksAt 0 s i) refl (meet 0 s i))
 pub behind : (s : List ℕ) (i : ℕ) (x : Step) → Next s i x → (x .mark .kind ≡ kEnd → ⊥) → x .next .at ≡ 0 → ⊥
 behind s i _ (end e) h = absurd (h refl)
 behind s i _ (one m p next l e) h = λ z. omega arith
+
+-- a number has no more digits than a number may have
+pub number-small : (s : List ℕ) (i : ℕ) (x : Step) → x ≡ stepAt s i → x .mark .kind ≡ kNumber → x .mark .value < numbers
+number-small s i x h e = go x (marksAt 0 s i) (rw (← h) at (meet 0 s i)) e
+  where
+    go : (y : Step) (ms : List Placed) → Meet 0 s y ms → y .mark .kind ≡ kNumber → y .mark .value < numbers
+    go _ _ over f = absurd (omega arith)
+    go _ _ (met m p next small l k) f = rw (kind-number m f) at small
 
 -- ---- a sign or keyword by its kind
 

@@ -1,11 +1,12 @@
 -- What a reader leaves behind it for what reading a part of a card finds: the next place, or 0, and the state. Assumes nothing.
-use Prim.Native.Nat.{ℕ}
+use Prim.Native.Nat.{ℕ, _<_}
 use Prim.Native.String.{String}
 use mathlib.Core.Path.{_≡_}
 use mathlib.Core.Bool.{false}
 use mathlib.Core.List.{List, [], _∷_}
 use lib.Dec.{eqb, leb}
 use lib.ListN.{length}
+use Rattle.card.specs.Limits.{numbers}
 use Rattle.card.specs.Refusals.{aboveTop, notDue}
 use Rattle.marks_on_a_card.specs.Marks.{Mark, placeOf}
 use Rattle.marks_on_a_card.specs.Kinds.{kEnd, kSeat, kProcess, kind, kindOf}
@@ -54,6 +55,7 @@ NumberRead s k before = Answers s (λ x. Went s before (x .value) (judgedState k
 -- from place i of the card on, however many guard nodes are left; the state keeps its places
 pub record NumberFrom (s : List ℕ) (i k : ℕ) (before : Late) (r : After) : Type 0 where
   pub answers : (n : ℕ) → NumberRead s k before (numbered numberOf (from s i n)) r
+  pub small : (r .next ≡ 0 → ⊥) → valueIn (r .state) < numbers
   pub sized : Sized (r .state)
 
 -- ---- a sign or keyword

@@ -9,7 +9,7 @@ use Rattle.card.specs.Valid.{Every}
 use Rattle.card.specs.Weight.{Weight, whole, decimal, ratio, Rule, allowed}
 use Rattle.reading.specs.Judgements.{Judgement, sum}
 use Rattle.reading.specs.Shape.{BranchShape, StatementShape, CardShape}
-use Rattle.reading.specs.Checks.{judgedState, judgedWords, judgedBranch, judgedEach, judgedOr, weightIn, judgedStatement, judgedModules, judgedCard, seatsIn}
+use Rattle.reading.specs.Checks.{judgedState, judgedWords, judgedBranch, judgedEach, judgedOr, weightIn, judgedStatement, judgedModules, judgedCard, seatsIn, judgedShared, mostIn}
 use Rattle.grammar.specs.Rules.{Kept}
 use Rattle.grammar.specs.Verdicts.{Accepted}
 use Rattle.grammar.proofs.Fair.{every-append}
@@ -42,32 +42,36 @@ module _ (n : ℕ) where
       let q = every-append (Kept n) (f x) (judgedEach f xs) k in
       join (g x) (judgedEach g xs) (h x (q .0)) (each-looser f g h xs (q .1))
 
-  branch-looser : (k : ℕ) (b : BranchShape) → Every (Kept n) (judgedBranch false k b) → Every (Kept n) (judgedBranch true k b)
-  branch-looser k b h = let (a, w) = h .0 in ((weight-looser (b .weight) a, w), h .1)
+  branch-looser : (k m : ℕ) (b : BranchShape) → Every (Kept n) (judgedBranch false k m b) → Every (Kept n) (judgedBranch true k m b)
+  branch-looser k m b h = let (a, w) = h .0 in ((weight-looser (b .weight) a, w), h .1)
 
-  statement-looser : (k : ℕ) (x : StatementShape) → Every (Kept n) (judgedStatement false k x) → Every (Kept n) (judgedStatement true k x)
-  statement-looser k x h =
+  statement-looser : (k m : ℕ) (x : StatementShape) → Every (Kept n) (judgedStatement false k m x) → Every (Kept n) (judgedStatement true k m x)
+  statement-looser k m x h =
       let total : List Judgement = sum (map weightIn (x .branches)) (x .close) ∷ [] in
-      let moves = judgedEach (judgedBranch false k) (x .branches) in
-      let looser = judgedEach (judgedBranch true k) (x .branches) in
-      let q₁ = every-append (Kept n) (judgedWords (1 ∷ []) (x .words)) (judgedState k (x .own) ∷ (judgedOr k (x .guard) ++ (moves ++ total))) h in
-      let q₂ = every-append (Kept n) (judgedOr k (x .guard)) (moves ++ total) (q₁ .1 .1) in
+      let moves = judgedEach (judgedBranch false k m) (x .branches) in
+      let looser = judgedEach (judgedBranch true k m) (x .branches) in
+      let q₁ = every-append (Kept n) (judgedWords (1 ∷ []) (x .words)) (judgedState k (x .own) ∷ (judgedOr k m (x .guard) ++ (moves ++ total))) h in
+      let q₂ = every-append (Kept n) (judgedOr k m (x .guard)) (moves ++ total) (q₁ .1 .1) in
       let q₃ = every-append (Kept n) moves total (q₂ .1) in
-      join (judgedWords (1 ∷ []) (x .words)) (judgedState k (x .own) ∷ (judgedOr k (x .guard) ++ (looser ++ total))) (q₁ .0) (
+      join (judgedWords (1 ∷ []) (x .words)) (judgedState k (x .own) ∷ (judgedOr k m (x .guard) ++ (looser ++ total))) (q₁ .0) (
         q₁ .1 .0,
-        join (judgedOr k (x .guard)) (looser ++ total) (q₂ .0)
-            (join looser total (each-looser (judgedBranch false k) (judgedBranch true k) (branch-looser k) (x .branches) (q₃ .0)) (q₃ .1)),
+        join (judgedOr k m (x .guard)) (looser ++ total) (q₂ .0)
+            (join looser total (each-looser (judgedBranch false k m) (judgedBranch true k m) (branch-looser k m) (x .branches) (q₃ .0)) (q₃ .1)),
       )
 
 card-looser : (c : CardShape) → Every (Kept (seatsIn c)) (judgedCard false c) → Every (Kept (seatsIn c)) (judgedCard true c)
 card-looser c h =
     let n = seatsIn c in
-    let xs = judgedEach (judgedStatement false (c .k)) (c .statements) in
-    let looser = judgedEach (judgedStatement true (c .k)) (c .statements) in
-    let q₁ = every-append (Kept n) (judgedWords (1 ∷ 1 ∷ []) (c .words)) (judgedState (c .k) (c .l) ∷ (xs ++ judgedModules 2 (c .modules))) h in
+    let m = mostIn (c .shared) in
+    let xs = judgedEach (judgedStatement false (c .k) m) (c .statements) in
+    let looser = judgedEach (judgedStatement true (c .k) m) (c .statements) in
+    let q₀ = every-append (Kept n) (judgedShared (c .shared)) (judgedWords (1 ∷ 1 ∷ []) (c .words) ++ (judgedState (c .k) (c .l) ∷ (xs ++ judgedModules 2 (c .modules)))) h in
+    let q₁ = every-append (Kept n) (judgedWords (1 ∷ 1 ∷ []) (c .words)) (judgedState (c .k) (c .l) ∷ (xs ++ judgedModules 2 (c .modules))) (q₀ .1) in
     let q₂ = every-append (Kept n) xs (judgedModules 2 (c .modules)) (q₁ .1 .1) in
-    join n (judgedWords (1 ∷ 1 ∷ []) (c .words)) (judgedState (c .k) (c .l) ∷ (looser ++ judgedModules 2 (c .modules))) (q₁ .0)
-    (q₁ .1 .0, join n looser (judgedModules 2 (c .modules)) (each-looser n (judgedStatement false (c .k)) (judgedStatement true (c .k)) (statement-looser n (c .k)) (c .statements) (q₂ .0)) (q₂ .1))
+    let rest = each-looser n (judgedStatement false (c .k) m) (judgedStatement true (c .k) m) (statement-looser n (c .k) m) (c .statements) (q₂ .0) in
+    join n (judgedShared (c .shared)) (judgedWords (1 ∷ 1 ∷ []) (c .words) ++ (judgedState (c .k) (c .l) ∷ (looser ++ judgedModules 2 (c .modules)))) (q₀ .0)
+    (join n (judgedWords (1 ∷ 1 ∷ []) (c .words)) (judgedState (c .k) (c .l) ∷ (looser ++ judgedModules 2 (c .modules))) (q₁ .0)
+    (q₁ .1 .0, join n looser (judgedModules 2 (c .modules)) rest (q₂ .1)))
 
 stricter : (s : List ℕ) (c : Card) → Accepted false s c → Accepted true s c
 stricter s c h = record { shaped = h .shaped; kept = card-looser (h .shaped .shape) (h .kept); card = h .card }

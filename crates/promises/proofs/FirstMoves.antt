@@ -19,10 +19,12 @@ use Rattle.entry.specs.Said.{Said, says, refused, _>>=_}
 use Rattle.entry.specs.Contract.{valued, lentNothing, Faithful}
 use Rattle.entry.proofs.Stages.{same-number, same-place, last}
 use Rattle.entry.proofs.Exactly.{_↔∙_}
+use Rattle.seating.specs.Judged.{seatingOf, bytesOf}
 use Rattle.seating.proofs.Judging.{valid-exactly}
+use Rattle.seating.proofs.Bytes.{bytes-back, bytes-seated}
 use Rattle.seating.proofs.SeatsStage.{seats-stage}
 use Rattle.rows.specs.Said.{outcomeSaid}
-use Rattle.panel_wording.specs.PanelText.{line, choiceText, stayText, movesText, blockText, blocksText, panelText, panelOf}
+use Rattle.panel_wording.specs.PanelText.{line, told as tellsShared, choiceText, staysText, movesText, blockText, blocksText, panelText, panelOf}
 use Rattle.panel_said.specs.PanelSaid.{shownSaid, panelSaid}
 use Rattle.moving.specs.FirstMove.{firstMove}
 use Rattle.moving.specs.Shown.{FirstChoice}
@@ -43,8 +45,9 @@ module _ (p : Panel) (q : ℕ) where
   first-line : FirstChoice (p .blocks) (some q) → (rest : List ℕ) × (panelText p ≡ behindCounts p (line "choice" (q ∷ []) rest))
   unfolding panelText blockText
   first-line (b, r, parts, e) =
-      let rest = stayText (b .stay) (movesText (b .moves) (blocksText r [])) in
-      (rest, ap (λ (l : List Block). behindCounts p (blocksText l [])) parts ∙ ap (λ (o : Option ℕ). behindCounts p (choiceText o rest)) e)
+      let t = tellsShared (p .shared) in
+      let rest = staysText t (b .stays) (movesText t (b .moves) (blocksText t r [])) in
+      (rest, ap (λ (l : List Block). behindCounts p (blocksText t l [])) parts ∙ ap (λ (o : Option ℕ). behindCounts p (choiceText o rest)) e)
 
 shown-text : (c : Card) (x : Seating) (q : ℕ) → c .mode ≡ nondeterministic → firstMove c x ≡ some q
     → (rest : List ℕ) × (panelOf c x ≡ behindCounts (panel c x) (line "choice" (q ∷ []) rest))
@@ -154,14 +157,14 @@ module _ {A B : Type 0} (r p : ℕ) (f : Card → Said A) (g : Card → Said B) 
 as-panel : (card seats : List ℕ) (r p : ℕ) → (moveSaid card seats ≡ refused r p) ↔ (panelSaid card seats ≡ refused r p)
 unfolding moveSaid panelSaid
 as-panel card seats r p = alike r p (moveSeated seats) (shownSaid seats)
-    (λ c. last (seats-stage seats c) (λ _. firstMove c seats) r p ↔∙ turn (last (seats-stage seats c) (λ _. panelOf c seats) r p)) (readOf card)
+    (λ c. last (seats-stage seats c) (λ _. firstMove c (seatingOf c seats)) r p ↔∙ turn (last (seats-stage seats c) (λ _. panelOf c (seatingOf c seats)) r p)) (readOf card)
 
 module _ (card : List ℕ) (c : Card) (h : readOf card ≡ taken c) where
-  fine : (x : Seating) → ValidSeating c x → moveSaid card x ≡ says (firstMove c x)
+  fine : (x : Seating) → ValidSeating c x → moveSaid card (bytesOf c x) ≡ says (firstMove c x)
   unfolding moveSaid
-  fine x ok = rw (h, valid-exactly c x .1 ok)
+  fine x ok = rw (h, valid-exactly c (bytesOf c x) .1 (bytes-seated c x ok), bytes-back c x ok)
 
-  reordered : {x y : Seating} → Reordered x y → ValidSeating c x → moveSaid card x ≡ moveSaid card y
+  reordered : {x y : Seating} → Reordered x y → ValidSeating c x → moveSaid card (bytesOf c x) ≡ moveSaid card (bytesOf c y)
   reordered {x} {y} r ok = fine x ok ∙ ap says (reordered-first c r ok) ∙ sym (fine y (reordered-valid c r ok))
 
 pub first-moves : FirstMoves

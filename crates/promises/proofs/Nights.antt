@@ -13,30 +13,32 @@ use Rattle.card.specs.Weight.{cardRule}
 use Rattle.card.specs.Refusals.{wrongWeight, wrongSeats, seatAboveTop}
 use Rattle.card.specs.Card.{Card}
 use Rattle.reading.specs.Reading.{taken, readOf}
-use Rattle.meaning.specs.Seats.{Seating, ValidSeating, counts}
+use Rattle.meaning.specs.Position.{Position, sharedValues}
+use Rattle.meaning.specs.Seats.{Seating, ValidSeating, counted}
 use Rattle.meaning.specs.Reordered.{Reordered}
 use Rattle.meaning.proofs.Reorder.{reordered-valid, reordered-counts}
-use Rattle.entry.specs.Said.{Said}
+use Rattle.entry.specs.Said.{Said, says, _>>=_}
 use Rattle.entry.specs.Contract.{Ends, Two, Enters, inRows, valued}
 use Rattle.entry.proofs.Exactly.{_↔∙_}
 use Rattle.entry.proofs.Entries.{enters-unique}
+use Rattle.seating.specs.Judged.{seatingOf, Seated, bytesOf}
 use Rattle.seating.proofs.Judging.{valid-exactly}
+use Rattle.seating.proofs.Bytes.{bytes-back, bytes-seated}
 use Rattle.room.specs.Answer.{told}
 use Rattle.room.specs.declared.Answer.{Answer}
 use Rattle.room.specs.declared.Answer.the-variants.{Refused}
 use Rattle.room.proofs.Entries.{told-faithful}
-use Rattle.weighing.proofs.Filled.{zeros-at}
 use Rattle.asking.specs.Meant.{Question}
 use Rattle.evenings.specs.Limits.{mostVectors, tooManyVectors, tooManyNights, wrongRow}
 use Rattle.evenings.specs.Rounds.{Aim}
 use Rattle.evenings.proofs.Exact.{mean-exact}
 use Rattle.evenings.proofs.Best.{extreme-best}
-use Rattle.vectors.specs.Vectors.{IsVector, valueIn}
-use Rattle.vectors.proofs.Laws.{how-many}
+use Rattle.vectors.proofs.Positions.{how-many-positions}
 use Rattle.listed.proofs.Order.{listed}
-use Rattle.listed.proofs.Seated.{counts-vector, vector-seated}
-use Rattle.chances.specs.Chances.{chanceAt, vectorsOf, roundRow, rowBefore}
-use Rattle.odds_said.specs.OddsSaid.{oddsSaid, Odds}
+use Rattle.listed.proofs.Seated.{counted-position, position-seated}
+use Rattle.chances.specs.Chances.{chanceAt, positionsOf, PositionOf, heldFor, roundRow, rowBefore}
+use Rattle.ask_said.specs.AskSaid.{questionSaid}
+use Rattle.odds_said.specs.OddsSaid.{vectorsSaid, nightsSaid, rowsSaid, oddsOf, oddsSaid, Odds}
 use Rattle.odds_said.proofs.Chance.{chance}
 use Rattle.odds_said.proofs.Theorems.{odds}
 use Rattle.chances.proofs.Rows.{row-holds}
@@ -47,6 +49,12 @@ use Rattle.card_promises.proofs.Numbers.{number-some}
 use Rattle.entry_promises.proofs.ForC.{tells-done, tells-refused, is-refused, number-of}
 
 -- ---- the rows
+
+zeros-at : (z i : ℕ) → getD (zeros z) i 0 ≡ 0
+unfolding zeros
+zeros-at zero i = refl
+zeros-at (suc z) zero = refl
+zeros-at (suc z) (suc i) = zeros-at z i
 
 past : (xs : List ℕ) (z i : ℕ) → length xs ≤ i → getD (xs ++ zeros z) i 0 ≡ 0
 past [] z i h = zeros-at z i
@@ -61,7 +69,7 @@ padded-long : (most : ℕ) (xs : List ℕ) → length xs ≤ most → length (pa
 unfolding padded
 padded-long most xs h = length-append xs (zeros (most - length xs)) ∙ rw (length-zeros (most - length xs)) (omega arith)
 
-in-row : (c : Card) (q : Question) (a : Aim) (m : ℕ) (v : List ℕ) → IsVector (suc (c .k)) (c .n) v → valueIn (roundRow c q a m) v ≡ chanceAt c q a m v
+in-row : (c : Card) (q : Question) (a : Aim) (m : ℕ) (v : Position) → PositionOf c v → heldFor c (roundRow c q a m) v ≡ chanceAt c q a m v
 unfolding roundRow
 in-row c q a m v is = row-holds c (chanceAt c q a m) v is
 
@@ -70,15 +78,15 @@ unfolding roundRow rowBefore
 meaning = record {
   chance = chance;
   exact-mean = mean-exact;
-  listed = λ c. listed (c .k) (c .n);
-  how-many = λ c. how-many (suc (c .k)) (c .n);
-  of-seatings = λ c v. (vector-seated c v, λ h. subst (IsVector (suc (c .k)) (c .n)) (h .2) (counts-vector c (h .0) (h .1)));
+  listed = λ c. listed (c .k) (c .n) (sharedValues (c .shared));
+  how-many = λ c. how-many-positions (suc (c .k)) (c .n) (sharedValues (c .shared));
+  of-seatings = λ c v. (position-seated c v, λ h. subst (PositionOf c) (h .2) (counted-position c (h .0) (h .1)));
   in-row = in-row;
-  behind = λ c q a m i h. padded-past mostVectors (map (chanceAt c q a m) (vectorsOf c)) i (rw (length-map (vectorsOf c) (chanceAt c q a m)) h);
+  behind = λ c q a m i h. padded-past mostVectors (map (chanceAt c q a m) (positionsOf c)) i (rw (length-map (positionsOf c) (chanceAt c q a m)) h);
   best = λ a top f l n e. extreme-best a top f l n e;
   aims = (refl, refl);
   aims-for-c = (refl, λ b. rw (ne-eqb (suc b) 0 (omega arith)));
-  long = λ c q a m h. padded-long mostVectors (map (chanceAt c q a m) (vectorsOf c)) (rw (length-map (vectorsOf c) (chanceAt c q a m)) h);
+  long = λ c q a m h. padded-long mostVectors (map (chanceAt c q a m) (positionsOf c)) (rw (length-map (positionsOf c) (chanceAt c q a m)) h);
   none-before = λ c q a. refl;
   before = λ c q a m. refl;
   edges = odds-edges;
@@ -97,8 +105,10 @@ module _ (card question seats : List ℕ) (m : ℕ) (aim : Aim) (was is : Two (L
   odds-tells a h =
       record {
         answered = λ v. tells-done a some v ↔∙ h .answered v;
-        stands = λ c q f. tells-done a some (valueIn (is .first) (counts (c .0 .k) seats)) .1 (h .answered (valueIn (is .first) (counts (c .0 .k) seats)) .1
-            (c, (q, (f, ap (λ (row : List ℕ). valueIn row (counts (c .0 .k) seats)) (h .first-holds c q f) ∙ in-row (c .0) (q .0) aim m (counts (c .0 .k) seats) (counts-vector (c .0) seats (f .seating))))));
+        stands = λ c q f.
+            let x = counted (c .0 .k) (seatingOf (c .0) seats) in
+            tells-done a some (heldFor (c .0) (is .first) x) .1 (h .answered (heldFor (c .0) (is .first) x) .1
+            (c, (q, (f, ap (λ (row : List ℕ). heldFor (c .0) row x) (h .first-holds c q f) ∙ in-row (c .0) (q .0) aim m x (counted-position (c .0) (seatingOf (c .0) seats) (f .seating .valid))))));
         first-holds = h .first-holds;
         second-holds = h .second-holds;
         wrong-card = λ r p l m. tells-refused a some r p l ↔∙ h .wrong-card r p m;
@@ -122,9 +132,19 @@ module _ (card question seats : List ℕ) (m : ℕ) (aim : Aim) (was is : Two (L
 -- ---- seats in another order: only their counts are asked for
 
 module _ (card : List ℕ) (c : Card) (h : readOf card ≡ taken c) (question : List ℕ) (m : ℕ) (aim : Aim) (long long₁ : ℕ) where
-  reordered : {x y : Seating} → Reordered x y → ValidSeating c x → oddsSaid card question x m aim long long₁ ≡ oddsSaid card question y m aim long long₁
+  -- what is said of a seating, by its counts
+  abbrev at : Position → Said (Ends ℕ (Two (List ℕ)))
+  at v = questionSaid question c >>= (λ q. vectorsSaid c >>= (λ _. nightsSaid m >>= (λ _. rowsSaid long long₁ >>= (λ _. says (oddsOf c q aim m v)))))
+
+  seated : (b : List ℕ) → Seated c b → oddsSaid card question b m aim long long₁ ≡ at (counted (c .k) (seatingOf c b))
   unfolding oddsSaid
-  reordered {x} {y} r ok = rw (h, valid-exactly c x .1 ok, valid-exactly c y .1 (reordered-valid c r ok), reordered-counts (c .k) r)
+  seated b s = rw (h, valid-exactly c b .1 s)
+
+  of-seating : (x : Seating) → ValidSeating c x → oddsSaid card question (bytesOf c x) m aim long long₁ ≡ at (counted (c .k) x)
+  of-seating x ok = seated (bytesOf c x) (bytes-seated c x ok) ∙ ap (λ (y : Seating). at (counted (c .k) y)) (bytes-back c x ok)
+
+  reordered : {x y : Seating} → Reordered x y → ValidSeating c x → oddsSaid card question (bytesOf c x) m aim long long₁ ≡ oddsSaid card question (bytesOf c y) m aim long long₁
+  reordered {x} {y} r ok = of-seating x ok ∙ ap at (reordered-counts (c .k) r) ∙ sym (of-seating y (reordered-valid c r ok))
 
 pub nights : Nights
 nights = record {

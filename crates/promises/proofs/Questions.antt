@@ -14,7 +14,7 @@ use Rattle.card.specs.Formulas.{over}
 use Rattle.card.specs.Valid.{ValidCard}
 use Rattle.reading.specs.Group.{Literal}
 use Rattle.grammar.specs.Rules.{OnceEach}
-use Rattle.meaning.specs.Seats.{Seating, ValidSeating, counts}
+use Rattle.meaning.specs.Seats.{Seating, ValidSeating, counted}
 use Rattle.meaning.specs.ByCounts.{heldAt}
 use Rattle.entry.specs.Said.{Said, says, refused}
 use Rattle.entry.specs.Contract.{valued, lentNothing, yes-no}
@@ -35,10 +35,10 @@ use Rattle.promises.specs.Questions.{QuestionMeaning, QuestionReadings, 
 use Rattle.card_promises.proofs.Numbers.{number-some}
 
 laid : (c : Card) → ValidCard c → (x : Seating) → ValidSeating c x → (own : ℕ) (q : Question)
-    → holdsOn x q ≡ heldAt (c .n) own (counts (c .k) x) (over leafFor q)
+    → holdsOn x q ≡ heldAt (c .n) own (counted (c .k) x) (over leafFor q)
 laid c v x ok own q =
-    let l : 0 < length x = omega (arith, ok .seats, v .seats) in
-    question-held (c .k) x (ok .states) l own q ∙ ap (λ (n : ℕ). heldAt n own (counts (c .k) x) (over leafFor q)) (ok .seats)
+    let l : 0 < length (x .each) = omega (arith, ok .seats, v .seats) in
+    question-held (c .k) x (ok .states) l own q ∙ ap (λ (n : ℕ). heldAt n own (counted (c .k) x) (over leafFor q)) (ok .seats)
 
 meaning : QuestionMeaning
 meaning = record {
@@ -46,9 +46,10 @@ meaning = record {
   by-counts = λ c v. question-by-counts c (v .seats);
   group-translated = λ n j s q d. ap atom (sym (leaf-counter n j (ofAll s q d)));
   one-translated = λ n d. refl;
+  test-translated = λ n j q v. (refl, refl);
   one-in-words = λ x d. one-in-words d x;
   one-by-number = λ x d. one-count d x;
-  one-of-one = λ a d. one-alone d a;
+  one-of-one = λ a g d. one-alone d a g;
   equal-counts = λ c v. equal-counts c (v .seats);
   reordered = λ c v r. reordered-question c (v .seats) r;
   laid = laid;

@@ -1,5 +1,5 @@
--- Document 02, 2026-08: what the odds after several nights are worth, in which order the count vectors stand, what both rows hold, and what is answered
--- for any bytes. The words on the right of an `↔` are in `chances/specs`. Assumes nothing.
+-- Document 02, 2026-08 and 2026-10: what the odds after several nights are worth, in which order the count vectors stand, each with the values of the
+-- shared number, what both rows hold, and what is answered for any bytes. The words on the right of an `↔` are in `chances/specs`. Assumes nothing.
 use Prim.Native.Nat.{ℕ, suc, _*_, _≤_, _<_}
 use mathlib.Core.Path.{_≡_}
 use mathlib.Core.Bool.{true, false}
@@ -12,11 +12,12 @@ use Rattle.card.specs.Card.{Card}
 use Rattle.card.specs.Valid.{Every}
 use Rattle.card.specs.Laid.{zeros}
 use Rattle.reading.specs.Reading.{taken, refused as turned, readOf}
-use Rattle.meaning.specs.Seats.{Seating, ValidSeating, counts}
+use Rattle.meaning.specs.Position.{Position, sharedValues}
+use Rattle.meaning.specs.Seats.{Seating, ValidSeating, counted}
 use Rattle.meaning.specs.Reordered.{Reordered}
 use Rattle.entry.specs.Said.{Said, refused}
 use Rattle.entry.specs.Contract.{Ends, Two, Enters, inRows}
-use Rattle.seating.specs.Judged.{FirstAbove}
+use Rattle.seating.specs.Judged.{seatsDue, FirstWrong, seatingOf, Seated, bytesOf}
 use Rattle.rows.specs.Said.{Read}
 use Rattle.room.specs.Answer.{told}
 use Rattle.room.specs.declared.Answer.{Answer}
@@ -26,9 +27,9 @@ use Rattle.evenings.specs.Limits.{mostNights, mostVectors}
 use Rattle.evenings.specs.Rounds.{Aim, largest, smallest, aimOf, extreme}
 use Rattle.evenings.specs.Best.{IsBest}
 use Rattle.evenings.specs.Scales.{bottom, exactly}
-use Rattle.vectors.specs.Vectors.{vectors, IsVector, ways, valueIn}
+use Rattle.vectors.specs.Vectors.{ways}
 use Rattle.listed.specs.Listed.{Listed}
-use Rattle.chances.specs.Chances.{chanceAt, vectorsOf, roundRow, rowBefore}
+use Rattle.chances.specs.Chances.{chanceAt, positionsOf, PositionOf, heldFor, roundRow, rowBefore}
 use Rattle.chances.specs.Chance.{Chance}
 use Rattle.odds_said.specs.OddsSaid.{oddsSaid, Fits, Odds}
 use Rattle.odds_edges.specs.OddsEdges.{OddsEdges}
@@ -49,15 +50,15 @@ pub record OddsMeaning : Type 1 where
   -- what the caller's flag asks for, and in C a byte: the smallest by 0, the largest by any other
   pub aims : (aimOf true ≡ largest) × (aimOf false ≡ smallest)
   pub aims-for-c : (aimBy 0 ≡ smallest) × ((b : ℕ) → aimBy (suc b) ≡ largest)
-  -- all count vectors, none twice, rising; how many there are
-  pub listed : (c : Card) → Listed (suc (c .k)) (c .n)
-  pub how-many : (c : Card) → length (vectorsOf c) ≡ ways (suc (c .k)) (c .n)
+  -- all count vectors with each value of the shared number, none twice, rising; how many there are
+  pub listed : (c : Card) → Listed (suc (c .k)) (c .n) (sharedValues (c .shared))
+  pub how-many : (c : Card) → length (positionsOf c) ≡ ways (suc (c .k)) (c .n) * sharedValues (c .shared)
   -- they are the counts of the seatings
-  pub of-seatings : (c : Card) (v : List ℕ) → IsVector (suc (c .k)) (c .n) v ↔ ((x : Seating) × ValidSeating c x × (counts (c .k) x ≡ v))
+  pub of-seatings : (c : Card) (v : Position) → PositionOf c v ↔ ((x : Seating) × ValidSeating c x × (counted (c .k) x ≡ v))
   -- a row has the round's value at the place of each, and zeros behind them; where they are few enough it has 512 numbers
-  pub in-row : (c : Card) (q : Question) (a : Aim) (m : ℕ) (v : List ℕ) → IsVector (suc (c .k)) (c .n) v → valueIn (roundRow c q a m) v ≡ chanceAt c q a m v
-  pub behind : (c : Card) (q : Question) (a : Aim) (m i : ℕ) → length (vectorsOf c) ≤ i → getD (roundRow c q a m) i 0 ≡ 0
-  pub long : (c : Card) (q : Question) (a : Aim) (m : ℕ) → length (vectorsOf c) ≤ mostVectors → length (roundRow c q a m) ≡ mostVectors
+  pub in-row : (c : Card) (q : Question) (a : Aim) (m : ℕ) (v : Position) → PositionOf c v → heldFor c (roundRow c q a m) v ≡ chanceAt c q a m v
+  pub behind : (c : Card) (q : Question) (a : Aim) (m i : ℕ) → length (positionsOf c) ≤ i → getD (roundRow c q a m) i 0 ≡ 0
+  pub long : (c : Card) (q : Question) (a : Aim) (m : ℕ) → length (positionsOf c) ≤ mostVectors → length (roundRow c q a m) ≡ mostVectors
   -- the row before: of the round before; before the first all zeros
   pub none-before : (c : Card) (q : Question) (a : Aim) → rowBefore c q a 0 ≡ zeros mostVectors
   pub before : (c : Card) (q : Question) (a : Aim) (m : ℕ) → rowBefore c q a (suc m) ≡ roundRow c q a m
@@ -69,9 +70,9 @@ pub record OddsMeaning : Type 1 where
 pub record OddsTells (card question seats : List ℕ) (m : ℕ) (aim : Aim) (was is : Two (List ℕ)) (a : OpenPanelAnswer) : Type 0 where
   -- 0 and the value in millionths
   pub answered : (value : ℕ) → Answers a 0 value
-      ↔ ((c : Read card) × ((q : Understood question (c .0)) × (Fits (c .0) seats m was × (value ≡ chanceAt (c .0) (q .0) aim m (counts (c .0 .k) seats)))))
+      ↔ ((c : Read card) × ((q : Understood question (c .0)) × (Fits (c .0) seats m was × (value ≡ chanceAt (c .0) (q .0) aim m (counted (c .0 .k) (seatingOf (c .0) seats))))))
   -- which stands in the first row at the place of the seating's counts
-  pub stands : (c : Read card) (q : Understood question (c .0)) → Fits (c .0) seats m was → Answers a 0 (valueIn (is .first) (counts (c .0 .k) seats))
+  pub stands : (c : Read card) (q : Understood question (c .0)) → Fits (c .0) seats m was → Answers a 0 (heldFor (c .0) (is .first) (counted (c .0 .k) (seatingOf (c .0) seats)))
   -- the first row holds round m, the second the round before it, or zeros
   pub first-holds : (c : Read card) (q : Understood question (c .0)) → Fits (c .0) seats m was → is .first ≡ roundRow (c .0) (q .0) aim m
   pub second-holds : (c : Read card) (q : Understood question (c .0)) → Fits (c .0) seats m was → is .second ≡ rowBefore (c .0) (q .0) aim m
@@ -79,18 +80,18 @@ pub record OddsTells (card question seats : List ℕ) (m : ℕ) (aim : Aim) (was
   pub wrong-card : (number place : ℕ) → 1 ≤ number → number ≤ wrongWeight → Answers a number place ↔ (readOf card ≡ turned number place)
   pub wrong-question : (number place : ℕ) → 21 ≤ number → number ≤ 26
       → Answers a number place ↔ ((c : Read card) × (questionSaid question (c .0) ≡ refused number place))
-  -- 8 and 0; 9 and the first seat above k
+  -- 8 and 0; 9 and the first seat above k, or place n for the shared number
   pub wrong-count : (place : ℕ) → Answers a wrongSeats place
-      ↔ ((c : Read card) × (Understood question (c .0) × ((length seats ≡ c .0 .n → ⊥) × (place ≡ 0))))
+      ↔ ((c : Read card) × (Understood question (c .0) × ((length seats ≡ seatsDue (c .0) → ⊥) × (place ≡ 0))))
   pub wrong-seat : (place : ℕ) → Answers a seatAboveTop place
-      ↔ ((c : Read card) × (Understood question (c .0) × ((length seats ≡ c .0 .n) × FirstAbove (c .0 .k) seats place)))
+      ↔ ((c : Read card) × (Understood question (c .0) × ((length seats ≡ seatsDue (c .0)) × FirstWrong (c .0) seats place)))
   -- 14, 15 and 16, each with 0
   pub too-many-vectors : (place : ℕ) → Answers a 14 place
-      ↔ ((c : Read card) × (Understood question (c .0) × (ValidSeating (c .0) seats × ((mostVectors < length (vectorsOf (c .0))) × (place ≡ 0)))))
+      ↔ ((c : Read card) × (Understood question (c .0) × (Seated (c .0) seats × ((mostVectors < length (positionsOf (c .0))) × (place ≡ 0)))))
   pub too-many-nights : (place : ℕ) → Answers a 15 place
-      ↔ ((c : Read card) × (Understood question (c .0) × (ValidSeating (c .0) seats × ((length (vectorsOf (c .0)) ≤ mostVectors) × ((mostNights < m) × (place ≡ 0))))))
+      ↔ ((c : Read card) × (Understood question (c .0) × (Seated (c .0) seats × ((length (positionsOf (c .0)) ≤ mostVectors) × ((mostNights < m) × (place ≡ 0))))))
   pub wrong-rows : (place : ℕ) → Answers a 16 place
-      ↔ ((c : Read card) × (Understood question (c .0) × (ValidSeating (c .0) seats × ((length (vectorsOf (c .0)) ≤ mostVectors)
+      ↔ ((c : Read card) × (Understood question (c .0) × (Seated (c .0) seats × ((length (positionsOf (c .0)) ≤ mostVectors)
       × ((m ≤ mostNights) × (((length (was .first) ≡ mostVectors) × (length (was .second) ≡ mostVectors) → ⊥) × (place ≡ 0)))))))
   pub no-other : ((a .number ≤ seatAboveTop) ⊎ ((14 ≤ a .number) × (a .number ≤ 16))) ⊎ ((21 ≤ a .number) × (a .number ≤ 26))
   -- no refusal touches the rows
@@ -109,4 +110,4 @@ pub record Nights : Type 1 where
       → Enters inRows tell was is₁ said a₁ → Enters inRows tell was is₂ said a₂ → (a₁ ≡ a₂) × (is₁ ≡ is₂)
   -- the seats of a card in another order get the same
   pub reordered : (card : List ℕ) (c : Card) → readOf card ≡ taken c → (question : List ℕ) (m : ℕ) (aim : Aim) (long long₁ : ℕ) {x y : Seating} → Reordered x y → ValidSeating c x
-      → oddsSaid card question x m aim long long₁ ≡ oddsSaid card question y m aim long long₁
+      → oddsSaid card question (bytesOf c x) m aim long long₁ ≡ oddsSaid card question (bytesOf c y) m aim long long₁

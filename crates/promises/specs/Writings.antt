@@ -3,7 +3,7 @@ use Prim.Native.Nat.{ℕ, _/_, _≤_}
 use mathlib.Core.Path.{_≡_}
 use mathlib.Core.Logic.{_↔_}
 use mathlib.Core.List.{List, [], _∷_}
-use mathlib.Core.Option.{some}
+use mathlib.Core.Option.{none, some}
 use lib.ListN.{length}
 use Rattle.card.specs.Limits.{cardBytes, unit}
 use Rattle.card.specs.Text.{bytes}
@@ -24,10 +24,11 @@ bracketed =
     let y = atom (group others any isnt 1) in
     record {
       mode = nondeterministic;
+      shared = none;
       n = 3;
       k = 1;
       l = 1;
-      statements = record { own = 0; guard = some (and (and x (or y x)) (and (neg (and x y)) (neg x))); branches = record { units = unit; end = 1 } ∷ [] } ∷ [];
+      statements = record { own = 0; guard = some (and (and x (or y x)) (and (neg (and x y)) (neg x))); branches = record { units = unit; end = 1; sets = none } ∷ [] } ∷ [];
     }
 
 -- `|` as the whole guard, alone, with a right operand of its own sign, with a left one and with `&` under it; and `!` twice. With one seat a
@@ -37,9 +38,10 @@ bars =
     let x = atom (group everyone all is 0) in
     let y = atom (group everyone all isnt 1) in
     let z = atom (group everyone all is 1) in
-    let guarded : Guard → Statement = λ g. record { own = 0; guard = some g; branches = record { units = unit; end = 1 } ∷ [] } in
+    let guarded : Guard → Statement = λ g. record { own = 0; guard = some g; branches = record { units = unit; end = 1; sets = none } ∷ [] } in
     record {
       mode = nondeterministic;
+      shared = none;
       n = 1;
       k = 1;
       l = 0;

@@ -18,14 +18,15 @@ use Rattle.reading.specs.Reader.{Place}
 use Rattle.reading.specs.Group.{Literal, Literals}
 use Rattle.reading.specs.Judgements.{has, hasFrom, alike, Verdict, fine, wrong}
 use Rattle.late.specs.Late.{Late, noneYet, upToMost, wantOf, kindBy, groupBy, grouped as groupedLate}
+use Rattle.late.specs.Values.{mostOf}
 use Rattle.late.specs.Settled.{Refusal, refusal, settled, verdict}
 use Rattle.late.proofs.Symmetric.{and-both}
 use Rattle.late.proofs.Settling.{orNext, or-assoc, Sound, sound-blamed, sound-grouped, settled-fine, settled-blamed, settled-grouped}
-use Rattle.asking.specs.Question.{Item, aGroup, exactlyOne}
+use Rattle.asking.specs.Question.{Item, aGroup, exactlyOne, aTest}
 use Rattle.asking.specs.Meant.{leafFor}
 use Rattle.asking.specs.Asking.{Claim, state, everyone as everyoneOf, exactly, claimAt, due, firstD, claimsOf, claims, isEveryone, isTerms, termD, isExactlyOne, fits, firstUnfit, firstRelation, literalD, atomIn, questionIn}
 use Rattle.term_literals.specs.Wanted.{wantOfTerms}
-use Rattle.grouping.specs.Language.{wantOfAll, judgeClaim, claimAll, leafBy, questions, leavesOf, judgedOf}
+use Rattle.grouping.specs.Language.{wantOfAll, judgeClaim, claimAll, itemBy, questions, leavesOf, judgedOf}
 
 -- ---- what an item wants is the number of seats for which it is as said
 
@@ -128,16 +129,22 @@ module _ (e n : ℕ) (least : 1 ≤ n) (most : n ≤ mostSeats) where
   claim-append [] ys x = refl
   claim-append (c ∷ cs) ys x = claim-append cs ys (judgeClaim e c x)
 
-  module _ (k : ℕ) where
-    claims-judged : (g : Formula Item) (x : Late) → judgedOf questions k e g x ≡ claimAll e (claims k g) x
+  module _ (k v : ℕ) where
+    claims-judged : (g : Formula Item) (x : Late) → judgedOf (questions v) k e g x ≡ claimAll e (claims k (mostOf v) g) x
     claims-judged (atom a) x = refl
     claims-judged (neg g) x = claims-judged g x
-    claims-judged (and g h) x = ap (judgedOf questions k e h) (claims-judged g x) ∙ claims-judged h (claimAll e (claims k g) x) ∙ sym (claim-append (claims k g) (claims k h) x)
-    claims-judged (or g h) x = ap (judgedOf questions k e h) (claims-judged g x) ∙ claims-judged h (claimAll e (claims k g) x) ∙ sym (claim-append (claims k g) (claims k h) x)
+    claims-judged (and g h) x =
+        let gs = claims k (mostOf v) g in
+        let hs = claims k (mostOf v) h in
+        ap (judgedOf (questions v) k e h) (claims-judged g x) ∙ claims-judged h (claimAll e gs x) ∙ sym (claim-append gs hs x)
+    claims-judged (or g h) x =
+        let gs = claims k (mostOf v) g in
+        let hs = claims k (mostOf v) h in
+        ap (judgedOf (questions v) k e h) (claims-judged g x) ∙ claims-judged h (claimAll e gs x) ∙ sym (claim-append gs hs x)
 
     -- what is settled in the end
-    pub settled-question : (g : Formula Item) → settled n (judgedOf questions k e g noneYet) ≡ verdict e (firstUnfit n (claims k g))
-    settled-question g = ap (settled n) (claims-judged g noneYet) ∙ settled-all (claims k g) noneYet (record { none = λ z. refl; unsplit = λ z. refl })
+    pub settled-question : (g : Formula Item) → settled n (judgedOf (questions v) k e g noneYet) ≡ verdict e (firstUnfit n (claims k (mostOf v) g))
+    settled-question g = ap (settled n) (claims-judged g noneYet) ∙ settled-all (claims k (mostOf v) g) noneYet (record { none = λ z. refl; unsplit = λ z. refl })
 
   -- a claim that does not fit has a number
   pub none-unfit : (cs : List Claim) → verdict e (firstUnfit n cs) .number ≡ 0 → firstUnfit n cs ≡ fine
@@ -151,7 +158,7 @@ module _ (e n : ℕ) (least : 1 ≤ n) (most : n ≤ mostSeats) where
 
 -- ---- where all fit
 
-module _ (n k : ℕ) (least : 1 ≤ n) where
+module _ (n k v : ℕ) (least : 1 ≤ n) where
   fine-cons : (c : Claim) (cs : List Claim) → firstUnfit n (c ∷ cs) ≡ fine → (fits n c ≡ true) × (firstUnfit n cs ≡ fine)
   fine-cons c cs h = go (fits n c) h
     where
@@ -176,16 +183,17 @@ module _ (n k : ℕ) (least : 1 ≤ n) where
       let seats = and-both (eqb (length (l ∷ ls)) n) (hasFrom 1 n (l ∷ ls)) once .1 in
       rw (first-seat n (l ∷ ls) least seats) refl
 
-  item-leaf : (x : Item) → firstUnfit n (claimsOf k x) ≡ fine → leafBy x ≡ leafFor (atomIn x)
+  item-leaf : (x : Item) → firstUnfit n (claimsOf k (mostOf v) x) ≡ fine → itemBy x ≡ leafFor (atomIn x)
   item-leaf (aGroup g) h = go (g .literals) (fine-cons (everyoneOf g) (firstD k (g .literals)) h .0)
     where
       go : (ls : List Literal) → isEveryone n ls ≡ true → groupBy (g .sign) ls ≡ group everyone (g .sign) (firstRelation ls) (literalD ls)
       go [] z = refl
       go (l ∷ ls) z = ap (λ kind. group kind (g .sign) (l .relation) (l .d)) (everyone-kind l ls z)
   item-leaf (exactlyOne p ts) h = refl
+  item-leaf (aTest x) h = refl
 
-  pub same-leaves : (g : Formula Item) → firstUnfit n (claims k g) ≡ fine → leavesOf questions g ≡ over leafFor (questionIn g)
+  pub same-leaves : (g : Formula Item) → firstUnfit n (claims k (mostOf v) g) ≡ fine → leavesOf (questions v) g ≡ over leafFor (questionIn g)
   same-leaves (atom x) h = ap atom (item-leaf x h)
   same-leaves (neg g) h = ap neg (same-leaves g h)
-  same-leaves (and g i) h = let both = fine-append (claims k g) (claims k i) h in rw (same-leaves g (both .0), same-leaves i (both .1))
-  same-leaves (or g i) h = let both = fine-append (claims k g) (claims k i) h in rw (same-leaves g (both .0), same-leaves i (both .1))
+  same-leaves (and g i) h = let both = fine-append (claims k (mostOf v) g) (claims k (mostOf v) i) h in rw (same-leaves g (both .0), same-leaves i (both .1))
+  same-leaves (or g i) h = let both = fine-append (claims k (mostOf v) g) (claims k (mostOf v) i) h in rw (same-leaves g (both .0), same-leaves i (both .1))

@@ -7,13 +7,13 @@ use lib.ListN.{length}
 use Rattle.card.specs.Limits.{mostNodes, mostDepth}
 use Rattle.card.specs.Card.{all, any}
 use Rattle.marks_on_a_card.specs.Marks.{Mark, placed}
-use Rattle.reading.specs.Reader.{Place, at, Reader, bind, _>>=_, _>>_, return, sign}
-use Rattle.reading.specs.Guard.{seatNext, unaryBy}
-use Rattle.reading.specs.Group.{joint, literal, joined, others, group}
+use Rattle.reading.specs.Reader.{Place, at, Reader, bind, _>>=_, _>>_, return, nextIs, sign}
+use Rattle.reading.specs.Guard.{seatNext, ifSeat, unaryBy}
+use Rattle.reading.specs.Group.{joint, literal, joined, others, group, sharedTest}
 use Rattle.reading.specs.Shape.{theEnd}
 use Rattle.reading.specs.Reading.{isOutside}
-use Rattle.search.proofs.Passed.{Safe, andThen, signP, choice, literalP, joinedP, groupP, expressionP, unaryP, ended-held}
-use Rattle.asking.specs.Question.{aGroup, itemNext, term, exactly, item, asked, question}
+use Rattle.search.proofs.Passed.{Safe, andThen, signP, choice, literalP, joinedP, groupP, sharedTestP, expressionP, unaryP, ended-held}
+use Rattle.asking.specs.Question.{Item, aGroup, aTest, itemNext, term, exactly, item, asked, question}
 
 module _ (P : Place → Type 0) (pass : (m : Mark) (q : ℕ) (ms : Place) → isOutside m ≡ false → P (placed m q ∷ ms) → P ms) where
   termP : Safe P pass term
@@ -27,15 +27,20 @@ module _ (P : Place → Type 0) (pass : (m : Mark) (q : ℕ) (ms : Place) → is
       andThen P pass (term s) _ (termP s h) λ t s₁ h₁.
       andThen P pass (joined term (joint any) (length (s₁ .marks)) s₁) _ (joinedP P pass term termP (joint any) (length (s₁ .marks)) s₁ h₁) λ ts s₂ h₂. h₂
 
-  itemP : (p : Place) → Safe P pass (item p)
-  itemP p s h =
+  seatsP : (p : Place) → Safe P pass (ifSeat (group p >>= λ x. return (aGroup x)) (exactly p))
+  seatsP p s h =
       choice P pass (seatNext (s .marks)) (group p >>= λ x. return (aGroup x)) (exactly p)
       (λ s₁ h₁. andThen P pass (group p s₁) _ (groupP P pass p s₁ h₁) λ x s₂ h₂. h₂) (exactlyP p) s h
 
-  askedP : Safe P pass asked
-  askedP = expressionP P pass (unaryBy itemNext item mostDepth) (unaryP P pass itemNext item itemP mostDepth)
+  itemP : (p : Place) → Safe P pass (item p)
+  itemP p s h =
+      choice P pass (nextIs "g" (s .marks)) (sharedTest >>= λ x. return (aTest x)) (ifSeat (group p >>= λ x. return (aGroup x)) (exactly p))
+      (λ s₁ h₁. andThen P pass (sharedTest s₁) _ (sharedTestP P pass s₁ h₁) λ x s₂ h₂. h₂) (seatsP p) s h
 
-  pub questionP : Safe P pass question
-  questionP s h =
-      andThen P pass (asked (at (s .marks) mostNodes)) _ (askedP (at (s .marks) mostNodes) h) λ g s₁ h₁.
+  askedP : (shared : Bool) → Safe P pass (asked shared)
+  askedP shared = expressionP P pass (unaryBy (itemNext shared) item mostDepth) (unaryP P pass (itemNext shared) item itemP mostDepth)
+
+  pub questionP : (shared : Bool) → Safe P pass (question shared)
+  questionP shared s h =
+      andThen P pass (asked shared (at (s .marks) mostNodes)) _ (askedP shared (at (s .marks) mostNodes) h) λ g s₁ h₁.
       andThen P pass (theEnd s₁) _ (ended-held P pass (s₁ .marks) (s₁ .nodes) h₁) λ u s₂ h₂. h₂

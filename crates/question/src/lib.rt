@@ -1,4 +1,5 @@
-// A whole question, from its bytes, on a card of so many seats with this top state (document 02, 2026-01).
+// A whole question, from its bytes, on a card of so many seats with this top state and so many values of its shared number (document 02, 2026-01
+// and 2026-10).
 use card::limits::CARD_BYTES;
 use card::limits::MOST_DEPTH;
 use card::limits::MOST_NODES;
@@ -18,7 +19,7 @@ use search::search;
 use seats_wanted::settle;
 ghost use mathlib.Core.Path.{_≡_};
 ghost use Prim.Native.Nat.{_≤_};
-ghost use Rattle.card.specs.Limits.{mostSeats};
+ghost use Rattle.card.specs.Limits.{mostSeats, mostShared};
 ghost use Rattle.asking.specs.Asking.{questionOf};
 ghost use Rattle.question.specs.QuestionRead.{refusedWith, QuestionRead};
 
@@ -46,9 +47,11 @@ pub fn question_into(
     nodes: &mut [u32; NODE_PLACES],
     seats: usize,
     top: usize,
+    values: usize,
 ) -> Understood
     requires { ⌜ (1 ≤ seats) × (seats ≤ mostSeats) ⌝ }
-    ensures { λ r. ⌜ QuestionRead (questionOf seats top (now (question .entry))) (now (nodes .entry)) (now (nodes .exit)) r ⌝ }
+    requires { ⌜ values ≤ mostShared ⌝ }
+    ensures { λ r. ⌜ QuestionRead (questionOf seats top values (now (question .entry))) (now (nodes .entry)) (now (nodes .exit)) r ⌝ }
 {
     if question.len() > CARD_BYTES {
         return refused(Due {
@@ -58,7 +61,8 @@ pub fn question_into(
     }
     let mut state: [usize; STATE] = [0; STATE];
     state[LEFT] = MOST_NODES;
-    let next = expression(question, 0, nodes, &mut state, MOST_DEPTH, top, true);
+    let language = values * 2 + 1;
+    let next = expression(question, 0, nodes, &mut state, MOST_DEPTH, top, language);
     if next == 0 {
         return refused(search(question, state[STOP], state[STOP_PLACE]));
     }

@@ -2,14 +2,14 @@
 use mathlib.Core.Path.{refl}
 use Rattle.card.specs.Weight.{unitsOf}
 use Rattle.reading.specs.Reading.{readUnder}
-use Rattle.seating.specs.Judged.{judgedSeats, judgedFrom}
+use Rattle.seating.specs.Judged.{judgedSeats, judgedBy}
 use Rattle.asking.specs.Question.{mixedNext}
 use Rattle.asking.specs.Asking.{questionOf}
 use Rattle.ask_said.specs.AskSaid.{askSaid}
 use Rattle.question_edges.specs.QuestionEdges.{QuestionEdges}
 
 pub question-edges : QuestionEdges
-unfolding askSaid questionOf mixedNext readUnder unitsOf judgedSeats judgedFrom
+unfolding askSaid questionOf mixedNext readUnder unitsOf judgedSeats judgedBy
 question-edges = record {
   leader-elected = (refl, refl, refl);
   as-printed = (refl, refl);

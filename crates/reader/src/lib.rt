@@ -63,6 +63,8 @@ pub fn read(card: &[u8]) -> Reading
     let statements = statements_in(&rows);
     let whole = Card {
         mode: head.mode,
+        shared: head.shared,
+        initial: head.initial,
         seats: head.seats,
         top: head.top,
         start: head.start,

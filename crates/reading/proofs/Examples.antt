@@ -4,15 +4,15 @@ use Prim.Native.String.{String}
 use mathlib.Core.Path.{_≡_, refl}
 use mathlib.Core.Bool.{Bool, true, false}
 use mathlib.Core.List.{List, [], _∷_, _++_}
-use mathlib.Core.Option.{some}
-use Rattle.card.specs.Refusals.{outOfShape, pastLimit, notDue, wrongWeight}
+use mathlib.Core.Option.{none, some}
+use Rattle.card.specs.Refusals.{outOfShape, pastLimit, aboveTop, notDue, wrongWeight}
 use Rattle.card.specs.Text.{bytes}
-use Rattle.card.specs.Card.{probabilistic, everyone, others, all, any, is, isnt, group, atom, Branch, Card}
+use Rattle.card.specs.Card.{probabilistic, everyone, others, all, any, is, isnt, group, sharedIs, atom, Branch, Card}
 use Rattle.card.specs.Weight.{unitsOf}
 use Rattle.reading.specs.Reading.{Outcome, taken, refused, readUnder, readOf}
 
 abbrev to : ℕ → ℕ → Branch
-to w t = record { units = w; end = t }
+to w t = record { units = w; end = t; sets = none }
 
 abbrev pub textA : List ℕ
 textA = bytes "probabilistic\nmodule process1\ns1 : [0..2] init 0;\n[] s1=0 & (s2=0 | s3=0) -> 1/2:(s1'=1) + 1/2:(s1'=2);\n[] s1=1 & (s1!=2 & s2!=2 & s3!=2) -> 1/4:(s1'=2) + 3/4:(s1'=1);\nendmodule\nmodule process2 = process1 [s1=s2, s2=s1] endmodule\nmodule process3 = process1 [s1=s3, s3=s1] endmodule\n"
@@ -20,6 +20,7 @@ textA = bytes "probabilistic\nmodule process1\ns1 : [0..2] init 0;\n[] s1=0 & (s
 unfoldable pub cardA : Card
 cardA = record {
   mode = probabilistic;
+  shared = none;
   n = 3;
   k = 2;
   l = 0;
@@ -124,3 +125,97 @@ nine-branches = refl
 pub half-a-unit : readOf (bytes "probabilistic\nmodule process1\ns1 : [0..2] init 0;\n[] s1=0 -> 1/2:(s1'=0);\nendmodule\n") ≡ refused wrongWeight 72
 unfolding readUnder unitsOf
 half-a-unit = refl
+
+-- ---- cards that share a number (document 02, 2026-10): what is declared behind the mode, a guard, and what stands behind a branch's seat
+
+abbrev sharing : String → String → String → List ℕ
+sharing g guard set =
+    bytes "probabilistic\n"
+    ++ (bytes g ++ (bytes "module process1\ns1 : [0..1] init 0;\n[] s1=0" ++ (bytes guard ++ (bytes " -> 1:(s1'=1)" ++ (bytes set ++ bytes ";\nendmodule\n")))))
+
+abbrev night : String
+night = "global g : [0..1] init 0;\n"
+
+unfoldable pub nightCard : Card
+nightCard = record {
+  mode = probabilistic;
+  shared = some (record { most = 1; start = 0 });
+  n = 1;
+  k = 1;
+  l = 0;
+  statements = record { own = 0; guard = some (atom (sharedIs isnt 1)); branches = record { units = 277200; end = 1; sets = some 1 } ∷ [] } ∷ [];
+}
+
+pub reads-night : readOf (sharing night " & (g!=1)" " & (g'=1)") ≡ taken nightCard
+unfolding readUnder nightCard unitsOf
+reads-night = refl
+
+-- m is 7 at most
+pub seven-values : isTaken (readOf (sharing "global g : [0..7] init 7;\n" " & (g=7)" " & (g'=7)")) ≡ true
+unfolding readUnder unitsOf
+seven-values = refl
+
+pub eight-above : readOf (sharing "global g : [0..8] init 0;\n" "" "") ≡ refused pastLimit 29
+unfolding readUnder unitsOf
+eight-above = refl
+
+pub from-one-shared : readOf (sharing "global g : [1..1] init 1;\n" "" "") ≡ refused outOfShape 26
+unfolding readUnder unitsOf
+from-one-shared = refl
+
+-- v is m at most where the number starts, in a test and in an update
+pub start-above : readOf (sharing "global g : [0..1] init 2;\n" "" "") ≡ refused aboveTop 37
+unfolding readUnder unitsOf
+start-above = refl
+
+pub test-above : readOf (sharing night " & (g=2)" "") ≡ refused aboveTop 89
+unfolding readUnder unitsOf
+test-above = refl
+
+pub set-above : readOf (sharing night "" "& (g'=2)") ≡ refused aboveTop 102
+unfolding readUnder unitsOf
+set-above = refl
+
+-- another name, another place
+pub other-name : readOf (sharing "global h : [0..1] init 0;\n" "" "") ≡ refused outOfShape 21
+unfolding readUnder unitsOf
+other-name = refl
+
+pub declared-twice : readOf (sharing "global g : [0..1] init 0;\nglobal g : [0..1] init 0;\n" "" "") ≡ refused outOfShape 40
+unfolding readUnder unitsOf
+declared-twice = refl
+
+-- on a card without such a number
+pub undeclared-test : readOf (sharing "" " & (g=0)" "") ≡ refused outOfShape 61
+unfolding readUnder unitsOf
+undeclared-test = refl
+
+pub undeclared-set : readOf (sharing "" "" "& (g'=0)") ≡ refused outOfShape 70
+unfolding readUnder unitsOf
+undeclared-set = refl
+
+pub undeclared-depth : readOf (sharing "" " & !!!!!!!!(g=0)" "") ≡ refused pastLimit 68
+unfolding readUnder unitsOf
+undeclared-depth = refl
+
+-- one update at most
+pub set-twice : readOf (sharing night "" " & (g'=0) & (g'=1)") ≡ refused outOfShape 106
+unfolding readUnder unitsOf
+set-twice = refl
+
+-- a test is a node without depth
+pub eight-open-shared : isTaken (readOf (sharing night " & !!!!!!!!(g=0)" "")) ≡ true
+unfolding readUnder unitsOf
+eight-open-shared = refl
+
+pub nine-open-shared : readOf (sharing night " & !!!!!!!!!(g=0)" "") ≡ refused pastLimit 94
+unfolding readUnder unitsOf
+nine-open-shared = refl
+
+pub many-tests : isTaken (readOf (sharing night " & !(g=0)&(g=0)&(g=0)&(g=0)&(g=0)&(g=0)&(g=0)&(g=0)&(g=0)&(g=0)&(g=0)&(g=0)&(g=0)&(g=0)&(g=0)&(g=0)" "")) ≡ true
+unfolding readUnder unitsOf
+many-tests = refl
+
+pub too-many-tests : readOf (sharing night " & !!(g=0)&(g=0)&(g=0)&(g=0)&(g=0)&(g=0)&(g=0)&(g=0)&(g=0)&(g=0)&(g=0)&(g=0)&(g=0)&(g=0)&(g=0)&(g=0)" "") ≡ refused pastLimit 178
+unfolding readUnder unitsOf
+too-many-tests = refl

@@ -9,19 +9,19 @@ use mathlib.Core.Option.{Option, none, some}
 use native.Mathlib.Omega.{arith}
 use lib.Dec.{eqb, leb}
 use lib.ListN.{length}
-use Rattle.card.specs.Limits.{cardBytes, mostSeats, topState, mostStatements, mostBranches, mostNodes, mostDepth, unit}
+use Rattle.card.specs.Limits.{cardBytes, mostSeats, topState, topShared, mostStatements, mostBranches, mostNodes, mostDepth, unit}
 use Rattle.card.specs.Refusals.{tooLong, outsideRules, outOfShape, pastLimit, aboveTop, notDue, wrongWeight, decimalWeight}
 use Rattle.card.specs.Text.{if_then_else_}
-use Rattle.card.specs.Card.{any, all, Formula, atom, neg, and, or, Card}
+use Rattle.card.specs.Card.{Mode, any, all, Formula, atom, neg, and, or, Card}
 use Rattle.card.specs.Weight.{Weight, whole, decimal as point, ratio, unitsOf, Rule, allowed, weightRefusal}
 use Rattle.card.specs.Valid.{Every}
 use Rattle.marks_on_a_card.specs.Marks.{Mark, Placed, placed, marksOf}
 use Rattle.reading.specs.Reader.{Place, State, at, Result, ok, stop, Reader, bind, _>>=_, _>>_, return, refuse, refuseAt, took, the, nextIs, ifNext, sign, numberOf, here, Numbered, numbered, spend, nodeAt, node, Item, exactly, seatWord, processWord, keep, line}
-use Rattle.reading.specs.Guard.{isSome, seatNext, ifSeat, Read, chain, conjunction, expression, grouped, unary}
-use Rattle.reading.specs.Group.{joint, literal, others, group, Literal, Literals}
-use Rattle.reading.specs.Judgements.{Judgement, state, word, oneGroup, weight as judgedWeight, sum, placeIn, symmetric, totalUnits, unless, broken, Verdict, fine, wrong, orElse, firstBroken, firstState, judgedGuard}
-use Rattle.reading.specs.Shape.{BranchShape, StatementShape, modeOf, zeroOf, many, weightOf, over, weight, branch, nextBranch, pastBranches, moreBranches, guard, mayHave, statement, moreStatements, copy, moreModules, top, ended, theEnd, CardShape, body, card}
-use Rattle.reading.specs.Checks.{judgedState, judgedWords, judgedBranch, judgedEach, judgedOr, weightIn, judgedStatement, moduleDues, judgedModules, judgedCard, seatsIn, cardIn}
+use Rattle.reading.specs.Guard.{isSome, testNext, ifAhead, Read, chain, conjunction, expression, grouped, unary}
+use Rattle.reading.specs.Group.{joint, literal, others, group, Literal, Literals, SharedTest, sharedTest, Tested, ofSeats, ofShared, tested}
+use Rattle.reading.specs.Judgements.{Judgement, state, word, oneGroup, weight as judgedWeight, sum, placeIn, symmetric, totalUnits, unless, broken, Verdict, fine, wrong, orElse, firstBroken, firstState, judgedTest, judgedGuard}
+use Rattle.reading.specs.Shape.{BranchShape, StatementShape, Range, modeOf, zeroOf, many, weightOf, over, weight, setting, sets, branch, nextBranch, pastBranches, moreBranches, guard, mayHave, statement, moreStatements, copy, moreModules, top, range, declaration, ended, theEnd, CardShape, modules, body, card}
+use Rattle.reading.specs.Checks.{judgedState, judgedWords, judgedSet, judgedBranch, judgedEach, judgedOr, weightIn, judgedStatement, moduleDues, judgedModules, judgedShared, mostIn, judgedCard, seatsIn, cardIn}
 use Rattle.reading.specs.Reading.{Outcome, taken, refused, firstOutside, judged, shaped, marked, readUnder, mostRefusal}
 
 -- ---- readers
@@ -72,8 +72,8 @@ module _ {A : Type 0} where
   if-next : {t : String} {p q : Reader A} → Modest p → Modest q → Modest (ifNext t p q)
   if-next {t} {p} {q} h m = record { stops = λ s. either (nextIs t (s .marks)) s h m }
 
-  if-seat : {p q : Reader A} → Modest p → Modest q → Modest (ifSeat p q)
-  if-seat {p} {q} h m = record { stops = λ s. either (seatNext (s .marks)) s h m }
+  if-ahead : (starts : Place → Bool) {p q : Reader A} → Modest p → Modest q → Modest (ifAhead starts p q)
+  if-ahead starts {p} {q} h m = record { stops = λ s. either (starts (s .marks)) s h m }
 
 signs : (t : String) → Modest (sign t)
 signs t = takes _
@@ -119,14 +119,14 @@ module _ {A : Type 0} where
     groups : (p : Place) → Modest (grouped one p)
     groups p = then-one (nodes-at p) (then-each (m p) (λ a. returns _))
 
-    unaries : (depth : ℕ) → Modest (unary one depth)
-    unaries zero =
+    unaries : (shared : Bool) (depth : ℕ) → Modest (unary shared one depth)
+    unaries shared zero =
         if-next (refuses pastLimit (omega arith))
-        (then-each places (λ p. then-one (signs "(") (if-seat (groups p) (refuses-at pastLimit p (omega arith)))))
-    unaries (suc depth) =
-        if-next (then-one nodes (then-one (signs "!") (then-each (unaries depth) (λ g. returns _))))
+        (then-each places (λ p. then-one (signs "(") (if-ahead (testNext shared) (groups p) (refuses-at pastLimit p (omega arith)))))
+    unaries shared (suc depth) =
+        if-next (then-one nodes (then-one (signs "!") (then-each (unaries shared depth) (λ g. returns _))))
         (then-each places (λ p. then-one (signs "(")
-        (if-seat (groups p) (then-each (expressions (unaries depth)) (λ g. then-one (signs ")") (returns g))))))
+        (if-ahead (testNext shared) (groups p) (then-each (expressions (unaries shared depth)) (λ g. then-one (signs ")") (returns g))))))
 
 literals : Modest literal
 literals = then-each (takes _) (λ i. then-each (takes _) (λ q. then-each places (λ p. then-each (takes _) (λ d. returns _))))
@@ -140,6 +140,12 @@ whole-groups : (p : Place) → Modest (group p)
 whole-groups p =
     then-each literals (λ l. then-each places (λ rest. then-each (if-next (returns any) (returns all))
     (λ s. then-each (more-literals (joint s) (length rest)) (λ ls. returns _))))
+
+shared-tests : Modest sharedTest
+shared-tests = then-one (signs "g") (then-each (takes _) (λ q. then-each (numbers _) (λ v. then-one (signs ")") (returns _))))
+
+tests : (p : Place) → Modest (tested p)
+tests p = if-next (then-each shared-tests (λ x. returns _)) (then-each (whole-groups p) (λ x. returns _))
 
 -- ---- the card
 
@@ -155,25 +161,33 @@ overs (ratio a b) = returns _
 weights : Modest weight
 weights = then-each (takes weightOf) (λ w. overs w)
 
-branches : Modest branch
-branches =
+settings : (shared : Bool) → Modest (sets shared)
+settings false = returns none
+settings true =
+    if-next (then-each (lines (exactly "&" ∷ exactly "(" ∷ exactly "g" ∷ exactly "'" ∷ exactly "=" ∷ [])) (λ ws.
+    then-each (numbers numberOf) (λ v. then-one (signs ")") (returns (some v))))) (returns none)
+
+branches : (shared : Bool) → Modest (branch shared)
+branches shared =
     then-each places (λ p. then-each weights (λ w. then-each (lines (exactly ":" ∷ exactly "(" ∷ seatWord ∷ exactly "'" ∷ exactly "=" ∷ []))
-    (λ ws. then-each (numbers numberOf) (λ t. then-one (signs ")") (returns (record { place = p; weight = w; words = ws; end = t }))))))
+    (λ ws. then-each (numbers numberOf) (λ t. then-one (signs ")") (then-each (settings shared) (λ v.
+    returns (record { place = p; weight = w; words = ws; end = t; sets = v })))))))
 
 past-branches : Modest pastBranches
 past-branches = then-one (signs "+") (then-each places (λ p. then-each (takes weightOf) (λ w. refuses-at pastLimit p (omega arith))))
 
-guards : Modest guard
-guards = if-next (then-one (signs "&") (then-each (conjunctions (unaries group whole-groups mostDepth)) (λ g. returns _))) (returns none)
+guards : (shared : Bool) → Modest (guard shared)
+unfolding guard
+guards shared = if-next (then-one (signs "&") (then-each (conjunctions (unaries tested tests shared mostDepth)) (λ g. returns _))) (returns none)
 
 may-have : (n : ℕ) → Modest (mayHave n)
 may-have n = record { stops = λ s. tt }
 
-statements : Modest statement
-statements =
+statements : (shared : Bool) → Modest (statement shared)
+statements shared =
     then-each (lines (exactly "[" ∷ exactly "]" ∷ seatWord ∷ exactly "=" ∷ [])) (λ ws. then-each (numbers numberOf) (λ j.
-    then-one (may-have mostNodes) (then-each guards (λ g. then-one (signs "->") (then-each branches (λ b.
-    then-each (counts (mostBranches - 1) "+" (then-one (signs "+") branches) past-branches) (λ bs.
+    then-one (may-have mostNodes) (then-each (guards shared) (λ g. then-one (signs "->") (then-each (branches shared) (λ b.
+    then-each (counts (mostBranches - 1) "+" (then-one (signs "+") (branches shared)) past-branches) (λ bs.
     then-each places (λ p. then-one (signs ";") (returns (record { words = ws; own = j; guard = g; branches = b ∷ bs; close = p }))))))))))
 
 copies : Modest copy
@@ -183,8 +197,16 @@ copies =
     ∷ exactly "[" ∷ seatWord ∷ exactly "=" ∷ seatWord ∷ exactly "," ∷ seatWord ∷ exactly "=" ∷ seatWord ∷ exactly "]"
     ∷ exactly "endmodule" ∷ [])
 
-tops : Modest top
-tops = then-each places (λ p. then-each (takes _) (λ k. record { stops = λ s. either (leb k topState) s (returns k) (refuses-at pastLimit p (omega arith)) }))
+tops : (most : ℕ) → Modest (top most)
+tops most = then-each places (λ p. then-each (takes _) (λ k. record { stops = λ s. either (leb k most) s (returns k) (refuses-at pastLimit p (omega arith)) }))
+
+ranges : (most : ℕ) → Modest (range most)
+ranges most =
+    then-each (takes zeroOf) (λ z. then-one (signs "..") (then-each (tops most) (λ k. then-one (signs "]") (then-one (signs "init")
+    (then-each (numbers numberOf) (λ l. then-one (signs ";") (returns (record { top = k; start = l }))))))))
+
+declarations : Modest declaration
+declarations = then-each (lines (exactly "global" ∷ exactly "g" ∷ exactly ":" ∷ exactly "[" ∷ [])) (λ ws. ranges topShared)
 
 ends : Modest theEnd
 ends = record { stops = λ s. go (s .marks) (s .nodes) }
@@ -193,14 +215,15 @@ ends = record { stops = λ s. go (s .marks) (s .nodes) }
     go [] n = tt
     go (m ∷ ms) n = omega arith
 
+all-modules : (mode : Mode) (g : Option Range) → Modest (modules mode g)
+all-modules mode g =
+    then-each (lines (exactly "module" ∷ processWord ∷ seatWord ∷ exactly ":" ∷ exactly "[" ∷ [])) (λ ws. then-each (ranges topState) (λ r.
+    then-each (statements (isSome g)) (λ x. then-each (counts (mostStatements - 1) "[" (statements (isSome g)) (refuses pastLimit (omega arith))) (λ xs.
+    then-one (signs "endmodule") (then-each (counts (mostSeats - 1) "module" copies (refuses pastLimit (omega arith))) (λ ms.
+    returns (record { mode = mode; shared = g; words = ws; k = r .top; l = r .start; statements = x ∷ xs; modules = ms })))))))
+
 bodies : Modest body
-bodies =
-    then-each (takes modeOf) (λ mode. then-each (lines (exactly "module" ∷ processWord ∷ seatWord ∷ exactly ":" ∷ exactly "[" ∷ [])) (λ ws.
-    then-each (takes zeroOf) (λ z. then-one (signs "..") (then-each tops (λ k. then-one (signs "]") (then-one (signs "init")
-    (then-each (numbers numberOf) (λ l. then-one (signs ";") (then-each statements (λ x.
-    then-each (counts (mostStatements - 1) "[" statements (refuses pastLimit (omega arith))) (λ xs. then-one (signs "endmodule")
-    (then-each (counts (mostSeats - 1) "module" copies (refuses pastLimit (omega arith))) (λ ms.
-    returns (record { mode = mode; words = ws; k = k; l = l; statements = x ∷ xs; modules = ms }))))))))))))))
+bodies = then-each (takes modeOf) (λ mode. if-next (then-each declarations (λ g. all-modules mode (some g))) (all-modules mode none))
 
 cards : Modest card
 cards = then-each bodies (λ c. then-one ends (returns c))
@@ -248,34 +271,42 @@ module _ (decimals : Rule) where
   small-first-state k [] = tt
   small-first-state k (l ∷ ls) = ((λ n. small-unless (leb (l .d) k) aboveTop (seven aboveTop (omega arith))), tt)
 
-  small-guard : (k : ℕ) (g : Formula Literals) → Every SmallBroken (judgedGuard k g)
-  small-guard k (atom g) = ((λ n. small-unless (symmetric n (g .literals)) notDue (seven notDue (omega arith))), small-first-state k (g .literals))
-  small-guard k (neg g) = small-guard k g
-  small-guard k (and g h) = every-join (judgedGuard k g) (judgedGuard k h) (small-guard k g) (small-guard k h)
-  small-guard k (or g h) = every-join (judgedGuard k g) (judgedGuard k h) (small-guard k g) (small-guard k h)
+  small-test : (k m : ℕ) (x : Tested) → Every SmallBroken (judgedTest k m x)
+  small-test k m (ofSeats g) = ((λ n. small-unless (symmetric n (g .literals)) notDue (seven notDue (omega arith))), small-first-state k (g .literals))
+  small-test k m (ofShared x) = (small-state m (x .value), tt)
 
-  small-or : (k : ℕ) (o : Option (Formula Literals)) → Every SmallBroken (judgedOr k o)
-  small-or k none = tt
-  small-or k (some g) = small-guard k g
+  small-guard : (k m : ℕ) (g : Formula Tested) → Every SmallBroken (judgedGuard k m g)
+  small-guard k m (atom x) = small-test k m x
+  small-guard k m (neg g) = small-guard k m g
+  small-guard k m (and g h) = every-join (judgedGuard k m g) (judgedGuard k m h) (small-guard k m g) (small-guard k m h)
+  small-guard k m (or g h) = every-join (judgedGuard k m g) (judgedGuard k m h) (small-guard k m g) (small-guard k m h)
+
+  small-or : (k m : ℕ) (o : Option (Formula Tested)) → Every SmallBroken (judgedOr k m o)
+  small-or k m none = tt
+  small-or k m (some g) = small-guard k m g
 
   small-each : {A : Type 0} (f : A → List Judgement) → ((x : A) → Every SmallBroken (f x)) → (xs : List A) → Every SmallBroken (judgedEach f xs)
   small-each f h [] = tt
   small-each f h (x ∷ xs) = every-join (f x) (judgedEach f xs) (h x) (small-each f h xs)
 
-  small-branch : (k : ℕ) (b : BranchShape) → Every SmallBroken (judgedBranch decimals k b)
-  small-branch k b = (
+  small-set : (m : ℕ) (o : Option Numbered) → Every SmallBroken (judgedSet m o)
+  small-set m none = tt
+  small-set m (some v) = (small-state m v, tt)
+
+  small-branch : (k m : ℕ) (b : BranchShape) → Every SmallBroken (judgedBranch decimals k m b)
+  small-branch k m b = (
     (λ n. small-unless (allowed decimals (b .weight) && isSome (unitsOf (b .weight))) (weightRefusal decimals (b .weight)) (small-weight (b .weight))),
-    every-join (judgedWords (1 ∷ []) (b .words)) (judgedState k (b .end) ∷ []) (small-words (1 ∷ []) (b .words)) (small-state k (b .end), tt),
+    every-join (judgedWords (1 ∷ []) (b .words)) (judgedState k (b .end) ∷ judgedSet m (b .sets)) (small-words (1 ∷ []) (b .words)) (small-state k (b .end), small-set m (b .sets)),
   )
 
-  small-statement : (k : ℕ) (x : StatementShape) → Every SmallBroken (judgedStatement decimals k x)
-  small-statement k x =
+  small-statement : (k m : ℕ) (x : StatementShape) → Every SmallBroken (judgedStatement decimals k m x)
+  small-statement k m x =
       let total : List Judgement = sum (map weightIn (x .branches)) (x .close) ∷ [] in
-      let moves = judgedEach (judgedBranch decimals k) (x .branches) in
+      let moves = judgedEach (judgedBranch decimals k m) (x .branches) in
       every-join (judgedWords (1 ∷ []) (x .words)) _ (small-words (1 ∷ []) (x .words)) (
         small-state k (x .own),
-        every-join (judgedOr k (x .guard)) (moves ++ total) (small-or k (x .guard))
-            (every-join moves total (small-each (judgedBranch decimals k) (small-branch k) (x .branches))
+        every-join (judgedOr k m (x .guard)) (moves ++ total) (small-or k m (x .guard))
+            (every-join moves total (small-each (judgedBranch decimals k m) (small-branch k m) (x .branches))
             ((λ n. small-unless (eqb (totalUnits (map weightIn (x .branches))) unit) wrongWeight (seven wrongWeight (omega arith))), tt)),
       )
 
@@ -283,13 +314,19 @@ module _ (decimals : Rule) where
   small-modules i [] = tt
   small-modules i (m ∷ ms) = every-join (judgedWords (moduleDues i) m) (judgedModules (suc i) ms) (small-words (moduleDues i) m) (small-modules (suc i) ms)
 
+  small-shared : (g : Option Range) → Every SmallBroken (judgedShared g)
+  small-shared none = tt
+  small-shared (some r) = (small-state (r .top) (r .start), tt)
+
   small-card : (c : CardShape) → Every SmallBroken (judgedCard decimals c)
   small-card c =
-      every-join (judgedWords (1 ∷ 1 ∷ []) (c .words)) _ (small-words (1 ∷ 1 ∷ []) (c .words)) (
+      let m = mostIn (c .shared) in
+      every-join (judgedShared (c .shared)) _ (small-shared (c .shared))
+      (every-join (judgedWords (1 ∷ 1 ∷ []) (c .words)) _ (small-words (1 ∷ 1 ∷ []) (c .words)) (
         small-state (c .k) (c .l),
-        every-join (judgedEach (judgedStatement decimals (c .k)) (c .statements)) (judgedModules 2 (c .modules))
-            (small-each (judgedStatement decimals (c .k)) (small-statement (c .k)) (c .statements)) (small-modules 2 (c .modules)),
-      )
+        every-join (judgedEach (judgedStatement decimals (c .k) m) (c .statements)) (judgedModules 2 (c .modules))
+            (small-each (judgedStatement decimals (c .k) m) (small-statement (c .k) m) (c .statements)) (small-modules 2 (c .modules)),
+      ))
 
   abbrev SmallVerdict : Verdict → Type 0
   SmallVerdict fine = Unit {0}

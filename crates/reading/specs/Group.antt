@@ -1,4 +1,4 @@
--- A group of literals as it stands on a card ("Shape of a card"). Assumes nothing.
+-- A group of literals, and a test of the shared number, as they stand on a card ("Shape of a card"; document 02, 2026-10). Assumes nothing.
 use Prim.Native.Nat.{ℕ, zero, suc}
 use Prim.Native.String.{String}
 use mathlib.Core.Bool.{Bool, true, false}
@@ -9,7 +9,7 @@ use Rattle.card.specs.Text.{bytes, if_then_else_}
 use Rattle.card.specs.Refusals.{pastLimit}
 use Rattle.card.specs.Card.{Sign, all, any, Relation, is as eq, isnt as ne}
 use Rattle.marks_on_a_card.specs.Marks.{Mark, Placed}
-use Rattle.reading.specs.Reader.{Place, State, at, Result, ok, stop, Reader, bind, _>>=_, _>>_, return, refuse, the, is, ifNext, sign, seatOf, numberOf, here}
+use Rattle.reading.specs.Reader.{Place, State, at, Result, ok, stop, Reader, bind, _>>=_, _>>_, return, refuse, the, is, ifNext, sign, seatOf, numberOf, here, Numbered, numbered}
 
 abbrev pub joint : Sign → String
 joint all = "&"
@@ -78,3 +78,27 @@ group p = do
   s ← ifNext (joint any) (return any) (return all)
   ls ← others (joint s) (length rest)
   return (literalsOf p s (l ∷ ls))
+
+-- ---- (g=v) or (g!=v), behind the bracket
+
+pub record SharedTest : Type 0 where
+  pub relation : Relation
+  pub value : Numbered
+
+abbrev pub sharedTest : Reader SharedTest
+sharedTest = do
+  sign "g"
+  q ← the relationOf
+  v ← numbered numberOf
+  sign ")"
+  return (record { relation = q; value = v })
+
+-- ---- what a guard tests
+
+pub data Tested : Type 0 where
+  ofSeats : Literals → Tested
+  ofShared : SharedTest → Tested
+
+-- behind the bracket, which is at p
+abbrev pub tested : Place → Reader Tested
+tested p = ifNext "g" (sharedTest >>= λ x. return (ofShared x)) (group p >>= λ x. return (ofSeats x))

@@ -1,7 +1,7 @@
 -- The shape of a guard ("Shape of a card"), over any reader of a group. Assumes nothing.
 use Prim.Native.Nat.{ℕ, zero, suc}
 use Prim.Native.String.{String}
-use mathlib.Core.Bool.{Bool, true, false}
+use mathlib.Core.Bool.{Bool, true, false, _&&_, _||_}
 use mathlib.Core.List.{List, [], _∷_}
 use mathlib.Core.Option.{Option, none, some}
 use Rattle.card.specs.Limits.{mostNodes}
@@ -18,6 +18,11 @@ isSome (some a) = true
 abbrev pub seatNext : Place → Bool
 seatNext [] = false
 seatNext (placed m p ∷ ms) = isSome (seatOf m)
+
+-- behind a bracket: does it start a test? A seat word starts a group; on a card that shares a number, `g` starts a test of it (document 02,
+-- 2026-10)
+abbrev pub testNext : Bool → Place → Bool
+testNext shared ms = seatNext ms || (shared && nextIs "g" ms)
 
 -- the one reader if what is looked for follows, else the other
 abbrev pub ifAhead : {A : Type 0} → (Place → Bool) → Reader A → Reader A → Reader A
@@ -85,6 +90,6 @@ module _ {A : Type 0} where
               sign ")"
               return g))
 
-  -- on a card a seat word starts a group
-  abbrev pub unary : (Place → Reader A) → ℕ → Read A
-  unary group depth = unaryBy seatNext group depth
+  -- on a card
+  abbrev pub unary : Bool → (Place → Reader A) → ℕ → Read A
+  unary shared test depth = unaryBy (testNext shared) test depth

@@ -8,12 +8,12 @@ use lib.ListN.{length}
 use Rattle.card.specs.Limits.{unit}
 use Rattle.card.specs.Refusals.{aboveTop, notDue, wrongWeight}
 use Rattle.card.specs.Text.{if_then_else_}
-use Rattle.card.specs.Card.{Kind, everyone, others, Sign, all, any, Relation, is, isnt, Leaf, group, Formula, Guard}
+use Rattle.card.specs.Card.{Kind, everyone, others, Sign, all, any, Relation, is, isnt, Leaf, group, sharedIs, Formula, Guard}
 use Rattle.card.specs.Formulas.{over, eachAtom}
 use Rattle.card.specs.Weight.{Weight, unitsOf, Rule, allowed, weightRefusal}
 use Rattle.reading.specs.Reader.{Place}
 use Rattle.reading.specs.Guard.{isSome}
-use Rattle.reading.specs.Group.{Literal, Literals}
+use Rattle.reading.specs.Group.{Literal, Literals, Tested, ofSeats, ofShared}
 
 -- ---- symmetric groups
 
@@ -52,7 +52,7 @@ symmetric n (l ∷ ls) = alike l ls && isSome (kindOf n (l ∷ ls))
 -- ---- what is judged, and where
 
 pub data Judgement : Type 0 where
-  state : ℕ → ℕ → Place → Judgement  -- the most that l, j, d or t may be, and what stands there
+  state : ℕ → ℕ → Place → Judgement  -- the most that l, j, d or t may be, or the shared number, and what stands there
   word : ℕ → ℕ → Place → Judgement  -- the number due in a word, and the one that stands there
   oneGroup : Literals → Judgement
   weight : Rule → Weight → Place → Judgement  -- the rule by which it is judged
@@ -102,7 +102,8 @@ abbrev pub firstBroken : ℕ → List Judgement → Verdict
 firstBroken n [] = fine
 firstBroken n (j ∷ js) = orElse (broken n j) (placeIn j) (firstBroken n js)
 
--- ---- of a guard, in the order of the text: each group of literals, then its first d, which may be the top state k
+-- ---- of a guard, in the order of the text: each group of literals, then its first d, which may be the top state k; in a test of the
+-- shared number what it is compared with, which may be m
 
 abbrev pub firstState : ℕ → List Literal → List Judgement
 firstState k [] = []
@@ -111,8 +112,12 @@ firstState k (l ∷ ls) = state k (l .d) (l .place) ∷ []
 abbrev pub judgedGroup : ℕ → Literals → List Judgement
 judgedGroup k g = oneGroup g ∷ firstState k (g .literals)
 
-abbrev pub judgedGuard : ℕ → Formula Literals → List Judgement
-judgedGuard k g = eachAtom (judgedGroup k) g
+abbrev pub judgedTest : ℕ → ℕ → Tested → List Judgement
+judgedTest k m (ofSeats g) = judgedGroup k g
+judgedTest k m (ofShared x) = state m (x .value .value) (x .value .place) ∷ []
+
+abbrev pub judgedGuard : ℕ → ℕ → Formula Tested → List Judgement
+judgedGuard k m g = eachAtom (judgedTest k m) g
 
 -- ---- and the guard itself, once nothing is broken
 
@@ -125,8 +130,9 @@ groupIn n s [] = group everyone s is 0
 groupIn n s (l ∷ ls) = group (orEveryone (kindOf n (l ∷ ls))) s (l .relation) (l .d)
 
 -- the leaf that stands there
-abbrev pub leafIn : ℕ → Literals → Leaf
-leafIn n x = groupIn n (x .sign) (x .literals)
+abbrev pub leafIn : ℕ → Tested → Leaf
+leafIn n (ofSeats x) = groupIn n (x .sign) (x .literals)
+leafIn n (ofShared x) = sharedIs (x .relation) (x .value .value)
 
-abbrev pub guardIn : ℕ → Formula Literals → Guard
+abbrev pub guardIn : ℕ → Formula Tested → Guard
 guardIn n g = over (leafIn n) g

@@ -13,7 +13,7 @@ use Rattle.card.specs.Weight.{Rule, cardRule}
 use Rattle.marks_on_a_card.specs.Marks.{Mark, text, seat, process, number, decimal, outside, Placed, placed, marksOf, placeOf}
 use Rattle.reading.specs.Reader.{Place, State, at, Result, ok, stop}
 use Rattle.reading.specs.Judgements.{Verdict, fine, wrong, firstBroken}
-use Rattle.reading.specs.Shape.{CardShape, card}
+use Rattle.reading.specs.Shape.{CardShape, guard, card}
 use Rattle.reading.specs.Checks.{judgedCard, seatsIn, cardIn}
 
 pub data Outcome : Type 0 where
@@ -48,6 +48,7 @@ marked decimals e ms (some p) = refused outsideRules p
 
 -- under a rule of a weight
 unfoldable pub readUnder : Rule → List ℕ → Outcome
+unfolding guard
 readUnder decimals s = if leb (length s) cardBytes then marked decimals (length s) (marksOf s) (firstOutside (marksOf s)) else refused tooLong 0
 
 -- the greatest number that it may refuse with

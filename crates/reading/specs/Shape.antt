@@ -1,11 +1,12 @@
--- The shape of a card ("Shape of a card"), with its limits ("What the box holds"). Assumes nothing.
+-- The shape of a card ("Shape of a card"), with its limits ("What the box holds"), and with a number that its seats share (document 02,
+-- 2026-10). Assumes nothing.
 use Prim.Native.Nat.{ℕ, zero, suc, _-_}
 use Prim.Native.String.{String}
 use mathlib.Core.Bool.{Bool, true, false}
 use mathlib.Core.List.{List, [], _∷_}
 use mathlib.Core.Option.{Option, none, some}
 use lib.Dec.{eqb, leb}
-use Rattle.card.specs.Limits.{mostSeats, topState, mostStatements, mostBranches, mostNodes, mostDepth}
+use Rattle.card.specs.Limits.{mostSeats, topState, topShared, mostStatements, mostBranches, mostNodes, mostDepth}
 use Rattle.card.specs.Refusals.{outOfShape, pastLimit}
 use Rattle.card.specs.Text.{bytes, if_then_else_}
 use Rattle.card.specs.Card.{Mode, nondeterministic, probabilistic, Formula}
@@ -13,7 +14,7 @@ use Rattle.card.specs.Weight.{Weight, whole, decimal as point, ratio}
 use Rattle.marks_on_a_card.specs.Marks.{Mark, text, seat, process, number, decimal, outside, Placed, placed}
 use Rattle.reading.specs.Reader.{Place, State, at, Result, ok, stop, Reader, bind, _>>=_, _>>_, return, refuse, refuseAt, the, is, ifNext, sign, seatOf, processOf, numberOf, here, Numbered, numbered, Item, exactly, seatWord, processWord, line}
 use Rattle.reading.specs.Guard.{isSome, conjunction, unary}
-use Rattle.reading.specs.Group.{Literals, group}
+use Rattle.reading.specs.Group.{Tested, tested}
 
 -- ---- what stands on a card of the right shape, and where
 
@@ -22,16 +23,23 @@ pub record BranchShape : Type 0 where
   pub weight : Weight
   pub words : List Numbered  -- its seat word
   pub end : Numbered
+  pub sets : Option Numbered  -- what it makes of the shared number
 
 pub record StatementShape : Type 0 where
   pub words : List Numbered  -- its seat word
   pub own : Numbered
-  pub guard : Option (Formula Literals)
+  pub guard : Option (Formula Tested)
   pub branches : List BranchShape
   pub close : Place
 
+-- [0..top] init start;
+pub record Range : Type 0 where
+  pub top : ℕ
+  pub start : Numbered
+
 pub record CardShape : Type 0 where
   pub mode : Mode
+  pub shared : Option Range  -- of the shared number, where one is declared
   pub words : List Numbered  -- the module's word and the seat's
   pub k : ℕ
   pub l : Numbered
@@ -77,17 +85,34 @@ weight = do
   w ← the weightOf
   over w
 
-abbrev pub branch : Reader BranchShape
-branch = do
+-- & (g'=v), if it stands there
+abbrev pub setting : Reader (Option Numbered)
+setting =
+    ifNext "&"
+    (do
+      ws ← line (exactly "&" ∷ exactly "(" ∷ exactly "g" ∷ exactly "'" ∷ exactly "=" ∷ [])
+      v ← numbered numberOf
+      sign ")"
+      return (some v))
+    (return none)
+
+-- only on a card that shares a number
+abbrev pub sets : Bool → Reader (Option Numbered)
+sets false = return none
+sets true = setting
+
+abbrev pub branch : Bool → Reader BranchShape
+branch shared = do
   p ← here
   w ← weight
   ws ← line (exactly ":" ∷ exactly "(" ∷ seatWord ∷ exactly "'" ∷ exactly "=" ∷ [])
   t ← numbered numberOf
   sign ")"
-  return (record { place = p; weight = w; words = ws; end = t })
+  v ← sets shared
+  return (record { place = p; weight = w; words = ws; end = t; sets = v })
 
-abbrev pub nextBranch : Reader BranchShape
-nextBranch = sign "+" >> branch
+abbrev pub nextBranch : Bool → Reader BranchShape
+nextBranch shared = sign "+" >> branch shared
 
 -- one branch too many starts with a weight's first mark
 abbrev pub pastBranches : Reader (List BranchShape)
@@ -97,17 +122,17 @@ pastBranches = do
   w ← the weightOf
   refuseAt pastLimit p
 
-abbrev pub moreBranches : ℕ → Reader (List BranchShape)
-moreBranches most = many most "+" nextBranch pastBranches
+abbrev pub moreBranches : Bool → ℕ → Reader (List BranchShape)
+moreBranches shared most = many most "+" (nextBranch shared) pastBranches
 
 -- ---- statements
 
-abbrev pub guard : Reader (Option (Formula Literals))
-guard =
+unfoldable pub guard : Bool → Reader (Option (Formula Tested))
+guard shared =
     ifNext "&"
     (do
       sign "&"
-      g ← conjunction (unary group mostDepth)
+      g ← conjunction (unary shared tested mostDepth)
       return (some g))
     (return none)
 
@@ -115,21 +140,21 @@ guard =
 abbrev pub mayHave : ℕ → Reader (Unit {0})
 mayHave n = λ s. ok tt (at (s .marks) n)
 
-abbrev pub statement : Reader StatementShape
-statement = do
+abbrev pub statement : Bool → Reader StatementShape
+statement shared = do
   ws ← line (exactly "[" ∷ exactly "]" ∷ seatWord ∷ exactly "=" ∷ [])
   j ← numbered numberOf
   mayHave mostNodes
-  g ← guard
+  g ← guard shared
   sign "->"
-  b ← branch
-  bs ← moreBranches (mostBranches - 1)
+  b ← branch shared
+  bs ← moreBranches shared (mostBranches - 1)
   p ← here
   sign ";"
   return (record { words = ws; own = j; guard = g; branches = b ∷ bs; close = p })
 
-abbrev pub moreStatements : ℕ → Reader (List StatementShape)
-moreStatements most = many most "[" statement (refuse pastLimit)
+abbrev pub moreStatements : Bool → ℕ → Reader (List StatementShape)
+moreStatements shared most = many most "[" (statement shared) (refuse pastLimit)
 
 -- ---- the further modules
 
@@ -155,11 +180,29 @@ onlyZero (some v) = if eqb v 0 then some v else none
 abbrev pub zeroOf : Mark → Option ℕ
 zeroOf m = onlyZero (numberOf m)
 
-abbrev pub top : Reader ℕ
-top = do
+abbrev pub top : ℕ → Reader ℕ
+top most = do
   p ← here
   k ← the numberOf
-  if leb k topState then return k else refuseAt pastLimit p
+  if leb k most then return k else refuseAt pastLimit p
+
+-- behind its opening bracket
+abbrev pub range : ℕ → Reader Range
+range most = do
+  z ← the zeroOf
+  sign ".."
+  k ← top most
+  sign "]"
+  sign "init"
+  l ← numbered numberOf
+  sign ";"
+  return (record { top = k; start = l })
+
+-- global g : [0..m] init v;
+abbrev pub declaration : Reader Range
+declaration = do
+  ws ← line (exactly "global" ∷ exactly "g" ∷ exactly ":" ∷ exactly "[" ∷ [])
+  range topShared
 
 abbrev pub ended : Place → ℕ → Result (Unit {0})
 ended [] n = ok tt (at [] n)
@@ -168,22 +211,25 @@ ended (m ∷ ms) n = stop outOfShape (m ∷ ms)
 abbrev pub theEnd : Reader (Unit {0})
 theEnd = λ s. ended (s .marks) (s .nodes)
 
+-- behind the mode, and behind the shared number where one is declared
+abbrev pub modules : Mode → Option Range → Reader CardShape
+modules mode g = do
+  ws ← line (exactly "module" ∷ processWord ∷ seatWord ∷ exactly ":" ∷ exactly "[" ∷ [])
+  r ← range topState
+  x ← statement (isSome g)
+  xs ← moreStatements (isSome g) (mostStatements - 1)
+  sign "endmodule"
+  ms ← moreModules (mostSeats - 1)
+  return (record { mode = mode; shared = g; words = ws; k = r .top; l = r .start; statements = x ∷ xs; modules = ms })
+
 abbrev pub body : Reader CardShape
 body = do
   mode ← the modeOf
-  ws ← line (exactly "module" ∷ processWord ∷ seatWord ∷ exactly ":" ∷ exactly "[" ∷ [])
-  z ← the zeroOf
-  sign ".."
-  k ← top
-  sign "]"
-  sign "init"
-  l ← numbered numberOf
-  sign ";"
-  x ← statement
-  xs ← moreStatements (mostStatements - 1)
-  sign "endmodule"
-  ms ← moreModules (mostSeats - 1)
-  return (record { mode = mode; words = ws; k = k; l = l; statements = x ∷ xs; modules = ms })
+  ifNext "global"
+      (do
+        g ← declaration
+        modules mode (some g))
+      (modules mode none)
 
 abbrev pub card : Reader CardShape
 card = do

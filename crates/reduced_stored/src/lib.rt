@@ -18,7 +18,7 @@ ghost use Rattle.texts.specs.ReducedText.{reducedOf};
 // A room that every reduced text fits into (texts/specs/Lengths.antt).
 const COPY_MOST: usize = 11 + TAIL_PLACES;
 
-pub const REDUCED_ROOM: usize = 242 + MOST_STATEMENTS * MOST_SEATS * COPY_MOST;
+pub const REDUCED_ROOM: usize = 268 + MOST_STATEMENTS * MOST_SEATS * COPY_MOST;
 
 // A text up to this length is made once, beside the room, where the room may be too small.
 const DRAFT_PLACES: usize = 768;

@@ -14,6 +14,7 @@ use Rattle.room.specs.Room.{Put}
 use Rattle.room.proofs.Laws.{put-as}
 use Rattle.phrases.specs.Phrases.{Text, _▸_, modeText, counted}
 use Rattle.phrases.specs.Puts.{Puts}
+use Rattle.texts.specs.Shared.{declaration}
 use Rattle.texts.specs.ReducedText.{counterLine, counters, programText, reducedOf}
 use Rattle.statement_text.specs.Statements.{statementsText}
 use Rattle.statement_text.proofs.Both.{reduced-each}
@@ -37,7 +38,8 @@ module _ (most l : ℕ) where
 
 -- all before the statements
 abbrev pub startText : Card → Text
-startText c r = modeText (c .mode) ("\nmodule generic_process\n" ▸ counters (c .n) 0 (upto (suc (c .k)) (λ d. gate (eqb (c .l) d) (c .n))) r)
+startText c r =
+    modeText (c .mode) (declaration (c .shared) ("\nmodule generic_process\n" ▸ counters (c .n) 0 (upto (suc (c .k)) (λ d. gate (eqb (c .l) d) (c .n))) r))
 
 pub program-text : (c : Card) {a b : List ℕ} {m : ℕ} → Puts a b 0 (λ r. startText c (statementsText 1 c ("endmodule\n" ▸ r))) m → Put a b 0 (reducedOf c) m
 unfolding programText reduce

@@ -8,17 +8,19 @@ use phrases::put_mode;
 use phrases::put_numbered;
 use room::place;
 use room::put_bytes;
+use shared_text::put_declaration;
 use statement_text::put_statements;
 ghost use Prim.Native.Nat.{suc, _≤_};
 ghost use lib.Dec.{eqb};
 ghost use Rattle.card.specs.Limits.{topState};
 ghost use Rattle.card.specs.Card.{nondeterministic, probabilistic};
-ghost use Rattle.card.specs.Laid.{either};
+ghost use Rattle.card.specs.Laid.{either, sharedOf};
 ghost use Rattle.card.specs.Lent.{lent, cardIn, HoldsIn};
 ghost use Rattle.meaning.specs.Sums.{gate, upto};
 ghost use Rattle.room.specs.Room.{Put};
 ghost use Rattle.phrases.specs.Phrases.{_▸_, modeText};
 ghost use Rattle.phrases.specs.Puts.{Puts};
+ghost use Rattle.texts.specs.Shared.{declaration};
 ghost use Rattle.texts.specs.ReducedText.{counterLine, counters, reducedOf};
 
 fn put_counter(room: &mut [u8], at: usize, d: usize, seats: usize, start: usize) -> usize
@@ -48,11 +50,12 @@ fn put_counters(room: &mut [u8], at: usize, seats: usize, top: usize, start: usi
 // All before the statements.
 fn put_head(room: &mut [u8], at: usize, head: Head) -> usize
     requires { ⌜ head .top ≤ topState ⌝ }
-    ensures { λ r. ⌜ Puts (now (room .entry)) (now (room .exit)) at (λ t. modeText (either nondeterministic probabilistic (head .mode)) ("\nmodule generic_process\n" ▸ counters (head .seats) 0 (upto (suc (head .top)) (λ d. gate (eqb (head .start) d) (head .seats))) t)) r ⌝ }
+    ensures { λ r. ⌜ Puts (now (room .entry)) (now (room .exit)) at (λ t. modeText (either nondeterministic probabilistic (head .mode)) (declaration (sharedOf (head .shared) (head .initial)) ("\nmodule generic_process\n" ▸ counters (head .seats) 0 (upto (suc (head .top)) (λ d. gate (eqb (head .start) d) (head .seats))) t))) r ⌝ }
 {
     let a = put_mode(room, at, head.mode);
-    let b = put_bytes(room, a, b"\nmodule generic_process\n");
-    put_counters(room, b, head.seats, head.top, head.start)
+    let b = put_declaration(room, a, head.shared, head.initial);
+    let c = put_bytes(room, b, b"\nmodule generic_process\n");
+    put_counters(room, c, head.seats, head.top, head.start)
 }
 
 // The whole text.

@@ -1,31 +1,41 @@
 -- A written group is said by the grammar, is symmetric, and is the group. Its literals stand in rising seat order, all with one relation
--- and one d, so each seat is there once.
+-- and one d, so each seat is there once. A written test of the shared number is that test.
 use Prim.Native.Nat.{ℕ, zero, suc, _+_, _-_, _^_, _≤_, _<_}
 use mathlib.Core.Path.{_≡_, refl, sym, ap, ap₂, _∙_}
 use mathlib.Core.Logic.{_≢_}
 use mathlib.Core.Bool.{Bool, true, false, _&&_, _||_, false≢true}
 use mathlib.Core.List.{List, [], _∷_}
-use mathlib.Core.Option.{none, some}
+use mathlib.Core.Option.{Option, none, some}
+use native.Mathlib.Nat.{not-suc-le-zero, le-of-suc-le-suc}
 use native.Mathlib.Omega.{arith}
 use borrow.Author.Tests.{le-leb, eq-eqb, ne-eqb}
 use lib.Dec.{eqb}
 use lib.ListN.{length}
 use Rattle.card.specs.Limits.{numberDigits, wordDigits, mostNodes}
-use Rattle.card.specs.Card.{Kind, everyone, others, Sign, all, any, Relation, is, isnt, Leaf, group, one, atom}
+use Rattle.card.specs.Card.{Kind, everyone, others, Sign, all, any, Relation, is, isnt, Leaf, group, one, sharedIs, atom}
 use Rattle.card.specs.Valid.{firstSeat, Enough, ValidLeaf, Every}
-use Rattle.marks_on_a_card.specs.Marks.{seat, marks}
+use Rattle.marks_on_a_card.specs.Marks.{seat, number, placed, marks}
 use Rattle.reading.specs.Reader.{Place}
-use Rattle.reading.specs.Group.{relation, Literal, literalOf, Literals, literalsOf}
-use Rattle.reading.specs.Judgements.{Judgement, has, hasFrom, once, kindOf, sameRelation, alike, symmetric, broken, judgedGroup, groupIn}
-use Rattle.grammar.specs.Grammar.{signAt, LiteralSaid, literal as aLiteral, OthersSaid, close, next, GroupSaid, conjoined, disjoined, GuardSaid, unary, grouped}
+use Rattle.reading.specs.Group.{relation, Literal, literalOf, Literals, literalsOf, SharedTest, Tested, ofSeats, ofShared}
+use Rattle.reading.specs.Guard.{isSome}
+use Rattle.reading.specs.Shape.{Range}
+use Rattle.reading.specs.Checks.{mostIn}
+use Rattle.reading.specs.Judgements.{Judgement, has, hasFrom, once, kindOf, sameRelation, alike, symmetric, broken, judgedGroup, judgedTest, groupIn, leafIn}
+use Rattle.grammar.specs.Grammar.{signAt, valued, LiteralSaid, literal as aLiteral, OthersSaid, close, next, GroupSaid, conjoined, disjoined, SharedTestSaid, sharedTest, TestedSaid, testSeats, testShared, GuardSaid, unary, grouped}
 use Rattle.grammar.specs.Counted.{Within, countedGuard}
 use Rattle.phrases.specs.Phrases.{_▸_, num}
+use Rattle.texts.specs.Shared.{sharedText}
 use Rattle.texts.specs.Writing.{literal, literals, groupText}
 use Rattle.rereading.proofs.Lexed.{Apart, number-mark, seat-mark}
 
 -- a judgement that is not broken
 abbrev pub Kept : ℕ → Judgement → Type 0
 Kept n j = broken n j ≡ none
+
+-- how many values the shared number has, by the range that is declared for it
+abbrev pub valuesIn : Option Range → ℕ
+valuesIn none = 0
+valuesIn (some x) = suc (x .top)
 
 -- ---- literals of the seats from i on, c of them
 
@@ -124,14 +134,14 @@ module _ (e : ℕ) where
 
   -- ---- the group
 
-  pub record GroupWritten (n k : ℕ) (a : Leaf) (ms rest : Place) : Type 0 where
-    pub found : Literals
-    pub said : GuardSaid GroupSaid unary ms (atom found) rest
-    pub means : groupIn n (found .sign) (found .literals) ≡ a
-    pub kept : Every (Kept n) (judgedGroup k found)
+  pub record GroupWritten (n k : ℕ) (g : Option Range) (a : Leaf) (ms rest : Place) : Type 0 where
+    pub found : Tested
+    pub said : GuardSaid (TestedSaid (isSome g)) unary ms (atom found) rest
+    pub means : leafIn n found ≡ a
+    pub kept : Every (Kept n) (judgedTest k (mostIn g) found)
     pub within : (nodes around : ℕ) → suc nodes ≤ mostNodes → Every Within (countedGuard nodes around said)
 
-  module _ (n k : ℕ) (kind : Kind) (s : Sign) (q : Relation) (d : ℕ) (h : firstSeat kind ≤ n) (v : d ≤ k) where
+  module _ (n k : ℕ) (g : Option Range) (kind : Kind) (s : Sign) (q : Relation) (d : ℕ) (h : firstSeat kind ≤ n) (v : d ≤ k) where
     -- what its literals say, wherever they stand
     symmetric-there : (p : Place) (ls : List Literal) → Run q d (suc (firstSeat kind)) (n - firstSeat kind) ls → symmetric n (literalOf (firstSeat kind) q d p ∷ ls) ≡ true
     symmetric-there p ls r =
@@ -146,10 +156,10 @@ module _ (e : ℕ) where
 
     -- behind the bracket at a
     pub made : (a : ℕ) (ms rest p : Place) (ls : List Literal) → Run q d (suc (firstSeat kind)) (n - firstSeat kind) ls
-        → GroupSaid (signAt "(" a ∷ ms) ms (literalsOf (signAt "(" a ∷ ms) s (literalOf (firstSeat kind) q d p ∷ ls)) rest → GroupWritten n k (group kind s q d) (signAt "(" a ∷ ms) rest
-    made a ms rest p ls r g = record {
-      found = literalsOf (signAt "(" a ∷ ms) s (literalOf (firstSeat kind) q d p ∷ ls);
-      said = grouped g;
+        → GroupSaid (signAt "(" a ∷ ms) ms (literalsOf (signAt "(" a ∷ ms) s (literalOf (firstSeat kind) q d p ∷ ls)) rest → GroupWritten n k g (group kind s q d) (signAt "(" a ∷ ms) rest
+    made a ms rest p ls r w = record {
+      found = ofSeats (literalsOf (signAt "(" a ∷ ms) s (literalOf (firstSeat kind) q d p ∷ ls));
+      said = grouped (testSeats w);
       means = means-there p ls r;
       kept = kept-there (signAt "(" a ∷ ms) p ls r;
       within = λ nodes around l. (l, tt);
@@ -161,14 +171,33 @@ module _ (e : ℕ) where
   some-more q d i (suc c) p l w h [] r o = absurd r
   some-more q d i (suc c) p l w h (x ∷ ls) r o = disjoined w o
 
-  pub group-written : (n k : ℕ) → n < 10 ^ wordDigits → k < 10 ^ numberDigits → (a : Leaf) (r : List ℕ) → ValidLeaf n k a → GroupWritten n k a (M (groupText n a r)) (M r)
-  group-written n k small-n small-k (group kind all q d) r v =
+  -- ---- a test of the shared number
+
+  shared-made : (n k : ℕ) (x : Range) (q : Relation) (v : ℕ) → v ≤ x .top → (a b c d f : ℕ) (rest : Place)
+      → GroupWritten n k (some x) (sharedIs q v) (signAt "(" a ∷ signAt "g" b ∷ signAt (relation q) c ∷ placed (number v) d ∷ signAt ")" f ∷ rest) rest
+  shared-made n k x q v h a b c d f rest = record {
+    found = ofShared (record { relation = q; value = valued v (placed (number v) d ∷ signAt ")" f ∷ rest) });
+    said = grouped (testShared sharedTest);
+    means = refl;
+    kept = (rw (le-leb v (x .top) h), tt);
+    within = λ nodes around l. (l, tt);
+  }
+
+  shared-written : (n k : ℕ) (x : Range) (q : Relation) (v : ℕ) (r : List ℕ) → v ≤ x .top → v < 10 ^ numberDigits → GroupWritten n k (some x) (sharedIs q v) (M (sharedText q v r)) (M r)
+  shared-written n k x is v r h l = rw (number-mark e v (")" ▸ r) l (record { no-digit = refl; no-point = refl })) (shared-made n k x is v h _ _ _ _ _ (M r))
+  shared-written n k x isnt v r h l = rw (number-mark e v (")" ▸ r) l (record { no-digit = refl; no-point = refl })) (shared-made n k x isnt v h _ _ _ _ _ (M r))
+
+  pub group-written : (n k : ℕ) (g : Option Range) → n < 10 ^ wordDigits → k < 10 ^ numberDigits → valuesIn g < 10 ^ numberDigits → (a : Leaf) (r : List ℕ) → ValidLeaf n k (valuesIn g) a
+      → GroupWritten n k g a (M (groupText n a r)) (M r)
+  group-written n k g small-n small-k small-g (group kind all q d) r v =
       let w = literal-written q d (firstSeat kind) (literals all q d (firstSeat kind) (n - firstSeat kind) (")" ▸ r)) (omega arith) (omega arith) (apart all q d (firstSeat kind) (n - firstSeat kind) r) in
       let o = others-written all q d (firstSeat kind) (n - firstSeat kind) r (omega arith) (omega arith) in
-      made n k kind all q d (v .0) (v .1) _ _ _ (w .place) (o .found) (o .run) (conjoined (w .said) (o .said))
-  group-written n k small-n small-k (group kind any q d) r v =
+      made n k g kind all q d (v .0) (v .1) _ _ _ (w .place) (o .found) (o .run) (conjoined (w .said) (o .said))
+  group-written n k g small-n small-k small-g (group kind any q d) r v =
       let l : firstSeat kind ≤ n = omega arith in
       let w = literal-written q d (firstSeat kind) (literals any q d (firstSeat kind) (n - firstSeat kind) (")" ▸ r)) (omega arith) (omega arith) (apart any q d (firstSeat kind) (n - firstSeat kind) r) in
       let o = others-written any q d (firstSeat kind) (n - firstSeat kind) r (omega arith) (omega arith) in
-      made n k kind any q d l (v .1) _ _ _ (w .place) (o .found) (o .run) (some-more q d (suc (firstSeat kind)) (n - firstSeat kind) _ _ (w .said) (omega arith) (o .found) (o .run) (o .said))
-  group-written n k small-n small-k (one d) r v = absurd v
+      made n k g kind any q d l (v .1) _ _ _ (w .place) (o .found) (o .run) (some-more q d (suc (firstSeat kind)) (n - firstSeat kind) _ _ (w .said) (omega arith) (o .found) (o .run) (o .said))
+  group-written n k g small-n small-k small-g (one d) r v = absurd v
+  group-written n k none small-n small-k small-g (sharedIs q v) r h = absurd (not-suc-le-zero h)
+  group-written n k (some x) small-n small-k small-g (sharedIs q v) r h = shared-written n k x q v r (le-of-suc-le-suc h) (omega arith)

@@ -8,38 +8,42 @@ use native.Mathlib.Omega.{arith}
 use lib.Dec.{eqb}
 use lib.ListN.{length}
 use Rattle.card.specs.Limits.{numberDigits, wordDigits, mostNodes, mostDepth}
-use Rattle.card.specs.Card.{Sign, all, any, Leaf, group, one, Formula, atom, neg, and, or, Guard}
+use Rattle.card.specs.Card.{Sign, all, any, Leaf, group, one, sharedIs, is, isnt, Formula, atom, neg, and, or, Guard}
 use Rattle.card.specs.Valid.{ValidLeaves, Every, size, Level, loose, middle, tight, needsAnd, needsOr, depth}
 use Rattle.marks_on_a_card.specs.Bytes.{begins}
 use Rattle.marks_on_a_card.specs.Marks.{marks}
 use Rattle.reading.specs.Reader.{Place}
-use Rattle.reading.specs.Group.{Literals}
+use mathlib.Core.Option.{Option}
+use Rattle.reading.specs.Group.{Tested}
+use Rattle.reading.specs.Guard.{isSome}
+use Rattle.reading.specs.Shape.{Range}
+use Rattle.reading.specs.Checks.{mostIn}
 use Rattle.reading.specs.Judgements.{judgedGuard, guardIn}
-use Rattle.grammar.specs.Grammar.{signAt, GroupSaid, Part, unary, joinedBy, operand, GuardSaid, negated, bracketed, single, further}
+use Rattle.grammar.specs.Grammar.{signAt, TestedSaid, Part, unary, joinedBy, operand, GuardSaid, negated, bracketed, single, further}
 use Rattle.grammar.specs.Counted.{counted, Within, countedGuard}
 use Rattle.phrases.specs.Phrases.{_▸_}
 use Rattle.texts.specs.Shared.{opening, closing, formulaText}
 use Rattle.texts.specs.Writing.{groupText, guardText}
-use Rattle.rereading.proofs.Groups.{Kept, GroupWritten, group-written}
+use Rattle.rereading.proofs.Groups.{valuesIn, Kept, GroupWritten, group-written}
 
 pub every-append : {A : Type 0} (P : A → Type 0) (xs ys : List A) → Every P xs → Every P ys → Every P (xs ++ ys)
 every-append P [] ys p q = q
 every-append P (x ∷ xs) ys p q = (p .0, every-append P xs ys (p .1) q)
 
 -- said as a part of a guard, with so many brackets and `!` open at most
-pub record GuardWritten (n k : ℕ) (v : Part) (deep : ℕ) (g : Guard) (ms rest : Place) : Type 0 where
-  pub found : Formula Literals
-  pub said : GuardSaid GroupSaid v ms found rest
+pub record GuardWritten (n k : ℕ) (x : Option Range) (v : Part) (deep : ℕ) (g : Guard) (ms rest : Place) : Type 0 where
+  pub found : Formula Tested
+  pub said : GuardSaid (TestedSaid (isSome x)) v ms found rest
   pub means : guardIn n found ≡ g
-  pub kept : Every (Kept n) (judgedGuard k found)
+  pub kept : Every (Kept n) (judgedGuard k (mostIn x) found)
   pub large : size found ≡ size g
   pub within : (nodes around : ℕ) → nodes + size g ≤ mostNodes → around + deep ≤ mostDepth → Every Within (countedGuard nodes around said)
 
-module _ {n k : ℕ} where
-  alone : {deep : ℕ} {g : Guard} {ms rest : Place} (s : Sign) → GuardWritten n k (operand s) deep g ms rest → GuardWritten n k (joinedBy s) deep g ms rest
+module _ {n k : ℕ} {x : Option Range} where
+  alone : {deep : ℕ} {g : Guard} {ms rest : Place} (s : Sign) → GuardWritten n k x (operand s) deep g ms rest → GuardWritten n k x (joinedBy s) deep g ms rest
   alone s w = record { found = w .found; said = single (w .said); means = w .means; kept = w .kept; large = w .large; within = w .within }
 
-  bracket : {a b deep : ℕ} {g : Guard} {ms rest : Place} → GuardWritten n k (joinedBy any) deep g ms (signAt ")" b ∷ rest) → GuardWritten n k unary (suc deep) g (signAt "(" a ∷ ms) rest
+  bracket : {a b deep : ℕ} {g : Guard} {ms rest : Place} → GuardWritten n k x (joinedBy any) deep g ms (signAt ")" b ∷ rest) → GuardWritten n k x unary (suc deep) g (signAt "(" a ∷ ms) rest
   bracket w = record {
     found = w .found;
     said = bracketed tt (w .said);
@@ -49,7 +53,7 @@ module _ {n k : ℕ} where
     within = λ nodes around h l. (omega arith, w .within nodes (suc around) h (omega arith));
   }
 
-  negate : {a deep : ℕ} {g : Guard} {ms rest : Place} → GuardWritten n k unary deep g ms rest → GuardWritten n k unary (suc deep) (neg g) (signAt "!" a ∷ ms) rest
+  negate : {a deep : ℕ} {g : Guard} {ms rest : Place} → GuardWritten n k x unary deep g ms rest → GuardWritten n k x unary (suc deep) (neg g) (signAt "!" a ∷ ms) rest
   negate w = record {
     found = neg (w .found);
     said = negated (w .said);
@@ -59,13 +63,13 @@ module _ {n k : ℕ} where
     within = λ nodes around h l. (omega arith, (omega arith, w .within (suc nodes) (suc around) (omega arith) (omega arith)));
   }
 
-  join-all : {a deep₁ deep₂ : ℕ} {g h : Guard} {ms ns rest : Place} → GuardWritten n k (joinedBy all) deep₁ g ms (signAt "&" a ∷ ns) → GuardWritten n k unary deep₂ h ns rest
-      → GuardWritten n k (joinedBy all) (max deep₁ deep₂) (and g h) ms rest
+  join-all : {a deep₁ deep₂ : ℕ} {g h : Guard} {ms ns rest : Place} → GuardWritten n k x (joinedBy all) deep₁ g ms (signAt "&" a ∷ ns) → GuardWritten n k x unary deep₂ h ns rest
+      → GuardWritten n k x (joinedBy all) (max deep₁ deep₂) (and g h) ms rest
   join-all {a = a} {g = g} {h = h} {ns = ns} w u = record {
     found = and (w .found) (u .found);
     said = further (w .said) (u .said);
     means = ap₂ and (w .means) (u .means);
-    kept = every-append (Kept n) (judgedGuard k (w .found)) (judgedGuard k (u .found)) (w .kept) (u .kept);
+    kept = every-append (Kept n) (judgedGuard k (mostIn x) (w .found)) (judgedGuard k (mostIn x) (u .found)) (w .kept) (u .kept);
     large = omega (arith, w .large, u .large);
     within = λ nodes around l m.
         let later : Every Within (counted (suc (nodes + size (w .found))) mostNodes (signAt "&" a ∷ ns) ∷ countedGuard (suc (nodes + size (w .found))) around (u .said))
@@ -73,13 +77,13 @@ module _ {n k : ℕ} where
         every-append Within (countedGuard nodes around (w .said)) _ (w .within nodes around (omega arith) (omega arith)) later;
   }
 
-  join-any : {a deep₁ deep₂ : ℕ} {g h : Guard} {ms ns rest : Place} → GuardWritten n k (joinedBy any) deep₁ g ms (signAt "|" a ∷ ns) → GuardWritten n k (joinedBy all) deep₂ h ns rest
-      → GuardWritten n k (joinedBy any) (max deep₁ deep₂) (or g h) ms rest
+  join-any : {a deep₁ deep₂ : ℕ} {g h : Guard} {ms ns rest : Place} → GuardWritten n k x (joinedBy any) deep₁ g ms (signAt "|" a ∷ ns) → GuardWritten n k x (joinedBy all) deep₂ h ns rest
+      → GuardWritten n k x (joinedBy any) (max deep₁ deep₂) (or g h) ms rest
   join-any {a = a} {g = g} {h = h} {ns = ns} w u = record {
     found = or (w .found) (u .found);
     said = further (w .said) (u .said);
     means = ap₂ or (w .means) (u .means);
-    kept = every-append (Kept n) (judgedGuard k (w .found)) (judgedGuard k (u .found)) (w .kept) (u .kept);
+    kept = every-append (Kept n) (judgedGuard k (mostIn x) (w .found)) (judgedGuard k (mostIn x) (u .found)) (w .kept) (u .kept);
     large = omega (arith, w .large, u .large);
     within = λ nodes around l m.
         let later : Every Within (counted (suc (nodes + size (w .found))) mostNodes (signAt "|" a ∷ ns) ∷ countedGuard (suc (nodes + size (w .found))) around (u .said))
@@ -97,13 +101,15 @@ partOf tight = unary
 
 module _ (n : ℕ) where
   -- no `=` after `!`
-  guard-begins : (k : ℕ) (g : Guard) (r : List ℕ) → ValidLeaves n k g → begins (eqb 61) (guardText n tight g r) ≡ false
+  guard-begins : (k values : ℕ) (g : Guard) (r : List ℕ) → ValidLeaves n k values g → begins (eqb 61) (guardText n tight g r) ≡ false
   unfolding formulaText
-  guard-begins k (atom (group kind s q d)) r v = refl
-  guard-begins k (atom (one d)) r v = absurd v
-  guard-begins k (neg g) r v = refl
-  guard-begins k (and g h) r v = refl
-  guard-begins k (or g h) r v = refl
+  guard-begins k values (atom (group kind s q d)) r v = refl
+  guard-begins k values (atom (one d)) r v = absurd v
+  guard-begins k values (atom (sharedIs is a)) r v = refl
+  guard-begins k values (atom (sharedIs isnt a)) r v = refl
+  guard-begins k values (neg g) r v = refl
+  guard-begins k values (and g h) r v = refl
+  guard-begins k values (or g h) r v = refl
 
   text-group : (v : Level) (a : Leaf) (r : List ℕ) → guardText n v (atom a) r ≡ groupText n a r
   unfolding formulaText
@@ -121,15 +127,15 @@ module _ (n : ℕ) where
   unfolding formulaText
   text-or v g h r = refl
 
-module _ (e n k : ℕ) (small-n : n < 10 ^ wordDigits) (small-k : k < 10 ^ numberDigits) where
+module _ (e n k : ℕ) (x : Option Range) (small-n : n < 10 ^ wordDigits) (small-k : k < 10 ^ numberDigits) (small-x : valuesIn x < 10 ^ numberDigits) where
   abbrev M : List ℕ → Place
   M r = marks e 0 r
 
   abbrev Written : Part → ℕ → Guard → List ℕ → List ℕ → Type 0
-  Written v deep g t r = GuardWritten n k v deep g (M t) (M r)
+  Written v deep g t r = GuardWritten n k x v deep g (M t) (M r)
 
   as-text : (v : Part) (deep : ℕ) (g : Guard) (t u r : List ℕ) → t ≡ u → Written v deep g u r → Written v deep g t r
-  as-text v deep g t u r s w = subst (λ x. Written v deep g x r) (sym s) w
+  as-text v deep g t u r s w = subst (λ y. Written v deep g y r) (sym s) w
 
   -- a group and a negation stand at every level as they are
   at-level : (v : Level) (deep : ℕ) (g : Guard) (t r : List ℕ) → Written unary deep g t r → Written (partOf v) deep g t r
@@ -137,7 +143,7 @@ module _ (e n k : ℕ) (small-n : n < 10 ^ wordDigits) (small-k : k < 10 ^ numbe
   at-level middle deep g t r w = alone all w
   at-level loose deep g t r w = alone any (alone all w)
 
-  one-group : (a : Leaf) (r : List ℕ) → GroupWritten e n k a (M (groupText n a r)) (M r) → Written unary 0 (atom a) (groupText n a r) r
+  one-group : (a : Leaf) (r : List ℕ) → GroupWritten e n k x a (M (groupText n a r)) (M r) → Written unary 0 (atom a) (groupText n a r) r
   one-group a r w = record {
     found = atom (w .found);
     said = w .said;
@@ -147,34 +153,34 @@ module _ (e n k : ℕ) (small-n : n < 10 ^ wordDigits) (small-k : k < 10 ^ numbe
     within = λ nodes around h l. w .within nodes around (omega arith);
   }
 
-  not-equal : (x : List ℕ) → begins (eqb 61) x ≡ false → M ("!" ▸ x) ≡ signAt "!" (e - length ("!" ▸ x)) ∷ M x
-  not-equal x h = rw h
+  not-equal : (y : List ℕ) → begins (eqb 61) y ≡ false → M ("!" ▸ y) ≡ signAt "!" (e - length ("!" ▸ y)) ∷ M y
+  not-equal y h = rw h
 
   negation : (deep : ℕ) (g : Guard) (t r : List ℕ) → begins (eqb 61) t ≡ false → Written unary deep g t r → Written unary (suc deep) (neg g) ("!" ▸ t) r
-  negation deep g t r h w = subst (λ (ms : Place). GuardWritten n k unary (suc deep) (neg g) ms (M r)) (sym (not-equal t h)) (negate w)
+  negation deep g t r h w = subst (λ (ms : Place). GuardWritten n k x unary (suc deep) (neg g) ms (M r)) (sym (not-equal t h)) (negate w)
 
   -- joined nodes, with brackets or without
   and-written : (v : Level) (g h : Guard) (r : List ℕ)
-      → ((x : List ℕ) → Written (joinedBy all) (depth middle g) g (guardText n middle g x) x) → ((x : List ℕ) → Written unary (depth tight h) h (guardText n tight h x) x)
+      → ((y : List ℕ) → Written (joinedBy all) (depth middle g) g (guardText n middle g y) y) → ((y : List ℕ) → Written unary (depth tight h) h (guardText n tight h y) y)
       → Written (partOf v) (depth v (and g h)) (and g h) (opening (needsAnd v) (guardText n middle g (" & " ▸ guardText n tight h (closing (needsAnd v) r)))) r
   and-written tight g h r p q = bracket (alone any (join-all (p (" & " ▸ guardText n tight h (")" ▸ r))) (q (")" ▸ r))))
   and-written middle g h r p q = join-all (p (" & " ▸ guardText n tight h r)) (q r)
   and-written loose g h r p q = alone any (join-all (p (" & " ▸ guardText n tight h r)) (q r))
 
   or-written : (v : Level) (g h : Guard) (r : List ℕ)
-      → ((x : List ℕ) → Written (joinedBy any) (depth loose g) g (guardText n loose g x) x) → ((x : List ℕ) → Written (joinedBy all) (depth middle h) h (guardText n middle h x) x)
+      → ((y : List ℕ) → Written (joinedBy any) (depth loose g) g (guardText n loose g y) y) → ((y : List ℕ) → Written (joinedBy all) (depth middle h) h (guardText n middle h y) y)
       → Written (partOf v) (depth v (or g h)) (or g h) (opening (needsOr v) (guardText n loose g (" | " ▸ guardText n middle h (closing (needsOr v) r)))) r
   or-written tight g h r p q = bracket (join-any (p (" | " ▸ guardText n middle h (")" ▸ r))) (q (")" ▸ r)))
   or-written middle g h r p q = alone all (bracket (join-any (p (" | " ▸ guardText n middle h (")" ▸ r))) (q (")" ▸ r))))
   or-written loose g h r p q = join-any (p (" | " ▸ guardText n middle h r)) (q r)
 
-  pub guard-written : (v : Level) (g : Guard) (r : List ℕ) → ValidLeaves n k g → Written (partOf v) (depth v g) g (guardText n v g r) r
+  pub guard-written : (v : Level) (g : Guard) (r : List ℕ) → ValidLeaves n k (valuesIn x) g → Written (partOf v) (depth v g) g (guardText n v g r) r
   guard-written v (atom a) r w =
-      as-text (partOf v) 0 (atom a) _ _ r (text-group n v a r) (at-level v 0 (atom a) (groupText n a r) r (one-group a r (group-written e n k small-n small-k a r w)))
+      as-text (partOf v) 0 (atom a) _ _ r (text-group n v a r) (at-level v 0 (atom a) (groupText n a r) r (one-group a r (group-written e n k x small-n small-k small-x a r w)))
   guard-written v (neg g) r w =
       as-text (partOf v) (suc (depth tight g)) (neg g) _ _ r (text-neg n v g r)
-      (at-level v (suc (depth tight g)) (neg g) ("!" ▸ guardText n tight g r) r (negation (depth tight g) g (guardText n tight g r) r (guard-begins n k g r w) (guard-written tight g r w)))
+      (at-level v (suc (depth tight g)) (neg g) ("!" ▸ guardText n tight g r) r (negation (depth tight g) g (guardText n tight g r) r (guard-begins n k (valuesIn x) g r w) (guard-written tight g r w)))
   guard-written v (and g h) r w =
-      as-text (partOf v) (depth v (and g h)) (and g h) _ _ r (text-and n v g h r) (and-written v g h r (λ x. guard-written middle g x (w .0)) (λ x. guard-written tight h x (w .1)))
+      as-text (partOf v) (depth v (and g h)) (and g h) _ _ r (text-and n v g h r) (and-written v g h r (λ y. guard-written middle g y (w .0)) (λ y. guard-written tight h y (w .1)))
   guard-written v (or g h) r w =
-      as-text (partOf v) (depth v (or g h)) (or g h) _ _ r (text-or n v g h r) (or-written v g h r (λ x. guard-written loose g x (w .0)) (λ x. guard-written middle h x (w .1)))
+      as-text (partOf v) (depth v (or g h)) (or g h) _ _ r (text-or n v g h r) (or-written v g h r (λ y. guard-written loose g y (w .0)) (λ y. guard-written middle h y (w .1)))

@@ -2,34 +2,36 @@
 -- takes what is so said.
 use Prim.Native.Nat.{ℕ, zero, suc, _+_, _-_, _^_, _≤_, _<_}
 use mathlib.Core.Path.{_≡_, refl, sym, ap, ap₂, _∙_, subst}
-use mathlib.Core.Bool.{false}
+use mathlib.Core.Bool.{Bool, false}
 use mathlib.Core.List.{List, [], _∷_, _++_, map}
 use mathlib.Core.Option.{Option, none, some}
 use native.Mathlib.Omega.{arith}
 use borrow.Author.Tests.{le-leb}
 use lib.ListN.{length}
-use Rattle.card.specs.Limits.{cardBytes, numberDigits, wordDigits, mostSeats, topState, mostStatements}
-use Rattle.card.specs.Card.{Mode, nondeterministic, probabilistic, Statement, Card}
+use Rattle.card.specs.Limits.{cardBytes, numberDigits, wordDigits, mostSeats, topState, topShared, mostStatements}
+use Rattle.card.specs.Card.{Mode, nondeterministic, probabilistic, Statement, Shared, Card}
 use Rattle.card.specs.Weight.{Rule, cardRule}
-use Rattle.card.specs.Valid.{Every, ValidCard}
+use Rattle.card.specs.Valid.{Every, valuesOf, ValidStatement, ValidShared, ValidCard}
 use Rattle.marks_on_a_card.specs.Bytes.{isDigit, begins}
 use Rattle.marks_on_a_card.specs.Digits.{pointed}
 use Rattle.marks_on_a_card.specs.Marks.{text, number, placed, marks, marksOf}
 use Rattle.reading.specs.Reader.{Place, at, Result, ok, Numbered, Item}
-use Rattle.reading.specs.Group.{Literal, Literals}
+use Rattle.reading.specs.Group.{Literal, Literals, SharedTest, Tested}
+use Rattle.reading.specs.Guard.{isSome}
 use Rattle.reading.specs.Judgements.{Judgement, fine, broken, firstBroken}
-use Rattle.reading.specs.Shape.{BranchShape, StatementShape, CardShape, card as readCard}
-use Rattle.reading.specs.Checks.{judgedWords, judgedEach, judgedStatement, judgedModules, judgedCard, statementIn, seatsIn, cardIn}
+use Rattle.reading.specs.Shape.{BranchShape, StatementShape, Range, CardShape, card as readCard}
+use Rattle.reading.specs.Checks.{judgedWords, judgedEach, judgedStatement, judgedModules, judgedShared, judgedCard, mostIn, statementIn, seatsIn, sharedIn, cardIn}
 use Rattle.reading.specs.Reading.{taken, firstOutside, shaped, readUnder}
-use Rattle.grammar.specs.Grammar.{Said, signAt, valued, LineSaid, ended, fixed, aSeat, aProcess, cardRun, moduleRun, ManySaid, done, again, LiteralSaid, literal, OthersSaid, close, next, GroupSaid, conjoined, disjoined, GuardSaid, grouped, negated, bracketed, single, further}
-use Rattle.grammar.specs.Grammar.{RestSaid, nothing, guarded, WeightSaid, aNumber, aRatio, aDecimal, BranchSaid, branch, PlusSaid, plus, StatementSaid, statement, modeWord, CardSaid, card}
-use Rattle.grammar.specs.Counted.{Counted, Within, Past, FirstPast, countedMany, countedModule, countedStatement, countedCard}
+use Rattle.grammar.specs.Grammar.{Said, signAt, valued, LineSaid, ended, fixed, aSeat, aProcess, sharedRun, cardRun, moduleRun, ManySaid, done, again, LiteralSaid, literal, OthersSaid, close, next, GroupSaid, conjoined, disjoined, SharedTestSaid, sharedTest, TestedSaid, testSeats, testShared, GuardSaid, grouped, negated, bracketed, single, further}
+use Rattle.grammar.specs.Grammar.{RestSaid, nothing, guarded, WeightSaid, aNumber, aRatio, aDecimal, SetSaid, keeps, setsTo, BranchSaid, branch, PlusSaid, plus, StatementSaid, statement, modeWord, RangeSaid, range, SharedSaid, unshared, sharing, CardSaid, card}
+use Rattle.grammar.specs.Counted.{Counted, Within, Past, FirstPast, countedMany, countedModule, countedStatement, countedShared, countedCard}
 use Rattle.grammar.proofs.Follows.{Ran, came, fell, card-runs}
 use Rattle.grammar.proofs.Valid.{read-valid}
 use Rattle.phrases.specs.Phrases.{_▸_, num, modeWord as modeText}
+use Rattle.texts.specs.Shared.{declaration}
 use Rattle.texts.specs.Writing.{statements, moduleText, modules, writeOf}
 use Rattle.rereading.proofs.Lexed.{Apart, number-mark, seat-mark, process-mark}
-use Rattle.rereading.proofs.Groups.{Kept}
+use Rattle.rereading.proofs.Groups.{valuesIn, Kept}
 use Rattle.rereading.proofs.Guards.{every-append}
 use Rattle.rereading.proofs.Statements.{LineWritten, line-kept, StatementWritten, statement-written, StatementsWritten, statements-written}
 
@@ -72,88 +74,152 @@ module _ (decimals : Rule) (e : ℕ) where
   modules-written n k i (suc c) r h =
       modules-made n k (suc i) c (M (moduleText (suc i) (modules (suc i) c r))) (M (modules (suc i) c r)) (M r) (module-line (suc i) (omega arith) (modules (suc i) c r)) (modules-written n k (suc i) c r (omega arith))
 
-  -- ---- the card
-
   abbrev apart : {r : List ℕ} → begins isDigit r ≡ false → pointed r ≡ false → Apart r
   apart d p = record { no-digit = d; no-point = p }
 
-  front-line : (y : List ℕ) → LineWritten cardRun (1 ∷ 1 ∷ []) (M ("\nmodule process1\ns1 : [0.." ▸ y)) (placed (number 0) (e - length ("0.." ▸ y)) ∷ signAt ".." (e - length (".." ▸ y)) ∷ M y)
+  -- [0..k] init l; behind its two points
+  range-marks : (k l : ℕ) (r : List ℕ) → k < 10 ^ numberDigits → l < 10 ^ numberDigits
+      → M (num k ("] init " ▸ num l (";" ▸ r)))
+      ≡ placed (number k) (e - length (num k ("] init " ▸ num l (";" ▸ r))))
+      ∷ signAt "]" (e - length ("] init " ▸ num l (";" ▸ r)))
+      ∷ signAt "init" (e - length ("init " ▸ num l (";" ▸ r)))
+      ∷ placed (number l) (e - length (num l (";" ▸ r)))
+      ∷ signAt ";" (e - length (";" ▸ r))
+      ∷ M r
+  range-marks k l r small-k small-l =
+      let start = num l (";" ▸ r) in
+      let front = num k ("] init " ▸ start) in
+      number-mark e k ("] init " ▸ start) small-k (apart refl refl)
+      ∙ ap (λ (t : Place). placed (number k) (e - length front) ∷ signAt "]" (e - length ("] init " ▸ start)) ∷ signAt "init" (e - length ("init " ▸ start)) ∷ t)
+      (number-mark e l (";" ▸ r) small-l (apart refl refl))
+
+  -- the two points of a range, behind which the marks are ys
+  abbrev Ranged : List Item → List ℕ → Place → List ℕ → Place → Type 0
+  Ranged items dues ms y ys = LineWritten items dues ms (placed (number 0) (e - length ("0.." ▸ y)) ∷ signAt ".." (e - length (".." ▸ y)) ∷ ys)
+
+  front-line : (y : List ℕ) → Ranged cardRun (1 ∷ 1 ∷ []) (M ("\nmodule process1\ns1 : [0.." ▸ y)) y (M y)
   front-line y = record { found = valued 1 _ ∷ valued 1 _ ∷ []; said = fixed (aProcess (aSeat (fixed (fixed ended)))); due = (refl, (refl, tt)) }
 
-  mode-mark : (m : Mode) (y : List ℕ) → M (modeText m ▸ "\nmodule process1\ns1 : [0.." ▸ y) ≡ signAt (modeWord m) (e - length (modeText m ▸ "\nmodule process1\ns1 : [0.." ▸ y)) ∷ M ("\nmodule process1\ns1 : [0.." ▸ y)
-  mode-mark nondeterministic y = refl
-  mode-mark probabilistic y = refl
+  shared-line : (y : List ℕ) → Ranged sharedRun [] (M ("\nglobal g : [0.." ▸ y)) y (M y)
+  shared-line y = record { found = []; said = fixed (fixed (fixed (fixed ended))); due = tt }
+
+  -- ---- the declaration of the shared number
+
+  record SharedWritten (n : ℕ) (s : Option Shared) (ms rest : Place) : Type 0 where
+    found : Option Range
+    said : SharedSaid ms found rest
+    means : sharedIn found ≡ s
+    values : valuesIn found ≡ valuesOf s
+    kept : Every (Kept n) (judgedShared found)
+    within : Every Within (countedShared said)
+
+  shared-made : (n : ℕ) (s : Shared) → ValidShared (some s) → (a b c d f g h : ℕ) (ms rest : Place)
+      → LineWritten sharedRun [] ms (placed (number 0) a ∷ signAt ".." b ∷ placed (number (s .most)) c ∷ signAt "]" d ∷ signAt "init" f ∷ placed (number (s .start)) g ∷ signAt ";" h ∷ rest)
+      → SharedWritten n (some s) ms rest
+  shared-made n s v a b c d f g h ms rest l = record {
+    found = some (record { top = s .most; start = valued (s .start) (placed (number (s .start)) g ∷ signAt ";" h ∷ rest) });
+    said = sharing (l .said) range;
+    means = refl;
+    values = refl;
+    kept = (rw (le-leb (s .start) (s .most) (v .1)), tt);
+    within = (v .0, tt);
+  }
+
+  small-values : (s : Option Shared) → ValidShared s → (m : ℕ) → m ≡ valuesOf s → m < 10 ^ numberDigits
+  small-values none v m h = omega arith
+  small-values (some s) v m h = omega (arith, v .0)
+
+  shared-written : (n : ℕ) (s : Option Shared) (r : List ℕ) → ValidShared s → SharedWritten n s (M (declaration s r)) (M r)
+  shared-written n none r v = record { found = none; said = unshared; means = refl; values = refl; kept = tt; within = tt }
+  shared-written n (some s) r v =
+      let y = num (s .most) ("] init " ▸ num (s .start) (";" ▸ r)) in
+      shared-made n s v _ _ _ _ _ _ _ (M ("\nglobal g : [0.." ▸ y)) (M r)
+      (subst (λ (ys : Place). Ranged sharedRun [] (M ("\nglobal g : [0.." ▸ y)) y ys)
+      (range-marks (s .most) (s .start) r (omega (arith, v .0)) (omega (arith, v .0, v .1))) (shared-line y))
+
+  -- ---- the card
+
+  mode-mark : (m : Mode) (s : Option Shared) (y : List ℕ) → M (modeText m ▸ declaration s ("\nmodule" ▸ y)) ≡ signAt (modeWord m) (e - length (modeText m ▸ declaration s ("\nmodule" ▸ y))) ∷ M (declaration s ("\nmodule" ▸ y))
+  mode-mark nondeterministic none y = refl
+  mode-mark nondeterministic (some s) y = refl
+  mode-mark probabilistic none y = refl
+  mode-mark probabilistic (some s) y = refl
 
   record CardWritten (c : Card) (ms : Place) : Type 0 where
     found : CardShape
     said : CardSaid ms found
     seats : seatsIn found ≡ c .n
-    top : found .k ≡ c .k
     means : cardIn found ≡ c
     kept : Every (Kept (c .n)) (judgedCard decimals found)
     within : Every Within (countedCard said)
 
-  same-card : (mode : Mode) (n m k l : ℕ) (ss : List StatementShape) (xs : List Statement) → m ≡ n → map (statementIn n) ss ≡ xs
-      → _≡_ {A = Card} (record { mode = mode; n = m; k = k; l = l; statements = map (statementIn m) ss }) (record { mode = mode; n = n; k = k; l = l; statements = xs })
-  same-card mode n m k l ss xs p q = rw (p, q)
+  same-card : (mode : Mode) (s t : Option Shared) (n m k l : ℕ) (ss : List StatementShape) (xs : List Statement) → t ≡ s → m ≡ n → map (statementIn n) ss ≡ xs
+      → _≡_ {A = Card} (record { mode = mode; shared = t; n = m; k = k; l = l; statements = map (statementIn m) ss }) (record { mode = mode; shared = s; n = n; k = k; l = l; statements = xs })
+  same-card mode s t n m k l ss xs p q r = rw (p, q, r)
 
-  card-made : (mode : Mode) (n k l : ℕ) (x : Statement) (xs : List Statement) (small-n : n < 10 ^ wordDigits) (small-k : k < 10 ^ numberDigits) → 1 ≤ n → n ≤ mostSeats → k ≤ topState → l ≤ k → length (x ∷ xs) ≤ mostStatements
-      → (a b c d f g h i j : ℕ) (ms ns os qs : Place)
-      → LineWritten cardRun (1 ∷ 1 ∷ []) ms (placed (number 0) b ∷ signAt ".." c ∷ placed (number k) d ∷ signAt "]" f ∷ signAt "init" g ∷ placed (number l) h ∷ signAt ";" i ∷ ns)
-      → StatementWritten decimals e n k small-n small-k x ns os
-      → StatementsWritten decimals e n k small-n small-k xs os (signAt "endmodule" j ∷ qs)
+  card-made : (mode : Mode) (s : Option Shared) (n k l : ℕ) (x : Statement) (xs : List Statement) (small-n : n < 10 ^ wordDigits) (small-k : k < 10 ^ numberDigits)
+      → 1 ≤ n → n ≤ mostSeats → k ≤ topState → l ≤ k → length (x ∷ xs) ≤ mostStatements
+      → (a b c d f g h i j : ℕ) (ms ns os ps qs : Place)
+      → (w : SharedWritten n s ms ns) (small-g : valuesIn (w .found) < 10 ^ numberDigits)
+      → LineWritten cardRun (1 ∷ 1 ∷ []) ns (placed (number 0) b ∷ signAt ".." c ∷ placed (number k) d ∷ signAt "]" f ∷ signAt "init" g ∷ placed (number l) h ∷ signAt ";" i ∷ os)
+      → StatementWritten decimals e n k (w .found) small-n small-k small-g x os ps
+      → StatementsWritten decimals e n k (w .found) small-n small-k small-g xs ps (signAt "endmodule" j ∷ qs)
       → ModulesWritten n k 2 (n - 1) qs []
-      → CardWritten (record { mode = mode; n = n; k = k; l = l; statements = x ∷ xs }) (signAt (modeWord mode) a ∷ ms)
-  card-made mode n k l x xs small-n small-k one most top init few a b c d f g h i j ms ns os qs w s ss ys = record {
-    found = record { mode = mode; words = w .found; k = k; l = valued l (placed (number l) h ∷ signAt ";" i ∷ ns); statements = s .found ∷ ss .found; modules = ys .found };
-    said = card (w .said) (s .said) (ss .said) (ys .said);
+      → CardWritten (record { mode = mode; shared = s; n = n; k = k; l = l; statements = x ∷ xs }) (signAt (modeWord mode) a ∷ ms)
+  card-made mode s n k l x xs small-n small-k one most top init few a b c d f g h i j ms ns os ps qs w small-g u y ys zs = record {
+    found = record { mode = mode; shared = w .found; words = u .found; k = k; l = valued l (placed (number l) h ∷ signAt ";" i ∷ os); statements = y .found ∷ ys .found; modules = zs .found };
+    said = card (w .said) (u .said) range (y .said) (ys .said) (zs .said);
     seats = all-seats;
-    top = refl;
-    means = same-card mode n (suc (length (ys .found))) k l (s .found ∷ ss .found) (x ∷ xs) all-seats (ap₂ _∷_ (s .means) (ss .means));
-    kept = every-append (Kept n) (judgedWords (1 ∷ 1 ∷ []) (w .found)) _ (line-kept n (1 ∷ 1 ∷ []) (w .found) (w .due)) (
-      rw (le-leb l k init),
-      every-append (Kept n) (judgedStatement decimals k (s .found) ++ judgedEach (judgedStatement decimals k) (ss .found)) (judgedModules 2 (ys .found))
-          (every-append (Kept n) (judgedStatement decimals k (s .found)) (judgedEach (judgedStatement decimals k) (ss .found)) (s .kept) (ss .kept))
-          (ys .kept),
-    );
-    within = (
+    means = same-card mode s (sharedIn (w .found)) n (suc (length (zs .found))) k l (y .found ∷ ys .found) (x ∷ xs) (w .means) all-seats (ap₂ _∷_ (y .means) (ys .means));
+    kept = every-append (Kept n) (judgedShared (w .found)) _ (w .kept) (
+        every-append (Kept n) (judgedWords (1 ∷ 1 ∷ []) (u .found)) _ (line-kept n (1 ∷ 1 ∷ []) (u .found) (u .due)) (
+          rw (le-leb l k init),
+          every-append (Kept n) (judged (y .found) ++ judgedEach judged (ys .found)) (judgedModules 2 (zs .found))
+              (every-append (Kept n) (judged (y .found)) (judgedEach judged (ys .found)) (y .kept) (ys .kept))
+              (zs .kept),
+        )
+        );
+    within = every-append Within (countedShared (w .said)) _ (w .within) (
       top,
-      every-append Within (countedStatement ns os (s .found) 1 (s .said)) _ (s .within 1 (omega arith))
-          (every-append Within (countedMany countedStatement 2 (ss .said)) (countedMany countedModule 2 (ys .said)) (ss .within 2 (omega arith)) (ys .within (omega arith))),
+      every-append Within (countedStatement os ps (y .found) 1 (y .said)) _ (y .within 1 (omega arith))
+          (every-append Within (countedMany countedStatement 2 (ys .said)) (countedMany countedModule 2 (zs .said)) (ys .within 2 (omega arith)) (zs .within (omega arith))),
     );
   }
     where
-      all-seats : suc (length (ys .found)) ≡ n
-      all-seats = omega (arith, ys .many)
+      judged : StatementShape → List Judgement
+      judged = judgedStatement decimals k (mostIn (w .found))
 
-  parts-written : (mode : Mode) (n k l : ℕ) (xs : List Statement) → ValidCard (record { mode = mode; n = n; k = k; l = l; statements = xs })
-      → CardWritten (record { mode = mode; n = n; k = k; l = l; statements = xs })
-      (M (modeText mode ▸ "\nmodule process1\ns1 : [0.." ▸ num k ("] init " ▸ num l (";\n" ▸ statements n xs ("endmodule\n" ▸ modules 1 (n - 1) [])))))
-  parts-written mode n k l [] v = absurd (omega (arith, v .some .0))
-  parts-written mode n k l (x ∷ xs) v =
+      all-seats : suc (length (zs .found)) ≡ n
+      all-seats = omega (arith, zs .many)
+
+  parts-written : (mode : Mode) (s : Option Shared) (n k l : ℕ) (xs : List Statement) → ValidCard (record { mode = mode; shared = s; n = n; k = k; l = l; statements = xs })
+      → CardWritten (record { mode = mode; shared = s; n = n; k = k; l = l; statements = xs })
+      (M (modeText mode ▸ declaration s ("\nmodule process1\ns1 : [0.." ▸ num k ("] init " ▸ num l (";\n" ▸ statements n xs ("endmodule\n" ▸ modules 1 (n - 1) []))))))
+  parts-written mode s n k l [] v = absurd (omega (arith, v .some .0))
+  parts-written mode s n k l (x ∷ xs) v =
       let small-n : n < 10 ^ wordDigits = omega (arith, v .seats-most) in
       let small-k : k < 10 ^ numberDigits = omega (arith, v .top) in
       let last = "endmodule\n" ▸ modules 1 (n - 1) [] in
       let body = statements n (x ∷ xs) last in
-      let start = num l (";\n" ▸ body) in
-      let front = num k ("] init " ▸ start) in
-      let start-mark : M start ≡ placed (number l) (e - length start) ∷ signAt ";" (e - length (";\n" ▸ body)) ∷ M body = number-mark e l (";\n" ▸ body) (omega (arith, v .init)) (apart refl refl) in
-      let front-mark : M front ≡ placed (number k) (e - length front) ∷ signAt "]" (e - length ("] init " ▸ start)) ∷ signAt "init" (e - length ("init " ▸ start)) ∷ M start
-      = number-mark e k ("] init " ▸ start) small-k (apart refl refl) in
-      let both = front-mark ∙ ap (λ (t : Place). placed (number k) (e - length front) ∷ signAt "]" (e - length ("] init " ▸ start)) ∷ signAt "init" (e - length ("init " ▸ start)) ∷ t) start-mark in
-      subst (λ (ms : Place). CardWritten (record { mode = mode; n = n; k = k; l = l; statements = x ∷ xs }) ms) (sym (mode-mark mode front))
-      (card-made mode n k l x xs small-n small-k (v .seats) (v .seats-most) (v .top) (v .init) (v .some .1) _ _ _ _ _ _ _ _ _ (M ("\nmodule process1\ns1 : [0.." ▸ front)) (M body) (M (statements n xs last)) (M (modules 1 (n - 1) []))
-      (subst (λ (y : Place). LineWritten cardRun (1 ∷ 1 ∷ []) (M ("\nmodule process1\ns1 : [0.." ▸ front)) (placed (number 0) (e - length ("0.." ▸ front)) ∷ signAt ".." (e - length (".." ▸ front)) ∷ y)) both (front-line front))
-      (statement-written decimals e n k small-n small-k x (statements n xs last) (v .statements .0))
-      (statements-written decimals e n k small-n small-k xs last (v .statements .1))
+      let front = num k ("] init " ▸ num l (";\n" ▸ body)) in
+      let w = shared-written n s ("\nmodule process1\ns1 : [0.." ▸ front) (v .shared) in
+      let small-g : valuesIn (w .found) < 10 ^ numberDigits = small-values s (v .shared) (valuesIn (w .found)) (w .values) in
+      let valid : Every (ValidStatement n k (valuesIn (w .found))) (x ∷ xs) = subst (λ (m : ℕ). Every (ValidStatement n k m) (x ∷ xs)) (sym (w .values)) (v .statements) in
+      subst (λ (ms : Place). CardWritten (record { mode = mode; shared = s; n = n; k = k; l = l; statements = x ∷ xs }) ms) (sym (mode-mark mode s (" process1\ns1 : [0.." ▸ front)))
+      (card-made mode s n k l x xs small-n small-k (v .seats) (v .seats-most) (v .top) (v .init) (v .some .1) _ _ _ _ _ _ _ _ _
+      (M (declaration s ("\nmodule process1\ns1 : [0.." ▸ front))) (M ("\nmodule process1\ns1 : [0.." ▸ front)) (M body) (M (statements n xs last)) (M (modules 1 (n - 1) []))
+      w small-g
+      (subst (λ (ys : Place). Ranged cardRun (1 ∷ 1 ∷ []) (M ("\nmodule process1\ns1 : [0.." ▸ front)) front ys) (range-marks k l ("\n" ▸ body) small-k (omega (arith, v .init))) (front-line front))
+      (statement-written decimals e n k (w .found) small-n small-k small-g x (statements n xs last) (valid .0))
+      (statements-written decimals e n k (w .found) small-n small-k small-g xs last (valid .1))
       (modules-written n k 1 (n - 1) [] (omega (arith, v .seats-most))))
 
-  text-of : (c : Card) → writeOf c ≡ (modeText (c .mode) ▸ "\nmodule process1\ns1 : [0.." ▸ num (c .k) ("] init " ▸ num (c .l) (";\n" ▸ statements (c .n) (c .statements) ("endmodule\n" ▸ modules 1 (c .n - 1) []))))
+  text-of : (c : Card) → writeOf c ≡ (modeText (c .mode) ▸ declaration (c .shared) ("\nmodule process1\ns1 : [0.." ▸ num (c .k) ("] init " ▸ num (c .l) (";\n" ▸ statements (c .n) (c .statements) ("endmodule\n" ▸ modules 1 (c .n - 1) [])))))
   unfolding writeOf
   text-of c = refl
 
   card-written : (c : Card) → ValidCard c → CardWritten c (M (writeOf c))
-  card-written c v = subst (λ (t : List ℕ). CardWritten c (M t)) (sym (text-of c)) (parts-written (c .mode) (c .n) (c .k) (c .l) (c .statements) v)
+  card-written c v = subst (λ (t : List ℕ). CardWritten c (M t)) (sym (text-of c)) (parts-written (c .mode) (c .shared) (c .n) (c .k) (c .l) (c .statements) v)
 
 -- ---- no mark that the grammar says is outside the rules
 
@@ -177,14 +243,21 @@ group-inside : {p ms r : Place} {g : Literals} → GroupSaid p ms g r → Inside
 group-inside (conjoined l o) = literal-inside l ∙ others-inside o
 group-inside (disjoined l o) = literal-inside l ∙ others-inside o
 
-guard-inside : {v : Rattle.grammar.specs.Grammar.Part} {ms r : Place} {g : Rattle.card.specs.Card.Formula Literals} → GuardSaid GroupSaid v ms g r → Inside ms r
-guard-inside (grouped d) = group-inside d
+test-inside : {ms r : Place} {x : SharedTest} → SharedTestSaid ms x r → Inside ms r
+test-inside sharedTest = refl
+
+tested-inside : {shared : Bool} {p ms r : Place} {x : Tested} → TestedSaid shared p ms x r → Inside ms r
+tested-inside (testSeats d) = group-inside d
+tested-inside (testShared d) = test-inside d
+
+guard-inside : {shared : Bool} {v : Rattle.grammar.specs.Grammar.Part} {ms r : Place} {g : Rattle.card.specs.Card.Formula Tested} → GuardSaid (TestedSaid shared) v ms g r → Inside ms r
+guard-inside (grouped d) = tested-inside d
 guard-inside (negated d) = guard-inside d
 guard-inside (bracketed f d) = guard-inside d
 guard-inside (single d) = guard-inside d
 guard-inside (further d u) = guard-inside d ∙ guard-inside u
 
-rest-inside : {ms r : Place} {g : Option (Rattle.card.specs.Card.Formula Literals)} → RestSaid ms g r → Inside ms r
+rest-inside : {shared : Bool} {ms r : Place} {g : Option (Rattle.card.specs.Card.Formula Tested)} → RestSaid shared ms g r → Inside ms r
 rest-inside nothing = refl
 rest-inside (guarded d) = guard-inside d
 
@@ -193,21 +266,33 @@ weight-inside aNumber = refl
 weight-inside aRatio = refl
 weight-inside aDecimal = refl
 
-branch-inside : {ms r : Place} {b : BranchShape} → BranchSaid ms b r → Inside ms r
-branch-inside (branch w l) = weight-inside w ∙ line-inside l
+set-inside : {shared : Bool} {ms r : Place} {v : Option Numbered} → SetSaid shared ms v r → Inside ms r
+set-inside keeps = refl
+set-inside (setsTo l) = line-inside l
 
-plus-inside : (ms r : Place) (b : BranchShape) → PlusSaid ms b r → Inside ms r
+branch-inside : {shared : Bool} {ms r : Place} {b : BranchShape} → BranchSaid shared ms b r → Inside ms r
+branch-inside (branch w l s) = weight-inside w ∙ line-inside l ∙ set-inside s
+
+plus-inside : {shared : Bool} (ms r : Place) (b : BranchShape) → PlusSaid shared ms b r → Inside ms r
 plus-inside ms r b (plus d) = branch-inside d
 
 many-inside : {A : Type 0} (One : Said A) → ((ms r : Place) (x : A) → One ms x r → Inside ms r) → {ms r : Place} {xs : List A} → ManySaid One ms xs r → Inside ms r
 many-inside One h done = refl
 many-inside One h (again {ms} {ns} {x = x} d ds) = h ms ns x d ∙ many-inside One h ds
 
-statement-inside : (ms r : Place) (x : StatementShape) → StatementSaid ms x r → Inside ms r
-statement-inside ms r x (statement l w d ds) = line-inside l ∙ rest-inside w ∙ branch-inside d ∙ many-inside PlusSaid plus-inside ds
+statement-inside : {shared : Bool} (ms r : Place) (x : StatementShape) → StatementSaid shared ms x r → Inside ms r
+statement-inside {shared} ms r x (statement l w d ds) = line-inside l ∙ rest-inside w ∙ branch-inside d ∙ many-inside (PlusSaid shared) plus-inside ds
+
+range-inside : {ms r : Place} {x : Range} → RangeSaid ms x r → Inside ms r
+range-inside range = refl
+
+shared-inside : {ms r : Place} {g : Option Range} → SharedSaid ms g r → Inside ms r
+shared-inside unshared = refl
+shared-inside (sharing l x) = line-inside l ∙ range-inside x
 
 pub card-inside : {ms : Place} {c : CardShape} → CardSaid ms c → firstOutside ms ≡ none
-card-inside (card l s ss ys) = line-inside l ∙ statement-inside _ _ _ s ∙ many-inside StatementSaid statement-inside ss ∙ many-inside (LineSaid moduleRun) (λ ms r ws d. line-inside d) ys
+card-inside (card {g = g} w l x s ss ys) =
+    shared-inside w ∙ line-inside l ∙ range-inside x ∙ statement-inside _ _ _ s ∙ many-inside (StatementSaid (isSome g)) statement-inside ss ∙ many-inside (LineSaid moduleRun) (λ ms r ws d. line-inside d) ys
 
 -- ---- what is said within the limits and keeps the rules is read
 

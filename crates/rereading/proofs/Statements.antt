@@ -4,14 +4,14 @@ use mathlib.Core.Path.{_≡_, refl, sym, ap, ap₂, _∙_, subst}
 use mathlib.Core.Bool.{Bool, true, false, _&&_}
 use mathlib.Core.List.{List, [], _∷_, _++_, map}
 use mathlib.Core.Option.{Option, none, some}
-use native.Mathlib.Nat.{div-le-self}
+use native.Mathlib.Nat.{div-le-self, not-suc-le-zero, le-of-suc-le-suc}
 use native.Mathlib.Omega.{arith}
 use borrow.Author.Tests.{le-leb, eq-eqb, ne-eqb}
 use lib.Dec.{eqb, leb}
 use lib.ListN.{length}
 use Rattle.card.specs.Limits.{numberDigits, wordDigits, unit, mostStatements, mostBranches, mostNodes, mostDepth}
 use Rattle.card.specs.Card.{all, Formula, Guard, Branch, Statement}
-use Rattle.card.specs.Valid.{Every, total, size, middle, depth, ValidGuard, ValidBranch, ValidStatement}
+use Rattle.card.specs.Valid.{Every, total, size, middle, depth, ValidGuard, ValidSet, ValidBranch, ValidStatement}
 use Rattle.card.specs.Weight.{Weight, whole, ratio, unitsOf, Rule, allowed, weightRefusal}
 use Rattle.marks_on_a_card.specs.Bytes.{isDigit, begins}
 use Rattle.marks_on_a_card.specs.Digits.{pointed}
@@ -19,20 +19,20 @@ use Rattle.marks_on_a_card.specs.Marks.{number, placed, marks}
 use Rattle.reading.specs.Reader.{Place, Numbered, Item}
 use Rattle.reading.specs.Guard.{isSome}
 use Rattle.card.specs.Refusals.{wrongWeight}
-use Rattle.reading.specs.Group.{Literals}
+use Rattle.reading.specs.Group.{Tested}
 use Rattle.reading.specs.Judgements.{weight, unless, unitsIn, orZero, totalUnits}
-use Rattle.reading.specs.Shape.{BranchShape, StatementShape}
-use Rattle.reading.specs.Checks.{judgedWords, judgedBranch, judgedEach, judgedOr, judgedStatement, weightIn, branchIn, guardOr as guardIn′, statementIn}
-use Rattle.grammar.specs.Grammar.{signAt, valued, joinedBy, LineSaid, ended, fixed, aSeat, statementRun, branchRun, ManySaid, done, again, RestSaid, nothing, guarded, WeightSaid, aNumber, aRatio, BranchSaid, branch, PlusSaid, plus, StatementSaid, statement}
+use Rattle.reading.specs.Shape.{BranchShape, StatementShape, Range}
+use Rattle.reading.specs.Checks.{judgedWords, judgedSet, judgedBranch, judgedEach, judgedOr, judgedStatement, weightIn, valueOr, branchIn, guardOr as guardIn′, statementIn, mostIn}
+use Rattle.grammar.specs.Grammar.{signAt, valued, joinedBy, LineSaid, ended, fixed, aSeat, statementRun, branchRun, setRun, ManySaid, done, again, RestSaid, nothing, guarded, WeightSaid, aNumber, aRatio, SetSaid, keeps, setsTo, BranchSaid, branch, PlusSaid, plus, StatementSaid, statement}
 use Rattle.grammar.specs.Counted.{Within, countedRest, countedPlus, countedMany, countedStatement}
 use Rattle.room.specs.Digits.{decimal, AllDigits}
 use Rattle.room.proofs.Decimal.{decimal-digits, decimal-some}
 use Rattle.phrases.specs.Phrases.{_▸_, num, lowest, spell, divisor, weightText}
 use Rattle.phrases.proofs.Lowest.{lowest-kept}
-use Rattle.texts.specs.Shared.{needed, formulaOr, more, summed}
+use Rattle.texts.specs.Shared.{needed, formulaOr, more, summed, setLast}
 use Rattle.texts.specs.Writing.{groupText, guardText, branchText, statementText, statements}
 use Rattle.rereading.proofs.Lexed.{Apart, number-mark}
-use Rattle.rereading.proofs.Groups.{Kept}
+use Rattle.rereading.proofs.Groups.{valuesIn, Kept}
 use Rattle.rereading.proofs.Guards.{every-append, GuardWritten, guard-written}
 
 cases : {P : Type 0} (b : Bool) → (b ≡ true → P) → (b ≡ false → P) → P
@@ -112,23 +112,51 @@ module _ (decimals : Rule) (e : ℕ) where
   pub statement-line : (x : List ℕ) → LineWritten statementRun (1 ∷ []) (M ("[] s1=" ▸ x)) (M x)
   statement-line x = record { found = valued 1 _ ∷ []; said = fixed (fixed (aSeat (fixed ended))); due = (refl, tt) }
 
+  pub set-line : (x : List ℕ) → LineWritten setRun [] (M (" & (g'=" ▸ x)) (M x)
+  set-line x = record { found = []; said = fixed (fixed (fixed (fixed (fixed ended)))); due = tt }
+
+  -- ---- what a branch sets
+
+  record SetWritten (n : ℕ) (x : Option Range) (o : Option ℕ) (ms rest : Place) : Type 0 where
+    found : Option Numbered
+    said : SetSaid (isSome x) ms found rest
+    means : valueOr found ≡ o
+    kept : Every (Kept n) (judgedSet (mostIn x) found)
+
+  set-made : (n : ℕ) (y : Range) (v : ℕ) → v ≤ y .top → (a b : ℕ) (ms rest : Place) → LineWritten setRun [] ms (placed (number v) a ∷ signAt ")" b ∷ rest) → SetWritten n (some y) (some v) ms rest
+  set-made n y v h a b ms rest l = record {
+    found = some (valued v (placed (number v) a ∷ signAt ")" b ∷ rest));
+    said = setsTo (l .said);
+    means = refl;
+    kept = (rw (le-leb v (y .top) h), tt);
+  }
+
+  set-written : (n : ℕ) (x : Option Range) → valuesIn x < 10 ^ numberDigits → (o : Option ℕ) (r : List ℕ) → ValidSet (valuesIn x) o → SetWritten n x o (M (setLast o r)) (M r)
+  set-written n x small none r v = record { found = none; said = keeps; means = refl; kept = tt }
+  set-written n none small (some v) r h = absurd (not-suc-le-zero h)
+  set-written n (some y) small (some v) r h =
+      let marked : M (num v (")" ▸ r)) ≡ placed (number v) (e - length (num v (")" ▸ r))) ∷ signAt ")" (e - length (")" ▸ r)) ∷ M r
+      = number-mark e v (")" ▸ r) (omega arith) (apart refl refl) in
+      set-made n y v (le-of-suc-le-suc h) _ _ (M (setLast (some v) r)) (M r)
+      (subst (λ (z : Place). LineWritten setRun [] (M (setLast (some v) r)) z) marked (set-line (num v (")" ▸ r))))
+
   -- ---- branches
 
-  pub record BranchWritten (n k : ℕ) (b : Branch) (ms rest : Place) : Type 0 where
+  pub record BranchWritten (n k : ℕ) (x : Option Range) (b : Branch) (ms rest : Place) : Type 0 where
     pub found : BranchShape
-    pub said : BranchSaid ms found rest
+    pub said : BranchSaid (isSome x) ms found rest
     pub means : branchIn found ≡ b
-    pub kept : Every (Kept n) (judgedBranch decimals k found)
+    pub kept : Every (Kept n) (judgedBranch decimals k (mostIn x) found)
     pub units : unitsIn (found .weight) ≡ b .units
 
-  module _ (n k : ℕ) (small-k : k < 10 ^ numberDigits) where
-    branch-made : (b : Branch) → ValidBranch k b → (a c : ℕ) (ms ns rest : Place) → WeightSaid ms (lowest (b .units)) ns
-        → LineWritten branchRun (1 ∷ []) ns (placed (number (b .end)) a ∷ signAt ")" c ∷ rest) → BranchWritten n k b ms rest
-    branch-made b v a c ms ns rest w l = record {
-      found = record { place = ms; weight = lowest (b .units); words = l .found; end = valued (b .end) (placed (number (b .end)) a ∷ signAt ")" c ∷ rest) };
-      said = branch w (l .said);
-      means = ap (λ (u : ℕ). record { units = u; end = b .end }) (ap orZero worth);
-      kept = (weighs (allowed decimals (lowest (b .units))) (unitsOf (lowest (b .units))) (weightRefusal decimals (lowest (b .units))) (lowest-allowed decimals (b .units)) worth, every-append (Kept n) (judgedWords (1 ∷ []) (l .found)) _ (line-kept n (1 ∷ []) (l .found) (l .due)) (rw (le-leb (b .end) k (v .end)), tt));
+  module _ (n k : ℕ) (x : Option Range) (small-k : k < 10 ^ numberDigits) (small-x : valuesIn x < 10 ^ numberDigits) where
+    branch-made : (b : Branch) → ValidBranch k (valuesIn x) b → (a c : ℕ) (ms ns os rest : Place) → WeightSaid ms (lowest (b .units)) ns
+        → LineWritten branchRun (1 ∷ []) ns (placed (number (b .end)) a ∷ signAt ")" c ∷ os) → SetWritten n x (b .sets) os rest → BranchWritten n k x b ms rest
+    branch-made b v a c ms ns os rest w l t = record {
+      found = record { place = ms; weight = lowest (b .units); words = l .found; end = valued (b .end) (placed (number (b .end)) a ∷ signAt ")" c ∷ os); sets = t .found };
+      said = branch w (l .said) (t .said);
+      means = ap₂ (λ (u : ℕ) (o : Option ℕ). record { units = u; end = b .end; sets = o }) (ap orZero worth) (t .means);
+      kept = (weighs (allowed decimals (lowest (b .units))) (unitsOf (lowest (b .units))) (weightRefusal decimals (lowest (b .units))) (lowest-allowed decimals (b .units)) worth, every-append (Kept n) (judgedWords (1 ∷ []) (l .found)) _ (line-kept n (1 ∷ []) (l .found) (l .due)) (rw (le-leb (b .end) k (v .end)), t .kept));
       units = ap orZero worth;
     }
       where
@@ -138,49 +166,51 @@ module _ (decimals : Rule) (e : ℕ) where
         weighs : (a : Bool) (o : Option ℕ) (r : ℕ) → a ≡ true → o ≡ some (b .units) → unless (a && isSome o) r ≡ none
         weighs a o r g h = rw (g, h)
 
-    pub branch-written : (b : Branch) (r : List ℕ) → ValidBranch k b → BranchWritten n k b (M (branchText b r)) (M r)
+    pub branch-written : (b : Branch) (r : List ℕ) → ValidBranch k (valuesIn x) b → BranchWritten n k x b (M (branchText b r)) (M r)
     branch-written b r v =
-        let x = ":(s1'=" ▸ num (b .end) (")" ▸ r) in
-        let ends : M (num (b .end) (")" ▸ r)) ≡ placed (number (b .end)) (e - length (num (b .end) (")" ▸ r))) ∷ signAt ")" (e - length (")" ▸ r)) ∷ M r
-        = number-mark e (b .end) (")" ▸ r) (omega (arith, v .end)) (apart refl refl) in
-        branch-made b v _ _ (M (branchText b r)) (M x) (M r) (weight-written (b .units) x (v .units) (apart refl refl))
-        (subst (λ (y : Place). LineWritten branchRun (1 ∷ []) (M x) y) ends (branch-line (num (b .end) (")" ▸ r))))
+        let t = setLast (b .sets) r in
+        let y = ":(s1'=" ▸ num (b .end) (")" ▸ t) in
+        let ends : M (num (b .end) (")" ▸ t)) ≡ placed (number (b .end)) (e - length (num (b .end) (")" ▸ t))) ∷ signAt ")" (e - length (")" ▸ t)) ∷ M t
+        = number-mark e (b .end) (")" ▸ t) (omega (arith, v .end)) (apart refl refl) in
+        branch-made b v _ _ (M (branchText b r)) (M y) (M t) (M r) (weight-written (b .units) y (v .units) (apart refl refl))
+        (subst (λ (z : Place). LineWritten branchRun (1 ∷ []) (M y) z) ends (branch-line (num (b .end) (")" ▸ t))))
+        (set-written n x small-x (b .sets) r (v .sets))
 
     -- all but the first, each behind its sign
     pub record BranchesWritten (bs : List Branch) (ms rest : Place) : Type 0 where
       pub found : List BranchShape
-      pub said : ManySaid PlusSaid ms found rest
+      pub said : ManySaid (PlusSaid (isSome x)) ms found rest
       pub means : map branchIn found ≡ bs
-      pub kept : Every (Kept n) (judgedEach (judgedBranch decimals k) found)
+      pub kept : Every (Kept n) (judgedEach (judgedBranch decimals k (mostIn x)) found)
       pub units : totalUnits (map weightIn found) ≡ total bs
       pub within : (i : ℕ) → i + length bs ≤ suc mostBranches → Every Within (countedMany countedPlus i said)
 
-    branches-made : (b : Branch) (bs : List Branch) (a : ℕ) (ms ns rest : Place) → BranchWritten n k b ms ns → BranchesWritten bs ns rest → BranchesWritten (b ∷ bs) (signAt "+" a ∷ ms) rest
+    branches-made : (b : Branch) (bs : List Branch) (a : ℕ) (ms ns rest : Place) → BranchWritten n k x b ms ns → BranchesWritten bs ns rest → BranchesWritten (b ∷ bs) (signAt "+" a ∷ ms) rest
     branches-made b bs a ms ns rest w u = record {
       found = w .found ∷ u .found;
       said = again (plus (w .said)) (u .said);
       means = ap₂ _∷_ (w .means) (u .means);
-      kept = every-append (Kept n) (judgedBranch decimals k (w .found)) (judgedEach (judgedBranch decimals k) (u .found)) (w .kept) (u .kept);
+      kept = every-append (Kept n) (judgedBranch decimals k (mostIn x) (w .found)) (judgedEach (judgedBranch decimals k (mostIn x)) (u .found)) (w .kept) (u .kept);
       units = ap₂ _+_ (w .units) (u .units);
       within = λ i h. (omega arith, u .within (suc i) (omega arith));
     }
 
-    pub more-branches-written : (bs : List Branch) (r : List ℕ) → Every (ValidBranch k) bs → BranchesWritten bs (M (more branchText bs r)) (M r)
+    pub more-branches-written : (bs : List Branch) (r : List ℕ) → Every (ValidBranch k (valuesIn x)) bs → BranchesWritten bs (M (more branchText bs r)) (M r)
     more-branches-written [] r v = record { found = []; said = done; means = refl; kept = tt; units = refl; within = λ i h. tt }
     more-branches-written (b ∷ bs) r v =
         branches-made b bs _ (M (branchText b (more branchText bs r))) (M (more branchText bs r)) (M r) (branch-written b (more branchText bs r) (v .0)) (more-branches-written bs r (v .1))
 
   -- ---- statements
 
-  module _ (n k : ℕ) (small-n : n < 10 ^ wordDigits) (small-k : k < 10 ^ numberDigits) where
+  module _ (n k : ℕ) (x : Option Range) (small-n : n < 10 ^ wordDigits) (small-k : k < 10 ^ numberDigits) (small-x : valuesIn x < 10 ^ numberDigits) where
     record RestWritten (g : Option Guard) (ms rest : Place) : Type 0 where
-      found : Option (Formula Literals)
-      said : RestSaid ms found rest
+      found : Option (Formula Tested)
+      said : RestSaid (isSome x) ms found rest
       means : guardIn′ n found ≡ g
-      kept : Every (Kept n) (judgedOr k found)
+      kept : Every (Kept n) (judgedOr k (mostIn x) found)
       within : Every Within (countedRest said)
 
-    rest-made : (g : Guard) (a : ℕ) (ms rest : Place) → size g ≤ mostNodes → depth middle g ≤ mostDepth → GuardWritten n k (joinedBy all) (depth middle g) g ms rest → RestWritten (some g) (signAt "&" a ∷ ms) rest
+    rest-made : (g : Guard) (a : ℕ) (ms rest : Place) → size g ≤ mostNodes → depth middle g ≤ mostDepth → GuardWritten n k x (joinedBy all) (depth middle g) g ms rest → RestWritten (some g) (signAt "&" a ∷ ms) rest
     rest-made g a ms rest h l w = record {
       found = some (w .found);
       said = guarded (w .said);
@@ -189,27 +219,27 @@ module _ (decimals : Rule) (e : ℕ) where
       within = w .within 0 0 (omega arith) (omega arith);
     }
 
-    rest-written : (g : Option Guard) (r : List ℕ) → ValidGuard n k g → RestWritten g (M (formulaOr needed (groupText n) g r)) (M r)
+    rest-written : (g : Option Guard) (r : List ℕ) → ValidGuard n k (valuesIn x) g → RestWritten g (M (formulaOr needed (groupText n) g r)) (M r)
     rest-written none r v = record { found = none; said = nothing; means = refl; kept = tt; within = tt }
-    rest-written (some g) r v = rest-made g _ (M (guardText n middle g r)) (M r) (v .2) (v .1) (guard-written e n k small-n small-k middle g r (v .0))
+    rest-written (some g) r v = rest-made g _ (M (guardText n middle g r)) (M r) (v .2) (v .1) (guard-written e n k x small-n small-k small-x middle g r (v .0))
 
     rest-apart : (g : Option Guard) (r : List ℕ) → Apart (formulaOr needed (groupText n) g (" -> " ▸ r))
     rest-apart none r = apart refl refl
     rest-apart (some g) r = apart refl refl
 
-    pub record StatementWritten (x : Statement) (ms rest : Place) : Type 0 where
+    pub record StatementWritten (y : Statement) (ms rest : Place) : Type 0 where
       pub found : StatementShape
-      pub said : StatementSaid ms found rest
-      pub means : statementIn n found ≡ x
-      pub kept : Every (Kept n) (judgedStatement decimals k found)
+      pub said : StatementSaid (isSome x) ms found rest
+      pub means : statementIn n found ≡ y
+      pub kept : Every (Kept n) (judgedStatement decimals k (mostIn x) found)
       pub within : (i : ℕ) → i ≤ mostStatements → Every Within (countedStatement ms rest found i said)
 
     statement-made : (j : ℕ) (g : Option Guard) (b : Branch) (bs : List Branch) (a p c : ℕ) (ms ns os qs rest : Place)
         → j ≤ k → length (b ∷ bs) ≤ mostBranches → total (b ∷ bs) ≡ unit
         → LineWritten statementRun (1 ∷ []) ms (placed (number j) a ∷ ns)
         → RestWritten g ns (signAt "->" p ∷ os)
-        → BranchWritten n k b os qs
-        → BranchesWritten n k small-k bs qs (signAt ";" c ∷ rest)
+        → BranchWritten n k x b os qs
+        → BranchesWritten n k x small-k small-x bs qs (signAt ";" c ∷ rest)
         → StatementWritten (record { own = j; guard = g; branches = b ∷ bs }) ms rest
     statement-made j g b bs a p c ms ns os qs rest h few sums l w d ds = record {
       found = record { words = l .found; own = valued j (placed (number j) a ∷ ns); guard = w .found; branches = d .found ∷ ds .found; close = signAt ";" c ∷ rest };
@@ -217,9 +247,9 @@ module _ (decimals : Rule) (e : ℕ) where
       means = ap₂ (λ (y : Option Guard) (z : List Branch). record { own = j; guard = y; branches = z }) (w .means) (ap₂ _∷_ (d .means) (ds .means));
       kept = every-append (Kept n) (judgedWords (1 ∷ []) (l .found)) _ (line-kept n (1 ∷ []) (l .found) (l .due)) (
         rw (le-leb j k h),
-        every-append (Kept n) (judgedOr k (w .found)) _ (w .kept)
-            (every-append (Kept n) (judgedBranch decimals k (d .found) ++ judgedEach (judgedBranch decimals k) (ds .found)) _
-            (every-append (Kept n) (judgedBranch decimals k (d .found)) (judgedEach (judgedBranch decimals k) (ds .found)) (d .kept) (ds .kept))
+        every-append (Kept n) (judgedOr k (mostIn x) (w .found)) _ (w .kept)
+            (every-append (Kept n) (judgedBranch decimals k (mostIn x) (d .found) ++ judgedEach (judgedBranch decimals k (mostIn x)) (ds .found)) _
+            (every-append (Kept n) (judgedBranch decimals k (mostIn x) (d .found)) (judgedEach (judgedBranch decimals k (mostIn x)) (ds .found)) (d .kept) (ds .kept))
             (sum-kept, tt)),
       );
       within = λ i m. (m, every-append Within (countedRest (w .said)) _ (w .within) (omega (arith, few), ds .within 2 (omega arith)));
@@ -228,11 +258,11 @@ module _ (decimals : Rule) (e : ℕ) where
         sum-kept : unless (eqb (totalUnits (d .found .weight ∷ map weightIn (ds .found))) unit) wrongWeight ≡ none
         sum-kept = rw (eq-eqb (totalUnits (d .found .weight ∷ map weightIn (ds .found))) unit (ap₂ _+_ (d .units) (ds .units) ∙ sums))
 
-    text-of : (x : Statement) (r : List ℕ) → statementText n x r ≡ ("[] s1=" ▸ num (x .own) (formulaOr needed (groupText n) (x .guard) (" -> " ▸ summed branchText (x .branches) (";\n" ▸ r))))
+    text-of : (y : Statement) (r : List ℕ) → statementText n y r ≡ ("[] s1=" ▸ num (y .own) (formulaOr needed (groupText n) (y .guard) (" -> " ▸ summed branchText (y .branches) (";\n" ▸ r))))
     unfolding statementText
-    text-of x r = refl
+    text-of y r = refl
 
-    parts-written : (j : ℕ) (g : Option Guard) (bs : List Branch) (r : List ℕ) → ValidStatement n k (record { own = j; guard = g; branches = bs })
+    parts-written : (j : ℕ) (g : Option Guard) (bs : List Branch) (r : List ℕ) → ValidStatement n k (valuesIn x) (record { own = j; guard = g; branches = bs })
         → StatementWritten (record { own = j; guard = g; branches = bs }) (M ("[] s1=" ▸ num j (formulaOr needed (groupText n) g (" -> " ▸ summed branchText bs (";\n" ▸ r))))) (M r)
     parts-written j g [] r v = absurd (omega (arith, v .some .0))
     parts-written j g (b ∷ bs) r v =
@@ -242,30 +272,30 @@ module _ (decimals : Rule) (e : ℕ) where
         statement-made j g b bs _ _ _ (M ("[] s1=" ▸ num j ns)) (M ns) (M os) (M (more branchText bs (";\n" ▸ r))) (M r) (v .own) (v .some .1) (v .sum)
         (subst (λ (y : Place). LineWritten statementRun (1 ∷ []) (M ("[] s1=" ▸ num j ns)) y) own-mark (statement-line (num j ns)))
         (rest-written g (" -> " ▸ os) (v .guard))
-        (branch-written n k small-k b (more branchText bs (";\n" ▸ r)) (v .branches .0))
-        (more-branches-written n k small-k bs (";\n" ▸ r) (v .branches .1))
+        (branch-written n k x small-k small-x b (more branchText bs (";\n" ▸ r)) (v .branches .0))
+        (more-branches-written n k x small-k small-x bs (";\n" ▸ r) (v .branches .1))
 
-    pub statement-written : (x : Statement) (r : List ℕ) → ValidStatement n k x → StatementWritten x (M (statementText n x r)) (M r)
-    statement-written x r v = subst (λ (t : List ℕ). StatementWritten x (M t) (M r)) (sym (text-of x r)) (parts-written (x .own) (x .guard) (x .branches) r v)
+    pub statement-written : (y : Statement) (r : List ℕ) → ValidStatement n k (valuesIn x) y → StatementWritten y (M (statementText n y r)) (M r)
+    statement-written y r v = subst (λ (t : List ℕ). StatementWritten y (M t) (M r)) (sym (text-of y r)) (parts-written (y .own) (y .guard) (y .branches) r v)
 
     -- all but the first
     pub record StatementsWritten (xs : List Statement) (ms rest : Place) : Type 0 where
       pub found : List StatementShape
-      pub said : ManySaid StatementSaid ms found rest
+      pub said : ManySaid (StatementSaid (isSome x)) ms found rest
       pub means : map (statementIn n) found ≡ xs
-      pub kept : Every (Kept n) (judgedEach (judgedStatement decimals k) found)
+      pub kept : Every (Kept n) (judgedEach (judgedStatement decimals k (mostIn x)) found)
       pub within : (i : ℕ) → i + length xs ≤ suc mostStatements → Every Within (countedMany countedStatement i said)
 
-    statements-made : (x : Statement) (xs : List Statement) (ms ns rest : Place) → StatementWritten x ms ns → StatementsWritten xs ns rest → StatementsWritten (x ∷ xs) ms rest
-    statements-made x xs ms ns rest w u = record {
+    statements-made : (y : Statement) (ys : List Statement) (ms ns rest : Place) → StatementWritten y ms ns → StatementsWritten ys ns rest → StatementsWritten (y ∷ ys) ms rest
+    statements-made y ys ms ns rest w u = record {
       found = w .found ∷ u .found;
       said = again (w .said) (u .said);
       means = ap₂ _∷_ (w .means) (u .means);
-      kept = every-append (Kept n) (judgedStatement decimals k (w .found)) (judgedEach (judgedStatement decimals k) (u .found)) (w .kept) (u .kept);
+      kept = every-append (Kept n) (judgedStatement decimals k (mostIn x) (w .found)) (judgedEach (judgedStatement decimals k (mostIn x)) (u .found)) (w .kept) (u .kept);
       within = λ i h. every-append Within (countedStatement ms ns (w .found) i (w .said)) (countedMany countedStatement (suc i) (u .said)) (w .within i (omega arith)) (u .within (suc i) (omega arith));
     }
 
-    pub statements-written : (xs : List Statement) (r : List ℕ) → Every (ValidStatement n k) xs → StatementsWritten xs (M (statements n xs r)) (M r)
+    pub statements-written : (xs : List Statement) (r : List ℕ) → Every (ValidStatement n k (valuesIn x)) xs → StatementsWritten xs (M (statements n xs r)) (M r)
     statements-written [] r v = record { found = []; said = done; means = refl; kept = tt; within = λ i h. tt }
-    statements-written (x ∷ xs) r v =
-        statements-made x xs (M (statementText n x (statements n xs r))) (M (statements n xs r)) (M r) (statement-written x (statements n xs r) (v .0)) (statements-written xs r (v .1))
+    statements-written (y ∷ ys) r v =
+        statements-made y ys (M (statementText n y (statements n ys r))) (M (statements n ys r)) (M r) (statement-written y (statements n ys r) (v .0)) (statements-written ys r (v .1))

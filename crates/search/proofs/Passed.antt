@@ -10,18 +10,18 @@ use mathlib.Core.Option.{Option, none, some}
 use native.Mathlib.Omega.{arith}
 use lib.Dec.{leb}
 use lib.ListN.{length}
-use Rattle.card.specs.Limits.{mostSeats, topState, mostStatements, mostBranches, mostNodes, mostDepth}
+use Rattle.card.specs.Limits.{mostSeats, topState, topShared, mostStatements, mostBranches, mostNodes, mostDepth}
 use Rattle.card.specs.Refusals.{outOfShape, pastLimit}
 use Rattle.card.specs.Text.{if_then_else_}
-use Rattle.card.specs.Card.{Formula, and, or, any, all}
+use Rattle.card.specs.Card.{Mode, Formula, and, or, any, all}
 use Rattle.card.specs.Weight.{Weight, whole, decimal as point, ratio}
 use Rattle.marks_on_a_card.specs.Marks.{Mark, text, seat, process, number, decimal, outside, Placed, placed}
 use Rattle.reading.specs.Reader.{Place, State, at, Result, ok, stop, Reader, bind, return, refuse, refuseAt, took, first, the, is, given, nextIs, ifNext, sign, seatOf, processOf, numberOf, here, numbered, spend, node, nodeAt, Item, exactly, seatWord, processWord, line}
-use Rattle.reading.specs.Guard.{seatNext, Read, chain, conjunction, expression, grouped, unaryBy, unary}
-use Rattle.reading.specs.Group.{joint, relationOf, literal, joined, others, group}
-use Rattle.reading.specs.Shape.{many, weightOf, over, weight, branch, nextBranch, pastBranches, moreBranches, guard, mayHave, statement, moreStatements, copy, moreModules, modeOf, zeroOf, top, ended, theEnd, body, card}
+use Rattle.reading.specs.Guard.{isSome, testNext, Read, chain, conjunction, expression, grouped, unaryBy, unary}
+use Rattle.reading.specs.Group.{joint, relationOf, literal, joined, others, group, sharedTest, tested}
+use Rattle.reading.specs.Shape.{Range, many, weightOf, over, weight, setting, sets, branch, nextBranch, pastBranches, moreBranches, guard, mayHave, statement, moreStatements, copy, moreModules, modeOf, zeroOf, top, range, declaration, ended, theEnd, modules, body, card}
 use Rattle.reading.specs.Reading.{isOutside}
-use Rattle.grammar.specs.Grammar.{cardRun, statementRun, branchRun, moduleRun}
+use Rattle.grammar.specs.Grammar.{sharedRun, cardRun, statementRun, branchRun, setRun, moduleRun}
 
 module _ (P : Place → Type 0) (pass : (m : Mark) (q : ℕ) (ms : Place) → isOutside m ≡ false → P (placed m q ∷ ms) → P ms) where
   abbrev pub Held : {A : Type 0} → Result A → Type 0
@@ -116,6 +116,18 @@ module _ (P : Place → Type 0) (pass : (m : Mark) (q : ℕ) (ms : Place) → is
       andThen (ifNext (joint any) (return any) (return all) s₁) _ (choice (nextIs (joint any) (s₁ .marks)) _ _ (λ s₂ h₂. h₂) (λ s₂ h₂. h₂) s₁ h₁) λ j s₂ h₂.
       andThen (others (joint j) (length (s₁ .marks)) s₂) _ (joinedP literal literalP (joint j) (length (s₁ .marks)) s₂ h₂) λ ls s₃ h₃. h₃
 
+  pub sharedTestP : Safe sharedTest
+  sharedTestP s h =
+      andThen (sign "g" s) _ (signP "g" s h) λ u s₁ h₁.
+      andThen (the relationOf s₁) _ (theP relationOf refl s₁ h₁) λ q s₂ h₂.
+      andThen (numbered numberOf s₂) _ (numberedP numberOf refl s₂ h₂) λ v. closeP _
+
+  testedP : (p : Place) → Safe (tested p)
+  testedP p s h =
+      choice (nextIs "g" (s .marks)) _ _
+      (λ s₁ h₁. andThen (sharedTest s₁) _ (sharedTestP s₁ h₁) λ x s₂ h₂. h₂)
+      (λ s₁ h₁. andThen (group p s₁) _ (groupP p s₁ h₁) λ x s₂ h₂. h₂) s h
+
   module _ {A : Type 0} where
     module _ (t : String) (join : Formula A → Formula A → Formula A) (operand : Read A) (x : Safe operand) where
       chainP : (most : ℕ) (g : Formula A) → Safe (chain t join operand most g)
@@ -156,8 +168,8 @@ module _ (P : Place → Type 0) (pass : (m : Mark) (q : ℕ) (ms : Place) → is
         choice (starts (s₂ .marks)) _ _ (groupedP (s₁ .marks) h₁)
         (λ s₃ h₃. andThen (expression (unaryBy starts item depth) s₃) _ (expressionP (unaryBy starts item depth) (unaryP depth) s₃ h₃) λ g. closeP g) s₂ h₂) s h
 
-  pub guardP : Safe (conjunction (unary group mostDepth))
-  guardP = conjunctionP (unary group mostDepth) (unaryP seatNext group groupP mostDepth)
+  pub guardP : (shared : Bool) → Safe (conjunction (unary shared tested mostDepth))
+  guardP shared = conjunctionP (unary shared tested mostDepth) (unaryP (testNext shared) tested testedP mostDepth)
 
   -- ---- the card
 
@@ -172,55 +184,84 @@ module _ (P : Place → Type 0) (pass : (m : Mark) (q : ℕ) (ms : Place) → is
   weightP : Safe weight
   weightP s h = andThen (the weightOf s) _ (theP weightOf refl s h) λ w. overP w
 
-  branchP : Safe branch
-  branchP s h =
-      andThen (weight s) _ (weightP s h) λ w s₁ h₁.
-      andThen (line branchRun s₁) _ (lineP branchRun s₁ h₁) λ ws s₂ h₂.
-      andThen (numbered numberOf s₂) _ (numberedP numberOf refl s₂ h₂) λ t. closeP _
-
-  moreBranchesP : (most : ℕ) → Safe (moreBranches most)
-  moreBranchesP =
-      manyP "+" nextBranch pastBranches (λ s h. andThen (sign "+" s) _ (signP "+" s h) λ u. branchP)
-      (λ s h. andThen (sign "+" s) _ (signP "+" s h) λ u s₁ h₁. andThen (the weightOf s₁) _ (theP weightOf refl s₁ h₁) λ w s₂ h₂. limitP (s₁ .marks) h₁)
-
-  optionP : Safe guard
-  optionP s h =
+  settingP : Safe setting
+  settingP s h =
       choice (nextIs "&" (s .marks)) _ _
-      (λ s₁ h₁. andThen (sign "&" s₁) _ (signP "&" s₁ h₁) λ u s₂ h₂. andThen (conjunction (unary group mostDepth) s₂) _ (guardP s₂ h₂) λ g s₃ h₃. h₃)
+      (λ s₁ h₁.
+      andThen (line setRun s₁) _ (lineP setRun s₁ h₁) λ ws s₂ h₂.
+      andThen (numbered numberOf s₂) _ (numberedP numberOf refl s₂ h₂) λ v. closeP _)
       (λ s₁ h₁. h₁) s h
 
-  statementP : Safe statement
-  statementP s h =
+  setsP : (shared : Bool) → Safe (sets shared)
+  setsP false s h = h
+  setsP true s h = settingP s h
+
+  branchP : (shared : Bool) → Safe (branch shared)
+  branchP shared s h =
+      andThen (weight s) _ (weightP s h) λ w s₁ h₁.
+      andThen (line branchRun s₁) _ (lineP branchRun s₁ h₁) λ ws s₂ h₂.
+      andThen (numbered numberOf s₂) _ (numberedP numberOf refl s₂ h₂) λ t s₃ h₃.
+      andThen (sign ")" s₃) _ (signP ")" s₃ h₃) λ u s₄ h₄.
+      andThen (sets shared s₄) _ (setsP shared s₄ h₄) λ v s₅ h₅. h₅
+
+  moreBranchesP : (shared : Bool) (most : ℕ) → Safe (moreBranches shared most)
+  moreBranchesP shared =
+      manyP "+" (nextBranch shared) pastBranches (λ s h. andThen (sign "+" s) _ (signP "+" s h) λ u. branchP shared)
+      (λ s h. andThen (sign "+" s) _ (signP "+" s h) λ u s₁ h₁. andThen (the weightOf s₁) _ (theP weightOf refl s₁ h₁) λ w s₂ h₂. limitP (s₁ .marks) h₁)
+
+  optionP : (shared : Bool) → Safe (guard shared)
+  unfolding guard
+  optionP shared s h =
+      choice (nextIs "&" (s .marks)) _ _
+      (λ s₁ h₁. andThen (sign "&" s₁) _ (signP "&" s₁ h₁) λ u s₂ h₂. andThen (conjunction (unary shared tested mostDepth) s₂) _ (guardP shared s₂ h₂) λ g s₃ h₃. h₃)
+      (λ s₁ h₁. h₁) s h
+
+  statementP : (shared : Bool) → Safe (statement shared)
+  statementP shared s h =
       andThen (line statementRun s) _ (lineP statementRun s h) λ ws s₁ h₁.
       andThen (numbered numberOf s₁) _ (numberedP numberOf refl s₁ h₁) λ j s₂ h₂.
-      andThen (guard (at (s₂ .marks) mostNodes)) _ (optionP (at (s₂ .marks) mostNodes) h₂) λ g s₃ h₃.
+      andThen (guard shared (at (s₂ .marks) mostNodes)) _ (optionP shared (at (s₂ .marks) mostNodes) h₂) λ g s₃ h₃.
       andThen (sign "->" s₃) _ (signP "->" s₃ h₃) λ u s₄ h₄.
-      andThen (branch s₄) _ (branchP s₄ h₄) λ b s₅ h₅.
-      andThen (moreBranches (mostBranches - 1) s₅) _ (moreBranchesP (mostBranches - 1) s₅ h₅) λ bs s₆ h₆.
+      andThen (branch shared s₄) _ (branchP shared s₄ h₄) λ b s₅ h₅.
+      andThen (moreBranches shared (mostBranches - 1) s₅) _ (moreBranchesP shared (mostBranches - 1) s₅ h₅) λ bs s₆ h₆.
       andThen (sign ";" s₆) _ (signP ";" s₆ h₆) λ w s₇ h₇. h₇
 
-  topP : Safe top
-  topP s h = andThen (the numberOf s) _ (theP numberOf refl s h) λ k. choice (leb k topState) _ _ (λ s₁ h₁. h₁) (λ s₁ h₁. limitP (s .marks) h)
+  topP : (most : ℕ) → Safe (top most)
+  topP most s h = andThen (the numberOf s) _ (theP numberOf refl s h) λ k. choice (leb k most) _ _ (λ s₁ h₁. h₁) (λ s₁ h₁. limitP (s .marks) h)
+
+  rangeP : (most : ℕ) → Safe (range most)
+  rangeP most s h =
+      andThen (the zeroOf s) _ (theP zeroOf refl s h) λ z s₁ h₁.
+      andThen (sign ".." s₁) _ (signP ".." s₁ h₁) λ u s₂ h₂.
+      andThen (top most s₂) _ (topP most s₂ h₂) λ k s₃ h₃.
+      andThen (sign "]" s₃) _ (signP "]" s₃ h₃) λ u₁ s₄ h₄.
+      andThen (sign "init" s₄) _ (signP "init" s₄ h₄) λ u₂ s₅ h₅.
+      andThen (numbered numberOf s₅) _ (numberedP numberOf refl s₅ h₅) λ l s₆ h₆.
+      andThen (sign ";" s₆) _ (signP ";" s₆ h₆) λ u₃ s₇ h₇. h₇
+
+  declarationP : Safe declaration
+  declarationP s h = andThen (line sharedRun s) _ (lineP sharedRun s h) λ ws. rangeP topShared
 
   pub ended-held : (ms : Place) (n : ℕ) → P ms → Held (ended ms n)
   ended-held [] n h = h
   ended-held (m ∷ ms) n h = (h, λ e. omega arith)
 
+  modulesP : (mode : Mode) (g : Option Range) → Safe (modules mode g)
+  modulesP mode g s h =
+      andThen (line cardRun s) _ (lineP cardRun s h) λ ws s₁ h₁.
+      andThen (range topState s₁) _ (rangeP topState s₁ h₁) λ r s₂ h₂.
+      andThen (statement (isSome g) s₂) _ (statementP (isSome g) s₂ h₂) λ x s₃ h₃.
+      andThen (moreStatements (isSome g) (mostStatements - 1) s₃) _
+      (manyP "[" (statement (isSome g)) (refuse pastLimit) (statementP (isSome g)) (λ s h. limitP (s .marks) h) (mostStatements - 1) s₃ h₃) λ xs s₄ h₄.
+      andThen (sign "endmodule" s₄) _ (signP "endmodule" s₄ h₄) λ u s₅ h₅.
+      andThen (moreModules (mostSeats - 1) s₅) _ (manyP "module" copy (refuse pastLimit) (lineP moduleRun) (λ s h. limitP (s .marks) h) (mostSeats - 1) s₅ h₅) λ ms s₆ h₆. h₆
+
   bodyP : Safe body
   bodyP s h =
       andThen (the modeOf s) _ (theP modeOf refl s h) λ m s₁ h₁.
-      andThen (line cardRun s₁) _ (lineP cardRun s₁ h₁) λ ws s₂ h₂.
-      andThen (the zeroOf s₂) _ (theP zeroOf refl s₂ h₂) λ z s₃ h₃.
-      andThen (sign ".." s₃) _ (signP ".." s₃ h₃) λ u s₄ h₄.
-      andThen (top s₄) _ (topP s₄ h₄) λ k s₅ h₅.
-      andThen (sign "]" s₅) _ (signP "]" s₅ h₅) λ u₁ s₆ h₆.
-      andThen (sign "init" s₆) _ (signP "init" s₆ h₆) λ u₂ s₇ h₇.
-      andThen (numbered numberOf s₇) _ (numberedP numberOf refl s₇ h₇) λ l s₈ h₈.
-      andThen (sign ";" s₈) _ (signP ";" s₈ h₈) λ u₃ s₉ h₉.
-      andThen (statement s₉) _ (statementP s₉ h₉) λ x t h₁₀.
-      andThen (moreStatements (mostStatements - 1) t) _ (manyP "[" statement (refuse pastLimit) statementP (λ s h. limitP (s .marks) h) (mostStatements - 1) t h₁₀) λ xs t₁ h₁₁.
-      andThen (sign "endmodule" t₁) _ (signP "endmodule" t₁ h₁₁) λ u₄ t₂ h₁₂.
-      andThen (moreModules (mostSeats - 1) t₂) _ (manyP "module" copy (refuse pastLimit) (lineP moduleRun) (λ s h. limitP (s .marks) h) (mostSeats - 1) t₂ h₁₂) λ ms t₃ h₁₃. h₁₃
+      choice (nextIs "global" (s₁ .marks)) _ _
+      (λ s₂ h₂. andThen (declaration s₂) _ (declarationP s₂ h₂) λ g. modulesP m (some g))
+      (modulesP m none) s₁ h₁
 
   pub cardP : Safe card
   cardP s h = andThen (body s) _ (bodyP s h) λ c s₁ h₁. andThen (theEnd s₁) _ (ended-held (s₁ .marks) (s₁ .nodes) h₁) λ u s₂ h₂. h₂

@@ -11,7 +11,7 @@ use lib.ListN.{length, getD, take, set, replicate, length-set, List·getD-eq-def
 use lib.Seq.{getD-set-same, getD-set-other, take-all}
 use Rattle.card.specs.Limits.{topState, mostStates}
 use Rattle.meaning.specs.Sums.{gate}
-use Rattle.meaning.specs.Seats.{Seating, count, counts}
+use Rattle.meaning.specs.Seats.{count, counts}
 use Rattle.meaning.specs.Reduced.{noOf}
 use Rattle.meaning.proofs.Sums.{getD-upto, sum-take}
 use Rattle.meaning.proofs.Counting.{count-le, length-counts, are-counts}
@@ -20,7 +20,7 @@ pub counts-none : replicate mostStates 0 ≡ counts topState []
 unfolding counts
 counts-none = refl
 
-module _ (k : ℕ) (x : Seating) where
+module _ (k : ℕ) (x : List ℕ) where
   within-no : (d : ℕ) → d < suc k → noOf (counts k x) d ≡ count d x
   unfolding counts
   within-no d h = getD-upto (suc k) (λ d. count d x) d 0 h
@@ -38,7 +38,7 @@ module _ (k : ℕ) (x : Seating) where
     count-next : (d : ℕ) → count d (take (i + 1) x) ≡ count d (take i x) + gate (eqb (getD x i 0) d) 1
     count-next d = rw add-one (sum-take (λ a. gate (eqb a d) 1) x i 0 l)
 
-module _ (k : ℕ) (x : Seating) (i : ℕ) (l : i < length x) where
+module _ (k : ℕ) (x : List ℕ) (i : ℕ) (l : i < length x) where
   -- a seat within k
   pub counts-next : getD x i 0 ≤ k
       → set (counts k (take i x)) (getD x i 0) (getD (counts k (take i x)) (getD x i 0) 0 + 1) ≡ counts k (take (i + 1) x)
@@ -67,5 +67,6 @@ module _ (k : ℕ) (x : Seating) (i : ℕ) (l : i < length x) where
       sym (are-counts k (take (i + 1) x) (counts k (take i x)) (length-counts k (take i x)) λ d m.
       rw (within-no k (take i x) d m, count-next k x i l d, ne-eqb (getD x i 0) d (λ z. omega arith)) (omega arith))
 
-pub counts-all : (k i : ℕ) (x : Seating) → length x ≤ i → counts k (take i x) ≡ counts k x
-counts-all k i x h = ap (counts k) (take-all i x h)
+-- behind the last seat there is none
+pub counts-all : (k i n : ℕ) (x : List ℕ) → length x ≤ i → i ≤ n → counts k (take i x) ≡ counts k (take n x)
+counts-all k i n x h l = ap (counts k) (take-all i x h ∙ sym (take-all n x (omega arith)))

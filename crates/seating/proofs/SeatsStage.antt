@@ -7,14 +7,14 @@ use native.Mathlib.Omega.{arith}
 use lib.ListN.{length}
 use Rattle.card.specs.Refusals.{wrongSeats, seatAboveTop}
 use Rattle.card.specs.Card.{Card}
-use Rattle.meaning.specs.Seats.{ValidSeating}
+use Rattle.card.specs.Valid.{valuesOf}
 use Rattle.entry.specs.Said.{says, refused}
 use Rattle.entry.specs.Stage.{Stage}
 use Rattle.entry.proofs.Stages.{says≢refused, same-number, same-place}
 use Rattle.entry.proofs.Exactly.{_↔∙_}
 use Rattle.card.specs.declared.Verdict.{Verdict}
 use Rattle.card.specs.declared.Verdict.the-variants.{Taken, Refused}
-use Rattle.seating.specs.Judged.{judgedSeats, FirstAbove}
+use Rattle.seating.specs.Judged.{judgedSeats, seatsDue, FirstWrong, Seated}
 use Rattle.seating.specs.SeatsSaid.{verdictSaid, seatsSaid, seatsNumbers}
 use Rattle.seating.proofs.Judging.{valid-exactly, wrong-seats-exactly, seat-above-exactly, judged-else}
 
@@ -27,17 +27,17 @@ verdict-fine Taken u e = refl
 verdict-fine (Refused s q) u e = says≢refused (sym e)
 
 module _ (seats : List ℕ) (c : Card) where
-  pub seats-stage : Stage (seatsSaid seats c) seatsNumbers (ValidSeating c seats) (λ _. tt)
+  pub seats-stage : Stage (seatsSaid seats c) seatsNumbers (Seated c seats) (λ _. tt)
   seats-stage = record {
-    numbers = record { number = λ r p e. ⊎-elim (λ k. rw k) (λ k. rw k) (judged-else (c .n) (c .k) seats r p (verdict-refused (judgedSeats (c .n) (c .k) seats) r p .0 e)) };
+    numbers = record { number = λ r p e. ⊎-elim (λ k. rw k) (λ k. rw k) (judged-else (c .n) (c .k) (valuesOf (c .shared)) seats r p (verdict-refused (judgedSeats (c .n) (c .k) (valuesOf (c .shared)) seats) r p .0 e)) };
     found = record {
       each = λ ok. ap verdictSaid (valid-exactly c seats .1 ok);
-      only = λ u e. (valid-exactly c seats .0 (verdict-fine (judgedSeats (c .n) (c .k) seats) u e), refl);
+      only = λ u e. (valid-exactly c seats .0 (verdict-fine (judgedSeats (c .n) (c .k) (valuesOf (c .shared)) seats) u e), refl);
     };
   }
 
-  pub wrong-count : (p : ℕ) → (seatsSaid seats c ≡ refused wrongSeats p) ↔ ((length seats ≡ c .n → ⊥) × (p ≡ 0))
-  wrong-count p = verdict-refused (judgedSeats (c .n) (c .k) seats) wrongSeats p ↔∙ wrong-seats-exactly (c .n) (c .k) seats p
+  pub wrong-count : (p : ℕ) → (seatsSaid seats c ≡ refused wrongSeats p) ↔ ((length seats ≡ seatsDue c → ⊥) × (p ≡ 0))
+  wrong-count p = verdict-refused (judgedSeats (c .n) (c .k) (valuesOf (c .shared)) seats) wrongSeats p ↔∙ wrong-seats-exactly (c .n) (c .k) (valuesOf (c .shared)) seats p
 
-  pub wrong-seat : (p : ℕ) → (seatsSaid seats c ≡ refused seatAboveTop p) ↔ ((length seats ≡ c .n) × FirstAbove (c .k) seats p)
-  wrong-seat p = verdict-refused (judgedSeats (c .n) (c .k) seats) seatAboveTop p ↔∙ seat-above-exactly (c .n) (c .k) seats p
+  pub wrong-seat : (p : ℕ) → (seatsSaid seats c ≡ refused seatAboveTop p) ↔ ((length seats ≡ seatsDue c) × FirstWrong c seats p)
+  wrong-seat p = verdict-refused (judgedSeats (c .n) (c .k) (valuesOf (c .shared)) seats) seatAboveTop p ↔∙ seat-above-exactly (c .n) (c .k) (valuesOf (c .shared)) seats p

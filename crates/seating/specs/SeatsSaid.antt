@@ -3,6 +3,7 @@ use Prim.Native.Nat.{ℕ}
 use mathlib.Core.List.{List, [], _∷_}
 use Rattle.card.specs.Refusals.{wrongSeats, seatAboveTop}
 use Rattle.card.specs.Card.{Card}
+use Rattle.card.specs.Valid.{valuesOf}
 use Rattle.entry.specs.Said.{Said, says, refused}
 use Rattle.entry.specs.Numbers.{Numbers, _to_}
 use Rattle.card.specs.declared.Verdict.{Verdict}
@@ -14,7 +15,7 @@ verdictSaid Taken = says tt
 verdictSaid (Refused number place) = refused number place
 
 abbrev pub seatsSaid : List ℕ → Card → Said (Unit {0})
-seatsSaid seats c = verdictSaid (judgedSeats (c .n) (c .k) seats)
+seatsSaid seats c = verdictSaid (judgedSeats (c .n) (c .k) (valuesOf (c .shared)) seats)
 
 abbrev pub seatsNumbers : Numbers
 seatsNumbers = (wrongSeats to seatAboveTop) ∷ []

@@ -28,7 +28,7 @@ ghost use Rattle.phrases.specs.Puts.{Puts};
 ghost use Rattle.statement_copies.specs.Copies.{firstText, restText, copyText, keptCopy, Fits, KeepsTail};
 
 // Enough for what stands behind a first test of the reduced program (texts/specs/Lengths.antt).
-pub const TAIL_PLACES: usize = 580 + MOST_BRANCHES * WEIGHT_MOST;
+pub const TAIL_PLACES: usize = 652 + MOST_BRANCHES * WEIGHT_MOST;
 
 // The first test: `s1=own`, or the counter of `own` above m.
 fn put_first(room: &mut [u8], at: usize, m: usize, style: Style) -> usize

@@ -1,7 +1,6 @@
 -- A guard with the arrow behind it, or the arrow alone. Assumes nothing.
-use Prim.Native.Nat.{ℕ, suc, _+_, _-_, _≤_}
-use mathlib.Core.Path.{_≡_, refl, sym, ap, _∙_}
-use mathlib.Core.Bool.{false}
+use Prim.Native.Nat.{ℕ, suc, _+_, _-_, _*_, _≤_}
+use mathlib.Core.Path.{_≡_, refl, sym, ap, _∙_, subst}
 use mathlib.Core.List.{List}
 use mathlib.Core.Option.{Option, none, some}
 use native.Mathlib.Omega.{arith}
@@ -17,17 +16,19 @@ use Rattle.marks_on_a_card.specs.Kinds.{kind}
 use Rattle.marks.specs.declared.Step.{Step}
 use Rattle.reading.specs.Reader.{at, Result, ok, stop, Reader, bind, return, sign}
 use Rattle.reading.specs.Guard.{conjunction, unary}
-use Rattle.reading.specs.Group.{Literals, group}
+use Rattle.reading.specs.Group.{Tested, tested}
 use Rattle.reading.specs.Judgements.{judgedGuard}
 use Rattle.reading.specs.Shape.{guard}
 use Rattle.late.specs.Late.{Late, judgeAll, guardBy}
+use Rattle.late.specs.Values.{shares, mostOf}
 use Rattle.late.specs.State.{atLeft, atFree, atValue, Sized, lateIn, leftIn, freeIn, After, after, Halted}
 use Rattle.late.proofs.StateLaws.{set-sized, left-set, free-set, value-set, late-set, left-free}
-use Rattle.grouping.specs.Language.{cards}
+use Rattle.grouping.specs.Language.{Language, cards, languageOf}
 use Rattle.kept_items.specs.KeptItems.{Ready}
-use Rattle.grouping.proofs.Answers.{card-judged}
-use Rattle.guard.proofs.Spent.{Each, Spent, keeping, unary-spends, conjunction-spends}
+use Rattle.grouping.proofs.Answers.{card-judged, card-language}
+use Rattle.guard.proofs.Spent.{Each, Spent, tested-keeps, unary-spends, conjunction-spends}
 use Rattle.items.specs.GuardRead.{GuardRead}
+use Rattle.items.specs.Pieces.{unaryIn}
 use Rattle.parts.specs.Parts.{from, Answers, Told}
 use Rattle.statement_head.specs.StatementHead.{guarded, GuardedRead, GuardedFrom}
 use Rattle.parts.proofs.Steps.{Next, told}
@@ -36,26 +37,26 @@ use Rattle.parts.proofs.Lines.{assoc, sign-took, sign-behind, sign-fits, sign-m
 
 -- ---- a guard
 
-record GuardIs (s : List ℕ) (k : ℕ) (before : Late) (was is : List ℕ) (used n : ℕ) (g : Formula Literals) (state : List ℕ) : Type 0 where
+record GuardIs (s : List ℕ) (k values : ℕ) (before : Late) (was is : List ℕ) (used n : ℕ) (g : Formula Tested) (state : List ℕ) : Type 0 where
   left : size g + leftIn state ≡ n
-  late : lateIn state ≡ judgeAll (length s) (judgedGuard k g) before
+  late : lateIn state ≡ judgeAll (length s) (judgedGuard k (mostOf values) g) before
   nodes : is ≡ stored was used (cells (guardBy g) used)
   sized : Sized state
 
 -- as many nodes are left as the guard has not spent
-guard-answers : (s : List ℕ) (k : ℕ) (before : Late) (was is : List ℕ) (used n : ℕ) (x : Result (Formula Literals)) (r : After)
-    → Each (Spent n) x → GuardRead cards s k was is used before x r → Answers s (GuardIs s k before was is used n) x r
-guard-answers s k before was is used n (ok g b) r h y = record { went = y .went; rest = y .rest; told = record { left = omega (arith, h, y .left); late = y .late ∙ card-judged k (length s) g before; nodes = y .nodes; sized = y .sized } }
-guard-answers s k before was is used n (stop m p) r h y = y
+guard-answers : (s : List ℕ) (k values : ℕ) (before : Late) (was is : List ℕ) (used n : ℕ) (x : Result (Formula Tested)) (r : After)
+    → Each (Spent n) x → GuardRead (cards values) s k was is used before x r → Answers s (GuardIs s k values before was is used n) x r
+guard-answers s k values before was is used n (ok g b) r h y = record { went = y .went; rest = y .rest; told = record { left = omega (arith, h, y .left); late = y .late ∙ card-judged values k (length s) g before; nodes = y .nodes; sized = y .sized } }
+guard-answers s k values before was is used n (stop m p) r h y = y
 
-size-by : (g : Formula Literals) → size (guardBy g) ≡ size g
+size-by : (g : Formula Tested) → size (guardBy g) ≡ size g
 size-by (atom a) = refl
 size-by (neg g) = ap suc (size-by g)
 size-by (and g h) = rw (size-by g, size-by h)
 size-by (or g h) = rw (size-by g, size-by h)
 
-abbrev readGuard : Reader (Formula Literals)
-readGuard = conjunction (unary group mostDepth)
+abbrev readGuard : ℕ → Reader (Formula Tested)
+readGuard values = conjunction (unary (shares values) tested mostDepth)
 
 ampersand : Told "&"
 ampersand = told "&" (omega arith)
@@ -84,12 +85,13 @@ module _ (state : List ℕ) (sized : Sized state) (used : ℕ) where
     most = omega (arith, begun-left);
   }
 
-module _ (s : List ℕ) (k i : ℕ) (was is : List ℕ) (used : ℕ) (x : Step) (v : Next s i x) where
+module _ (s : List ℕ) (k values i : ℕ) (was is : List ℕ) (used : ℕ) (x : Step) (v : Next s i x) where
   module _ (d : x .mark .kind ≡ kind "&" → ⊥) where
-    no-guard : (n : ℕ) → guard (from s i n) ≡ ok none (from s i n)
+    no-guard : (n : ℕ) → guard (shares values) (from s i n) ≡ ok none (from s i n)
+    unfolding guard
     no-guard n = if-not "&" ampersand s i x v d _ (return none) n
 
-    pub none-read : x .mark .kind ≡ kind "->" → is ≡ was → (state : List ℕ) → Sized state → GuardedFrom s i k (lateIn state) was is used (after (set state atValue 0) (x .next .at))
+    pub none-read : x .mark .kind ≡ kind "->" → is ≡ was → (state : List ℕ) → Sized state → GuardedFrom s i k values (lateIn state) was is used (after (set state atValue 0) (x .next .at))
     unfolding judgeAll
     none-read e a state sized = record {
       answers = rw (no-guard mostNodes) (sign-fits "->" arrow s i _ x v mostNodes _ _ e
@@ -101,20 +103,30 @@ module _ (s : List ℕ) (k i : ℕ) (was is : List ℕ) (used : ℕ) (x : Step) 
       sized = set-sized state sized atValue 0;
     }
 
-    pub none-stops : (x .mark .kind ≡ kind "->" → ⊥) → {before : Late} {r : After} → Halted outOfShape (x .mark .place) r → GuardedFrom s i k before was is used r
+    pub none-stops : (x .mark .kind ≡ kind "->" → ⊥) → {before : Late} {r : After} → Halted outOfShape (x .mark .place) r → GuardedFrom s i k values before was is used r
     none-stops e h = record { answers = rw (no-guard mostNodes) (sign-misses "->" arrow s i _ x v mostNodes _ _ e h); sized = h .sized }
 
   module _ (e : x .mark .kind ≡ kind "&") (state : List ℕ) (sized : Sized state) where
     module _ (a : List ℕ) (g : ℕ)
-        (hg : GuardRead cards s k was is (freeIn (begun state used)) (lateIn (begun state used)) (readGuard (from s (x .next .at) (leftIn (begun state used)))) (after a g)) where
-      answered : Answers s (GuardIs s k (lateIn state) was is used mostNodes) (readGuard (from s (x .next .at) mostNodes)) (after a g)
-      answered = guard-answers s k (lateIn state) was is used mostNodes (readGuard (from s (x .next .at) mostNodes)) (after a g)
-          (conjunction-spends (unary group mostDepth) (unary-spends cards (keeping false) mostDepth) (from s (x .next .at) mostNodes)) (rw (begun-free state sized used, begun-late state sized used, begun-left state sized used) at hg)
+        (hg : GuardRead (languageOf (values * 2)) s k was is (freeIn (begun state used)) (lateIn (begun state used)) (conjunction (unaryIn (languageOf (values * 2)) mostDepth) (from s (x .next .at) (leftIn (begun state used)))) (after a g)) where
+      -- in a card's language
+      read : GuardRead (cards values) s k was is (freeIn (begun state used)) (lateIn (begun state used)) (readGuard values (from s (x .next .at) (leftIn (begun state used)))) (after a g)
+      read =
+          subst (λ (L : Language). GuardRead L s k was is (freeIn (begun state used)) (lateIn (begun state used)) (conjunction (unaryIn L mostDepth) (from s (x .next .at) (leftIn (begun state used)))) (after a g))
+          (card-language values) hg
 
-      guard-is : (P : List ℕ → Type 0) → (g ≡ 0 → ⊥) → ((f : Formula Literals) → GuardIs s k (lateIn state) was is used mostNodes f a → P a) → P a
-      guard-is P f h = go (readGuard (from s (x .next .at) mostNodes)) answered
+      as-begun : (f : ℕ → Result (Formula Tested)) → GuardRead (cards values) s k was is (freeIn (begun state used)) (lateIn (begun state used)) (f (leftIn (begun state used))) (after a g)
+          → GuardRead (cards values) s k was is used (lateIn state) (f mostNodes) (after a g)
+      as-begun f h = rw (begun-free state sized used, begun-late state sized used, begun-left state sized used) at h
+
+      answered : Answers s (GuardIs s k values (lateIn state) was is used mostNodes) (readGuard values (from s (x .next .at) mostNodes)) (after a g)
+      answered = guard-answers s k values (lateIn state) was is used mostNodes (readGuard values (from s (x .next .at) mostNodes)) (after a g)
+          (conjunction-spends (unary (shares values) tested mostDepth) (unary-spends (cards values) tested-keeps mostDepth) (from s (x .next .at) mostNodes)) (as-begun (λ n. readGuard values (from s (x .next .at) n)) read)
+
+      guard-is : (P : List ℕ → Type 0) → (g ≡ 0 → ⊥) → ((f : Formula Tested) → GuardIs s k values (lateIn state) was is used mostNodes f a → P a) → P a
+      guard-is P f h = go (readGuard values (from s (x .next .at) mostNodes)) answered
         where
-          go : (y : Result (Formula Literals)) → Answers s (GuardIs s k (lateIn state) was is used mostNodes) y (after a g) → P a
+          go : (y : Result (Formula Tested)) → Answers s (GuardIs s k values (lateIn state) was is used mostNodes) y (after a g) → P a
           go (ok f₁ b) y = h f₁ (y .told)
           go (stop m p) y = absurd (f (y .none))
 
@@ -124,31 +136,32 @@ module _ (s : List ℕ) (k i : ℕ) (was is : List ℕ) (used : ℕ) (x : Step) 
       pub left-sized : (g ≡ 0 → ⊥) → Sized a
       left-sized f = guard-is Sized f (λ h y. y .sized)
 
-      some-guard : guarded (from s i mostNodes) ≡ bind (readGuard (from s (x .next .at) mostNodes)) (λ f s₁. bind (sign "->" s₁) (λ u. return (some f)))
+      some-guard : guarded (shares values) (from s i mostNodes) ≡ bind (readGuard values (from s (x .next .at) mostNodes)) (λ f s₁. bind (sign "->" s₁) (λ u. return (some f)))
+      unfolding guard
       some-guard =
-          ap (λ (y : Result (Option (Formula Literals))). bind y (λ f s₁. bind (sign "->" s₁) (λ u. return f))) (if-so "&" ampersand s i x v e _ (return none) mostNodes)
-          ∙ ap (λ (y : Result (Unit {0})). bind (bind y (λ u s₁. bind (readGuard s₁) (λ f. return (some f)))) (λ f s₁. bind (sign "->" s₁) (λ u. return f))) (sign-took "&" ampersand s i x v e mostNodes)
-          ∙ assoc (readGuard (from s (x .next .at) mostNodes)) (λ f. return (some f)) (λ f s₁. bind (sign "->" s₁) (λ u. return f))
+          ap (λ (y : Result (Option (Formula Tested))). bind y (λ f s₁. bind (sign "->" s₁) (λ u. return f))) (if-so "&" ampersand s i x v e _ (return none) mostNodes)
+          ∙ ap (λ (y : Result (Unit {0})). bind (bind y (λ u s₁. bind (readGuard values s₁) (λ f. return (some f)))) (λ f s₁. bind (sign "->" s₁) (λ u. return f))) (sign-took "&" ampersand s i x v e mostNodes)
+          ∙ assoc (readGuard values (from s (x .next .at) mostNodes)) (λ f. return (some f)) (λ f s₁. bind (sign "->" s₁) (λ u. return f))
 
-      pub some-stops : g ≡ 0 → GuardedFrom s i k (lateIn state) was is used (after a 0)
+      pub some-stops : g ≡ 0 → GuardedFrom s i k values (lateIn state) was is used (after a 0)
       some-stops f = record {
-        answers = rw some-guard (halted s _ _ (readGuard (from s (x .next .at) mostNodes)) _ a g answered f);
-        sized = go (readGuard (from s (x .next .at) mostNodes)) answered;
+        answers = rw some-guard (halted s _ _ (readGuard values (from s (x .next .at) mostNodes)) _ a g answered f);
+        sized = go (readGuard values (from s (x .next .at) mostNodes)) answered;
       }
         where
-          go : (y : Result (Formula Literals)) → Answers s (GuardIs s k (lateIn state) was is used mostNodes) y (after a g) → Sized a
+          go : (y : Result (Formula Tested)) → Answers s (GuardIs s k values (lateIn state) was is used mostNodes) y (after a g) → Sized a
           go (ok h b) y = y .told .sized
           go (stop m p) y = y .sized
 
       module _ (f : g ≡ 0 → ⊥) {y : Step} (z : Next s g y) where
-        behind-guard : (r : After) → ((h : Formula Literals) (m : ℕ) → GuardIs s k (lateIn state) was is used mostNodes h a
-            → GuardedRead s k (lateIn state) was is used (bind (sign "->" (from s g m)) (λ u. return (some h))) r) → GuardedRead s k (lateIn state) was is used (guarded (from s i mostNodes)) r
-        behind-guard r j = rw some-guard (onward s _ _ (readGuard (from s (x .next .at) mostNodes)) _ a g r answered f j)
+        behind-guard : (r : After) → ((h : Formula Tested) (m : ℕ) → GuardIs s k values (lateIn state) was is used mostNodes h a
+            → GuardedRead s k values (lateIn state) was is used (bind (sign "->" (from s g m)) (λ u. return (some h))) r) → GuardedRead s k values (lateIn state) was is used (guarded (shares values) (from s i mostNodes)) r
+        behind-guard r j = rw some-guard (onward s _ _ (readGuard values (from s (x .next .at) mostNodes)) _ a g r answered f j)
 
-        pub arrow-stops : (y .mark .kind ≡ kind "->" → ⊥) → {r : After} → Halted outOfShape (y .mark .place) r → GuardedFrom s i k (lateIn state) was is used r
+        pub arrow-stops : (y .mark .kind ≡ kind "->" → ⊥) → {r : After} → Halted outOfShape (y .mark .place) r → GuardedFrom s i k values (lateIn state) was is used r
         arrow-stops d {r} q = record { answers = behind-guard r λ h m j. sign-misses "->" arrow s g _ y z m _ r d q; sized = q .sized }
 
-        pub some-read : y .mark .kind ≡ kind "->" → GuardedFrom s i k (lateIn state) was is used (after (set a atValue (mostNodes - leftIn a)) (y .next .at))
+        pub some-read : y .mark .kind ≡ kind "->" → GuardedFrom s i k values (lateIn state) was is used (after (set a atValue (mostNodes - leftIn a)) (y .next .at))
         some-read d = record {
           answers = behind-guard _ λ h m j. sign-fits "->" arrow s g _ y z m _ _ d
               (record {

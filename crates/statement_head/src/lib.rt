@@ -19,22 +19,25 @@ use marks_on_a_card::kinds::SQUARE_CLOSE;
 use parts::run;
 use word_and_digit_looks::all_here;
 ghost use Prim.Native.Nat.{_+_, _≤_};
-ghost use Rattle.card.specs.Limits.{mostNodes, nodePlaces};
+ghost use Rattle.card.specs.Limits.{mostShared, mostNodes, nodePlaces};
 ghost use Rattle.late.specs.State.{Sized, lateIn, after};
 ghost use Rattle.statement_head.specs.StatementHead.{OwnFrom, GuardedFrom};
 
-// The guard, if there is one, and the arrow. The guard's nodes stand from `used` on; their number becomes the value.
+// The guard, if there is one, and the arrow, on a card whose shared number has so many values (0: there is none). The guard's nodes stand
+// from `used` on; their number becomes the value.
 pub fn guarded(
     card: &[u8],
     at: usize,
     top: usize,
+    values: usize,
     nodes: &mut [u32; NODE_PLACES],
     used: usize,
     state: &mut [usize; STATE],
 ) -> usize
     requires { ⌜ Sized (now state) ⌝ }
     requires { ⌜ used + mostNodes ≤ nodePlaces ⌝ }
-    ensures { λ r. ⌜ GuardedFrom (now (card .entry)) at top (lateIn (now (state .entry))) (now (nodes .entry)) (now (nodes .exit)) used (after (now (state .exit)) r) ⌝ }
+    requires { ⌜ values ≤ mostShared ⌝ }
+    ensures { λ r. ⌜ GuardedFrom (now (card .entry)) at top values (lateIn (now (state .entry))) (now (nodes .entry)) (now (nodes .exit)) used (after (now (state .exit)) r) ⌝ }
 {
     let step = step_guard(card, at);
     let mark = step.mark;
@@ -48,7 +51,8 @@ pub fn guarded(
     }
     state[LEFT] = MOST_NODES;
     state[FREE] = used;
-    let read = conjunction(card, next.at, nodes, state, MOST_DEPTH, top, false);
+    let language = values * 2;
+    let read = conjunction(card, next.at, nodes, state, MOST_DEPTH, top, language);
     if read == 0 {
         return 0;
     }

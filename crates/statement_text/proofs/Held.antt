@@ -8,18 +8,20 @@ use native.Mathlib.Nat.{zero-add}
 use native.Mathlib.Omega.{arith}
 use lib.Dec.{eqb}
 use lib.ListN.{length}
+use Rattle.card.specs.Limits.{mostShared}
 use Rattle.card.specs.Text.{if_then_else_}
 use Rattle.card.specs.Card.{Statement, Card}
-use Rattle.card.specs.Valid.{Every, ValidStatement}
-use Rattle.card.specs.Laid.{either, statementOf, statementsOf}
+use Rattle.card.specs.Valid.{Every, valuesOf, ValidStatement}
+use Rattle.card.specs.Laid.{either, sharedOf, statementOf, statementsOf}
 use Rattle.card.specs.Rows.{rowOf, rowsFrom}
 use Rattle.card.specs.Lent.{lent, HoldsIn}
 use Rattle.card.specs.declared.Statement.{Statement as StatementRow}
 use Rattle.card.specs.declared.Head.{Head}
+use Rattle.card.proofs.Held.{few-values}
 use Rattle.card.proofs.HeldIn.{holds-card, holds-seats, holds-top, holds-rows, holds-branches}
 use Rattle.meaning.specs.Reduced.{counterOf, updateOf}
 use Rattle.phrases.specs.Phrases.{Text, _▸_, num, weightText}
-use Rattle.texts.specs.Shared.{needed, always, tailText}
+use Rattle.texts.specs.Shared.{needed, always, tailText, setLast}
 use Rattle.texts.specs.Writing.{groupText}
 use Rattle.texts.specs.ReducedText.{counterText, updateText}
 use Rattle.texts.specs.Lengths.{tailPlaces}
@@ -43,7 +45,8 @@ module _ (n own : ℕ) (s : Statement) where
   abbrev restBy : Bool → Text
   restBy written r =
       tailText (if written then needed else always) (λ a t. if written then groupText n a t else counterText (counterOf n own a) t)
-      (λ b t. weightText (b .units) (if written then ":(s1'=" ▸ num (b .end) (")" ▸ t) else ":" ▸ updateText (updateOf n own (b .end)) t)) (s .guard) (s .branches) r
+      (λ b t. weightText (b .units) (if written then ":(s1'=" ▸ num (b .end) (")" ▸ setLast (b .sets) t) else ":" ▸ updateText (updateOf n own (b .end)) (b .sets) t)) (s .guard)
+      (s .branches) r
 
   rest-kept : (text c m : ℕ) → c ≡ either 1 m text → length (restBy false []) ≤ tailPlaces → KeepsTail (styleOf text own n c) s
   rest-kept text c m e h several = go (eqb text 0) refl
@@ -53,10 +56,16 @@ module _ (n own : ℕ) (s : Statement) where
       go false q = subst (λ (t : Bool). length (restBy t []) ≤ tailPlaces) (sym q) h
 
 module _ {head : Head} {nodes bs rows : List ℕ} (v : HoldsIn head (lent rows nodes bs)) {i : ℕ} (l : i < head .count) where
-  valid-at : ValidStatement (head .seats) (head .top) (statementOf nodes bs (rowOf rows i) i)
+  abbrev values : ℕ
+  values = valuesOf (sharedOf (head .shared) (head .initial))
+
+  few : values ≤ mostShared
+  few = subst (λ (c : Card). valuesOf (c .shared) ≤ mostShared) (sym (holds-card v)) (few-values (v .card .shared) (v .valid .shared))
+
+  valid-at : ValidStatement (head .seats) (head .top) values (statementOf nodes bs (rowOf rows i) i)
   valid-at =
-      every-row nodes bs rows (ValidStatement (head .seats) (head .top)) (head .count) i l
-      (subst (λ (c : Card). Every (ValidStatement (c .n) (c .k)) (c .statements)) (sym (holds-card v)) (v .valid .statements))
+      every-row nodes bs rows (ValidStatement (head .seats) (head .top) values) (head .count) i l
+      (subst (λ (c : Card). Every (ValidStatement (c .n) (c .k) (valuesOf (c .shared))) (c .statements)) (sym (holds-card v)) (v .valid .statements))
 
   module _ {x : StatementRow} (e : x ≡ rowOf rows i) where
     pub fits-at : Fits bs x i
@@ -70,4 +79,4 @@ module _ {head : Head} {nodes bs rows : List ℕ} (v : HoldsIn head (lent rows n
     keeps-at text {c} m k =
         subst (λ (y : StatementRow). KeepsTail (styleOf text (y .own) (head .seats) c) (statementOf nodes bs y i)) (sym e)
         (rest-kept (head .seats) (rowOf rows i .own) (statementOf nodes bs (rowOf rows i) i) text c m k
-        (short-rest (head .seats) (head .top) (holds-seats v) (holds-top v) (statementOf nodes bs (rowOf rows i) i) valid-at))
+        (short-rest (head .seats) (head .top) values (holds-seats v) (holds-top v) few (statementOf nodes bs (rowOf rows i) i) valid-at))

@@ -1,4 +1,5 @@
 // Statements, read from a card's bytes into the card's arrays.
+use branches::Bounds;
 use branches::branches as all_branches;
 use card::limits::BRANCH_PLACES;
 use card::limits::MOST_BRANCHES;
@@ -19,8 +20,8 @@ use parts::number;
 use parts::sign;
 use statement_head::guarded;
 use statement_head::owned;
-ghost use Prim.Native.Nat.{_+_, _<_};
-ghost use Rattle.card.specs.Limits.{mostStatements};
+ghost use Prim.Native.Nat.{_+_, _≤_, _<_};
+ghost use Rattle.card.specs.Limits.{mostShared, mostStatements};
 ghost use Rattle.card.specs.Lent.{lent};
 ghost use Rattle.late.specs.State.{Sized, lateIn, after};
 ghost use Rattle.statements.specs.OneStatement.{StatementFrom};
@@ -30,42 +31,42 @@ ghost use Rattle.statements.specs.Statements.{StatementsFrom};
 fn statement(
     card: &[u8],
     at: usize,
-    top: usize,
+    bounds: Bounds,
     rows: &mut [usize; ROW_PLACES],
     nodes: &mut [u32; NODE_PLACES],
     branches: &mut [u32; BRANCH_PLACES],
     index: usize,
-    decimals: bool,
     state: &mut [usize; STATE],
 ) -> usize
     requires { ⌜ Sized (now state) ⌝ }
     requires { ⌜ index < mostStatements ⌝ }
-    ensures { λ r. ⌜ StatementFrom decimals (now (card .entry)) at top (lateIn (now (state .entry))) (lent (now (rows .entry)) (now (nodes .entry)) (now (branches .entry))) (lent (now (rows .exit)) (now (nodes .exit)) (now (branches .exit))) index (after (now (state .exit)) r) ⌝ }
+    requires { ⌜ bounds .values ≤ mostShared ⌝ }
+    ensures { λ r. ⌜ StatementFrom bounds (now (card .entry)) at (lateIn (now (state .entry))) (lent (now (rows .entry)) (now (nodes .entry)) (now (branches .entry))) (lent (now (rows .exit)) (now (nodes .exit)) (now (branches .exit))) index (after (now (state .exit)) r) ⌝ }
 {
     let row = index * ROW;
     let words = owned(card, at, state);
     if words == 0 {
         return 0;
     }
-    let own = number(card, words, top, state);
+    let own = number(card, words, bounds.top, state);
     if own == 0 {
         return 0;
     }
     rows[row] = state[VALUE];
-    let guard = guarded(card, own, top, nodes, index * MOST_NODES, state);
+    let guard = guarded(
+        card,
+        own,
+        bounds.top,
+        bounds.values,
+        nodes,
+        index * MOST_NODES,
+        state,
+    );
     if guard == 0 {
         return 0;
     }
     rows[row + 1] = state[VALUE];
-    let list = all_branches(
-        card,
-        guard,
-        top,
-        branches,
-        index * MOST_BRANCHES,
-        decimals,
-        state,
-    );
+    let list = all_branches(card, guard, bounds, branches, index * MOST_BRANCHES, state);
     if list == 0 {
         return 0;
     }
@@ -73,19 +74,19 @@ fn statement(
     list
 }
 
-// All statements, by the rule of a weight, and the keyword behind them; the number of statements becomes the value.
+// All statements, within the card's bounds, and the keyword behind them; the number of statements becomes the value.
 pub fn statements(
     card: &[u8],
     at: usize,
-    top: usize,
+    bounds: Bounds,
     rows: &mut [usize; ROW_PLACES],
     nodes: &mut [u32; NODE_PLACES],
     branches: &mut [u32; BRANCH_PLACES],
-    decimals: bool,
     state: &mut [usize; STATE],
 ) -> usize
     requires { ⌜ Sized (now state) ⌝ }
-    ensures { λ r. ⌜ StatementsFrom decimals (now (card .entry)) at top (lateIn (now (state .entry))) (lent (now (rows .entry)) (now (nodes .entry)) (now (branches .entry))) (lent (now (rows .exit)) (now (nodes .exit)) (now (branches .exit))) (after (now (state .exit)) r) ⌝ }
+    requires { ⌜ bounds .values ≤ mostShared ⌝ }
+    ensures { λ r. ⌜ StatementsFrom bounds (now (card .entry)) at (lateIn (now (state .entry))) (lent (now (rows .entry)) (now (nodes .entry)) (now (branches .entry))) (lent (now (rows .exit)) (now (nodes .exit)) (now (branches .exit))) (after (now (state .exit)) r) ⌝ }
 {
     let mut next = sign(card, at, SQUARE_OPEN, state);
     if next == 0 {
@@ -94,17 +95,7 @@ pub fn statements(
     let mut place = at;
     let mut count = 0;
     while count < MOST_STATEMENTS {
-        let read = statement(
-            card,
-            next,
-            top,
-            rows,
-            nodes,
-            branches,
-            count,
-            decimals,
-            state,
-        );
+        let read = statement(card, next, bounds, rows, nodes, branches, count, state);
         if read == 0 {
             return 0;
         }

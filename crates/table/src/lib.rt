@@ -103,7 +103,8 @@ fn others_bound(sign: usize, relation: usize, own: usize, d: usize, n: usize) ->
     less_than(less)
 }
 
-// The test that the leaf in `node` becomes in a statement of local state `own`: a group by the table, exactly one seat as no_d=1.
+// The test that the leaf in `node` becomes in a statement of local state `own`: a group by the table, exactly one seat as no_d=1. A test of the shared number is of no
+// counter, and its bound is not asked for.
 pub fn bound_of(node: u32, own: usize, seats: usize) -> Bound
     ensures { λ r. ⌜ r ≡ boundRow (boundOf (counterOf seats own (leafOf node))) ⌝ }
 {

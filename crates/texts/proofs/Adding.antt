@@ -5,16 +5,16 @@ use mathlib.Core.Path.{_≡_, ap}
 use mathlib.Core.Bool.{Bool, true, false}
 use mathlib.Core.List.{List, [], _∷_}
 use mathlib.Core.Option.{Option, none, some}
-use native.Mathlib.Nat.{add-mul, suc-mul, mul-le-mul-right}
+use native.Mathlib.Nat.{add-mul, suc-mul, mul-le-mul-right, le-trans}
 use native.Mathlib.Omega.{arith}
 use lib.ListN.{length}
-use Rattle.card.specs.Limits.{mostBranches}
-use Rattle.card.specs.Card.{Leaf, atom, neg, and, or, Guard, Branch}
-use Rattle.card.specs.Valid.{Level, loose, middle, tight, size, Every, ValidLeaf, ValidLeaves, ValidGuard, ValidBranch}
+use Rattle.card.specs.Limits.{topShared, mostShared, mostBranches}
+use Rattle.card.specs.Card.{Relation, is, isnt, Leaf, atom, neg, and, or, Guard, Branch, Shared}
+use Rattle.card.specs.Valid.{Level, loose, middle, tight, size, Every, ValidLeaf, ValidLeaves, ValidGuard, ValidSet, ValidBranch, ValidShared}
 use Rattle.phrases.specs.Phrases.{Text, _▸_, counted}
-use Rattle.phrases.proofs.Adds.{Adds, adds-then, adds-up, adds-none, adds-bytes}
-use Rattle.texts.specs.Shared.{Brackets, hasAnd, hasOr, opening, closing, formulaText, formulaOr, more, summed, tailText}
-use Rattle.texts.specs.Lengths.{mostLeaves, testMost, branchesMost, tailMost}
+use Rattle.phrases.proofs.Adds.{Adds, adds-then, adds-up, adds-none, adds-bytes, adds-state}
+use Rattle.texts.specs.Shared.{Brackets, hasAnd, hasOr, opening, closing, formulaText, formulaOr, more, summed, tailText, declaration, sharedText, setText, setLast}
+use Rattle.texts.specs.Lengths.{mostLeaves, testMost, branchesMost, tailMost, declarationMost, setMost}
 
 pub adds-as : {a : ℕ} {f g : Text} → ((r : List ℕ) → g r ≡ f r) → Adds a f → Adds a g
 adds-as e p = record { long = λ r. omega (arith, ap length (e r), p .long r) }
@@ -25,6 +25,25 @@ unfolding counted
 adds-counted f most i zero h = adds-up _ (omega arith) adds-none
 adds-counted f most i (suc c) h =
     adds-up (suc c * most) (omega (arith, suc-mul c most)) (adds-then (h i (omega arith)) (adds-counted f most (suc i) c (λ m l. h m (omega arith))))
+
+-- ---- the shared number, whose values have one digit
+
+pub adds-declaration : (s : Option Shared) → ValidShared s → Adds declarationMost (declaration s)
+adds-declaration none v = adds-up declarationMost (omega arith) adds-none
+adds-declaration (some s) v =
+    adds-then (adds-bytes "\nglobal g : [0..")
+    (adds-then (adds-state (s .most) (v .0)) (adds-then (adds-bytes "] init ") (adds-then (adds-state (s .start) (le-trans (v .1) (v .0))) (adds-bytes ";"))))
+
+pub adds-shared : (q : Relation) (v : ℕ) → v ≤ topShared → Adds 6 (sharedText q v)
+adds-shared is v h = adds-up 6 (omega arith) (adds-then (adds-bytes "(g=") (adds-then (adds-state v h) (adds-bytes ")")))
+adds-shared isnt v h = adds-then (adds-bytes "(g!=") (adds-then (adds-state v h) (adds-bytes ")"))
+
+pub adds-set : (v : ℕ) → v ≤ topShared → Adds 6 (setText v)
+adds-set v h = adds-then (adds-bytes "(g'=") (adds-then (adds-state v h) (adds-bytes ")"))
+
+pub adds-last : (values : ℕ) → values ≤ mostShared → (s : Option ℕ) → ValidSet values s → Adds setMost (setLast s)
+adds-last values h none v = adds-up setMost (omega arith) adds-none
+adds-last values h (some x) v = adds-then (adds-bytes " & ") (adds-set x (omega arith))
 
 -- ---- formulas
 
@@ -53,11 +72,11 @@ half-joined (or g e) = omega (arith, half-joined g, half-joined e)
 abbrev formulaMost : ℕ → ℕ → ℕ → ℕ
 formulaMost further joints nodes = further + joints * (further + 4) + nodes
 
-module _ (n k : ℕ) (kind : Brackets) (leaf : Leaf → Text) (further : ℕ) (fits : (a : Leaf) → ValidLeaf n k a → Adds (suc further) (leaf a)) where
+module _ (n k values : ℕ) (kind : Brackets) (leaf : Leaf → Text) (further : ℕ) (fits : (a : Leaf) → ValidLeaf n k values a → Adds (suc further) (leaf a)) where
   joining : (a b x y : ℕ) → formulaMost further a x + (formulaMost further b y + 5) ≤ formulaMost further (suc (a + b)) (suc (x + y))
   joining a b x y = omega (arith, suc-mul (a + b) (further + 4), add-mul a b (further + 4))
 
-  adds-formula : (v : Level) (g : Guard) → ValidLeaves n k g → Adds (formulaMost further (joined g) (size g)) (formulaText kind leaf v g)
+  adds-formula : (v : Level) (g : Guard) → ValidLeaves n k values g → Adds (formulaMost further (joined g) (size g)) (formulaText kind leaf v g)
   unfolding formulaText
   adds-formula v (atom a) w = adds-up (formulaMost further 0 1) (omega arith) (fits a w)
   adds-formula v (neg g) w = adds-up (formulaMost further (joined g) (suc (size g))) (omega arith) (adds-then (adds-bytes "!") (adds-formula tight g w))
@@ -70,7 +89,7 @@ module _ (n k : ℕ) (kind : Brackets) (leaf : Leaf → Text) (further : ℕ) (f
       (adds-then (adds-opening (hasOr kind v))
       (adds-then (adds-formula loose g (w .0)) (adds-then (adds-bytes " | ") (adds-then (adds-formula middle e (w .1)) (adds-closing (hasOr kind v))))))
 
-  adds-test : (g : Option Guard) → ValidGuard n k g → Adds (testMost further) (formulaOr kind leaf g)
+  adds-test : (g : Option Guard) → ValidGuard n k values g → Adds (testMost further) (formulaOr kind leaf g)
   adds-test none w = adds-up (testMost further) (omega arith) adds-none
   adds-test (some g) w =
       let joints : joined g ≤ mostLeaves - 1 = omega (arith, half-joined g, w .2) in
@@ -78,14 +97,14 @@ module _ (n k : ℕ) (kind : Brackets) (leaf : Leaf → Text) (further : ℕ) (f
 
 -- ---- branches, with the signs between them
 
-module _ (k : ℕ) (branch : Branch → Text) (most : ℕ) (fits : (b : Branch) → ValidBranch k b → Adds most (branch b)) where
-  adds-more : (bs : List Branch) → Every (ValidBranch k) bs → Adds (length bs * (3 + most)) (more branch bs)
+module _ (k values : ℕ) (branch : Branch → Text) (most : ℕ) (fits : (b : Branch) → ValidBranch k values b → Adds most (branch b)) where
+  adds-more : (bs : List Branch) → Every (ValidBranch k values) bs → Adds (length bs * (3 + most)) (more branch bs)
   adds-more [] v = adds-up _ (omega arith) adds-none
   adds-more (b ∷ bs) v =
       adds-up (length (b ∷ bs) * (3 + most)) (omega (arith, suc-mul (length bs) (3 + most)))
       (adds-then (adds-bytes " + ") (adds-then (fits b (v .0)) (adds-more bs (v .1))))
 
-  adds-summed : (bs : List Branch) → length bs ≤ mostBranches → Every (ValidBranch k) bs → Adds (branchesMost most) (summed branch bs)
+  adds-summed : (bs : List Branch) → length bs ≤ mostBranches → Every (ValidBranch k values) bs → Adds (branchesMost most) (summed branch bs)
   adds-summed [] h v = adds-up (branchesMost most) (omega arith) adds-none
   adds-summed (b ∷ bs) h v =
       let few : length bs ≤ mostBranches - 1 = omega arith in
@@ -93,10 +112,10 @@ module _ (k : ℕ) (branch : Branch → Text) (most : ℕ) (fits : (b : Branch) 
 
 -- ---- a statement behind its first test
 
-module _ (n k : ℕ) (kind : Brackets) (leaf : Leaf → Text) (further : ℕ) (leaves : (a : Leaf) → ValidLeaf n k a → Adds (suc further) (leaf a))
-    (branch : Branch → Text) (most : ℕ) (ends : (b : Branch) → ValidBranch k b → Adds most (branch b)) where
-  pub adds-tail : (g : Option Guard) (bs : List Branch) → ValidGuard n k g → length bs ≤ mostBranches → Every (ValidBranch k) bs
+module _ (n k values : ℕ) (kind : Brackets) (leaf : Leaf → Text) (further : ℕ) (leaves : (a : Leaf) → ValidLeaf n k values a → Adds (suc further) (leaf a))
+    (branch : Branch → Text) (most : ℕ) (ends : (b : Branch) → ValidBranch k values b → Adds most (branch b)) where
+  pub adds-tail : (g : Option Guard) (bs : List Branch) → ValidGuard n k values g → length bs ≤ mostBranches → Every (ValidBranch k values) bs
       → Adds (tailMost further most) (tailText kind leaf branch g bs)
   adds-tail g bs v h w =
       adds-up (tailMost further most) (omega arith)
-      (adds-then (adds-test n k kind leaf further leaves g v) (adds-then (adds-bytes " -> ") (adds-then (adds-summed k branch most ends bs h w) (adds-bytes ";\n"))))
+      (adds-then (adds-test n k values kind leaf further leaves g v) (adds-then (adds-bytes " -> ") (adds-then (adds-summed k values branch most ends bs h w) (adds-bytes ";\n"))))

@@ -6,7 +6,7 @@ use Rattle.meaning.specs.Reduced.{updateOf, Outcome}
 
 -- what a branch of a statement with local state j becomes
 abbrev pub outcomeOf : ℕ → ℕ → Branch → Outcome
-outcomeOf n j b = record { units = b .units; update = updateOf n j (b .end) }
+outcomeOf n j b = record { units = b .units; update = updateOf n j (b .end); sets = b .sets }
 
 -- how many copies a statement has
 abbrev pub reducedCopies : Mode → ℕ → ℕ

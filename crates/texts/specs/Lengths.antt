@@ -23,11 +23,18 @@ branchesMost most = mostBranches * (3 + most) - 3
 abbrev pub tailMost : ℕ → ℕ → ℕ
 tailMost further most = testMost further + 4 + branchesMost most + 2
 
+-- "\nglobal g : [0..7] init 7;", and " & (g'=7)" last in a branch
+abbrev pub declarationMost : ℕ
+declarationMost = 26
+
+abbrev pub setMost : ℕ
+setMost = 9
+
 -- ---- the written card
 
--- the first module without its statements: the mode's word, the lines up to the statements with k and l, the last line
+-- the first module without its statements: the mode's word, the declaration, the lines up to the statements with k and l, the last line
 abbrev pub headMost : ℕ
-headMost = 16 + 26 + 1 + 7 + 1 + 2 + 10
+headMost = 16 + declarationMost + 26 + 1 + 7 + 1 + 2 + 10
 
 -- " & s16!=7" for each seat of a group, and in all two bytes less: it has brackets, and no first sign
 abbrev pub literalMost : ℕ
@@ -36,9 +43,9 @@ literalMost = 9
 abbrev pub groupMost : ℕ → ℕ
 groupMost n = literalMost * n - 1
 
--- a weight and ":(s1'=7)"
+-- a weight, ":(s1'=7)" and what is set
 abbrev pub branchMost : ℕ
-branchMost = 8 + weightMost
+branchMost = 8 + weightMost + setMost
 
 -- what each seat adds to a statement, and all else in it, with "[] s1=7"
 abbrev pub seatMost : ℕ
@@ -67,9 +74,9 @@ writtenRoom = writtenMost mostSeats mostStatements
 abbrev pub counterMost : ℕ
 counterMost = 9
 
--- "(no_7'=no_7-1) & (no_7'=min(no_7+1,16))", and with a weight and ":"
+-- "(no_7'=no_7-1) & (no_7'=min(no_7+1,16))" and what is set, and with a weight and ":"
 abbrev pub updateMost : ℕ
-updateMost = 39
+updateMost = 39 + setMost
 
 abbrev pub outcomeMost : ℕ
 outcomeMost = 1 + weightMost + updateMost
@@ -86,6 +93,6 @@ copyMost = 11 + tailPlaces
 abbrev pub declaredMost : ℕ
 declaredMost = 24
 
--- the mode's word, the module's two lines, a counter for each state, and so many copies of each statement as there are seats
+-- the mode's word, the declaration, the module's two lines, a counter for each state, and so many copies of each statement as there are seats
 abbrev pub reducedRoom : ℕ
-reducedRoom = 16 + 24 + mostStates * declaredMost + mostStatements * (mostSeats * copyMost) + 10
+reducedRoom = 16 + declarationMost + 24 + mostStates * declaredMost + mostStatements * (mostSeats * copyMost) + 10

@@ -1,11 +1,12 @@
--- The reduced program's text ("Texts, byte for byte", first part). Assumes nothing.
+-- The reduced program's text ("Texts, byte for byte", first part; document 02, 2026-10). Assumes nothing.
 use Prim.Native.Nat.{ℕ, suc}
 use mathlib.Core.List.{List, [], _∷_}
+use mathlib.Core.Option.{Option, none, some}
 use Rattle.card.specs.Card.{Card}
 use Rattle.card.specs.Valid.{Level}
-use Rattle.meaning.specs.Reduced.{Bound, equalTo, moreThan, lessThan, Counter, counter, Test, Update, keep, shift, Outcome, Reduced, Program, reduce as programOf}
+use Rattle.meaning.specs.Reduced.{Bound, equalTo, moreThan, lessThan, Counter, counter, sharedTest, Test, Update, keep, shift, Outcome, Reduced, Program, reduce as programOf}
 use Rattle.phrases.specs.Phrases.{Text, _▸_, num, modeText, weightText}
-use Rattle.texts.specs.Shared.{always, formulaText, tailText}
+use Rattle.texts.specs.Shared.{always, formulaText, tailText, declaration, sharedText, setText, setLast}
 
 -- ---- tests
 
@@ -16,19 +17,21 @@ boundText (lessThan m) r = "<" ▸ num m r
 
 abbrev pub counterText : Counter → Text
 counterText (counter d b) r = "(no_" ▸ num d (boundText b (")" ▸ r))
+counterText (sharedTest q v) r = sharedText q v r
 
 abbrev pub testText : Level → Test → Text
 testText = formulaText always counterText
 
 -- ---- statements
 
--- the lowered counter stands first
-abbrev pub updateText : Update → Text
-updateText keep r = "true" ▸ r
-updateText (shift j t n) r = "(no_" ▸ num j ("'=no_" ▸ num j ("-1) & (no_" ▸ num t ("'=min(no_" ▸ num t ("+1," ▸ num n ("))" ▸ r)))))
+-- the lowered counter stands first, what the shared number is set to last; `true` where there is neither
+abbrev pub updateText : Update → Option ℕ → Text
+updateText keep none r = "true" ▸ r
+updateText keep (some v) r = setText v r
+updateText (shift j t n) s r = "(no_" ▸ num j ("'=no_" ▸ num j ("-1) & (no_" ▸ num t ("'=min(no_" ▸ num t ("+1," ▸ num n ("))" ▸ setLast s r)))))
 
 abbrev pub outcomeText : Outcome → Text
-outcomeText o r = weightText (o .units) (":" ▸ updateText (o .update) r)
+outcomeText o r = weightText (o .units) (":" ▸ updateText (o .update) (o .sets) r)
 
 unfoldable pub reducedText : Reduced → Text
 unfolding formulaText weightText
@@ -51,7 +54,9 @@ counters most d (v ∷ vs) r = counterLine most d v (counters most (suc d) vs r)
 
 unfoldable pub programText : Program → List ℕ
 unfolding reducedText
-programText p = modeText (p .mode) ("\nmodule generic_process\n" ▸ counters (p .most) 0 (p .start) (statements (p .statements) ("endmodule\n" ▸ [])))
+programText p =
+    modeText (p .mode) (declaration (p .shared) ("\nmodule generic_process\n"
+    ▸ counters (p .most) 0 (p .start) (statements (p .statements) ("endmodule\n" ▸ []))))
 
 abbrev pub reducedOf : Card → List ℕ
 reducedOf c = programText (programOf c)

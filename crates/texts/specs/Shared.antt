@@ -1,11 +1,13 @@
 -- What the written card and the reduced program have in common, over the texts of a guard's leaves and of a branch: how a formula is
--- joined and bracketed, and how a statement goes on behind its first test ("Texts, byte for byte"). Assumes nothing.
+-- joined and bracketed, and how a statement goes on behind its first test ("Texts, byte for byte"); and the number that all seats share
+-- (document 02, 2026-10). Assumes nothing.
+use Prim.Native.Nat.{ℕ}
 use mathlib.Core.Bool.{Bool, true, false}
 use mathlib.Core.List.{List, [], _∷_}
 use mathlib.Core.Option.{Option, none, some}
-use Rattle.card.specs.Card.{Formula, atom, neg, and, or}
+use Rattle.card.specs.Card.{Relation, is, isnt, Formula, atom, neg, and, or, Shared}
 use Rattle.card.specs.Valid.{Level, loose, middle, tight, needsAnd, needsOr}
-use Rattle.phrases.specs.Phrases.{Text, _▸_}
+use Rattle.phrases.specs.Phrases.{Text, _▸_, num}
 
 -- ---- formulas
 
@@ -56,3 +58,24 @@ summed branch (b ∷ bs) r = branch b (more branch bs r)
 
 abbrev pub tailText : {A B : Type 0} → Brackets → (A → Text) → (B → Text) → Option (Formula A) → List B → Text
 tailText k leaf branch g bs r = formulaOr k leaf g (" -> " ▸ summed branch bs (";\n" ▸ r))
+
+-- ---- the shared number
+
+-- its declaration behind the mode, on a line of its own
+abbrev pub declaration : Option Shared → Text
+declaration none r = r
+declaration (some s) r = "\nglobal g : [0.." ▸ num (s .most) ("] init " ▸ num (s .start) (";" ▸ r))
+
+-- a test of it, as it stands on the card
+abbrev pub sharedText : Relation → ℕ → Text
+sharedText is v r = "(g=" ▸ num v (")" ▸ r)
+sharedText isnt v r = "(g!=" ▸ num v (")" ▸ r)
+
+-- what it is set to
+abbrev pub setText : ℕ → Text
+setText v r = "(g'=" ▸ num v (")" ▸ r)
+
+-- the same, last in a branch that does something else too
+abbrev pub setLast : Option ℕ → Text
+setLast none r = r
+setLast (some v) r = " & " ▸ setText v r

@@ -1,19 +1,20 @@
-// What a branch does to the counters, put as text: the part of a reduced statement behind its weight.
+// What a branch does to the counters and to the shared number, put as text: the part of a reduced statement behind its weight.
 use phrases::put_numbered;
 use pieces::put_seven;
 use put_numbers::put_number;
 use room::put_bytes;
-ghost use Rattle.meaning.specs.Reduced.{updateOf};
+use shared_text::put_set;
+use shared_text::put_set_last;
+ghost use mathlib.Core.Option.{none};
+ghost use Rattle.card.specs.Laid.{setOf};
+ghost use Rattle.meaning.specs.Reduced.{shift, updateOf};
 ghost use Rattle.phrases.specs.Puts.{Puts};
 ghost use Rattle.texts.specs.ReducedText.{updateText};
 
-// What a branch to `end` does to the counters: in pieces, where both states have one digit.
-pub fn put_update(room: &mut [u8], at: usize, own: usize, end: usize, seats: usize) -> usize
-    ensures { λ r. ⌜ Puts (now (room .entry)) (now (room .exit)) at (updateText (updateOf seats own end)) r ⌝ }
+// A seat's way from `own` to `end`, as counters lowered and raised: in pieces, where both states have one digit.
+fn put_shift(room: &mut [u8], at: usize, own: usize, end: usize, seats: usize) -> usize
+    ensures { λ r. ⌜ Puts (now (room .entry)) (now (room .exit)) at (updateText (shift own end seats) none) r ⌝ }
 {
-    if own == end {
-        return put_bytes(room, at, b"true");
-    }
     if own < 10 {
         if end < 10 {
             let d = b'0' + own as u8;
@@ -33,4 +34,29 @@ pub fn put_update(room: &mut [u8], at: usize, own: usize, end: usize, seats: usi
     let d = put_numbered(room, c, b"'=min(no_", end);
     let e = put_numbered(room, d, b"+1,", seats);
     put_bytes(room, e, b"))")
+}
+
+// What a branch to `end` does; `sets` is 0 where it does not set the shared number, and else one more than what it sets it to. `true` stands where
+// there is nothing else.
+pub fn put_update(
+    room: &mut [u8],
+    at: usize,
+    own: usize,
+    end: usize,
+    seats: usize,
+    sets: usize,
+) -> usize
+    ensures { λ r. ⌜ Puts (now (room .entry)) (now (room .exit)) at (updateText (updateOf seats own end) (setOf sets)) r ⌝ }
+{
+    if own == end {
+        if sets == 0 {
+            return put_bytes(room, at, b"true");
+        }
+        return put_set(room, at, sets - 1);
+    }
+    let a = put_shift(room, at, own, end, seats);
+    if sets == 0 {
+        return a;
+    }
+    put_set_last(room, a, sets - 1)
 }

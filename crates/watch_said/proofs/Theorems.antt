@@ -9,7 +9,6 @@ use native.Mathlib.Decide.{decLe, ℕ-discrete}
 use native.Mathlib.Omega.{arith}
 use Rattle.card.specs.Refusals.{wrongSeats, seatAboveTop, roomTooSmall, wrongClasses}
 use Rattle.card.specs.Card.{Card}
-use Rattle.meaning.specs.Seats.{ValidSeating}
 use Rattle.entry.specs.Said.{Said, refused, _>>=_}
 use Rattle.entry.specs.Numbers.{Numbers, _to_, only, among}
 use Rattle.entry.specs.Contract.{Enters, inRoom, stored, Faithful, InRoom}
@@ -17,6 +16,7 @@ use Rattle.entry.specs.Stage.{Stage}
 use Rattle.entry.proofs.Stages.{in-span, apart-out, among-up-to, among-then, value, followed, its, beyond, last}
 use Rattle.entry.proofs.Exactly.{_↔∙_}
 use Rattle.entry.proofs.Entries.{answer-refused, among-stored, in-room, before-room}
+use Rattle.seating.specs.Judged.{seatingOf, Seated}
 use Rattle.seating.specs.SeatsSaid.{seatsNumbers}
 use Rattle.seating.proofs.SeatsStage.{seats-stage, wrong-count, wrong-seat}
 use Rattle.rows.specs.Said.{cardNumbers}
@@ -25,19 +25,19 @@ use Rattle.classes.specs.Classes.{ValidClasses, watchOf}
 use Rattle.classes.specs.ClassesSaid.{classesNumbers}
 use Rattle.classes.proofs.ClassesStage.{classes-stage, wrong-classes}
 use Rattle.watch_said.specs.WatchSaid.{watchSeated, watchCard, watchSaid}
-use Rattle.watch_said.specs.Watches.{Watched, Watches}
+use Rattle.watch_said.specs.Watches.{Watched, lineOf, Watches}
 
 module _ (card seats list : List ℕ) where
-  listed : (c : Card) → Stage (watchSeated seats list c) classesNumbers (ValidClasses (c .k) list) (λ _. watchOf list seats)
-  listed c = value (classes-stage list c) (λ _. watchOf list seats)
+  listed : (c : Card) → Stage (watchSeated seats list c) classesNumbers (ValidClasses (c .k) list) (λ _. watchOf list (seatingOf c seats))
+  listed c = value (classes-stage list c) (λ _. watchOf list (seatingOf c seats))
 
-  seated : (c : Card) → Stage (watchCard seats list c) (seatsNumbers ++ classesNumbers) (ValidSeating c seats × ValidClasses (c .k) list) (λ _. watchOf list seats)
+  seated : (c : Card) → Stage (watchCard seats list c) (seatsNumbers ++ classesNumbers) (Seated c seats × ValidClasses (c .k) list) (λ _. watchOf list (seatingOf c seats))
   seated c = followed (seats-stage seats c) (λ _. watchSeated seats list c) (λ _. listed c .numbers) (λ _. listed c .found)
 
   abbrev numbersSaid : Numbers
   numbersSaid = cardNumbers ++ (seatsNumbers ++ classesNumbers)
 
-  pub said : Stage (watchSaid card seats list) numbersSaid (Watched card seats list) (λ _. watchOf list seats)
+  pub said : Stage (watchSaid card seats list) numbersSaid (Watched card seats list) (λ w. lineOf seats list (w .0 .0))
   unfolding watchSaid
   said = followed (card-stage card) (watchCard seats list) (λ c. seated c .numbers) (λ w. seated (w .0) .found)
 
@@ -60,7 +60,7 @@ module _ (card seats list : List ℕ) where
           absurd (false≢true (sym (apart-out ((11 to 12) ∷ []) all r refl between) ∙ in-all))
 
   module _ {T : Type 0} {tell : Said ℕ → T} (faithful : Faithful tell) {was is : List ℕ} {a : T} (e : Enters inRoom tell was is (watchSaid card seats list) a) where
-    in-its-room : InRoom tell (Watched card seats list) (λ _. watchOf list seats) was is a
+    in-its-room : InRoom tell (Watched card seats list) (λ w. lineOf seats list (w .0 .0)) was is a
     in-its-room = in-room faithful e said refl
 
     pub watches : Watches tell card seats list was is a
@@ -73,7 +73,7 @@ module _ (card seats list : List ℕ) where
           its (seats-stage seats (w .0)) (λ _. watchSeated seats list (w .0)) (λ _. listed (w .0) .numbers) seatAboveTop p refl ↔∙ wrong-seat seats (w .0) p);
       wrong-list = λ p. before-room faithful e wrongClasses p refl ↔∙ beyond (card-stage card) (watchCard seats list) wrongClasses p refl (λ w.
           beyond (seats-stage seats (w .0)) (λ _. watchSeated seats list (w .0)) wrongClasses p refl (λ _.
-          last (classes-stage list (w .0)) (λ _. watchOf list seats) wrongClasses p ↔∙ wrong-classes list (w .0) p));
+          last (classes-stage list (w .0)) (λ _. watchOf list (seatingOf (w .0) seats)) wrongClasses p ↔∙ wrong-classes list (w .0) p));
       small-room = in-its-room .small-room;
       done = in-its-room .done;
       stands = in-its-room .stands;

@@ -5,6 +5,7 @@ use mathlib.Core.List.{List}
 use Rattle.card.specs.Card.{Card}
 use Rattle.entry.specs.Said.{_>>=_, _>>_, return}
 use Rattle.room.specs.Answer.{Text}
+use Rattle.seating.specs.Judged.{seatingOf}
 use Rattle.seating.specs.SeatsSaid.{seatsSaid}
 use Rattle.rows.specs.Said.{cardSaid}
 use Rattle.classes.specs.Classes.{watchOf}
@@ -14,7 +15,7 @@ use Rattle.classes.specs.ClassesSaid.{classesSaid}
 abbrev pub watchSeated : List ℕ → List ℕ → Card → Text
 watchSeated seats list c = do
   classesSaid list c
-  return (watchOf list seats)
+  return (watchOf list (seatingOf c seats))
 
 -- of a card that is taken
 abbrev pub watchCard : List ℕ → List ℕ → Card → Text

@@ -6,33 +6,37 @@ use mathlib.Core.Logic.{_↔_, _⊎_}
 use mathlib.Core.List.{List}
 use lib.ListN.{length}
 use Rattle.card.specs.Refusals.{wrongWeight, wrongSeats, seatAboveTop, roomTooSmall, wrongClasses}
+use Rattle.card.specs.Card.{Card}
 use Rattle.reading.specs.Reading.{refused as turned, readOf}
-use Rattle.meaning.specs.Seats.{ValidSeating}
 use Rattle.entry.specs.Said.{Said, says, refused}
 use Rattle.entry.specs.Contract.{onto}
-use Rattle.seating.specs.Judged.{FirstAbove}
+use Rattle.seating.specs.Judged.{seatsDue, FirstWrong, seatingOf, Seated}
 use Rattle.rows.specs.Said.{Read}
 use Rattle.classes.specs.Classes.{ValidClasses, watchOf}
 use Rattle.classes.specs.ClassesSaid.{WrongClasses}
 
 -- a card that is taken, a seating of it, and a list for it
 abbrev pub Watched : (card seats list : List ℕ) → Type 0
-Watched card seats list = (c : Read card) × (ValidSeating (c .0) seats × ValidClasses (c .0 .k) list)
+Watched card seats list = (c : Read card) × (Seated (c .0) seats × ValidClasses (c .0 .k) list)
+
+-- the line of their classes
+abbrev pub lineOf : (seats list : List ℕ) → Card → List ℕ
+lineOf seats list c = watchOf list (seatingOf c seats)
 
 -- the room `was` became `is`
 pub record Watches {T : Type 0} (tell : Said ℕ → T) (card seats list was is : List ℕ) (a : T) : Type 0 where
   pub wrong-card : (number place : ℕ) → number ≤ wrongWeight → (a ≡ tell (refused number place)) ↔ (readOf card ≡ turned number place)
-  pub wrong-count : (place : ℕ) → (a ≡ tell (refused wrongSeats place)) ↔ ((c : Read card) × ((length seats ≡ c .0 .n → ⊥) × (place ≡ 0)))
-  pub wrong-seat : (place : ℕ) → (a ≡ tell (refused seatAboveTop place)) ↔ ((c : Read card) × ((length seats ≡ c .0 .n) × FirstAbove (c .0 .k) seats place))
+  pub wrong-count : (place : ℕ) → (a ≡ tell (refused wrongSeats place)) ↔ ((c : Read card) × ((length seats ≡ seatsDue (c .0) → ⊥) × (place ≡ 0)))
+  pub wrong-seat : (place : ℕ) → (a ≡ tell (refused seatAboveTop place)) ↔ ((c : Read card) × ((length seats ≡ seatsDue (c .0)) × FirstWrong (c .0) seats place))
   -- 13: the seats are a seating
-  pub wrong-list : (place : ℕ) → (a ≡ tell (refused wrongClasses place)) ↔ ((c : Read card) × (ValidSeating (c .0) seats × WrongClasses (c .0 .k) list place))
+  pub wrong-list : (place : ℕ) → (a ≡ tell (refused wrongClasses place)) ↔ ((c : Read card) × (Seated (c .0) seats × WrongClasses (c .0 .k) list place))
   -- 10 comes last: the list is a list for the card
   pub small-room : (place : ℕ) → (a ≡ tell (refused roomTooSmall place))
-      ↔ (Watched card seats list × (length was < length (watchOf list seats)) × (place ≡ length (watchOf list seats)))
+      ↔ ((w : Watched card seats list) × (length was < length (lineOf seats list (w .0 .0))) × (place ≡ length (lineOf seats list (w .0 .0))))
   -- else the line stands at the start of the room, and the bytes past it are as they were
   pub done : (long : ℕ) → (a ≡ tell (says long))
-      ↔ (Watched card seats list × (length (watchOf list seats) ≤ length was) × (long ≡ length (watchOf list seats)))
-  pub stands : Watched card seats list → length (watchOf list seats) ≤ length was → is ≡ onto (watchOf list seats) was
+      ↔ ((w : Watched card seats list) × (length (lineOf seats list (w .0 .0)) ≤ length was) × (long ≡ length (lineOf seats list (w .0 .0))))
+  pub stands : (w : Watched card seats list) → length (lineOf seats list (w .0 .0)) ≤ length was → is ≡ onto (lineOf seats list (w .0 .0)) was
   -- there is no other refusal, and none touches the room
   pub no-other : (number place : ℕ) → a ≡ tell (refused number place) → (number ≤ roomTooSmall) ⊎ (number ≡ wrongClasses)
   pub untouched : (number place : ℕ) → a ≡ tell (refused number place) → is ≡ was

@@ -1,62 +1,76 @@
 // The numbers of a panel, from the counts alone, part by part into one table that is lent ("Texts, byte for byte"): each statement's guard
-// is worked out once. The weights stand in it too (stored_weights).
+// is worked out once.
 use able_seats::able;
 use card::Head;
 use card::NONDETERMINISTIC;
 use card::limits::MOST_NODES;
+use card::limits::MOST_SHARED;
 use card::limits::MOST_STATEMENTS;
 use card::limits::MOST_STATES;
 use card::limits::NODE_PLACES;
 use card::limits::ROW;
 use card::limits::ROW_PLACES;
 ghost use mathlib.Core.Path.{_≡_};
-ghost use Prim.Native.Nat.{_≤_};
-ghost use lib.ListN.{getD};
-ghost use Rattle.card.specs.Limits.{mostStates, mostStatements};
+ghost use Prim.Native.Nat.{_+_, _≤_};
+ghost use lib.ListN.{length, getD};
+ghost use Rattle.card.specs.Limits.{mostStatements};
 ghost use Rattle.card.specs.Card.{nondeterministic, probabilistic};
 ghost use Rattle.card.specs.Laid.{either};
-ghost use Rattle.panel_numbers.specs.Table.{over, ablesFrom, ableAt, countsAs, takenIn, stayIn};
-ghost use Rattle.panel_numbers.specs.Fitting.{FewAble, Light};
+ghost use Rattle.meaning.specs.Position.{position};
+ghost use Rattle.panel_numbers.specs.Table.{tablePlaces, over, ablesFrom, ableAt, countsAs, takenIn};
+ghost use Rattle.panel_numbers.specs.Fitting.{FewAble};
 
-// The counts stand first; then the number of enabled, the weight of no change, how many seats are able to take each statement, and on a
-// probabilistic card a row of weights for each old state (panel_numbers/specs/Table.antt).
-pub const ENABLED: usize = MOST_STATES;
+// The counts stand first; then the shared number, the number of enabled, the weights of no change by what the shared number becomes, and
+// how many seats are able to take each statement (panel_numbers/specs/Table.antt).
+pub const SHARED: usize = MOST_STATES;
 
-pub const STAY: usize = ENABLED + 1;
+pub const ENABLED: usize = SHARED + 1;
 
-pub const ABLES: usize = STAY + 1;
+pub const STAYS: usize = ENABLED + 1;
 
-pub const WEIGHTS: usize = ABLES + MOST_STATEMENTS;
+pub const ABLES: usize = STAYS + MOST_SHARED;
 
-pub const TABLE_PLACES: usize = WEIGHTS + MOST_STATES * MOST_STATES;
+pub const TABLE_PLACES: usize = ABLES + MOST_STATEMENTS;
 
-pub fn store_counts(table: &mut [usize; TABLE_PLACES], counts: &[usize; MOST_STATES])
-    ensures { λ r. ⌜ now (table .exit) ≡ over 0 mostStates (λ d. getD (now (counts .entry)) d 0) (now (table .entry)) ⌝ }
+// Numbers one after the other, from a place on.
+pub fn store(table: &mut [usize; TABLE_PLACES], from: usize, numbers: &[usize])
+    requires { ⌜ from + length (now numbers) ≤ tablePlaces ⌝ }
+    ensures { λ r. ⌜ now (table .exit) ≡ over from (length (now (numbers .entry))) (λ d. getD (now (numbers .entry)) d 0) (now (table .entry)) ⌝ }
 {
     let mut d = 0;
-    while d < MOST_STATES {
-        table[d] = counts[d];
+    while d < numbers.len() {
+        let at = from + d;
+        table[at] = numbers[d];
         d += 1;
     }
 }
 
-// How many of the seats are able to take each statement, at counts.
+// How many of the seats are able to take each statement, at counts and the shared number beside them.
 pub fn store_ables<'a>(
     table: &mut [usize; TABLE_PLACES],
     head: Head,
     rows: &'a [usize; ROW_PLACES],
     nodes: &'a [u32; NODE_PLACES],
     counts: &'a [usize],
+    shared: usize,
 )
     requires { ⌜ head .count ≤ mostStatements ⌝ }
-    ensures { λ r. ⌜ now (table .exit) ≡ over ablesFrom (head .count) (ableAt (head .seats) (now (counts .entry)) (now (nodes .entry)) (now (rows .entry))) (now (table .entry)) ⌝ }
+    ensures { λ r. ⌜ now (table .exit) ≡ over ablesFrom (head .count) (ableAt (head .seats) (position (now (counts .entry)) shared) (now (nodes .entry)) (now (rows .entry))) (now (table .entry)) ⌝ }
 {
     let n = head.seats;
     let count = head.count;
     let mut i = 0;
     while i < count {
         let from = i * ROW;
-        let able = able(nodes, i * MOST_NODES, rows[from + 1], rows[from], n, counts);
+        let able = able(
+            nodes,
+            i * MOST_NODES,
+            rows[from + 1],
+            rows[from],
+            n,
+            counts,
+            shared,
+        );
         let at = ABLES + i;
         table[at] = able;
         i += 1;
@@ -89,19 +103,4 @@ pub fn taken_of(mode: usize, table: &[usize; TABLE_PLACES], count: usize) -> usi
         i += 1;
     }
     taken
-}
-
-// The weight of no change.
-pub fn stay_of(table: &[usize; TABLE_PLACES]) -> usize
-    requires { ⌜ Light (now table) ⌝ }
-    ensures { λ r. ⌜ r ≡ stayIn (now (table .entry)) ⌝ }
-{
-    let mut stay = 0;
-    let mut a = 0;
-    while a < MOST_STATES {
-        let at = WEIGHTS + a * MOST_STATES + a;
-        stay = stay + table[at];
-        a += 1;
-    }
-    stay
 }

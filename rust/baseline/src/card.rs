@@ -36,13 +36,40 @@ pub struct Group {
     pub state: u8,
 }
 
+/// The number that all seats share, as a card declares it.
+#[derive(Clone, Copy, PartialEq, Eq, Debug)]
+pub struct Shared {
+    /// Its highest value.
+    pub top: u8,
+    /// The value that it starts with.
+    pub start: u8,
+}
+
+/// A test of the shared number.
+#[derive(Clone, Copy, PartialEq, Eq, Debug)]
+pub struct SharedTest {
+    /// It says `!=`; otherwise `=`.
+    pub differs: bool,
+    /// The value that it names.
+    pub value: u8,
+}
+
+impl SharedTest {
+    #[inline(always)]
+    pub(crate) fn holds(self, shared: u8) -> bool {
+        (shared == self.value) != self.differs
+    }
+}
+
 /// A node of a guard. The nodes of one guard stand in a row, operands before
 /// what joins them, so that the last is the root, and the operand of a `!` and
 /// the right operand of a joining sign stand directly before it.
 #[derive(Clone, Copy, PartialEq, Eq, Debug)]
 pub enum Node<Leaf = Group> {
-    /// A leaf.
+    /// A leaf that speaks of seats.
     Group(Leaf),
+    /// A leaf that speaks of the shared number.
+    Shared(SharedTest),
     /// The node before it, negated.
     Not,
     /// Two nodes joined by `&`.
@@ -64,6 +91,25 @@ pub struct Branch {
     pub units: u32,
     /// The acting seat's next state.
     pub end: u8,
+    /// What the shared number is set to, if the branch sets it.
+    pub shared: Option<u8>,
+}
+
+impl Branch {
+    /// The shared number behind this branch.
+    #[inline(always)]
+    pub(crate) fn shared_after(&self, before: u8) -> u8 {
+        self.shared.unwrap_or(before)
+    }
+}
+
+/// A seating as far as steps depend on it: no seat is told from another.
+#[derive(Clone, Copy)]
+pub(crate) struct Situation {
+    /// How many seats are in each state.
+    pub(crate) counts: [u8; STATES],
+    /// The shared number, and 0 where the card has none.
+    pub(crate) shared: u8,
 }
 
 /// A statement; its guard and its branches lie in the card's common arrays.
@@ -85,6 +131,7 @@ pub struct Card {
     pub(crate) seats: u8,
     pub(crate) top: u8,
     pub(crate) start: u8,
+    pub(crate) shared: Option<Shared>,
     pub(crate) statement_count: u8,
     pub(crate) statements: [Statement; STATEMENTS],
     pub(crate) nodes: [Node; STATEMENTS * NODES],
@@ -98,6 +145,7 @@ impl Card {
         seats: 0,
         top: 0,
         start: 0,
+        shared: None,
         statement_count: 0,
         statements: [Statement {
             own: 0,
@@ -112,7 +160,11 @@ impl Card {
             differs: false,
             state: 0,
         }); STATEMENTS * NODES],
-        branches: [Branch { units: 0, end: 0 }; STATEMENTS * BRANCHES],
+        branches: [Branch {
+            units: 0,
+            end: 0,
+            shared: None,
+        }; STATEMENTS * BRANCHES],
     };
 
     /// The card's mode.
@@ -135,6 +187,11 @@ impl Card {
         self.start
     }
 
+    /// The shared number, if the card declares it.
+    pub fn shared(&self) -> Option<Shared> {
+        self.shared
+    }
+
     /// The statements, in the card's order.
     pub fn statements(&self) -> &[Statement] {
         &self.statements[..usize::from(self.statement_count)]
@@ -152,8 +209,13 @@ impl Card {
         &self.branches[from..from + usize::from(statement.branches_len)]
     }
 
-    /// How many seats of a seating are in each state.
-    pub(crate) fn counts(&self, seats: &[u8]) -> Result<[u8; STATES], Refusal> {
+    /// What a seating comes to: a byte for each seat, and behind them the shared number's where the card has it.
+    pub(crate) fn situation(&self, seating: &[u8]) -> Result<Situation, Refusal> {
+        let (seats, shared) = match (self.shared, seating) {
+            (None, seats) => (seats, 0),
+            (Some(_), [seats @ .., shared]) => (seats, *shared),
+            (Some(_), []) => return Err(Refusal::new(SEAT_COUNT, 0)),
+        };
         if seats.len() != self.seats() {
             return Err(Refusal::new(SEAT_COUNT, 0));
         }
@@ -164,14 +226,17 @@ impl Card {
             }
             counts[usize::from(state)] += 1;
         }
-        Ok(counts)
+        if shared > self.shared.map_or(0, |shared| shared.top) {
+            return Err(Refusal::new(SEAT_STATE, seats.len()));
+        }
+        Ok(Situation { counts, shared })
     }
 
-    /// Whether some seat may take a statement, at some counts.
+    /// Whether some seat may take a statement.
     #[inline(always)]
-    pub(crate) fn may_be_taken(&self, statement: &Statement, counts: &[u8; STATES]) -> bool {
-        counts[usize::from(statement.own)] > 0
-            && guard_holds(self.guard(statement), statement.own, self.seats, counts)
+    pub(crate) fn may_be_taken(&self, statement: &Statement, situation: &Situation) -> bool {
+        situation.counts[usize::from(statement.own)] > 0
+            && guard_holds(self.guard(statement), statement.own, self.seats, situation)
     }
 
     /// How many guard nodes there are on the whole card.
@@ -195,7 +260,7 @@ impl Card {
 /// fixes its tree and the other way round, so rows are compared.
 impl PartialEq for Card {
     fn eq(&self, other: &Card) -> bool {
-        let heads = |card: &Card| (card.mode, card.seats, card.top, card.start);
+        let heads = |card: &Card| (card.mode, card.seats, card.top, card.start, card.shared);
         heads(self) == heads(other)
             && self.statement_count == other.statement_count
             && self

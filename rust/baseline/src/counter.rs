@@ -1,6 +1,6 @@
 //! The table of the chapter "What a card means": from groups to counter tests.
 
-use crate::card::{Group, Node};
+use crate::card::{Group, Node, Situation};
 
 /// How a counter is compared with a number.
 #[derive(Clone, Copy, PartialEq, Eq, Debug)]
@@ -48,26 +48,32 @@ impl CounterTest {
     }
 }
 
-/// Whether a translated guard holds at some counts.
+/// Whether a translated guard holds.
 #[inline]
-pub(crate) fn guard_holds(guard: &[Node], own: u8, seats: u8, counts: &[u8]) -> bool {
-    row_holds(guard, |group| {
+pub(crate) fn guard_holds(guard: &[Node], own: u8, seats: u8, at: &Situation) -> bool {
+    row_holds(guard, at.shared, |group| {
         let test = CounterTest::of_group(group, own, seats);
-        test.holds(counts[usize::from(group.state)])
+        test.holds(at.counts[usize::from(group.state)])
     })
 }
 
-/// Whether a row of nodes holds, given what its leaves do. The nodes stand
-/// operands first, so one pass with a stack of bits does it; there are at most
-/// as many values waiting as there are nodes.
+/// Whether a row of nodes holds, given the shared number and what the leaves
+/// that speak of seats do. The nodes stand operands first, so one pass with a
+/// stack of bits does it; there are at most as many values waiting as there are
+/// nodes.
 #[inline(always)]
-pub(crate) fn row_holds<Leaf: Copy>(row: &[Node<Leaf>], holds: impl Fn(Leaf) -> bool) -> bool {
+pub(crate) fn row_holds<Leaf: Copy>(
+    row: &[Node<Leaf>],
+    shared: u8,
+    holds: impl Fn(Leaf) -> bool,
+) -> bool {
     const { assert!(crate::limits::NODES <= 64) };
     // No node at all holds.
     let mut waiting: u64 = 1;
     for node in row {
         match *node {
             Node::Group(leaf) => waiting = waiting << 1 | u64::from(holds(leaf)),
+            Node::Shared(test) => waiting = waiting << 1 | u64::from(test.holds(shared)),
             Node::Not => waiting ^= 1,
             Node::And { .. } => waiting = waiting >> 1 & (waiting | !1),
             Node::Or { .. } => waiting = waiting >> 1 | waiting & 1,
@@ -80,6 +86,7 @@ pub(crate) fn row_holds<Leaf: Copy>(row: &[Node<Leaf>], holds: impl Fn(Leaf) -> 
 mod tests {
     use super::Comparison::*;
     use super::*;
+    use crate::card::SharedTest;
 
     /// The twelve places of the table, for a table of five seats.
     #[test]
@@ -119,7 +126,11 @@ mod tests {
             })
         };
         let (yes, no) = (at_zero(false), at_zero(true));
-        let holds = |nodes: &[Node]| guard_holds(nodes, 0, 1, &[1]);
+        let alone = Situation {
+            counts: [1, 0, 0, 0, 0, 0, 0, 0],
+            shared: 0,
+        };
+        let holds = |nodes: &[Node]| guard_holds(nodes, 0, 1, &alone);
         assert!(holds(&[]));
         assert!(holds(&[yes]));
         assert!(!holds(&[no]));
@@ -139,6 +150,24 @@ mod tests {
                 Node::And { left: 0 },
             ];
             assert_eq!(holds(&deep), !either);
+        }
+    }
+
+    #[test]
+    fn tests_of_the_shared_number() {
+        for value in 0..8 {
+            for shared in 0..8 {
+                let at = Situation {
+                    counts: [0; 8],
+                    shared,
+                };
+                for differs in [false, true] {
+                    let test = Node::Shared(SharedTest { differs, value });
+                    let holds = (shared == value) ^ differs;
+                    assert_eq!(guard_holds(&[test], 0, 1, &at), holds);
+                    assert_eq!(guard_holds(&[test, Node::Not], 0, 1, &at), !holds);
+                }
+            }
         }
     }
 }

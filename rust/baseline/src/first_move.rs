@@ -9,8 +9,8 @@ use crate::refusal::Refusal;
 pub fn first_move(card: &[u8], seats: &[u8]) -> Result<Option<usize>, Refusal> {
     let mut read = Card::BLANK;
     read_into(card, &mut read)?;
-    let counts = read.counts(seats)?;
+    let situation = read.situation(seats)?;
     let mut statements = read.statements().iter();
-    let first = statements.position(|statement| read.may_be_taken(statement, &counts));
+    let first = statements.position(|statement| read.may_be_taken(statement, &situation));
     Ok(first.map(|place| place + 1))
 }

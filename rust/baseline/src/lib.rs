@@ -4,7 +4,8 @@
 //! cards are found in decks, a table where nobody can move has a step, a
 //! spectator sees how many seats are in each public class, weights may be
 //! elevenths, one may ask whether anyone can move, and how likely a question
-//! becomes true within some steps, and damaged decks are mended.
+//! becomes true within some steps, damaged decks are mended, and a card may
+//! have a number that all seats share.
 //!
 //! It was written from the documents alone, so that a slip in it and a slip in
 //! the verified library are unlikely to be the same one; `compare` runs both on
@@ -44,7 +45,7 @@ mod text;
 mod watch;
 mod write;
 
-pub use card::{Branch, Card, Group, Mode, Node, Statement};
+pub use card::{Branch, Card, Group, Mode, Node, Shared, SharedTest, Statement};
 pub use deck::{find, find_with, judge_deck, locate, locate_with, write_deck, Part};
 pub use first_move::first_move;
 pub use mend::{mend, mend_into, Mended};

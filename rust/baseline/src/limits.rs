@@ -10,6 +10,10 @@ pub const SEATS: usize = 16;
 pub const TOP_STATE: usize = 7;
 /// How many states there are at most.
 pub const STATES: usize = TOP_STATE + 1;
+/// Highest top of the shared number; the lowest is zero.
+pub const SHARED_TOP: usize = 7;
+/// How many values the shared number has at most.
+pub const SHARED_VALUES: usize = SHARED_TOP + 1;
 /// How many public classes there are.
 pub const CLASSES: usize = 8;
 /// Most statements on a card; the least is one.
@@ -30,7 +34,7 @@ pub const WORD_DIGITS: usize = 5;
 pub const WEIGHT_FURTHER_DIGITS: usize = 2;
 /// A weight of one, in the units in which weights are held.
 pub const UNIT: u32 = 277_200;
-/// Most count vectors of a table whose odds are reckoned, which is also how long a lent row is.
+/// Most count vectors of a table whose odds are reckoned, with a shared number most pairs of a vector and its value; and how long a lent row is.
 pub const VECTORS: usize = 512;
 /// Most steps of odds.
 pub const ODDS_STEPS: usize = 32;

@@ -1,10 +1,10 @@
 //! Questions about a seating: whether something holds at the table, yes or no.
 
-use crate::card::{Card, Node};
+use crate::card::{Card, Node, SharedTest, Situation};
 use crate::counter::{row_holds, Comparison, CounterTest};
 use crate::expression::{Expressions, SeatSet, SpelledGroup};
-use crate::limits::{NODES, QUESTION_BYTES, STATES};
-use crate::read::{read_into, Late};
+use crate::limits::{NODES, QUESTION_BYTES};
+use crate::read::{read_into, Late, SHARED_NAME};
 use crate::refusal::{Refusal, OF_QUESTION, STATE, TOO_LONG, WORD};
 use crate::scan::{Fits, Scanner, Stop};
 
@@ -13,8 +13,8 @@ pub fn ask(card: &[u8], question: &[u8], seats: &[u8]) -> Result<bool, Refusal> 
     let mut read = Card::BLANK;
     read_into(card, &mut read)?;
     let question = Question::read_for(question, &read)?;
-    let counts = read.counts(seats)?;
-    Ok(question.holds(&counts))
+    let situation = read.situation(seats)?;
+    Ok(question.holds(&situation))
 }
 
 /// A group of a question: how many seats are in one state.
@@ -58,9 +58,9 @@ impl Question {
         }
     }
 
-    pub(crate) fn holds(&self, counts: &[u8; STATES]) -> bool {
-        row_holds(&self.nodes[..self.length], |asked| {
-            asked.test.holds(counts[usize::from(asked.state)])
+    pub(crate) fn holds(&self, at: &Situation) -> bool {
+        row_holds(&self.nodes[..self.length], at.shared, |asked| {
+            asked.test.holds(at.counts[usize::from(asked.state)])
         })
     }
 }
@@ -103,6 +103,12 @@ impl<'a> Expressions<'a> for Reader<'a, '_> {
             self.meet_node(bracket)?;
             return self.group(bracket, seat);
         }
+        if let Some(shared) = self.card.shared {
+            if self.scan.takes_keyword(SHARED_NAME) {
+                self.meet_node(bracket)?;
+                return self.shared_test(shared.top);
+            }
+        }
         // Only one term is looked at in advance, and only at the bracket before
         // its own, so that nothing is read more than twice.
         let mut behind_term = self.scan;
@@ -137,6 +143,19 @@ impl Reader<'_, '_> {
         // Of everyone it does not matter who asks.
         let test = CounterTest::of_group(group, 0, self.card.seats);
         self.store_test(spelled.state, spelled.state_mark, test);
+        Ok(())
+    }
+
+    /// A test of the shared number, from behind its name on.
+    fn shared_test(&mut self, top: u8) -> Fits<()> {
+        let differs = self.scan.relation()?;
+        let value = self.scan.number()?;
+        if value > top.into() {
+            self.late.note(STATE, self.scan.mark());
+        }
+        self.scan.sign(b')')?;
+        let value = value as u8;
+        self.store(Node::Shared(SharedTest { differs, value }));
         Ok(())
     }
 

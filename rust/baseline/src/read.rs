@@ -1,13 +1,16 @@
 //! From marks to a card: the shape, the limits, and what is judged later.
 
 use crate::card::{
-    units_of_decimal, units_of_fraction, units_of_number, Branch, Card, Group, Mode, Node,
-    Statement,
+    units_of_decimal, units_of_fraction, units_of_number, Branch, Card, Group, Mode, Node, Shared,
+    SharedTest, Statement,
 };
 use crate::expression::{Expressions, SpelledGroup};
-use crate::limits::{BRANCHES, CARD_BYTES, NODES, SEATS, STATEMENTS, TOP_STATE, UNIT};
+use crate::limits::{BRANCHES, CARD_BYTES, NODES, SEATS, SHARED_TOP, STATEMENTS, TOP_STATE, UNIT};
 use crate::refusal::{Refusal, STATE, TOO_LONG, WEIGHT, WORD};
 use crate::scan::{Fits, Scanner, Spelled, Stop};
+
+/// What the shared number is called, on every card.
+pub(crate) const SHARED_NAME: &[u8] = b"g";
 
 /// Reads a card.
 pub fn judge(card: &[u8]) -> Result<Card, Refusal> {
@@ -137,6 +140,10 @@ impl<'a> Expressions<'a> for Reader<'a, '_> {
                 self.meet_node(bracket)?;
                 self.group(bracket, seat)
             }
+            Err(_) if self.names_shared() => {
+                self.meet_node(bracket)?;
+                self.shared_test()
+            }
             Err(_) => self.nested(bracket, depth),
         }
     }
@@ -150,9 +157,12 @@ impl Reader<'_, '_> {
             self.scan.keyword(b"probabilistic")?;
             Mode::Probabilistic
         };
+        if self.scan.takes_keyword(b"global") {
+            self.shared_declaration()?;
+        }
         self.scan.keyword(b"module")?;
         self.due_module(1)?;
-        self.range()?;
+        self.states()?;
         let mut statements = 0;
         while self.scan.peek() == b'[' {
             if statements == STATEMENTS {
@@ -174,9 +184,25 @@ impl Reader<'_, '_> {
         Ok(())
     }
 
+    /// `g : [0..m] init v;`, behind `global`.
+    fn shared_declaration(&mut self) -> Fits<()> {
+        self.scan.keyword(SHARED_NAME)?;
+        let top = self.range(SHARED_TOP)?;
+        let start = self.number_up_to(top)?;
+        self.card.shared = Some(Shared { top, start });
+        self.scan.sign(b';')
+    }
+
     /// `s1 : [0..k] init l;`
-    fn range(&mut self) -> Fits<()> {
+    fn states(&mut self) -> Fits<()> {
         self.due_seat(1)?;
+        self.card.top = self.range(TOP_STATE)?;
+        self.card.start = self.state()?;
+        self.scan.sign(b';')
+    }
+
+    /// `: [0..top] init`, with a top that is not too high.
+    fn range(&mut self, highest: usize) -> Fits<u8> {
         self.scan.sign(b':')?;
         self.scan.sign(b'[')?;
         if self.scan.number()? != 0 {
@@ -185,15 +211,13 @@ impl Reader<'_, '_> {
         }
         self.scan.long_sign(*b"..")?;
         let top = self.scan.number()?;
-        if top > TOP_STATE as u32 {
+        if top > highest as u32 {
             self.scan.back_to(self.scan.mark());
             return Err(Stop::Limit);
         }
-        self.card.top = top as u8;
         self.scan.sign(b']')?;
         self.scan.keyword(b"init")?;
-        self.card.start = self.state()?;
-        self.scan.sign(b';')
+        Ok(top as u8)
     }
 
     /// The modules behind the first; gives the number of all.
@@ -238,20 +262,36 @@ impl Reader<'_, '_> {
         Ok(())
     }
 
-    /// A state. Its high bits are lost only where the card is refused anyway.
     #[inline(always)]
     fn state(&mut self) -> Fits<u8> {
-        let state = self.scan.number()?;
-        self.note_state(state, self.scan.mark());
-        Ok(state as u8)
+        self.number_up_to(self.card.top)
     }
 
-    /// Notes a number that lies above the top state.
+    /// A number that is judged late. Its high bits are lost only where the card is refused anyway.
     #[inline(always)]
-    fn note_state(&mut self, state: u32, mark: usize) {
-        if state > u32::from(self.card.top) {
+    fn number_up_to(&mut self, top: u8) -> Fits<u8> {
+        let number = self.scan.number()?;
+        self.note_above(number, top, self.scan.mark());
+        Ok(number as u8)
+    }
+
+    /// Notes a number that lies above the highest.
+    #[inline(always)]
+    fn note_above(&mut self, number: u32, top: u8, mark: usize) {
+        if number > u32::from(top) {
             self.late.note(STATE, mark);
         }
+    }
+
+    /// Takes the shared number's name, which is a word like any other on a card without it.
+    #[inline(always)]
+    fn names_shared(&mut self) -> bool {
+        self.card.shared.is_some() && self.scan.takes_keyword(SHARED_NAME)
+    }
+
+    /// A value of the shared number, on a card that has it.
+    fn shared_value(&mut self) -> Fits<u8> {
+        self.number_up_to(self.card.shared.map_or(0, |shared| shared.top))
     }
 
     /// A statement, from its first bracket on.
@@ -288,12 +328,21 @@ impl Reader<'_, '_> {
     /// A group, from behind its first seat word on.
     fn group(&mut self, bracket: usize, first_seat: u32) -> Fits<()> {
         let spelled = SpelledGroup::taken(&mut self.scan, first_seat)?;
-        self.note_state(spelled.state, spelled.state_mark);
+        self.note_above(spelled.state, self.card.top, spelled.state_mark);
         match spelled.wanted {
             Some(wanted) => self.wanted.note(wanted, bracket),
             None => self.late.note(WORD, bracket),
         }
         self.store(Node::Group(spelled.group));
+        Ok(())
+    }
+
+    /// A test of the shared number, from behind its name on.
+    fn shared_test(&mut self) -> Fits<()> {
+        let differs = self.scan.relation()?;
+        let value = self.shared_value()?;
+        self.scan.sign(b')')?;
+        self.store(Node::Shared(SharedTest { differs, value }));
         Ok(())
     }
 
@@ -309,9 +358,7 @@ impl Reader<'_, '_> {
                     Stop::Shape
                 });
             }
-            let branch = self.branch()?;
-            sum += branch.units;
-            self.card.branches[self.next_branch] = branch;
+            sum += self.branch()?;
             self.next_branch += 1;
             if self.scan.takes(b';') {
                 break;
@@ -324,8 +371,8 @@ impl Reader<'_, '_> {
         Ok(())
     }
 
-    /// `weight:(s1'=t)`
-    fn branch(&mut self) -> Fits<Branch> {
+    /// `weight:(s1'=t)`, with `& (g'=v)` behind it on a card that shares a number; gives its units.
+    fn branch(&mut self) -> Fits<u32> {
         self.scan.peek();
         let place = self.scan.mark();
         let units = match self.scan.weight()? {
@@ -347,9 +394,26 @@ impl Reader<'_, '_> {
         self.scan.sign(b'=')?;
         let end = self.state()?;
         self.scan.sign(b')')?;
-        Ok(Branch {
-            units: units.unwrap_or(0),
+        let units = units.unwrap_or(0);
+        self.card.branches[self.next_branch] = Branch {
+            units,
             end,
-        })
+            shared: None,
+        };
+        if self.card.shared.is_some() && self.scan.takes(b'&') {
+            self.card.branches[self.next_branch].shared = Some(self.shared_update()?);
+        }
+        Ok(units)
+    }
+
+    /// `(g'=v)`
+    fn shared_update(&mut self) -> Fits<u8> {
+        self.scan.sign(b'(')?;
+        self.scan.keyword(SHARED_NAME)?;
+        self.scan.sign(b'\'')?;
+        self.scan.sign(b'=')?;
+        let value = self.shared_value()?;
+        self.scan.sign(b')')?;
+        Ok(value)
     }
 }

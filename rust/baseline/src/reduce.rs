@@ -5,7 +5,7 @@ use crate::counter::{Comparison, CounterTest};
 use crate::limits::STATES;
 use crate::read::read_into;
 use crate::refusal::Refusal;
-use crate::text::{print_into, Print, Text, WEIGHT_MOST};
+use crate::text::{print_into, Print, Text, DECLARATION, SHARED_UPDATE, WEIGHT_MOST};
 
 /// Writes the reduced text of a card into a lent room.
 pub fn reduce(card: &[u8], room: &mut [u8]) -> Result<usize, Refusal> {
@@ -23,17 +23,20 @@ impl Print for Reduced<'_> {
         const STATEMENT: usize = "[] (no_7>15) &  -> ;\n".len();
         // Of all nodes a test is the longest.
         const NODE: usize = "(no_7=16)".len();
-        const BRANCH: usize = " + :(no_7'=no_7-1) & (no_7'=min(no_7+1,16))".len() + WEIGHT_MOST;
+        const BRANCH: usize =
+            " + :(no_7'=no_7-1) & (no_7'=min(no_7+1,16))".len() + SHARED_UPDATE + WEIGHT_MOST;
         let once = self.0.statements().len() * STATEMENT
             + self.0.all_nodes() * NODE
             + self.0.all_branches() * BRANCH;
-        FRAME + STATES * COUNTER + usize::from(self.copies()) * once
+        FRAME + DECLARATION + STATES * COUNTER + usize::from(self.copies()) * once
     }
 
     fn print<T: Text>(&self, text: &mut T) {
         let card = self.0;
         text.bytes(card.mode.word().as_bytes());
-        text.bytes(b"\nmodule generic_process\n");
+        text.byte(b'\n');
+        text.declaration(card.shared);
+        text.bytes(b"module generic_process\n");
         for state in 0..=card.top {
             counter(state, text);
             text.bytes(b" : [0..");
@@ -97,6 +100,7 @@ impl Reduced<'_> {
                 let test = CounterTest::of_group(group, own, self.0.seats);
                 return counter_test(group.state, test, text);
             }
+            Node::Shared(test) => return text.shared_test(test),
             Node::Not => {
                 text.byte(b'!');
                 return self.node(below, own, text);
@@ -113,17 +117,31 @@ impl Reduced<'_> {
 
     fn branch<T: Text>(&self, branch: Branch, own: u8, text: &mut T) {
         text.weight(branch.units);
-        if branch.end == own {
-            return text.bytes(b":true");
+        text.byte(b':');
+        let moves = branch.end != own;
+        if moves {
+            self.seat_moves(branch.end, own, text);
         }
-        text.bytes(b":(");
+        match branch.shared {
+            Some(value) => {
+                text.bytes(if moves { &b" & "[..] } else { b"" });
+                text.shared_update(value);
+            }
+            None if moves => {}
+            None => text.bytes(b"true"),
+        }
+    }
+
+    /// One seat more in a state, and one less where it was.
+    fn seat_moves<T: Text>(&self, end: u8, own: u8, text: &mut T) {
+        text.byte(b'(');
         counter(own, text);
         text.bytes(b"'=");
         counter(own, text);
         text.bytes(b"-1) & (");
-        counter(branch.end, text);
+        counter(end, text);
         text.bytes(b"'=min(");
-        counter(branch.end, text);
+        counter(end, text);
         text.bytes(b"+1,");
         text.number(self.0.seats.into());
         text.bytes(b"))");

@@ -7,7 +7,7 @@ use std::fmt;
 pub struct Refusal {
     /// One of the numbers below.
     pub number: u8,
-    /// A byte of the card, the question or a deck, a seat, a state, or a length, depending on the number.
+    /// A byte of the card, the question or a deck, a place in the seating, a state, or a length, depending on the number.
     pub place: usize,
 }
 
@@ -17,17 +17,17 @@ pub const TOO_LONG: u8 = 1;
 pub const OUTSIDE: u8 = 2;
 /// A mark does not continue the shape.
 pub const SHAPE: u8 = 3;
-/// A limit is passed.
+/// A limit is passed, the shared number's highest value included.
 pub const LIMIT: u8 = 4;
-/// A state lies above the top state.
+/// A state lies above the top state, or a value of the shared number above its highest.
 pub const STATE: u8 = 5;
 /// A word is not the one due, or a group is not symmetric.
 pub const WORD: u8 = 6;
 /// A weight or a sum of weights is wrong.
 pub const WEIGHT: u8 = 7;
-/// The seating has not as many seats as the card.
+/// The seating has not a byte for each of the card's seats, and one more where the card shares a number.
 pub const SEAT_COUNT: u8 = 8;
-/// A seat's state lies above the top state.
+/// A seat's state lies above the top state, or the shared number above its highest value.
 pub const SEAT_STATE: u8 = 9;
 /// The text, the deck or the list does not fit into the room.
 pub const ROOM: u8 = 10;
@@ -39,7 +39,7 @@ pub const IN_EXPANSION: usize = 65_536;
 pub const NO_LIVE_CARD: u8 = 12;
 /// A list of classes has not one for each state, or has one above the highest.
 pub const CLASS_LIST: u8 = 13;
-/// More count vectors than odds are reckoned over.
+/// More count vectors, or pairs of one and a value of the shared number, than odds are reckoned over.
 pub const TOO_MANY_VECTORS: u8 = 14;
 /// More steps than odds are reckoned for.
 pub const STEPS: u8 = 15;

@@ -1,5 +1,6 @@
 //! Texts and the rooms that they are put into.
 
+use crate::card::{Shared, SharedTest};
 use crate::limits::UNIT;
 use crate::refusal::{Refusal, ROOM};
 
@@ -46,6 +47,28 @@ pub(crate) trait Text {
         self.bytes(&digits[from..]);
     }
 
+    /// The shared number's declaration, a line of its own, if there is one.
+    fn declaration(&mut self, shared: Option<Shared>) {
+        if let Some(Shared { top, start }) = shared {
+            self.bytes(b"global g : [0..");
+            self.digit(top);
+            self.bytes(b"] init ");
+            self.digit(start);
+            self.bytes(b";\n");
+        }
+    }
+
+    /// A test of the shared number.
+    fn shared_test(&mut self, SharedTest { differs, value }: SharedTest) {
+        self.bytes(if differs { &b"(g!="[..] } else { b"(g=" });
+        self.bytes(&[b'0' + value, b')']);
+    }
+
+    /// What a branch sets the shared number to.
+    fn shared_update(&mut self, value: u8) {
+        self.bytes(&[b'(', b'g', b'\'', b'=', b'0' + value, b')']);
+    }
+
     /// A weight, in lowest terms.
     fn weight(&mut self, units: u32) {
         if units == 0 || units == UNIT {
@@ -57,6 +80,10 @@ pub(crate) trait Text {
         self.number(UNIT / common);
     }
 }
+
+/// How long a declaration of the shared number is, and an update of it behind another one.
+pub(crate) const DECLARATION: usize = "global g : [0..7] init 7;\n".len();
+pub(crate) const SHARED_UPDATE: usize = " & (g'=7)".len();
 
 /// The longest weight.
 pub(crate) const WEIGHT_MOST: usize = "277199/277200".len();

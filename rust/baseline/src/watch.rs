@@ -10,7 +10,8 @@ use crate::text::{print_into, Print, Text};
 pub fn watch(card: &[u8], seats: &[u8], list: &[u8], room: &mut [u8]) -> Result<usize, Refusal> {
     let mut read = Card::BLANK;
     read_into(card, &mut read)?;
-    let counts = read.counts(seats)?;
+    // The shared number is judged with the seats, and not seen.
+    let counts = read.situation(seats)?.counts;
     print_into(&ClassCounts::new(&read, &counts, list)?, room)
 }
 

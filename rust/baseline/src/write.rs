@@ -3,7 +3,7 @@
 use crate::card::{Card, Group, Node, Statement};
 use crate::read::read_into;
 use crate::refusal::Refusal;
-use crate::text::{print_into, Print, Text, WEIGHT_MOST};
+use crate::text::{print_into, Print, Text, DECLARATION, SHARED_UPDATE, WEIGHT_MOST};
 
 /// Writes a card in its canonical form into a lent room.
 pub fn write(card: &[u8], room: &mut [u8]) -> Result<usize, Refusal> {
@@ -25,12 +25,13 @@ impl Print for Written<'_> {
             "nondeterministic\nmodule process1\ns1 : [0..7] init 7;\nendmodule\n".len();
         const MODULE: usize = "module process16 = process1 [s1=s16, s16=s1] endmodule\n".len();
         const STATEMENT: usize = "[] s1=7 &  -> ;\n".len();
-        const BRANCH: usize = " + :(s1'=7)".len() + WEIGHT_MOST;
+        const BRANCH: usize = " + :(s1'=7)".len() + SHARED_UPDATE + WEIGHT_MOST;
         const LITERAL: usize = " & s16!=7".len();
-        // A node without its literals: of all that there are a joined one in brackets is the longest.
+        // A node without its literals: of all that there are a joined one in brackets is the longest. A test of the shared number is shorter than that with one literal.
         const NODE: usize = "( & )".len();
         let seats = self.0.seats();
         FRAME
+            + DECLARATION
             + seats * MODULE
             + self.0.statements().len() * STATEMENT
             + self.0.all_nodes() * (NODE + seats * LITERAL)
@@ -40,7 +41,9 @@ impl Print for Written<'_> {
     fn print<T: Text>(&self, text: &mut T) {
         let card = self.0;
         text.bytes(card.mode.word().as_bytes());
-        text.bytes(b"\nmodule process1\ns1 : [0..");
+        text.byte(b'\n');
+        text.declaration(card.shared);
+        text.bytes(b"module process1\ns1 : [0..");
         text.digit(card.top);
         text.bytes(b"] init ");
         text.digit(card.start);
@@ -89,6 +92,10 @@ impl Written<'_> {
             text.weight(branch.units);
             text.bytes(b":(s1'=");
             text.bytes(&[b'0' + branch.end, b')']);
+            if let Some(value) = branch.shared {
+                text.bytes(b" & ");
+                text.shared_update(value);
+            }
         }
         text.bytes(b";\n");
     }
@@ -101,6 +108,7 @@ impl Written<'_> {
         };
         match *root {
             Node::Group(group) => self.group(group, text),
+            Node::Shared(test) => text.shared_test(test),
             Node::Not => {
                 text.byte(b'!');
                 self.node(below, Not, text);

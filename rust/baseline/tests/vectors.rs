@@ -1,4 +1,4 @@
-//! The stored cases of 2026-09, by the baseline alone. `rust/vectors` asks the library the same, and all stored cases of both.
+//! The stored cases of 2026-09 and 2026-10, by the baseline alone. `rust/vectors` asks the library the same, and all stored cases of both.
 
 #[allow(dead_code)]
 #[path = "../../vectors/src/stored.rs"]
@@ -6,10 +6,18 @@ mod stored;
 
 use std::collections::BTreeMap;
 
-use baseline::{mend, mend_into, Mended, Refusal};
+use baseline::{
+    ask, first_move, judge, mend, mend_into, odds, panel, reduce, watch, write, Aim, Mended,
+    Refusal,
+};
 use stored::{file, Answer, Cases};
 
 const UNTOUCHED: u8 = 0xa5;
+
+/// A number that is told in digits.
+fn told(digits: &[u8]) -> usize {
+    std::str::from_utf8(digits).unwrap().parse().unwrap()
+}
 
 #[test]
 fn mended_decks() {
@@ -22,10 +30,7 @@ fn mended_decks() {
         let [deck, room, list] = &pieces[..] else {
             panic!("case {number} is handed something else");
         };
-        let lent = |digits: &[u8]| {
-            let length = std::str::from_utf8(digits).unwrap().parse().unwrap();
-            vec![UNTOUCHED; length]
-        };
+        let lent = |digits: &[u8]| vec![UNTOUCHED; told(digits)];
         let (mut room, mut list) = (lent(room), lent(list));
         let (mut due_room, mut due_list) = (room.clone(), list.clone());
         let due = match answer {
@@ -50,4 +55,94 @@ fn mended_decks() {
     println!("{ends:?}");
     assert_eq!(ends.keys().copied().collect::<Vec<u8>>(), [0, 10, 11]);
     assert_eq!(ends.values().sum::<usize>(), cases.count());
+}
+
+/// How a call of 2026-10 ends, in the words of the stored answers; what is lent is held to be as it has to be afterwards.
+fn answered(entry: &str, pieces: &[Vec<u8>]) -> Result<Vec<u8>, Refusal> {
+    let pieces: Vec<&[u8]> = pieces.iter().map(Vec::as_slice).collect();
+    let in_room = |room: &[u8], entry: &dyn Fn(&mut [u8]) -> Result<usize, Refusal>| {
+        let mut lent = vec![UNTOUCHED; told(room)];
+        let answer = entry(&mut lent);
+        let length = *answer.as_ref().unwrap_or(&0);
+        assert!(lent[length..].iter().all(|byte| *byte == UNTOUCHED));
+        lent.truncate(length);
+        answer.map(|_| lent)
+    };
+    match (entry, &pieces[..]) {
+        ("read", [card]) => judge(card).map(|_| b"taken\n".to_vec()),
+        ("write", [card, room]) => in_room(room, &|room| write(card, room)),
+        ("reduce", [card, room]) => in_room(room, &|room| reduce(card, room)),
+        ("panel", [card, seats, room]) => in_room(room, &|room| panel(card, seats, room)),
+        ("spectator", [card, seats, list, room]) => {
+            in_room(room, &|room| watch(card, seats, list, room))
+        }
+        ("ask", [card, question, seats]) => ask(card, question, seats).map(|yes| match yes {
+            true => b"yes\n".to_vec(),
+            false => b"no\n".to_vec(),
+        }),
+        ("first_move", [card, seats]) => first_move(card, seats).map(|first| {
+            let words = first.map_or("none".to_owned(), |place| format!("statement {place}"));
+            format!("{words}\n").into_bytes()
+        }),
+        ("odds", [card, question, seats, steps, largest, rows @ ..]) => {
+            let aim = match *largest {
+                b"1" => Aim::Largest,
+                _ => Aim::Smallest,
+            };
+            let numbers = |row: &[u8]| -> Vec<u32> {
+                let (numbers, _) = row.as_chunks();
+                numbers
+                    .iter()
+                    .map(|bytes| u32::from_le_bytes(*bytes))
+                    .collect()
+            };
+            let before = [numbers(rows[0]), numbers(rows[1])];
+            let [mut first, mut second] = before.clone();
+            let steps = told(steps);
+            let chance = odds(card, question, seats, steps, aim, &mut first, &mut second);
+            let after = [first, second];
+            if chance.is_err() {
+                assert_eq!(after, before);
+            }
+            let row = |row: &Vec<u32>| {
+                let numbers: Vec<String> = row.iter().map(u32::to_string).collect();
+                format!("{}\n", numbers.join(" "))
+            };
+            let rows: String = after.iter().map(row).collect();
+            chance.map(|chance| format!("odds {chance}\n{rows}").into_bytes())
+        }
+        _ => panic!("{entry} is handed something else"),
+    }
+}
+
+#[test]
+fn day_and_night() {
+    const ENTRIES: [&str; 8] = [
+        "read",
+        "write",
+        "reduce",
+        "panel",
+        "spectator",
+        "ask",
+        "first_move",
+        "odds",
+    ];
+    let folder = concat!(env!("CARGO_MANIFEST_DIR"), "/../../vectors/requests");
+    let answers = file(format!("{folder}/2026-10.expected"));
+    let cases = Cases::new(&file(format!("{folder}/2026-10.cases")));
+    let mut ends = BTreeMap::new();
+    for (number, answer) in cases.answers(&answers).into_iter().enumerate() {
+        let call = |entry: &'static str| Some((entry, cases.call(number, entry)?));
+        let (entry, pieces) = ENTRIES.into_iter().find_map(call).expect("of one of these");
+        let due = match answer {
+            Answer::Refused(number, place) => Err(Refusal { number, place }),
+            Answer::Text(words) | Answer::Words(words) => Ok(words.to_vec()),
+        };
+        assert_eq!(answered(entry, &pieces), due, "case {number}, {entry}");
+        let end = due.map_or_else(|refusal| refusal.number, |_| 0);
+        *ends.entry((entry, end)).or_insert(0) += 1;
+    }
+    println!("{ends:?}");
+    assert_eq!(ends.values().sum::<usize>(), cases.count());
+    assert_eq!(cases.count(), 599);
 }

@@ -1,10 +1,11 @@
 //! The inputs on which the entries need most stack: guards and questions nested as deep as may be, behind as many operands
 //! as there may be nodes, with each refusal at their innermost; guards whose nodes hang on each other in the longest line;
-//! the largest cards and texts; and decks, sound and wrong in the last place, also with such cards in them.
+//! all of these also with a number that the seats share; the largest cards and texts; and decks, sound and wrong in the last
+//! place, also with such cards in them.
 
 use std::iter;
 
-use compare::extremes::extremes;
+use compare::extremes::{extremes, shared_extremes};
 use vectors::stored::base;
 
 use crate::{contents, deck, Case};
@@ -59,8 +60,9 @@ fn exactly_one(seats: usize) -> String {
     format!("({})", terms.join(" | "))
 }
 
-/// What stands innermost: what is taken, in a question also an exactly-one, and what gets each refusal.
-fn innermost(seats: usize, question: bool) -> Vec<String> {
+/// What stands innermost: what is taken, in a question also an exactly-one, with a shared number also tests of it, and what gets
+/// each refusal.
+fn innermost(seats: usize, question: bool, shared: bool) -> Vec<String> {
     let mut all = vec![
         everyone(seats, " & "),
         everyone(seats, "/* and */\t&\n// and\n "),
@@ -75,6 +77,24 @@ fn innermost(seats: usize, question: bool) -> Vec<String> {
         "(s1=0 & process16)".to_owned(),
         "(s1=0 & s2=0".to_owned(),
     ];
+    if shared {
+        let tests = [
+            "(g!=7)",
+            "(\tg // is\n =\n// one of\n 0 )",
+            "((g=0))",
+            "(g=8)",
+            "(g=999999)",
+            "(g=1234567)",
+            "(g=$)",
+            "(g'=0)",
+            "(g=0 & g=0)",
+            "(s1=0 & g=0)",
+            "(g=process16)",
+            "(g=0",
+            "(g",
+        ];
+        all.extend(tests.map(str::to_owned));
+    }
     if question {
         let one = exactly_one(seats);
         all.push(one.replace(" & ", "/* and */\t&\n// and\n "));
@@ -87,8 +107,11 @@ fn innermost(seats: usize, question: bool) -> Vec<String> {
 }
 
 /// All levels but the last are as wide as they come, which is past the most nodes where the last is too, or all are of one kind.
-fn nested(seats: usize, question: bool) -> Vec<String> {
-    let group = everyone(seats.min(2), " & ");
+fn nested(seats: usize, question: bool, shared: bool) -> Vec<String> {
+    let group = match shared {
+        true => "(g=0)".to_owned(),
+        false => everyone(seats.min(2), " & "),
+    };
     let runs = Level::ALL.into_iter().flat_map(|last| {
         let wide = iter::repeat_n(Level::Both, DEPTH - 1);
         [
@@ -99,7 +122,8 @@ fn nested(seats: usize, question: bool) -> Vec<String> {
     });
     runs.flat_map(|levels| {
         let group = &group;
-        innermost(seats, question).into_iter().map(move |inner| {
+        let inner = innermost(seats, question, shared).into_iter();
+        inner.map(move |inner| {
             let levels = levels.iter();
             let nested = levels.fold(inner, |inner, level| level.round(group, &inner));
             // a question may have a `|` outside of all brackets
@@ -115,8 +139,11 @@ fn nested(seats: usize, question: bool) -> Vec<String> {
 }
 
 /// As many nodes as there may be, each in the one before: `!` before the first operand, or before all of them.
-fn in_line(seats: usize) -> [String; 3] {
-    let group = everyone(seats, " & ");
+fn in_line(seats: usize, shared: bool) -> [String; 3] {
+    let group = match shared {
+        true => "(g!=7)".to_owned(),
+        false => everyone(seats, " & "),
+    };
     let joined = |count: usize, sign: &str| vec![group.clone(); count].join(sign);
     [
         format!("{}{}", "!".repeat(DEPTH), joined(12, " & ")),
@@ -125,9 +152,27 @@ fn in_line(seats: usize) -> [String; 3] {
     ]
 }
 
-/// A card with so many statements of one guard, the last as it is, the others without.
+/// A mode, with or without a shared number.
+fn head(mode: &str, shared: bool) -> String {
+    match shared {
+        true => format!("{mode}\nglobal g : [0..7] init 7;"),
+        false => mode.to_owned(),
+    }
+}
+
+/// A seating, all in one state, and with a shared number its value.
+fn seating(seats: usize, state: u8, shared: bool) -> Vec<u8> {
+    let mut seating = vec![state; seats];
+    seating.extend(shared.then_some(7));
+    seating
+}
+
+/// A card with so many statements of one guard, the last as it is, the others without. Where the mode declares a shared number every branch sets it.
 fn card(mode: &str, seats: usize, statements: usize, guard: &str, behind: &str) -> Vec<u8> {
-    let weights = "100003/277200:(s1'=1) + 100043/277200:(s1'=2) + 10009/277200:(s1'=3) + 10037/277200:(s1'=4) + 10039/277200:(s1'=5) + 10061/277200:(s1'=6) + 10067/277200:(s1'=7) + 26941/277200:(s1'=1)";
+    let mut weights = "100003/277200:(s1'=1) + 100043/277200:(s1'=2) + 10009/277200:(s1'=3) + 10037/277200:(s1'=4) + 10039/277200:(s1'=5) + 10061/277200:(s1'=6) + 10067/277200:(s1'=7) + 26941/277200:(s1'=1)".to_owned();
+    if mode.contains("global") {
+        weights = weights.replace(')', ") & (g'=7)");
+    }
     let plain = format!("[] s1=0 -> {weights};\n").repeat(statements - 1);
     let further: String = (2..=seats)
         .map(|seat| format!("module process{seat} = process1 [s1=s{seat}, s{seat}=s1] endmodule\n"))
@@ -141,23 +186,21 @@ pub fn cards() -> Vec<Case> {
     for stored in base() {
         cases.push(Case::new(stored.card().to_vec(), stored.seats()));
     }
-    for extreme in extremes() {
+    for extreme in extremes().into_iter().chain(shared_extremes()) {
         cases.push(Case::new(extreme.input.card, extreme.input.seats));
     }
-    for seats in [2, 16] {
-        for guard in nested(seats, false) {
-            cases.push(Case::new(
-                card("probabilistic", seats, 1, &guard, ""),
-                vec![0; seats],
-            ));
+    for (seats, shared) in [(2, false), (16, false), (2, true), (16, true)] {
+        for guard in nested(seats, false, shared) {
+            let card = card(&head("probabilistic", shared), seats, 1, &guard, "");
+            cases.push(Case::new(card, seating(seats, 0, shared)));
         }
-        for guard in in_line(seats) {
+        for guard in in_line(seats, shared) {
             for mode in ["probabilistic", "nondeterministic"] {
                 for behind in ["", "endmodule", "$"] {
-                    let card = card(mode, seats, 32, &guard, behind);
-                    cases.push(Case::new(card.clone(), vec![0; seats]));
-                    cases.push(Case::new(card.clone(), vec![8; seats]));
-                    cases.push(Case::new(card, vec![0; seats + 1]));
+                    let card = card(&head(mode, shared), seats, 32, &guard, behind);
+                    cases.push(Case::new(card.clone(), seating(seats, 0, shared)));
+                    cases.push(Case::new(card.clone(), seating(seats, 8, shared)));
+                    cases.push(Case::new(card, vec![0; seats + 3]));
                 }
             }
         }
@@ -190,19 +233,23 @@ pub fn questions() -> Vec<Case> {
         ..Case::new(card, seats)
     };
     let mut cases = Vec::new();
-    for seats in [2, 16] {
+    for (seats, shared) in [(2, false), (16, false), (2, true), (16, true)] {
         let group = everyone(seats, " & ");
-        let plain = card("probabilistic", seats, 1, &group, "");
-        for question in nested(seats, true).into_iter().chain(in_line(seats)) {
-            cases.push(asked(question, plain.clone(), vec![0; seats]));
+        let mode = head("probabilistic", shared);
+        let plain = card(&mode, seats, 1, &group, "");
+        let right = seating(seats, 0, shared);
+        let questions = nested(seats, true, shared).into_iter();
+        for question in questions.chain(in_line(seats, shared)) {
+            cases.push(asked(question, plain.clone(), right.clone()));
         }
-        for guard in nested(seats, false) {
-            let deep = card("probabilistic", seats, 1, &guard, "");
-            cases.push(asked(group.clone(), deep, vec![0; seats]));
+        for guard in nested(seats, false, shared) {
+            let deep = card(&mode, seats, 1, &guard, "");
+            cases.push(asked(group.clone(), deep, right.clone()));
         }
         let long = " ".repeat(open_panel::QUESTION_BYTES + 1);
-        cases.push(asked(long, plain.clone(), vec![0; seats]));
-        cases.push(asked(group.clone(), plain.clone(), vec![8; seats]));
+        cases.push(asked(long, plain.clone(), right));
+        let above = seating(seats, 8, shared);
+        cases.push(asked(group.clone(), plain.clone(), above));
         cases.push(asked(group, plain, vec![0; 1]));
     }
     cases

@@ -3,7 +3,8 @@
 //! first in a room that is always enough, then in rooms that just fit, where
 //! both sides measure a text before they put it; then questions, which take no
 //! room, and what a spectator sees, beside judging a card alone; whether anyone
-//! can move, beside judging and the whole panel; odds after the most steps; then
+//! can move, beside judging and the whole panel; odds after the most steps; cards
+//! whose seats share a number; then
 //! a card looked for in a deck, and decks mended. Each round goes through all rows, so that a
 //! while in which the machine is slow spoils none of them. Then the stack that
 //! the entries use, on the inputs that need most; `bench stack` prints that table
@@ -19,9 +20,9 @@ use std::time::{Duration, Instant};
 
 use compare::cards::limits::{BRANCHES, NODES, STATEMENTS};
 use compare::cards::{branches, statement, Guards, Leaves, Size};
-use compare::extremes::{extremes, Extreme};
+use compare::extremes::{extremes, shared_extremes, Extreme};
 use compare::marks::{lay_out, Layout};
-use compare::model::{Expression, Model, Statement, Unary};
+use compare::model::{Expression, Model, Shared, Statement, Unary};
 use compare::random::Random;
 use open_panel::{LIST_ROOM, ODDS_STEPS};
 use vectors::stored::{base, Input};
@@ -180,6 +181,7 @@ fn first_move_sets() -> Vec<Set> {
     let size = Size {
         seats: 4,
         top: 3,
+        shared: None,
         statements: STATEMENTS,
         branches: BRANCHES,
         nodes: NODES,
@@ -203,41 +205,81 @@ fn first_move_sets() -> Vec<Set> {
     ]
 }
 
-/// Card A, and in both modes the table with the most count vectors that odds are reckoned for: of eight seats and five
-/// states, with the most statements and branches, all of which can be taken wherever a seat is in their state.
+/// The card of day and night, with a question where odds are asked for.
+fn day_and_night(question: &[u8]) -> Case {
+    let stored = include_str!("../../../examples/day-and-night");
+    let (seats, card) = stored
+        .split_once('\n')
+        .expect("the seats have a line of their own");
+    Case {
+        question: question.to_vec(),
+        ..Case::new(
+            card.into(),
+            seats.bytes().map(|digit| digit - b'0').collect(),
+        )
+    }
+}
+
+/// Cards whose seats share a number: a middling one, and those with the longest texts.
+fn shared_sets() -> Vec<Set> {
+    let longest = shared_extremes().map(|Extreme { name, input }| Set {
+        name,
+        cases: vec![Case::new(input.card, input.seats)],
+    });
+    let middling = Set {
+        name: "day and night",
+        cases: vec![day_and_night(b"")],
+    };
+    [middling].into_iter().chain(longest).collect()
+}
+
+/// Card A, and in both modes the tables with the most count vectors that odds are reckoned for, and with the most pairs of a
+/// vector and a value of a shared number: with the most statements and branches, all of which can be taken wherever a seat is
+/// in their state; and day and night.
 fn odds_sets() -> Vec<Set> {
     let all = base();
     let card_a = all.first().map(|stored| Case {
         question: b"(s1=2 & s2=2 & s3=2)".to_vec(),
         ..Case::new(stored.card().to_vec(), stored.seats())
     });
-    let full = |name, probabilistic| {
+    let full = |name, probabilistic, seats: &[u8], top, shared: Option<usize>| {
         let mut random = Random::new(0, 0);
         let mut full = full_table();
-        (full.seats, full.top, full.probabilistic) = (8, 4, probabilistic);
+        (full.seats, full.top, full.probabilistic) = (seats.len(), top, probabilistic);
+        full.shared = shared.map(|top| Shared { top, start: 0 });
         full.statements = (0..STATEMENTS)
             .map(|place| Statement {
                 own: place % (full.top + 1),
                 guard: Vec::new(),
-                branches: branches(BRANCHES, full.top, &mut random),
+                branches: branches(BRANCHES, full.top, shared, &mut random),
             })
             .collect();
         let card = lay_out(&full.marks(), Layout::Tight, &mut random);
+        let literals: Vec<String> = (1..=seats.len()).map(|seat| format!("s{seat}=0")).collect();
+        let mut seating = seats.to_vec();
+        seating.extend(shared.map(|_| 0));
         Set {
             name,
             cases: vec![Case {
-                question: b"(s1=0&s2=0&s3=0&s4=0&s5=0&s6=0&s7=0&s8=0)".to_vec(),
-                ..Case::new(card, vec![0, 0, 1, 1, 2, 3, 4, 4])
+                question: format!("({})", literals.join("&")).into_bytes(),
+                ..Case::new(card, seating)
             }],
         }
     };
+    let (eight, six) = ([0, 0, 1, 1, 2, 3, 4, 4], [0, 0, 1, 1, 2, 3]);
     vec![
         Set {
             name: "card A, 10 vectors",
             cases: card_a.into_iter().collect(),
         },
-        full("495 vectors, probabilistic", true),
-        full("495 vectors, nondeterministic", false),
+        full("495 vectors, probabilistic", true, &eight, 4, None),
+        full("495 vectors, nondeterministic", false, &eight, 4, None),
+        Set {
+            name: "day and night, 42 pairs",
+            cases: vec![day_and_night(b"(s1!=0&s2!=0&s3!=0&s4!=0&s5!=0)")],
+        },
+        full("504 pairs, probabilistic", true, &six, 3, Some(5)),
+        full("504 pairs, nondeterministic", false, &six, 3, Some(5)),
     ]
 }
 
@@ -248,10 +290,11 @@ fn full_table() -> Model {
         seats: open_panel::SEATS,
         top: open_panel::TOP_STATE.into(),
         start: 0,
+        shared: None,
         statements: vec![Statement {
             own: 0,
             guard: Vec::new(),
-            branches: branches(1, 0, &mut Random::new(0, 0)),
+            branches: branches(1, 0, None, &mut Random::new(0, 0)),
         }],
     }
 }
@@ -262,6 +305,7 @@ fn doubled_brackets(seats: usize) -> Vec<u8> {
     let size = Size {
         seats,
         top: 0,
+        shared: None,
         statements: 1,
         branches: 1,
         nodes: NODES,
@@ -716,7 +760,7 @@ fn main() -> ExitCode {
     }
     let (sets, question_sets, deck_sets) = (sets(), question_sets(), vec![full_deck()]);
     let (spectator_sets, first_move_sets) = (spectator_sets(), first_move_sets());
-    let (odds_sets, mend_sets) = (odds_sets(), mend_sets());
+    let (odds_sets, shared_sets, mend_sets) = (odds_sets(), shared_sets(), mend_sets());
     let [judge, _, _, show] = ENTRIES;
     let mut room = vec![0; open_panel::REDUCE_ROOM];
     let mut tables = [
@@ -731,6 +775,7 @@ fn main() -> ExitCode {
             &mut room,
         ),
         rows(&[ODDS], &odds_sets, whole_room, &mut room),
+        rows(&ENTRIES, &shared_sets, whole_room, &mut room),
         rows(&[FIND], &deck_sets, whole_room, &mut room),
         rows(&[MEND], &mend_sets, whole_room, &mut room),
     ];
@@ -743,7 +788,8 @@ fn main() -> ExitCode {
             row.round(round, &mut room);
         }
     }
-    let [always_enough, just_fit, questions, spectators, first_moves, odds, decks, mended] = tables;
+    let [always_enough, just_fit, questions, spectators, first_moves, odds, shared, decks, mended] =
+        tables;
     println!("In a room of {} bytes:\n", room.len());
     print_table(&always_enough);
     println!("\nIn rooms that just fit each text:\n");
@@ -756,6 +802,8 @@ fn main() -> ExitCode {
     print_table(&first_moves);
     println!("\nOdds after {ODDS_STEPS} steps:\n");
     print_table(&odds);
+    println!("\nCards whose seats share a number:\n");
+    print_table(&shared);
     println!("\nA full deck:\n");
     print_table(&decks);
     println!("\nDecks mended:\n");

@@ -4,7 +4,7 @@
 
 use std::collections::BTreeMap;
 
-use crate::model::{Expression, Group, Model, Statement, Unary};
+use crate::model::{Expression, Group, Model, Seating, SharedTest, Statement, Unary};
 use crate::weights::UNIT;
 
 /// What some steps lead to, with their weights.
@@ -14,20 +14,24 @@ pub type Weights<T> = BTreeMap<T, u64>;
 pub struct Steps {
     /// The statement, from 0.
     pub statement: usize,
-    /// The seatings after the step.
+    /// The seatings after the step, each with its shared number behind the seats, where there is one.
     pub after: Weights<Vec<u8>>,
 }
 
 /// All that may be taken at a seating, by each seat and statement.
-pub fn steps(model: &Model, seats: &[u8]) -> Vec<Steps> {
+pub fn steps(model: &Model, bytes: &[u8]) -> Vec<Steps> {
+    let at = model.seating(bytes);
     let mut steps = Vec::new();
-    for seat in 0..seats.len() {
+    for seat in 0..at.seats.len() {
         for (number, statement) in model.statements.iter().enumerate() {
-            if may_take(statement, seats, seat) {
+            if may_take(statement, at, seat) {
                 let mut after = Weights::new();
                 for branch in &statement.branches {
-                    let mut next = seats.to_vec();
+                    let mut next = bytes.to_vec();
                     next[seat] = branch.end as u8;
+                    if let Some(value) = branch.shared {
+                        next[at.seats.len()] = value as u8;
+                    }
                     *after.entry(next).or_default() += u64::from(branch.units);
                 }
                 steps.push(Steps {
@@ -41,54 +45,55 @@ pub fn steps(model: &Model, seats: &[u8]) -> Vec<Steps> {
 }
 
 /// Whether no seat may take anything. Then there is one step, of weight one, that changes nothing.
-pub fn is_stuck(model: &Model, seats: &[u8]) -> bool {
+pub fn is_stuck(model: &Model, bytes: &[u8]) -> bool {
     let mut statements = model.statements.iter();
-    !statements.any(|statement| can_be_taken(statement, seats))
+    !statements.any(|statement| can_be_taken(statement, model.seating(bytes)))
 }
 
 /// Whether some seat may take a statement.
-pub fn can_be_taken(statement: &Statement, seats: &[u8]) -> bool {
-    (0..seats.len()).any(|seat| may_take(statement, seats, seat))
+pub fn can_be_taken(statement: &Statement, at: Seating) -> bool {
+    (0..at.seats.len()).any(|seat| may_take(statement, at, seat))
 }
 
 /// The first statement that some seat may take, from 1.
-pub fn first_move(model: &Model, seats: &[u8]) -> Option<usize> {
+pub fn first_move(model: &Model, bytes: &[u8]) -> Option<usize> {
     let mut statements = model.statements.iter();
-    let first = statements.position(|statement| can_be_taken(statement, seats));
+    let at = model.seating(bytes);
+    let first = statements.position(|statement| can_be_taken(statement, at));
     first.map(|place| place + 1)
 }
 
 /// Whether a question holds, each seat called by its own number.
-pub fn holds(question: &Expression, seats: &[u8]) -> bool {
-    Renamed { seats, seat: 0 }.expression(question)
+pub fn holds(question: &Expression, at: Seating) -> bool {
+    Renamed { at, seat: 0 }.expression(question)
 }
 
 /// Whether it holds if the seats in an exactly-one's state are counted in place of reading its terms.
-pub fn holds_if_counted(Expression(rows): &Expression, seats: &[u8]) -> bool {
-    fn unary_holds(unary: &Unary, seats: &[u8]) -> bool {
+pub fn holds_if_counted(Expression(rows): &Expression, at: Seating) -> bool {
+    fn unary_holds(unary: &Unary, at: Seating) -> bool {
         match unary {
-            Unary::Not(inner) => !unary_holds(inner, seats),
-            Unary::Bracket(inner) => holds_if_counted(inner, seats),
-            Unary::Group(group) => Renamed { seats, seat: 0 }.group(group),
+            Unary::Not(inner) => !unary_holds(inner, at),
+            Unary::Bracket(inner) => holds_if_counted(inner, at),
+            Unary::Group(_) | Unary::Shared(_) => Renamed { at, seat: 0 }.unary(unary),
             Unary::One(terms) => {
                 let state = terms[0].literals[0].state;
                 let there = |seat: &&u8| usize::from(**seat) == state;
-                seats.iter().filter(there).count() == 1
+                at.seats.iter().filter(there).count() == 1
             }
         }
     }
-    let row_holds = |row: &Vec<Unary>| row.iter().all(|unary| unary_holds(unary, seats));
+    let row_holds = |row: &Vec<Unary>| row.iter().all(|unary| unary_holds(unary, at));
     rows.iter().any(row_holds)
 }
 
-fn may_take(statement: &Statement, seats: &[u8], seat: usize) -> bool {
-    let renamed = Renamed { seats, seat };
+fn may_take(statement: &Statement, at: Seating, seat: usize) -> bool {
+    let renamed = Renamed { at, seat };
     usize::from(renamed.state(1)) == statement.own && renamed.row(&statement.guard)
 }
 
-/// A seating as the module of one seat sees it: `[s1=si, si=s1]`.
+/// A seating as the module of one seat sees it: `[s1=si, si=s1]`. The shared number is the same for all.
 struct Renamed<'s> {
-    seats: &'s [u8],
+    at: Seating<'s>,
     seat: usize,
 }
 
@@ -96,7 +101,7 @@ impl Renamed<'_> {
     /// The state of the seat that the first module would call by this number.
     fn state(&self, word: usize) -> u8 {
         let place = word - 1;
-        self.seats[if place == 0 {
+        self.at.seats[if place == 0 {
             self.seat
         } else if place == self.seat {
             0
@@ -119,6 +124,9 @@ impl Renamed<'_> {
             Unary::Bracket(expression) => self.expression(expression),
             Unary::Group(group) => self.group(group),
             Unary::One(terms) => terms.iter().any(|term| self.group(term)),
+            Unary::Shared(SharedTest { differs, value }) => {
+                (usize::from(self.at.shared) == *value) != *differs
+            }
         }
     }
 
@@ -162,19 +170,29 @@ pub fn classes(seats: &[u8], list: &[u8]) -> String {
     format!("classes{}\n", counts.collect::<String>())
 }
 
-/// The same weights, by the counts after the steps.
-pub fn by_counts(after: &Weights<Vec<u8>>, top: usize) -> Weights<Vec<u64>> {
+/// How many seats are in each state, and the shared number.
+pub type CountsAndShared = (Vec<u64>, u8);
+
+/// A seating by its counts and its shared number.
+pub fn counted(model: &Model, bytes: &[u8]) -> CountsAndShared {
+    let Seating { seats, shared } = model.seating(bytes);
+    (counts(seats, model.top), shared)
+}
+
+/// The same weights, by the counts and the shared number after the steps.
+pub fn by_counts(model: &Model, after: &Weights<Vec<u8>>) -> Weights<CountsAndShared> {
     let mut by_counts = Weights::new();
     for (next, weight) in after {
-        *by_counts.entry(counts(next, top)).or_default() += weight;
+        *by_counts.entry(counted(model, next)).or_default() += weight;
     }
     by_counts.retain(|_, weight| *weight > 0);
     by_counts
 }
 
 /// The panel that the steps of all seats make.
-pub fn panel(model: &Model, seats: &[u8]) -> String {
-    let steps = steps(model, seats);
+pub fn panel(model: &Model, bytes: &[u8]) -> String {
+    let steps = steps(model, bytes);
+    let Seating { seats, shared } = model.seating(bytes);
     let mut text = String::new();
     let taken: Vec<usize> = (0..model.statements.len())
         .filter(|&number| steps.iter().any(|step| step.statement == number))
@@ -194,52 +212,59 @@ pub fn panel(model: &Model, seats: &[u8]) -> String {
         text += &format!(" {count}");
     }
     text += "\n";
+    if model.shared.is_some() {
+        text += &format!("shared {shared}\n");
+    }
     if steps.is_empty() {
         if !model.probabilistic {
             text += "choice 0\n";
         }
-        let unchanged = Weights::from([(seats.to_vec(), u64::from(UNIT))]);
-        put_changes(changes(seats, &unchanged), 1, &mut text);
+        let unchanged = Weights::from([(bytes.to_vec(), u64::from(UNIT))]);
+        put_changes(changes(model, bytes, &unchanged), 1, &mut text);
     } else if model.probabilistic {
-        let all = steps.iter().map(|step| changes(seats, &step.after));
+        let all = steps.iter().map(|step| changes(model, bytes, &step.after));
         put_changes(all.flatten(), enabled as u64, &mut text);
     } else {
         for number in taken {
             text += &format!("choice {}\n", number + 1);
             let of_one = steps.iter().find(|step| step.statement == number);
             let of_one = of_one.expect("some seat may take it");
-            put_changes(changes(seats, &of_one.after), 1, &mut text);
+            put_changes(changes(model, bytes, &of_one.after), 1, &mut text);
         }
     }
     text
 }
 
-/// What changes with each seating after: nothing, or an old and a new state.
+/// What changes in a step: no seat, or one from an old to a new state; and what the shared number is behind it, where there is one.
+type Change = (Option<(u8, u8)>, Option<u8>);
+
+/// What changes with each seating after.
 fn changes<'a>(
-    seats: &'a [u8],
+    model: &'a Model,
+    bytes: &'a [u8],
     after: &'a Weights<Vec<u8>>,
-) -> impl Iterator<Item = (Option<(u8, u8)>, u64)> + 'a {
+) -> impl Iterator<Item = (Change, u64)> + 'a {
     after.iter().map(|(next, weight)| {
-        let mut pairs = seats.iter().copied().zip(next.iter().copied());
-        (pairs.find(|(old, new)| old != new), *weight)
+        let (old, new) = (model.seating(bytes), model.seating(next));
+        let mut pairs = old.seats.iter().copied().zip(new.seats.iter().copied());
+        let moved = pairs.find(|(old, new)| old != new);
+        ((moved, model.shared.map(|_| new.shared)), *weight)
     })
 }
 
-fn put_changes(
-    changes: impl Iterator<Item = (Option<(u8, u8)>, u64)>,
-    times: u64,
-    text: &mut String,
-) {
+fn put_changes(changes: impl Iterator<Item = (Change, u64)>, times: u64, text: &mut String) {
     let mut sums = Weights::new();
     for (change, weight) in changes {
         *sums.entry(change).or_default() += weight;
     }
     assert_eq!(sums.values().sum::<u64>(), times * u64::from(UNIT));
-    // No change comes first, then the moves by old and new state.
-    for (change, sum) in sums.into_iter().filter(|(_, sum)| *sum > 0) {
-        *text += &match change {
-            None => format!("stay {sum}\n"),
-            Some((old, new)) => format!("move {old} {new} {sum}\n"),
+    // No change comes first, then the moves by old and new state, each by the shared number last.
+    for ((moved, shared), sum) in sums.into_iter().filter(|(_, sum)| *sum > 0) {
+        *text += &match moved {
+            None => format!("stay {sum}"),
+            Some((old, new)) => format!("move {old} {new} {sum}"),
         };
+        *text += &shared.map_or(String::new(), |shared| format!(" {shared}"));
+        text.push('\n');
     }
 }

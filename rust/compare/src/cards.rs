@@ -1,11 +1,13 @@
 //! Valid cards over the whole range of the limits, and cards just past one.
 
 use crate::marks::{lay_out, Layout};
-use crate::model::{row_nodes, Branch, Expression, Group, Literal, Model, Statement, Unary};
+use crate::model::{
+    row_nodes, Branch, Expression, Group, Literal, Model, Shared, SharedTest, Statement, Unary,
+};
 use crate::random::Random;
 use crate::weights::weights;
 
-/// Document 01's limits.
+/// Document 01's limits, and document 02's of the shared number.
 pub mod limits {
     /// Longest card, in bytes.
     pub const CARD_BYTES: usize = 16_384;
@@ -13,6 +15,8 @@ pub mod limits {
     pub const SEATS: usize = 16;
     /// Highest top state.
     pub const TOP: usize = 7;
+    /// Highest top of the shared number.
+    pub const SHARED_TOP: usize = 7;
     /// Most statements.
     pub const STATEMENTS: usize = 32;
     /// Most branches in a statement.
@@ -31,6 +35,8 @@ pub struct Size {
     pub seats: usize,
     /// Top state.
     pub top: usize,
+    /// Top of the shared number, where the card has one.
+    pub shared: Option<usize>,
     /// Statements.
     pub statements: usize,
     /// Branches in a statement.
@@ -51,6 +57,7 @@ impl Size {
         Size {
             seats: random.between(1, most_seats),
             top: random.between(0, TOP),
+            shared: shared_top(SHARED_TOP, random),
             statements,
             branches,
             nodes,
@@ -62,11 +69,22 @@ impl Size {
         Size {
             seats: random.between(1, 4),
             top: random.between(0, 3),
+            shared: shared_top(2, random),
             statements: 3,
             branches: 4,
             nodes: 6,
         }
     }
+}
+
+/// Once in so many cards there is a shared number.
+const SHARED_ONCE_IN: usize = 3;
+
+/// Mostly no shared number, or one with a top up to this.
+pub fn shared_top(most: usize, random: &mut Random) -> Option<usize> {
+    random
+        .once_in(SHARED_ONCE_IN)
+        .then(|| random.between(0, most))
 }
 
 /// A valid card; it is short enough if it is laid out tightly.
@@ -76,13 +94,17 @@ pub fn card(size: Size, random: &mut Random) -> Model {
         seats: size.seats,
         top: size.top,
         start: random.between(0, size.top),
+        shared: size.shared.map(|top| Shared {
+            top,
+            start: random.between(0, top),
+        }),
         statements: Vec::new(),
     };
-    let mut bytes = 80 + 52 * size.seats;
+    let mut bytes = 110 + 52 * size.seats;
     for _ in 0..random.between(1, size.statements) {
         let next = statement(size, random);
         let groups = row_nodes(&next.guard) / 2 + 1;
-        bytes += 20 + groups * (size.seats * 7 + 4) + next.branches.len() * 22;
+        bytes += 20 + groups * (size.seats * 7 + 4) + next.branches.len() * 30;
         if bytes > CARD_BYTES && !model.statements.is_empty() {
             break;
         }
@@ -96,6 +118,7 @@ pub fn dense_card(random: &mut Random) -> Model {
     let size = Size {
         seats: random.between(6, 10),
         top: random.between(0, TOP),
+        shared: shared_top(SHARED_TOP, random),
         statements: 1,
         branches: BRANCHES,
         nodes: NODES,
@@ -137,18 +160,29 @@ pub fn statement(size: Size, random: &mut Random) -> Statement {
     Statement {
         own,
         guard,
-        branches: branches(random.between(1, size.branches), size.top, random),
+        branches: branches(
+            random.between(1, size.branches),
+            size.top,
+            size.shared,
+            random,
+        ),
     }
 }
 
-/// So many branches, whose weights sum to one.
-pub fn branches(count: usize, top: usize, random: &mut Random) -> Vec<Branch> {
+/// So many branches, whose weights sum to one, for seats and perhaps a shared number up to these tops.
+pub fn branches(
+    count: usize,
+    top: usize,
+    shared: Option<usize>,
+    random: &mut Random,
+) -> Vec<Branch> {
     weights(count, random)
         .into_iter()
         .map(|(units, weight)| Branch {
             units,
             weight,
             end: random.between(0, top),
+            shared: shared.and_then(|top| random.once_in(2).then(|| random.between(0, top))),
         })
         .collect()
 }
@@ -221,6 +255,10 @@ impl Guards<'_> {
     /// Any leaf.
     pub fn leaf(&mut self) -> Unary {
         let (seats, top) = (self.size.seats, self.size.top);
+        if let Some(top) = self.size.shared.filter(|_| self.random.once_in(3)) {
+            let value = self.random.between(0, top);
+            return self.shared_test(value);
+        }
         match self.leaves {
             Leaves::Guard { own } => {
                 let first = if seats > 1 && self.random.once_in(2) {
@@ -241,6 +279,12 @@ impl Guards<'_> {
                 }
             }
         }
+    }
+
+    /// A test of the shared number.
+    pub fn shared_test(&mut self, value: usize) -> Unary {
+        let differs = self.random.once_in(2);
+        Unary::Shared(SharedTest { differs, value })
     }
 
     /// For each seat the term that it alone is in a state.
@@ -323,7 +367,7 @@ impl Guards<'_> {
     }
 }
 
-/// A limit of document 01 that a model can reach or pass.
+/// A limit that a model can reach or pass.
 #[derive(Clone, Copy, PartialEq, Eq)]
 pub enum Limit {
     /// Seats.
@@ -338,17 +382,20 @@ pub enum Limit {
     Nodes,
     /// Open brackets and `!`.
     Depth,
+    /// Top of the shared number.
+    Shared,
 }
 
 impl Limit {
     /// All of them.
-    pub const ALL: [Limit; 6] = [
+    pub const ALL: [Limit; 7] = [
         Limit::Seats,
         Limit::Top,
         Limit::Statements,
         Limit::Branches,
         Limit::Nodes,
         Limit::Depth,
+        Limit::Shared,
     ];
 }
 
@@ -363,6 +410,7 @@ pub fn card_at(limit: Limit, past: usize, random: &mut Random) -> Model {
     match limit {
         Limit::Seats => size.seats = SEATS + past,
         Limit::Top => size.top = TOP + past,
+        Limit::Shared => size.shared = Some(SHARED_TOP + past),
         Limit::Statements => {
             size.seats = random.between(1, 6);
             (size.branches, size.nodes) = (2, 2);
@@ -384,8 +432,10 @@ pub fn card_at(limit: Limit, past: usize, random: &mut Random) -> Model {
         random,
     };
     match limit {
-        Limit::Seats | Limit::Top | Limit::Statements => {}
-        Limit::Branches => chosen.branches = branches(BRANCHES + past, size.top, random),
+        Limit::Seats | Limit::Top | Limit::Statements | Limit::Shared => {}
+        Limit::Branches => {
+            chosen.branches = branches(BRANCHES + past, size.top, size.shared, random);
+        }
         Limit::Nodes => chosen.guard = guards.row_of_exactly(NODES + past),
         Limit::Depth => {
             let deep = guards.unary_of_exactly(DEPTH + past);

@@ -1,17 +1,18 @@
 //! One input, asked of both sides.
 
-use baseline::{Card, Refusal};
+use baseline::{Card, Mode, Node, Refusal};
 use open_panel::{REDUCE_ROOM, SHOW_ROOM, WRITE_ROOM};
 
 use crate::by_seats;
 use crate::cards::limits::{SEATS, STATEMENTS};
 use crate::first_moves::moves_first;
-use crate::inputs::{all_seatings, Input, Kind};
-use crate::model::{Expression, Model};
+use crate::inputs::{Input, Kind};
+use crate::model::{Expression, Model, Seating};
 use crate::odds;
 use crate::questions::Question;
 use crate::random::Random;
 use crate::reduced::Reduced;
+use crate::shared::{SharedTally, Tried};
 use crate::tally::Tally;
 use crate::weights::UNIT;
 
@@ -194,6 +195,12 @@ impl Checker {
         if input.model.is_some() && expected.is_err() {
             return Err(format!("a card made to be valid is refused: {expected:?}"));
         }
+        if let Some(misuse) = input.misuse {
+            if expected.map_err(|refusal| refusal.number) != Err(misuse.refusal()) {
+                return Err(format!("a card with {misuse:?} is judged {expected:?}"));
+            }
+            tally.shared.misused(misuse);
+        }
 
         let written = baseline::write(card, &mut self.written);
         let reduced = baseline::reduce(card, &mut self.reduced);
@@ -213,6 +220,9 @@ impl Checker {
         }
 
         tally.input(kind, judged.as_ref().err().or(shown.as_ref().err()));
+        if let Ok(read) = &judged {
+            tally_shared(read, &input.seats, shown.err(), &mut tally.shared);
+        }
         match (&judged, &input.model) {
             (Err(refusal), _) => tally.refused(card, refusal),
             (Ok(_), Some(model)) => tally.six_digits += u64::from(model.has_weight_of_digits(6)),
@@ -246,10 +256,12 @@ impl Checker {
             }
         }
 
+        let has_shared = judged.as_ref().is_ok_and(|read| read.shared().is_some());
         if let (Ok(read), Ok(written)) = (&judged, written) {
             tally.groups(read);
             if written.len() <= open_panel::CARD_BYTES {
                 tally.reread += 1;
+                tally.shared.count(Tried::Reread, has_shared);
                 if random.once_in(4) {
                     let judged = open_panel::judge(written);
                     judged.map_err(|refusal| format!("the written card is refused: {refusal}"))?;
@@ -271,11 +283,11 @@ impl Checker {
                 tally.too_long_written += 1;
             }
         }
-        if let Ok(shown) = shown {
-            adds_up(shown)?;
-            let mut seats = input.seats.clone();
-            random.shuffle(&mut seats);
+        if let (Ok(read), Ok(shown)) = (&judged, shown) {
+            adds_up(shown, has_shared, &mut tally.shared)?;
+            let seats = reordered(&input.seats, read.seats(), random);
             tally.reordered += 1;
+            tally.shared.count(Tried::Reordered, has_shared);
             rooms.probe(
                 "the seats in another order",
                 Ok(shown),
@@ -286,6 +298,11 @@ impl Checker {
         if let (Some(model), Ok(_)) = (&input.model, shown) {
             if by_seats::is_stuck(model, &input.seats) {
                 tally.stuck[usize::from(model.probabilistic)] += 1;
+                let stuck = match model.probabilistic {
+                    true => Tried::StuckDrawing,
+                    false => Tried::StuckChoosing,
+                };
+                tally.shared.count(stuck, has_shared);
                 let panel = by_seats::panel(model, &input.seats);
                 let room = panel.len();
                 rooms.probe("a stuck table", Ok(panel.as_bytes()), room, |room| {
@@ -296,7 +313,7 @@ impl Checker {
         if let (Kind::Small, Some(model), Ok(reduced)) = (kind, &input.model, reduced) {
             let reduced = Reduced::read(reduced).ok_or("the reduced text cannot be read")?;
             starts_right(model, &reduced)?;
-            for seats in all_seatings(model.seats, model.top) {
+            for seats in model.seatings() {
                 tally.seatings += 1;
                 same_steps(model, &seats, &reduced)?;
                 let panel = by_seats::panel(model, &seats);
@@ -308,15 +325,17 @@ impl Checker {
                 )?;
             }
             tally.small += 1;
+            tally.shared.count(Tried::Small, has_shared);
+            tally.shared.count(Tried::Wakes, wakes(model));
         }
         // Two questions where the card was made to be taken.
         for _ in 0..1 + usize::from(input.model.is_some()) {
             let question = Question::new(input, random);
             asks(card, input, &question, written.ok(), random, tally)?;
         }
-        self.watches(card, input, random, &mut tally.spectators)?;
-        moves_first(card, input, random, &mut tally.first_moves)?;
-        odds::reckons(card, input, random, &mut tally.odds)?;
+        self.watches(card, input, random, tally)?;
+        moves_first(card, input, random, tally)?;
+        odds::reckons(card, input, random, tally)?;
         let rest = &surrounded[GUARD + input.card.len()..];
         if card != input.card
             || surrounded[..GUARD] != [b'9'; GUARD]
@@ -327,6 +346,58 @@ impl Checker {
         self.surrounded = surrounded;
         Ok(())
     }
+}
+
+/// A seating with its seats in another order, of which there are so many; what stands behind them stays.
+pub(crate) fn reordered(seating: &[u8], seats: usize, random: &mut Random) -> Vec<u8> {
+    let mut bytes = seating.to_vec();
+    random.shuffle(&mut bytes[..seats]);
+    bytes
+}
+
+/// What an accepted card has of the shared number, and what a seating of it has, with the refusal that its panel gets.
+fn tally_shared(card: &Card, bytes: &[u8], refusal: Option<Refusal>, tally: &mut SharedTally) {
+    let more = bytes.len().checked_sub(card.seats());
+    let Some(shared) = card.shared() else {
+        tally.count(Tried::Superfluous, more == Some(1));
+        return;
+    };
+    tally.top(shared.top);
+    tally.count(Tried::Probabilistic, card.mode() == Mode::Probabilistic);
+    tally.count(
+        Tried::Nondeterministic,
+        card.mode() == Mode::Nondeterministic,
+    );
+    let statements = card.statements().iter();
+    let (mut tested, mut set, mut set_alone) = (false, false, false);
+    for statement in statements {
+        let is_test = |node: &Node| matches!(node, Node::Shared(_));
+        tested |= card.guard(statement).iter().any(is_test);
+        for branch in card.branches(statement) {
+            set |= branch.shared.is_some();
+            set_alone |= branch.shared.is_some() && branch.end == statement.own;
+        }
+    }
+    tally.count(Tried::Tested, tested);
+    tally.count(Tried::Set, set);
+    tally.count(Tried::SetAlone, set_alone);
+    tally.count(Tried::Unused, !tested && !set);
+    tally.count(Tried::Lacking, more == Some(0));
+    tally.count(Tried::Exceeding, more == Some(2));
+    if let Some(Refusal { number: 9, place }) = refusal {
+        tally.count(Tried::ValueAbove, place == card.seats());
+        tally.count(Tried::SeatAbove, place < card.seats());
+    }
+}
+
+/// Whether at some seats somebody can move at one value of the shared number, and nobody at another.
+fn wakes(model: &Model) -> bool {
+    let seatings: Vec<Vec<u8>> = model.seatings().collect();
+    let mut tables = seatings.chunks(model.shared_values());
+    tables.any(|values| {
+        let stuck = |bytes: &Vec<u8>| by_seats::is_stuck(model, bytes);
+        values.iter().any(stuck) && !values.iter().all(stuck)
+    })
 }
 
 /// A question about an input, asked of both sides.
@@ -360,7 +431,7 @@ fn asks(
     if answer != due {
         return Err(fault("ask", answer, due));
     }
-    tally.question(question, input.seats.len(), answer);
+    tally.question(question, input, answer);
     if let Err(refusal) = &answer {
         if refusal.number > 20 {
             tally.refused(asked, refusal);
@@ -373,14 +444,16 @@ fn asks(
         return Err("the question was written".to_owned());
     }
     // A damaged card may be taken, and be for another table.
-    let model = question.model.as_ref().filter(|_| input.model.is_some());
-    match (model, due) {
+    let models = question.model.as_ref().zip(input.model.as_ref());
+    let tests_shared = question.tests_shared();
+    match (models, due) {
         (Some(_), Err(refusal)) if refusal.number > 20 => {
             return Err(fault("a question made to be valid", answer, due));
         }
-        (Some(model), Ok(_)) => {
+        (Some((asked, model)), Ok(_)) => {
             tally.by_seats += 1;
-            says_the_same(model, &input.seats, due)
+            tally.shared.count(Tried::AskedBySeats, tests_shared);
+            says_the_same(asked, model.seating(&input.seats), due)
                 .map_err(|meant| fault("ask, by seats", answer, Ok(meant)))?;
         }
         _ => {}
@@ -388,8 +461,8 @@ fn asks(
     if due.is_err() {
         return Ok(());
     }
-    let mut seats = input.seats.clone();
-    random.shuffle(&mut seats);
+    let read = baseline::judge(card).map_err(|refusal| refusal.to_string())?;
+    let seats = reordered(&input.seats, read.seats(), random);
     tally.questions_reordered += 1;
     let reordered = ask(card, &seats);
     if reordered != due {
@@ -403,12 +476,12 @@ fn asks(
             }
         }
     }
-    if let (Kind::Small, Some(model)) = (input.kind, model) {
-        let (count, top) = input.table;
-        for seats in all_seatings(count, top) {
+    if let (Kind::Small, Some((asked, model))) = (input.kind, models) {
+        for seats in model.seatings() {
             let answer = ask(card, &seats);
             tally.by_seats += 1;
-            says_the_same(model, &seats, answer)
+            tally.shared.count(Tried::AskedBySeats, tests_shared);
+            says_the_same(asked, model.seating(&seats), answer)
                 .map_err(|meant| fault("ask, at every seating", answer, Ok(meant)))?;
         }
     }
@@ -418,11 +491,11 @@ fn asks(
 /// An answer against the seats: as the question is spelled, and with the seats of an exactly-one counted. What was meant is handed back if they differ.
 fn says_the_same(
     question: &Expression,
-    seats: &[u8],
+    at: Seating,
     answer: Result<bool, Refusal>,
 ) -> Result<(), bool> {
-    let meant = by_seats::holds(question, seats);
-    let counted = by_seats::holds_if_counted(question, seats);
+    let meant = by_seats::holds(question, at);
+    let counted = by_seats::holds_if_counted(question, at);
     if answer == Ok(meant) && meant == counted {
         return Ok(());
     }
@@ -474,7 +547,7 @@ impl Entry {
 
 /// The library's bound for the written cards of so many seats and statements (crate `texts`).
 const fn one_walk_write_room(seats: usize, statements: usize) -> usize {
-    63 + statements * (265 + 144 * seats) + seats * 55
+    89 + statements * (337 + 144 * seats) + seats * 55
 }
 
 const _: () = assert!(one_walk_write_room(SEATS, STATEMENTS) == WRITE_ROOM);
@@ -501,27 +574,60 @@ pub(crate) fn room_lengths(text: Option<usize>, random: &mut Random) -> [Option<
     }
 }
 
-/// The weights on a panel: one unit for each pair that may be taken, or in each choice.
-fn adds_up(panel: &[u8]) -> Result<(), Fault> {
+/// The weights on a panel: one unit for each pair that may be taken, or in each choice. Where there is a shared number it has its own line,
+/// and every line of a weight ends in what it becomes.
+fn adds_up(panel: &[u8], has_shared: bool, tally: &mut SharedTally) -> Result<(), Fault> {
     let panel = String::from_utf8_lossy(panel);
     let mut sums = Vec::new();
     let mut enabled = 0;
     let mut chooses = false;
+    let mut shared = None;
+    // What the last line of a weight says, but for the weight.
+    let mut last: Option<[&str; 3]> = None;
+    let (mut stays, mut moves, mut changes) = (false, false, false);
     for line in panel.lines() {
-        let words: Vec<&str> = line.split(' ').collect();
+        let mut words: Vec<&str> = line.split(' ').collect();
+        let mut after = None;
+        if has_shared && matches!(words[0], "stay" | "move") {
+            after = words.pop();
+            changes |= after != shared;
+        }
         match words[..] {
             ["probabilistic"] => sums.push(0),
             ["nondeterministic"] => chooses = true,
             ["seats", _, "enabled", number] => enabled = number.parse().map_err(|_| "no number")?,
             ["counts", ..] => {}
-            ["choice", _] => sums.push(0),
+            ["shared", value] if has_shared && shared.is_none() && last.is_none() => {
+                shared = Some(value);
+            }
+            ["choice", _] => {
+                sums.push(0);
+                last = None;
+            }
             ["stay", weight] | ["move", _, _, weight] => {
                 *sums.last_mut().ok_or("a weight under no choice")? +=
                     weight.parse::<u64>().map_err(|_| "no weight")?;
+                let what = match words[..] {
+                    [_, old, new, _] => [old, new, after.unwrap_or("")],
+                    _ => ["", "", after.unwrap_or("")],
+                };
+                if last.is_some_and(|last| last >= what) {
+                    return Err(format!("lines in another order:\n{panel}"));
+                }
+                let again = last.is_some_and(|last| last[..2] == what[..2]);
+                stays |= again && what[0].is_empty();
+                moves |= again && !what[0].is_empty();
+                last = Some(what);
             }
             _ => return Err(format!("a line that no panel has: {line}")),
         }
     }
+    if shared.is_some() != has_shared {
+        return Err(format!("no shared number on the panel:\n{panel}"));
+    }
+    tally.count(Tried::Stays, stays);
+    tally.count(Tried::Moves, moves);
+    tally.count(Tried::Changes, changes);
     let unit = u64::from(UNIT);
     let right = if chooses {
         sums.len() as u64 == enabled && sums.iter().all(|sum| *sum == unit)
@@ -537,7 +643,10 @@ fn adds_up(panel: &[u8]) -> Result<(), Fault> {
 fn starts_right(model: &Model, reduced: &Reduced) -> Result<(), Fault> {
     let start = by_seats::counts(&vec![model.start as u8; model.seats], model.top);
     let copies = if model.probabilistic { model.seats } else { 1 };
+    let shared = model.shared;
+    let shared = shared.map(|shared| (shared.top as u64, shared.start as u64));
     let right = reduced.start == start
+        && reduced.shared == shared
         && reduced.most.iter().all(|most| *most == model.seats as u64)
         && reduced.statements() == model.statements.len() * copies;
     right
@@ -550,12 +659,12 @@ fn starts_right(model: &Model, reduced: &Reduced) -> Result<(), Fault> {
 /// changes nothing.
 fn same_steps(model: &Model, seats: &[u8], reduced: &Reduced) -> Result<(), Fault> {
     let steps = by_seats::steps(model, seats);
-    let counts = by_seats::counts(seats, model.top);
+    let counts = by_seats::counted(model, seats);
     let wrong = || format!("at {seats:?} the reduced program does not do what the seats do");
     if model.probabilistic {
         let mut of_seats = by_seats::Weights::new();
         for step in &steps {
-            for (next, weight) in by_seats::by_counts(&step.after, model.top) {
+            for (next, weight) in by_seats::by_counts(model, &step.after) {
                 *of_seats.entry(next).or_default() += weight;
             }
         }
@@ -586,7 +695,7 @@ fn same_steps(model: &Model, seats: &[u8], reduced: &Reduced) -> Result<(), Faul
             None => of_seats.peek().is_none(),
             Some(after) => {
                 of_seats.peek().is_some()
-                    && of_seats.all(|step| by_seats::by_counts(&step.after, model.top) == *after)
+                    && of_seats.all(|step| by_seats::by_counts(model, &step.after) == *after)
             }
         };
         same.then_some(()).ok_or_else(wrong)?;

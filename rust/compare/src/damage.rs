@@ -212,7 +212,7 @@ const WEIGHTS: [&str; 51] = [
     "999999",
 ];
 
-const MARKS: [&str; 63] = [
+const MARKS: [&str; 67] = [
     "[",
     "]",
     ":",
@@ -235,6 +235,10 @@ const MARKS: [&str; 63] = [
     "init",
     "nondeterministic",
     "probabilistic",
+    "global",
+    "g",
+    "g",
+    "g1",
     "s1",
     "s2",
     "s3",
@@ -357,7 +361,7 @@ pub fn damage_bytes(bytes: &mut Vec<u8>, random: &mut Random) {
 
 /// A byte, mostly one that marks are made of.
 pub fn any_byte(random: &mut Random) -> u8 {
-    const COMMON: &[u8] = b" \t\r\n//[]:;=!&|()+',..->s1230456789processmodule_<\0\xff";
+    const COMMON: &[u8] = b" \t\r\n//[]:;=!&|()+',..->s1230456789processmodulegg_<\0\xff";
     if random.once_in(6) {
         random.next() as u8
     } else {

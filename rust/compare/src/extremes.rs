@@ -4,13 +4,17 @@
 //! nine seats), where a statement is copied (sixteen seats, eight branches with
 //! long weights), and where every statement is a choice. Reckoned piece by piece,
 //! what each costs on the card and gives in the text, no written form is longer
-//! than 22,516 bytes, no reduced text than 269,699 and no panel than 4,148. These
+//! than 22,516 bytes, no reduced text than 269,699 and no panel than 4,148. With a
+//! shared number, whose tests and updates are short on the card and stand in every
+//! copy, no reduced text is longer than 363,218 and no panel than 4,797. These
 //! bounds are reckoned and tried, not proved.
 
-use crate::cards::limits::{BRANCHES, CARD_BYTES, NODES, SEATS, STATEMENTS, TOP};
-use crate::inputs::{Input, Kind};
+use crate::cards::limits::{BRANCHES, CARD_BYTES, NODES, SEATS, SHARED_TOP, STATEMENTS, TOP};
+use crate::inputs::{Input, Kind, Table};
 use crate::marks::{lay_out, Layout, Mark};
-use crate::model::{row_nodes, Branch, Expression, Group, Literal, Model, Statement, Unary};
+use crate::model::{
+    row_nodes, Branch, Expression, Group, Literal, Model, Shared, SharedTest, Statement, Unary,
+};
 use crate::random::Random;
 use crate::weights::{fraction, UNIT};
 
@@ -27,6 +31,11 @@ pub fn extremes() -> [Extreme; 3] {
     [longest_written(), longest_reduced(), longest_panel()]
 }
 
+/// The same two with a shared number. No written form is longer with it, as nothing of it grows as much as a group does.
+pub fn shared_extremes() -> [Extreme; 2] {
+    [longest_shared_reduced(), longest_shared_panel()]
+}
+
 fn extreme(name: &'static str, model: Model, seats: Vec<u8>) -> Extreme {
     let card = lay_out(&model.marks(), Layout::Tight, &mut Random::new(0, 0));
     assert!(card.len() <= CARD_BYTES, "{name}: {} bytes", card.len());
@@ -36,7 +45,8 @@ fn extreme(name: &'static str, model: Model, seats: Vec<u8>) -> Extreme {
             kind: Kind::Valid,
             card,
             seats,
-            table: (model.seats, model.top),
+            table: Table::of(&model),
+            misuse: None,
             model: Some(model),
         },
     }
@@ -67,6 +77,7 @@ fn weighted(weights: Vec<(u32, Vec<Mark>)>, end: impl Fn(usize) -> usize) -> Vec
             units,
             weight,
             end: end(place),
+            shared: None,
         })
         .collect()
 }
@@ -103,6 +114,7 @@ fn longest_written() -> Extreme {
         seats: 9,
         top: TOP,
         start: 0,
+        shared: None,
         statements: Vec::new(),
     };
     let plain = Statement {
@@ -147,6 +159,7 @@ fn longest_reduced() -> Extreme {
         seats: SEATS,
         top: TOP,
         start: 0,
+        shared: None,
         statements: vec![statement; STATEMENTS],
     };
     'filled: loop {
@@ -186,9 +199,91 @@ fn longest_panel() -> Extreme {
         seats: SEATS,
         top: TOP,
         start: 0,
+        shared: None,
         statements: vec![statement; STATEMENTS],
     };
     let mut seats = vec![0; 10];
     seats.extend([1, 2, 3, 4, 5, 6]);
     extreme("longest panel", model, seats)
+}
+
+const SHARED: Option<Shared> = Some(Shared {
+    top: SHARED_TOP,
+    start: 0,
+});
+
+/// Every branch sets the number, and every guard has as many tests of it as there may be leaves; then groups in their place, which are longer
+/// in the text, as far as the card has room for them.
+fn longest_shared_reduced() -> Extreme {
+    let test = Unary::Shared(SharedTest {
+        differs: true,
+        value: SHARED_TOP,
+    });
+    let mut branches = weighted(long_weights(), |_| 1);
+    for branch in &mut branches {
+        branch.shared = Some(SHARED_TOP);
+    }
+    // Half of the nodes are leaves, and all but one of the others join them.
+    let mut guard = vec![test; NODES / 2];
+    guard[0] = Unary::Not(Box::new(guard[0].clone()));
+    let statement = Statement {
+        own: 0,
+        guard,
+        branches,
+    };
+    let mut model = Model {
+        probabilistic: true,
+        seats: SEATS,
+        top: TOP,
+        start: 0,
+        shared: SHARED,
+        statements: vec![statement; STATEMENTS],
+    };
+    let Unary::Group(mut others) = everyone(SEATS, false) else {
+        unreachable!()
+    };
+    others.literals.remove(0);
+    for literal in &mut others.literals {
+        literal.state = 1;
+    }
+    let leaves = (0..STATEMENTS).flat_map(|place| (1..NODES / 2).map(move |leaf| (place, leaf)));
+    for (place, leaf) in leaves {
+        let mut longer = model.clone();
+        longer.statements[place].guard[leaf] = Unary::Group(others.clone());
+        if length(&longer) > CARD_BYTES {
+            break;
+        }
+        model = longer;
+    }
+    let mut seats = vec![0; SEATS];
+    seats.push(0);
+    extreme("longest reduced text, shared number", model, seats)
+}
+
+/// Every statement is a choice, whose eight ends all move the seat, some to one state with another number.
+fn longest_shared_panel() -> Extreme {
+    let nested = (0..7).fold(everyone(SEATS, true), |unary, _| {
+        Unary::Bracket(Expression(vec![vec![unary]]))
+    });
+    let mut branches = weighted(long_weights(), |place| 1 + place % TOP);
+    for (place, branch) in branches.iter_mut().enumerate() {
+        branch.shared = Some(place / TOP);
+    }
+    let statement = Statement {
+        own: 0,
+        guard: vec![nested],
+        branches,
+    };
+    let model = Model {
+        probabilistic: false,
+        seats: SEATS,
+        top: TOP,
+        start: 0,
+        shared: SHARED,
+        statements: vec![statement; STATEMENTS],
+    };
+    let mut seats = vec![0; 10];
+    seats.extend([1, 2, 3, 4, 5, 6]);
+    seats.push(SHARED_TOP as u8);
+    extreme("longest panel, shared number", model, seats)
 }

@@ -6,13 +6,15 @@ use baseline::Refusal;
 
 use crate::by_seats;
 use crate::cards::limits::STATEMENTS;
-use crate::cards::{card, statement, Size};
-use crate::check::Fault;
-use crate::inputs::{all_seatings, seating, Input, Kind};
+use crate::cards::{card, shared_top, statement, Size};
+use crate::check::{reordered, Fault};
+use crate::inputs::{Input, Kind, Table};
 use crate::marks::{lay_out, Layout};
 use crate::model::{Branch, Model};
 use crate::random::Random;
+use crate::shared::Tried;
 use crate::surrounded::Surrounded;
+use crate::tally::Tally;
 use crate::weights::UNIT;
 
 /// Times that somebody can move, and that nobody can, in each mode.
@@ -121,8 +123,9 @@ pub(crate) fn moves_first(
     card: &[u8],
     input: &Input,
     random: &mut Random,
-    tally: &mut FirstMoveTally,
+    all: &mut Tally,
 ) -> Result<(), Fault> {
+    let tally = &mut all.first_moves;
     let panel = open_panel::show_to_vec(card, &input.seats);
     let first = asks(card, &input.seats, input.model.as_ref(), random, tally)?;
     match (&panel, first) {
@@ -137,9 +140,18 @@ pub(crate) fn moves_first(
         (panel, first) => return Err(format!("first_move {first:?}, and show {panel:?}")),
     }
     if let (Kind::Small, Some(model)) = (input.kind, &input.model) {
-        for seats in all_seatings(model.seats, model.top) {
+        for seats in model.seatings() {
             asks(card, &seats, Some(model), random, tally)?
                 .map_err(|refusal| refusal.to_string())?;
+        }
+    }
+    if let (Some(model), Ok(first)) = (&input.model, first) {
+        let seats = model.seating(&input.seats).seats;
+        for value in model.shared.map_or(0..0, |shared| 0..shared.top + 1) {
+            let at = [seats, &[value as u8]].concat();
+            let other = asks(card, &at, Some(model), random, tally)?;
+            all.shared.count(Tried::FirstMoves, true);
+            all.shared.count(Tried::OtherFirstMoves, other != Ok(first));
         }
     }
     if random.once_in(MADE_ONCE_IN) {
@@ -185,10 +197,9 @@ fn asks(
     if first != by_seats {
         return Err(fault("by seats", &answer, &by_seats));
     }
-    let mut reordered = seats.to_vec();
-    random.shuffle(&mut reordered);
-    if ask(&reordered) != due {
-        return Err(fault("the seats in another order", &ask(&reordered), &due));
+    let reordered = ask(&reordered(seats, model.seats, random));
+    if reordered != due {
+        return Err(fault("the seats in another order", &reordered, &due));
     }
     tally.by_seats += 1;
     tally.answers[usize::from(model.probabilistic)][usize::from(first.is_none())] += 1;
@@ -196,7 +207,7 @@ fn asks(
         Some(place) => {
             tally.places[place - 1] += 1;
             let statement = &model.statements[place - 1];
-            let stays = |branch: &Branch| branch.end == statement.own;
+            let stays = |branch: &Branch| branch.end == statement.own && branch.shared.is_none();
             tally.unchanging += u64::from(statement.branches.iter().all(stays));
         }
         None => tally.full_stuck += u64::from(model.statements.len() == STATEMENTS),
@@ -212,7 +223,10 @@ fn as_on_panel(
     tally: &mut FirstMoveTally,
 ) -> Result<(), Fault> {
     let text = String::from_utf8_lossy(panel);
-    let stuck_end = format!("\nstay {UNIT}\n");
+    // With a shared number it ends in that, which stays.
+    let shared = text.lines().find_map(|line| line.strip_prefix("shared "));
+    let shared = shared.map_or(String::new(), |shared| format!(" {shared}"));
+    let stuck_end = format!("\nstay {UNIT}{shared}\n");
     let choice = text.lines().find_map(|line| line.strip_prefix("choice "));
     let right = match choice {
         Some(choice) => {
@@ -233,12 +247,13 @@ fn made(random: &mut Random) -> (Model, Vec<u8>) {
     let size = Size {
         seats: random.between(1, most_seats),
         top: random.between(1, 7),
+        shared: shared_top(2, random),
         statements: 1,
         branches: 2,
         nodes: 3,
     };
     let mut model = card(size, random);
-    let seats = seating(size.seats, size.top, random);
+    let seats = Table::of(&model).seating(random);
     let found = match random.below(8) {
         0 => STATEMENTS,
         1 => STATEMENTS + 1,
@@ -247,7 +262,7 @@ fn made(random: &mut Random) -> (Model, Vec<u8>) {
     model.statements.clear();
     while model.statements.len() < STATEMENTS {
         let next = statement(size, random);
-        let can = by_seats::can_be_taken(&next, &seats);
+        let can = by_seats::can_be_taken(&next, model.seating(&seats));
         // Behind the one that is found, any.
         let place = model.statements.len() + 1;
         if place > found || can == (place == found) {

@@ -6,6 +6,7 @@ use crate::damage::{any_byte, damage_bytes, junk, MarkDamage};
 use crate::marks::{lay_out, Layout};
 use crate::model::Model;
 use crate::random::Random;
+use crate::shared::Misuse;
 
 /// What an input is meant to try.
 #[derive(Clone, Copy, PartialEq, Eq, Debug)]
@@ -36,14 +37,16 @@ pub enum Kind {
     Several,
     /// A card at or past a limit, or any other, damaged just where it is refused or where something ends.
     Aimed,
+    /// A card whose shared number is used wrongly in one way.
+    Misused,
     /// No card at all.
     Junk,
 }
 
 impl Kind {
     /// All kinds, with how many of a hundred inputs are of it.
-    pub const SHARES: [(Kind, usize); 14] = [
-        (Kind::Valid, 33),
+    pub const SHARES: [(Kind, usize); 15] = [
+        (Kind::Valid, 30),
         (Kind::Small, 2),
         (Kind::AtLimit, 6),
         (Kind::Length, 1),
@@ -51,11 +54,12 @@ impl Kind {
         (Kind::SeatState, 3),
         (Kind::PastLimit, 8),
         (Kind::Late, 8),
-        (Kind::Marks, 13),
+        (Kind::Marks, 12),
         (Kind::Bytes, 6),
         (Kind::Cut, 4),
         (Kind::Several, 5),
         (Kind::Aimed, 6),
+        (Kind::Misused, 4),
         (Kind::Junk, 2),
     ];
 
@@ -77,23 +81,56 @@ pub struct Input {
     pub kind: Kind,
     /// The card.
     pub card: Vec<u8>,
-    /// The seats.
+    /// The seats, and behind them the shared number, where there is one.
     pub seats: Vec<u8>,
-    /// How many seats it was made for, and with which top state.
-    pub table: (usize, usize),
+    /// What it was made for.
+    pub table: Table,
+    /// How its shared number is used wrongly.
+    pub misuse: Option<Misuse>,
     /// The card as it was made, where it is valid.
     pub model: Option<Model>,
+}
+
+/// A table that an input was made for.
+#[derive(Clone, Copy)]
+pub struct Table {
+    /// Its seats.
+    pub seats: usize,
+    /// The top state.
+    pub top: usize,
+    /// The top of the shared number.
+    pub shared: Option<usize>,
+}
+
+impl Table {
+    /// A card's table.
+    pub fn of(model: &Model) -> Table {
+        Table {
+            seats: model.seats,
+            top: model.top,
+            shared: model.shared.map(|shared| shared.top),
+        }
+    }
+
+    /// A seating, with a value of the shared number.
+    pub(crate) fn seating(&self, random: &mut Random) -> Vec<u8> {
+        let mut bytes = seating(self.seats, self.top, random);
+        bytes.extend(self.shared.map(|top| any_state(top, random)));
+        bytes
+    }
 }
 
 impl Input {
     /// The input of this number in the run of this seed.
     pub fn new(random: &mut Random) -> Input {
         let kind = Kind::any(random);
-        let (model, card) = made(kind, random);
-        let mut seats = seating(model.seats, model.top, random);
+        let misuse = (kind == Kind::Misused).then(|| random.pick(&Misuse::ALL));
+        let (model, card) = made(kind, misuse, random);
+        let table = Table::of(&model);
+        let mut seats = table.seating(random);
         match kind {
-            Kind::SeatCount => miscount(&mut seats, model.top, random),
-            Kind::SeatState => exceed(&mut seats, model.top, random),
+            Kind::SeatCount => miscount(&mut seats, table, random),
+            Kind::SeatState => exceed(&mut seats, table, random),
             _ => {}
         }
         let valid = matches!(
@@ -104,14 +141,20 @@ impl Input {
             kind,
             card,
             seats,
-            table: (model.seats, model.top),
+            table,
+            misuse,
             model: valid.then_some(model),
         }
     }
 }
 
 /// A card of a kind, as a model before any damage and as bytes after it.
-fn made(kind: Kind, random: &mut Random) -> (Model, Vec<u8>) {
+fn made(kind: Kind, misuse: Option<Misuse>, random: &mut Random) -> (Model, Vec<u8>) {
+    if let Some(misuse) = misuse {
+        let (model, marks) = misuse.card(random);
+        let layout = Layout::any(random);
+        return (model, lay_out(&marks, layout, random));
+    }
     let model = match kind {
         Kind::Small => card(Size::small(random), random),
         Kind::AtLimit if random.once_in(60) => dense_card(random),
@@ -190,8 +233,9 @@ fn lengthen(bytes: &mut Vec<u8>, random: &mut Random) {
 fn damage_where_refused(bytes: &mut Vec<u8>, random: &mut Random) {
     const ENDS: [&[u8]; 5] = [b"->", b"->", b"+", b";", b")"];
     const SIGNS: [&[u8]; 5] = [b"|", b"&", b"!", b"(", b"+"];
-    const PIECES: [&[u8]; 14] = [
+    const PIECES: [&[u8]; 17] = [
         b"|", b"&", b"(", b")", b"!", b";", b" ", b"s1", b"0", b"1/", b"9", b"(s1=0)", b"//", b"<",
+        b"g", b"(g=0)", b"&(g'=0)",
     ];
     let Err(refusal) = baseline::judge(bytes) else {
         let end = random.pick(&ENDS);
@@ -211,10 +255,14 @@ fn damage_where_refused(bytes: &mut Vec<u8>, random: &mut Random) {
     }
 }
 
+/// A state, or a value of the shared number, up to a top.
+fn any_state(top: usize, random: &mut Random) -> u8 {
+    random.between(0, top.min(254)) as u8
+}
+
 /// A state for each seat; many seatings are all alike, or all but one.
-pub(crate) fn seating(seats: usize, top: usize, random: &mut Random) -> Vec<u8> {
-    let mut any = || random.between(0, top.min(254)) as u8;
-    let (first, second) = (any(), any());
+fn seating(seats: usize, top: usize, random: &mut Random) -> Vec<u8> {
+    let (first, second) = (any_state(top, random), any_state(top, random));
     match random.below(4) {
         0 => vec![first; seats],
         1 => {
@@ -224,14 +272,12 @@ pub(crate) fn seating(seats: usize, top: usize, random: &mut Random) -> Vec<u8> 
             states
         }
         2 => (0..seats).map(|_| random.pick(&[first, second])).collect(),
-        _ => (0..seats)
-            .map(|_| random.between(0, top.min(254)) as u8)
-            .collect(),
+        _ => (0..seats).map(|_| any_state(top, random)).collect(),
     }
 }
 
 /// Takes seats away or adds some; sometimes one is above the top state as well.
-fn miscount(seats: &mut Vec<u8>, top: usize, random: &mut Random) {
+fn miscount(seats: &mut Vec<u8>, table: Table, random: &mut Random) {
     match random.below(4) {
         0 => drop(seats.pop()),
         1 => seats.push(0),
@@ -239,32 +285,25 @@ fn miscount(seats: &mut Vec<u8>, top: usize, random: &mut Random) {
         _ => seats.extend(std::iter::repeat_n(0, random.between(2, 300))),
     }
     if random.once_in(3) {
-        exceed(seats, top, random);
+        exceed(seats, table, random);
     }
 }
 
-/// Puts some seats above the top state.
-fn exceed(seats: &mut [u8], top: usize, random: &mut Random) {
+/// Puts some seats above the top state, or the shared number above its top; that alone once in a while.
+fn exceed(seats: &mut [u8], table: Table, random: &mut Random) {
+    let value_alone = random.once_in(3);
     for _ in 0..random.between(1, 3) {
         if !seats.is_empty() {
-            let seat = random.below(seats.len());
-            seats[seat] = random
+            let mut place = random.below(seats.len());
+            let mut top = table.top;
+            if let Some(shared) = table.shared.filter(|_| seats.len() > table.seats) {
+                if value_alone || place == table.seats {
+                    (place, top) = (table.seats, shared);
+                }
+            }
+            seats[place] = random
                 .pick(&[top as u8 + 1, top as u8 + 1, 8, 255, b'0'])
                 .max(top as u8 + 1);
         }
     }
-}
-
-/// Every seating of a small table.
-pub fn all_seatings(seats: usize, top: usize) -> impl Iterator<Item = Vec<u8>> {
-    (0..(top + 1).pow(seats as u32)).map(move |number| {
-        let mut rest = number;
-        (0..seats)
-            .map(|_| {
-                let state = rest % (top + 1);
-                rest /= top + 1;
-                state as u8
-            })
-            .collect()
-    })
 }

@@ -12,7 +12,8 @@
 //! and wrong ones watch each table, and it is asked who can move first
 //! ([`first_moves`]). [`odds`] are reckoned and held to [`exact`] chances, on
 //! small tables to those of seats told apart. Cards are looked for in generated [`decks`],
-//! sound and malformed, and decks are written; [`damaged_decks`] are mended.
+//! sound and malformed, and decks are written; [`damaged_decks`] are mended. Many cards have
+//! a number that their seats share, and some use it wrongly ([`shared`]).
 
 pub mod big;
 pub mod by_seats;
@@ -33,6 +34,7 @@ pub mod odds;
 pub mod questions;
 pub mod random;
 pub mod reduced;
+pub mod shared;
 pub mod spectators;
 mod surrounded;
 pub mod tally;

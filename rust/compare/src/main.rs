@@ -13,7 +13,7 @@ use std::{env, thread};
 
 use compare::check::{Checker, Fault, LONG_ROOMS_ONCE_IN};
 use compare::deck_check::check_lookup;
-use compare::extremes::extremes;
+use compare::extremes::{extremes, shared_extremes};
 use compare::inputs::Input;
 use compare::random::Random;
 use compare::tally::{Tally, INPUTS};
@@ -86,7 +86,7 @@ fn main() -> ExitCode {
 /// Tries the largest cards, which are the same in every run, in the long rooms too.
 fn largest() -> Result<(), Fault> {
     let (mut checker, mut tally) = (Checker::new(1), Tally::default());
-    for extreme in extremes() {
+    for extreme in extremes().into_iter().chain(shared_extremes()) {
         guarded(|| checker.check(&extreme.input, &mut Random::new(0, 0), &mut tally))
             .map_err(|fault| format!("{}: {fault}", extreme.name))?;
     }
@@ -135,7 +135,7 @@ fn one(seed: u64, index: u64, checker: &mut Checker, tally: &mut Tally) -> Resul
         if random.once_in(DECKS_ONCE_IN) {
             check_lookup(&mut random, &mut tally.decks)?;
             checker.check_deck_writer(&mut random, &mut tally.decks)?;
-            checker.check_mending(&input, &mut random, &mut tally.mending)?;
+            checker.check_mending(&input, &mut random, tally)?;
         }
         Ok(())
     })

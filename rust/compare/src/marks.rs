@@ -66,6 +66,12 @@ impl Mark {
         self.bytes().iter().all(u8::is_ascii_digit)
     }
 
+    /// What it is worth, if it is a number.
+    pub fn value(&self) -> usize {
+        let digits = self.bytes().iter().filter(|byte| byte.is_ascii_digit());
+        digits.fold(0, |value, digit| 10 * value + usize::from(digit - b'0'))
+    }
+
     /// Whether it is this stem and a number.
     pub fn is_numbered(&self, stem: &[u8]) -> bool {
         let rest = self.bytes().strip_prefix(stem);

@@ -9,7 +9,9 @@ use crate::damaged_decks::{Astray, Damaged, Due, Kind, Planned};
 use crate::decks::{DECK_BYTES, DECK_CARDS, ENTRY_BYTES};
 use crate::inputs::Input;
 use crate::random::Random;
+use crate::shared::{SharedTally, Tried};
 use crate::surrounded::Surrounded;
+use crate::tally::Tally;
 
 /// Decks of each kind of which something is kept, and of which nothing can be.
 const EACH_KIND: u64 = 400;
@@ -122,7 +124,7 @@ impl MendTally {
     }
 
     /// What was settled about the entries of a deck that was not damaged later.
-    fn entries(&mut self, made: &Damaged) -> Result<(), Fault> {
+    fn entries(&mut self, made: &Damaged, shared: &mut SharedTally) -> Result<(), Fault> {
         for planned in &made.entries {
             let Planned { entry, rule, .. } = planned;
             let broken = made.broken(planned);
@@ -137,6 +139,7 @@ impl MendTally {
             let Some(first) = first else {
                 let card = &made.bytes[range];
                 let no_card = || entry.flag == 0 && baseline::judge(card).is_err();
+                shared.count(Tried::Kept, entry.flag == 1 && declares_shared(card));
                 self.kept[0] += u64::from(entry.flag == 1);
                 self.kept[1] += u64::from(entry.flag == 0);
                 self.kept[2] += u64::from(!card.is_empty() && no_card());
@@ -153,6 +156,7 @@ impl MendTally {
                     self.astray[place.expect("all are there")] += 1;
                 }
                 (4, _) => {
+                    shared.count(Tried::Dropped, declares_shared(&made.bytes[range.clone()]));
                     let whole = made.bytes.get(range.start..range.end + 1);
                     let cut = whole.is_some_and(|whole| baseline::judge(whole).is_ok());
                     self.refused[0] += u64::from(entry.length == 0);
@@ -197,6 +201,11 @@ impl fmt::Display for MendTally {
     }
 }
 
+/// Whether a card declares a shared number, or tries to.
+fn declares_shared(card: &[u8]) -> bool {
+    card.windows(6).any(|word| word == b"global")
+}
+
 /// A deck and its list, by the library.
 fn mended(deck: &[u8]) -> Result<(Vec<u8>, Vec<u8>), Fault> {
     let answer = open_panel::mend_to_vecs(deck);
@@ -209,8 +218,9 @@ impl Checker {
         &mut self,
         input: &Input,
         random: &mut Random,
-        tally: &mut MendTally,
+        all: &mut Tally,
     ) -> Result<(), Fault> {
+        let (tally, shared) = (&mut all.mending, &mut all.shared);
         let made = Damaged::any(&input.card, random);
         let lent = Surrounded::new(&made.bytes, random);
         let deck = lent.inner();
@@ -231,7 +241,7 @@ impl Checker {
             _ => tally.laws[2] += 1,
         }
         if matches!(made.due, Due::Mended(..)) || made.kind == Kind::Nothing {
-            tally.entries(&made)?;
+            tally.entries(&made, shared)?;
         }
 
         for (kind, rooms) in rooms(due.map(|texts| texts.map(<[u8]>::len)), random) {

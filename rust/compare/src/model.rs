@@ -14,8 +14,19 @@ pub struct Model {
     pub top: usize,
     /// Its start, l.
     pub start: usize,
+    /// The number that its seats share.
+    pub shared: Option<Shared>,
     /// Its statements.
     pub statements: Vec<Statement>,
+}
+
+/// `global g : [0..m] init v;`
+#[derive(Clone, Copy)]
+pub struct Shared {
+    /// Its top, m.
+    pub top: usize,
+    /// Its start, v.
+    pub start: usize,
 }
 
 /// A statement.
@@ -40,6 +51,17 @@ pub enum Unary {
     Group(Group),
     /// An exactly-one of a question: a term for each seat.
     One(Vec<Group>),
+    /// A test of the shared number.
+    Shared(SharedTest),
+}
+
+/// `(g=v)` or `(g!=v)`.
+#[derive(Clone, Copy)]
+pub struct SharedTest {
+    /// It says `!=`.
+    pub differs: bool,
+    /// The value.
+    pub value: usize,
 }
 
 /// Rows of unaries: each row joined by `&`, the rows by `|`.
@@ -75,6 +97,8 @@ pub struct Branch {
     pub weight: Vec<Mark>,
     /// The next state, t.
     pub end: usize,
+    /// What the shared number is set to.
+    pub shared: Option<usize>,
 }
 
 impl Unary {
@@ -83,12 +107,30 @@ impl Unary {
         match self {
             Unary::Not(inner) => 1 + inner.nodes(),
             Unary::Bracket(inner) => inner.nodes(),
-            Unary::Group(_) | Unary::One(_) => 1,
+            Unary::Group(_) | Unary::One(_) | Unary::Shared(_) => 1,
         }
     }
 }
 
+impl Unary {
+    /// Whether something holds of it, or of anything within it.
+    pub fn has(&self, such: &dyn Fn(&Unary) -> bool) -> bool {
+        such(self)
+            || match self {
+                Unary::Not(inner) => inner.has(such),
+                Unary::Bracket(inner) => inner.has(such),
+                Unary::Group(_) | Unary::One(_) | Unary::Shared(_) => false,
+            }
+    }
+}
+
 impl Expression {
+    /// Whether something holds of a unary anywhere in it.
+    pub fn has(&self, such: &dyn Fn(&Unary) -> bool) -> bool {
+        let Expression(rows) = self;
+        rows.iter().flatten().any(|unary| unary.has(such))
+    }
+
     /// How many guard nodes it has.
     pub fn nodes(&self) -> usize {
         let Expression(rows) = self;
@@ -101,7 +143,61 @@ pub fn row_nodes(row: &[Unary]) -> usize {
     row.iter().map(Unary::nodes).sum::<usize>() + row.len().saturating_sub(1)
 }
 
+/// A seating, taken apart.
+#[derive(Clone, Copy)]
+pub struct Seating<'s> {
+    /// The seats.
+    pub seats: &'s [u8],
+    /// The shared number, and 0 where there is none.
+    pub shared: u8,
+}
+
 impl Model {
+    /// A seating as the library is handed it, taken apart: with a shared number that stands last.
+    pub fn seating<'s>(&self, bytes: &'s [u8]) -> Seating<'s> {
+        match (self.shared, bytes) {
+            (Some(_), [seats @ .., shared]) => Seating {
+                seats,
+                shared: *shared,
+            },
+            _ => Seating {
+                seats: bytes,
+                shared: 0,
+            },
+        }
+    }
+
+    /// How many values the shared number has, and one where there is none.
+    pub fn shared_values(&self) -> usize {
+        self.shared.map_or(1, |shared| shared.top + 1)
+    }
+
+    /// Every seating, as the library is handed it.
+    pub fn seatings(&self) -> impl Iterator<Item = Vec<u8>> {
+        let (seats, roles, values) = (self.seats, self.top + 1, self.shared_values());
+        let has_shared = self.shared.is_some();
+        (0..roles.pow(seats as u32) * values).map(move |number| {
+            let mut rest = number / values;
+            let mut bytes: Vec<u8> = (0..seats)
+                .map(|_| {
+                    let state = rest % roles;
+                    rest /= roles;
+                    state as u8
+                })
+                .collect();
+            if has_shared {
+                bytes.push((number % values) as u8);
+            }
+            bytes
+        })
+    }
+
+    /// Whether something holds of a unary of a guard.
+    pub fn has(&self, such: &dyn Fn(&Unary) -> bool) -> bool {
+        let mut guards = self.statements.iter().flat_map(|one| &one.guard);
+        guards.any(|unary| unary.has(such))
+    }
+
     /// Whether a weight has a number of just so many digits.
     pub fn has_weight_of_digits(&self, digits: usize) -> bool {
         let branches = self.statements.iter().flat_map(|one| &one.branches);
@@ -120,11 +216,19 @@ impl Model {
         put(
             marks,
             if self.probabilistic {
-                "probabilistic module process1 s1 : [ 0 .."
+                "probabilistic"
             } else {
-                "nondeterministic module process1 s1 : [ 0 .."
+                "nondeterministic"
             },
         );
+        if let Some(Shared { top, start }) = self.shared {
+            put(marks, "global g : [ 0 ..");
+            marks.push(Mark::number(top));
+            put(marks, "] init");
+            marks.push(Mark::number(start));
+            put(marks, ";");
+        }
+        put(marks, "module process1 s1 : [ 0 ..");
         marks.push(Mark::number(self.top));
         put(marks, "] init");
         marks.push(Mark::number(self.start));
@@ -167,6 +271,11 @@ impl Statement {
             put(marks, ": ( s1 ' =");
             marks.push(Mark::number(branch.end));
             put(marks, ")");
+            if let Some(value) = branch.shared {
+                put(marks, "& ( g ' =");
+                marks.push(Mark::number(value));
+                put(marks, ")");
+            }
         }
         put(marks, ";");
     }
@@ -185,6 +294,11 @@ impl Unary {
                 put(marks, ")");
             }
             Unary::Group(group) => group.put(marks),
+            Unary::Shared(SharedTest { differs, value }) => {
+                put(marks, if *differs { "( g !=" } else { "( g =" });
+                marks.push(Mark::number(*value));
+                put(marks, ")");
+            }
             Unary::One(terms) => {
                 put(marks, "(");
                 for (place, term) in terms.iter().enumerate() {

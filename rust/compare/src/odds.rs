@@ -10,13 +10,15 @@ use baseline::Refusal;
 use crate::by_seats;
 use crate::cards::limits::{BRANCHES, STATEMENTS};
 use crate::cards::{card, statement, Guards, Leaves, Size};
-use crate::check::Fault;
+use crate::check::{reordered, Fault};
 use crate::exact::{chances, Bound, Counts, State};
-use crate::inputs::{all_seatings, seating, Input, Kind};
+use crate::inputs::{Input, Kind, Table};
 use crate::marks::{lay_out, Layout};
 use crate::model::{Expression, Model};
 use crate::questions::{self, Question};
 use crate::random::Random;
+use crate::shared::{SharedTally, Tried};
+use crate::tally::Tally;
 
 /// Odds that are reckoned, and those of them that are neither none nor certain; in each mode, for each aim.
 const EACH_ODDS: u64 = 3_000;
@@ -298,13 +300,14 @@ pub(crate) fn reckons(
     card: &[u8],
     input: &Input,
     random: &mut Random,
-    tally: &mut OddsTally,
+    all: &mut Tally,
 ) -> Result<(), Fault> {
+    let (tally, shared) = (&mut all.odds, &mut all.shared);
     let question = Question::new(input, random);
-    reckons_as(card, input, &question, random, tally)?;
+    reckons_as(card, input, &question, random, tally, shared)?;
     if random.once_in(EVENING_ONCE_IN) {
         let (input, question) = evening(random);
-        reckons_as(&input.card, &input, &question, random, tally)
+        reckons_as(&input.card, &input, &question, random, tally, shared)
             .map_err(|fault| format!("{fault}\n{}", input.card.escape_ascii()))?;
     }
     Ok(())
@@ -337,13 +340,50 @@ const TABLES: [(usize, usize); 20] = [
     (16, 0),
 ];
 
+/// The same with a shared number up to a top of its own; of the last four there are more pairs than odds are reckoned for, and of those
+/// before them as many as can be. No table has 505 to 524.
+const SHARED_TABLES: [(usize, usize, usize); 22] = [
+    (1, 1, 1),
+    (1, 7, 7),
+    (2, 1, 2),
+    (2, 2, 2),
+    (2, 3, 3),
+    (3, 1, 1),
+    (3, 1, 7),
+    (3, 2, 1),
+    (4, 1, 3),
+    (16, 0, 7),
+    (16, 1, 7),
+    (14, 2, 3),
+    (4, 4, 6),
+    (8, 3, 2),
+    (6, 3, 5),
+    (5, 4, 3),
+    (3, 6, 5),
+    (5, 5, 1),
+    (13, 2, 4),
+    (10, 2, 7),
+    (15, 2, 3),
+    (4, 4, 7),
+];
+
 /// A table where most seats can move, and a question that mostly does not hold yet.
 fn evening(random: &mut Random) -> (Input, Question) {
-    let (seats, top) = random.pick(&TABLES);
+    let (seats, top, shared) = match random.once_in(2) {
+        true => {
+            let (seats, top) = random.pick(&TABLES);
+            (seats, top, None)
+        }
+        false => {
+            let (seats, top, shared) = random.pick(&SHARED_TABLES);
+            (seats, top, Some(shared))
+        }
+    };
     let most = random.pick(&[1, 1, 2, 2, 4, 4, 8, 8, STATEMENTS]);
     let size = Size {
         seats,
         top,
+        shared,
         statements: most,
         branches: BRANCHES,
         nodes: 1,
@@ -358,6 +398,16 @@ fn evening(random: &mut Random) -> (Input, Question) {
             if !random.once_in(4) {
                 statement.guard.clear();
                 statement.own = crowded.unwrap_or(place % (top + 1));
+            }
+            if let Some(top) = shared.filter(|_| random.once_in(3)) {
+                let value = random.between(0, top);
+                let leaves = Leaves::Guard { own: statement.own };
+                let mut guards = Guards {
+                    size,
+                    leaves,
+                    random,
+                };
+                statement.guard = vec![guards.shared_test(value)];
             }
             statement
         })
@@ -374,23 +424,27 @@ fn evening(random: &mut Random) -> (Input, Question) {
         bytes: lay_out(&expression.marks(), Layout::any(random), random),
         model: Some(expression),
     };
-    let mut states = match crowded {
-        Some(state) => vec![state as u8; seats],
-        None => seating(seats, top, random),
-    };
+    let table = Table::of(&model);
+    let mut states = table.seating(random);
+    if let Some(state) = crowded {
+        states[..seats].fill(state as u8);
+    }
     for _ in 0..20 {
         let expression = question.model.as_ref().expect("just made");
-        if !by_seats::holds(expression, &states) && !by_seats::is_stuck(&model, &states) {
+        if !by_seats::holds(expression, model.seating(&states))
+            && !by_seats::is_stuck(&model, &states)
+        {
             break;
         }
-        states = seating(seats, top, random);
+        states = table.seating(random);
     }
-    let small = (top + 1).pow(seats.min(5) as u32) <= 256 && seats <= 4;
+    let small = seats <= 4 && (top + 1).pow(seats as u32) * model.shared_values() <= 256;
     let input = Input {
         kind: if small { Kind::Small } else { Kind::Valid },
         card: lay_out(&model.marks(), Layout::any(random), random),
         seats: states,
-        table: (seats, top),
+        table,
+        misuse: None,
         model: Some(model),
     };
     (input, question)
@@ -403,6 +457,7 @@ fn reckons_as(
     question: &Question,
     random: &mut Random,
     tally: &mut OddsTally,
+    shared: &mut SharedTally,
 ) -> Result<(), Fault> {
     let wrong_rows = random.once_in(12).then(|| random.below(WRONG_ROWS.len()));
     let asked = Asked {
@@ -441,6 +496,10 @@ fn reckons_as(
                 return Err("odds: the baseline wrote into rows of a refusal".to_owned());
             }
             tally.refusal(refusal, &asked, wrong_rows);
+            shared.count(
+                Tried::TooManyPairs,
+                refusal.number == 14 && vectors(card)? <= ROW,
+            );
             return Ok(());
         }
     };
@@ -460,14 +519,24 @@ fn reckons_as(
     let between = chance > 0 && chance < CERTAIN;
     tally.between[mode][usize::from(largest)] += u64::from(between);
     tally.stuck[mode] += u64::from(by_seats::is_stuck(model, &input.seats));
-    tally.hold_at_once += u64::from(by_seats::holds(expression, &input.seats));
+    let at = model.seating(&input.seats);
+    tally.hold_at_once += u64::from(by_seats::holds(expression, at));
     tally.steps[match asked.steps {
         0 => 0,
         1 => 1,
         STEPS => 3,
         _ => 2,
     }] += 1;
-    tally.many_vectors += u64::from(due.1[0][400..].iter().any(|number| *number > 0));
+    let many = due.1[0][400..].iter().any(|number| *number > 0);
+    tally.many_vectors += u64::from(many);
+    if model.shared.is_some() {
+        shared.count(Tried::OddsChoosing, !model.probabilistic);
+        shared.count(Tried::OddsDrawing, model.probabilistic);
+        shared.count(Tried::OddsBetween, between);
+        shared.count(Tried::OddsTested, between && question.tests_shared());
+        shared.count(Tried::ManyPairs, many);
+        shared.count(Tried::ToldApart, input.kind == Kind::Small);
+    }
 
     // For the other aim: the same on a probabilistic card.
     let other = asked.answer(!largest, &before, random)?;
@@ -483,8 +552,7 @@ fn reckons_as(
         }
     }
     // From the same counts, in another order of seats.
-    let mut seats = input.seats.clone();
-    random.shuffle(&mut seats);
+    let seats = reordered(&input.seats, model.seats, random);
     let reordered = Asked {
         seats: &seats,
         ..asked
@@ -501,7 +569,7 @@ fn reckons_as(
         asked.steps,
         largest,
     );
-    let state = Counts::of(&input.seats, model.top);
+    let state = Counts::of(model, &input.seats);
     tally.held(exact.bounds(&state, chance, asked.steps))?;
     if input.kind == Kind::Small {
         tally.told_apart += 1;
@@ -510,8 +578,15 @@ fn reckons_as(
     Ok(())
 }
 
-/// Every seating of a small table, with all seats told apart: those of the same counts have the same
-/// exact chance, and the row keeps to it.
+/// How many count vectors the table of a card has that is taken.
+fn vectors(card: &[u8]) -> Result<usize, Fault> {
+    let read = baseline::judge(card).map_err(|refusal| refusal.to_string())?;
+    let (seats, top) = (read.seats(), usize::from(read.top()));
+    Ok((1..=top).fold(1, |ways, state| ways * (seats + state) / state))
+}
+
+/// Every seating of a small table, with all seats told apart: those of the same counts, and with the same
+/// shared number, have the same exact chance, and the row keeps to it.
 fn told_apart(
     model: &Model,
     question: &Expression,
@@ -519,12 +594,12 @@ fn told_apart(
     largest: bool,
     row: &[u32],
 ) -> Result<(), Fault> {
-    let seatings = || all_seatings(model.seats, model.top);
+    let seatings = || model.seatings();
     let exact = chances::<Vec<u8>>(model, question, seatings(), asked.steps, largest);
     let mut vectors = BTreeMap::new();
     for seats in seatings() {
         let chance = &exact.above[&seats];
-        let counts = by_seats::counts(&seats, model.top);
+        let counts = Counts::of(model, &seats);
         let (_, before) = vectors.entry(counts).or_insert((seats.clone(), chance));
         if *before != chance {
             return Err(format!(
@@ -532,7 +607,7 @@ fn told_apart(
             ));
         }
     }
-    // By no_0, then no_1 and so on: as vectors are ordered.
+    // By no_0, then no_1 and so on, and by the shared number last: as vectors and pairs are ordered.
     for (place, (seats, _)) in vectors.values().enumerate() {
         let bound = exact.bounds(seats, row[place], asked.steps);
         if !matches!(bound, Bound::Exact | Bound::Below) {

@@ -1,7 +1,7 @@
 //! Questions for the tables of the inputs: over the whole range of what may be
 //! asked, on both sides of each limit, and damaged.
 
-use crate::cards::limits::{CARD_BYTES, DEPTH, NODES, SEATS, TOP};
+use crate::cards::limits::{CARD_BYTES, DEPTH, NODES, SEATS, SHARED_TOP, TOP};
 use crate::cards::{Guards, Leaves, Size};
 use crate::damage::{any_byte, damage_bytes, junk, ByteDamage, MarkDamage};
 use crate::inputs::Input;
@@ -41,6 +41,10 @@ pub enum Kind {
     Others,
     /// An exactly-one with something wrong.
     WrongOne,
+    /// A test of the shared number that names a value above its top; on a card without it, any test.
+    SharedAbove,
+    /// A test of the shared number that does not fit; on a card without it, any test.
+    SharedShape,
     /// One damage to the marks.
     Marks,
     /// Several damages to the marks.
@@ -57,8 +61,8 @@ pub enum Kind {
 
 impl Kind {
     /// All kinds, with how many of a hundred questions are of it.
-    pub const SHARES: [(Kind, usize); 22] = [
-        (Kind::Valid, 26),
+    pub const SHARES: [(Kind, usize); 24] = [
+        (Kind::Valid, 22),
         (Kind::AtLength, 3),
         (Kind::PastLength, 3),
         (Kind::AtNodes, 4),
@@ -70,6 +74,8 @@ impl Kind {
         (Kind::Above, 6),
         (Kind::Others, 5),
         (Kind::WrongOne, 9),
+        (Kind::SharedAbove, 2),
+        (Kind::SharedShape, 2),
         (Kind::Marks, 7),
         (Kind::Several, 3),
         (Kind::Bytes(ByteDamage::Removed), 2),
@@ -98,9 +104,9 @@ impl Kind {
         match self {
             Kind::PastLength => Some(21),
             Kind::SevenDigits => Some(22),
-            Kind::Cut => Some(23),
+            Kind::Cut | Kind::SharedShape => Some(23),
             Kind::PastNodes | Kind::PastDepth => Some(24),
-            Kind::SixDigits | Kind::Above => Some(25),
+            Kind::SixDigits | Kind::Above | Kind::SharedAbove => Some(25),
             Kind::Others | Kind::WrongOne => Some(26),
             _ => None,
         }
@@ -128,26 +134,25 @@ pub struct Question {
 impl Question {
     /// Whether it has an exactly-one, as it was made.
     pub fn has_exactly_one(&self) -> bool {
-        fn within(unary: &Unary) -> bool {
-            match unary {
-                Unary::Not(inner) => within(inner),
-                Unary::Bracket(Expression(rows)) => rows.iter().flatten().any(within),
-                Unary::Group(_) => false,
-                Unary::One(_) => true,
-            }
-        }
-        let Some(Expression(rows)) = &self.model else {
-            return false;
-        };
-        rows.iter().flatten().any(within)
+        self.has(&|unary| matches!(unary, Unary::One(_)))
+    }
+
+    /// Whether it tests the shared number, as it was made.
+    pub fn tests_shared(&self) -> bool {
+        self.has(&|unary| matches!(unary, Unary::Shared(_)))
+    }
+
+    fn has(&self, such: &dyn Fn(&Unary) -> bool) -> bool {
+        self.model.as_ref().is_some_and(|model| model.has(such))
     }
 
     /// A question of any kind.
     pub fn new(input: &Input, random: &mut Random) -> Question {
         let kind = Kind::any(random);
         let size = Size {
-            seats: input.table.0.clamp(1, SEATS),
-            top: input.table.1.min(TOP),
+            seats: input.table.seats.clamp(1, SEATS),
+            top: input.table.top.min(TOP),
+            shared: input.table.shared.map(|top| top.min(SHARED_TOP)),
             statements: 1,
             branches: 1,
             nodes: FEW_NODES,
@@ -217,6 +222,16 @@ impl Made<'_> {
             Kind::WrongOne => {
                 let wrong = self.wrong_one();
                 self.with(wrong)
+            }
+            Kind::SharedAbove | Kind::SharedShape => {
+                // The low bits of some would be a value.
+                let over = self.random.pick(&[1, 1, 1, 2, 248, 256, 65_536, 262_144]);
+                let value = match kind {
+                    Kind::SharedAbove => self.size.shared.unwrap_or(0) + over,
+                    _ => 0,
+                };
+                let test = self.leaves().shared_test(value);
+                self.with(test)
             }
             _ => {
                 let few = self.size.nodes;
@@ -347,6 +362,9 @@ impl Made<'_> {
         if kind == Kind::SevenDigits {
             too_many_digits(&mut marks, random);
         }
+        if kind == Kind::SharedShape && self.size.shared.is_some() {
+            misshape(&mut marks, random);
+        }
         let mut bytes = lay_out(&marks, Layout::any(random), random);
         if bytes.len() > QUESTION_BYTES {
             bytes = lay_out(&marks, Layout::Tight, random);
@@ -383,6 +401,24 @@ fn too_many_digits(marks: &mut [Mark], random: &mut Random) {
     marks[random.pick(&numbers)] = Mark::new(random.pick(&WRONG).as_bytes());
 }
 
+/// Puts something into a test of the shared number that does not fit there.
+fn misshape(marks: &mut Vec<Mark>, random: &mut Random) {
+    let names: Vec<usize> = (0..marks.len())
+        .filter(|&place| marks[place].bytes() == b"g")
+        .collect();
+    let name = random.pick(&names);
+    let (place, piece): (usize, &[&str]) = match random.below(6) {
+        0 => (name + 1, &["'"]),
+        1 => (name, &["("]),
+        2 => (name, &["!"]),
+        3 => (name + 3, &["&", "s1", "=", "0"]),
+        4 => (name + 3, &["|", "g", "=", "0"]),
+        _ => (name, &["s1", "=", "0", "&"]),
+    };
+    let piece = piece.iter().map(|mark| Mark::new(mark.as_bytes()));
+    marks.splice(place..place, piece);
+}
+
 /// Fills a question up to a length with what separates, before it or behind it.
 fn fill(bytes: &mut Vec<u8>, length: usize, random: &mut Random) {
     let missing = length.saturating_sub(bytes.len());
@@ -399,8 +435,9 @@ fn fill(bytes: &mut Vec<u8>, length: usize, random: &mut Random) {
 /// Changes a question at the place where it is refused, or close by; one that is
 /// answered, where something ends.
 fn damage_where_refused(bytes: &mut Vec<u8>, input: &Input, random: &mut Random) {
-    const PIECES: [&[u8]; 14] = [
-        b"|", b"&", b"(", b")", b"!", b"!=", b" ", b"s1", b"0", b"((", b"9", b"(s1=0)", b"//", b"<",
+    const PIECES: [&[u8]; 16] = [
+        b"|", b"&", b"(", b")", b"!", b"!=", b" ", b"s1", b"0", b"((", b"9", b"(s1=0)", b"//",
+        b"<", b"g", b"(g=0)",
     ];
     let place = match baseline::ask(&input.card, bytes, &input.seats) {
         Err(refusal) if refusal.number > 20 => refusal.place + random.below(3),

@@ -1,6 +1,6 @@
 //! Reduced programs, read back from their text and run.
 
-use crate::by_seats::Weights;
+use crate::by_seats::{CountsAndShared, Weights};
 use crate::weights::UNIT;
 
 /// A reduced program.
@@ -9,6 +9,8 @@ pub struct Reduced {
     pub start: Vec<u64>,
     /// The largest value of each counter.
     pub most: Vec<u64>,
+    /// The largest value of the shared number and the one that it starts with, where there is one.
+    pub shared: Option<(u64, u64)>,
     statements: Vec<Line>,
 }
 
@@ -22,6 +24,8 @@ struct Branch {
     units: u64,
     /// The counter that is lowered, the one that is raised, and where that is cut.
     update: Option<(usize, usize, u64)>,
+    /// What the shared number is set to.
+    shared: Option<u64>,
 }
 
 struct Test {
@@ -32,6 +36,8 @@ struct Test {
 
 enum Guard {
     Test(Test),
+    /// A test of the shared number: whether it says `!=`, and the value.
+    Shared(bool, u64),
     Not(Box<Guard>),
     And(Box<Guard>, Box<Guard>),
     Or(Box<Guard>, Box<Guard>),
@@ -45,12 +51,22 @@ impl Reduced {
         lines
             .next()
             .filter(|mode| matches!(*mode, "probabilistic" | "nondeterministic"))?;
-        lines
-            .next()
-            .filter(|line| *line == "module generic_process")?;
+        let mut line = lines.next()?;
+        let mut shared = None;
+        if line.starts_with("global ") {
+            let mut rest = Rest(line);
+            rest.due("global g : [0..")?;
+            let most = rest.number()?;
+            rest.due("] init ")?;
+            shared = Some((most, rest.number()?));
+            (rest.0 == ";").then_some(())?;
+            line = lines.next()?;
+        }
+        (line == "module generic_process").then_some(())?;
         let mut reduced = Reduced {
             start: Vec::new(),
             most: Vec::new(),
+            shared,
             statements: Vec::new(),
         };
         for line in lines.by_ref() {
@@ -78,18 +94,25 @@ impl Reduced {
         self.statements.len()
     }
 
-    /// What one of its statements leads to from some counts, if it can be taken.
-    pub fn steps(&self, statement: usize, counts: &[u64]) -> Option<Weights<Vec<u64>>> {
+    /// What one of its statements leads to from some counts and a shared number, if it can be taken.
+    pub fn steps(
+        &self,
+        statement: usize,
+        at: &CountsAndShared,
+    ) -> Option<Weights<CountsAndShared>> {
         let line = &self.statements[statement];
-        let holds =
-            line.first.holds(counts) && line.guard.as_ref().is_none_or(|guard| guard.holds(counts));
+        let guard = line.guard.as_ref();
+        let holds = line.first.holds(&at.0) && guard.is_none_or(|guard| guard.holds(at));
         holds.then(|| {
             let mut after = Weights::new();
             for branch in &line.branches {
-                let mut next = counts.to_vec();
+                let mut next = at.clone();
                 if let Some((lowered, raised, most)) = branch.update {
-                    next[lowered] -= 1;
-                    next[raised] = (next[raised] + 1).min(most);
+                    next.0[lowered] -= 1;
+                    next.0[raised] = (next.0[raised] + 1).min(most);
+                }
+                if let Some(value) = branch.shared {
+                    next.1 = value as u8;
                 }
                 *after.entry(next).or_default() += branch.units;
             }
@@ -111,12 +134,13 @@ impl Test {
 }
 
 impl Guard {
-    fn holds(&self, counts: &[u64]) -> bool {
+    fn holds(&self, at: &CountsAndShared) -> bool {
         match self {
-            Guard::Test(test) => test.holds(counts),
-            Guard::Not(inner) => !inner.holds(counts),
-            Guard::And(left, right) => left.holds(counts) && right.holds(counts),
-            Guard::Or(left, right) => left.holds(counts) || right.holds(counts),
+            Guard::Test(test) => test.holds(&at.0),
+            Guard::Shared(differs, value) => (u64::from(at.1) == *value) != *differs,
+            Guard::Not(inner) => !inner.holds(at),
+            Guard::And(left, right) => left.holds(at) && right.holds(at),
+            Guard::Or(left, right) => left.holds(at) || right.holds(at),
         }
     }
 }
@@ -172,6 +196,13 @@ impl Rest<'_> {
         if self.0.starts_with("(no_") {
             return self.test().map(Guard::Test);
         }
+        if self.takes("(g") {
+            let differs = self.takes("!");
+            self.due("=")?;
+            let value = self.number()?;
+            self.due(")")?;
+            return Some(Guard::Shared(differs, value));
+        }
         self.due("(")?;
         let left = Box::new(self.guard()?);
         let and = self.takes(" & ");
@@ -212,12 +243,27 @@ impl Rest<'_> {
         let below = if self.takes("/") { self.number()? } else { 1 };
         let units = above * (u64::from(UNIT) / below);
         self.due(":")?;
-        let update = if self.takes("true") {
-            None
-        } else {
-            Some(self.update()?)
+        // The counters first, then the shared number; `true` where there is neither.
+        let update = match self.0.starts_with("(no_") {
+            true => Some(self.update()?),
+            false => None,
         };
-        Some(Branch { units, update })
+        let sets = match update {
+            Some(_) => self.takes(" & (g'="),
+            None => self.takes("(g'="),
+        };
+        let mut shared = None;
+        if sets {
+            shared = Some(self.number()?);
+            self.due(")")?;
+        } else if update.is_none() {
+            self.due("true")?;
+        }
+        Some(Branch {
+            units,
+            update,
+            shared,
+        })
     }
 
     fn update(&mut self) -> Option<(usize, usize, u64)> {

@@ -8,10 +8,12 @@ use open_panel::WATCH_ROOM;
 
 use crate::by_seats;
 use crate::check::{room_lengths, Checker, Fault};
-use crate::inputs::{all_seatings, Input, Kind};
+use crate::inputs::{Input, Kind};
 use crate::model::Model;
 use crate::random::Random;
+use crate::shared::{SharedTally, Tried};
 use crate::surrounded::Surrounded;
+use crate::tally::Tally;
 
 /// Times that a spectator is shown something, in each mode.
 const SHOWN: u64 = 10_000;
@@ -212,10 +214,11 @@ impl Checker {
         card: &[u8],
         input: &Input,
         random: &mut Random,
-        tally: &mut SpectatorTally,
+        all: &mut Tally,
     ) -> Result<(), Fault> {
+        let (tally, shared) = (&mut all.spectators, &mut all.shared);
         let kind = List::any(random);
-        let made = kind.classes(input.table.1 + 1, random);
+        let made = kind.classes(input.table.top + 1, random);
         let lent = [&input.seats, &made].map(|bytes| Surrounded::new(bytes, random));
         let [seats, list] = lent.each_ref().map(Surrounded::inner);
         let what = format!("watch ({kind:?}, {list:?})");
@@ -262,9 +265,36 @@ impl Checker {
         }
         tally.shown[usize::from(model.probabilistic)] += 1;
         self.sees_classes_alone(card, model, seats, list, random, tally)?;
+        self.sees_no_shared(card, model, seats, list, shared)?;
         if input.kind == Kind::Small && random.once_in(2) {
             tally.small += 1;
             every_seating(card, model, list)?;
+        }
+        Ok(())
+    }
+
+    /// At every value of the shared number the same is seen.
+    fn sees_no_shared(
+        &mut self,
+        card: &[u8],
+        model: &Model,
+        bytes: &[u8],
+        list: &[u8],
+        tally: &mut SharedTally,
+    ) -> Result<(), Fault> {
+        let Some(shared) = model.shared else {
+            return Ok(());
+        };
+        let seats = model.seating(bytes).seats;
+        let line = by_seats::classes(seats, list);
+        for value in 0..=shared.top {
+            let at = [seats, &[value as u8]].concat();
+            let due = Ok(line.as_bytes());
+            self.rooms
+                .probe("watch, at any value", due, line.len(), |room| {
+                    open_panel::watch(card, &at, list, room)
+                })?;
+            tally.count(Tried::Watched, at != bytes);
         }
         Ok(())
     }
@@ -274,17 +304,19 @@ impl Checker {
         &mut self,
         card: &[u8],
         model: &Model,
-        seats: &[u8],
+        bytes: &[u8],
         list: &[u8],
         random: &mut Random,
         tally: &mut SpectatorTally,
     ) -> Result<(), Fault> {
+        let seats = model.seating(bytes).seats;
         let by_seats = by_seats::classes(seats, list);
         let mut due = |what: &str, seats: &[u8], line: &str| {
             let room = line.len() + 3;
             let line = Ok(line.as_bytes());
+            let bytes = [seats, &bytes[seats.len()..]].concat();
             self.rooms.probe(what, line, room, |room| {
-                open_panel::watch(card, seats, list, room)
+                open_panel::watch(card, &bytes, list, room)
             })
         };
         due("watch, by seats", seats, &by_seats)?;
@@ -320,10 +352,10 @@ fn fit(line: usize, room: usize) -> usize {
 /// Every seating of a small table: one line for each class counts, and another line for others.
 fn every_seating(card: &[u8], model: &Model, list: &[u8]) -> Result<(), Fault> {
     let mut lines = BTreeMap::new();
-    for seats in all_seatings(model.seats, model.top) {
-        let line = open_panel::watch_to_vec(card, &seats, list);
-        let line = line.map_err(|refusal| format!("watch at {seats:?}: {refusal}"))?;
-        let counts = by_seats::class_counts(&seats, list);
+    for bytes in model.seatings() {
+        let line = open_panel::watch_to_vec(card, &bytes, list);
+        let line = line.map_err(|refusal| format!("watch at {bytes:?}: {refusal}"))?;
+        let counts = by_seats::class_counts(model.seating(&bytes).seats, list);
         let before = lines.entry(counts).or_insert_with(|| line.clone());
         if *before != line {
             return Err(format!("two lines for the class counts {counts:?}"));

@@ -8,10 +8,11 @@ use crate::cards::limits::SEATS;
 use crate::check::Entry;
 use crate::deck_check::DeckTally;
 use crate::first_moves::FirstMoveTally;
-use crate::inputs::Kind;
+use crate::inputs::{Input, Kind};
 use crate::mending::MendTally;
 use crate::odds::OddsTally;
 use crate::questions::{self, Question};
+use crate::shared::{SharedTally, Tried};
 use crate::spectators::SpectatorTally;
 use crate::weights::BEFORE_ELEVENTHS;
 
@@ -154,6 +155,8 @@ pub struct Tally {
     pub decks: DeckTally,
     /// Decks that are mended.
     pub mending: MendTally,
+    /// The shared number.
+    pub shared: SharedTally,
 }
 
 impl Tally {
@@ -208,15 +211,22 @@ impl Tally {
     pub(crate) fn question(
         &mut self,
         question: &Question,
-        seats: usize,
+        input: &Input,
         answer: Result<bool, Refusal>,
     ) {
         let place = questions::Kind::SHARES
             .iter()
             .position(|(other, _)| *other == question.kind);
         if let Ok(yes) = answer {
+            // A seating that is answered has as many seats as the card, and a byte more where it shares a number.
+            let seats = match baseline::judge(&input.card) {
+                Ok(read) => read.seats(),
+                Err(_) => input.seats.len(),
+            };
             self.answered_at[seats - 1] += 1;
             self.exactly_ones[usize::from(!yes)] += u64::from(question.has_exactly_one());
+            let tried = if yes { Tried::Yes } else { Tried::No };
+            self.shared.count(tried, question.tests_shared());
         }
         let end = match answer {
             Ok(true) => 0,
@@ -278,6 +288,7 @@ impl Tally {
         self.odds.add(&other.odds);
         self.decks.add(&other.decks);
         self.mending.add(&other.mending);
+        self.shared.add(&other.shared);
     }
 
     /// How many inputs there were.
@@ -392,6 +403,7 @@ impl Tally {
         self.odds.shortfalls(&mut least);
         self.decks.shortfalls(&mut least);
         self.mending.shortfalls(&mut least);
+        self.shared.shortfalls(&mut least);
         shortfalls
     }
 }
@@ -474,7 +486,8 @@ impl fmt::Display for Tally {
         writeln!(f)?;
         self.print_questions(f)?;
         write!(f, "\n{}\n{}", self.spectators, self.first_moves)?;
-        write!(f, "\n{}\n{}\n{}", self.odds, self.decks, self.mending)
+        write!(f, "\n{}\n{}\n{}", self.odds, self.decks, self.mending)?;
+        write!(f, "\n{}", self.shared)
     }
 }
 

@@ -1,6 +1,6 @@
 //! The longest texts known, and that the rooms which are always enough hold them.
 
-use compare::extremes::extremes;
+use compare::extremes::{extremes, shared_extremes};
 
 #[test]
 fn longest_texts() {
@@ -14,4 +14,15 @@ fn longest_texts() {
     let panel = open_panel::show_to_vec(&panel.input.card, &panel.input.seats);
     assert_eq!(panel.map(|text| text.len()), Ok(4_148));
     const { assert!(4_148 <= open_panel::SHOW_ROOM) };
+}
+
+#[test]
+fn longest_texts_with_a_shared_number() {
+    let [reduced, panel] = shared_extremes();
+    let reduced = open_panel::reduce_to_vec(&reduced.input.card).map(|text| text.len());
+    assert_eq!(reduced, Ok(363_170));
+    const { assert!(363_218 <= open_panel::REDUCE_ROOM) };
+    let panel = open_panel::show_to_vec(&panel.input.card, &panel.input.seats);
+    assert_eq!(panel.map(|text| text.len()), Ok(4_797));
+    const { assert!(4_797 <= open_panel::SHOW_ROOM) };
 }

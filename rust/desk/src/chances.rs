@@ -12,9 +12,10 @@ pub fn with_chances(panel: &str) -> String {
         let words: Vec<&str> = line.split(' ').collect();
         let number = |word: &str| word.parse::<u64>().expect("a panel has numbers there");
         match words[..] {
-            ["probabilistic" | "nondeterministic"] | ["counts", ..] | ["choice", _] => {
-                lines.push((line, None))
-            }
+            ["probabilistic" | "nondeterministic"]
+            | ["counts", ..]
+            | ["shared", _]
+            | ["choice", _] => lines.push((line, None)),
             ["seats", _, "enabled", enabled] => {
                 // the weights of one choice come to one
                 if panel.starts_with("probabilistic") {
@@ -22,7 +23,10 @@ pub fn with_chances(panel: &str) -> String {
                 }
                 lines.push((line, None));
             }
-            ["stay", weight] | ["move", _, _, weight] => {
+            ["stay", weight]
+            | ["stay", weight, _]
+            | ["move", _, _, weight]
+            | ["move", _, _, weight, _] => {
                 let parts = number(weight);
                 lines.push((line, Some((fraction(parts, whole), percent(parts, whole)))));
             }

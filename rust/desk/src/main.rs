@@ -183,11 +183,26 @@ fn summary(card: &[u8]) -> String {
     } else {
         format!("roles 0 to {top}")
     };
+    let shared = walk.shared_top.map_or(String::new(), |top| {
+        format!(", g up to {}", String::from_utf8_lossy(top.of(card)))
+    });
     let (seats, statements) = (
         count(walk.modules.len(), "seat"),
         count(walk.statements.len(), "statement"),
     );
-    format!("{mode}, {seats}, {roles}, {statements}")
+    format!("{mode}, {seats}, {roles}{shared}, {statements}")
+}
+
+/// A seating that a card takes, in words: with the shared number apart, where the card has one.
+fn seating(card: &[u8], typed: &[u8]) -> String {
+    let walk = walk::card(card);
+    match (walk.shares, typed) {
+        (true, [seats @ .., shared]) => {
+            let seats = String::from_utf8_lossy(seats);
+            format!("seats {seats}, g {}", char::from(*shared))
+        }
+        _ => format!("seats {}", String::from_utf8_lossy(typed)),
+    }
 }
 
 fn check(cards: &[&str]) -> ExitCode {
@@ -204,7 +219,7 @@ fn check(cards: &[&str]) -> ExitCode {
             Ok(()) => {
                 made += &format!("{}: taken: {}", input.name, summary(card));
                 match seats {
-                    Some(seats) => made += &format!("; seats {}\n", String::from_utf8_lossy(seats)),
+                    Some(seats) => made += &format!("; {}\n", seating(card, seats)),
                     None => made.push('\n'),
                 }
             }

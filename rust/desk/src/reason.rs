@@ -212,7 +212,7 @@ fn of_card(card: &[u8], refusal: Refusal) -> Reason {
             let reason = match number {
                 3 => shape(card, &walk, at, "card"),
                 4 => limit(card, &walk, at, "guard"),
-                5 => state(card, &walk, at),
+                5 => state(card, &walk, card, &walk, at),
                 6 => word(card, &walk, at),
                 7 => weight(card, &walk, at),
                 _ => None,
@@ -230,14 +230,12 @@ fn of_question(question: &[u8], card: &[u8], refusal: Refusal) -> Reason {
         1 => long(question, "question", QUESTION_BYTES),
         2 => mark(question, at, "question"),
         number => {
-            let (walk, on) = (walk::question(question), walk::card(card));
+            let on = walk::card(card);
+            let walk = walk::question(question, &on);
             let reason = match number {
                 3 => shape(question, &walk, at, "question"),
                 4 => limit(question, &walk, at, "question"),
-                5 => {
-                    let state = walk.states.iter().find(|(mark, _)| mark.at == at);
-                    state.map(|(mark, role)| above(question, card, &on, *mark, role))
-                }
+                5 => state(question, &walk, card, &on, at),
                 _ => asked_group(&walk, &on, at),
             };
             reason.unwrap_or_else(|| plain(number, at))
@@ -419,9 +417,10 @@ fn character(text: &[u8], at: usize, what: &'static str) -> Found {
 }
 
 /// The words of cards.
-const KEYWORDS: [&str; 5] = [
+const KEYWORDS: [&str; 6] = [
     "probabilistic",
     "nondeterministic",
+    "global",
     "module",
     "endmodule",
     "init",
@@ -477,7 +476,7 @@ fn shape(text: &[u8], walk: &Walk, at: usize, what: &'static str) -> Option<Foun
         }
         _ => found("shape", mark.end, vec![("found", shown), due]),
     };
-    Some(match shape_hint(text, walk, stop) {
+    Some(match shape_hint(text, walk, stop, what) {
         Some((name, fills)) => reason.hint(name, fills),
         None => reason,
     })
@@ -492,6 +491,8 @@ fn due_in_words(due: &str) -> String {
         "@seat" => sentence("due.seat", &vec![]),
         "@end" => sentence("due.end", &vec![]),
         "@question-end" => sentence("due.question-end", &vec![]),
+        "@value" => sentence("due.value", &vec![]),
+        "@highest-value" => sentence("due.highest-value", &vec![]),
         mark => format!("`{mark}`"),
     }
 }
@@ -505,11 +506,19 @@ fn doubled(text: &[u8], before: Option<Mark>, mark: Mark) -> bool {
     before.is_some_and(|before| touching(&[before, mark]) && before.of(text) == mark.of(text))
 }
 
-fn shape_hint(text: &[u8], walk: &Walk, stop: &Stop) -> Option<(&'static str, Fills)> {
+fn shape_hint(
+    text: &[u8],
+    walk: &Walk,
+    stop: &Stop,
+    what: &'static str,
+) -> Option<(&'static str, Fills)> {
     let mark = walk.marks[stop.mark];
     let before = stop.mark.checked_sub(1).map(|place| walk.marks[place]);
     let shown = text_of(mark.of(text));
     let mended = |name, mended: &str| Some((name, vec![("mended", fill(mended))]));
+    if let Some(name) = shared_hint(text, walk, stop, what) {
+        return Some((name, vec![]));
+    }
     if mark.kind == Kind::Word {
         let lower = shown.to_ascii_lowercase();
         if lower != shown
@@ -574,6 +583,42 @@ fn shape_hint(text: &[u8], walk: &Walk, stop: &Stop) -> Option<(&'static str, Fi
     }
 }
 
+/// What may help where the shared number, or its declaration, does not fit.
+fn shared_hint(text: &[u8], walk: &Walk, stop: &Stop, what: &str) -> Option<&'static str> {
+    let shown = walk.marks[stop.mark].of(text);
+    let behind = |more: usize| {
+        let mark = walk.marks.get(stop.mark + more);
+        mark.map_or(&b""[..], |mark| mark.of(text))
+    };
+    let name = walk::SHARED.as_bytes();
+    let missing = match what {
+        "question" => "hint.not-shared",
+        _ => "hint.undeclared",
+    };
+    Some(match (stop.within, shown) {
+        (_, b"global") => "hint.global",
+        ("module", word) if word == name => "hint.undeclared",
+        ("bracket" | "condition" | "question" | "literal" | "update", word)
+            if word == name && !walk.shares =>
+        {
+            missing
+        }
+        ("literal", word) if word == name => "hint.test-alone",
+        ("test", b"&" | b"|") => "hint.test-alone",
+        ("condition" | "question", word) if word == name => "hint.test-brackets",
+        ("update", word) if word == name => "hint.seat-first",
+        ("branch", b"&") if walk.shares => "hint.set-once",
+        ("branch", b"&") if behind(2) == name => missing,
+        ("branch", b"(") if walk.shares && behind(1) == name => "hint.seat-first",
+        ("shared prime", b"=") => "hint.shared-prime",
+        ("lowest value", _) => "hint.lowest-value",
+        ("declaration", _) if stop.due[0] == ";" => "hint.declaration",
+        // in capitals it is the case that is wrong
+        ("shared name", word) if !word.eq_ignore_ascii_case(name) => "hint.name",
+        _ => return None,
+    })
+}
+
 /// The number that the module around a mark has to have.
 fn copy_at(walk: &Walk, mark: usize) -> usize {
     1 + walk.copies.iter().filter(|&&copy| copy <= mark).count()
@@ -612,6 +657,11 @@ fn limit(text: &[u8], walk: &Walk, at: usize, part: &'static str) -> Option<Foun
             vec![most(walk::NODES), ("part", fill(part))],
         ),
         "depth" => found("limit.depth", mark.end, vec![most(walk::DEPTH)]),
+        "shared" => found(
+            "limit.shared",
+            mark.end,
+            vec![("found", text_of(mark.of(text))), most(walk::TOP as usize)],
+        ),
         _ => found(
             "limit.top",
             mark.end,
@@ -620,9 +670,30 @@ fn limit(text: &[u8], walk: &Walk, at: usize, part: &'static str) -> Option<Foun
     })
 }
 
-fn state(card: &[u8], walk: &Walk, at: usize) -> Option<Found> {
+/// A role or a value of the shared number, in a text, above those of the card.
+fn state(text: &[u8], walk: &Walk, card: &[u8], on: &Walk, at: usize) -> Option<Found> {
+    if let Some((mark, of)) = walk.values.iter().find(|(mark, _)| mark.at == at) {
+        return Some(value_above(text, card, on, *mark, of));
+    }
     let (mark, role) = walk.states.iter().find(|(mark, _)| mark.at == at)?;
-    Some(above(card, card, walk, *mark, role))
+    Some(above(text, card, on, *mark, role))
+}
+
+/// A value of the shared number above its highest.
+fn value_above(text: &[u8], card: &[u8], on: &Walk, mark: Mark, of: &str) -> Found {
+    let name = match of {
+        "init" => "value.init",
+        "test" => "value.test",
+        _ => "value.branch",
+    };
+    let top = shared_top(card, on).unwrap_or_default();
+    let fills = vec![("found", text_of(mark.of(text))), ("top", top.clone())];
+    found(name, mark.end, fills).hint("hint.value", vec![("top", top)])
+}
+
+/// The highest value of the shared number as the card has it, if there is one.
+fn shared_top(card: &[u8], walk: &Walk) -> Option<String> {
+    walk.shared_top.map(|mark| text_of(mark.of(card)))
 }
 
 /// A role, in a text, above those of the card.
@@ -993,12 +1064,21 @@ fn of_seats(typed: &[u8], card: &[u8], refusal: Refusal) -> Reason {
             found("seats.blank", blank + 1, vec![]).hint(name, fills),
         )
     } else if refusal.number() == 8 {
-        let fills = vec![("found", many(typed.len(), "seat")), ("due", fill(seats))];
-        (0, found("seats.count", typed.len(), fills))
+        (0, seat_count(typed, card, &walk))
     } else {
         let at = refusal.place();
         let seat = ("seat", fill(at + 1));
         match typed.get(at) {
+            Some(&byte) if walk.shares && at == seats => {
+                let top = shared_top(card, &walk).unwrap_or_default();
+                let (shown, length) = shown_character(&typed[at..], byte);
+                let name = match byte.is_ascii_digit() {
+                    true => "seats.value",
+                    false => "seats.value-letter",
+                };
+                let fills = vec![("found", shown), ("top", top)];
+                (at, found(name, at + length, fills))
+            }
             Some(digit) if digit.is_ascii_digit() => {
                 let fills = vec![seat, ("found", fill(char::from(*digit))), ("top", top)];
                 (at, found("seats.role", at + 1, fills))
@@ -1018,6 +1098,27 @@ fn of_seats(typed: &[u8], card: &[u8], refusal: Refusal) -> Reason {
         }
     };
     reason.said(refusal, at)
+}
+
+/// Not as many digits as the card wants: one for each seat, and behind them one for the shared number.
+fn seat_count(typed: &[u8], card: &[u8], walk: &Walk) -> Found {
+    let seats = walk.modules.len();
+    let start = walk.values.first().map(|(mark, _)| text_of(mark.of(card)));
+    let Some(start) = start.filter(|_| walk.shares) else {
+        let fills = vec![("found", many(typed.len(), "seat")), ("due", fill(seats))];
+        return found("seats.count", typed.len(), fills);
+    };
+    if typed.len() == seats {
+        let mended = text_of(typed) + &start;
+        let fills = vec![("seats", many(seats, "seat"))];
+        return found("seats.no-value", typed.len(), fills)
+            .hint("hint.value-last", vec![("mended", mended)]);
+    }
+    let fills = vec![
+        ("found", many(typed.len(), "digit")),
+        ("seats", many(seats, "seat")),
+    ];
+    found("seats.digits", typed.len(), fills)
 }
 
 /// A character as it is shown, and how many bytes it has.
@@ -1087,23 +1188,37 @@ fn of_table(card: &[u8], refusal: Refusal) -> Reason {
     };
     let (seats, top) = (walk.modules.len(), text_of(mark.of(card)));
     let top = top.parse::<usize>().unwrap_or(0);
-    let fits = |seats, top| ways(seats, top) <= ODDS_ROW;
+    let highest = shared_top(card, &walk).and_then(|top| top.parse::<usize>().ok());
+    let values = highest.map_or(1, |highest| highest + 1);
+    let fits = |seats, top| ways(seats, top) * values <= ODDS_ROW;
     let less = (0..top).rev().find(|&less| fits(seats, less));
     let fewer = (1..seats).rev().find(|&fewer| fits(fewer, top));
-    let fills = vec![
+    let mut fills = vec![
         ("seats", many(seats, "seat")),
         ("top", fill(top)),
-        ("found", grouped(ways(seats, top))),
+        ("found", grouped(ways(seats, top) * values)),
         ("most", fill(ODDS_ROW)),
     ];
-    let hints = vec![
+    let mut hints = vec![
         ("seats", many(seats, "seat")),
         ("less", fill(less.unwrap_or(0))),
         ("top", fill(top)),
         ("fewer", many(fewer.unwrap_or(1), "seat")),
     ];
-    found("odds.vectors", mark.end, fills)
-        .hint("hint.vectors", hints)
+    let mut name = "odds.vectors";
+    let mut hint = "hint.vectors";
+    if values > 1 {
+        name = "odds.pairs";
+        fills.push(("ways", grouped(ways(seats, top))));
+        fills.push(("values", fill(values)));
+        // a lower highest value helps only where the seats and roles alone are not too many
+        if let Some(lower) = (ODDS_ROW / ways(seats, top)).checked_sub(1) {
+            hint = "hint.pairs";
+            hints.push(("lower", fill(lower)));
+        }
+    }
+    found(name, mark.end, fills)
+        .hint(hint, hints)
         .said(refusal, mark.at)
 }
 

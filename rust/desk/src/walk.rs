@@ -13,8 +13,10 @@ pub const BRANCHES: usize = 8;
 pub const NODES: usize = 32;
 /// Most open brackets and `!`.
 pub const DEPTH: usize = 8;
-/// The highest role of any card.
+/// The highest role of any card, and the highest value of a shared number.
 pub const TOP: u32 = open_panel::TOP_STATE as u32;
+/// What the number that seats share is called.
+pub const SHARED: &str = "g";
 /// A weight of one.
 pub const UNIT: u32 = open_panel::UNIT;
 
@@ -104,6 +106,12 @@ pub struct Walk {
     pub copies: Vec<usize>,
     /// The mark of the highest role.
     pub top: Option<Mark>,
+    /// The card declares a number that its seats share, or begins to; a question is about such a card.
+    pub shares: bool,
+    /// The mark of that number's highest value.
+    pub shared_top: Option<Mark>,
+    /// Values of it: the mark, and what it is the value of.
+    pub values: Vec<(Mark, &'static str)>,
     /// The card is nondeterministic.
     pub nondeterministic: bool,
 }
@@ -113,9 +121,12 @@ pub fn card(text: &[u8]) -> Walk {
     walked(text, Walker::card)
 }
 
-/// Walks along a question.
-pub fn question(text: &[u8]) -> Walk {
-    walked(text, Walker::question)
+/// Walks along a question about a card.
+pub fn question(text: &[u8], card: &Walk) -> Walk {
+    walked(text, |walker| {
+        walker.met.shares = card.shares;
+        walker.question()
+    })
 }
 
 fn walked<'t>(text: &'t [u8], shape: impl FnOnce(&mut Walker<'t>) -> Fits<()>) -> Walk {
@@ -236,7 +247,16 @@ impl Walker<'_> {
         if !self.takes("nondeterministic") && !self.takes("probabilistic") {
             return self.stop("mode", &["probabilistic", "nondeterministic"]);
         }
-        self.due("module", "module")?;
+        if self.takes("global") {
+            self.declaration()?;
+        }
+        if !self.takes("module") {
+            let due: &[&str] = match self.met.shares {
+                true => &["module"],
+                false => &["module", "global"],
+            };
+            return self.stop("module", due);
+        }
         self.met.modules.push(1);
         self.module(1, "first module")?;
         self.seat(1, "roles")?;
@@ -278,6 +298,37 @@ impl Walker<'_> {
             }
             self.copy()?;
         }
+        Ok(())
+    }
+
+    /// The shared number, from behind `global` on.
+    fn declaration(&mut self) -> Fits<()> {
+        self.met.shares = true;
+        self.due(SHARED, "shared name")?;
+        self.due(":", "declaration")?;
+        self.due("[", "declaration")?;
+        if !self.takes("0") {
+            return self.stop("lowest value", &["0"]);
+        }
+        self.due("..", "declaration")?;
+        let mark = self.next;
+        let (top, at) = self.number("@highest-value", "declaration")?;
+        if top > TOP {
+            self.next = mark;
+            return self.passes("shared");
+        }
+        self.met.shared_top = Some(at);
+        self.due("]", "declaration")?;
+        self.due("init", "declaration")?;
+        self.value("init", "declaration")?;
+        self.due(";", "declaration")?;
+        Ok(())
+    }
+
+    /// A value of the shared number.
+    fn value(&mut self, of: &'static str, within: &'static str) -> Fits<()> {
+        let (_, mark) = self.number("@value", within)?;
+        self.met.values.push((mark, of));
         Ok(())
     }
 
@@ -342,15 +393,34 @@ impl Walker<'_> {
             self.due("=", "update")?;
             self.state("branch", "update")?;
             self.due(")", "update")?;
+            let mut due: &[&str] = &["+", ";"];
+            if self.met.shares {
+                if self.takes("&") {
+                    self.shared_update()?;
+                } else {
+                    due = &["&", "+", ";"];
+                }
+            }
             if self.is(";") {
                 let mark = self.take();
                 self.met.sums.push((mark, sum, first));
                 return Ok(());
             }
             if !self.takes("+") {
-                return self.stop("branch", &["+", ";"]);
+                return self.stop("branch", due);
             }
         }
+    }
+
+    /// What a branch sets the shared number to, from behind `&` on.
+    fn shared_update(&mut self) -> Fits<()> {
+        self.due("(", "shared update")?;
+        self.due(SHARED, "shared update")?;
+        self.due("'", "shared prime")?;
+        self.due("=", "shared update")?;
+        self.value("branch", "shared update")?;
+        self.due(")", "shared update")?;
+        Ok(())
     }
 
     /// A weight and the `:` behind it: its units, none if it is not good.
@@ -426,10 +496,10 @@ impl Walker<'_> {
             return self.unary(depth + 1, "condition");
         }
         if !self.is("(") {
-            let due: &[&str] = if within == "bracket" {
-                &["@seat", "(", "!"]
-            } else {
-                &["(", "!"]
+            let due: &[&str] = match (within, self.met.shares) {
+                ("bracket", true) => &["@seat", SHARED, "(", "!"],
+                ("bracket", false) => &["@seat", "(", "!"],
+                _ => &["(", "!"],
             };
             return self.stop(within, due);
         }
@@ -438,6 +508,10 @@ impl Walker<'_> {
             let group = self.group(&["&", "|"])?;
             self.met.groups.push(group);
             return Ok(());
+        }
+        if self.met.shares && self.peek_behind().of(self.text) == SHARED.as_bytes() {
+            self.node()?;
+            return self.test();
         }
         if self.asks && self.starts_one() {
             self.node()?;
@@ -451,6 +525,18 @@ impl Walker<'_> {
         if !self.takes(")") {
             return self.stop("expression", &["&", "|", ")"]);
         }
+        Ok(())
+    }
+
+    /// A test of the shared number.
+    fn test(&mut self) -> Fits<()> {
+        self.take();
+        self.take();
+        if !self.takes("=") && !self.takes("!=") {
+            return self.stop("relation", &["=", "!="]);
+        }
+        self.value("test", "test")?;
+        self.due(")", "test")?;
         Ok(())
     }
 

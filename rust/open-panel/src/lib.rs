@@ -9,6 +9,10 @@
 //! the room behind it as it was; a [`Refusal`] leaves the whole room as it was.
 //! The functions that end in `_to_vec` or `_to_vecs` bring their own room.
 //!
+//! Seats are a byte each, the seat's state, in any order. On a card that declares
+//! a number which all seats share, one byte more stands behind them, the value
+//! that it has now; on any other card there is none.
+//!
 //! ```
 //! let card = b"nondeterministic module process1 s1 : [0..1] init 0;
 //!     [] s1=0 -> 1:(s1'=1); endmodule";
@@ -18,6 +22,22 @@
 //!     &room[..length],
 //!     b"nondeterministic\nseats 1 enabled 1\ncounts 1 0\nchoice 1\nmove 0 1 277200\n"
 //! );
+//! # Ok::<(), open_panel::Refusal>(())
+//! ```
+//!
+//! The same with day (0) and night (1), which whoever acts at night ends:
+//!
+//! ```
+//! let card = b"nondeterministic global g : [0..1] init 1;
+//!     module process1 s1 : [0..1] init 0;
+//!     [] s1=0 & (g=1) -> 1:(s1'=1) & (g'=0); endmodule";
+//! let night = open_panel::show_to_vec(card, &[0, 1])?;
+//! assert_eq!(
+//!     night,
+//!     b"nondeterministic\nseats 1 enabled 1\ncounts 1 0\nshared 1\nchoice 1\nmove 0 1 277200 0\n"
+//! );
+//! assert_eq!(open_panel::first_move(card, &[0, 0]), Ok(None));
+//! assert_eq!(open_panel::first_move(card, &[0]), Err(open_panel::Refusal::SeatCount));
 //! # Ok::<(), open_panel::Refusal>(())
 //! ```
 
@@ -40,20 +60,20 @@ use deck::RawPart;
 pub const CARD_BYTES: usize = 16_384;
 /// Longest question, in bytes.
 pub const QUESTION_BYTES: usize = 16_384;
-/// Most seats at a table.
+/// Most seats at a table. A seating has a byte more where the card shares a number.
 pub const SEATS: usize = 16;
-/// Highest state of a seat on any card.
+/// Highest state of a seat on any card, and highest value of a shared number.
 pub const TOP_STATE: u8 = 7;
 /// Highest public class of a state.
 pub const TOP_CLASS: u8 = 7;
 /// A weight of one, as panels show it.
 pub const UNIT: u32 = 277_200;
 /// A room in which every written card fits.
-pub const WRITE_ROOM: usize = 83_151;
+pub const WRITE_ROOM: usize = 85_481;
 /// A room in which every reduced program fits.
-pub const REDUCE_ROOM: usize = 356_082;
+pub const REDUCE_ROOM: usize = 392_972;
 /// A room in which every panel fits.
-pub const SHOW_ROOM: usize = 4_357;
+pub const SHOW_ROOM: usize = 5_774;
 /// A room in which all that a spectator sees fits.
 pub const WATCH_ROOM: usize = 25;
 
@@ -100,13 +120,15 @@ pub fn reduce(card: &[u8], room: &mut [u8]) -> Result<usize, Refusal> {
     library::reduce(card, room).into_result()
 }
 
-/// Puts the panel of a seating, a state for each seat, into a lent room. Refusals: 1 to 10.
+/// Puts the panel of a seating, a state for each seat and behind them the shared number where the card has one, into a lent room.
+/// Refusals: 1 to 10.
 pub fn show(card: &[u8], seats: &[u8], room: &mut [u8]) -> Result<usize, Refusal> {
     library::show(card, seats, room).into_result()
 }
 
 /// Puts what a spectator sees of a seating into a lent room: the line `classes` and how many seats are in each public class, 0 to
-/// [`TOP_CLASS`]. The list has the class of each state of the card. Refusals: 1 to 9, 13, then 10.
+/// [`TOP_CLASS`]. The list has the class of each state of the card. A shared number is judged with the seats, and not seen.
+/// Refusals: 1 to 9, 13, then 10.
 ///
 /// ```
 /// let card = b"nondeterministic module process1 s1 : [0..1] init 0;
@@ -121,8 +143,8 @@ pub fn watch(card: &[u8], seats: &[u8], classes: &[u8], room: &mut [u8]) -> Resu
 }
 
 /// Says whether a question holds at a seating. It is an expression of groups of all seats, such as
-/// `!(s1=0 | s2=0)`, with `((s1=0 & s2!=0) | (s1!=0 & s2=0))` for exactly one.
-/// Refusals: 1 to 7, 21 to 26, then 8 and 9.
+/// `!(s1=0 | s2=0)`, with `((s1=0 & s2!=0) | (s1!=0 & s2=0))` for exactly one, and on a card that shares a number of
+/// tests of that, such as `(g!=1)`. Refusals: 1 to 7, 21 to 26, then 8 and 9.
 ///
 /// ```
 /// let card = b"nondeterministic module process1 s1 : [0..1] init 0;

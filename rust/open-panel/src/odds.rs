@@ -2,7 +2,8 @@
 
 use crate::{library, Refusal};
 
-/// How many numbers a lent row has, which is for how many count vectors odds are reckoned at most.
+/// How many numbers a lent row has, which is for how many count vectors odds are reckoned at most; on a card that shares a number,
+/// for how many pairs of a vector and a value.
 pub const ODDS_ROW: usize = 512;
 /// Most steps of odds.
 pub const ODDS_STEPS: usize = 32;
@@ -22,8 +23,8 @@ pub enum Aim {
 /// by one for each step at most. Refusals: 1 to 7, 21 to 26, 8, 9, then 14 to 16.
 ///
 /// The rows are lent, [`ODDS_ROW`] numbers each. Afterwards the first has the chance from each count vector, ordered by how many
-/// seats are in state 0, then in state 1 and so on; the second has the same for a step less, or nothing but zeros if there is
-/// none; behind the last vector stand zeros. A refusal leaves both as they were.
+/// seats are in state 0, then in state 1 and so on, and last by the shared number; the second has the same for a step less, or
+/// nothing but zeros if there is none; behind the last vector stand zeros. A refusal leaves both as they were.
 ///
 /// ```
 /// use open_panel::{Aim, ODDS_ROW};

@@ -23,12 +23,12 @@ pub enum Refusal {
         /// Where the mark starts, or the length of the card.
         at: usize,
     },
-    /// 4: more of something, or a higher top state, than any card may have.
+    /// 4: more of something, or a higher top state or highest shared number, than any card may have.
     Limit {
         /// Where the excess starts.
         at: usize,
     },
-    /// 5: a state higher than the card's highest.
+    /// 5: a state higher than the card's highest, or a value of the shared number higher than its highest.
     State {
         /// Where its number starts.
         at: usize,
@@ -43,11 +43,11 @@ pub enum Refusal {
         /// Where the weight starts, or the closing `;`.
         at: usize,
     },
-    /// 8: a seating of more or fewer seats than the card has.
+    /// 8: a seating of more or fewer seats than the card has, or without the byte of the number that they share.
     SeatCount,
-    /// 9: a seat in a state higher than the card's highest.
+    /// 9: a seat in a state higher than the card's highest, or a shared number higher than its highest.
     SeatState {
-        /// The index of the first one.
+        /// The index of the first one; that of the shared number is how many seats there are.
         seat: usize,
     },
     /// 10: a room that the text, the deck or the list does not fit into.
@@ -70,7 +70,8 @@ pub enum Refusal {
         /// The list's length if that is wrong, or else the index of the first such class.
         at: usize,
     },
-    /// 14: odds for a table with more than [`ODDS_ROW`](crate::ODDS_ROW) count vectors.
+    /// 14: odds for a table with more than [`ODDS_ROW`](crate::ODDS_ROW) count vectors, each counted once for every value of the
+    /// shared number.
     Vectors,
     /// 15: odds for more than [`ODDS_STEPS`](crate::ODDS_STEPS) steps.
     Steps,
@@ -93,7 +94,7 @@ pub enum Refusal {
         /// Where in the question the excess starts.
         at: usize,
     },
-    /// 25: a state in the question that is higher than the card's highest.
+    /// 25: a state or a value of the shared number in the question that is higher than the card's highest.
     QuestionState {
         /// Where in the question its number starts.
         at: usize,
@@ -237,7 +238,7 @@ impl fmt::Display for Refusal {
             | Refusal::State { .. }
             | Refusal::Word { .. }
             | Refusal::Weight { .. } => write!(f, "byte {place}: {words}"),
-            Refusal::SeatState { .. } => write!(f, "seat {place} (from 0): {words}"),
+            Refusal::SeatState { .. } => write!(f, "byte {place} of the seats: {words}"),
             Refusal::Room { .. } => write!(f, "{words}: {place} bytes are needed"),
             Refusal::Deck { .. } => write!(
                 f,

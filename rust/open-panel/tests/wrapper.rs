@@ -35,7 +35,7 @@ fn refusals_have_number_place_and_words() {
         (
             5,
             7,
-            "byte 7: a state above the card's top state (refusal 5)",
+            "byte 7: a state above the card's top state, or a shared number above its highest (refusal 5)",
         ),
         (
             6,
@@ -47,11 +47,15 @@ fn refusals_have_number_place_and_words() {
             7,
             "byte 7: not a weight, or weights that do not sum to 1 (refusal 7)",
         ),
-        (8, 0, "not as many seats as the card has (refusal 8)"),
+        (
+            8,
+            0,
+            "not as many seats as the card has, and one byte more if it shares a number (refusal 8)",
+        ),
         (
             9,
             7,
-            "seat 7 (from 0): a seat above the card's top state (refusal 9)",
+            "byte 7 of the seats: a seat above the card's top state, or the shared number above its highest (refusal 9)",
         ),
         (
             10,
@@ -69,7 +73,11 @@ fn refusals_have_number_place_and_words() {
             7,
             "a list of 7 classes, or the class of state 7: not one class for each state, or a class above 7 (refusal 13)",
         ),
-        (14, 0, "the table has more than 512 count vectors (refusal 14)"),
+        (
+            14,
+            0,
+            "the table has more than 512 count vectors, or pairs of one and a shared number (refusal 14)",
+        ),
         (15, 0, "more than 32 steps (refusal 15)"),
         (16, 0, "a lent row does not have 512 numbers (refusal 16)"),
         (
@@ -95,7 +103,7 @@ fn refusals_have_number_place_and_words() {
         (
             25,
             7,
-            "byte 7 of the question: a state above the card's top state (refusal 25)",
+            "byte 7 of the question: a state above the card's top state, or a shared number above its highest (refusal 25)",
         ),
         (
             26,
@@ -133,6 +141,93 @@ fn elevenths() {
     assert_eq!(refused("1/13:(s1'=1)"), Refusal::Weight { at });
     assert_eq!(refused("123456:(s1'=1)"), Refusal::Weight { at });
     assert_eq!(refused("1234567:(s1'=1)"), Refusal::Mark { at });
+}
+
+/// The card with a number that the seats share: at 1 the statement can be taken, which makes it 0.
+fn night() -> String {
+    let text = std::str::from_utf8(CARD).unwrap();
+    let declared = text.replace(
+        "module process1",
+        "global g : [0..2] init 1;\nmodule process1",
+    );
+    declared.replace(
+        "s1=0 -> 1:(s1'=1)",
+        "s1=0 & (g=1) -> 1/2:(s1'=1) & (g'=0) + 1/2:(s1'=0) & (g'=2)",
+    )
+}
+
+#[test]
+fn a_shared_number_stands_behind_the_seats() {
+    let night = night();
+    let card = night.as_bytes();
+    assert_eq!(judge(card), Ok(()));
+    assert_eq!(write_to_vec(card).as_deref(), Ok(card));
+    let reduced = reduce_to_vec(card).unwrap();
+    let head = b"nondeterministic\nglobal g : [0..2] init 1;\nmodule generic_process\n";
+    assert!(reduced.starts_with(head));
+    let shown =
+        |seats: &[u8]| show_to_vec(card, seats).map(|text| String::from_utf8(text).unwrap());
+    let head = "nondeterministic\nseats 1 enabled 1\ncounts 1 0\n";
+    let awake = format!("{head}shared 1\nchoice 1\nstay 138600 2\nmove 0 1 138600 0\n");
+    assert_eq!(shown(&[0, 1]), Ok(awake));
+    let asleep = format!("{head}shared 0\nchoice 0\nstay {UNIT} 0\n");
+    assert_eq!(shown(&[0, 0]), Ok(asleep));
+    assert_eq!(first_move(card, &[0, 1]), Ok(Some(1)));
+    assert_eq!(first_move(card, &[0, 2]), Ok(None));
+    assert_eq!(ask(card, b"(g=1) & (s1=0)", &[0, 1]), Ok(true));
+    assert_eq!(ask(card, b"(g!=1)", &[0, 1]), Ok(false));
+    for shared in 0..=2 {
+        let seen = watch_to_vec(card, &[1, shared], &[7, 2]);
+        assert_eq!(seen.as_deref(), Ok(&b"classes 0 0 1 0 0 0 0 0\n"[..]));
+    }
+    // The seat in 1 and then in 0, each at 0, 1 and 2.
+    let [mut first, mut second] = [[0; ODDS_ROW]; 2];
+    let chance = odds(
+        card,
+        b"(g=2)",
+        &[0, 1],
+        1,
+        Aim::Largest,
+        &mut first,
+        &mut second,
+    );
+    assert_eq!(chance, Ok(500_000));
+    assert_eq!(first[..7], [0, 0, CERTAIN, 0, 500_000, CERTAIN, 0]);
+    assert_eq!(second[..7], [0, 0, CERTAIN, 0, 0, CERTAIN, 0]);
+}
+
+#[test]
+fn refusals_of_a_shared_number() {
+    let night = night();
+    let with = |old: &str, new: &str| {
+        let at = night.find(old).unwrap();
+        let refusal = judge(night.replacen(old, new, 1).as_bytes()).unwrap_err();
+        (refusal.number(), refusal.place() - at)
+    };
+    assert_eq!(with("2] init 1", "8] init 1"), (4, 0));
+    assert_eq!(with("1;\nmodule", "3;\nmodule"), (5, 0));
+    assert_eq!(with("1) ->", "3) ->"), (5, 0));
+    assert_eq!(with("0) + 1/2", "3) + 1/2"), (5, 0));
+    assert_eq!(with("g=1", "h=1"), (3, 0));
+    assert_eq!(
+        with("global g : [0..2] init 1;\n", ""),
+        (3, "module process1\ns1 : [0..1] init 0;\n[] s1=0 & (".len())
+    );
+    for seats in [&[0][..], &[0, 0, 0], &[]] {
+        assert_eq!(
+            show_to_vec(night.as_bytes(), seats),
+            Err(Refusal::SeatCount)
+        );
+    }
+    let seat = |seats: &[u8]| first_move(night.as_bytes(), seats).unwrap_err();
+    assert_eq!(seat(&[0, 3]), Refusal::SeatState { seat: 1 });
+    assert_eq!(seat(&[2, 3]), Refusal::SeatState { seat: 0 });
+    let asked = |question: &[u8]| ask(night.as_bytes(), question, &[0, 1]).unwrap_err();
+    assert_eq!(asked(b"(g=3)"), Refusal::QuestionState { at: 3 });
+    assert_eq!(
+        ask(CARD, b"(g=0)", &[0]),
+        Err(Refusal::QuestionShape { at: 1 })
+    );
 }
 
 #[test]

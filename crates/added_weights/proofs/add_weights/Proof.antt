@@ -1,97 +1,115 @@
--- `added_weights::add_weights` meets its contract: after each turn the weight to one state more is added; the sums fit, since they are bounded
--- before. Assumes nothing.
-use Prim.Native.Nat.{ℕ, _≤_, _-_, _+_, _*_}
-use borrow.Author.Needs.{needs}
+-- `added_weights::add_weights` meets its contract: after j turns the first j branches are added. A sum fits, since none before was large and a branch adds little. Assumes nothing.
+use Rattle.panel_numbers.proofs.Raised.{added-none, added-next, sums-next}
+use Rattle.panel_numbers.specs.Fitting.{heaviest}
+use Rattle.panel_numbers.specs.Table.{placeOf, branchesIn, added}
+use Rattle.card.specs.Limits.{mostSeats}
 use lib.ListN.{getD}
-use mathlib.Core.Path.{_≡_, refl, _∙_, ap}
-use native.Mathlib.Nat.{mul-le-mul}
+use borrow.Author.Needs.{needs}
 use native.Mathlib.Omega.{arith}
-use Rattle.card.specs.Limits.{mostStates}
-use Rattle.weighing.proofs.Laws.{weightMore, added-here}
-use Rattle.panel_numbers.proofs.Stored.{over-start, over-next, over-end}
-use Rattle.panel_numbers.specs.Table.{over, weightsFrom, added}
+use native.Mathlib.Nat.{mul-le-mul}
+use mathlib.Core.Path.{_≡_, refl, sym, ap, _∙_}
+use Prim.Native.Nat.{ℕ, _≤_, _+_, _-_, _*_, _^_}
 use Rattle.added_weights.proofs.add_weights.Statement.{statement}
 use Rattle.added_weights.proofs.add_weights.Tie as tie
+use Rattle.added_weights.proofs.add_weights.Reads as reads
 
 abbrev Inv-loop : tie.InvT-loop
-Inv-loop table₀ own able units from end₀ table end = (end ≤ mostStates) × (table ≡ over (weightsFrom + own * mostStates) end (weightMore table₀ own able units) table₀)
+Inv-loop row₀ able shared branches i many from j₀ row j = (j ≤ many) × (row ≡ added shared able (branchesIn branches i j) row₀) × ((t : ℕ) → getD row t 0 ≤ heaviest + j * (mostSeats * 2 ^ 32))
 
 abbrev μ-loop : tie.MeasureT-loop
-μ-loop table₀ own able units from end₀ table end = mostStates - end
+μ-loop row₀ able shared branches i many from j₀ row j = many - j
 
 mul-from : tie.Need-mul-from Inv-loop μ-loop
-mul-from c = omega (arith, c .pre .old)
-
-add-from : tie.Need-add-from Inv-loop μ-loop
-add-from c = omega (arith, c .pre .old)
+mul-from c = omega (arith, c .pre .statement)
 
 loop-holds : tie.Need-loop-holds Inv-loop μ-loop
-loop-holds c = (search needs, over-start (weightsFrom + c .args .own * mostStates) (weightMore (c .args .table .now) (c .args .own) (c .args .able) (c .args .units .now)) (c .args .table .now))
+loop-holds c = (search needs, added-none (c .args .shared) (c .args .able) (c .args .row .now) (c .pre .long), λ t. omega (arith, c .pre .light t))
+
+add-branch : tie.Need-add-branch Inv-loop μ-loop
+add-branch c =
+    let start = c .before .before in
+    omega (arith, start .pre .statement, start .pre .fit)
+
+mul-branch : tie.Need-mul-branch Inv-loop μ-loop
+mul-branch c = search needs
+
+element-copy-out-branch : tie.Need-element-copy-out-branch Inv-loop μ-loop
+element-copy-out-branch c =
+    let start = c .before .before in
+    omega (arith, start .pre .statement, start .pre .fit)
+
+becomes-requires : tie.Need-becomes-requires Inv-loop μ-loop
+becomes-requires c κs =
+    let start = c .before .before .before in
+    start .pre .shared
+
+end-of-requires : tie.Need-end-of-requires Inv-loop μ-loop
+end-of-requires c κs = search needs
+
+mul-at : tie.Need-mul-at Inv-loop μ-loop
+mul-at c = omega (arith, c .end-of .ensures .1)
 
 add-at : tie.Need-add-at Inv-loop μ-loop
-add-at c = omega (arith, c .before .before .pre .old)
+add-at c = omega (arith, c .end-of .ensures .1, c .before .becomes .ensures .1)
 
-mul-table : tie.Need-mul-table Inv-loop μ-loop
-mul-table c = search needs
+mul-row : tie.Need-mul-row Inv-loop μ-loop
+mul-row c = search needs
 
-element-copy-out-table : tie.Need-element-copy-out-table Inv-loop μ-loop
-element-copy-out-table c = omega (arith, c .before .before .pre .old)
+element-copy-out-row : tie.Need-element-copy-out-row Inv-loop μ-loop
+element-copy-out-row c = omega (arith, c .end-of .ensures .1, c .before .becomes .ensures .1)
 
-mul-table-2 : tie.Need-mul-table-2 Inv-loop μ-loop
-mul-table-2 c = search needs
+units-of-requires : tie.Need-units-of-requires Inv-loop μ-loop
+units-of-requires c κs = search needs
 
-element-copy-out-table-2 : tie.Need-element-copy-out-table-2 Inv-loop μ-loop
-element-copy-out-table-2 c = search needs
+cast-row : tie.Need-cast-row Inv-loop μ-loop
+cast-row c = search needs
 
-mul-table-3 : tie.Need-mul-table-3 Inv-loop μ-loop
-mul-table-3 c =
-    let at-loop = c .before .before .before in
+mul-row-2 : tie.Need-mul-row-2 Inv-loop μ-loop
+mul-row-2 c =
+    let start = c .before .before .before .before .before .before .before in
+    let small : c .units-of .result ≤ 2 ^ 32 = omega arith in
+    omega (arith, mul-le-mul (start .pre .few) small)
+
+add-row : tie.Need-add-row Inv-loop μ-loop
+add-row c =
+    let at-end-of = c .before .before in
+    let at-becomes = at-end-of .before in
+    let at-loop = at-becomes .before .before .before in
     let start = at-loop .before in
-    let light = start .pre .light (at-loop .loop .end) in
-    omega (arith, light, mul-le-mul (start .pre .few) light)
+    let small : c .units-of .result ≤ 2 ^ 32 = omega arith in
+    omega (arith, mul-le-mul (start .pre .few) small, at-loop .loop .inv .2 (placeOf (at-end-of .end-of .result) (at-becomes .becomes .result)), start .pre .fit)
 
-add-table : tie.Need-add-table Inv-loop μ-loop
-add-table c =
-    let at-loop = c .before .before .before in
-    let start = at-loop .before in
-    let args = start .args in
-    let light = start .pre .light (at-loop .loop .end) in
-    let here = added-here (args .table .now) (args .own) (args .able) (args .units .now) (at-loop .loop .end) refl (at-loop .loop .inv .1) in
-    omega (arith, light, mul-le-mul (start .pre .few) light, here, start .pre .most (at-loop .loop .end) (c .before .before .loop-test .taken))
+mul-row-3 : tie.Need-mul-row-3 Inv-loop μ-loop
+mul-row-3 c = search needs
 
-mul-table-4 : tie.Need-mul-table-4 Inv-loop μ-loop
-mul-table-4 c = search needs
+element-write-row : tie.Need-element-write-row Inv-loop μ-loop
+element-write-row c =
+    let at-end-of = c .before .before in
+    let at-becomes = at-end-of .before in
+    omega (arith, at-end-of .end-of .ensures .1, at-becomes .becomes .ensures .1)
 
-element-write-table : tie.Need-element-write-table Inv-loop μ-loop
-element-write-table c =
-    let start = c .before .before .before .before in
-    omega (arith, start .pre .old)
-
-add-end : tie.Need-add-end Inv-loop μ-loop
-add-end c = search needs
+add-j : tie.Need-add-j Inv-loop μ-loop
+add-j c = search needs
 
 loop-less : tie.Need-loop-less Inv-loop μ-loop
 loop-less c = search needs
 
 loop-again : tie.Need-loop-again Inv-loop μ-loop
 loop-again c =
-    let at-loop = c .before .before .before in
+    let at-end-of = c .before .before in
+    let at-becomes = at-end-of .before in
+    let at-loop = at-becomes .before .before .before in
     let start = at-loop .before in
+    let small : c .units-of .result ≤ 2 ^ 32 = omega arith in
     let args = start .args in
-    let end = at-loop .loop .end in
-    let here = added-here (args .table .now) (args .own) (args .able) (args .units .now) end refl (at-loop .loop .inv .1) in
-    let more = ap (λ (w : ℕ). w + args .able * getD (args .units .now) end 0) here in
-    let value = weightMore (args .table .now) (args .own) (args .able) (args .units .now) in
-    (search needs, over-next (weightsFrom + args .own * mostStates) value (args .table .now) end (at-loop .loop .inv .1) refl more)
+    let next = added-next (args .shared) (args .able) (args .branches .now) (args .i) (at-loop .loop .j) _ refl (omega (arith, start .pre .statement, start .pre .fit, start .pre .there)) (at-end-of .end-of .ensures .0) (at-becomes .becomes .ensures .0) (c .units-of .ensures) (at-becomes .becomes .ensures .1) (at-end-of .end-of .ensures .1) (args .row .now) (at-loop .loop .inv .1) in
+    let fits = sums-next (at-loop .loop .row) (placeOf (at-end-of .end-of .result) (at-becomes .becomes .result)) (args .able * c .units-of .result) heaviest (mostSeats * 2 ^ 32) (at-loop .loop .j) (at-loop .loop .inv .2) (mul-le-mul (start .pre .few) small) in
+    (search needs, next, fits)
 
 returns : tie.Need-returns Inv-loop μ-loop
-unfolding added
 returns c =
-    let at-loop = c .before in
-    let start = at-loop .before in
-    let args = start .args in
-    let value = weightMore (args .table .now) (args .own) (args .able) (args .units .now) in
-    at-loop .loop .inv .1 ∙ over-end (weightsFrom + args .own * mostStates) value (args .table .now) (at-loop .loop .end) mostStates (at-loop .loop .inv .0) (c .loop-test .left)
+    let start = c .before .before in
+    let all : c .before .loop .j ≡ start .args .many = omega (arith, c .before .loop .inv .0, c .loop-test .left) in rw all at (c .before .loop .inv .1)
 
 pub add-weights-spec : {M : Type 1} → statement M
 add-weights-spec =
@@ -100,18 +118,23 @@ add-weights-spec =
     Inv-loop
     μ-loop
     mul-from
-    add-from
     loop-holds
+    add-branch
+    mul-branch
+    element-copy-out-branch
+    becomes-requires
+    end-of-requires
+    mul-at
     add-at
-    mul-table
-    element-copy-out-table
-    mul-table-2
-    element-copy-out-table-2
-    mul-table-3
-    add-table
-    mul-table-4
-    element-write-table
-    add-end
+    mul-row
+    element-copy-out-row
+    units-of-requires
+    cast-row
+    mul-row-2
+    add-row
+    mul-row-3
+    element-write-row
+    add-j
     loop-less
     loop-again
     returns)

@@ -10,11 +10,11 @@ use Rattle.branches.proofs.branches.Statement.{statement}
 use Rattle.branches.proofs.branches.Tie as tie
 
 abbrev Inv-loop : tie.InvT-loop
-Inv-loop card at top array₀ first decimals state₀ next₀ total₀ count₀ array state next total count =
-    Going decimals card top first (lateIn state₀) array₀ next₀ count total array next state
+Inv-loop card at bounds array₀ first state₀ next₀ total₀ count₀ array state next total count =
+    Going bounds card first (lateIn state₀) array₀ next₀ count total array next state
 
 abbrev μ-loop : tie.MeasureT-loop
-μ-loop card at top array₀ first decimals state₀ next₀ total₀ count₀ array state next total count = mostBranches - count
+μ-loop card at bounds array₀ first state₀ next₀ total₀ count₀ array state next total count = mostBranches - count
 
 loop-holds : tie.Need-loop-holds Inv-loop μ-loop
 loop-holds c =

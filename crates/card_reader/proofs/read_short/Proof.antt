@@ -1,6 +1,6 @@
 -- A way out for each part of a card, in the order of the parts (proofs/CardLaws.antt). Assumes nothing.
-use Rattle.card_reader.proofs.CardLaws.{header-stops, statements-stop, modules-stop, late-small, judged-read, searched-number, reads-searched}
 use mathlib.Core.Path.{refl}
+use Rattle.card_reader.proofs.CardLaws.{header-stops, statements-stop, modules-stop, late-small, judged-read, searched-number, reads-searched}
 use borrow.Author.Needs.{needs}
 use Rattle.card_reader.proofs.read_short.Statement.{statement}
 use Rattle.card_reader.proofs.read_short.Tie as tie
@@ -22,8 +22,8 @@ refused-requires c κs =
     let at-if1 = c .before in
     let at-header = at-if1 .before in
     let entry = at-header .before .before .before in
-    searched-number (header-stops (entry .args .decimals) _ (entry .pre .0) _ (at-header .header .ensures)
-    (at-if1 .if1 .taken)) (c .search .ensures)
+    let a = entry .args in
+    searched-number (header-stops (a .decimals) _ (entry .pre .0) _ (at-header .header .ensures) (at-if1 .if1 .taken)) (c .search .ensures)
 
 returns : tie.Need-returns
 returns c =
@@ -31,11 +31,17 @@ returns c =
     let at-if1 = at-search .before in
     let at-header = at-if1 .before in
     let entry = at-header .before .before .before in
-    reads-searched (header-stops _ _ (entry .pre .0) _ (at-header .header .ensures) (at-if1 .if1 .taken))
-    (at-search .search .ensures) (c .refused .ensures) (entry .pre .1)
+    reads-searched (header-stops _ _ (entry .pre .0) _ (at-header .header .ensures) (at-if1 .if1 .taken)) (at-search .search .ensures)
+    (c .refused .ensures) (entry .pre .1)
 
 array-read-mode : tie.Need-array-read-mode
 array-read-mode c = search needs
+
+array-read-values : tie.Need-array-read-values
+array-read-values c = search needs
+
+array-read-initial : tie.Need-array-read-initial
+array-read-initial c = search needs
 
 array-read-top : tie.Need-array-read-top
 array-read-top c = search needs
@@ -44,7 +50,10 @@ array-read-start : tie.Need-array-read-start
 array-read-start c = search needs
 
 statements-requires : tie.Need-statements-requires
-statements-requires c κs = c .before .before .before .before .before .header .ensures .sized
+statements-requires c κs =
+    let at-if1 = c .before .before .before .before in
+    let at-header = at-if1 .before in
+    (at-header .header .ensures .sized, at-header .header .ensures .within (at-if1 .if1 .left))
 
 array-read-stopped : tie.Need-array-read-stopped
 array-read-stopped c = search needs
@@ -59,8 +68,10 @@ stopped-requires c κs =
     let at-if1 = at-statements .before .before .before .before .before in
     let at-header = at-if1 .before in
     let entry = at-header .before .before .before in
-    searched-number (statements-stop (entry .args .decimals) _ (entry .pre .0) _ (at-header .header .ensures)
-    (at-if1 .if1 .left) _ _ _ (at-statements .statements .ensures) (at-if2 .if2 .taken)) refl
+    let a = entry .args in
+    searched-number
+    (statements-stop (a .decimals) _ (entry .pre .0) _ (at-header .header .ensures) (at-if1 .if1 .left) _ _ _ (at-statements .statements .ensures) (at-if2 .if2 .taken))
+    refl
 
 returns-2 : tie.Need-returns-2
 returns-2 c =
@@ -69,15 +80,18 @@ returns-2 c =
     let at-if1 = at-statements .before .before .before .before .before in
     let at-header = at-if1 .before in
     let entry = at-header .before .before .before in
-    reads-searched (statements-stop _ _ (entry .pre .0) _ (at-header .header .ensures) (at-if1 .if1 .left)
-    _ _ _ (at-statements .statements .ensures) (at-if2 .if2 .taken)) refl (c .stopped .ensures .0) (c
-    .stopped .ensures .1)
+    reads-searched
+    (statements-stop _ _ (entry .pre .0) _ (at-header .header .ensures) (at-if1 .if1 .left) _ _ _ (at-statements .statements .ensures) (at-if2 .if2 .taken))
+    refl (c .stopped .ensures .0) (c .stopped .ensures .1)
 
 array-read-count : tie.Need-array-read-count
 array-read-count c = search needs
 
 modules-requires : tie.Need-modules-requires
-modules-requires c κs = (c .before .before .statements .ensures .sized, c .before .if2 .left)
+modules-requires c κs =
+    let at-if2 = c .before in
+    let at-statements = at-if2 .before in
+    (at-statements .statements .ensures .sized, at-if2 .if2 .left)
 
 array-read-stopped-3 : tie.Need-array-read-stopped-3
 array-read-stopped-3 c = search needs
@@ -94,9 +108,10 @@ stopped-requires-2 c κs =
     let at-if1 = at-statements .before .before .before .before .before in
     let at-header = at-if1 .before in
     let entry = at-header .before .before .before in
-    searched-number (modules-stop (entry .args .decimals) _ (entry .pre .0) _ (at-header .header .ensures)
-    (at-if1 .if1 .left) _ _ _ (at-statements .statements .ensures) (at-if2 .if2 .left) _ (at-modules .modules .ensures)
-    (at-if3 .if3 .taken)) refl
+    let a = entry .args in
+    searched-number
+    (modules-stop (a .decimals) _ (entry .pre .0) _ (at-header .header .ensures) (at-if1 .if1 .left) _ _ _ (at-statements .statements .ensures) (at-if2 .if2 .left) _ (at-modules .modules .ensures) (at-if3 .if3 .taken))
+    refl
 
 returns-3 : tie.Need-returns-3
 returns-3 c =
@@ -107,8 +122,8 @@ returns-3 c =
     let at-if1 = at-statements .before .before .before .before .before in
     let at-header = at-if1 .before in
     let entry = at-header .before .before .before in
-    reads-searched (modules-stop _ _ (entry .pre .0) _ (at-header .header .ensures) (at-if1 .if1 .left)
-    _ _ _ (at-statements .statements .ensures) (at-if2 .if2 .left) _ (at-modules .modules .ensures) (at-if3 .if3 .taken))
+    reads-searched
+    (modules-stop _ _ (entry .pre .0) _ (at-header .header .ensures) (at-if1 .if1 .left) _ _ _ (at-statements .statements .ensures) (at-if2 .if2 .left) _ (at-modules .modules .ensures) (at-if3 .if3 .taken))
     refl (c .stopped2 .ensures .0) (c .stopped2 .ensures .1)
 
 array-read-seats : tie.Need-array-read-seats
@@ -122,12 +137,9 @@ judged-requires c κs =
     let at-statements = at-if2 .before in
     let at-if1 = at-statements .before .before .before .before .before in
     let at-header = at-if1 .before in
-    let entry = at-header .before .before .before in (
-      at-modules .modules .ensures .sized,
-      late-small (entry .args .decimals) _ (entry .pre .0) _ (at-header .header .ensures)
-          (at-if1 .if1 .left) _ _ _ (at-statements .statements .ensures) (at-if2 .if2 .left) _ (at-modules .modules .ensures)
-          (at-if3 .if3 .left),
-    )
+    let entry = at-header .before .before .before in
+    let a = entry .args in
+    (at-modules .modules .ensures .sized, late-small (a .decimals) _ (entry .pre .0) _ (at-header .header .ensures) (at-if1 .if1 .left) _ _ _ (at-statements .statements .ensures) (at-if2 .if2 .left) _ (at-modules .modules .ensures) (at-if3 .if3 .left))
 
 returns-4 : tie.Need-returns-4
 returns-4 c =
@@ -138,9 +150,8 @@ returns-4 c =
     let at-if1 = at-statements .before .before .before .before .before in
     let at-header = at-if1 .before in
     let entry = at-header .before .before .before in
-    judged-read _ _ (entry .pre .0) _ (at-header .header .ensures) (at-if1 .if1 .left) _ _ _ (at-statements
-    .statements .ensures) (at-if2 .if2 .left) _ (at-modules .modules .ensures) (at-if3 .if3 .left) (entry
-    .pre .1) (c .judged .ensures)
+    judged-read _ _ (entry .pre .0) _ (at-header .header .ensures) (at-if1 .if1 .left) _ _ _ (at-statements .statements .ensures) (at-if2 .if2 .left)
+    _ (at-modules .modules .ensures) (at-if3 .if3 .left) (entry .pre .1) (c .judged .ensures)
 
 pub read-short-spec : {M : Type 1} → statement M
 read-short-spec =
@@ -153,6 +164,8 @@ read-short-spec =
     refused-requires
     returns
     array-read-mode
+    array-read-values
+    array-read-initial
     array-read-top
     array-read-start
     statements-requires

@@ -6,18 +6,23 @@ use borrow.Author.Needs.{needs}
 use native.Mathlib.Omega.{arith}
 use mathlib.Core.Path.{_≡_, ap, _∙_}
 use mathlib.Core.Logic.{⊎-elim}
-use Prim.Native.Nat.{_≤_, _-_}
+use Prim.Native.Nat.{_≤_, _<_, _-_}
 use Rattle.class_counts.proofs.count_classes.Statement.{statement}
 use Rattle.class_counts.proofs.count_classes.Tie as tie
 
 abbrev Inv-loop : tie.InvT-loop
-Inv-loop seats classes counts₀ i₀ counts i = (i ≤ length seats) × (counts ≡ classCounts classes (take i seats))
+Inv-loop seats n classes counts₀ i₀ counts i = (i ≤ n) × ((i ≤ length seats) × (counts ≡ classCounts classes (take i seats)))
 
 abbrev μ-loop : tie.MeasureT-loop
-μ-loop seats classes counts₀ i₀ counts i = length seats - i
+μ-loop seats n classes counts₀ i₀ counts i = n - i
 
 loop-holds : tie.Need-loop-holds Inv-loop μ-loop
-loop-holds c = (search needs, classes-none _)
+loop-holds c = (search needs, (search needs, classes-none _))
+
+returns : tie.Need-returns Inv-loop μ-loop
+returns c =
+    let at-loop = c .before .before in
+    at-loop .loop .inv .1 .1 ∙ classes-all _ _ _ _ (c .if1 .taken) (at-loop .loop .inv .0)
 
 shared-slice-read-wide : tie.Need-shared-slice-read-wide Inv-loop μ-loop
 shared-slice-read-wide c = search needs
@@ -36,8 +41,11 @@ array-read-counts c = search needs
 
 add-counts : tie.Need-add-counts Inv-loop μ-loop
 add-counts c =
-    let at-loop-test = c .before .before .before .before in
-    let few = room-for-one _ _ _ (at-loop-test .loop-test .taken) (at-loop-test .before .loop .inv .1) in
+    let at-if1 = c .before .before .before .before in
+    let at-loop = at-if1 .before .before in
+    let start = at-loop .before .before .before in
+    let here : at-loop .loop .i < length (start .args .seats .now) = omega (arith, at-if1 .if1 .left) in
+    let few = room-for-one _ _ _ here (at-loop .loop .inv .1 .1) in
     omega (arith, few (c .before .class-of .result), few (c .before .before .wide .result))
 
 mul-counts-2 : tie.Need-mul-counts-2 Inv-loop μ-loop
@@ -54,16 +62,21 @@ loop-less c = search needs
 
 loop-again : tie.Need-loop-again Inv-loop μ-loop
 loop-again c =
-    let at-loop-test = c .before .before .before .before in
-    let at-loop = at-loop-test .before in
+    let at-if1 = c .before .before .before .before in
+    let at-loop = at-if1 .before .before in
     let start = at-loop .before .before .before in
+    let here : at-loop .loop .i < length (start .args .seats .now) = omega (arith, at-if1 .if1 .left) in
     let is = c .before .class-of .ensures ∙ ap (classOf (start .args .classes .now)) (c .before .before .wide .ensures) in
-    let within = classes-next _ _ _ (at-loop-test .loop-test .taken) (at-loop .loop .inv .1) is in
-    let over = classes-over _ _ _ (at-loop-test .loop-test .taken) (at-loop .loop .inv .1) is in
-    (search needs, ⊎-elim (λ w. w .1 ∙ within (search needs)) (λ w. w .1 ∙ over (search needs)) (c .if1 .came))
+    let within = classes-next _ _ _ here (at-loop .loop .inv .1 .1) is in
+    let over = classes-over _ _ _ here (at-loop .loop .inv .1 .1) is in
+    (search needs, (search needs, ⊎-elim (λ w. w .1 ∙ within (search needs)) (λ w. w .1 ∙ over (search needs)) (c .if2 .came)))
 
-returns : tie.Need-returns Inv-loop μ-loop
-returns c = c .before .loop .inv .1 ∙ classes-all _ _ _ (c .loop-test .left)
+returns-2 : tie.Need-returns-2 Inv-loop μ-loop
+returns-2 c =
+    let at-loop = c .before in
+    let start = at-loop .before .before .before in
+    let all : at-loop .loop .i ≡ start .args .n = omega (arith, at-loop .loop .inv .0, c .loop-test .left) in
+    at-loop .loop .inv .1 .1 ∙ ap (λ m. classCounts (start .args .classes .now) (take m (start .args .seats .now))) all
 
 pub count-classes-spec : {M : Type 1} → statement M
 count-classes-spec =
@@ -72,6 +85,7 @@ count-classes-spec =
     Inv-loop
     μ-loop
     loop-holds
+    returns
     shared-slice-read-wide
     wide-requires
     class-of-requires
@@ -83,4 +97,4 @@ count-classes-spec =
     add-i
     loop-less
     loop-again
-    returns)
+    returns-2)

@@ -1,5 +1,5 @@
 -- `entries::ask` meets its contract: the stages in their order, each by the contract of what judges it. Assumes nothing.
-use Rattle.ask_stages.proofs.Entry.{card-refused, seats-fit, question-number, question-refused, still-long, seats-refused, answered}
+use Rattle.ask_stages.proofs.Entry.{card-refused, seats-fit, few-shared, question-number, question-refused, still-long, seats-refused, answered}
 use Rattle.entries.specs.Answered.{asked}
 use Rattle.outline.proofs.ReadInto.{arrays-none}
 use mathlib.Core.List.{[]}
@@ -21,7 +21,10 @@ enum-told : tie.Need-enum-told
 enum-told c = search needs
 
 question-into-requires : tie.Need-question-into-requires
-question-into-requires c κs = seats-fit _ [] [] (c .before .before .before .before .read-into .ensures) (c .before .enum-told .given .1)
+question-into-requires c κs =
+    let read = c .before .before .before .before .read-into .ensures in
+    let taken = c .before .enum-told .given .1 in
+    (seats-fit _ [] [] read taken, few-shared _ [] [] read taken)
 
 refused-requires : tie.Need-refused-requires
 refused-requires c κs = question-number _ _ [] (c .before .before .before .before .before .before .before .read-into .ensures) (c .before .before .before .before .enum-told .given .1) _ _ (c .before .before .question-into .ensures) (c .if1 .taken)
@@ -54,9 +57,12 @@ enum-told-2 c = search needs
 count-seats-requires : tie.Need-count-seats-requires
 count-seats-requires c κs = search needs
 
+shared-of-requires : tie.Need-shared-of-requires
+shared-of-requires c κs = search needs
+
 slice-aggregate-held : tie.Need-slice-aggregate-held
 slice-aggregate-held c =
-    let at-if1 = c .before .before .before .before .before in
+    let at-if1 = c .before .before .before .before .before .before in
     let at-question-into = at-if1 .before .before in
     let at-enum-told = at-question-into .before .before in
     let at-read-into = at-enum-told .before .before .before in
@@ -73,14 +79,15 @@ answer-requires c κs = search needs
 
 returns-4 : tie.Need-returns-4
 returns-4 c =
-    let at-count-seats = c .before .before .before .before in
+    let at-shared-of = c .before .before .before .before in
+    let at-count-seats = at-shared-of .before in
     let at-enum-told2 = at-count-seats .before in
     let at-judge-seats = at-enum-told2 .before .before in
     let at-if1 = at-judge-seats .before in
     let at-question-into = at-if1 .before .before in
     let at-enum-told = at-question-into .before .before in
     let at-read-into = at-enum-told .before .before .before in
-    c .answer .ensures ∙ sym (ap asked (answered _ _ _ (at-read-into .read-into .ensures) (at-enum-told .enum-told .given .1) _ _ (at-question-into .question-into .ensures) (at-if1 .if1 .left) (at-judge-seats .judge-seats .ensures) (at-enum-told2 .enum-told2 .given .1) (at-count-seats .count-seats .ensures) (c .before .held .ensures)))
+    c .answer .ensures ∙ sym (ap asked (answered _ _ _ (at-read-into .read-into .ensures) (at-enum-told .enum-told .given .1) _ _ (at-question-into .question-into .ensures) (at-if1 .if1 .left) (at-judge-seats .judge-seats .ensures) (at-enum-told2 .enum-told2 .given .1) (at-count-seats .count-seats .ensures) (at-shared-of .shared-of .ensures) (c .before .held .ensures)))
 
 pub ask-spec : {M : Type 1} → statement M
 ask-spec =
@@ -98,6 +105,7 @@ ask-spec =
     returns-3
     enum-told-2
     count-seats-requires
+    shared-of-requires
     slice-aggregate-held
     slice-aggregate-held-2
     held-requires

@@ -32,12 +32,15 @@ enum-told c = search needs
 count-seats-requires : tie.Need-count-seats-requires
 count-seats-requires c κs = search needs
 
+shared-of-requires : tie.Need-shared-of-requires
+shared-of-requires c κs = search needs
+
 slice-aggregate-first-able : tie.Need-slice-aggregate-first-able
 slice-aggregate-first-able c = search needs
 
 first-able-requires : tie.Need-first-able-requires
 first-able-requires c κs =
-    let at-enum-told = c .before .before .before .before in
+    let at-enum-told = c .before .before .before .before .before in
     let at-first-refusal = at-enum-told .before .before in
     let at-judge-seats = at-first-refusal .before in
     let at-read-into = at-judge-seats .before .before in
@@ -45,14 +48,15 @@ first-able-requires c κs =
 
 returns-2 : tie.Need-returns-2
 returns-2 c =
-    let at-count-seats = c .before .before .before .before in
+    let at-shared-of = c .before .before .before .before in
+    let at-count-seats = at-shared-of .before in
     let at-enum-told = at-count-seats .before in
     let at-first-refusal = at-enum-told .before .before in
     let at-judge-seats = at-first-refusal .before in
     let at-read-into = at-judge-seats .before .before in
     c .first-able .ensures
     ∙ sym (ap moved (answered _ _ (at-read-into .read-into .ensures) (at-judge-seats .judge-seats .ensures) (at-first-refusal .first-refusal .ensures) (at-enum-told .enum-told .given .1)
-    (at-count-seats .count-seats .ensures)))
+    (at-count-seats .count-seats .ensures) (at-shared-of .shared-of .ensures)))
 
 pub first-move-spec : {M : Type 1} → statement M
 first-move-spec =
@@ -65,6 +69,7 @@ first-move-spec =
     returns
     enum-told
     count-seats-requires
+    shared-of-requires
     slice-aggregate-first-able
     first-able-requires
     returns-2)

@@ -3,6 +3,7 @@ use Rattle.first_able.proofs.Laws.{row-start, row-taken, row-passed, ro
 use Rattle.first_able.specs.Moved.{moved}
 use Rattle.first_able.specs.FirstRow.{firstRow}
 use Rattle.entry.specs.Said.{says}
+use Rattle.meaning.specs.Position.{position}
 use borrow.Author.Needs.{needs}
 use mathlib.Core.Option.{Option}
 use mathlib.Core.Path.{_≡_, sym, ap, _∙_}
@@ -11,10 +12,10 @@ use Rattle.first_able.proofs.first_able.Statement.{statement}
 use Rattle.first_able.proofs.first_able.Tie as tie
 
 abbrev Inv-loop : tie.InvT-loop
-Inv-loop rows nodes counts n count i₀ i = (i ≤ count) × (firstRow n counts nodes rows 0 count ≡ firstRow n counts nodes rows i (count - i))
+Inv-loop rows nodes counts shared n count i₀ i = (i ≤ count) × (firstRow n (position counts shared) nodes rows 0 count ≡ firstRow n (position counts shared) nodes rows i (count - i))
 
 abbrev μ-loop : tie.MeasureT-loop
-μ-loop rows nodes counts n count i₀ i = count - i
+μ-loop rows nodes counts shared n count i₀ i = count - i
 
 loop-holds : tie.Need-loop-holds Inv-loop μ-loop
 loop-holds c = (search needs, row-start _ _ _ _ _)

@@ -130,8 +130,8 @@ conjunction-returns : (t : ℕ) → conjunction-lts.Need-returns (conjunction-R 
 conjunction-returns t c =
     let entry = c .before .before .before .before .before in
     let a = entry .args in
-    goes-wrong (languageOf (a .question)) (now (a .card)) (a .top) (now (a .nodes)) (c .before .unary .last .1 .1 .0) (freeIn (now (a .state))) (lateIn (now (a .state))) (now (a .nodes)) (c .before .unary .last .1 .1 .0) (freeIn (now (a .state))) (lateIn (now (a .state)))
-    (after (c .before .unary .last .1 .1 .1 .0) (c .before .unary .result)) (chained (languageOf (a .question)) false (a .depth)) (unaryIn (languageOf (a .question)) (a .depth) (at (marksAt 0 (now (a .card)) (a .at)) (leftIn (now (a .state))))) (c .before .unary .ensures) (c .if1 .taken)
+    goes-wrong (languageOf (a .language)) (now (a .card)) (a .top) (now (a .nodes)) (c .before .unary .last .1 .1 .0) (freeIn (now (a .state))) (lateIn (now (a .state))) (now (a .nodes)) (c .before .unary .last .1 .1 .0) (freeIn (now (a .state))) (lateIn (now (a .state)))
+    (after (c .before .unary .last .1 .1 .1 .0) (c .before .unary .result)) (chained (languageOf (a .language)) false (a .depth)) (unaryIn (languageOf (a .language)) (a .depth) (at (marksAt 0 (now (a .card)) (a .at)) (leftIn (now (a .state))))) (c .before .unary .ensures) (c .if1 .taken)
 
 conjunction-sign-here-requires : (t : ℕ) → conjunction-lts.Need-sign-here-requires (conjunction-R t) (conjunction-at t) conjunction.Post
 conjunction-sign-here-requires t c κs = tt
@@ -142,7 +142,7 @@ conjunction-returns-2 t c =
     let at-unary = at-if1 .before in
     let entry = at-unary .before .before .before .before in
     let a = entry .args in
-    unary-alone (languageOf (a .question)) (keeping (a .question)) (now (a .card)) (a .top) (now (a .nodes)) (at-unary .unary .last .1 .1 .0) (now (a .state)) (entry .pre .1) (a .at) (a .depth) (after (at-unary .unary .last .1 .1 .1 .0) (at-unary .unary .result)) (at-if1 .if1 .left)
+    unary-alone (languageOf (a .language)) (keeping (a .language)) (now (a .card)) (a .top) (now (a .nodes)) (at-unary .unary .last .1 .1 .0) (now (a .state)) (entry .pre .1) (a .at) (a .depth) (after (at-unary .unary .last .1 .1 .1 .0) (at-unary .unary .result)) (at-if1 .if1 .left)
     (sym (c .before .sign-here .ensures) ∙ c .if2 .taken) (at-unary .unary .ensures)
 
 conjunction-joined-by-and-requires : (t : ℕ) → conjunction-lts.Need-joined-by-and-requires (conjunction-R t) (conjunction-at t) conjunction.Post
@@ -151,7 +151,7 @@ conjunction-joined-by-and-requires t c κs =
     let at-unary = at-if1 .before in
     let entry = at-unary .before .before .before .before in
     let a = entry .args in
-    let q = unary-begun (languageOf (a .question)) (keeping (a .question)) (now (a .card)) (a .top) (now (a .nodes)) (at-unary .unary .last .1 .1 .0) (now (a .state)) (entry .pre .1) (a .at) (a .depth) (after (at-unary .unary .last .1 .1 .1 .0) (at-unary .unary .result)) (at-if1 .if1 .left) (at-unary .unary .ensures) in
+    let q = unary-begun (languageOf (a .language)) (keeping (a .language)) (now (a .card)) (a .top) (now (a .nodes)) (at-unary .unary .last .1 .1 .0) (now (a .state)) (entry .pre .1) (a .at) (a .depth) (after (at-unary .unary .last .1 .1 .1 .0) (at-unary .unary .result)) (at-if1 .if1 .left) (at-unary .unary .ensures) in
     (omega (arith, q .1, entry .pre .0), q .0)
 
 conjunction-returns-3 : (t : ℕ) → conjunction-lts.Need-returns-3 (conjunction-R t) (conjunction-at t) conjunction.Post
@@ -159,7 +159,7 @@ conjunction-returns-3 t c =
     let at-unary = c .before .before .before .before .before .before in
     let entry = at-unary .before .before .before .before in
     let a = entry .args in
-    c .joined-by-and .ensures (now (a .nodes)) (freeIn (now (a .state))) (lateIn (now (a .state))) (unaryIn (languageOf (a .question)) (a .depth) (at (marksAt 0 (now (a .card)) (a .at)) (leftIn (now (a .state))))) (at-unary .unary .ensures)
+    c .joined-by-and .ensures (now (a .nodes)) (freeIn (now (a .state))) (lateIn (now (a .state))) (unaryIn (languageOf (a .language)) (a .depth) (at (marksAt 0 (now (a .card)) (a .at)) (leftIn (now (a .state))))) (at-unary .unary .ensures)
 
 expression-conjunction-requires : (t : ℕ) → expression-lts.Need-conjunction-requires (expression-R t) (expression-at t) expression.Post
 expression-conjunction-requires t c κs = (omega arith, c .before .before .before .pre .1)
@@ -168,8 +168,8 @@ expression-returns : (t : ℕ) → expression-lts.Need-returns (expression-R t) 
 expression-returns t c =
     let entry = c .before .before .before .before .before in
     let a = entry .args in
-    goes-wrong (languageOf (a .question)) (now (a .card)) (a .top) (now (a .nodes)) (c .before .conjunction .last .1 .1 .0) (freeIn (now (a .state))) (lateIn (now (a .state))) (now (a .nodes)) (c .before .conjunction .last .1 .1 .0) (freeIn (now (a .state))) (lateIn (now (a .state)))
-    (after (c .before .conjunction .last .1 .1 .1 .0) (c .before .conjunction .result)) (chained (languageOf (a .question)) true (a .depth)) (grammar.conjunction (unaryIn (languageOf (a .question)) (a .depth)) (at (marksAt 0 (now (a .card)) (a .at)) (leftIn (now (a .state))))) (c .before .conjunction .ensures) (c .if1 .taken)
+    goes-wrong (languageOf (a .language)) (now (a .card)) (a .top) (now (a .nodes)) (c .before .conjunction .last .1 .1 .0) (freeIn (now (a .state))) (lateIn (now (a .state))) (now (a .nodes)) (c .before .conjunction .last .1 .1 .0) (freeIn (now (a .state))) (lateIn (now (a .state)))
+    (after (c .before .conjunction .last .1 .1 .1 .0) (c .before .conjunction .result)) (chained (languageOf (a .language)) true (a .depth)) (grammar.conjunction (unaryIn (languageOf (a .language)) (a .depth)) (at (marksAt 0 (now (a .card)) (a .at)) (leftIn (now (a .state))))) (c .before .conjunction .ensures) (c .if1 .taken)
 
 expression-sign-here-requires : (t : ℕ) → expression-lts.Need-sign-here-requires (expression-R t) (expression-at t) expression.Post
 expression-sign-here-requires t c κs = tt
@@ -180,7 +180,7 @@ expression-returns-2 t c =
     let at-conjunction = at-if1 .before in
     let entry = at-conjunction .before .before .before .before in
     let a = entry .args in
-    conjunction-alone (languageOf (a .question)) (keeping (a .question)) (now (a .card)) (a .top) (now (a .nodes)) (at-conjunction .conjunction .last .1 .1 .0) (now (a .state)) (entry .pre .1) (a .at) (a .depth) (after (at-conjunction .conjunction .last .1 .1 .1 .0) (at-conjunction .conjunction .result)) (at-if1 .if1 .left)
+    conjunction-alone (languageOf (a .language)) (keeping (a .language)) (now (a .card)) (a .top) (now (a .nodes)) (at-conjunction .conjunction .last .1 .1 .0) (now (a .state)) (entry .pre .1) (a .at) (a .depth) (after (at-conjunction .conjunction .last .1 .1 .1 .0) (at-conjunction .conjunction .result)) (at-if1 .if1 .left)
     (sym (c .before .sign-here .ensures) ∙ c .if2 .taken) (at-conjunction .conjunction .ensures)
 
 expression-joined-by-or-requires : (t : ℕ) → expression-lts.Need-joined-by-or-requires (expression-R t) (expression-at t) expression.Post
@@ -189,7 +189,7 @@ expression-joined-by-or-requires t c κs =
     let at-conjunction = at-if1 .before in
     let entry = at-conjunction .before .before .before .before in
     let a = entry .args in
-    let q = conjunction-begun (languageOf (a .question)) (keeping (a .question)) (now (a .card)) (a .top) (now (a .nodes)) (at-conjunction .conjunction .last .1 .1 .0) (now (a .state)) (entry .pre .1) (a .at) (a .depth) (after (at-conjunction .conjunction .last .1 .1 .1 .0) (at-conjunction .conjunction .result)) (at-if1 .if1 .left) (at-conjunction .conjunction .ensures) in
+    let q = conjunction-begun (languageOf (a .language)) (keeping (a .language)) (now (a .card)) (a .top) (now (a .nodes)) (at-conjunction .conjunction .last .1 .1 .0) (now (a .state)) (entry .pre .1) (a .at) (a .depth) (after (at-conjunction .conjunction .last .1 .1 .1 .0) (at-conjunction .conjunction .result)) (at-if1 .if1 .left) (at-conjunction .conjunction .ensures) in
     (omega (arith, q .1, entry .pre .0), q .0)
 
 expression-returns-3 : (t : ℕ) → expression-lts.Need-returns-3 (expression-R t) (expression-at t) expression.Post
@@ -197,19 +197,19 @@ expression-returns-3 t c =
     let at-conjunction = c .before .before .before .before .before .before in
     let entry = at-conjunction .before .before .before .before in
     let a = entry .args in
-    c .joined-by-or .ensures (now (a .nodes)) (freeIn (now (a .state))) (lateIn (now (a .state))) (grammar.conjunction (unaryIn (languageOf (a .question)) (a .depth)) (at (marksAt 0 (now (a .card)) (a .at)) (leftIn (now (a .state))))) (at-conjunction .conjunction .ensures)
+    c .joined-by-or .ensures (now (a .nodes)) (freeIn (now (a .state))) (lateIn (now (a .state))) (grammar.conjunction (unaryIn (languageOf (a .language)) (a .depth)) (at (marksAt 0 (now (a .card)) (a .at)) (leftIn (now (a .state))))) (at-conjunction .conjunction .ensures)
 
 abbrev joined-by-and-Inv-loop : joined-by-and-lts.InvT-loop
-joined-by-and-Inv-loop card first nodes₀ state₀ depth top question next₀ nodes state next = Chaining (languageOf question) (keeping question) card top nodes₀ nodes depth false (after state₀ first) (after state next)
+joined-by-and-Inv-loop card first nodes₀ state₀ depth top language next₀ nodes state next = Chaining (languageOf language) (keeping language) card top nodes₀ nodes depth false (after state₀ first) (after state next)
 
 abbrev joined-by-and-μ-loop : joined-by-and-lts.MeasureT-loop
-joined-by-and-μ-loop card first nodes₀ state₀ depth top question next₀ nodes state next = leftIn state
+joined-by-and-μ-loop card first nodes₀ state₀ depth top language next₀ nodes state next = leftIn state
 
 joined-by-and-loop-holds : (t : ℕ) → joined-by-and-lts.Need-loop-holds (joined-by-and-R t) (joined-by-and-at t) joined-by-and.Post joined-by-and-Inv-loop joined-by-and-μ-loop
 joined-by-and-loop-holds t c =
     let entry = c .before in
     let a = entry .args in
-    chain-begins (languageOf (a .question)) (keeping (a .question)) (now (a .card)) (a .top) (now (a .nodes)) (a .depth) false (after (now (a .state)) (a .first)) (entry .pre .1)
+    chain-begins (languageOf (a .language)) (keeping (a .language)) (now (a .card)) (a .top) (now (a .nodes)) (a .depth) false (after (now (a .state)) (a .first)) (entry .pre .1)
 
 joined-by-and-step-after-requires : (t : ℕ) → joined-by-and-lts.Need-step-after-requires (joined-by-and-R t) (joined-by-and-at t) joined-by-and.Post joined-by-and-Inv-loop joined-by-and-μ-loop
 joined-by-and-step-after-requires t c κs = tt
@@ -220,7 +220,7 @@ joined-by-and-returns t c =
     let at-loop = at-step-after .before .before in
     let entry = at-loop .before .before in
     let a = entry .args in
-    chain-done (languageOf (a .question)) (keeping (a .question)) (now (a .card)) (a .top) (now (a .nodes)) (a .depth) false (after (now (a .state)) (a .first)) (at-loop .loop .nodes) (after (at-loop .loop .state) (at-loop .loop .next)) (at-loop .loop .inv)
+    chain-done (languageOf (a .language)) (keeping (a .language)) (now (a .card)) (a .top) (now (a .nodes)) (a .depth) false (after (now (a .state)) (a .first)) (at-loop .loop .nodes) (after (at-loop .loop .state) (at-loop .loop .next)) (at-loop .loop .inv)
     (at-step-after .step-after .result) (at-step-after .step-after .ensures) (kind (joiner false)) refl (c .if1 .taken)
 
 joined-by-and-element-copy-out-left : (t : ℕ) → joined-by-and-lts.Need-element-copy-out-left (joined-by-and-R t) (joined-by-and-at t) joined-by-and.Post joined-by-and-Inv-loop joined-by-and-μ-loop
@@ -239,7 +239,7 @@ joined-by-and-returns-2 t c =
     let at-loop = at-step-after .before .before in
     let entry = at-loop .before .before in
     let a = entry .args in
-    chain-stops (languageOf (a .question)) (keeping (a .question)) (now (a .card)) (a .top) (now (a .nodes)) (a .depth) false (after (now (a .state)) (a .first)) (at-loop .loop .nodes) (after (at-loop .loop .state) (at-loop .loop .next)) (at-loop .loop .inv)
+    chain-stops (languageOf (a .language)) (keeping (a .language)) (now (a .card)) (a .top) (now (a .nodes)) (a .depth) false (after (now (a .state)) (a .first)) (at-loop .loop .nodes) (after (at-loop .loop .state) (at-loop .loop .next)) (at-loop .loop .inv)
     (at-step-after .step-after .result) (at-step-after .step-after .ensures) (kind (joiner false)) refl (at-if1 .if1 .left) (at-if2 .if2 .taken) (after (c .stop .last .0) (c .stop .result)) (c .stop .ensures .0)
 
 joined-by-and-element-copy-out-first-root : (t : ℕ) → joined-by-and-lts.Need-element-copy-out-first-root (joined-by-and-R t) (joined-by-and-at t) joined-by-and.Post joined-by-and-Inv-loop joined-by-and-μ-loop
@@ -271,7 +271,7 @@ joined-by-and-returns-3 t c =
     let at-loop = at-step-after .before .before in
     let entry = at-loop .before .before in
     let a = entry .args in
-    chain-wrong (languageOf (a .question)) (keeping (a .question)) (now (a .card)) (a .top) (now (a .nodes)) (a .depth) false (after (now (a .state)) (a .first)) (at-loop .loop .nodes) (after (at-loop .loop .state) (at-loop .loop .next)) (at-loop .loop .inv)
+    chain-wrong (languageOf (a .language)) (keeping (a .language)) (now (a .card)) (a .top) (now (a .nodes)) (a .depth) false (after (now (a .state)) (a .first)) (at-loop .loop .nodes) (after (at-loop .loop .state) (at-loop .loop .next)) (at-loop .loop .inv)
     (at-step-after .step-after .result) (at-step-after .step-after .ensures) (kind (joiner false)) refl (at-if1 .if1 .left) (at-if2 .if2 .left)
     (c .before .unary .last .1 .1 .0) (after (c .before .unary .last .1 .1 .1 .0) (c .before .unary .result)) (c .before .unary .ensures) (c .if3 .taken)
 
@@ -289,7 +289,7 @@ joined-by-and-sub-second-root t c =
     let a = entry .args in
     omega (
       arith,
-      roomy (languageOf (a .question)) (keeping (a .question)) (now (a .card)) (a .top) (now (a .nodes)) (a .depth) false (after (now (a .state)) (a .first)) (at-loop .loop .nodes) (after (at-loop .loop .state) (at-loop .loop .next)) (at-loop .loop .inv)
+      roomy (languageOf (a .language)) (keeping (a .language)) (now (a .card)) (a .top) (now (a .nodes)) (a .depth) false (after (now (a .state)) (a .first)) (at-loop .loop .nodes) (after (at-loop .loop .state) (at-loop .loop .next)) (at-loop .loop .inv)
           (at-step-after .step-after .result) (at-step-after .step-after .ensures) (kind (joiner false)) refl (at-if1 .if1 .left) (at-if2 .if2 .left)
           (at-unary .unary .last .1 .1 .0) (after (at-unary .unary .last .1 .1 .1 .0) (at-unary .unary .result)) (at-unary .unary .ensures) (c .before .if3 .left) .1,
     )
@@ -307,7 +307,7 @@ joined-by-and-store-requires t c κs =
     let at-loop = at-step-after .before .before in
     let entry = at-loop .before .before in
     let a = entry .args in
-    store-room (languageOf (a .question)) (keeping (a .question)) (now (a .card)) (a .top) (now (a .nodes)) (a .depth) false (after (now (a .state)) (a .first)) (at-loop .loop .nodes) (after (at-loop .loop .state) (at-loop .loop .next)) (at-loop .loop .inv)
+    store-room (languageOf (a .language)) (keeping (a .language)) (now (a .card)) (a .top) (now (a .nodes)) (a .depth) false (after (now (a .state)) (a .first)) (at-loop .loop .nodes) (after (at-loop .loop .state) (at-loop .loop .next)) (at-loop .loop .inv)
     (at-step-after .step-after .result) (at-step-after .step-after .ensures) (kind (joiner false)) refl (at-if1 .if1 .left) (at-if2 .if2 .left)
     (at-unary .unary .last .1 .1 .0) (after (at-unary .unary .last .1 .1 .1 .0) (at-unary .unary .result)) (at-unary .unary .ensures) (at-if3 .if3 .left)
 
@@ -322,7 +322,7 @@ joined-by-and-loop-less t c =
     let entry = at-loop .before .before in
     let a = entry .args in
     rw (c .store .ensures .1)
-    (chain-falls (languageOf (a .question)) (keeping (a .question)) (now (a .card)) (a .top) (now (a .nodes)) (a .depth) false (after (now (a .state)) (a .first)) (at-loop .loop .nodes) (after (at-loop .loop .state) (at-loop .loop .next)) (at-loop .loop .inv)
+    (chain-falls (languageOf (a .language)) (keeping (a .language)) (now (a .card)) (a .top) (now (a .nodes)) (a .depth) false (after (now (a .state)) (a .first)) (at-loop .loop .nodes) (after (at-loop .loop .state) (at-loop .loop .next)) (at-loop .loop .inv)
     (at-step-after .step-after .result) (at-step-after .step-after .ensures) (kind (joiner false)) refl (at-if1 .if1 .left) (at-if2 .if2 .left)
     (at-unary .unary .last .1 .1 .0) (after (at-unary .unary .last .1 .1 .1 .0) (at-unary .unary .result)) (at-unary .unary .ensures) (at-if3 .if3 .left))
 
@@ -337,7 +337,7 @@ joined-by-and-loop-again t c =
     let entry = at-loop .before .before in
     let a = entry .args in
     rw (c .store .ensures .0, c .store .ensures .1)
-    (chain-turns (languageOf (a .question)) (keeping (a .question)) (now (a .card)) (a .top) (now (a .nodes)) (a .depth) false (after (now (a .state)) (a .first)) (at-loop .loop .nodes) (after (at-loop .loop .state) (at-loop .loop .next)) (at-loop .loop .inv)
+    (chain-turns (languageOf (a .language)) (keeping (a .language)) (now (a .card)) (a .top) (now (a .nodes)) (a .depth) false (after (now (a .state)) (a .first)) (at-loop .loop .nodes) (after (at-loop .loop .state) (at-loop .loop .next)) (at-loop .loop .inv)
     (at-step-after .step-after .result) (at-step-after .step-after .ensures) (kind (joiner false)) refl (at-if1 .if1 .left) (at-if2 .if2 .left)
     (at-unary .unary .last .1 .1 .0) (after (at-unary .unary .last .1 .1 .1 .0) (at-unary .unary .result)) (at-unary .unary .ensures) (at-if3 .if3 .left)
     (operatorOf false) (c .before .pack-node .result) refl (c .before .pack-node .ensures))
@@ -346,16 +346,16 @@ joined-by-and-returns-4 : (t : ℕ) → joined-by-and-lts.Need-returns-4 (joined
 joined-by-and-returns-4 t c = absurd (c .before .loop .inv .begun .some (c .loop-test .left))
 
 abbrev joined-by-or-Inv-loop : joined-by-or-lts.InvT-loop
-joined-by-or-Inv-loop card first nodes₀ state₀ depth top question next₀ nodes state next = Chaining (languageOf question) (keeping question) card top nodes₀ nodes depth true (after state₀ first) (after state next)
+joined-by-or-Inv-loop card first nodes₀ state₀ depth top language next₀ nodes state next = Chaining (languageOf language) (keeping language) card top nodes₀ nodes depth true (after state₀ first) (after state next)
 
 abbrev joined-by-or-μ-loop : joined-by-or-lts.MeasureT-loop
-joined-by-or-μ-loop card first nodes₀ state₀ depth top question next₀ nodes state next = leftIn state
+joined-by-or-μ-loop card first nodes₀ state₀ depth top language next₀ nodes state next = leftIn state
 
 joined-by-or-loop-holds : (t : ℕ) → joined-by-or-lts.Need-loop-holds (joined-by-or-R t) (joined-by-or-at t) joined-by-or.Post joined-by-or-Inv-loop joined-by-or-μ-loop
 joined-by-or-loop-holds t c =
     let entry = c .before in
     let a = entry .args in
-    chain-begins (languageOf (a .question)) (keeping (a .question)) (now (a .card)) (a .top) (now (a .nodes)) (a .depth) true (after (now (a .state)) (a .first)) (entry .pre .1)
+    chain-begins (languageOf (a .language)) (keeping (a .language)) (now (a .card)) (a .top) (now (a .nodes)) (a .depth) true (after (now (a .state)) (a .first)) (entry .pre .1)
 
 joined-by-or-step-after-requires : (t : ℕ) → joined-by-or-lts.Need-step-after-requires (joined-by-or-R t) (joined-by-or-at t) joined-by-or.Post joined-by-or-Inv-loop joined-by-or-μ-loop
 joined-by-or-step-after-requires t c κs = tt
@@ -366,7 +366,7 @@ joined-by-or-returns t c =
     let at-loop = at-step-after .before .before in
     let entry = at-loop .before .before in
     let a = entry .args in
-    chain-done (languageOf (a .question)) (keeping (a .question)) (now (a .card)) (a .top) (now (a .nodes)) (a .depth) true (after (now (a .state)) (a .first)) (at-loop .loop .nodes) (after (at-loop .loop .state) (at-loop .loop .next)) (at-loop .loop .inv)
+    chain-done (languageOf (a .language)) (keeping (a .language)) (now (a .card)) (a .top) (now (a .nodes)) (a .depth) true (after (now (a .state)) (a .first)) (at-loop .loop .nodes) (after (at-loop .loop .state) (at-loop .loop .next)) (at-loop .loop .inv)
     (at-step-after .step-after .result) (at-step-after .step-after .ensures) (kind (joiner true)) refl (c .if1 .taken)
 
 joined-by-or-element-copy-out-left : (t : ℕ) → joined-by-or-lts.Need-element-copy-out-left (joined-by-or-R t) (joined-by-or-at t) joined-by-or.Post joined-by-or-Inv-loop joined-by-or-μ-loop
@@ -385,7 +385,7 @@ joined-by-or-returns-2 t c =
     let at-loop = at-step-after .before .before in
     let entry = at-loop .before .before in
     let a = entry .args in
-    chain-stops (languageOf (a .question)) (keeping (a .question)) (now (a .card)) (a .top) (now (a .nodes)) (a .depth) true (after (now (a .state)) (a .first)) (at-loop .loop .nodes) (after (at-loop .loop .state) (at-loop .loop .next)) (at-loop .loop .inv)
+    chain-stops (languageOf (a .language)) (keeping (a .language)) (now (a .card)) (a .top) (now (a .nodes)) (a .depth) true (after (now (a .state)) (a .first)) (at-loop .loop .nodes) (after (at-loop .loop .state) (at-loop .loop .next)) (at-loop .loop .inv)
     (at-step-after .step-after .result) (at-step-after .step-after .ensures) (kind (joiner true)) refl (at-if1 .if1 .left) (at-if2 .if2 .taken) (after (c .stop .last .0) (c .stop .result)) (c .stop .ensures .0)
 
 joined-by-or-element-copy-out-first-root : (t : ℕ) → joined-by-or-lts.Need-element-copy-out-first-root (joined-by-or-R t) (joined-by-or-at t) joined-by-or.Post joined-by-or-Inv-loop joined-by-or-μ-loop
@@ -417,7 +417,7 @@ joined-by-or-returns-3 t c =
     let at-loop = at-step-after .before .before in
     let entry = at-loop .before .before in
     let a = entry .args in
-    chain-wrong (languageOf (a .question)) (keeping (a .question)) (now (a .card)) (a .top) (now (a .nodes)) (a .depth) true (after (now (a .state)) (a .first)) (at-loop .loop .nodes) (after (at-loop .loop .state) (at-loop .loop .next)) (at-loop .loop .inv)
+    chain-wrong (languageOf (a .language)) (keeping (a .language)) (now (a .card)) (a .top) (now (a .nodes)) (a .depth) true (after (now (a .state)) (a .first)) (at-loop .loop .nodes) (after (at-loop .loop .state) (at-loop .loop .next)) (at-loop .loop .inv)
     (at-step-after .step-after .result) (at-step-after .step-after .ensures) (kind (joiner true)) refl (at-if1 .if1 .left) (at-if2 .if2 .left)
     (c .before .conjunction .last .1 .1 .0) (after (c .before .conjunction .last .1 .1 .1 .0) (c .before .conjunction .result)) (c .before .conjunction .ensures) (c .if3 .taken)
 
@@ -435,7 +435,7 @@ joined-by-or-sub-second-root t c =
     let a = entry .args in
     omega (
       arith,
-      roomy (languageOf (a .question)) (keeping (a .question)) (now (a .card)) (a .top) (now (a .nodes)) (a .depth) true (after (now (a .state)) (a .first)) (at-loop .loop .nodes) (after (at-loop .loop .state) (at-loop .loop .next)) (at-loop .loop .inv)
+      roomy (languageOf (a .language)) (keeping (a .language)) (now (a .card)) (a .top) (now (a .nodes)) (a .depth) true (after (now (a .state)) (a .first)) (at-loop .loop .nodes) (after (at-loop .loop .state) (at-loop .loop .next)) (at-loop .loop .inv)
           (at-step-after .step-after .result) (at-step-after .step-after .ensures) (kind (joiner true)) refl (at-if1 .if1 .left) (at-if2 .if2 .left)
           (at-conjunction .conjunction .last .1 .1 .0) (after (at-conjunction .conjunction .last .1 .1 .1 .0) (at-conjunction .conjunction .result)) (at-conjunction .conjunction .ensures) (c .before .if3 .left) .1,
     )
@@ -453,7 +453,7 @@ joined-by-or-store-requires t c κs =
     let at-loop = at-step-after .before .before in
     let entry = at-loop .before .before in
     let a = entry .args in
-    store-room (languageOf (a .question)) (keeping (a .question)) (now (a .card)) (a .top) (now (a .nodes)) (a .depth) true (after (now (a .state)) (a .first)) (at-loop .loop .nodes) (after (at-loop .loop .state) (at-loop .loop .next)) (at-loop .loop .inv)
+    store-room (languageOf (a .language)) (keeping (a .language)) (now (a .card)) (a .top) (now (a .nodes)) (a .depth) true (after (now (a .state)) (a .first)) (at-loop .loop .nodes) (after (at-loop .loop .state) (at-loop .loop .next)) (at-loop .loop .inv)
     (at-step-after .step-after .result) (at-step-after .step-after .ensures) (kind (joiner true)) refl (at-if1 .if1 .left) (at-if2 .if2 .left)
     (at-conjunction .conjunction .last .1 .1 .0) (after (at-conjunction .conjunction .last .1 .1 .1 .0) (at-conjunction .conjunction .result)) (at-conjunction .conjunction .ensures) (at-if3 .if3 .left)
 
@@ -468,7 +468,7 @@ joined-by-or-loop-less t c =
     let entry = at-loop .before .before in
     let a = entry .args in
     rw (c .store .ensures .1)
-    (chain-falls (languageOf (a .question)) (keeping (a .question)) (now (a .card)) (a .top) (now (a .nodes)) (a .depth) true (after (now (a .state)) (a .first)) (at-loop .loop .nodes) (after (at-loop .loop .state) (at-loop .loop .next)) (at-loop .loop .inv)
+    (chain-falls (languageOf (a .language)) (keeping (a .language)) (now (a .card)) (a .top) (now (a .nodes)) (a .depth) true (after (now (a .state)) (a .first)) (at-loop .loop .nodes) (after (at-loop .loop .state) (at-loop .loop .next)) (at-loop .loop .inv)
     (at-step-after .step-after .result) (at-step-after .step-after .ensures) (kind (joiner true)) refl (at-if1 .if1 .left) (at-if2 .if2 .left)
     (at-conjunction .conjunction .last .1 .1 .0) (after (at-conjunction .conjunction .last .1 .1 .1 .0) (at-conjunction .conjunction .result)) (at-conjunction .conjunction .ensures) (at-if3 .if3 .left))
 
@@ -483,7 +483,7 @@ joined-by-or-loop-again t c =
     let entry = at-loop .before .before in
     let a = entry .args in
     rw (c .store .ensures .0, c .store .ensures .1)
-    (chain-turns (languageOf (a .question)) (keeping (a .question)) (now (a .card)) (a .top) (now (a .nodes)) (a .depth) true (after (now (a .state)) (a .first)) (at-loop .loop .nodes) (after (at-loop .loop .state) (at-loop .loop .next)) (at-loop .loop .inv)
+    (chain-turns (languageOf (a .language)) (keeping (a .language)) (now (a .card)) (a .top) (now (a .nodes)) (a .depth) true (after (now (a .state)) (a .first)) (at-loop .loop .nodes) (after (at-loop .loop .state) (at-loop .loop .next)) (at-loop .loop .inv)
     (at-step-after .step-after .result) (at-step-after .step-after .ensures) (kind (joiner true)) refl (at-if1 .if1 .left) (at-if2 .if2 .left)
     (at-conjunction .conjunction .last .1 .1 .0) (after (at-conjunction .conjunction .last .1 .1 .1 .0) (at-conjunction .conjunction .result)) (at-conjunction .conjunction .ensures) (at-if3 .if3 .left)
     (operatorOf true) (c .before .pack-node .result) refl (c .before .pack-node .ensures))
@@ -506,7 +506,7 @@ nested-returns t c =
     let at-step-opening = at-if1 .before .before in
     let entry = at-step-opening .before .before in
     let a = entry .args in
-    reads-closed (languageOf (a .question)) (now (a .card)) (a .at) (leftIn (now (a .state))) (a .depth) (a .top) (now (a .nodes)) (now (a .nodes)) (freeIn (now (a .state))) (lateIn (now (a .state))) (at-step-opening .step-opening .result) (at-step-opening .step-opening .ensures)
+    reads-closed (languageOf (a .language)) (now (a .card)) (a .at) (leftIn (now (a .state))) (a .depth) (a .top) (now (a .nodes)) (now (a .nodes)) (freeIn (now (a .state))) (lateIn (now (a .state))) (at-step-opening .step-opening .result) (at-step-opening .step-opening .ensures)
     (at-if1 .if1 .taken) (entry .pre .1 .1) (at-if2 .if2 .taken) (after (c .stop .last .0) (c .stop .result)) (c .stop .ensures .0)
 
 nested-sub-expression : (t : ℕ) → nested-lts.Need-sub-expression (nested-R t) (nested-at t) nested.Post
@@ -527,8 +527,8 @@ nested-returns-2 t c =
     let entry = at-step-opening .before .before in
     let a = entry .args in
     let g = after (at-expression .expression .last .1 .1 .1 .0) (at-expression .expression .result) in
-    reads-inner (languageOf (a .question)) (now (a .card)) (a .at) (leftIn (now (a .state))) (a .depth) (a .top) (now (a .nodes)) (at-expression .expression .last .1 .1 .0) (freeIn (now (a .state))) (lateIn (now (a .state))) (at-step-opening .step-opening .result) (at-step-opening .step-opening .ensures)
-    (at-if1 .if1 .taken) (entry .pre .1 .1) (at-if2 .if2 .left) g (after (g .state) 0) (at-expression .expression .ensures) (λ top nodes. goes-on-wrong (languageOf (a .question)) nodes g thenClose (c .if3 .taken) (now (a .card)) top)
+    reads-inner (languageOf (a .language)) (now (a .card)) (a .at) (leftIn (now (a .state))) (a .depth) (a .top) (now (a .nodes)) (at-expression .expression .last .1 .1 .0) (freeIn (now (a .state))) (lateIn (now (a .state))) (at-step-opening .step-opening .result) (at-step-opening .step-opening .ensures)
+    (at-if1 .if1 .taken) (entry .pre .1 .1) (at-if2 .if2 .left) g (after (g .state) 0) (at-expression .expression .ensures) (λ top nodes. goes-on-wrong (languageOf (a .language)) nodes g thenClose (c .if3 .taken) (now (a .card)) top)
 
 nested-step-sign-requires : (t : ℕ) → nested-lts.Need-step-sign-requires (nested-R t) (nested-at t) nested.Post
 nested-step-sign-requires t c κs = tt
@@ -539,8 +539,8 @@ nested-stop-requires-2 t c κs =
     let at-step-opening = at-expression .before .before .before .before .before .before in
     let entry = at-step-opening .before .before in
     let a = entry .args in
-    still-sized (languageOf (a .question)) (now (a .card)) (a .top) (now (a .nodes)) (at-expression .expression .last .1 .1 .0) (freeIn (now (a .state))) (lateIn (now (a .state)))
-    (grammar.expression (unaryIn (languageOf (a .question)) (a .depth - 1)) (at (marksAt 0 (now (a .card)) (at-step-opening .step-opening .result .next .at)) (leftIn (now (a .state))))) (after (at-expression .expression .last .1 .1 .1 .0) (at-expression .expression .result)) (at-expression .expression .ensures)
+    still-sized (languageOf (a .language)) (now (a .card)) (a .top) (now (a .nodes)) (at-expression .expression .last .1 .1 .0) (freeIn (now (a .state))) (lateIn (now (a .state)))
+    (grammar.expression (unaryIn (languageOf (a .language)) (a .depth - 1)) (at (marksAt 0 (now (a .card)) (at-step-opening .step-opening .result .next .at)) (leftIn (now (a .state))))) (after (at-expression .expression .last .1 .1 .1 .0) (at-expression .expression .result)) (at-expression .expression .ensures)
 
 nested-returns-3 : (t : ℕ) → nested-lts.Need-returns-3 (nested-R t) (nested-at t) nested.Post
 nested-returns-3 t c =
@@ -555,9 +555,9 @@ nested-returns-3 t c =
     let a = entry .args in
     let g = after (at-expression .expression .last .1 .1 .1 .0) (at-expression .expression .result) in
     let r = after (c .stop2 .last .0) (c .stop2 .result) in
-    reads-inner (languageOf (a .question)) (now (a .card)) (a .at) (leftIn (now (a .state))) (a .depth) (a .top) (now (a .nodes)) (at-expression .expression .last .1 .1 .0) (freeIn (now (a .state))) (lateIn (now (a .state))) (at-step-opening .step-opening .result) (at-step-opening .step-opening .ensures)
+    reads-inner (languageOf (a .language)) (now (a .card)) (a .at) (leftIn (now (a .state))) (a .depth) (a .top) (now (a .nodes)) (at-expression .expression .last .1 .1 .0) (freeIn (now (a .state))) (lateIn (now (a .state))) (at-step-opening .step-opening .result) (at-step-opening .step-opening .ensures)
     (at-if1 .if1 .taken) (entry .pre .1 .1) (at-if2 .if2 .left) g r (at-expression .expression .ensures)
-    (close-wrong (languageOf (a .question)) (now (a .card)) g (at-if3 .if3 .left) (at-step-sign .step-sign .result) (at-step-sign .step-sign .ensures) (at-if4 .if4 .taken) r (c .stop2 .ensures .0))
+    (close-wrong (languageOf (a .language)) (now (a .card)) g (at-if3 .if3 .left) (at-step-sign .step-sign .result) (at-step-sign .step-sign .ensures) (at-if4 .if4 .taken) r (c .stop2 .ensures .0))
 
 nested-returns-4 : (t : ℕ) → nested-lts.Need-returns-4 (nested-R t) (nested-at t) nested.Post
 nested-returns-4 t c =
@@ -570,9 +570,9 @@ nested-returns-4 t c =
     let entry = at-step-opening .before .before in
     let a = entry .args in
     let g = after (at-expression .expression .last .1 .1 .1 .0) (at-expression .expression .result) in
-    reads-inner (languageOf (a .question)) (now (a .card)) (a .at) (leftIn (now (a .state))) (a .depth) (a .top) (now (a .nodes)) (at-expression .expression .last .1 .1 .0) (freeIn (now (a .state))) (lateIn (now (a .state))) (at-step-opening .step-opening .result) (at-step-opening .step-opening .ensures)
+    reads-inner (languageOf (a .language)) (now (a .card)) (a .at) (leftIn (now (a .state))) (a .depth) (a .top) (now (a .nodes)) (at-expression .expression .last .1 .1 .0) (freeIn (now (a .state))) (lateIn (now (a .state))) (at-step-opening .step-opening .result) (at-step-opening .step-opening .ensures)
     (at-if1 .if1 .taken) (entry .pre .1 .1) (at-if2 .if2 .left) g (after (g .state) (at-step-sign .step-sign .result .next .at)) (at-expression .expression .ensures)
-    (close-well (languageOf (a .question)) (now (a .card)) g (at-if3 .if3 .left) (at-step-sign .step-sign .result) (at-step-sign .step-sign .ensures) (c .if4 .left))
+    (close-well (languageOf (a .language)) (now (a .card)) g (at-if3 .if3 .left) (at-step-sign .step-sign .result) (at-step-sign .step-sign .ensures) (c .if4 .left))
 
 nested-stop-requires-3 : (t : ℕ) → nested-lts.Need-stop-requires-3 (nested-R t) (nested-at t) nested.Post
 nested-stop-requires-3 t c κs =
@@ -586,7 +586,7 @@ nested-returns-5 t c =
     let at-step-opening = at-if1 .before .before in
     let entry = at-step-opening .before .before in
     let a = entry .args in
-    reads-unfit (languageOf (a .question)) (now (a .card)) (a .at) (leftIn (now (a .state))) (a .depth) (a .top) (now (a .nodes)) (now (a .nodes)) (freeIn (now (a .state))) (lateIn (now (a .state))) (at-step-opening .step-opening .result) (at-step-opening .step-opening .ensures)
+    reads-unfit (languageOf (a .language)) (now (a .card)) (a .at) (leftIn (now (a .state))) (a .depth) (a .top) (now (a .nodes)) (now (a .nodes)) (freeIn (now (a .state))) (lateIn (now (a .state))) (at-step-opening .step-opening .result) (at-step-opening .step-opening .ensures)
     (at-if1 .if1 .left) (at-if5 .if5 .taken) (after (c .stop3 .last .0) (c .stop3 .result)) (c .stop3 .ensures .0)
 
 nested-stop-requires-4 : (t : ℕ) → nested-lts.Need-stop-requires-4 (nested-R t) (nested-at t) nested.Post
@@ -601,7 +601,7 @@ nested-returns-6 t c =
     let at-step-opening = at-if5 .before .before .before .before in
     let entry = at-step-opening .before .before in
     let a = entry .args in
-    reads-deep (languageOf (a .question)) (now (a .card)) (a .at) (leftIn (now (a .state))) (a .depth) (a .top) (now (a .nodes)) (now (a .nodes)) (freeIn (now (a .state))) (lateIn (now (a .state))) (at-step-opening .step-opening .result) (at-step-opening .step-opening .ensures)
+    reads-deep (languageOf (a .language)) (now (a .card)) (a .at) (leftIn (now (a .state))) (a .depth) (a .top) (now (a .nodes)) (now (a .nodes)) (freeIn (now (a .state))) (lateIn (now (a .state))) (at-step-opening .step-opening .result) (at-step-opening .step-opening .ensures)
     (at-if5 .if5 .left) (at-if6 .if6 .taken) (after (c .stop4 .last .0) (c .stop4 .result)) (c .stop4 .ensures .0)
 
 nested-element-copy-out-left : (t : ℕ) → nested-lts.Need-element-copy-out-left (nested-R t) (nested-at t) nested.Post
@@ -620,7 +620,7 @@ nested-returns-7 t c =
     let at-step-opening = at-if5 .before .before .before .before in
     let entry = at-step-opening .before .before in
     let a = entry .args in
-    reads-full (languageOf (a .question)) (now (a .card)) (a .at) (leftIn (now (a .state))) (a .depth) (a .top) (now (a .nodes)) (now (a .nodes)) (freeIn (now (a .state))) (lateIn (now (a .state))) (at-step-opening .step-opening .result) (at-step-opening .step-opening .ensures)
+    reads-full (languageOf (a .language)) (now (a .card)) (a .at) (leftIn (now (a .state))) (a .depth) (a .top) (now (a .nodes)) (now (a .nodes)) (freeIn (now (a .state))) (lateIn (now (a .state))) (at-step-opening .step-opening .result) (at-step-opening .step-opening .ensures)
     (at-if5 .if5 .left) (at-if6 .if6 .left) (at-if7 .if7 .taken) (after (c .stop5 .last .0) (c .stop5 .result)) (c .stop5 .ensures .0)
 
 nested-sub-state : (t : ℕ) → nested-lts.Need-sub-state (nested-R t) (nested-at t) nested.Post
@@ -650,10 +650,10 @@ nested-returns-8 t c =
     let entry = at-step-opening .before .before in
     let a = entry .args in
     let g = after (at-unary .unary .last .1 .1 .1 .0) (at-unary .unary .result) in
-    reads-not (languageOf (a .question)) (now (a .card)) (a .at) (leftIn (now (a .state))) (a .depth) (a .top) (now (a .nodes)) (at-unary .unary .last .1 .1 .0) (freeIn (now (a .state))) (lateIn (now (a .state))) (at-step-opening .step-opening .result) (at-step-opening .step-opening .ensures)
+    reads-not (languageOf (a .language)) (now (a .card)) (a .at) (leftIn (now (a .state))) (a .depth) (a .top) (now (a .nodes)) (at-unary .unary .last .1 .1 .0) (freeIn (now (a .state))) (lateIn (now (a .state))) (at-step-opening .step-opening .result) (at-step-opening .step-opening .ensures)
     (at-if5 .if5 .left) (at-if6 .if6 .left) (at-if7 .if7 .left) (at-unary .unary .last .1 .1 .0) g (after (g .state) 0)
-    (read-spending (languageOf (a .question)) (now (a .state)) (now (a .card)) (a .top) (now (a .nodes)) (at-unary .unary .last .1 .1 .0) (unaryIn (languageOf (a .question)) (a .depth - 1)) (marksAt 0 (now (a .card)) (at-step-opening .step-opening .result .next .at)) g (entry .pre .1 .0 .sized) (at-unary .unary .ensures))
-    (goes-on-wrong (languageOf (a .question)) (at-unary .unary .last .1 .1 .0) g thenNot (c .if8 .taken))
+    (read-spending (languageOf (a .language)) (now (a .state)) (now (a .card)) (a .top) (now (a .nodes)) (at-unary .unary .last .1 .1 .0) (unaryIn (languageOf (a .language)) (a .depth - 1)) (marksAt 0 (now (a .card)) (at-step-opening .step-opening .result .next .at)) g (entry .pre .1 .0 .sized) (at-unary .unary .ensures))
+    (goes-on-wrong (languageOf (a .language)) (at-unary .unary .last .1 .1 .0) g thenNot (c .if8 .taken))
 
 nested-element-copy-out-root : (t : ℕ) → nested-lts.Need-element-copy-out-root (nested-R t) (nested-at t) nested.Post
 nested-element-copy-out-root t c = search needs
@@ -668,7 +668,7 @@ nested-sub-root t c =
     let a = entry .args in
     omega (
       arith,
-      behind-not (languageOf (a .question)) (keeping (a .question)) (now (a .card)) (a .top) (now (a .nodes)) (at-unary .unary .last .1 .1 .0) (now (a .state)) (entry .pre .1 .0) (at-if7 .if7 .left) (at-step-opening .step-opening .result .next .at) (a .depth - 1)
+      behind-not (languageOf (a .language)) (keeping (a .language)) (now (a .card)) (a .top) (now (a .nodes)) (at-unary .unary .last .1 .1 .0) (now (a .state)) (entry .pre .1 .0) (at-if7 .if7 .left) (at-step-opening .step-opening .result .next .at) (a .depth - 1)
           (after (at-unary .unary .last .1 .1 .1 .0) (at-unary .unary .result)) (at-if8 .if8 .left) (at-unary .unary .ensures) .0,
     )
 
@@ -683,7 +683,7 @@ nested-store-requires t c κs =
     let at-step-opening = at-if7 .before .before .before .before .before .before .before in
     let entry = at-step-opening .before .before in
     let a = entry .args in
-    behind-not (languageOf (a .question)) (keeping (a .question)) (now (a .card)) (a .top) (now (a .nodes)) (at-unary .unary .last .1 .1 .0) (now (a .state)) (entry .pre .1 .0) (at-if7 .if7 .left) (at-step-opening .step-opening .result .next .at) (a .depth - 1)
+    behind-not (languageOf (a .language)) (keeping (a .language)) (now (a .card)) (a .top) (now (a .nodes)) (at-unary .unary .last .1 .1 .0) (now (a .state)) (entry .pre .1 .0) (at-if7 .if7 .left) (at-step-opening .step-opening .result .next .at) (a .depth - 1)
     (after (at-unary .unary .last .1 .1 .1 .0) (at-unary .unary .result)) (at-if8 .if8 .left) (at-unary .unary .ensures) .1
 
 nested-returns-9 : (t : ℕ) → nested-lts.Need-returns-9 (nested-R t) (nested-at t) nested.Post
@@ -699,12 +699,12 @@ nested-returns-9 t c =
     let a = entry .args in
     let mid = at-unary .unary .last .1 .1 .0 in
     let g = after (at-unary .unary .last .1 .1 .1 .0) (at-unary .unary .result) in
-    let fits = behind-not (languageOf (a .question)) (keeping (a .question)) (now (a .card)) (a .top) (now (a .nodes)) mid (now (a .state)) (entry .pre .1 .0) (at-if7 .if7 .left) (at-step-opening .step-opening .result .next .at) (a .depth - 1) g (at-if8 .if8 .left) (at-unary .unary .ensures) .1 in
+    let fits = behind-not (languageOf (a .language)) (keeping (a .language)) (now (a .card)) (a .top) (now (a .nodes)) mid (now (a .state)) (entry .pre .1 .0) (at-if7 .if7 .left) (at-step-opening .step-opening .result .next .at) (a .depth - 1) g (at-if8 .if8 .left) (at-unary .unary .ensures) .1 in
     rw (c .store .ensures .0, c .store .ensures .1)
-    (reads-not (languageOf (a .question)) (now (a .card)) (a .at) (leftIn (now (a .state))) (a .depth) (a .top) (now (a .nodes)) _ (freeIn (now (a .state))) (lateIn (now (a .state))) (at-step-opening .step-opening .result) (at-step-opening .step-opening .ensures)
+    (reads-not (languageOf (a .language)) (now (a .card)) (a .at) (leftIn (now (a .state))) (a .depth) (a .top) (now (a .nodes)) _ (freeIn (now (a .state))) (lateIn (now (a .state))) (at-step-opening .step-opening .result) (at-step-opening .step-opening .ensures)
     (at-if5 .if5 .left) (at-if6 .if6 .left) (at-if7 .if7 .left) mid g _
-    (read-spending (languageOf (a .question)) (now (a .state)) (now (a .card)) (a .top) (now (a .nodes)) mid (unaryIn (languageOf (a .question)) (a .depth - 1)) (marksAt 0 (now (a .card)) (at-step-opening .step-opening .result .next .at)) g (entry .pre .1 .0 .sized) (at-unary .unary .ensures))
-    (not-well (languageOf (a .question)) mid g (at-pack-node .pack-node .result) (at-if8 .if8 .left) fits (at-pack-node .pack-node .ensures)))
+    (read-spending (languageOf (a .language)) (now (a .state)) (now (a .card)) (a .top) (now (a .nodes)) mid (unaryIn (languageOf (a .language)) (a .depth - 1)) (marksAt 0 (now (a .card)) (at-step-opening .step-opening .result .next .at)) g (entry .pre .1 .0 .sized) (at-unary .unary .ensures))
+    (not-well (languageOf (a .language)) mid g (at-pack-node .pack-node .result) (at-if8 .if8 .left) fits (at-pack-node .pack-node .ensures)))
 
 unary-keep-item-requires : (t : ℕ) → unary-lts.Need-keep-item-requires (unary-R t) (unary-at t) unary.Post
 unary-keep-item-requires t c κs =
@@ -732,7 +732,7 @@ unary-returns-2 t c =
     let entry = at-keep-item .before .before .before .before in
     let a = entry .args in
     let same = at-keep-item .keep-item .ensures .none (at-if1 .if1 .left) in
-    read-from (languageOf (a .question)) (now (a .card)) (a .at) (a .top) (a .depth) (now (a .nodes)) _ _ (now (a .state)) _ (after (c .nested .last .1 .1 .1 .0) (c .nested .result)) (same .0) (same .1) (c .nested .ensures)
+    read-from (languageOf (a .language)) (now (a .card)) (a .at) (a .top) (a .depth) (now (a .nodes)) _ _ (now (a .state)) _ (after (c .nested .last .1 .1 .1 .0) (c .nested .result)) (same .0) (same .1) (c .nested .ensures)
 
 pub +conjunction+expression+joined-by-and+joined-by-or+nested+unary-spec : {M : Type 1} → statement M
 +conjunction+expression+joined-by-and+joined-by-or+nested+unary-spec =

@@ -21,7 +21,7 @@ returns : tie.Need-returns
 returns c =
     let at-step = c .before .before in
     let a = at-step .before .before .args in
-    no-bracket (languageOf (a .question)) (now (a .card)) (a .at) (a .top) (now (a .nodes)) (now (a .state)) (at-step .step-opening .result) (at-step .step-opening .ensures) (c .if1 .taken)
+    no-bracket (languageOf (a .language)) (now (a .card)) (a .at) (a .top) (now (a .nodes)) (now (a .state)) (at-step .step-opening .result) (at-step .step-opening .ensures) (c .if1 .taken)
 
 sub-part : tie.Need-sub-part
 sub-part c =
@@ -49,12 +49,15 @@ returns-2 c =
     let card = now (a .card) in
     let s = at-step .step-opening .result in
     let l = step-within card (a .at) s (at-step .step-opening .ensures) in
-    no-item (languageOf (a .question)) card (a .at) (a .top) (now (a .nodes)) (now (a .state)) s (at-step .step-opening .ensures) l
+    no-item (languageOf (a .language)) card (a .at) (a .top) (now (a .nodes)) (now (a .state)) s (at-step .step-opening .ensures) l
     (take (length card - s .next .at) (drop (s .next .at) card)) (part-is card (s .next .at) l) (at-item .item .result) (at-item .item .ensures) (c .if2 .taken)
+
+bound-requires : tie.Need-bound-requires
+bound-requires c κs = search needs
 
 lay-requires : tie.Need-lay-requires
 lay-requires c κs =
-    let at-item = c .before .before .before .before in
+    let at-item = c .before .before .before .before .before in
     let at-step = at-item .before .before .before .before in
     let entry = at-step .before .before in
     let card = now (entry .args .card) in
@@ -65,7 +68,8 @@ lay-requires c κs =
 
 returns-3 : tie.Need-returns-3
 returns-3 c =
-    let at-if2 = c .before .before .before in
+    let at-bound = c .before .before .before in
+    let at-if2 = at-bound .before in
     let at-item = at-if2 .before .before in
     let at-if1 = at-item .before .before in
     let at-step = at-if1 .before .before in
@@ -73,9 +77,9 @@ returns-3 c =
     let card = now (a .card) in
     let s = at-step .step-opening .result in
     let l = step-within card (a .at) s (at-step .step-opening .ensures) in
-    item-kept (languageOf (a .question)) card (a .at) (a .top) (now (a .nodes)) (now (a .state)) s (at-step .step-opening .ensures) l
+    item-kept (languageOf (a .language)) card (a .at) (a .top) (now (a .nodes)) (now (a .state)) s (at-step .step-opening .ensures) l
     (take (length card - s .next .at) (drop (s .next .at) card)) (part-is card (s .next .at) l) (at-item .item .result) (at-item .item .ensures)
-    (at-if1 .if1 .left) (at-if2 .if2 .left) _ _ _ (c .lay .ensures)
+    (at-if1 .if1 .left) (at-if2 .if2 .left) _ _ _ (at-bound .bound .result) (at-bound .bound .ensures) (c .lay .ensures)
 
 pub keep-item-spec : {M : Type 1} → statement M
 keep-item-spec =
@@ -88,5 +92,6 @@ keep-item-spec =
     part-part-end
     item-requires
     returns-2
+    bound-requires
     lay-requires
     returns-3)

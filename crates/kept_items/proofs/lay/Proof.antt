@@ -19,7 +19,7 @@ returns c =
     let at-if1 = c .before .before in
     let entry = at-if1 .before .before in
     let a = entry .args in
-    laid-full (a .g) (a .begin) (a .place) (a .top) (now (a .nodes)) (now (a .state)) (at-if1 .if1 .taken) (now (a .nodes)) (after (c .stop .last .0) (c .stop .result)) (c .stop .ensures .0)
+    laid-full (a .g) (a .begin) (a .place) (a .most) (now (a .nodes)) (now (a .state)) (at-if1 .if1 .taken) (now (a .nodes)) (after (c .stop .last .0) (c .stop .result)) (c .stop .ensures .0)
 
 add-stop : tie.Need-add-stop
 add-stop c = search needs
@@ -33,7 +33,7 @@ returns-2 c =
     let at-if1 = at-if2 .before .before in
     let entry = at-if1 .before .before in
     let a = entry .args in
-    laid-wrong (a .g) (a .begin) (a .place) (a .top) (now (a .nodes)) (now (a .state)) (at-if1 .if1 .left) (at-if2 .if2 .taken) (now (a .nodes)) (after (c .stop2 .last .0) (c .stop2 .result)) (c .stop2 .ensures .0)
+    laid-wrong (a .g) (a .begin) (a .place) (a .most) (now (a .nodes)) (now (a .state)) (at-if1 .if1 .left) (at-if2 .if2 .taken) (now (a .nodes)) (after (c .stop2 .last .0) (c .stop2 .result)) (c .stop2 .ensures .0)
 
 sub-rest : tie.Need-sub-rest
 sub-rest c = search needs
@@ -47,8 +47,8 @@ store-requires c κs =
     let entry = at-if1 .before .before in
     rw free-left (omega (arith, entry .pre .0 .fits, at-if1 .if1 .left))
 
-grouped-requires : tie.Need-grouped-requires
-grouped-requires c κs =
+wanted-requires : tie.Need-wanted-requires
+wanted-requires c κs =
     let at-store = c .before in
     let entry = at-store .before .before .before .before .before .before .before in
     stored-sized (now (entry .args .state)) (entry .pre .0 .sized) _ (at-store .store .last .1 .0) (at-store .store .ensures .1)
@@ -58,10 +58,10 @@ add-judge-state c = search needs
 
 judge-state-requires : tie.Need-judge-state-requires
 judge-state-requires c κs =
-    let at-grouped = c .before .before in
-    let at-store = at-grouped .before .before in
+    let at-wanted = c .before .before in
+    let at-store = at-wanted .before .before in
     let entry = at-store .before .before .before .before .before .before .before in
-    grouped-sized (now (entry .args .state)) (entry .pre .0 .sized) _ (at-store .store .last .1 .0) (at-store .store .ensures .1) (at-grouped .grouped .last .0) _ (at-grouped .grouped .ensures)
+    grouped-sized (now (entry .args .state)) (entry .pre .0 .sized) _ (at-store .store .last .1 .0) (at-store .store .ensures .1) (at-wanted .wanted .last .0) _ (at-wanted .wanted .ensures)
 
 add-result : tie.Need-add-result
 add-result c = search needs
@@ -69,14 +69,14 @@ add-result c = search needs
 returns-3 : tie.Need-returns-3
 returns-3 c =
     let at-judge-state = c .before in
-    let at-grouped = at-judge-state .before .before .before in
-    let at-store = at-grouped .before .before in
+    let at-wanted = at-judge-state .before .before .before in
+    let at-store = at-wanted .before .before in
     let at-if2 = at-store .before .before .before in
     let at-if1 = at-if2 .before .before in
     let entry = at-if1 .before .before in
     let a = entry .args in
-    laid-well (a .g) (a .begin) (a .place) (a .top) (now (a .nodes)) (now (a .state)) (at-if1 .if1 .left) (at-if2 .if2 .left) (entry .pre .0 .sized) (at-store .store .last .0) (at-store .store .last .1 .0) (at-grouped .grouped .last .0) (at-judge-state .judge-state .last .0)
-    (at-store .store .ensures .0) (at-store .store .ensures .1) (at-grouped .grouped .ensures) (at-judge-state .judge-state .ensures)
+    laid-well (a .g) (a .begin) (a .place) (a .most) (now (a .nodes)) (now (a .state)) (at-if1 .if1 .left) (at-if2 .if2 .left) (entry .pre .0 .sized) (at-store .store .last .0) (at-store .store .last .1 .0) (at-wanted .wanted .last .0) (at-judge-state .judge-state .last .0)
+    (at-store .store .ensures .0) (at-store .store .ensures .1) (at-wanted .wanted .ensures) (at-judge-state .judge-state .ensures)
 
 pub lay-spec : {M : Type 1} → statement M
 lay-spec =
@@ -91,7 +91,7 @@ lay-spec =
     sub-rest
     element-write-state
     store-requires
-    grouped-requires
+    wanted-requires
     add-judge-state
     judge-state-requires
     add-result

@@ -1,143 +1,112 @@
--- A way out for each mark, in their order (proofs/Laws.antt). Assumes nothing.
-use Rattle.parts.proofs.Steps.{next-at}
-use Rattle.mode_and_range.proofs.Laws.{zero-misses, dots-miss, top-misses, top-past, top-fits}
+-- A way out for each part, in the order of the parts (proofs/RangeLaws.antt). Assumes nothing.
+use Rattle.mode_and_range.proofs.RangeLaws.{span-halts, square-halts, init-halts, start-halts, semicolon-halts, range-read}
 use borrow.Author.Needs.{needs}
 use Rattle.mode_and_range.proofs.range.Statement.{statement}
 use Rattle.mode_and_range.proofs.range.Tie as tie
 
-step-number-requires : tie.Need-step-number-requires
-step-number-requires c κs = search needs
-
-stop-requires : tie.Need-stop-requires
-stop-requires c κs =
-    let entry = c .before .before .before .before .before .before .before in
-    entry .pre
+span-requires : tie.Need-span-requires
+span-requires c κs = c .before .before .pre
 
 returns : tie.Need-returns
-returns c =
-    let at-if1 = c .before .before in
-    let at-step-number = at-if1 .before .before .before .before in
-    let entry = at-step-number .before .before in
-    let a = entry .args in
-    zero-misses (next-at (a .card .now) (a .at) (at-step-number .step-number .result) (at-step-number .step-number .ensures))
-    (λ e f. at-if1 .if1 .taken e) (c .stop .ensures .0)
+returns c = span-halts _ _ _ _ _ (c .before .span .ensures) (c .if1 .taken)
 
-stop-requires-2 : tie.Need-stop-requires-2
-stop-requires-2 c κs =
-    let entry = c .before .before .before .before .before .before .before .before .before in
-    entry .pre
+element-copy-out-top : tie.Need-element-copy-out-top
+element-copy-out-top c = search needs
+
+sign-requires : tie.Need-sign-requires
+sign-requires c κs = c .before .before .before .span .ensures .sized
 
 returns-2 : tie.Need-returns-2
 returns-2 c =
-    let at-if2 = c .before .before in
-    let at-step-number = at-if2 .before .before .before .before .before .before in
-    let entry = at-step-number .before .before in
-    let a = entry .args in
-    zero-misses (next-at (a .card .now) (a .at) (at-step-number .step-number .result) (at-step-number .step-number .ensures))
-    (λ e f. at-if2 .if2 .taken f) (c .stop2 .ensures .0)
+    let at-sign = c .before in
+    let at-if1 = at-sign .before .before .before in
+    let at-span = at-if1 .before in
+    square-halts _ _ _ _ _ (at-span .span .ensures) (at-if1 .if1 .left) _ (at-sign .sign .ensures) (c .if2 .taken)
 
-step-requires : tie.Need-step-requires
-step-requires c κs = search needs
-
-stop-requires-3 : tie.Need-stop-requires-3
-stop-requires-3 c κs =
-    let entry = c .before .before .before .before .before .before .before .before .before .before .before .before .before .before in
-    entry .pre
+sign-requires-2 : tie.Need-sign-requires-2
+sign-requires-2 c κs = c .before .before .sign .ensures .sized
 
 returns-3 : tie.Need-returns-3
 returns-3 c =
-    let at-if3 = c .before .before in
-    let at-step = at-if3 .before .before .before .before in
-    let at-if2 = at-step .before in
-    let at-if1 = at-if2 .before .before in
-    let at-step-number = at-if1 .before .before .before .before in
-    let entry = at-step-number .before .before in
-    let a = entry .args in
-    dots-miss (next-at (a .card .now) (a .at) (at-step-number .step-number .result) (at-step-number .step-number .ensures)) (at-if1 .if1 .left)
-    (at-if2 .if2 .left) (next-at (a .card .now) (at-step-number .step-number .result .next .at) (at-step .step .result) (at-step .step .ensures))
-    (at-if3 .if3 .taken) (c .stop3 .ensures .0)
+    let at-sign2 = c .before in
+    let at-if2 = at-sign2 .before .before in
+    let at-sign = at-if2 .before in
+    let at-if1 = at-sign .before .before .before in
+    let at-span = at-if1 .before in
+    init-halts _ _ _ _ _ (at-span .span .ensures) (at-if1 .if1 .left) _ (at-sign .sign .ensures) (at-if2 .if2 .left) _ (at-sign2 .sign2 .ensures)
+    (c .if3 .taken)
 
-step-number-requires-2 : tie.Need-step-number-requires-2
-step-number-requires-2 c κs = search needs
-
-stop-requires-4 : tie.Need-stop-requires-4
-stop-requires-4 c κs =
-    let entry = c .before .before .before .before .before .before .before .before .before .before .before .before .before .before .before .before .before .before .before in
-    entry .pre
+number-requires : tie.Need-number-requires
+number-requires c κs = c .before .before .sign2 .ensures .sized
 
 returns-4 : tie.Need-returns-4
 returns-4 c =
-    let at-if4 = c .before .before in
-    let at-step-number2 = at-if4 .before .before .before .before in
-    let at-if3 = at-step-number2 .before in
-    let at-step = at-if3 .before .before .before .before in
-    let at-if2 = at-step .before in
-    let at-if1 = at-if2 .before .before in
-    let at-step-number = at-if1 .before .before .before .before in
-    let entry = at-step-number .before .before in
-    let a = entry .args in
-    top-misses (next-at (a .card .now) (a .at) (at-step-number .step-number .result) (at-step-number .step-number .ensures)) (at-if1 .if1 .left)
-    (at-if2 .if2 .left) (next-at (a .card .now) (at-step-number .step-number .result .next .at) (at-step .step .result) (at-step .step .ensures))
-    (at-if3 .if3 .left) (next-at (a .card .now) (at-step .step .result .next .at) (at-step-number2 .step-number2 .result)
-    (at-step-number2 .step-number2 .ensures)) (at-if4 .if4 .taken) (c .stop4 .ensures .0)
+    let at-number = c .before in
+    let at-if3 = at-number .before .before in
+    let at-sign2 = at-if3 .before in
+    let at-if2 = at-sign2 .before .before in
+    let at-sign = at-if2 .before in
+    let at-if1 = at-sign .before .before .before in
+    let at-span = at-if1 .before in
+    start-halts _ _ _ _ _ (at-span .span .ensures) (at-if1 .if1 .left) _ (at-sign .sign .ensures) (at-if2 .if2 .left) _ (at-sign2 .sign2 .ensures)
+    (at-if3 .if3 .left) _ (at-number .number .ensures) (c .if4 .taken)
 
-stop-requires-5 : tie.Need-stop-requires-5
-stop-requires-5 c κs =
-    let entry = c .before .before .before .before .before .before .before .before .before .before .before .before .before .before .before .before .before .before .before .before .before in
-    entry .pre
+element-copy-out-start : tie.Need-element-copy-out-start
+element-copy-out-start c = search needs
+
+sign-requires-3 : tie.Need-sign-requires-3
+sign-requires-3 c κs = c .before .before .before .number .ensures .sized
 
 returns-5 : tie.Need-returns-5
 returns-5 c =
-    let at-if5 = c .before .before in
-    let at-if4 = at-if5 .before .before in
-    let at-step-number2 = at-if4 .before .before .before .before in
-    let at-if3 = at-step-number2 .before in
-    let at-step = at-if3 .before .before .before .before in
-    let at-if2 = at-step .before in
-    let at-if1 = at-if2 .before .before in
-    let at-step-number = at-if1 .before .before .before .before in
-    let entry = at-step-number .before .before in
-    let a = entry .args in
-    top-past (next-at (a .card .now) (a .at) (at-step-number .step-number .result) (at-step-number .step-number .ensures)) (at-if1 .if1 .left)
-    (at-if2 .if2 .left) (next-at (a .card .now) (at-step-number .step-number .result .next .at) (at-step .step .result) (at-step .step .ensures))
-    (at-if3 .if3 .left) (next-at (a .card .now) (at-step .step .result .next .at) (at-step-number2 .step-number2 .result)
-    (at-step-number2 .step-number2 .ensures)) (at-if4 .if4 .left) (at-if5 .if5 .taken) (c .stop5 .ensures .0)
+    let at-sign3 = c .before in
+    let at-if4 = at-sign3 .before .before .before in
+    let at-number = at-if4 .before in
+    let at-if3 = at-number .before .before in
+    let at-sign2 = at-if3 .before in
+    let at-if2 = at-sign2 .before .before in
+    let at-sign = at-if2 .before in
+    let at-if1 = at-sign .before .before .before in
+    let at-span = at-if1 .before in
+    semicolon-halts _ _ _ _ _ (at-span .span .ensures) (at-if1 .if1 .left) _ (at-sign .sign .ensures) (at-if2 .if2 .left) _ (at-sign2 .sign2 .ensures)
+    (at-if3 .if3 .left) _ (at-number .number .ensures) (at-if4 .if4 .left) _ (at-sign3 .sign3 .ensures) (c .if5 .taken)
 
 element-write-state : tie.Need-element-write-state
 element-write-state c = search needs
 
+element-write-state-2 : tie.Need-element-write-state-2
+element-write-state-2 c = search needs
+
 returns-6 : tie.Need-returns-6
 returns-6 c =
-    let at-if4 = c .before .before in
-    let at-step-number2 = at-if4 .before .before .before .before in
-    let at-if3 = at-step-number2 .before in
-    let at-step = at-if3 .before .before .before .before in
-    let at-if2 = at-step .before in
-    let at-if1 = at-if2 .before .before in
-    let at-step-number = at-if1 .before .before .before .before in
-    let entry = at-step-number .before .before in
-    let a = entry .args in
-    top-fits (next-at (a .card .now) (a .at) (at-step-number .step-number .result) (at-step-number .step-number .ensures)) (at-if1 .if1 .left)
-    (at-if2 .if2 .left) (next-at (a .card .now) (at-step-number .step-number .result .next .at) (at-step .step .result) (at-step .step .ensures))
-    (at-if3 .if3 .left) (next-at (a .card .now) (at-step .step .result .next .at) (at-step-number2 .step-number2 .result)
-    (at-step-number2 .step-number2 .ensures)) (at-if4 .if4 .left) (c .if5 .left) (a .state .now) (entry .pre)
+    let at-sign3 = c .before in
+    let at-if4 = at-sign3 .before .before .before in
+    let at-number = at-if4 .before in
+    let at-if3 = at-number .before .before in
+    let at-sign2 = at-if3 .before in
+    let at-if2 = at-sign2 .before .before in
+    let at-sign = at-if2 .before in
+    let at-if1 = at-sign .before .before .before in
+    let at-span = at-if1 .before in
+    range-read _ _ _ _ _ (at-span .span .ensures) (at-if1 .if1 .left) _ (at-sign .sign .ensures) (at-if2 .if2 .left) _ (at-sign2 .sign2 .ensures)
+    (at-if3 .if3 .left) _ (at-number .number .ensures) (at-if4 .if4 .left) _ (at-sign3 .sign3 .ensures) (c .if5 .left)
 
 pub range-spec : {M : Type 1} → statement M
 range-spec =
     tie.close
     (tie.spec
-    step-number-requires
-    stop-requires
+    span-requires
     returns
-    stop-requires-2
+    element-copy-out-top
+    sign-requires
     returns-2
-    step-requires
-    stop-requires-3
+    sign-requires-2
     returns-3
-    step-number-requires-2
-    stop-requires-4
+    number-requires
     returns-4
-    stop-requires-5
+    element-copy-out-start
+    sign-requires-3
     returns-5
     element-write-state
+    element-write-state-2
     returns-6)

@@ -13,11 +13,20 @@ at-most-requires c κs = search needs
 at-most-requires-2 : tie.Need-at-most-requires-2
 at-most-requires-2 c κs = search needs
 
+at-most-requires-3 : tie.Need-at-most-requires-3
+at-most-requires-3 c κs = search needs
+
 mul-result : tie.Need-mul-result
 mul-result c = search needs
 
+mul-result-2 : tie.Need-mul-result-2
+mul-result-2 c = search needs
+
 add-result : tie.Need-add-result
 add-result c = search needs
+
+add-result-2 : tie.Need-add-result-2
+add-result-2 c = search needs
 
 cast-result : tie.Need-cast-result
 cast-result c = search needs
@@ -33,7 +42,10 @@ pack-branch-spec =
     cast-at-most
     at-most-requires
     at-most-requires-2
+    at-most-requires-3
     mul-result
+    mul-result-2
     add-result
+    add-result-2
     cast-result
     returns)

@@ -9,7 +9,7 @@ use Rattle.panel_room.proofs.enter_panel.Statement.{statement}
 use Rattle.panel_room.proofs.enter_panel.Tie as tie
 
 put-panel-requires : tie.Need-put-panel-requires
-put-panel-requires c κs = c .before .before .before .pre .fitting
+put-panel-requires c κs = c .before .before .before .pre .showing
 
 same-length : tie.Need-same-length
 same-length c = search needs
@@ -37,7 +37,7 @@ slice-aggregate-put-panel c =
 put-panel-requires-2 : tie.Need-put-panel-requires-2
 put-panel-requires-2 c κs =
     let start = c .before .before .before .before .before in
-    start .pre .fitting
+    start .pre .showing
 
 same-length-2 : tie.Need-same-length-2
 same-length-2 c = search needs

@@ -1,9 +1,9 @@
 -- `panel_text::put_head` meets its contract: its puts, one after the other. Assumes nothing.
-use borrow.Author.Needs.{needs}
-use lib.Seq.{length-take-le}
-use mathlib.Core.Path.{sym}
-use native.Mathlib.Omega.{arith}
 use Rattle.phrases.proofs.Laws.{put-first, puts-then}
+use native.Mathlib.Omega.{arith}
+use mathlib.Core.Path.{sym}
+use lib.Seq.{length-take-le}
+use borrow.Author.Needs.{needs}
 use Rattle.panel_text.proofs.put_head.Statement.{statement}
 use Rattle.panel_text.proofs.put_head.Tie as tie
 
@@ -12,6 +12,9 @@ add-states c = search needs
 
 shared-slice-read-enabled : tie.Need-shared-slice-read-enabled
 shared-slice-read-enabled c = search needs
+
+shared-slice-read-present : tie.Need-shared-slice-read-present
+shared-slice-read-present c = search needs
 
 put-mode-requires : tie.Need-put-mode-requires
 put-mode-requires c κs = search needs
@@ -39,22 +42,26 @@ slice-aggregate-put-line-3 c = search needs
 
 slice-aggregate-put-line-4 : tie.Need-slice-aggregate-put-line-4
 slice-aggregate-put-line-4 c =
-    let start = c .before .before .before .before .before .before .before .before .before .before .before .before .before .before .before .before .before .before .before .before .before .before .before .before .before .before in
+    let start = c .before .before .before .before .before .before .before .before .before .before .before .before .before .before .before .before .before .before .before .before .before .before .before .before .before .before .before in
     sym (length-take-le _ (start .args .table .now) (omega (arith, start .pre .0, start .pre .1)))
 
 put-line-requires-2 : tie.Need-put-line-requires-2
 put-line-requires-2 c κs = search needs
+
+put-shared-requires : tie.Need-put-shared-requires
+put-shared-requires c κs = search needs
 
 same-length : tie.Need-same-length
 same-length c = search needs
 
 returns : tie.Need-returns
 returns c =
-    let at-put-line = c .before .before .before .before .before .before .before .before in
+    let at-put-line2 = c .before .before .before .before .before .before in
+    let at-put-line = at-put-line2 .before .before .before .before .before .before in
     let at-put-number = at-put-line .before .before .before .before .before .before in
     let at-put-bytes = at-put-number .before .before .before .before in
     let at-put-mode = at-put-bytes .before .before .before .before .before in
-    puts-then (at-put-mode .put-mode .ensures) (puts-then (put-first (at-put-bytes .put-bytes .ensures)) (puts-then (put-first (at-put-number .put-number .ensures)) (puts-then (at-put-line .put-line .ensures) (c .before .before .put-line2 .ensures))))
+    puts-then (at-put-mode .put-mode .ensures) (puts-then (put-first (at-put-bytes .put-bytes .ensures)) (puts-then (put-first (at-put-number .put-number .ensures)) (puts-then (at-put-line .put-line .ensures) (puts-then (at-put-line2 .put-line2 .ensures) (c .before .before .put-shared .ensures)))))
 
 pub put-head-spec : {M : Type 1} → statement M
 put-head-spec =
@@ -62,6 +69,7 @@ put-head-spec =
     (tie.spec
     add-states
     shared-slice-read-enabled
+    shared-slice-read-present
     put-mode-requires
     slice-aggregate-put-bytes
     put-bytes-requires
@@ -72,5 +80,6 @@ put-head-spec =
     slice-aggregate-put-line-3
     slice-aggregate-put-line-4
     put-line-requires-2
+    put-shared-requires
     same-length
     returns)

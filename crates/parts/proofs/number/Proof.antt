@@ -1,6 +1,6 @@
 -- `parts::number` meets its contract: the step finds a number, which is judged and kept, or stops. Assumes nothing.
 use Rattle.parts.proofs.Lines.{number-stops, number-read}
-use Rattle.parts.proofs.Steps.{next-at}
+use Rattle.parts.proofs.Steps.{next-at, number-small}
 use borrow.Author.Needs.{needs}
 use Rattle.parts.proofs.number.Statement.{statement}
 use Rattle.parts.proofs.number.Tie as tie
@@ -37,7 +37,8 @@ returns-2 c =
     let entry = at-step-number .before .before in
     let a = entry .args in
     number-read (next-at (a .card .now) (a .at) (at-step-number .step-number .result) (at-step-number .step-number .ensures)) (a .state .now)
-    (at-if1 .if1 .left) (entry .pre) (c .judge-state .ensures)
+    (at-if1 .if1 .left) (number-small (a .card .now) (a .at) (at-step-number .step-number .result) (at-step-number .step-number .ensures) (at-if1 .if1 .left))
+    (entry .pre) (c .judge-state .ensures)
 
 pub number-spec : {M : Type 1} → statement M
 number-spec =

@@ -1,21 +1,14 @@
 -- One way out for each way in which reading may end (proofs/Whole.antt). Assumes nothing.
-use Rattle.question.proofs.Whole.{too-long, formula-stops, unended, some-node, broken, understood}
-use Rattle.guard.proofs.Building.{still-sized}
-use Rattle.grouping.specs.Language.{questions}
-use Rattle.late.specs.Late.{noneYet}
-use Rattle.late.specs.State.{after}
-use Rattle.asking.specs.Question.{asked}
-use Rattle.card.specs.Limits.{mostNodes}
-use Rattle.reading.specs.Reader.{at}
-use Rattle.marks.specs.Step.{marksAt}
-use denote.Ref.{now}
 use native.Mathlib.Omega.{arith}
+use denote.Ref.{now}
+use Rattle.late.specs.State.{after}
+use Rattle.question.proofs.Whole.{too-long, formula-stops, sized-still, unended, some-node, broken, understood}
 use borrow.Author.Needs.{needs}
 use Rattle.question.proofs.question_into.Statement.{statement}
 use Rattle.question.proofs.question_into.Tie as tie
 
-cast-t14 : tie.Need-cast-t14
-cast-t14 c = search needs
+cast-t16 : tie.Need-cast-t16
+cast-t16 c = search needs
 
 refused-requires : tie.Need-refused-requires
 refused-requires c κs = search needs
@@ -24,11 +17,16 @@ returns : tie.Need-returns
 returns c =
     let at-if1 = c .before in
     let entry = at-if1 .before .before in
-    let a = entry .args in
-    rw (c .refused .ensures) (too-long (now (a .question)) (a .seats) (a .top) (now (a .nodes)) (now (a .nodes)) (omega (arith, at-if1 .if1 .taken)))
+    rw (c .refused .ensures) (too-long (now (entry .args .question)) (entry .args .seats) (entry .args .top) (entry .args .values) (now (entry .args .nodes)) (now (entry .args .nodes)) (omega (arith, at-if1 .if1 .taken)))
 
 array-write-state : tie.Need-array-write-state
 array-write-state c = search needs
+
+mul-language : tie.Need-mul-language
+mul-language c = omega (arith, c .before .before .pre .1)
+
+add-language : tie.Need-add-language
+add-language c = omega (arith, c .before .before .pre .1)
 
 expression-requires : tie.Need-expression-requires
 expression-requires c κs = search needs
@@ -52,9 +50,9 @@ returns-2 c =
     let at-expression = at-if2 .before in
     let at-if1 = at-expression .before .before .before in
     let entry = at-if1 .before .before in
-    let a = entry .args in
     rw (c .refused2 .ensures, at-search .search .ensures)
-    (formula-stops (now (a .question)) (a .seats) (a .top) (now (a .nodes)) (at-expression .expression .last .1 .1 .0) (omega (arith, at-if1 .if1 .left)) (after (at-expression .expression .last .1 .1 .1 .0) (at-expression .expression .result)) (at-expression .expression .ensures) (at-if2 .if2 .taken))
+    (formula-stops (now (entry .args .question)) (entry .args .seats) (entry .args .top) (entry .args .values) (now (entry .args .nodes)) (at-expression .expression .last .1 .1 .0) (omega (arith, at-if1 .if1 .left))
+    (after (at-expression .expression .last .1 .1 .1 .0) (at-expression .expression .result)) (at-expression .expression .ensures) (at-if2 .if2 .taken))
 
 step-requires : tie.Need-step-requires
 step-requires c κs = search needs
@@ -77,10 +75,9 @@ returns-3 c =
     let at-expression = at-if2 .before in
     let at-if1 = at-expression .before .before .before in
     let entry = at-if1 .before .before in
-    let a = entry .args in
     rw (c .refused3 .ensures, at-search2 .search2 .ensures)
-    (unended (now (a .question)) (a .seats) (a .top) (now (a .nodes)) (at-expression .expression .last .1 .1 .0) (omega (arith, at-if1 .if1 .left)) (after (at-expression .expression .last .1 .1 .1 .0) (at-expression .expression .result)) (at-expression .expression .ensures) (at-if2 .if2 .left)
-    (at-step .step .result) (at-step .step .ensures) (at-if3 .if3 .taken))
+    (unended (now (entry .args .question)) (entry .args .seats) (entry .args .top) (entry .args .values) (now (entry .args .nodes)) (at-expression .expression .last .1 .1 .0) (omega (arith, at-if1 .if1 .left))
+    (after (at-expression .expression .last .1 .1 .1 .0) (at-expression .expression .result)) (at-expression .expression .ensures) (at-if2 .if2 .left) (at-step .step .result) (at-step .step .ensures) (at-if3 .if3 .taken))
 
 array-read-root : tie.Need-array-read-root
 array-read-root c = search needs
@@ -91,24 +88,25 @@ sub-root c =
     let at-expression = at-if2 .before in
     let at-if1 = at-expression .before .before .before in
     let entry = at-if1 .before .before in
-    let a = entry .args in
     omega (
       arith,
-      some-node (now (a .question)) (a .seats) (a .top) (now (a .nodes)) (at-expression .expression .last .1 .1 .0) (omega (arith, at-if1 .if1 .left)) (after (at-expression .expression .last .1 .1 .1 .0) (at-expression .expression .result)) (at-expression .expression .ensures) (at-if2 .if2 .left),
+      some-node (now (entry .args .question)) (entry .args .seats) (entry .args .top) (entry .args .values) (now (entry .args .nodes)) (at-expression .expression .last .1 .1 .0) (omega (arith, at-if1 .if1 .left))
+          (after (at-expression .expression .last .1 .1 .1 .0) (at-expression .expression .result)) (at-expression .expression .ensures) (at-if2 .if2 .left),
     )
 
 settle-requires : tie.Need-settle-requires
 settle-requires c κs =
     let at-expression = c .before .before .before .before .before .before in
-    let entry = at-expression .before .before .before .before .before in
-    let a = entry .args in
-    still-sized questions (now (a .question)) (a .top) (now (a .nodes)) (at-expression .expression .last .1 .1 .0) 0 noneYet (asked (at (marksAt 0 (now (a .question)) 0) mostNodes)) (after (at-expression .expression .last .1 .1 .1 .0) (at-expression .expression .result)) (at-expression .expression .ensures)
+    let at-if1 = at-expression .before .before .before in
+    let entry = at-if1 .before .before in
+    sized-still (now (entry .args .question)) (entry .args .seats) (entry .args .top) (entry .args .values) (now (entry .args .nodes)) (at-expression .expression .last .1 .1 .0) (omega (arith, at-if1 .if1 .left))
+    (after (at-expression .expression .last .1 .1 .1 .0) (at-expression .expression .result)) (at-expression .expression .ensures)
 
-array-read-t12 : tie.Need-array-read-t12
-array-read-t12 c = search needs
+array-read-t14 : tie.Need-array-read-t14
+array-read-t14 c = search needs
 
-array-read-t37 : tie.Need-array-read-t37
-array-read-t37 c = search needs
+array-read-t39 : tie.Need-array-read-t39
+array-read-t39 c = search needs
 
 refused-requires-4 : tie.Need-refused-requires-4
 refused-requires-4 c κs = search needs
@@ -123,10 +121,10 @@ returns-4 c =
     let at-expression = at-if2 .before in
     let at-if1 = at-expression .before .before .before in
     let entry = at-if1 .before .before in
-    let a = entry .args in
     rw (c .refused4 .ensures)
-    (broken (now (a .question)) (a .seats) (a .top) (now (a .nodes)) (at-expression .expression .last .1 .1 .0) (omega (arith, at-if1 .if1 .left)) (after (at-expression .expression .last .1 .1 .1 .0) (at-expression .expression .result)) (at-expression .expression .ensures) (at-if2 .if2 .left)
-    (at-step .step .result) (at-step .step .ensures) (at-if3 .if3 .left) (entry .pre .0) (entry .pre .1) (at-settle .settle .last .0) (at-settle .settle .ensures .0) (at-if4 .if4 .taken))
+    (broken (now (entry .args .question)) (entry .args .seats) (entry .args .top) (entry .args .values) (now (entry .args .nodes)) (at-expression .expression .last .1 .1 .0) (omega (arith, at-if1 .if1 .left))
+    (after (at-expression .expression .last .1 .1 .1 .0) (at-expression .expression .result)) (at-expression .expression .ensures) (at-if2 .if2 .left) (at-step .step .result) (at-step .step .ensures) (at-if3 .if3 .left)
+    (entry .pre .0 .0) (entry .pre .0 .1) (at-settle .settle .last .0) (at-settle .settle .ensures .0) (at-if4 .if4 .taken))
 
 returns-5 : tie.Need-returns-5
 returns-5 c =
@@ -137,18 +135,20 @@ returns-5 c =
     let at-expression = at-if2 .before in
     let at-if1 = at-expression .before .before .before in
     let entry = at-if1 .before .before in
-    let a = entry .args in
-    understood (now (a .question)) (a .seats) (a .top) (now (a .nodes)) (at-expression .expression .last .1 .1 .0) (omega (arith, at-if1 .if1 .left)) (after (at-expression .expression .last .1 .1 .1 .0) (at-expression .expression .result)) (at-expression .expression .ensures) (at-if2 .if2 .left)
-    (at-step .step .result) (at-step .step .ensures) (at-if3 .if3 .left) (entry .pre .0) (entry .pre .1) (at-settle .settle .last .0) (at-settle .settle .ensures .0) (c .if4 .left)
+    understood (now (entry .args .question)) (entry .args .seats) (entry .args .top) (entry .args .values) (now (entry .args .nodes)) (at-expression .expression .last .1 .1 .0) (omega (arith, at-if1 .if1 .left))
+    (after (at-expression .expression .last .1 .1 .1 .0) (at-expression .expression .result)) (at-expression .expression .ensures) (at-if2 .if2 .left) (at-step .step .result) (at-step .step .ensures) (at-if3 .if3 .left)
+    (entry .pre .0 .0) (entry .pre .0 .1) (at-settle .settle .last .0) (at-settle .settle .ensures .0) (c .if4 .left)
 
 pub question-into-spec : {M : Type 1} → statement M
 question-into-spec =
     tie.close
     (tie.spec
-    cast-t14
+    cast-t16
     refused-requires
     returns
     array-write-state
+    mul-language
+    add-language
     expression-requires
     array-read-search
     array-read-search-2
@@ -163,8 +163,8 @@ question-into-spec =
     array-read-root
     sub-root
     settle-requires
-    array-read-t12
-    array-read-t37
+    array-read-t14
+    array-read-t39
     refused-requires-4
     returns-4
     returns-5)

@@ -22,7 +22,7 @@ returns c =
     let at-step-guard = at-if1 .before .before .before .before in
     let entry = at-step-guard .before .before in
     let a = entry .args in
-    none-stops _ _ _ _ _ _ (at-step-guard .step-guard .result)
+    none-stops _ _ _ _ _ _ _ (at-step-guard .step-guard .result)
     (next-at (a .card .now) (a .at) (at-step-guard .step-guard .result) (at-step-guard .step-guard .ensures)) (at-if1 .if1 .taken) (at-if2 .if2 .taken)
     (c .stop .ensures .0)
 
@@ -35,7 +35,7 @@ returns-2 c =
     let at-step-guard = at-if1 .before .before .before .before in
     let entry = at-step-guard .before .before in
     let a = entry .args in
-    none-read _ _ _ _ _ _ (at-step-guard .step-guard .result)
+    none-read _ _ _ _ _ _ _ (at-step-guard .step-guard .result)
     (next-at (a .card .now) (a .at) (at-step-guard .step-guard .result) (at-step-guard .step-guard .ensures)) (at-if1 .if1 .taken) (c .if2 .left) refl
     (a .state .now) (entry .pre .0)
 
@@ -45,11 +45,14 @@ element-write-state-2 c = search needs
 element-write-state-3 : tie.Need-element-write-state-3
 element-write-state-3 c = search needs
 
+mul-language : tie.Need-mul-language
+mul-language c = omega (arith, c .before .before .before .before .before .before .pre .1 .1)
+
 conjunction-requires : tie.Need-conjunction-requires
 conjunction-requires c κs =
     let entry = c .before .before .before .before .before .before .before .before in
     let a = entry .args in
-    guard-ready (a .state .now) (entry .pre .0) (a .used) (entry .pre .1)
+    guard-ready (a .state .now) (entry .pre .0) (a .used) (entry .pre .1 .0)
 
 returns-3 : tie.Need-returns-3
 returns-3 c =
@@ -58,7 +61,7 @@ returns-3 c =
     let at-step-guard = at-if1 .before .before .before .before in
     let entry = at-step-guard .before .before in
     let a = entry .args in
-    some-stops _ _ _ _ _ _ (at-step-guard .step-guard .result)
+    some-stops _ _ _ _ _ _ _ (at-step-guard .step-guard .result)
     (next-at (a .card .now) (a .at) (at-step-guard .step-guard .result) (at-step-guard .step-guard .ensures)) (at-if1 .if1 .left) (a .state .now)
     (entry .pre .0) _ (at-conjunction .conjunction .result) (at-conjunction .conjunction .ensures) (c .if3 .taken)
 
@@ -73,9 +76,9 @@ stop-requires-2 c κs =
     let at-step-guard = at-if1 .before .before .before .before in
     let entry = at-step-guard .before .before in
     let a = entry .args in
-    left-sized _ _ _ _ _ _ (at-step-guard .step-guard .result)
+    left-sized (a .card .now) (a .top) (a .values) (a .at) (a .nodes .now) (at-conjunction .conjunction .last .1 .1 .0) (a .used) (at-step-guard .step-guard .result)
     (next-at (a .card .now) (a .at) (at-step-guard .step-guard .result) (at-step-guard .step-guard .ensures)) (at-if1 .if1 .left) (a .state .now)
-    (entry .pre .0) _ (at-conjunction .conjunction .result) (at-conjunction .conjunction .ensures) (at-if3 .if3 .left)
+    (entry .pre .0) (at-conjunction .conjunction .last .1 .1 .1 .0) (at-conjunction .conjunction .result) (at-conjunction .conjunction .ensures) (at-if3 .if3 .left)
 
 returns-4 : tie.Need-returns-4
 returns-4 c =
@@ -87,7 +90,7 @@ returns-4 c =
     let at-step-guard = at-if1 .before .before .before .before in
     let entry = at-step-guard .before .before in
     let a = entry .args in
-    arrow-stops _ _ _ _ _ _ (at-step-guard .step-guard .result)
+    arrow-stops _ _ _ _ _ _ _ (at-step-guard .step-guard .result)
     (next-at (a .card .now) (a .at) (at-step-guard .step-guard .result) (at-step-guard .step-guard .ensures)) (at-if1 .if1 .left) (a .state .now)
     (entry .pre .0) _ (at-conjunction .conjunction .result) (at-conjunction .conjunction .ensures) (at-if3 .if3 .left)
     (next-at (a .card .now) (at-conjunction .conjunction .result) (at-step-arrow .step-arrow .result) (at-step-arrow .step-arrow .ensures))
@@ -104,9 +107,9 @@ sub-state c =
     let at-step-guard = at-if1 .before .before .before .before in
     let entry = at-step-guard .before .before in
     let a = entry .args in
-    left-few _ _ _ _ _ _ (at-step-guard .step-guard .result)
+    left-few (a .card .now) (a .top) (a .values) (a .at) (a .nodes .now) (at-conjunction .conjunction .last .1 .1 .0) (a .used) (at-step-guard .step-guard .result)
     (next-at (a .card .now) (a .at) (at-step-guard .step-guard .result) (at-step-guard .step-guard .ensures)) (at-if1 .if1 .left) (a .state .now)
-    (entry .pre .0) _ (at-conjunction .conjunction .result) (at-conjunction .conjunction .ensures) (at-if3 .if3 .left)
+    (entry .pre .0) (at-conjunction .conjunction .last .1 .1 .1 .0) (at-conjunction .conjunction .result) (at-conjunction .conjunction .ensures) (at-if3 .if3 .left)
 
 element-write-state-4 : tie.Need-element-write-state-4
 element-write-state-4 c = search needs
@@ -121,7 +124,7 @@ returns-5 c =
     let at-step-guard = at-if1 .before .before .before .before in
     let entry = at-step-guard .before .before in
     let a = entry .args in
-    some-read _ _ _ _ _ _ (at-step-guard .step-guard .result)
+    some-read _ _ _ _ _ _ _ (at-step-guard .step-guard .result)
     (next-at (a .card .now) (a .at) (at-step-guard .step-guard .result) (at-step-guard .step-guard .ensures)) (at-if1 .if1 .left) (a .state .now)
     (entry .pre .0) _ (at-conjunction .conjunction .result) (at-conjunction .conjunction .ensures) (at-if3 .if3 .left)
     (next-at (a .card .now) (at-conjunction .conjunction .result) (at-step-arrow .step-arrow .result) (at-step-arrow .step-arrow .ensures))
@@ -138,6 +141,7 @@ guarded-spec =
     returns-2
     element-write-state-2
     element-write-state-3
+    mul-language
     conjunction-requires
     returns-3
     step-arrow-requires

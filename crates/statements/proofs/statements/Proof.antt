@@ -11,14 +11,14 @@ use Rattle.statements.proofs.statements.Statement.{statement}
 use Rattle.statements.proofs.statements.Tie as tie
 
 abbrev Inv-loop : tie.InvT-loop
-Inv-loop card at top rows₀ nodes₀ branches₀ decimals state₀ next₀ place₀ count₀ rows nodes branches state next place count =
-    Going decimals card top (lateIn state₀) (lent rows₀ nodes₀ branches₀) at count place (lent rows nodes branches) next state
+Inv-loop card at bounds rows₀ nodes₀ branches₀ state₀ next₀ place₀ count₀ rows nodes branches state next place count =
+    Going bounds card (lateIn state₀) (lent rows₀ nodes₀ branches₀) at count place (lent rows nodes branches) next state
 
 abbrev μ-loop : tie.MeasureT-loop
-μ-loop card at top rows₀ nodes₀ branches₀ decimals state₀ next₀ place₀ count₀ rows nodes branches state next place count = mostStatements - count
+μ-loop card at bounds rows₀ nodes₀ branches₀ state₀ next₀ place₀ count₀ rows nodes branches state next place count = mostStatements - count
 
 sign-requires : tie.Need-sign-requires Inv-loop μ-loop
-sign-requires c κs = c .before .before .pre
+sign-requires c κs = c .before .before .pre .0
 
 returns : tie.Need-returns Inv-loop μ-loop
 returns c =
@@ -36,7 +36,8 @@ statement-requires : tie.Need-statement-requires Inv-loop μ-loop
 statement-requires c κs =
     let at-loop-test = c .before .before .before .before in
     let at-loop = at-loop-test .before in
-    (at-loop .loop .inv .sized, omega (arith, at-loop-test .loop-test .taken))
+    let entry = at-loop .before .before .before .before .before in
+    (at-loop .loop .inv .sized, (omega (arith, at-loop-test .loop-test .taken), entry .pre .1))
 
 returns-2 : tie.Need-returns-2 Inv-loop μ-loop
 returns-2 c =

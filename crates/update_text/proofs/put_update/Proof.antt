@@ -1,8 +1,7 @@
--- `update_text::put_update` meets its contract: by whether the branch leads to the own state, and by the digits. Assumes nothing.
-use mathlib.Core.Path.{_∙_}
-use native.Mathlib.Omega.{arith}
+-- `update_text::put_update` meets its contract: by whether the branch leads to the own state, and by whether it sets something. Assumes nothing.
+use Rattle.update_text.proofs.Laws.{update-none, update-set, update-shift, update-both}
 use Rattle.phrases.proofs.Laws.{put-first, puts-then, puts-as}
-use Rattle.update_text.proofs.Laws.{update-keep, update-shift, update-digits}
+use native.Mathlib.Omega.{arith}
 use borrow.Author.Needs.{needs}
 use Rattle.update_text.proofs.put_update.Statement.{statement}
 use Rattle.update_text.proofs.put_update.Tie as tie
@@ -19,127 +18,58 @@ same-length c = search needs
 returns : tie.Need-returns
 returns c =
     let at-put-bytes = c .before .before in
-    let at-if1 = at-put-bytes .before .before .before in
-    let a = at-if1 .before .before .args in
-    puts-as _ (update-keep (a .seats) (a .own) (a .end) (omega (arith, at-if1 .if1 .taken))) (put-first (at-put-bytes .put-bytes .ensures))
+    let at-if2 = at-put-bytes .before .before .before in
+    let at-if1 = at-if2 .before in
+    let start = at-if1 .before .before in
+    puts-as _ (update-none (start .args .seats) (start .args .own) (start .args .end) (start .args .sets) (omega (arith, at-if1 .if1 .taken)) (omega (arith, at-if2 .if2 .taken))) (put-first (at-put-bytes .put-bytes .ensures))
 
-cast-d : tie.Need-cast-d
-cast-d c = search needs
+sub-put-set : tie.Need-sub-put-set
+sub-put-set c = search needs
 
-add-d : tie.Need-add-d
-add-d c = search needs
-
-cast-e : tie.Need-cast-e
-cast-e c = search needs
-
-add-e : tie.Need-add-e
-add-e c = search needs
-
-put-seven-requires : tie.Need-put-seven-requires
-put-seven-requires c κs = search needs
-
-put-seven-requires-2 : tie.Need-put-seven-requires-2
-put-seven-requires-2 c κs = search needs
-
-put-seven-requires-3 : tie.Need-put-seven-requires-3
-put-seven-requires-3 c κs = search needs
-
-put-seven-requires-4 : tie.Need-put-seven-requires-4
-put-seven-requires-4 c κs = search needs
-
-put-seven-requires-5 : tie.Need-put-seven-requires-5
-put-seven-requires-5 c κs = search needs
-
-put-number-requires : tie.Need-put-number-requires
-put-number-requires c κs = search needs
-
-slice-aggregate-put-bytes-2 : tie.Need-slice-aggregate-put-bytes-2
-slice-aggregate-put-bytes-2 c = search needs
-
-put-bytes-requires-2 : tie.Need-put-bytes-requires-2
-put-bytes-requires-2 c κs = search needs
+put-set-requires : tie.Need-put-set-requires
+put-set-requires c κs = search needs
 
 same-length-2 : tie.Need-same-length-2
-same-length-2 c =
-    let at-put-bytes2 = c .before .before in
-    let at-put-number = at-put-bytes2 .before .before .before .before .before in
-    let at-put-seven5 = at-put-number .before .before .before .before in
-    let at-put-seven4 = at-put-seven5 .before .before .before .before in
-    let at-put-seven3 = at-put-seven4 .before .before .before .before in
-    let at-put-seven2 = at-put-seven3 .before .before .before .before in
-    let at-put-seven = at-put-seven2 .before .before .before .before in
-    at-put-bytes2 .put-bytes2 .kept .0 ∙ at-put-number .put-number .kept .0 ∙ at-put-seven5 .put-seven5 .kept .0 ∙ at-put-seven4 .put-seven4 .kept .0
-    ∙ at-put-seven3 .put-seven3 .kept .0 ∙ at-put-seven2 .put-seven2 .kept .0 ∙ at-put-seven .put-seven .kept .0
+same-length-2 c = search needs
 
 returns-2 : tie.Need-returns-2
 returns-2 c =
-    let at-put-bytes2 = c .before .before in
-    let at-put-number = at-put-bytes2 .before .before .before .before .before in
-    let at-put-seven5 = at-put-number .before .before .before .before in
-    let at-put-seven4 = at-put-seven5 .before .before .before .before in
-    let at-put-seven3 = at-put-seven4 .before .before .before .before in
-    let at-put-seven2 = at-put-seven3 .before .before .before .before in
-    let at-put-seven = at-put-seven2 .before .before .before .before in
-    let at-if3 = at-put-seven .before .before in
-    let at-if2 = at-if3 .before in
+    let at-put-set = c .before .before in
+    let at-if2 = at-put-set .before .before in
     let at-if1 = at-if2 .before in
-    let a = at-if1 .before .before .args in
-    puts-as _ (update-digits (a .seats) (a .own) (a .end) (λ e. omega (arith, e, at-if1 .if1 .left)) (at-if2 .if2 .taken) (at-if3 .if3 .taken))
-    (puts-then (put-first (at-put-seven .put-seven .ensures)) (puts-then (put-first (at-put-seven2 .put-seven2 .ensures)) (puts-then (put-first (at-put-seven3 .put-seven3 .ensures))
-    (puts-then (put-first (at-put-seven4 .put-seven4 .ensures)) (puts-then (put-first (at-put-seven5 .put-seven5 .ensures)) (puts-then (put-first (at-put-number .put-number .ensures)) (put-first (at-put-bytes2 .put-bytes2 .ensures))))))))
+    let start = at-if1 .before .before in
+    puts-as _ (update-set (start .args .seats) (start .args .own) (start .args .end) (start .args .sets) (omega (arith, at-if1 .if1 .taken)) (λ e. omega (arith, e, at-if2 .if2 .left))) (at-put-set .put-set .ensures)
 
-slice-aggregate-put-numbered : tie.Need-slice-aggregate-put-numbered
-slice-aggregate-put-numbered c = search needs
-
-put-numbered-requires : tie.Need-put-numbered-requires
-put-numbered-requires c κs = search needs
-
-slice-aggregate-put-numbered-2 : tie.Need-slice-aggregate-put-numbered-2
-slice-aggregate-put-numbered-2 c = search needs
-
-put-numbered-requires-2 : tie.Need-put-numbered-requires-2
-put-numbered-requires-2 c κs = search needs
-
-slice-aggregate-put-numbered-3 : tie.Need-slice-aggregate-put-numbered-3
-slice-aggregate-put-numbered-3 c = search needs
-
-put-numbered-requires-3 : tie.Need-put-numbered-requires-3
-put-numbered-requires-3 c κs = search needs
-
-slice-aggregate-put-numbered-4 : tie.Need-slice-aggregate-put-numbered-4
-slice-aggregate-put-numbered-4 c = search needs
-
-put-numbered-requires-4 : tie.Need-put-numbered-requires-4
-put-numbered-requires-4 c κs = search needs
-
-slice-aggregate-put-numbered-5 : tie.Need-slice-aggregate-put-numbered-5
-slice-aggregate-put-numbered-5 c = search needs
-
-put-numbered-requires-5 : tie.Need-put-numbered-requires-5
-put-numbered-requires-5 c κs = search needs
-
-slice-aggregate-put-bytes-3 : tie.Need-slice-aggregate-put-bytes-3
-slice-aggregate-put-bytes-3 c = search needs
-
-put-bytes-requires-3 : tie.Need-put-bytes-requires-3
-put-bytes-requires-3 c κs = search needs
+put-shift-requires : tie.Need-put-shift-requires
+put-shift-requires c κs = search needs
 
 same-length-3 : tie.Need-same-length-3
 same-length-3 c = search needs
 
 returns-3 : tie.Need-returns-3
 returns-3 c =
-    let at-put-bytes3 = c .before .before in
-    let at-put-numbered5 = at-put-bytes3 .before .before .before .before .before in
-    let at-put-numbered4 = at-put-numbered5 .before .before .before .before .before in
-    let at-put-numbered3 = at-put-numbered4 .before .before .before .before .before in
-    let at-put-numbered2 = at-put-numbered3 .before .before .before .before .before in
-    let at-put-numbered = at-put-numbered2 .before .before .before .before .before in
-    let at-if1 = at-put-numbered .before .before .before .before in
-    let a = at-if1 .before .before .args in
-    puts-as _ (update-shift (a .seats) (a .own) (a .end) (λ e. omega (arith, e, at-if1 .if1 .left)))
-    (puts-then (at-put-numbered .put-numbered .ensures) (puts-then (at-put-numbered2 .put-numbered2 .ensures) (puts-then (at-put-numbered3 .put-numbered3 .ensures)
-    (puts-then (at-put-numbered4 .put-numbered4 .ensures) (puts-then (at-put-numbered5 .put-numbered5 .ensures) (put-first (at-put-bytes3 .put-bytes3 .ensures)))))))
+    let at-put-shift = c .before .before .before in
+    let at-if1 = at-put-shift .before .before in
+    let start = at-if1 .before .before in
+    puts-as _ (update-shift (start .args .seats) (start .args .own) (start .args .end) (start .args .sets) (λ e. omega (arith, e, at-if1 .if1 .left)) (omega (arith, c .if3 .taken))) (at-put-shift .put-shift .ensures)
+
+sub-put-set-last : tie.Need-sub-put-set-last
+sub-put-set-last c = search needs
+
+put-set-last-requires : tie.Need-put-set-last-requires
+put-set-last-requires c κs = search needs
+
+same-length-4 : tie.Need-same-length-4
+same-length-4 c = search needs
+
+returns-4 : tie.Need-returns-4
+returns-4 c =
+    let at-put-set-last = c .before .before in
+    let at-if3 = at-put-set-last .before .before in
+    let at-put-shift = at-if3 .before .before .before in
+    let at-if1 = at-put-shift .before .before in
+    let start = at-if1 .before .before in
+    puts-as _ (update-both (start .args .seats) (start .args .own) (start .args .end) (start .args .sets) (λ e. omega (arith, e, at-if1 .if1 .left)) (λ e. omega (arith, e, at-if3 .if3 .left))) (puts-then (at-put-shift .put-shift .ensures) (at-put-set-last .put-set-last .ensures))
 
 pub put-update-spec : {M : Type 1} → statement M
 put-update-spec =
@@ -149,31 +79,14 @@ put-update-spec =
     put-bytes-requires
     same-length
     returns
-    cast-d
-    add-d
-    cast-e
-    add-e
-    put-seven-requires
-    put-seven-requires-2
-    put-seven-requires-3
-    put-seven-requires-4
-    put-seven-requires-5
-    put-number-requires
-    slice-aggregate-put-bytes-2
-    put-bytes-requires-2
+    sub-put-set
+    put-set-requires
     same-length-2
     returns-2
-    slice-aggregate-put-numbered
-    put-numbered-requires
-    slice-aggregate-put-numbered-2
-    put-numbered-requires-2
-    slice-aggregate-put-numbered-3
-    put-numbered-requires-3
-    slice-aggregate-put-numbered-4
-    put-numbered-requires-4
-    slice-aggregate-put-numbered-5
-    put-numbered-requires-5
-    slice-aggregate-put-bytes-3
-    put-bytes-requires-3
+    put-shift-requires
     same-length-3
-    returns-3)
+    returns-3
+    sub-put-set-last
+    put-set-last-requires
+    same-length-4
+    returns-4)

@@ -2,19 +2,20 @@
 use Prim.Native.Nat.{_≤_, _-_}
 use borrow.Author.Needs.{needs}
 use mathlib.Core.Path.{_≡_, refl, _∙_}
+use Rattle.meaning.specs.Position.{position}
 use Rattle.panel_numbers.proofs.Stored.{over-start, over-next, over-end}
 use Rattle.panel_numbers.specs.Table.{over, ablesFrom, ableAt}
 use Rattle.weighing.proofs.store_ables.Statement.{statement}
 use Rattle.weighing.proofs.store_ables.Tie as tie
 
 abbrev Inv-loop : tie.InvT-loop
-Inv-loop table₀ rows nodes counts n count i₀ table i = (i ≤ count) × (table ≡ over ablesFrom i (ableAt (n) counts nodes rows) table₀)
+Inv-loop table₀ rows nodes counts shared n count i₀ table i = (i ≤ count) × (table ≡ over ablesFrom i (ableAt n (position counts shared) nodes rows) table₀)
 
 abbrev μ-loop : tie.MeasureT-loop
-μ-loop table₀ rows nodes counts n count i₀ table i = count - i
+μ-loop table₀ rows nodes counts shared n count i₀ table i = count - i
 
 loop-holds : tie.Need-loop-holds Inv-loop μ-loop
-loop-holds c = (search needs, over-start ablesFrom (ableAt (c .before .args .head .seats) (c .before .args .counts .now) (c .before .args .nodes .now) (c .before .args .rows .now)) (c .before .args .table .now))
+loop-holds c = (search needs, over-start ablesFrom (ableAt (c .before .args .head .seats) (position (c .before .args .counts .now) (c .before .args .shared)) (c .before .args .nodes .now) (c .before .args .rows .now)) (c .before .args .table .now))
 
 mul-from : tie.Need-mul-from Inv-loop μ-loop
 mul-from c = search needs
@@ -59,13 +60,13 @@ loop-again : tie.Need-loop-again Inv-loop μ-loop
 loop-again c =
     let at-loop = c .before .before .before .before .before in
     let start = at-loop .before .before in
-    (search needs, over-next ablesFrom (ableAt (start .args .head .seats) (start .args .counts .now) (start .args .nodes .now) (start .args .rows .now)) (start .args .table .now) (at-loop .loop .i) (at-loop .loop .inv .1) refl (c .able .ensures))
+    (search needs, over-next ablesFrom (ableAt (start .args .head .seats) (position (start .args .counts .now) (start .args .shared)) (start .args .nodes .now) (start .args .rows .now)) (start .args .table .now) (at-loop .loop .i) (at-loop .loop .inv .1) refl (c .able .ensures))
 
 returns : tie.Need-returns Inv-loop μ-loop
 returns c =
     let at-loop = c .before in
     let entry = at-loop .before .before in
-    at-loop .loop .inv .1 ∙ over-end ablesFrom (ableAt (entry .args .head .seats) (entry .args .counts .now) (entry .args .nodes .now) (entry .args .rows .now)) (entry .args .table .now) (at-loop .loop .i) _ (at-loop .loop .inv .0) (c .loop-test .left)
+    at-loop .loop .inv .1 ∙ over-end ablesFrom (ableAt (entry .args .head .seats) (position (entry .args .counts .now) (entry .args .shared)) (entry .args .nodes .now) (entry .args .rows .now)) (entry .args .table .now) (at-loop .loop .i) _ (at-loop .loop .inv .0) (c .loop-test .left)
 
 pub store-ables-spec : {M : Type 1} → statement M
 store-ables-spec =

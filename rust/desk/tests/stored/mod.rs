@@ -15,7 +15,7 @@ pub struct Stored {
 }
 
 /// Files of cases, files of answers, and their entries. An entry that is added is named here.
-const FILES: [(&str, &str, &[&str]); 11] = [
+const FILES: [(&str, &str, &[&str]); 12] = [
     ("base", "panel", &["panel"]),
     ("edges", "edges", &["read"]),
     ("requests/2026-01", "requests/2026-01", &["ask"]),
@@ -35,6 +35,20 @@ const FILES: [(&str, &str, &[&str]); 11] = [
     ("requests/2026-07", "requests/2026-07", &["first_move"]),
     ("requests/2026-08", "requests/2026-08", &["odds"]),
     ("requests/2026-09", "requests/2026-09", &["mend"]),
+    (
+        "requests/2026-10",
+        "requests/2026-10",
+        &[
+            "read",
+            "write",
+            "reduce",
+            "panel",
+            "ask",
+            "spectator",
+            "first_move",
+            "odds",
+        ],
+    ),
 ];
 
 /// The numbers of the refusals that are of a room or of rows, which no writer of rules lends.
