@@ -34,6 +34,8 @@ const char *open_panel_words(uint8_t number) {
     case OPEN_PANEL_VECTORS: return "the table has more than " TEXT(OPEN_PANEL_ODDS_ROW) " count vectors, or pairs of one and a shared number";
     case OPEN_PANEL_STEPS: return "more than " TEXT(OPEN_PANEL_ODDS_STEPS) " steps";
     case OPEN_PANEL_ROWS: return "a lent row does not have " TEXT(OPEN_PANEL_ODDS_ROW) " numbers";
+    case OPEN_PANEL_DECIMAL: return "a decimal for a weight, where 0, 1 or a fraction has to stand";
+    case OPEN_PANEL_NOT_CONVERTED: return "a card that cannot be converted, or does not fit into the new deck";
     case OPEN_PANEL_QUESTION_LONG: return "the question is longer than " TEXT(OPEN_PANEL_QUESTION_BYTES) " bytes";
     case OPEN_PANEL_QUESTION_MARK: return "no mark of a question, or too many digits";
     case OPEN_PANEL_QUESTION_SHAPE: return "this cannot stand here, or the question ends early";

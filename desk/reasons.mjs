@@ -77,7 +77,7 @@ function markAt(text, at) {
     if (decimal) {
         const [whole, further] = decimal.split(".");
         const good = isNumber(whole, NUMBER_DIGITS) && further.length <= NUMBER_DIGITS;
-        return good ? made("decimal", decimal, { whole: Number(whole), further: Number(further), digits: further.length }) : made("wrong", decimal);
+        return made(good ? "decimal" : "wrong", decimal);
     }
     const digits = match(DIGITS, text, at);
     if (digits) return isNumber(digits, NUMBER_DIGITS) ? made("number", digits, { value: Number(digits) }) : made("wrong", digits);
@@ -302,7 +302,7 @@ class Walker {
             const sets = this.met.shares && this.takes("&");
             if (sets) this.sharedUpdate();
             if (this.is(";")) {
-                this.met.sums.push([this.take(), sum, first]);
+                this.met.sums.push([this.take(), sum]);
                 return;
             }
             if (!this.takes("+")) this.stop("branch", ...(this.met.shares && !sets ? ["&"] : []), "+", ";");
@@ -451,11 +451,10 @@ class Walker {
     }
 }
 
+// A weight in units, if it is good. A decimal is none.
 function units(first, below) {
     if (below) return below.value !== 0 && UNIT % below.value === 0 && first.value <= below.value ? (UNIT / below.value) * first.value : undefined;
-    if (first.kind === "number") return first.value <= 1 ? first.value * UNIT : undefined;
-    const hundredths = 100 * first.whole + (first.digits === 1 ? 10 * first.further : first.further);
-    return first.digits <= 2 && hundredths <= 100 ? (UNIT / 100) * hundredths : undefined;
+    return first.kind === "number" && first.value <= 1 ? first.value * UNIT : undefined;
 }
 
 // ---- reasons
@@ -509,6 +508,8 @@ function ofText(text, number, at, what, walkText, on) {
             return (on ? askedGroup(walk, on, at) : word(walk, at)) ?? plain(number, at);
         case 7:
             return weight(walk, at) ?? plain(number, at);
+        case 17:
+            return decimal(walk, at) ?? plain(number, at);
         default:
             return plain(number, at);
     }
@@ -532,12 +533,17 @@ function wrongMark(text, at, what) {
     if (wrong.kind !== "wrong" || wrong.at !== at) return plain(2, at);
     const before = all.at(-2)?.end === at ? all.at(-2) : undefined;
     const first = wrong.shown[0];
-    if (/[0-9]/.test(first)) return wrongDigits(wrong);
+    const weightDueBehind = (mark) => mark?.shown === "->" || mark?.shown === "+";
+    const asWeight = weightDueBehind(all.at(-2));
+    // as in `0,05`, where the zero is not too much
+    const withComma = weightDueBehind(all.at(-4)) ? commaForPoint(all.at(-3), all.at(-2), wrong) : undefined;
+    if (withComma) return { ...withComma, end: wrong.end };
+    if (/[0-9]/.test(first)) return wrongDigits(wrong, asWeight);
     if (first === "." && before?.shown === "..") return hinted(found("mark.third-point", at + 1), "hint.write", { mended: ".." });
     if (first === "." && /[0-9]/.test(text[at + 1] ?? "")) {
         if (before?.kind === "decimal") return found("mark.second-point", at + 1);
-        const short = `.${match(DIGITS, text, at + 1)}`;
-        return hinted(found("mark.point-first", at + short.length, { found: cut(short) }), "hint.write", { mended: `0${cut(short)}` });
+        const further = match(DIGITS, text, at + 1);
+        return hinted(found("mark.point-first", at + 1 + further.length, { found: cut(`.${further}`) }), ...inPlaceOf("0", further, asWeight));
     }
     if (first === ".") {
         const reason = found("mark.point", at + 1);
@@ -550,14 +556,39 @@ function wrongMark(text, at, what) {
     return wrongCharacter(text, at, what);
 }
 
-function wrongDigits({ shown, end }) {
+function wrongDigits({ shown, end }, asWeight) {
     const [whole, further = ""] = shown.split(".");
     if (whole.length > 1 && whole[0] === "0") {
-        const zeros = Math.min(/^0*/.exec(whole)[0].length, whole.length - 1);
-        return hinted(found("mark.zero", end, { found: cut(shown) }), "hint.write", { mended: cut(shown.slice(zeros)) });
+        const rest = whole.slice(Math.min(/^0*/.exec(whole)[0].length, whole.length - 1));
+        return hinted(found("mark.zero", end, { found: cut(shown) }), ...(further ? inPlaceOf(rest, further, asWeight) : ["hint.write", { mended: cut(rest) }]));
     }
     const [name, digits] = whole.length > NUMBER_DIGITS ? ["mark.digits", whole.length] : ["mark.further", further.length];
-    return found(name, end, { found: cut(shown), digits, most: NUMBER_DIGITS });
+    const reason = found(name, end, { found: cut(shown), digits, most: NUMBER_DIGITS });
+    return further ? hinted(reason, ...inPlaceOf(whole, further, asWeight)) : reason;
+}
+
+// A comma between digits, as some write a decimal.
+function commaForPoint(whole, comma, further) {
+    if (whole?.kind !== "number" || comma.shown !== "," || !/^[0-9]+$/.test(further?.shown) || !touching(whole, comma, further)) return undefined;
+    return hinted(found("shape.comma", comma.end, { found: cut(`${whole.shown},${further.shown}`) }), ...inPlaceOf(whole.shown, further.shown, true));
+}
+
+const THIRDS = [[1, 3], [2, 3], [1, 6], [5, 6]];
+const MOST_DIGITS = 9;
+
+// What may be written in place of a decimal: the fraction that it is, if it stands as a weight and that is one, or a fraction that it is cut or
+// rounded from.
+function inPlaceOf(whole, further, asWeight) {
+    if (!asWeight) return ["hint.decimal"];
+    if (whole.length > NUMBER_DIGITS || further.length > MOST_DIGITS) return ["hint.chance"];
+    const one = 10 ** further.length;
+    const parts = Number(whole) * one + Number(further);
+    if (parts > one) return ["hint.at-most"];
+    const exact = (parts * UNIT) % one === 0 ? fraction(parts, one) : undefined;
+    const comesNear = ([above, below]) => [Math.floor((above * one) / below), Math.floor((2 * above * one + below) / (2 * below))].includes(parts);
+    const near = further.length > 1 ? THIRDS.find(comesNear)?.join("/") : undefined;
+    if (exact && near) return ["hint.either", { mended: exact, near }];
+    return exact ?? near ? ["hint.write", { mended: exact ?? near }] : ["hint.fraction", { unit: grouped(UNIT) }];
 }
 
 // The character that begins at a byte, if it is one that can be shown.
@@ -604,10 +635,8 @@ function shape(walk, at, what) {
     if (mark.at !== at) return undefined;
     const due = listed(stop.due.map(dueInWords), "or");
     const [before, behind] = [walk.marks[stop.mark - 1], walk.marks[stop.mark + 1]];
-    if (mark.shown === "," && stop.within === "behind weight" && touching(before, mark, behind) && before.kind === "number" && behind.kind === "number") {
-        const joined = (sign) => `${before.shown}${sign}${behind.shown}`;
-        return hinted(found("shape.comma", mark.end, { found: joined(",") }), "hint.write", { mended: joined(".") });
-    }
+    const withComma = stop.within === "behind weight" ? commaForPoint(before, mark, behind) : undefined;
+    if (withComma) return withComma;
     const joining = mark.shown === "&" || mark.shown === "|";
     let reason;
     if (mark.kind === "end") reason = found("shape.ends", at, { what, due });
@@ -847,16 +876,19 @@ export function fraction(parts, whole) {
     return whole / a === 1 ? String(parts / a) : `${parts / a}/${whole / a}`;
 }
 
-const THIRDS = { "0.33": "1/3", "0.66": "2/3", "0.67": "2/3", "0.16": "1/6", "0.17": "1/6" };
+function decimal(walk, at) {
+    const [mark] = walk.weights.find(([first]) => first.at === at) ?? [];
+    if (mark?.kind !== "decimal") return undefined;
+    const [whole, further] = mark.shown.split(".");
+    return hinted(found("decimal", mark.end, { found: cut(mark.shown) }), ...inPlaceOf(whole, further, true));
+}
 
 function weight(walk, at) {
     const [first, last] = walk.weights.find(([first]) => first.at === at) ?? [];
     if (first) return wrongWeight(first, last);
-    const [mark, sum, from] = walk.sums.find(([mark]) => mark.at === at) ?? [];
+    const [mark, sum] = walk.sums.find(([mark]) => mark.at === at) ?? [];
     if (!mark) return undefined;
-    const reason = found(sum < UNIT ? "sum.less" : "sum.more", mark.end, { sum: fraction(sum, UNIT), rest: fraction(Math.abs(UNIT - sum), UNIT) });
-    const third = walk.weights.slice(from).find(([weight]) => weight.at < at && Object.hasOwn(THIRDS, weight.shown));
-    return third ? hinted(reason, "hint.thirds", { found: third[0].shown, mended: THIRDS[third[0].shown] }) : reason;
+    return found(sum < UNIT ? "sum.less" : "sum.more", mark.end, { sum: fraction(sum, UNIT), rest: fraction(Math.abs(UNIT - sum), UNIT) });
 }
 
 function wrongWeight(first, last) {
@@ -864,7 +896,6 @@ function wrongWeight(first, last) {
     if (units(first, below) !== undefined) return undefined;
     const shown = below ? `${first.shown}/${below.shown}` : first.shown;
     const [end, fills] = [last.end, { found: shown }];
-    if (first.kind === "decimal") return first.digits > 2 ? found("weight.digits", end, { ...fills, digits: first.digits }) : found("weight.above", end, fills);
     if (!below) return found("weight.whole", end, fills);
     if (below.value === 0) return found("weight.nothing", end, fills);
     if (UNIT % below.value !== 0) return hinted(found("weight.divides", end, { ...fills, below: below.value, unit: grouped(UNIT) }), "hint.below");

@@ -1,8 +1,8 @@
 /*
  * The open panel: rule cards judged, written, reduced to counters, and shown;
  * questions about a seating answered, and who may move; cards found in decks,
- * decks written, and damaged ones mended; a line of public classes for
- * spectators.
+ * decks written, damaged ones mended, and old ones converted; a line of public
+ * classes for spectators.
  *
  * Link libopen_panel.a or libopen_panel.so, which dist/ has and `bin/library`
  * makes, for x86-64 and for aarch64 Linux (Android's too). Of the C library it
@@ -45,7 +45,7 @@ extern "C" {
 #endif
 
 /* The version of this header; open_panel_version gives the library's. CHANGELOG.md says what each one changed. */
-#define OPEN_PANEL_VERSION "0.10.0"
+#define OPEN_PANEL_VERSION "0.11.0"
 
 /* Lengths have 64 bits: a size_t of fewer would be read as another number. */
 typedef char open_panel_needs_a_size_t_of_8_bytes[sizeof(size_t) == 8 ? 1 : -1];
@@ -106,6 +106,7 @@ typedef char open_panel_needs_a_size_t_of_8_bytes[sizeof(size_t) == 8 ? 1 : -1];
 #define OPEN_PANEL_STACK_BOX_FIND_WITH 256
 #define OPEN_PANEL_STACK_BOX_WRITE 256
 #define OPEN_PANEL_STACK_MEND 11008
+#define OPEN_PANEL_STACK_CONVERT 12160
 
 /* The numbers of the refusals, and behind the semicolon what `value` is: bytes of the card, from 21 on of the question, count from 0. */
 enum open_panel_refusal {
@@ -119,7 +120,8 @@ enum open_panel_refusal {
     OPEN_PANEL_STATE = 5,      /* a state higher than the card's highest, or a value of the shared number higher than its highest;
                                   where that begins */
     OPEN_PANEL_WORD = 6,       /* another seat or module than has to stand there, or an asymmetric group; where that begins */
-    OPEN_PANEL_WEIGHT = 7,     /* a weight that is none; where it begins. Or weights that do not come to 1; their closing `;` */
+    OPEN_PANEL_WEIGHT = 7,     /* a number or a fraction that is no weight; where it begins. Or weights that do not come to 1; their
+                                  closing `;` */
     OPEN_PANEL_SEAT_COUNT = 8, /* seats_len differs from the number of the card's modules, or with a shared number from one more; 0 */
     OPEN_PANEL_SEAT_STATE = 9, /* a seat in a state higher than the card's highest; the index in seats of the first one. Or the
                                   shared number, behind seats that are right, is higher than its highest; its own index */
@@ -135,6 +137,10 @@ enum open_panel_refusal {
                                   once for every value of the shared number; 0 */
     OPEN_PANEL_STEPS = 15,     /* more than OPEN_PANEL_ODDS_STEPS steps; 0 */
     OPEN_PANEL_ROWS = 16,      /* a row that has not OPEN_PANEL_ODDS_ROW numbers; 0 */
+    OPEN_PANEL_DECIMAL = 17,   /* a weight written as a decimal, 0.5 for 1/2, whatever its value; where it begins, a byte of the card */
+    OPEN_PANEL_NOT_CONVERTED = 18, /* a live card that was not taken when decimals were, one whose written form is longer than
+                                  OPEN_PANEL_CARD_BYTES, or any card that would end past OPEN_PANEL_DECK_BYTES in the new deck; the
+                                  number of the first such card, which is no byte */
 
     OPEN_PANEL_QUESTION_LONG = 21,  /* a question of more than OPEN_PANEL_QUESTION_BYTES; 0 */
     OPEN_PANEL_QUESTION_MARK = 22,  /* bytes that make no mark, or a number written too long; where in the question they begin */
@@ -155,14 +161,16 @@ _Static_assert(sizeof(open_panel_answer) <= 16, "an answer is handed back in two
 #endif
 
 /*
- * Judges a card: number 0 and value 0 if it is taken, else 1 to 7. Nothing is
- * written anywhere. A null card of length 0 is an empty card: refused, 3 at 0.
+ * Judges a card: number 0 and value 0 if it is taken, else 1 to 7, or 17 for a
+ * decimal among its weights. Of 5, 6, 7 and 17 the one that stands first on the
+ * card is told. Nothing is written anywhere. A null card of length 0 is an empty
+ * card: refused, 3 at 0.
  */
 open_panel_answer open_panel_judge(const uint8_t *card, size_t card_len);
 
 /*
  * Writes the card in its one written form. Two cards are the same exactly when
- * their written forms are. Refusals: 1 to 7, and 10.
+ * their written forms are. Refusals: 1 to 7 and 17, then 10.
  *
  * A room of OPEN_PANEL_WRITE_ROOM bytes is always enough. A null room of
  * length 0 gets 10 with the length to lend, if the card is taken; a null card
@@ -173,8 +181,8 @@ open_panel_answer open_panel_write(const uint8_t *card, size_t card_len,
                                    uint8_t *room, size_t room_len);
 
 /*
- * Writes the reduced program: counters in place of seats. Refusals: 1 to 7,
- * and 10.
+ * Writes the reduced program: counters in place of seats. Refusals: 1 to 7 and
+ * 17, then 10.
  *
  * A room of OPEN_PANEL_REDUCE_ROOM bytes is always enough. A null room of
  * length 0 gets 10 with the length to lend, if the card is taken; a null card
@@ -188,7 +196,7 @@ open_panel_answer open_panel_reduce(const uint8_t *card, size_t card_len,
  * Writes the panel of a seating. On a card with a shared number its value stands
  * on a line of its own, `shared 1` behind the counts, and every `stay` and `move`
  * ends in what it is after that; there is a `stay` for each such value. Refusals:
- * 1 to 10; the card is judged before the seats, and the seats before the room.
+ * 1 to 7 and 17 of the card, then 8 and 9 of the seats, then 10.
  *
  * A room of OPEN_PANEL_SHOW_ROOM bytes is always enough. A null room of length
  * 0 gets 10 with the length to lend, if card and seats are taken. Null seats
@@ -207,7 +215,8 @@ open_panel_answer open_panel_show(const uint8_t *card, size_t card_len,
  * one byte for each state of the card, from 0 on: that state's class. Two
  * seatings with as many seats in each class give the same bytes, so nothing
  * else about the seats can be told from it, and nothing about a shared number.
- * Refusals: 1 to 9, then 13 of the list, its length before its classes, then 10.
+ * Refusals: those of open_panel_show, with 13 of the list, its length before its
+ * classes, ahead of 10.
  *
  * A room of OPEN_PANEL_WATCH_ROOM bytes is always enough. A null room of length
  * 0 gets 10 with the length to lend, if card, seats and list are taken. A null
@@ -226,8 +235,8 @@ open_panel_answer open_panel_watch(const uint8_t *card, size_t card_len,
  * seat, such as `!(s1=0 | s2=0)`, joined by `&` and `|`; exactly one seat in a
  * state is written out, a bracketed term for each seat:
  * `((s1=0 & s2!=0) | (s1!=0 & s2=0))`. On a card with a shared number `(g=1)` and
- * `(g!=1)` stand like groups. Refusals: 1 to 7 of the card, then 21 to 26 of the
- * question, then 8 and 9.
+ * `(g!=1)` stand like groups. Refusals: 1 to 7 and 17 of the card, then 21 to 26
+ * of the question, then 8 and 9.
  *
  * Nothing is written anywhere. A null card of length 0 gets 3 at 0; a null
  * question of length 0 gets 23 at 0 with any card that is taken.
@@ -241,8 +250,8 @@ open_panel_answer open_panel_ask(const uint8_t *card, size_t card_len,
  * of the first statement that some seat may take; 0 if nobody may take any. It
  * does not ask what the statement does, and it tries no statement behind the
  * one it gives, so it takes hardly longer than open_panel_judge. On a
- * nondeterministic card it is the q of the panel's first `choice q`. Refusals: 1
- * to 9, those of open_panel_show.
+ * nondeterministic card it is the q of the panel's first `choice q`. Refusals:
+ * those of open_panel_show without 10.
  *
  * Nothing is written anywhere. A null card of length 0 gets 3 at 0; null seats
  * of length 0 get 8 with any card that is taken.
@@ -268,8 +277,8 @@ open_panel_answer open_panel_first_move(const uint8_t *card, size_t card_len,
  * zeros. The rows are aligned as uint32_t is, and must not overlap each other or
  * anything else that is lent.
  *
- * Refusals: 1 to 7 of the card, then 21 to 26 of the question, then 8 and 9 of
- * the seats, 14, 15 and 16. A refusal leaves both rows as they were, and nothing
+ * Refusals: 1 to 7 and 17 of the card, then 21 to 26 of the question, then 8 and
+ * 9 of the seats, 14, 15 and 16. A refusal leaves both rows as they were, and nothing
  * else is written anywhere. A null card of length 0 gets 3 at 0; with a card that
  * is taken a null question of length 0 gets 23 at 0, then null seats of length 0
  * get 8, and a null row of length 0 gets 16, last of all.
@@ -349,7 +358,8 @@ open_panel_answer open_panel_box_write(const uint8_t *contents, size_t contents_
  *   2. Its card number is higher than that of every entry kept before it.
  *   3. Its body begins behind all of the contents, those of dropped entries too, and
  *      behind the last body kept, and ends within the deck; so does an empty body.
- *   4. Its card is taken (open_panel_judge), if it is live. A withdrawn one is not read.
+ *   4. Its card is taken (open_panel_judge), if it is live; one with a decimal for a
+ *      weight is not, so convert an old deck first. A withdrawn one is not read.
  *
  * A dropped entry counts for no other. What is kept has the number, flag and body that
  * it had. Mending the new deck gives it once more, and a sound deck without gaps whose
@@ -374,6 +384,30 @@ open_panel_answer open_panel_mend(const uint8_t *deck, size_t deck_len,
                                   size_t *listed);
 
 /*
+ * Converts a deck from before version 0.11.0, when a weight could be a decimal, into
+ * one whose live cards are all taken: number 0, and value the length of the new deck.
+ * A live card with such a weight is put there in its written form (open_panel_write),
+ * in which every weight is 0, 1 or a fraction; it means what it meant. Any other live
+ * card stands there as it was, and so does a withdrawn one, which is not read. Cards
+ * keep their numbers, flags and order, and the new deck has no gaps. Converting it
+ * gives it once more.
+ *
+ * Refusals: 11 of the deck, with the places of open_panel_box_judge; then 18, whose
+ * value is a card number and no byte: that of the first card in the deck which is live
+ * and was not taken before 0.11.0 either, or has to be written and is then longer than
+ * OPEN_PANEL_CARD_BYTES, or would end past OPEN_PANEL_DECK_BYTES in the new deck; then
+ * 10 with the length of the new deck.
+ *
+ * A room of OPEN_PANEL_DECK_BYTES is always enough; one of deck_len bytes may not be,
+ * as a written form can be longer than the card was. A null room of length 0 gets 10
+ * with the length to lend, if every card can be converted; a null deck of length 0
+ * gets 11 at 0. The room must not overlap the deck. Untouched are the deck, the room
+ * behind the new deck, and on a refusal all of the room.
+ */
+open_panel_answer open_panel_convert(const uint8_t *deck, size_t deck_len,
+                                     uint8_t *room, size_t room_len);
+
+/*
  * What is below is plain C (c/open_panel_words.c) that stands beside the module
  * in the library. It is tested and not proved. None of it allocates or writes.
  */
@@ -395,8 +429,8 @@ typedef struct {
 } open_panel_position;
 
 /*
- * Where a place is in a text: of the card for 2 to 7, of the question for 22 to
- * 26; for other refusals `value` is no place in a text. The place behind the
+ * Where a place is in a text: of the card for 2 to 7 and 17, of the question for
+ * 22 to 26; for other refusals `value` is no place in a text. The place behind the
  * last byte has a line and a column too; both are 0 for one beyond it.
  */
 open_panel_position open_panel_line_and_column(const uint8_t *text, size_t text_len, size_t place);

@@ -18,7 +18,7 @@ export interface Mended {
 export declare class Refusal extends Error {
     /** Which refusal: one of the numbers of open_panel.h. */
     readonly number: number;
-    /** Its place; for 10 the length of room that is needed. */
+    /** Its place; for 10 the length of room that is needed, for 18 the number of a card. */
     readonly place: number;
     /** What it means. */
     readonly words: string;

@@ -38,10 +38,10 @@ export const words = (number) => WORDS[number] ?? UNKNOWN;
 /** Why something is turned down: its number, its place, and its words; line and column where the place is in a text. */
 export class Refusal extends Error {
     constructor(number, place, texts = {}) {
-        const of = number >= 2 && number <= 7 ? "card" : number >= 22 && number <= 26 ? "question" : undefined;
+        const of = (number >= 2 && number <= 7) || number === 17 ? "card" : number >= 22 && number <= 26 ? "question" : undefined;
         const { line, column } = (of && texts[of] && lineAndColumn(texts[of], place)) ?? {};
         const where = line ? `line ${line}, column ${column} of the ${of}: ` : "";
-        super(`${where}${words(number)} (refusal ${number}, place ${place})`);
+        super(`${where}${words(number)} (refusal ${number}, ${number === 18 ? "card" : "place"} ${place})`);
         Object.assign(this, { name: "Refusal", number, place, words: words(number), of, line, column });
     }
 }

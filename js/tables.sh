@@ -13,7 +13,7 @@ entries=$("$root/bin/entries" | awk '
     {
         answer = "number"
         if (/ length:/) answer = "mended"
-        else if (/ room:/) answer = $1 ~ /^box_/ ? "bytes" : "text"
+        else if (/ room:/) answer = / bytes:card / ? "text" : "bytes"
         else if (/ part:/) answer = "part"
         else if ($1 == "ask") answer = "yes"
         else if ($1 ~ /judge$/) answer = "nothing"

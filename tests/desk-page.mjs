@@ -120,8 +120,13 @@ async function wrongAndMended() {
     await says("card-says", "\u2019 (U+2019) stands here");
     hold("underlined", await page.ask(`document.querySelector("#card-editor mark").textContent`), "\u2019");
     await typeOver("card", "\u2019", "'");
-    await says("card-says", "a comma stands in 0,5, and a decimal has a point");
+    await says("card-says", "a comma stands in 0,5, and a weight is 0, 1 or a fraction");
     await typeOver("card", "0,5", "0.5");
+    await says("card-says", "Line 4, column 28: 0.5 is a decimal, and a weight is 0, 1 or a fraction");
+    await says("card-says", "Hint: write 1/2");
+    await says("card-says", "refused 17 77");
+    hold("underlined", await page.ask(`document.querySelector("#card-editor mark").textContent`), "0.5");
+    await typeOver("card", "0.5", "1/2");
     await says("card-says", "Taken: ");
 
     // the end of the text, and the seats' line

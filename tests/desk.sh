@@ -62,7 +62,7 @@ expect 0 '*card-a: taken: *coin-toss: taken: *' '' check examples/card-a example
 expect 0 '' '' write --check "$made/card-a"
 expect 0 '' '' write --check examples/card-a
 expect 0 "$card_a" '' write examples/card-a
-expect 1 '' "examples/coin-toss:5:12: laid out otherwise; due is$(printf '\n   5 | ')*1/2:(s1'=1) + 1/2:(s1'=2);" write --check examples/coin-toss
+expect 1 '' "examples/coin-toss:10:35: laid out otherwise; due is$(printf '\n  10 | ')*[s1=s2, s2=s1] endmodule" write --check examples/coin-toss
 bin/desk write examples/leader-election | bin/desk write --check -
 expect 0 'probabilistic*module generic_process*no_0*' '' reduce examples/card-a
 
@@ -146,7 +146,7 @@ expect 1 '' "$refusal" odds "$made/many" '(s1=7 | s2=7 | s3=7 | s4=7 | s5=7 | s6
 odds='night  0  0.000000       0%  |                                        |
 night  1  0.010000       1%  |#                                       |
 night  2  1.000000     100%  |########################################|'
-printf "probabilistic\nmodule process1\ns1 : [0..2] init 0;\n[] s1=0 -> 0.01:(s1'=2) + 0.99:(s1'=1);\n[] s1=1 -> 1:(s1'=2);\nendmodule\n" >"$made/seldom"
+printf "probabilistic\nmodule process1\ns1 : [0..2] init 0;\n[] s1=0 -> 1/100:(s1'=2) + 99/100:(s1'=1);\n[] s1=1 -> 1:(s1'=2);\nendmodule\n" >"$made/seldom"
 expect 0 "$odds" '' odds "$made/seldom" 0 '(s1=2)' 2
 expect 0 '*night 20  0.999999  >99.99%  |####################################### |' '' odds "$made/tossed" 0 '(s1=1)' 20
 expect 1 '' 'question:1:1: refused 26 0: *' odds examples/coin-toss '(s2=1)' 3
@@ -228,6 +228,39 @@ printf '\101' >"$made/count.box"
 expect 1 '' '*: refused 11 0: the box says that it holds 65 cards, and 1 to 64 were due*byte 0 | 41*^^' box mend "$made/count.box" "$made/none.box"
 [ ! -e "$made/none.box" ] || { echo "desk: a box past mending was written" && wrong=$((wrong + 1)); }
 expect 2 '' 'desk: `desk box mend` takes the damaged box, and the box to write*' box mend "$made/bad.box"
+
+# a weight is no decimal; a box from when it could be one is converted: a card with decimals is laid out anew, all others stay
+sed 's|1/2:|0.5:|g; s|1/4:|0.25:|' "$made/card-a" >"$made/old"
+refusal="$made/old:4:28: refused 17 77: \`0.5\` is a decimal, and a weight is 0, 1 or a fraction
+   4 | [] s1=0 & (s2=0 | s3=0) -> 0.5:(s1'=1) + 0.5:(s1'=2);
+     |                            ^^^
+     = hint: write \`1/2\`"
+expect 1 '' "$refusal" check "$made/old"
+expect 1 '' "$refusal" panel "$made/old" 001
+expect 0 '' '' box write --unread "$made/old.box" 1="$made/old" 2=examples/leader-election --withdrawn 9="$made/old"
+expect 0 '*1  live *283  refused 17 77: `0.5` is a decimal*2  live *9  withdrawn *' '' box list "$made/old.box"
+became='entry  number  became
+    1       1  converted: 282 bytes in place of 283
+    2       2  as it was
+    3       9  as it was, unread'
+expect 0 "$became" '' box convert "$made/old.box" "$made/new.box"
+expect 0 "$card_a" '' box find "$made/new.box" 1
+expect 0 "$(tail -n +2 examples/leader-election)" '' box find "$made/new.box" 2
+expect 0 '*9  withdrawn *283  refused 17 77: *' '' box list "$made/new.box"
+expect 0 '*as it was*as it was*as it was, unread' '' box convert "$made/new.box" "$made/again.box"
+cmp "$made/new.box" "$made/again.box" || { echo "desk: a converted box does not stay" && wrong=$((wrong + 1)); }
+# mending drops what is not converted
+expect 0 '*1  dropped 4: refused 17 77: `0.5` is a decimal*2  kept*9  kept' '' box mend "$made/old.box" "$made/mended.box"
+# a single card, in a pipe
+[ "$(bin/desk box write --unread - 1="$made/old" | bin/desk box convert - - 2>"$made/err" | bin/desk box find - 1)" = "$card_a" ] || { echo "desk: a card converted in a pipe" && wrong=$((wrong + 1)); }
+like "$(cat "$made/err")" '*1  converted: 282 bytes in place of 283' || { echo "desk: what became of a card in a pipe" && wrong=$((wrong + 1)); }
+# a card that never was one is named, and nothing is written
+sed 's|1/2:|0.5:|g' "$made/wrong" >"$made/old-and-wrong"
+expect 0 '' '' box write --unread "$made/old-and-wrong.box" 1="$made/old" 700="$made/old-and-wrong"
+expect 1 '' "$made/old-and-wrong.box: refused 18 700: card 700 is wrong apart from decimals: at its byte 60, the group leaves out seat 3, *" box convert "$made/old-and-wrong.box" "$made/none.box"
+expect 1 '' '*: refused 11 7: the flag of entry 1 is 2, and *byte 1 | 01 00 19 00 1a 01 02 00*^^' box convert "$made/bad.box" "$made/none.box"
+[ ! -e "$made/none.box" ] || { echo "desk: a box that cannot be converted was written" && wrong=$((wrong + 1)); }
+expect 2 '' 'desk: `desk box convert` takes the box from before, and the box to write*' box convert "$made/old.box"
 
 # wrong words
 expect 2 '' 'desk: a command is due*'

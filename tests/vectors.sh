@@ -21,12 +21,16 @@ through() {
     held base written write "${@:2}"
     held base reduced reduce "${@:2}"
     held base panel panel "${@:2}"
+    held fractions fractions-written read "${@:2}"
+    held fractions fractions-written write "${@:2}"
+    held fractions fractions-reduced reduce "${@:2}"
+    held fractions fractions-panel panel "${@:2}"
     held edges edges read "${@:2}"
     held edges edges write "${@:2}"
     held requests/2026-01 requests/2026-01 ask "${@:2}"
     held requests/2026-02 requests/2026-02 box_find "${@:2}"
     held requests/2026-02 requests/2026-02 box_write "${@:2}"
-    held requests/2026-03 requests/2026-03 panel "${@:2}"
+    for entry in read write reduce panel; do held requests/2026-03 requests/2026-03 $entry "${@:2}"; done
     held requests/2026-04 requests/2026-04 write "${@:2}"
     held requests/2026-05 requests/2026-05 spectator "${@:2}"
     for entry in read write reduce panel ask; do held requests/2026-06 requests/2026-06 $entry "${@:2}"; done
@@ -36,11 +40,14 @@ through() {
     held requests/2026-09 requests/2026-09 mend "${@:2}"
     for entry in read write reduce panel ask spectator first_move; do held requests/2026-10 requests/2026-10 $entry "${@:2}"; done
     [[ $1 = *mjs ]] || held requests/2026-10 requests/2026-10 odds "${@:2}"
+    for entry in read write reduce panel ask spectator first_move mend convert; do held requests/2026-11 requests/2026-11 $entry "${@:2}"; done
+    [[ $1 = *mjs ]] || held requests/2026-11 requests/2026-11 odds "${@:2}"
 }
 
 through "$machine-linux, by the Rust wrapper"
 through 'independent implementation' --baseline
 held base panel program --baseline
+held fractions fractions-panel program --baseline
 
 for target in x86_64-linux aarch64-linux; do
     [ $target != "$machine-linux" ] || continue
@@ -57,3 +64,4 @@ fi
 
 echo "vectors: panel program"
 held base panel program "${run_x86_64[@]}" target/bin/open_panel
+held fractions fractions-panel program "${run_x86_64[@]}" target/bin/open_panel

@@ -18,7 +18,7 @@ export interface Mended {
 export declare class Refusal extends Error {
     /** Which refusal: one of the numbers of open_panel.h. */
     readonly number: number;
-    /** Its place; for 10 the length of room that is needed. */
+    /** Its place; for 10 the length of room that is needed, for 18 the number of a card. */
     readonly place: number;
     /** What it means. */
     readonly words: string;
@@ -60,6 +60,8 @@ export interface Panel {
     boxWrite(contents: Bytes, bodies: Bytes): Uint8Array;
     /** `open_panel_mend` of open_panel.h. */
     mend(deck: Bytes): Mended;
+    /** `open_panel_convert` of open_panel.h. */
+    convert(deck: Bytes): Uint8Array;
 }
 
 /** The version of this module, and of the library that it was made with. */

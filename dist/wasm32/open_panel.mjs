@@ -8,7 +8,7 @@
 // rows are lent by this module. A card or a question is a string or bytes, seats and classes are bytes or numbers; on a card whose seats share
 // a number, that stands behind them. It needs nothing else.
 
-const VERSION = "0.10.0";
+const VERSION = "0.11.0";
 const NUMBERS = {
     CARD_BYTES: 16384,
     QUESTION_BYTES: 16384,
@@ -44,6 +44,8 @@ const WORDS = {
     14: "the table has more than 512 count vectors, or pairs of one and a shared number",
     15: "more than 32 steps",
     16: "a lent row does not have 512 numbers",
+    17: "a decimal for a weight, where 0, 1 or a fraction has to stand",
+    18: "a card that cannot be converted, or does not fit into the new deck",
     21: "the question is longer than 16384 bytes",
     22: "no mark of a question, or too many digits",
     23: "this cannot stand here, or the question ends early",
@@ -65,6 +67,7 @@ const ENTRIES = {
     box_find_with: { answer: "part", takes: [["bytes", "base"], ["bytes", "expansion"], ["u16", "number"], ["part", "part"]] },
     box_write: { answer: "bytes", takes: [["bytes", "contents"], ["bytes", "bodies"], ["room", "room"]] },
     mend: { answer: "mended", takes: [["bytes", "deck"], ["room", "room"], ["room", "list"], ["length", "listed"]] },
+    convert: { answer: "bytes", takes: [["bytes", "deck"], ["room", "room"]] },
 };
 
 /** The version of this module, and of the library that it was made with. */
@@ -95,10 +98,10 @@ export const words = (number) => WORDS[number] ?? UNKNOWN;
 /** Why something is turned down: its number, its place, and its words; line and column where the place is in a text. */
 export class Refusal extends Error {
     constructor(number, place, texts = {}) {
-        const of = number >= 2 && number <= 7 ? "card" : number >= 22 && number <= 26 ? "question" : undefined;
+        const of = (number >= 2 && number <= 7) || number === 17 ? "card" : number >= 22 && number <= 26 ? "question" : undefined;
         const { line, column } = (of && texts[of] && lineAndColumn(texts[of], place)) ?? {};
         const where = line ? `line ${line}, column ${column} of the ${of}: ` : "";
-        super(`${where}${words(number)} (refusal ${number}, place ${place})`);
+        super(`${where}${words(number)} (refusal ${number}, ${number === 18 ? "card" : "place"} ${place})`);
         Object.assign(this, { name: "Refusal", number, place, words: words(number), of, line, column });
     }
 }

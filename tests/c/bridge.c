@@ -147,6 +147,8 @@ static int enter(const char *name, const piece *p, open_panel_answer *answer) {
         *answer = open_panel_box_write(p[0].at, p[0].length, p[1].at, p[1].length, p[2].at, p[2].length);
     } else if (strcmp(name, "open_panel_mend") == 0) {
         *answer = mend(p);
+    } else if (strcmp(name, "open_panel_convert") == 0) {
+        *answer = open_panel_convert(p[0].at, p[0].length, p[1].at, p[1].length);
     } else {
         return 0;
     }

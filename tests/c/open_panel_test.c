@@ -77,6 +77,26 @@ static const char damaged[] = "\3\1\0\32\0\2\0\0\0\2\0\34\0\1\0\1\0\3\0\35\0\1\0
 static const char mended[] = "\1\1\0\11\0\2\0\0\0ab";
 static const char what_became[] = "kept\ndropped 4\ndropped 1\n";
 
+/* A card from when a weight could be a decimal, with a weight that was none even then, and as it is written now. */
+static const char old_card[] =
+    "nondeterministic\n"
+    "module process1\n"
+    "s1 : [0..1] init 0;\n"
+    "[] s1=0 -> 0.25:(s1'=1) + 0.75:(s1'=0);\n"
+    "endmodule\n";
+static const char old_and_wrong[] =
+    "nondeterministic\n"
+    "module process1\n"
+    "s1 : [0..1] init 0;\n"
+    "[] s1=0 -> 0.25:(s1'=1) + 0.755:(s1'=0);\n"
+    "endmodule\n";
+static const char new_card[] =
+    "nondeterministic\n"
+    "module process1\n"
+    "s1 : [0..1] init 0;\n"
+    "[] s1=0 -> 1/4:(s1'=1) + 3/4:(s1'=0);\n"
+    "endmodule\n";
+
 enum { GUARD = 16, UNTOUCHED = 0xa5 };
 
 /* A room with bytes on both sides that nothing may touch. */
@@ -92,20 +112,22 @@ static void expect(int holds, const char *what) {
     }
 }
 
-/* Whether the answer is this one, and the text, with nothing else touched. */
-static void answers(open_panel_answer answer, unsigned number, size_t value, const char *text, const char *what) {
-    size_t length = strlen(text);
+/* Whether the answer is this one, and so many bytes, with nothing else touched. */
+static void gives(open_panel_answer answer, unsigned number, size_t value, const void *made, size_t made_len, const char *what) {
     size_t i;
     int untouched = 1;
     expect(answer.number == number && answer.value == value, what);
-    expect(memcmp(room, text, length) == 0, what);
+    expect(memcmp(room, made, made_len) == 0, what);
     for (i = 0; i < sizeof store; i++) {
-        if ((i < GUARD || i >= GUARD + length) && store[i] != UNTOUCHED) {
-            untouched = 0;
-        }
+        untouched &= (i >= GUARD && i < GUARD + made_len) || store[i] == UNTOUCHED;
     }
     expect(untouched, what);
     memset(store, UNTOUCHED, sizeof store);
+}
+
+/* The same with a text. */
+static void answers(open_panel_answer answer, unsigned number, size_t value, const char *text, const char *what) {
+    gives(answer, number, value, text, strlen(text), what);
 }
 
 /* A room for a list, with bytes on both sides, and its length. */
@@ -119,17 +141,13 @@ static void mends(open_panel_answer answer, unsigned number, size_t value, const
     const size_t lines_len = strlen(lines);
     size_t i;
     int untouched = 1;
-    expect(answer.number == number && answer.value == value, what);
+    gives(answer, number, value, made, made_len, what);
     expect(listed == (number == 0 ? lines_len : UNTOUCHED), what);
-    expect(memcmp(room, made, made_len) == 0 && memcmp(list, lines, lines_len) == 0, what);
-    for (i = 0; i < sizeof store; i++) {
-        untouched &= (i >= GUARD && i < GUARD + made_len) || store[i] == UNTOUCHED;
-    }
+    expect(memcmp(list, lines, lines_len) == 0, what);
     for (i = 0; i < sizeof list_store; i++) {
         untouched &= (i >= GUARD && i < GUARD + lines_len) || list_store[i] == UNTOUCHED;
     }
     expect(untouched, what);
-    memset(store, UNTOUCHED, sizeof store);
     memset(list_store, UNTOUCHED, sizeof list_store);
     listed = UNTOUCHED;
 }
@@ -174,13 +192,67 @@ static void shared_number(void) {
     expect(first[4] == OPEN_PANEL_CERTAIN && first[5] == 500000 && second[5] == 0 && first[6] == 0, "rows of pairs");
 }
 
+/* One of the three cards of a deck: its entry, and its body where that says; where the next body may begin. */
+static size_t put_card(uint8_t *into, size_t entry, size_t number, size_t offset, uint8_t live, const char *card) {
+    const size_t length = strlen(card);
+    uint8_t *at = into + 1 + 8 * entry;
+    into[0] = 3;
+    at[0] = (uint8_t)(number & 255);
+    at[1] = (uint8_t)(number >> 8);
+    at[2] = (uint8_t)(offset & 255);
+    at[3] = (uint8_t)(offset >> 8);
+    at[4] = (uint8_t)(length & 255);
+    at[5] = (uint8_t)(length >> 8);
+    at[6] = live;
+    at[7] = 0;
+    memcpy(into + offset, card, length);
+    return offset + length;
+}
+
+/* A decimal is no weight of a card any more, and a deck from before is converted. */
+static void decimals(void) {
+    const uint8_t seat[] = {0};
+    const uint8_t *old = bytes(old_card);
+    const size_t old_len = sizeof old_card - 1;
+    const size_t place = (size_t)(strstr(old_card, "0.25") - old_card);
+    static uint8_t from[1024], into[1024];
+    size_t from_len, into_len;
+    answers(open_panel_judge(old, old_len), OPEN_PANEL_DECIMAL, place, "", "a decimal, judged");
+    answers(open_panel_write(old, old_len, room, OPEN_PANEL_WRITE_ROOM), OPEN_PANEL_DECIMAL, place, "", "a decimal, written");
+    answers(open_panel_reduce(old, old_len, room, OPEN_PANEL_REDUCE_ROOM), OPEN_PANEL_DECIMAL, place, "", "a decimal, reduced");
+    answers(open_panel_show(old, old_len, seat, 1, room, OPEN_PANEL_SHOW_ROOM), OPEN_PANEL_DECIMAL, place, "", "a decimal, shown");
+    answers(open_panel_first_move(old, old_len, NULL, 0), OPEN_PANEL_DECIMAL, place, "", "a decimal before the seats");
+    answers(open_panel_ask(old, old_len, NULL, 0, NULL, 0), OPEN_PANEL_DECIMAL, place, "", "a decimal before the question");
+    answers(open_panel_judge(bytes(old_and_wrong), sizeof old_and_wrong - 1), OPEN_PANEL_DECIMAL, place, "", "the first decimal");
+
+    /* A gap before each body goes; a withdrawn card is copied unread, and one without decimals as it stands. */
+    memset(from, '-', sizeof from);
+    from_len = put_card(from, 0, 3, 30, 1, old_card);
+    from_len = put_card(from, 1, 4, from_len + 1, 0, old_card);
+    from_len = put_card(from, 2, 300, from_len + 2, 1, one_seat);
+    into_len = put_card(into, 0, 3, 25, 1, new_card);
+    into_len = put_card(into, 1, 4, into_len, 0, old_card);
+    into_len = put_card(into, 2, 300, into_len, 1, one_seat);
+    gives(open_panel_convert(from, from_len, room, OPEN_PANEL_DECK_BYTES), OPEN_PANEL_TAKEN, into_len, into, into_len,
+          "a deck from before, converted");
+    gives(open_panel_convert(from, from_len, room, into_len), OPEN_PANEL_TAKEN, into_len, into, into_len, "the same in a room that just fits");
+    gives(open_panel_convert(into, into_len, room, into_len), OPEN_PANEL_TAKEN, into_len, into, into_len, "a converted deck, converted");
+    answers(open_panel_convert(from, from_len, room, into_len - 1), OPEN_PANEL_ROOM, into_len, "", "a room one byte short");
+    answers(open_panel_convert(from, from_len, NULL, 0), OPEN_PANEL_ROOM, into_len, "", "the length of a converted deck");
+    answers(open_panel_convert(from, from_len - 1, NULL, 0), OPEN_PANEL_DECK, 21, "", "a deck cut short");
+    answers(open_panel_convert(NULL, 0, NULL, 0), OPEN_PANEL_DECK, 0, "", "no deck to convert");
+    from_len = put_card(from, 2, 300, from_len, 1, old_and_wrong);
+    answers(open_panel_convert(from, from_len, room, OPEN_PANEL_DECK_BYTES), OPEN_PANEL_NOT_CONVERTED, 300, "", "a card that never was one");
+    answers(open_panel_convert(from, from_len, NULL, 0), OPEN_PANEL_NOT_CONVERTED, 300, "", "the same before the room");
+}
+
 /* The library is of this header's version, and says of each refusal something else than of a number that is none. */
 static void words_are_known(void) {
     static const uint8_t refusals[] = {REFUSALS};
     const char *unknown = open_panel_words(255);
     size_t i;
     expect(strcmp(open_panel_version(), OPEN_PANEL_VERSION) == 0, "the library's version");
-    expect(sizeof refusals >= 19, "the header's refusals");
+    expect(sizeof refusals >= 25, "the header's refusals");
     for (i = 0; i < sizeof refusals; i++) {
         const char *words = open_panel_words(refusals[i]);
         expect(strlen(words) > 4 && strcmp(words, unknown) != 0 && strchr(words, '\n') == NULL, "a refusal's words");
@@ -210,7 +282,6 @@ int main(void) {
     const size_t mended_len = sizeof mended - 1;
     const size_t lines_len = sizeof what_became - 1;
     open_panel_part part = {UNTOUCHED, UNTOUCHED, UNTOUCHED};
-    open_panel_answer answer;
     memset(store, UNTOUCHED, sizeof store);
     memset(list_store, UNTOUCHED, sizeof list_store);
 
@@ -296,9 +367,8 @@ int main(void) {
     answers(open_panel_box_find_with(bytes(deck), deck_len, bytes(deck), deck_len, 5, &part), OPEN_PANEL_TAKEN, 0, "",
             "a card in the expansion");
     lies(&part, 1, 17, 3, "where it lies");
-    answer = open_panel_box_write(contents, sizeof contents, bytes(bodies), sizeof bodies - 1, room, deck_len);
-    expect(answer.number == OPEN_PANEL_TAKEN && answer.value == deck_len && memcmp(room, deck, deck_len) == 0, "a deck, written");
-    memset(store, UNTOUCHED, sizeof store);
+    gives(open_panel_box_write(contents, sizeof contents, bytes(bodies), sizeof bodies - 1, room, deck_len), OPEN_PANEL_TAKEN,
+          deck_len, deck, deck_len, "a deck, written");
     answers(open_panel_box_write(contents, sizeof contents, bytes(bodies), sizeof bodies - 1, room, deck_len - 1), OPEN_PANEL_ROOM,
             deck_len, "", "a deck in a room one byte short");
     answers(open_panel_box_write(contents, sizeof contents, bytes(bodies), sizeof bodies, room, deck_len), OPEN_PANEL_DECK,
@@ -324,6 +394,7 @@ int main(void) {
     mends(open_panel_mend(NULL, 0, NULL, 0, NULL, 0, &listed), OPEN_PANEL_DECK, 0, "", 0, "", "no deck to mend");
 
     shared_number();
+    decimals();
     words_are_known();
     at(a, a_len, 0, 1, 1, "the first byte");
     at(bytes("ab\ncd\n"), 6, 2, 1, 3, "the end of a line");

@@ -23,7 +23,7 @@ assert.deepEqual([...methods].map(([, name]) => name).sort(), called.sort());
 
 // every refusal of the header has words, and no two numbers that are none have others
 const refusals = [...header.matchAll(/^ *OPEN_PANEL_[A-Z_]* = ([0-9]+)/gm)].map(([, number]) => Number(number)).filter(Boolean);
-assert.ok(refusals.length >= 19);
+assert.ok(refusals.length >= 24);
 for (const number of refusals) assert.notEqual(words(number), words(255), `words of ${number}`);
 
 assert.equal(panel.judge(card), undefined);
@@ -65,6 +65,24 @@ const full = Array.from({ length: numbers.DECK_CARDS }, (_, i) => [i, 0, 0, 0, .
 const longest = panel.boxWrite(full, bodies);
 assert.equal(longest.length, numbers.DECK_BYTES);
 assert.deepEqual(panel.mend(longest), { deck: longest, list: "kept\n".repeat(numbers.DECK_CARDS) });
+// a decimal is no weight, and a box from before is converted; what has none stays as it stands, and what is withdrawn is not read
+const old = card.replaceAll("1/4", "0.25").replaceAll("3/4", "0.75");
+const twoOf = (first, second) => panel.boxWrite([first, second].flatMap((body, i) => [5 + i, 0, 0, 0, body.length & 255, body.length >> 8, 1 - i, 0]), first + second);
+const converted = panel.convert(twoOf(old, old));
+assert.deepEqual(converted, twoOf(card, old));
+assert.deepEqual(panel.convert(converted), converted);
+assert.deepEqual(panel.convert(longest), longest);
+refused(() => panel.judge(old), { number: 17, place: old.indexOf("0.25"), of: "card", line: 5, column: 38, words: words(17) });
+refused(() => panel.show(old, seats), { number: 17, of: "card", line: 5, column: 38 });
+refused(() => panel.convert(base), {
+    number: 18,
+    place: 5,
+    of: undefined,
+    line: undefined,
+    message: "a card that cannot be converted, or does not fit into the new deck (refusal 18, card 5)",
+});
+refused(() => panel.convert([]), { number: 11, place: 0 });
+assert.throws(() => panel.convert(), TypeError);
 // a card of more bytes than the memory has to begin with is copied whole, and refused
 assert.throws(() => panel.judge(" ".repeat(3_000_000)), { number: 1, place: 0 });
 

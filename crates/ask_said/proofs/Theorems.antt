@@ -1,20 +1,19 @@
 -- What `ask` answers, refusal by refusal: each is that of the stage which gives its number, where the stages before it pass; by the theorem of
 -- stages, since no two stages share a number. Assumes nothing.
-use Prim.Native.Nat.{ℕ, suc, _≤_}
+use Prim.Native.Nat.{ℕ, _≤_}
 use mathlib.Core.Path.{_≡_, refl, sym, ap, _∙_}
-use mathlib.Core.Bool.{Bool, true, false≢true}
+use mathlib.Core.Bool.{Bool, true}
 use mathlib.Core.Logic.{_↔_, _⊎_, inl, inr}
-use mathlib.Core.List.{List, [], _∷_, _++_}
-use native.Mathlib.Decide.{decLe}
+use mathlib.Core.List.{List, _++_}
 use native.Mathlib.Omega.{arith}
-use Rattle.card.specs.Refusals.{tooLong, notDue, wrongSeats, seatAboveTop}
+use Rattle.card.specs.Refusals.{tooLong, notDue, wrongSeats, seatAboveTop, decimalWeight}
 use Rattle.card.specs.Card.{Card}
 use Rattle.card.specs.Valid.{valuesOf}
 use Rattle.entry.specs.Said.{Said, says, refused}
-use Rattle.entry.specs.Numbers.{Numbers, _to_, among}
+use Rattle.entry.specs.Numbers.{among}
 use Rattle.entry.specs.Contract.{Enters, lentNothing, Faithful}
 use Rattle.entry.specs.Stage.{Stage}
-use Rattle.entry.proofs.Stages.{in-span, apart-out, among-up-to, itself, value, followed, its, beyond, last}
+use Rattle.entry.proofs.Stages.{in-span, apart-out, itself, value, followed, its, beyond, last, by-span}
 use Rattle.entry.proofs.Exactly.{_↔∙_}
 use Rattle.entry.proofs.Entries.{says-exactly, refused-exactly}
 use Rattle.seating.specs.Judged.{seatingOf, Seated}
@@ -42,22 +41,9 @@ module _ (card question seats : List ℕ) where
   unfolding askSaid
   said = followed (card-stage card) (askCard question seats) (λ c. behind c .numbers) (λ w. behind (w .0) .found)
 
-  -- between the seats' numbers and the question's there is none
-  other : (r p : ℕ) → askSaid card question seats ≡ refused r p → (r ≤ seatAboveTop) ⊎ ((inQuestion tooLong ≤ r) × (r ≤ inQuestion notDue))
-  other r p e = go (decLe r seatAboveTop) (decLe (inQuestion tooLong) r)
-    where
-      all : Numbers
-      all = cardNumbers ++ (questionNumbers ++ seatsNumbers)
-
-      in-all : among all r ≡ true
-      in-all = said .numbers .number r p e
-
-      go : Dec (r ≤ seatAboveTop) → Dec (inQuestion tooLong ≤ r) → (r ≤ seatAboveTop) ⊎ ((inQuestion tooLong ≤ r) × (r ≤ inQuestion notDue))
-      go (yes l) m = inl l
-      go (no l) (yes m) = inr (m, among-up-to all r (inQuestion notDue) in-all refl)
-      go (no l) (no m) =
-          let between : among ((suc seatAboveTop to 20) ∷ []) r ≡ true = rw (in-span (suc seatAboveTop) 20 r (omega arith) (omega arith)) in
-          absurd (false≢true (sym (apart-out ((suc seatAboveTop to 20) ∷ []) all r refl between) ∙ in-all))
+  other : (r p : ℕ) → askSaid card question seats ≡ refused r p → ((r ≤ seatAboveTop) ⊎ (r ≡ decimalWeight)) ⊎ ((inQuestion tooLong ≤ r) × (r ≤ inQuestion notDue))
+  other r p e = by-span (cardNumbers ++ (questionNumbers ++ seatsNumbers)) r (said .numbers .number r p e)
+      ((λ l m. inl (inl (omega arith))), ((λ l m. inl (inr (omega arith))), ((λ l m. inr (l, m)), ((λ l m. inl (inl m)), tt))))
 
   module _ {T : Type 0} {tell : Said Bool → T} (faithful : Faithful tell) {a : T} (e : Enters lentNothing tell tt tt (askSaid card question seats) a) where
     pub asks : Asks tell card question seats a

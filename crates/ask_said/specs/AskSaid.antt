@@ -6,7 +6,7 @@ use mathlib.Core.Bool.{Bool}
 use mathlib.Core.Logic.{_↔_, _⊎_}
 use mathlib.Core.List.{List, [], _∷_}
 use lib.ListN.{length}
-use Rattle.card.specs.Refusals.{tooLong, notDue, wrongWeight, wrongSeats, seatAboveTop}
+use Rattle.card.specs.Refusals.{tooLong, notDue, wrongSeats, seatAboveTop, OfCard, decimalWeight}
 use Rattle.card.specs.Card.{Card}
 use Rattle.card.specs.Valid.{valuesOf}
 use Rattle.reading.specs.Reading.{refused as turned, readOf}
@@ -49,7 +49,7 @@ abbrev pub Understood : List ℕ → Card → Type 0
 Understood question c = (q : Question) × (questionSaid question c ≡ says q)
 
 pub record Asks {T : Type 0} (tell : Said Bool → T) (card question seats : List ℕ) (a : T) : Type 0 where
-  pub wrong-card : (number place : ℕ) → number ≤ wrongWeight → (a ≡ tell (refused number place)) ↔ (readOf card ≡ turned number place)
+  pub wrong-card : (number place : ℕ) → OfCard number → (a ≡ tell (refused number place)) ↔ (readOf card ≡ turned number place)
   pub wrong-question : (number place : ℕ) → inQuestion tooLong ≤ number → number ≤ inQuestion notDue
       → (a ≡ tell (refused number place)) ↔ ((c : Read card) × (questionSaid question (c .0) ≡ refused number place))
   pub wrong-count : (place : ℕ) → (a ≡ tell (refused wrongSeats place))
@@ -60,4 +60,4 @@ pub record Asks {T : Type 0} (tell : Said Bool → T) (card question seats : Lis
   pub answered : (yes : Bool) → (a ≡ tell (says yes))
       ↔ ((c : Read card) × ((q : Understood question (c .0)) × (Seated (c .0) seats × (yes ≡ holdsOn (seatingOf (c .0) seats) (q .0)))))
   -- there is no other refusal
-  pub no-other : (number place : ℕ) → a ≡ tell (refused number place) → (number ≤ seatAboveTop) ⊎ ((inQuestion tooLong ≤ number) × (number ≤ inQuestion notDue))
+  pub no-other : (number place : ℕ) → a ≡ tell (refused number place) → ((number ≤ seatAboveTop) ⊎ (number ≡ decimalWeight)) ⊎ ((inQuestion tooLong ≤ number) × (number ≤ inQuestion notDue))

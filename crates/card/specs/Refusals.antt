@@ -1,5 +1,7 @@
 -- The refusal numbers by name (document 01, "Refusal numbers"; document 02); src/refusals.rt has the same numbers for the code. Assumes nothing.
-use Prim.Native.Nat.{ℕ}
+use Prim.Native.Nat.{ℕ, _≤_}
+use mathlib.Core.Path.{_≡_}
+use mathlib.Core.Logic.{_⊎_}
 
 abbrev pub tooLong : ℕ
 tooLong = 1
@@ -42,3 +44,10 @@ wrongClasses = 13
 
 abbrev pub decimalWeight : ℕ
 decimalWeight = 17
+
+abbrev pub notConverted : ℕ
+notConverted = 18
+
+-- the numbers of a card's own refusals: the first seven, and 17
+abbrev pub OfCard : ℕ → Type 0
+OfCard r = (r ≤ wrongWeight) ⊎ (r ≡ decimalWeight)

@@ -44,7 +44,7 @@ Rule = Bool
 
 -- the rule by which every entry reads; the crate `weights` has it for the code
 abbrev pub cardRule : Rule
-cardRule = true
+cardRule = false
 
 -- may a weight of this form stand on a card?
 abbrev pub allowed : Rule → Weight → Bool

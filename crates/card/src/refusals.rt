@@ -27,3 +27,5 @@ pub const NO_LIVE_CARD: u8 = 12;
 pub const WRONG_CLASSES: u8 = 13;
 
 pub const DECIMAL_WEIGHT: u8 = 17;
+
+pub const NOT_CONVERTED: u8 = 18;

@@ -55,6 +55,7 @@ figures = record {
   wrong-row = refl;
   top-shared = refl;
   decimal-weight = refl;
+  not-converted = refl;
   written-room = refl;
   reduced-room = refl;
   panel-room = refl;

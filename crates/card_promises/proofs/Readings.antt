@@ -13,7 +13,7 @@ use Rattle.reading.specs.Group.{Literal}
 use Rattle.reading.specs.Judgements.{once, kindOf}
 use Rattle.grammar.specs.Rules.{OnceEach}
 use Rattle.grammar.proofs.Symmetry.{once-is, is-once}
-use Rattle.grammar.proofs.Theorems.{accepted, read-valid, refusal-1, refusal-2, refusal-3, refusal-4, refusal-5, refusal-6, refusal-7}
+use Rattle.grammar.proofs.Theorems.{accepted, read-valid, refusal-1, refusal-2, refusal-3, refusal-4, refusal-5, refusal-6, refusal-7, refusal-17}
 use Rattle.reading.proofs.Numbers.{read-number}
 use Rattle.card_promises.proofs.CardMarks.{taken-marks}
 use Rattle.card_promises.proofs.Numbers.{number-some}
@@ -54,5 +54,6 @@ readings = record {
   row-5 = refusal-5 cardRule;
   row-6 = refusal-6 cardRule;
   row-7 = refusal-7 cardRule;
+  row-17 = refusal-17 cardRule;
   no-other = λ s e. (number-some cardRule s e, read-number cardRule s e);
 }

@@ -4,7 +4,7 @@ use Rattle.card.specs.Limits.{cardBytes, mostSeats, topState, topShared, mostSt
 use Rattle.card.specs.Limits.{deckBytes, mostCards, countBytes, entryBytes, offsetAt, sizeAt, flagAt, zeroByteAt, expansionFrom}
 use Rattle.card.specs.Refusals.{tooLong, outsideRules, outOfShape, pastLimit, aboveTop, notDue, wrongWeight, wrongSeats, seatAboveTop, roomTooSmall}
 use Rattle.card.specs.Limits.{topClass, publicClasses}
-use Rattle.card.specs.Refusals.{malformedDeck, noLiveCard, decimalWeight}
+use Rattle.card.specs.Refusals.{malformedDeck, noLiveCard, decimalWeight, notConverted}
 use Rattle.card.specs.Refusals.{wrongClasses}
 use Rattle.room.specs.Digits.{digit}
 use Rattle.texts.specs.Lengths.{writtenRoom, reducedRoom}
@@ -28,7 +28,7 @@ pub record Figures : Type 0 where
   -- "Marks on a card": digits behind a point, and in a seat or module word
   pub further-digits : furtherDigits ≡ 6
   pub word-digits : wordDigits ≡ 5
-  -- "Shape of a card", with the unit of 2026-06: a weight of 1, and the digits that a decimal weight may have behind its point
+  -- "Shape of a card", with the unit of 2026-06: a weight of 1, and the digits that a decimal weight may have behind its point under the old rule
   pub unit-is : unit ≡ 277200
   pub weight-digits : weightDigits ≡ 2
   -- "Refusal numbers"
@@ -80,8 +80,9 @@ pub record Figures : Type 0 where
   pub wrong-row : wrongRow ≡ 16
   -- document 02, 2026-10: the most that the shared number may be
   pub top-shared : topShared ≡ 7
-  -- document 02, 2026-11: a decimal under a rule that takes none
+  -- document 02, 2026-11: a decimal weight, and a card that cannot be converted
   pub decimal-weight : decimalWeight ≡ 17
+  pub not-converted : notConverted ≡ 18
   -- rooms that every text fits into; they are the project's own figures
   pub written-room : writtenRoom ≡ 85481
   pub reduced-room : reducedRoom ≡ 392972

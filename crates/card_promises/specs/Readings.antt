@@ -8,7 +8,7 @@ use mathlib.Core.Option.{some}
 use Rattle.card.specs.Card.{everyone, others, Card}
 use Rattle.card.specs.Weight.{cardRule}
 use Rattle.card.specs.Valid.{ValidCard}
-use Rattle.card.specs.Refusals.{tooLong, outsideRules, outOfShape, pastLimit, aboveTop, notDue, wrongWeight}
+use Rattle.card.specs.Refusals.{tooLong, outsideRules, outOfShape, pastLimit, aboveTop, notDue, wrongWeight, decimalWeight, OfCard}
 use Rattle.marks_on_a_card.specs.Marks.{marksOf}
 use Rattle.reading.specs.Group.{Literal}
 use Rattle.reading.specs.Judgements.{kindOf}
@@ -35,5 +35,6 @@ pub record Readings : Type 0 where
   pub row-5 : (s : List ℕ) (p : ℕ) → (readOf s ≡ refused aboveTop p) ↔ Broken cardRule aboveTop s p
   pub row-6 : (s : List ℕ) (p : ℕ) → (readOf s ≡ refused notDue p) ↔ Broken cardRule notDue s p
   pub row-7 : (s : List ℕ) (p : ℕ) → (readOf s ≡ refused wrongWeight p) ↔ Broken cardRule wrongWeight s p
+  pub row-17 : (s : List ℕ) (p : ℕ) → (readOf s ≡ refused decimalWeight p) ↔ Broken cardRule decimalWeight s p
   -- there is no other refusal of a card
-  pub no-other : (s : List ℕ) {r p : ℕ} → readOf s ≡ refused r p → (tooLong ≤ r) × (r ≤ wrongWeight)
+  pub no-other : (s : List ℕ) {r p : ℕ} → readOf s ≡ refused r p → (tooLong ≤ r) × OfCard r

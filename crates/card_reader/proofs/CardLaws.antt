@@ -2,6 +2,7 @@
 use Prim.Native.Nat.{ℕ, zero, suc, _+_, _-_, _≤_, _<_}
 use mathlib.Core.Path.{_≡_, refl, sym, ap, _∙_, subst}
 use mathlib.Core.Bool.{Bool, true, false, _&&_}
+use mathlib.Core.Logic.{_⊎_, inl, inr}
 use mathlib.Core.List.{List, [], _∷_, _++_}
 use mathlib.Core.Option.{Option, none, some}
 use native.Mathlib.Omega.{arith}
@@ -25,7 +26,7 @@ use Rattle.reading.specs.Shape.{StatementShape, Range, CardShape, statement, mo
 use Rattle.reading.specs.Guard.{isSome}
 use Rattle.reading.specs.Judgements.{Judgement, state, word, oneGroup, weight, sum, symmetric, totalUnits, placeIn, unless, broken, Verdict, fine, wrong, orElse, firstBroken}
 use Rattle.reading.specs.Checks.{judgedState, judgedWords, judgedEach, judgedStatement, judgedModules, judgedShared, mostIn, judgedCard, statementIn, seatsIn, sharedIn, cardIn}
-use Rattle.reading.specs.Reading.{Outcome, taken, refused, firstOutside, judged, readUnder, mostRefusal}
+use Rattle.reading.specs.Reading.{Outcome, taken, refused, firstOutside, judged, readUnder, Refuses}
 use Rattle.reading.proofs.Through.{none≢some}
 use Rattle.grammar.proofs.Fair.{FairCard, card-fair}
 use Rattle.reading.proofs.Numbers.{read-number}
@@ -143,9 +144,10 @@ pub record Stops (decimals : Rule) (s : List ℕ) (n p : ℕ) : Type 0 where
 pub small-number : (decimals : Rule) (s : List ℕ) {r p : ℕ} → readUnder decimals s ≡ refused r p → r ≤ decimalWeight
 small-number decimals s {r} e = go decimals (read-number decimals s e)
   where
-    go : (b : Bool) → r ≤ mostRefusal b → r ≤ decimalWeight
+    go : (b : Bool) → Refuses b r → r ≤ decimalWeight
     go true h = omega arith
-    go false h = h
+    go false (inl h) = omega arith
+    go false (inr h) = omega arith
 
 pub searched-number : {decimals : Rule} {s : List ℕ} {n p : ℕ} → Stops decimals s n p → {x : Due} → x ≡ searched n p (firstOutside (marksAt 0 s p)) → x .number ≤ decimalWeight
 searched-number {decimals} {s} {n} {p} h {x} e = go (firstOutside (marksAt 0 s p)) (h .outcome) e

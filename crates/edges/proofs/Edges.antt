@@ -6,7 +6,7 @@ use Rattle.room.specs.Digits.{decimal}
 use Rattle.meaning.specs.Panel.{panel}
 use Rattle.panel_wording.specs.PanelText.{panelOf}
 use Rattle.meaning.specs.CardA.{cardA}
-use Rattle.edges.specs.Edges.{Edges, MarkEdges, RunEdges, UnitEdges}
+use Rattle.edges.specs.Edges.{Edges, MarkEdges, RunEdges, UnitEdges, DecimalEdges}
 
 pub edges : Edges
 unfolding panelOf panel cardA decimal unitsOf readUnder
@@ -55,5 +55,14 @@ unit-edges = record {
   seven-digits = (refl, refl);
   further-digits = (refl, refl);
   words = (refl, refl);
+}
+
+pub decimal-edges : DecimalEdges
+unfolding unitsOf readUnder
+decimal-edges = record {
   retired = (refl, refl, refl, refl);
+  by-place = (refl, refl, refl, refl, refl);
+  shape-first = refl;
+  as-before = (refl, refl, refl, refl, refl);
+  in-a-comment = refl;
 }

@@ -1,9 +1,9 @@
 -- The marked edges of "Both sides of the edge", as one list in document 01's order; 012 as document 02 (2026-03) changes it, weights, digits and 1/11 as
--- 2026-06 does. The panels stand here as whole texts. Assumes nothing.
+-- 2026-06 does, decimals as 2026-11 does. The panels stand here as whole texts. Assumes nothing.
 use Prim.Native.Nat.{ℕ, zero, suc}
 use Prim.Native.String.{String}
 use mathlib.Core.Path.{_≡_}
-use mathlib.Core.Bool.{false}
+use mathlib.Core.Bool.{true}
 use mathlib.Core.List.{List, [], _∷_, _++_}
 use mathlib.Core.Option.{Option, none, some}
 use Rattle.card.specs.Text.{bytes}
@@ -71,9 +71,9 @@ pub record Edges : Type 0 where
   -- (s2=0) with two seats, and (s1=0)
   pub two-seats : (readOf (head ++ bytes " & (s2=0) -> 1:(s1'=1);\n" ++ two) ≡ reads 2 (some (atom (group others all is 0))) (to 277200 1 ∷ []))
       × (readOf (head ++ bytes " & (s1=0) -> 1:(s1'=1);\n" ++ two) ≡ refused 6 60)
-  -- 0.005, and 0.05
-  pub further-digits : (readOf (head ++ bytes " -> 0.005:(s1'=1) + 0.995:(s1'=2);\nendmodule\n") ≡ refused 7 61)
-      × (readOf (head ++ bytes " -> 0.05:(s1'=1) + 0.95:(s1'=2);\nendmodule\n") ≡ reads 1 none (to 13860 1 ∷ to 263340 2 ∷ []))
+  -- 0.005, and 0.05: since 2026-11 neither is a weight
+  pub further-digits : (readOf (head ++ bytes " -> 0.005:(s1'=1) + 0.995:(s1'=2);\nendmodule\n") ≡ refused 17 61)
+      × (readOf (head ++ bytes " -> 0.05:(s1'=1) + 0.95:(s1'=2);\nendmodule\n") ≡ refused 17 61)
   -- (s3=0 | s2=0), and the group of card A
   pub any-order : (readOf (head ++ bytes " & (s3=0 | s2=0) -> 1:(s1'=1);\n" ++ three) ≡ reads 3 (some (atom (group others any is 0))) (to 277200 1 ∷ []))
       × (readOf (textA probabilistic) ≡ taken (cardA probabilistic))
@@ -129,7 +129,7 @@ pub record RunEdges : Type 0 where
   -- a seat word that is not the one due
   pub other-word : readOf (head ++ bytes " -> 1:(s1'=1);\nendmodule\nmodule process2 = process1 [s1=s2, s9=s5] endmodule\n") ≡ refused 6 117
 
--- the edges of document 02, 2026-06: what six digits may be, and where a decimal may be no weight
+-- the edges of document 02, 2026-06: what six digits may be
 pub record UnitEdges : Type 0 where
   -- a number of six digits is a weight only in a fraction: of the unit, in lowest terms or not; seven digits are none
   pub whole-unit : readOf (head ++ bytes " -> 100000/277200:(s1'=1) + 177200/277200:(s1'=2);\nendmodule\n") ≡ reads 1 none (to 100000 1 ∷ to 177200 2 ∷ [])
@@ -138,18 +138,36 @@ pub record UnitEdges : Type 0 where
       × (readOf (head ++ bytes " -> 0/13:(s1'=1) + 1:(s1'=2);\nendmodule\n") ≡ refused 7 61)
       × (readOf (head ++ bytes " -> 2/554400:(s1'=1) + 277199/277200:(s1'=2);\nendmodule\n") ≡ refused 7 61)
       × (readOf (head ++ bytes " -> 0/0:(s1'=1) + 1:(s1'=2);\nendmodule\n") ≡ refused 7 61)
-      × (readOf (head ++ bytes " -> 1.00:(s1'=1) + 0/11:(s1'=2);\nendmodule\n") ≡ reads 1 none (to 277200 1 ∷ to 0 2 ∷ []))
-  pub above-one : readOf (head ++ bytes " -> 1.01:(s1'=1);\nendmodule\n") ≡ refused 7 61
+      × (readOf (head ++ bytes " -> 1:(s1'=1) + 0/11:(s1'=2);\nendmodule\n") ≡ reads 1 none (to 277200 1 ∷ to 0 2 ∷ []))
+  pub above-one : readOf (head ++ bytes " -> 2/1:(s1'=1);\nendmodule\n") ≡ refused 7 61
   pub old-unit : readOf (head ++ bytes " -> 1/25200:(s1'=1) + 25199/25200:(s1'=2);\nendmodule\n") ≡ reads 1 none (to 11 1 ∷ to 277189 2 ∷ [])
   pub six-digits : (readOf (head ++ bytes " -> 123456:(s1'=1);\nendmodule\n") ≡ refused 7 61) × (readOf (head ++ bytes " -> 1:(s1'=123456);\nendmodule\n") ≡ refused 5 68)
   pub seven-digits : (readOf (head ++ bytes " -> 1/2772000:(s1'=1);\nendmodule\n") ≡ refused 2 63) × (readOf (head ++ bytes " -> 1:(s1'=1234567);\nendmodule\n") ≡ refused 2 68)
-  -- six further digits are a decimal, which is no weight; seven are none
-  pub further-digits : (readOf (head ++ bytes " -> 0.500000:(s1'=1) + 1/2:(s1'=2);\nendmodule\n") ≡ refused 7 61)
+  -- six further digits are a decimal; seven are none
+  pub further-digits : (readOf (head ++ bytes " -> 0.500000:(s1'=1) + 1/2:(s1'=2);\nendmodule\n") ≡ refused 17 61)
       × (readOf (head ++ bytes " -> 0.5000000:(s1'=1) + 1/2:(s1'=2);\nendmodule\n") ≡ refused 2 61)
   -- a seat word has five digits at most
   pub words : (readOf (head ++ bytes " -> 1:(s12345'=1);\nendmodule\n") ≡ refused 6 64) × (readOf (head ++ bytes " -> 1:(s123456'=1);\nendmodule\n") ≡ refused 3 64)
-  -- by a rule that takes no decimals, right or wrong in value: 17 at its place, among 5, 6 and 7
-  pub retired : (readUnder false (head ++ bytes " -> 0.5:(s1'=1) + 0.50:(s1'=2);\nendmodule\n") ≡ refused 17 61)
-      × (readUnder false (head ++ bytes " -> 1/2:(s1'=1) + 0.005:(s1'=2);\nendmodule\n") ≡ refused 17 75)
-      × (readUnder false (head ++ bytes " -> 1/13:(s1'=1) + 0.5:(s1'=2);\nendmodule\n") ≡ refused 7 61)
-      × (readUnder false (head ++ bytes " -> 1/2:(s1'=1) + 1/2:(s1'=2);\nendmodule\n") ≡ reads 1 none (to 138600 1 ∷ to 138600 2 ∷ []))
+
+-- the edges of 2026-11: no decimal is a weight, by the rule of today; by the old one a decimal is worth what it was
+pub record DecimalEdges : Type 0 where
+  -- right or wrong in value, also a whole one: 17 at its place
+  pub retired : (readOf (head ++ bytes " -> 0.5:(s1'=1) + 0.50:(s1'=2);\nendmodule\n") ≡ refused 17 61)
+      × (readOf (head ++ bytes " -> 1/2:(s1'=1) + 0.005:(s1'=2);\nendmodule\n") ≡ refused 17 75)
+      × (readOf (head ++ bytes " -> 1.0:(s1'=1);\nendmodule\n") ≡ refused 17 61)
+      × (readOf (head ++ bytes " -> 1.01:(s1'=1);\nendmodule\n") ≡ refused 17 61)
+  -- what is broken before it comes first, also a sum
+  pub by-place : (readOf (head ++ bytes " -> 1/13:(s1'=1) + 0.5:(s1'=2);\nendmodule\n") ≡ refused 7 61)
+      × (readOf (head ++ bytes " -> 1/2:(s1'=3) + 0.5:(s1'=2);\nendmodule\n") ≡ refused 5 70)
+      × (readOf (head ++ bytes " -> 1/2:(s2'=1) + 0.5:(s1'=2);\nendmodule\n") ≡ refused 6 66)
+      × (readOf (head ++ bytes " -> 0.5:(s1'=3) + 1/2:(s2'=2);\nendmodule\n") ≡ refused 17 61)
+      × (readOf (head ++ bytes " -> 1/2:(s1'=1);\n[] s1=1 -> 0.5:(s1'=1) + 1/2:(s1'=2);\nendmodule\n") ≡ refused 7 72)
+  -- a shape that is broken further on comes first, as before 5
+  pub shape-first : readOf (head ++ bytes " -> 0.5:(s1'=1) + 1/2:(s1'=2)\nendmodule\n") ≡ refused 3 87
+  pub as-before : (readUnder true (head ++ bytes " -> 0.05:(s1'=1) + 0.95:(s1'=2);\nendmodule\n") ≡ reads 1 none (to 13860 1 ∷ to 263340 2 ∷ []))
+      × (readUnder true (head ++ bytes " -> 1.00:(s1'=1) + 0/11:(s1'=2);\nendmodule\n") ≡ reads 1 none (to 277200 1 ∷ to 0 2 ∷ []))
+      × (readUnder true (head ++ bytes " -> 0.005:(s1'=1) + 0.995:(s1'=2);\nendmodule\n") ≡ refused 7 61)
+      × (readUnder true (head ++ bytes " -> 1.01:(s1'=1);\nendmodule\n") ≡ refused 7 61)
+      × (readUnder true (head ++ bytes " -> 0.500000:(s1'=1) + 1/2:(s1'=2);\nendmodule\n") ≡ refused 7 61)
+  -- a decimal in a comment is none
+  pub in-a-comment : readOf (head ++ bytes " -> 1:(s1'=1); // 0.5\nendmodule\n") ≡ reads 1 none (to 277200 1 ∷ [])

@@ -174,6 +174,15 @@ among-up-to (s ∷ ns) r m h e =
     let (a, b) = both-true (leb (s .to) m) (upTo ns m) e in
     by-test (inside s r) (among ns r) (λ k. omega (arith, within s r k .1, leb-true (s .to) m a)) (λ k. among-up-to ns r m k b) h
 
+-- by the span that a number is of
+abbrev pub EachSpan : (r : ℕ) → Type 0 → Numbers → Type 0
+EachSpan r P [] = Unit {0}
+EachSpan r P (s ∷ ns) = (s .from ≤ r → r ≤ s .to → P) × EachSpan r P ns
+
+pub by-span : {P : Type 0} (ns : Numbers) (r : ℕ) → among ns r ≡ true → EachSpan r P ns → P
+by-span [] r h f = absurd (false≢true h)
+by-span (s ∷ ns) r h f = by-test (inside s r) (among ns r) (λ k. f .0 (within s r k .0) (within s r k .1)) (λ k. by-span ns r k (f .1)) h
+
 -- a number of a span
 pub in-span : (a b r : ℕ) → a ≤ r → r ≤ b → inside (record { from = a; to = b }) r ≡ true
 in-span a b r h k = rw (le-leb a r h, le-leb r b k)

@@ -1,13 +1,13 @@
 -- What entries answer: each stage's refusals and the room's, from the one theorem of stages. Assumes nothing.
 use Prim.Native.Nat.{ℕ, _≤_}
-use mathlib.Core.Path.{_≡_, refl, sym, ap, _∙_}
+use mathlib.Core.Path.{_≡_, refl, sym, ap, _∙_, subst}
 use mathlib.Core.Logic.{_↔_, _⊎_, inl, inr}
 use mathlib.Core.List.{List}
 use native.Mathlib.Decide.{decLe}
 use native.Mathlib.Omega.{arith}
 use lib.ListN.{length}
 use Rattle.card.specs.Weight.{cardRule}
-use Rattle.card.specs.Refusals.{wrongWeight, wrongSeats, seatAboveTop, roomTooSmall}
+use Rattle.card.specs.Refusals.{wrongSeats, seatAboveTop, roomTooSmall, decimalWeight, OfCard}
 use Rattle.card.specs.Card.{Card}
 use Rattle.reading.specs.Reading.{Outcome, taken, refused, readOf}
 use Rattle.grammar.proofs.Theorems.{read-valid}
@@ -70,18 +70,18 @@ module _ (f : Card → List ℕ) (card : List ℕ) {was is : List ℕ} {a : Answ
   printed : InRoom told (Read card) (λ w. f (w .0)) was is a
   printed = in-room told-faithful e (value (card-stage card) f) refl
 
-  wrong : (r p : ℕ) → r ≤ wrongWeight → (a ≡ Refused r p) ↔ (readOf card ≡ refused r p)
+  wrong : (r p : ℕ) → OfCard r → (a ≡ Refused r p) ↔ (readOf card ≡ refused r p)
   wrong r p l = before-room told-faithful e r p (of-card (only roomTooSmall) r l refl) ↔∙ card-first card (λ (c : Card). says (f c)) (λ c. among-says (f c)) r p l refl
 
-  other : (r p : ℕ) → a ≡ Refused r p → (o : Outcome) → readOf card ≡ o → (1 ≤ r) × ((r ≤ wrongWeight) ⊎ (r ≡ roomTooSmall))
+  other : (r p : ℕ) → a ≡ Refused r p → (o : Outcome) → readOf card ≡ o → (1 ≤ r) × (OfCard r ⊎ (r ≡ roomTooSmall))
   other r p h (taken c) k = go (decLe (length (f c)) (length was))
     where
-      go : Dec (length (f c) ≤ length was) → (1 ≤ r) × ((r ≤ wrongWeight) ⊎ (r ≡ roomTooSmall))
+      go : Dec (length (f c) ≤ length was) → (1 ≤ r) × (OfCard r ⊎ (r ≡ roomTooSmall))
       go (yes l) = let z = sym (printed .done (length (f c)) .1 ((c, k), l, refl)) ∙ h in done≢refused z
       go (no l) = let z : roomTooSmall ≡ r = ap answerNumber (sym (printed .small-room (length (f c)) .1 ((c, k), omega arith, refl)) ∙ h) in (omega (arith, z), inr (sym z))
   other r p h (refused n q) k =
       let z : n ≡ r = ap answerNumber (sym (wrong n q (read-number cardRule card k) .1 k) ∙ h) in
-      (omega (arith, z, number-some cardRule card k), inl (omega (arith, z, read-number cardRule card k)))
+      (omega (arith, z, number-some cardRule card k), inl (subst OfCard z (read-number cardRule card k)))
 
   prints : Prints f card was is a
   prints = record {
@@ -107,24 +107,28 @@ module _ (card seats was is : List ℕ) (a : Answer) (e : Entered was is (panelS
   shown : InRoom told ((w : Read card) × Seated (w .0) seats) (λ z. panelOf (z .0 .0) (seatingOf (z .0 .0) seats)) was is a
   shown = in-room told-faithful e (said card seats) refl
 
-  wrong-shown : (r p : ℕ) → r ≤ wrongWeight → (a ≡ Refused r p) ↔ (readOf card ≡ refused r p)
+  wrong-shown : (r p : ℕ) → OfCard r → (a ≡ Refused r p) ↔ (readOf card ≡ refused r p)
   wrong-shown r p l = before-room told-faithful e r p (of-card (only roomTooSmall) r l refl) ↔∙ said-card card seats r p l
 
-  other-shown : (r p : ℕ) → a ≡ Refused r p → Way card seats → (1 ≤ r) × (r ≤ roomTooSmall)
+  other-shown : (r p : ℕ) → a ≡ Refused r p → Way card seats → (1 ≤ r) × ((r ≤ roomTooSmall) ⊎ (r ≡ decimalWeight))
   other-shown r p h (of-panel c k ok _) = go (decLe (length (panelOf c (seatingOf c seats))) (length was))
     where
-      go : Dec (length (panelOf c (seatingOf c seats)) ≤ length was) → (1 ≤ r) × (r ≤ roomTooSmall)
+      go : Dec (length (panelOf c (seatingOf c seats)) ≤ length was) → (1 ≤ r) × ((r ≤ roomTooSmall) ⊎ (r ≡ decimalWeight))
       go (yes l) = done≢refused (sym (shown .done (length (panelOf c (seatingOf c seats))) .1 (((c, k), ok), l, refl)) ∙ h)
-      go (no l) = let z : roomTooSmall ≡ r = ap answerNumber (sym (shown .small-room (length (panelOf c (seatingOf c seats))) .1 (((c, k), ok), omega arith, refl)) ∙ h) in (omega (arith, z), omega (arith, z))
+      go (no l) = let z : roomTooSmall ≡ r = ap answerNumber (sym (shown .small-room (length (panelOf c (seatingOf c seats))) .1 (((c, k), ok), omega arith, refl)) ∙ h) in (omega (arith, z), inl (omega (arith, z)))
   other-shown r p h (card-way n q k _) =
       let z : n ≡ r = ap answerNumber (sym (wrong-shown n q (read-number cardRule card k) .1 k) ∙ h) in
-      (omega (arith, z, number-some cardRule card k), omega (arith, z, read-number cardRule card k))
+      (omega (arith, z, number-some cardRule card k), more (subst OfCard z (read-number cardRule card k)))
+    where
+      more : OfCard r → (r ≤ roomTooSmall) ⊎ (r ≡ decimalWeight)
+      more (inl l) = inl (omega arith)
+      more (inr m) = inr m
   other-shown r p h (of-count c k n _) =
       let z : wrongSeats ≡ r = ap answerNumber (sym ((before-room told-faithful e wrongSeats 0 refl ↔∙ said-count card seats 0) .1 (c, k, n, refl)) ∙ h) in
-      (omega (arith, z), omega (arith, z))
+      (omega (arith, z), inl (omega (arith, z)))
   other-shown r p h (of-seat c k n q f _) =
       let z : seatAboveTop ≡ r = ap answerNumber (sym ((before-room told-faithful e seatAboveTop q refl ↔∙ said-seat card seats q) .1 (c, k, n, f)) ∙ h) in
-      (omega (arith, z), omega (arith, z))
+      (omega (arith, z), inl (omega (arith, z)))
 
   pub panel : Shows card seats was is a
   panel = record {

@@ -6,7 +6,7 @@ use mathlib.Core.Logic.{_↔_, _⊎_, inl}
 use mathlib.Core.List.{List}
 use native.Mathlib.Omega.{arith}
 use Rattle.card.specs.Weight.{cardRule}
-use Rattle.card.specs.Refusals.{wrongWeight, wrongSeats, seatAboveTop, roomTooSmall}
+use Rattle.card.specs.Refusals.{wrongSeats, seatAboveTop, roomTooSmall, decimalWeight, OfCard}
 use Rattle.card.specs.Card.{Card}
 use Rattle.reading.specs.Reading.{Outcome, taken, refused, readOf}
 use Rattle.reading.proofs.Numbers.{read-number}
@@ -70,7 +70,7 @@ text-tells a h =
       stands = h .stands;
       wrong-card = λ r p l m. tells-refused a some r p l ↔∙ h .wrong-card r p m;
       small-room = λ p. tells-refused a some roomTooSmall p (omega arith) ↔∙ h .small-room p;
-      no-other = number-of a some {P = λ r. (r ≤ wrongWeight) ⊎ (r ≡ roomTooSmall)} (inl (omega arith)) (λ r p e. h .no-other r p e .1);
+      no-other = number-of a some {P = λ r. OfCard r ⊎ (r ≡ roomTooSmall)} (inl (inl (omega arith))) (λ r p e. h .no-other r p e .1);
       untouched = λ z. let (r, p, e) = is-refused a some z in h .untouched r p e;
     }
 
@@ -84,7 +84,7 @@ panel-tells a h =
       wrong-count = λ p. tells-refused a some wrongSeats p (omega arith) ↔∙ h .wrong-count p;
       wrong-seat = λ p. tells-refused a some seatAboveTop p (omega arith) ↔∙ h .wrong-seat p;
       small-room = λ p. tells-refused a some roomTooSmall p (omega arith) ↔∙ h .small-room p;
-      no-other = number-of a some {P = λ r. r ≤ roomTooSmall} (omega arith) (λ r p e. h .no-other r p e .1);
+      no-other = number-of a some {P = λ r. (r ≤ roomTooSmall) ⊎ (r ≡ decimalWeight)} (inl (omega arith)) (λ r p e. h .no-other r p e .1);
       untouched = λ z. let (r, p, e) = is-refused a some z in h .untouched r p e;
     }
 
@@ -102,7 +102,7 @@ judge-tells card = go (readOf card) refl
     go (taken c) e = record {
       fine = λ v. (λ h. (c, e, sym (h .1)), λ h. (refl, sym (h .2)));
       wrong-card = λ r p l. (λ h. absurd (omega (arith, h .0)), λ h. let z : _≡_ {A = ℕ} 0 1 = taken≢refused (sym e ∙ h) in absurd (omega (arith, z)));
-      no-other = omega arith;
+      no-other = inl (omega arith);
     }
     go (refused n q) e = record {
       fine = λ v. (λ h. absurd (omega (arith, h .0, number-some cardRule card e)), λ h. taken≢refused (sym (h .1) ∙ e));

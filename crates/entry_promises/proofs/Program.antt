@@ -5,13 +5,14 @@ use mathlib.Core.Path.{_≡_, refl, ap, _∙_}
 use mathlib.Core.Bool.{Bool, true, false, _&&_}
 use mathlib.Core.Logic.{_⊎_, inl, inr}
 use mathlib.Core.List.{List, [], _∷_, _++_, map}
-use native.Mathlib.Decide.{ℕ-discrete, decLe}
+use native.Mathlib.Decide.{ℕ-discrete}
 use native.Mathlib.Omega.{arith}
 use borrow.Author.Tests.{ne-eqb, le-leb, lt-leb}
 use lib.Dec.{leb}
 use lib.ListN.{length, take}
+use Rattle.rows.proofs.Theorems.{of-card?}
 use Rattle.card.specs.Weight.{cardRule}
-use Rattle.card.specs.Refusals.{wrongWeight, wrongSeats, seatAboveTop}
+use Rattle.card.specs.Refusals.{wrongWeight, wrongSeats, seatAboveTop, decimalWeight, OfCard}
 use Rattle.card.specs.Card.{Card}
 use Rattle.card.specs.Valid.{Every}
 use Rattle.reading.specs.Reading.{taken, refused, readOf}
@@ -27,7 +28,7 @@ use Rattle.panel_wording.specs.PanelText.{panelOf}
 use Rattle.panel_said.specs.PanelSaid.{panelSaid}
 use Rattle.panel_said.proofs.Short.{panel-fits}
 use Rattle.panel_said.proofs.Theorems.{said, said-card, said-count, said-seat}
-use Rattle.entry.proofs.Stages.{among-up-to}
+use Rattle.entry.proofs.Stages.{by-span}
 use Rattle.panel_said.specs.Program.{inputBytes, lineEnd, seatsLine, cardBehind, noState, seatOf, printed, programOf, answerTo}
 use Rattle.entry_promises.specs.Entries.{Input, seatsRead, cardRead, Response, wrong-card, wrong-count, wrong-seat, the-panel}
 use Rattle.card_promises.proofs.Numbers.{number-some}
@@ -39,33 +40,37 @@ module _ (card seats : List ℕ) where
     of-seat : (c : Card) → readOf card ≡ taken c → length seats ≡ seatsDue c → (place : ℕ) → FirstWrong c seats place → panelSaid card seats ≡ refusal seatAboveTop place → Way
     of-panel : (c : Card) → readOf card ≡ taken c → Seated c seats → panelSaid card seats ≡ text (panelOf c (seatingOf c seats)) → Way
 
-  most : (r p : ℕ) → panelSaid card seats ≡ refusal r p → r ≤ seatAboveTop
-  most r p e = among-up-to (cardNumbers ++ seatsNumbers) r seatAboveTop (said card seats .numbers .number r p e) refl
+  most : (r p : ℕ) → panelSaid card seats ≡ refusal r p → (r ≤ seatAboveTop) ⊎ (r ≡ decimalWeight)
+  most r p e = by-span (cardNumbers ++ seatsNumbers) r (said card seats .numbers .number r p e) ((λ l m. inl (omega arith)), ((λ l m. inr (omega arith)), ((λ l m. inl m), tt)))
 
   pub way : Way
   way = go (panelSaid card seats) refl
     where
-      by-number : (r p : ℕ) → panelSaid card seats ≡ refusal r p → Dec (r ≤ wrongWeight) → Dec (r ≡ wrongSeats) → Way
+      by-number : (r p : ℕ) → panelSaid card seats ≡ refusal r p → Dec (OfCard r) → Dec (r ≡ wrongSeats) → Way
       by-number r p e (yes l) k = of-card r p (said-card card seats r p l .0 e) e
       by-number r p e (no l) (yes k) =
           let (c, t, n, z) = said-count card seats p .0 (e ∙ ap (λ (s : ℕ). refusal s p) k) in
           of-count c t n (said-count card seats 0 .1 (c, t, n, refl))
       by-number r p e (no l) (no k) =
-          let nine : r ≡ seatAboveTop = omega (arith, most r p e) in
+          let nine : r ≡ seatAboveTop = ninth (most r p e) in
           let h = e ∙ ap (λ (s : ℕ). refusal s p) nine in
           let (c, t, n, f) = said-seat card seats p .0 h in
           of-seat c t n p f h
+        where
+          ninth : (r ≤ seatAboveTop) ⊎ (r ≡ decimalWeight) → r ≡ seatAboveTop
+          ninth (inl m) = let o : r ≤ wrongWeight → ⊥ = λ h. l (inl h) in omega arith
+          ninth (inr m) = absurd (l (inr m))
 
       go : (s : Text) → panelSaid card seats ≡ s → Way
       go (text t) e = let (z, k) = said card seats .found .only t e in of-panel (z .0 .0) (z .0 .1) (z .1) (e ∙ ap text k)
-      go (refusal r p) e = by-number r p e (decLe r wrongWeight) (ℕ-discrete r wrongSeats)
+      go (refusal r p) e = by-number r p e (of-card? r) (ℕ-discrete r wrongSeats)
 
-  pub never-10 : (number place : ℕ) → panelSaid card seats ≡ refusal number place → (1 ≤ number) × (number ≤ seatAboveTop)
-  never-10 number place e = (go (decLe number wrongWeight), most number place e)
+  pub never-10 : (number place : ℕ) → panelSaid card seats ≡ refusal number place → (1 ≤ number) × ((number ≤ seatAboveTop) ⊎ (number ≡ decimalWeight))
+  never-10 number place e = (go (of-card? number), most number place e)
     where
-      go : Dec (number ≤ wrongWeight) → 1 ≤ number
+      go : Dec (OfCard number) → 1 ≤ number
       go (yes l) = number-some cardRule card (said-card card seats number place l .0 e)
-      go (no l) = omega arith
+      go (no l) = let m : number ≤ wrongWeight → ⊥ = λ h. l (inl h) in omega arith
 
 -- ---- the input
 

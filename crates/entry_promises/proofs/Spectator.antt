@@ -4,10 +4,10 @@ use Prim.Native.Nat.{ℕ, _≤_}
 use mathlib.Core.Path.{_≡_, sym, ap, _∙_, subst}
 use mathlib.Core.Logic.{_↔_, _⊎_, inl}
 use mathlib.Core.List.{List}
-use native.Mathlib.Decide.{decLe}
 use native.Mathlib.Omega.{arith}
 use lib.ListN.{length, drop}
-use Rattle.card.specs.Refusals.{wrongWeight, wrongSeats, seatAboveTop, roomTooSmall, wrongClasses}
+use Rattle.rows.proofs.Theorems.{of-card?}
+use Rattle.card.specs.Refusals.{wrongWeight, wrongSeats, seatAboveTop, roomTooSmall, wrongClasses, OfCard, decimalWeight}
 use Rattle.card.specs.Card.{Card}
 use Rattle.card.specs.Valid.{ValidCard}
 use Rattle.card.specs.Weight.{cardRule}
@@ -118,16 +118,16 @@ watch-tells {card} a h =
       wrong-seat = λ p. tells-refused a some seatAboveTop p (omega arith) ↔∙ h .wrong-seat p;
       wrong-list = λ p. tells-refused a some wrongClasses p (omega arith) ↔∙ h .wrong-list p;
       small-room = λ p. tells-refused a some roomTooSmall p (omega arith) ↔∙ h .small-room p;
-      no-other = number-of a some {P = λ r. (r ≤ roomTooSmall) ⊎ (r ≡ wrongClasses)} (inl (omega arith)) (h .no-other);
+      no-other = number-of a some {P = λ r. (r ≤ roomTooSmall) ⊎ (r ≡ wrongClasses) ⊎ (r ≡ decimalWeight)} (inl (omega arith)) (h .no-other);
       untouched = λ z. let (r, p, e) = is-refused a some z in h .untouched r p e;
     }
   where
     some : (r p : ℕ) → a ≡ Refused r p → 1 ≤ r
-    some r p e = go (decLe r wrongWeight)
+    some r p e = go (of-card? r)
       where
-        go : Dec (r ≤ wrongWeight) → 1 ≤ r
+        go : Dec (OfCard r) → 1 ≤ r
         go (yes l) = number-some cardRule card (h .wrong-card r p l .0 e)
-        go (no l) = omega arith
+        go (no l) = let m : r ≤ wrongWeight → ⊥ = λ h. l (inl h) in omega arith
 
 pub spectator : Spectator
 unfolding watchOf

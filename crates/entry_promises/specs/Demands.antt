@@ -35,7 +35,7 @@ use Rattle.card_promises.specs.Readings.{Readings}
 -- Demand 2 ("Marks on a card", "Shape of a card", "Texts, byte for byte", "Refusal numbers"): which bytes are a card, why others are not, and what is
 -- printed of a card
 pub record Demand2 : Type 0 where
-  -- which marks the bytes are; then when they are taken and as which card, and each refusal 1 to 7 with its place exactly under the
+  -- which marks the bytes are; then when they are taken and as which card, and each refusal 1 to 7 and 17 with its place exactly under the
   -- condition of its row
   pub marks : Markings
   pub readings : Readings

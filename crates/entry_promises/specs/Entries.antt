@@ -6,7 +6,7 @@ use mathlib.Core.Logic.{_↔_, _⊎_}
 use mathlib.Core.List.{List, [], _∷_, _++_, map}
 use lib.ListN.{length, take, drop}
 use Rattle.card.specs.Text.{bytes}
-use Rattle.card.specs.Refusals.{wrongWeight, wrongSeats, seatAboveTop, roomTooSmall}
+use Rattle.card.specs.Refusals.{wrongSeats, seatAboveTop, roomTooSmall, OfCard, decimalWeight}
 use Rattle.card.specs.Card.{Card}
 use Rattle.card.specs.Valid.{Every, ValidCard}
 use Rattle.reading.specs.Reading.{Outcome, taken, refused, readOf}
@@ -49,8 +49,8 @@ outcomePlace (refused number place) = place
 
 -- an entry that prints the text f of its card
 pub record Prints (f : Card → List ℕ) (card was is : List ℕ) (a : Answer) : Type 0 where
-  -- 1 to 7 are the card's
-  pub wrong-card : (number place : ℕ) → number ≤ wrongWeight → (a ≡ Refused number place) ↔ (readOf card ≡ refused number place)
+  -- 1 to 7 and 17 are the card's
+  pub wrong-card : (number place : ℕ) → OfCard number → (a ≡ Refused number place) ↔ (readOf card ≡ refused number place)
   -- 10 comes last, and its place is the length needed
   pub small-room : (place : ℕ) → (a ≡ Refused roomTooSmall place)
       ↔ ((c : Card) × (readOf card ≡ taken c) × (length was < length (f c)) × (place ≡ length (f c)))
@@ -59,14 +59,14 @@ pub record Prints (f : Card → List ℕ) (card was is : List ℕ) (a : Answer) 
   -- and the bytes past it are as they were
   pub stands : (c : Card) → readOf card ≡ taken c → length (f c) ≤ length was → is ≡ f c ++ drop (length (f c)) was
   -- there is no other refusal
-  pub no-other : (number place : ℕ) → a ≡ Refused number place → (1 ≤ number) × ((number ≤ wrongWeight) ⊎ (number ≡ roomTooSmall))
+  pub no-other : (number place : ℕ) → a ≡ Refused number place → (1 ≤ number) × (OfCard number ⊎ (number ≡ roomTooSmall))
   -- a refusal writes nothing
   pub untouched : (number place : ℕ) → a ≡ Refused number place → is ≡ was
   pub in-numbers : InNumbers a
 
 -- the entry that shows the panel of a card and its seats
 pub record Shows (card seats was is : List ℕ) (a : Answer) : Type 0 where
-  pub wrong-card : (number place : ℕ) → number ≤ wrongWeight → (a ≡ Refused number place) ↔ (readOf card ≡ refused number place)
+  pub wrong-card : (number place : ℕ) → OfCard number → (a ≡ Refused number place) ↔ (readOf card ≡ refused number place)
   -- 8: as many seats as the card has are due, and one byte more where it has a shared number
   pub wrong-count : (place : ℕ) → (a ≡ Refused wrongSeats place) ↔ ((c : Card) × (readOf card ≡ taken c) × (length seats ≡ seatsDue c → ⊥) × (place ≡ 0))
   -- 9: the first seat above k, or the shared number above its most
@@ -77,7 +77,7 @@ pub record Shows (card seats was is : List ℕ) (a : Answer) : Type 0 where
       ↔ ((c : Card) × (readOf card ≡ taken c) × Seated c seats × (length (panelOf c (seatingOf c seats)) ≤ length was) × (long ≡ length (panelOf c (seatingOf c seats))))
   pub stands : (c : Card) → readOf card ≡ taken c → Seated c seats → length (panelOf c (seatingOf c seats)) ≤ length was
       → is ≡ panelOf c (seatingOf c seats) ++ drop (length (panelOf c (seatingOf c seats))) was
-  pub no-other : (number place : ℕ) → a ≡ Refused number place → (1 ≤ number) × (number ≤ roomTooSmall)
+  pub no-other : (number place : ℕ) → a ≡ Refused number place → (1 ≤ number) × ((number ≤ roomTooSmall) ⊎ (number ≡ decimalWeight))
   pub untouched : (number place : ℕ) → a ≡ Refused number place → is ≡ was
   pub in-numbers : InNumbers a
 
@@ -121,9 +121,9 @@ cardRead input = cardBehind (take inputBytes input)
 abbrev pub refusalLine : ℕ → ℕ → List ℕ
 refusalLine number place = bytes "refused " ++ (decimal number ++ (bytes " " ++ (decimal place ++ bytes "\n")))
 
--- what is printed: the card's refusal 1 to 7, an 8, a 9, or the panel, which fits into the program's room
+-- what is printed: the card's refusal 1 to 7 or 17, an 8, a 9, or the panel, which fits into the program's room
 pub data Response (input : List ℕ) : Type 0 where
-  wrong-card : (number place : ℕ) → readOf (cardRead input) ≡ refused number place → 1 ≤ number → number ≤ wrongWeight
+  wrong-card : (number place : ℕ) → readOf (cardRead input) ≡ refused number place → 1 ≤ number → OfCard number
       → programOf input ≡ refusalLine number place → Response input
   wrong-count : (c : Card) → readOf (cardRead input) ≡ taken c → (length (seatsRead input) ≡ seatsDue c → ⊥)
       → programOf input ≡ refusalLine wrongSeats 0 → Response input
@@ -147,9 +147,9 @@ pub record Demand1 : Type 0 where
   -- the program: what it prints stands at the start of its room
   pub program : (input was is : List ℕ) (long : ℕ) → Printed was is (programOf input) long
       → (is ≡ programOf input ++ drop (length (programOf input)) was) × (long ≡ length (programOf input))
-  -- and it is the panel or a refusal 1 to 9: a 10 is never printed, for of no bytes and no seats is one said
+  -- and it is the panel or a refusal 1 to 9 or 17: a 10 is never printed, for of no bytes and no seats is one said
   pub responds : (input : List ℕ) → Response input
-  pub never-10 : (card seats : List ℕ) (number place : ℕ) → panelSaid card seats ≡ refusal number place → (1 ≤ number) × (number ≤ seatAboveTop)
+  pub never-10 : (card seats : List ℕ) (number place : ℕ) → panelSaid card seats ≡ refusal number place → (1 ≤ number) × ((number ≤ seatAboveTop) ⊎ (number ≡ decimalWeight))
   pub input : Input
   -- rooms that are always enough
   pub rooms : Rooms

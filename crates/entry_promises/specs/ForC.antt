@@ -5,7 +5,7 @@ use mathlib.Core.Path.{_≡_}
 use mathlib.Core.Logic.{_↔_, _⊎_}
 use mathlib.Core.List.{List, _++_}
 use lib.ListN.{length, drop}
-use Rattle.card.specs.Refusals.{wrongWeight, wrongSeats, seatAboveTop, roomTooSmall}
+use Rattle.card.specs.Refusals.{wrongSeats, seatAboveTop, roomTooSmall, OfCard, decimalWeight}
 use Rattle.card.specs.Card.{Card}
 use Rattle.reading.specs.Reading.{taken, refused, readOf}
 use Rattle.room.specs.Answer.{Text}
@@ -27,20 +27,20 @@ Answers a number value = (a .number ≡ number) × (a .value ≡ value)
 pub record JudgeTells (card : List ℕ) (a : OpenPanelAnswer) : Type 0 where
   -- 0 and 0 exactly for a card
   pub fine : (value : ℕ) → Answers a 0 value ↔ ((c : Card) × (readOf card ≡ taken c) × (value ≡ 0))
-  -- 1 to 7 and the place, and no other number
+  -- 1 to 7, or 17, and the place, and no other number
   pub wrong-card : (number place : ℕ) → 1 ≤ number → Answers a number place ↔ (readOf card ≡ refused number place)
-  pub no-other : a .number ≤ wrongWeight
+  pub no-other : OfCard (a .number)
 
 -- the text f of a card: the room `was` became `is`
 pub record TextTells (f : Card → List ℕ) (card was is : List ℕ) (a : OpenPanelAnswer) : Type 0 where
   -- 0 and the length
   pub done : (long : ℕ) → Answers a 0 long ↔ ((c : Card) × (readOf card ≡ taken c) × (length (f c) ≤ length was) × (long ≡ length (f c)))
   pub stands : (c : Card) → readOf card ≡ taken c → length (f c) ≤ length was → is ≡ f c ++ drop (length (f c)) was
-  -- 1 to 7 and the place
-  pub wrong-card : (number place : ℕ) → 1 ≤ number → number ≤ wrongWeight → Answers a number place ↔ (readOf card ≡ refused number place)
+  -- 1 to 7, or 17, and the place
+  pub wrong-card : (number place : ℕ) → 1 ≤ number → OfCard number → Answers a number place ↔ (readOf card ≡ refused number place)
   -- 10 and the length needed
   pub small-room : (place : ℕ) → Answers a roomTooSmall place ↔ ((c : Card) × (readOf card ≡ taken c) × (length was < length (f c)) × (place ≡ length (f c)))
-  pub no-other : (a .number ≤ wrongWeight) ⊎ (a .number ≡ roomTooSmall)
+  pub no-other : OfCard (a .number) ⊎ (a .number ≡ roomTooSmall)
   -- no refusal touches the room
   pub untouched : (a .number ≡ 0 → ⊥) → is ≡ was
 
@@ -50,14 +50,14 @@ pub record PanelTells (card seats was is : List ℕ) (a : OpenPanelAnswer) : Typ
       ↔ ((c : Card) × (readOf card ≡ taken c) × Seated c seats × (length (panelOf c (seatingOf c seats)) ≤ length was) × (long ≡ length (panelOf c (seatingOf c seats))))
   pub stands : (c : Card) → readOf card ≡ taken c → Seated c seats → length (panelOf c (seatingOf c seats)) ≤ length was
       → is ≡ panelOf c (seatingOf c seats) ++ drop (length (panelOf c (seatingOf c seats))) was
-  pub wrong-card : (number place : ℕ) → 1 ≤ number → number ≤ wrongWeight → Answers a number place ↔ (readOf card ≡ refused number place)
+  pub wrong-card : (number place : ℕ) → 1 ≤ number → OfCard number → Answers a number place ↔ (readOf card ≡ refused number place)
   -- 8 and 0
   pub wrong-count : (place : ℕ) → Answers a wrongSeats place ↔ ((c : Card) × (readOf card ≡ taken c) × (length seats ≡ seatsDue c → ⊥) × (place ≡ 0))
   -- 9 and the first seat above k, or place n for the shared number
   pub wrong-seat : (place : ℕ) → Answers a seatAboveTop place ↔ ((c : Card) × (readOf card ≡ taken c) × (length seats ≡ seatsDue c) × FirstWrong c seats place)
   pub small-room : (place : ℕ) → Answers a roomTooSmall place
       ↔ ((c : Card) × (readOf card ≡ taken c) × Seated c seats × (length was < length (panelOf c (seatingOf c seats))) × (place ≡ length (panelOf c (seatingOf c seats))))
-  pub no-other : a .number ≤ roomTooSmall
+  pub no-other : (a .number ≤ roomTooSmall) ⊎ (a .number ≡ decimalWeight)
   pub untouched : (a .number ≡ 0 → ⊥) → is ≡ was
 
 pub record ForC : Type 0 where

@@ -6,7 +6,7 @@ use mathlib.Core.Logic.{_↔_, _⊎_}
 use mathlib.Core.List.{List}
 use lib.ListN.{length}
 use Rattle.card.specs.Limits.{publicClasses}
-use Rattle.card.specs.Refusals.{wrongWeight, wrongSeats, seatAboveTop, roomTooSmall, wrongClasses}
+use Rattle.card.specs.Refusals.{wrongSeats, seatAboveTop, roomTooSmall, wrongClasses, OfCard, decimalWeight}
 use Rattle.card.specs.Card.{Card}
 use Rattle.card.specs.Valid.{ValidCard}
 use Rattle.reading.specs.Reading.{taken, refused as turned, readOf}
@@ -61,8 +61,8 @@ pub record WatchTells (card seats list was is : List ℕ) (a : OpenPanelAnswer) 
   pub done : (long : ℕ) → Answers a 0 long
       ↔ ((w : Watched card seats list) × (length (lineOf seats list (w .0 .0)) ≤ length was) × (long ≡ length (lineOf seats list (w .0 .0))))
   pub stands : (w : Watched card seats list) → length (lineOf seats list (w .0 .0)) ≤ length was → is ≡ onto (lineOf seats list (w .0 .0)) was
-  -- 1 to 7 and the place on the card
-  pub wrong-card : (number place : ℕ) → 1 ≤ number → number ≤ wrongWeight → Answers a number place ↔ (readOf card ≡ turned number place)
+  -- 1 to 7, or 17, and the place on the card
+  pub wrong-card : (number place : ℕ) → 1 ≤ number → OfCard number → Answers a number place ↔ (readOf card ≡ turned number place)
   -- 8 and 0; 9 and the first seat above k, or place n for the shared number
   pub wrong-count : (place : ℕ) → Answers a wrongSeats place ↔ ((c : Read card) × ((length seats ≡ seatsDue (c .0) → ⊥) × (place ≡ 0)))
   pub wrong-seat : (place : ℕ) → Answers a seatAboveTop place ↔ ((c : Read card) × ((length seats ≡ seatsDue (c .0)) × FirstWrong (c .0) seats place))
@@ -71,7 +71,7 @@ pub record WatchTells (card seats list was is : List ℕ) (a : OpenPanelAnswer) 
   -- 10 and the length needed
   pub small-room : (place : ℕ) → Answers a roomTooSmall place
       ↔ ((w : Watched card seats list) × (length was < length (lineOf seats list (w .0 .0))) × (place ≡ length (lineOf seats list (w .0 .0))))
-  pub no-other : (a .number ≤ roomTooSmall) ⊎ (a .number ≡ wrongClasses)
+  pub no-other : (a .number ≤ roomTooSmall) ⊎ (a .number ≡ wrongClasses) ⊎ (a .number ≡ decimalWeight)
   pub untouched : (a .number ≡ 0 → ⊥) → is ≡ was
 
 pub record Spectator : Type 0 where
@@ -80,7 +80,7 @@ pub record Spectator : Type 0 where
   -- the text of an accepted card, a seating and a list is the one line of the class counts
   pub shown : (card list : List ℕ) (c : Card) (x : Seating) → readOf card ≡ taken c → ValidSeating c x → ValidClasses (c .k) list
       → watchSaid card (bytesOf c x) list ≡ text (classesText (classCounts list (x .each)))
-  -- for any bytes: the card's 1 to 7, 8, 9, 13, 10, or the line, each exactly where it is due, and in this order
+  -- for any bytes: the card's 1 to 7 and 17, 8, 9, 13, 10, or the line, each exactly where it is due, and in this order
   pub watch : (card seats list was is : List ℕ) (a : Answer) → Entered was is (watchSaid card seats list) a → Watches told card seats list was is a
   pub for-c : (card seats list was is : List ℕ) (a : OpenPanelAnswer) → Told was is (watchSaid card seats list) a → WatchTells card seats list was is a
   -- a room that is always enough, because no line is longer

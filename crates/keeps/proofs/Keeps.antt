@@ -25,6 +25,8 @@ use Rattle.tablet.proofs.open_panel_box_find_with.Met.{met as box-find-with-for
 use Rattle.tablet.proofs.open_panel_box_write.Met.{met as box-write-for-c-met}
 use Rattle.tablet.proofs.open_panel_mend.Met.{met as mend-for-c-met}
 use Rattle.mend.proofs.mend.Met.{met as mend-met}
+use Rattle.convert.proofs.convert.Met.{met as convert-met}
+use Rattle.tablet.proofs.open_panel_convert.Met.{met as convert-for-c-met}
 use Rattle.entries.proofs.watch.Met.{met as watch-met}
 use Rattle.tablet.proofs.open_panel_watch.Met.{met as watch-for-c-met}
 use Rattle.entries.proofs.first_move.Met.{met as first-move-met}
@@ -49,6 +51,7 @@ keeps = record {
   find-with = λ M. find-with-met;
   write-deck = λ M. write-deck-met;
   mend = λ M. mend-met;
+  convert = λ M. convert-met;
   judge-for-c = λ M. judge-for-c-met;
   write-for-c = λ M. write-for-c-met;
   reduce-for-c = λ M. reduce-for-c-met;
@@ -59,6 +62,7 @@ keeps = record {
   box-find-with-for-c = λ M. box-find-with-for-c-met;
   box-write-for-c = λ M. box-write-for-c-met;
   mend-for-c = λ M. mend-for-c-met;
+  convert-for-c = λ M. convert-for-c-met;
   watch = λ M. watch-met;
   watch-for-c = λ M. watch-for-c-met;
   first-move = λ M. first-move-met;

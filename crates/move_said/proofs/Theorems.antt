@@ -2,6 +2,7 @@
 -- is the first statement that can be taken, or nobody on a stuck seating. Assumes nothing.
 use Prim.Native.Nat.{ℕ}
 use mathlib.Core.Path.{_≡_, refl, sym, ap, _∙_}
+use mathlib.Core.Logic.{_⊎_, inl, inr}
 use mathlib.Core.List.{List, _++_}
 use mathlib.Core.Option.{Option, none, some}
 use native.Mathlib.Omega.{arith}
@@ -10,7 +11,7 @@ use Rattle.card.specs.Card.{Card}
 use Rattle.entry.specs.Said.{Said, says, refused}
 use Rattle.entry.specs.Contract.{Enters, lentNothing, Faithful}
 use Rattle.entry.specs.Stage.{Stage}
-use Rattle.entry.proofs.Stages.{among-up-to, value, followed, beyond, last}
+use Rattle.entry.proofs.Stages.{value, followed, beyond, last, by-span}
 use Rattle.entry.proofs.Exactly.{_↔∙_}
 use Rattle.entry.proofs.Entries.{says-exactly, refused-exactly}
 use Rattle.seating.specs.Judged.{seatingOf, Seated}
@@ -48,7 +49,8 @@ module _ (card seats : List ℕ) where
         (λ h. let (z, at) = said .found .only none h in (z .0, (z .1, nobody-exactly (z .0 .0) (seatingOf (z .0 .0) seats) .0 (sym at)))),
         (λ h. said .found .each (h .0, h .1 .0) ∙ ap says (nobody-exactly (h .0 .0) (seatingOf (h .0 .0) seats) .1 (h .1 .1))),
       );
-      no-other = λ r p h. among-up-to (cardNumbers ++ seatsNumbers) r seatAboveTop (said .numbers .number r p (refused-exactly faithful e r p .0 h)) refl;
+      no-other = λ r p h. by-span (cardNumbers ++ seatsNumbers) r (said .numbers .number r p (refused-exactly faithful e r p .0 h))
+          ((λ l m. inl (omega arith)), ((λ l m. inr (omega arith)), ((λ l m. inl m), tt)));
     }
 
 -- ---- no two things said have the same answer

@@ -2,11 +2,11 @@
 -- ("2026-07. Is anyone able to move?"). Assumes nothing.
 use Prim.Native.Nat.{ℕ, _≤_}
 use mathlib.Core.Path.{_≡_}
-use mathlib.Core.Logic.{_↔_}
+use mathlib.Core.Logic.{_↔_, _⊎_}
 use mathlib.Core.List.{List}
 use mathlib.Core.Option.{Option, none, some}
 use lib.ListN.{length}
-use Rattle.card.specs.Refusals.{wrongWeight, wrongSeats, seatAboveTop}
+use Rattle.card.specs.Refusals.{wrongSeats, seatAboveTop, OfCard, decimalWeight}
 use Rattle.card.specs.Card.{Card}
 use Rattle.reading.specs.Reading.{refused as turned, readOf}
 use Rattle.meaning.specs.Seats.{Stuck}
@@ -31,7 +31,7 @@ moveSaid card seats = do
 -- ---- what is then answered, refusal by refusal, in the order in which they are judged
 
 pub record Moves {T : Type 0} (tell : Said (Option ℕ) → T) (card seats : List ℕ) (a : T) : Type 0 where
-  pub wrong-card : (number place : ℕ) → number ≤ wrongWeight → (a ≡ tell (refused number place)) ↔ (readOf card ≡ turned number place)
+  pub wrong-card : (number place : ℕ) → OfCard number → (a ≡ tell (refused number place)) ↔ (readOf card ≡ turned number place)
   pub wrong-count : (place : ℕ) → (a ≡ tell (refused wrongSeats place)) ↔ ((c : Read card) × ((length seats ≡ seatsDue (c .0) → ⊥) × (place ≡ 0)))
   pub wrong-seat : (place : ℕ) → (a ≡ tell (refused seatAboveTop place)) ↔ ((c : Read card) × ((length seats ≡ seatsDue (c .0)) × FirstWrong (c .0) seats place))
   -- some seat may take this statement, and none may take one before it
@@ -39,4 +39,4 @@ pub record Moves {T : Type 0} (tell : Said (Option ℕ) → T) (card seats : Lis
   -- nobody exactly where the seating is stuck
   pub nobody : (a ≡ tell (says none)) ↔ ((c : Read card) × (Seated (c .0) seats × Stuck (c .0) (seatingOf (c .0) seats)))
   -- there is no other refusal
-  pub no-other : (number place : ℕ) → a ≡ tell (refused number place) → number ≤ seatAboveTop
+  pub no-other : (number place : ℕ) → a ≡ tell (refused number place) → (number ≤ seatAboveTop) ⊎ (number ≡ decimalWeight)

@@ -21,13 +21,13 @@ use Rattle.evenings.specs.Leader.{leaderCard}
 use Rattle.odds_said.specs.OddsSaid.{oddsSaid}
 use Rattle.edges.specs.Edges.{textA, modulesFrom}
 
--- source 000's leader election, as it is printed there
+-- source 000's leader election, as it is printed there but for its decimals, which are fractions
 abbrev pub leaderText : List ℕ
 leaderText =
     bytes "nondeterministic\nmodule process1\ns1 : [0..2] init 2;\n[] s1=2 -> 1:(s1'=0);\n"
-    ++ bytes "[] s1=0 & (s1!=2 & s2!=2 & s3!=2) & (s1=0 & s2=0 & s3=0) ->\n0.5:(s1'=0) + 0.5:(s1'=1);\n"
+    ++ bytes "[] s1=0 & (s1!=2 & s2!=2 & s3!=2) & (s1=0 & s2=0 & s3=0) ->\n1/2:(s1'=0) + 1/2:(s1'=1);\n"
     ++ bytes "[] s1=0 & (s1!=2 & s2!=2 & s3!=2) & (s2=1 | s3=1) -> 1:(s1'=0);\n"
-    ++ bytes "[] s1=1 & (s1!=2 & s2!=2 & s3!=2) & (s2=1 | s3=1) ->\n0.5:(s1'=0) + 0.5:(s1'=1);\n"
+    ++ bytes "[] s1=1 & (s1!=2 & s2!=2 & s3!=2) & (s2=1 | s3=1) ->\n1/2:(s1'=0) + 1/2:(s1'=1);\n"
     ++ bytes "[] s1=1 & (s1!=2 & s2!=2 & s3!=2) & (s2=0 & s3=0) -> 1:(s1'=1);\nendmodule\n"
     ++ bytes "module process2 = process1 [ s1 = s2, s2 = s1 ] endmodule\nmodule process3 = process1 [ s1 = s3, s3 = s1 ] endmodule\n"
 

@@ -5,12 +5,11 @@ use mathlib.Core.Path.{_≡_, refl, sym, ap, _∙_}
 use mathlib.Core.Bool.{Bool, true, false, _&&_, and-eq-true-iff, false≢true}
 use mathlib.Core.Logic.{_↔_, _⊎_, inl, inr}
 use mathlib.Core.List.{List, [], _∷_, _++_}
-use native.Mathlib.Decide.{decLe}
 use native.Mathlib.Omega.{arith}
 use borrow.Author.Tests.{leb-true, leb-false, le-leb, lt-leb, eqb-true, eq-eqb}
 use lib.Dec.{eqb, leb}
 use lib.ListN.{length}
-use Rattle.card.specs.Refusals.{tooLong, notDue, wrongSeats, seatAboveTop}
+use Rattle.card.specs.Refusals.{tooLong, notDue, wrongSeats, seatAboveTop, decimalWeight}
 use Rattle.card.specs.Card.{Card}
 use Rattle.card.specs.Valid.{valuesOf}
 use Rattle.meaning.specs.Seats.{counted}
@@ -18,7 +17,7 @@ use Rattle.entry.specs.Said.{Said, says, refused, _>>=_, unless}
 use Rattle.entry.specs.Numbers.{Numbers, _to_, only, among}
 use Rattle.entry.specs.Contract.{Ends, Two, two, Enters, inRows, Faithful}
 use Rattle.entry.specs.Stage.{Stage}
-use Rattle.entry.proofs.Stages.{in-span, apart-out, among-up-to, refused-unless, itself, test, value, followed, its, beyond, last}
+use Rattle.entry.proofs.Stages.{in-span, apart-out, refused-unless, itself, test, value, followed, its, beyond, last, by-span}
 use Rattle.entry.proofs.Exactly.{_↔∙_}
 use Rattle.entry.proofs.Entries.{ends-left, answer-refused, answer-says, refused-left}
 use Rattle.seating.specs.Judged.{seatingOf, Seated}
@@ -154,29 +153,9 @@ module _ (card question seats : List ℕ) (m : ℕ) (a : Aim) (long long₁ : �
 
   -- no other number
   other : (r p : ℕ) → oddsSaid card question seats m a long long₁ ≡ refused r p
-      → ((r ≤ seatAboveTop) ⊎ ((tooManyVectors ≤ r) × (r ≤ wrongRow))) ⊎ ((inQuestion tooLong ≤ r) × (r ≤ inQuestion notDue))
-  other r p e = go (decLe r seatAboveTop) (decLe tooManyVectors r) (decLe r wrongRow) (decLe (inQuestion tooLong) r)
-    where
-      all : Numbers
-      all = cardNumbers ++ (questionNumbers ++ (seatsNumbers ++ rowNumbers))
-
-      in-all : among all r ≡ true
-      in-all = said .numbers .number r p e
-
-      none : among all r ≡ false → ⊥
-      none h = false≢true (sym h ∙ in-all)
-
-      go : Dec (r ≤ seatAboveTop) → Dec (tooManyVectors ≤ r) → Dec (r ≤ wrongRow) → Dec (inQuestion tooLong ≤ r)
-          → ((r ≤ seatAboveTop) ⊎ ((tooManyVectors ≤ r) × (r ≤ wrongRow))) ⊎ ((inQuestion tooLong ≤ r) × (r ≤ inQuestion notDue))
-      go (yes l) b c d = inl (inl l)
-      go (no l) (yes b) (yes c) d = inl (inr (b, c))
-      go (no l) (no b) c d =
-          let between : among ((suc seatAboveTop to 13) ∷ []) r ≡ true = rw (in-span (suc seatAboveTop) 13 r (omega arith) (omega arith)) in
-          absurd (none (apart-out ((suc seatAboveTop to 13) ∷ []) all r refl between))
-      go (no l) (yes b) (no c) (yes d) = inr (d, among-up-to all r (inQuestion notDue) in-all refl)
-      go (no l) (yes b) (no c) (no d) =
-          let between : among ((suc wrongRow to 20) ∷ []) r ≡ true = rw (in-span (suc wrongRow) 20 r (omega arith) (omega arith)) in
-          absurd (none (apart-out ((suc wrongRow to 20) ∷ []) all r refl between))
+      → ((r ≤ seatAboveTop) ⊎ ((tooManyVectors ≤ r) × (r ≤ decimalWeight))) ⊎ ((inQuestion tooLong ≤ r) × (r ≤ inQuestion notDue))
+  other r p e = by-span (cardNumbers ++ (questionNumbers ++ (seatsNumbers ++ rowNumbers))) r (said .numbers .number r p e)
+      ((λ l m. inl (inl (omega arith))), ((λ l m. inl (inr (omega arith, m))), ((λ l m. inr (l, m)), ((λ l m. inl (inl m)), ((λ l m. inl (inr (l, omega arith))), ((λ l m. inl (inr (omega arith, omega arith))), ((λ l m. inl (inr (omega arith, omega arith))), tt)))))))
 
 -- ---- the promise
 

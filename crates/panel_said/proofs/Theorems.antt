@@ -1,12 +1,12 @@
--- What is said of a card and its seats, stage by stage: refusals 1 to 7 are the reader's; 8 and 9 are given exactly where the card is taken and
+-- What is said of a card and its seats, stage by stage: refusals 1 to 7 and 17 are the reader's; 8 and 9 are given exactly where the card is taken and
 -- the seats are no seating of it; and else the panel's text is said. Assumes nothing.
-use Prim.Native.Nat.{ℕ, _≤_}
+use Prim.Native.Nat.{ℕ}
 use mathlib.Core.Path.{_≡_, refl}
 use mathlib.Core.Bool.{false}
 use mathlib.Core.Logic.{_↔_}
 use mathlib.Core.List.{List, _++_}
 use lib.ListN.{length}
-use Rattle.card.specs.Refusals.{wrongWeight, wrongSeats, seatAboveTop}
+use Rattle.card.specs.Refusals.{wrongSeats, seatAboveTop, OfCard}
 use Rattle.card.specs.Card.{Card}
 use Rattle.reading.specs.Reading.{taken, refused as turned, readOf}
 use Rattle.entry.specs.Said.{refused, _>>=_}
@@ -30,7 +30,7 @@ module _ (card seats : List ℕ) where
   unfolding panelSaid
   said = followed (card-stage card) (shownSaid seats) (λ c. shown c .numbers) (λ w. shown (w .0) .found)
 
-  pub said-card : (r p : ℕ) → r ≤ wrongWeight → (panelSaid card seats ≡ refused r p) ↔ (readOf card ≡ turned r p)
+  pub said-card : (r p : ℕ) → OfCard r → (panelSaid card seats ≡ refused r p) ↔ (readOf card ≡ turned r p)
   unfolding panelSaid
   said-card r p h = card-first card (shownSaid seats) (λ c. shown c .numbers) r p h refl
 

@@ -39,7 +39,7 @@ use Rattle.promises.specs.Decks.{BoxEntries}
 
 -- ---- bytes and decks
 
-deck-malformed : (deck : List ℕ) (p : ℕ) → (deckOf deck ≡ refused malformedDeck p) ↔ MalformedAt deck p
+pub deck-malformed : (deck : List ℕ) (p : ℕ) → (deckOf deck ≡ refused malformedDeck p) ↔ MalformedAt deck p
 deck-malformed deck p = last (rows-stage deck) (λ (rows : List Row). map (entryOf deck) rows) malformedDeck p ↔∙ rows-malformed deck p
 
 deck-number : (deck : List ℕ) (r p : ℕ) → deckOf deck ≡ refused r p → r ≡ malformedDeck

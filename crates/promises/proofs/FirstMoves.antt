@@ -2,12 +2,12 @@
 -- seats. Assumes nothing.
 use Prim.Native.Nat.{ℕ, _≤_}
 use mathlib.Core.Path.{_≡_, refl, sym, ap, _∙_, subst}
-use mathlib.Core.Logic.{_↔_}
+use mathlib.Core.Logic.{_↔_, _⊎_, inl}
 use mathlib.Core.List.{List, [], _∷_}
 use mathlib.Core.Option.{Option, none, some}
-use native.Mathlib.Decide.{decLe}
 use native.Mathlib.Omega.{arith}
-use Rattle.card.specs.Refusals.{wrongWeight, wrongSeats, seatAboveTop}
+use Rattle.rows.proofs.Theorems.{of-card?}
+use Rattle.card.specs.Refusals.{wrongWeight, wrongSeats, seatAboveTop, OfCard, decimalWeight}
 use Rattle.card.specs.Card.{nondeterministic, Card}
 use Rattle.card.specs.Weight.{cardRule}
 use Rattle.reading.specs.Reading.{Outcome, taken, refused as turned, readOf}
@@ -109,12 +109,12 @@ module _ (s : Said (Option ℕ)) where
         forth (says none) h k e = refl
         forth (refused n p) h k e = absurd (omega (arith, e .0, h n p refl))
 
-  number-most : ((number place : ℕ) → s ≡ refused number place → number ≤ seatAboveTop) → movedNumbers s .number ≤ seatAboveTop
-  number-most h = go s h
+  number-of : {P : ℕ → Type 0} → P 0 → ((number place : ℕ) → s ≡ refused number place → P number) → P (movedNumbers s .number)
+  number-of {P} z h = go s h
     where
-      go : (s : Said (Option ℕ)) → ((number place : ℕ) → s ≡ refused number place → number ≤ seatAboveTop) → movedNumbers s .number ≤ seatAboveTop
-      go (says (some q)) h = omega arith
-      go (says none) h = omega arith
+      go : (s : Said (Option ℕ)) → ((number place : ℕ) → s ≡ refused number place → P number) → P (movedNumbers s .number)
+      go (says (some q)) h = z
+      go (says none) h = z
       go (refused n p) h = h n p refl
 
 move-tells : (card seats : List ℕ) → MoveTells card seats (movedNumbers (moveSaid card seats))
@@ -125,7 +125,7 @@ move-tells card seats =
       wrong-card = λ r p l m. tells-refused s r p l ↔∙ h .wrong-card r p m;
       wrong-count = λ p. tells-refused s wrongSeats p (omega arith) ↔∙ h .wrong-count p;
       wrong-seat = λ p. tells-refused s seatAboveTop p (omega arith) ↔∙ h .wrong-seat p;
-      no-other = number-most s (h .no-other);
+      no-other = number-of s {P = λ r. (r ≤ seatAboveTop) ⊎ (r ≡ decimalWeight)} (inl (omega arith)) (h .no-other);
     }
   where
     s : Said (Option ℕ)
@@ -135,11 +135,11 @@ move-tells card seats =
     h = answers card seats (λ t u e. e)
 
     some-number : (r p : ℕ) → s ≡ refused r p → 1 ≤ r
-    some-number r p e = go (decLe r wrongWeight)
+    some-number r p e = go (of-card? r)
       where
-        go : Dec (r ≤ wrongWeight) → 1 ≤ r
+        go : Dec (OfCard r) → 1 ≤ r
         go (yes l) = number-some cardRule card (h .wrong-card r p l .0 e)
-        go (no l) = omega arith
+        go (no l) = let m : r ≤ wrongWeight → ⊥ = λ h. l (inl h) in omega arith
 
     placed : (q : ℕ) → s ≡ says (some q) → 1 ≤ q
     placed q e = omega (arith, h .statement q .0 e .1 .1 .place)

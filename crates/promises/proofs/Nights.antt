@@ -3,14 +3,14 @@ use Prim.Native.Nat.{ℕ, zero, suc, _-_, _≤_}
 use mathlib.Core.Path.{_≡_, refl, sym, ap, _∙_, subst}
 use mathlib.Core.Logic.{_⊎_, inl}
 use mathlib.Core.List.{List, [], _∷_, _++_, map}
-use native.Mathlib.Decide.{decLe}
 use native.Mathlib.Omega.{arith}
 use borrow.Author.Tests.{ne-eqb}
 use lib.ListN.{length, getD, length-map, length-append}
+use Rattle.rows.proofs.Theorems.{of-card?}
 use Rattle.card.specs.Laid.{zeros, padded}
 use Rattle.card.proofs.Filling.{length-zeros}
 use Rattle.card.specs.Weight.{cardRule}
-use Rattle.card.specs.Refusals.{wrongWeight, wrongSeats, seatAboveTop}
+use Rattle.card.specs.Refusals.{wrongWeight, wrongSeats, seatAboveTop, OfCard}
 use Rattle.card.specs.Card.{Card}
 use Rattle.reading.specs.Reading.{taken, readOf}
 use Rattle.meaning.specs.Position.{Position, sharedValues}
@@ -118,16 +118,16 @@ module _ (card question seats : List ℕ) (m : ℕ) (aim : Aim) (was is : Two (L
         too-many-vectors = λ p. tells-refused a some tooManyVectors p (omega arith) ↔∙ h .too-many-vectors p;
         too-many-nights = λ p. tells-refused a some tooManyNights p (omega arith) ↔∙ h .too-many-nights p;
         wrong-rows = λ p. tells-refused a some wrongRow p (omega arith) ↔∙ h .wrong-rows p;
-        no-other = number-of a some {P = λ r. ((r ≤ seatAboveTop) ⊎ ((14 ≤ r) × (r ≤ 16))) ⊎ ((21 ≤ r) × (r ≤ 26))} (inl (inl (omega arith))) (h .no-other);
+        no-other = number-of a some {P = λ r. ((r ≤ seatAboveTop) ⊎ ((14 ≤ r) × (r ≤ 17))) ⊎ ((21 ≤ r) × (r ≤ 26))} (inl (inl (omega arith))) (h .no-other);
         untouched = λ z. let (r, p, e) = is-refused a some z in h .untouched r p e;
       }
     where
       some : (r p : ℕ) → a ≡ Refused r p → 1 ≤ r
-      some r p e = go (decLe r wrongWeight)
+      some r p e = go (of-card? r)
         where
-          go : Dec (r ≤ wrongWeight) → 1 ≤ r
+          go : Dec (OfCard r) → 1 ≤ r
           go (yes l) = number-some cardRule card (h .wrong-card r p l .0 e)
-          go (no l) = omega arith
+          go (no l) = let m : r ≤ wrongWeight → ⊥ = λ h. l (inl h) in omega arith
 
 -- ---- seats in another order: only their counts are asked for
 

@@ -4,11 +4,11 @@ use mathlib.Core.Path.{_≡_, refl, sym, ap, _∙_, subst}
 use mathlib.Core.Bool.{Bool, true, false}
 use mathlib.Core.Logic.{_↔_, _⊎_, inl}
 use mathlib.Core.List.{List}
-use native.Mathlib.Decide.{decLe}
 use native.Mathlib.Omega.{arith}
 use lib.ListN.{length}
+use Rattle.rows.proofs.Theorems.{of-card?}
 use Rattle.card.specs.Weight.{cardRule}
-use Rattle.card.specs.Refusals.{wrongWeight, wrongSeats, seatAboveTop}
+use Rattle.card.specs.Refusals.{wrongWeight, wrongSeats, seatAboveTop, OfCard, decimalWeight}
 use Rattle.card.specs.Card.{atom, Card}
 use Rattle.card.specs.Formulas.{over}
 use Rattle.card.specs.Valid.{ValidCard}
@@ -124,18 +124,18 @@ ask-tells card question seats h =
       wrong-question = λ r p l m. tells-refused s r p (omega arith) ↔∙ h .wrong-question r p l m;
       wrong-count = λ p. tells-refused s wrongSeats p (omega arith) ↔∙ h .wrong-count p;
       wrong-seat = λ p. tells-refused s seatAboveTop p (omega arith) ↔∙ h .wrong-seat p;
-      no-other = number-of s {P = λ r. (r ≤ seatAboveTop) ⊎ ((21 ≤ r) × (r ≤ 26))} (inl (omega arith)) (h .no-other);
+      no-other = number-of s {P = λ r. ((r ≤ seatAboveTop) ⊎ (r ≡ decimalWeight)) ⊎ ((21 ≤ r) × (r ≤ 26))} (inl (inl (omega arith))) (h .no-other);
     }
   where
     s : Said Bool
     s = askSaid card question seats
 
     some : (r p : ℕ) → s ≡ refused r p → 1 ≤ r
-    some r p e = go (decLe r wrongWeight)
+    some r p e = go (of-card? r)
       where
-        go : Dec (r ≤ wrongWeight) → 1 ≤ r
+        go : Dec (OfCard r) → 1 ≤ r
         go (yes l) = number-some cardRule card (h .wrong-card r p l .0 e)
-        go (no l) = omega arith
+        go (no l) = let m : r ≤ wrongWeight → ⊥ = λ h. l (inl h) in omega arith
 
 answers : (card question seats : List ℕ) → Asks asSaid card question seats (askSaid card question seats)
 answers card question seats = asks card question seats (λ s t e. e) (record { answers = told (askSaid card question seats); leaves = refl })

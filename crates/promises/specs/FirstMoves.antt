@@ -2,11 +2,11 @@
 -- are in `moving/specs` and `move_said/specs`. Assumes nothing.
 use Prim.Native.Nat.{ℕ, _≤_}
 use mathlib.Core.Path.{_≡_}
-use mathlib.Core.Logic.{_↔_}
+use mathlib.Core.Logic.{_↔_, _⊎_}
 use mathlib.Core.List.{List, [], _∷_, _++_}
 use mathlib.Core.Option.{none, some}
 use lib.ListN.{length}
-use Rattle.card.specs.Refusals.{wrongWeight, wrongSeats, seatAboveTop}
+use Rattle.card.specs.Refusals.{wrongSeats, seatAboveTop, OfCard, decimalWeight}
 use Rattle.card.specs.Card.{nondeterministic, Statement, Card}
 use Rattle.reading.specs.Reading.{taken, refused as turned, readOf}
 use Rattle.meaning.specs.Position.{Position}
@@ -61,16 +61,16 @@ pub record MoveTells (card seats : List ℕ) (a : OpenPanelAnswer) : Type 0 wher
   pub statement : (q : ℕ) → 1 ≤ q → Answers a 0 q ↔ ((c : Read card) × (Seated (c .0) seats × FirstTaken (c .0 .statements) (seatingOf (c .0) seats) q))
   -- 0 and 0 for nobody
   pub nobody : Answers a 0 0 ↔ ((c : Read card) × (Seated (c .0) seats × Stuck (c .0) (seatingOf (c .0) seats)))
-  -- 1 to 7 and the place on the card
-  pub wrong-card : (number place : ℕ) → 1 ≤ number → number ≤ wrongWeight → Answers a number place ↔ (readOf card ≡ turned number place)
+  -- 1 to 7, or 17, and the place on the card
+  pub wrong-card : (number place : ℕ) → 1 ≤ number → OfCard number → Answers a number place ↔ (readOf card ≡ turned number place)
   -- 8 and 0; 9 and the first seat above k, or place n for the shared number
   pub wrong-count : (place : ℕ) → Answers a wrongSeats place ↔ ((c : Read card) × ((length seats ≡ seatsDue (c .0) → ⊥) × (place ≡ 0)))
   pub wrong-seat : (place : ℕ) → Answers a seatAboveTop place ↔ ((c : Read card) × ((length seats ≡ seatsDue (c .0)) × FirstWrong (c .0) seats place))
-  pub no-other : a .number ≤ seatAboveTop
+  pub no-other : (a .number ≤ seatAboveTop) ⊎ (a .number ≡ decimalWeight)
 
 pub record FirstMoves : Type 0 where
   pub meaning : MoveMeaning
-  -- for any bytes: the card's 1 to 7, 8, 9, a statement or nobody, each exactly where it is due, and in this order
+  -- for any bytes: the card's 1 to 7 and 17, 8, 9, a statement or nobody, each exactly where it is due, and in this order
   pub answers : (card seats : List ℕ) (a : FirstMove) → a ≡ moved (moveSaid card seats) → Moves moved card seats a
   pub for-c : (card seats : List ℕ) (a : OpenPanelAnswer) → a ≡ movedNumbers (moveSaid card seats) → MoveTells card seats a
   -- its refusals are the panel's, with their places

@@ -6,4 +6,5 @@ pub mod Elevenths
 pub mod FirstMoves
 pub mod Nights
 pub mod Mendings
+pub mod Conversions
 pub mod DayAndNight

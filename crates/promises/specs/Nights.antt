@@ -7,7 +7,7 @@ use mathlib.Core.Logic.{_↔_, _⊎_}
 use mathlib.Core.List.{List, []}
 use lib.ListN.{length, getD}
 use Rattle.card.specs.Limits.{unit}
-use Rattle.card.specs.Refusals.{wrongWeight, wrongSeats, seatAboveTop}
+use Rattle.card.specs.Refusals.{wrongSeats, seatAboveTop, OfCard}
 use Rattle.card.specs.Card.{Card}
 use Rattle.card.specs.Valid.{Every}
 use Rattle.card.specs.Laid.{zeros}
@@ -76,8 +76,8 @@ pub record OddsTells (card question seats : List ℕ) (m : ℕ) (aim : Aim) (was
   -- the first row holds round m, the second the round before it, or zeros
   pub first-holds : (c : Read card) (q : Understood question (c .0)) → Fits (c .0) seats m was → is .first ≡ roundRow (c .0) (q .0) aim m
   pub second-holds : (c : Read card) (q : Understood question (c .0)) → Fits (c .0) seats m was → is .second ≡ rowBefore (c .0) (q .0) aim m
-  -- 1 to 7 and the place on the card; 21 to 26 and the place in the question
-  pub wrong-card : (number place : ℕ) → 1 ≤ number → number ≤ wrongWeight → Answers a number place ↔ (readOf card ≡ turned number place)
+  -- 1 to 7, or 17, and the place on the card; 21 to 26 and the place in the question
+  pub wrong-card : (number place : ℕ) → 1 ≤ number → OfCard number → Answers a number place ↔ (readOf card ≡ turned number place)
   pub wrong-question : (number place : ℕ) → 21 ≤ number → number ≤ 26
       → Answers a number place ↔ ((c : Read card) × (questionSaid question (c .0) ≡ refused number place))
   -- 8 and 0; 9 and the first seat above k, or place n for the shared number
@@ -93,7 +93,7 @@ pub record OddsTells (card question seats : List ℕ) (m : ℕ) (aim : Aim) (was
   pub wrong-rows : (place : ℕ) → Answers a 16 place
       ↔ ((c : Read card) × (Understood question (c .0) × (Seated (c .0) seats × ((length (positionsOf (c .0)) ≤ mostVectors)
       × ((m ≤ mostNights) × (((length (was .first) ≡ mostVectors) × (length (was .second) ≡ mostVectors) → ⊥) × (place ≡ 0)))))))
-  pub no-other : ((a .number ≤ seatAboveTop) ⊎ ((14 ≤ a .number) × (a .number ≤ 16))) ⊎ ((21 ≤ a .number) × (a .number ≤ 26))
+  pub no-other : ((a .number ≤ seatAboveTop) ⊎ ((14 ≤ a .number) × (a .number ≤ 17))) ⊎ ((21 ≤ a .number) × (a .number ≤ 26))
   -- no refusal touches the rows
   pub untouched : (a .number ≡ 0 → ⊥) → is ≡ was
 

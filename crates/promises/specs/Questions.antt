@@ -6,7 +6,7 @@ use mathlib.Core.Bool.{Bool, true}
 use mathlib.Core.Logic.{_↔_, _⊎_}
 use mathlib.Core.List.{List, [], _∷_}
 use lib.ListN.{length}
-use Rattle.card.specs.Refusals.{tooLong, outsideRules, outOfShape, pastLimit, aboveTop, notDue, wrongWeight, wrongSeats, seatAboveTop}
+use Rattle.card.specs.Refusals.{tooLong, outsideRules, outOfShape, pastLimit, aboveTop, notDue, wrongSeats, seatAboveTop, OfCard, decimalWeight}
 use Rattle.card.specs.Card.{everyone, Sign, all, Relation, is, group, sharedIs, atom, Card}
 use Rattle.card.specs.Formulas.{over}
 use Rattle.card.specs.Valid.{ValidCard}
@@ -95,8 +95,8 @@ pub record AskTells (card question seats : List ℕ) (a : OpenPanelAnswer) : Typ
   -- 0, with 1 for yes and 0 for no
   pub answered : (yes : Bool) → Answers a 0 (yes-no yes)
       ↔ ((c : Read card) × ((q : Understood question (c .0)) × (Seated (c .0) seats × (yes ≡ holdsOn (seatingOf (c .0) seats) (q .0)))))
-  -- 1 to 7 and the place on the card
-  pub wrong-card : (number place : ℕ) → 1 ≤ number → number ≤ wrongWeight → Answers a number place ↔ (readOf card ≡ turned number place)
+  -- 1 to 7, or 17, and the place on the card
+  pub wrong-card : (number place : ℕ) → 1 ≤ number → OfCard number → Answers a number place ↔ (readOf card ≡ turned number place)
   -- 21 to 26 and the place in the question
   pub wrong-question : (number place : ℕ) → 21 ≤ number → number ≤ 26
       → Answers a number place ↔ ((c : Read card) × (questionSaid question (c .0) ≡ refused number place))
@@ -105,11 +105,11 @@ pub record AskTells (card question seats : List ℕ) (a : OpenPanelAnswer) : Typ
       ↔ ((c : Read card) × (Understood question (c .0) × ((length seats ≡ seatsDue (c .0) → ⊥) × (place ≡ 0))))
   pub wrong-seat : (place : ℕ) → Answers a seatAboveTop place
       ↔ ((c : Read card) × (Understood question (c .0) × ((length seats ≡ seatsDue (c .0)) × FirstWrong (c .0) seats place)))
-  pub no-other : (a .number ≤ seatAboveTop) ⊎ ((21 ≤ a .number) × (a .number ≤ 26))
+  pub no-other : ((a .number ≤ seatAboveTop) ⊎ (a .number ≡ decimalWeight)) ⊎ ((21 ≤ a .number) × (a .number ≤ 26))
 
 pub record Questions : Type 0 where
   pub meaning : QuestionMeaning
   pub readings : QuestionReadings
-  -- for any bytes: the card's 1 to 7, the question's 21 to 26, 8, 9, yes or no, each exactly where it is due, and in this order
+  -- for any bytes: the card's 1 to 7 and 17, the question's 21 to 26, 8, 9, yes or no, each exactly where it is due, and in this order
   pub answers : (card question seats : List ℕ) → Asks asSaid card question seats (askSaid card question seats)
   pub for-c : (card question seats : List ℕ) (a : OpenPanelAnswer) → a ≡ answeredNumbers (askSaid card question seats) → AskTells card question seats a

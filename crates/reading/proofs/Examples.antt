@@ -43,11 +43,11 @@ unfolding readUnder unitsOf
 e-w-1-13 = refl
 
 -- where no decimal may be a weight, right or wrong in value it is refused at its place
-pub e-retired : readUnder false (bytes "probabilistic\nmodule process1\ns1 : [0..2] init 0;\n[] s1=0 -> 1/2:(s1'=0) + 0.5:(s1'=1);\nendmodule\n") ≡ refused 17 75
+pub e-retired : readOf (bytes "probabilistic\nmodule process1\ns1 : [0..2] init 0;\n[] s1=0 -> 1/2:(s1'=0) + 0.5:(s1'=1);\nendmodule\n") ≡ refused 17 75
 unfolding readUnder unitsOf
 e-retired = refl
 
-pub e-retired-wrong : readUnder false (bytes "probabilistic\nmodule process1\ns1 : [0..2] init 0;\n[] s1=0 -> 0.005:(s1'=0) + 2:(s1'=1);\nendmodule\n") ≡ refused 17 61
+pub e-retired-wrong : readOf (bytes "probabilistic\nmodule process1\ns1 : [0..2] init 0;\n[] s1=0 -> 0.005:(s1'=0) + 2:(s1'=1);\nendmodule\n") ≡ refused 17 61
 unfolding readUnder unitsOf
 e-retired-wrong = refl
 

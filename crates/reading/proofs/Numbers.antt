@@ -2,8 +2,9 @@
 -- stops with one of them, and each judgement is broken with one of them. One line for each line of a reader. Assumes nothing.
 use Prim.Native.Nat.{ℕ, zero, suc, _-_, _≤_}
 use Prim.Native.String.{String}
-use mathlib.Core.Path.{_≡_, subst}
+use mathlib.Core.Path.{_≡_, refl, subst}
 use mathlib.Core.Bool.{Bool, true, false, _&&_}
+use mathlib.Core.Logic.{_⊎_, inl, inr}
 use mathlib.Core.List.{List, [], _∷_, _++_, map}
 use mathlib.Core.Option.{Option, none, some}
 use native.Mathlib.Omega.{arith}
@@ -22,7 +23,7 @@ use Rattle.reading.specs.Group.{joint, literal, others, group, Literal, 
 use Rattle.reading.specs.Judgements.{Judgement, state, word, oneGroup, weight as judgedWeight, sum, placeIn, symmetric, totalUnits, unless, broken, Verdict, fine, wrong, orElse, firstBroken, firstState, judgedTest, judgedGuard}
 use Rattle.reading.specs.Shape.{BranchShape, StatementShape, Range, modeOf, zeroOf, many, weightOf, over, weight, setting, sets, branch, nextBranch, pastBranches, moreBranches, guard, mayHave, statement, moreStatements, copy, moreModules, top, range, declaration, ended, theEnd, CardShape, modules, body, card}
 use Rattle.reading.specs.Checks.{judgedState, judgedWords, judgedSet, judgedBranch, judgedEach, judgedOr, weightIn, judgedStatement, moduleDues, judgedModules, judgedShared, mostIn, judgedCard, seatsIn, cardIn}
-use Rattle.reading.specs.Reading.{Outcome, taken, refused, firstOutside, judged, shaped, marked, readUnder, mostRefusal}
+use Rattle.reading.specs.Reading.{Outcome, taken, refused, firstOutside, judged, shaped, marked, readUnder, Refuses}
 
 -- ---- readers
 
@@ -233,25 +234,29 @@ cards = then-each bodies (λ c. then-one ends (returns c))
 module _ (decimals : Rule) where
   abbrev SmallOr : Option ℕ → Type 0
   SmallOr none = Unit {0}
-  SmallOr (some r) = r ≤ mostRefusal decimals
+  SmallOr (some r) = Refuses decimals r
 
   abbrev SmallBroken : Judgement → Type 0
   SmallBroken j = (n : ℕ) → SmallOr (broken n j)
 
-  small-unless : (b : Bool) (r : ℕ) → r ≤ mostRefusal decimals → SmallOr (unless b r)
+  small-unless : (b : Bool) (r : ℕ) → Refuses decimals r → SmallOr (unless b r)
   small-unless true r h = tt
   small-unless false r h = h
 
-  seven : (r : ℕ) → r ≤ wrongWeight → r ≤ mostRefusal decimals
+  seven : (r : ℕ) → r ≤ wrongWeight → Refuses decimals r
   seven r h = go decimals
     where
-      go : (b : Bool) → r ≤ mostRefusal b
+      go : (b : Bool) → Refuses b r
       go true = h
-      go false = omega arith
+      go false = inl h
 
-  small-weight : (w : Weight) → weightRefusal decimals w ≤ mostRefusal decimals
+  small-weight : (w : Weight) → Refuses decimals (weightRefusal decimals w)
   small-weight (whole v) = seven wrongWeight (omega arith)
-  small-weight (point v n f) = omega arith
+  small-weight (point v n f) = go decimals
+    where
+      go : (b : Bool) → Refuses b (if b then wrongWeight else decimalWeight)
+      go true = omega arith
+      go false = inr refl
   small-weight (ratio a b) = seven wrongWeight (omega arith)
 
   every-join : (xs ys : List Judgement) → Every SmallBroken xs → Every SmallBroken ys → Every SmallBroken (xs ++ ys)
@@ -330,7 +335,7 @@ module _ (decimals : Rule) where
 
   abbrev SmallVerdict : Verdict → Type 0
   SmallVerdict fine = Unit {0}
-  SmallVerdict (wrong r p) = r ≤ mostRefusal decimals
+  SmallVerdict (wrong r p) = Refuses decimals r
 
   small-else : (o : Option ℕ) (p : Place) (v : Verdict) → SmallOr o → SmallVerdict v → SmallVerdict (orElse o p v)
   small-else none p v h k = k
@@ -344,7 +349,7 @@ module _ (decimals : Rule) where
 
   abbrev SmallOutcome : Outcome → Type 0
   SmallOutcome (taken c) = Unit {0}
-  SmallOutcome (refused r p) = r ≤ mostRefusal decimals
+  SmallOutcome (refused r p) = Refuses decimals r
 
   small-judged : (e : ℕ) (c : Card) (v : Verdict) → SmallVerdict v → SmallOutcome (judged e c v)
   small-judged e c fine h = tt
@@ -366,5 +371,5 @@ module _ (decimals : Rule) where
       go true = small-marked (length s) (marksOf s) (firstOutside (marksOf s))
       go false = seven tooLong (omega arith)
 
-  pub read-number : (s : List ℕ) {r p : ℕ} → readUnder decimals s ≡ refused r p → r ≤ mostRefusal decimals
+  pub read-number : (s : List ℕ) {r p : ℕ} → readUnder decimals s ≡ refused r p → Refuses decimals r
   read-number s e = subst SmallOutcome e (small-read s)

@@ -1,12 +1,12 @@
 -- Reading a card under a rule of a weight: refusals 1 to 7 and 17 in their order, or the card ("Refusal numbers"; document 02, 2026-11). Assumes nothing.
-use Prim.Native.Nat.{ℕ, zero}
+use Prim.Native.Nat.{ℕ, zero, _≤_}
 use mathlib.Core.Bool.{Bool, true, false}
 use mathlib.Core.List.{List, [], _∷_}
 use mathlib.Core.Option.{Option, none, some}
 use lib.Dec.{leb}
 use lib.ListN.{length}
 use Rattle.card.specs.Limits.{cardBytes}
-use Rattle.card.specs.Refusals.{tooLong, outsideRules, wrongWeight, decimalWeight}
+use Rattle.card.specs.Refusals.{tooLong, outsideRules, wrongWeight, OfCard}
 use Rattle.card.specs.Text.{if_then_else_}
 use Rattle.card.specs.Card.{Card}
 use Rattle.card.specs.Weight.{Rule, cardRule}
@@ -51,9 +51,10 @@ unfoldable pub readUnder : Rule → List ℕ → Outcome
 unfolding guard
 readUnder decimals s = if leb (length s) cardBytes then marked decimals (length s) (marksOf s) (firstOutside (marksOf s)) else refused tooLong 0
 
--- the greatest number that it may refuse with
-abbrev pub mostRefusal : Rule → ℕ
-mostRefusal decimals = if decimals then wrongWeight else decimalWeight
+-- the numbers that it may refuse with
+abbrev pub Refuses : Rule → ℕ → Type 0
+Refuses true r = r ≤ wrongWeight
+Refuses false r = OfCard r
 
 -- under the rule of today
 abbrev pub readOf : List ℕ → Outcome

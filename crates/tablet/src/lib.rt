@@ -10,6 +10,7 @@ use card::limits::BRANCH_PLACES;
 use card::limits::NODE_PLACES;
 use card::limits::ROW_PLACES;
 use contents::judge_deck;
+use convert::convert;
 use deck_writer::write_deck;
 use entries::Asked;
 use entries::ask;
@@ -31,6 +32,7 @@ ghost use Rattle.deck.specs.Lookup.{located, locatedWith};
 ghost use Rattle.deck_entries.specs.Verdicts.{verdictOf};
 ghost use Rattle.deck_written.specs.WriteDeckSaid.{writeDeckSaid};
 ghost use Rattle.mending.specs.Mending.{mendSaid};
+ghost use Rattle.converting.specs.Converting.{convertSaid};
 ghost use Rattle.mended_told.specs.LentRooms.{lent, RoomsTold};
 ghost use Rattle.texts_said.specs.WriteSaid.{writeSaid};
 ghost use Rattle.texts_said.specs.ReduceSaid.{reduceSaid};
@@ -183,6 +185,15 @@ pub extern "C" fn open_panel_mend(
 {
     let mended = mend(deck, room, list);
     tell_mended(mended, list_length)
+}
+
+// A box from before decimals were retired, converted: the new deck.
+#[no_mangle]
+pub extern "C" fn open_panel_convert(deck: &[u8], room: &mut [u8]) -> OpenPanelAnswer
+    ensures { λ r. ⌜ Told (now (room .entry)) (now (room .exit)) (convertSaid (now (deck .entry))) r ⌝ }
+{
+    let answer = convert(deck, room);
+    in_numbers(answer)
 }
 
 // The line of class counts for a spectator, by a list of the states' classes.

@@ -1,19 +1,17 @@
 -- What `watch` answers, refusal by refusal: each is that of the stage which gives its number, where the stages before it pass; by the theorem of
 -- stages, since no two stages share a number. Assumes nothing.
 use Prim.Native.Nat.{ℕ, _≤_}
-use mathlib.Core.Path.{_≡_, refl, sym, _∙_}
-use mathlib.Core.Bool.{true, false, false≢true}
+use mathlib.Core.Path.{_≡_, refl}
 use mathlib.Core.Logic.{_↔_, _⊎_, inl, inr}
-use mathlib.Core.List.{List, [], _∷_, _++_}
-use native.Mathlib.Decide.{decLe, ℕ-discrete}
+use mathlib.Core.List.{List, _++_}
 use native.Mathlib.Omega.{arith}
-use Rattle.card.specs.Refusals.{wrongSeats, seatAboveTop, roomTooSmall, wrongClasses}
+use Rattle.card.specs.Refusals.{wrongSeats, seatAboveTop, roomTooSmall, wrongClasses, decimalWeight}
 use Rattle.card.specs.Card.{Card}
 use Rattle.entry.specs.Said.{Said, refused, _>>=_}
-use Rattle.entry.specs.Numbers.{Numbers, _to_, only, among}
+use Rattle.entry.specs.Numbers.{Numbers, only}
 use Rattle.entry.specs.Contract.{Enters, inRoom, stored, Faithful, InRoom}
 use Rattle.entry.specs.Stage.{Stage}
-use Rattle.entry.proofs.Stages.{in-span, apart-out, among-up-to, among-then, value, followed, its, beyond, last}
+use Rattle.entry.proofs.Stages.{among-then, value, followed, its, beyond, last, by-span}
 use Rattle.entry.proofs.Exactly.{_↔∙_}
 use Rattle.entry.proofs.Entries.{answer-refused, among-stored, in-room, before-room}
 use Rattle.seating.specs.Judged.{seatingOf, Seated}
@@ -41,23 +39,9 @@ module _ (card seats list : List ℕ) where
   unfolding watchSaid
   said = followed (card-stage card) (watchCard seats list) (λ c. seated c .numbers) (λ w. seated (w .0) .found)
 
-  -- 11 and 12 are not among the numbers
-  other : (was : List ℕ) (r p : ℕ) → inRoom was (watchSaid card seats list) ≡ refused r p → (r ≤ roomTooSmall) ⊎ (r ≡ wrongClasses)
-  other was r p e = go (decLe r roomTooSmall) (ℕ-discrete r wrongClasses)
-    where
-      all : Numbers
-      all = numbersSaid ++ only roomTooSmall
-
-      in-all : among all r ≡ true
-      in-all = among-then (watchSaid card seats list) (stored was) (said .numbers) (among-stored was) .number r p e
-
-      go : Dec (r ≤ roomTooSmall) → Dec (r ≡ wrongClasses) → (r ≤ roomTooSmall) ⊎ (r ≡ wrongClasses)
-      go (yes l) m = inl l
-      go (no l) (yes m) = inr m
-      go (no l) (no m) =
-          let most : r ≤ wrongClasses = among-up-to all r wrongClasses in-all refl in
-          let between : among ((11 to 12) ∷ []) r ≡ true = rw (in-span 11 12 r (omega arith) (omega arith)) in
-          absurd (false≢true (sym (apart-out ((11 to 12) ∷ []) all r refl between) ∙ in-all))
+  other : (was : List ℕ) (r p : ℕ) → inRoom was (watchSaid card seats list) ≡ refused r p → (r ≤ roomTooSmall) ⊎ (r ≡ wrongClasses) ⊎ (r ≡ decimalWeight)
+  other was r p e = by-span (numbersSaid ++ only roomTooSmall) r (among-then (watchSaid card seats list) (stored was) (said .numbers) (among-stored was) .number r p e)
+      ((λ l m. inl (omega arith)), ((λ l m. inr (inr (omega arith))), ((λ l m. inl (omega arith)), ((λ l m. inr (inl (omega arith))), ((λ l m. inl m), tt)))))
 
   module _ {T : Type 0} {tell : Said ℕ → T} (faithful : Faithful tell) {was is : List ℕ} {a : T} (e : Enters inRoom tell was is (watchSaid card seats list) a) where
     in-its-room : InRoom tell (Watched card seats list) (λ w. lineOf seats list (w .0 .0)) was is a

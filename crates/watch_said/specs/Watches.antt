@@ -5,7 +5,7 @@ use mathlib.Core.Path.{_≡_}
 use mathlib.Core.Logic.{_↔_, _⊎_}
 use mathlib.Core.List.{List}
 use lib.ListN.{length}
-use Rattle.card.specs.Refusals.{wrongWeight, wrongSeats, seatAboveTop, roomTooSmall, wrongClasses}
+use Rattle.card.specs.Refusals.{wrongSeats, seatAboveTop, roomTooSmall, wrongClasses, OfCard, decimalWeight}
 use Rattle.card.specs.Card.{Card}
 use Rattle.reading.specs.Reading.{refused as turned, readOf}
 use Rattle.entry.specs.Said.{Said, says, refused}
@@ -25,7 +25,7 @@ lineOf seats list c = watchOf list (seatingOf c seats)
 
 -- the room `was` became `is`
 pub record Watches {T : Type 0} (tell : Said ℕ → T) (card seats list was is : List ℕ) (a : T) : Type 0 where
-  pub wrong-card : (number place : ℕ) → number ≤ wrongWeight → (a ≡ tell (refused number place)) ↔ (readOf card ≡ turned number place)
+  pub wrong-card : (number place : ℕ) → OfCard number → (a ≡ tell (refused number place)) ↔ (readOf card ≡ turned number place)
   pub wrong-count : (place : ℕ) → (a ≡ tell (refused wrongSeats place)) ↔ ((c : Read card) × ((length seats ≡ seatsDue (c .0) → ⊥) × (place ≡ 0)))
   pub wrong-seat : (place : ℕ) → (a ≡ tell (refused seatAboveTop place)) ↔ ((c : Read card) × ((length seats ≡ seatsDue (c .0)) × FirstWrong (c .0) seats place))
   -- 13: the seats are a seating
@@ -38,5 +38,5 @@ pub record Watches {T : Type 0} (tell : Said ℕ → T) (card seats list was is 
       ↔ ((w : Watched card seats list) × (length (lineOf seats list (w .0 .0)) ≤ length was) × (long ≡ length (lineOf seats list (w .0 .0))))
   pub stands : (w : Watched card seats list) → length (lineOf seats list (w .0 .0)) ≤ length was → is ≡ onto (lineOf seats list (w .0 .0)) was
   -- there is no other refusal, and none touches the room
-  pub no-other : (number place : ℕ) → a ≡ tell (refused number place) → (number ≤ roomTooSmall) ⊎ (number ≡ wrongClasses)
+  pub no-other : (number place : ℕ) → a ≡ tell (refused number place) → (number ≤ roomTooSmall) ⊎ (number ≡ wrongClasses) ⊎ (number ≡ decimalWeight)
   pub untouched : (number place : ℕ) → a ≡ tell (refused number place) → is ≡ was

@@ -36,7 +36,7 @@ impl Weight {
     pub const UNIT: u32 = 277_200;
 
     // the rule of a weight, by which every entry reads: may a decimal be one?
-    pub const DECIMALS: bool = true;
+    pub const DECIMALS: bool = false;
 
     // a number alone
     pub fn whole(v: usize) -> Judged

@@ -283,8 +283,8 @@ pub(crate) fn units_of_fraction(above: u32, below: u32) -> Option<u32> {
     (divides && above <= below).then(|| above * (UNIT / below))
 }
 
-/// The units of a decimal with these digits behind its point, if it is a good
-/// weight; `further` holds the digits behind the point as a number.
+/// The units of a decimal with these digits behind its point, if it was a good
+/// weight while there were decimals; `further` holds the digits behind the point as a number.
 pub(crate) fn units_of_decimal(whole: u32, further: u32, digits: usize) -> Option<u32> {
     use crate::limits::WEIGHT_FURTHER_DIGITS;
     if whole > 1 || digits > WEIGHT_FURTHER_DIGITS {

@@ -1,4 +1,4 @@
-//! Decks: cards in a box, behind a table of contents. No card is read here; `mend` does that.
+//! Decks: cards in a box, behind a table of contents. No card is read here; `mend` and `convert` do that.
 
 use crate::limits::{DECK_BYTES, DECK_CARDS};
 use crate::refusal::{Refusal, DECK, IN_EXPANSION, NO_LIVE_CARD, ROOM};
@@ -137,6 +137,11 @@ impl Entry {
         self.flag == 1
     }
 
+    /// Its body, in a deck within which it lies.
+    pub(crate) fn body(self, deck: &[u8]) -> &[u8] {
+        &deck[self.offset..self.offset + self.length]
+    }
+
     fn part(self, in_expansion: bool) -> Part {
         Part {
             in_expansion,
@@ -182,7 +187,7 @@ pub(crate) fn entries(deck: &[u8]) -> Option<&[[u8; ENTRY_BYTES]]> {
 }
 
 /// The contents of a deck that is well formed.
-fn contents(deck: &[u8]) -> Result<&[[u8; ENTRY_BYTES]], Refusal> {
+pub(crate) fn contents(deck: &[u8]) -> Result<&[[u8; ENTRY_BYTES]], Refusal> {
     let malformed = |place: usize| Refusal::new(DECK, place);
     let entries = entries(deck).ok_or(malformed(0))?;
     let mut last_number = None;

@@ -4,8 +4,9 @@
 //! cards are found in decks, a table where nobody can move has a step, a
 //! spectator sees how many seats are in each public class, weights may be
 //! elevenths, one may ask whether anyone can move, and how likely a question
-//! becomes true within some steps, damaged decks are mended, and a card may
-//! have a number that all seats share.
+//! becomes true within some steps, damaged decks are mended, a card may have a
+//! number that all seats share, and no weight is a decimal any more, for which
+//! decks are converted.
 //!
 //! It was written from the documents alone, so that a slip in it and a slip in
 //! the verified library are unlikely to be the same one; `compare` runs both on
@@ -27,6 +28,7 @@
 #![forbid(unsafe_code)]
 
 mod card;
+mod convert;
 mod counter;
 mod deck;
 mod expression;
@@ -46,6 +48,7 @@ mod watch;
 mod write;
 
 pub use card::{Branch, Card, Group, Mode, Node, Shared, SharedTest, Statement};
+pub use convert::{convert, convert_into};
 pub use deck::{find, find_with, judge_deck, locate, locate_with, write_deck, Part};
 pub use first_move::first_move;
 pub use mend::{mend, mend_into, Mended};
@@ -53,7 +56,7 @@ pub use odds::{odds, Aim};
 pub use panel::panel;
 pub use program::program;
 pub use question::ask;
-pub use read::judge;
+pub use read::{judge, judge_old};
 pub use reduce::reduce;
 pub use refusal::Refusal;
 pub use watch::watch;

@@ -30,7 +30,7 @@ pub const NUMBER_DIGITS: usize = 6;
 pub const FURTHER_DIGITS: usize = 6;
 /// Most digits of a seat word or a module word.
 pub const WORD_DIGITS: usize = 5;
-/// Most digits behind the point of a decimal that is a good weight.
+/// Most digits behind the point of a decimal that is a good weight by the old rule.
 pub const WEIGHT_FURTHER_DIGITS: usize = 2;
 /// A weight of one, in the units in which weights are held.
 pub const UNIT: u32 = 277_200;

@@ -63,9 +63,9 @@ fn broken(entry: Entry, deck: &[u8], last_number: Option<u16>, last_end: usize) 
     if !entry.is_live() {
         return None;
     }
-    let card = &deck[entry.offset..entry.offset + entry.length];
     let mut read = Card::BLANK;
-    read_into(card, &mut read).is_err().then_some(Rule::Card)
+    let judged = read_into(entry.body(deck), &mut read);
+    judged.is_err().then_some(Rule::Card)
 }
 
 /// Mends a deck into two lent rooms. Nothing is written if either is too short.
@@ -113,8 +113,7 @@ pub fn mend_into(deck: &[u8], room: &mut [u8], list: &mut [u8]) -> Result<Mended
             let written = &mut mended[place..place + ENTRY_BYTES];
             written.copy_from_slice(bytes);
             written[field::OFFSET..field::LENGTH].copy_from_slice(&(offset as u16).to_le_bytes());
-            let body = &deck[entry.offset..entry.offset + entry.length];
-            mended[offset..offset + entry.length].copy_from_slice(body);
+            mended[offset..offset + entry.length].copy_from_slice(entry.body(deck));
             place += ENTRY_BYTES;
             offset += entry.length;
         }

@@ -6,11 +6,27 @@ use crate::card::{
 };
 use crate::expression::{Expressions, SpelledGroup};
 use crate::limits::{BRANCHES, CARD_BYTES, NODES, SEATS, SHARED_TOP, STATEMENTS, TOP_STATE, UNIT};
-use crate::refusal::{Refusal, STATE, TOO_LONG, WEIGHT, WORD};
+use crate::refusal::{Refusal, DECIMAL, STATE, TOO_LONG, WEIGHT, WORD};
 use crate::scan::{Fits, Scanner, Spelled, Stop};
 
 /// What the shared number is called, on every card.
 pub(crate) const SHARED_NAME: &[u8] = b"g";
+
+/// Which rule the weights of a card have to keep.
+#[derive(Clone, Copy, PartialEq, Eq)]
+pub(crate) enum Weights {
+    /// A decimal is no weight, whatever it is worth.
+    New,
+    /// A decimal is a weight, if it is a good one. So were cards read until decimals were retired.
+    Old,
+}
+
+/// Whether a weight of a card that has been read is spelled as a decimal, which the old rule alone takes.
+#[derive(Clone, Copy, PartialEq, Eq)]
+pub(crate) enum Decimals {
+    Absent,
+    Present,
+}
 
 /// Reads a card.
 pub fn judge(card: &[u8]) -> Result<Card, Refusal> {
@@ -19,14 +35,32 @@ pub fn judge(card: &[u8]) -> Result<Card, Refusal> {
     Ok(read)
 }
 
+/// Reads a card by the old rule of weights, which takes decimals. Only the converter of decks reads cards so.
+pub fn judge_old(card: &[u8]) -> Result<Card, Refusal> {
+    let mut read = Card::BLANK;
+    read_by(Weights::Old, card, &mut read)?;
+    Ok(read)
+}
+
 /// Reads a card into a blank one, which saves the entries a copy.
 pub(crate) fn read_into(bytes: &[u8], card: &mut Card) -> Result<(), Refusal> {
+    read_by(Weights::New, bytes, card).map(|_| ())
+}
+
+/// The same by either rule of weights.
+pub(crate) fn read_by(
+    weights: Weights,
+    bytes: &[u8],
+    card: &mut Card,
+) -> Result<Decimals, Refusal> {
     if bytes.len() > CARD_BYTES {
         return Err(Refusal::new(TOO_LONG, 0));
     }
     let mut reader = Reader {
         scan: Scanner::new(bytes),
         card,
+        weights,
+        decimals: Decimals::Absent,
         late: Late::NONE,
         wanted: Wanted::NONE,
         next_node: 0,
@@ -37,7 +71,7 @@ pub(crate) fn read_into(bytes: &[u8], card: &mut Card) -> Result<(), Refusal> {
     reader.card().map_err(|stop| reader.scan.refusal(stop))?;
     match reader.late.first {
         Some(refusal) => Err(refusal),
-        None => Ok(()),
+        None => Ok(reader.decimals),
     }
 }
 
@@ -94,6 +128,8 @@ impl Wanted {
 struct Reader<'a, 'c> {
     scan: Scanner<'a>,
     card: &'c mut Card,
+    weights: Weights,
+    decimals: Decimals,
     late: Late,
     wanted: Wanted,
     /// First free places in the card's arrays.
@@ -376,16 +412,22 @@ impl Reader<'_, '_> {
         self.scan.peek();
         let place = self.scan.mark();
         let units = match self.scan.weight()? {
-            Spelled::Number(number) => units_of_number(number),
+            Spelled::Number(number) => units_of_number(number).ok_or(WEIGHT),
             Spelled::Decimal {
                 whole,
                 further,
                 digits,
-            } => units_of_decimal(whole, further, digits),
-            Spelled::Fraction(above, below) => units_of_fraction(above, below),
+            } => {
+                self.decimals = Decimals::Present;
+                match self.weights {
+                    Weights::New => Err(DECIMAL),
+                    Weights::Old => units_of_decimal(whole, further, digits).ok_or(WEIGHT),
+                }
+            }
+            Spelled::Fraction(above, below) => units_of_fraction(above, below).ok_or(WEIGHT),
         };
-        if units.is_none() {
-            self.late.note(WEIGHT, place);
+        if let Err(number) = units {
+            self.late.note(number, place);
         }
         self.scan.sign(b':')?;
         self.scan.sign(b'(')?;

@@ -7,7 +7,7 @@ use std::fmt;
 pub struct Refusal {
     /// One of the numbers below.
     pub number: u8,
-    /// A byte of the card, the question or a deck, a place in the seating, a state, or a length, depending on the number.
+    /// A byte of the card, the question or a deck, a place in the seating, a state, a length, or a card's number, depending on the refusal's.
     pub place: usize,
 }
 
@@ -45,6 +45,10 @@ pub const TOO_MANY_VECTORS: u8 = 14;
 pub const STEPS: u8 = 15;
 /// A lent row has not the length that rows have.
 pub const ROW_LENGTH: u8 = 16;
+/// A weight is a decimal.
+pub const DECIMAL: u8 = 17;
+/// A deck is not converted; the place is the number of the first card that cannot be.
+pub const NOT_CONVERTED: u8 = 18;
 /// What is added to [`TOO_LONG`], [`OUTSIDE`], [`SHAPE`], [`LIMIT`], [`STATE`] or [`WORD`] where a question is refused so.
 pub const OF_QUESTION: u8 = 20;
 

@@ -168,18 +168,27 @@ impl Text for Vec<u8> {
 
 /// Prints into a lent room, or refuses before the first byte is written: a text that might not fit is measured first.
 pub(crate) fn print_into<P: Print>(printed: &P, room: &mut [u8]) -> Result<usize, Refusal> {
-    let most = printed.most();
-    if room.len() < most {
-        let mut measured = Measured(0);
-        printed.print(&mut measured);
-        let Measured(needed) = measured;
-        debug_assert!(needed <= most);
+    if room.len() < printed.most() {
+        let needed = length_of(printed);
         if needed > room.len() {
             return Err(Refusal::new(ROOM, needed));
         }
     }
+    Ok(put(printed, room))
+}
+
+/// How long a text is.
+pub(crate) fn length_of<P: Print>(printed: &P) -> usize {
+    let mut measured = Measured(0);
+    printed.print(&mut measured);
+    debug_assert!(measured.0 <= printed.most());
+    measured.0
+}
+
+/// Prints into a room that is known to be large enough, and gives the text's length.
+pub(crate) fn put<P: Print>(printed: &P, room: &mut [u8]) -> usize {
     let mut filled = Filled { room, used: 0 };
     printed.print(&mut filled);
-    debug_assert!(filled.used <= most);
-    Ok(filled.used)
+    debug_assert!(filled.used <= printed.most());
+    filled.used
 }

@@ -17,7 +17,8 @@ pub fn write_read(card: &Card, room: &mut [u8]) -> Result<usize, Refusal> {
     print_into(&Written(card), room)
 }
 
-struct Written<'c>(&'c Card);
+/// A card as it is written.
+pub(crate) struct Written<'c>(pub(crate) &'c Card);
 
 impl Print for Written<'_> {
     fn most(&self) -> usize {

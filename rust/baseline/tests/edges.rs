@@ -133,10 +133,10 @@ fn digits() {
     assert_eq!(refusal(&weight("277200/277200")), None);
     refused(&weight("123456"), 7, "123456", 0);
     refused(&weight("1234567"), 2, "1234567", 0);
-    refused(&weight("0.123456"), 7, "0.123456", 0);
+    refused(&weight("0.123456"), 17, "0.123456", 0);
     refused(&weight("0.1234567"), 2, "0.1234567", 0);
-    refused(&weight("123456.123456"), 7, "123456.123456", 0);
-    refused(&weight("0.500"), 7, "0.500", 0);
+    refused(&weight("123456.123456"), 17, "123456.123456", 0);
+    refused(&weight("0.500"), 17, "0.500", 0);
     refused(&weight("1/554400"), 7, "1/554400", 0);
     // Words keep their five.
     let seat = |seat: &str| card(1, 0, &format!("[] s1=0 & ({seat}=0) -> 1:(s1'=0);"));

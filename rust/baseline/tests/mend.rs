@@ -1,8 +1,10 @@
 //! Mended decks: each rule from both sides, which of several is told, what a dropped entry leaves behind, and the rooms.
 
+mod boxes;
 mod cards;
 
-use baseline::{judge_deck, mend, mend_into, write_deck, Mended, Refusal};
+use baseline::{judge_deck, judge_old, mend, mend_into, write_deck, Mended, Refusal};
+use boxes::{deck, gapless, Entry};
 use cards::{card, CARD_A};
 
 /// A card of one seat, which is accepted.
@@ -15,34 +17,6 @@ const PAST_MENDING: Refusal = Refusal {
     place: 0,
 };
 const UNTOUCHED: u8 = 0xa5;
-
-/// Card number, offset, length, flag, zero byte.
-type Entry = (u16, usize, usize, u8, u8);
-
-/// A deck of these entries, and behind them what is given.
-fn deck(entries: &[Entry], behind: &[u8]) -> Vec<u8> {
-    let mut deck = vec![entries.len() as u8];
-    for &(number, offset, length, flag, zero) in entries {
-        for field in [number, offset as u16, length as u16] {
-            deck.extend(field.to_le_bytes());
-        }
-        deck.extend([flag, zero]);
-    }
-    deck.extend(behind);
-    deck
-}
-
-/// A deck without gaps: card number, flag, body.
-fn gapless(cards: &[(u16, u8, &str)]) -> Vec<u8> {
-    let mut offset = 1 + 8 * cards.len();
-    let mut entries = Vec::new();
-    for (number, flag, body) in cards {
-        entries.push((*number, offset, body.len(), *flag, 0));
-        offset += body.len();
-    }
-    let bodies: String = cards.iter().map(|(_, _, body)| *body).collect();
-    deck(&entries, bodies.as_bytes())
-}
 
 /// The mended deck and its list, the same into rooms that just fit and larger ones, and mended once more.
 #[track_caller]
@@ -134,13 +108,29 @@ fn the_longest_card() {
     let long = |bytes: usize| {
         format!(
             "{:<bytes$}",
-            card(3, 1, "[] s1=0 -> 0.5:(s1'=1) + 1/2:(s1'=0);")
+            card(3, 1, "[] s1=0 -> 1/2:(s1'=1) + 1/2:(s1'=0);")
         )
     };
     let (most, more) = (long(16_384), long(16_385));
     let (made, list) = mended(&gapless(&[(1, 1, &more), (2, 1, &most), (3, 0, &more)]));
     assert_eq!(list, "dropped 4\nkept\nkept\n");
     assert_eq!(made, gapless(&[(2, 1, &most), (3, 0, &more)]));
+}
+
+/// Decimals were taken once, and are not any more.
+#[test]
+fn live_cards_with_decimals() {
+    let decimals = card(1, 1, "[] s1=0 -> 0.5:(s1'=1) + 1/2:(s1'=0);");
+    assert!(judge_old(decimals.as_bytes()).is_ok());
+    let (made, list) = mended(&gapless(&[
+        (1, 1, &decimals),
+        (2, 0, &decimals),
+        (3, 1, &decimals.replace("0.5", "1/2// 0.5\n")),
+    ]));
+    assert_eq!(list, "dropped 4\nkept\nkept\n");
+    let kept = decimals.replace("0.5", "1/2// 0.5\n");
+    assert_eq!(made, gapless(&[(2, 0, &decimals), (3, 1, &kept)]));
+    assert_eq!(mend(&gapless(&[(1, 1, &decimals)])), Err(PAST_MENDING));
 }
 
 #[test]

@@ -1,4 +1,4 @@
-//! The stored cases of 2026-09 and 2026-10, by the baseline alone. `rust/vectors` asks the library the same, and all stored cases of both.
+//! The stored cases of 2026-09, 2026-10 and 2026-11, by the baseline alone. `rust/vectors` asks the library the same, and all stored cases of both.
 
 #[allow(dead_code)]
 #[path = "../../vectors/src/stored.rs"]
@@ -7,8 +7,8 @@ mod stored;
 use std::collections::BTreeMap;
 
 use baseline::{
-    ask, first_move, judge, mend, mend_into, odds, panel, reduce, watch, write, Aim, Mended,
-    Refusal,
+    ask, convert, convert_into, first_move, judge, mend, mend_into, odds, panel, reduce, watch,
+    write, Aim, Mended, Refusal,
 };
 use stored::{file, Answer, Cases};
 
@@ -57,10 +57,16 @@ fn mended_decks() {
     assert_eq!(ends.values().sum::<usize>(), cases.count());
 }
 
-/// How a call of 2026-10 ends, in the words of the stored answers; what is lent is held to be as it has to be afterwards.
+/// A deck as it is stored.
+fn in_digits(deck: &[u8]) -> Vec<u8> {
+    let digits: String = deck.iter().map(|byte| format!("{byte:02x}")).collect();
+    format!("ok {}\n{digits}\n", deck.len()).into_bytes()
+}
+
+/// How a call of 2026-10 or 2026-11 ends, in the words of the stored answers; what is lent is held to be as it has to be afterwards.
 fn answered(entry: &str, pieces: &[Vec<u8>]) -> Result<Vec<u8>, Refusal> {
     let pieces: Vec<&[u8]> = pieces.iter().map(Vec::as_slice).collect();
-    let in_room = |room: &[u8], entry: &dyn Fn(&mut [u8]) -> Result<usize, Refusal>| {
+    let in_room = |room: &[u8], entry: &mut dyn FnMut(&mut [u8]) -> Result<usize, Refusal>| {
         let mut lent = vec![UNTOUCHED; told(room)];
         let answer = entry(&mut lent);
         let length = *answer.as_ref().unwrap_or(&0);
@@ -70,11 +76,11 @@ fn answered(entry: &str, pieces: &[Vec<u8>]) -> Result<Vec<u8>, Refusal> {
     };
     match (entry, &pieces[..]) {
         ("read", [card]) => judge(card).map(|_| b"taken\n".to_vec()),
-        ("write", [card, room]) => in_room(room, &|room| write(card, room)),
-        ("reduce", [card, room]) => in_room(room, &|room| reduce(card, room)),
-        ("panel", [card, seats, room]) => in_room(room, &|room| panel(card, seats, room)),
+        ("write", [card, room]) => in_room(room, &mut |room| write(card, room)),
+        ("reduce", [card, room]) => in_room(room, &mut |room| reduce(card, room)),
+        ("panel", [card, seats, room]) => in_room(room, &mut |room| panel(card, seats, room)),
         ("spectator", [card, seats, list, room]) => {
-            in_room(room, &|room| watch(card, seats, list, room))
+            in_room(room, &mut |room| watch(card, seats, list, room))
         }
         ("ask", [card, question, seats]) => ask(card, question, seats).map(|yes| match yes {
             true => b"yes\n".to_vec(),
@@ -111,13 +117,30 @@ fn answered(entry: &str, pieces: &[Vec<u8>]) -> Result<Vec<u8>, Refusal> {
             let rows: String = after.iter().map(row).collect();
             chance.map(|chance| format!("odds {chance}\n{rows}").into_bytes())
         }
+        ("mend", [deck, room, list]) => {
+            let mut list = vec![UNTOUCHED; told(list)];
+            let mut listed = 0;
+            let made = in_room(room, &mut |room| {
+                let mended = mend_into(deck, room, &mut list)?;
+                listed = mended.list;
+                Ok(mended.deck)
+            })?;
+            let lines = &list[..listed];
+            let text = [format!("ok {}\n", lines.len()).as_bytes(), lines, b"\n"].concat();
+            Ok([in_digits(&made), text].concat())
+        }
+        ("convert", [deck, room]) => {
+            let made = in_room(room, &mut |room| convert_into(deck, room))?;
+            assert_eq!(convert(deck), Ok(made.clone()));
+            Ok(in_digits(&made))
+        }
         _ => panic!("{entry} is handed something else"),
     }
 }
 
-#[test]
-fn day_and_night() {
-    const ENTRIES: [&str; 8] = [
+/// Holds all cases of a request, of which there are so many.
+fn held(request: &str, count: usize) {
+    const ENTRIES: [&str; 10] = [
         "read",
         "write",
         "reduce",
@@ -126,10 +149,12 @@ fn day_and_night() {
         "ask",
         "first_move",
         "odds",
+        "mend",
+        "convert",
     ];
     let folder = concat!(env!("CARGO_MANIFEST_DIR"), "/../../vectors/requests");
-    let answers = file(format!("{folder}/2026-10.expected"));
-    let cases = Cases::new(&file(format!("{folder}/2026-10.cases")));
+    let answers = file(format!("{folder}/{request}.expected"));
+    let cases = Cases::new(&file(format!("{folder}/{request}.cases")));
     let mut ends = BTreeMap::new();
     for (number, answer) in cases.answers(&answers).into_iter().enumerate() {
         let call = |entry: &'static str| Some((entry, cases.call(number, entry)?));
@@ -144,5 +169,15 @@ fn day_and_night() {
     }
     println!("{ends:?}");
     assert_eq!(ends.values().sum::<usize>(), cases.count());
-    assert_eq!(cases.count(), 599);
+    assert_eq!(cases.count(), count);
+}
+
+#[test]
+fn day_and_night() {
+    held("2026-10", 599);
+}
+
+#[test]
+fn decimals_retired() {
+    held("2026-11", 566);
 }

@@ -5,10 +5,8 @@
 
 use std::iter;
 
+use crate::{contents, deck, stored, Case};
 use compare::extremes::{extremes, shared_extremes};
-use vectors::stored::base;
-
-use crate::{contents, deck, Case};
 
 /// Most brackets and `!` that are open at once.
 const DEPTH: usize = 8;
@@ -183,7 +181,7 @@ fn card(mode: &str, seats: usize, statements: usize, guard: &str, behind: &str) 
 /// Cards with their seats.
 pub fn cards() -> Vec<Case> {
     let mut cases: Vec<Case> = Vec::new();
-    for stored in base() {
+    for stored in stored() {
         cases.push(Case::new(stored.card().to_vec(), stored.seats()));
     }
     for extreme in extremes().into_iter().chain(shared_extremes()) {
@@ -296,7 +294,24 @@ pub fn deck_parts() -> Vec<Case> {
         .collect()
 }
 
-/// Decks to be mended: with each of the cards live behind an empty one that is kept, and those that are looked into.
+/// The card as it could be before: its first weights as decimals, so that converting has to write it. What they come to stays.
+fn with_decimals(case: &Case) -> Option<Case> {
+    let card = String::from_utf8(case.card.clone()).ok()?;
+    let fractions =
+        "100003/277200:(s1'=1) + 100043/277200:(s1'=2) + 10009/277200:(s1'=3) + 10037/277200";
+    let decimals = "0.50:(s1'=1) + 0.28:(s1'=2) + 77/277200:(s1'=3) + 3799/277200";
+    let old = card
+        .replace("1/2:", "0.5:")
+        .replace(fractions, decimals)
+        .replace(
+            &fractions.replace(')', ") & (g'=7)"),
+            &decimals.replace(')', ") & (g'=7)"),
+        );
+    (old != card).then(|| Case::new(old.into_bytes(), Vec::new()))
+}
+
+/// Decks to be mended or converted: with each of the cards live behind an empty one that is kept, with decimals too, and those
+/// that are looked into.
 pub fn damaged() -> Vec<Case> {
     let with = |case: Case| {
         let length = u16::try_from(case.card.len()).expect("a card fits into a deck");
@@ -305,6 +320,8 @@ pub fn damaged() -> Vec<Case> {
         Case::new([&head[..], &case.card].concat(), Vec::new())
     };
     let card_fits = |case: &Case| case.card.len() <= open_panel::DECK_BYTES - 17;
-    let with_cards = cards().into_iter().filter(card_fits).map(with);
+    let cards: Vec<Case> = cards().into_iter().filter(card_fits).collect();
+    let old: Vec<Case> = cards.iter().filter_map(with_decimals).collect();
+    let with_cards = cards.into_iter().chain(old).map(with);
     with_cards.chain(decks()).collect()
 }

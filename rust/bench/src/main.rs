@@ -5,7 +5,7 @@
 //! room, and what a spectator sees, beside judging a card alone; whether anyone
 //! can move, beside judging and the whole panel; odds after the most steps; cards
 //! whose seats share a number; then
-//! a card looked for in a deck, and decks mended. Each round goes through all rows, so that a
+//! a card looked for in a deck, and decks mended and converted. Each round goes through all rows, so that a
 //! while in which the machine is slow spoils none of them. Then the stack that
 //! the entries use, on the inputs that need most; `bench stack` prints that table
 //! alone, and fails where an entry uses more than the wrapper says.
@@ -25,7 +25,7 @@ use compare::marks::{lay_out, Layout};
 use compare::model::{Expression, Model, Shared, Statement, Unary};
 use compare::random::Random;
 use open_panel::{LIST_ROOM, ODDS_STEPS};
-use vectors::stored::{base, Input};
+use vectors::stored::{base, fractions, Input};
 
 /// Rounds of which the best counts, for each side.
 const ROUNDS: usize = 11;
@@ -69,8 +69,13 @@ impl Set {
     }
 }
 
+/// The stored inputs, those that had decimals with fractions too.
+fn stored() -> Vec<Input> {
+    base().into_iter().chain(fractions()).collect()
+}
+
 fn sets() -> Vec<Set> {
-    let all = base();
+    let all = stored();
     let case = |stored: &Input| Case::new(stored.card().to_vec(), stored.seats());
     let accepted = all.iter().map(case).filter(|Case { card, seats, .. }| {
         baseline::panel(card, seats, &mut vec![0; open_panel::SHOW_ROOM]).is_ok()
@@ -525,13 +530,54 @@ const MEND: Entry = (
     },
 );
 
+/// The entry that converts a deck.
+const CONVERT: Entry = (
+    "convert",
+    |case, room| open_panel::convert(&case.card, room).ok(),
+    |case, room| baseline::convert_into(&case.card, room).ok(),
+);
+
+/// A set of one deck.
+fn deck_set(name: &'static str, deck: Vec<u8>) -> Set {
+    Set {
+        name,
+        cases: vec![Case::new(deck, Vec::new())],
+    }
+}
+
 /// Decks of the most cards: live ones, all of them kept; the same with every second entry wrong; and withdrawn ones, which are not read, in the longest deck.
 fn mend_sets() -> Vec<Set> {
+    let live = live_deck(&stored(), |card| baseline::judge(card).is_ok());
+    let mut damaged = live.clone();
+    for flag in flags(&mut damaged).step_by(2) {
+        *flag = 7;
+    }
+    vec![
+        deck_set("64 live cards", live),
+        deck_set("64 live cards, every second entry wrong", damaged),
+        deck_set("64 withdrawn cards, the longest deck", withdrawn_deck()),
+    ]
+}
+
+/// Decks of the most cards: live ones with decimals, all of them written; live ones without, which are read and copied; and withdrawn ones as above.
+fn convert_sets() -> Vec<Set> {
+    let has_decimals =
+        |card: &[u8]| baseline::judge(card).is_err() && baseline::judge_old(card).is_ok();
+    let old = live_deck(&base(), has_decimals);
+    let without = live_deck(&stored(), |card| baseline::judge(card).is_ok());
+    vec![
+        deck_set("64 live cards with decimals", old),
+        deck_set("64 live cards without", without),
+        deck_set("64 withdrawn cards, the longest deck", withdrawn_deck()),
+    ]
+}
+
+/// A deck of the first middling cards that are such, as many as there may be, all of them live.
+fn live_deck(stored: &[Input], such: impl Fn(&[u8]) -> bool) -> Vec<u8> {
     let most = (open_panel::DECK_BYTES - 1) / open_panel::DECK_CARDS - 8;
-    let stored = base();
     let cards = stored.iter().map(Input::card).filter(|card| {
         let length = card.len();
-        (200..=most).contains(&length) && baseline::judge(card).is_ok()
+        (200..=most).contains(&length) && such(card)
     });
     let cards: Vec<&[u8]> = cards.take(open_panel::DECK_CARDS).collect();
     assert_eq!(cards.len(), open_panel::DECK_CARDS);
@@ -540,24 +586,21 @@ fn mend_sets() -> Vec<Set> {
         [fields.as_flattened(), &[1, 0]].concat()
     });
     let entries: Vec<u8> = entries.collect();
-    let live = open_panel::write_deck_to_vec(&entries, &cards.concat()).expect("it fits");
-    let mut damaged = live.clone();
-    for flag in damaged[1 + 6..1 + entries.len()].iter_mut().step_by(16) {
-        *flag = 7;
-    }
+    open_panel::write_deck_to_vec(&entries, &cards.concat()).expect("it fits")
+}
+
+/// The flags of a deck of the most cards.
+fn flags(deck: &mut [u8]) -> impl Iterator<Item = &mut u8> {
+    deck[1 + 6..1 + 8 * open_panel::DECK_CARDS]
+        .iter_mut()
+        .step_by(8)
+}
+
+/// The longest deck, of the most cards, all of them withdrawn.
+fn withdrawn_deck() -> Vec<u8> {
     let mut withdrawn = deck();
-    for flag in withdrawn[1 + 6..1 + entries.len()].iter_mut().step_by(8) {
-        *flag = 0;
-    }
-    let set = |name, deck| Set {
-        name,
-        cases: vec![Case::new(deck, Vec::new())],
-    };
-    vec![
-        set("64 live cards", live),
-        set("64 live cards, every second entry wrong", damaged),
-        set("64 withdrawn cards, the longest deck", withdrawn),
-    ]
+    flags(&mut withdrawn).for_each(|flag| *flag = 0);
+    withdrawn
 }
 
 /// Contents of the most cards, all of them live, and bodies that make the longest deck, the last as long as the others leave it.
@@ -698,7 +741,7 @@ fn print_table(rows: &[Row]) {
 }
 
 /// How much stack the wrapper says that each entry takes, in the order of the table below.
-const BOUNDS: [usize; 13] = [
+const BOUNDS: [usize; 14] = [
     open_panel::stack::JUDGE,
     open_panel::stack::WRITE,
     open_panel::stack::REDUCE,
@@ -712,6 +755,7 @@ const BOUNDS: [usize; 13] = [
     open_panel::stack::FIND_WITH,
     open_panel::stack::WRITE_DECK,
     open_panel::stack::MEND,
+    open_panel::stack::CONVERT,
 ];
 
 /// The stack of every entry, on the inputs that need most: false where one takes more than it is said to.
@@ -739,7 +783,7 @@ fn print_stack() -> bool {
             (ODDS_IN_LENT_ROWS, &reckoned),
         ])
         .chain(of_decks)
-        .chain([(WRITE_DECK, &parts), (MEND, &damaged)]);
+        .chain([(WRITE_DECK, &parts), (MEND, &damaged), (CONVERT, &damaged)]);
     println!("| Entry | Library, bytes of stack | Bound | Baseline, bytes of stack |\n|---|---:|---:|---:|");
     let mut kept = true;
     for (((entry, library, baseline), cases), bound) in all.zip(BOUNDS) {
@@ -760,7 +804,8 @@ fn main() -> ExitCode {
     }
     let (sets, question_sets, deck_sets) = (sets(), question_sets(), vec![full_deck()]);
     let (spectator_sets, first_move_sets) = (spectator_sets(), first_move_sets());
-    let (odds_sets, shared_sets, mend_sets) = (odds_sets(), shared_sets(), mend_sets());
+    let (odds_sets, shared_sets) = (odds_sets(), shared_sets());
+    let (mend_sets, convert_sets) = (mend_sets(), convert_sets());
     let [judge, _, _, show] = ENTRIES;
     let mut room = vec![0; open_panel::REDUCE_ROOM];
     let mut tables = [
@@ -778,6 +823,7 @@ fn main() -> ExitCode {
         rows(&ENTRIES, &shared_sets, whole_room, &mut room),
         rows(&[FIND], &deck_sets, whole_room, &mut room),
         rows(&[MEND], &mend_sets, whole_room, &mut room),
+        rows(&[CONVERT], &convert_sets, whole_room, &mut room),
     ];
     for beside in [2, 3] {
         let judged = Row::new(judge, &sets[0], whole_room, &mut room);
@@ -788,7 +834,7 @@ fn main() -> ExitCode {
             row.round(round, &mut room);
         }
     }
-    let [always_enough, just_fit, questions, spectators, first_moves, odds, shared, decks, mended] =
+    let [always_enough, just_fit, questions, spectators, first_moves, odds, shared, decks, mended, converted] =
         tables;
     println!("In a room of {} bytes:\n", room.len());
     print_table(&always_enough);
@@ -808,6 +854,8 @@ fn main() -> ExitCode {
     print_table(&decks);
     println!("\nDecks mended:\n");
     print_table(&mended);
+    println!("\nDecks converted:\n");
+    print_table(&converted);
     println!();
     print_stack();
     ExitCode::SUCCESS

@@ -5,8 +5,10 @@ use open_panel::{REDUCE_ROOM, SHOW_ROOM, WRITE_ROOM};
 
 use crate::by_seats;
 use crate::cards::limits::{SEATS, STATEMENTS};
+use crate::decimals::first_decimal;
 use crate::first_moves::moves_first;
 use crate::inputs::{Input, Kind};
+use crate::marks::{lay_out, Layout};
 use crate::model::{Expression, Model, Seating};
 use crate::odds;
 use crate::questions::Question;
@@ -30,7 +32,7 @@ pub const LONG_ROOMS_ONCE_IN: usize = 6;
 pub struct Checker {
     long_rooms_once_in: usize,
     pub(crate) rooms: Rooms,
-    written: Vec<u8>,
+    pub(crate) written: Vec<u8>,
     reduced: Vec<u8>,
     shown: Vec<u8>,
     surrounded: Vec<u8>,
@@ -200,6 +202,20 @@ impl Checker {
                 return Err(format!("a card with {misuse:?} is judged {expected:?}"));
             }
             tally.shared.misused(misuse);
+        }
+        tally.decimals.card(card, expected);
+        if let Some(model) = &input.without_decimals {
+            let place = first_decimal(card).ok_or("a card made with decimals has none")?;
+            if expected != Err(Refusal::new(17, place)) {
+                return Err(format!("a card with decimals is judged {expected:?}"));
+            }
+            let fractions = lay_out(&model.marks(), Layout::any(random), random);
+            if fractions.len() <= open_panel::CARD_BYTES {
+                let (old, new) = (baseline::judge_old(card), baseline::judge(&fractions));
+                if old.is_err() || old != new {
+                    return Err("by the old rule decimals mean something else".to_owned());
+                }
+            }
         }
 
         let written = baseline::write(card, &mut self.written);

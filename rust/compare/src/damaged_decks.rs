@@ -3,6 +3,7 @@
 
 use crate::cards::{card, Size};
 use crate::damage::{any_byte, damage_bytes};
+use crate::decimals::Twins;
 use crate::decks::{Entry, DECK_BYTES, DECK_CARDS, ENTRY_BYTES};
 use crate::marks::{lay_out, Layout};
 use crate::random::Random;
@@ -175,19 +176,21 @@ struct Cards {
 }
 
 impl Cards {
-    /// Small ones, whole and damaged, and one that is given.
+    /// Small ones, whole, damaged and with decimals, and one that is given.
     fn new(given: &[u8], random: &mut Random) -> Cards {
         let model = card(Size::small(random), random);
         let small = lay_out(&model.marks(), Layout::any(random), random);
         let mut damaged = small.clone();
         damage_bytes(&mut damaged, random);
         let cut = small[..random.below(small.len())].to_vec();
+        let old = Twins::new(&model, random).old;
+        let decimals = lay_out(&old.marks(), Layout::any(random), random);
         let plain = b"nondeterministic module process1 s1:[0..0]init 0;[]s1=0->1:(s1'=0);endmodule";
         let mut cards = Cards {
             accepted: vec![plain.to_vec()],
             refused: vec![Vec::new()],
         };
-        for card in [small, damaged, cut] {
+        for card in [small, damaged, cut, decimals] {
             cards.put(card);
         }
         if given.len() <= CARD_TAKEN_OVER {

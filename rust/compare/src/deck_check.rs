@@ -26,10 +26,10 @@ const EACH_LENGTH: u64 = 200;
 const EACH_WRITTEN: u64 = 400;
 
 /// The places of an 11.
-const PLACES: [&str; 6] = ["whole", "number", "offset", "length", "flag", "zero byte"];
+pub(crate) const PLACES: [&str; 6] = ["whole", "number", "offset", "length", "flag", "zero byte"];
 
 /// Which of [`PLACES`] a place is.
-fn place_kind(place: usize) -> usize {
+pub(crate) fn place_kind(place: usize) -> usize {
     match place.checked_sub(1).map(|place| place % ENTRY_BYTES) {
         None => 0,
         Some(0) => 1,

@@ -82,7 +82,8 @@ impl Wrong {
         Wrong::Several,
         Wrong::Bytes,
     ];
-    const FIELDS: [Wrong; 5] = [
+    /// Those of a field.
+    pub(crate) const FIELDS: [Wrong; 5] = [
         Wrong::Number,
         Wrong::Offset,
         Wrong::Length,
@@ -228,7 +229,8 @@ fn numbered(count: usize, Numbering(first, step): Numbering, random: &mut Random
         .collect()
 }
 
-fn damage(entries: &mut [Entry], wrong: Wrong, deck_length: usize, random: &mut Random) {
+/// Puts a wrong into one of some entries, for a deck of this length.
+pub(crate) fn damage(entries: &mut [Entry], wrong: Wrong, deck_length: usize, random: &mut Random) {
     let place = random.below(entries.len());
     let last = place.checked_sub(1).map(|place| entries[place]);
     let contents = 1 + ENTRY_BYTES * entries.len();

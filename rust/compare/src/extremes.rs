@@ -4,7 +4,7 @@
 //! nine seats), where a statement is copied (sixteen seats, eight branches with
 //! long weights), and where every statement is a choice. Reckoned piece by piece,
 //! what each costs on the card and gives in the text, no written form is longer
-//! than 22,516 bytes, no reduced text than 269,699 and no panel than 4,148. With a
+//! than 22,477 bytes, no reduced text than 269,699 and no panel than 4,148. With a
 //! shared number, whose tests and updates are short on the card and stand in every
 //! copy, no reduced text is longer than 363,218 and no panel than 4,797. These
 //! bounds are reckoned and tried, not proved.
@@ -48,6 +48,7 @@ fn extreme(name: &'static str, model: Model, seats: Vec<u8>) -> Extreme {
             table: Table::of(&model),
             misuse: None,
             model: Some(model),
+            without_decimals: None,
         },
     }
 }
@@ -68,6 +69,14 @@ fn everyone(seats: usize, any: bool) -> Unary {
             })
             .collect(),
     })
+}
+
+fn others(seats: usize, any: bool) -> Unary {
+    let Unary::Group(mut group) = everyone(seats, any) else {
+        unreachable!()
+    };
+    group.literals.remove(0);
+    Unary::Group(group)
 }
 
 fn weighted(weights: Vec<(u32, Vec<Mark>)>, end: impl Fn(usize) -> usize) -> Vec<Branch> {
@@ -93,58 +102,41 @@ fn long_weights() -> Vec<(u32, Vec<Mark>)> {
         .collect()
 }
 
-/// Decimals that become longer as fractions.
-fn long_decimals() -> Vec<(u32, Vec<Mark>)> {
-    let hundredths = [11, 11, 11, 11, 13, 13, 13, 17];
-    hundredths
-        .iter()
-        .map(|hundredths| {
-            (
-                hundredths * (UNIT / 100),
-                vec![Mark::new(format!("0.{hundredths}").as_bytes())],
-            )
-        })
-        .collect()
-}
-
-/// Every group of nine seats gets two blanks for each sign: nothing else on a card grows as much.
-fn longest_written() -> Extreme {
-    let mut model = Model {
+/// Every group of nine seats gets two blanks for each sign: nothing else on a card grows as much. There are no more statements than such groups
+/// need; what room is left for the last of them goes to groups of the others, and to `!`.
+fn long_when_written(groups: [usize; 2], nots: usize, weight: &[u8]) -> Model {
+    let statement = |guard, weight| Statement {
+        own: 0,
+        guard,
+        branches: weighted(vec![(UNIT, vec![weight])], |_| 0),
+    };
+    let full = statement(vec![everyone(9, true); NODES / 2], Mark::number(1));
+    let mut last = vec![everyone(9, true); groups[0]];
+    last.extend(vec![others(9, true); groups[1]]);
+    last[0] = (0..nots).fold(last[0].clone(), |unary, _| Unary::Not(Box::new(unary)));
+    let mut statements = vec![full; 20];
+    statements.push(statement(last, Mark::new(weight)));
+    let model = Model {
         probabilistic: true,
         seats: 9,
         top: TOP,
         start: 0,
         shared: None,
-        statements: Vec::new(),
+        statements,
     };
-    let plain = Statement {
-        own: 0,
-        guard: Vec::new(),
-        branches: weighted(vec![(UNIT, vec![Mark::number(1)])], |_| 0),
-    };
-    let full = Statement {
-        guard: vec![everyone(9, true); NODES / 2],
-        ..plain.clone()
-    };
-    model.statements = vec![plain; STATEMENTS];
-    for place in 0..STATEMENTS {
-        let last = std::mem::replace(&mut model.statements[place], full.clone());
-        while length(&model) > CARD_BYTES && model.statements[place].guard.pop().is_some() {}
-        if model.statements[place].guard.is_empty() {
-            model.statements[place] = last;
-            break;
-        }
-    }
-    for place in (0..STATEMENTS).rev() {
-        let last = std::mem::replace(
-            &mut model.statements[place].branches,
-            weighted(long_decimals(), |_| 0),
-        );
-        if length(&model) > CARD_BYTES {
-            model.statements[place].branches = last;
-        }
-    }
+    assert_eq!(length(&model), CARD_BYTES);
+    model
+}
+
+fn longest_written() -> Extreme {
+    let model = long_when_written([6, 6], 1, b"1");
     extreme("longest written form", model, vec![0; 9])
+}
+
+/// A card with a decimal, of which the longest written form known would be made.
+pub fn longest_written_with_a_decimal() -> Vec<u8> {
+    let model = long_when_written([5, 7], 4, b"1.0");
+    lay_out(&model.marks(), Layout::Tight, &mut Random::new(0, 0))
 }
 
 /// Sixteen copies of each statement, each branch with its update; then as much guard as the card has room for.
@@ -164,13 +156,7 @@ fn longest_reduced() -> Extreme {
     };
     'filled: loop {
         for place in 0..STATEMENTS {
-            let others = {
-                let Unary::Group(mut group) = everyone(SEATS, false) else {
-                    unreachable!()
-                };
-                group.literals.remove(0);
-                (0..8).fold(Unary::Group(group), |unary, _| Unary::Not(Box::new(unary)))
-            };
+            let others = (0..8).fold(others(SEATS, false), |unary, _| Unary::Not(Box::new(unary)));
             model.statements[place].guard.push(others);
             while row_nodes(&model.statements[place].guard) > NODES || length(&model) > CARD_BYTES {
                 // Fewer `!`, then none of it.

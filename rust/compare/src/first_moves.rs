@@ -41,7 +41,7 @@ pub struct FirstMoveTally {
     /// Somebody can, nobody can; of nondeterministic and of probabilistic cards.
     answers: [[u64; 2]; 2],
     /// By their number.
-    refused: [u64; 10],
+    refused: [u64; 18],
     /// By the place of the first that can be taken, from 1.
     places: [u64; STATEMENTS],
     full_stuck: u64,
@@ -82,9 +82,9 @@ impl FirstMoveTally {
                 least(&format!("first moves, {mode}, {who}"), count, EACH_ANSWER);
             }
         }
-        for (number, count) in self.refused.iter().enumerate().skip(1) {
+        for number in (1..=9).chain([17]) {
             let what = format!("first moves, refusal {number}");
-            least(&what, *count, EACH_REFUSAL);
+            least(&what, self.refused[number], EACH_REFUSAL);
         }
         for (place, count) in (1..).zip(self.places) {
             least(&format!("first moves at {place}"), count, EACH_PLACE);
@@ -105,9 +105,10 @@ impl fmt::Display for FirstMoveTally {
         let [[one, none], [one_of_all, none_of_all]] = self.answers;
         write!(
             f,
-            "first moves nondeterministic {one}, nobody {none}; probabilistic {one_of_all}, nobody {none_of_all}; refused 1 to 9"
+            "first moves nondeterministic {one}, nobody {none}; probabilistic {one_of_all}, nobody {none_of_all}; refused 1 to 9, 17"
         )?;
-        (1..=9).try_for_each(|number| write!(f, " {}", self.refused[number]))?;
+        let mut numbers = (1..=9).chain([17]);
+        numbers.try_for_each(|number| write!(f, " {}", self.refused[number]))?;
         write!(
             f,
             "\nheld to choices {}, to the seats {}; changing nothing {}, full cards stuck {}; by place",

@@ -3,6 +3,7 @@
 use crate::cards::limits::CARD_BYTES;
 use crate::cards::{card, card_at, dense_card, Limit, Size};
 use crate::damage::{any_byte, damage_bytes, junk, MarkDamage};
+use crate::decimals::Twins;
 use crate::marks::{lay_out, Layout};
 use crate::model::Model;
 use crate::random::Random;
@@ -39,27 +40,33 @@ pub enum Kind {
     Aimed,
     /// A card whose shared number is used wrongly in one way.
     Misused,
+    /// A card that would be valid, were it not for decimals.
+    Decimals,
+    /// The same with a wrong number, word, sign or weight.
+    LateDecimals,
     /// No card at all.
     Junk,
 }
 
 impl Kind {
     /// All kinds, with how many of a hundred inputs are of it.
-    pub const SHARES: [(Kind, usize); 15] = [
-        (Kind::Valid, 30),
+    pub const SHARES: [(Kind, usize); 17] = [
+        (Kind::Valid, 29),
         (Kind::Small, 2),
         (Kind::AtLimit, 6),
         (Kind::Length, 1),
         (Kind::SeatCount, 3),
         (Kind::SeatState, 3),
-        (Kind::PastLimit, 8),
+        (Kind::PastLimit, 7),
         (Kind::Late, 8),
-        (Kind::Marks, 12),
+        (Kind::Marks, 11),
         (Kind::Bytes, 6),
         (Kind::Cut, 4),
-        (Kind::Several, 5),
-        (Kind::Aimed, 6),
+        (Kind::Several, 4),
+        (Kind::Aimed, 5),
         (Kind::Misused, 4),
+        (Kind::Decimals, 3),
+        (Kind::LateDecimals, 2),
         (Kind::Junk, 2),
     ];
 
@@ -89,6 +96,8 @@ pub struct Input {
     pub misuse: Option<Misuse>,
     /// The card as it was made, where it is valid.
     pub model: Option<Model>,
+    /// The same card with fractions, where it has decimals and nothing else wrong.
+    pub without_decimals: Option<Model>,
 }
 
 /// A table that an input was made for.
@@ -137,18 +146,26 @@ impl Input {
             kind,
             Kind::Valid | Kind::Small | Kind::AtLimit | Kind::SeatCount | Kind::SeatState
         );
+        let (model, without_decimals) = match kind {
+            Kind::Decimals => (None, Some(model)),
+            _ => (valid.then_some(model), None),
+        };
         Input {
             kind,
             card,
             seats,
             table,
             misuse,
-            model: valid.then_some(model),
+            model,
+            without_decimals,
         }
     }
 }
 
-/// A card of a kind, as a model before any damage and as bytes after it.
+/// Once in so many cards that are to be damaged there are decimals too.
+const DECIMALS_ONCE_IN: usize = 4;
+
+/// A card of a kind, as a model before any damage and without decimals, and as bytes after it.
 fn made(kind: Kind, misuse: Option<Misuse>, random: &mut Random) -> (Model, Vec<u8>) {
     if let Some(misuse) = misuse {
         let (model, marks) = misuse.card(random);
@@ -169,9 +186,25 @@ fn made(kind: Kind, misuse: Option<Misuse>, random: &mut Random) -> (Model, Vec<
         }
         _ => card(Size::any(random), random),
     };
-    let mut marks = model.marks();
+    let has_decimals = match kind {
+        Kind::Decimals | Kind::LateDecimals => true,
+        Kind::PastLimit | Kind::Late | Kind::Marks | Kind::Several | Kind::Aimed => {
+            random.once_in(DECIMALS_ONCE_IN)
+        }
+        _ => false,
+    };
+    let (model, mut marks) = match has_decimals {
+        true => {
+            let Twins { old, new } = Twins::new(&model, random);
+            (new, old.marks())
+        }
+        false => {
+            let marks = model.marks();
+            (model, marks)
+        }
+    };
     let damages = match kind {
-        Kind::Marks => 1,
+        Kind::Marks | Kind::LateDecimals => 1,
         Kind::Late => random.between(1, 3),
         Kind::Several => random.between(2, 4),
         Kind::PastLimit | Kind::Aimed => usize::from(random.once_in(4)),
@@ -179,7 +212,7 @@ fn made(kind: Kind, misuse: Option<Misuse>, random: &mut Random) -> (Model, Vec<
     };
     for _ in 0..damages {
         let damage = match kind {
-            Kind::Late => random.pick(&MarkDamage::LATE),
+            Kind::Late | Kind::LateDecimals => random.pick(&MarkDamage::LATE),
             _ => random.pick(&MarkDamage::ALL),
         };
         damage.inflict(&mut marks, random);

@@ -12,15 +12,18 @@
 //! and wrong ones watch each table, and it is asked who can move first
 //! ([`first_moves`]). [`odds`] are reckoned and held to [`exact`] chances, on
 //! small tables to those of seats told apart. Cards are looked for in generated [`decks`],
-//! sound and malformed, and decks are written; [`damaged_decks`] are mended. Many cards have
-//! a number that their seats share, and some use it wrongly ([`shared`]).
+//! sound and malformed, and decks are written; [`damaged_decks`] are mended, and
+//! [`old_decks`] converted. Many cards have a number that their seats share, and some
+//! use it wrongly ([`shared`]); and some have [`decimals`].
 
 pub mod big;
 pub mod by_seats;
 pub mod cards;
 pub mod check;
+pub mod converting;
 pub mod damage;
 pub mod damaged_decks;
+pub mod decimals;
 pub mod deck_check;
 pub mod decks;
 pub mod exact;
@@ -31,6 +34,7 @@ pub mod marks;
 pub mod mending;
 pub mod model;
 pub mod odds;
+pub mod old_decks;
 pub mod questions;
 pub mod random;
 pub mod reduced;

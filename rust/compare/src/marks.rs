@@ -145,9 +145,13 @@ fn separate(bytes: &mut Vec<u8>, random: &mut Random) {
             0 => bytes.push(b'\t'),
             1 => bytes.extend(b"\r\n"),
             2 => bytes.extend(b"// <a> \xff\0 // s1=0\n"),
-            3 => {
-                bytes.extend(random.pick(&[&b"//\n"[..], b"//\r0\n", b"// \x0b;\r\n", b"/// /\n"]))
-            }
+            3 => bytes.extend(random.pick(&[
+                &b"//\n"[..],
+                b"//\r0\n",
+                b"// \x0b;\r\n",
+                b"/// /\n",
+                b"// 0.5\n",
+            ])),
             4 => bytes.extend(b"   "),
             5..=8 => bytes.push(b'\n'),
             _ => bytes.push(b' '),

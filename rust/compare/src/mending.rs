@@ -25,7 +25,7 @@ const EACH_PAIR: u64 = 1_500;
 const EACH_ASTRAY: u64 = 2_000;
 /// Entries kept that are live, withdrawn, withdrawn with what is no card, and withdrawn and empty.
 const EACH_KEPT: u64 = 20_000;
-/// Live entries dropped that are empty, and dropped cards that lack just their end.
+/// Live entries dropped that are empty, dropped cards that lack just their end, and those that have just decimals.
 const EACH_REFUSED: u64 = 3_000;
 /// Decks of the most entries, of the most entries all kept, of the greatest length, and with the highest number.
 const EACH_EDGE: u64 = 100;
@@ -44,7 +44,7 @@ const ROOMS: [&str; 6] = [
     "refused",
 ];
 const KEPT: [&str; 4] = ["live", "withdrawn", "no card", "empty"];
-const REFUSED: [&str; 2] = ["empty", "cut"];
+const REFUSED: [&str; 3] = ["empty", "cut", "decimals"];
 const EDGES: [&str; 4] = ["64 entries", "64 kept", "65,535 bytes", "number 65,535"];
 const LAWS: [&str; 3] = ["mended twice", "byte for byte", "as made"];
 
@@ -156,11 +156,13 @@ impl MendTally {
                     self.astray[place.expect("all are there")] += 1;
                 }
                 (4, _) => {
-                    shared.count(Tried::Dropped, declares_shared(&made.bytes[range.clone()]));
+                    let card = &made.bytes[range.clone()];
+                    shared.count(Tried::Dropped, declares_shared(card));
                     let whole = made.bytes.get(range.start..range.end + 1);
                     let cut = whole.is_some_and(|whole| baseline::judge(whole).is_ok());
                     self.refused[0] += u64::from(entry.length == 0);
                     self.refused[1] += u64::from(cut);
+                    self.refused[2] += u64::from(baseline::judge_old(card).is_ok());
                 }
                 _ => {}
             }

@@ -78,8 +78,8 @@ const TOO_MANY_STEPS: [usize; 8] = [
 ];
 
 /// The refusals in the order in which they are judged.
-const REFUSALS: [u8; 18] = [
-    1, 2, 3, 4, 5, 6, 7, 21, 22, 23, 24, 25, 26, 8, 9, 14, 15, 16,
+const REFUSALS: [u8; 19] = [
+    1, 2, 3, 4, 5, 6, 7, 17, 21, 22, 23, 24, 25, 26, 8, 9, 14, 15, 16,
 ];
 
 /// What a run has tried of odds.
@@ -445,6 +445,7 @@ fn evening(random: &mut Random) -> (Input, Question) {
         seats: states,
         table,
         misuse: None,
+        without_decimals: None,
         model: Some(model),
     };
     (input, question)

@@ -113,7 +113,7 @@ pub struct SpectatorTally {
     /// Shown, of nondeterministic and of probabilistic cards.
     shown: [u64; 2],
     /// By their number.
-    refused: [u64; 14],
+    refused: [u64; 18],
     /// Lists that were refused as they were meant to be.
     lists: [u64; List::SHARES.len()],
     /// Seats of a wrong number or state with a wrong list.
@@ -150,7 +150,7 @@ impl SpectatorTally {
         for (mode, count) in ["nondeterministic", "probabilistic"].iter().zip(self.shown) {
             least(&format!("spectators, {mode}"), count, SHOWN);
         }
-        for number in (1..=9).chain([13]) {
+        for number in (1..=9).chain([13, 17]) {
             let what = format!("spectators, refusal {number}");
             least(&what, self.refused[number], EACH_REFUSAL);
         }
@@ -181,9 +181,10 @@ impl fmt::Display for SpectatorTally {
         let [nondeterministic, probabilistic] = self.shown;
         write!(
             f,
-            "spectators  nondeterministic {nondeterministic}, probabilistic {probabilistic}; refused 1 to 9"
+            "spectators  nondeterministic {nondeterministic}, probabilistic {probabilistic}; refused 1 to 9, 17"
         )?;
-        (1..=9).try_for_each(|number| write!(f, " {}", self.refused[number]))?;
+        let mut numbers = (1..=9).chain([17]);
+        numbers.try_for_each(|number| write!(f, " {}", self.refused[number]))?;
         write!(f, "\nlists of classes refused (13) {}:", self.refused[13])?;
         for ((list, _), count) in List::SHARES.iter().zip(self.lists) {
             if !list.is_right() {

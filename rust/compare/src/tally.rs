@@ -6,6 +6,8 @@ use baseline::{Card, Mode, Node, Refusal};
 
 use crate::cards::limits::SEATS;
 use crate::check::Entry;
+use crate::converting::ConvertTally;
+use crate::decimals::DecimalTally;
 use crate::deck_check::DeckTally;
 use crate::first_moves::FirstMoveTally;
 use crate::inputs::{Input, Kind};
@@ -63,7 +65,7 @@ const DIGITS: [(&str, u8); 9] = [
     ("six digits", 5),
     ("six digits", 7),
     ("seven digits", 2),
-    ("six further digits", 7),
+    ("six further digits", 17),
     ("seven further digits", 2),
     ("a word with six digits", 3),
     ("six digits", 25),
@@ -110,10 +112,14 @@ const ROWS: [(&str, bool, bool); 4] = [
 ];
 const COLUMNS: [&str; 3] = ["everyone", "others, d=j", "others, d not j"];
 
+/// The refusals of a card and its seats.
+const REFUSALS: [u8; 10] = [1, 2, 3, 4, 5, 6, 7, 8, 9, 17];
+
 /// What a run has tried.
 #[derive(Default)]
 pub struct Tally {
-    kinds: [[u64; 10]; Kind::SHARES.len()],
+    /// By kind: accepted, and refused by [`REFUSALS`].
+    kinds: [[u64; 1 + REFUSALS.len()]; Kind::SHARES.len()],
     rooms: [u64; 4],
     /// Of each entry: in one walk, measured first.
     long_rooms: [[u64; 2]; Entry::ALL.len()],
@@ -155,6 +161,10 @@ pub struct Tally {
     pub decks: DeckTally,
     /// Decks that are mended.
     pub mending: MendTally,
+    /// Decks that are converted.
+    pub converting: ConvertTally,
+    /// Decimals.
+    pub decimals: DecimalTally,
     /// The shared number.
     pub shared: SharedTally,
 }
@@ -162,8 +172,11 @@ pub struct Tally {
 impl Tally {
     pub(crate) fn input(&mut self, kind: Kind, refusal: Option<&Refusal>) {
         let place = Kind::SHARES.iter().position(|(other, _)| *other == kind);
-        let number = refusal.map_or(0, |refusal| refusal.number);
-        self.kinds[place.expect("every kind has a share")][usize::from(number)] += 1;
+        let end = refusal.map_or(0, |refusal| {
+            let end = REFUSALS.iter().position(|number| *number == refusal.number);
+            1 + end.expect("there are no others")
+        });
+        self.kinds[place.expect("every kind has a share")][end] += 1;
     }
 
     pub(crate) fn room(&mut self, text: Option<usize>, room: usize) {
@@ -288,6 +301,8 @@ impl Tally {
         self.odds.add(&other.odds);
         self.decks.add(&other.decks);
         self.mending.add(&other.mending);
+        self.converting.add(&other.converting);
+        self.decimals.add(&other.decimals);
         self.shared.add(&other.shared);
     }
 
@@ -296,12 +311,9 @@ impl Tally {
         self.kinds.as_flattened().iter().sum()
     }
 
-    /// How many inputs were given this refusal, or a text for 0.
-    fn answered(&self, number: usize) -> u64 {
-        match number {
-            10 => self.rooms[0],
-            _ => self.kinds.iter().map(|kind| kind[number]).sum(),
-        }
+    /// How many inputs were accepted, for 0, or refused so.
+    fn ended_so(&self, end: usize) -> u64 {
+        self.kinds.iter().map(|kind| kind[end]).sum()
     }
 
     /// What was tried too seldom, in words.
@@ -313,14 +325,12 @@ impl Tally {
             }
         };
         least("inputs", self.inputs(), INPUTS);
-        least("accepted", self.answered(0), self.inputs().div_ceil(3));
-        for number in 1..=10 {
-            least(
-                &format!("refusal {number}"),
-                self.answered(number),
-                EACH_REFUSAL,
-            );
+        least("accepted", self.ended_so(0), self.inputs().div_ceil(3));
+        for (end, number) in (1..).zip(REFUSALS) {
+            let count = self.ended_so(end);
+            least(&format!("refusal {number}"), count, EACH_REFUSAL);
         }
+        least("refusal 10", self.rooms[0], EACH_REFUSAL);
         for (mode, places) in ["nondeterministic", "probabilistic"]
             .iter()
             .zip(&self.places)
@@ -403,6 +413,8 @@ impl Tally {
         self.odds.shortfalls(&mut least);
         self.decks.shortfalls(&mut least);
         self.mending.shortfalls(&mut least);
+        self.converting.shortfalls(&mut least);
+        self.decimals.shortfalls(&mut least);
         self.shared.shortfalls(&mut least);
         shortfalls
     }
@@ -412,7 +424,7 @@ impl fmt::Display for Tally {
     fn fmt(&self, f: &mut fmt::Formatter<'_>) -> fmt::Result {
         writeln!(
             f,
-            "{:<12}{:>8}{:>9}  refused 1 to 9",
+            "{:<12}{:>8}{:>9}  refused 1 to 9, 17",
             "inputs", "", "accepted"
         )?;
         for ((kind, _), counts) in Kind::SHARES.iter().zip(&self.kinds) {
@@ -433,9 +445,9 @@ impl fmt::Display for Tally {
             "{:<12}{:>8}{:>9} ",
             "all",
             self.inputs(),
-            self.answered(0)
+            self.ended_so(0)
         )?;
-        (1..10).try_for_each(|number| write!(f, "{:>7}", self.answered(number)))?;
+        (1..=REFUSALS.len()).try_for_each(|end| write!(f, "{:>7}", self.ended_so(end)))?;
         let [short, exact, larger, refused] = self.rooms;
         writeln!(
             f,
@@ -487,6 +499,7 @@ impl fmt::Display for Tally {
         self.print_questions(f)?;
         write!(f, "\n{}\n{}", self.spectators, self.first_moves)?;
         write!(f, "\n{}\n{}\n{}", self.odds, self.decks, self.mending)?;
+        write!(f, "\n{}\n{}", self.converting, self.decimals)?;
         write!(f, "\n{}", self.shared)
     }
 }

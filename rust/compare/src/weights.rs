@@ -1,4 +1,4 @@
-//! Weights that sum to one, in every spelling.
+//! Weights that sum to one, in every spelling; and as decimals, which they can no longer be.
 
 use crate::marks::Mark;
 use crate::random::Random;
@@ -27,13 +27,27 @@ pub const DIVISORS: [u32; 180] = {
 /// A weight: its units and its marks.
 pub type Weight = (u32, Vec<Mark>);
 
+/// All numbers that divide a hundred: what decimals of two digits are parts of.
+const OF_A_HUNDRED: [u32; 9] = [1, 2, 4, 5, 10, 20, 25, 50, 100];
+
 /// So many weights that sum to one.
 pub fn weights(count: usize, random: &mut Random) -> Vec<Weight> {
     let below = if random.once_in(2) {
-        random.pick(&[1, 2, 4, 5, 10, 20, 25, 50, 100])
+        random.pick(&OF_A_HUNDRED)
     } else {
         random.pick(&DIVISORS)
     };
+    parts(count, below, random)
+}
+
+/// The same, each of which could be a decimal.
+pub fn hundredths(count: usize, random: &mut Random) -> Vec<Weight> {
+    let below = random.pick(&OF_A_HUNDRED);
+    parts(count, below, random)
+}
+
+/// So many weights that sum to one, each so many parts of this number.
+fn parts(count: usize, below: u32, random: &mut Random) -> Vec<Weight> {
     let mut cuts: Vec<u32> = (1..count)
         .map(|_| random.below(below as usize + 1) as u32)
         .collect();
@@ -50,18 +64,23 @@ pub fn weights(count: usize, random: &mut Random) -> Vec<Weight> {
         .collect()
 }
 
+/// A spelling of a weight as a decimal, as it could be while those were taken; none if it takes more than two digits.
+pub fn decimal(units: u32, random: &mut Random) -> Option<Mark> {
+    if !units.is_multiple_of(UNIT / 100) {
+        return None;
+    }
+    let hundredths = units / (UNIT / 100);
+    let (whole, further) = (hundredths / 100, hundredths % 100);
+    let text = if further.is_multiple_of(10) && random.once_in(2) {
+        format!("{whole}.{}", further / 10)
+    } else {
+        format!("{whole}.{further:02}")
+    };
+    Some(Mark::new(text.as_bytes()))
+}
+
 /// One spelling of a weight.
 pub fn spelled(units: u32, random: &mut Random) -> Vec<Mark> {
-    let hundredths = units / (UNIT / 100);
-    if units.is_multiple_of(UNIT / 100) && random.once_in(2) {
-        let (whole, further) = (hundredths / 100, hundredths % 100);
-        let text = if further.is_multiple_of(10) && random.once_in(2) {
-            format!("{whole}.{}", further / 10)
-        } else {
-            format!("{whole}.{further:02}")
-        };
-        return vec![Mark::new(text.as_bytes())];
-    }
     if (units == 0 || units == UNIT) && !random.once_in(3) {
         return vec![Mark::number((units / UNIT) as usize)];
     }

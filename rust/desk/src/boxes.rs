@@ -1,11 +1,11 @@
-//! `desk box`: what a box holds, a card out of one, boxes of cards, and damaged boxes mended.
+//! `desk box`: what a box holds, a card out of one, boxes of cards, damaged boxes mended, and old ones converted.
 
 use std::fs;
 use std::io::{self, Write};
 use std::process::ExitCode;
 
 use desk::reason::{
-    of_deck, of_entries, of_mended, of_number, of_written, pair, Given, Reason, ENTRY,
+    of_converted, of_deck, of_entries, of_mended, of_number, of_written, pair, Given, Reason, ENTRY,
 };
 use desk::report;
 use open_panel::Refusal;
@@ -232,13 +232,8 @@ pub fn mend(words: &[&str]) -> ExitCode {
     let Deck { bytes, .. } = Deck::read(name);
     match open_panel::mend_to_vecs(&bytes) {
         Ok((deck, list)) => {
-            let told = became(&bytes, Some(&list));
             keep(mended, &deck);
-            if *mended == "-" {
-                eprint!("{told}");
-                return ExitCode::SUCCESS;
-            }
-            put(told.as_bytes())
+            told(mended, &became(&bytes, Some(&list)))
         }
         Err(refusal) => {
             let reason = of_mended(&bytes, refusal);
@@ -247,6 +242,62 @@ pub fn mend(words: &[&str]) -> ExitCode {
             ExitCode::FAILURE
         }
     }
+}
+
+/// `box convert BOX CONVERTED`.
+pub fn convert(words: &[&str]) -> ExitCode {
+    let [name, converted] = words else {
+        wrong_words("`desk box convert` takes the box from before, and the box to write");
+    };
+    let old = Deck::read(name);
+    match open_panel::convert_to_vec(&old.bytes) {
+        Ok(bytes) => {
+            let new = Deck {
+                name: converted,
+                bytes,
+            };
+            keep(converted, &new.bytes);
+            told(converted, &rewritten(&old, &new))
+        }
+        Err(refusal) => {
+            let reason = of_converted(&old.bytes, refusal);
+            // the place of 18 is a card's number, and no byte
+            let place = match refusal.number() {
+                11 => refusal.place(),
+                _ => 0,
+            };
+            eprint!("{}", in_hex(name, &old.bytes, place, &reason));
+            ExitCode::FAILURE
+        }
+    }
+}
+
+/// A line for each entry of a converted box: whether its card was written anew.
+fn rewritten(old: &Deck, new: &Deck) -> String {
+    let mut made = String::from("entry  number  became\n");
+    for (entry, (before, after)) in old.entries().zip(new.entries()).enumerate() {
+        let body =
+            |deck: &Deck, offset: usize, length: usize| deck.bytes[offset..][..length].to_vec();
+        let (number, live, offset, length) = before;
+        let (_, _, new_offset, new_length) = after;
+        let same = body(old, offset, length) == body(new, new_offset, new_length);
+        made += &format!("{:>5}  {number:>6}  ", entry + 1);
+        made += &match (live, same) {
+            (false, _) => "as it was, unread\n".to_string(),
+            (true, true) => "as it was\n".to_string(),
+            (true, false) => format!("converted: {new_length} bytes in place of {length}\n"),
+        };
+    }
+    made
+}
+
+/// Prints what became of a box: to standard error where the box itself goes to standard output.
+fn told(box_name: &str, lines: &str) -> ExitCode {
+    if box_name == "-" {
+        eprint!("{lines}");
+        return ExitCode::SUCCESS;
+    }
+    put(lines.as_bytes())
 }
 
 /// A line for each entry of a box: what became of it, and why.

@@ -103,6 +103,7 @@ fn main() -> ExitCode {
         ("box", ["list", rest @ ..]) if words.options.is_empty() => boxes::list(rest),
         ("box", ["find", rest @ ..]) if words.options.is_empty() => boxes::find(rest),
         ("box", ["mend", rest @ ..]) if words.options.is_empty() => boxes::mend(rest),
+        ("box", ["convert", rest @ ..]) if words.options.is_empty() => boxes::convert(rest),
         ("box", ["write", rest @ ..]) => {
             let withdrawn = words
                 .options

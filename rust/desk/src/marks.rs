@@ -17,14 +17,7 @@ pub enum Kind {
     /// A number.
     Number(u32),
     /// A number with a point and further digits.
-    Decimal {
-        /// What stands before the point.
-        whole: u32,
-        /// What stands behind it.
-        further: u32,
-        /// How many digits stand behind it.
-        digits: usize,
-    },
+    Decimal,
     /// A sign.
     Sign,
     /// Bytes that make no mark.
@@ -97,11 +90,7 @@ fn mark(text: &[u8], at: usize) -> Mark {
             let last = run(text, end + 1, digit);
             let digits = last - end - 1;
             let kind = match whole {
-                Some(whole) if digits <= NUMBER_DIGITS => Kind::Decimal {
-                    whole,
-                    further: value(&text[end + 1..last]),
-                    digits,
-                },
+                Some(_) if digits <= NUMBER_DIGITS => Kind::Decimal,
                 _ => Kind::Wrong,
             };
             return made(kind, last);

@@ -139,10 +139,10 @@ impl Found {
 
 /// What no other sentence fits.
 fn plain(number: u8, end: usize) -> Found {
-    const NAMES: [&str; 16] = [
+    const NAMES: [&str; 18] = [
         "plain.1", "plain.2", "plain.3", "plain.4", "plain.5", "plain.6", "plain.7", "plain.8",
         "plain.9", "plain.10", "plain.11", "plain.12", "plain.13", "plain.14", "plain.15",
-        "plain.16",
+        "plain.16", "plain.17", "plain.18",
     ];
     found(NAMES[usize::from(number) - 1], end, vec![])
 }
@@ -156,7 +156,7 @@ pub fn grouped(number: usize) -> String {
     let digits = number.to_string();
     let mut made = String::new();
     for (place, digit) in digits.chars().enumerate() {
-        if place > 0 && (digits.len() - place) % 3 == 0 {
+        if place > 0 && (digits.len() - place).is_multiple_of(3) {
             made.push(',');
         }
         made.push(digit);
@@ -201,7 +201,7 @@ fn text_of(bytes: &[u8]) -> String {
     text + if bytes.len() > LONGEST { ".." } else { "" }
 }
 
-/// Why a card is refused: 1 to 7.
+/// Why a card is refused: 1 to 7 and 17.
 fn of_card(card: &[u8], refusal: Refusal) -> Reason {
     let at = refusal.place();
     let reason = match refusal.number() {
@@ -215,6 +215,7 @@ fn of_card(card: &[u8], refusal: Refusal) -> Reason {
                 5 => state(card, &walk, card, &walk, at),
                 6 => word(card, &walk, at),
                 7 => weight(card, &walk, at),
+                17 => decimal(card, &walk, at),
                 _ => None,
             };
             reason.unwrap_or_else(|| plain(number, at))
@@ -303,8 +304,25 @@ fn mark(text: &[u8], at: usize, what: &'static str) -> Found {
         .map(|place| all[place])
         .filter(|mark| mark.end == at);
     let next = text.get(at + 1).copied().unwrap_or(0);
+    let weight_due = |marks: &[Mark]| {
+        let last = marks.last().map(|mark| mark.of(text));
+        matches!(last, Some(b"->" | b"+"))
+    };
     if bytes[0].is_ascii_digit() {
-        return digits(bytes, wrong.end);
+        // as in `0,05`, where the zero is not too much
+        let with_comma = match &all[..] {
+            [before @ .., whole, comma, _] if weight_due(before) => {
+                comma_for_point(text, *whole, *comma, wrong)
+            }
+            _ => None,
+        };
+        return match with_comma {
+            Some(reason) => Found {
+                end: wrong.end,
+                ..reason
+            },
+            None => digits(bytes, wrong.end, weight_due(&all[..all.len() - 1])),
+        };
     }
     match bytes[0] {
         b'.' if before.is_some_and(|mark| mark.of(text) == b"..") => {
@@ -312,7 +330,7 @@ fn mark(text: &[u8], at: usize, what: &'static str) -> Found {
                 .hint("hint.write", vec![("mended", fill(".."))])
         }
         b'.' if next.is_ascii_digit() => {
-            if before.is_some_and(|mark| matches!(mark.kind, Kind::Decimal { .. })) {
+            if before.is_some_and(|mark| mark.kind == Kind::Decimal) {
                 return found("mark.second-point", at + 1, vec![]);
             }
             let end = at
@@ -321,10 +339,10 @@ fn mark(text: &[u8], at: usize, what: &'static str) -> Found {
                     .iter()
                     .take_while(|byte| byte.is_ascii_digit())
                     .count();
+            let as_weight = weight_due(&all[..all.len() - 1]);
+            let (hint, fills) = in_place_of(b"0", &text[at + 1..end], as_weight);
             let short = text_of(&text[at..end]);
-            let mended = format!("0{short}");
-            found("mark.point-first", end, vec![("found", short)])
-                .hint("hint.write", vec![("mended", mended)])
+            found("mark.point-first", end, vec![("found", short)]).hint(hint, fills)
         }
         b'.' => {
             let reason = found("mark.point", at + 1, vec![]);
@@ -351,8 +369,8 @@ fn mark(text: &[u8], at: usize, what: &'static str) -> Found {
     }
 }
 
-/// Digits that make no number.
-fn digits(bytes: &[u8], end: usize) -> Found {
+/// Digits that make no number, where a weight is due or not.
+fn digits(bytes: &[u8], end: usize, as_weight: bool) -> Found {
     let (whole, further) = match bytes.iter().position(|&byte| byte == b'.') {
         Some(point) => (&bytes[..point], &bytes[point + 1..]),
         None => (bytes, &bytes[..0]),
@@ -360,16 +378,19 @@ fn digits(bytes: &[u8], end: usize) -> Found {
     let shown = text_of(bytes);
     if whole.len() > 1 && whole[0] == b'0' {
         let zeros = whole.iter().take_while(|&&byte| byte == b'0').count();
-        let mended = text_of(&bytes[zeros.min(whole.len() - 1)..]);
-        return found("mark.zero", end, vec![("found", shown)])
-            .hint("hint.write", vec![("mended", mended)]);
+        let whole = &whole[zeros.min(whole.len() - 1)..];
+        let (hint, fills) = match further {
+            [] => ("hint.write", vec![("mended", text_of(whole))]),
+            further => in_place_of(whole, further, as_weight),
+        };
+        return found("mark.zero", end, vec![("found", shown)]).hint(hint, fills);
     }
     let (name, digits) = if whole.len() > NUMBER_DIGITS {
         ("mark.digits", whole.len())
     } else {
         ("mark.further", further.len())
     };
-    found(
+    let reason = found(
         name,
         end,
         vec![
@@ -377,7 +398,68 @@ fn digits(bytes: &[u8], end: usize) -> Found {
             ("digits", fill(digits)),
             ("most", fill(NUMBER_DIGITS)),
         ],
-    )
+    );
+    match further {
+        [] => reason,
+        further => {
+            let (hint, fills) = in_place_of(whole, further, as_weight);
+            reason.hint(hint, fills)
+        }
+    }
+}
+
+/// A comma between digits, as some write a decimal.
+fn comma_for_point(text: &[u8], whole: Mark, comma: Mark, further: Mark) -> Option<Found> {
+    let digits = further.of(text);
+    let written = touching(&[whole, comma, further])
+        && matches!(whole.kind, Kind::Number(_))
+        && comma.of(text) == b","
+        && digits.iter().all(u8::is_ascii_digit);
+    if !written {
+        return None;
+    }
+    let shown = text_of(&text[whole.at..further.end]);
+    let (hint, fills) = in_place_of(whole.of(text), digits, true);
+    Some(found("shape.comma", comma.end, vec![("found", shown)]).hint(hint, fills))
+}
+
+/// Thirds and sixths, which many a decimal is meant for.
+const THIRDS: [(u64, u64); 4] = [(1, 3), (2, 3), (1, 6), (5, 6)];
+
+/// What may be written in place of a decimal: the fraction that it is, if it stands as a weight and that is one, or a fraction that it
+/// is cut or rounded from.
+fn in_place_of(whole: &[u8], further: &[u8], as_weight: bool) -> (&'static str, Fills) {
+    const MOST_DIGITS: usize = 9;
+    if !as_weight {
+        return ("hint.decimal", vec![]);
+    }
+    if whole.len() > NUMBER_DIGITS || further.len() > MOST_DIGITS {
+        return ("hint.chance", vec![]);
+    }
+    let value = |digits: &[u8]| {
+        digits
+            .iter()
+            .fold(0, |value, &digit| 10 * value + u64::from(digit - b'0'))
+    };
+    let one: u64 = further.iter().fold(1, |one, _| 10 * one);
+    let parts = value(whole) * one + value(further);
+    if parts > one {
+        return ("hint.at-most", vec![]);
+    }
+    let unit = u64::from(UNIT);
+    let exact = (parts * unit).is_multiple_of(one);
+    let exact = exact.then(|| fraction(parts, one));
+    let comes_near = |&&(above, below): &&(u64, u64)| {
+        let (cut, rounded) = (above * one / below, (2 * above * one + below) / (2 * below));
+        further.len() > 1 && (parts == cut || parts == rounded)
+    };
+    let near = THIRDS.iter().find(comes_near);
+    let near = near.map(|(above, below)| format!("{above}/{below}"));
+    match (exact, near) {
+        (Some(mended), Some(near)) => ("hint.either", vec![("mended", mended), ("near", near)]),
+        (Some(mended), None) | (None, Some(mended)) => ("hint.write", vec![("mended", mended)]),
+        (None, None) => ("hint.fraction", vec![("unit", grouped(UNIT as usize))]),
+    }
 }
 
 /// A character that no mark has.
@@ -446,18 +528,9 @@ fn shape(text: &[u8], walk: &Walk, at: usize, what: &'static str) -> Option<Foun
     let behind = walk.marks.get(stop.mark + 1);
     if shown == "," && stop.within == "behind weight" {
         if let (Some(before), Some(behind)) = (before, behind) {
-            if touching(&[before, mark, *behind])
-                && matches!(
-                    (before.kind, behind.kind),
-                    (Kind::Number(_), Kind::Number(_))
-                )
-            {
-                let (from, to) = (before.of(text), behind.of(text));
-                let fills = |sign| [text_of(from), fill(sign), text_of(to)].concat();
-                return Some(
-                    found("shape.comma", mark.end, vec![("found", fills(","))])
-                        .hint("hint.write", vec![("mended", fills("."))]),
-                );
+            let reason = comma_for_point(text, before, mark, *behind);
+            if reason.is_some() {
+                return reason;
             }
         }
     }
@@ -556,7 +629,7 @@ fn shape_hint(
     if doubled(text, before, mark) && matches!(&*shown, "&" | "|" | "=") {
         return mended("hint.single", &shown);
     }
-    if matches!(mark.kind, Kind::Decimal { .. }) {
+    if mark.kind == Kind::Decimal {
         return Some(("hint.decimal", vec![]));
     }
     let seat = matches!(mark.kind, Kind::Seat(_));
@@ -926,12 +999,7 @@ fn asked_one(one: &One, seats: usize) -> Option<Found> {
                 && literal.differs == (literal.seat as usize != seat)
                 && due.remove(&(literal.seat as usize))
         };
-        let right = term
-            .literals
-            .iter()
-            .map(right)
-            .fold(true, |all, one| all && one);
-        !right || !due.is_empty()
+        !term.literals.iter().all(right) || !due.is_empty()
     };
     let wrong = one
         .terms
@@ -964,20 +1032,20 @@ pub fn fraction(parts: u64, of: u64) -> String {
     }
 }
 
-/// Decimals that stand for thirds and sixths, and what is meant.
-const THIRDS: [(&str, &str); 5] = [
-    ("0.33", "1/3"),
-    ("0.66", "2/3"),
-    ("0.67", "2/3"),
-    ("0.16", "1/6"),
-    ("0.17", "1/6"),
-];
+/// A weight written as a decimal.
+fn decimal(card: &[u8], walk: &Walk, at: usize) -> Option<Found> {
+    let (mark, _) = walk.weights.iter().find(|(first, _)| first.at == at)?;
+    let shown = mark.of(card);
+    let point = shown.iter().position(|&byte| byte == b'.')?;
+    let (hint, fills) = in_place_of(&shown[..point], &shown[point + 1..], true);
+    Some(found("decimal", mark.end, vec![("found", text_of(shown))]).hint(hint, fills))
+}
 
 fn weight(card: &[u8], walk: &Walk, at: usize) -> Option<Found> {
     if let Some((first, last)) = walk.weights.iter().find(|(first, _)| first.at == at) {
         return wrong_weight(card, *first, *last);
     }
-    let (mark, sum, from) = walk.sums.iter().find(|(mark, ..)| mark.at == at)?;
+    let (mark, sum) = walk.sums.iter().find(|(mark, _)| mark.at == at)?;
     let (name, rest) = if *sum < UNIT {
         ("sum.less", UNIT - sum)
     } else {
@@ -988,22 +1056,7 @@ fn weight(card: &[u8], walk: &Walk, at: usize) -> Option<Found> {
         ("sum", fraction(u64::from(*sum), one)),
         ("rest", fraction(u64::from(rest), one)),
     ];
-    let reason = found(name, mark.end, fills);
-    let weights = walk.weights[*from..]
-        .iter()
-        .take_while(|(first, _)| first.at < at);
-    let mut thirds = weights.filter_map(|(first, _)| {
-        THIRDS
-            .iter()
-            .find(|(found, _)| found.as_bytes() == first.of(card))
-    });
-    Some(match thirds.next() {
-        Some((found, mended)) => reason.hint(
-            "hint.thirds",
-            vec![("found", fill(found)), ("mended", fill(mended))],
-        ),
-        None => reason,
-    })
+    Some(found(name, mark.end, fills))
 }
 
 fn wrong_weight(card: &[u8], first: Mark, last: Mark) -> Option<Found> {
@@ -1016,15 +1069,9 @@ fn wrong_weight(card: &[u8], first: Mark, last: Mark) -> Option<Found> {
     };
     let shown = ("found", shown);
     Some(match (first.kind, last.kind) {
-        (Kind::Decimal { digits, .. }, _) if digits > 2 => found(
-            "weight.digits",
-            last.end,
-            vec![shown, ("digits", fill(digits))],
-        ),
-        (Kind::Decimal { .. }, _) => found("weight.above", last.end, vec![shown]),
         _ if first == last => found("weight.whole", last.end, vec![shown]),
         (_, Kind::Number(0)) => found("weight.nothing", last.end, vec![shown]),
-        (_, Kind::Number(below)) if UNIT % below != 0 => {
+        (_, Kind::Number(below)) if !UNIT.is_multiple_of(below) => {
             let fills = vec![
                 shown,
                 ("below", fill(below)),
@@ -1430,6 +1477,96 @@ fn of_rule(
     sentence(of, &fills)
 }
 
+/// Why a box cannot be converted: 11, or 18, whose place is the number of a card.
+pub fn of_converted(deck: &[u8], refusal: Refusal) -> Reason {
+    match refusal {
+        Refusal::NotConverted { card } => {
+            let reason = not_converted(deck, card).unwrap_or_else(|| plain(18, 0));
+            reason.said(refusal, 0)
+        }
+        _ => of_deck(deck, refusal.place(), refusal),
+    }
+}
+
+/// Why this card of a sound box is not converted, if that can be told.
+fn not_converted(deck: &[u8], card_number: u16) -> Option<Found> {
+    let count = usize::from(*deck.first()?);
+    let mut entries = deck[1..].chunks_exact(ENTRY).take(count);
+    let entry = entries.find(|entry| pair(entry, 0) == usize::from(card_number))?;
+    let card = &deck[pair(entry, 2)..][..pair(entry, 4)];
+    let number = ("number", fill(card_number));
+    let full = found(
+        "deck.full",
+        0,
+        vec![number.clone(), ("most", grouped(DECK_BYTES))],
+    );
+    let live = entry[6] == 1;
+    // alone in a box there is room for it, so that what is wrong is the card
+    let alone = open_panel::write_deck_to_vec(entry, card).ok()?;
+    if !live || open_panel::convert_to_vec(&alone).is_ok() {
+        return Some(full);
+    }
+    let (fractions, from) = with_fractions(card);
+    match open_panel::write_to_vec(&fractions) {
+        Ok(written) => Some(found(
+            "deck.layout",
+            0,
+            vec![
+                number,
+                ("bytes", many(written.len(), "byte")),
+                ("most", grouped(CARD_BYTES)),
+            ],
+        )),
+        // longer by its fractions: what it was refused for is not known
+        Err(Refusal::Long) if card.len() <= CARD_BYTES => None,
+        Err(refusal) => {
+            let reason = of_card(&fractions, refusal);
+            let mut fills = vec![number, ("place", grouped(from(refusal.place())))];
+            let name = match refusal {
+                Refusal::Decimal { .. } => {
+                    fills.push(("found", text_of(&fractions[reason.span])));
+                    "deck.decimal"
+                }
+                _ => {
+                    fills.push(("why", reason.sentence));
+                    "deck.refused"
+                }
+            };
+            Some(found(name, 0, fills))
+        }
+    }
+}
+
+/// A card with the fractions that its decimals were taken for when they were weights, and for a place in that the place on the card. A
+/// decimal that was no weight then stays, and is refused.
+fn with_fractions(card: &[u8]) -> (Vec<u8>, impl Fn(usize) -> usize) {
+    let mut made = Vec::new();
+    // for each fraction where it ends, there and on the card
+    let mut ends = vec![(0, 0)];
+    for (mark, _) in walk::card(card).weights {
+        let shown = String::from_utf8_lossy(mark.of(card));
+        let Some((whole, further)) = shown.split_once('.') else {
+            continue;
+        };
+        let hundredths = format!("{whole}{further:0<2}").parse();
+        let (Ok(hundredths @ 0..=100), 1..=2) = (hundredths, further.len()) else {
+            continue;
+        };
+        let (_, behind) = ends[ends.len() - 1];
+        made.extend(&card[behind..mark.at]);
+        made.extend(fraction(hundredths, 100).bytes());
+        ends.push((made.len(), mark.end));
+    }
+    let (_, behind) = ends[ends.len() - 1];
+    made.extend(&card[behind..]);
+    let from = move |place: usize| {
+        let before = ends.iter().rev().find(|(end, _)| *end <= place);
+        let (there, here) = before.expect("the first is at the start");
+        place - there + here
+    };
+    (made, from)
+}
+
 /// Why no live card was found: 12. The boxes are sound.
 pub fn of_number(number: u16, decks: &[&[u8]], refusal: Refusal) -> Reason {
     let numbers = |deck: &&[u8]| {
@@ -1452,7 +1589,7 @@ pub fn of_written(contents: &[u8], bodies: &[u8], refusal: Refusal) -> Reason {
     let said = |byte: usize| fill(contents[at - at % ENTRY + byte]);
     let reason = if contents.len() / ENTRY > DECK_CARDS
         || contents.is_empty()
-        || contents.len() % ENTRY != 0
+        || !contents.len().is_multiple_of(ENTRY)
     {
         found(
             "deck.contents",

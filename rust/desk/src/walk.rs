@@ -96,8 +96,8 @@ pub struct Walk {
     pub words: Vec<Due>,
     /// Weights: their first and last mark.
     pub weights: Vec<(Mark, Mark)>,
-    /// Sums: the `;`, the parts of [`UNIT`] that the weights before it come to, and where in `weights` they begin.
-    pub sums: Vec<(Mark, u32, usize)>,
+    /// Sums: the `;`, and the parts of [`UNIT`] that the weights before it come to.
+    pub sums: Vec<(Mark, u32)>,
     /// Statements: the first byte, and the byte behind the last.
     pub statements: Vec<(usize, usize)>,
     /// The numbers of the module words, one for each module.
@@ -380,7 +380,7 @@ impl Walker<'_> {
         let first = self.met.weights.len();
         let mut sum = 0;
         loop {
-            if !matches!(self.peek().kind, Kind::Number(_) | Kind::Decimal { .. }) {
+            if !matches!(self.peek().kind, Kind::Number(_) | Kind::Decimal) {
                 return self.stop("weight", &["@weight"]);
             }
             if self.met.weights.len() - first == BRANCHES {
@@ -403,7 +403,7 @@ impl Walker<'_> {
             }
             if self.is(";") {
                 let mark = self.take();
-                self.met.sums.push((mark, sum, first));
+                self.met.sums.push((mark, sum));
                 return Ok(());
             }
             if !self.takes("+") {
@@ -637,23 +637,13 @@ impl Walker<'_> {
     }
 }
 
-/// A weight in units, if it is good: a number or a decimal, or a fraction of two numbers.
+/// A weight in units, if it is good: a number, or a fraction of two numbers. A decimal is none.
 pub fn units(first: Mark, below: Option<Mark>) -> Option<u32> {
     match (first.kind, below.map(|mark| mark.kind)) {
         (Kind::Number(number), None) => (number <= 1).then_some(number * UNIT),
-        (
-            Kind::Decimal {
-                whole,
-                further,
-                digits,
-            },
-            None,
-        ) => {
-            let hundredths = 100 * whole + if digits == 1 { 10 * further } else { further };
-            (digits <= 2 && hundredths <= 100).then(|| UNIT / 100 * hundredths)
-        }
         (Kind::Number(above), Some(Kind::Number(below))) => {
-            (below != 0 && UNIT % below == 0 && above <= below).then(|| UNIT / below * above)
+            (below != 0 && UNIT.is_multiple_of(below) && above <= below)
+                .then(|| UNIT / below * above)
         }
         _ => None,
     }

@@ -3,10 +3,13 @@
 
 use std::collections::BTreeSet;
 
-use desk::reason::{of_deck, of_entries, of_mended, of_number, of_written, Given, Of, Reason};
+use desk::reason::{
+    of_converted, of_deck, of_entries, of_mended, of_number, of_written, Given, Of, Reason,
+};
 use desk::words;
 use open_panel::{
-    find, judge_deck, mend_to_vecs, odds_in_own_rows, write_deck_to_vec, Aim, Refusal,
+    convert_to_vec, find, judge_deck, mend_to_vecs, odds_in_own_rows, write_deck_to_vec, Aim,
+    Refusal, CARD_BYTES, DECK_BYTES,
 };
 
 const TABLE: &str = include_str!("../../../desk/wrong-cards.txt");
@@ -392,6 +395,100 @@ fn a_box_past_mending_is_told() {
             if deck.len() == 23 { 2 } else { 0 }
         );
     }
+}
+
+/// A box of cards, each with its number and whether it is live.
+fn box_of(cards: &[(u16, bool, &[u8])]) -> Vec<u8> {
+    let (mut contents, mut bodies) = (Vec::new(), Vec::new());
+    for (number, live, card) in cards {
+        contents.extend(number.to_le_bytes());
+        contents.extend([0, 0]);
+        contents.extend((card.len() as u16).to_le_bytes());
+        contents.extend([u8::from(*live), 0]);
+        bodies.extend(*card);
+    }
+    write_deck_to_vec(&contents, &bodies).unwrap()
+}
+
+/// A card of one seat with these weights.
+fn weighed(weights: &str) -> Vec<u8> {
+    let head = "nondeterministic module process1 s1:[0..1]init 0;";
+    format!("{head}[]s1=0->{weights};endmodule ").into_bytes()
+}
+
+#[test]
+fn a_card_that_cannot_be_converted_is_explained() {
+    let old = weighed("0.5:(s1'=0)+0.5:(s1'=1)");
+    let why = |card: &[u8]| {
+        let deck = box_of(&[(3, true, &old), (400, true, card)]);
+        let refusal = convert_to_vec(&deck).unwrap_err();
+        let reason = of_converted(&deck, refusal);
+        let (number, place, sentence) = said(&reason);
+        assert_eq!((number, place), (18, 400));
+        sentence.to_string()
+    };
+    // what is wrong is told where it stands on the card as it is, behind decimals that were weights
+    let before = "card 400 is wrong apart from decimals: at its byte";
+    assert_eq!(
+        why(&weighed("0.37:(s1'=0)+0.37:(s1'=2)+0.26:(s1'=1)")),
+        format!("{before} 80, the seat goes to role 2, and the card's highest is 1")
+    );
+    assert_eq!(
+        why(&weighed("0.37:(s1'=0)+0.64:(s1'=1)")),
+        format!("{before} 82, the weights come to 101/100, and 1 was due: 1/100 is too much")
+    );
+    assert_eq!(
+        why(&weighed("0.37:(s1'=0)+0.630:(s1'=1)")),
+        "card 400 has the weight `0.630` at its byte 70, and a decimal is converted if it has one or two digits behind its point and is at most 1"
+    );
+    assert_eq!(
+        why(b"0.5"),
+        format!("{before} 0, `0.5` stands here, and `probabilistic` or `nondeterministic` was due")
+    );
+    assert_eq!(
+        why(&b" ".repeat(CARD_BYTES + 1)),
+        format!("{before} 0, the card has 16,385 bytes, and a card has at most 16,384")
+    );
+
+    // Without blanks it fits, and in its one layout not.
+    let group: Vec<String> = (1..=16).map(|seat| format!("s{seat}=0")).collect();
+    let guard = format!("&({})", group.join("&")).repeat(8);
+    let modules: String = (2..=16)
+        .map(|seat| format!("module process{seat}=process1[s1=s{seat},s{seat}=s1]endmodule "))
+        .collect();
+    let statements = format!("[]s1=0{guard}->0.25:(s1'=0)+0.75:(s1'=1);").repeat(18);
+    let head = "nondeterministic module process1 s1:[0..1]init 0;";
+    let packed = format!("{head}{statements}endmodule {modules}");
+    assert_eq!(
+        why(packed.as_bytes()),
+        "card 400 takes 18,972 bytes in its one layout, and a card has at most 16,384"
+    );
+
+    // A card that is right, or withdrawn, has no room left by those before it, as the first one grows.
+    let full = |live: bool| {
+        let last = weighed("1:(s1'=1)");
+        let fills = vec![b'-'; DECK_BYTES - 25 - old.len() - last.len()];
+        let cards = [
+            (3, true, &old[..]),
+            (4, false, &fills),
+            (400, live, &last[..]),
+        ];
+        let deck = box_of(&cards);
+        let refusal = convert_to_vec(&deck).unwrap_err();
+        said(&of_converted(&deck, refusal)).2.to_string()
+    };
+    for live in [true, false] {
+        assert_eq!(
+            full(live),
+            "card 400 would end past byte 65,535 of the new box, and a box has no more"
+        );
+    }
+
+    let mut malformed = box_of(&[(3, true, &old)]);
+    malformed[8] = 1;
+    let refusal = convert_to_vec(&malformed).unwrap_err();
+    let due = (11, 8, "the last byte of entry 1 is 1, and 0 was due");
+    assert_eq!(said(&of_converted(&malformed, refusal)), due);
 }
 
 #[test]

@@ -1,4 +1,4 @@
-//! Decks: cards in a box, found by their numbers, and damaged boxes mended.
+//! Decks: cards in a box, found by their numbers; damaged boxes mended, and old ones converted.
 
 use crate::{in_own_room, library, Answer, Refusal};
 
@@ -135,8 +135,9 @@ pub struct Mended {
 /// length, then 10 with the list's.
 ///
 /// By rule 1 an entry's flag is 0 or 1 and its last byte 0; by rule 2 its number is higher than all kept before; by rule 3 its body
-/// lies within the deck, behind the contents and the last body kept; by rule 4 its card is taken, if it is live. The new
-/// deck is never longer than the old one, so a room of the old one's length is always enough; for the list [`LIST_ROOM`] is.
+/// lies within the deck, behind the contents and the last body kept; by rule 4 its card is taken, if it is live. A card with a
+/// decimal for a weight is not, so an old deck is [converted](convert) first. The new deck is never longer than the old one, so a
+/// room of the old one's length is always enough; for the list [`LIST_ROOM`] is.
 ///
 /// ```
 /// // Of two withdrawn cards the second has a flag that is none.
@@ -172,4 +173,38 @@ pub fn mend_to_vecs(deck: &[u8]) -> Result<(Vec<u8>, Vec<u8>), Refusal> {
     list.truncate(listed);
     list.shrink_to_fit();
     Ok((mended, list))
+}
+
+/// Puts a deck from before version 0.11.0, when a weight could be a decimal, into a lent room as one whose live cards are all
+/// taken: its length is answered. A live card with such a weight stands there in its written form, in which every weight is `0`,
+/// `1` or a fraction, and means what it meant; any other live card stands there as it was, and so does a withdrawn one, which is
+/// not read. Numbers, flags and order stay, and gaps are closed. Refusals: 11, then 18, whose place is a card number, then 10.
+///
+/// A written form can be longer than the card was, and the new deck longer than the old one; a room of [`DECK_BYTES`] is always
+/// enough.
+///
+/// ```
+/// use open_panel::Refusal;
+///
+/// let old = b"probabilistic module process1 s1 : [0..1] init 0;
+///     [] s1=0 -> 0.25:(s1'=0) + 0.75:(s1'=1); endmodule";
+/// assert_eq!(open_panel::judge(old), Err(Refusal::Decimal { at: 65 }));
+/// let deck = open_panel::write_deck_to_vec(&[5, 0, 0, 0, old.len() as u8, 0, 1, 0], old)?;
+/// let mut room = [0; open_panel::DECK_BYTES];
+/// let length = open_panel::convert(&deck, &mut room)?;
+/// let card = open_panel::find(&room[..length], 5)?;
+/// assert!(card.ends_with(b"[] s1=0 -> 1/4:(s1'=0) + 3/4:(s1'=1);\nendmodule\n"));
+///
+/// // What never was a card is named by its number.
+/// let deck = open_panel::write_deck_to_vec(&[5, 0, 0, 0, 3, 0, 1, 0], b"0.5")?;
+/// assert_eq!(open_panel::convert(&deck, &mut room), Err(Refusal::NotConverted { card: 5 }));
+/// # Ok::<(), Refusal>(())
+/// ```
+pub fn convert(deck: &[u8], room: &mut [u8]) -> Result<usize, Refusal> {
+    library::convert(deck, room).into_result()
+}
+
+/// The converted deck. Refusals: 11, then 18.
+pub fn convert_to_vec(deck: &[u8]) -> Result<Vec<u8>, Refusal> {
+    in_own_room(DECK_BYTES, |room| convert(deck, room))
 }

@@ -1,8 +1,8 @@
 //! The open panel for Rust: rule cards are judged, written, reduced to
 //! counters, and shown, spectators are shown what they may see, questions about
 //! a seating are answered, also whether they come true within some steps, it is
-//! said whether anyone can move, cards are found in decks, and damaged decks are
-//! mended, by the verified library.
+//! said whether anyone can move, cards are found in decks, damaged decks are
+//! mended, and old ones converted, by the verified library.
 //!
 //! Every entry that takes a card takes it as bytes and judges it first. A text goes into a
 //! room that the caller lends: an entry answers the text's length, and leaves
@@ -48,8 +48,8 @@ mod refusal;
 pub mod stack;
 
 pub use deck::{
-    find, find_with, judge_deck, locate, locate_with, mend, mend_to_vecs, write_deck,
-    write_deck_to_vec, Mended, Part, DECK_BYTES, DECK_CARDS, LIST_ROOM,
+    convert, convert_to_vec, find, find_with, judge_deck, locate, locate_with, mend, mend_to_vecs,
+    write_deck, write_deck_to_vec, Mended, Part, DECK_BYTES, DECK_CARDS, LIST_ROOM,
 };
 pub use odds::{odds, odds_in_own_rows, Aim, CERTAIN, ODDS_ROW, ODDS_STEPS};
 pub use refusal::Refusal;
@@ -103,32 +103,32 @@ pub fn version() -> &'static str {
     library::version()
 }
 
-/// Says whether a card is taken. Refusals: 1 to 7.
+/// Says whether a card is taken. Refusals: 1 to 7 and 17.
 pub fn judge(card: &[u8]) -> Result<(), Refusal> {
     let length = library::judge(card).into_result()?;
     assert_eq!(length, 0, "the library judges without a text");
     Ok(())
 }
 
-/// Puts the card's one written form into a lent room. Refusals: 1 to 7, and 10.
+/// Puts the card's one written form into a lent room. Refusals: 1 to 7 and 17, then 10.
 pub fn write(card: &[u8], room: &mut [u8]) -> Result<usize, Refusal> {
     library::write(card, room).into_result()
 }
 
-/// Puts the reduced program, counters in place of seats, into a lent room. Refusals: 1 to 7, and 10.
+/// Puts the reduced program, counters in place of seats, into a lent room. Refusals: 1 to 7 and 17, then 10.
 pub fn reduce(card: &[u8], room: &mut [u8]) -> Result<usize, Refusal> {
     library::reduce(card, room).into_result()
 }
 
 /// Puts the panel of a seating, a state for each seat and behind them the shared number where the card has one, into a lent room.
-/// Refusals: 1 to 10.
+/// Refusals: 1 to 7 and 17, then 8 to 10.
 pub fn show(card: &[u8], seats: &[u8], room: &mut [u8]) -> Result<usize, Refusal> {
     library::show(card, seats, room).into_result()
 }
 
 /// Puts what a spectator sees of a seating into a lent room: the line `classes` and how many seats are in each public class, 0 to
 /// [`TOP_CLASS`]. The list has the class of each state of the card. A shared number is judged with the seats, and not seen.
-/// Refusals: 1 to 9, 13, then 10.
+/// Refusals: 1 to 7 and 17, then 8 and 9, 13, then 10.
 ///
 /// ```
 /// let card = b"nondeterministic module process1 s1 : [0..1] init 0;
@@ -144,7 +144,7 @@ pub fn watch(card: &[u8], seats: &[u8], classes: &[u8], room: &mut [u8]) -> Resu
 
 /// Says whether a question holds at a seating. It is an expression of groups of all seats, such as
 /// `!(s1=0 | s2=0)`, with `((s1=0 & s2!=0) | (s1!=0 & s2=0))` for exactly one, and on a card that shares a number of
-/// tests of that, such as `(g!=1)`. Refusals: 1 to 7, 21 to 26, then 8 and 9.
+/// tests of that, such as `(g!=1)`. Refusals: 1 to 7 and 17, 21 to 26, then 8 and 9.
 ///
 /// ```
 /// let card = b"nondeterministic module process1 s1 : [0..1] init 0;
@@ -161,7 +161,7 @@ pub fn ask(card: &[u8], question: &[u8], seats: &[u8]) -> Result<bool, Refusal> 
 }
 
 /// Says which statement is the first on the card, from 1, that some seat may take; none if nobody can move.
-/// Refusals: 1 to 9.
+/// Refusals: 1 to 7 and 17, then 8 and 9.
 ///
 /// ```
 /// let card = b"nondeterministic module process1 s1 : [0..1] init 0;
@@ -176,22 +176,22 @@ pub fn first_move(card: &[u8], seats: &[u8]) -> Result<Option<usize>, Refusal> {
     }
 }
 
-/// The card's one written form. Refusals: 1 to 7.
+/// The card's one written form. Refusals: 1 to 7 and 17.
 pub fn write_to_vec(card: &[u8]) -> Result<Vec<u8>, Refusal> {
     in_own_room(WRITE_ROOM, |room| write(card, room))
 }
 
-/// The reduced program. Refusals: 1 to 7.
+/// The reduced program. Refusals: 1 to 7 and 17.
 pub fn reduce_to_vec(card: &[u8]) -> Result<Vec<u8>, Refusal> {
     in_own_room(REDUCE_ROOM, |room| reduce(card, room))
 }
 
-/// The panel of a seating. Refusals: 1 to 9.
+/// The panel of a seating. Refusals: 1 to 7 and 17, then 8 and 9.
 pub fn show_to_vec(card: &[u8], seats: &[u8]) -> Result<Vec<u8>, Refusal> {
     in_own_room(SHOW_ROOM, |room| show(card, seats, room))
 }
 
-/// What a spectator sees of a seating. Refusals: 1 to 9, then 13.
+/// What a spectator sees of a seating. Refusals: 1 to 7 and 17, then 8 and 9, then 13.
 pub fn watch_to_vec(card: &[u8], seats: &[u8], classes: &[u8]) -> Result<Vec<u8>, Refusal> {
     in_own_room(WATCH_ROOM, |room| watch(card, seats, classes, room))
 }

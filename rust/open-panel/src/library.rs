@@ -95,6 +95,12 @@ extern "C" {
         list_len: usize,
         listed: *mut usize,
     ) -> Answer;
+    fn open_panel_convert(
+        deck: *const u8,
+        deck_len: usize,
+        room: *mut u8,
+        room_len: usize,
+    ) -> Answer;
 }
 
 // The library asks for nothing but pieces of memory, of which the rooms, the
@@ -248,6 +254,11 @@ pub(crate) fn mend(deck: &[u8], room: &mut [u8], list: &mut [u8], listed: &mut u
             listed,
         )
     }
+}
+
+pub(crate) fn convert(deck: &[u8], room: &mut [u8]) -> Answer {
+    // SAFETY: as above.
+    unsafe { open_panel_convert(deck.as_ptr(), deck.len(), room.as_mut_ptr(), room.len()) }
 }
 
 pub(crate) fn version() -> &'static str {

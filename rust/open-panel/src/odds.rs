@@ -20,7 +20,7 @@ pub enum Aim {
 }
 
 /// The chance that a question becomes true within so many steps from a seating, in millionths: never more than it is, and less
-/// by one for each step at most. Refusals: 1 to 7, 21 to 26, 8, 9, then 14 to 16.
+/// by one for each step at most. Refusals: 1 to 7 and 17, 21 to 26, 8, 9, then 14 to 16.
 ///
 /// The rows are lent, [`ODDS_ROW`] numbers each. Afterwards the first has the chance from each count vector, ordered by how many
 /// seats are in state 0, then in state 1 and so on, and last by the shared number; the second has the same for a step less, or
@@ -53,7 +53,7 @@ pub fn odds(
     Ok(chance.expect("the library has no chance above one"))
 }
 
-/// The same chance, in rows of its own. Refusals: 1 to 7, 21 to 26, 8, 9, then 14 and 15.
+/// The same chance, in rows of its own. Refusals: 1 to 7 and 17, 21 to 26, 8, 9, then 14 and 15.
 pub fn odds_in_own_rows(
     card: &[u8],
     question: &[u8],

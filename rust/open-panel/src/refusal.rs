@@ -38,7 +38,7 @@ pub enum Refusal {
         /// Where the word or the group starts.
         at: usize,
     },
-    /// 7: a weight that is none, or a statement whose weights do not come to 1.
+    /// 7: a number or a fraction that is no weight, or a statement whose weights do not come to 1.
     Weight {
         /// Where the weight starts, or the closing `;`.
         at: usize,
@@ -77,6 +77,17 @@ pub enum Refusal {
     Steps,
     /// 16: a lent row that is not [`ODDS_ROW`](crate::ODDS_ROW) numbers long.
     Row,
+    /// 17: a weight written as a decimal, such as `0.5`, where `1/2` has to stand.
+    Decimal {
+        /// Where the weight starts.
+        at: usize,
+    },
+    /// 18: a live card that was not taken when decimals were, one whose written form is longer than
+    /// [`CARD_BYTES`](crate::CARD_BYTES), or any card that would end past [`DECK_BYTES`](crate::DECK_BYTES) in the new deck.
+    NotConverted {
+        /// The number of the first such card in the deck.
+        card: u16,
+    },
     /// 21: the question is longer than [`QUESTION_BYTES`](crate::QUESTION_BYTES).
     QuestionLong,
     /// 22: bytes in the question that make no mark, or a number written too long.
@@ -108,7 +119,8 @@ pub enum Refusal {
 
 impl Refusal {
     /// The refusal of this number at this place, if there is one: the numbers
-    /// are 1 to 16 and 21 to 26, and the place of 1, 8, 12, 14 to 16 and 21 is always 0.
+    /// are 1 to 18 and 21 to 26, the place of 1, 8, 12, 14 to 16 and 21 is always 0, and
+    /// that of 18 is a card number, of 16 bits.
     pub const fn new(number: u8, place: usize) -> Option<Refusal> {
         Some(match number {
             1 if place == 0 => Refusal::Long,
@@ -127,6 +139,8 @@ impl Refusal {
             14 if place == 0 => Refusal::Vectors,
             15 if place == 0 => Refusal::Steps,
             16 if place == 0 => Refusal::Row,
+            17 => Refusal::Decimal { at: place },
+            18 if place <= u16::MAX as usize => Refusal::NotConverted { card: place as u16 },
             21 if place == 0 => Refusal::QuestionLong,
             22 => Refusal::QuestionMark { at: place },
             23 => Refusal::QuestionShape { at: place },
@@ -137,7 +151,7 @@ impl Refusal {
         })
     }
 
-    /// Its number, 1 to 16 or 21 to 26.
+    /// Its number, 1 to 18 or 21 to 26.
     pub const fn number(&self) -> u8 {
         match self {
             Refusal::Long => 1,
@@ -156,6 +170,8 @@ impl Refusal {
             Refusal::Vectors => 14,
             Refusal::Steps => 15,
             Refusal::Row => 16,
+            Refusal::Decimal { .. } => 17,
+            Refusal::NotConverted { .. } => 18,
             Refusal::QuestionLong => 21,
             Refusal::QuestionMark { .. } => 22,
             Refusal::QuestionShape { .. } => 23,
@@ -165,7 +181,7 @@ impl Refusal {
         }
     }
 
-    /// Its place: a byte of the card, of the question or of a deck, a seat, a state, a length, or 0.
+    /// Its place: a byte of the card, of the question or of a deck, a seat, a state, a length, a card's number, or 0.
     pub const fn place(&self) -> usize {
         match *self {
             Refusal::Long
@@ -183,6 +199,7 @@ impl Refusal {
             | Refusal::Weight { at }
             | Refusal::Deck { at }
             | Refusal::Classes { at }
+            | Refusal::Decimal { at }
             | Refusal::QuestionMark { at }
             | Refusal::QuestionShape { at }
             | Refusal::QuestionLimit { at }
@@ -190,6 +207,7 @@ impl Refusal {
             | Refusal::QuestionGroup { at } => at,
             Refusal::SeatState { seat } => seat,
             Refusal::Room { needed } => needed,
+            Refusal::NotConverted { card } => card as usize,
         }
     }
 
@@ -206,7 +224,7 @@ impl Refusal {
     /// Line and column, both from 1, of a refusal that stands at a byte of this
     /// text: the question if it [is of one](Refusal::is_of_question), or else the card.
     pub fn line_and_column(&self, text: &[u8]) -> Option<(usize, usize)> {
-        if !matches!(self.number(), 2..=7 | 22..=26) {
+        if !matches!(self.number(), 2..=7 | 17 | 22..=26) {
             return None;
         }
         let before = text.get(..self.place())?;
@@ -237,7 +255,8 @@ impl fmt::Display for Refusal {
             | Refusal::Limit { .. }
             | Refusal::State { .. }
             | Refusal::Word { .. }
-            | Refusal::Weight { .. } => write!(f, "byte {place}: {words}"),
+            | Refusal::Weight { .. }
+            | Refusal::Decimal { .. } => write!(f, "byte {place}: {words}"),
             Refusal::SeatState { .. } => write!(f, "byte {place} of the seats: {words}"),
             Refusal::Room { .. } => write!(f, "{words}: {place} bytes are needed"),
             Refusal::Deck { .. } => write!(
@@ -248,6 +267,7 @@ impl fmt::Display for Refusal {
                 f,
                 "a list of {place} classes, or the class of state {place}: {words}"
             ),
+            Refusal::NotConverted { card } => write!(f, "card {card}: {words}"),
             Refusal::QuestionMark { .. }
             | Refusal::QuestionShape { .. }
             | Refusal::QuestionLimit { .. }

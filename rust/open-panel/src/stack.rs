@@ -27,3 +27,5 @@ pub const FIND_WITH: usize = 256;
 pub const WRITE_DECK: usize = 256;
 /// [`mend`](crate::mend)
 pub const MEND: usize = 11_008;
+/// [`convert`](crate::convert), in a lent room
+pub const CONVERT: usize = 12_160;

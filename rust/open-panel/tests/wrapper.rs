@@ -81,6 +81,16 @@ fn refusals_have_number_place_and_words() {
         (15, 0, "more than 32 steps (refusal 15)"),
         (16, 0, "a lent row does not have 512 numbers (refusal 16)"),
         (
+            17,
+            7,
+            "byte 7: a decimal for a weight, where 0, 1 or a fraction has to stand (refusal 17)",
+        ),
+        (
+            18,
+            7,
+            "card 7: a card that cannot be converted, or does not fit into the new deck (refusal 18)",
+        ),
+        (
             21,
             0,
             "the question is longer than 16384 bytes (refusal 21)",
@@ -117,7 +127,12 @@ fn refusals_have_number_place_and_words() {
         assert_eq!(refusal.to_string(), words);
         assert_eq!(refusal.is_of_question(), words.contains("the question"));
     }
-    for number in [0, 17, 20, 27, 255] {
+    assert_eq!(
+        Refusal::new(18, 65_535),
+        Some(Refusal::NotConverted { card: 65_535 })
+    );
+    assert_eq!(Refusal::new(18, 65_536), None);
+    for number in [0, 19, 20, 27, 255] {
         assert_eq!(Refusal::new(number, 0), None);
     }
     for number in [1, 8, 12, 14, 15, 16, 21] {
@@ -125,22 +140,85 @@ fn refusals_have_number_place_and_words() {
     }
 }
 
+/// The card with these weights in place of its one.
+fn weighed(weights: &str) -> Vec<u8> {
+    let text = std::str::from_utf8(CARD).unwrap();
+    text.replace("1:(s1'=1)", weights).into_bytes()
+}
+
 #[test]
 fn elevenths() {
-    let text = std::str::from_utf8(CARD).unwrap();
-    let card = |weights: &str| text.replace("1:(s1'=1)", weights).into_bytes();
-    let elevenths = card("1/11:(s1'=1) + 10/11:(s1'=0)");
+    let elevenths = weighed("1/11:(s1'=1) + 10/11:(s1'=0)");
     let panel =
         "nondeterministic\nseats 1 enabled 1\ncounts 1 0\nchoice 1\nstay 252000\nmove 0 1 25200\n";
     assert_eq!(
         show_to_vec(&elevenths, &[0]).as_deref(),
         Ok(panel.as_bytes())
     );
-    let at = text.find("1:(s1'=1)").unwrap();
-    let refused = |weights: &str| judge(&card(weights)).unwrap_err();
+    let at = std::str::from_utf8(CARD).unwrap().find("1:(").unwrap();
+    let refused = |weights: &str| judge(&weighed(weights)).unwrap_err();
     assert_eq!(refused("1/13:(s1'=1)"), Refusal::Weight { at });
     assert_eq!(refused("123456:(s1'=1)"), Refusal::Weight { at });
     assert_eq!(refused("1234567:(s1'=1)"), Refusal::Mark { at });
+}
+
+#[test]
+fn a_decimal_is_no_weight() {
+    let at = std::str::from_utf8(CARD).unwrap().find("1:(").unwrap();
+    let refused = |weights: &str| {
+        let card = weighed(weights);
+        let refusal = judge(&card).unwrap_err();
+        // every entry that takes a card says the same, whatever else is wrong behind the card
+        assert_eq!(write(&card, &mut []), Err(refusal));
+        assert_eq!(reduce(&card, &mut []), Err(refusal));
+        assert_eq!(show(&card, &[], &mut []), Err(refusal));
+        assert_eq!(watch(&card, &[], &[], &mut []), Err(refusal));
+        assert_eq!(first_move(&card, &[]), Err(refusal));
+        assert_eq!(ask(&card, b"", &[]), Err(refusal));
+        let chance = odds_in_own_rows(&card, b"", &[], ODDS_STEPS + 1, Aim::Largest);
+        assert_eq!(chance, Err(refusal));
+        (refusal, refusal.line_and_column(&card))
+    };
+    let line_and_column = Some((4, 12));
+    // in a fitting sum or not, a weight by its value or not, always 17
+    for weights in [
+        "0.5:(s1'=1) + 1/2:(s1'=0)",
+        "1.0:(s1'=1)",
+        "0.0:(s1'=1)",
+        "0.005:(s1'=1)",
+        "0.123456:(s1'=1)",
+        "1.5:(s1'=1)",
+        "277200.5:(s1'=1)",
+    ] {
+        assert_eq!(refused(weights), (Refusal::Decimal { at }, line_and_column));
+    }
+    let second = |weights: &str| refused(weights).0;
+    let behind = at + "1/2:(s1'=0) + ".len();
+    assert_eq!(
+        second("1/2:(s1'=0) + 0.5:(s1'=1)"),
+        Refusal::Decimal { at: behind }
+    );
+    // with 5, 6 and 7 the first on the card is told; 2, 3 and 4 come before all of them
+    assert_eq!(second("1/13:(s1'=0) + 0.5:(s1'=1)"), Refusal::Weight { at });
+    assert_eq!(
+        second("0.5:(s1'=0) + 1/13:(s1'=1)"),
+        Refusal::Decimal { at }
+    );
+    assert_eq!(second("0.5:(s1'=2) + 0.5:(s1'=1)"), Refusal::Decimal { at });
+    assert_eq!(
+        second("1/2:(s1'=2) + 0.5:(s1'=1)"),
+        Refusal::State { at: at + 9 }
+    );
+    assert_eq!(
+        second("0.5:(s1'=1) + 0,5:(s1'=1)"),
+        Refusal::Shape { at: behind + 1 }
+    );
+    assert_eq!(
+        second("0.5:(s1'=1) + 0.1234567:(s1'=1)"),
+        Refusal::Mark { at: behind }
+    );
+    // in a comment it is no weight
+    assert_eq!(judge(&weighed("1:(s1'=1) // 0.5 before\n")), Ok(()));
 }
 
 /// The card with a number that the seats share: at 1 the statement can be taken, which makes it 0.
@@ -432,6 +510,119 @@ fn mended_decks_and_their_refusals() {
     assert_eq!(mend_to_vecs(&damaged), Err(Refusal::Deck { at: 0 }));
     let nothing_kept = write_deck_to_vec(&[4, 0, 0, 0, 1, 0, 1, 0], b"x").unwrap();
     assert_eq!(mend_to_vecs(&nothing_kept), Err(Refusal::Deck { at: 0 }));
+}
+
+/// A deck of cards, each with its number and flag; a gap of so many bytes before each body.
+fn deck_of(cards: &[(u16, u8, &[u8])], gap: usize) -> Vec<u8> {
+    let mut contents = vec![cards.len() as u8];
+    let mut bodies = Vec::new();
+    for (number, flag, card) in cards {
+        bodies.extend(vec![b'-'; gap]);
+        let offset = 1 + 8 * cards.len() + bodies.len();
+        for field in [*number, offset as u16, card.len() as u16] {
+            contents.extend(field.to_le_bytes());
+        }
+        contents.extend([*flag, 0]);
+        bodies.extend(*card);
+    }
+    [contents, bodies].concat()
+}
+
+#[test]
+fn converted_decks_and_their_refusals() {
+    let old = weighed("0.37:(s1'=1)+ 0.13:(s1'=1) + 0.5:(s1'=0)");
+    let now = weighed("37/100:(s1'=1) + 13/100:(s1'=1) + 1/2:(s1'=0)");
+    let loose = weighed("  4/8:(s1'=1)+1/2:(s1'=0) // not 0.5\n");
+    let cards = [
+        (3, 1, &old[..]),
+        (4, 0, &old[..]),
+        (260, 1, &loose[..]),
+        (65_535, 0, b""),
+    ];
+    let deck = deck_of(&cards, 3);
+    let due = deck_of(&[(3, 1, &now[..]), cards[1], cards[2], cards[3]], 0);
+    assert_eq!(convert_to_vec(&deck).as_ref(), Ok(&due));
+    assert_eq!(convert_to_vec(&due).as_ref(), Ok(&due));
+    assert_eq!(find(&due, 3), Ok(&now[..]));
+    assert_eq!(judge(&now), Ok(()));
+
+    let in_room = |deck: &[u8], room: usize| {
+        let mut room = vec![7; room];
+        let answer = convert(deck, &mut room);
+        let written = answer.unwrap_or(0);
+        assert!(room[written..].iter().all(|byte| *byte == 7));
+        answer
+    };
+    let needed = due.len();
+    assert_eq!(in_room(&deck, needed), Ok(needed));
+    assert_eq!(in_room(&deck, needed - 1), Err(Refusal::Room { needed }));
+    assert_eq!(in_room(&deck, 0), Err(Refusal::Room { needed }));
+
+    // Mending takes no decimal: the card is dropped before it is converted, and kept after that.
+    let (_, list) = mend_to_vecs(&deck).unwrap();
+    assert_eq!(list, b"dropped 4\nkept\nkept\nkept\n");
+    let (mended, list) = mend_to_vecs(&due).unwrap();
+    assert_eq!((mended, list), (due.clone(), b"kept\n".repeat(4)));
+
+    // A card that never was one is named by its number, whatever the room; the first of them in the deck.
+    let wrong = weighed("0.37:(s1'=1) + 0.64:(s1'=0)");
+    let not_converted = |card: u16| Err(Refusal::NotConverted { card });
+    let with = |card: &[u8]| deck_of(&[(3, 1, &old), (700, 1, card), (701, 1, b"")], 0);
+    for card in [&wrong[..], b"", &b" ".repeat(CARD_BYTES + 1)] {
+        assert_eq!(in_room(&with(card), 0), not_converted(700));
+        assert_eq!(in_room(&with(card), DECK_BYTES), not_converted(700));
+    }
+    assert_eq!(in_room(&with(&now), DECK_BYTES), not_converted(701));
+    assert_eq!(not_converted(700).unwrap_err().line_and_column(&deck), None);
+
+    // A malformed deck is told first, with the places of judging.
+    let mut malformed = with(b"");
+    malformed[9] = 0;
+    malformed[10] = 0;
+    let refusal = Err(Refusal::Deck { at: 9 });
+    assert_eq!(judge_deck(&malformed), refusal);
+    assert_eq!(in_room(&malformed, 0).map(|_| ()), refusal);
+    assert_eq!(convert_to_vec(b""), Err(Refusal::Deck { at: 0 }));
+}
+
+#[test]
+fn what_is_too_long_for_the_new_deck() {
+    // Groups of sixteen seats without a blank: as a card they fit, and written they do not.
+    let group: Vec<String> = (1..=16).map(|seat| format!("s{seat}=0")).collect();
+    let guard = format!("&({})", group.join("&")).repeat(8);
+    let packed = |weights: &str| {
+        let statements = format!("[]s1=0{guard}->{weights};").repeat(18);
+        let modules: String = (2..=16)
+            .map(|seat| format!("module process{seat}=process1[s1=s{seat},s{seat}=s1]endmodule "))
+            .collect();
+        let head = "nondeterministic module process1 s1:[0..1]init 0;";
+        format!("{head}{statements}endmodule {modules}").into_bytes()
+    };
+    let decimals = packed("0.5:(s1'=0)+0.5:(s1'=1)");
+    let fractions = packed("1/2:(s1'=0)+1/2:(s1'=1)");
+    assert!(decimals.len() <= CARD_BYTES);
+    assert!(write_to_vec(&fractions).unwrap().len() > CARD_BYTES);
+    let not_converted = |card: u16| Err(Refusal::NotConverted { card });
+    let deck = deck_of(&[(8, 1, CARD), (9, 1, &decimals)], 0);
+    assert_eq!(convert_to_vec(&deck), not_converted(9));
+    // Without decimals it is not written, and withdrawn not even read.
+    let copied = deck_of(&[(9, 1, &fractions), (10, 0, &decimals)], 0);
+    assert_eq!(convert_to_vec(&copied).as_ref(), Ok(&copied));
+
+    // A card that grows by two blanks, and one that fills the deck but for so many bytes.
+    let grows = weighed("0.5:(s1'=0)+0.5:(s1'=1)");
+    let filled = |[first, second]: [u16; 2], spare: usize| {
+        let fills = vec![b'-'; DECK_BYTES - 17 - grows.len() - spare];
+        let mut cards = [(first, 1, &grows[..]), (second, 0, &fills[..])];
+        cards.sort();
+        convert_to_vec(&deck_of(&cards, 0)).map(|deck| deck.len())
+    };
+    for order in [[1, 2], [2, 1]] {
+        assert_eq!(filled(order, 3), Ok(DECK_BYTES - 1));
+        assert_eq!(filled(order, 2), Ok(DECK_BYTES));
+        // the last of the deck passes its end, whether it is the one that grows or not
+        assert_eq!(filled(order, 1), Err(Refusal::NotConverted { card: 2 }));
+    }
 }
 
 #[test]

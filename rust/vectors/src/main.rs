@@ -120,9 +120,10 @@ fn answers_as(side: &mut Side, entry: &str, call: &Call) -> Result<(), Fault> {
             finds(side, [base, expansion], number, call.stored)
         }
         ("box_write", [read @ .., room]) => {
-            let deck = call.stored.deck();
-            let stored = deck.as_deref().map_or(call.stored, Answer::Text);
-            writes(side, "open_panel_box_write", read, room, stored)
+            writes_deck(side, "open_panel_box_write", read, room, call.stored)
+        }
+        ("convert", [read @ .., room]) => {
+            writes_deck(side, "open_panel_convert", read, room, call.stored)
         }
         ("mend", [deck, room, list]) => mends(side, deck, [room, list], call.stored),
         ("odds", [read @ .., steps, largest, first, second]) => {
@@ -310,6 +311,19 @@ fn writes(
     }
     in_room(side, name, read, text.len(), Ok(text))?;
     in_room(side, name, read, text.len() + 1, Ok(text))
+}
+
+/// The same with a deck, which is stored in digits.
+fn writes_deck(
+    side: &mut Side,
+    name: &str,
+    read: &[&[u8]],
+    room: &[u8],
+    stored: Answer,
+) -> Result<(), Fault> {
+    let deck = stored.deck();
+    let stored = deck.as_deref().map_or(stored, Answer::Text);
+    writes(side, name, read, room, stored)
 }
 
 /// The answer in a room, and every byte of the room.

@@ -124,6 +124,7 @@ pub fn wrapper(entry: &str, pieces: &[&[u8]], room: &mut [u8]) -> Answer {
         ("open_panel_box_write", [contents, bodies]) => {
             open_panel::write_deck(contents, bodies, room)
         }
+        ("open_panel_convert", [deck]) => open_panel::convert(deck, room),
         ("open_panel_mend", [deck, deck_room]) => in_two_rooms(deck_room, room, |room, list| {
             open_panel::mend(deck, room, list).map(|mended| (mended.deck, mended.list))
         }),
@@ -167,6 +168,7 @@ pub fn baseline(entry: &str, pieces: &[&[u8]], room: &mut [u8]) -> Answer {
         ("open_panel_box_write", [contents, bodies]) => {
             baseline::write_deck(contents, bodies, room)
         }
+        ("open_panel_convert", [deck]) => baseline::convert_into(deck, room),
         ("open_panel_mend", [deck, deck_room]) => in_two_rooms(deck_room, room, |room, list| {
             baseline::mend_into(deck, room, list).map(|mended| (mended.deck, mended.list))
         }),

@@ -20,6 +20,14 @@ pub fn base() -> Vec<Input> {
     )))
 }
 
+/// Those of the base that were taken until decimals were retired, with fractions in their place.
+pub fn fractions() -> Vec<Input> {
+    inputs(&file(concat!(
+        env!("CARGO_MANIFEST_DIR"),
+        "/../../vectors/fractions.cases"
+    )))
+}
+
 /// A file of cases.
 pub enum Cases {
     /// What the panel program reads, one after the other. Each is a call of every entry of the base.

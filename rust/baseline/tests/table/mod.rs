@@ -92,16 +92,24 @@ pub fn edges() -> Vec<Edge> {
         Err((6, place(&first, "(s1=0)"))),
     );
 
+    // Decimals, whatever their digits.
     let three = card(1, 1, "[] s1=0 -> 0.005:(s1'=1) + 0.995:(s1'=0);");
     edge(
         "three further digits",
         &three,
         &[0],
-        Err((7, place(&three, "0.005"))),
+        Err((17, place(&three, "0.005"))),
     );
     let two = card(1, 1, "[] s1=0 -> 0.05:(s1'=1) + 0.95:(s1'=0);");
+    edge(
+        "two further digits",
+        &two,
+        &[0],
+        Err((17, place(&two, "0.05"))),
+    );
+    let twentieths = card(1, 1, "[] s1=0 -> 1/20:(s1'=1) + 19/20:(s1'=0);");
     let moves_13860 = "probabilistic\nseats 1 enabled 1\ncounts 1 0\nstay 263340\nmove 0 1 13860\n";
-    edge("two further digits", &two, &[0], Ok(moves_13860));
+    edge("a twentieth", &twentieths, &[0], Ok(moves_13860));
     let turned = CARD_A.replace("(s2=0 | s3=0)", "(s3=0 | s2=0)");
     edge("a group in another order", &turned, &[0, 0, 1], Ok(at_001));
 

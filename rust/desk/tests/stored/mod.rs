@@ -1,6 +1,6 @@
 //! Every refusal of the stored vectors that is of a card, seats, a question, a list of classes, nights or a box, with its reason.
 
-use desk::reason::{of_deck, of_mended, of_number, of_written, Given, Reason};
+use desk::reason::{of_converted, of_deck, of_mended, of_number, of_written, Given, Reason};
 use open_panel::Refusal;
 use vectors::stored::{file, Answer, Cases};
 
@@ -15,7 +15,7 @@ pub struct Stored {
 }
 
 /// Files of cases, files of answers, and their entries. An entry that is added is named here.
-const FILES: [(&str, &str, &[&str]); 12] = [
+const FILES: [(&str, &str, &[&str]); 13] = [
     ("base", "panel", &["panel"]),
     ("edges", "edges", &["read"]),
     ("requests/2026-01", "requests/2026-01", &["ask"]),
@@ -47,6 +47,22 @@ const FILES: [(&str, &str, &[&str]); 12] = [
             "spectator",
             "first_move",
             "odds",
+        ],
+    ),
+    (
+        "requests/2026-11",
+        "requests/2026-11",
+        &[
+            "read",
+            "write",
+            "reduce",
+            "panel",
+            "ask",
+            "spectator",
+            "first_move",
+            "odds",
+            "mend",
+            "convert",
         ],
     ),
 ];
@@ -116,6 +132,7 @@ fn explained(entry: &str, pieces: &[Vec<u8>], refusal: Refusal) -> Reason {
         }
         "box_write" => return of_written(&pieces[0], &pieces[1], refusal),
         "mend" => return of_mended(&pieces[0], refusal),
+        "convert" => return of_converted(&pieces[0], refusal),
         _ => (none(), none(), none(), none()),
     };
     let given = Given {

@@ -1,0 +1,2 @@
+mod Bodies
+mod Storing

@@ -1,0 +1,4 @@
+pub mod Left
+mod Rows
+pub mod Notes
+pub mod Text

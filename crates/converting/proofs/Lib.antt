@@ -1,0 +1,5 @@
+pub mod Stricter
+pub mod Bodies
+pub mod Exactly
+pub mod Anew
+pub mod Apart
