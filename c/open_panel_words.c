@@ -29,13 +29,14 @@ const char *open_panel_words(uint8_t number) {
     case OPEN_PANEL_SEAT_STATE: return "a seat above the card's top state, or the shared number above its highest";
     case OPEN_PANEL_ROOM: return "the room is too small";
     case OPEN_PANEL_DECK: return "a malformed deck, contents and bodies that make none, or nothing to keep";
-    case OPEN_PANEL_NO_CARD: return "no live card has this number";
+    case OPEN_PANEL_NO_CARD: return "no live card has this number, or no card at all is live";
     case OPEN_PANEL_CLASSES: return "not one class for each state, or a class above " TEXT(OPEN_PANEL_TOP_CLASS);
     case OPEN_PANEL_VECTORS: return "the table has more than " TEXT(OPEN_PANEL_ODDS_ROW) " count vectors, or pairs of one and a shared number";
     case OPEN_PANEL_STEPS: return "more than " TEXT(OPEN_PANEL_ODDS_STEPS) " steps";
     case OPEN_PANEL_ROWS: return "a lent row does not have " TEXT(OPEN_PANEL_ODDS_ROW) " numbers";
     case OPEN_PANEL_DECIMAL: return "a decimal for a weight, where 0, 1 or a fraction has to stand";
     case OPEN_PANEL_NOT_CONVERTED: return "a card that cannot be converted, or does not fit into the new deck";
+    case OPEN_PANEL_NOT_ADDED: return "a live card has this number already, or " TEXT(OPEN_PANEL_DECK_CARDS) " cards are live";
     case OPEN_PANEL_QUESTION_LONG: return "the question is longer than " TEXT(OPEN_PANEL_QUESTION_BYTES) " bytes";
     case OPEN_PANEL_QUESTION_MARK: return "no mark of a question, or too many digits";
     case OPEN_PANEL_QUESTION_SHAPE: return "this cannot stand here, or the question ends early";

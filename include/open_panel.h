@@ -1,12 +1,12 @@
 /*
  * The open panel: rule cards judged, written, reduced to counters, and shown;
  * questions about a seating answered, and who may move; cards found in decks,
- * decks written, damaged ones mended, and old ones converted; a line of public
- * classes for spectators.
+ * decks written, damaged ones mended, old ones converted, full ones tidied, and
+ * cards added to them; a line of public classes for spectators.
  *
  * Link libopen_panel.a or libopen_panel.so, which dist/ has and `bin/library`
  * makes, for x86-64 and for aarch64 Linux (Android's too). Of the C library it
- * needs memcpy and memset, and nothing else: it has no state, no heap and no
+ * needs memcpy, memmove and memset, and nothing else: it has no state, no heap and no
  * system calls, so any number of threads may call it at once.
  *
  * The library has lengths of 64 bits, and this header compiles only where
@@ -18,10 +18,10 @@
  *     its bodies and a room are a pointer and a length in bytes. The pointer
  *     leads to so many bytes, which nothing else writes during the call; only
  *     for a length of 0 may it be null. None of them has a closing zero byte.
- *   - A room and the part must not overlap what is only read: all others.
- *     Those may overlap each other.
- *   - Any bytes may be passed as what is only read; what is wrong with them is
- *     answered, with a number and a place.
+ *   - A room, the part and a deck that is not const must not overlap what is
+ *     only read: all others. Those may overlap each other.
+ *   - Any bytes may be passed as what is only read, and as such a deck; what is
+ *     wrong with them is answered, with a number and a place.
  *   - The seats are a byte for each seat of the card, its state as a number (0,
  *     not '0'), and their order does not matter. On a card that declares a number
  *     which all seats share (`global g : [0..2] init 0;`) one byte more stands
@@ -30,7 +30,7 @@
  *   - On success `number` is 0. With a room `value` is the length of the text,
  *     which stands at the room's start; the rest of the room is as it was.
  *   - On a refusal `number` says which and `value` where. The whole room is as
- *     it was.
+ *     it was, and so is a deck that would have been changed in its place.
  *   - A text is ASCII with a LF behind each line, and no closing zero byte.
  *     None is empty. A deck is no text: it is written as bytes.
  */
@@ -45,7 +45,7 @@ extern "C" {
 #endif
 
 /* The version of this header; open_panel_version gives the library's. CHANGELOG.md says what each one changed. */
-#define OPEN_PANEL_VERSION "0.11.0"
+#define OPEN_PANEL_VERSION "0.12.0"
 
 /* Lengths have 64 bits: a size_t of fewer would be read as another number. */
 typedef char open_panel_needs_a_size_t_of_8_bytes[sizeof(size_t) == 8 ? 1 : -1];
@@ -107,6 +107,8 @@ typedef char open_panel_needs_a_size_t_of_8_bytes[sizeof(size_t) == 8 ? 1 : -1];
 #define OPEN_PANEL_STACK_BOX_WRITE 256
 #define OPEN_PANEL_STACK_MEND 11008
 #define OPEN_PANEL_STACK_CONVERT 12160
+#define OPEN_PANEL_STACK_TIDY 256
+#define OPEN_PANEL_STACK_ADD 10752
 
 /* The numbers of the refusals, and behind the semicolon what `value` is: bytes of the card, from 21 on of the question, count from 0. */
 enum open_panel_refusal {
@@ -125,12 +127,13 @@ enum open_panel_refusal {
     OPEN_PANEL_SEAT_COUNT = 8, /* seats_len differs from the number of the card's modules, or with a shared number from one more; 0 */
     OPEN_PANEL_SEAT_STATE = 9, /* a seat in a state higher than the card's highest; the index in seats of the first one. Or the
                                   shared number, behind seats that are right, is higher than its highest; its own index */
-    OPEN_PANEL_ROOM = 10,      /* a room that the text, the deck or the list does not fit into; its length */
+    OPEN_PANEL_ROOM = 10,      /* a room that the text, the deck or the list does not fit into; its length. From open_panel_add: a deck
+                                  that the new one does not fit into; the length that this would have, also past OPEN_PANEL_DECK_BYTES */
     OPEN_PANEL_DECK = 11,      /* a malformed deck; the first byte of the first wrong field, 65,536 more in the expansion, or 0 (that much
                                   more) where the count, the contents or the length is wrong. From open_panel_box_write: the field in
                                   the contents, or contents_len where no field is wrong. From open_panel_mend: 0, also where no entry
                                   can be kept */
-    OPEN_PANEL_NO_CARD = 12,   /* no live card has the number; 0 */
+    OPEN_PANEL_NO_CARD = 12,   /* no live card has the number; 0. From open_panel_tidy and open_panel_add: no card is live at all; 0 */
     OPEN_PANEL_CLASSES = 13,   /* a list that has not one class for each state of the card; classes_len. Or a class above
                                   OPEN_PANEL_TOP_CLASS; the index in classes of the first one */
     OPEN_PANEL_VECTORS = 14,   /* the seats can be spread over the states in more than OPEN_PANEL_ODDS_ROW ways, each way counted
@@ -141,6 +144,8 @@ enum open_panel_refusal {
     OPEN_PANEL_NOT_CONVERTED = 18, /* a live card that was not taken when decimals were, one whose written form is longer than
                                   OPEN_PANEL_CARD_BYTES, or any card that would end past OPEN_PANEL_DECK_BYTES in the new deck; the
                                   number of the first such card, which is no byte */
+    OPEN_PANEL_NOT_ADDED = 19, /* a card whose number a live card of the deck has already; the first byte of that one's entry in the
+                                  deck. Or one to a deck that holds OPEN_PANEL_DECK_CARDS live cards; 0 */
 
     OPEN_PANEL_QUESTION_LONG = 21,  /* a question of more than OPEN_PANEL_QUESTION_BYTES; 0 */
     OPEN_PANEL_QUESTION_MARK = 22,  /* bytes that make no mark, or a number written too long; where in the question they begin */
@@ -406,6 +411,41 @@ open_panel_answer open_panel_mend(const uint8_t *deck, size_t deck_len,
  */
 open_panel_answer open_panel_convert(const uint8_t *deck, size_t deck_len,
                                      uint8_t *room, size_t room_len);
+
+/*
+ * Tidies a deck where it stands: withdrawn cards leave it, with their entries, and
+ * the gaps close. Number 0, value the new length. All of deck_len is the deck, so it
+ * may be longer than what is in use, up to OPEN_PANEL_DECK_BYTES: what is unused at its
+ * end is a gap like any other. Live cards keep their numbers, their order and
+ * their bytes, which are not read; behind the new length stand zeros. Tidying it once
+ * more, with the zeros or without them, changes nothing.
+ *
+ * Refusals: 11 of the deck, with the places of open_panel_box_judge; then 12 at 0 if it
+ * has no live card. On a refusal the deck is as it was. A null deck of length 0 gets 11
+ * at 0.
+ */
+open_panel_answer open_panel_tidy(uint8_t *deck, size_t deck_len);
+
+/*
+ * Tidies a deck where it stands (open_panel_tidy) and puts a live card into it, at
+ * its place by number: number 0, value the new length, behind which stand zeros. The
+ * card stands there as it is lent; the number may be that of a withdrawn card, which
+ * leaves the deck. deck_len is all the room there is, so lend a deck with as many bytes
+ * behind it as it may grow by: OPEN_PANEL_DECK_BYTES in all are the most.
+ *
+ * Refusals: 11 and 12 of the deck, as open_panel_tidy has them; then those of
+ * open_panel_judge, with their places on the card; then 19 at the first byte of an
+ * entry, in the deck as it was lent, if a live card has the number already, or else at 0
+ * if OPEN_PANEL_DECK_CARDS cards are live; then 10 with the length that the tidied deck
+ * would have with the card, exactly if that is more than deck_len. On a refusal the deck
+ * is as it was, and not tidied either.
+ *
+ * The card is only read, and must not overlap the deck, so to give one a second
+ * number lend a copy of it. A null deck of length 0 gets 11 at 0; a null card of
+ * length 0 gets 3 at 0 with any deck that has a live card.
+ */
+open_panel_answer open_panel_add(uint8_t *deck, size_t deck_len, uint16_t number,
+                                 const uint8_t *card, size_t card_len);
 
 /*
  * What is below is plain C (c/open_panel_words.c) that stands beside the module

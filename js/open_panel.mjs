@@ -6,7 +6,7 @@
 //
 // Each function of open_panel.h that answers about bytes is one here, under its name without `open_panel_` (box_find is boxFind). Rooms and
 // rows are lent by this module. A card or a question is a string or bytes, seats and classes are bytes or numbers; on a card whose seats share
-// a number, that stands behind them. It needs nothing else.
+// a number, that stands behind them. What is handed in stays as it is: `tidy` and `add` give a new deck. It needs nothing else.
 
 // TABLES
 
@@ -21,6 +21,7 @@ const PART_BYTES = 24;
 const LENGTH_BYTES = 8;
 const ROW_NUMBER_BYTES = 4;
 const PAGE = 65536;
+const ROOM = 10;
 const UNKNOWN = "a refusal that this library does not know";
 
 /** A place of a text as people count: line and column, both from 1, in bytes; nothing for one beyond its end. */
@@ -95,7 +96,7 @@ class Panel {
         const due = takes.filter(([kind]) => !["room", "row", "part", "length"].includes(kind));
         if (given.length !== due.length) throw new TypeError(`${name} takes ${due.map(([, of]) => of).join(", ")}`);
         let next = 0;
-        const handed = takes.flatMap(([kind, of]) => {
+        const handed = takes.map(([kind, of]) => {
             switch (kind) {
                 case "bytes": {
                     const bytes = bytesOf(of, given[next++]);
@@ -103,6 +104,13 @@ class Panel {
                     const place = lend(bytes.length);
                     copied.push([place, bytes]);
                     return [place, BigInt(bytes.length)];
+                }
+                case "changed": {
+                    // a copy, which is its own room and may grow
+                    const bytes = bytesOf(of, given[next++]);
+                    lent.room = lend(Math.max(bytes.length, NUMBERS.DECK_BYTES));
+                    copied.push([lent.room, bytes]);
+                    return [lent.room, BigInt(bytes.length)];
                 }
                 case "room":
                     lent[of] = lend(roomOf(of));
@@ -126,11 +134,18 @@ class Panel {
         // grown memory is another buffer
         const bytes = new Uint8Array(memory.buffer);
         for (const [place, from] of copied) bytes.set(from, place);
-        this.#exports[`open_panel_${name}`](answerAt, ...handed);
-
         const told = new DataView(memory.buffer);
-        const number = told.getUint8(answerAt);
-        const value = Number(told.getBigUint64(answerAt + 8, true));
+        const answered = () => {
+            this.#exports[`open_panel_${name}`](answerAt, ...handed.flat());
+            return [told.getUint8(answerAt), Number(told.getBigUint64(answerAt + 8, true))];
+        };
+        let [number, value] = answered();
+        // lent longer at once, a deck that is cut short would be taken; what it grows by is a gap, whatever stands there
+        const grows = takes.findIndex(([kind]) => kind === "changed");
+        if (number === ROOM && grows >= 0 && value <= NUMBERS.DECK_BYTES) {
+            handed[grows][1] = BigInt(value);
+            [number, value] = answered();
+        }
         if (number !== 0) throw new Refusal(number, value, texts);
         const text = (place, length) => new TextDecoder().decode(bytes.subarray(place, place + length));
         switch (answer) {

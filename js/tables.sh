@@ -13,6 +13,7 @@ entries=$("$root/bin/entries" | awk '
     {
         answer = "number"
         if (/ length:/) answer = "mended"
+        else if (/ changed:/) answer = "bytes"
         else if (/ room:/) answer = / bytes:card / ? "text" : "bytes"
         else if (/ part:/) answer = "part"
         else if ($1 == "ask") answer = "yes"
@@ -62,7 +63,7 @@ awk '
         for (i = 3; i <= NF; i++) {
             split($i, take, ":")
             if (take[1] ~ /^(room|row|part|length)$/) continue
-            out = out (out ? ", " : "") take[2] ": " (take[1] == "bytes" ? "Bytes" : "number")
+            out = out (out ? ", " : "") take[2] ": " (take[1] ~ /^(bytes|changed)$/ ? "Bytes" : "number")
         }
         print "    /** `open_panel_" $1 "` of open_panel.h. */"
         print "    " name "(" out "): " type[$2] ";"

@@ -3,7 +3,7 @@
 // An entry takes where its answer goes, and for each piece where it lies (a number) and its length (a BigInt). One that finds a card takes
 // the card's number as a number, and of the part only where it lies. Odds take the steps as a BigInt and the aim as a number, and each row as
 // where it lies and how many numbers it has. Mending takes both its rooms so, and of the list's length only where it goes; each of the three
-// lies apart from the others while it runs.
+// lies apart from the others while it runs. Adding takes its room, which is the deck, first, and then the card's number and the card.
 import { readFileSync, readSync, writeSync } from "node:fs";
 
 const GUARD = 64;
@@ -64,6 +64,7 @@ for (let guard = 0; ; guard = guard >= 122 ? 32 : guard + 1) {
         words.splice(3, 4, [steps.readBigUInt64LE()], [aim[0]], [rowsAt, inFirst], [rowsAt + 4 * Number(inFirst), inBoth - inFirst]);
     }
     if (mends) words.splice(-1, 1, [places.at(-1)]);
+    if (name.toString() === "open_panel_add") words.splice(0, 3, words[2], [pieces[0].readUInt16LE()], words[1]);
     entries[name.toString()](answerAt, ...words.flat());
 
     const kept = (from, to) => Buffer.compare(lent.subarray(from, to), before.subarray(from - answerAt, to - answerAt)) === 0;

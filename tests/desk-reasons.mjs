@@ -107,7 +107,8 @@ function piecesOf(path, number, entry) {
         const digits = [...(end < 0 ? text : text.slice(0, end))].map((byte) => (/[0-9]/.test(byte) ? byte : "x"));
         return { card: end < 0 ? "" : text.slice(end + 1), seats: digits.join("") };
     }
-    const [, card, ...rest] = record;
+    // of what is added to a box the page explains the card alone
+    const [card, ...rest] = entry === "add" ? [record[3]] : record.slice(1);
     const given = { card: bytesAsText(card) };
     if (entry === "ask" || entry === "odds") Object.assign(given, { question: bytesAsText(rest[0]), seats: typed(rest[1]) });
     if (entry === "odds") given.nights = bytesAsText(rest[2]);
@@ -120,7 +121,7 @@ for (const line of readFileSync(process.argv[3], "utf8").split(/\n(?=[a-z0-9/-]+
     const [name, refused, span, reason, sentence, hint] = line.replace(/\n$/, "").split("\t");
     const [path, number, entry] = name.split(" ");
     const [code, place] = refused.split(" ").map(Number);
-    if ([11, 12, 13, 18].includes(code)) continue;
+    if ([11, 12, 13, 18, 19].includes(code)) continue;
     held += 1;
     const said = explain({ number: code, place }, piecesOf(path, Number(number), entry));
     same(name, [`${said.from} ${said.to}`, said.name, said.sentence, said.hint].join("\t"), [span, reason, sentence, hint].join("\t"));

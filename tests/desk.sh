@@ -262,6 +262,59 @@ expect 1 '' '*: refused 11 7: the flag of entry 1 is 2, and *byte 1 | 01 00 19 0
 [ ! -e "$made/none.box" ] || { echo "desk: a box that cannot be converted was written" && wrong=$((wrong + 1)); }
 expect 2 '' 'desk: `desk box convert` takes the box from before, and the box to write*' box convert "$made/old.box"
 
+# withdrawn cards taken out of a box, and one more put into it; what is live keeps its number and its bytes
+became='entry  number  became
+    1       1  as it was
+    2       2  as it was
+    3       9  withdrawn: taken out
+the box has 514 bytes in place of 804, and may grow by 65,021'
+expect 0 "$became" '' box tidy "$made/night.box" "$made/tidied.box"
+expect 0 '*1  live *2  live *' '' box list "$made/tidied.box"
+expect 1 '' '*: refused 12 0: card 9 is not in the box*' box find "$made/tidied.box" 9
+for number in 1 2; do expect 0 "$(bin/desk box find "$made/night.box" $number)" '' box find "$made/tidied.box" $number; done
+expect 0 '*as it was*as it was*514 bytes in place of 514,*' '' box tidy "$made/tidied.box" "$made/again.box"
+cmp "$made/tidied.box" "$made/again.box" || { echo "desk: a tidied box does not stay" && wrong=$((wrong + 1)); }
+became='entry  number  became
+    1       1  as it was
+    2       2  as it was
+    3       9  withdrawn: taken out
+  new       9  added: 498 bytes
+the box has 1,020 bytes in place of 804, and may grow by 64,515'
+expect 0 "$became" '' box add "$made/night.box" 9 examples/leader-election "$made/added.box"
+expect 0 "$(tail -n +2 examples/leader-election)" '' box find "$made/added.box" 9
+expect 0 '*1  as it was*new       5  added: 498 bytes*9  withdrawn: taken out*' '' box add "$made/night.box" 5 examples/leader-election "$made/added.box"
+expect 0 '*1  live *2  live *5  live *nondeterministic, 3 seats*' '' box list "$made/added.box"
+given 0 '*new   65535  added: 281 bytes*' '' "$card_a" box add "$made/night.box" 65535 - "$made/added.box"
+# into the box that is read, and in a pipe
+cp "$made/night.box" "$made/own.box"
+expect 0 '*new       5  added: *' '' box add "$made/own.box" 5 examples/card-a "$made/own.box"
+expect 0 "$card_a" '' box find "$made/own.box" 5
+[ "$(bin/desk box add "$made/night.box" 5 examples/card-a - 2>"$made/err" | bin/desk box tidy - - 2>/dev/null | bin/desk box find - 5)" = "$card_a" ] || { echo "desk: a card added in a pipe" && wrong=$((wrong + 1)); }
+like "$(cat "$made/err")" '*new       5  added: 282 bytes*' || { echo "desk: what became of a box in a pipe" && wrong=$((wrong + 1)); }
+# what is refused leaves no box
+refusal="$made/night.box: refused 19 9: card 2 is in the box already, live, as entry 2: probabilistic, 2 seats, roles 0 to 3, 4 statements
+ byte 9 | 02 00 33 01 d7 00 01 00
+        | ^^ ^^"
+expect 1 '' "$refusal" box add "$made/night.box" 2 examples/card-a "$made/none.box"
+refusal="$made/wrong:4:11: refused 6 60: *(s2=0 & s3=0)*"
+expect 1 '' "$refusal" box add "$made/night.box" 2 "$made/wrong" "$made/none.box"
+expect 0 '' '' box write "$made/full.box" $(printf '%s=examples/card-a ' {1..64})
+expect 1 '' "$made/full.box: refused 19 0: 64 cards are live in the box, and no more than that can be" box add "$made/full.box" 99 examples/card-a "$made/none.box"
+{ printf '// %016000d\n' 0 && cat "$made/card-a"; } >"$made/long"
+expect 0 '' '' box write "$made/heavy.box" {1,2,3,4}="$made/long" --withdrawn 9=examples/card-a
+expect 1 '' "$made/heavy.box: refused 10 81471: with card 5, *the box would take 81,471 bytes, and a box has at most 65,535: it lacks 15,936 bytes" box add "$made/heavy.box" 5 "$made/long" "$made/none.box"
+expect 0 '' '' box write "$made/gone.box" --withdrawn 9=examples/card-a
+expect 1 '' "$made/gone.box: refused 12 0: the box holds 1 card, none of it live, and a live card was due" box tidy "$made/gone.box" "$made/none.box"
+expect 1 '' "$made/gone.box: refused 12 0: *" box add "$made/gone.box" 9 "$made/wrong" "$made/none.box"
+for words in tidy 'add 5 examples/card-a'; do
+    read -r word more <<<"$words"
+    expect 1 '' '*: refused 11 7: the flag of entry 1 is 2, and *byte 1 | 01 00 19 00 1a 01 02 00*^^' box "$word" "$made/bad.box" $more "$made/none.box"
+done
+[ ! -e "$made/none.box" ] || { echo "desk: a box was written where it is refused" && wrong=$((wrong + 1)); }
+expect 2 '' 'desk: `desk box tidy` takes a box, and the box to write*' box tidy "$made/night.box"
+expect 2 '' "desk: \`desk box add\` takes a box, a card's number, the card, and the box to write*" box add "$made/night.box" 5 examples/card-a
+expect 2 '' 'desk: `x` is no card number*' box add "$made/night.box" x examples/card-a "$made/none.box"
+
 # wrong words
 expect 2 '' 'desk: a command is due*'
 expect 2 '' 'desk: there is no command `show`*' show examples/card-a

@@ -84,6 +84,7 @@ refusal STEPS Steps tooManyNights
 refusal ROWS Row wrongRow
 refusal DECIMAL Decimal decimalWeight
 refusal NOT_CONVERTED NotConverted notConverted
+refusal NOT_ADDED NotAdded notAdded
 
 # a question's numbers
 refusal QUESTION_LONG QuestionLong 'inQuestion tooLong'
@@ -108,6 +109,8 @@ stack BOX_FIND_WITH FIND_WITH
 stack BOX_WRITE WRITE_DECK
 stack MEND MEND
 stack CONVERT CONVERT
+stack TIDY TIDY
+stack ADD ADD
 for entry in $(sed -n 's/^open_panel_answer open_panel_\([a-z_]*\)(.*/\1/p' include/open_panel.h); do
     grep -q "^#define OPEN_PANEL_STACK_${entry^^} " include/open_panel.h || { echo "numbers: no stack of $entry" && wrong=$((wrong + 1)); }
 done

@@ -42,6 +42,7 @@ through() {
     [[ $1 = *mjs ]] || held requests/2026-10 requests/2026-10 odds "${@:2}"
     for entry in read write reduce panel ask spectator first_move mend convert; do held requests/2026-11 requests/2026-11 $entry "${@:2}"; done
     [[ $1 = *mjs ]] || held requests/2026-11 requests/2026-11 odds "${@:2}"
+    for entry in tidy add; do held requests/2026-12 requests/2026-12 $entry "${@:2}"; done
 }
 
 through "$machine-linux, by the Rust wrapper"

@@ -6,9 +6,9 @@
 //
 // Each function of open_panel.h that answers about bytes is one here, under its name without `open_panel_` (box_find is boxFind). Rooms and
 // rows are lent by this module. A card or a question is a string or bytes, seats and classes are bytes or numbers; on a card whose seats share
-// a number, that stands behind them. It needs nothing else.
+// a number, that stands behind them. What is handed in stays as it is: `tidy` and `add` give a new deck. It needs nothing else.
 
-const VERSION = "0.11.0";
+const VERSION = "0.12.0";
 const NUMBERS = {
     CARD_BYTES: 16384,
     QUESTION_BYTES: 16384,
@@ -39,13 +39,14 @@ const WORDS = {
     9: "a seat above the card's top state, or the shared number above its highest",
     10: "the room is too small",
     11: "a malformed deck, contents and bodies that make none, or nothing to keep",
-    12: "no live card has this number",
+    12: "no live card has this number, or no card at all is live",
     13: "not one class for each state, or a class above 7",
     14: "the table has more than 512 count vectors, or pairs of one and a shared number",
     15: "more than 32 steps",
     16: "a lent row does not have 512 numbers",
     17: "a decimal for a weight, where 0, 1 or a fraction has to stand",
     18: "a card that cannot be converted, or does not fit into the new deck",
+    19: "a live card has this number already, or 64 cards are live",
     21: "the question is longer than 16384 bytes",
     22: "no mark of a question, or too many digits",
     23: "this cannot stand here, or the question ends early",
@@ -68,6 +69,8 @@ const ENTRIES = {
     box_write: { answer: "bytes", takes: [["bytes", "contents"], ["bytes", "bodies"], ["room", "room"]] },
     mend: { answer: "mended", takes: [["bytes", "deck"], ["room", "room"], ["room", "list"], ["length", "listed"]] },
     convert: { answer: "bytes", takes: [["bytes", "deck"], ["room", "room"]] },
+    tidy: { answer: "bytes", takes: [["changed", "deck"]] },
+    add: { answer: "bytes", takes: [["changed", "deck"], ["u16", "number"], ["bytes", "card"]] },
 };
 
 /** The version of this module, and of the library that it was made with. */
@@ -81,6 +84,7 @@ const PART_BYTES = 24;
 const LENGTH_BYTES = 8;
 const ROW_NUMBER_BYTES = 4;
 const PAGE = 65536;
+const ROOM = 10;
 const UNKNOWN = "a refusal that this library does not know";
 
 /** A place of a text as people count: line and column, both from 1, in bytes; nothing for one beyond its end. */
@@ -155,7 +159,7 @@ class Panel {
         const due = takes.filter(([kind]) => !["room", "row", "part", "length"].includes(kind));
         if (given.length !== due.length) throw new TypeError(`${name} takes ${due.map(([, of]) => of).join(", ")}`);
         let next = 0;
-        const handed = takes.flatMap(([kind, of]) => {
+        const handed = takes.map(([kind, of]) => {
             switch (kind) {
                 case "bytes": {
                     const bytes = bytesOf(of, given[next++]);
@@ -163,6 +167,13 @@ class Panel {
                     const place = lend(bytes.length);
                     copied.push([place, bytes]);
                     return [place, BigInt(bytes.length)];
+                }
+                case "changed": {
+                    // a copy, which is its own room and may grow
+                    const bytes = bytesOf(of, given[next++]);
+                    lent.room = lend(Math.max(bytes.length, NUMBERS.DECK_BYTES));
+                    copied.push([lent.room, bytes]);
+                    return [lent.room, BigInt(bytes.length)];
                 }
                 case "room":
                     lent[of] = lend(roomOf(of));
@@ -186,11 +197,18 @@ class Panel {
         // grown memory is another buffer
         const bytes = new Uint8Array(memory.buffer);
         for (const [place, from] of copied) bytes.set(from, place);
-        this.#exports[`open_panel_${name}`](answerAt, ...handed);
-
         const told = new DataView(memory.buffer);
-        const number = told.getUint8(answerAt);
-        const value = Number(told.getBigUint64(answerAt + 8, true));
+        const answered = () => {
+            this.#exports[`open_panel_${name}`](answerAt, ...handed.flat());
+            return [told.getUint8(answerAt), Number(told.getBigUint64(answerAt + 8, true))];
+        };
+        let [number, value] = answered();
+        // lent longer at once, a deck that is cut short would be taken; what it grows by is a gap, whatever stands there
+        const grows = takes.findIndex(([kind]) => kind === "changed");
+        if (number === ROOM && grows >= 0 && value <= NUMBERS.DECK_BYTES) {
+            handed[grows][1] = BigInt(value);
+            [number, value] = answered();
+        }
         if (number !== 0) throw new Refusal(number, value, texts);
         const text = (place, length) => new TextDecoder().decode(bytes.subarray(place, place + length));
         switch (answer) {

@@ -6,12 +6,13 @@
  * length of each; then the pieces: the name of an entry, what it only reads, and
  * its room (of no length for an entry without one; for one that finds a card the
  * part, as three such numbers; for odds both rows; for mending the deck's room, the
- * list's, and the length of the list as such a number). A card number is a piece of
- * two bytes, low byte first; odds take the steps and the first row's length as
- * such numbers, between them a byte for the aim, and mending the length of the
- * deck's room. The answer is the entry's number and value and then the whole room. Before and behind each piece stand
- * bytes that the library must not write: the number is SPOILT if one of them, or
- * of what is only read, is not what it was.
+ * list's, and the length of the list as such a number; for tidying and adding the
+ * deck, which is read too). A card number is a piece of two bytes, low byte first;
+ * odds take the steps and the first row's length as such numbers, between them a
+ * byte for the aim, and mending the length of the deck's room. The answer is the
+ * entry's number and value and then the whole room. Before and behind each piece
+ * stand bytes that the library must not write: the number is SPOILT if one of them,
+ * or of what is only read, is not what it was.
  */
 #include <stdlib.h>
 #include <string.h>
@@ -149,6 +150,10 @@ static int enter(const char *name, const piece *p, open_panel_answer *answer) {
         *answer = mend(p);
     } else if (strcmp(name, "open_panel_convert") == 0) {
         *answer = open_panel_convert(p[0].at, p[0].length, p[1].at, p[1].length);
+    } else if (strcmp(name, "open_panel_tidy") == 0) {
+        *answer = open_panel_tidy(p[0].at, p[0].length);
+    } else if (strcmp(name, "open_panel_add") == 0) {
+        *answer = open_panel_add(p[2].at, p[2].length, card_number(p), p[1].at, p[1].length);
     } else {
         return 0;
     }

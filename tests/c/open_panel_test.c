@@ -246,13 +246,78 @@ static void decimals(void) {
     answers(open_panel_convert(from, from_len, NULL, 0), OPEN_PANEL_NOT_CONVERTED, 300, "", "the same before the room");
 }
 
+/* Puts a deck of three cards into the room, the first of them withdrawn, each behind a gap; its length. */
+static size_t deck_in_room(void) {
+    size_t length;
+    memset(room, '-', 30);
+    length = put_card(room, 0, 3, 30, 0, old_card);
+    room[length] = '-';
+    length = put_card(room, 1, 4, length + 1, 1, one_seat);
+    return put_card(room, 2, 300, length, 1, "no card");
+}
+
+/* A deck loses its withdrawn cards and its gaps where it stands, and a card is added to it. */
+static void room_again(void) {
+    static uint8_t lent[1024], tidied[1024], first[1024], last[1024];
+    const uint8_t *card = bytes(new_card);
+    const size_t card_len = sizeof new_card - 1, lent_len = deck_in_room();
+    size_t tidied_len, added_len;
+    memcpy(lent, room, lent_len);
+    tidied_len = put_card(tidied, 0, 4, 17, 1, one_seat);
+    tidied_len = put_card(tidied, 1, 300, tidied_len, 1, "no card");
+    tidied[0] = 2;
+    added_len = put_card(first, 0, 3, 25, 1, new_card);
+    added_len = put_card(first, 1, 4, added_len, 1, one_seat);
+    added_len = put_card(first, 2, 300, added_len, 1, "no card");
+    added_len = put_card(last, 0, 4, 25, 1, one_seat);
+    added_len = put_card(last, 1, 300, added_len, 1, "no card");
+    added_len = put_card(last, 2, 301, added_len, 1, new_card);
+
+    gives(open_panel_tidy(room, lent_len), OPEN_PANEL_TAKEN, tidied_len, tidied, lent_len, "a deck, tidied");
+    memcpy(room, tidied, lent_len);
+    gives(open_panel_tidy(room, lent_len), OPEN_PANEL_TAKEN, tidied_len, tidied, lent_len, "the same once more, with its zeros");
+    memcpy(room, tidied, tidied_len);
+    gives(open_panel_tidy(room, tidied_len), OPEN_PANEL_TAKEN, tidied_len, tidied, tidied_len, "and without them");
+
+    deck_in_room();
+    gives(open_panel_add(room, lent_len, 3, card, card_len), OPEN_PANEL_TAKEN, added_len, first, lent_len,
+          "a card in the place of a withdrawn one");
+    deck_in_room();
+    gives(open_panel_add(room, lent_len, 301, card, card_len), OPEN_PANEL_TAKEN, added_len, last, lent_len, "a card behind all others");
+    memcpy(room, tidied, tidied_len);
+    gives(open_panel_add(room, added_len, 301, card, card_len), OPEN_PANEL_TAKEN, added_len, last, added_len, "a deck that is just long enough");
+
+    memcpy(room, tidied, tidied_len);
+    memset(room + tidied_len, 0, added_len - 1 - tidied_len);
+    gives(open_panel_add(room, added_len - 1, 301, card, card_len), OPEN_PANEL_ROOM, added_len, tidied, added_len - 1, "one that is a byte short");
+    deck_in_room();
+    gives(open_panel_add(room, lent_len, 4, card, card_len), OPEN_PANEL_NOT_ADDED, 9, lent, lent_len, "a number that is live");
+    deck_in_room();
+    gives(open_panel_add(room, lent_len, 4, bytes(old_card), sizeof old_card - 1), OPEN_PANEL_DECIMAL,
+          (size_t)(strstr(old_card, "0.25") - old_card), lent, lent_len, "a wrong card before its number");
+    deck_in_room();
+    gives(open_panel_add(room, lent_len, 4, NULL, 0), OPEN_PANEL_SHAPE, 0, lent, lent_len, "no card to add");
+    deck_in_room();
+    gives(open_panel_tidy(room, lent_len - 1), OPEN_PANEL_DECK, 21, lent, lent_len, "a deck cut short, tidied");
+    deck_in_room();
+    gives(open_panel_add(room, lent_len - 1, 4, NULL, 0), OPEN_PANEL_DECK, 21, lent, lent_len, "a card to a deck cut short");
+
+    lent[15] = lent[23] = 0;
+    memcpy(room, lent, lent_len);
+    gives(open_panel_tidy(room, lent_len), OPEN_PANEL_NO_CARD, 0, lent, lent_len, "nothing live to tidy");
+    memcpy(room, lent, lent_len);
+    gives(open_panel_add(room, lent_len, 4, NULL, 0), OPEN_PANEL_NO_CARD, 0, lent, lent_len, "a card to a deck with nothing live");
+    answers(open_panel_tidy(NULL, 0), OPEN_PANEL_DECK, 0, "", "no deck to tidy");
+    answers(open_panel_add(NULL, 0, 4, NULL, 0), OPEN_PANEL_DECK, 0, "", "no deck to add to");
+}
+
 /* The library is of this header's version, and says of each refusal something else than of a number that is none. */
 static void words_are_known(void) {
     static const uint8_t refusals[] = {REFUSALS};
     const char *unknown = open_panel_words(255);
     size_t i;
     expect(strcmp(open_panel_version(), OPEN_PANEL_VERSION) == 0, "the library's version");
-    expect(sizeof refusals >= 25, "the header's refusals");
+    expect(sizeof refusals >= 26, "the header's refusals");
     for (i = 0; i < sizeof refusals; i++) {
         const char *words = open_panel_words(refusals[i]);
         expect(strlen(words) > 4 && strcmp(words, unknown) != 0 && strchr(words, '\n') == NULL, "a refusal's words");
@@ -395,6 +460,7 @@ int main(void) {
 
     shared_number();
     decimals();
+    room_again();
     words_are_known();
     at(a, a_len, 0, 1, 1, "the first byte");
     at(bytes("ab\ncd\n"), 6, 2, 1, 3, "the end of a line");

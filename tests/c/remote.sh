@@ -1,12 +1,12 @@
 # Every entry of the header as tests/c/remote.c has it, from what `bin/entries` says on standard input. Numbers and parts are put as
 # bytes, low byte first, as tests/c/bridge.c takes them; two rows are one room, with the first one's length before it, and so are two rooms,
-# with the length that is told (`length`) behind them.
+# with the length that is told (`length`) behind them. A deck that is changed where it stands is a room.
 awk '
     { takes = ""; before = ""; pieces = ""; behind = ""; room = "NULL, 0"; into = "NULL"; rows = 0; rooms = 0; told = ""
       for (i = 2; i <= NF; i++) {
           split($i, take, ":"); kind = take[1]; name = take[2]
           if (kind == "bytes") { type = "const uint8_t *" name ", size_t " name "_len"; pieces = pieces "{" name ", " name "_len}, " }
-          else if (kind == "room") { type = "uint8_t *" name ", size_t " name "_len"; room = name ", " name "_len"; into = name; lent[++rooms] = name }
+          else if (kind == "room" || kind == "changed") { type = "uint8_t *" name ", size_t " name "_len"; room = name ", " name "_len"; into = name; lent[++rooms] = name }
           else if (kind == "length") { type = "size_t *" name; told = name }
           else if (kind == "part") {
               type = "open_panel_part *" name

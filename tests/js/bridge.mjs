@@ -39,6 +39,9 @@ function answered(name, pieces, room) {
         room.fill(0);
     }
     const inRoom = called === "mend" && pieces.pop();
+    // a deck that is changed where it stands is the room; the module makes a new one, and lets it grow
+    const changes = called === "tidy" || called === "add";
+    if (changes) pieces = [room, ...(called === "add" ? [pieces[0].readUInt16LE(), pieces[1]] : [])];
     try {
         const answer = panel[called](...pieces);
         if (answer === undefined) return [0, 0];
@@ -60,6 +63,7 @@ function answered(name, pieces, room) {
         const text = Buffer.from(answer);
         if (text.length > room.length) return [ROOM, text.length];
         text.copy(room);
+        if (changes) room.fill(0, text.length);
         return [0, text.length];
     } catch (refusal) {
         if (!(refusal instanceof Refusal)) throw refusal;

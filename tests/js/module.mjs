@@ -23,7 +23,7 @@ assert.deepEqual([...methods].map(([, name]) => name).sort(), called.sort());
 
 // every refusal of the header has words, and no two numbers that are none have others
 const refusals = [...header.matchAll(/^ *OPEN_PANEL_[A-Z_]* = ([0-9]+)/gm)].map(([, number]) => Number(number)).filter(Boolean);
-assert.ok(refusals.length >= 24);
+assert.ok(refusals.length >= 25);
 for (const number of refusals) assert.notEqual(words(number), words(255), `words of ${number}`);
 
 assert.equal(panel.judge(card), undefined);
@@ -83,6 +83,41 @@ refused(() => panel.convert(base), {
 });
 refused(() => panel.convert([]), { number: 11, place: 0 });
 assert.throws(() => panel.convert(), TypeError);
+// withdrawn cards and gaps go, and a card is added, in a new deck: what was handed in stays
+const withGaps = Uint8Array.of(3, 5, 0, 26, 0, 1, 0, 0, 0, 6, 0, 28, 0, 2, 0, 1, 0, 7, 0, 31, 0, 1, 0, 0, 0, 45, 97, 45, 98, 99, 45, 100, 45);
+const asItWas = withGaps.slice();
+const tidied = panel.tidy(withGaps);
+assert.deepEqual(tidied, Uint8Array.of(1, 6, 0, 9, 0, 2, 0, 1, 0, 98, 99));
+assert.deepEqual(panel.tidy(tidied), tidied);
+const cardBytes = new TextEncoder().encode(card);
+for (const [number, offset] of [[5, 17], [7, 19]]) {
+    const deck = panel.add(withGaps, number, card);
+    assert.equal(deck.length, 17 + 2 + cardBytes.length);
+    const at = panel.boxFind(deck, number);
+    assert.deepEqual(at, { inExpansion: false, offset, length: cardBytes.length });
+    assert.deepEqual(deck.slice(at.offset, at.offset + at.length), cardBytes);
+    assert.deepEqual(panel.add(tidied, number, cardBytes), deck);
+    assert.deepEqual(panel.tidy(deck), deck);
+}
+assert.deepEqual(withGaps, asItWas);
+// up to the longest deck
+const filling = new Uint8Array(numbers.DECK_BYTES - 17 - cardBytes.length).fill(7);
+const filled = panel.boxWrite([6, 0, 0, 0, filling.length & 255, filling.length >> 8, 1, 0], filling);
+assert.equal(panel.add(filled, 7, card).length, numbers.DECK_BYTES);
+refused(() => panel.add(filled, 7, `${card}\n`), { number: 10, place: numbers.DECK_BYTES + 1, of: undefined, line: undefined });
+refused(() => panel.add(withGaps, 6, card), { number: 19, place: 9, of: undefined, line: undefined, words: words(19) });
+refused(() => panel.add(tidied, 6, card), { number: 19, place: 1 });
+refused(() => panel.add(tidied, 6, old), { number: 17, place: old.indexOf("0.25"), of: "card", line: 5, column: 38 });
+refused(() => panel.add(tidied, 7, ""), { number: 3, place: 0, line: 1, column: 1 });
+// a body that ends past its deck is not lent the bytes behind it
+refused(() => panel.add(tidied.subarray(0, 10), 7, card), { number: 11, place: 5 });
+refused(() => panel.tidy(longest), { number: 12, place: 0 });
+refused(() => panel.add(longest, 7, ""), { number: 12, place: 0 });
+refused(() => panel.tidy([]), { number: 11, place: 0 });
+refused(() => panel.add(new Uint8Array(numbers.DECK_BYTES + 1), 7, card), { number: 11, place: 0 });
+assert.throws(() => panel.add(tidied, 65536, card), RangeError);
+assert.throws(() => panel.add(tidied, card), TypeError);
+assert.throws(() => panel.tidy(), TypeError);
 // a card of more bytes than the memory has to begin with is copied whole, and refused
 assert.throws(() => panel.judge(" ".repeat(3_000_000)), { number: 1, place: 0 });
 
@@ -106,7 +141,7 @@ refused(() => panel.judge(card.replace("0..2", "0..9")), {
 refused(() => panel.ask(card, "(s1=0)\n& ?", seats), { number: 22, place: 9, of: "question", line: 2, column: 3 });
 refused(() => panel.show(card, [0, 9, 0]), { number: 9, place: 1, of: undefined, line: undefined, words: words(9) });
 refused(() => panel.watch(card, seats, []), { number: 13, place: 0 });
-refused(() => panel.boxFind(base, 6), { number: 12, place: 0, message: "no live card has this number (refusal 12, place 0)" });
+refused(() => panel.boxFind(base, 6), { number: 12, place: 0, message: "no live card has this number, or no card at all is live (refusal 12, place 0)" });
 refused(() => panel.mend([]), { number: 11, place: 0 });
 refused(() => panel.mend(base), { number: 11, place: 0 });
 assert.throws(() => panel.mend(), TypeError);

@@ -48,6 +48,9 @@ decimalWeight = 17
 abbrev pub notConverted : ℕ
 notConverted = 18
 
--- the numbers of a card's own refusals: the first seven, and 17
+abbrev pub notAdded : ℕ
+notAdded = 19
+
+-- the numbers of a card's own refusals: the first seven, and 17; 0, which no refusal has, is let in
 abbrev pub OfCard : ℕ → Type 0
 OfCard r = (r ≤ wrongWeight) ⊎ (r ≡ decimalWeight)

@@ -42,7 +42,7 @@ unitsOf (ratio a b) = given (leb 1 b && eqb (unit % b) 0 && leb a b) (a * (unit 
 abbrev pub Rule : Type 0
 Rule = Bool
 
--- the rule by which every entry reads; the crate `weights` has it for the code
+-- the rule by which every entry reads, but for the converter, which reads by both; the crate `weights` has it for the code
 abbrev pub cardRule : Rule
 cardRule = false
 

@@ -29,3 +29,5 @@ pub const WRONG_CLASSES: u8 = 13;
 pub const DECIMAL_WEIGHT: u8 = 17;
 
 pub const NOT_CONVERTED: u8 = 18;
+
+pub const NOT_ADDED: u8 = 19;

@@ -56,6 +56,7 @@ figures = record {
   top-shared = refl;
   decimal-weight = refl;
   not-converted = refl;
+  not-added = refl;
   written-room = refl;
   reduced-room = refl;
   panel-room = refl;

@@ -4,7 +4,7 @@ use Rattle.card.specs.Limits.{cardBytes, mostSeats, topState, topShared, mostSt
 use Rattle.card.specs.Limits.{deckBytes, mostCards, countBytes, entryBytes, offsetAt, sizeAt, flagAt, zeroByteAt, expansionFrom}
 use Rattle.card.specs.Refusals.{tooLong, outsideRules, outOfShape, pastLimit, aboveTop, notDue, wrongWeight, wrongSeats, seatAboveTop, roomTooSmall}
 use Rattle.card.specs.Limits.{topClass, publicClasses}
-use Rattle.card.specs.Refusals.{malformedDeck, noLiveCard, decimalWeight, notConverted}
+use Rattle.card.specs.Refusals.{malformedDeck, noLiveCard, decimalWeight, notConverted, notAdded}
 use Rattle.card.specs.Refusals.{wrongClasses}
 use Rattle.room.specs.Digits.{digit}
 use Rattle.texts.specs.Lengths.{writtenRoom, reducedRoom}
@@ -83,6 +83,8 @@ pub record Figures : Type 0 where
   -- document 02, 2026-11: a decimal weight, and a card that cannot be converted
   pub decimal-weight : decimalWeight ≡ 17
   pub not-converted : notConverted ≡ 18
+  -- document 02, 2026-12: a card that cannot be added
+  pub not-added : notAdded ≡ 19
   -- rooms that every text fits into; they are the project's own figures
   pub written-room : writtenRoom ≡ 85481
   pub reduced-room : reducedRoom ≡ 392972

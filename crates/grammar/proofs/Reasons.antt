@@ -1,4 +1,4 @@
--- Reading a card means what document 01 says: it is taken exactly when it is a card, and each refusal 1 to 7 is given at a place exactly when
+-- Reading a card means what document 01 says: it is taken exactly when it is a card, and each refusal 1 to 7 and 17 is given at a place exactly when
 -- its row of the table says so. One pass over the definition of reading finds for every outcome its reason; and each reason leads to its
 -- outcome. Assumes nothing.
 use Prim.Native.Nat.{ℕ, zero, _≤_, _<_}

@@ -27,6 +27,10 @@ use Rattle.tablet.proofs.open_panel_mend.Met.{met as mend-for-c-met}
 use Rattle.mend.proofs.mend.Met.{met as mend-met}
 use Rattle.convert.proofs.convert.Met.{met as convert-met}
 use Rattle.tablet.proofs.open_panel_convert.Met.{met as convert-for-c-met}
+use Rattle.tidy.proofs.tidy.Met.{met as tidy-met}
+use Rattle.add.proofs.add.Met.{met as add-met}
+use Rattle.tablet.proofs.open_panel_tidy.Met.{met as tidy-for-c-met}
+use Rattle.tablet.proofs.open_panel_add.Met.{met as add-for-c-met}
 use Rattle.entries.proofs.watch.Met.{met as watch-met}
 use Rattle.tablet.proofs.open_panel_watch.Met.{met as watch-for-c-met}
 use Rattle.entries.proofs.first_move.Met.{met as first-move-met}
@@ -52,6 +56,8 @@ keeps = record {
   write-deck = λ M. write-deck-met;
   mend = λ M. mend-met;
   convert = λ M. convert-met;
+  tidy = λ M. tidy-met;
+  add = λ M. add-met;
   judge-for-c = λ M. judge-for-c-met;
   write-for-c = λ M. write-for-c-met;
   reduce-for-c = λ M. reduce-for-c-met;
@@ -63,6 +69,8 @@ keeps = record {
   box-write-for-c = λ M. box-write-for-c-met;
   mend-for-c = λ M. mend-for-c-met;
   convert-for-c = λ M. convert-for-c-met;
+  tidy-for-c = λ M. tidy-for-c-met;
+  add-for-c = λ M. add-for-c-met;
   watch = λ M. watch-met;
   watch-for-c = λ M. watch-for-c-met;
   first-move = λ M. first-move-met;

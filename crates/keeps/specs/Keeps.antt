@@ -1,7 +1,7 @@
 -- The code keeps its contracts ("How tight the promises are"): of each function that is called from outside, the kit's statement that its
--- routine meets what its source declares, for every memory that it may be called in. What the contracts say (`Reads`, `Entered`, `Printed`,
--- `Told`, `Found`, `PartTold`, `Mends`, `RoomsTold`) is in `Entries.antt`, `ForC.antt` and `Spectator.antt` of `entry_promises`, and in `Questions.antt`,
--- `Decks.antt`, `DeckWriting.antt`, `Mendings.antt`, `Conversions.antt`, `Elevenths.antt` and `FirstMoves.antt` of `promises`. Assumes nothing.
+-- routine meets what its source declares, for every memory that it may be called in. What the contracts say (`Reads`, `ReadsUnder`, `Entered`, `Printed`,
+-- `Told`, `Found`, `PartTold`, `Mends`, `RoomsTold`, `Tidied`, `DeckTold`) is in `Entries.antt`, `ForC.antt` and `Spectator.antt` of `entry_promises`, and in `Questions.antt`,
+-- `Decks.antt`, `DeckWriting.antt`, `Mendings.antt`, `Conversions.antt`, `Tidyings.antt`, `Elevenths.antt` and `FirstMoves.antt` of `promises`. Assumes nothing.
 use Rattle.reader.proofs.read.Statement.{statement as readKeeps}
 use Rattle.reader.proofs.read_into.Statement.{statement as readIntoKeeps}
 use Rattle.reader.proofs.read_under.Statement.{statement as readUnderKeeps}
@@ -18,6 +18,8 @@ use Rattle.finding.proofs.find_with.Statement.{statement as findWithKeeps}
 use Rattle.deck_writer.proofs.write_deck.Statement.{statement as writeDeckKeeps}
 use Rattle.mend.proofs.mend.Statement.{statement as mendKeeps}
 use Rattle.convert.proofs.convert.Statement.{statement as convertKeeps}
+use Rattle.tidy.proofs.tidy.Statement.{statement as tidyKeeps}
+use Rattle.add.proofs.add.Statement.{statement as addKeeps}
 use Rattle.entries.proofs.watch.Statement.{statement as watchKeeps}
 use Rattle.tablet.proofs.open_panel_judge.Statement.{statement as judgeForCKeeps}
 use Rattle.tablet.proofs.open_panel_write.Statement.{statement as writeForCKeeps}
@@ -30,6 +32,8 @@ use Rattle.tablet.proofs.open_panel_box_find_with.Statement.{statement as boxFi
 use Rattle.tablet.proofs.open_panel_box_write.Statement.{statement as boxWriteForCKeeps}
 use Rattle.tablet.proofs.open_panel_mend.Statement.{statement as mendForCKeeps}
 use Rattle.tablet.proofs.open_panel_convert.Statement.{statement as convertForCKeeps}
+use Rattle.tablet.proofs.open_panel_tidy.Statement.{statement as tidyForCKeeps}
+use Rattle.tablet.proofs.open_panel_add.Statement.{statement as addForCKeeps}
 use Rattle.tablet.proofs.open_panel_watch.Statement.{statement as watchForCKeeps}
 use Rattle.entries.proofs.first_move.Statement.{statement as firstMoveKeeps}
 use Rattle.tablet.proofs.open_panel_first_move.Statement.{statement as firstMoveForCKeeps}
@@ -54,6 +58,8 @@ pub record Keeps : Type 2 where
   pub write-deck : (M : Type 1) → writeDeckKeeps M
   pub mend : (M : Type 1) → mendKeeps M
   pub convert : (M : Type 1) → convertKeeps M
+  pub tidy : (M : Type 1) → tidyKeeps M
+  pub add : (M : Type 1) → addKeeps M
   -- classes
   pub watch : (M : Type 1) → watchKeeps M
   -- the names for C
@@ -68,6 +74,8 @@ pub record Keeps : Type 2 where
   pub box-write-for-c : (M : Type 1) → boxWriteForCKeeps M
   pub mend-for-c : (M : Type 1) → mendForCKeeps M
   pub convert-for-c : (M : Type 1) → convertForCKeeps M
+  pub tidy-for-c : (M : Type 1) → tidyForCKeeps M
+  pub add-for-c : (M : Type 1) → addForCKeeps M
   pub watch-for-c : (M : Type 1) → watchForCKeeps M
   -- who may move
   pub first-move : (M : Type 1) → firstMoveKeeps M

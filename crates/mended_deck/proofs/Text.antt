@@ -30,7 +30,7 @@ module _ (deck : List ℕ) where
       (ap (λ (l : List Row). r ∷ l) (kept-by (suc (r .number)) (endOf r) rs)) (λ rule l. kept-by least last rs)
 
   -- rows that are right
-  lines-for : (rs : List Row) → Every (KeptRow deck) rs → (at : ℕ) → rowsFor at (map (entryOf deck) rs) ≡ linesFor at rs
+  pub lines-for : (rs : List Row) → Every (KeptRow deck) rs → (at : ℕ) → rowsFor at (map (entryOf deck) rs) ≡ linesFor at rs
   lines-for [] h at = refl
   lines-for (r ∷ rs) h at =
       let rest = map (entryOf deck) rs in
@@ -38,7 +38,7 @@ module _ (deck : List ℕ) where
       ∙ ap (λ (x : Row). x ∷ rowsFor (at + r .size) rest) (row-for deck at r (h .0 .flag) (h .0 .zeroByte) (h .0 .ends))
       ∙ ap (λ (l : List Row). lineFor at r ∷ l) (lines-for rs (h .1) (at + r .size))
 
-  sizes-are : (rs : List Row) → Every (KeptRow deck) rs → length (bodies (map (entryOf deck) rs)) ≡ sizes rs
+  pub sizes-are : (rs : List Row) → Every (KeptRow deck) rs → length (bodies (map (entryOf deck) rs)) ≡ sizes rs
   sizes-are [] h = refl
   sizes-are (r ∷ rs) h = omega (arith, length-append (bodyOf deck r) (bodies (map (entryOf deck) rs)), body-long deck r (h .0 .ends), sizes-are rs (h .1))
 

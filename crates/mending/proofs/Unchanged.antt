@@ -11,10 +11,11 @@ use Rattle.entry.specs.Said.{says}
 use Rattle.entry.specs.Contract.{two}
 use Rattle.deck.specs.Contents.{byte, word, Row, endOf, rowOf, rowsOf, countOf, entriesFrom, behind, contentsOf}
 use Rattle.deck.specs.Deck.{Entry, bodyOf, entryOf, heldBy, low, high, flagOf, rowFor, rowsFor, rowText, rowsText, bodies, deckText, Bytes}
-use Rattle.deck.specs.Sound.{rowAt}
+use Rattle.deck.specs.Sound.{rowAt, Sound}
 use Rattle.deck.proofs.Judged.{SoundRows, measured, sound-rest}
 use Rattle.deck.proofs.Kept.{byte-at, bytes-drop, body-long}
 use Rattle.deck_written.specs.WriteDeckSaid.{lineFor}
+use Rattle.deck_written.specs.Fine.{NoGaps}
 use Rattle.mending.specs.Mending.{Fate, fatesIn, keptIn, listText, mendSaid}
 use Rattle.mending.specs.Accepted.{Good, Whole}
 use Rattle.mending.proofs.MendStage.{some-kept}
@@ -114,30 +115,31 @@ module _ (deck : List ℕ) where
       ∙ ap (λ (es : List Entry). says (two (deckText es) (listText (fatesIn deck)))) e
       ∙ ap (λ (fs : List Fate). says (two (deckText (heldBy deck)) (listText fs))) (fates-all deck (g .sound) (g .accepted))
 
-  module _ (w : Whole deck) (b : Bytes deck) where
+  -- a sound deck without gaps is the text of what it holds
+  module _ (s : Sound deck) (g : NoGaps deck) (b : Bytes deck) where
     tight : Joined (length deck) (behind (countOf deck)) (contentsOf deck)
     tight = go (countOf deck) refl
       where
         go : (c : ℕ) → c ≡ countOf deck → Joined (length deck) (behind (countOf deck)) (rowsOf c (entriesFrom deck))
-        go zero e = absurd (omega (arith, e, w .good .sound .head .some))
+        go zero e = absurd (omega (arith, e, s .head .some))
         go (suc c) e =
-            joined (length deck) c (behind (countOf deck)) (entriesFrom deck) (w .noGaps .first) (λ i h. w .noGaps .next i (omega (arith, e))) (λ i h. w .noGaps .last i (h ∙ e))
+            joined (length deck) c (behind (countOf deck)) (entriesFrom deck) (g .first) (λ i h. g .next i (omega (arith, e))) (λ i h. g .last i (h ∙ e))
 
     head-and-rest : (t : List ℕ) → 1 ≤ length t → byte t 0 ∷ drop 1 t ≡ t
     head-and-rest [] h = absurd (omega arith)
     head-and-rest (x ∷ t) h = refl
 
-    text-same : deckText (heldBy deck) ≡ deck
+    pub text-same : deckText (heldBy deck) ≡ deck
     text-same =
         let c = countOf deck in
-        let h = w .good .sound .head in
+        let h = s .head in
         let n = count-held c (entriesFrom deck) in
         let rest : drop (8 * c) (entriesFrom deck) ≡ drop (behind c) deck = drop-drop (8 * c) 1 deck in
         ap (λ (k : ℕ). k ∷ rowsText (rowsFor (behind k) (heldBy deck)) (bodies (heldBy deck))) n
-        ∙ ap (λ (rs : List Row). c ∷ rowsText rs (bodies (heldBy deck))) (rows-for c 0 (behind c) (entriesFrom deck) (measured deck (w .good .sound)) (behind c) tight)
+        ∙ ap (λ (rs : List Row). c ∷ rowsText rs (bodies (heldBy deck))) (rows-for c 0 (behind c) (entriesFrom deck) (measured deck s) (behind c) tight)
         ∙ ap (λ (l : List ℕ). c ∷ rowsText (contentsOf deck) l) (bodies-are (contentsOf deck) (behind c) tight ∙ sym rest)
         ∙ ap (λ (l : List ℕ). c ∷ l) (rows-again c (entriesFrom deck) (omega (arith, h .whole, length-drop 1 deck)) (bytes-drop 1 deck b))
         ∙ head-and-rest deck (omega (arith, h .whole))
 
-    pub comes-out-the-same : mendSaid deck ≡ says (two deck (listText (allKept (contentsOf deck))))
-    comes-out-the-same = all-there (w .good) ∙ ap (λ (t : List ℕ). says (two t (listText (allKept (contentsOf deck))))) text-same
+  pub comes-out-the-same : Whole deck → Bytes deck → mendSaid deck ≡ says (two deck (listText (allKept (contentsOf deck))))
+  comes-out-the-same w b = all-there (w .good) ∙ ap (λ (t : List ℕ). says (two t (listText (allKept (contentsOf deck))))) (text-same (w .good .sound) (w .noGaps) b)

@@ -7,4 +7,5 @@ pub mod FirstMoves
 pub mod Nights
 pub mod Mendings
 pub mod Conversions
+pub mod Tidyings
 pub mod DayAndNight

@@ -236,8 +236,7 @@ module _ (n k : ℕ) (x : List ℕ) where
 -- so seats are fine exactly where they are a seating of the card
 pub valid-exactly : (c : Card) (x : List ℕ) → (judgedSeats (c .n) (c .k) (valuesOf (c .shared)) x ≡ Taken) ↔ Seated c x
 valid-exactly c x =
-    let f = fine-exactly (c .n) (c .k) (valuesOf (c .shared)) x in
-    (
+    let f = fine-exactly (c .n) (c .k) (valuesOf (c .shared)) x in (
       λ e. let g = f .0 e in record {
         due = g .0;
         valid = record {
@@ -266,11 +265,11 @@ module _ (n k : ℕ) (x : List ℕ) where
   judged-start h = judged-by n k 0 x
       (λ g e. absurd (g h))
       (λ g p f e. e ∙ sym (list-ways seatAboveTop (λ i. k) x
-          (λ q o d. d ∙ ap (Refused seatAboveTop) (first-only (λ i. k) x q p o (record { seat = f .seat; above = rw (seat-bound n k x 0 p (omega (arith, f .seat))) at (f .above); first = λ i l. rw (seat-bound n k x 0 i (omega (arith, f .seat))) at (f .first i l) })))
-          (λ w d. absurd (omega (arith, w p (f .seat), rw (seat-bound n k x 0 p (omega (arith, f .seat))) at (f .above))))))
+      (λ q o d. d ∙ ap (Refused seatAboveTop) (first-only (λ i. k) x q p o (record { seat = f .seat; above = rw (seat-bound n k x 0 p (omega (arith, f .seat))) at (f .above); first = λ i l. rw (seat-bound n k x 0 i (omega (arith, f .seat))) at (f .first i l) })))
+      (λ w d. absurd (omega (arith, w p (f .seat), rw (seat-bound n k x 0 p (omega (arith, f .seat))) at (f .above))))))
       (λ g w e. e ∙ sym (list-ways seatAboveTop (λ i. k) x
-          (λ q o d. absurd (omega (arith, o .above, rw (seat-bound n k x 0 q (omega (arith, o .seat))) at (w q (o .seat)))))
-          (λ u d. d)))
+      (λ q o d. absurd (omega (arith, o .above, rw (seat-bound n k x 0 q (omega (arith, o .seat))) at (w q (o .seat)))))
+      (λ u d. d)))
 
 -- with one: the bytes are one more than the seats
 module _ (n k : ℕ) (x : List ℕ) (long : length x ≡ suc n) where
@@ -288,7 +287,7 @@ module _ (n k : ℕ) (x : List ℕ) (long : length x ≡ suc n) where
   one-over : (p : ℕ) → p < n → k < getD x p 0 → ((i : ℕ) → i < p → getD x i 0 ≤ k) → judgedFrom seatAboveTop k 0 (take n x) ≡ Refused seatAboveTop p
   one-over p l over before = list-ways seatAboveTop (λ i. k) (take n x)
       (λ q o d. d ∙ ap (Refused seatAboveTop) (first-only (λ i. k) (take n x) q p o
-          (record { seat = omega (arith, seats-there); above = rw (seat-at p l) over; first = λ i h. rw (seat-at i (omega arith)) (before i h) })))
+      (record { seat = omega (arith, seats-there); above = rw (seat-at p l) over; first = λ i h. rw (seat-at i (omega arith)) (before i h) })))
       (λ u d. absurd (omega (arith, u p (omega (arith, seats-there)), seat-at p l)))
 
   pub judged-behind : (values : ℕ) → (values ≡ 0 → ⊥)
@@ -298,23 +297,23 @@ module _ (n k : ℕ) (x : List ℕ) (long : length x ≡ suc n) where
       (λ g e. absurd (g long))
       (λ g p f e. over p f e (decLe (suc p) n))
       (λ g w e. e ∙ sym (
-        rw (
-          all-fine (λ i l. rw (seat-bound n k x (suc m) i l) at (w i (omega arith))),
-          lt-ltb (getD x n 0) (suc m) (omega (arith, w n (omega arith), there n k x (suc m))),
-        )
+      rw (
+        all-fine (λ i l. rw (seat-bound n k x (suc m) i l) at (w i (omega arith))),
+        lt-ltb (getD x n 0) (suc m) (omega (arith, w n (omega arith), there n k x (suc m))),
+      )
       ))
     where
       over : (p : ℕ) → FirstOver (mostAt n k (suc m)) x p → judgedSeats n k (suc m) x ≡ Refused seatAboveTop p → Dec (p < n)
           → judgedSeats n k (suc m) x ≡ firstRefusal (judgedFrom seatAboveTop k 0 (take n x)) (if ltb (getD x n 0) (suc m) then Taken else Refused seatAboveTop n)
       over p f e (yes l) = e ∙ sym (
-        rw (one-over p l (rw (seat-bound n k x (suc m) p l) at (f .above)) (λ i h. rw (seat-bound n k x (suc m) i (omega arith)) at (f .first i h)))
-      )
+          rw (one-over p l (rw (seat-bound n k x (suc m) p l) at (f .above)) (λ i h. rw (seat-bound n k x (suc m) i (omega arith)) at (f .first i h)))
+          )
       over p f e (no l) =
           let last : p ≡ n = omega (arith, f .seat) in
           let big : suc m ≤ getD x n 0 = omega (arith, there n k x (suc m), rw last at (f .above)) in
           e ∙ ap (Refused seatAboveTop) last ∙ sym (
-            rw (
-              all-fine (λ i h. rw (seat-bound n k x (suc m) i h) at (f .first i (omega arith))),
-              le-ltb (getD x n 0) (suc m) big,
-            )
+          rw (
+            all-fine (λ i h. rw (seat-bound n k x (suc m) i h) at (f .first i (omega arith))),
+            le-ltb (getD x n 0) (suc m) big,
+          )
           )

@@ -1,4 +1,4 @@
--- An entry's promise, with its answer in numbers; the reader's verdict in numbers; and where a card stands. Assumes nothing.
+-- An entry's promise, with its answer in numbers, for a room, a deck and rows; the reader's verdict in numbers; and where a card stands. Assumes nothing.
 use Prim.Native.Nat.{ℕ}
 use mathlib.Core.Path.{_≡_, refl, ap, subst, _∙_}
 use mathlib.Core.List.{List}
@@ -10,7 +10,7 @@ use Rattle.room.specs.declared.Answer.{Answer}
 use Rattle.room.specs.Answer.{Text, Entered, told as answerOf}
 use Rattle.answers.specs.declared.OpenPanelAnswer.{OpenPanelAnswer}
 use Rattle.entry.specs.Said.{Said, says, refused}
-use Rattle.entry.specs.Contract.{Ends, Two, Enters, inRows}
+use Rattle.entry.specs.Contract.{Ends, Two, Enters, inPlace, inRows}
 use Rattle.evenings.specs.Rounds.{Aim}
 use Rattle.deck.specs.Lookup.{Part}
 use Rattle.deck_entries.specs.Verdicts.{verdictOf}
@@ -21,6 +21,7 @@ use Rattle.answers.specs.Stands.{threeOf, Stands}
 use Rattle.told.specs.Told.{judged, Told}
 use Rattle.tablet.specs.Parts.{PartTold}
 use Rattle.tablet.specs.Rows.{RowsTold}
+use Rattle.tablet.specs.LentDeck.{DeckTold}
 
 pub told : {was is : List ℕ} {said : Text} {a : Answer} {r : OpenPanelAnswer} → Entered was is said a → r ≡ numbers a → Told was is said r
 told e n = record { answers = n ∙ ap numbers (e .answers); leaves = e .leaves }
@@ -39,6 +40,11 @@ part-told {said} {p} {was} {is} {r} e s = record {
   answers = s .answers ∙ ap (λ (q : Place). verdictNumbers (q .verdict)) e ∙ ap verdictNumbers (verdict-placed said);
   leaves = s .leaves ∙ ap (λ (q : Place). threeOf q was) e;
 }
+
+-- ---- a deck changed in place
+
+pub deck-told : {was is : List ℕ} {said : Text} {a : Answer} {r : OpenPanelAnswer} → Enters inPlace answerOf was is said a → r ≡ numbers a → DeckTold was is said r
+deck-told e n = record { answers = n ∙ ap numbers (e .answers); leaves = e .leaves }
 
 -- ---- two rows
 

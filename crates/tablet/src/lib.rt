@@ -1,4 +1,5 @@
 // The entries for C: the same promises, with answers in numbers ("Refusal numbers").
+use add::add;
 use answers::OpenPanelAnswer;
 use answers::in_numbers;
 use answers::is_largest;
@@ -24,6 +25,7 @@ use odds::odds;
 use panel::panel;
 use reader::read_into;
 use reducer::reduce;
+use tidy::tidy;
 ghost use mathlib.Core.Path.{_≡_};
 ghost use lib.ListN.{length};
 ghost use Rattle.reading.specs.Reading.{readOf};
@@ -34,6 +36,7 @@ ghost use Rattle.deck_written.specs.WriteDeckSaid.{writeDeckSaid};
 ghost use Rattle.mending.specs.Mending.{mendSaid};
 ghost use Rattle.converting.specs.Converting.{convertSaid};
 ghost use Rattle.mended_told.specs.LentRooms.{lent, RoomsTold};
+ghost use Rattle.tidying.specs.Tidying.{tidySaid, addSaid};
 ghost use Rattle.texts_said.specs.WriteSaid.{writeSaid};
 ghost use Rattle.texts_said.specs.ReduceSaid.{reduceSaid};
 ghost use Rattle.panel_said.specs.PanelSaid.{panelSaid};
@@ -46,6 +49,7 @@ ghost use Rattle.answers.specs.Aims.{aimBy};
 ghost use Rattle.odds_said.specs.OddsSaid.{oddsSaid};
 ghost use Rattle.tablet.specs.Moves.{moveNumbers, movedNumbers};
 ghost use Rattle.tablet.specs.Rows.{RowsTold};
+ghost use Rattle.tablet.specs.LentDeck.{DeckTold};
 ghost use Rattle.told.specs.Told.{judged, Told};
 ghost use Rattle.tablet.specs.AskedTold.{askedNumbers, answeredNumbers};
 ghost use Rattle.tablet.specs.Parts.{PartTold};
@@ -193,6 +197,24 @@ pub extern "C" fn open_panel_convert(deck: &[u8], room: &mut [u8]) -> OpenPanelA
     ensures { λ r. ⌜ Told (now (room .entry)) (now (room .exit)) (convertSaid (now (deck .entry))) r ⌝ }
 {
     let answer = convert(deck, room);
+    in_numbers(answer)
+}
+
+// A box tidied within the lent deck: withdrawn entries dropped, gaps closed, zero bytes behind the new length.
+#[no_mangle]
+pub extern "C" fn open_panel_tidy(deck: &mut [u8]) -> OpenPanelAnswer
+    ensures { λ r. ⌜ DeckTold (now (deck .entry)) (now (deck .exit)) (tidySaid (now (deck .entry))) r ⌝ }
+{
+    let answer = tidy(deck);
+    in_numbers(answer)
+}
+
+// A live card added to a box within the lent deck, which is tidied.
+#[no_mangle]
+pub extern "C" fn open_panel_add(deck: &mut [u8], number: u16, card: &[u8]) -> OpenPanelAnswer
+    ensures { λ r. ⌜ DeckTold (now (deck .entry)) (now (deck .exit)) (addSaid (now (deck .entry)) number (now (card .entry))) r ⌝ }
+{
+    let answer = add(deck, number, card);
     in_numbers(answer)
 }
 

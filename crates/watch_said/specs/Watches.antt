@@ -1,4 +1,4 @@
--- What is then answered, refusal by refusal, in the order in which they are judged: 1 to 7, 8, 9, 13, 10; and the room afterwards (document 02,
+-- What is then answered, refusal by refusal, in the order in which they are judged: 1 to 7 and 17, 8, 9, 13, 10; and the room afterwards (document 02,
 -- 2026-05). Assumes nothing.
 use Prim.Native.Nat.{ℕ, _≤_, _<_}
 use mathlib.Core.Path.{_≡_}

@@ -35,7 +35,7 @@ fn parts(n: usize) -> usize
 impl Weight {
     pub const UNIT: u32 = 277_200;
 
-    // the rule of a weight, by which every entry reads: may a decimal be one?
+    // the rule of a weight, by which every entry but the converter reads: may a decimal be one?
     pub const DECIMALS: bool = false;
 
     // a number alone

@@ -1,4 +1,4 @@
-//! Decks: cards in a box, behind a table of contents. No card is read here; `mend` and `convert` do that.
+//! Decks: cards in a box, behind a table of contents. No card is read here; `mend`, `convert` and `tidy` do that.
 
 use crate::limits::{DECK_BYTES, DECK_CARDS};
 use crate::refusal::{Refusal, DECK, IN_EXPANSION, NO_LIVE_CARD, ROOM};

@@ -5,8 +5,9 @@
 //! spectator sees how many seats are in each public class, weights may be
 //! elevenths, one may ask whether anyone can move, and how likely a question
 //! becomes true within some steps, damaged decks are mended, a card may have a
-//! number that all seats share, and no weight is a decimal any more, for which
-//! decks are converted.
+//! number that all seats share, no weight is a decimal any more, for which decks
+//! are converted, and decks are tidied where they stand, and a card is added to
+//! them there.
 //!
 //! It was written from the documents alone, so that a slip in it and a slip in
 //! the verified library are unlikely to be the same one; `compare` runs both on
@@ -44,6 +45,7 @@ mod reduce;
 pub mod refusal;
 mod scan;
 mod text;
+mod tidy;
 mod watch;
 mod write;
 
@@ -59,5 +61,6 @@ pub use question::ask;
 pub use read::{judge, judge_old};
 pub use reduce::reduce;
 pub use refusal::Refusal;
+pub use tidy::{add, tidy};
 pub use watch::watch;
 pub use write::{write, write_read};

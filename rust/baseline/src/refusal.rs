@@ -35,7 +35,7 @@ pub const ROOM: u8 = 10;
 pub const DECK: u8 = 11;
 /// What is added to a [`DECK`]'s place in an expansion.
 pub const IN_EXPANSION: usize = 65_536;
-/// No deck has a live card of the number.
+/// No deck has a live card of the number, or a deck has none at all.
 pub const NO_LIVE_CARD: u8 = 12;
 /// A list of classes has not one for each state, or has one above the highest.
 pub const CLASS_LIST: u8 = 13;
@@ -49,6 +49,8 @@ pub const ROW_LENGTH: u8 = 16;
 pub const DECIMAL: u8 = 17;
 /// A deck is not converted; the place is the number of the first card that cannot be.
 pub const NOT_CONVERTED: u8 = 18;
+/// A card is not added: its number is live already, or the deck has as many live cards as one may have.
+pub const NOT_ADDED: u8 = 19;
 /// What is added to [`TOO_LONG`], [`OUTSIDE`], [`SHAPE`], [`LIMIT`], [`STATE`] or [`WORD`] where a question is refused so.
 pub const OF_QUESTION: u8 = 20;
 

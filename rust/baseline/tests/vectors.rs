@@ -1,4 +1,4 @@
-//! The stored cases of 2026-09, 2026-10 and 2026-11, by the baseline alone. `rust/vectors` asks the library the same, and all stored cases of both.
+//! The stored cases of 2026-09 to 2026-12, by the baseline alone. `rust/vectors` asks the library the same, and all stored cases of both.
 
 #[allow(dead_code)]
 #[path = "../../vectors/src/stored.rs"]
@@ -7,8 +7,8 @@ mod stored;
 use std::collections::BTreeMap;
 
 use baseline::{
-    ask, convert, convert_into, first_move, judge, mend, mend_into, odds, panel, reduce, watch,
-    write, Aim, Mended, Refusal,
+    add, ask, convert, convert_into, first_move, judge, mend, mend_into, odds, panel, reduce, tidy,
+    watch, write, Aim, Mended, Refusal,
 };
 use stored::{file, Answer, Cases};
 
@@ -57,13 +57,17 @@ fn mended_decks() {
     assert_eq!(ends.values().sum::<usize>(), cases.count());
 }
 
-/// A deck as it is stored.
-fn in_digits(deck: &[u8]) -> Vec<u8> {
-    let digits: String = deck.iter().map(|byte| format!("{byte:02x}")).collect();
-    format!("ok {}\n{digits}\n", deck.len()).into_bytes()
+/// A deck as it is stored, but for its length.
+fn digits(deck: &[u8]) -> String {
+    deck.iter().map(|byte| format!("{byte:02x}")).collect()
 }
 
-/// How a call of 2026-10 or 2026-11 ends, in the words of the stored answers; what is lent is held to be as it has to be afterwards.
+/// A deck as it is stored.
+fn in_digits(deck: &[u8]) -> Vec<u8> {
+    format!("ok {}\n{}\n", deck.len(), digits(deck)).into_bytes()
+}
+
+/// How a call of 2026-10 to 2026-12 ends, in the words of the stored answers; what is lent is held to be as it has to be afterwards.
 fn answered(entry: &str, pieces: &[Vec<u8>]) -> Result<Vec<u8>, Refusal> {
     let pieces: Vec<&[u8]> = pieces.iter().map(Vec::as_slice).collect();
     let in_room = |room: &[u8], entry: &mut dyn FnMut(&mut [u8]) -> Result<usize, Refusal>| {
@@ -134,13 +138,31 @@ fn answered(entry: &str, pieces: &[Vec<u8>]) -> Result<Vec<u8>, Refusal> {
             assert_eq!(convert(deck), Ok(made.clone()));
             Ok(in_digits(&made))
         }
+        ("tidy", [deck]) => in_place(deck, tidy),
+        ("add", [deck, number, card]) => in_place(deck, |deck| {
+            let number = u16::try_from(told(number)).expect("a card number");
+            add(deck, number, card)
+        }),
         _ => panic!("{entry} is handed something else"),
     }
 }
 
+/// How a call ends that changes the deck where it stands: its length, and all that was lent; with a refusal that is as it was.
+fn in_place(
+    deck: &[u8],
+    change: impl FnOnce(&mut [u8]) -> Result<usize, Refusal>,
+) -> Result<Vec<u8>, Refusal> {
+    let mut lent = deck.to_vec();
+    let answer = change(&mut lent);
+    if answer.is_err() {
+        assert_eq!(lent, deck);
+    }
+    answer.map(|length| format!("length {length}\n{}\n", digits(&lent)).into_bytes())
+}
+
 /// Holds all cases of a request, of which there are so many.
 fn held(request: &str, count: usize) {
-    const ENTRIES: [&str; 10] = [
+    const ENTRIES: [&str; 12] = [
         "read",
         "write",
         "reduce",
@@ -151,6 +173,8 @@ fn held(request: &str, count: usize) {
         "odds",
         "mend",
         "convert",
+        "tidy",
+        "add",
     ];
     let folder = concat!(env!("CARGO_MANIFEST_DIR"), "/../../vectors/requests");
     let answers = file(format!("{folder}/{request}.expected"));
@@ -180,4 +204,9 @@ fn day_and_night() {
 #[test]
 fn decimals_retired() {
     held("2026-11", 566);
+}
+
+#[test]
+fn room_from_withdrawn_cards() {
+    held("2026-12", 489);
 }

@@ -1,11 +1,11 @@
 //! The inputs on which the entries need most stack: guards and questions nested as deep as may be, behind as many operands
 //! as there may be nodes, with each refusal at their innermost; guards whose nodes hang on each other in the longest line;
 //! all of these also with a number that the seats share; the largest cards and texts; and decks, sound and wrong in the last
-//! place, also with such cards in them.
+//! place, also with such cards in them, and to be added to them.
 
 use std::iter;
 
-use crate::{contents, deck, stored, Case};
+use crate::{contents, deck, flags, stored, Case};
 use compare::extremes::{extremes, shared_extremes};
 
 /// Most brackets and `!` that are open at once.
@@ -324,4 +324,29 @@ pub fn damaged() -> Vec<Case> {
     let old: Vec<Case> = cards.iter().filter_map(with_decimals).collect();
     let with_cards = cards.into_iter().chain(old).map(with);
     with_cards.chain(decks()).collect()
+}
+
+/// Decks that are changed where they stand: with each of the cards to be added to a deck of two, of which the last is withdrawn, with just as much
+/// room as it needs; and those that are looked into, and that deck with every second card withdrawn, with a card that is taken.
+pub fn lent() -> Vec<Case> {
+    let with = |case: Case| {
+        let head = [2, 1, 0, 17, 0, 1, 0, 1, 0, 2, 0, 18, 0, 0, 0, 0, 0, b'x'];
+        let mut deck = [&head[..], &case.card].concat();
+        deck.truncate(open_panel::DECK_BYTES);
+        Case {
+            question: case.card,
+            ..Case::new(deck, Vec::new())
+        }
+    };
+    let mut second = deck();
+    for flag in flags(&mut second).step_by(2) {
+        *flag = 0;
+    }
+    let plain = card("probabilistic", 2, 1, &everyone(2, " & "), "");
+    let halved = iter::once(Case::new(second, Vec::new()));
+    let whole = decks().into_iter().chain(halved).map(|case| Case {
+        question: plain.clone(),
+        ..case
+    });
+    cards().into_iter().map(with).chain(whole).collect()
 }

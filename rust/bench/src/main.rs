@@ -5,7 +5,9 @@
 //! room, and what a spectator sees, beside judging a card alone; whether anyone
 //! can move, beside judging and the whole panel; odds after the most steps; cards
 //! whose seats share a number; then
-//! a card looked for in a deck, and decks mended and converted. Each round goes through all rows, so that a
+//! a card looked for in a deck, decks mended and converted, and decks tidied and cards
+//! added to them, where a deck is copied each time before it is changed, which is not
+//! measured. Each round goes through all rows, so that a
 //! while in which the machine is slow spoils none of them. Then the stack that
 //! the entries use, on the inputs that need most; `bench stack` prints that table
 //! alone, and fails where an entry uses more than the wrapper says.
@@ -37,7 +39,7 @@ struct Case {
     /// The card; or a deck, or a deck's contents.
     card: Vec<u8>,
     seats: Vec<u8>,
-    /// The question, and nothing where none is asked; or the expansion, or a deck's bodies.
+    /// The question, and nothing where none is asked; or the expansion, or a deck's bodies, or a card to be added to a deck.
     question: Vec<u8>,
     /// A class for each state, where a spectator watches.
     list: Vec<u8>,
@@ -537,6 +539,44 @@ const CONVERT: Entry = (
     |case, room| baseline::convert_into(&case.card, room).ok(),
 );
 
+/// The number that a card gets when it is added: one below all others of [`live_deck`] and of [`deck`].
+const ADDED: u16 = 0;
+
+/// The entry that tidies a deck, which is the room.
+const TIDY: Entry = (
+    "tidy",
+    |_, deck| open_panel::tidy(deck).ok(),
+    |_, deck| baseline::tidy(deck).ok(),
+);
+
+/// The entry that adds a card to a deck, which is the room.
+const ADD: Entry = (
+    "add",
+    |case, deck| open_panel::add(deck, ADDED, &case.question).ok(),
+    |case, deck| baseline::add(deck, ADDED, &case.question).ok(),
+);
+
+/// The same for the table of stack, on a copy of the deck, as much of it as there is room for.
+const COPY_ENTRIES: [Entry; 2] = [
+    (
+        TIDY.0,
+        |case, room| TIDY.1(case, copied(case, room)),
+        |case, room| TIDY.2(case, copied(case, room)),
+    ),
+    (
+        ADD.0,
+        |case, room| ADD.1(case, copied(case, room)),
+        |case, room| ADD.2(case, copied(case, room)),
+    ),
+];
+
+/// A copy of a deck in a room.
+fn copied<'r>(case: &Case, room: &'r mut [u8]) -> &'r mut [u8] {
+    let length = room.len().min(case.card.len());
+    room[..length].copy_from_slice(&case.card[..length]);
+    &mut room[..length]
+}
+
 /// A set of one deck.
 fn deck_set(name: &'static str, deck: Vec<u8>) -> Set {
     Set {
@@ -570,6 +610,89 @@ fn convert_sets() -> Vec<Set> {
         deck_set("64 live cards without", without),
         deck_set("64 withdrawn cards, the longest deck", withdrawn_deck()),
     ]
+}
+
+/// Decks of the most cards: live ones without gaps, of which nothing is moved; the same behind a byte of gap; with every second withdrawn; and the
+/// longest deck, of which the first is, so that all the others are moved.
+fn tidy_sets() -> Vec<Set> {
+    let live = live_deck(&stored(), |card| baseline::judge(card).is_ok());
+    let mut gap = live.clone();
+    gap.insert(1 + 8 * open_panel::DECK_CARDS, b'.');
+    let (entries, _) = gap[1..1 + 8 * open_panel::DECK_CARDS].as_chunks_mut::<8>();
+    for [_, _, low, high, ..] in entries {
+        [*low, *high] = (u16::from_le_bytes([*low, *high]) + 1).to_le_bytes();
+    }
+    vec![
+        deck_set("64 live cards, nothing to do", live),
+        deck_set("64 live cards behind a byte of gap", gap),
+        deck_set("64 cards, every second withdrawn", half_withdrawn()),
+        deck_set(
+            "64 cards, the first withdrawn, the longest deck",
+            first_withdrawn(),
+        ),
+    ]
+}
+
+/// Card A, which becomes the first of its deck: the last of 64 to a deck with just the room for it at its end, to one of which every second is withdrawn,
+/// and to the longest, of which the first is; and the longest card, to the longest deck, of which the last 32 are.
+fn add_sets() -> Vec<Set> {
+    let all = base();
+    let card_a = all.first().map_or(&[][..], Input::card);
+    let mut longest_card = card_a.to_vec();
+    longest_card.resize(open_panel::CARD_BYTES, b' ');
+    let mut live = live_deck(&stored(), |card| baseline::judge(card).is_ok());
+    for flag in flags(&mut live).take(1) {
+        *flag = 0;
+    }
+    let length = baseline::tidy(&mut live).expect("63 are live");
+    live.resize(length + 8 + card_a.len(), 0);
+    let mut last_withdrawn = deck();
+    for flag in flags(&mut last_withdrawn).skip(32) {
+        *flag = 0;
+    }
+    let with = |name, deck, card: &[u8]| Set {
+        name,
+        cases: vec![Case {
+            question: card.to_vec(),
+            ..Case::new(deck, Vec::new())
+        }],
+    };
+    vec![
+        with("card A to 63 live cards, room at the end", live, card_a),
+        with(
+            "card A to 64 cards, every second withdrawn",
+            half_withdrawn(),
+            card_a,
+        ),
+        with(
+            "card A to 64 cards, the first withdrawn, the longest deck",
+            first_withdrawn(),
+            card_a,
+        ),
+        with(
+            "a card of 16,384 bytes to 64 cards, the last 32 withdrawn, the longest deck",
+            last_withdrawn,
+            &longest_card,
+        ),
+    ]
+}
+
+/// A deck of the most middling cards, every second of them withdrawn.
+fn half_withdrawn() -> Vec<u8> {
+    let mut deck = live_deck(&stored(), |card| baseline::judge(card).is_ok());
+    for flag in flags(&mut deck).step_by(2) {
+        *flag = 0;
+    }
+    deck
+}
+
+/// The longest deck, of the most cards, the first of them withdrawn.
+fn first_withdrawn() -> Vec<u8> {
+    let mut deck = deck();
+    for flag in flags(&mut deck).take(1) {
+        *flag = 0;
+    }
+    deck
 }
 
 /// A deck of the first middling cards that are such, as many as there may be, all of them live.
@@ -629,23 +752,36 @@ fn full_deck() -> Set {
     }
 }
 
-/// Which lengths of the room the cards of a set are lent, for an entry.
-type Lengths = fn(&Set, Call, &mut [u8]) -> Vec<usize>;
-
-fn whole_room(set: &Set, _: Call, room: &mut [u8]) -> Vec<usize> {
-    vec![room.len(); set.cases.len()]
+/// What is lent for the cards of a set.
+#[derive(Clone, Copy, PartialEq, Eq)]
+enum Lent {
+    /// All of the room.
+    Whole,
+    /// Just as much of it as the text needs.
+    JustFits,
+    /// A copy of the deck, which is changed where it stands.
+    Copy,
 }
 
-fn text_lengths(set: &Set, call: Call, room: &mut [u8]) -> Vec<usize> {
-    let cases = set.cases.iter();
-    cases
-        .map(|case| call(case, room).expect("the cards are accepted"))
-        .collect()
+impl Lent {
+    /// How much of the room that is for each of them.
+    fn lengths(self, set: &Set, call: Call, room: &mut [u8]) -> Vec<usize> {
+        let cases = set.cases.iter();
+        cases
+            .map(|case| match self {
+                Lent::Whole => room.len(),
+                Lent::JustFits => call(case, room).expect("the cards are accepted"),
+                Lent::Copy => case.card.len(),
+            })
+            .collect()
+    }
 }
 
 /// One side of a row: a call on all cases of a set, each in a room of its own length.
 struct Side {
     call: Call,
+    /// The room is a copy of the deck each time.
+    in_place: bool,
     /// How often a round goes through the set.
     times: u32,
     /// Seconds to go through it once, in the best round so far.
@@ -654,9 +790,10 @@ struct Side {
 
 impl Side {
     /// Finds out how many times make a round, which warms up the processor for the rounds.
-    fn new(call: Call, set: &Set, lengths: &[usize], room: &mut [u8]) -> Side {
+    fn new(call: Call, in_place: bool, set: &Set, lengths: &[usize], room: &mut [u8]) -> Side {
         let mut side = Side {
             call,
+            in_place,
             times: 1,
             best: f64::INFINITY,
         };
@@ -667,6 +804,9 @@ impl Side {
     }
 
     fn time(&self, set: &Set, lengths: &[usize], room: &mut [u8]) -> Duration {
+        if self.in_place {
+            return self.time_in_place(set, room);
+        }
         let start = Instant::now();
         for _ in 0..self.times {
             for (case, length) in set.cases.iter().zip(lengths) {
@@ -676,6 +816,21 @@ impl Side {
             }
         }
         start.elapsed()
+    }
+
+    /// The same without the time that it takes to copy the decks.
+    fn time_in_place(&self, set: &Set, room: &mut [u8]) -> Duration {
+        let mut spent = Duration::ZERO;
+        for _ in 0..self.times {
+            for case in &set.cases {
+                let deck = black_box(copied(case, room));
+                let start = Instant::now();
+                let length = (self.call)(black_box(case), deck);
+                assert!(black_box(length).is_some());
+                spent += start.elapsed();
+            }
+        }
+        spent
     }
 }
 
@@ -688,13 +843,15 @@ struct Row<'a> {
 }
 
 impl<'a> Row<'a> {
-    fn new(entry: Entry, set: &'a Set, lengths: Lengths, room: &mut [u8]) -> Row<'a> {
+    fn new(entry: Entry, set: &'a Set, lent: Lent, room: &mut [u8]) -> Row<'a> {
         let (entry, library, baseline) = entry;
-        let lengths = lengths(set, baseline, room);
+        let lengths = lent.lengths(set, baseline, room);
+        let in_place = lent == Lent::Copy;
+        let sides = [library, baseline].map(|call| Side::new(call, in_place, set, &lengths, room));
         Row {
             entry,
             set,
-            sides: [library, baseline].map(|call| Side::new(call, set, &lengths, room)),
+            sides,
             lengths,
         }
     }
@@ -726,11 +883,11 @@ impl<'a> Row<'a> {
     }
 }
 
-fn rows<'a>(entries: &[Entry], sets: &'a [Set], lengths: Lengths, room: &mut [u8]) -> Vec<Row<'a>> {
+fn rows<'a>(entries: &[Entry], sets: &'a [Set], lent: Lent, room: &mut [u8]) -> Vec<Row<'a>> {
     let all = entries
         .iter()
         .flat_map(|entry| sets.iter().map(|set| (*entry, set)));
-    all.map(|(entry, set)| Row::new(entry, set, lengths, room))
+    all.map(|(entry, set)| Row::new(entry, set, lent, room))
         .collect()
 }
 
@@ -741,7 +898,7 @@ fn print_table(rows: &[Row]) {
 }
 
 /// How much stack the wrapper says that each entry takes, in the order of the table below.
-const BOUNDS: [usize; 14] = [
+const BOUNDS: [usize; 16] = [
     open_panel::stack::JUDGE,
     open_panel::stack::WRITE,
     open_panel::stack::REDUCE,
@@ -756,17 +913,20 @@ const BOUNDS: [usize; 14] = [
     open_panel::stack::WRITE_DECK,
     open_panel::stack::MEND,
     open_panel::stack::CONVERT,
+    open_panel::stack::TIDY,
+    open_panel::stack::ADD,
 ];
 
 /// The stack of every entry, on the inputs that need most: false where one takes more than it is said to.
 fn print_stack() -> bool {
-    let (cards, questions, watched, decks, parts, damaged) = (
+    let (cards, questions, watched, decks, parts, damaged, lent) = (
         deepest::cards(),
         deepest::questions(),
         deepest::watched(),
         deepest::decks(),
         deepest::deck_parts(),
         deepest::damaged(),
+        deepest::lent(),
     );
     let reckoned: Vec<Case> = odds_sets()
         .into_iter()
@@ -775,6 +935,7 @@ fn print_stack() -> bool {
         .collect();
     let of_cards = ENTRIES.into_iter().map(|entry| (entry, &cards));
     let of_decks = DECK_ENTRIES.into_iter().map(|entry| (entry, &decks));
+    let of_copies = COPY_ENTRIES.into_iter().map(|entry| (entry, &lent));
     let all = of_cards
         .chain([
             (ASK, &questions),
@@ -783,7 +944,8 @@ fn print_stack() -> bool {
             (ODDS_IN_LENT_ROWS, &reckoned),
         ])
         .chain(of_decks)
-        .chain([(WRITE_DECK, &parts), (MEND, &damaged), (CONVERT, &damaged)]);
+        .chain([(WRITE_DECK, &parts), (MEND, &damaged), (CONVERT, &damaged)])
+        .chain(of_copies);
     println!("| Entry | Library, bytes of stack | Bound | Baseline, bytes of stack |\n|---|---:|---:|---:|");
     let mut kept = true;
     for (((entry, library, baseline), cases), bound) in all.zip(BOUNDS) {
@@ -806,27 +968,30 @@ fn main() -> ExitCode {
     let (spectator_sets, first_move_sets) = (spectator_sets(), first_move_sets());
     let (odds_sets, shared_sets) = (odds_sets(), shared_sets());
     let (mend_sets, convert_sets) = (mend_sets(), convert_sets());
+    let (tidy_sets, add_sets) = (tidy_sets(), add_sets());
     let [judge, _, _, show] = ENTRIES;
     let mut room = vec![0; open_panel::REDUCE_ROOM];
     let mut tables = [
-        rows(&ENTRIES, &sets, whole_room, &mut room),
-        rows(&ENTRIES[1..], &sets, text_lengths, &mut room),
-        rows(&[ASK], &question_sets, whole_room, &mut room),
-        rows(&[WATCH], &spectator_sets, whole_room, &mut room),
+        rows(&ENTRIES, &sets, Lent::Whole, &mut room),
+        rows(&ENTRIES[1..], &sets, Lent::JustFits, &mut room),
+        rows(&[ASK], &question_sets, Lent::Whole, &mut room),
+        rows(&[WATCH], &spectator_sets, Lent::Whole, &mut room),
         rows(
             &[judge, FIRST_MOVE, show],
             &first_move_sets,
-            whole_room,
+            Lent::Whole,
             &mut room,
         ),
-        rows(&[ODDS], &odds_sets, whole_room, &mut room),
-        rows(&ENTRIES, &shared_sets, whole_room, &mut room),
-        rows(&[FIND], &deck_sets, whole_room, &mut room),
-        rows(&[MEND], &mend_sets, whole_room, &mut room),
-        rows(&[CONVERT], &convert_sets, whole_room, &mut room),
+        rows(&[ODDS], &odds_sets, Lent::Whole, &mut room),
+        rows(&ENTRIES, &shared_sets, Lent::Whole, &mut room),
+        rows(&[FIND], &deck_sets, Lent::Whole, &mut room),
+        rows(&[MEND], &mend_sets, Lent::Whole, &mut room),
+        rows(&[CONVERT], &convert_sets, Lent::Whole, &mut room),
+        rows(&[TIDY], &tidy_sets, Lent::Copy, &mut room),
+        rows(&[ADD], &add_sets, Lent::Copy, &mut room),
     ];
     for beside in [2, 3] {
-        let judged = Row::new(judge, &sets[0], whole_room, &mut room);
+        let judged = Row::new(judge, &sets[0], Lent::Whole, &mut room);
         tables[beside].insert(0, judged);
     }
     for round in 0..ROUNDS {
@@ -834,7 +999,7 @@ fn main() -> ExitCode {
             row.round(round, &mut room);
         }
     }
-    let [always_enough, just_fit, questions, spectators, first_moves, odds, shared, decks, mended, converted] =
+    let [always_enough, just_fit, questions, spectators, first_moves, odds, shared, decks, mended, converted, tidied, added] =
         tables;
     println!("In a room of {} bytes:\n", room.len());
     print_table(&always_enough);
@@ -856,6 +1021,10 @@ fn main() -> ExitCode {
     print_table(&mended);
     println!("\nDecks converted:\n");
     print_table(&converted);
+    println!("\nDecks tidied:\n");
+    print_table(&tidied);
+    println!("\nCards added, bytes of the deck and the card together:\n");
+    print_table(&added);
     println!();
     print_stack();
     ExitCode::SUCCESS

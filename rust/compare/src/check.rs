@@ -150,6 +150,51 @@ impl Rooms {
     }
 }
 
+impl Rooms {
+    /// Asks the library once to change a deck where it stands, and holds answer, deck and the bytes around it to what is expected: the new
+    /// deck and zeros behind it, or the deck as it was.
+    pub(crate) fn probe_in_place(
+        &mut self,
+        what: &str,
+        expected: Result<&[u8], Refusal>,
+        deck: &[u8],
+        ask: impl FnOnce(&mut [u8]) -> Result<usize, open_panel::Refusal>,
+    ) -> Result<(), Fault> {
+        let from = (self.probes % 251) as usize;
+        self.probes += 1;
+        let end = GUARD + deck.len();
+        let pattern = &self.pattern[from..from + end + GUARD];
+        let store = &mut self.store[..end + GUARD];
+        store.copy_from_slice(pattern);
+        let lent = &mut store[GUARD..end];
+        lent.copy_from_slice(deck);
+        let answer = ask(lent);
+        let answer = answer.map_err(|refusal| Refusal::new(refusal.number(), refusal.place()));
+        let length = expected.map(<[u8]>::len);
+        let wrong = |fault: String| format!("{what}, {} bytes lent: {fault}", deck.len());
+        if answer != length {
+            return Err(wrong(format!(
+                "the library says {answer:?}, and due is {length:?}"
+            )));
+        }
+        let mut due = pattern.to_vec();
+        let lent = &mut due[GUARD..end];
+        match expected {
+            Ok(new) => {
+                let (used, behind) = lent.split_at_mut(new.len());
+                used.copy_from_slice(new);
+                behind.fill(0);
+            }
+            Err(_) => lent.copy_from_slice(deck),
+        }
+        let differs = store.iter().zip(&due).position(|(found, due)| found != due);
+        differs.map_or(Ok(()), |place| {
+            let place = place as isize - GUARD as isize;
+            Err(wrong(format!("byte {place} of the deck is wrong")))
+        })
+    }
+}
+
 impl Checker {
     /// Lends the long rooms too, once in so many inputs.
     pub fn new(long_rooms_once_in: usize) -> Self {

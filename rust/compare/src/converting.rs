@@ -229,7 +229,7 @@ fn converted(deck: &[u8]) -> Result<Vec<u8>, Fault> {
 }
 
 /// The entries of a deck: number, flag and body.
-fn entries(deck: &[u8]) -> impl Iterator<Item = (u16, u8, &[u8])> {
+pub(crate) fn entries(deck: &[u8]) -> impl Iterator<Item = (u16, u8, &[u8])> {
     let (entries, _) = deck[1..].as_chunks::<ENTRY_BYTES>();
     entries[..usize::from(deck[0])].iter().map(|entry| {
         let [number, offset, length] =

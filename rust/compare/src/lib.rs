@@ -12,8 +12,8 @@
 //! and wrong ones watch each table, and it is asked who can move first
 //! ([`first_moves`]). [`odds`] are reckoned and held to [`exact`] chances, on
 //! small tables to those of seats told apart. Cards are looked for in generated [`decks`],
-//! sound and malformed, and decks are written; [`damaged_decks`] are mended, and
-//! [`old_decks`] converted. Many cards have a number that their seats share, and some
+//! sound and malformed, and decks are written; [`damaged_decks`] are mended,
+//! [`old_decks`] converted, and [`lent_decks`] tidied, and a card added to them. Many cards have a number that their seats share, and some
 //! use it wrongly ([`shared`]); and some have [`decimals`].
 
 pub mod big;
@@ -30,6 +30,7 @@ pub mod exact;
 pub mod extremes;
 pub mod first_moves;
 pub mod inputs;
+pub mod lent_decks;
 pub mod marks;
 pub mod mending;
 pub mod model;
@@ -42,4 +43,5 @@ pub mod shared;
 pub mod spectators;
 mod surrounded;
 pub mod tally;
+pub mod tidying;
 pub mod weights;

@@ -137,6 +137,7 @@ fn one(seed: u64, index: u64, checker: &mut Checker, tally: &mut Tally) -> Resul
             checker.check_deck_writer(&mut random, &mut tally.decks)?;
             checker.check_mending(&input, &mut random, tally)?;
             checker.check_converting(&input, &mut random, tally)?;
+            checker.check_tidying(&input, &mut random, &mut tally.tidying)?;
         }
         Ok(())
     })

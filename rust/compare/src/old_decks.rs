@@ -293,11 +293,21 @@ impl Pool {
 
 /// A card with decimals that is damaged in a way that mostly gets this refusal.
 fn damaged_for(number: u8, random: &mut Random) -> Vec<u8> {
-    let model = match number {
+    let model = model_for(number, random);
+    let marks = Twins::new(&model, random).old.marks();
+    damaged_marks(number, marks, random)
+}
+
+/// A card that can be damaged so, or that passes a limit.
+pub(crate) fn model_for(number: u8, random: &mut Random) -> Model {
+    match number {
         4 => card_at(random.pick(&Limit::ALL), 1, random),
         _ => card(Size::small(random), random),
-    };
-    let mut marks = Twins::new(&model, random).old.marks();
+    }
+}
+
+/// Its marks, damaged and laid out.
+pub(crate) fn damaged_marks(number: u8, mut marks: Vec<Mark>, random: &mut Random) -> Vec<u8> {
     let damage = match number {
         2 => {
             let place = random.below(marks.len());

@@ -16,6 +16,7 @@ use crate::odds::OddsTally;
 use crate::questions::{self, Question};
 use crate::shared::{SharedTally, Tried};
 use crate::spectators::SpectatorTally;
+use crate::tidying::TidyTally;
 use crate::weights::BEFORE_ELEVENTHS;
 
 /// Inputs of a run that the minima below are for.
@@ -163,6 +164,8 @@ pub struct Tally {
     pub mending: MendTally,
     /// Decks that are converted.
     pub converting: ConvertTally,
+    /// Decks that are tidied, and cards added to them.
+    pub tidying: TidyTally,
     /// Decimals.
     pub decimals: DecimalTally,
     /// The shared number.
@@ -302,6 +305,7 @@ impl Tally {
         self.decks.add(&other.decks);
         self.mending.add(&other.mending);
         self.converting.add(&other.converting);
+        self.tidying.add(&other.tidying);
         self.decimals.add(&other.decimals);
         self.shared.add(&other.shared);
     }
@@ -414,6 +418,7 @@ impl Tally {
         self.decks.shortfalls(&mut least);
         self.mending.shortfalls(&mut least);
         self.converting.shortfalls(&mut least);
+        self.tidying.shortfalls(&mut least);
         self.decimals.shortfalls(&mut least);
         self.shared.shortfalls(&mut least);
         shortfalls
@@ -499,8 +504,8 @@ impl fmt::Display for Tally {
         self.print_questions(f)?;
         write!(f, "\n{}\n{}", self.spectators, self.first_moves)?;
         write!(f, "\n{}\n{}\n{}", self.odds, self.decks, self.mending)?;
-        write!(f, "\n{}\n{}", self.converting, self.decimals)?;
-        write!(f, "\n{}", self.shared)
+        write!(f, "\n{}\n{}", self.converting, self.tidying)?;
+        write!(f, "\n{}\n{}", self.decimals, self.shared)
     }
 }
 

@@ -1,17 +1,19 @@
-//! `desk box`: what a box holds, a card out of one, boxes of cards, damaged boxes mended, and old ones converted.
+//! `desk box`: what a box holds, a card out of one, boxes of cards, damaged boxes mended, old ones converted, full ones tidied, and cards added.
 
 use std::fs;
 use std::io::{self, Write};
 use std::process::ExitCode;
 
 use desk::reason::{
-    of_converted, of_deck, of_entries, of_mended, of_number, of_written, pair, Given, Reason, ENTRY,
+    grouped, of_added, of_converted, of_deck, of_entries, of_mended, of_number, of_tidied,
+    of_written, pair, Given, Reason, ENTRY,
 };
 use desk::report;
-use open_panel::Refusal;
+use desk::walk::summary;
+use open_panel::{Refusal, DECK_BYTES};
 
 use crate::input::{bytes_of, unreachable, wrong_words, Input};
-use crate::{put, summary};
+use crate::put;
 
 /// The place from which on a refusal is of the expansion.
 const EXPANSION: usize = 1 << 16;
@@ -69,7 +71,7 @@ fn in_hex(name: &str, bytes: &[u8], place: usize, reason: &Reason) -> String {
     };
     let to = bytes.len().min(if from == 0 { 1 } else { from + ENTRY });
     let (mut shown, mut under) = (Vec::new(), Vec::new());
-    if reason.refusal.number() == 11 {
+    if matches!(reason.refusal.number(), 11 | 19) {
         for (at, byte) in bytes.iter().enumerate().take(to).skip(from) {
             shown.push(format!("{byte:02x}"));
             under.push(if reason.span.contains(&at) {
@@ -289,6 +291,89 @@ fn rewritten(old: &Deck, new: &Deck) -> String {
         };
     }
     made
+}
+
+/// `box tidy BOX TIDIED`.
+pub fn tidy(words: &[&str]) -> ExitCode {
+    let [name, tidied] = words else {
+        wrong_words("`desk box tidy` takes a box, and the box to write");
+    };
+    let old = Deck::read(name);
+    let mut new = old.bytes.clone();
+    match open_panel::tidy_vec(&mut new) {
+        Ok(()) => {
+            keep(tidied, &new);
+            told(tidied, &live_ones(&old, None, new.len()))
+        }
+        Err(refusal) => {
+            let reason = of_tidied(&old.bytes, refusal);
+            eprint!("{}", in_hex(name, &old.bytes, refusal.place(), &reason));
+            ExitCode::FAILURE
+        }
+    }
+}
+
+/// `box add BOX NUMBER CARD NEW`.
+pub fn add(words: &[&str]) -> ExitCode {
+    let [name, number, card, added] = words else {
+        wrong_words("`desk box add` takes a box, a card's number, the card, and the box to write");
+    };
+    let number = card_number(number);
+    let old = Deck::read(name);
+    let input = Input::read(card);
+    let card = input.card();
+    let mut new = old.bytes.clone();
+    match open_panel::add_to_vec(&mut new, number, card) {
+        Ok(()) => {
+            keep(added, &new);
+            let with = Some((number, card.len()));
+            told(added, &live_ones(&old, with, new.len()))
+        }
+        Err(refusal) if matches!(refusal.number(), 10..=12 | 19) => {
+            let reason = of_added(&old.bytes, number, card, refusal);
+            // the place of 10 is a length, and no byte
+            let place = match refusal {
+                Refusal::Room { .. } => 0,
+                _ => refusal.place(),
+            };
+            eprint!("{}", in_hex(name, &old.bytes, place, &reason));
+            ExitCode::FAILURE
+        }
+        Err(refusal) => crate::refused(
+            &input,
+            Given {
+                card,
+                ..Given::default()
+            },
+            refusal,
+        ),
+    }
+}
+
+/// A line for each entry of a box of which the live ones are left, and for a card that is added, by its number and length; then how long
+/// the new box is, and by how much it may grow.
+fn live_ones(old: &Deck, added: Option<(u16, usize)>, length: usize) -> String {
+    let mut lines = Vec::new();
+    for (entry, (number, live, ..)) in old.entries().enumerate() {
+        let became = match live {
+            true => "as it was",
+            false => "withdrawn: taken out",
+        };
+        let line = format!("{:>5}  {number:>6}  {became}\n", entry + 1);
+        lines.push((number, line));
+    }
+    if let Some((number, length)) = added {
+        let number = usize::from(number);
+        // behind a withdrawn card of its number
+        let place = lines.partition_point(|(other, _)| *other <= number);
+        let line = format!("  new  {number:>6}  added: {length} bytes\n");
+        lines.insert(place, (number, line));
+    }
+    let lines: String = lines.into_iter().map(|(_, line)| line).collect();
+    let [now, before, more] = [length, old.bytes.len(), DECK_BYTES - length].map(grouped);
+    format!(
+        "entry  number  became\n{lines}the box has {now} bytes in place of {before}, and may grow by {more}\n"
+    )
 }
 
 /// Prints what became of a box: to standard error where the box itself goes to standard output.

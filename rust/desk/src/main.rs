@@ -8,6 +8,7 @@ use std::process::ExitCode;
 
 use desk::chances::{night_by_night, with_chances};
 use desk::reason::{Given, Of};
+use desk::walk::summary;
 use desk::{report, walk};
 use open_panel::{Aim, Refusal, ODDS_STEPS};
 
@@ -104,6 +105,8 @@ fn main() -> ExitCode {
         ("box", ["find", rest @ ..]) if words.options.is_empty() => boxes::find(rest),
         ("box", ["mend", rest @ ..]) if words.options.is_empty() => boxes::mend(rest),
         ("box", ["convert", rest @ ..]) if words.options.is_empty() => boxes::convert(rest),
+        ("box", ["tidy", rest @ ..]) if words.options.is_empty() => boxes::tidy(rest),
+        ("box", ["add", rest @ ..]) if words.options.is_empty() => boxes::add(rest),
         ("box", ["write", rest @ ..]) => {
             let withdrawn = words
                 .options
@@ -164,34 +167,6 @@ fn refused(input: &Input, given: Given, refusal: Refusal) -> ExitCode {
         Of::Nights => report::print("nights", given.nights, span.clone(), &reason),
     }
     ExitCode::FAILURE
-}
-
-/// Mode, seats, roles and statements of a card that is taken.
-fn summary(card: &[u8]) -> String {
-    let walk = walk::card(card);
-    let count =
-        |count: usize, one: &str| format!("{count} {one}{}", if count == 1 { "" } else { "s" });
-    let mode = if walk.nondeterministic {
-        "nondeterministic"
-    } else {
-        "probabilistic"
-    };
-    let top = walk.top.map_or(String::new(), |top| {
-        String::from_utf8_lossy(top.of(card)).into_owned()
-    });
-    let roles = if top == "0" {
-        "role 0".to_string()
-    } else {
-        format!("roles 0 to {top}")
-    };
-    let shared = walk.shared_top.map_or(String::new(), |top| {
-        format!(", g up to {}", String::from_utf8_lossy(top.of(card)))
-    });
-    let (seats, statements) = (
-        count(walk.modules.len(), "seat"),
-        count(walk.statements.len(), "statement"),
-    );
-    format!("{mode}, {seats}, {roles}{shared}, {statements}")
 }
 
 /// A seating that a card takes, in words: with the shared number apart, where the card has one.

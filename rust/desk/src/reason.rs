@@ -139,10 +139,10 @@ impl Found {
 
 /// What no other sentence fits.
 fn plain(number: u8, end: usize) -> Found {
-    const NAMES: [&str; 18] = [
+    const NAMES: [&str; 19] = [
         "plain.1", "plain.2", "plain.3", "plain.4", "plain.5", "plain.6", "plain.7", "plain.8",
         "plain.9", "plain.10", "plain.11", "plain.12", "plain.13", "plain.14", "plain.15",
-        "plain.16", "plain.17", "plain.18",
+        "plain.16", "plain.17", "plain.18", "plain.19",
     ];
     found(NAMES[usize::from(number) - 1], end, vec![])
 }
@@ -1565,6 +1565,58 @@ fn with_fractions(card: &[u8]) -> (Vec<u8>, impl Fn(usize) -> usize) {
         place - there + here
     };
     (made, from)
+}
+
+/// Why a box cannot be tidied: 11, or 12 for one without a live card.
+pub fn of_tidied(deck: &[u8], refusal: Refusal) -> Reason {
+    match refusal {
+        Refusal::NoLiveCard => {
+            let cards = usize::from(*deck.first().unwrap_or(&0));
+            found("none.live", 0, vec![("found", many(cards, "card"))]).said(refusal, 0)
+        }
+        _ => of_deck(deck, refusal.place(), refusal),
+    }
+}
+
+/// Why a card is not added to a box: what is wrong with the box, with the card, with its number, or with the room that is left.
+pub fn of_added(deck: &[u8], number: u16, card: &[u8], refusal: Refusal) -> Reason {
+    let place = refusal.place();
+    match refusal {
+        Refusal::Deck { .. } | Refusal::NoLiveCard => of_tidied(deck, refusal),
+        Refusal::NotAdded { at: 0 } => {
+            found("deck.cards", 0, vec![("most", fill(DECK_CARDS))]).said(refusal, 0)
+        }
+        Refusal::NotAdded { at } => {
+            let reason = live_already(deck, at).unwrap_or_else(|| plain(19, at));
+            reason.said(refusal, at)
+        }
+        Refusal::Room { needed } => {
+            let fills = vec![
+                ("number", fill(number)),
+                ("bytes", many(needed, "byte")),
+                ("most", grouped(DECK_BYTES)),
+                ("missing", many(needed.saturating_sub(DECK_BYTES), "byte")),
+            ];
+            found("deck.room", place, fills).said(refusal, place)
+        }
+        _ => of_card(card, refusal),
+    }
+}
+
+/// Which card of a sound box is live, by the place of its entry.
+fn live_already(deck: &[u8], at: usize) -> Option<Found> {
+    let entry = deck.get(at..at + ENTRY)?;
+    let card = deck.get(pair(entry, 2)..)?.get(..pair(entry, 4))?;
+    let what = match open_panel::judge(card) {
+        Ok(()) => walk::summary(card),
+        Err(_) => "a card that is refused".to_string(),
+    };
+    let fills = vec![
+        ("number", fill(pair(entry, 0))),
+        ("entry", fill(at / ENTRY + 1)),
+        ("card", what),
+    ];
+    Some(found("deck.live", at + 2, fills))
 }
 
 /// Why no live card was found: 12. The boxes are sound.

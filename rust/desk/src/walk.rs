@@ -121,6 +121,34 @@ pub fn card(text: &[u8]) -> Walk {
     walked(text, Walker::card)
 }
 
+/// Mode, seats, roles and statements of a card that is taken.
+pub fn summary(text: &[u8]) -> String {
+    let walk = card(text);
+    let count =
+        |count: usize, one: &str| format!("{count} {one}{}", if count == 1 { "" } else { "s" });
+    let mode = if walk.nondeterministic {
+        "nondeterministic"
+    } else {
+        "probabilistic"
+    };
+    let top = walk.top.map_or(String::new(), |top| {
+        String::from_utf8_lossy(top.of(text)).into_owned()
+    });
+    let roles = if top == "0" {
+        "role 0".to_string()
+    } else {
+        format!("roles 0 to {top}")
+    };
+    let shared = walk.shared_top.map_or(String::new(), |top| {
+        format!(", g up to {}", String::from_utf8_lossy(top.of(text)))
+    });
+    let (seats, statements) = (
+        count(walk.modules.len(), "seat"),
+        count(walk.statements.len(), "statement"),
+    );
+    format!("{mode}, {seats}, {roles}{shared}, {statements}")
+}
+
 /// Walks along a question about a card.
 pub fn question(text: &[u8], card: &Walk) -> Walk {
     walked(text, |walker| {

@@ -4,12 +4,13 @@
 use std::collections::BTreeSet;
 
 use desk::reason::{
-    of_converted, of_deck, of_entries, of_mended, of_number, of_written, Given, Of, Reason,
+    of_added, of_converted, of_deck, of_entries, of_mended, of_number, of_tidied, of_written,
+    Given, Of, Reason,
 };
 use desk::words;
 use open_panel::{
-    convert_to_vec, find, judge_deck, mend_to_vecs, odds_in_own_rows, write_deck_to_vec, Aim,
-    Refusal, CARD_BYTES, DECK_BYTES,
+    add_to_vec, convert_to_vec, find, judge_deck, mend_to_vecs, odds_in_own_rows, tidy_vec,
+    write_deck_to_vec, Aim, Refusal, CARD_BYTES, DECK_BYTES, DECK_CARDS,
 };
 
 const TABLE: &str = include_str!("../../../desk/wrong-cards.txt");
@@ -489,6 +490,118 @@ fn a_card_that_cannot_be_converted_is_explained() {
     let refusal = convert_to_vec(&malformed).unwrap_err();
     let due = (11, 8, "the last byte of entry 1 is 1, and 0 was due");
     assert_eq!(said(&of_converted(&malformed, refusal)), due);
+}
+
+#[test]
+fn a_box_that_cannot_be_tidied_is_explained() {
+    let why = |mut deck: Vec<u8>| {
+        let refusal = tidy_vec(&mut deck).unwrap_err();
+        let reason = of_tidied(&deck, refusal);
+        assert_eq!(reason.refusal, refusal);
+        reason.sentence
+    };
+    assert_eq!(
+        why(box_of(&[(3, false, b"one")])),
+        "the box holds 1 card, none of it live, and a live card was due"
+    );
+    assert_eq!(
+        why(box_of(&[(3, false, b"one"), (4, false, b"two")])),
+        "the box holds 2 cards, none of it live, and a live card was due"
+    );
+    let mut malformed = deck();
+    malformed[7] = 2;
+    assert_eq!(
+        why(malformed),
+        "the flag of entry 1 is 2, and 1 for live or 0 for withdrawn was due"
+    );
+}
+
+#[test]
+fn a_card_that_is_not_added_is_explained() {
+    let card = weighed("1:(s1'=1)");
+    let why = |deck: &[u8], number: u16, card: &[u8]| {
+        let refusal = add_to_vec(&mut deck.to_vec(), number, card).unwrap_err();
+        let reason = of_added(deck, number, card, refusal);
+        assert_eq!(reason.refusal, refusal);
+        let (code, place, sentence) = said(&reason);
+        (code, place, reason.span.clone(), sentence.to_string())
+    };
+    let said = |code: u8, place: usize, span: std::ops::Range<usize>, sentence: &str| {
+        (code, place, span, sentence.to_string())
+    };
+    let two = box_of(&[(3, false, b"gone"), (4, true, &card), (400, true, b"none")]);
+    assert_eq!(
+        why(&two, 4, &card),
+        said(
+            19,
+            9,
+            9..11,
+            "card 4 is in the box already, live, as entry 2: nondeterministic, 1 seat, roles 0 to 1, 1 statement"
+        )
+    );
+    assert_eq!(
+        why(&two, 400, &card),
+        said(
+            19,
+            17,
+            17..19,
+            "card 400 is in the box already, live, as entry 3: a card that is refused"
+        )
+    );
+    let many: Vec<(u16, bool, &[u8])> = (0..DECK_CARDS as u16)
+        .map(|n| (n, true, &b""[..]))
+        .collect();
+    assert_eq!(
+        why(&box_of(&many), 64, &card),
+        said(
+            19,
+            0,
+            0..0,
+            "64 cards are live in the box, and no more than that can be"
+        )
+    );
+    // one byte too much, and all of an entry and a card
+    for (over, missing) in [(1, "1 byte"), (8 + card.len(), "85 bytes")] {
+        let fills = vec![b'-'; DECK_BYTES + over - 25 - card.len() - 3];
+        let deck = box_of(&[(2, true, b"two"), (7, true, &fills)]);
+        let bytes = DECK_BYTES + over;
+        let sentence = format!(
+            "with card 8, and with nothing withdrawn and no gaps, the box would take {} bytes, and a box has at most 65,535: it lacks {missing}",
+            desk::reason::grouped(bytes)
+        );
+        assert_eq!(
+            why(&deck, 8, &card),
+            said(10, bytes, bytes..bytes, &sentence)
+        );
+    }
+    assert_eq!(
+        why(&box_of(&[(3, false, b"gone")]), 4, &card),
+        said(
+            12,
+            0,
+            0..0,
+            "the box holds 1 card, none of it live, and a live card was due"
+        )
+    );
+    assert_eq!(
+        why(&[], 4, &card),
+        said(
+            11,
+            0,
+            0..0,
+            "the box has no byte, and at least its count was due"
+        )
+    );
+    // the card's own refusals have their places on the card
+    assert_eq!(
+        why(&two, 4, &weighed("0.5:(s1'=1)+1/2:(s1'=0)")),
+        said(
+            17,
+            57,
+            57..60,
+            "`0.5` is a decimal, and a weight is 0, 1 or a fraction"
+        )
+    );
 }
 
 #[test]

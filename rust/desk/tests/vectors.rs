@@ -51,7 +51,7 @@ fn every_stored_refusal_is_explained() {
     }
     let numbers: std::collections::BTreeSet<u8> =
         all.iter().map(|stored| stored.refused.0).collect();
-    let due = (1..=9).chain(11..=15).chain(17..=18).chain(21..=26);
+    let due = (1..=9).chain(11..=15).chain(17..=19).chain(21..=26);
     let due = due.collect();
     assert_eq!(numbers, due);
     assert!(all.len() > 2_000, "{} refusals", all.len());

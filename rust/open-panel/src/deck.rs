@@ -1,4 +1,4 @@
-//! Decks: cards in a box, found by their numbers; damaged boxes mended, and old ones converted.
+//! Decks: cards in a box, found by their numbers; damaged boxes mended, old ones converted, full ones tidied, and cards added.
 
 use crate::{in_own_room, library, Answer, Refusal};
 
@@ -207,4 +207,74 @@ pub fn convert(deck: &[u8], room: &mut [u8]) -> Result<usize, Refusal> {
 /// The converted deck. Refusals: 11, then 18.
 pub fn convert_to_vec(deck: &[u8]) -> Result<Vec<u8>, Refusal> {
     in_own_room(DECK_BYTES, |room| convert(deck, room))
+}
+
+/// Takes withdrawn cards out of a deck where it stands, closes its gaps, and answers its new length. The whole slice is the deck,
+/// and what is unused at its end a gap; so it may be longer than the cards need. Live cards keep number, order and bytes, and are
+/// not read; behind the new length stand zeros. Refusals: 11, then 12 if no card is live. They leave the deck as it was.
+///
+/// ```
+/// // Card 5 is withdrawn and 6 live; a byte lies between them, and another behind them.
+/// let mut deck = [2, 5, 0, 17, 0, 1, 0, 0, 0, 6, 0, 19, 0, 2, 0, 1, 0, b'a', 9, b'b', b'c', 9];
+/// assert_eq!(open_panel::tidy(&mut deck), Ok(11));
+/// assert_eq!(deck[..11], [1, 6, 0, 9, 0, 2, 0, 1, 0, b'b', b'c']);
+/// assert_eq!(deck[11..], [0; 11]);
+/// ```
+pub fn tidy(deck: &mut [u8]) -> Result<usize, Refusal> {
+    library::tidy(deck).into_result()
+}
+
+/// [Tidies](tidy) a deck, and makes it as short as it is then. Refusals: 11, then 12.
+pub fn tidy_vec(deck: &mut Vec<u8>) -> Result<(), Refusal> {
+    let length = tidy(deck)?;
+    deck.truncate(length);
+    Ok(())
+}
+
+/// [Tidies](tidy) a deck where it stands, puts a live card into it at its place by number, and answers its new length, behind
+/// which stand zeros. The slice is all the room there is. A withdrawn card of that number leaves the deck. Refusals: 11, then 12 if
+/// no card is live, 1 to 7 and 17 of the card, 19 if a live card has the number or [`DECK_CARDS`] cards are live, then 10. They
+/// leave the deck as it was, and not tidied either.
+///
+/// ```
+/// use open_panel::Refusal;
+///
+/// let card = b"nondeterministic module process1 s1 : [0..1] init 0;
+///     [] s1=0 -> 1:(s1'=1); endmodule";
+/// let mut deck = [0; open_panel::DECK_BYTES];
+/// open_panel::write_deck(&[6, 0, 0, 0, 4, 0, 1, 0], b"base", &mut deck)?;
+/// let length = open_panel::add(&mut deck, 5, card)?;
+/// assert_eq!(open_panel::find(&deck[..length], 5), Ok(&card[..]));
+/// assert_eq!(open_panel::find(&deck[..length], 6), Ok(&b"base"[..]));
+///
+/// // Card 6 is live, and its entry, now the second, starts at byte 9.
+/// assert_eq!(open_panel::add(&mut deck, 6, card), Err(Refusal::NotAdded { at: 9 }));
+/// # Ok::<(), Refusal>(())
+/// ```
+pub fn add(deck: &mut [u8], number: u16, card: &[u8]) -> Result<usize, Refusal> {
+    library::add(deck, number, card).into_result()
+}
+
+/// [Adds](add) a live card to a deck, which grows as it needs to, up to [`DECK_BYTES`], and is as short as it can be then.
+/// Refusals: those of [`add`], 10 only past [`DECK_BYTES`]. They leave the deck as it was.
+///
+/// ```
+/// let card = b"nondeterministic module process1 s1 : [0..1] init 0;
+///     [] s1=0 -> 1:(s1'=1); endmodule";
+/// let mut deck = open_panel::write_deck_to_vec(&[6, 0, 0, 0, 4, 0, 1, 0], b"base")?;
+/// open_panel::add_to_vec(&mut deck, 5, card)?;
+/// assert_eq!(deck.len(), 1 + 2 * 8 + card.len() + 4);
+/// # Ok::<(), open_panel::Refusal>(())
+/// ```
+pub fn add_to_vec(deck: &mut Vec<u8>, number: u16, card: &[u8]) -> Result<(), Refusal> {
+    let length = match add(deck, number, card) {
+        Err(Refusal::Room { needed }) if needed <= DECK_BYTES => {
+            // What it grows by is a gap at its end, so nothing else about the deck is judged otherwise.
+            deck.resize(needed, 0);
+            add(deck, number, card).expect("a deck has the room that it has said is needed")
+        }
+        answer => answer?,
+    };
+    deck.truncate(length);
+    Ok(())
 }

@@ -1,13 +1,16 @@
 //! The open panel for Rust: rule cards are judged, written, reduced to
 //! counters, and shown, spectators are shown what they may see, questions about
 //! a seating are answered, also whether they come true within some steps, it is
-//! said whether anyone can move, cards are found in decks, damaged decks are
-//! mended, and old ones converted, by the verified library.
+//! said whether anyone can move, cards are found in decks and added to them,
+//! damaged decks are mended, old ones converted, and full ones tidied, by the
+//! verified library.
 //!
 //! Every entry that takes a card takes it as bytes and judges it first. A text goes into a
 //! room that the caller lends: an entry answers the text's length, and leaves
 //! the room behind it as it was; a [`Refusal`] leaves the whole room as it was.
 //! The functions that end in `_to_vec` or `_to_vecs` bring their own room.
+//! [`tidy`] and [`add`] change a deck where it stands, and only where they are
+//! not refused; those that end in `_vec` make it shorter or longer as well.
 //!
 //! Seats are a byte each, the seat's state, in any order. On a card that declares
 //! a number which all seats share, one byte more stands behind them, the value
@@ -48,8 +51,9 @@ mod refusal;
 pub mod stack;
 
 pub use deck::{
-    convert, convert_to_vec, find, find_with, judge_deck, locate, locate_with, mend, mend_to_vecs,
-    write_deck, write_deck_to_vec, Mended, Part, DECK_BYTES, DECK_CARDS, LIST_ROOM,
+    add, add_to_vec, convert, convert_to_vec, find, find_with, judge_deck, locate, locate_with,
+    mend, mend_to_vecs, tidy, tidy_vec, write_deck, write_deck_to_vec, Mended, Part, DECK_BYTES,
+    DECK_CARDS, LIST_ROOM,
 };
 pub use odds::{odds, odds_in_own_rows, Aim, CERTAIN, ODDS_ROW, ODDS_STEPS};
 pub use refusal::Refusal;

@@ -101,10 +101,19 @@ extern "C" {
         room: *mut u8,
         room_len: usize,
     ) -> Answer;
+    fn open_panel_tidy(deck: *mut u8, deck_len: usize) -> Answer;
+    fn open_panel_add(
+        deck: *mut u8,
+        deck_len: usize,
+        number: u16,
+        card: *const u8,
+        card_len: usize,
+    ) -> Answer;
 }
 
 // The library asks for nothing but pieces of memory, of which the rooms, the
-// part or the rows are its alone while it runs: slices and references are that.
+// part, the rows or the deck that it changes are its alone while it runs: slices
+// and references are that.
 
 pub(crate) fn judge(card: &[u8]) -> Answer {
     // SAFETY: as above.
@@ -259,6 +268,24 @@ pub(crate) fn mend(deck: &[u8], room: &mut [u8], list: &mut [u8], listed: &mut u
 pub(crate) fn convert(deck: &[u8], room: &mut [u8]) -> Answer {
     // SAFETY: as above.
     unsafe { open_panel_convert(deck.as_ptr(), deck.len(), room.as_mut_ptr(), room.len()) }
+}
+
+pub(crate) fn tidy(deck: &mut [u8]) -> Answer {
+    // SAFETY: as above.
+    unsafe { open_panel_tidy(deck.as_mut_ptr(), deck.len()) }
+}
+
+pub(crate) fn add(deck: &mut [u8], number: u16, card: &[u8]) -> Answer {
+    // SAFETY: as above.
+    unsafe {
+        open_panel_add(
+            deck.as_mut_ptr(),
+            deck.len(),
+            number,
+            card.as_ptr(),
+            card.len(),
+        )
+    }
 }
 
 pub(crate) fn version() -> &'static str {

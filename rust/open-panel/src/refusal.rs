@@ -50,9 +50,9 @@ pub enum Refusal {
         /// The index of the first one; that of the shared number is how many seats there are.
         seat: usize,
     },
-    /// 10: a room that the text, the deck or the list does not fit into.
+    /// 10: a room that the text, the deck or the list does not fit into, or a deck that is too short for one card more.
     Room {
-        /// Its length.
+        /// Its length; from [`add`](crate::add) the length that the deck would have, also past [`DECK_BYTES`](crate::DECK_BYTES).
         needed: usize,
     },
     /// 11: a malformed deck, contents and bodies that make none, or a deck of which nothing can be kept.
@@ -62,7 +62,7 @@ pub enum Refusal {
         /// a byte of the contents, or their length; from [`mend`](crate::mend) always 0.
         at: usize,
     },
-    /// 12: no live card has the number.
+    /// 12: no live card has the number; from [`tidy`](crate::tidy) and [`add`](crate::add), no card of the deck is live.
     NoLiveCard,
     /// 13: a list of classes that does not have one for each state of the card, or has
     /// one above [`TOP_CLASS`](crate::TOP_CLASS).
@@ -87,6 +87,11 @@ pub enum Refusal {
     NotConverted {
         /// The number of the first such card in the deck.
         card: u16,
+    },
+    /// 19: a card whose number a live card of the deck has already, or one more than [`DECK_CARDS`](crate::DECK_CARDS) live cards.
+    NotAdded {
+        /// Where the entry of the live card with that number starts in the deck; 0 if none has it.
+        at: usize,
     },
     /// 21: the question is longer than [`QUESTION_BYTES`](crate::QUESTION_BYTES).
     QuestionLong,
@@ -119,7 +124,7 @@ pub enum Refusal {
 
 impl Refusal {
     /// The refusal of this number at this place, if there is one: the numbers
-    /// are 1 to 18 and 21 to 26, the place of 1, 8, 12, 14 to 16 and 21 is always 0, and
+    /// are 1 to 19 and 21 to 26, the place of 1, 8, 12, 14 to 16 and 21 is always 0, and
     /// that of 18 is a card number, of 16 bits.
     pub const fn new(number: u8, place: usize) -> Option<Refusal> {
         Some(match number {
@@ -141,6 +146,7 @@ impl Refusal {
             16 if place == 0 => Refusal::Row,
             17 => Refusal::Decimal { at: place },
             18 if place <= u16::MAX as usize => Refusal::NotConverted { card: place as u16 },
+            19 => Refusal::NotAdded { at: place },
             21 if place == 0 => Refusal::QuestionLong,
             22 => Refusal::QuestionMark { at: place },
             23 => Refusal::QuestionShape { at: place },
@@ -151,7 +157,7 @@ impl Refusal {
         })
     }
 
-    /// Its number, 1 to 18 or 21 to 26.
+    /// Its number, 1 to 19 or 21 to 26.
     pub const fn number(&self) -> u8 {
         match self {
             Refusal::Long => 1,
@@ -172,6 +178,7 @@ impl Refusal {
             Refusal::Row => 16,
             Refusal::Decimal { .. } => 17,
             Refusal::NotConverted { .. } => 18,
+            Refusal::NotAdded { .. } => 19,
             Refusal::QuestionLong => 21,
             Refusal::QuestionMark { .. } => 22,
             Refusal::QuestionShape { .. } => 23,
@@ -200,6 +207,7 @@ impl Refusal {
             | Refusal::Deck { at }
             | Refusal::Classes { at }
             | Refusal::Decimal { at }
+            | Refusal::NotAdded { at }
             | Refusal::QuestionMark { at }
             | Refusal::QuestionShape { at }
             | Refusal::QuestionLimit { at }
@@ -268,6 +276,9 @@ impl fmt::Display for Refusal {
                 "a list of {place} classes, or the class of state {place}: {words}"
             ),
             Refusal::NotConverted { card } => write!(f, "card {card}: {words}"),
+            // no entry starts at byte 0, where the count stands
+            Refusal::NotAdded { at: 0 } => write!(f, "{words}"),
+            Refusal::NotAdded { .. } => write!(f, "byte {place} of the deck: {words}"),
             Refusal::QuestionMark { .. }
             | Refusal::QuestionShape { .. }
             | Refusal::QuestionLimit { .. }

@@ -29,3 +29,7 @@ pub const WRITE_DECK: usize = 256;
 pub const MEND: usize = 11_008;
 /// [`convert`](crate::convert), in a lent room
 pub const CONVERT: usize = 12_160;
+/// [`tidy`](crate::tidy)
+pub const TIDY: usize = 256;
+/// [`add`](crate::add), in a lent deck
+pub const ADD: usize = 10_752;

@@ -67,7 +67,11 @@ fn refusals_have_number_place_and_words() {
             7,
             "byte 7 of a deck, an expansion's from 65536 on, or of its contents: a malformed deck, contents and bodies that make none, or nothing to keep (refusal 11)",
         ),
-        (12, 0, "no live card has this number (refusal 12)"),
+        (
+            12,
+            0,
+            "no live card has this number, or no card at all is live (refusal 12)",
+        ),
         (
             13,
             7,
@@ -89,6 +93,16 @@ fn refusals_have_number_place_and_words() {
             18,
             7,
             "card 7: a card that cannot be converted, or does not fit into the new deck (refusal 18)",
+        ),
+        (
+            19,
+            9,
+            "byte 9 of the deck: a live card has this number already, or 64 cards are live (refusal 19)",
+        ),
+        (
+            19,
+            0,
+            "a live card has this number already, or 64 cards are live (refusal 19)",
         ),
         (
             21,
@@ -132,7 +146,7 @@ fn refusals_have_number_place_and_words() {
         Some(Refusal::NotConverted { card: 65_535 })
     );
     assert_eq!(Refusal::new(18, 65_536), None);
-    for number in [0, 19, 20, 27, 255] {
+    for number in [0, 20, 27, 255] {
         assert_eq!(Refusal::new(number, 0), None);
     }
     for number in [1, 8, 12, 14, 15, 16, 21] {
@@ -622,6 +636,157 @@ fn what_is_too_long_for_the_new_deck() {
         assert_eq!(filled(order, 2), Ok(DECK_BYTES));
         // the last of the deck passes its end, whether it is the one that grows or not
         assert_eq!(filled(order, 1), Err(Refusal::NotConverted { card: 2 }));
+    }
+}
+
+/// What becomes of a lent deck: behind its new length there are zeros, and with a refusal all is as it was.
+fn lent(
+    deck: &[u8],
+    entry: impl FnOnce(&mut [u8]) -> Result<usize, Refusal>,
+) -> Result<Vec<u8>, Refusal> {
+    let mut changed = deck.to_vec();
+    match entry(&mut changed) {
+        Ok(length) => {
+            assert!(changed[length..].iter().all(|byte| *byte == 0));
+            changed.truncate(length);
+            Ok(changed)
+        }
+        Err(refusal) => {
+            assert_eq!(changed, deck);
+            Err(refusal)
+        }
+    }
+}
+
+#[test]
+fn tidied_decks_and_their_refusals() {
+    let cards: [(u16, u8, &[u8]); 5] = [
+        (3, 0, b"withdrawn"),
+        (4, 1, CARD),
+        (5, 1, b""),
+        (260, 0, b""),
+        (65_535, 1, b"no card at all"),
+    ];
+    let due = deck_of(&[cards[1], cards[2], cards[4]], 0);
+    for gap in [0, 1, 100] {
+        for unused in [0, 1, 100] {
+            let deck = [deck_of(&cards, gap), vec![b'-'; unused]].concat();
+            assert_eq!(lent(&deck, tidy).as_ref(), Ok(&due));
+            let mut own = deck;
+            assert_eq!(tidy_vec(&mut own), Ok(()));
+            assert_eq!(own, due);
+        }
+    }
+    // What is tidy stays, also in the longest deck, of which most is a gap.
+    assert_eq!(lent(&due, tidy).as_ref(), Ok(&due));
+    let mut longest = due.clone();
+    longest.resize(DECK_BYTES, b'-');
+    assert_eq!(lent(&longest, tidy).as_ref(), Ok(&due));
+    longest.push(b'-');
+    assert_eq!(lent(&longest, tidy), Err(Refusal::Deck { at: 0 }));
+
+    let none_live = deck_of(&[cards[0], cards[3]], 1);
+    assert_eq!(lent(&none_live, tidy), Err(Refusal::NoLiveCard));
+    assert_eq!(tidy(&mut []), Err(Refusal::Deck { at: 0 }));
+    // A malformed deck is told before that, and its vector stays as it is.
+    let mut malformed = [none_live, vec![b'-'; 9]].concat();
+    malformed[16] = 1;
+    let refusal = Refusal::Deck { at: 16 };
+    assert_eq!(judge_deck(&malformed), Err(refusal));
+    assert_eq!(lent(&malformed, tidy), Err(refusal));
+    let mut own = malformed.clone();
+    assert_eq!(tidy_vec(&mut own), Err(refusal));
+    assert_eq!(own, malformed);
+}
+
+#[test]
+fn added_cards() {
+    let live: [(u16, u8, &[u8]); 2] = [(4, 1, b"no card"), (260, 1, CARD)];
+    let deck = deck_of(&[(3, 0, b"withdrawn"), live[0], (5, 0, b""), live[1]], 2);
+    let more = weighed("1/2:(s1'=1) + 1/2:(s1'=0)");
+    // Before, between and behind those that are live, and in the place of one that is withdrawn.
+    for (number, place) in [(0, 0), (3, 0), (5, 1), (259, 1), (261, 2), (65_535, 2)] {
+        let mut cards = live.to_vec();
+        cards.insert(place, (number, 1, &more));
+        let due = deck_of(&cards, 0);
+        let added = |deck: &mut [u8]| add(deck, number, &more);
+        let needed = due.len();
+        // Exactly this length will do.
+        let mut room = deck.clone();
+        room.resize(needed, b'-');
+        assert_eq!(lent(&room, added).as_ref(), Ok(&due));
+        room.push(b'-');
+        assert_eq!(lent(&room, added).as_ref(), Ok(&due));
+        room.truncate(needed - 1);
+        assert_eq!(lent(&room, added), Err(Refusal::Room { needed }));
+        assert_eq!(lent(&deck, added), Err(Refusal::Room { needed }));
+        // A vector grows by what is missing, and by no more.
+        for deck in [&deck, &room, &[&room[..], &[b'-'; 999]].concat()] {
+            let mut own = deck.clone();
+            assert_eq!(add_to_vec(&mut own, number, &more), Ok(()));
+            assert_eq!(own, due);
+        }
+    }
+    // What is withdrawn makes room.
+    let fills = vec![b'-'; DECK_BYTES - 17 - CARD.len()];
+    let mut full = deck_of(&[(7, 1, CARD), (8, 0, &fills)], 0);
+    assert_eq!(full.len(), DECK_BYTES);
+    assert_eq!(add(&mut full, 8, &more), Ok(17 + CARD.len() + more.len()));
+    assert_eq!(find(&full, 8), Ok(&more[..]));
+}
+
+#[test]
+fn refusals_of_adding_in_their_order() {
+    let refused = |deck: &[u8], number: u16, card: &[u8]| {
+        let refusal = lent(deck, |deck| add(deck, number, card)).unwrap_err();
+        let mut own = deck.to_vec();
+        let of_vec = add_to_vec(&mut own, number, card);
+        if !matches!(refusal, Refusal::Room { needed } if needed <= DECK_BYTES) {
+            assert_eq!((of_vec, &own[..]), (Err(refusal), deck));
+        }
+        refusal
+    };
+    let wrong = weighed("1/2:(s1'=1)");
+    let no_card = judge(&wrong).unwrap_err();
+    let old = weighed("0.5:(s1'=1) + 0.5:(s1'=0)");
+
+    // 11, 12, the card's own, 19, 10: what comes later is wrong each time, too.
+    let deck = deck_of(&[(3, 0, CARD), (4, 1, CARD), (5, 1, CARD)], 0);
+    let mut malformed = deck.clone();
+    malformed[7] = 2;
+    assert_eq!(refused(&malformed, 4, &wrong), Refusal::Deck { at: 7 });
+    assert_eq!(refused(&[], 4, &wrong), Refusal::Deck { at: 0 });
+    let none_live = deck_of(&[(4, 0, CARD)], 0);
+    assert_eq!(refused(&none_live, 4, &wrong), Refusal::NoLiveCard);
+    assert_eq!(refused(&deck, 4, &wrong), no_card);
+    assert_eq!(refused(&deck, 4, b""), Refusal::Shape { at: 0 });
+    assert_eq!(refused(&deck, 4, &old), judge(&old).unwrap_err());
+    let long = vec![b' '; CARD_BYTES + 1];
+    assert_eq!(refused(&deck, 4, &long), Refusal::Long);
+    // The place is in the deck as it is lent, behind the entry of the withdrawn card.
+    assert_eq!(refused(&deck, 4, CARD), Refusal::NotAdded { at: 9 });
+    assert_eq!(refused(&deck, 5, CARD), Refusal::NotAdded { at: 17 });
+    let needed = 25 + 3 * CARD.len();
+    let short = &deck_of(&[(4, 1, CARD), (5, 1, CARD)], 0);
+    assert_eq!(refused(short, 3, CARD), Refusal::Room { needed });
+
+    // Sixty-four cards that are live, and one of them withdrawn.
+    let mut many: Vec<(u16, u8, &[u8])> = (0..64).map(|card| (2 * card, 1, &b""[..])).collect();
+    let full = deck_of(&many, 0);
+    assert_eq!(refused(&full, 126, CARD), Refusal::NotAdded { at: 505 });
+    assert_eq!(refused(&full, 127, CARD), Refusal::NotAdded { at: 0 });
+    assert_eq!(refused(&full, 127, &wrong), no_card);
+    many[10].1 = 0;
+    let mut own = deck_of(&many, 0);
+    assert_eq!(add_to_vec(&mut own, 127, CARD), Ok(()));
+    assert_eq!(own.len(), full.len() + CARD.len());
+
+    // One byte too much for the longest deck, and all of an entry and a card.
+    for over in [1, 8 + CARD.len()] {
+        let fills = vec![b'-'; DECK_BYTES + over - 17 - CARD.len()];
+        let needed = DECK_BYTES + over;
+        let deck = deck_of(&[(7, 1, &fills)], 0);
+        assert_eq!(refused(&deck, 8, CARD), Refusal::Room { needed });
     }
 }
 

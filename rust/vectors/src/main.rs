@@ -3,7 +3,9 @@
 //! Every case of a file that is a call of the entry is asked, and its answer
 //! held to the one in the file of answers; a text also in rooms one byte short,
 //! of just its length and one byte larger, and no other byte of a room may have
-//! changed. The entry is named as in the vectors; `program` is the panel program.
+//! changed. A deck that is changed where it stands is held to all its bytes, and
+//! tidied once more. The entry is named as in the vectors; `program` is the panel
+//! program.
 //!
 //! Without a side the library is asked, through its wrapper. `--baseline` asks
 //! the baseline. Any other words are a command: the panel program's, which is
@@ -126,6 +128,12 @@ fn answers_as(side: &mut Side, entry: &str, call: &Call) -> Result<(), Fault> {
             writes_deck(side, "open_panel_convert", read, room, call.stored)
         }
         ("mend", [deck, room, list]) => mends(side, deck, [room, list], call.stored),
+        ("tidy", [deck]) => changes(side, "open_panel_tidy", &[], deck, call.stored),
+        ("add", [deck, number, card]) => {
+            let number: u16 = told(number).ok_or("no card number")?;
+            let pieces = [&number.to_le_bytes()[..], card];
+            changes(side, "open_panel_add", &pieces, deck, call.stored)
+        }
         ("odds", [read @ .., steps, largest, first, second]) => {
             reckons(side, read, [steps, largest], [first, second], call.stored)
         }
@@ -281,6 +289,45 @@ fn in_two_rooms(
             place if place < room + list => format!("byte {} of the list", place - room),
             _ => "the list's length".to_owned(),
         }))
+    })
+}
+
+/// A deck that is changed where it stands: its new length and all its bytes as they are stored, or with a refusal as they were. What is
+/// tidied stays so when it is tidied once more, in all that was lent and in just as much as it uses.
+fn changes(
+    side: &mut Side,
+    name: &str,
+    read: &[&[u8]],
+    deck: &[u8],
+    stored: Answer,
+) -> Result<(), Fault> {
+    if let Answer::Refused(number, place) = stored {
+        return in_place(side, name, read, deck, Err((number, place)));
+    }
+    let (length, tidied) = stored.changed().ok_or("no deck with a length")?;
+    in_place(side, name, read, deck, Ok((length, &tidied)))?;
+    for lent in [&tidied[..], &tidied[..length]] {
+        in_place(side, "open_panel_tidy", &[], lent, Ok((length, lent)))
+            .map_err(|fault| format!("once more: {fault}"))?;
+    }
+    Ok(())
+}
+
+/// The answer, and every byte of the deck that is lent.
+fn in_place(
+    side: &mut Side,
+    name: &str,
+    read: &[&[u8]],
+    deck: &[u8],
+    due: Result<(usize, &[u8]), (u8, usize)>,
+) -> Result<(), Fault> {
+    let mut lent = deck.to_vec();
+    let answer = side(name, read, &mut lent);
+    same(answer, due.map(|(length, _)| length))?;
+    let whole = due.map_or(deck, |(_, tidied)| tidied);
+    let differs = lent.iter().zip(whole).position(|(a, b)| a != b);
+    differs.map_or(same(lent.len(), whole.len()), |place| {
+        Err(format!("byte {place} of the deck"))
     })
 }
 

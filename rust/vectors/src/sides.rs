@@ -5,7 +5,8 @@
 //! low byte first, between them a byte 1 for the largest or 0 for the smallest,
 //! and both rows, one behind the other, as the room. Mending is handed the deck
 //! room's length as such a piece, and as the room the deck's, the list's, and eight
-//! bytes for the length of the list.
+//! bytes for the length of the list. Tidying and adding are handed as the room the
+//! deck that they change.
 
 use std::ffi::OsString;
 use std::io::{Read, Write};
@@ -128,6 +129,8 @@ pub fn wrapper(entry: &str, pieces: &[&[u8]], room: &mut [u8]) -> Answer {
         ("open_panel_mend", [deck, deck_room]) => in_two_rooms(deck_room, room, |room, list| {
             open_panel::mend(deck, room, list).map(|mended| (mended.deck, mended.list))
         }),
+        ("open_panel_tidy", []) => open_panel::tidy(room),
+        ("open_panel_add", [number, card]) => open_panel::add(room, card_number(number), card),
         _ => panic!("the wrapper has no {entry}"),
     }
     .map_err(|refusal| (refusal.number(), refusal.place()))
@@ -172,6 +175,8 @@ pub fn baseline(entry: &str, pieces: &[&[u8]], room: &mut [u8]) -> Answer {
         ("open_panel_mend", [deck, deck_room]) => in_two_rooms(deck_room, room, |room, list| {
             baseline::mend_into(deck, room, list).map(|mended| (mended.deck, mended.list))
         }),
+        ("open_panel_tidy", []) => baseline::tidy(room),
+        ("open_panel_add", [number, card]) => baseline::add(room, card_number(number), card),
         _ => panic!("the baseline has no {entry}"),
     }
     .map_err(|refusal| (refusal.number, refusal.place))

@@ -120,6 +120,16 @@ impl<'a> Answer<'a> {
         let (deck, behind) = digits(words)?;
         Some((deck, counted(behind)?))
     }
+
+    /// A deck that was changed where it stood: `length LENGTH`, LF, two hex digits for each byte that was lent, LF.
+    pub fn changed(&self) -> Option<(usize, Vec<u8>)> {
+        let Answer::Words(words) = self else {
+            return None;
+        };
+        let (length, deck, behind) = digits_behind(b"length ", words)?;
+        let right = behind.is_empty() && length <= deck.len();
+        right.then_some((length, deck))
+    }
 }
 
 impl Answer<'_> {
@@ -147,17 +157,23 @@ fn refusal(stored: &[u8]) -> Option<Answer<'_>> {
     Some(Answer::Refused(number.parse().ok()?, place.parse().ok()?))
 }
 
-/// A deck in digits, and what stands behind its line.
+/// A deck in digits behind its length, and what stands behind its line.
 fn digits(words: &[u8]) -> Option<(Vec<u8>, &[u8])> {
+    let (length, deck, behind) = digits_behind(b"ok ", words)?;
+    (length == deck.len()).then_some((deck, behind))
+}
+
+/// Bytes in digits on a line of their own, behind a line of a word and a number, and what stands behind.
+fn digits_behind<'a>(word: &[u8], words: &'a [u8]) -> Option<(usize, Vec<u8>, &'a [u8])> {
     let end_of_line = |words: &[u8]| words.iter().position(|&byte| byte == b'\n');
-    let words = words.strip_prefix(b"ok ")?;
-    let (length, words) = words.split_at(end_of_line(words)?);
+    let words = words.strip_prefix(word)?;
+    let (number, words) = words.split_at(end_of_line(words)?);
     let (digits, behind) = words[1..].split_at(end_of_line(&words[1..])?);
     let (pairs, rest) = digits.as_chunks::<2>();
     let byte = |pair: &[u8; 2]| u8::from_str_radix(str::from_utf8(pair).ok()?, 16).ok();
-    let deck: Vec<u8> = pairs.iter().map(byte).collect::<Option<_>>()?;
-    let right = rest.is_empty() && str::from_utf8(length).ok()?.parse() == Ok(deck.len());
-    right.then_some((deck, &behind[1..]))
+    let bytes: Vec<u8> = pairs.iter().map(byte).collect::<Option<_>>()?;
+    let number = str::from_utf8(number).ok()?.parse().ok()?;
+    rest.is_empty().then_some((number, bytes, &behind[1..]))
 }
 
 /// A text behind its length: `ok LENGTH`, LF, so many bytes, LF.

@@ -93,6 +93,20 @@ fn mended_decks_are_stored_with_their_lists() {
 }
 
 #[test]
+fn changed_decks_are_stored_with_all_that_was_lent() {
+    let cases = Cases::new(&call(&["tidy", ""]).repeat(5));
+    let answers = cases.answers(
+        b"case 0\nlength 2\n00ff1a\ncase 1\nlength 3\n00ff1a\ncase 2\nlength 4\n00ff1a\ncase 3\nok 3\n00ff1a\ncase 4\nlength 1\n00f\n",
+    );
+    let changed: Vec<_> = answers.iter().map(Answer::changed).collect();
+    let deck = || vec![0, 255, 26];
+    let due = [Some((2, deck())), Some((3, deck())), None, None, None];
+    assert_eq!(changed, due);
+    assert_eq!(answers[1].deck(), None);
+    assert_eq!(answers[3].deck(), Some(deck()));
+}
+
+#[test]
 fn odds_are_stored_with_both_rows() {
     let cases = Cases::new(&[call(&["odds"]), call(&["odds"]), call(&["odds"])].concat());
     let answers =

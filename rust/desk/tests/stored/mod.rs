@@ -1,6 +1,8 @@
 //! Every refusal of the stored vectors that is of a card, seats, a question, a list of classes, nights or a box, with its reason.
 
-use desk::reason::{of_converted, of_deck, of_mended, of_number, of_written, Given, Reason};
+use desk::reason::{
+    of_added, of_converted, of_deck, of_mended, of_number, of_tidied, of_written, Given, Reason,
+};
 use open_panel::Refusal;
 use vectors::stored::{file, Answer, Cases};
 
@@ -15,7 +17,7 @@ pub struct Stored {
 }
 
 /// Files of cases, files of answers, and their entries. An entry that is added is named here.
-const FILES: [(&str, &str, &[&str]); 13] = [
+const FILES: [(&str, &str, &[&str]); 14] = [
     ("base", "panel", &["panel"]),
     ("edges", "edges", &["read"]),
     ("requests/2026-01", "requests/2026-01", &["ask"]),
@@ -65,6 +67,7 @@ const FILES: [(&str, &str, &[&str]); 13] = [
             "convert",
         ],
     ),
+    ("requests/2026-12", "requests/2026-12", &["tidy", "add"]),
 ];
 
 /// The numbers of the refusals that are of a room or of rows, which no writer of rules lends.
@@ -107,6 +110,11 @@ fn typed(values: &[u8]) -> Vec<u8> {
     values.iter().map(digit).collect()
 }
 
+fn card_number(typed: &[u8]) -> u16 {
+    let number = String::from_utf8_lossy(typed);
+    number.parse().expect("a card number")
+}
+
 fn explained(entry: &str, pieces: &[Vec<u8>], refusal: Refusal) -> Reason {
     let none = Vec::new;
     let (seats, question, classes, nights) = match entry {
@@ -120,9 +128,7 @@ fn explained(entry: &str, pieces: &[Vec<u8>], refusal: Refusal) -> Reason {
             pieces[3].clone(),
         ),
         "box_find" => {
-            let number: u16 = String::from_utf8_lossy(&pieces[2])
-                .parse()
-                .expect("a card number");
+            let number = card_number(&pieces[2]);
             let expansion = refusal.place().checked_sub(1 << 16);
             return match (refusal.number(), expansion) {
                 (11, Some(place)) => of_deck(&pieces[1], place, refusal),
@@ -133,6 +139,8 @@ fn explained(entry: &str, pieces: &[Vec<u8>], refusal: Refusal) -> Reason {
         "box_write" => return of_written(&pieces[0], &pieces[1], refusal),
         "mend" => return of_mended(&pieces[0], refusal),
         "convert" => return of_converted(&pieces[0], refusal),
+        "tidy" => return of_tidied(&pieces[0], refusal),
+        "add" => return of_added(&pieces[0], card_number(&pieces[1]), &pieces[2], refusal),
         _ => (none(), none(), none(), none()),
     };
     let given = Given {

@@ -1,0 +1,73 @@
+// The live entries of a deck gathered within the deck: their bodies one behind the other, and their eight bytes with new offsets (document 02, 2026-12).
+use card::limits::COUNT_BYTES;
+use card::limits::ENTRY_BYTES;
+use card::limits::FLAG_AT;
+use card::limits::OFFSET_AT;
+use card::limits::SIZE_AT;
+use card::limits::ZERO_BYTE_AT;
+use deck_entries::word_at;
+use deck_text::put_row;
+use live_rows::live_size;
+use room::place;
+use shifting::move_down;
+ghost use mathlib.Core.Path.{_≡_};
+ghost use Prim.Native.Nat.{_+_, _≤_, _<_};
+ghost use lib.ListN.{length, drop};
+ghost use Rattle.card.specs.Limits.{entryBytes, wordNumbers};
+ghost use Rattle.deck.specs.Contents.{rowOf, countOf, behind, contentsOf};
+ghost use Rattle.deck.specs.Sound.{Sound};
+ghost use Rattle.room.specs.Room.{clip, Put};
+ghost use Rattle.gathering.specs.LiveText.{rowStays, rowsIn, rowsStay, bodiesStay, Offsets};
+
+// The bodies, from the end of the contents on: each moves to where the one before ends, and none before it has been read.
+pub fn gather_bodies(deck: &mut [u8], count: usize)
+    requires { ⌜ Sound (now deck) ⌝ }
+    requires { ⌜ count ≡ countOf (now deck) ⌝ }
+    ensures { λ r. ⌜ now (deck .exit) ≡ clip (now (deck .entry)) (behind count) (bodiesStay (now (deck .entry)) (contentsOf (now (deck .entry)))) ⌝ }
+{
+    let mut left = count;
+    let mut at: usize = COUNT_BYTES;
+    let mut to = COUNT_BYTES + ENTRY_BYTES * count;
+    while left != 0 {
+        let offset = word_at(deck, at + OFFSET_AT);
+        let size = live_size(deck, at);
+        move_down(deck, offset, to, size);
+        to = to + size;
+        at = at + ENTRY_BYTES;
+        left = left - 1;
+    }
+}
+
+// The entry at `from` put at `to`, with its body at `offset`, if it is live.
+fn put_live_row(deck: &mut [u8], from: usize, to: usize, offset: usize) -> usize
+    requires { ⌜ from + entryBytes ≤ length (now deck) ⌝ }
+    requires { ⌜ offset < wordNumbers ⌝ }
+    ensures { λ r. ⌜ Put (now (deck .entry)) (now (deck .exit)) to (rowStays offset (rowOf (drop from (now (deck .entry))))) r ⌝ }
+{
+    let flag = deck[from + FLAG_AT];
+    if flag != 1 {
+        return place(to);
+    }
+    let number = word_at(deck, from);
+    let size = word_at(deck, from + SIZE_AT);
+    let zero = deck[from + ZERO_BYTE_AT];
+    put_row(deck, to, number, offset, size, flag, zero)
+}
+
+// The entries, from the first one's place on: the first body starts at `first`, each other one where the body before ends.
+pub fn gather_rows(deck: &mut [u8], count: usize, first: usize)
+    requires { ⌜ Offsets (now deck) count first ⌝ }
+    ensures { λ r. ⌜ now (deck .exit) ≡ clip (now (deck .entry)) 1 (rowsStay first (rowsIn count (now (deck .entry)))) ⌝ }
+{
+    let mut left = count;
+    let mut from: usize = COUNT_BYTES;
+    let mut to: usize = COUNT_BYTES;
+    let mut offset = first;
+    while left != 0 {
+        let size = live_size(deck, from);
+        to = put_live_row(deck, from, to, offset);
+        offset = offset + size;
+        from = from + ENTRY_BYTES;
+        left = left - 1;
+    }
+}

@@ -1,0 +1,261 @@
+-- The steps of putting a card in: its body between the lower and the higher bodies, its entry between the lower and the higher entries, the count, and all offsets anew. Assumes nothing.
+use Prim.Native.Nat.{ℕ, suc, _+_, _-_, _*_, _≤_}
+use mathlib.Core.Path.{_≡_, refl, sym, ap, _∙_, subst}
+use mathlib.Core.Bool.{true}
+use mathlib.Core.List.{List, [], _∷_, _++_, append-assoc}
+use native.Mathlib.Omega.{arith}
+use lib.ListN.{length, take, drop, set, length-append, length-drop, length-set}
+use lib.Seq.{drop-drop}
+use Rattle.card.specs.Valid.{Every}
+use Rattle.deck.specs.Contents.{Row, rowsOf, behind}
+use Rattle.deck.specs.Deck.{Entry, heldBy, rowFor, rowsFor, rowText, rowsText, bodies, deckText}
+use Rattle.deck.proofs.Written.{rows-back, length-rows, drop-rows, length-for, length-text}
+use Rattle.deck_text.proofs.Putting.{rows-before}
+use Rattle.deck_written.specs.WriteDeckSaid.{sizes, linesFor}
+use Rattle.room.specs.Room.{clip}
+use Rattle.room.proofs.Laws.{clip-fits, length-clip}
+use Rattle.tidying.specs.Tidying.{liveCard, withCard, addedText}
+use Rattle.tidying.proofs.Added.{with-every, with-count, with-bodies}
+use Rattle.tidying.proofs.Gap.{rows-then, gap-contents}
+use Rattle.live_rows.specs.LiveRows.{liveRows}
+use Rattle.gathering.specs.LiveText.{rowsIn, rowsStay, Offsets}
+use Rattle.inserting.specs.Lower.{lowerRows, Spots}
+use Rattle.inserting.specs.Inserts.{Insertable}
+use Rattle.inserting.specs.declared.Spot.{Spot}
+use Rattle.inserting.proofs.Parts.{put-between}
+use Rattle.inserting.proofs.Rows.{FitTo, fit-for, fit-append, fit-count, fit-sizes, fit-lines, fit-live, text-append, rows-append, bodies-append, lower, higher, split, with-split, lower-rows}
+
+module _ (was : List ℕ) {cards bytes number : ℕ} {card : List ℕ} (i : Insertable was cards bytes number card) where
+  abbrev new : Entry
+  new = liveCard number card
+
+  abbrev es : List Entry
+  es = heldBy was
+
+  abbrev lows : List Entry
+  lows = lower new es
+
+  abbrev highs : List Entry
+  highs = higher new es
+
+  abbrev first : ℕ
+  first = behind (length es)
+
+  abbrev gap : List ℕ
+  gap = drop (length (deckText es)) was
+
+  text-there : was ≡ deckText es ++ gap
+  text-there = i .text
+
+  long : length was ≡ behind cards + bytes + length gap
+  long = omega (arith, ap length text-there, length-append (deckText es) gap, length-text es, i .count, i .total)
+
+  counts : length es ≡ length lows + length highs
+  counts = ap length (split new es) ∙ length-append lows highs
+
+  bodies-split : bodies es ≡ bodies lows ++ bodies highs
+  bodies-split = ap bodies (split new es) ∙ bodies-append lows highs
+
+  totals : bytes ≡ length (bodies lows) + length (bodies highs)
+  totals = i .total ∙ ap length bodies-split ∙ length-append (bodies lows) (bodies highs)
+
+  -- ---- where
+
+  contents-there : rowsIn cards was ≡ rowsFor first es
+  contents-there = ap (λ (n : ℕ). rowsOf n (drop 1 was)) (i .count) ∙ ap (λ (t : List ℕ). rowsOf (length es) (drop 1 t)) text-there ∙ gap-contents es gap
+
+  lower-there : lowerRows number (rowsIn cards was) ≡ rowsFor first lows
+  lower-there = ap (lowerRows number) contents-there ∙ lower-rows new first es
+
+  module _ {spot : Spot} (at : Spots was cards number spot) where
+    pub row-at : spot .row ≡ behind (length lows)
+    row-at = at .row ∙ ap (λ (n : ℕ). behind n) (ap length lower-there ∙ length-for first lows)
+
+    pub body-at : spot .body ≡ behind cards + length (bodies lows)
+    body-at = omega (arith, at .body, ap sizes lower-there, fit-sizes (rowsFor first lows) lows (fit-for first lows))
+
+    pub body-inside : spot .body ≤ behind cards + bytes
+    body-inside = omega (arith, body-at, totals)
+
+    pub row-inside : spot .row ≤ behind cards
+    row-inside = omega (arith, row-at, counts, i .count)
+
+    -- ---- the body
+
+    abbrev front : List ℕ
+    front = length es ∷ rowsText (rowsFor first es) (bodies lows)
+
+    front-long : length front ≡ behind cards + length (bodies lows)
+    front-long = omega (arith, length-rows (rowsFor first es) (bodies lows), length-for first es, i .count)
+
+    parted : was ≡ front ++ (bodies highs ++ gap)
+    parted =
+        text-there
+        ∙ ap (λ (t : List ℕ). (length es ∷ rowsText (rowsFor first es) t) ++ gap) bodies-split
+        ∙ ap (λ (t : List ℕ). length es ∷ t) (rows-then (rowsFor first es) (bodies lows ++ bodies highs) gap)
+        ∙ ap (λ (t : List ℕ). length es ∷ rowsText (rowsFor first es) t) (append-assoc (bodies lows) (bodies highs) gap)
+        ∙ ap (λ (t : List ℕ). length es ∷ t) (sym (rows-then (rowsFor first es) (bodies lows) (bodies highs ++ gap)))
+
+    abbrev newBodies : List ℕ
+    newBodies = bodies lows ++ (card ++ bodies highs)
+
+    abbrev gap1 : List ℕ
+    gap1 = drop (length card) gap
+
+    module _ {d1 d2 : List ℕ} (e1 : d1 ≡ clip was (spot .body + length card) (take (behind cards + bytes - spot .body) (drop (spot .body) was))) (e2 : d2 ≡ clip d1 (spot .body) card) where
+      body-in : d2 ≡ front ++ (card ++ (bodies highs ++ gap1))
+      body-in =
+          put-between front (bodies highs) gap card (omega (arith, long, i .room)) (spot .body) (spot .body + length card) (behind cards + bytes - spot .body) (body-at ∙ sym front-long) (omega (arith, body-at, front-long)) (omega (arith, body-at, totals))
+          (e1 ∙ ap (λ (t : List ℕ). clip t (spot .body + length card) (take (behind cards + bytes - spot .body) (drop (spot .body) t))) parted) e2
+
+      -- ---- the entry
+
+      abbrev lowRows : List Row
+      lowRows = rowsFor first lows
+
+      abbrev highRows : List Row
+      highRows = rowsFor (first + length (bodies lows)) highs
+
+      abbrev start : List ℕ
+      start = length es ∷ rowsText lowRows []
+
+      abbrev later : List ℕ
+      later = rowsText highRows newBodies
+
+      start-long : length start ≡ behind (length lows)
+      start-long = omega (arith, length-rows lowRows [], length-for first lows)
+
+      later-long : length later ≡ 8 * length highs + (bytes + length card)
+      later-long =
+          omega (arith, length-rows highRows newBodies, length-for (first + length (bodies lows)) highs, length-append (bodies lows) (card ++ bodies highs), length-append card (bodies highs), totals)
+
+      rows-parted : rowsText (rowsFor first es) newBodies ≡ rowsText lowRows [] ++ later
+      rows-parted =
+          ap (λ (l : List Entry). rowsText (rowsFor first l) newBodies) (split new es)
+          ∙ ap (λ (rs : List Row). rowsText rs newBodies) (rows-append first lows highs)
+          ∙ text-append lowRows highRows newBodies
+          ∙ rows-before lowRows later
+
+      parted-again : d2 ≡ start ++ (later ++ gap1)
+      parted-again =
+          body-in
+          ∙ ap (λ (t : List ℕ). length es ∷ t) (rows-then (rowsFor first es) (bodies lows) (card ++ (bodies highs ++ gap1)))
+          ∙ ap (λ (t : List ℕ). length es ∷ rowsText (rowsFor first es) (bodies lows ++ t)) (sym (append-assoc card (bodies highs) gap1))
+          ∙ ap (λ (t : List ℕ). length es ∷ rowsText (rowsFor first es) t) (sym (append-assoc (bodies lows) (card ++ bodies highs) gap1))
+          ∙ ap (λ (t : List ℕ). length es ∷ t) (sym (rows-then (rowsFor first es) newBodies gap1))
+          ∙ ap (λ (t : List ℕ). length es ∷ t ++ gap1) rows-parted
+          ∙ ap (λ (t : List ℕ). length es ∷ t) (append-assoc (rowsText lowRows []) later gap1)
+
+      pub long2 : length d2 ≡ length was
+      long2 = ap length e2 ∙ length-clip d1 (spot .body) card ∙ ap length e1 ∙ length-clip was _ _
+
+      abbrev newRow : Row
+      newRow = rowFor 0 new
+
+      abbrev gap2 : List ℕ
+      gap2 = drop 8 gap1
+
+      module _ {d3 d4 : List ℕ} (e3 : d3 ≡ clip d2 (spot .row + 8) (take (behind cards + bytes + length card - spot .row) (drop (spot .row) d2)))
+          (e4 : d4 ≡ clip d3 (spot .row) (rowText newRow [])) where
+        row-in : d4 ≡ start ++ (rowText newRow [] ++ (later ++ gap2))
+        row-in =
+            put-between start later gap1 (rowText newRow []) (omega (arith, long, i .room, length-drop (length card) gap)) (spot .row) (spot .row + 8)
+            (behind cards + bytes + length card - spot .row) (row-at ∙ sym start-long) (omega (arith, row-at, start-long))
+            (omega (arith, row-at, later-long, counts, i .count))
+            (e3 ∙ ap (λ (t : List ℕ). clip t (spot .row + 8) (take (behind cards + bytes + length card - spot .row) (drop (spot .row) t))) parted-again) e4
+
+        pub long4 : length d4 ≡ length was
+        long4 = ap length e4 ∙ length-clip d3 (spot .row) (rowText newRow []) ∙ ap length e3 ∙ length-clip d2 _ _ ∙ long2
+
+        abbrev rows : List Row
+        rows = lowRows ++ newRow ∷ highRows
+
+        abbrev entries : List Entry
+        entries = lows ++ new ∷ highs
+
+        fit : FitTo rows entries
+        fit = fit-append lowRows (newRow ∷ highRows) lows (new ∷ highs) (fit-for first lows) (refl, fit-for (first + length (bodies lows)) highs)
+
+        with-is : withCard new es ≡ entries
+        with-is = with-split new es
+
+        live : Every (λ (e : Entry). e .live ≡ true) entries
+        live = subst (Every (λ (e : Entry). e .live ≡ true)) with-is (with-every new (λ (e : Entry). e .live ≡ true) es refl (i .live))
+
+        rows-count : length rows ≡ suc cards
+        rows-count = omega (arith, fit-count rows entries fit, ap length with-is, with-count new es, i .count)
+
+        -- ---- count and offsets
+
+        abbrev rest : List ℕ
+        rest = newBodies ++ gap2
+
+        laid : d4 ≡ length es ∷ rowsText rows rest
+        laid =
+            row-in
+            ∙ ap (λ (t : List ℕ). length es ∷ t)
+            (sym (rows-before lowRows (rowText newRow (later ++ gap2)))
+            ∙ ap (λ (t : List ℕ). rowsText lowRows (rowText newRow t)) (rows-then highRows newBodies gap2)
+            ∙ sym (text-append lowRows (newRow ∷ highRows) rest))
+
+        module _ {n : ℕ} (en : n ≡ suc cards) where
+          counted : set d4 0 n ≡ n ∷ rowsText rows rest
+          counted = ap (λ (t : List ℕ). set t 0 n) laid
+
+          rows-there : rowsIn n (set d4 0 n) ≡ rows
+          rows-there =
+              ap (λ (t : List ℕ). rowsOf n (drop 1 t)) counted
+              ∙ ap (λ (k : ℕ). rowsOf k (rowsText rows rest)) (en ∙ sym rows-count)
+              ∙ rows-back rows rest
+
+          stay : (at : ℕ) → rowsStay at (rowsIn n (set d4 0 n)) ≡ rowsText (rowsFor at entries) []
+          stay at =
+              ap (rowsStay at) rows-there
+              ∙ ap (λ (rs : List Row). rowsText (linesFor at rs) []) (fit-live rows entries fit live)
+              ∙ ap (λ (rs : List Row). rowsText rs []) (fit-lines at rows entries fit)
+
+          pub offsets : Offsets (set d4 0 n) n (behind n)
+          offsets =
+              let l : length (set d4 0 n) ≡ length was = length-set d4 0 n ∙ long4 in
+              let w : length (bodies (withCard new es)) ≡ bytes + length card = omega (arith, with-bodies new es, i .total) in
+              let z : sizes (liveRows (rowsIn n (set d4 0 n))) ≡ bytes + length card
+              = ap (λ (rs : List Row). sizes (liveRows rs)) rows-there
+              ∙ ap sizes (fit-live rows entries fit live)
+              ∙ fit-sizes rows entries fit
+              ∙ sym (ap (λ (l : List Entry). length (bodies l)) with-is)
+              ∙ w in
+              record { whole = omega (arith, l, en, i .room); small = omega (arith, en, i .few); short = omega (arith, z, en, i .room, i .short) }
+
+          pub long6 : {d6 : List ℕ} → d6 ≡ clip (set d4 0 n) 1 (rowsStay (behind n) (rowsIn n (set d4 0 n))) → length d6 ≡ length was
+          long6 e6 = ap length e6 ∙ length-clip (set d4 0 n) 1 (rowsStay (behind n) (rowsIn n (set d4 0 n))) ∙ length-set d4 0 n ∙ long4
+
+          pub inserted : {d6 : List ℕ} → d6 ≡ clip (set d4 0 n) 1 (rowsStay (behind n) (rowsIn n (set d4 0 n)))
+              → d6 ≡ addedText number card es ++ drop (length (addedText number card es)) was
+          inserted {d6} e6 =
+              let all = rowsText (rowsFor (behind n) entries) [] in
+              let k : length (rowsFor (behind n) entries) ≡ suc cards = omega (arith, length-for (behind n) entries, ap length with-is, with-count new es, i .count) in
+              let all-long : length all ≡ 8 * length rows = omega (arith, length-rows (rowsFor (behind n) entries) [], k, rows-count) in
+              let tail-of : drop (1 + length all) (n ∷ rowsText rows rest) ≡ rest = ap (λ (m : ℕ). drop (1 + m) (n ∷ rowsText rows rest)) all-long ∙ at-rows in
+              let text-long : length (addedText number card es) ≡ behind (suc cards) + bytes + length card
+              = omega (arith, length-text (withCard new es), with-count new es, with-bodies new es, i .count, i .total) in
+              let deck-long : length (deckText es) + (length card + 8) ≡ length (addedText number card es) = omega (arith, text-long, length-text es, i .count, i .total) in
+              let gap-is : gap2 ≡ drop (length (addedText number card es)) was
+              = drop-drop 8 (length card) gap
+              ∙ drop-drop (length card + 8) (length (deckText es)) was
+              ∙ ap (λ (m : ℕ). drop m was) deck-long in
+              e6
+              ∙ ap (clip (set d4 0 n) 1) (stay (behind n))
+              ∙ ap (λ (t : List ℕ). clip t 1 all) counted
+              ∙ clip-fits (n ∷ rowsText rows rest) 1 all (omega (arith, all-long, length-rows rows rest))
+              ∙ ap (λ (t : List ℕ). (take 1 (n ∷ rowsText rows rest) ++ all) ++ t) tail-of
+              ∙ ap (λ (t : List ℕ). n ∷ t) (sym (rows-before (rowsFor (behind n) entries) rest))
+              ∙ ap (λ (m : ℕ). m ∷ rowsText (rowsFor (behind m) entries) rest) (en ∙ ap suc (i .count) ∙ sym (with-count new es) ∙ ap length with-is)
+              ∙ ap (λ (t : List ℕ). length entries ∷ t) (ap (λ (t : List ℕ). rowsText (rowsFor (behind (length entries)) entries) (t ++ gap2)) (sym new-bodies) ∙ sym (rows-then (rowsFor (behind (length entries)) entries) (bodies entries) gap2))
+              ∙ ap (λ (l : List Entry). deckText l ++ gap2) (sym with-is)
+              ∙ ap (λ (t : List ℕ). addedText number card es ++ t) gap-is
+            where
+              at-rows : drop (1 + 8 * length rows) (n ∷ rowsText rows rest) ≡ rest
+              at-rows = sym (drop-drop (8 * length rows) 1 (n ∷ rowsText rows rest)) ∙ drop-rows rows rest
+
+              new-bodies : bodies entries ≡ newBodies
+              new-bodies = bodies-append lows (new ∷ highs)

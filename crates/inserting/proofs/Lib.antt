@@ -1,0 +1,4 @@
+pub mod Spotting
+pub mod Parts
+pub mod Rows
+pub mod Inserted

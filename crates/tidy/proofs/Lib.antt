@@ -1,0 +1,3 @@
+pub mod LiveDeck
+pub mod Closing
+pub mod Entering
