@@ -6,3 +6,4 @@ pub mod Numbers
 pub mod Readings
 pub mod Reductions
 pub mod Panels
+pub mod SharedWithin

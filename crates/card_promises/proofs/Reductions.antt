@@ -9,6 +9,7 @@ use Rattle.meaning.specs.Reduced.{Outcome, reduce, copy}
 use Rattle.meaning.proofs.Sums.{map-map}
 use Rattle.meaning.proofs.Within.{stays-within}
 use Rattle.texts.proofs.Reductions.{reduced-once}
+use Rattle.card_promises.proofs.SharedWithin.{shared-within}
 use Rattle.card_promises.specs.Reductions.{Table, Translation, Reductions}
 
 table : Table
@@ -36,4 +37,4 @@ translation = record {
 
 pub reductions : Reductions
 unfolding programText reduce copy cardA decimal gcd divisor
-reductions = record { table = table; translation = translation; one-seat-text = refl; joined-text = refl; either-text = refl; card-a-text = refl; one-seat = refl; card-a = refl; card-a-free = refl; read-off = reduced-once; stays-within = stays-within }
+reductions = record { table = table; translation = translation; one-seat-text = refl; joined-text = refl; either-text = refl; card-a-text = refl; one-seat = refl; card-a = refl; card-a-free = refl; read-off = reduced-once; stays-within = stays-within; shared-within = shared-within }

@@ -1,6 +1,6 @@
 -- What demand 3 alone does not fix of the reduced program ("What a card means", "Texts, byte for byte"): its mode, its counters' range, how
 -- many copies there are, and where a raised counter is cut. Assumes nothing.
-use Prim.Native.Nat.{ℕ, _-_, _*_, _/_, _≤_}
+use Prim.Native.Nat.{ℕ, _-_, _*_, _/_, _≤_, _<_}
 use mathlib.Core.Path.{_≡_}
 use mathlib.Core.List.{List, [], _∷_, map}
 use mathlib.Core.Option.{Option, none, some}
@@ -11,7 +11,7 @@ use Rattle.texts.specs.ReducedText.{reducedOf}
 use Rattle.card.specs.Formulas.{overOr}
 use Rattle.card.specs.Valid.{Every, ValidCard}
 use Rattle.meaning.specs.CardA.{cardA}
-use Rattle.meaning.specs.Position.{Position}
+use Rattle.meaning.specs.Position.{Position, sharedValues}
 use Rattle.meaning.specs.Steps.{Step}
 use Rattle.meaning.specs.Sums.{upto, flat}
 use Rattle.meaning.specs.Reduced.{Bound, equalTo, moreThan, lessThan, counter, sharedTest, counterOf, Test, keep, shift, Outcome, Reduced, updateOf, copy, reduce, reducedSteps}
@@ -119,3 +119,6 @@ pub record Reductions : Type 0 where
   pub read-off : (c d : Card) → ValidCard c → ValidCard d → reducedOf c ≡ reducedOf d → reduce c ≡ reduce d
   -- from counters in their range every step leads to counters in their range
   pub stays-within : (c : Card) (v : Position) → Every (λ a. a ≤ c .n) (v .each) → Every (λ (s : Step Position). Every (λ a. a ≤ reduce c .most) (s .next .each)) (reducedSteps (reduce c) v)
+  -- and so does the shared number (document 02, 2026-10)
+  pub shared-within : (c : Card) → ValidCard c → (v : Position) → v .shared < sharedValues (c .shared)
+      → Every (λ (s : Step Position). s .next .shared < sharedValues (c .shared)) (reducedSteps (reduce c) v)

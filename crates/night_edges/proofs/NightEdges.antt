@@ -44,13 +44,14 @@ reading-edges = record {
   depth = (refl, refl);
   no-depth = (refl, refl, refl, refl);
   nodes = refl;
+  alone = (refl, refl);
   update = (refl, refl, refl);
   undeclared-g = (refl, refl);
 }
 
 pub text-edges : TextEdges
 unfolding unitsOf readUnder decimal weightText formulaText statementText writeOf reducedText programText reduce copy writeSaid reduceSaid
-text-edges = record { written = refl; reduced = refl; kept = (refl, refl) }
+text-edges = record { written = refl; blanks = refl; reduced = refl; kept = (refl, refl) }
 
 pub panel-edges : PanelEdges
 unfolding unitsOf readUnder decimal judgedSeats judgedBy panel panelOf panelSaid
@@ -78,4 +79,5 @@ other-edges = record {
   seats = (refl, refl, refl, refl, refl);
   watched = (refl, refl);
   odds = (refl, refl, refl);
+  pairs = (refl, refl);
 }

@@ -21,7 +21,7 @@ use Rattle.move_said.specs.MoveSaid.{moveSaid}
 use Rattle.watch_said.specs.WatchSaid.{watchSaid}
 use Rattle.evenings.specs.Rounds.{Aim, largest, smallest}
 use Rattle.odds_said.specs.OddsSaid.{oddsSaid}
-use Rattle.edges.specs.Edges.{textA}
+use Rattle.edges.specs.Edges.{textA, modulesFrom}
 
 -- ---- a card with three times of day
 
@@ -150,6 +150,8 @@ pub record ReadingEdges : Type 0 where
       × (askSaid dayText (bytes "!!!!!!!!!(g=1)") (0 ∷ 0 ∷ 1 ∷ []) ≡ refused 24 8)
       × (panelSaid (testing (bytes "!!!!!!!!(g=1)")) (0 ∷ 1 ∷ []) ≡ says (bytes "probabilistic\nseats 1 enabled 1\ncounts 1 0\nshared 1\nmove 0 1 277200 1\n"))
   pub nodes : readOf (testing (bytes "!!" ++ tests 15 (bytes "(g=1)"))) ≡ turned 4 208
+  -- it stands alone in its bracket: no literal of a seat behind it, nor before it
+  pub alone : (readOf (stating " & (g=1 & s1=0) -> 1:(s1'=0)") ≡ turned 3 91) × (readOf (stating " & (s1=0 & g=1) -> 1:(s1'=0)") ≡ turned 3 94)
   -- an update stands behind the seat's, once, and sets m at the most: else 5
   pub update : (readOf (stating " -> 1:(s1'=0) & (g'=3)") ≡ turned 5 103)
       × (readOf (stating " -> 1:(s1'=0) & (g'=2) & (g'=1)") ≡ turned 3 106)
@@ -160,6 +162,7 @@ pub record ReadingEdges : Type 0 where
 pub record TextEdges : Type 0 where
   -- the written card is the card's own text, with the declaration behind the mode and the updates last
   pub written : writeSaid plainText ≡ says plainText
+  pub blanks : writeSaid (stating " & ( g = 1 ) -> 1:(s1'=0)") ≡ says (stating " & (g=1) -> 1:(s1'=0)")
   -- in the reduced program `true` is left out where g is set
   pub reduced : reduceSaid plainText
       ≡ says (bytes "nondeterministic\nglobal g : [0..2] init 1;\nmodule generic_process\nno_0 : [0..2] init 2;\nno_1 : [0..2] init 0;\n[] (no_0>0) & (g=1) -> 1:(no_0'=no_0-1) & (no_1'=min(no_1+1,2)) & (g'=2) + 0:(no_0'=no_0-1) & (no_1'=min(no_1+1,2)) + 0:(g'=0);\n[] (no_1>0) & !(g!=2) -> 1:true;\nendmodule\n")
@@ -204,6 +207,12 @@ pub record PanelEdges : Type 0 where
   pub without : (panelSaid (textA probabilistic) (0 ∷ 1 ∷ 2 ∷ []) ≡ says (bytes "probabilistic\nseats 3 enabled 1\ncounts 1 1 1\nstay 277200\n"))
       × (panelSaid (textA probabilistic) (0 ∷ 1 ∷ 2 ∷ 0 ∷ []) ≡ refused 8 0)
 
+-- the odds that g is 1 within no step, on a card of one seat more than so many, three states and eight values
+abbrev pub manySeats : ℕ → List ℕ → Said ℕ
+manySeats more seats =
+    saying (λ (e : Ends ℕ (Two (List ℕ))). e .value)
+    (oddsSaid (bytes "probabilistic\nglobal g : [0..7] init 0;\nmodule process1\ns1 : [0..2] init 0;\n[] s1=0 -> 1:(s1'=1);\nendmodule\n" ++ modulesFrom 2 more) (bytes "(g=1)") seats 0 largest 512 512)
+
 pub record OtherEdges : Type 0 where
   -- a question may ask for g: only on a card that has it, and for a value that it can have
   pub asked : (askSaid dayText (bytes "(g=1)") (0 ∷ 0 ∷ 1 ∷ []) ≡ says true)
@@ -225,3 +234,5 @@ pub record OtherEdges : Type 0 where
   pub odds : (chance dayText "(g=2) & ((s1=1 & s2!=1) | (s1!=1 & s2=1))" 1 largest 1 ≡ says 500000)
       × (firstRow dayText "(g=2) & ((s1=1 & s2!=1) | (s1!=1 & s2=1))" 1 largest 1 ≡ says (0 ∷ 0 ∷ 0 ∷ 0 ∷ 0 ∷ 1000000 ∷ 0 ∷ 500000 ∷ 0 ∷ []))
       × (chance freeText "(g=0)" 1 smallest 2 ≡ says 312500)
+  -- 14 by pairs: ten seats in three states have 66 vectors, with eight values 528 pairs; nine seats have 55 and 440
+  pub pairs : (manySeats 9 (0 ∷ 0 ∷ 0 ∷ 0 ∷ 0 ∷ 0 ∷ 0 ∷ 0 ∷ 0 ∷ 0 ∷ 1 ∷ []) ≡ refused 14 0) × (manySeats 8 (0 ∷ 0 ∷ 0 ∷ 0 ∷ 0 ∷ 0 ∷ 0 ∷ 0 ∷ 0 ∷ 1 ∷ []) ≡ says 1000000)
