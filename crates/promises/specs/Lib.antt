@@ -9,3 +9,4 @@ pub mod Mendings
 pub mod Conversions
 pub mod Tidyings
 pub mod DayAndNight
+pub mod WholeEvenings

@@ -1,0 +1,46 @@
+-- Document 02, 2026-13: over whole evenings the counts lose nothing. The exact chance by counts is the exact chance by seats told apart, so what 2026-08 says of the former holds of the latter, and of what
+-- is answered for any bytes. Both are the same iteration (`round` in `evenings/specs/Rounds.antt`) on two tables: one of seatings and what every seat may do there, one of counts and the reduced program. Assumes nothing.
+use Prim.Native.Nat.{ℕ, suc, _*_, _≤_}
+use mathlib.Core.Path.{_≡_}
+use mathlib.Core.List.{List}
+use lib.ListN.{length}
+use Rattle.card.specs.Card.{Card}
+use Rattle.meaning.specs.Reordered.{Reordered}
+use Rattle.meaning.specs.Seats.{Seating, ValidSeating, Stuck, counted}
+use Rattle.entry.specs.Contract.{Two, Enters, inRows}
+use Rattle.rows.specs.Said.{Read}
+use Rattle.room.specs.declared.Answer.{Answer}
+use Rattle.room.specs.declared.Answer.the-variants.{Done}
+use Rattle.room.specs.Answer.{told}
+use Rattle.seating.specs.Judged.{seatingOf}
+use Rattle.asking.specs.Meant.{Question}
+use Rattle.ask_said.specs.AskSaid.{Understood}
+use Rattle.evenings.specs.Limits.{mostNights}
+use Rattle.evenings.specs.Rounds.{Aim}
+use Rattle.evenings.specs.Scales.{bottom, Close}
+use Rattle.evenings.specs.Evenings.{mostTurns, exact, whole}
+use Rattle.chances.specs.Chances.{bySeats, byCounts, chanceAt}
+use Rattle.odds_said.specs.OddsSaid.{oddsSaid}
+use Rattle.evening_edges.specs.EveningEdges.{EveningEdges}
+
+-- of a card, a question, an aim, a number of steps and a seating
+pub record WholeEvening (c : Card) (q : Question) (a : Aim) (m : ℕ) (x : Seating) : Type 0 where
+  -- the counts' chance is the seats' own
+  pub same : exact c a (bySeats c q) m x ≡ exact c a (byCounts c q) m (counted (c .k) x)
+  -- so the value in millionths is never above it, and short of it by m millionths at most
+  pub close : Close m (whole c m) (chanceAt c q a m (counted (c .k) x)) (exact c a (bySeats c q) m x)
+  -- a stuck seating keeps it
+  pub stuck : Stuck c x → exact c a (bySeats c q) (suc m) x ≡ exact c a (bySeats c q) m x * bottom (mostTurns c)
+
+pub record WholeEvenings : Type 0 where
+  -- every card that is taken, valid seating and m up to 32; the aim is either, and the seating has the shared number where the card has one
+  pub evening : (card : List ℕ) (c : Read card) (q : Question) (a : Aim) (m : ℕ) → m ≤ mostNights → (x : Seating) → ValidSeating (c .0) x → WholeEvening (c .0) q a m x
+  -- what is answered for any bytes is that close to the chance of the seats themselves
+  pub answered : (card question seats : List ℕ) (m : ℕ) (a : Aim) (was is : Two (List ℕ)) (r : Answer)
+      → Enters inRows told was is (oddsSaid card question seats m a (length (was .first)) (length (was .second))) r
+      → (value : ℕ) → r ≡ Done value
+      → (c : Read card) × ((q : Understood question (c .0)) × Close m (whole (c .0) m) value (exact (c .0) a (bySeats (c .0) (q .0)) m (seatingOf (c .0) seats)))
+  -- seats in another order have the same chance, though each is told apart
+  pub reordered : (card : List ℕ) (c : Read card) (q : Question) (a : Aim) (m : ℕ) {x y : Seating} → Reordered x y → ValidSeating (c .0) x
+      → exact (c .0) a (bySeats (c .0) q) m x ≡ exact (c .0) a (bySeats (c .0) q) m y
+  pub edges : EveningEdges
