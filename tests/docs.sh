@@ -3,7 +3,7 @@
 #   a path, or a file's name with its ending    somewhere below the project's folder
 #   CRATE/must-fail/EDIT                        an edit; behind it, or in a column "Kept as", bare words are further edits of that crate
 #   CRATE::NAME, MODULE::NAME, TYPE::NAME       something that the code names so
-#   statement : Type                            in `promises`, `card_promises`, `entry_promises`, `edges`, `entry_edges`, `question_edges`, `odds_edges`, `night_edges`, `mending_edges`, `converting_edges`, `tidying_edges`, `chances`, `odds_said`, `tidying` or `keeps`
+#   statement : Type                            in `promises`, `card_promises`, `entry_promises`, `edges`, `entry_edges`, `question_edges`, `odds_edges`, `night_edges`, `mending_edges`, `converting_edges`, `tidying_edges`, `evening_edges`, `chances`, `odds_said`, `tidying` or `keeps`
 #   Record.field                                of a record there
 #   a bare word in a column "Function"          a function or a crate
 # A link leads to a file or a folder.
@@ -78,8 +78,8 @@ found() { # KIND WORD PAGE
                 coded "$last" crates/*/src/"$first.rt"
             fi
             ;;
-        statement) grep -qEs "\b${2% : *} : ${2#* : }" crates/{promises,card_promises,entry_promises,edges,entry_edges,question_edges,odds_edges,night_edges,mending_edges,converting_edges,tidying_edges,chances,odds_said,tidying,keeps}/proofs/*.antt && grep -qEs "\b${2#* : }\b" crates/{promises,card_promises,entry_promises,edges,entry_edges,question_edges,odds_edges,night_edges,mending_edges,converting_edges,tidying_edges,chances,odds_said,tidying,keeps}/specs/*.antt ;;
-        field) awk -v r="${2%%.*}" -v f="${2#*.}" '/^pub record / { on = $3 == r } on && $1 == "pub" && $2 == f { ok = 1 } END { exit !ok }' crates/{promises,card_promises,entry_promises,edges,entry_edges,question_edges,odds_edges,night_edges,mending_edges,converting_edges,tidying_edges,chances,odds_said,tidying,keeps}/specs/*.antt ;;
+        statement) grep -qEs "\b${2% : *} : ${2#* : }" crates/{promises,card_promises,entry_promises,edges,entry_edges,question_edges,odds_edges,night_edges,mending_edges,converting_edges,tidying_edges,evening_edges,chances,odds_said,tidying,keeps}/proofs/*.antt && grep -qEs "\b${2#* : }\b" crates/{promises,card_promises,entry_promises,edges,entry_edges,question_edges,odds_edges,night_edges,mending_edges,converting_edges,tidying_edges,evening_edges,chances,odds_said,tidying,keeps}/specs/*.antt ;;
+        field) awk -v r="${2%%.*}" -v f="${2#*.}" '/^pub record / { on = $3 == r } on && $1 == "pub" && $2 == f { ok = 1 } END { exit !ok }' crates/{promises,card_promises,entry_promises,edges,entry_edges,question_edges,odds_edges,night_edges,mending_edges,converting_edges,tidying_edges,evening_edges,chances,odds_said,tidying,keeps}/specs/*.antt ;;
         function) [ -d "crates/$2" ] || coded "$2" crates/*/src/*.rt ;;
     esac
 }
