@@ -1,19 +1,19 @@
 -- The demands of document 01, each as one statement, in words that crate `meaning` defines; demand 3 as document 02 widens it. Assumes nothing.
-use Prim.Native.Nat.{ℕ, _≤_}
+use Prim.Native.Nat.{ℕ, _≤_, _<_}
 use mathlib.Core.Path.{_≡_}
 use mathlib.Core.Logic.{_↔_}
 use mathlib.Core.Bool.{true}
-use mathlib.Core.List.{List, []}
+use mathlib.Core.List.{List, [], map}
 use lib.ListN.{length, replicate}
 use Rattle.card.specs.Limits.{cardBytes, unit}
-use Rattle.card.specs.Card.{Card}
+use Rattle.card.specs.Card.{Branch, Statement, Card}
 use Rattle.card.specs.Valid.{Every, ValidCard}
-use Rattle.meaning.specs.Sums.{sum}
-use Rattle.meaning.specs.Position.{Position}
+use Rattle.meaning.specs.Sums.{sum, upto, those, flat}
+use Rattle.meaning.specs.Position.{Position, setTo}
 use Rattle.meaning.specs.Steps.{Step, Turn}
 use Rattle.meaning.specs.Choices.{choicesOf, stay, stuckChoices}
-use Rattle.meaning.specs.Offers.{Offers}
-use Rattle.meaning.specs.Seats.{Seating, ValidSeating, counts, counted, choicesFrom, choices, turns, steps, Stuck}
+use Rattle.meaning.specs.Offers.{OneForOne, Offers}
+use Rattle.meaning.specs.Seats.{Seating, ValidSeating, counts, counted, state, mayTake, turn, choicesFrom, choices, turns, steps, Stuck}
 use Rattle.meaning.specs.Reduced.{reduce, reducedTurnsBy, reducedChoices, reducedTurns, reducedSteps, StuckAt}
 use Rattle.meaning.specs.Demand.{samePosition, Agrees}
 use Rattle.meaning.specs.Panel.{panel}
@@ -86,8 +86,24 @@ pub record Total : Type 0 where
   pub counts-weigh : (c : Card) → ValidCard c → (v : Position)
       → Every (λ (t : Turn Position). sum (λ (s : Step Position). s .units) t ≡ unit) (reducedTurns (reduce c) v)
 
+-- a branch's step where seat i takes it: the seat's own state is the branch's end, no other seat moves, and the shared number is what the branch makes of it
+pub record SeatStep (x : Seating) (i : ℕ) (b : Branch) (t : Step Seating) : Type 0 where
+  pub weighs : t .units ≡ b .units
+  pub seats : length (t .next .each) ≡ length (x .each)
+  pub own : state (t .next .each) i ≡ b .end
+  pub rest : (j : ℕ) → (j ≡ i → ⊥) → state (t .next .each) j ≡ state (x .each) j
+  pub shared : t .next .shared ≡ setTo (x .shared) (b .sets)
+
+-- the seats that may take a statement, each by its place, in order
+abbrev pub takers : Statement → Seating → List ℕ
+takers s x = those (mayTake s x) (upto (length (x .each)) (λ i. i))
+
 -- and what else is known of the two meanings
 pub record Meanings : Type 0 where
+  -- all seats are told apart: a turn belongs to one of them, and has a step for each branch, in order
+  pub own-seat : (s : Statement) (x : Seating) (i : ℕ) → i < length (x .each) → OneForOne (SeatStep x i) (s .branches) (turn s x i)
+  -- and there is one for each pair of a statement and a seat that may take it, in either mode, by statement and then by seat
+  pub pairs : (c : Card) (x : Seating) → (Stuck c x → ⊥) → turns c x ≡ flat (map (λ s. map (turn s x) (takers s x)) (c .statements))
   -- both offer the same. On a probabilistic card any number that depends on a turn's units and next counts has the same sum on both sides; on a
   -- nondeterministic one each choice has one turn by counts, and the steps of every seat that may take it are, seen in the counts, that turn's
   pub offers : (c : Card) (x : Seating) → ValidSeating c x → Offers (c .mode) (counted (c .k)) (choices c x) (reducedChoices (reduce c) (counted (c .k) x))
