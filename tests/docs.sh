@@ -1,7 +1,7 @@
 #!/usr/bin/env bash
 # What the pages name in backticks is there. By its form a word is one of these, or none that is looked for:
 #   a path, or a file's name with its ending    somewhere below the project's folder
-#   CRATE/must-fail/EDIT                        an edit; behind it, or in a column "Kept as", bare words are further edits of that crate
+#   CRATE/must-fail/VERSION                     a wrong version in an edit; behind it, or in a column "Kept as", bare words are further ones of that crate
 #   CRATE::NAME, MODULE::NAME, TYPE::NAME       something that the code names so
 #   statement : Type                            in `promises`, `card_promises`, `entry_promises`, `edges`, `entry_edges`, `question_edges`, `odds_edges`, `night_edges`, `mending_edges`, `converting_edges`, `tidying_edges`, `evening_edges`, `chances`, `odds_said`, `tidying` or `keeps`
 #   Record.field                                of a record there
@@ -67,7 +67,7 @@ found() { # KIND WORD PAGE
     local first=${2%%::*} last=${2##*::}
     case $1 in
         link) [ -e "$(dirname "$3")/${2%%#*}" ] ;;
-        edit) [ -f "crates/${2}.edit" ] ;;
+        edit) grep -qs "^# ${2##*/}: " "crates/${2%%/*}/must-fail"/*.edit ;;
         path) grep -qxF -e "./${2%/}" <<<"$files" || grep -qE -e "/$(sed 's/[.]/\\./g' <<<"${2%/}")\$" <<<"$files" ;;
         code)
             if [ -d "crates/$first" ]; then
