@@ -22,7 +22,7 @@ lines_of() {
 refused() {
     local fact=${3%%.*} line
     for line in $(lines_of "$1" "$2" "$fact"); do
-        [ "$fact" = "$3" ] || sed -n "${line}p" "${1%/.log}/$2" | grep -q "^  ${3#*.} = " || continue
+        [ "$fact" = "$3" ] || sed -n "${line}p" "${1%/.log}/$2" | grep -q "^ *${3#*.} = " || continue
         return 0
     done
     return 1
