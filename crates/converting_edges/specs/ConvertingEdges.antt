@@ -58,8 +58,9 @@ pub record ConvertingEdges : Type 0 where
   pub one-decimal : Becomes (1 ∷ live 3 9 98 ++ cardOf " -> 1/2:(s1'=1) + 0.5:(s1'=2)") (1 ∷ live 3 9 98 ++ halvesWritten)
   pub longer : Becomes (1 ∷ live 3 9 100 ++ parts) (1 ∷ live 3 9 104 ++ partsWritten)
   pub whole : Becomes (1 ∷ live 3 9 84 ++ cardOf " -> 1.0:(s1'=1)") (1 ∷ live 3 9 82 ++ card)
-  -- all else of such a card is written anew too: its blanks go
+  -- all else of such a card is written anew too: its blanks go, and its comments
   pub blanks-go : Becomes (1 ∷ live 3 9 85 ++ cardOf "  -> 1.0:(s1'=1)") (1 ∷ live 3 9 82 ++ card)
+  pub comment-goes : Becomes (1 ∷ live 3 9 92 ++ cardOf " // 0.5\n -> 1.0:(s1'=1)") (1 ∷ live 3 9 82 ++ card)
   pub shared-number : Becomes (1 ∷ live 3 9 141 ++ shared "0.5") (1 ∷ live 3 9 141 ++ shared "1/2")
   pub nothing : Becomes (1 ∷ live 3 9 97 ++ cardOf " -> 1:(s1'=1) + 0.00:(s1'=2)") (1 ∷ live 3 9 94 ++ cardOf " -> 1:(s1'=1) + 0:(s1'=2)")
   -- two live cards, each its own
@@ -68,6 +69,9 @@ pub record ConvertingEdges : Type 0 where
   pub unchanged : Stays (1 ∷ live 3 9 82 ++ card)
   pub blanks-stay : Stays (1 ∷ live 3 9 83 ++ cardOf "  -> 1:(s1'=1)")
   pub comment : Stays (1 ∷ live 3 9 90 ++ cardOf " // 0.5\n -> 1:(s1'=1)")
+  -- also weights that would be written otherwise
+  pub unreduced : Stays (1 ∷ live 3 9 98 ++ cardOf " -> 2/4:(s1'=1) + 1/2:(s1'=2)")
+  pub no-units : Stays (1 ∷ live 3 9 97 ++ cardOf " -> 1:(s1'=1) + 0/11:(s1'=2)")
   -- a withdrawn card is not read: decimals stay, and so does what is no card
   pub withdrawn : Stays (2 ∷ gone 3 17 99 ++ gone 4 116 2 ++ halves ++ bytes "AB")
   pub empty : Stays (1 ∷ gone 3 9 0)

@@ -35,6 +35,7 @@ use Rattle.promises.specs.Conversions.{ConvertsDeck, ConvertTells, DeckC
 use Rattle.entry_promises.proofs.Entries.{done≢refused}
 use Rattle.entry_promises.proofs.ForC.{tells-done, tells-refused, is-refused, number-of, entered}
 use Rattle.promises.proofs.Decks.{deck-malformed}
+use Rattle.promises.proofs.Decimals.{no-decimal, first-decimal, copied, rewritten}
 
 module _ (deck : List ℕ) {was is : List ℕ} {a : Answer} (e : Entered was is (convertSaid deck) a) where
   first : (p : ℕ) → (a ≡ Refused malformedDeck p) ↔ MalformedAt deck p
@@ -110,12 +111,16 @@ conversions = record {
   convert-for-c = λ deck was is a e.
       subst (ConvertTells deck was is) (sym (e .answers)) (tells (answered (convertSaid deck) was) (converts deck (entered (convertSaid deck) e)));
   today = λ s. refl;
+  no-decimal = no-decimal;
+  first-decimal = first-decimal;
   decimal-only = decimal-only;
   rest-unread = rest-unread;
   longest = longest;
   too-long = too-long;
   same-card = λ e body b. same-card e b;
   unchanged = λ e body n b. one-body e b (stays e n);
+  copied = λ e body h b. copied e h b;
+  rewritten = λ e body p l d b. rewritten e p l d b;
   new-deck = new-deck;
   only-gaps-go = only-gaps-go;
   no-live-card = no-live-card;

@@ -6,6 +6,7 @@ pub mod Elevenths
 pub mod FirstMoves
 pub mod Nights
 pub mod Mendings
+pub mod Decimals
 pub mod Conversions
 pub mod Tidyings
 pub mod DayAndNight

@@ -14,6 +14,8 @@ use Rattle.entry.specs.Said.{says, refused}
 use Rattle.entry.specs.Contract.{InRoom, onto}
 use Rattle.deck.specs.Deck.{Entry, deckOf, heldBy, deckText, Bytes}
 use Rattle.deck.specs.Sound.{Sound, MalformedAt}
+use Rattle.marks_on_a_card.specs.Marks.{decimal, Placed, placed, marksOf}
+use Rattle.grammar.specs.Verdicts.{In}
 use Rattle.deck_written.specs.Fine.{NoGaps}
 use Rattle.room.specs.declared.Answer.{Answer}
 use Rattle.room.specs.declared.Answer.the-variants.{Refused}
@@ -28,6 +30,22 @@ use Rattle.edges.specs.Edges.{DecimalEdges}
 use Rattle.converting_edges.specs.ConvertingEdges.{ConvertingEdges}
 use Rattle.entry_promises.specs.Entries.{RoomEnough}
 use Rattle.entry_promises.specs.ForC.{Answers}
+
+-- ---- decimals among a card's marks (a comment is none of them)
+
+-- no mark is one
+abbrev pub NoDecimal : List Placed → Type 0
+NoDecimal ms = (v n f p : ℕ) → In (placed (decimal v n f) p) ms → ⊥
+
+-- the first that is one stands at p
+pub record FirstDecimal (ms : List Placed) (p : ℕ) : Type 0 where
+  pub before : List Placed
+  pub v : ℕ
+  pub n : ℕ
+  pub f : ℕ
+  pub after : List Placed
+  pub split : ms ≡ before ++ (placed (decimal v n f) p ∷ after)
+  pub earlier : NoDecimal before
 
 -- ---- the answer
 
@@ -75,11 +93,19 @@ pub record Conversions : Type 0 where
   pub convert-for-c : (deck was is : List ℕ) (a : OpenPanelAnswer) → Told was is (convertSaid deck) a → ConvertTells deck was is a
   -- the new rule is the one by which every other entry reads
   pub today : (s : List ℕ) → readUnder newRule s ≡ readOf s
+  -- it takes what the old rule takes, as the same card, exactly if no mark of it is a decimal
+  pub no-decimal : (s : List ℕ) (c : Card) → (readUnder newRule s ≡ taken c) ↔ ((readUnder oldRule s ≡ taken c) × NoDecimal (marksOf s))
+  -- else it refuses it with 17, at its first decimal
+  pub first-decimal : (s : List ℕ) (c : Card) → readUnder oldRule s ≡ taken c → (p : ℕ) → (readUnder newRule s ≡ turned decimalWeight p) ↔ FirstDecimal (marksOf s) p
   -- what only the old rule takes is refused for a decimal weight and nothing else
   pub decimal-only : (s : List ℕ) (c : Card) (r p : ℕ) → readUnder oldRule s ≡ taken c → readUnder newRule s ≡ turned r p → r ≡ decimalWeight
   -- each live card reads under the new rule as it read under the old one; what the new rule takes stays byte for byte
   pub same-card : (e : Entry) (body : List ℕ) → NewBody e body → SameCard e body
   pub unchanged : (e : Entry) (body : List ℕ) → NewLive e → NewBody e body → body ≡ e .body
+  -- so a card with no decimal is copied, and a live one that has some is written
+  pub copied : (e : Entry) (body : List ℕ) → NoDecimal (marksOf (e .body)) → NewBody e body → body ≡ e .body
+  pub rewritten : (e : Entry) (body : List ℕ) (p : ℕ) → e .live ≡ true → FirstDecimal (marksOf (e .body)) p → NewBody e body
+      → (c : Card) × (readUnder oldRule (e .body) ≡ taken c) × (body ≡ writeOf c)
   pub new-deck : (deck : List ℕ) (c : Convertible deck) → Bytes deck → DeckConverted deck c
   -- one walk: what stands behind the first card that cannot be converted is not looked at
   pub rest-unread : (at : ℕ) (es fs : List Entry) (r number : ℕ) → entriesSaid at es ≡ refused r number → entriesSaid at (es ++ fs) ≡ refused r number
