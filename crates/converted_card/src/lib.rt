@@ -56,12 +56,12 @@ pub fn put_written(room: &mut [u8], at: usize, card: &[u8]) -> usize
     let mut rows: [usize; ROW_PLACES] = [0; ROW_PLACES];
     let mut nodes: [u32; NODE_PLACES] = [0; NODE_PLACES];
     let mut branches: [u32; BRANCH_PLACES] = [0; BRANCH_PLACES];
-    let old = read_under(card, OLD_RULE, &mut rows, &mut nodes, &mut branches);
-    let verdict = old.verdict;
+    let outline = read_under(card, OLD_RULE, &mut rows, &mut nodes, &mut branches);
+    let verdict = outline.verdict;
     if let Verdict::Refused(number, which) = verdict {
         return place(at);
     }
     let end = room.len();
-    let long = put_card(&mut room[at..end], old.head, &rows, &nodes, &branches);
+    let long = put_card(&mut room[at..end], outline.head, &rows, &nodes, &branches);
     at + long
 }
