@@ -1,6 +1,6 @@
 -- A group that was read is an item of a card's language and, as one of everyone, of a question's; an exactly-one is one of a question's; a test
 -- of the shared number is one of both, where such a number is declared; and where none of these starts no item does. Assumes nothing.
-use Prim.Native.Nat.{ℕ, zero, suc, _+_, _-_, _*_, _/_, _%_}
+use Prim.Native.Nat.{ℕ, zero, suc, _+_, _-_}
 use mathlib.Core.Path.{_≡_, refl, sym, ap, ap₂, _∙_, subst}
 use mathlib.Core.Bool.{Bool, true, false, _&&_, _||_}
 use mathlib.Core.List.{List, [], _∷_}
@@ -37,7 +37,8 @@ use Rattle.asking.specs.Question.{Item, aGroup, exactlyOne, aTest, twiceNext, i
 use Rattle.asking.specs.Asking.{state as claimed, everyone as everyoneOf, firstD, claimsOf}
 use Rattle.one_seat.specs.OneRead.{ReadOne, OneRead}
 use Rattle.term_literals.specs.Wanted.{wantOfTerms}
-use Rattle.grouping.specs.Language.{Language, cards, judgedOf, wantOfAll, claimAll, questions, asksBy, valuesBy, languageBy, languageOf}
+use Rattle.grouping.specs.Language.{Language, cards, judgedOf, wantOfAll, claimAll, questions, languageBy, languageOf}
+use Rattle.languages.specs.Number.{valuesBy, asksBy}
 use Rattle.groups_asked.specs.GroupsAsked.{unwanted, ofAll}
 use Rattle.shared_tests.specs.SharedRead.{ReadTest, TestRead}
 use Rattle.grouping.specs.Items.{Inside, ReadItem, ItemRead, ItemIf, ItemAt, nothing}
@@ -408,20 +409,9 @@ most-some language v e z = ap (λ w. w - 1) e ∙ go (valuesBy language) (λ h. 
     go (suc m) h = omega arith
 
 -- a card's language, and a question's on it
-pub card-language : (v : ℕ) → languageOf (v * 2) ≡ cards v
-card-language v = ap₂ languageBy flag number
-  where
-    flag : asksBy (v * 2) ≡ false
-    flag = ne-eqb (v * 2 % 2) 1 (λ z. omega arith)
+module _ (language : ℕ) {v : ℕ} where
+  pub card-language : (asksBy language ≡ false) × (valuesBy language ≡ v) → languageOf language ≡ cards v
+  card-language t = ap₂ languageBy (t .0) (t .1)
 
-    number : v * 2 / 2 ≡ v
-    number = omega arith
-
-pub question-language : (v : ℕ) → languageOf (v * 2 + 1) ≡ questions v
-question-language v = ap₂ languageBy flag number
-  where
-    flag : asksBy (v * 2 + 1) ≡ true
-    flag = eq-eqb ((v * 2 + 1) % 2) 1 (omega arith)
-
-    number : (v * 2 + 1) / 2 ≡ v
-    number = omega arith
+  pub question-language : (asksBy language ≡ true) × (valuesBy language ≡ v) → languageOf language ≡ questions v
+  question-language t = ap₂ languageBy (t .0) (t .1)

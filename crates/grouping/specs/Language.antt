@@ -1,14 +1,15 @@
 -- The languages that one reader reads: formulas over items, of which each language has its own, on a card whose shared number has so many values
 -- (document 02, 2026-10; 0 where none is declared). Assumes nothing.
-use Prim.Native.Nat.{ℕ, _/_, _%_}
+use Prim.Native.Nat.{ℕ}
 use mathlib.Core.Bool.{Bool, true, false}
 use mathlib.Core.List.{List, [], _∷_}
-use lib.Dec.{eqb, leb}
+use lib.Dec.{leb}
 use Rattle.card.specs.Refusals.{aboveTop}
 use Rattle.card.specs.Text.{if_then_else_}
 use Rattle.card.specs.Card.{Leaf, one, sharedIs, Formula, atom, neg, and, or, Guard}
 use Rattle.card.specs.Formulas.{over}
 use Rattle.marks_on_a_card.specs.Marks.{placeOf}
+use Rattle.languages.specs.Number.{valuesBy, asksBy}
 use Rattle.reading.specs.Reader.{Place, Reader}
 use Rattle.reading.specs.Guard.{testNext}
 use Rattle.reading.specs.Group.{Literal, Tested, tested}
@@ -70,13 +71,7 @@ questions values = record {
   judged = λ k e x. claimAll e (claimsOf k (mostOf values) x);
 }
 
--- ---- the code's number: twice how many values the shared number has, and one more for a question
-
-abbrev pub valuesBy : ℕ → ℕ
-valuesBy language = language / 2
-
-abbrev pub asksBy : ℕ → Bool
-asksBy language = eqb (language % 2) 1
+-- ---- by the code's number
 
 abbrev pub languageBy : Bool → ℕ → Language
 languageBy false values = cards values

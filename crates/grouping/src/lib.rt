@@ -3,13 +3,15 @@ use due_words::step_inner;
 use group::Grouped;
 use group::group;
 use groups_asked::of_all;
+use languages::is_question;
+use languages::values;
 use marks_on_a_card::kinds;
 use one_seat::exactly;
 use one_seat::twice;
 use packing as node;
 use shared_tests::shared_test;
 ghost use mathlib.Core.Path.{_≡_};
-ghost use Rattle.grouping.specs.Language.{valuesBy, asksBy, languageOf};
+ghost use Rattle.grouping.specs.Language.{languageOf};
 ghost use Rattle.kept_items.specs.KeptItems.{boundBy};
 ghost use Rattle.grouping.specs.Items.{ItemAt, nothing};
 
@@ -29,20 +31,6 @@ fn no_item() -> Grouped
         d: 0,
         first: 0,
     }
-}
-
-// ---- which language it is, as one number: twice how many values the shared number has (0: none is declared), and one more for a question
-
-pub fn values(language: usize) -> usize
-    ensures { λ r. ⌜ r ≡ valuesBy language ⌝ }
-{
-    language / 2
-}
-
-fn is_question(language: usize) -> bool
-    ensures { λ r. ⌜ r ≡ asksBy language ⌝ }
-{
-    language % 2 == 1
 }
 
 // The most that the number in an item of this kind may be: what the shared number may be in a test of it, else the top state.

@@ -17,7 +17,8 @@ use Rattle.reading.specs.Reader.{Place, State, at, Result, ok, stop, Reader, bi
 use Rattle.reading.specs.Guard.{seatNext, ifSeat, ifAhead, chain, conjunction, expression, grouped}
 use Rattle.reading.specs.Group.{Literal, literalOf, literalsOf, relationOf, literal, joint, joined, others, group, sharedTest, ofSeats, ofShared, tested}
 use Rattle.asking.specs.Question.{aGroup, aTest, exactlyOne, term, exactly, item}
-use Rattle.grouping.specs.Language.{Language, valuesBy, asksBy, languageBy, languageOf}
+use Rattle.languages.specs.Number.{valuesBy, asksBy}
+use Rattle.grouping.specs.Language.{Language, languageBy, languageOf}
 use Rattle.items.specs.Pieces.{unaryIn}
 
 -- what holds of a value and the state behind it; and a refusal has a number

@@ -1,5 +1,5 @@
 -- The whole question: too long, a stop, marks behind it, or a shape whose claims decide. Assumes nothing.
-use Prim.Native.Nat.{ℕ, zero, suc, _+_, _-_, _*_, _≤_, _<_}
+use Prim.Native.Nat.{ℕ, zero, suc, _+_, _-_, _≤_, _<_}
 use mathlib.Core.Path.{_≡_, refl, sym, ap, _∙_, subst}
 use mathlib.Core.Bool.{Bool, true, false}
 use mathlib.Core.List.{List, [], _∷_}
@@ -40,6 +40,7 @@ use Rattle.entry.specs.Said.{Said, says, refused}
 use Rattle.asking.specs.Question.{Item, asked, question}
 use Rattle.asking.specs.Meant.{Question, leafFor}
 use Rattle.asking.specs.Asking.{claims, firstUnfit, questionIn, inQuestion, judgedAs, shapedAs, markedAs, questionOf}
+use Rattle.languages.specs.Number.{valuesBy, asksBy}
 use Rattle.grouping.specs.Language.{Language, questions, languageOf, leavesOf}
 use Rattle.grouping.proofs.Answers.{question-language}
 use Rattle.items.specs.GuardRead.{Read, GuardRead}
@@ -52,10 +53,13 @@ use Rattle.question.proofs.Passing.{questionP}
 
 -- what the code has read, its language told by a number; and the same as a question on a card with so many values
 abbrev ReadHere : List ℕ → ℕ → ℕ → List ℕ → List ℕ → State → After → Type 0
-ReadHere s k v was is b r = GuardRead (languageOf (v * 2 + 1)) s k was is 0 noneYet (expression (unaryIn (languageOf (v * 2 + 1)) mostDepth) b) r
+ReadHere s k l was is b r = GuardRead (languageOf l) s k was is 0 noneYet (expression (unaryIn (languageOf l) mostDepth) b) r
 
-as-question : (s : List ℕ) (k v : ℕ) (was is : List ℕ) (b : State) (r : After) → ReadHere s k v was is b r → GuardRead (questions v) s k was is 0 noneYet (asked (shares v) b) r
-as-question s k v was is b r h = subst (λ (L : Language). GuardRead L s k was is 0 noneYet (expression (unaryIn L mostDepth) b) r) (question-language v) h
+abbrev Asks : ℕ → ℕ → Type 0
+Asks v l = (asksBy l ≡ true) × (valuesBy l ≡ v)
+
+as-question : (s : List ℕ) (k v l : ℕ) (was is : List ℕ) (b : State) (r : After) → Asks v l → ReadHere s k l was is b r → GuardRead (questions v) s k was is 0 noneYet (asked (shares v) b) r
+as-question s k v l was is b r asks h = subst (λ (L : Language). GuardRead L s k was is 0 noneYet (expression (unaryIn L mostDepth) b) r) (question-language l asks) h
 
 -- a stop, once what is left was searched for a mark outside the rules
 abbrev orOutside : ℕ → ℕ → Option ℕ → Said Question
@@ -99,9 +103,9 @@ module _ (s : List ℕ) (n k v : ℕ) (was is : List ℕ) where
         (stop-told m (placeOf (length s) p) (firstOutside (marksAt 0 s (placeOf (length s) p))) (h .1))
 
     -- the formula stopped
-    module _ (r : After) (said : ReadHere s k v was is begun r) where
+    module _ (r : After) (l : ℕ) (asks : Asks v l) (said : ReadHere s k l was is begun r) where
       h : GuardRead (questions v) s k was is 0 noneYet (asked (shares v) begun) r
-      h = as-question s k v was is begun r said
+      h = as-question s k v l was is begun r asks said
 
       pub sized-still : Sized (r .state)
       sized-still = still-sized (questions v) s k was is 0 noneYet (asked (shares v) begun) r h

@@ -7,6 +7,7 @@ use card::limits::NODE_PLACES;
 use card::refusals::OUT_OF_SHAPE;
 use card::refusals::TOO_LONG;
 use guard::expression;
+use languages::question_language;
 use late::state::FREE;
 use late::state::LEFT;
 use late::state::STATE;
@@ -61,7 +62,7 @@ pub fn question_into(
     }
     let mut state: [usize; STATE] = [0; STATE];
     state[LEFT] = MOST_NODES;
-    let language = values * 2 + 1;
+    let language = question_language(values);
     let next = expression(question, 0, nodes, &mut state, MOST_DEPTH, top, language);
     if next == 0 {
         return refused(search(question, state[STOP], state[STOP_PLACE]));

@@ -1,6 +1,7 @@
 -- A guard with the arrow behind it, or the arrow alone. Assumes nothing.
-use Prim.Native.Nat.{ℕ, suc, _+_, _-_, _*_, _≤_}
+use Prim.Native.Nat.{ℕ, suc, _+_, _-_, _≤_}
 use mathlib.Core.Path.{_≡_, refl, sym, ap, _∙_, subst}
+use mathlib.Core.Bool.{false}
 use mathlib.Core.List.{List}
 use mathlib.Core.Option.{Option, none, some}
 use native.Mathlib.Omega.{arith}
@@ -23,6 +24,7 @@ use Rattle.late.specs.Late.{Late, judgeAll, guardBy}
 use Rattle.late.specs.Values.{shares, mostOf}
 use Rattle.late.specs.State.{atLeft, atFree, atValue, Sized, lateIn, leftIn, freeIn, After, after, Halted}
 use Rattle.late.proofs.StateLaws.{set-sized, left-set, free-set, value-set, late-set, left-free}
+use Rattle.languages.specs.Number.{valuesBy, asksBy}
 use Rattle.grouping.specs.Language.{Language, cards, languageOf}
 use Rattle.kept_items.specs.KeptItems.{Ready}
 use Rattle.grouping.proofs.Answers.{card-judged, card-language}
@@ -107,13 +109,13 @@ module _ (s : List ℕ) (k values i : ℕ) (was is : List ℕ) (used : ℕ) (x :
     none-stops e h = record { answers = rw (no-guard mostNodes) (sign-misses "->" arrow s i _ x v mostNodes _ _ e h); sized = h .sized }
 
   module _ (e : x .mark .kind ≡ kind "&") (state : List ℕ) (sized : Sized state) where
-    module _ (a : List ℕ) (g : ℕ)
-        (hg : GuardRead (languageOf (values * 2)) s k was is (freeIn (begun state used)) (lateIn (begun state used)) (conjunction (unaryIn (languageOf (values * 2)) mostDepth) (from s (x .next .at) (leftIn (begun state used)))) (after a g)) where
+    module _ (a : List ℕ) (g l : ℕ) (cards-number : (asksBy l ≡ false) × (valuesBy l ≡ values))
+        (hg : GuardRead (languageOf l) s k was is (freeIn (begun state used)) (lateIn (begun state used)) (conjunction (unaryIn (languageOf l) mostDepth) (from s (x .next .at) (leftIn (begun state used)))) (after a g)) where
       -- in a card's language
       read : GuardRead (cards values) s k was is (freeIn (begun state used)) (lateIn (begun state used)) (readGuard values (from s (x .next .at) (leftIn (begun state used)))) (after a g)
       read =
           subst (λ (L : Language). GuardRead L s k was is (freeIn (begun state used)) (lateIn (begun state used)) (conjunction (unaryIn L mostDepth) (from s (x .next .at) (leftIn (begun state used)))) (after a g))
-          (card-language values) hg
+          (card-language l cards-number) hg
 
       as-begun : (f : ℕ → Result (Formula Tested)) → GuardRead (cards values) s k was is (freeIn (begun state used)) (lateIn (begun state used)) (f (leftIn (begun state used))) (after a g)
           → GuardRead (cards values) s k was is used (lateIn state) (f mostNodes) (after a g)

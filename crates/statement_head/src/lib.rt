@@ -6,6 +6,7 @@ use card::refusals::OUT_OF_SHAPE;
 use due_signs::step_arrow;
 use due_signs::step_guard;
 use guard::conjunction;
+use languages::card_language;
 use late::state::FREE;
 use late::state::LEFT;
 use late::state::STATE;
@@ -51,7 +52,7 @@ pub fn guarded(
     }
     state[LEFT] = MOST_NODES;
     state[FREE] = used;
-    let language = values * 2;
+    let language = card_language(values);
     let read = conjunction(card, next.at, nodes, state, MOST_DEPTH, top, language);
     if read == 0 {
         return 0;

@@ -1,6 +1,6 @@
 -- A seat word, the name of the shared number, an exactly-one, or none; each in the language that the number tells (proofs/Answers.antt). Assumes nothing.
 use Rattle.grouping.proofs.Answers.{card-group, question-group, either-test, undeclared, card-nothing, question-one, question-nothing, by-flag, by-values}
-use Rattle.grouping.specs.Language.{valuesBy, asksBy}
+use Rattle.languages.specs.Number.{valuesBy, asksBy}
 use borrow.Author.Tests.{not-true, not-false}
 use denote.Ref.{now}
 use borrow.Author.Needs.{needs}

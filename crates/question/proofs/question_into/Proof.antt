@@ -22,11 +22,8 @@ returns c =
 array-write-state : tie.Need-array-write-state
 array-write-state c = search needs
 
-mul-language : tie.Need-mul-language
-mul-language c = omega (arith, c .before .before .pre .1)
-
-add-language : tie.Need-add-language
-add-language c = omega (arith, c .before .before .pre .1)
+question-language-requires : tie.Need-question-language-requires
+question-language-requires c κs = search needs
 
 expression-requires : tie.Need-expression-requires
 expression-requires c κs = search needs
@@ -48,11 +45,12 @@ returns-2 c =
     let at-search = c .before in
     let at-if2 = at-search .before in
     let at-expression = at-if2 .before in
-    let at-if1 = at-expression .before .before .before in
+    let at-language = at-expression .before .before .before in
+    let at-if1 = at-language .before in
     let entry = at-if1 .before .before in
     rw (c .refused2 .ensures, at-search .search .ensures)
     (formula-stops (now (entry .args .question)) (entry .args .seats) (entry .args .top) (entry .args .values) (now (entry .args .nodes)) (at-expression .expression .last .1 .1 .0) (omega (arith, at-if1 .if1 .left))
-    (after (at-expression .expression .last .1 .1 .1 .0) (at-expression .expression .result)) (at-expression .expression .ensures) (at-if2 .if2 .taken))
+    (after (at-expression .expression .last .1 .1 .1 .0) (at-expression .expression .result)) (at-language .question-language .result) (at-language .question-language .ensures) (at-expression .expression .ensures) (at-if2 .if2 .taken))
 
 step-requires : tie.Need-step-requires
 step-requires c κs = search needs
@@ -73,11 +71,12 @@ returns-3 c =
     let at-step = at-if3 .before .before .before in
     let at-if2 = at-step .before in
     let at-expression = at-if2 .before in
-    let at-if1 = at-expression .before .before .before in
+    let at-language = at-expression .before .before .before in
+    let at-if1 = at-language .before in
     let entry = at-if1 .before .before in
     rw (c .refused3 .ensures, at-search2 .search2 .ensures)
     (unended (now (entry .args .question)) (entry .args .seats) (entry .args .top) (entry .args .values) (now (entry .args .nodes)) (at-expression .expression .last .1 .1 .0) (omega (arith, at-if1 .if1 .left))
-    (after (at-expression .expression .last .1 .1 .1 .0) (at-expression .expression .result)) (at-expression .expression .ensures) (at-if2 .if2 .left) (at-step .step .result) (at-step .step .ensures) (at-if3 .if3 .taken))
+    (after (at-expression .expression .last .1 .1 .1 .0) (at-expression .expression .result)) (at-language .question-language .result) (at-language .question-language .ensures) (at-expression .expression .ensures) (at-if2 .if2 .left) (at-step .step .result) (at-step .step .ensures) (at-if3 .if3 .taken))
 
 array-read-root : tie.Need-array-read-root
 array-read-root c = search needs
@@ -86,21 +85,23 @@ sub-root : tie.Need-sub-root
 sub-root c =
     let at-if2 = c .before .before .before .before in
     let at-expression = at-if2 .before in
-    let at-if1 = at-expression .before .before .before in
+    let at-language = at-expression .before .before .before in
+    let at-if1 = at-language .before in
     let entry = at-if1 .before .before in
     omega (
       arith,
       some-node (now (entry .args .question)) (entry .args .seats) (entry .args .top) (entry .args .values) (now (entry .args .nodes)) (at-expression .expression .last .1 .1 .0) (omega (arith, at-if1 .if1 .left))
-          (after (at-expression .expression .last .1 .1 .1 .0) (at-expression .expression .result)) (at-expression .expression .ensures) (at-if2 .if2 .left),
+          (after (at-expression .expression .last .1 .1 .1 .0) (at-expression .expression .result)) (at-language .question-language .result) (at-language .question-language .ensures) (at-expression .expression .ensures) (at-if2 .if2 .left),
     )
 
 settle-requires : tie.Need-settle-requires
 settle-requires c κs =
     let at-expression = c .before .before .before .before .before .before in
-    let at-if1 = at-expression .before .before .before in
+    let at-language = at-expression .before .before .before in
+    let at-if1 = at-language .before in
     let entry = at-if1 .before .before in
     sized-still (now (entry .args .question)) (entry .args .seats) (entry .args .top) (entry .args .values) (now (entry .args .nodes)) (at-expression .expression .last .1 .1 .0) (omega (arith, at-if1 .if1 .left))
-    (after (at-expression .expression .last .1 .1 .1 .0) (at-expression .expression .result)) (at-expression .expression .ensures)
+    (after (at-expression .expression .last .1 .1 .1 .0) (at-expression .expression .result)) (at-language .question-language .result) (at-language .question-language .ensures) (at-expression .expression .ensures)
 
 array-read-t14 : tie.Need-array-read-t14
 array-read-t14 c = search needs
@@ -119,11 +120,12 @@ returns-4 c =
     let at-step = at-if3 .before .before .before in
     let at-if2 = at-step .before in
     let at-expression = at-if2 .before in
-    let at-if1 = at-expression .before .before .before in
+    let at-language = at-expression .before .before .before in
+    let at-if1 = at-language .before in
     let entry = at-if1 .before .before in
     rw (c .refused4 .ensures)
     (broken (now (entry .args .question)) (entry .args .seats) (entry .args .top) (entry .args .values) (now (entry .args .nodes)) (at-expression .expression .last .1 .1 .0) (omega (arith, at-if1 .if1 .left))
-    (after (at-expression .expression .last .1 .1 .1 .0) (at-expression .expression .result)) (at-expression .expression .ensures) (at-if2 .if2 .left) (at-step .step .result) (at-step .step .ensures) (at-if3 .if3 .left)
+    (after (at-expression .expression .last .1 .1 .1 .0) (at-expression .expression .result)) (at-language .question-language .result) (at-language .question-language .ensures) (at-expression .expression .ensures) (at-if2 .if2 .left) (at-step .step .result) (at-step .step .ensures) (at-if3 .if3 .left)
     (entry .pre .0 .0) (entry .pre .0 .1) (at-settle .settle .last .0) (at-settle .settle .ensures .0) (at-if4 .if4 .taken))
 
 returns-5 : tie.Need-returns-5
@@ -133,10 +135,11 @@ returns-5 c =
     let at-step = at-if3 .before .before .before in
     let at-if2 = at-step .before in
     let at-expression = at-if2 .before in
-    let at-if1 = at-expression .before .before .before in
+    let at-language = at-expression .before .before .before in
+    let at-if1 = at-language .before in
     let entry = at-if1 .before .before in
     understood (now (entry .args .question)) (entry .args .seats) (entry .args .top) (entry .args .values) (now (entry .args .nodes)) (at-expression .expression .last .1 .1 .0) (omega (arith, at-if1 .if1 .left))
-    (after (at-expression .expression .last .1 .1 .1 .0) (at-expression .expression .result)) (at-expression .expression .ensures) (at-if2 .if2 .left) (at-step .step .result) (at-step .step .ensures) (at-if3 .if3 .left)
+    (after (at-expression .expression .last .1 .1 .1 .0) (at-expression .expression .result)) (at-language .question-language .result) (at-language .question-language .ensures) (at-expression .expression .ensures) (at-if2 .if2 .left) (at-step .step .result) (at-step .step .ensures) (at-if3 .if3 .left)
     (entry .pre .0 .0) (entry .pre .0 .1) (at-settle .settle .last .0) (at-settle .settle .ensures .0) (c .if4 .left)
 
 pub question-into-spec : {M : Type 1} → statement M
@@ -147,8 +150,7 @@ question-into-spec =
     refused-requires
     returns
     array-write-state
-    mul-language
-    add-language
+    question-language-requires
     expression-requires
     array-read-search
     array-read-search-2

@@ -45,25 +45,26 @@ element-write-state-2 c = search needs
 element-write-state-3 : tie.Need-element-write-state-3
 element-write-state-3 c = search needs
 
-mul-language : tie.Need-mul-language
-mul-language c = omega (arith, c .before .before .before .before .before .before .pre .1 .1)
+card-language-requires : tie.Need-card-language-requires
+card-language-requires c κs = search needs
 
 conjunction-requires : tie.Need-conjunction-requires
 conjunction-requires c κs =
-    let entry = c .before .before .before .before .before .before .before .before in
+    let entry = c .before .before .before .before .before .before .before .before .before in
     let a = entry .args in
     guard-ready (a .state .now) (entry .pre .0) (a .used) (entry .pre .1 .0)
 
 returns-3 : tie.Need-returns-3
 returns-3 c =
     let at-conjunction = c .before in
-    let at-if1 = at-conjunction .before .before .before in
+    let at-language = at-conjunction .before .before .before in
+    let at-if1 = at-language .before in
     let at-step-guard = at-if1 .before .before .before .before in
     let entry = at-step-guard .before .before in
     let a = entry .args in
     some-stops _ _ _ _ _ _ _ (at-step-guard .step-guard .result)
     (next-at (a .card .now) (a .at) (at-step-guard .step-guard .result) (at-step-guard .step-guard .ensures)) (at-if1 .if1 .left) (a .state .now)
-    (entry .pre .0) _ (at-conjunction .conjunction .result) (at-conjunction .conjunction .ensures) (c .if3 .taken)
+    (entry .pre .0) _ (at-conjunction .conjunction .result) (at-language .card-language .result) (at-language .card-language .ensures) (at-conjunction .conjunction .ensures) (c .if3 .taken)
 
 step-arrow-requires : tie.Need-step-arrow-requires
 step-arrow-requires c κs = search needs
@@ -72,13 +73,14 @@ stop-requires-2 : tie.Need-stop-requires-2
 stop-requires-2 c κs =
     let at-if3 = c .before .before .before .before .before .before in
     let at-conjunction = at-if3 .before in
-    let at-if1 = at-conjunction .before .before .before in
+    let at-language = at-conjunction .before .before .before in
+    let at-if1 = at-language .before in
     let at-step-guard = at-if1 .before .before .before .before in
     let entry = at-step-guard .before .before in
     let a = entry .args in
     left-sized (a .card .now) (a .top) (a .values) (a .at) (a .nodes .now) (at-conjunction .conjunction .last .1 .1 .0) (a .used) (at-step-guard .step-guard .result)
     (next-at (a .card .now) (a .at) (at-step-guard .step-guard .result) (at-step-guard .step-guard .ensures)) (at-if1 .if1 .left) (a .state .now)
-    (entry .pre .0) (at-conjunction .conjunction .last .1 .1 .1 .0) (at-conjunction .conjunction .result) (at-conjunction .conjunction .ensures) (at-if3 .if3 .left)
+    (entry .pre .0) (at-conjunction .conjunction .last .1 .1 .1 .0) (at-conjunction .conjunction .result) (at-language .card-language .result) (at-language .card-language .ensures) (at-conjunction .conjunction .ensures) (at-if3 .if3 .left)
 
 returns-4 : tie.Need-returns-4
 returns-4 c =
@@ -86,13 +88,14 @@ returns-4 c =
     let at-step-arrow = at-if4 .before .before .before .before in
     let at-if3 = at-step-arrow .before in
     let at-conjunction = at-if3 .before in
-    let at-if1 = at-conjunction .before .before .before in
+    let at-language = at-conjunction .before .before .before in
+    let at-if1 = at-language .before in
     let at-step-guard = at-if1 .before .before .before .before in
     let entry = at-step-guard .before .before in
     let a = entry .args in
     arrow-stops _ _ _ _ _ _ _ (at-step-guard .step-guard .result)
     (next-at (a .card .now) (a .at) (at-step-guard .step-guard .result) (at-step-guard .step-guard .ensures)) (at-if1 .if1 .left) (a .state .now)
-    (entry .pre .0) _ (at-conjunction .conjunction .result) (at-conjunction .conjunction .ensures) (at-if3 .if3 .left)
+    (entry .pre .0) _ (at-conjunction .conjunction .result) (at-language .card-language .result) (at-language .card-language .ensures) (at-conjunction .conjunction .ensures) (at-if3 .if3 .left)
     (next-at (a .card .now) (at-conjunction .conjunction .result) (at-step-arrow .step-arrow .result) (at-step-arrow .step-arrow .ensures))
     (at-if4 .if4 .taken) (c .stop2 .ensures .0)
 
@@ -103,13 +106,14 @@ sub-state : tie.Need-sub-state
 sub-state c =
     let at-if3 = c .before .before .before .before .before .before in
     let at-conjunction = at-if3 .before in
-    let at-if1 = at-conjunction .before .before .before in
+    let at-language = at-conjunction .before .before .before in
+    let at-if1 = at-language .before in
     let at-step-guard = at-if1 .before .before .before .before in
     let entry = at-step-guard .before .before in
     let a = entry .args in
     left-few (a .card .now) (a .top) (a .values) (a .at) (a .nodes .now) (at-conjunction .conjunction .last .1 .1 .0) (a .used) (at-step-guard .step-guard .result)
     (next-at (a .card .now) (a .at) (at-step-guard .step-guard .result) (at-step-guard .step-guard .ensures)) (at-if1 .if1 .left) (a .state .now)
-    (entry .pre .0) (at-conjunction .conjunction .last .1 .1 .1 .0) (at-conjunction .conjunction .result) (at-conjunction .conjunction .ensures) (at-if3 .if3 .left)
+    (entry .pre .0) (at-conjunction .conjunction .last .1 .1 .1 .0) (at-conjunction .conjunction .result) (at-language .card-language .result) (at-language .card-language .ensures) (at-conjunction .conjunction .ensures) (at-if3 .if3 .left)
 
 element-write-state-4 : tie.Need-element-write-state-4
 element-write-state-4 c = search needs
@@ -120,13 +124,14 @@ returns-5 c =
     let at-step-arrow = at-if4 .before .before .before .before in
     let at-if3 = at-step-arrow .before in
     let at-conjunction = at-if3 .before in
-    let at-if1 = at-conjunction .before .before .before in
+    let at-language = at-conjunction .before .before .before in
+    let at-if1 = at-language .before in
     let at-step-guard = at-if1 .before .before .before .before in
     let entry = at-step-guard .before .before in
     let a = entry .args in
     some-read _ _ _ _ _ _ _ (at-step-guard .step-guard .result)
     (next-at (a .card .now) (a .at) (at-step-guard .step-guard .result) (at-step-guard .step-guard .ensures)) (at-if1 .if1 .left) (a .state .now)
-    (entry .pre .0) _ (at-conjunction .conjunction .result) (at-conjunction .conjunction .ensures) (at-if3 .if3 .left)
+    (entry .pre .0) _ (at-conjunction .conjunction .result) (at-language .card-language .result) (at-language .card-language .ensures) (at-conjunction .conjunction .ensures) (at-if3 .if3 .left)
     (next-at (a .card .now) (at-conjunction .conjunction .result) (at-step-arrow .step-arrow .result) (at-step-arrow .step-arrow .ensures))
     (at-if4 .if4 .left)
 
@@ -141,7 +146,7 @@ guarded-spec =
     returns-2
     element-write-state-2
     element-write-state-3
-    mul-language
+    card-language-requires
     conjunction-requires
     returns-3
     step-arrow-requires
