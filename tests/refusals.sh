@@ -14,7 +14,7 @@ complain() { echo "$1" && wrong=$((wrong + 1)); }
 # lines_of LOG FILE FACT: the lines of the file at which the fact is refused
 lines_of() {
     awk -v where="/$2:" -v fact=": error: \`$3\`:" '
-        index($0, "was not admitted") { next }
+        index($0, "was not admitted") || index($0, "that can be named from here") { next }
         at = index($0, where) { rest = substr($0, at + length(where)); split(rest, n, ":"); if (index(rest, n[1] ":" n[2] fact) == 1) print n[1] }' "$1"
 }
 
@@ -31,19 +31,31 @@ refused() {
 # of a function without a proof of its own: refused_by_search LOG FUNCTION FACT
 refused_by_search() { grep -q "^fn [a-z_0-9]*::$2: no proof: .* does not close .*\`$3\`" "$1"; }
 
+declare -A named
+# ends: a version is over; it has a fact, and an edit that changes something
+ends() {
+    [ -z "$without" ] || complain "$edit: $without names no fact"
+    [ -z "$name" ] || [ "$changes" -gt 0 ] || complain "$edit: $name changes nothing"
+}
+
+for folder in crates/*/must-fail; do [ -n "$(ls "$folder")" ] || complain "$folder: no edit"; done
 for edit in crates/*/must-fail/*.edit; do
     crate=${edit#crates/}
     crate=${crate%%/*}
     log=target/must-fail/$crate/$(basename "$edit" .edit)/.log
     [ -f "$log" ] || { complain "$edit: it was not tried" && continue; }
-    name='' without='' places=''
-    while IFS= read -r line; do
+    name='' without='' places='' old='' changes=0
+    while IFS= read -r line || [ -n "$line" ]; do
         case $line in
             '# refused at: '*)
                 place=${line#\# refused at: }
                 fact=${place##* }
                 where=${place% *}
-                [[ $places != *"|$place|"* ]] || complain "$edit: two versions are to be refused at $place"
+                [ -n "$name" ] || complain "$edit: a fact before its version"
+                [[ $fact != *requires* && $fact != *-result && $fact != *-result-* ]] || complain "$edit: $place is neither contract nor law nor edge"
+                # a record and a field of it are one place
+                [[ $places != *"|$where ${fact%%.*}|"* && $places != *"|$place|"* ]] && { [ "$fact" != "${fact%%.*}" ] || [[ $places != *"|$where $fact."* ]]; } ||
+                    complain "$edit: two versions are to be refused at $place"
                 places="$places|$place|"
                 without=''
                 case $where in
@@ -51,17 +63,22 @@ for edit in crates/*/must-fail/*.edit; do
                     *) refused "$log" "$where" "$fact" ;;
                 esac || complain "$edit: $name is not refused at $place"
                 ;;
-            '# '[a-z]*': '*)
-                [ -z "$without" ] || complain "$edit: $without names no fact"
-                name=${line#\# }
-                name=${name%%: *}
-                without=$name
+            '#'*)
+                [[ $line =~ ^#\ ([a-z][a-z0-9_]*):\  ]] || { complain "$edit: neither a version nor a fact: $line" && continue; }
+                ends
+                name=${BASH_REMATCH[1]} without=${BASH_REMATCH[1]} changes=0
+                [ -z "${named[$crate/$name]-}" ] || complain "$edit: a second version $name of $crate"
+                named[$crate/$name]=1
                 versions=$((versions + 1))
                 ;;
-            'old: '*) [ -n "$name" ] || complain "$edit: it names no version" ;;
+            'old:'*)
+                [ -n "$name" ] || complain "$edit: it names no version"
+                old=${line#old:}
+                ;;
+            'new:'*) [ "${line#new:}" = "$old" ] || changes=$((changes + 1)) ;;
         esac
     done <"$edit"
-    [ -z "$without" ] || complain "$edit: $without names no fact"
+    ends
 done
 echo "refusals: $versions wrong versions, $wrong not refused where it is said"
-[ "$wrong" -eq 0 ] && [ "$versions" -ge 300 ]
+[ "$wrong" -eq 0 ] && [ "$versions" -ge 345 ]

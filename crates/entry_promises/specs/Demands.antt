@@ -6,14 +6,15 @@ use mathlib.Core.Bool.{true}
 use mathlib.Core.List.{List, [], map}
 use lib.ListN.{length, replicate}
 use Rattle.card.specs.Limits.{cardBytes, unit}
-use Rattle.card.specs.Card.{Branch, Statement, Card}
+use Rattle.card.specs.Card.{Statement, Card}
 use Rattle.card.specs.Valid.{Every, ValidCard}
-use Rattle.meaning.specs.Sums.{sum, upto, those, flat}
-use Rattle.meaning.specs.Position.{Position, setTo}
+use Rattle.meaning.specs.Sums.{sum, flat}
+use Rattle.meaning.specs.Position.{Position}
 use Rattle.meaning.specs.Steps.{Step, Turn}
 use Rattle.meaning.specs.Choices.{choicesOf, stay, stuckChoices}
 use Rattle.meaning.specs.Offers.{OneForOne, Offers}
-use Rattle.meaning.specs.Seats.{Seating, ValidSeating, counts, counted, state, mayTake, turn, choicesFrom, choices, turns, steps, Stuck}
+use Rattle.meaning.specs.Seats.{Seating, ValidSeating, counts, counted, turn, choicesFrom, choices, turns, steps, Stuck}
+use Rattle.meaning.specs.Apart.{SeatStep, takers}
 use Rattle.meaning.specs.Reduced.{reduce, reducedTurnsBy, reducedChoices, reducedTurns, reducedSteps, StuckAt}
 use Rattle.meaning.specs.Demand.{samePosition, Agrees}
 use Rattle.meaning.specs.Panel.{panel}
@@ -85,18 +86,6 @@ pub record Total : Type 0 where
       → Every (λ (t : Turn Seating). sum (λ (s : Step Seating). s .units) t ≡ unit) (turns c x)
   pub counts-weigh : (c : Card) → ValidCard c → (v : Position)
       → Every (λ (t : Turn Position). sum (λ (s : Step Position). s .units) t ≡ unit) (reducedTurns (reduce c) v)
-
--- a branch's step where seat i takes it: the seat's own state is the branch's end, no other seat moves, and the shared number is what the branch makes of it
-pub record SeatStep (x : Seating) (i : ℕ) (b : Branch) (t : Step Seating) : Type 0 where
-  pub weighs : t .units ≡ b .units
-  pub seats : length (t .next .each) ≡ length (x .each)
-  pub own : state (t .next .each) i ≡ b .end
-  pub rest : (j : ℕ) → (j ≡ i → ⊥) → state (t .next .each) j ≡ state (x .each) j
-  pub shared : t .next .shared ≡ setTo (x .shared) (b .sets)
-
--- the seats that may take a statement, each by its place, in order
-abbrev pub takers : Statement → Seating → List ℕ
-takers s x = those (mayTake s x) (upto (length (x .each)) (λ i. i))
 
 -- and what else is known of the two meanings
 pub record Meanings : Type 0 where

@@ -5,6 +5,7 @@ pub mod Counting
 pub mod Table
 pub mod Turns
 pub mod Stuck
+pub mod Apart
 pub mod Total
 pub mod Demand
 pub mod Panel

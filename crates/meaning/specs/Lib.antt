@@ -5,6 +5,7 @@ pub mod Steps
 pub mod Choices
 pub mod Offers
 pub mod Seats
+pub mod Apart
 pub mod Reduced
 pub mod Demand
 pub mod Panel
