@@ -10,7 +10,7 @@ use Rattle.deck.specs.Sound.{Sound}
 use Rattle.deck_entries.proofs.Laws.{row-there}
 use Rattle.room.specs.Room.{clip}
 use Rattle.room.proofs.Laws.{clip-none, clip-append, length-clip}
-use Rattle.shifting.proofs.Clips.{take-before, drop-behind}
+use Rattle.byte_blocks.proofs.Clips.{take-before, drop-behind}
 use Rattle.live_rows.specs.LiveRows.{liveSize}
 use Rattle.live_rows.proofs.Entries.{first-row, live-bodies}
 use Rattle.gathering.specs.LiveText.{bodiesStay}

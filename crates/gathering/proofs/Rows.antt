@@ -15,7 +15,7 @@ use Rattle.deck_text.proofs.Still.{Still, still-all, still-none, still-less}
 use Rattle.deck_written.specs.WriteDeckSaid.{lineFor, linesFor, sizes}
 use Rattle.room.specs.Room.{clip, cap, Put}
 use Rattle.room.proofs.Laws.{put-as, put-none}
-use Rattle.shifting.proofs.Clips.{drop-behind}
+use Rattle.byte_blocks.proofs.Clips.{drop-behind}
 use Rattle.live_rows.specs.LiveRows.{liveRows, liveSize}
 use Rattle.live_rows.proofs.Entries.{first-row, live-sizes}
 use Rattle.gathering.specs.LiveText.{rowStays, rowsIn, rowsStay, Offsets}

@@ -7,7 +7,7 @@ use lib.ListN.{length, take, drop, length-append, length-take}
 use lib.Seq.{take-append-seam, drop-append-seam, drop-append-add, drop-at}
 use Rattle.room.specs.Room.{clip}
 use Rattle.room.proofs.Laws.{clip-fits, length-clip}
-use Rattle.shifting.proofs.Clips.{take-before}
+use Rattle.byte_blocks.proofs.Clips.{take-before}
 
 module _ (x y z s : List ℕ) (fits : length s ≤ length z) where
   abbrev whole : List ℕ

@@ -9,7 +9,9 @@ use Rattle.room.specs.Room.{clip}
 use Rattle.room.proofs.Laws.{clip-none, clip-fits}
 use Rattle.room.proofs.Stores.{clip-more}
 use Rattle.tidying.specs.Tidied.{zeroed}
-use Rattle.shifting.proofs.Clips.{getD-before, getD-behind, set-clip}
+use Rattle.byte_blocks.specs.Blocks.{BlocksDown, BlocksUp}
+use Rattle.byte_blocks.proofs.Clips.{getD-before, getD-behind, set-clip}
+use Rattle.byte_blocks.proofs.Blocks.{down-join, up-join}
 
 -- what stays is as if it had been moved
 pub down-none : (was : List ℕ) (from to size : ℕ) → from ≡ to → from + size ≤ length was → was ≡ clip was to (take size (drop from was))
@@ -44,8 +46,24 @@ module _ (was : List ℕ) (from to size : ℕ) where
   pub down-end : {is : List ℕ} (i : ℕ) → i ≤ size → size ≤ i → is ≡ clip was to (take i (drop from was)) → is ≡ clip was to (take size (drop from was))
   down-end i h k e = let n : i ≡ size = omega arith in e ∙ ap (λ (m : ℕ). clip was to (take m (drop from was))) n
 
+  -- blocks are moved, and then the rest
+  pub down-rest : {is now : List ℕ} {done : ℕ} → to ≤ from → from + size ≤ length was → BlocksDown was is from to size done
+      → now ≡ clip is (to + done) (take (size - done) (drop (from + done) is)) → now ≡ clip was to (take size (drop from was))
+  down-rest {done = done} t l b e =
+      let n : done + (size - done) ≡ size = omega (arith, b .most) in
+      down-join was from to done (size - done) t (omega (arith, b .most)) (b .moved) e ∙ ap (λ (k : ℕ). clip was to (take k (drop from was))) n
+
   abbrev moved : List ℕ
   moved = take size (drop from was)
+
+  pub up-rest : {is now : List ℕ} {left : ℕ} → from ≤ to → to + size ≤ length was → BlocksUp was is from to size left
+      → now ≡ clip is to (take left (drop from is)) → now ≡ clip was to moved
+  up-rest {is} {left = left} t l b e =
+      let f : from + 0 ≡ from = omega arith in
+      let n : to + 0 ≡ to = omega arith in
+      up-join was from to size 0 left t l (b .most) (omega arith) (b .moved)
+      (e ∙ ap (λ (k : ℕ). clip is k (take left (drop from is))) (sym n) ∙ ap (λ (k : ℕ). clip is (to + 0) (take left (drop k is))) (sym f))
+      ∙ ap (λ (k : ℕ). clip was k moved) n
 
   -- upwards, so many are left
   pub up-start : from + size ≤ length was → was ≡ clip was (to + size) (drop size moved)

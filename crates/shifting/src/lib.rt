@@ -1,19 +1,18 @@
 // Bytes moved within one lent room, lower or higher, and the end of a room cleared (document 02, 2026-12).
+use byte_blocks::blocks_down;
+use byte_blocks::blocks_up;
 ghost use mathlib.Core.Path.{_≡_};
 ghost use Prim.Native.Nat.{_+_, _≤_};
 ghost use lib.ListN.{length, take, drop};
 ghost use Rattle.room.specs.Room.{clip};
 ghost use Rattle.tidying.specs.Tidied.{zeroed};
 
-// From the first byte on: none is overwritten before it has been moved. What stays is not touched.
-pub fn move_down(room: &mut [u8], from: usize, to: usize, size: usize)
+// Byte by byte, from the first on: none is overwritten before it has been moved.
+fn bytes_down(room: &mut [u8], from: usize, to: usize, size: usize)
     requires { ⌜ to ≤ from ⌝ }
     requires { ⌜ from + size ≤ length (now room) ⌝ }
     ensures { λ r. ⌜ now (room .exit) ≡ clip (now (room .entry)) to (take size (drop from (now (room .entry)))) ⌝ }
 {
-    if from == to {
-        return;
-    }
     let mut i: usize = 0;
     while i < size {
         room[to + i] = room[from + i];
@@ -21,8 +20,8 @@ pub fn move_down(room: &mut [u8], from: usize, to: usize, size: usize)
     }
 }
 
-// From the last byte on.
-pub fn move_up(room: &mut [u8], from: usize, to: usize, size: usize)
+// From the last on.
+fn bytes_up(room: &mut [u8], from: usize, to: usize, size: usize)
     requires { ⌜ from ≤ to ⌝ }
     requires { ⌜ to + size ≤ length (now room) ⌝ }
     ensures { λ r. ⌜ now (room .exit) ≡ clip (now (room .entry)) to (take size (drop from (now (room .entry)))) ⌝ }
@@ -32,6 +31,29 @@ pub fn move_up(room: &mut [u8], from: usize, to: usize, size: usize)
         left = left - 1;
         room[to + left] = room[from + left];
     }
+}
+
+// Blocks first, then the few bytes behind them. What stays is not touched.
+pub fn move_down(room: &mut [u8], from: usize, to: usize, size: usize)
+    requires { ⌜ to ≤ from ⌝ }
+    requires { ⌜ from + size ≤ length (now room) ⌝ }
+    ensures { λ r. ⌜ now (room .exit) ≡ clip (now (room .entry)) to (take size (drop from (now (room .entry)))) ⌝ }
+{
+    if from == to {
+        return;
+    }
+    let done = blocks_down(room, from, to, size);
+    bytes_down(room, from + done, to + done, size - done);
+}
+
+// Blocks first, then the few bytes before them.
+pub fn move_up(room: &mut [u8], from: usize, to: usize, size: usize)
+    requires { ⌜ from ≤ to ⌝ }
+    requires { ⌜ to + size ≤ length (now room) ⌝ }
+    ensures { λ r. ⌜ now (room .exit) ≡ clip (now (room .entry)) to (take size (drop from (now (room .entry)))) ⌝ }
+{
+    let left = blocks_up(room, from, to, size);
+    bytes_up(room, from, to, left);
 }
 
 // Every byte from a place on becomes zero.

@@ -10,7 +10,7 @@ use Rattle.deck.specs.Contents.{Row, rowsOf, countOf, entriesFrom, behind, cont
 use Rattle.deck_written.specs.WriteDeckSaid.{sizes}
 use Rattle.room.specs.Room.{clip}
 use Rattle.room.proofs.Laws.{clip-one, clip-append, clip-fits, clip-start, length-clip}
-use Rattle.shifting.proofs.Clips.{take-before, drop-behind, stands}
+use Rattle.byte_blocks.proofs.Clips.{take-before, drop-behind, stands}
 use Rattle.tidying.specs.Tidied.{tidyText, zeroed, lentAfter}
 use Rattle.live_rows.specs.LiveRows.{liveRows}
 use Rattle.gathering.specs.LiveText.{rowsIn, rowsStay, bodiesStay, Offsets}

@@ -1,78 +1,59 @@
--- `shifting::move_down` meets its contract: one byte more after each turn, read where nothing has been stored yet. Assumes nothing.
-use Rattle.shifting.proofs.Moves.{down-none, down-more, down-end}
-use Rattle.room.proofs.Laws.{clip-none}
-use Rattle.room.specs.Room.{clip}
-use lib.ListN.{length, take, drop}
+-- `shifting::move_down` meets its contract: the rest behind the blocks is read where nothing has been stored yet. Assumes nothing.
+use Rattle.shifting.proofs.Moves.{down-none, down-rest}
+use Rattle.room.proofs.Laws.{length-clip}
+use lib.ListN.{length}
+use native.Mathlib.Omega.{arith}
 use borrow.Author.Needs.{needs}
-use mathlib.Core.Path.{_≡_, refl, sym}
-use Prim.Native.Nat.{_≤_, _-_}
+use mathlib.Core.Path.{ap, _∙_}
 use Rattle.shifting.proofs.move_down.Statement.{statement}
 use Rattle.shifting.proofs.move_down.Tie as tie
 
-abbrev Inv-loop : tie.InvT-loop
-Inv-loop room₀ from to size i₀ room i = (i ≤ size) × (length room ≡ length room₀) × (room ≡ clip room₀ to (take i (drop from room₀)))
-
-abbrev μ-loop : tie.MeasureT-loop
-μ-loop room₀ from to size i₀ room i = size - i
-
-returns : tie.Need-returns Inv-loop μ-loop
+returns : tie.Need-returns
 returns c =
-    let start = c .before in
+    let start = c .before .before in
     down-none (start .args .room .now) (start .args .from) (start .args .to) (start .args .size) (c .if1 .taken) (start .pre .1)
 
-loop-holds : tie.Need-loop-holds Inv-loop μ-loop
-loop-holds c = (search needs, refl, sym (clip-none _ _))
+blocks-down-requires : tie.Need-blocks-down-requires
+blocks-down-requires c κs = search needs
 
-add-room : tie.Need-add-room Inv-loop μ-loop
-add-room c = search needs
+add-bytes-down : tie.Need-add-bytes-down
+add-bytes-down c = search needs
 
-slice-read-room : tie.Need-slice-read-room Inv-loop μ-loop
-slice-read-room c = search needs
+add-bytes-down-2 : tie.Need-add-bytes-down-2
+add-bytes-down-2 c = search needs
 
-add-room-2 : tie.Need-add-room-2 Inv-loop μ-loop
-add-room-2 c = search needs
+sub-bytes-down : tie.Need-sub-bytes-down
+sub-bytes-down c = c .before .before .before .blocks-down .ensures .most
 
-slice-write-room : tie.Need-slice-write-room Inv-loop μ-loop
-slice-write-room c = search needs
+bytes-down-requires : tie.Need-bytes-down-requires
+bytes-down-requires c κs =
+    let blocks = c .before .before .before .blocks-down .ensures in
+    let start = c .before .before .before .before .before .before .before in
+    (omega (arith, start .pre .0), omega (arith, start .pre .1, blocks .most, ap length (blocks .moved) ∙ length-clip (start .args .room .now) _ _))
 
-add-i : tie.Need-add-i Inv-loop μ-loop
-add-i c = search needs
+same-length : tie.Need-same-length
+same-length c =
+    let at-bytes-down = c .before .before in
+    let blocks = at-bytes-down .before .before .before .before .blocks-down .ensures in
+    ap length (at-bytes-down .bytes-down .ensures) ∙ length-clip _ _ _ ∙ ap length (blocks .moved) ∙ length-clip _ _ _
 
-loop-less : tie.Need-loop-less Inv-loop μ-loop
-loop-less c = search needs
-
-loop-again : tie.Need-loop-again Inv-loop μ-loop
-loop-again c =
-    let at-loop-test = c .before in
-    let at-loop = at-loop-test .before in
-    let start = at-loop .before .before in
-    let given = start .args in
-    let turn = at-loop .loop in
-    (search needs, search needs, down-more (given .room .now) (given .from) (given .to) (given .size) (turn .i) (start .pre .0) (start .pre .1) (at-loop-test .loop-test .taken) (turn .inv .2))
-
-same-length : tie.Need-same-length Inv-loop μ-loop
-same-length c = c .before .loop .inv .1
-
-returns-2 : tie.Need-returns-2 Inv-loop μ-loop
+returns-2 : tie.Need-returns-2
 returns-2 c =
-    let start = c .before .before .before .args in
-    let turn = c .before .loop in
-    down-end (start .room .now) (start .from) (start .to) (start .size) (turn .i) (turn .inv .0) (c .loop-test .left) (turn .inv .2)
+    let at-bytes-down = c .before .before in
+    let at-blocks-down = at-bytes-down .before .before .before .before in
+    let start = at-blocks-down .before .before .before .before in
+    let given = start .args in
+    down-rest (given .room .now) (given .from) (given .to) (given .size) (start .pre .0) (start .pre .1) (at-blocks-down .blocks-down .ensures) (at-bytes-down .bytes-down .ensures)
 
 pub move-down-spec : {M : Type 1} → statement M
 move-down-spec =
     tie.close
     (tie.spec
-    Inv-loop
-    μ-loop
     returns
-    loop-holds
-    add-room
-    slice-read-room
-    add-room-2
-    slice-write-room
-    add-i
-    loop-less
-    loop-again
+    blocks-down-requires
+    add-bytes-down
+    add-bytes-down-2
+    sub-bytes-down
+    bytes-down-requires
     same-length
     returns-2)

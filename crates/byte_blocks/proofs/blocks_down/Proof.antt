@@ -1,0 +1,72 @@
+-- `byte_blocks::blocks_down` meets its contract: one block more after each turn, read behind what has been stored. Assumes nothing.
+use Rattle.byte_blocks.specs.Blocks.{blockBytes}
+use Rattle.byte_blocks.proofs.Blocks.{down-none, down-join}
+use Rattle.room.specs.Room.{clip}
+use Rattle.room.proofs.Laws.{length-clip}
+use lib.ListN.{length, take, drop}
+use borrow.Author.Needs.{needs}
+use mathlib.Core.Path.{_≡_, refl, ap, _∙_}
+use Prim.Native.Nat.{_≤_, _-_}
+use Rattle.byte_blocks.proofs.blocks_down.Statement.{statement}
+use Rattle.byte_blocks.proofs.blocks_down.Tie as tie
+
+abbrev Inv-loop : tie.InvT-loop
+Inv-loop room₀ from to size done₀ room done = (done ≤ size) × (length room ≡ length room₀) × (room ≡ clip room₀ to (take done (drop from room₀)))
+
+abbrev μ-loop : tie.MeasureT-loop
+μ-loop room₀ from to size done₀ room done = size - done
+
+loop-holds : tie.Need-loop-holds Inv-loop μ-loop
+loop-holds c =
+    let given = c .before .args in
+    (search needs, refl, down-none (given .room .now) (given .from) (given .to))
+
+sub-loop : tie.Need-sub-loop Inv-loop μ-loop
+sub-loop c = search needs
+
+add-move-block : tie.Need-add-move-block Inv-loop μ-loop
+add-move-block c = search needs
+
+add-move-block-2 : tie.Need-add-move-block-2 Inv-loop μ-loop
+add-move-block-2 c = search needs
+
+move-block-requires : tie.Need-move-block-requires Inv-loop μ-loop
+move-block-requires c κs = search needs
+
+add-done : tie.Need-add-done Inv-loop μ-loop
+add-done c = search needs
+
+loop-less : tie.Need-loop-less Inv-loop μ-loop
+loop-less c = search needs
+
+loop-again : tie.Need-loop-again Inv-loop μ-loop
+loop-again c =
+    let moved = c .before .before .move-block .ensures in
+    let at-loop = c .before .before .before .before .before in
+    let start = at-loop .before .before in
+    let given = start .args in
+    let turn = at-loop .loop in
+    (search needs, ap length moved ∙ length-clip _ _ _ ∙ turn .inv .1, down-join (given .room .now) (given .from) (given .to) (turn .done) blockBytes (start .pre .0) (search needs) (turn .inv .2) moved)
+
+same-length : tie.Need-same-length Inv-loop μ-loop
+same-length c = c .before .loop .inv .1
+
+returns : tie.Need-returns Inv-loop μ-loop
+returns c = record { most = c .before .loop .inv .0; rest = search needs; moved = c .before .loop .inv .2 }
+
+pub blocks-down-spec : {M : Type 1} → statement M
+blocks-down-spec =
+    tie.close
+    (tie.spec
+    Inv-loop
+    μ-loop
+    loop-holds
+    sub-loop
+    add-move-block
+    add-move-block-2
+    move-block-requires
+    add-done
+    loop-less
+    loop-again
+    same-length
+    returns)
