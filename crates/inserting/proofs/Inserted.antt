@@ -1,11 +1,11 @@
--- The steps of putting a card in: its body between the lower and the higher bodies, its entry between the lower and the higher entries, the count, and all offsets anew. Assumes nothing.
+-- The steps of putting a card in: room behind the lower bodies, room behind the lower entries, its body and its entry there, the count, and all offsets anew. Assumes nothing.
 use Prim.Native.Nat.{ℕ, suc, _+_, _-_, _*_, _≤_}
 use mathlib.Core.Path.{_≡_, refl, sym, ap, _∙_, subst}
 use mathlib.Core.Bool.{true}
 use mathlib.Core.List.{List, [], _∷_, _++_, append-assoc}
 use native.Mathlib.Omega.{arith}
 use lib.ListN.{length, take, drop, set, length-append, length-drop, length-set}
-use lib.Seq.{drop-drop}
+use lib.Seq.{drop-drop, drop-append-le}
 use Rattle.card.specs.Valid.{Every}
 use Rattle.deck.specs.Contents.{Row, rowsOf, behind}
 use Rattle.deck.specs.Deck.{Entry, heldBy, rowFor, rowsFor, rowText, rowsText, bodies, deckText}
@@ -22,7 +22,7 @@ use Rattle.gathering.specs.LiveText.{rowsIn, rowsStay, Offsets}
 use Rattle.inserting.specs.Lower.{lowerRows, Spots}
 use Rattle.inserting.specs.Inserts.{Insertable}
 use Rattle.inserting.specs.declared.Spot.{Spot}
-use Rattle.inserting.proofs.Parts.{put-between}
+use Rattle.inserting.proofs.Parts.{between, between-long, moved-up, replaced}
 use Rattle.inserting.proofs.Rows.{FitTo, fit-for, fit-append, fit-count, fit-sizes, fit-lines, fit-live, text-append, rows-append, bodies-append, lower, higher, split, with-split, lower-rows}
 
 module _ (was : List ℕ) {cards bytes number : ℕ} {card : List ℕ} (i : Insertable was cards bytes number card) where
@@ -80,7 +80,10 @@ module _ (was : List ℕ) {cards bytes number : ℕ} {card : List ℕ} (i : Inse
     pub row-inside : spot .row ≤ behind cards
     row-inside = omega (arith, row-at, counts, i .count)
 
-    -- ---- the body
+    pub row-before : spot .row ≤ spot .body
+    row-before = omega (arith, row-inside, body-at)
+
+    -- ---- room behind the lower bodies
 
     abbrev front : List ℕ
     front = length es ∷ rowsText (rowsFor first es) (bodies lows)
@@ -96,76 +99,108 @@ module _ (was : List ℕ) {cards bytes number : ℕ} {card : List ℕ} (i : Inse
         ∙ ap (λ (t : List ℕ). length es ∷ rowsText (rowsFor first es) t) (append-assoc (bodies lows) (bodies highs) gap)
         ∙ ap (λ (t : List ℕ). length es ∷ t) (sym (rows-then (rowsFor first es) (bodies lows) (bodies highs ++ gap)))
 
-    abbrev newBodies : List ℕ
-    newBodies = bodies lows ++ (card ++ bodies highs)
+    abbrev lowRows : List Row
+    lowRows = rowsFor first lows
 
-    abbrev gap1 : List ℕ
-    gap1 = drop (length card) gap
+    abbrev highRows : List Row
+    highRows = rowsFor (first + length (bodies lows)) highs
 
-    module _ {d1 d2 : List ℕ} (e1 : d1 ≡ clip was (spot .body + length card) (take (behind cards + bytes - spot .body) (drop (spot .body) was))) (e2 : d2 ≡ clip d1 (spot .body) card) where
-      body-in : d2 ≡ front ++ (card ++ (bodies highs ++ gap1))
-      body-in =
-          put-between front (bodies highs) gap card (omega (arith, long, i .room)) (spot .body) (spot .body + length card) (behind cards + bytes - spot .body) (body-at ∙ sym front-long) (omega (arith, body-at, front-long)) (omega (arith, body-at, totals))
-          (e1 ∙ ap (λ (t : List ℕ). clip t (spot .body + length card) (take (behind cards + bytes - spot .body) (drop (spot .body) t))) parted) e2
+    abbrev start : List ℕ
+    start = length es ∷ rowsText lowRows []
 
-      -- ---- the entry
+    abbrev middle : List ℕ
+    middle = rowsText highRows (bodies lows)
 
-      abbrev lowRows : List Row
-      lowRows = rowsFor first lows
+    start-long : length start ≡ behind (length lows)
+    start-long = omega (arith, length-rows lowRows [], length-for first lows)
 
-      abbrev highRows : List Row
-      highRows = rowsFor (first + length (bodies lows)) highs
+    middle-long : length middle ≡ 8 * length highs + length (bodies lows)
+    middle-long = omega (arith, length-rows highRows (bodies lows), length-for (first + length (bodies lows)) highs)
 
-      abbrev start : List ℕ
-      start = length es ∷ rowsText lowRows []
+    front-parted : front ≡ start ++ middle
+    front-parted =
+        ap (λ (t : List ℕ). length es ∷ t)
+        (ap (λ (l : List Entry). rowsText (rowsFor first l) (bodies lows)) (split new es)
+        ∙ ap (λ (rs : List Row). rowsText rs (bodies lows)) (rows-append first lows highs)
+        ∙ text-append lowRows highRows (bodies lows)
+        ∙ rows-before lowRows middle)
 
-      abbrev later : List ℕ
-      later = rowsText highRows newBodies
+    abbrev both : ℕ
+    both = length card + 8
 
-      start-long : length start ≡ behind (length lows)
-      start-long = omega (arith, length-rows lowRows [], length-for first lows)
+    both-fit : both ≤ length gap
+    both-fit = omega (arith, long, i .room)
 
-      later-long : length later ≡ 8 * length highs + (bytes + length card)
-      later-long =
-          omega (arith, length-rows highRows newBodies, length-for (first + length (bodies lows)) highs, length-append (bodies lows) (card ++ bodies highs), length-append card (bodies highs), totals)
+    abbrev hole : List ℕ
+    hole = between front (bodies highs) gap both both-fit
 
-      rows-parted : rowsText (rowsFor first es) newBodies ≡ rowsText lowRows [] ++ later
-      rows-parted =
-          ap (λ (l : List Entry). rowsText (rowsFor first l) newBodies) (split new es)
-          ∙ ap (λ (rs : List Row). rowsText rs newBodies) (rows-append first lows highs)
-          ∙ text-append lowRows highRows newBodies
-          ∙ rows-before lowRows later
+    hole-long : length hole ≡ both
+    hole-long = between-long front (bodies highs) gap both both-fit
 
-      parted-again : d2 ≡ start ++ (later ++ gap1)
-      parted-again =
-          body-in
-          ∙ ap (λ (t : List ℕ). length es ∷ t) (rows-then (rowsFor first es) (bodies lows) (card ++ (bodies highs ++ gap1)))
-          ∙ ap (λ (t : List ℕ). length es ∷ rowsText (rowsFor first es) (bodies lows ++ t)) (sym (append-assoc card (bodies highs) gap1))
-          ∙ ap (λ (t : List ℕ). length es ∷ rowsText (rowsFor first es) t) (sym (append-assoc (bodies lows) (card ++ bodies highs) gap1))
-          ∙ ap (λ (t : List ℕ). length es ∷ t) (sym (rows-then (rowsFor first es) newBodies gap1))
-          ∙ ap (λ (t : List ℕ). length es ∷ t ++ gap1) rows-parted
-          ∙ ap (λ (t : List ℕ). length es ∷ t) (append-assoc (rowsText lowRows []) later gap1)
+    abbrev gap2 : List ℕ
+    gap2 = drop both gap
 
-      pub long2 : length d2 ≡ length was
-      long2 = ap length e2 ∙ length-clip d1 (spot .body) card ∙ ap length e1 ∙ length-clip was _ _
+    abbrev behindCard : List ℕ
+    behindCard = bodies highs ++ gap2
+
+    module _ {d1 : List ℕ} (e1 : d1 ≡ clip was (spot .body + length card + 8) (take (behind cards + bytes - spot .body) (drop (spot .body) was))) where
+      room-for-body : d1 ≡ start ++ (middle ++ (hole ++ behindCard))
+      room-for-body =
+          moved-up front (bodies highs) gap both both-fit (spot .body) (spot .body + length card + 8) (behind cards + bytes - spot .body) (body-at ∙ sym front-long) (omega (arith, body-at, front-long)) (omega (arith, body-at, totals))
+          (e1 ∙ ap (λ (t : List ℕ). clip t (spot .body + length card + 8) (take (behind cards + bytes - spot .body) (drop (spot .body) t))) parted)
+          ∙ ap (λ (t : List ℕ). t ++ (hole ++ behindCard)) front-parted
+          ∙ append-assoc start middle (hole ++ behindCard)
+
+      pub long1 : length d1 ≡ length was
+      long1 = ap length e1 ∙ length-clip was _ _
+
+      -- ---- room behind the lower entries
+
+      entry-fits : 8 ≤ length (hole ++ behindCard)
+      entry-fits = omega (arith, length-append hole behindCard, hole-long)
+
+      abbrev entryHole : List ℕ
+      entryHole = between start middle (hole ++ behindCard) 8 entry-fits
+
+      entryHole-long : length entryHole ≡ 8
+      entryHole-long = between-long start middle (hole ++ behindCard) 8 entry-fits
 
       abbrev newRow : Row
       newRow = rowFor 0 new
 
-      abbrev gap2 : List ℕ
-      gap2 = drop 8 gap1
+      abbrev newBodies : List ℕ
+      newBodies = bodies lows ++ (card ++ bodies highs)
 
-      module _ {d3 d4 : List ℕ} (e3 : d3 ≡ clip d2 (spot .row + 8) (take (behind cards + bytes + length card - spot .row) (drop (spot .row) d2)))
+      module _ {d2 d3 d4 : List ℕ} (e2 : d2 ≡ clip d1 (spot .row + 8) (take (spot .body - spot .row) (drop (spot .row) d1))) (e3 : d3 ≡ clip d2 (spot .body + 8) card)
           (e4 : d4 ≡ clip d3 (spot .row) (rowText newRow [])) where
-        row-in : d4 ≡ start ++ (rowText newRow [] ++ (later ++ gap2))
+        room-for-both : d2 ≡ (start ++ (entryHole ++ middle)) ++ (drop 8 hole ++ behindCard)
+        room-for-both =
+            moved-up start middle (hole ++ behindCard) 8 entry-fits (spot .row) (spot .row + 8) (spot .body - spot .row) (row-at ∙ sym start-long) (omega (arith, row-at, start-long))
+            (omega (arith, row-at, body-at, middle-long, counts, i .count))
+            (e2 ∙ ap (λ (t : List ℕ). clip t (spot .row + 8) (take (spot .body - spot .row) (drop (spot .row) t))) room-for-body)
+            ∙ ap (λ (t : List ℕ). start ++ (entryHole ++ (middle ++ t))) (drop-append-le 8 hole behindCard (omega (arith, hole-long)))
+            ∙ ap (λ (t : List ℕ). start ++ t) (sym (append-assoc entryHole middle (drop 8 hole ++ behindCard)))
+            ∙ sym (append-assoc start (entryHole ++ middle) (drop 8 hole ++ behindCard))
+
+        -- ---- the body and the entry
+
+        before-card : spot .body + 8 ≡ length (start ++ (entryHole ++ middle))
+        before-card = omega (arith, body-at, length-append start (entryHole ++ middle), length-append entryHole middle, entryHole-long, start-long, middle-long, counts, i .count)
+
+        body-in : d3 ≡ start ++ (entryHole ++ (middle ++ (card ++ behindCard)))
+        body-in =
+            replaced (start ++ (entryHole ++ middle)) (drop 8 hole) behindCard card (spot .body + 8) before-card (omega (arith, length-drop 8 hole, hole-long))
+            (e3 ∙ ap (λ (t : List ℕ). clip t (spot .body + 8) card) room-for-both)
+            ∙ append-assoc start (entryHole ++ middle) (card ++ behindCard)
+            ∙ ap (λ (t : List ℕ). start ++ t) (append-assoc entryHole middle (card ++ behindCard))
+
+        row-in : d4 ≡ start ++ (rowText newRow [] ++ (middle ++ (card ++ behindCard)))
         row-in =
-            put-between start later gap1 (rowText newRow []) (omega (arith, long, i .room, length-drop (length card) gap)) (spot .row) (spot .row + 8)
-            (behind cards + bytes + length card - spot .row) (row-at ∙ sym start-long) (omega (arith, row-at, start-long))
-            (omega (arith, row-at, later-long, counts, i .count))
-            (e3 ∙ ap (λ (t : List ℕ). clip t (spot .row + 8) (take (behind cards + bytes + length card - spot .row) (drop (spot .row) t))) parted-again) e4
+            replaced start entryHole (middle ++ (card ++ behindCard)) (rowText newRow []) (spot .row) (row-at ∙ sym start-long) (omega (arith, entryHole-long))
+            (e4 ∙ ap (λ (t : List ℕ). clip t (spot .row) (rowText newRow [])) body-in)
 
         pub long4 : length d4 ≡ length was
-        long4 = ap length e4 ∙ length-clip d3 (spot .row) (rowText newRow []) ∙ ap length e3 ∙ length-clip d2 _ _ ∙ long2
+        long4 = ap length e4 ∙ length-clip d3 _ _ ∙ ap length e3 ∙ length-clip d2 _ _ ∙ ap length e2 ∙ length-clip d1 _ _ ∙ long1
 
         abbrev rows : List Row
         rows = lowRows ++ newRow ∷ highRows
@@ -190,12 +225,16 @@ module _ (was : List ℕ) {cards bytes number : ℕ} {card : List ℕ} (i : Inse
         abbrev rest : List ℕ
         rest = newBodies ++ gap2
 
+        bodies-joined : bodies lows ++ (card ++ behindCard) ≡ rest
+        bodies-joined = ap (λ (t : List ℕ). bodies lows ++ t) (sym (append-assoc card (bodies highs) gap2)) ∙ sym (append-assoc (bodies lows) (card ++ bodies highs) gap2)
+
         laid : d4 ≡ length es ∷ rowsText rows rest
         laid =
             row-in
             ∙ ap (λ (t : List ℕ). length es ∷ t)
-            (sym (rows-before lowRows (rowText newRow (later ++ gap2)))
-            ∙ ap (λ (t : List ℕ). rowsText lowRows (rowText newRow t)) (rows-then highRows newBodies gap2)
+            (sym (rows-before lowRows (rowText newRow (middle ++ (card ++ behindCard))))
+            ∙ ap (λ (t : List ℕ). rowsText lowRows (rowText newRow t)) (rows-then highRows (bodies lows) (card ++ behindCard))
+            ∙ ap (λ (t : List ℕ). rowsText lowRows (rowText newRow (rowsText highRows t))) bodies-joined
             ∙ sym (text-append lowRows (newRow ∷ highRows) rest))
 
         module _ {n : ℕ} (en : n ≡ suc cards) where
@@ -240,8 +279,7 @@ module _ (was : List ℕ) {cards bytes number : ℕ} {card : List ℕ} (i : Inse
               = omega (arith, length-text (withCard new es), with-count new es, with-bodies new es, i .count, i .total) in
               let deck-long : length (deckText es) + (length card + 8) ≡ length (addedText number card es) = omega (arith, text-long, length-text es, i .count, i .total) in
               let gap-is : gap2 ≡ drop (length (addedText number card es)) was
-              = drop-drop 8 (length card) gap
-              ∙ drop-drop (length card + 8) (length (deckText es)) was
+              = drop-drop (length card + 8) (length (deckText es)) was
               ∙ ap (λ (m : ℕ). drop m was) deck-long in
               e6
               ∙ ap (clip (set d4 0 n) 1) (stay (behind n))

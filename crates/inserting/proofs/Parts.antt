@@ -1,51 +1,55 @@
--- A text put between two others: the second moves up by its length, and the bytes behind lose as many. Assumes nothing.
+-- Room made between two texts: the second moves up, and the bytes behind lose as many; what is left between is then replaced. Assumes nothing.
 use Prim.Native.Nat.{ℕ, _+_, _≤_}
-use mathlib.Core.Path.{_≡_, ap, _∙_}
+use mathlib.Core.Path.{_≡_, sym, ap, _∙_}
 use mathlib.Core.List.{List, _++_, append-assoc}
 use native.Mathlib.Omega.{arith}
 use lib.ListN.{length, take, drop, length-append, length-take}
-use lib.Seq.{take-append-seam, drop-append-seam, drop-append-add, drop-at}
+use lib.Seq.{take-append-seam, take-append-add, drop-append-seam, drop-append-add}
 use Rattle.room.specs.Room.{clip}
-use Rattle.room.proofs.Laws.{clip-fits, length-clip}
-use Rattle.byte_blocks.proofs.Clips.{take-before}
+use Rattle.room.proofs.Laws.{clip-fits}
 
-module _ (x y z s : List ℕ) (fits : length s ≤ length z) where
+module _ (x y z : List ℕ) (n : ℕ) (fits : n ≤ length z) where
   abbrev whole : List ℕ
   whole = x ++ (y ++ z)
 
-  long : length whole ≡ length x + (length y + length z)
-  long = omega (arith, length-append x (y ++ z), length-append y z)
+  -- what is left between
+  abbrev pub between : List ℕ
+  between = take n (y ++ z)
+
+  pub between-long : length between ≡ n
+  between-long = omega (arith, length-take n (y ++ z), length-append y z, fits)
 
   second : take (length y) (drop (length x) whole) ≡ y
   second = ap (take (length y)) (drop-append-seam x (y ++ z)) ∙ take-append-seam y z
 
-  abbrev moved : List ℕ
-  moved = clip whole (length x + length s) y
-
-  behind-it : drop (length x + length s) moved ≡ y ++ drop (length s) z
+  behind-it : drop (length x + n + length y) whole ≡ drop n z
   behind-it =
-      let front = take (length x + length s) whole in
-      let front-long : length front ≡ length x + length s = omega (arith, length-take (length x + length s) whole, long) in
-      let e : length x + length s + length y ≡ length x + (length y + length s) = omega arith in
-      ap (drop (length x + length s)) (clip-fits whole (length x + length s) y (omega (arith, long)) ∙ append-assoc front y (drop (length x + length s + length y) whole))
-      ∙ drop-at front (y ++ drop (length x + length s + length y) whole) (length x + length s) front-long
-      ∙ ap (λ (n : ℕ). y ++ drop n whole) e
-      ∙ ap (λ (t : List ℕ). y ++ t) (drop-append-add x (y ++ z) (length y + length s) ∙ drop-append-add y z (length s))
+      let e : length x + n + length y ≡ length x + (length y + n) = omega arith in
+      ap (λ (k : ℕ). drop k whole) e ∙ drop-append-add x (y ++ z) (length y + n) ∙ drop-append-add y z n
 
-  pub put-between : (at to size : ℕ) {d1 d2 : List ℕ} → at ≡ length x → to ≡ length x + length s → size ≡ length y
-      → d1 ≡ clip whole to (take size (drop at whole)) → d2 ≡ clip d1 at s → d2 ≡ x ++ (s ++ (y ++ drop (length s) z))
-  put-between at to size {d1} {d2} ea et es e1 e2 =
-      let first : d1 ≡ moved
-      = e1
-      ∙ ap (λ (n : ℕ). clip whole n (take size (drop at whole))) et
-      ∙ ap (λ (n : ℕ). clip whole (length x + length s) (take n (drop at whole))) es
-      ∙ ap (λ (n : ℕ). clip whole (length x + length s) (take (length y) (drop n whole))) ea
-      ∙ ap (clip whole (length x + length s)) second in
-      let front : take (length x) moved ≡ x = take-before whole (length x + length s) y (length x) (omega arith) ∙ take-append-seam x (y ++ z) in
-      e2
-      ∙ ap (λ (n : ℕ). clip d1 n s) ea
-      ∙ ap (λ (t : List ℕ). clip t (length x) s) first
-      ∙ clip-fits moved (length x) s (omega (arith, length-clip whole (length x + length s) y, long))
-      ∙ ap (λ (t : List ℕ). (take (length x) moved ++ s) ++ t) behind-it
-      ∙ ap (λ (t : List ℕ). (t ++ s) ++ (y ++ drop (length s) z)) front
-      ∙ append-assoc x s (y ++ drop (length s) z)
+  pub moved-up : (at to size : ℕ) {now : List ℕ} → at ≡ length x → to ≡ length x + n → size ≡ length y → now ≡ clip whole to (take size (drop at whole))
+      → now ≡ x ++ (between ++ (y ++ drop n z))
+  moved-up at to size ea et es e =
+      e
+      ∙ ap (λ (k : ℕ). clip whole k (take size (drop at whole))) et
+      ∙ ap (λ (k : ℕ). clip whole (length x + n) (take k (drop at whole))) es
+      ∙ ap (λ (k : ℕ). clip whole (length x + n) (take (length y) (drop k whole))) ea
+      ∙ ap (clip whole (length x + n)) second
+      ∙ clip-fits whole (length x + n) y (omega (arith, length-append x (y ++ z), length-append y z, fits))
+      ∙ ap (λ (t : List ℕ). (t ++ y) ++ drop (length x + n + length y) whole) (take-append-add x (y ++ z) n)
+      ∙ ap (λ (t : List ℕ). ((x ++ between) ++ y) ++ t) behind-it
+      ∙ append-assoc (x ++ between) y (drop n z)
+      ∙ append-assoc x between (y ++ drop n z)
+
+-- a text in the place of another that is as long
+pub replaced : (x h y s : List ℕ) (at : ℕ) {now : List ℕ} → at ≡ length x → length h ≡ length s → now ≡ clip (x ++ (h ++ y)) at s → now ≡ x ++ (s ++ y)
+replaced x h y s at ea k e =
+    let whole = x ++ (h ++ y) in
+    let behind-it : drop (length x + length s) whole ≡ y
+    = drop-append-add x (h ++ y) (length s) ∙ ap (λ (n : ℕ). drop n (h ++ y)) (sym k) ∙ drop-append-seam h y in
+    e
+    ∙ ap (λ (n : ℕ). clip whole n s) ea
+    ∙ clip-fits whole (length x) s (omega (arith, length-append x (h ++ y), length-append h y, k))
+    ∙ ap (λ (t : List ℕ). (take (length x) whole ++ s) ++ t) behind-it
+    ∙ ap (λ (t : List ℕ). (t ++ s) ++ y) (take-append-seam x (h ++ y))
+    ∙ append-assoc x s y

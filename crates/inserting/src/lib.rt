@@ -50,7 +50,7 @@ fn spot_for(deck: &[u8], count: usize, number: usize) -> Spot
     }
 }
 
-// Room is made for the body first, then for the entry, each from the last byte on; the offsets come last.
+// Room is made for both: what comes behind the new body moves up by the body and the entry, what comes between them by the entry. The offsets come last.
 pub fn insert_card(deck: &mut [u8], cards: usize, bytes: usize, number: usize, card: &[u8])
     requires { ⌜ Insertable (now deck) cards bytes number (now card) ⌝ }
     ensures { λ r. ⌜ now (deck .exit) ≡ addedText number (now (card .entry)) (heldBy (now (deck .entry))) ++ drop (length (addedText number (now (card .entry)) (heldBy (now (deck .entry))))) (now (deck .entry)) ⌝ }
@@ -60,9 +60,9 @@ pub fn insert_card(deck: &mut [u8], cards: usize, bytes: usize, number: usize, c
     let body = spot.body;
     let size = card.len();
     let end = COUNT_BYTES + ENTRY_BYTES * cards + bytes;
-    move_up(deck, body, body + size, end - body);
-    put_run(deck, body, card);
-    move_up(deck, row, row + ENTRY_BYTES, end + size - row);
+    move_up(deck, body, body + size + ENTRY_BYTES, end - body);
+    move_up(deck, row, row + ENTRY_BYTES, body - row);
+    put_run(deck, body + ENTRY_BYTES, card);
     put_row(deck, row, number, 0, size, 1, 0);
     deck[0] = (cards + 1) as u8;
     gather_rows(deck, cards + 1, COUNT_BYTES + ENTRY_BYTES * (cards + 1));

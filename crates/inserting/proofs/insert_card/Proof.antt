@@ -1,5 +1,5 @@
--- `inserting::insert_card` meets its contract: body, entry, count and offsets, one step after the other. Assumes nothing.
-use Rattle.inserting.proofs.Inserted.{body-inside, row-inside, long2, long4, offsets, long6, inserted}
+-- `inserting::insert_card` meets its contract: room for both, body, entry, count and offsets, one step after the other. Assumes nothing.
+use Rattle.inserting.proofs.Inserted.{body-inside, row-inside, row-before, long1, long4, offsets, long6, inserted}
 use Prim.Native.Nat.{suc, _+_}
 use mathlib.Core.Path.{_≡_}
 use native.Mathlib.Omega.{arith}
@@ -27,6 +27,12 @@ add-move-up c =
     let start = at-spot-for .before .before .before .before in
     omega (arith, start .pre .room, start .pre .short, body-inside _ (start .pre) (at-spot-for .spot-for .ensures))
 
+add-move-up-2 : tie.Need-add-move-up-2
+add-move-up-2 c =
+    let at-spot-for = c .before in
+    let start = at-spot-for .before .before .before .before in
+    omega (arith, start .pre .room, start .pre .short, body-inside _ (start .pre) (at-spot-for .spot-for .ensures))
+
 sub-move-up : tie.Need-sub-move-up
 sub-move-up c = omega (arith, body-inside _ (c .before .before .before .before .before .pre) (c .before .spot-for .ensures))
 
@@ -36,33 +42,31 @@ move-up-requires c κs =
     let start = at-spot-for .before .before .before .before in
     (omega arith, omega (arith, start .pre .room, body-inside _ (start .pre) (at-spot-for .spot-for .ensures)))
 
-put-run-requires : tie.Need-put-run-requires
-put-run-requires c κs = search needs
-
-add-move-up-2 : tie.Need-add-move-up-2
-add-move-up-2 c =
-    let at-spot-for = c .before .before .before .before .before .before .before .before .before in
+add-move-up-3 : tie.Need-add-move-up-3
+add-move-up-3 c =
+    let at-spot-for = c .before .before .before .before .before in
     let start = at-spot-for .before .before .before .before in
     omega (arith, start .pre .few, row-inside _ (start .pre) (at-spot-for .spot-for .ensures))
 
-add-move-up-3 : tie.Need-add-move-up-3
-add-move-up-3 c =
-    let start = c .before .before .before .before .before .before .before .before .before .before .before .before .before in
-    omega (arith, start .pre .room, start .pre .short)
-
 sub-move-up-2 : tie.Need-sub-move-up-2
-sub-move-up-2 c =
-    let at-spot-for = c .before .before .before .before .before .before .before .before .before in
-    let start = at-spot-for .before .before .before .before in
-    omega (arith, row-inside _ (start .pre) (at-spot-for .spot-for .ensures))
+sub-move-up-2 c = row-before _ (c .before .before .before .before .before .before .before .before .before .pre) (c .before .before .before .before .before .spot-for .ensures)
 
 move-up-requires-2 : tie.Need-move-up-requires-2
 move-up-requires-2 c κs =
-    let at-put-run = c .before .before .before in
-    let at-move-up = at-put-run .before .before .before .before in
+    let at-move-up = c .before .before .before in
     let at-spot-for = at-move-up .before .before in
     let start = at-spot-for .before .before .before .before in
-    (omega arith, omega (arith, start .pre .room, row-inside _ (start .pre) (at-spot-for .spot-for .ensures), long2 _ (start .pre) (at-spot-for .spot-for .ensures) (at-move-up .move-up .ensures) (at-put-run .put-run .ensures .wrote)))
+    let there = at-spot-for .spot-for .ensures in
+    (omega arith, omega (arith, start .pre .room, body-inside _ (start .pre) there, row-before _ (start .pre) there, long1 _ (start .pre) there (at-move-up .move-up .ensures)))
+
+add-put-run : tie.Need-add-put-run
+add-put-run c =
+    let at-spot-for = c .before .before .before .before .before .before .before .before .before in
+    let start = at-spot-for .before .before .before .before in
+    omega (arith, start .pre .room, start .pre .short, body-inside _ (start .pre) (at-spot-for .spot-for .ensures))
+
+put-run-requires : tie.Need-put-run-requires
+put-run-requires c κs = search needs
 
 put-row-requires : tie.Need-put-row-requires
 put-row-requires c κs =
@@ -82,12 +86,12 @@ cast-deck c =
 slice-write-deck : tie.Need-slice-write-deck
 slice-write-deck c =
     let at-put-row = c .before .before in
-    let at-move-up2 = at-put-row .before .before .before .before in
-    let at-put-run = at-move-up2 .before .before .before .before in
-    let at-move-up = at-put-run .before .before .before .before in
+    let at-put-run = at-put-row .before .before .before .before in
+    let at-move-up2 = at-put-run .before .before .before .before in
+    let at-move-up = at-move-up2 .before .before .before .before in
     let at-spot-for = at-move-up .before .before in
     let start = at-spot-for .before .before .before .before in
-    omega (arith, start .pre .room, long4 _ (start .pre) (at-spot-for .spot-for .ensures) (at-move-up .move-up .ensures) (at-put-run .put-run .ensures .wrote) (at-move-up2 .move-up2 .ensures) (at-put-row .put-row .ensures .wrote))
+    omega (arith, start .pre .room, long4 _ (start .pre) (at-spot-for .spot-for .ensures) (at-move-up .move-up .ensures) (at-move-up2 .move-up2 .ensures) (at-put-run .put-run .ensures .wrote) (at-put-row .put-row .ensures .wrote))
 
 add-gather-rows : tie.Need-add-gather-rows
 add-gather-rows c =
@@ -112,37 +116,37 @@ add-gather-rows-3 c =
 gather-rows-requires : tie.Need-gather-rows-requires
 gather-rows-requires c κs =
     let at-put-row = c .before .before .before in
-    let at-move-up2 = at-put-row .before .before .before .before in
-    let at-put-run = at-move-up2 .before .before .before .before in
-    let at-move-up = at-put-run .before .before .before .before in
+    let at-put-run = at-put-row .before .before .before .before in
+    let at-move-up2 = at-put-run .before .before .before .before in
+    let at-move-up = at-move-up2 .before .before .before .before in
     let at-spot-for = at-move-up .before .before in
     let start = at-spot-for .before .before .before .before in
     let one : start .args .cards + 1 ≡ suc (start .args .cards) = omega arith in
-    offsets _ (start .pre) (at-spot-for .spot-for .ensures) (at-move-up .move-up .ensures) (at-put-run .put-run .ensures .wrote) (at-move-up2 .move-up2 .ensures) (at-put-row .put-row .ensures .wrote) one
+    offsets _ (start .pre) (at-spot-for .spot-for .ensures) (at-move-up .move-up .ensures) (at-move-up2 .move-up2 .ensures) (at-put-run .put-run .ensures .wrote) (at-put-row .put-row .ensures .wrote) one
 
 same-length : tie.Need-same-length
 same-length c =
     let at-gather-rows = c .before .before in
     let at-put-row = at-gather-rows .before .before .before .before in
-    let at-move-up2 = at-put-row .before .before .before .before in
-    let at-put-run = at-move-up2 .before .before .before .before in
-    let at-move-up = at-put-run .before .before .before .before in
+    let at-put-run = at-put-row .before .before .before .before in
+    let at-move-up2 = at-put-run .before .before .before .before in
+    let at-move-up = at-move-up2 .before .before .before .before in
     let at-spot-for = at-move-up .before .before in
     let start = at-spot-for .before .before .before .before in
     let one : start .args .cards + 1 ≡ suc (start .args .cards) = omega arith in
-    long6 _ (start .pre) (at-spot-for .spot-for .ensures) (at-move-up .move-up .ensures) (at-put-run .put-run .ensures .wrote) (at-move-up2 .move-up2 .ensures) (at-put-row .put-row .ensures .wrote) one (at-gather-rows .gather-rows .ensures)
+    long6 _ (start .pre) (at-spot-for .spot-for .ensures) (at-move-up .move-up .ensures) (at-move-up2 .move-up2 .ensures) (at-put-run .put-run .ensures .wrote) (at-put-row .put-row .ensures .wrote) one (at-gather-rows .gather-rows .ensures)
 
 returns : tie.Need-returns
 returns c =
     let at-gather-rows = c .before .before in
     let at-put-row = at-gather-rows .before .before .before .before in
-    let at-move-up2 = at-put-row .before .before .before .before in
-    let at-put-run = at-move-up2 .before .before .before .before in
-    let at-move-up = at-put-run .before .before .before .before in
+    let at-put-run = at-put-row .before .before .before .before in
+    let at-move-up2 = at-put-run .before .before .before .before in
+    let at-move-up = at-move-up2 .before .before .before .before in
     let at-spot-for = at-move-up .before .before in
     let start = at-spot-for .before .before .before .before in
     let one : start .args .cards + 1 ≡ suc (start .args .cards) = omega arith in
-    inserted _ (start .pre) (at-spot-for .spot-for .ensures) (at-move-up .move-up .ensures) (at-put-run .put-run .ensures .wrote) (at-move-up2 .move-up2 .ensures) (at-put-row .put-row .ensures .wrote) one (at-gather-rows .gather-rows .ensures)
+    inserted _ (start .pre) (at-spot-for .spot-for .ensures) (at-move-up .move-up .ensures) (at-move-up2 .move-up2 .ensures) (at-put-run .put-run .ensures .wrote) (at-put-row .put-row .ensures .wrote) one (at-gather-rows .gather-rows .ensures)
 
 pub insert-card-spec : {M : Type 1} → statement M
 insert-card-spec =
@@ -153,13 +157,14 @@ insert-card-spec =
     add-end
     add-end-2
     add-move-up
+    add-move-up-2
     sub-move-up
     move-up-requires
-    put-run-requires
-    add-move-up-2
     add-move-up-3
     sub-move-up-2
     move-up-requires-2
+    add-put-run
+    put-run-requires
     put-row-requires
     add-deck
     cast-deck
