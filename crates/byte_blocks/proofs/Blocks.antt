@@ -8,7 +8,7 @@ use lib.Seq.{drop-drop, drop-at, getD-drop, take-add, take-take}
 use Rattle.room.specs.Room.{clip}
 use Rattle.room.proofs.Laws.{clip-none, clip-append, clip-start, length-clip}
 use Rattle.room.proofs.Stores.{clip-more}
-use Rattle.byte_blocks.proofs.Clips.{take-before, drop-behind, set-clip}
+use Rattle.byte_blocks.proofs.Clips.{take-before, drop-behind, clip-clip}
 
 -- ---- one block
 
@@ -58,12 +58,6 @@ module _ (was : List ℕ) (from to : ℕ) where
       ∙ ap (clip was to) (sym (take-add i n (drop from was)))
 
 -- ---- upwards
-
--- a text before another may be stored first
-clip-clip : (was : List ℕ) (a b : ℕ) (s t : List ℕ) → a + length s ≤ b → clip (clip was b t) a s ≡ clip (clip was a s) b t
-unfolding clip
-clip-clip was a b [] t h = refl
-clip-clip was a b (x ∷ s) t h = ap (λ (w : List ℕ). clip w (suc a) s) (set-clip was b t a x (omega arith)) ∙ clip-clip (set was a x) (suc a) b s t (omega arith)
 
 -- what stands before a text is as it was
 piece-before : (was : List ℕ) (at : ℕ) (s : List ℕ) (k n : ℕ) → k ≤ length was → k + n ≤ at → take n (drop k (clip was at s)) ≡ take n (drop k was)

@@ -1,12 +1,11 @@
 -- A text stored in a room leaves what stands before it and what stands behind it. Assumes nothing.
 use Prim.Native.Nat.{ℕ, suc, _+_, _≤_, _<_}
 use mathlib.Core.Path.{_≡_, refl, ap, _∙_}
-use mathlib.Core.List.{List, [], _∷_, _++_, append-assoc}
+use mathlib.Core.List.{List, [], _∷_}
 use native.Mathlib.Omega.{arith}
-use lib.ListN.{length, take, drop, getD, set, length-take}
-use lib.Seq.{getD-set-other, drop-set-lt, take-set-le, set-comm, take-append-seam, drop-at}
+use lib.ListN.{length, take, drop, getD, set}
+use lib.Seq.{getD-set-other, drop-set-lt, take-set-le, set-comm}
 use Rattle.room.specs.Room.{clip}
-use Rattle.room.proofs.Laws.{clip-fits}
 
 pub getD-before : (was : List ℕ) (at : ℕ) (s : List ℕ) (j : ℕ) → j < at → getD (clip was at s) j 0 ≡ getD was j 0
 unfolding clip
@@ -35,10 +34,8 @@ set-clip was at [] j b h = refl
 set-clip was at (x ∷ s) j b h =
     set-clip (set was at x) (suc at) s j b (omega arith) ∙ ap (λ (w : List ℕ). clip w (suc at) s) (set-comm was at j x b (λ e. omega (arith, e)))
 
--- and the text stands where it was stored
-pub stands : (was : List ℕ) (at : ℕ) (s : List ℕ) → at + length s ≤ length was → take (length s) (drop at (clip was at s)) ≡ s
-stands was at s h =
-    let front : length (take at was) ≡ at = omega (arith, length-take at was) in
-    ap (λ (w : List ℕ). take (length s) (drop at w)) (clip-fits was at s h ∙ append-assoc (take at was) s (drop (at + length s) was))
-    ∙ ap (take (length s)) (drop-at (take at was) (s ++ drop (at + length s) was) at front)
-    ∙ take-append-seam s (drop (at + length s) was)
+-- and so may a text
+pub clip-clip : (was : List ℕ) (a b : ℕ) (s t : List ℕ) → a + length s ≤ b → clip (clip was b t) a s ≡ clip (clip was a s) b t
+unfolding clip
+clip-clip was a b [] t h = refl
+clip-clip was a b (x ∷ s) t h = ap (λ (w : List ℕ). clip w (suc a) s) (set-clip was b t a x (omega arith)) ∙ clip-clip (set was a x) (suc a) b s t (omega arith)

@@ -1,4 +1,4 @@
--- Bodies that lie ahead: each starts where the one before ends at the earliest, and ends inside; so they do in a sound deck. And contents whose bytes are unchanged. Assumes nothing.
+-- Bodies that lie ahead, as they do in a sound deck. And contents whose bytes are unchanged. Assumes nothing.
 use Prim.Native.Nat.{ℕ, zero, suc, _+_, _*_, _≤_, _<_}
 use mathlib.Core.Path.{_≡_, refl, sym, ap, _∙_}
 use mathlib.Core.Bool.{Bool, true, false}
@@ -13,10 +13,7 @@ use Rattle.deck.specs.Sound.{Sound}
 use Rattle.deck.proofs.Judged.{SoundRows, measured, sound-rest}
 use Rattle.deck_entries.proofs.Laws.{row-there}
 use Rattle.live_rows.specs.LiveRows.{liveSize}
-
-abbrev pub Ahead : (long to : ℕ) → List Row → Type 0
-Ahead long to [] = to ≤ long
-Ahead long to (r ∷ rs) = (to ≤ r .offset) × (endOf r ≤ long) × Ahead long (endOf r) rs
+use Rattle.gathering.specs.LiveText.{Ahead}
 
 pub ahead-from : (long a b : ℕ) (rs : List Row) → a ≤ b → Ahead long b rs → Ahead long a rs
 ahead-from long a b [] l h = omega arith

@@ -5,16 +5,15 @@ use mathlib.Core.List.{List, _∷_, _++_}
 use native.Mathlib.Omega.{arith}
 use lib.ListN.{length, take, drop, length-take, length-drop}
 use lib.Seq.{drop-drop}
-use Rattle.deck.specs.Contents.{wordAt, Row, rowOf, rowsOf, endOf, countOf, behind, contentsOf}
-use Rattle.deck.specs.Sound.{Sound}
+use Rattle.deck.specs.Contents.{wordAt, Row, rowOf, rowsOf, endOf, behind}
 use Rattle.deck_entries.proofs.Laws.{row-there}
 use Rattle.room.specs.Room.{clip}
 use Rattle.room.proofs.Laws.{clip-none, clip-append, length-clip}
 use Rattle.byte_blocks.proofs.Clips.{take-before, drop-behind}
 use Rattle.live_rows.specs.LiveRows.{liveSize}
 use Rattle.live_rows.proofs.Entries.{first-row, live-bodies}
-use Rattle.gathering.specs.LiveText.{bodiesStay}
-use Rattle.gathering.proofs.Ahead.{Ahead, ahead-from, ahead-sound, size-most, same-row}
+use Rattle.gathering.specs.LiveText.{rowsIn, bodiesStay, Ahead, Gatherable}
+use Rattle.gathering.proofs.Ahead.{ahead-from, size-most, same-row}
 
 -- from a place on unchanged, so from a later one on
 pub same-later : (a b : ℕ) (is was : List ℕ) → a ≤ b → drop a is ≡ drop a was → drop b is ≡ drop b was
@@ -22,38 +21,34 @@ same-later a b is was l e =
     let p : a + (b - a) ≡ b = omega arith in
     ap (λ (n : ℕ). drop n is) (sym p) ∙ sym (drop-drop (b - a) a is) ∙ ap (drop (b - a)) e ∙ drop-drop (b - a) a was ∙ ap (λ (n : ℕ). drop n was) p
 
-module _ (was : List ℕ) where
+module _ (was : List ℕ) (count : ℕ) where
   abbrev rest : (left at : ℕ) → List Row
   rest left at = rowsOf left (drop at was)
 
   -- so many entries are left, from `at` on, and the next body goes to `to`
   pub record Gathering (is : List ℕ) (left at to : ℕ) : Type 0 where
-    pub place : at + 8 * left ≡ behind (countOf was)
+    pub place : at + 8 * left ≡ behind count
     pub long : length is ≡ length was
-    pub behind-contents : behind (countOf was) ≤ to
-    pub front : take (behind (countOf was)) is ≡ take (behind (countOf was)) was
+    pub behind-contents : behind count ≤ to
+    pub front : take (behind count) is ≡ take (behind count) was
     pub back : drop to is ≡ drop to was
     pub ahead : Ahead (length was) to (rest left at)
-    pub completes : clip is to (bodiesStay was (rest left at)) ≡ clip was (behind (countOf was)) (bodiesStay was (contentsOf was))
+    pub completes : clip is to (bodiesStay was (rest left at)) ≡ clip was (behind count) (bodiesStay was (rowsIn count was))
 
-  pub gather-none : Sound was → {left to : ℕ} → left ≡ countOf was → to ≡ behind (countOf was) → Gathering was left 1 to
-  gather-none s {left} {to} e f = record {
-    place = omega (arith, e);
+  pub gather-none : Gatherable was count → Gathering was count 1 (behind count)
+  gather-none g = record {
+    place = omega arith;
     long = refl;
-    behind-contents = omega (arith, f);
+    behind-contents = omega arith;
     front = refl;
     back = refl;
-    ahead = subst (λ (n : ℕ). Ahead (length was) to (rowsOf n (drop 1 was))) (sym e) (subst (λ (n : ℕ). Ahead (length was) n (contentsOf was)) (sym f) (ahead-sound was s));
-    completes = ap (λ (n : ℕ). clip was to (bodiesStay was (rowsOf n (drop 1 was)))) e ∙ ap (λ (n : ℕ). clip was n (bodiesStay was (contentsOf was))) f;
+    ahead = g .ahead;
+    completes = refl;
   }
 
   module _ {is : List ℕ} {left at to : ℕ} (s : Gathering is left at to) where
-    pub gather-all : left ≡ 0 → {count : ℕ} → count ≡ countOf was → is ≡ clip was (behind count) (bodiesStay was (contentsOf was))
-    gather-all h e =
-        sym (clip-none is to)
-        ∙ ap (λ (n : ℕ). clip is to (bodiesStay was (rowsOf n (drop at was)))) (sym h)
-        ∙ s .completes
-        ∙ ap (λ (n : ℕ). clip was (behind n) (bodiesStay was (contentsOf was))) (sym e)
+    pub gather-all : left ≡ 0 → is ≡ clip was (behind count) (bodiesStay was (rowsIn count was))
+    gather-all h = sym (clip-none is to) ∙ ap (λ (n : ℕ). clip is to (bodiesStay was (rowsOf n (drop at was)))) (sym h) ∙ s .completes
 
     module _ (h : left ≡ 0 → ⊥) where
       abbrev row : Row
@@ -62,11 +57,11 @@ module _ (was : List ℕ) where
       abbrev others : List Row
       others = rest (left - 1) (at + 8)
 
-      pub in-contents : at + 8 ≤ behind (countOf was)
+      pub in-contents : at + 8 ≤ behind count
       in-contents = omega (arith, s .place)
 
       row-read : rowOf (drop at is) ≡ row
-      row-read = same-row (behind (countOf was)) is was (s .front) at in-contents
+      row-read = same-row (behind count) is was (s .front) at in-contents
 
       next : Ahead (length was) to (row ∷ others)
       next = subst (Ahead (length was) to) (first-row was left at h) (s .ahead)
@@ -101,7 +96,7 @@ module _ (was : List ℕ) where
               place = omega (arith, s .place);
               long = ap length e ∙ length-clip is to body ∙ s .long;
               behind-contents = omega (arith, s .behind-contents);
-              front = ap (take (behind (countOf was))) e ∙ take-before is to body (behind (countOf was)) (s .behind-contents) ∙ s .front;
+              front = ap (take (behind count)) e ∙ take-before is to body (behind count) (s .behind-contents) ∙ s .front;
               back = ap (drop (to + size)) e ∙ drop-behind is to body (to + size) (omega (arith, k)) ∙ same-later to (to + size) is was (omega arith) (s .back);
               ahead = ahead-from (length was) (to + size) (endOf row) others (omega (arith, next .0, size-read, size-most row)) (next .2);
               completes =

@@ -14,16 +14,14 @@ ghost use mathlib.Core.Path.{_≡_};
 ghost use Prim.Native.Nat.{_+_, _≤_, _<_};
 ghost use lib.ListN.{length, drop};
 ghost use Rattle.card.specs.Limits.{entryBytes, wordNumbers};
-ghost use Rattle.deck.specs.Contents.{rowOf, countOf, behind, contentsOf};
-ghost use Rattle.deck.specs.Sound.{Sound};
+ghost use Rattle.deck.specs.Contents.{rowOf, behind};
 ghost use Rattle.room.specs.Room.{clip, Put};
-ghost use Rattle.gathering.specs.LiveText.{rowStays, rowsIn, rowsStay, bodiesStay, Offsets};
+ghost use Rattle.gathering.specs.LiveText.{rowStays, rowsIn, rowsStay, bodiesStay, Offsets, Gatherable};
 
 // The bodies, from the end of the contents on: each moves to where the one before ends, and none before it has been read.
 pub fn gather_bodies(deck: &mut [u8], count: usize)
-    requires { ⌜ Sound (now deck) ⌝ }
-    requires { ⌜ count ≡ countOf (now deck) ⌝ }
-    ensures { λ r. ⌜ now (deck .exit) ≡ clip (now (deck .entry)) (behind count) (bodiesStay (now (deck .entry)) (contentsOf (now (deck .entry)))) ⌝ }
+    requires { ⌜ Gatherable (now deck) count ⌝ }
+    ensures { λ r. ⌜ now (deck .exit) ≡ clip (now (deck .entry)) (behind count) (bodiesStay (now (deck .entry)) (rowsIn count (now (deck .entry)))) ⌝ }
 {
     let mut left = count;
     let mut at: usize = COUNT_BYTES;

@@ -1,20 +1,23 @@
--- The steps of closing up, each a text stored in the deck: the bodies behind the contents, the count, the entries, the bodies again behind them, and zero bytes. The last four stand one behind
--- the other from the first byte to the last. Assumes nothing.
+-- The steps of closing up, each a text stored in the deck: the live entries as they stand, the count, the bodies behind them, the entries with new offsets, and zero bytes. The last four
+-- are one behind the other from the first byte to the last. Assumes nothing.
 use Prim.Native.Nat.{ℕ, _+_, _-_, _*_, _≤_}
-use mathlib.Core.Path.{_≡_, refl, sym, ap, _∙_}
-use mathlib.Core.List.{List, [], _∷_, _++_, append-nil}
+use mathlib.Core.Path.{_≡_, refl, sym, ap, _∙_, subst}
+use mathlib.Core.List.{List, [], _∷_, _++_, append-nil, append-assoc, map}
 use native.Mathlib.Omega.{arith}
-use lib.ListN.{length, take, drop, set, length-append, length-set, length-drop, length-map, drop-of-length-le}
-use lib.Seq.{drop-set-lt, take-append-seam}
+use lib.ListN.{length, take, drop, set, length-append, length-set, length-drop, length-take, length-map, drop-of-length-le}
+use lib.Seq.{drop-set-lt, drop-at, take-append-seam}
 use Rattle.deck.specs.Contents.{Row, rowsOf, countOf, entriesFrom, behind, contentsOf}
-use Rattle.deck_written.specs.WriteDeckSaid.{sizes}
+use Rattle.deck.specs.Deck.{entryOf, rowsText, bodies}
+use Rattle.deck_written.specs.WriteDeckSaid.{sizes, linesFor}
 use Rattle.room.specs.Room.{clip}
 use Rattle.room.proofs.Laws.{clip-one, clip-append, clip-fits, clip-start, length-clip}
-use Rattle.byte_blocks.proofs.Clips.{take-before, drop-behind, stands}
+use Rattle.byte_blocks.proofs.Clips.{take-before, drop-behind, clip-clip}
 use Rattle.tidying.specs.Tidied.{tidyText, zeroed, lentAfter}
 use Rattle.live_rows.specs.LiveRows.{liveRows}
-use Rattle.gathering.specs.LiveText.{rowsIn, rowsStay, bodiesStay, Offsets}
-use Rattle.gathering.proofs.Ahead.{same-rows}
+use Rattle.gathering.specs.LiveText.{rowsIn, rowsStay, bodiesStay, Offsets, Ahead, Gatherable}
+use Rattle.gathering.proofs.Ahead.{ahead-from, ahead-sound, same-rows}
+use Rattle.live_contents.specs.Kept.{keptRows}
+use Rattle.live_contents.proofs.KeptDeck.{kept-long, kept-rows, live-again, ahead-kept, same-bodies}
 use Rattle.tidy.specs.Tidies.{Measured}
 use Rattle.tidy.proofs.LiveDeck.{few-rows, bodies-long, rows-long, all-ahead, tidy-text}
 
@@ -72,53 +75,100 @@ module _ (was : List ℕ) {cards bytes : ℕ} (m : Measured was cards bytes) {co
   pub text-long : length (tidyText was) ≡ behind cards + bytes
   text-long = omega (arith, ap length text, length-append entries parts, entries-long, parts-long)
 
-  module _ {s1 : List ℕ} (e1 : s1 ≡ clip was (behind count) parts) where
+  abbrev live : List Row
+  live = liveRows (contentsOf was)
+
+  abbrev kept : List ℕ
+  kept = keptRows count (drop 1 was)
+
+  contents-long : 8 * count ≤ length (drop 1 was)
+  contents-long = omega (arith, length-drop 1 was, inside)
+
+  live-there : liveRows (rowsIn count was) ≡ live
+  live-there = ap (λ (n : ℕ). liveRows (rowsOf n (entriesFrom was))) ec
+
+  kept-is-long : length kept ≡ 8 * cards
+  kept-is-long = omega (arith, kept-long count (drop 1 was) contents-long, ap length live-there, m .count)
+
+  module _ {s1 : List ℕ} (e1 : s1 ≡ clip was 1 kept) where
     abbrev s2 : List ℕ
     s2 = set s1 0 cards
 
-    long1 : length s1 ≡ length was
-    long1 = ap length e1 ∙ length-clip was (behind count) parts
+    pub long1 : length s1 ≡ length was
+    long1 = ap length e1 ∙ length-clip was 1 kept
 
-    long2 : length s2 ≡ length was
+    pub long2 : length s2 ≡ length was
     long2 = length-set s1 0 cards ∙ long1
 
-    rows-there : rowsIn count s2 ≡ contentsOf was
-    rows-there =
-        ap (rowsOf count) (drop-set-lt 1 s1 0 cards (omega arith))
-        ∙ same-rows (behind count) s1 was (ap (take (behind count)) e1 ∙ take-before was (behind count) parts (behind count) (omega arith)) count 1 (omega arith)
-        ∙ ap (λ (n : ℕ). rowsOf n (entriesFrom was)) ec
+    contents-there : drop 1 s2 ≡ kept ++ drop (1 + length kept) was
+    contents-there =
+        let one : length (take 1 was) ≡ 1 = omega (arith, length-take 1 was, inside) in
+        drop-set-lt 1 s1 0 cards (omega arith)
+        ∙ ap (drop 1) (e1 ∙ clip-fits was 1 kept (omega (arith, kept-is-long, few, inside)) ∙ append-assoc (take 1 was) kept (drop (1 + length kept) was))
+        ∙ drop-at (take 1 was) (kept ++ drop (1 + length kept) was) 1 one
 
-    pub offsets : Offsets s2 count (behind cards)
-    offsets = record {
-      whole = omega (arith, inside, long2);
-      small = omega (arith, few-cards);
-      short = omega (arith, ap (λ (rs : List Row). sizes (liveRows rs)) rows-there, m .total, inside, few, m .sound .head .short);
+    rows-there : rowsIn cards s2 ≡ live
+    rows-there =
+        ap (rowsOf cards) contents-there
+        ∙ ap (λ (n : ℕ). rowsOf n (kept ++ drop (1 + length kept) was)) (m .count ∙ sym (ap length live-there))
+        ∙ kept-rows count (drop 1 was) (drop (1 + length kept) was) contents-long
+        ∙ live-there
+
+    behind-there : drop (behind count) s2 ≡ drop (behind count) was
+    behind-there =
+        drop-set-lt (behind count) s1 0 cards (omega arith)
+        ∙ ap (drop (behind count)) e1
+        ∙ drop-behind was 1 kept (behind count) (omega (arith, kept-is-long, few))
+
+    ahead-there : Ahead (length was) (behind count) live
+    ahead-there = subst (λ (n : ℕ). Ahead (length was) (behind n) live) (sym ec) (ahead-kept (length was) (behind (countOf was)) (contentsOf was) (ahead-sound was (m .sound)))
+
+    pub gatherable : Gatherable s2 cards
+    gatherable = record {
+      whole = omega (arith, inside, few, long2);
+      few = omega (arith, few, few-cards);
+      ahead =
+          subst (λ (rs : List Row). Ahead (length s2) (behind cards) rs) (sym rows-there)
+          (subst (λ (n : ℕ). Ahead n (behind cards) live) (sym long2) (ahead-from (length was) (behind cards) (behind count) live (omega (arith, few)) ahead-there));
     }
 
-    module _ {s3 : List ℕ} (e3 : s3 ≡ clip s2 1 (rowsStay (behind cards) (rowsIn count s2))) where
-      entries-there : s3 ≡ clip s2 1 entries
-      entries-there = e3 ∙ ap (λ (rs : List Row). clip s2 1 (rowsStay (behind cards) rs)) rows-there
+    -- the bodies are those of the deck as it was
+    parts-there : bodiesStay s2 (rowsIn cards s2) ≡ parts
+    parts-there =
+        ap (bodiesStay s2) rows-there
+        ∙ ap (λ (rs : List Row). bodies (map (entryOf s2) rs)) (live-again (contentsOf was))
+        ∙ same-bodies s2 was (length was) (behind count) live ahead-there behind-there
 
-      pub long3 : length s3 ≡ length was
-      long3 = ap length entries-there ∙ length-clip s2 1 entries ∙ long2
+    module _ {s3 : List ℕ} (e3 : s3 ≡ clip s2 (behind cards) (bodiesStay s2 (rowsIn cards s2))) where
+      bodies-there : s3 ≡ clip s2 (behind cards) parts
+      bodies-there = e3 ∙ ap (clip s2 (behind cards)) parts-there
 
-      -- the entries leave the bodies as they are
-      parts-there : take bytes (drop (behind count) s3) ≡ parts
-      parts-there =
-          ap (λ (s : List ℕ). take bytes (drop (behind count) s)) entries-there
-          ∙ ap (take bytes) (drop-behind s2 1 entries (behind count) (omega (arith, entries-long, few)))
-          ∙ ap (take bytes) (drop-set-lt (behind count) s1 0 cards (omega arith))
-          ∙ ap (λ (s : List ℕ). take bytes (drop (behind count) s)) e1
-          ∙ ap (λ (n : ℕ). take n (drop (behind count) (clip was (behind count) parts))) (sym parts-long)
-          ∙ stands was (behind count) parts (omega (arith, parts-long, inside))
+      long3 : length s3 ≡ length was
+      long3 = ap length bodies-there ∙ length-clip s2 (behind cards) parts ∙ long2
 
-      module _ {s4 : List ℕ} (e4 : s4 ≡ clip s3 (behind cards) (take bytes (drop (behind count) s3))) where
+      rows-still : rowsIn cards s3 ≡ live
+      rows-still =
+          same-rows (behind cards) s3 s2 (ap (take (behind cards)) bodies-there ∙ take-before s2 (behind cards) parts (behind cards) (omega arith)) cards 1 (omega arith)
+          ∙ rows-there
+
+      pub offsets : Offsets s3 cards (behind cards)
+      offsets =
+          let z : sizes (liveRows (rowsIn cards s3)) ≡ bytes = ap (λ (rs : List Row). sizes (liveRows rs)) rows-still ∙ ap sizes (live-again (contentsOf was)) ∙ sym (m .total) in
+          record { whole = omega (arith, inside, few, long3); small = omega (arith, few, few-cards); short = omega (arith, z, inside, few, m .sound .head .short) }
+
+      module _ {s4 : List ℕ} (e4 : s4 ≡ clip s3 1 (rowsStay (behind cards) (rowsIn cards s3))) where
+        entries-there : s4 ≡ clip s3 1 entries
+        entries-there =
+            e4
+            ∙ ap (λ (rs : List Row). clip s3 1 (rowsStay (behind cards) rs)) rows-still
+            ∙ ap (λ (rs : List Row). clip s3 1 (rowsText (linesFor (behind cards) rs) [])) (live-again (contentsOf was))
+
         all-there : s4 ≡ clip s1 0 (tidyText was)
         all-there =
             let at : 1 + length entries ≡ behind cards = omega (arith, entries-long) in
-            e4
-            ∙ ap (clip s3 (behind cards)) parts-there
-            ∙ ap (λ (s : List ℕ). clip s (behind cards) parts) entries-there
+            entries-there
+            ∙ ap (λ (s : List ℕ). clip s 1 entries) bodies-there
+            ∙ clip-clip s2 1 (behind cards) entries parts (omega (arith, at))
             ∙ ap (λ (n : ℕ). clip (clip s2 1 entries) n parts) (sym at)
             ∙ sym (clip-append s2 1 entries parts)
             ∙ ap (λ (s : List ℕ). clip s 1 (entries ++ parts)) (sym (clip-one s1 0 cards))

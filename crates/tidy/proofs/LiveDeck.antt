@@ -19,8 +19,8 @@ use Rattle.mended_deck.proofs.Text.{lines-for, sizes-are}
 use Rattle.tidying.specs.Tidied.{liveCards, tidyText}
 use Rattle.live_rows.specs.LiveRows.{liveRows}
 use Rattle.live_rows.proofs.Entries.{live-held, live-sizes}
-use Rattle.gathering.specs.LiveText.{rowsStay, bodiesStay}
-use Rattle.gathering.proofs.Ahead.{Ahead, ahead-sound, size-most}
+use Rattle.gathering.specs.LiveText.{rowsStay, bodiesStay, Ahead}
+use Rattle.gathering.proofs.Ahead.{ahead-sound, size-most}
 
 pub live-few : (rs : List Row) → length (liveRows rs) ≤ length rs
 live-few [] = omega arith

@@ -7,28 +7,27 @@ use contents::judge_deck;
 use deck_entries::wide;
 use gathering::gather_bodies;
 use gathering::gather_rows;
+use live_contents::keep_rows;
 use live_rows::measure_live;
 use room::Answer;
 use shifting::clear_from;
-use shifting::move_down;
 ghost use mathlib.Core.Path.{_≡_};
 ghost use Rattle.tidying.specs.Tidying.{tidySaid};
 ghost use Rattle.tidying.specs.Tidied.{tidyText, lentAfter};
 ghost use Rattle.tidy.specs.Tidies.{Tidied, Measured};
 
-// A sound deck of which `cards` entries are live, with so many bytes. The bodies are gathered behind the contents as they stand, so that no entry is overwritten before it
-// has been read; then the entries; then all bodies move down to them.
+// A sound deck of which `cards` entries are live, with so many bytes. The live entries come first, so that none is overwritten by a body before it has been read; then each
+// body moves to its place; then the entries get their offsets.
 pub fn close_up(deck: &mut [u8], cards: usize, bytes: usize)
     requires { ⌜ Measured (now deck) cards bytes ⌝ }
     ensures { λ r. ⌜ now (deck .exit) ≡ lentAfter (tidyText (now (deck .entry))) (now (deck .entry)) ⌝ }
 {
     let count = wide(deck[0]);
-    let first = COUNT_BYTES + ENTRY_BYTES * count;
     let low = COUNT_BYTES + ENTRY_BYTES * cards;
-    gather_bodies(deck, count);
+    keep_rows(deck, count);
     deck[0] = cards as u8;
-    gather_rows(deck, count, low);
-    move_down(deck, first, low, bytes);
+    gather_bodies(deck, cards);
+    gather_rows(deck, cards, low);
     clear_from(deck, low + bytes);
 }
 

@@ -1,5 +1,5 @@
 -- `tidy::close_up` meets its contract: each step stores a text, and together they are the tidied deck and zero bytes. Assumes nothing.
-use Rattle.tidy.proofs.Closing.{few, inside, offsets, long3, long4, long5, closed}
+use Rattle.tidy.proofs.Closing.{few, few-cards, inside, long1, gatherable, offsets, long4, long5, closed}
 use native.Mathlib.Omega.{arith}
 use borrow.Author.Needs.{needs}
 use Rattle.tidy.proofs.close_up.Statement.{statement}
@@ -11,20 +11,17 @@ slice-read-wide c = omega (arith, c .before .before .pre .sound .head .whole)
 wide-requires : tie.Need-wide-requires
 wide-requires c κs = search needs
 
-mul-first : tie.Need-mul-first
-mul-first c = search needs
-
-add-first : tie.Need-add-first
-add-first c = omega (arith, c .wide .ensures .1)
-
 mul-low : tie.Need-mul-low
 mul-low c = omega (arith, few _ (c .before .before .before .pre) (c .wide .ensures .0), c .wide .ensures .1)
 
 add-low : tie.Need-add-low
 add-low c = omega (arith, few _ (c .before .before .before .pre) (c .wide .ensures .0), c .wide .ensures .1)
 
-gather-bodies-requires : tie.Need-gather-bodies-requires
-gather-bodies-requires c κs = (c .before .before .before .before .pre .sound, c .before .wide .ensures .0)
+keep-rows-requires : tie.Need-keep-rows-requires
+keep-rows-requires c κs =
+    let at-wide = c .before in
+    let start = at-wide .before .before .before in
+    (omega (arith, inside _ (start .pre) (at-wide .wide .ensures .0)), few-cards _ (start .pre) (at-wide .wide .ensures .0))
 
 cast-deck : tie.Need-cast-deck
 cast-deck c =
@@ -33,24 +30,26 @@ cast-deck c =
     omega (arith, few _ (start .pre) (at-wide .wide .ensures .0), at-wide .wide .ensures .1)
 
 slice-write-deck : tie.Need-slice-write-deck
-slice-write-deck c = search needs
+slice-write-deck c =
+    let at-keep-rows = c .before .before in
+    let at-wide = at-keep-rows .before .before in
+    let start = at-wide .before .before .before in
+    omega (arith, start .pre .sound .head .whole, long1 _ (start .pre) (at-wide .wide .ensures .0) (at-keep-rows .keep-rows .ensures))
+
+gather-bodies-requires : tie.Need-gather-bodies-requires
+gather-bodies-requires c κs =
+    let at-keep-rows = c .before .before .before in
+    let at-wide = at-keep-rows .before .before in
+    let start = at-wide .before .before .before in
+    gatherable _ (start .pre) (at-wide .wide .ensures .0) (at-keep-rows .keep-rows .ensures)
 
 gather-rows-requires : tie.Need-gather-rows-requires
 gather-rows-requires c κs =
     let at-gather-bodies = c .before .before .before in
-    let at-wide = at-gather-bodies .before .before in
+    let at-keep-rows = at-gather-bodies .before .before .before .before in
+    let at-wide = at-keep-rows .before .before in
     let start = at-wide .before .before .before in
-    offsets _ (start .pre) (at-wide .wide .ensures .0) (at-gather-bodies .gather-bodies .ensures)
-
-move-down-requires : tie.Need-move-down-requires
-move-down-requires c κs =
-    let at-gather-rows = c .before .before .before in
-    let at-gather-bodies = at-gather-rows .before .before .before .before in
-    let at-wide = at-gather-bodies .before .before in
-    let start = at-wide .before .before .before in
-    let m = start .pre in
-    let e = at-wide .wide .ensures .0 in
-    (omega (arith, few _ m e), omega (arith, inside _ m e, long3 _ m e (at-gather-bodies .gather-bodies .ensures) (at-gather-rows .gather-rows .ensures)))
+    offsets _ (start .pre) (at-wide .wide .ensures .0) (at-keep-rows .keep-rows .ensures) (at-gather-bodies .gather-bodies .ensures)
 
 add-clear-from : tie.Need-add-clear-from
 add-clear-from c =
@@ -60,34 +59,34 @@ add-clear-from c =
 
 clear-from-requires : tie.Need-clear-from-requires
 clear-from-requires c κs =
-    let at-move-down = c .before .before .before in
-    let at-gather-rows = at-move-down .before .before .before .before in
+    let at-gather-rows = c .before .before .before in
     let at-gather-bodies = at-gather-rows .before .before .before .before in
-    let at-wide = at-gather-bodies .before .before in
+    let at-keep-rows = at-gather-bodies .before .before .before .before in
+    let at-wide = at-keep-rows .before .before in
     let start = at-wide .before .before .before in
     let m = start .pre in
     let e = at-wide .wide .ensures .0 in
-    omega (arith, inside _ m e, few _ m e, long4 _ m e (at-gather-bodies .gather-bodies .ensures) (at-gather-rows .gather-rows .ensures) (at-move-down .move-down .ensures))
+    omega (arith, inside _ m e, few _ m e, long4 _ m e (at-keep-rows .keep-rows .ensures) (at-gather-bodies .gather-bodies .ensures) (at-gather-rows .gather-rows .ensures))
 
 same-length : tie.Need-same-length
 same-length c =
     let at-clear-from = c .before .before in
-    let at-move-down = at-clear-from .before .before .before .before in
-    let at-gather-rows = at-move-down .before .before .before .before in
+    let at-gather-rows = at-clear-from .before .before .before .before in
     let at-gather-bodies = at-gather-rows .before .before .before .before in
-    let at-wide = at-gather-bodies .before .before in
+    let at-keep-rows = at-gather-bodies .before .before .before .before in
+    let at-wide = at-keep-rows .before .before in
     let start = at-wide .before .before .before in
-    long5 _ (start .pre) (at-wide .wide .ensures .0) (at-gather-bodies .gather-bodies .ensures) (at-gather-rows .gather-rows .ensures) (at-move-down .move-down .ensures) (at-clear-from .clear-from .ensures)
+    long5 _ (start .pre) (at-wide .wide .ensures .0) (at-keep-rows .keep-rows .ensures) (at-gather-bodies .gather-bodies .ensures) (at-gather-rows .gather-rows .ensures) (at-clear-from .clear-from .ensures)
 
 returns : tie.Need-returns
 returns c =
     let at-clear-from = c .before .before in
-    let at-move-down = at-clear-from .before .before .before .before in
-    let at-gather-rows = at-move-down .before .before .before .before in
+    let at-gather-rows = at-clear-from .before .before .before .before in
     let at-gather-bodies = at-gather-rows .before .before .before .before in
-    let at-wide = at-gather-bodies .before .before in
+    let at-keep-rows = at-gather-bodies .before .before .before .before in
+    let at-wide = at-keep-rows .before .before in
     let start = at-wide .before .before .before in
-    closed _ (start .pre) (at-wide .wide .ensures .0) (at-gather-bodies .gather-bodies .ensures) (at-gather-rows .gather-rows .ensures) (at-move-down .move-down .ensures) (at-clear-from .clear-from .ensures)
+    closed _ (start .pre) (at-wide .wide .ensures .0) (at-keep-rows .keep-rows .ensures) (at-gather-bodies .gather-bodies .ensures) (at-gather-rows .gather-rows .ensures) (at-clear-from .clear-from .ensures)
 
 pub close-up-spec : {M : Type 1} → statement M
 close-up-spec =
@@ -95,15 +94,13 @@ close-up-spec =
     (tie.spec
     slice-read-wide
     wide-requires
-    mul-first
-    add-first
     mul-low
     add-low
-    gather-bodies-requires
+    keep-rows-requires
     cast-deck
     slice-write-deck
+    gather-bodies-requires
     gather-rows-requires
-    move-down-requires
     add-clear-from
     clear-from-requires
     same-length
