@@ -6,6 +6,10 @@ use native.Mathlib.Omega.{arith}
 use lib.ListN.{length, take, drop, getD, set}
 use lib.Seq.{getD-set-other, drop-set-lt, take-set-le, set-comm}
 use Rattle.room.specs.Room.{clip}
+use Rattle.room.proofs.Laws.{length-clip}
+
+pub clip-long : (was : List ℕ) (at : ℕ) (s : List ℕ) {is : List ℕ} → is ≡ clip was at s → length is ≡ length was
+clip-long was at s e = ap length e ∙ length-clip was at s
 
 pub getD-before : (was : List ℕ) (at : ℕ) (s : List ℕ) (j : ℕ) → j < at → getD (clip was at s) j 0 ≡ getD was j 0
 unfolding clip

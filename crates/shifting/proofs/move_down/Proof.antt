@@ -1,10 +1,9 @@
 -- `shifting::move_down` meets its contract: the rest behind the blocks is read where nothing has been stored yet. Assumes nothing.
 use Rattle.shifting.proofs.Moves.{down-none, down-rest}
-use Rattle.room.proofs.Laws.{length-clip}
-use lib.ListN.{length}
+use Rattle.byte_blocks.proofs.Clips.{clip-long}
 use native.Mathlib.Omega.{arith}
 use borrow.Author.Needs.{needs}
-use mathlib.Core.Path.{ap, _∙_}
+use mathlib.Core.Path.{_∙_}
 use Rattle.shifting.proofs.move_down.Statement.{statement}
 use Rattle.shifting.proofs.move_down.Tie as tie
 
@@ -29,13 +28,13 @@ bytes-down-requires : tie.Need-bytes-down-requires
 bytes-down-requires c κs =
     let blocks = c .before .before .before .blocks-down .ensures in
     let start = c .before .before .before .before .before .before .before in
-    (omega (arith, start .pre .0), omega (arith, start .pre .1, blocks .most, ap length (blocks .moved) ∙ length-clip (start .args .room .now) _ _))
+    (omega (arith, start .pre .0), omega (arith, start .pre .1, blocks .most, clip-long _ _ _ (blocks .moved)))
 
 same-length : tie.Need-same-length
 same-length c =
     let at-bytes-down = c .before .before in
     let blocks = at-bytes-down .before .before .before .before .blocks-down .ensures in
-    ap length (at-bytes-down .bytes-down .ensures) ∙ length-clip _ _ _ ∙ ap length (blocks .moved) ∙ length-clip _ _ _
+    clip-long _ _ _ (at-bytes-down .bytes-down .ensures) ∙ clip-long _ _ _ (blocks .moved)
 
 returns-2 : tie.Need-returns-2
 returns-2 c =

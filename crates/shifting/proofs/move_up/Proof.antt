@@ -1,10 +1,9 @@
 -- `shifting::move_up` meets its contract: the rest before the blocks is read where nothing has been stored yet. Assumes nothing.
 use Rattle.shifting.proofs.Moves.{up-rest}
-use Rattle.room.proofs.Laws.{length-clip}
-use lib.ListN.{length}
+use Rattle.byte_blocks.proofs.Clips.{clip-long}
 use native.Mathlib.Omega.{arith}
 use borrow.Author.Needs.{needs}
-use mathlib.Core.Path.{ap, _∙_}
+use mathlib.Core.Path.{_∙_}
 use Rattle.shifting.proofs.move_up.Statement.{statement}
 use Rattle.shifting.proofs.move_up.Tie as tie
 
@@ -15,13 +14,13 @@ bytes-up-requires : tie.Need-bytes-up-requires
 bytes-up-requires c κs =
     let blocks = c .before .before .before .blocks-up .ensures in
     let start = c .before .before .before .before .before .before in
-    (start .pre .0, omega (arith, start .pre .1, blocks .most, ap length (blocks .moved) ∙ length-clip (start .args .room .now) _ _))
+    (start .pre .0, omega (arith, start .pre .1, blocks .most, clip-long _ _ _ (blocks .moved)))
 
 same-length : tie.Need-same-length
 same-length c =
     let at-bytes-up = c .before .before in
     let blocks = at-bytes-up .before .before .before .before .blocks-up .ensures in
-    ap length (at-bytes-up .bytes-up .ensures) ∙ length-clip _ _ _ ∙ ap length (blocks .moved) ∙ length-clip _ _ _
+    clip-long _ _ _ (at-bytes-up .bytes-up .ensures) ∙ clip-long _ _ _ (blocks .moved)
 
 returns : tie.Need-returns
 returns c =
