@@ -45,7 +45,7 @@ extern "C" {
 #endif
 
 /* The version of this header; open_panel_version gives the library's. CHANGELOG.md says what each one changed. */
-#define OPEN_PANEL_VERSION "0.12.0"
+#define OPEN_PANEL_VERSION "0.13.0"
 
 /* Lengths have 64 bits: a size_t of fewer would be read as another number. */
 typedef char open_panel_needs_a_size_t_of_8_bytes[sizeof(size_t) == 8 ? 1 : -1];
