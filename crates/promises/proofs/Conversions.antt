@@ -111,6 +111,7 @@ conversions = record {
   convert-for-c = λ deck was is a e.
       subst (ConvertTells deck was is) (sym (e .answers)) (tells (answered (convertSaid deck) was) (converts deck (entered (convertSaid deck) e)));
   today = λ s. refl;
+  before = refl;
   no-decimal = no-decimal;
   first-decimal = first-decimal;
   decimal-only = decimal-only;

@@ -227,6 +227,10 @@ passed (placed (number w) p ∷ ms) rest h = passed ms rest (λ v n f q i. h v n
 passed (placed (decimal v n f) p ∷ ms) rest h = absurd (h v n f p first)
 passed (placed outside p ∷ ms) rest h = passed ms rest (λ v n f q i. h v n f q (later i))
 
+-- so the first one is what is found
+first-found : {ms : Place} {p : ℕ} (d : FirstDecimal ms p) → found ms ≡ wrong decimalWeight (placed (decimal (d .v) (d .n) (d .f)) p ∷ d .after)
+first-found {p = p} d = ap found (d .split) ∙ passed (d .before) (placed (decimal (d .v) (d .n) (d .f)) p ∷ d .after) (d .earlier)
+
 in-none : {m : Placed} (ms : Place) → In m ms → ms ≡ [] → ⊥
 in-none (x ∷ ms) first e = let z : _≡_ {A = ℕ} 0 1 = cc in omega arith
 in-none (x ∷ ms) (later i) e = let z : _≡_ {A = ℕ} 0 1 = cc in omega arith
@@ -288,8 +292,7 @@ module _ (s : List ℕ) (c : Card) where
   pub first-decimal : readUnder true s ≡ taken c → (p : ℕ) → (readUnder false s ≡ refused decimalWeight p) ↔ FirstDecimal (marksOf s) p
   first-decimal e p = (
     (λ z. go (found (marksOf s)) (sees (marksOf s)) (sym (read-new s c e) ∙ z)),
-    λ d.
-        read-new s c e ∙ ap (judged (length s) c) (ap found (d .split) ∙ passed (d .before) (placed (decimal (d .v) (d .n) (d .f)) p ∷ d .after) (d .earlier)),
+    λ d. read-new s c e ∙ ap (judged (length s) c) (first-found d),
   )
     where
       go : (v : Verdict) → Sees (marksOf s) v → judged (length s) c v ≡ refused decimalWeight p → FirstDecimal (marksOf s) p

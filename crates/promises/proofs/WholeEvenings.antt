@@ -44,7 +44,14 @@ use Rattle.promises.proofs.Nights.{nights}
 
 tables : (c : Card) (q : Question) → Tables c q
 unfolding seatTable countTable turns reducedTurns
-tables c q = record { seats-turns = λ x. refl; seats-asked = λ x. refl; counts-turns = λ v. refl; counts-asked = λ v. refl }
+tables c q = record {
+  seats-choices = λ x. refl;
+  seats-turns = λ x. refl;
+  seats-asked = λ x. refl;
+  counts-choices = λ v. refl;
+  counts-turns = λ v. refl;
+  counts-asked = λ v. refl;
+}
 
 -- ---- on the way
 
@@ -108,7 +115,8 @@ module _ (card question seats : List ℕ) (m : ℕ) (a : Aim) (was is : Two (Lis
       → CloseToSeats card question seats m a value
   seats-close value (c, (q, (f, v))) =
       let x = seatingOf (c .0) seats in
-      (c, (q, subst (λ (n : ℕ). Close m (whole (c .0) m) n (exact (c .0) a (bySeats (c .0) (q .0)) m x)) (sym v) (evening card c (q .0) a m x (f .seating .valid) .close)))
+      let near = subst (λ (n : ℕ). Close m (whole (c .0) m) n (exact (c .0) a (bySeats (c .0) (q .0)) m x)) (sym v) (evening card c (q .0) a m x (f .seating .valid) .close) in
+      (c, (q, (f .seating, near)))
 
   answered : (r : Answer) → Enters inRows told was is (oddsSaid card question seats m a (length (was .first)) (length (was .second))) r
       → (value : ℕ) → r ≡ Done value → CloseToSeats card question seats m a value

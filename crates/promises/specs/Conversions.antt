@@ -93,7 +93,9 @@ pub record Conversions : Type 0 where
   pub convert-for-c : (deck was is : List ℕ) (a : OpenPanelAnswer) → Told was is (convertSaid deck) a → ConvertTells deck was is a
   -- the new rule is the one by which every other entry reads
   pub today : (s : List ℕ) → readUnder newRule s ≡ readOf s
-  -- it takes what the old rule takes, as the same card, exactly if no mark of it is a decimal
+  -- the old rule takes decimals
+  pub before : oldRule ≡ true
+  -- the new rule takes what the old one takes, as the same card, exactly if no mark of it is a decimal
   pub no-decimal : (s : List ℕ) (c : Card) → (readUnder newRule s ≡ taken c) ↔ ((readUnder oldRule s ≡ taken c) × NoDecimal (marksOf s))
   -- else it refuses it with 17, at its first decimal
   pub first-decimal : (s : List ℕ) (c : Card) → readUnder oldRule s ≡ taken c → (p : ℕ) → (readUnder newRule s ≡ turned decimalWeight p) ↔ FirstDecimal (marksOf s) p
@@ -102,7 +104,7 @@ pub record Conversions : Type 0 where
   -- each live card reads under the new rule as it read under the old one; what the new rule takes stays byte for byte
   pub same-card : (e : Entry) (body : List ℕ) → NewBody e body → SameCard e body
   pub unchanged : (e : Entry) (body : List ℕ) → NewLive e → NewBody e body → body ≡ e .body
-  -- so a card with no decimal is copied, and a live one that has some is written
+  -- so what has no decimal stays as it is, and of a live card that has some only the written form is left
   pub copied : (e : Entry) (body : List ℕ) → NoDecimal (marksOf (e .body)) → NewBody e body → body ≡ e .body
   pub rewritten : (e : Entry) (body : List ℕ) (p : ℕ) → e .live ≡ true → FirstDecimal (marksOf (e .body)) p → NewBody e body
       → (c : Card) × (readUnder oldRule (e .body) ≡ taken c) × (body ≡ writeOf c)

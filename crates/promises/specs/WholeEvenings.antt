@@ -7,14 +7,14 @@ use lib.ListN.{length}
 use Rattle.card.specs.Card.{Card}
 use Rattle.meaning.specs.Position.{Position}
 use Rattle.meaning.specs.Reordered.{Reordered}
-use Rattle.meaning.specs.Seats.{Seating, ValidSeating, Stuck, counted, turns}
-use Rattle.meaning.specs.Reduced.{reduce, reducedTurns}
+use Rattle.meaning.specs.Seats.{Seating, ValidSeating, Stuck, counted, choices, turns}
+use Rattle.meaning.specs.Reduced.{reduce, reducedChoices, reducedTurns}
 use Rattle.entry.specs.Contract.{Two, Enters, inRows}
 use Rattle.rows.specs.Said.{Read}
 use Rattle.room.specs.declared.Answer.{Answer}
 use Rattle.room.specs.declared.Answer.the-variants.{Done}
 use Rattle.room.specs.Answer.{told}
-use Rattle.seating.specs.Judged.{seatingOf}
+use Rattle.seating.specs.Judged.{seatingOf, Seated}
 use Rattle.asking.specs.Meant.{Question, holdsOn, testFor, passesOn}
 use Rattle.ask_said.specs.AskSaid.{Understood}
 use Rattle.evenings.specs.Limits.{mostNights}
@@ -31,10 +31,12 @@ use Rattle.entry_promises.specs.ForC.{Answers}
 
 -- the two tables of a card and a question
 pub record Tables (c : Card) (q : Question) : Type 0 where
-  -- by seats: the turns of every seat by itself, as `Meanings.own-seat` and `Meanings.pairs` have them, and the question as it holds on the seats
+  -- by seats: the choices and turns of every seat by itself, as `Meanings.own-seat` and `Meanings.pairs` have them, and the question as it holds on the seats
+  pub seats-choices : (x : Seating) → bySeats c q .choices x ≡ choices c x
   pub seats-turns : (x : Seating) → turnsAt (bySeats c q) x ≡ turns c x
   pub seats-asked : (x : Seating) → bySeats c q .asked x ≡ holdsOn x q
-  -- by counts: the turns of the reduced program, and the question's translation
+  -- by counts: the choices and turns of the reduced program, and the question's translation
+  pub counts-choices : (v : Position) → byCounts c q .choices v ≡ reducedChoices (reduce c) v
   pub counts-turns : (v : Position) → turnsAt (byCounts c q) v ≡ reducedTurns (reduce c) v
   pub counts-asked : (v : Position) → byCounts c q .asked v ≡ passesOn v (testFor (c .n) q)
 
@@ -47,17 +49,17 @@ pub record WholeEvening (c : Card) (q : Question) (a : Aim) (m : ℕ) (x : Seati
   -- a stuck seating keeps it
   pub stuck : Stuck c x → exact c a (bySeats c q) (suc m) x ≡ exact c a (bySeats c q) m x * bottom (mostTurns c)
 
--- the bytes are a card and a question on it, and a value in millionths is close to the chance of the seats themselves
+-- the bytes are a card, a question on it and a valid seating of it, and a value in millionths is close to the chance of the seats themselves
 abbrev pub CloseToSeats : (card question seats : List ℕ) (m : ℕ) → Aim → (value : ℕ) → Type 0
 CloseToSeats card question seats m a value =
-    (c : Read card) × ((q : Understood question (c .0)) × Close m (whole (c .0) m) value (exact (c .0) a (bySeats (c .0) (q .0)) m (seatingOf (c .0) seats)))
+    (c : Read card) × ((q : Understood question (c .0)) × (Seated (c .0) seats × Close m (whole (c .0) m) value (exact (c .0) a (bySeats (c .0) (q .0)) m (seatingOf (c .0) seats))))
 
 pub record WholeEvenings : Type 0 where
   -- what is iterated: on the one side all seats are told apart, on the other only counted
   pub tables : (c : Card) (q : Question) → Tables c q
-  -- no evening leads out of the valid seatings, so what is said of one seating holds all the way (`Chance.turns` among it)
+  -- no step leads out of the valid seatings, so none of an evening does, and what is said of one seating holds all the way (`Chance.turns` among it)
   pub leads : (card : List ℕ) (c : Read card) (x : Seating) → ValidSeating (c .0) x → Leads (ValidSeating (c .0)) (turns (c .0) x)
-  -- of whatever card is taken and seating is valid on it, with the shared number where the card has one, up to 32 steps ahead and for either aim
+  -- for every card that is taken, every question and every seating valid on it, with the shared number where the card has one, up to 32 steps ahead and for either aim
   pub evening : (card : List ℕ) (c : Read card) (q : Question) (a : Aim) (m : ℕ) → m ≤ mostNights → (x : Seating) → ValidSeating (c .0) x → WholeEvening (c .0) q a m x
   -- what is answered for any bytes is that close to the chance of the seats themselves; for C, in numbers, too
   pub answered : (card question seats : List ℕ) (m : ℕ) (a : Aim) (was is : Two (List ℕ)) (r : Answer)
