@@ -1,5 +1,12 @@
 -- The demands, by citing. Assumes nothing.
+use Prim.Native.Nat.{ℕ}
 use Rattle.meaning.proofs.Vectors.{position-right}
+use mathlib.Core.Path.{ap}
+use mathlib.Core.List.{List}
+use lib.ListN.{length}
+use Rattle.meaning.specs.Position.{Position}
+use Rattle.meaning.specs.Steps.{Step}
+use Rattle.meaning.specs.Seats.{Seating}
 use Rattle.meaning.specs.Reduced.{reduce}
 use Rattle.meaning.proofs.Demand.{demand, offers, stuck-alike, stuck-steps, starts}
 use Rattle.meaning.proofs.Stuck.{nothing-taken, stuck, moving, stuck-step, none-taken-at, stuck-at, moving-at, stuck-step-at}
