@@ -1,7 +1,7 @@
 -- A piece moved in parts: down, each part is read behind what has been stored; up, before it. So the parts are the piece moved at once. Assumes nothing.
-use Prim.Native.Nat.{ℕ, suc, _+_, _-_, _≤_, _<_}
-use mathlib.Core.Path.{_≡_, refl, sym, ap, _∙_}
-use mathlib.Core.List.{List, [], _∷_, _++_, append-nil}
+use Prim.Native.Nat.{ℕ, _+_, _-_, _≤_, _<_}
+use mathlib.Core.Path.{_≡_, sym, ap, _∙_}
+use mathlib.Core.List.{List, _++_, append-nil}
 use native.Mathlib.Omega.{arith}
 use lib.ListN.{length, take, drop, getD, set, length-drop, length-take, drop-of-length-le, take-append-drop}
 use lib.Seq.{drop-drop, drop-at, getD-drop, take-add, take-take}

@@ -5,7 +5,7 @@ ghost use lib.ListN.{length, take, drop};
 ghost use Rattle.room.specs.Room.{clip};
 ghost use Rattle.byte_blocks.specs.Blocks.{blockBytes, BlocksDown, BlocksUp};
 
-pub const BLOCK_BYTES: usize = 32;
+const BLOCK_BYTES: usize = 32;
 
 fn block_at(room: &[u8], from: usize) -> [u8; BLOCK_BYTES]
     requires { ⌜ from + blockBytes ≤ length (now room) ⌝ }

@@ -1,6 +1,6 @@
 -- What is kept of a deck's contents are its live entries, and no body has been touched. Assumes nothing.
 use Prim.Native.Nat.{ℕ, zero, suc, _+_, _*_, _≤_}
-use mathlib.Core.Path.{_≡_, refl, sym, ap, _∙_}
+use mathlib.Core.Path.{_≡_, refl, ap, _∙_}
 use mathlib.Core.Bool.{Bool, true, false}
 use mathlib.Core.List.{List, [], _∷_, _++_, append-assoc, map}
 use native.Mathlib.Omega.{arith}
@@ -13,7 +13,7 @@ use Rattle.live_rows.specs.LiveRows.{liveRows}
 use Rattle.gathering.specs.LiveText.{Ahead}
 use Rattle.gathering.proofs.Ahead.{ahead-from, same-row}
 use Rattle.gathering.proofs.Bodies.{same-later}
-use Rattle.live_contents.specs.Kept.{keptRow, keptRows}
+use Rattle.live_contents.specs.Kept.{keptRows}
 
 -- ---- the entries
 
