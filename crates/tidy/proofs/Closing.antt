@@ -178,9 +178,6 @@ module _ (was : List ℕ) {cards bytes : ℕ} (m : Measured was cards bytes) {co
         pub long4 : length s4 ≡ length was
         long4 = ap length all-there ∙ length-clip s1 0 (tidyText was) ∙ long1
 
-        pub long5 : {s5 : List ℕ} → s5 ≡ clip s4 (behind cards + bytes) (zeroed (drop (behind cards + bytes) s4)) → length s5 ≡ length was
-        long5 e5 = ap length e5 ∙ length-clip s4 (behind cards + bytes) (zeroed (drop (behind cards + bytes) s4)) ∙ long4
-
         pub closed : {s5 : List ℕ} → s5 ≡ clip s4 (behind cards + bytes) (zeroed (drop (behind cards + bytes) s4)) → s5 ≡ lentAfter (tidyText was) was
         closed e5 =
             then-zeros was s1 (tidyText was) long1 (omega (arith, text-long, inside, few)) (sym text-long)

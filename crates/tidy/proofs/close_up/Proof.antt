@@ -1,7 +1,9 @@
 -- `tidy::close_up` meets its contract: each step stores a text, and together they are the tidied deck and zero bytes. Assumes nothing.
-use Rattle.tidy.proofs.Closing.{few, few-cards, inside, long1, gatherable, offsets, long4, long5, closed}
+use Rattle.tidy.proofs.Closing.{few, few-cards, inside, long1, gatherable, offsets, long4, closed}
+use Rattle.byte_blocks.proofs.Clips.{clip-long}
 use native.Mathlib.Omega.{arith}
 use borrow.Author.Needs.{needs}
+use mathlib.Core.Path.{_∙_}
 use Rattle.tidy.proofs.close_up.Statement.{statement}
 use Rattle.tidy.proofs.close_up.Tie as tie
 
@@ -76,7 +78,8 @@ same-length c =
     let at-keep-rows = at-gather-bodies .before .before .before .before in
     let at-wide = at-keep-rows .before .before in
     let start = at-wide .before .before .before in
-    long5 _ (start .pre) (at-wide .wide .ensures .0) (at-keep-rows .keep-rows .ensures) (at-gather-bodies .gather-bodies .ensures) (at-gather-rows .gather-rows .ensures) (at-clear-from .clear-from .ensures)
+    let before = long4 _ (start .pre) (at-wide .wide .ensures .0) (at-keep-rows .keep-rows .ensures) (at-gather-bodies .gather-bodies .ensures) (at-gather-rows .gather-rows .ensures) in
+    clip-long _ _ _ (at-clear-from .clear-from .ensures) ∙ before
 
 returns : tie.Need-returns
 returns c =
