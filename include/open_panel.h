@@ -6,7 +6,7 @@
  *
  * Link libopen_panel.a or libopen_panel.so, which dist/ has and `bin/library`
  * makes, for x86-64 and for aarch64 Linux (Android's too). Of the C library it
- * needs memcpy, memmove and memset, and nothing else: it has no state, no heap and no
+ * needs memcpy and memset, and nothing else: it has no state, no heap and no
  * system calls, so any number of threads may call it at once.
  *
  * The library has lengths of 64 bits, and this header compiles only where

@@ -22,9 +22,9 @@ same 'functions of the C file' "$(sed -n 's/^[a-z].*\b\(open_panel_[a-z_]*\)(.*{
 
 native=target/library/$machine-linux/libopen_panel
 same 'functions of the archive' "$(nm -g --defined-only "$native.a" | awk 'NF == 3 { print $3 }' | sort | xargs)" "$functions"
-same 'what the archive needs' "$(nm -u "$native.a" | awk 'NF == 2 { print $2 }' | sort -u | xargs)" 'memcpy memmove memset'
+same 'what the archive needs' "$(nm -u "$native.a" | awk 'NF == 2 { print $2 }' | sort -u | xargs)" 'memcpy memset'
 same 'functions of the shared library' "$(nm -D --defined-only "$native.so" | awk '{ print $3 }' | sort | xargs)" "$functions"
-same 'what the shared library needs' "$(nm -D -u "$native.so" | awk '{ print $2 }' | sort | xargs)" 'memcpy memmove memset'
+same 'what the shared library needs' "$(nm -D -u "$native.so" | awk '{ print $2 }' | sort | xargs)" 'memcpy memset'
 if command -v node >/dev/null; then
     module='const module = new WebAssembly.Module(require("fs").readFileSync("target/library/wasm32/open_panel.wasm"));'
     names='.map(x => x.name).sort().join(" ")'
