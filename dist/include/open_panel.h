@@ -6,7 +6,7 @@
  *
  * Link libopen_panel.a or libopen_panel.so, which dist/ has and `bin/library`
  * makes, for x86-64 and for aarch64 Linux (Android's too). Of the C library it
- * needs memcpy, memmove and memset, and nothing else: it has no state, no heap and no
+ * needs memcpy and memset, and nothing else: it has no state, no heap and no
  * system calls, so any number of threads may call it at once.
  *
  * The library has lengths of 64 bits, and this header compiles only where
@@ -45,7 +45,7 @@ extern "C" {
 #endif
 
 /* The version of this header; open_panel_version gives the library's. CHANGELOG.md says what each one changed. */
-#define OPEN_PANEL_VERSION "0.12.0"
+#define OPEN_PANEL_VERSION "0.13.0"
 
 /* Lengths have 64 bits: a size_t of fewer would be read as another number. */
 typedef char open_panel_needs_a_size_t_of_8_bytes[sizeof(size_t) == 8 ? 1 : -1];

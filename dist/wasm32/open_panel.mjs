@@ -8,7 +8,7 @@
 // rows are lent by this module. A card or a question is a string or bytes, seats and classes are bytes or numbers; on a card whose seats share
 // a number, that stands behind them. What is handed in stays as it is: `tidy` and `add` give a new deck. It needs nothing else.
 
-const VERSION = "0.12.0";
+const VERSION = "0.13.0";
 const NUMBERS = {
     CARD_BYTES: 16384,
     QUESTION_BYTES: 16384,
