@@ -9,6 +9,7 @@ cd "$(dirname "${BASH_SOURCE[0]}")/.."
 
 versions=0
 wrong=0
+elsewhere=0
 complain() { echo "$1" && wrong=$((wrong + 1)); }
 
 # lines_of LOG FILE FACT: the lines of the file at which the fact is refused
@@ -61,7 +62,7 @@ for edit in crates/*/must-fail/*.edit; do
                 case $where in
                     'src '*) refused_by_search "$log" "${where#src }" "$fact" ;;
                     *) refused "$log" "$where" "$fact" ;;
-                esac || complain "$edit: $name is not refused at $place"
+                esac || { echo "$edit: $name is not refused at $place" && elsewhere=$((elsewhere + 1)); }
                 ;;
             '#'*)
                 [[ $line =~ ^#\ ([a-z][a-z0-9_]*):\  ]] || { complain "$edit: neither a version nor a fact: $line" && continue; }
@@ -80,5 +81,13 @@ for edit in crates/*/must-fail/*.edit; do
     done <"$edit"
     ends
 done
-echo "refusals: $versions wrong versions, $wrong not refused where it is said"
-[ "$wrong" -eq 0 ] && [ "$versions" -ge 350 ]
+echo "refusals: $versions wrong versions, $elsewhere not refused where it is said, $wrong not written as they should be"
+
+# In which words a prover refuses, and how far it goes on behind that, is its own affair: the facts are those that the kit of dist/ names. Under another one only rt's verdict on
+# the edits counts, and what differs is printed.
+kit=$(sed -n 's/^kit //p' dist/MADE-OF)
+if [ "$elsewhere" -gt 0 ] && [ "$kit" != "$(rt version)" ]; then
+    echo "refusals: the facts were named with kit $kit, and this is $(rt version)"
+    elsewhere=0
+fi
+[ "$wrong" -eq 0 ] && [ "$elsewhere" -eq 0 ] && [ "$versions" -ge 350 ]
