@@ -84,9 +84,14 @@ found() { # KIND WORD PAGE
     esac
 }
 
+# what has been found once is not looked for again; a link is found from its page
+declare -A known
 while IFS=$'\t' read -r kind page line word; do
     looked=$((looked + 1))
-    if ! found "$kind" "$word" "$page"; then
+    [ -z "${known["$kind $word"]-}" ] || continue
+    if found "$kind" "$word" "$page"; then
+        [ "$kind" = link ] || known["$kind $word"]=1
+    else
         echo "$page:$line: there is no $kind $word"
         missing=$((missing + 1))
     fi
