@@ -1,7 +1,8 @@
 #!/usr/bin/env bash
 # What the pages name in backticks is there. By its form a word is one of these, or none that is looked for:
 #   a path, or a file's name with its ending    somewhere below the project's folder
-#   CRATE/must-fail/VERSION                     a wrong version in an edit; behind it, or in a column "Kept as", bare words are further ones of that crate
+#   CRATE/must-fail/EDIT                        an edit with a version of that name; CRATE/must-fail/EDIT:VERSION one with another version
+#   a bare word behind that, or "Kept as"       a version in an edit of the crate named before
 #   CRATE::NAME, MODULE::NAME, TYPE::NAME       something that the code names so
 #   statement : Type                            in `promises`, `card_promises`, `entry_promises`, `edges`, `entry_edges`, `question_edges`, `odds_edges`, `night_edges`, `mending_edges`, `converting_edges`, `tidying_edges`, `evening_edges`, `chances`, `odds_said`, `tidying` or `keeps`
 #   Record.field                                of a record there
@@ -35,13 +36,13 @@ named=$(awk '
                 continue
             }
             word = parts[i]
-            if (word ~ /^[a-z_]+\/must-fail\/[a-z0-9_]+$/) {
+            if (word ~ /^[a-z_]+\/must-fail\/[a-z0-9_]+(:[a-z0-9_]+)?$/) {
                 crate = word
                 sub(/\/.*/, "", crate)
                 say("edit", word)
                 was_edit = 1
             } else if (word ~ /^[a-z0-9_]+$/ && (was_edit || (columns && cell == columns - 1 && head_cells[cell] == " Kept as "))) {
-                say("edit", crate "/must-fail/" word)
+                say("version", crate "/" word)
                 was_edit = 1
             } else {
                 was_edit = 0
@@ -67,7 +68,8 @@ found() { # KIND WORD PAGE
     local first=${2%%::*} last=${2##*::}
     case $1 in
         link) [ -e "$(dirname "$3")/${2%%#*}" ] ;;
-        edit) grep -qs "^# ${2##*/}: " "crates/${2%%/*}/must-fail"/*.edit ;;
+        edit) grep -qs "^# $(sed 's/.*[/:]//' <<<"$2"): " "crates/${2%%:*}.edit" ;;
+        version) grep -qs "^# ${2#*/}: " "crates/${2%%/*}/must-fail"/*.edit ;;
         path) grep -qxF -e "./${2%/}" <<<"$files" || grep -qE -e "/$(sed 's/[.]/\\./g' <<<"${2%/}")\$" <<<"$files" ;;
         code)
             if [ -d "crates/$first" ]; then
