@@ -3,15 +3,14 @@
 use Prim.Native.Nat.{ℕ, suc, _<_}
 use mathlib.Core.Path.{_≡_, refl, ap, _∙_}
 use mathlib.Core.List.{List, [], _∷_, _++_, map}
-use lib.ListN.{length, set, length-set}
+use lib.ListN.{length, length-set}
 use lib.Seq.{getD-set-same, getD-set-other}
 use Rattle.card.specs.Card.{Branch, Statement, Card}
 use Rattle.meaning.specs.Sums.{flat}
-use Rattle.meaning.specs.Position.{position, setTo}
 use Rattle.meaning.specs.Steps.{Turn}
 use Rattle.meaning.specs.Choices.{Choice, choice, choicesOf, turnsIn}
 use Rattle.meaning.specs.Offers.{OneForOne}
-use Rattle.meaning.specs.Seats.{Seating, turn, turnsBy, turns, Stuck}
+use Rattle.meaning.specs.Seats.{Seating, stepBy, turn, turnsBy, turns, Stuck}
 use Rattle.meaning.specs.Apart.{SeatStep, takers}
 use Rattle.meaning.proofs.Stuck.{moving}
 
@@ -19,8 +18,7 @@ pub own-seat : (s : Statement) (x : Seating) (i : ℕ) → i < length (x .each) 
 unfolding turn
 own-seat s x i l = go (s .branches)
   where
-    go : (m : List Branch)
-        → OneForOne (SeatStep x i) m (map (λ (b : Branch). record { units = b .units; next = position (set (x .each) i (b .end)) (setTo (x .shared) (b .sets)) }) m)
+    go : (m : List Branch) → OneForOne (SeatStep x i) m (map (stepBy x i) m)
     go [] = tt
     go (b ∷ m) = (
       record {
