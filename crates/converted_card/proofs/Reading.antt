@@ -82,7 +82,7 @@ module _ (s : List ℕ) where
       sym (λ i. noteBy true (stricter s (t .card) (t .reads) i) (t .reads i))
 
   module _ {r q : Outline} {x y : Lent} {n p : ℕ} (h : ReadsUnder newRule s r x) (v : r .verdict ≡ Refused n p) (k : ReadsUnder oldRule s q y) where
-    pub note-none : {m l : ℕ} → q .verdict ≡ Refused m l → 65537 ≡ note
+    pub note-none : {m l : ℕ} → q .verdict ≡ Refused m l → noNote ≡ note
     note-none w = sym (λ i. noteBy true (turned-down k w i) (turned-down h v i))
 
     module _ (w : q .verdict ≡ Taken) {long : ℕ} (e : long ≡ length (writeOf (cardIn (q .head) y))) where
@@ -94,7 +94,7 @@ module _ (s : List ℕ) where
           let t = taken-in k w in
           (λ i. noteBy true (t .reads i) (turned-down h v i)) ∙ ap (λ (m : ℕ). if leb m cardBytes then suc m else noNote) (sym long-is)
 
-      pub note-long : cardBytes < long → 65537 ≡ note
+      pub note-long : cardBytes < long → noNote ≡ note
       note-long l = sym (by-length ∙ ap (λ (b : Bool). if b then suc long else noNote) (lt-leb long cardBytes l))
 
       pub note-written : long ≤ cardBytes → long + 1 ≡ note

@@ -2,6 +2,7 @@
 use card::Verdict;
 use card::limits::BRANCH_PLACES;
 use card::limits::CARD_BYTES;
+use card::limits::DECK_BYTES;
 use card::limits::NODE_PLACES;
 use card::limits::ROW_PLACES;
 use card_text::put_card;
@@ -21,8 +22,8 @@ ghost use Rattle.converted_rows.specs.Notes.{noteBy, writtenOf};
 // The rule by which boxes in the field were filled: a decimal may be a weight.
 const OLD_RULE: bool = true;
 
-// The note of a card that cannot be converted: past every deck.
-const NO_NOTE: usize = 65537;
+// The note of a card that cannot be converted: as if its written form were longer by one byte than any deck.
+const NO_NOTE: usize = DECK_BYTES + 2;
 
 // 0 if the new rule takes the card too, else one more than the length of its written form.
 pub fn note_of_card(card: &[u8]) -> usize

@@ -5,7 +5,7 @@ use mathlib.Core.List.{List, [], _∷_, _++_}
 use lib.Dec.{leb}
 use lib.ListN.{length}
 use Rattle.card.specs.Refusals.{notConverted}
-use Rattle.card.specs.Limits.{cardBytes, deckBytes, wordNumbers}
+use Rattle.card.specs.Limits.{cardBytes, deckBytes}
 use Rattle.card.specs.Text.{if_then_else_}
 use Rattle.entry.specs.Said.{Said, says, _>>=_, _>>_, unless}
 use Rattle.deck.specs.Contents.{Row}
@@ -15,9 +15,9 @@ use Rattle.texts.specs.Writing.{writeOf}
 use Rattle.converting.specs.Converting.{oldRule, newRule}
 use Rattle.converted_rows.specs.Noted.{sizeBy}
 
--- of a card that cannot be converted: as if its body were longer than any deck
+-- of a card that cannot be converted: as if its body were longer by one byte than any deck
 abbrev pub noNote : ℕ
-noNote = suc wordNumbers
+noNote = suc (suc deckBytes)
 
 abbrev pub noteBy : (live : Bool) (old new : Outcome) → ℕ
 noteBy false old new = 0
