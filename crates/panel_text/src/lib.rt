@@ -41,6 +41,16 @@ fn put_shared(room: &mut [u8], at: usize, shared: usize, present: usize) -> usiz
     put_line(room, at, b"shared", &values)
 }
 
+// How many are enabled, and how many sit in each state.
+fn put_counts(room: &mut [u8], at: usize, enabled: usize, states: usize, table: &[usize]) -> usize
+    requires { ⌜ states ≤ length (now table) ⌝ }
+    ensures { λ r. ⌜ Puts (now (room .entry)) (now (room .exit)) at (λ t. line " enabled" (enabled ∷ []) (line "counts" (take states (now (table .entry))) t)) r ⌝ }
+{
+    let values = [enabled];
+    let a = put_line(room, at, b" enabled", &values);
+    put_line(room, a, b"counts", &table[..states])
+}
+
 // The lines before the weights; the mode by its number in a card's struct.
 fn put_head(room: &mut [u8], at: usize, head: Head, table: &[usize]) -> usize
     requires { ⌜ (head .top ≤ topState) × (length (now table) ≡ tablePlaces) ⌝ }
@@ -52,10 +62,8 @@ fn put_head(room: &mut [u8], at: usize, head: Head, table: &[usize]) -> usize
     let a = put_mode(room, at, head.mode);
     let b = put_bytes(room, a, b"\nseats ");
     let c = put_number(room, b, head.seats);
-    let values = [enabled];
-    let d = put_line(room, c, b" enabled", &values);
-    let e = put_line(room, d, b"counts", &table[..states]);
-    put_shared(room, e, head.shared, present)
+    let d = put_counts(room, c, enabled, states, table);
+    put_shared(room, d, head.shared, present)
 }
 
 // The whole panel, of a card that lies in lent arrays. On a nondeterministic card the table has a weight of no change only where no choice

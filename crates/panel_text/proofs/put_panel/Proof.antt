@@ -3,6 +3,12 @@ use Rattle.phrases.proofs.Laws.{puts-then}
 use Rattle.moves_text.proofs.Blocks.{choices-text, stuck-text, weights-text}
 use native.Mathlib.Omega.{arith}
 use borrow.Author.Needs.{needs}
+use mathlib.Core.List.{[], _∷_}
+use Rattle.meaning.specs.Panel.{stayLine}
+use Rattle.phrases.specs.Puts.{Puts}
+use Rattle.panel_numbers.specs.Table.{sharedIn, stayIn}
+use Rattle.panel_wording.specs.PanelText.{line, staysText}
+use Rattle.panel_wording.specs.PanelIn.{tells}
 use Rattle.panel_text.proofs.put_panel.Statement.{statement}
 use Rattle.panel_text.proofs.put_panel.Tie as tie
 
@@ -75,6 +81,20 @@ put-stay-requires c κs = search needs
 same-length-3 : tie.Need-same-length-3
 same-length-3 c = search needs
 
+-- the stuck choice is choice 0
+stuck-choice : (c : tie.After-put-line)
+    → let head = c .before .before .before .before .before .before .before .before .before .put-head in
+    Puts (head .last .0) (c .put-line .last .0) (head .result) (line "choice" (0 ∷ [])) (c .put-line .result)
+stuck-choice c = c .put-line .ensures
+
+-- and its weight of no change is the table's
+stuck-stay : (c : tie.After-put-stay)
+    → let at-put-line = c .before .before .before .before in
+    let start = at-put-line .before .before .before .before .before .before .before .before .before .before .before .before .before .before .before .args in
+    let table = start .table .now in
+    Puts (at-put-line .put-line .last .0) (c .put-stay .last .0) (at-put-line .put-line .result) (staysText (tells (start .head .shared)) (stayLine (sharedIn table) (stayIn table (sharedIn table)))) (c .put-stay .result)
+stuck-stay c = c .put-stay .ensures
+
 returns-3 : tie.Need-returns-3
 returns-3 c =
     let at-put-line = c .before .before .before .before .before .before in
@@ -82,7 +102,7 @@ returns-3 c =
     let at-if1 = at-if2 .before in
     let at-put-head = at-if1 .before .before .before .before in
     let start = at-put-head .before .before .before .before .before .before in
-    stuck-text (start .args .head) (start .args .table .now) (start .args .rows .now) (start .args .branches .now) (at-if1 .if1 .left) (at-if2 .if2 .left) (puts-then (at-put-head .put-head .ensures) (puts-then (at-put-line .put-line .ensures) (c .before .before .put-stay .ensures)))
+    stuck-text (start .args .head) (start .args .table .now) (start .args .rows .now) (start .args .branches .now) (at-if1 .if1 .left) (at-if2 .if2 .left) (puts-then (at-put-head .put-head .ensures) (puts-then (stuck-choice at-put-line) (stuck-stay (c .before .before))))
 
 pub put-panel-spec : {M : Type 1} → statement M
 put-panel-spec =
