@@ -1,6 +1,9 @@
 -- `lines::put_move` meets its contract: no line from a state to itself, nor of weight 0; the shared number is told only where there is one. Assumes nothing.
 use Rattle.panel_wording.proofs.Laws.{move-same, move-none, move-bare, move-some}
 use Rattle.phrases.proofs.Laws.{puts-as, puts-none}
+use mathlib.Core.List.{[], _∷_}
+use Rattle.phrases.specs.Puts.{Puts}
+use Rattle.panel_wording.specs.PanelText.{line}
 use borrow.Author.Needs.{needs}
 use Rattle.lines.proofs.put_move.Statement.{statement}
 use Rattle.lines.proofs.put_move.Tie as tie
@@ -33,13 +36,18 @@ put-line-requires c κs = search needs
 same-length : tie.Need-same-length
 same-length c = search needs
 
+-- the old state stands before the new one
+old-first : (c : tie.After-put-line)
+    → let start = c .before .before .before .before .before .before .before .before .args in Puts (start .room .now) (c .put-line .last .0) (start .at) (line "move" (start .old ∷ start .new ∷ start .weight ∷ [])) (c .put-line .result)
+old-first c = c .put-line .ensures
+
 returns-3 : tie.Need-returns-3
 returns-3 c =
     let at-if3 = c .before .before .before .before .before .before in
     let at-if2 = at-if3 .before in
     let at-if1 = at-if2 .before in
     let start = at-if1 .before .before in
-    puts-as _ (λ t. move-bare _ _ _ (start .args .becomes) _ t (at-if1 .if1 .left) (at-if2 .if2 .left) (at-if3 .if3 .taken)) (c .before .before .put-line .ensures)
+    puts-as _ (λ t. move-bare _ _ _ (start .args .becomes) _ t (at-if1 .if1 .left) (at-if2 .if2 .left) (at-if3 .if3 .taken)) (old-first (c .before .before))
 
 slice-aggregate-put-line-3 : tie.Need-slice-aggregate-put-line-3
 slice-aggregate-put-line-3 c = search needs
