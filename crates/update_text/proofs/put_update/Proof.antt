@@ -1,7 +1,11 @@
 -- `update_text::put_update` meets its contract: by whether the branch leads to the own state, and by whether it sets something. Assumes nothing.
 use Rattle.update_text.proofs.Laws.{update-none, update-set, update-shift, update-both}
 use Rattle.phrases.proofs.Laws.{put-first, puts-then, puts-as}
+use Prim.Native.Nat.{ℕ}
+use mathlib.Core.Path.{_≡_}
 use native.Mathlib.Omega.{arith}
+use Rattle.card.specs.Text.{bytes}
+use Rattle.room.specs.Room.{Put}
 use borrow.Author.Needs.{needs}
 use Rattle.update_text.proofs.put_update.Statement.{statement}
 use Rattle.update_text.proofs.put_update.Tie as tie
@@ -15,13 +19,21 @@ put-bytes-requires c κs = search needs
 same-length : tie.Need-same-length
 same-length c = search needs
 
+-- nothing is set where `true` stands,
+nothing-set : (c : tie.After-put-bytes) → _≡_ {A = ℕ} (c .before .before .before .before .before .before .args .sets) 0
+nothing-set c = c .before .before .before .if2 .taken
+
+-- and that word it is
+true-put : (c : tie.After-put-bytes)
+    → let start = c .before .before .before .before .before .before .args in Put (start .room .now) (c .put-bytes .last .0) (start .at) (bytes "true") (c .put-bytes .result)
+true-put c = c .put-bytes .ensures
+
 returns : tie.Need-returns
 returns c =
     let at-put-bytes = c .before .before in
-    let at-if2 = at-put-bytes .before .before .before in
-    let at-if1 = at-if2 .before in
+    let at-if1 = at-put-bytes .before .before .before .before in
     let start = at-if1 .before .before in
-    puts-as _ (update-none (start .args .seats) (start .args .own) (start .args .end) (start .args .sets) (omega (arith, at-if1 .if1 .taken)) (omega (arith, at-if2 .if2 .taken))) (put-first (at-put-bytes .put-bytes .ensures))
+    puts-as _ (update-none (start .args .seats) (start .args .own) (start .args .end) (start .args .sets) (omega (arith, at-if1 .if1 .taken)) (nothing-set at-put-bytes)) (put-first (true-put at-put-bytes))
 
 sub-put-set : tie.Need-sub-put-set
 sub-put-set c = search needs
