@@ -107,9 +107,9 @@ module _ (s : List ℕ) (i most : ℕ) (before : Late) where
             semicolon-halts y = stops g (hz .sized) λ n. behind-init _ n λ m f. onward s _ _ (numbered numberOf (from s o m)) _ d l _ (hl .answers m) el λ x m₁ f₁.
                 halted s _ _ (sign ";" (from s l m₁)) _ g z (ended m₁) y
 
-            pub range-read : (z ≡ 0 → ⊥) → RangeIs (after (written g (valueIn a) (valueIn d)) z)
+            written-read : (z ≡ 0 → ⊥) → RangeIs (after (written g (valueIn a) (valueIn d)) z)
             unfolding judgeAll
-            range-read y = record {
+            written-read y = record {
               answers = λ n. rw (whole most (from s i n)) (behind-init _ n λ m f. onward s _ _ (numbered numberOf (from s o m)) _ d l _ (hl .answers m) el λ x m₁ f₁.
                   onward s _ _ (sign ";" (from s l m₁)) _ g z _ (ended m₁) y λ u m₂ f₂.
                   record {
@@ -124,3 +124,6 @@ module _ (s : List ℕ) (i most : ℕ) (before : Late) where
               within = λ e. omega (arith, written-top g (hz .sized) (valueIn a) (valueIn d), ht .within et);
               sized = written-sized g (hz .sized) (valueIn a) (valueIn d);
             }
+
+            pub range-read : {kept : List ℕ} → (z ≡ 0 → ⊥) → kept ≡ written g (valueIn a) (valueIn d) → RangeIs (after kept z)
+            range-read y e = rw e (written-read y)

@@ -19,7 +19,9 @@ use marks_on_a_card::kinds::SEMICOLON;
 use marks_on_a_card::kinds::SQUARE_CLOSE;
 use parts::number;
 use parts::sign;
-ghost use Rattle.late.specs.State.{Sized, lateIn, after};
+ghost use mathlib.Core.Path.{_≡_};
+ghost use lib.ListN.{set};
+ghost use Rattle.late.specs.State.{atTop, atStart, Sized, lateIn, after};
 ghost use Rattle.mode_and_range.specs.ModeRange.{ModeFrom, SpanFrom, RangeFrom};
 
 // The mode becomes the value.
@@ -75,6 +77,14 @@ fn span(card: &[u8], at: usize, most: usize, state: &mut [usize; STATE]) -> usiz
     end.at
 }
 
+// The two numbers of a range, stored.
+fn keep(state: &mut [usize; STATE], top: usize, start: usize)
+    ensures { λ r. ⌜ now (state .exit) ≡ set (set (now (state .entry)) atTop top) atStart start ⌝ }
+{
+    state[TOP] = top;
+    state[START] = start;
+}
+
 // 0..k] init l; of the states, or of the shared number: k goes to the top state's place and l to the start state's.
 pub fn range(card: &[u8], at: usize, most: usize, state: &mut [usize; STATE]) -> usize
     requires { ⌜ Sized (now state) ⌝ }
@@ -102,7 +112,6 @@ pub fn range(card: &[u8], at: usize, most: usize, state: &mut [usize; STATE]) ->
     if end == 0 {
         return 0;
     }
-    state[TOP] = top;
-    state[START] = start;
+    keep(state, top, start);
     end
 }
