@@ -43,7 +43,7 @@ module _ (level : ℕ) where
   has-or false = refl
 
 -- a bracket by its byte
-abbrev bracketIf : Bool → ℕ → Text
+abbrev pub bracketIf : Bool → ℕ → Text
 bracketIf b x r = if b then x ∷ r else r
 
 opens : (b : Bool) (r : List ℕ) → bracketIf b 40 r ≡ opening b r

@@ -4,9 +4,14 @@ use borrow.Author.Needs.{needs}
 use native.Mathlib.Omega.{arith}
 use Rattle.phrases.proofs.Laws.{put-first, puts-then, puts-as}
 use Rattle.literal_text.proofs.Laws.{sign-bytes}
-use Rattle.leaf_text.specs.Style.{styleOf, leafText}
-use Rattle.guard_text.proofs.Laws.{text-at-leaf, joined-above, joined-op, text-not, text-joined}
-use Prim.Native.Nat.{ℕ, _<_}
+use Rattle.card.specs.Laid.{guardAt}
+use Rattle.phrases.specs.Puts.{Puts}
+use Rattle.texts.specs.Shared.{formulaText}
+use Rattle.leaf_text.specs.Style.{styleOf, bracketsOf, leafText}
+use Rattle.guard_text.specs.Levels.{tightNumber, levelOf}
+use Rattle.guard_text.proofs.Laws.{bracketIf, text-at-leaf, joined-above, joined-op, text-not, text-joined}
+use Prim.Native.Nat.{ℕ, _-_, _<_}
+use lib.Dec.{leb}
 use borrow.Fn.Kinds.{In}
 use borrow.Fn.PlainCycle.{Measures, is, falls, and}
 use Rattle.guard_text.proofs.put_guard.Reads as put-guard
@@ -169,6 +174,23 @@ put-guard-put-bracket-requires-2 t c κs = search needs
 put-guard-same-length-3 : (t : ℕ) → put-guard-lts.Need-same-length-3 (put-guard-R t) (put-guard-at t) put-guard.Post
 put-guard-same-length-3 t c = search needs
 
+-- a part has its brackets by where it stands and by its sign,
+opens-by-level : (t : ℕ) (c : put-guard-lts.After-put-bracket (put-guard-R t) (put-guard-at t) put-guard.Post)
+    → let at-sign-between = c .before .before .before .before in
+    let start = at-sign-between .before .before .before .before .before .before .before .before .before .args in
+    Puts (start .room .now) (c .put-bracket .last .0) (start .at) (bracketIf (leb (tightNumber - at-sign-between .sign-between .result) (c .before .before .bracket-level .result)) 40) (c .put-bracket .result)
+opens-by-level t c = c .put-bracket .ensures
+
+-- and its right operand may not be joined by its own sign
+right-tighter : (t : ℕ) (c : put-guard-lts.After-put-guard3 (put-guard-R t) (put-guard-at t) put-guard.Post)
+    → let at-put-three = c .before .before .before .before in
+    let at-sign-between = at-put-three .before .before .before .before .before .before .before .before .before .before .before .before in
+    let at-right-of = at-sign-between .before in
+    let start = at-right-of .before .before .before .before .before .before .before .before .args in
+    let style = styleOf (start .text) (start .own) (start .seats) 1 in
+    Puts (at-put-three .put-three .last .0) (c .put-guard3 .last .0) (at-put-three .put-three .result) (formulaText (bracketsOf style) (leafText style) (levelOf (tightNumber - at-sign-between .sign-between .result)) (guardAt (start .nodes .now) (at-right-of .right-of .result))) (c .put-guard3 .result)
+right-tighter t c = c .put-guard3 .ensures
+
 put-guard-returns-3 : (t : ℕ) → put-guard-lts.Need-returns-3 (put-guard-R t) (put-guard-at t) put-guard.Post
 put-guard-returns-3 t c =
     let at-put-bracket2 = c .before .before in
@@ -192,8 +214,8 @@ put-guard-returns-3 t c =
     let joins = at-if1 .if1 .left in
     puts-as _ (text-joined (a .text) leaf (a .level) (a .nodes .now) (a .n) number (at-number-at .number-at .ensures) (joined-op (a .n) number op joins) (joined-above (a .n) number op joins)
     (at-left-of .left-of .ensures .0) (at-bracket-level .bracket-level .ensures) (at-right-of .right-of .ensures .0) joins (at-if2 .if2 .left) (at-sign-between .sign-between .ensures .0))
-    (puts-then (at-put-bracket .put-bracket .ensures) (puts-then (at-put-guard2 .put-guard2 .ensures)
-    (puts-then (puts-as _ (sign-bytes (at-sign-between .sign-between .result) (at-joint-of .joint-of .ensures)) (put-first (at-put-three .put-three .ensures))) (puts-then (at-put-guard3 .put-guard3 .ensures) (at-put-bracket2 .put-bracket2 .ensures)))))
+    (puts-then (opens-by-level t at-put-bracket) (puts-then (at-put-guard2 .put-guard2 .ensures)
+    (puts-then (puts-as _ (sign-bytes (at-sign-between .sign-between .result) (at-joint-of .joint-of .ensures)) (put-first (at-put-three .put-three .ensures))) (puts-then (right-tighter t at-put-guard3) (at-put-bracket2 .put-bracket2 .ensures)))))
 
 pub +put-guard-spec : {M : Type 1} → statement M
 +put-guard-spec = close μ-put-guard λ t. put-guard-lts.spec (put-guard-R t)
