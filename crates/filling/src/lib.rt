@@ -15,10 +15,29 @@ use weighing::store_ables;
 use weighing::taken_of;
 use weights::Weight;
 ghost use mathlib.Core.Path.{_≡_};
+ghost use Prim.Native.Nat.{_<_};
+ghost use lib.ListN.{set};
+ghost use Rattle.card.specs.Limits.{unit};
 ghost use Rattle.card.specs.Lent.{lent};
 ghost use Rattle.seating.specs.Judged.{seatingIn};
-ghost use Rattle.panel_numbers.specs.Table.{tableOf};
+ghost use Rattle.panel_numbers.specs.Table.{enabledPlace, tablePlaces, tableOf};
 ghost use Rattle.panel_numbers.specs.Fitting.{Filling};
+
+// What the one step weighs where none can be taken.
+fn stuck_weight() -> usize
+    ensures { λ r. ⌜ r ≡ unit ⌝ }
+{
+    Weight::UNIT as usize
+}
+
+// That step, stored: it is enabled.
+fn store_stuck(table: &mut [usize; TABLE_PLACES], stay: usize, weight: usize)
+    requires { ⌜ stay < tablePlaces ⌝ }
+    ensures { λ r. ⌜ now (table .exit) ≡ set (set (now (table .entry)) enabledPlace 1) stay weight ⌝ }
+{
+    table[ENABLED] = 1;
+    table[stay] = weight;
+}
 
 // The table of a card and a seating of it. Where none can be taken no weight is added up: there is one step, which changes nothing.
 pub fn fill<'a>(
@@ -40,10 +59,9 @@ pub fn fill<'a>(
     store_ables(table, head, rows, nodes, &counts[..states], shared);
     let taken = taken_of(head.mode, table, head.count);
     if taken == 0 {
-        let unit = Weight::UNIT as usize;
+        let weight = stuck_weight();
         let stay = STAYS + shared;
-        table[ENABLED] = 1;
-        table[stay] = unit;
+        store_stuck(table, stay, weight);
         return;
     }
     table[ENABLED] = taken;

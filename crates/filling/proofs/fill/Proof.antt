@@ -4,7 +4,10 @@ use Rattle.seating.specs.Judged.{seatingIn}
 use Rattle.card.proofs.HeldIn.{holds-top, holds-count}
 use lib.Seq.{length-take-le}
 use native.Mathlib.Omega.{arith}
-use mathlib.Core.Path.{refl, sym}
+use mathlib.Core.Path.{_≡_, sym, _∙_}
+use Prim.Native.Nat.{_+_}
+use lib.ListN.{set}
+use Rattle.panel_numbers.specs.Table.{enabledPlace, staysFrom}
 use borrow.Author.Needs.{needs}
 use Rattle.filling.proofs.fill.Statement.{statement}
 use Rattle.filling.proofs.fill.Tie as tie
@@ -65,47 +68,46 @@ taken-of-requires c κs =
     let start = at-count-seats .before .before in
     able-fits (start .pre) (at-count-seats .count-seats .ensures) (at-shared-of .shared-of .ensures) (at-store .store .ensures) (c .before .store-ables .ensures)
 
-cast-unit : tie.Need-cast-unit
-cast-unit c = search needs
+stuck-weight-requires : tie.Need-stuck-weight-requires
+stuck-weight-requires c κs = search needs
 
 add-stay : tie.Need-add-stay
 add-stay c =
-    let at-store = c .before .before .before .before .before .before .before in
+    let at-store = c .before .before .before .before .before .before .before .before in
     let at-shared-of = at-store .before .before .before in
     let at-count-seats = at-shared-of .before in
     let start = at-count-seats .before .before in
     omega (arith, shared-fits (start .pre) (at-count-seats .count-seats .ensures) (at-shared-of .shared-of .ensures) (at-store .store .ensures))
 
-element-write-table-2 : tie.Need-element-write-table-2
-element-write-table-2 c = search needs
-
-mul-table : tie.Need-mul-table
-mul-table c =
-    let at-store = c .before .before .before .before .before .before .before in
+store-stuck-requires : tie.Need-store-stuck-requires
+store-stuck-requires c κs =
+    let at-store = c .before .before .before .before .before .before .before .before .before in
     let at-shared-of = at-store .before .before .before in
     let at-count-seats = at-shared-of .before in
     let start = at-count-seats .before .before in
     omega (arith, shared-fits (start .pre) (at-count-seats .count-seats .ensures) (at-shared-of .shared-of .ensures) (at-store .store .ensures))
 
-element-write-table-3 : tie.Need-element-write-table-3
-element-write-table-3 c =
-    let at-store = c .before .before .before .before .before .before .before in
-    let at-shared-of = at-store .before .before .before in
-    let at-count-seats = at-shared-of .before in
-    let start = at-count-seats .before .before in
-    omega (arith, shared-fits (start .pre) (at-count-seats .count-seats .ensures) (at-shared-of .shared-of .ensures) (at-store .store .ensures))
+-- where none can be taken, the stuck weight is stored as that of no change
+stuck-stored : (c : tie.After-store-stuck)
+    → let at-store-ables = c .before .before .before .before .before .before in
+    let shared = at-store-ables .before .before .before .before .before .before .before .shared-of .result in
+    c .store-stuck .last .0 ≡ set (set (at-store-ables .store-ables .last .0) enabledPlace 1) (staysFrom + shared) (c .before .before .stuck-weight .result)
+stuck-stored c = c .store-stuck .ensures
 
 returns : tie.Need-returns
 returns c =
-    let at-store-ables = c .before .before .before in
+    let at-if1 = c .before .before .before in
+    let at-taken-of = at-if1 .before in
+    let at-store-ables = at-taken-of .before .before in
     let at-store = at-store-ables .before .before .before .before in
     let at-shared-of = at-store .before .before .before in
     let at-count-seats = at-shared-of .before in
     let start = at-count-seats .before .before in
-    filled-stuck (start .pre) (at-count-seats .count-seats .ensures) (at-shared-of .shared-of .ensures) (at-store .store .ensures) (at-store-ables .store-ables .ensures) (c .before .taken-of .ensures) (c .if1 .taken) refl
+    stuck-stored c
+    ∙ filled-stuck (start .pre) (at-count-seats .count-seats .ensures) (at-shared-of .shared-of .ensures) (at-store .store .ensures) (at-store-ables .store-ables .ensures) (at-taken-of .taken-of .ensures) (at-if1 .if1 .taken) (c .before .before .stuck-weight .ensures)
 
-element-write-table-4 : tie.Need-element-write-table-4
-element-write-table-4 c = search needs
+element-write-table-2 : tie.Need-element-write-table-2
+element-write-table-2 c = search needs
 
 store-stays-requires : tie.Need-store-stays-requires
 store-stays-requires c κs =
@@ -142,12 +144,10 @@ fill-spec =
     slice-aggregate-store-ables
     store-ables-requires
     taken-of-requires
-    cast-unit
+    stuck-weight-requires
     add-stay
-    element-write-table-2
-    mul-table
-    element-write-table-3
+    store-stuck-requires
     returns
-    element-write-table-4
+    element-write-table-2
     store-stays-requires
     returns-2)
