@@ -15,6 +15,13 @@ module _ {first : Verdict} (second : Verdict) where
   pub tells-second : first ≡ Taken → second ≡ firstRefusal first second
   tells-second e = rw e
 
+  pub tells-only : second ≡ Taken → first ≡ firstRefusal first second
+  tells-only e = rw e (go first)
+    where
+      go : (v : Verdict) → v ≡ firstRefusal v Taken
+      go Taken = refl
+      go (Refused number place) = refl
+
 -- what is told, of each
 module _ (first second : Verdict) where
   pub both-taken : firstRefusal first second ≡ Taken → (first ≡ Taken) × (second ≡ Taken)

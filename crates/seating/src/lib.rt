@@ -15,6 +15,13 @@ ghost use Rattle.card.specs.declared.Verdict.the-variants.{Taken, Refused};
 ghost use Rattle.seating.specs.Judged.{judgedFrom, judgedSeats, sharedAt};
 ghost use Rattle.seating.specs.FirstRefusal.{firstRefusal};
 
+// A refusal at a place.
+fn refusal_at(number: u8, at: usize) -> Verdict
+    ensures { λ r. ⌜ r ≡ Refused number at ⌝ }
+{
+    Verdict::Refused(number, at)
+}
+
 // Is each of them at most `most`? The first above is refused with the number.
 pub fn judge_each(list: &[u8], most: usize, number: u8) -> Verdict
     ensures { λ r. ⌜ r ≡ judgedFrom number most 0 (now (list .entry)) ⌝ }
@@ -23,7 +30,7 @@ pub fn judge_each(list: &[u8], most: usize, number: u8) -> Verdict
     while i < list.len() {
         let value = wide(list[i]);
         if most < value {
-            return Verdict::Refused(number, i);
+            return refusal_at(number, i);
         }
         i += 1;
     }

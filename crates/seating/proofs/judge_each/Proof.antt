@@ -24,10 +24,14 @@ shared-slice-read-wide c = search needs
 wide-requires : tie.Need-wide-requires Inv-loop μ-loop
 wide-requires c κs = search needs
 
+refusal-at-requires : tie.Need-refusal-at-requires Inv-loop μ-loop
+refusal-at-requires c κs = search needs
+
 returns : tie.Need-returns Inv-loop μ-loop
 returns c =
-    let at-loop = c .before .before .before .before in
-    sym (at-loop .loop .inv .1 ∙ judged-above _ _ _ _ (c .before .before .before .loop-test .taken) (omega (arith, c .before .wide .ensures)))
+    let at-if1 = c .before in
+    let at-loop = at-if1 .before .before .before .before in
+    c .refusal-at .ensures ∙ sym (at-loop .loop .inv .1 ∙ judged-above _ _ _ _ (at-if1 .before .before .before .loop-test .taken) (omega (arith, at-if1 .before .wide .ensures)))
 
 add-i : tie.Need-add-i Inv-loop μ-loop
 add-i c = search needs
@@ -52,6 +56,7 @@ judge-each-spec =
     loop-holds
     shared-slice-read-wide
     wide-requires
+    refusal-at-requires
     returns
     add-i
     loop-less
