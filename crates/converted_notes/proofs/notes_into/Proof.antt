@@ -1,6 +1,7 @@
 -- `converted_notes::notes_into` meets its contract: entry by entry, where notes found so far stand before those that follow (`Going`). Assumes nothing.
 use native.Mathlib.Omega.{arith}
-use Prim.Native.Nat.{_-_, _<_}
+use Prim.Native.Nat.{_+_, _-_, _<_}
+use Rattle.card.specs.Limits.{deckBytes}
 use Rattle.deck.specs.Contents.{countOf}
 use Rattle.converted_notes.proofs.Walk.{Going, begins, ended, in-contents, right-row, end-small, stopped, goes-on}
 use Rattle.converted_notes.proofs.notes_into.Statement.{statement}
@@ -60,14 +61,25 @@ word-at-requires c κs =
     let there = in-contents (start .args .deck .now) (start .pre .0) (at-loop .loop .inv) less in
     omega (arith, there)
 
-returns : tie.Need-returns Inv-loop μ-loop
-returns c =
+-- it stops only where a body ends past the longest deck
+abbrev Past : Type 0
+Past = (c : tie.Then1 Inv-loop μ-loop) → deckBytes < c .before .before .before .before .loop .end + c .before .new-size .result
+
+past : Past
+past c = c .if1 .taken
+
+-- where it stops for that, it names the card by its number
+names-card : Past → tie.Need-returns Inv-loop μ-loop
+names-card past c =
     let at-note-of = c .before .before .before in
     let at-loop-test = at-note-of .before in
     let at-loop = at-loop-test .before in
     let start = at-loop .before .before in
     let less : at-loop .loop .i < countOf (start .args .deck .now) = omega (arith, at-loop-test .loop-test .taken, start .pre .1 .0) in
-    stopped (start .args .deck .now) (start .pre .0) (at-loop .loop .inv) less (at-note-of .note-of .ensures) (c .before .before .new-size .ensures) (c .before .if1 .taken) (c .word-at .ensures .0)
+    stopped (start .args .deck .now) (start .pre .0) (at-loop .loop .inv) less (at-note-of .note-of .ensures) (c .before .before .new-size .ensures) (past (c .before)) (c .word-at .ensures .0)
+
+returns : tie.Need-returns Inv-loop μ-loop
+returns = names-card past
 
 add-from : tie.Need-add-from Inv-loop μ-loop
 add-from c =
