@@ -1,7 +1,10 @@
 -- One way out for each way in which reading may end (proofs/Whole.antt). Assumes nothing.
 use native.Mathlib.Omega.{arith}
 use denote.Ref.{now}
-use Rattle.late.specs.State.{after}
+use mathlib.Core.Path.{_≡_}
+use Rattle.marks_on_a_card.specs.Kinds.{kEnd}
+use Rattle.late.specs.Settled.{settled}
+use Rattle.late.specs.State.{after, lateIn, refusalIn}
 use Rattle.question.proofs.Whole.{too-long, formula-stops, sized-still, unended, some-node, broken, understood}
 use borrow.Author.Needs.{needs}
 use Rattle.question.proofs.question_into.Statement.{statement}
@@ -103,6 +106,20 @@ settle-requires c κs =
     sized-still (now (entry .args .question)) (entry .args .seats) (entry .args .top) (entry .args .values) (now (entry .args .nodes)) (at-expression .expression .last .1 .1 .0) (omega (arith, at-if1 .if1 .left))
     (after (at-expression .expression .last .1 .1 .1 .0) (at-expression .expression .result)) (at-language .question-language .result) (at-language .question-language .ensures) (at-expression .expression .ensures)
 
+-- it goes on only where nothing stands behind the question
+nothing-behind : (c : tie.Else3) → c .before .before .before .step .result .mark .kind ≡ kEnd
+nothing-behind c = c .if3 .left
+
+abbrev read-before : tie.After-settle → tie.After-expression
+read-before c = c .before .before .before .before .before .before .before
+
+abbrev begun : tie.After-expression → tie.Start
+begun c = c .before .before .before .before .before .before
+
+-- what is kept is held against the number of seats
+settles-for-seats : (c : tie.After-settle) → refusalIn (c .settle .last .0) ≡ settled (begun (read-before c) .args .seats) (lateIn (read-before c .expression .last .1 .1 .1 .0))
+settles-for-seats c = c .settle .ensures .0
+
 array-read-t14 : tie.Need-array-read-t14
 array-read-t14 c = search needs
 
@@ -125,8 +142,8 @@ returns-4 c =
     let entry = at-if1 .before .before in
     rw (c .refused4 .ensures)
     (broken (now (entry .args .question)) (entry .args .seats) (entry .args .top) (entry .args .values) (now (entry .args .nodes)) (at-expression .expression .last .1 .1 .0) (omega (arith, at-if1 .if1 .left))
-    (after (at-expression .expression .last .1 .1 .1 .0) (at-expression .expression .result)) (at-language .question-language .result) (at-language .question-language .ensures) (at-expression .expression .ensures) (at-if2 .if2 .left) (at-step .step .result) (at-step .step .ensures) (at-if3 .if3 .left)
-    (entry .pre .0 .0) (entry .pre .0 .1) (at-settle .settle .last .0) (at-settle .settle .ensures .0) (at-if4 .if4 .taken))
+    (after (at-expression .expression .last .1 .1 .1 .0) (at-expression .expression .result)) (at-language .question-language .result) (at-language .question-language .ensures) (at-expression .expression .ensures) (at-if2 .if2 .left) (at-step .step .result) (at-step .step .ensures) (nothing-behind at-if3)
+    (entry .pre .0 .0) (entry .pre .0 .1) (at-settle .settle .last .0) (settles-for-seats at-settle) (at-if4 .if4 .taken))
 
 returns-5 : tie.Need-returns-5
 returns-5 c =
@@ -139,8 +156,8 @@ returns-5 c =
     let at-if1 = at-language .before in
     let entry = at-if1 .before .before in
     understood (now (entry .args .question)) (entry .args .seats) (entry .args .top) (entry .args .values) (now (entry .args .nodes)) (at-expression .expression .last .1 .1 .0) (omega (arith, at-if1 .if1 .left))
-    (after (at-expression .expression .last .1 .1 .1 .0) (at-expression .expression .result)) (at-language .question-language .result) (at-language .question-language .ensures) (at-expression .expression .ensures) (at-if2 .if2 .left) (at-step .step .result) (at-step .step .ensures) (at-if3 .if3 .left)
-    (entry .pre .0 .0) (entry .pre .0 .1) (at-settle .settle .last .0) (at-settle .settle .ensures .0) (c .if4 .left)
+    (after (at-expression .expression .last .1 .1 .1 .0) (at-expression .expression .result)) (at-language .question-language .result) (at-language .question-language .ensures) (at-expression .expression .ensures) (at-if2 .if2 .left) (at-step .step .result) (at-step .step .ensures) (nothing-behind at-if3)
+    (entry .pre .0 .0) (entry .pre .0 .1) (at-settle .settle .last .0) (settles-for-seats at-settle) (c .if4 .left)
 
 pub question-into-spec : {M : Type 1} → statement M
 question-into-spec =
