@@ -2,9 +2,11 @@
 -- Assumes nothing.
 use Prim.Native.Nat.{_-_, _^_}
 use denote.Ref.{now}
+use mathlib.Core.Path.{_≡_}
 use borrow.Author.Needs.{needs}
 use lib.ListN.{length, take, drop}
 use Rattle.grouping.specs.Language.{languageOf}
+use Rattle.kept_items.specs.KeptItems.{boundBy}
 use Rattle.items.proofs.Opening.{step-within, part-is, part-placed, no-bracket, no-item, item-kept}
 use Rattle.items.proofs.keep_item.Statement.{statement}
 use Rattle.items.proofs.keep_item.Tie as tie
@@ -55,6 +57,16 @@ returns-2 c =
 bound-requires : tie.Need-bound-requires
 bound-requires c κs = search needs
 
+abbrev item-read : tie.After-bound → tie.After-item
+item-read c = c .before .before .before
+
+abbrev begun : tie.After-item → tie.Start
+begun c = c .before .before .before .before .before .before
+
+-- the most that the item's number may be, by its kind
+most-by-kind : (c : tie.After-bound) → c .bound .result ≡ boundBy (languageOf (begun (item-read c) .args .language) .most) (item-read c .item .result .kind) (begun (item-read c) .args .top)
+most-by-kind c = c .bound .ensures
+
 lay-requires : tie.Need-lay-requires
 lay-requires c κs =
     let at-item = c .before .before .before .before .before in
@@ -79,7 +91,7 @@ returns-3 c =
     let l = step-within card (a .at) s (at-step .step-opening .ensures) in
     item-kept (languageOf (a .language)) card (a .at) (a .top) (now (a .nodes)) (now (a .state)) s (at-step .step-opening .ensures) l
     (take (length card - s .next .at) (drop (s .next .at) card)) (part-is card (s .next .at) l) (at-item .item .result) (at-item .item .ensures)
-    (at-if1 .if1 .left) (at-if2 .if2 .left) _ _ _ (at-bound .bound .result) (at-bound .bound .ensures) (c .lay .ensures)
+    (at-if1 .if1 .left) (at-if2 .if2 .left) _ _ _ (at-bound .bound .result) (most-by-kind at-bound) (c .lay .ensures)
 
 pub keep-item-spec : {M : Type 1} → statement M
 keep-item-spec =
