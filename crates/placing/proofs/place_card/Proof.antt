@@ -1,6 +1,10 @@
 -- `placing::place_card` meets its contract: number, count and room are judged; then the tidied deck takes the card. Assumes nothing.
 use Rattle.placing.proofs.Placing.{need-is, few-bytes, number-taken, too-many, too-small, place-found, insertable, placed}
 use Rattle.tidy.proofs.Entering.{changed-refused, changed-done}
+use Prim.Native.Nat.{_+_, _<_}
+use lib.ListN.{length}
+use Rattle.card.specs.Limits.{mostCards}
+use Rattle.deck.specs.Contents.{behind}
 use native.Mathlib.Omega.{arith}
 use borrow.Author.Needs.{needs}
 use Rattle.placing.proofs.place_card.Statement.{statement}
@@ -28,6 +32,13 @@ returns-2 c =
     let start = at-live-place .before .before .before .before in
     changed-refused (too-many (start .args .deck .now) (start .args .number) (start .args .card .now) (start .pre .0) (at-live-place .live-place .ensures .free (at-if1 .if1 .left)) (c .if2 .taken))
 
+-- another card has its place among those that a deck may hold
+abbrev OneMore : Type 0
+OneMore = (c : tie.Else2) → c .before .before .before .before .before .before .args .cards < mostCards
+
+one-more : OneMore
+one-more c = c .if2 .left
+
 add-need : tie.Need-add-need
 add-need c = omega (arith, c .if2 .left)
 
@@ -51,13 +62,27 @@ add-need-4 c =
 same-length-3 : tie.Need-same-length-3
 same-length-3 c = search needs
 
-returns-3 : tie.Need-returns-3
-returns-3 c =
+abbrev begun : tie.Then3 → tie.Start
+begun c = c .before .before .before .before .before .before .before
+
+-- the room is refused only where it is shorter than the new deck
+abbrev Short : Type 0
+Short = (c : tie.Then3) → length (begun c .args .deck .now) < behind (begun c .args .cards + 1) + begun c .args .bytes + length (begun c .args .card .now)
+
+short : Short
+short c = c .if3 .taken
+
+-- and then with the length that it should have
+says-length : OneMore → Short → tie.Need-returns-3
+says-length one-more short c =
     let at-if2 = c .before in
     let at-if1 = at-if2 .before in
     let at-live-place = at-if1 .before in
     let start = at-live-place .before .before .before .before in
-    changed-refused (too-small (start .args .deck .now) (start .args .number) (start .args .card .now) (start .pre .0) (at-live-place .live-place .ensures .free (at-if1 .if1 .left)) (at-if2 .if2 .left) (c .if3 .taken))
+    changed-refused (too-small (start .args .deck .now) (start .args .number) (start .args .card .now) (start .pre .0) (at-live-place .live-place .ensures .free (at-if1 .if1 .left)) (one-more at-if2) (short c))
+
+returns-3 : tie.Need-returns-3
+returns-3 = says-length one-more short
 
 close-up-requires : tie.Need-close-up-requires
 close-up-requires c κs =
@@ -70,7 +95,7 @@ insert-card-requires c κs =
     let at-if3 = at-close-up .before .before in
     let at-if2 = at-if3 .before in
     let start = at-if2 .before .before .before .before .before .before in
-    insertable (start .args .deck .now) (start .args .number) (start .args .card .now) (start .pre .0) (at-close-up .close-up .ensures) (start .pre .1) (at-if2 .if2 .left) (at-if3 .if3 .left)
+    insertable (start .args .deck .now) (start .args .number) (start .args .card .now) (start .pre .0) (at-close-up .close-up .ensures) (start .pre .1) (one-more at-if2) (at-if3 .if3 .left)
 
 same-length-4 : tie.Need-same-length-4
 same-length-4 c = search needs
@@ -89,7 +114,7 @@ returns-4 c =
     let card = start .args .card .now in
     let free = at-live-place .live-place .ensures .free (at-if1 .if1 .left) in
     changed-done
-    (place-found deck number card (start .pre .0) free (at-if2 .if2 .left) (at-if3 .if3 .left))
+    (place-found deck number card (start .pre .0) free (one-more at-if2) (at-if3 .if3 .left))
     (placed deck number card (start .pre .0) (at-close-up .close-up .ensures) (at-if3 .if3 .left) (at-insert-card .insert-card .ensures))
     (need-is deck number card (start .pre .0))
 
