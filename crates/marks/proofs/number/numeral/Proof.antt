@@ -3,9 +3,12 @@ use Rattle.marks.proofs.Starts.{numeral-outside, read-number, read-long
 use Rattle.marks_on_a_card.proofs.Numbers.{pointed-place, counted-fits}
 use borrow.Author.Tests.{not-true, not-false}
 use native.Mathlib.Omega.{arith}
-use mathlib.Core.Path.{sym, _∙_}
-use lib.ListN.{length}
-use Prim.Native.Nat.{_+_, _<_}
+use mathlib.Core.Path.{_≡_, sym, _∙_}
+use lib.ListN.{length, drop}
+use Prim.Native.Nat.{_+_, _≤_, _<_}
+use Rattle.card.specs.Limits.{numberDigits, furtherDigits}
+use Rattle.marks_on_a_card.specs.Bytes.{isDigit, run}
+use Rattle.marks_on_a_card.specs.Digits.{plain}
 use borrow.Author.Needs.{needs}
 use Rattle.marks.proofs.number.numeral.Statement.{statement}
 use Rattle.marks.proofs.number.numeral.Tie as tie
@@ -23,6 +26,11 @@ digits-from-requires c κs = search needs
 is-plain-requires : tie.Need-is-plain-requires
 is-plain-requires c κs = c .digits-from .ensures .count-is
 
+-- the digits before a point are judged as a number's
+digits-judged : (c : tie.After-is-plain)
+    → let start = c .before .before .before in c .is-plain .result ≡ plain numberDigits (run isDigit (drop (start .args .at) (start .args .card .now)))
+digits-judged c = c .is-plain .ensures
+
 add-bare : tie.Need-add-bare
 add-bare c = search needs
 
@@ -36,7 +44,7 @@ returns c =
     λ k. c .bare .ensures ∙ sym
     (numeral-outside (entry .args .card .now) (entry .args .at)
     (entry .pre .0) (entry .pre .1) k
-    (sym (at-is-plain .is-plain .ensures) ∙ not-true (at-is-plain .is-plain .result) (c .before .if1 .taken)))
+    (sym (digits-judged at-is-plain) ∙ not-true (at-is-plain .is-plain .result) (c .before .if1 .taken)))
 
 add-point : tie.Need-add-point
 add-point c =
@@ -66,7 +74,7 @@ returns-2 c =
     (read-number (entry .args .card .now) (entry .args .at)
     (entry .pre .0) (entry .pre .1) k
     (at-digits-from .digits-from .result) (at-digits-from .digits-from .ensures)
-    (sym (at-is-plain .is-plain .ensures) ∙ not-false (at-is-plain .is-plain .result)
+    (sym (digits-judged at-is-plain) ∙ not-false (at-is-plain .is-plain .result)
     (at-if1 .if1 .left))
     (sym (at-is-pointed .is-pointed .ensures) ∙ not-true (at-is-pointed .is-pointed .result) (c .before .if2 .taken)))
 
@@ -108,11 +116,15 @@ returns-3 c =
     (entry .pre .1) k
     (at-digits-from .digits-from .result) (at-digits-from .digits-from .ensures)
     (at-digits-from2 .digits-from2 .result) (at-digits-from2 .digits-from2 .ensures)
-    (sym (at-is-plain .is-plain .ensures) ∙ not-false (at-is-plain .is-plain .result)
+    (sym (digits-judged at-is-plain) ∙ not-false (at-is-plain .is-plain .result)
     (at-if1 .if1 .left))
     (sym (at-is-pointed .is-pointed .ensures) ∙ not-false (at-is-pointed .is-pointed .result)
     (at-if2 .if2 .left))
     (c .before .if3 .taken))
+
+-- a decimal has no more digits behind its point than it may have
+few-further : (c : tie.Else3) → c .before .digits-from2 .result .count ≤ furtherDigits
+few-further c = c .if3 .left
 
 add-t14 : tie.Need-add-t14
 add-t14 c =
@@ -147,9 +159,9 @@ returns-4 c =
     (entry .args .at) (entry .pre .0)
     (entry .pre .1) k (at-digits-from .digits-from .result)
     (at-digits-from .digits-from .ensures) (at-digits-from2 .digits-from2 .result) (at-digits-from2 .digits-from2 .ensures)
-    (sym (at-is-plain .is-plain .ensures) ∙ not-false (at-is-plain .is-plain .result)
+    (sym (digits-judged at-is-plain) ∙ not-false (at-is-plain .is-plain .result)
     (at-if1 .if1 .left))
-    (sym (at-is-pointed .is-pointed .ensures) ∙ not-false (at-is-pointed .is-pointed .result) (c .before .before .if2 .left)) (c .if3 .left))
+    (sym (at-is-pointed .is-pointed .ensures) ∙ not-false (at-is-pointed .is-pointed .result) (c .before .before .if2 .left)) (few-further c))
 
 pub numeral-spec : {M : Type 1} → statement M
 numeral-spec =
