@@ -2,6 +2,8 @@
 use mathlib.Core.Path.{sym, _∙_}
 use native.Mathlib.Omega.{arith}
 use borrow.Author.Needs.{needs}
+use Rattle.deck.specs.Lookup.{theExpansion}
+use Rattle.boxes.proofs.Seeking.{Sought}
 use Rattle.boxes.proofs.Lookup.{taken-head, place-small, with-bad-base, with-bad-expansion, with-expansion, with-base}
 use Rattle.boxes.proofs.locate_with.Statement.{statement}
 use Rattle.boxes.proofs.locate_with.Tie as tie
@@ -66,6 +68,13 @@ seek-requires c κs =
     let expansion = taken-head (entry .args .expansion .now) (sym (at-judge-deck2 .judge-deck2 .ensures) ∙ c .enum-told2 .given .1) in
     search (base, expansion)
 
+abbrev begun : tie.After-seek → tie.Start
+begun c = c .before .before .before .before .before .before .before .before .before
+
+-- the card is sought in the expansion before the base
+expansion-first : (c : tie.After-seek) → Sought (begun c .args .expansion .now) (begun c .args .number) theExpansion (c .seek .result)
+expansion-first c = c .seek .ensures
+
 enum-known-verdict : tie.Need-enum-known-verdict
 enum-known-verdict c = search needs
 
@@ -91,7 +100,7 @@ returns-3 c =
     let entry = at-judge-deck .before .before .before in
     with-base (entry .args .base .now) (entry .args .expansion .now) (entry .args .number)
     (sym (at-judge-deck .judge-deck .ensures) ∙ at-enum-told .enum-told .given .1)
-    (sym (at-judge-deck2 .judge-deck2 .ensures) ∙ at-enum-told2 .enum-told2 .given .1) _ (at-seek .seek .ensures) (at-verdict .verdict .given .1)
+    (sym (at-judge-deck2 .judge-deck2 .ensures) ∙ at-enum-told2 .enum-told2 .given .1) _ (expansion-first at-seek) (at-verdict .verdict .given .1)
     (c .seek2 .ensures)
 
 enum-told-3 : tie.Need-enum-told-3
@@ -107,7 +116,7 @@ returns-4 c =
     let entry = at-judge-deck .before .before .before in
     with-expansion (entry .args .base .now) (entry .args .expansion .now) (entry .args .number)
     (sym (at-judge-deck .judge-deck .ensures) ∙ at-enum-told .enum-told .given .1)
-    (sym (at-judge-deck2 .judge-deck2 .ensures) ∙ at-enum-told2 .enum-told2 .given .1) _ (at-seek .seek .ensures) (c .enum-told3 .given .1)
+    (sym (at-judge-deck2 .judge-deck2 .ensures) ∙ at-enum-told2 .enum-told2 .given .1) _ (expansion-first at-seek) (c .enum-told3 .given .1)
 
 pub locate-with-spec : {M : Type 1} → statement M
 locate-with-spec =
