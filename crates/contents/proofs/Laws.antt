@@ -53,16 +53,36 @@ empty-deck (b ∷ deck) h = absurd (omega arith)
 -- ---- from entry to entry: what is judged still, with so many entries left
 
 pub record Going (deck : List ℕ) (left at least last : ℕ) : Type 0 where
-  pub same : judged deck ≡ rowsSaid (length deck) at least last (rowsOf left (drop at deck))
+  -- the least number and the least offset that the next entry may have
+  pub number-from : ℕ
+  pub body-from : ℕ
+  pub least-is : least ≡ number-from
+  pub last-is : last ≡ body-from
+  pub same : judged deck ≡ rowsSaid (length deck) at number-from body-from (rowsOf left (drop at deck))
   pub room : at + 8 * left ≤ length deck
   pub short : length deck ≤ deckBytes
 
 pub begins : (deck : List ℕ) (c : ℕ) → c ≡ countOf deck → length deck ≤ deckBytes → (c ≡ 0 → ⊥) → c ≤ mostCards → 1 + 8 * c ≤ length deck
     → Going deck c 1 0 (1 + 8 * c)
-begins deck c e a b m h = rw e (record { same = head-fine deck a (λ k. b (e ∙ k)) (omega (arith, e)) (omega (arith, e)); room = omega (arith, e); short = a })
+begins deck c e a b m h = rw e (record {
+  number-from = 0;
+  body-from = behind (countOf deck);
+  least-is = refl;
+  last-is = refl;
+  same = head-fine deck a (λ k. b (e ∙ k)) (omega (arith, e)) (omega (arith, e));
+  room = omega (arith, e);
+  short = a;
+})
+
+-- the code's `least` and `last` are these two
+judges : (deck : List ℕ) (left at least last : ℕ) → Going deck left at least last → judged deck ≡ rowsSaid (length deck) at least last (rowsOf left (drop at deck))
+judges deck left at least last g =
+    g .same
+    ∙ ap (λ (n : ℕ). rowsSaid (length deck) at n (g .body-from) (rowsOf left (drop at deck))) (sym (g .least-is))
+    ∙ ap (λ (n : ℕ). rowsSaid (length deck) at least n (rowsOf left (drop at deck))) (sym (g .last-is))
 
 pub ended : (deck : List ℕ) (left at least last : ℕ) → Going deck left at least last → left ≡ 0 → Taken ≡ verdictOf (judged deck)
-ended deck left at least last g e = sym (ap verdictOf (g .same ∙ ap (λ (k : ℕ). rowsSaid (length deck) at least last (rowsOf k (drop at deck))) e))
+ended deck left at least last g e = sym (ap verdictOf (judges deck left at least last g ∙ ap (λ (k : ℕ). rowsSaid (length deck) at least last (rowsOf k (drop at deck))) e))
 
 module _ (deck : List ℕ) (at least last : ℕ) where
   rows-step : (left : ℕ) → (left ≡ 0 → ⊥) → rowsSaid (length deck) at least last (rowsOf left (drop at deck))
@@ -74,11 +94,12 @@ module _ (deck : List ℕ) (at least last : ℕ) where
   module _ (left : ℕ) (g : Going deck left at least last) (some : left ≡ 0 → ⊥) where
     pub stops : {v : Verdict} {r p : ℕ} → v ≡ verdictOf (rowSaid (length deck) at least last (rowOf (drop at deck))) → v ≡ Refused r p
         → Refused r p ≡ verdictOf (judged deck)
-    stops e v = as-told (g .same ∙ rows-step left some) (rw (verdict-refused (rowSaid (length deck) at least last (rowOf (drop at deck))) (sym e ∙ v)))
+    stops e v = as-told (judges deck left at least last g ∙ rows-step left some) (rw (verdict-refused (rowSaid (length deck) at least last (rowOf (drop at deck))) (sym e ∙ v)))
 
     pub goes-on : (n o s : ℕ) → n ≡ wordAt deck at → o ≡ wordAt deck (at + 2) → s ≡ wordAt deck (at + 4)
-        → {v : Verdict} → v ≡ verdictOf (rowSaid (length deck) at least last (rowOf (drop at deck))) → v ≡ Taken → Going deck (left - 1) (at + 8) (n + 1) (o + s)
-    goes-on n o s en eo es k v = record { same = g .same ∙ rows-step left some ∙ onto; room = omega (arith, g .room, some); short = g .short }
+        → {v : Verdict} → v ≡ verdictOf (rowSaid (length deck) at least last (rowOf (drop at deck))) → v ≡ Taken
+        → judged deck ≡ rowsSaid (length deck) (at + 8) (n + 1) (o + s) (rowsOf (left - 1) (drop (at + 8) deck))
+    goes-on n o s en eo es k v = judges deck left at least last g ∙ rows-step left some ∙ onto
       where
         row : rowOf (drop at deck) ≡ rowWith n o s (byte deck (at + 6)) (byte deck (at + 7))
         row = row-there deck at least last en eo es refl refl

@@ -1,5 +1,6 @@
 -- `contents::judge_deck` meets its contract: the count's tests, then entry by entry, where what is left to judge decides (`Going`). Assumes nothing.
-use mathlib.Core.Path.{sym, _∙_}
+use Prim.Native.Nat.{_+_}
+use mathlib.Core.Path.{refl, sym, _∙_}
 use native.Mathlib.Omega.{arith}
 use borrow.Author.Needs.{needs}
 use Rattle.contents.proofs.Laws.{too-long, empty-deck, no-cards, many-cards, cut-short, Going, begins, ended, stops, goes-on}
@@ -145,9 +146,18 @@ loop-again c =
     let at-loop-test = at-judge-row .before in
     let at-loop = at-loop-test .before in
     let entry = at-loop .before .before .before .before .before .before .before .before .before in
-    goes-on (entry .args .deck .now) (at-loop .loop .at) (at-loop .loop .least) (at-loop .loop .last) (at-loop .loop .left) (at-loop .loop .inv)
-    (at-loop-test .loop-test .taken) _ _ _ (at-word-at .word-at .ensures .0) (at-word-at2 .word-at2 .ensures .0) (c .word-at3 .ensures .0)
-    (at-judge-row .judge-row .ensures) (at-enum-told .enum-told .given .1)
+    let inv = at-loop .loop .inv in
+    record {
+      number-from = at-word-at .word-at .result + 1;
+      body-from = at-word-at2 .word-at2 .result + c .word-at3 .result;
+      least-is = refl;
+      last-is = refl;
+      same = goes-on (entry .args .deck .now) (at-loop .loop .at) (at-loop .loop .least) (at-loop .loop .last) (at-loop .loop .left) inv
+          (at-loop-test .loop-test .taken) _ _ _ (at-word-at .word-at .ensures .0) (at-word-at2 .word-at2 .ensures .0) (c .word-at3 .ensures .0)
+          (at-judge-row .judge-row .ensures) (at-enum-told .enum-told .given .1);
+      room = omega (arith, inv .room, at-loop-test .loop-test .taken);
+      short = inv .short;
+    }
 
 returns-7 : tie.Need-returns-7 Inv-loop μ-loop
 returns-7 c =
