@@ -1,6 +1,9 @@
 -- `entry_rules::broken_rule` meets its contract: test by test, in the order of the rules. Assumes nothing.
+use Prim.Native.Nat.{_+_, _≤_, _<_}
 use native.Mathlib.Omega.{arith}
 use mathlib.Core.Path.{refl}
+use lib.ListN.{length}
+use Rattle.deck.specs.Contents.{byte}
 use borrow.Author.Needs.{needs}
 use Rattle.entry_rules.proofs.Laws.{wrong-flag, wrong-zero-byte, low-number, low-offset, past-deck, no-rule}
 use Rattle.entry_rules.proofs.broken_rule.Statement.{statement}
@@ -37,6 +40,13 @@ returns c =
     let start = at-word-at .before .before in
     wrong-flag (start .args .deck .now) (start .args .at) (start .args .least) (start .args .last) (at-word-at .word-at .ensures .0) (at-word-at2 .word-at2 .ensures .0) (c .before .before .word-at3 .ensures .0) refl refl (c .if1 .taken)
 
+abbrev begun : tie.After-word-at → tie.Start
+begun c = c .before .before
+
+-- behind rule 1 the flag is one of the two
+flag-right : (c : tie.Else1) → let start = begun (c .before .before .before .before) in byte (start .args .deck .now) (start .args .at + 6) ≤ 1
+flag-right c = c .if1 .left
+
 add-if2 : tie.Need-add-if2
 add-if2 c = search needs
 
@@ -49,7 +59,14 @@ returns-2 c =
     let at-word-at2 = at-word-at3 .before in
     let at-word-at = at-word-at2 .before in
     let start = at-word-at .before .before in
-    wrong-zero-byte (start .args .deck .now) (start .args .at) (start .args .least) (start .args .last) (at-word-at .word-at .ensures .0) (at-word-at2 .word-at2 .ensures .0) (at-word-at3 .word-at3 .ensures .0) refl refl (c .before .before .if1 .left) (c .if2 .taken)
+    wrong-zero-byte (start .args .deck .now) (start .args .at) (start .args .least) (start .args .last) (at-word-at .word-at .ensures .0) (at-word-at2 .word-at2 .ensures .0) (at-word-at3 .word-at3 .ensures .0) refl refl (flag-right (c .before .before)) (c .if2 .taken)
+
+abbrev number-read : tie.Else2 → tie.After-word-at
+number-read c = c .before .before .before .before .before .before
+
+-- rule 2 comes before rule 3
+number-first : (c : tie.Then3) → number-read (c .before) .word-at .result < begun (number-read (c .before)) .args .least
+number-first c = c .if3 .taken
 
 returns-3 : tie.Need-returns-3
 returns-3 c =
@@ -58,7 +75,7 @@ returns-3 c =
     let at-word-at2 = at-word-at3 .before in
     let at-word-at = at-word-at2 .before in
     let start = at-word-at .before .before in
-    low-number (start .args .deck .now) (start .args .at) (start .args .least) (start .args .last) (at-word-at .word-at .ensures .0) (at-word-at2 .word-at2 .ensures .0) (at-word-at3 .word-at3 .ensures .0) refl refl (at-if1 .if1 .left) (c .before .if2 .left) (c .if3 .taken)
+    low-number (start .args .deck .now) (start .args .at) (start .args .least) (start .args .last) (at-word-at .word-at .ensures .0) (at-word-at2 .word-at2 .ensures .0) (at-word-at3 .word-at3 .ensures .0) refl refl (flag-right at-if1) (c .before .if2 .left) (number-first c)
 
 returns-4 : tie.Need-returns-4
 returns-4 c =
@@ -67,7 +84,7 @@ returns-4 c =
     let at-word-at2 = at-word-at3 .before in
     let at-word-at = at-word-at2 .before in
     let start = at-word-at .before .before in
-    low-offset (start .args .deck .now) (start .args .at) (start .args .least) (start .args .last) (at-word-at .word-at .ensures .0) (at-word-at2 .word-at2 .ensures .0) (at-word-at3 .word-at3 .ensures .0) refl refl (at-if1 .if1 .left) (c .before .before .if2 .left)
+    low-offset (start .args .deck .now) (start .args .at) (start .args .least) (start .args .last) (at-word-at .word-at .ensures .0) (at-word-at2 .word-at2 .ensures .0) (at-word-at3 .word-at3 .ensures .0) refl refl (flag-right at-if1) (c .before .before .if2 .left)
     (c .before .if3 .left) (c .if4 .taken)
 
 returns-5 : tie.Need-returns-5
@@ -78,8 +95,14 @@ returns-5 c =
     let at-word-at2 = at-word-at3 .before in
     let at-word-at = at-word-at2 .before in
     let start = at-word-at .before .before in
-    no-rule (start .args .deck .now) (start .args .at) (start .args .least) (start .args .last) (at-word-at .word-at .ensures .0) (at-word-at2 .word-at2 .ensures .0) (at-word-at3 .word-at3 .ensures .0) refl refl (at-if1 .if1 .left) (at-if2 .if2 .left)
+    no-rule (start .args .deck .now) (start .args .at) (start .args .least) (start .args .last) (at-word-at .word-at .ensures .0) (at-word-at2 .word-at2 .ensures .0) (at-word-at3 .word-at3 .ensures .0) refl refl (flag-right at-if1) (at-if2 .if2 .left)
     (c .before .before .if3 .left) (c .before .if4 .left) (c .if5 .taken)
+
+-- what is said last is said of a body that ends behind the deck
+ends-behind : (c : tie.Else5)
+    → let at-word-at3 = c .before .before .before .before .before .before .before in
+    length (begun (at-word-at3 .before .before) .args .deck .now) < at-word-at3 .before .word-at2 .result + at-word-at3 .word-at3 .result
+ends-behind c = c .if5 .left
 
 returns-6 : tie.Need-returns-6
 returns-6 c =
@@ -89,8 +112,8 @@ returns-6 c =
     let at-word-at2 = at-word-at3 .before in
     let at-word-at = at-word-at2 .before in
     let start = at-word-at .before .before in
-    past-deck (start .args .deck .now) (start .args .at) (start .args .least) (start .args .last) (at-word-at .word-at .ensures .0) (at-word-at2 .word-at2 .ensures .0) (at-word-at3 .word-at3 .ensures .0) refl refl (at-if1 .if1 .left) (at-if2 .if2 .left)
-    (c .before .before .if3 .left) (c .before .if4 .left) (c .if5 .left)
+    past-deck (start .args .deck .now) (start .args .at) (start .args .least) (start .args .last) (at-word-at .word-at .ensures .0) (at-word-at2 .word-at2 .ensures .0) (at-word-at3 .word-at3 .ensures .0) refl refl (flag-right at-if1) (at-if2 .if2 .left)
+    (c .before .before .if3 .left) (c .before .if4 .left) (ends-behind c)
 
 pub broken-rule-spec : {M : Type 1} → statement M
 broken-rule-spec =
