@@ -1,5 +1,8 @@
 -- `deck_lines::judge_lines` meets its contract: what is said of all entries is said of those left, so a wrong field stops both. Assumes nothing.
+use Prim.Native.Nat.{_+_}
+use mathlib.Core.Path.{_≡_}
 use native.Mathlib.Omega.{arith}
+use Rattle.deck.specs.Contents.{byte}
 use borrow.Author.Needs.{needs}
 use Rattle.deck_lines.proofs.Judging.{Going, begins, ended, not-rising, wrong-flag, wrong-zero, goes-on}
 use Rattle.deck_lines.proofs.judge_lines.Statement.{statement}
@@ -77,6 +80,16 @@ returns-3 c =
     let at-loop = at-loop-test .before in
     wrong-zero (at-loop .loop .inv) (at-loop-test .loop-test .taken) (at-word-at .word-at .ensures .0) (at-if1 .if1 .left) (at-if2 .if2 .left) (c .if3 .taken)
 
+abbrev turn : tie.Else3 Inv-loop μ-loop → tie.At-loop Inv-loop μ-loop
+turn c = c .before .before .before .before .before .before .before
+
+-- it goes on only behind an entry whose last byte is 0
+abbrev ZeroByte : Type 0
+ZeroByte = (c : tie.Else3 Inv-loop μ-loop) → byte (turn c .before .before .args .contents .now) (turn c .loop .at + 7) ≡ 0
+
+zero-byte : ZeroByte
+zero-byte c = c .if3 .left
+
 add-word-at : tie.Need-add-word-at Inv-loop μ-loop
 add-word-at c =
     let at-loop-test = c .before .before .before .before .before .before in
@@ -115,15 +128,19 @@ loop-less c =
     let at-loop-test = c .before .before .before .before .before .before .before in
     omega (arith, at-loop-test .loop-test .taken)
 
-loop-again : tie.Need-loop-again Inv-loop μ-loop
-loop-again c =
+-- and then judges the next one, which has a higher number
+next-above : ZeroByte → tie.Need-loop-again Inv-loop μ-loop
+next-above zero-byte c =
     let at-if3 = c .before in
     let at-if2 = at-if3 .before .before in
     let at-if1 = at-if2 .before .before in
     let at-word-at = at-if1 .before in
     let at-loop-test = at-word-at .before in
     let at-loop = at-loop-test .before in
-    goes-on (at-loop .loop .inv) (at-loop-test .loop-test .taken) (at-word-at .word-at .ensures .0) (at-if1 .if1 .left) (at-if2 .if2 .left) (at-if3 .if3 .left) (c .word-at2 .ensures .0) (c .word-at2 .ensures .1)
+    goes-on (at-loop .loop .inv) (at-loop-test .loop-test .taken) (at-word-at .word-at .ensures .0) (at-if1 .if1 .left) (at-if2 .if2 .left) (zero-byte at-if3) (c .word-at2 .ensures .0) (c .word-at2 .ensures .1)
+
+loop-again : tie.Need-loop-again Inv-loop μ-loop
+loop-again = next-above zero-byte
 
 returns-4 : tie.Need-returns-4 Inv-loop μ-loop
 returns-4 c = ended (c .before .loop .inv) (c .loop-test .left)
