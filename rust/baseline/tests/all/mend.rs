@@ -1,11 +1,8 @@
 //! Mended decks: each rule from both sides, which of several is told, what a dropped entry leaves behind, and the rooms.
 
-mod boxes;
-mod cards;
-
+use crate::boxes::{deck, gapless, Entry};
+use crate::cards::{card, CARD_A};
 use baseline::{judge_deck, judge_old, mend, mend_into, write_deck, Mended, Refusal};
-use boxes::{deck, gapless, Entry};
-use cards::{card, CARD_A};
 
 /// A card of one seat, which is accepted.
 const GOOD: &str = "probabilistic module process1 s1:[0..0]init 0;[]s1=0->1:(s1'=0);endmodule";

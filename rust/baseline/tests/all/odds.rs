@@ -1,9 +1,7 @@
 //! Odds after several steps: small tables by hand, rows, rounding and refusals.
 
-mod cards;
-
+use crate::cards::{card, CARD_A};
 use baseline::{odds, Aim, Refusal};
-use cards::{card, CARD_A};
 
 const UNTOUCHED: u32 = 0xa5a5_a5a5;
 

@@ -1,9 +1,7 @@
 //! The first statement that somebody may take, against the panel's choices.
 
-mod cards;
-
+use crate::cards::{card, CARD_A};
 use baseline::{first_move, panel, Refusal};
-use cards::{card, CARD_A};
 
 fn first(card: &str, seats: &[u8]) -> Result<Option<usize>, (u8, usize)> {
     first_move(card.as_bytes(), seats).map_err(|Refusal { number, place }| (number, place))

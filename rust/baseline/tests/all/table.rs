@@ -1,7 +1,7 @@
 //! The chapter "Both sides of the edge" as a list of cards, seatings and panels,
 //! with the step that a stuck table has.
 
-use super::cards::{card, CARD_A};
+use crate::cards::{card, CARD_A};
 
 /// A card with a seating, and the panel or the refusal's number and place.
 pub struct Edge {

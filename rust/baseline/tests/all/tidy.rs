@@ -1,12 +1,9 @@
 //! Tidied decks, and cards added to them: what stays and where, what becomes of the bytes behind, each refusal and which comes
 //! first, and the last byte of room.
 
-mod boxes;
-mod cards;
-
+use crate::boxes::{deck, gapless};
+use crate::cards::{card, CARD_A};
 use baseline::{add, find, judge, judge_deck, tidy, Refusal};
-use boxes::{deck, gapless};
-use cards::{card, CARD_A};
 
 /// A card of one seat, which is accepted.
 const GOOD: &str = "probabilistic module process1 s1:[0..0]init 0;[]s1=0->1:(s1'=0);endmodule";

@@ -1,12 +1,10 @@
 //! Decimals: what is refused for one and where, which cards are still taken, and what the old rule makes of them.
 
-mod cards;
-
+use crate::cards::{card, CARD_A};
 use baseline::{
     ask, first_move, judge, judge_old, odds, panel, reduce, watch, write, write_read, Aim, Card,
     Refusal,
 };
-use cards::{card, CARD_A};
 
 /// What a card is refused with; nothing if it is taken.
 fn refusal(judged: Result<Card, Refusal>) -> Option<(u8, usize)> {

@@ -1,16 +1,13 @@
 //! The chapter "Both sides of the edge", and the same for every other limit.
 
-mod cards;
-mod table;
-
+use crate::cards::{card, CARD_A};
 use baseline::{judge, panel, reduce, write, Refusal};
-use cards::{card, CARD_A};
 
 const UNTOUCHED: u8 = 0xa5;
 
 #[test]
 fn panels_of_the_chapter() {
-    for edge in table::edges() {
+    for edge in crate::table::edges() {
         let mut room = [UNTOUCHED; 400];
         let answer = panel(&edge.card, &edge.seats, &mut room);
         let expected = edge

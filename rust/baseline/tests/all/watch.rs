@@ -1,9 +1,7 @@
 //! What a spectator sees, by seats, and both sides of each refusal.
 
-mod cards;
-
+use crate::cards::{card, CARD_A};
 use baseline::{watch, Refusal};
-use cards::{card, CARD_A};
 
 const PLAIN: &str = "[] s1=0 -> 1:(s1'=0);";
 const UNTOUCHED: u8 = 0xa5;

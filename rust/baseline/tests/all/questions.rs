@@ -1,9 +1,7 @@
 //! Questions: their meaning by seats, and both sides of each of their limits.
 
-mod cards;
-
+use crate::cards::{card, CARD_A};
 use baseline::{ask, Refusal};
-use cards::{card, CARD_A};
 
 const PLAIN: &str = "[] s1=0 -> 1:(s1'=0);";
 

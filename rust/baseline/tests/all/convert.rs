@@ -1,11 +1,8 @@
 //! Converted decks: which bodies stay and which are written, what each is refused for and which card is named, and the rooms.
 
-mod boxes;
-mod cards;
-
+use crate::boxes::{deck, gapless};
+use crate::cards::{card, CARD_A};
 use baseline::{convert, convert_into, find, judge, judge_deck, judge_old, mend, write, Refusal};
-use boxes::{deck, gapless};
-use cards::{card, CARD_A};
 
 /// Card A with decimals, and nearly without blanks.
 const OLD_A: &str = "\

@@ -1,7 +1,7 @@
 //! The stored cases of 2026-09 to 2026-12, by the baseline alone. `rust/vectors` asks the library the same, and all stored cases of both.
 
 #[allow(dead_code)]
-#[path = "../../vectors/src/stored.rs"]
+#[path = "../../../vectors/src/stored.rs"]
 mod stored;
 
 use std::collections::BTreeMap;

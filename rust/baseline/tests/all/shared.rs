@@ -1,12 +1,10 @@
 //! The number that all seats share: its declaration, tests and updates from both sides of each rule, the byte that a seating has for it, and what
 //! texts, panels, questions, spectators and odds make of it.
 
-mod cards;
-
+use crate::cards::{card, CARD_A};
 use baseline::{
     ask, first_move, judge, mend, odds, panel, reduce, watch, write, Aim, Refusal, Shared,
 };
-use cards::{card, CARD_A};
 
 const PLAIN: &str = "[] s1=0 -> 1:(s1'=1);";
 const UNTOUCHED: u8 = 0xa5;
