@@ -1,11 +1,11 @@
 // A live card added to a box within the lent deck (document 02, 2026-12).
+use boxes::judge_deck;
 use card::Verdict;
 use card::limits::BRANCH_PLACES;
 use card::limits::NODE_PLACES;
 use card::limits::ROW_PLACES;
 use card::refusals::NO_LIVE_CARD;
-use contents::judge_deck;
-use live_rows::measure_live;
+use gathering::measure_live;
 use placing::place_card;
 use reader::read_into;
 use room::Answer;

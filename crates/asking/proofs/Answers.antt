@@ -1,6 +1,6 @@
 -- Reading a question means what "2026-01" says: it is taken exactly when it is a question, and each refusal 21 to 26 is given at a place exactly
 -- when its row says so. Each reason leads to its outcome, and each outcome has its reason. Assumes nothing.
-use Prim.Native.Nat.{ℕ, zero, _+_, _≤_, _<_}
+use Prim.Native.Nat.{ℕ, zero, _≤_, _<_}
 use mathlib.Core.Path.{_≡_, refl, sym, ap, _∙_, subst}
 use mathlib.Core.Logic.{_⊎_, inl, inr, _↔_}
 use mathlib.Core.List.{List, [], _∷_, _++_}

@@ -1,10 +1,9 @@
 -- A question's groups, exactly-ones and tests of the shared number keep what `Leaves` asks of a language of formulas. Assumes nothing.
-use Prim.Native.Nat.{ℕ, zero, suc, _+_}
+use Prim.Native.Nat.{ℕ, zero, suc}
 use mathlib.Core.Path.{_≡_, refl, sym, ap, _∙_, subst}
 use mathlib.Core.Logic.{inl, inr, _↔_}
 use mathlib.Core.Bool.{Bool, true, false, _&&_, _||_, false≢true}
 use mathlib.Core.List.{List, [], _∷_, _++_, append-assoc, append-cancel-right, append-nil, head?}
-use mathlib.Core.Option.{none, some}
 use native.Mathlib.Omega.{arith}
 use lib.ListN.{length, length-append}
 use Rattle.card.specs.Limits.{mostNodes}
@@ -12,14 +11,14 @@ use Rattle.card.specs.Refusals.{outOfShape, pastLimit}
 use Rattle.card.specs.Text.{bytes, same, if_then_else_}
 use Rattle.card.specs.Card.{all, any, Relation, is as eq, isnt as ne, Formula, atom, and, or}
 use Rattle.marks_on_a_card.specs.Marks.{Mark, text, seat, number, Placed, placed}
-use Rattle.reading.specs.Reader.{Place, State, at, Result, ok, stop, Reader, bind, _>>=_, return, is, nextIs, ifNext, sign, here}
-use Rattle.reading.specs.Guard.{seatNext, testNext, ifSeat, Read, chain, conjunction, expression, unaryBy, grouped as readGrouped}
+use Rattle.reading.specs.Reader.{Place, State, at, Result, ok, stop, Reader, _>>=_, return, is, nextIs, ifNext, sign, here}
+use Rattle.reading.specs.Guard.{seatNext, testNext, ifSeat, Read, chain, conjunction, unaryBy, grouped as readGrouped}
 use Rattle.reading.specs.Group.{joint, Literal, Literals, literalsOf, literal as readLiteral, joined, group, sharedTest as readSharedTest}
 use Rattle.grammar.specs.Verdicts.{first, later}
-use Rattle.grammar.specs.Grammar.{signAt, LiteralSaid, literal, OthersSaid, close, next, GroupSaid, conjoined, disjoined, SharedTestSaid, Part, unary, joinedBy, FormulaSaid, grouped, single}
+use Rattle.grammar.specs.Grammar.{signAt, LiteralSaid, literal, OthersSaid, close, next, GroupSaid, conjoined, disjoined, Part, unary, joinedBy, FormulaSaid, grouped, single}
 use Rattle.reading.proofs.Through.{and-true, ok-state, through, chose, is→eq, none≢some}
 use Rattle.reading.proofs.Rising.{Order, equal, before, behind, order}
-use Rattle.grammar.proofs.Steady.{Lang, _then_, _either_, Mark₁, Saying, SameHead, Alike, head-append, next-head, seat-head, test-head, some-eq, free, Cause, unfit, excess, Steady, Always, ok≢stop, stop-number, stop-place, stopped, chose-stop, steady-as, steady-under, steady-choose, steady-like, steady-bind, steady-sign, steady-return, steady-last}
+use Rattle.grammar.proofs.Steady.{Lang, _then_, _either_, Mark₁, Saying, SameHead, Alike, head-append, next-head, some-eq, free, Cause, unfit, excess, Steady, Always, ok≢stop, stop-number, stop-place, stopped, chose-stop, steady-as, steady-under, steady-choose, steady-like, steady-bind, steady-sign, steady-return, steady-last}
 use Rattle.grammar.proofs.Follows.{literal-reads, others-reads, group-reads, and-false}
 use Rattle.grammar.proofs.Exact.{one-sign, a-sign, literalT, joinedHere, joinedHereT, groupT, seat-still, test-still, sharedTestT, GuardL, GroupsL, ClosedL, FreeL, closing, Leaves, chainT, conjunctionT, expressionT}
 use Rattle.asking.specs.Question.{Item, aGroup, exactlyOne, aTest, relations, among, both, Occurs, mixed, mixedRead, mixedNext, twiceNext, itemNext, term, exactly, item, TermSaid, aTerm, ItemSaid, ofGroup, ofTerms, ofTest, NoneStarts, Sight, words, mixedWords, twice, other, seen, sight}

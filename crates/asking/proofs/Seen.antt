@@ -1,5 +1,5 @@
 -- What the look ahead sees: how the marks of a group, a term or an expression settle it. Assumes nothing.
-use Prim.Native.Nat.{zero, _+_}
+use Prim.Native.Nat.{zero}
 use mathlib.Core.Path.{_≡_, refl, sym, ap, _∙_}
 use mathlib.Core.Bool.{Bool, false, false≢true}
 use mathlib.Core.List.{List, [], _∷_, _++_, append-assoc, head?}
@@ -7,13 +7,13 @@ use native.Mathlib.Omega.{arith}
 use lib.ListN.{length}
 use Rattle.card.specs.Card.{Sign, all, any, Relation, Formula}
 use Rattle.marks_on_a_card.specs.Marks.{text, seat, process, number, decimal, outside, placed}
-use Rattle.reading.specs.Reader.{Place, at, is, nextIs}
-use Rattle.reading.specs.Guard.{seatNext, testNext, expression}
+use Rattle.reading.specs.Reader.{Place, at, nextIs}
+use Rattle.reading.specs.Guard.{seatNext, testNext}
 use Rattle.reading.specs.Group.{joint, relation, Literal, literalOf, Literals, literalsOf, group}
 use Rattle.grammar.specs.Grammar.{signAt, LiteralSaid, literal, JoinedSaid, OthersSaid, close, next, GroupSaid, conjoined, disjoined, sharedTest, Part, FormulaSaid, grouped, negated, bracketed, single, further}
 use Rattle.grammar.proofs.Steady.{SameHead, seat-head}
 use Rattle.grammar.proofs.Follows.{group-reads, and-false}
-use Rattle.asking.specs.Question.{Item, relations, both, mixed, mixedRead, mixedNext, twiceNext, term, TermSaid, aTerm, ItemSaid, ofGroup, ofTerms, ofTest, NoneStarts, twice, other, seen}
+use Rattle.asking.specs.Question.{Item, relations, both, mixed, mixedRead, mixedNext, twiceNext, TermSaid, aTerm, ItemSaid, ofGroup, ofTerms, ofTest, NoneStarts, twice}
 
 -- ---- without a seat word there is no term
 

@@ -8,7 +8,7 @@ use lib.ListN.{length}
 use Rattle.card.specs.Limits.{mostNodes, mostDepth}
 use Rattle.card.specs.Card.{Sign, all, any, Relation, is as eq, isnt as ne, Formula}
 use Rattle.marks_on_a_card.specs.Marks.{placed}
-use Rattle.reading.specs.Reader.{Place, at, Result, ok, stop, Reader, bind, _>>=_, _>>_, return, is, ifNext, sign, here}
+use Rattle.reading.specs.Reader.{Place, at, Result, ok, stop, Reader, _>>=_, _>>_, return, is, ifNext, sign, here}
 use Rattle.reading.specs.Guard.{testNext, ifSeat, Read, expression, unaryBy}
 use Rattle.reading.specs.Group.{joint, Literal, Literals, literal, joined, others, group, SharedTest, sharedTest}
 use Rattle.reading.specs.Shape.{mayHave, theEnd}

@@ -13,8 +13,7 @@ use Rattle.deck.specs.Sound.{Head}
 use Rattle.deck.specs.Given.{fromExpansion, fromBase}
 use Rattle.deck.proofs.Judged.{sound-judged}
 use Rattle.deck.proofs.FirstWrong.{judged-refused, place-below}
-use Rattle.deck.proofs.Lookups.{Looks, malformed, given, none, looks, find-located, LooksWith, badBase, badExpansion, givenWith, noneWith, looks-with}
-use Rattle.deck.proofs.Lookups.{find-with-located}
+use Rattle.deck.proofs.Lookups.{Looks, malformed, given, none, looks, find-located, LooksWith, badBase, badExpansion, givenWith, noneWith, looks-with, find-with-located}
 use Rattle.deck_entries.specs.Verdicts.{verdictOf}
 use Rattle.deck_entries.proofs.Laws.{taken≢refused, verdict-refused, verdict-fine}
 use Rattle.boxes.specs.Boxes.{placed, told, Found}

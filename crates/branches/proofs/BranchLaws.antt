@@ -1,10 +1,9 @@
 -- A weight, a branch, and a statement's branches. After each branch what is left to read is the same reader with one branch less (`rest`),
 -- from the branch's cursor on; an answer to it, with the branches so far counted in, answers the whole. Assumes nothing.
 use Prim.Native.Nat.{ℕ, zero, suc, _+_, _-_, _*_, _≤_, _<_, min}
-use Prim.Native.String.{String}
 use mathlib.Core.Path.{_≡_, refl, sym, ap, _∙_}
-use mathlib.Core.Bool.{Bool, true, false, _||_, _&&_}
-use mathlib.Core.List.{List, [], _∷_, _++_, map}
+use mathlib.Core.Bool.{Bool, true, false, _&&_}
+use mathlib.Core.List.{List, [], _∷_, map}
 use mathlib.Core.Option.{Option, none, some}
 use native.Mathlib.Nat.{zero-add, add-zero}
 use native.Mathlib.Omega.{arith}
@@ -20,16 +19,16 @@ use Rattle.card.specs.Weight.{Weight, whole, decimal as point, ratio, unitsOf, 
 use Rattle.weights.specs.Judged.{judgedOf}
 use Rattle.weights.specs.declared.Judged.{Judged}
 use Rattle.weights.specs.declared.Weight.{Weight as WeightRow}
-use Rattle.marks_on_a_card.specs.Marks.{Mark, placeOf}
+use Rattle.marks_on_a_card.specs.Marks.{placeOf}
 use Rattle.marks_on_a_card.specs.Kinds.{kNumber, kDecimal, kind}
 use Rattle.marks.specs.Step.{marksAt}
 use Rattle.marks.specs.declared.Found.{Found}
 use Rattle.marks.specs.declared.Step.{Step}
-use Rattle.reading.specs.Reader.{Place, State, at, Result, ok, stop, Reader, bind, return, refuseAt, the, ifNext, sign, numberOf, Numbered, numbered, line}
+use Rattle.reading.specs.Reader.{State, at, Result, ok, stop, Reader, bind, return, refuseAt, the, sign, numberOf, Numbered, numbered, line}
 use Rattle.grammar.specs.Grammar.{branchRun}
-use Rattle.reading.specs.Judgements.{Judgement, weight as judgedWeight, sum, unless, broken, orZero, unitsIn, totalUnits}
+use Rattle.reading.specs.Judgements.{weight as judgedWeight, sum, unless, broken, orZero, unitsIn, totalUnits}
 use Rattle.reading.specs.Guard.{isSome}
-use Rattle.reading.specs.Shape.{BranchShape, weightOf, over, weight, sets, nextBranch, pastBranches}
+use Rattle.reading.specs.Shape.{BranchShape, weightOf, weight, sets, nextBranch, pastBranches}
 use Rattle.reading.specs.Checks.{judgedState, judgedWords, judgedSet, weightIn, judgedEach}
 use Rattle.grammar.proofs.Valid.{units-most}
 use Rattle.late.specs.Late.{Late, blame, blamed, judge, judgeAll}
@@ -38,10 +37,10 @@ use Rattle.late.specs.State.{atValue, Sized, lateIn, valueIn, withLate, After, 
 use Rattle.late.proofs.Settling.{judge-append}
 use Rattle.late.proofs.StateLaws.{late-sized, set-sized, value-set, late-set}
 use Rattle.late_weights.specs.LateWeights.{formBy, sumBy}
-use Rattle.parts.specs.Parts.{from, Read, Answers, Went, NumberFrom, SignRead, SignFrom, Told, Sure, LineRead}
+use Rattle.parts.specs.Parts.{from, Answers, NumberFrom, SignRead, SignFrom, Told, Sure, LineRead}
 use Rattle.branches.specs.declared.Bounds.{Bounds}
-use Rattle.branches.specs.Branches.{weightBy, Weighed, WeightRead, WeightFrom, updateDue, UpdateFrom, setIn, SetsFrom, packedIn, branchBy, judgedBy, Branched, BranchRead, BranchFrom, BranchesShape, branches, judgedBranches, ClosedBy, PastBy, BranchesIn, BranchesRead, BranchesFrom}
-use Rattle.parts.proofs.Steps.{Next, place-seen, behind, Shown, valueBy, number-shown, weightBy as markWeight, weight-shown, told}
+use Rattle.branches.specs.Branches.{weightBy, Weighed, WeightRead, WeightFrom, updateDue, UpdateFrom, setIn, SetsFrom, packedIn, branchBy, judgedBy, BranchRead, BranchFrom, BranchesShape, branches, ClosedBy, PastBy, BranchesRead, BranchesFrom}
+use Rattle.parts.proofs.Steps.{Next, place-seen, behind, valueBy, number-shown, weightBy as markWeight, weight-shown, told}
 use Rattle.parts.proofs.Answers.{onward, halted, made, fits, misses, next-is, next-is-not}
 use Rattle.parts.proofs.Counted.{upTo, with-first, another, too-many, no-other}
 use Rattle.parts.proofs.Lines.{valued, valued-late, valued-sized, sign-took, sign-behind, sign-fits, sign-misses}

@@ -1,7 +1,7 @@
 -- What a branch sets: nothing where no `&` stands, and else its words, its value and the closing bracket. Assumes nothing.
-use Prim.Native.Nat.{ℕ, zero, suc, _+_, _-_, _≤_, _<_}
+use Prim.Native.Nat.{ℕ, zero, suc, _+_, _-_}
 use mathlib.Core.Path.{_≡_, refl, ap, _∙_, subst}
-use mathlib.Core.List.{List, [], _∷_}
+use mathlib.Core.List.{List}
 use mathlib.Core.Option.{Option, none, some}
 use native.Mathlib.Numerals.{add-one}
 use native.Mathlib.Omega.{arith}
@@ -9,10 +9,9 @@ use lib.ListN.{length, set}
 use Rattle.marks_on_a_card.specs.Kinds.{kind}
 use Rattle.marks.specs.declared.Step.{Step}
 use Rattle.reading.specs.Reader.{Result, ok, stop, Reader, bind, _>>=_, _>>_, return, sign, numberOf, Numbered, numbered, line}
-use Rattle.reading.specs.Shape.{setting, sets}
+use Rattle.reading.specs.Shape.{setting}
 use Rattle.reading.specs.Checks.{judgedState}
 use Rattle.late.specs.Late.{Late, judge, judgeAll}
-use Rattle.late.specs.Values.{shares, mostOf}
 use Rattle.late.specs.State.{atValue, Sized, lateIn, valueIn, After, after}
 use Rattle.late.proofs.StateLaws.{set-sized, value-set, late-set}
 use Rattle.parts.specs.Parts.{from, Answers, Told, Sure, NumberFrom, SignRead, SignFrom, RunFrom, itemsIn, kindsIn, numbersIn}

@@ -14,7 +14,7 @@ use Rattle.late.specs.State.{Sized, lateIn, after}
 use Rattle.parts.specs.Parts.{from, Due, Sure, itemsIn, duesIn, kindsIn, numbersIn, LineRead}
 use Rattle.branches.specs.Branches.{UpdateFrom}
 use Rattle.parts.proofs.Steps.{next-at}
-use Rattle.parts.proofs.Lines.{Left, run-end, run-more}
+use Rattle.parts.proofs.Lines.{run-end, run-more}
 use Rattle.parts.proofs.Front.{Front, front, sign-by, word-by}
 
 -- between a branch's weight and its state

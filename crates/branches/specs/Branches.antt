@@ -17,12 +17,12 @@ use Rattle.weights.specs.declared.Judged.{Judged}
 use Rattle.marks_on_a_card.specs.Kinds.{kNumber, kDecimal, kind}
 use Rattle.marks.specs.declared.Found.{Found}
 use Rattle.marks.specs.Step.{marksAt}
-use Rattle.reading.specs.Reader.{Place, State, Result, Reader, bind, _>>=_, _>>_, return, sign, here, Numbered}
+use Rattle.reading.specs.Reader.{Place, Result, Reader, _>>=_, _>>_, return, sign, here, Numbered}
 use Rattle.reading.specs.Guard.{isSome}
 use Rattle.reading.specs.Judgements.{Judgement, weight, sum, unless, orZero, unitsIn}
 use Rattle.reading.specs.Shape.{BranchShape, weight as readWeight, setting, sets, branch, moreBranches}
 use Rattle.reading.specs.Checks.{weightIn, valueOr, judgedSet, judgedBranch, judgedEach}
-use Rattle.late.specs.Late.{Late, blamed, judgeAll}
+use Rattle.late.specs.Late.{Late, blamed}
 use Rattle.late.specs.Values.{shares, mostOf}
 use Rattle.late.specs.State.{Sized, lateIn, valueIn, After, Halted}
 use Rattle.late_weights.specs.LateWeights.{sumBy}

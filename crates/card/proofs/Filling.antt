@@ -11,7 +11,7 @@ use lib.Seq.{take-append-seam, drop-append-add}
 use Rattle.card.specs.Limits.{mostStatements, mostNodes, mostBranches, nodePlaces, branchPlaces}
 use Rattle.card.specs.Card.{Guard, Statement}
 use Rattle.card.specs.Valid.{Every}
-use Rattle.card.specs.Laid.{zeros, padded, rows, guardCells, guardSize, nodeRow, branchRow, branchNumber, statementRow, noStatement, statementRows}
+use Rattle.card.specs.Laid.{zeros, padded, rows, guardCells, guardSize, nodeRow, branchRow, branchNumber, statementRow, statementRows}
 use Rattle.card.specs.declared.Statement.{Statement as StatementRow}
 use Rattle.card.specs.Stored.{stored}
 use Rattle.card.proofs.Storing.{stored-fits, length-cells}
@@ -147,9 +147,3 @@ set-row (suc most) (y ∷ xs) x h = ap (λ (r : List StatementRow). statementRow
 pub fill-statements : (xs : List Statement) (x : Statement) (i : ℕ) → length xs ≡ i → i < mostStatements
     → set (statementRows mostStatements xs) i (statementRow x) ≡ statementRows mostStatements (xs ++ x ∷ [])
 fill-statements xs x i e h = rw e at (set-row mostStatements xs x (rw e h))
-
--- as the code makes them
-pub no-statements : (most : ℕ) → statementRows most [] ≡ replicate most noStatement
-unfolding statementRows
-no-statements zero = refl
-no-statements (suc most) = ap (λ (r : List StatementRow). noStatement ∷ r) (no-statements most)

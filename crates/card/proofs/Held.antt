@@ -6,7 +6,7 @@ use native.Mathlib.Nat.{le-trans, not-suc-le-zero, le-of-suc-le-suc}
 use lib.ListN.{length, getD}
 use Rattle.card.specs.Limits.{topState, mostShared, mostStatements, mostNodes, mostBranches}
 use Rattle.card.specs.Card.{Leaf, group, one, sharedIs, Guard, Branch, Statement, Shared, Card}
-use Rattle.card.specs.Valid.{Every, valuesOf, ValidSet, ValidShared, ValidBranch, ValidLeaf, ValidGuard, ValidStatement, ValidCard}
+use Rattle.card.specs.Valid.{Every, valuesOf, ValidSet, ValidShared, ValidLeaf, ValidGuard, ValidStatement, ValidCard}
 use Rattle.card.specs.Formulas.{EveryAtom}
 use Rattle.card.specs.Laid.{guardSize, nodeRow, branchRow}
 use Rattle.card.proofs.Packed.{HeldLeaf, HeldSet}

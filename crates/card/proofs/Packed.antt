@@ -1,5 +1,5 @@
 -- A node and a branch come back from their number: each part is below what the part left of it is multiplied by. Assumes nothing.
-use Prim.Native.Nat.{ℕ, zero, suc, _-_, _*_, _≤_, _<_, _^_, min}
+use Prim.Native.Nat.{ℕ, _-_, _≤_, _<_, _^_, min}
 use mathlib.Core.Path.{_≡_, refl}
 use mathlib.Core.Option.{Option, none, some}
 use native.Mathlib.Omega.{arith}
@@ -214,9 +214,3 @@ packed-branch units sets end f g h =
     let b : min sets numbers ≡ sets = omega arith in
     let c : min end numbers ≡ end = omega arith in
     rw (a, b, c)
-
-pub packed-shared : (q v : ℕ) → q ≤ 1 → v ≤ numbers → packGroup sharedKind 0 (min q 1) (min v numbers) ≡ packGroup sharedKind 0 q v
-packed-shared q v g h =
-    let a : min q 1 ≡ q = omega arith in
-    let b : min v numbers ≡ v = omega arith in
-    rw (a, b)

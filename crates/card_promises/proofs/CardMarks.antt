@@ -7,17 +7,16 @@ use mathlib.Core.List.{List, [], _∷_, _++_, append-assoc, map}
 use mathlib.Core.Option.{Option, none, some}
 use native.Mathlib.Omega.{arith}
 use lib.ListN.{length}
-use Rattle.card.specs.Card.{Mode, Shared, Card, Formula}
+use Rattle.card.specs.Card.{Card, Formula}
 use Rattle.card.specs.Weight.{Weight, Worth, Rule}
 use Rattle.card.specs.Valid.{Every}
 use Rattle.card.proofs.Laws.{units-worth}
 use Rattle.marks_on_a_card.specs.Marks.{Mark, seat, process, number, placed, marksOf}
 use Rattle.reading.specs.Reader.{Place, Numbered, Item, exactly, seatWord, processWord}
 use Rattle.reading.specs.Group.{Tested}
-use Rattle.reading.specs.Guard.{isSome}
 use Rattle.reading.specs.Judgements.{Judgement, orZero, unitsIn, placeIn, judgedGuard}
 use Rattle.reading.specs.Shape.{BranchShape, StatementShape, Range, CardShape}
-use Rattle.reading.specs.Checks.{judgedWords, judgedSet, judgedBranch, judgedEach, judgedOr, judgedStatement, moduleDues, judgedModules, judgedShared, judgedCard, mostIn, valueOr, branchIn, guardOr, statementIn, sharedIn, cardIn}
+use Rattle.reading.specs.Checks.{judgedWords, judgedBranch, judgedEach, judgedOr, judgedStatement, moduleDues, judgedModules, judgedShared, judgedCard, mostIn, valueOr, branchIn, guardOr, statementIn, sharedIn, cardIn}
 use Rattle.grammar.specs.Grammar.{Said, signAt, LineSaid, ended, fixed, aSeat, aProcess, moduleRun, ManySaid, done as said-done, again as said-again, RestSaid, nothing as no-guard, guarded as a-guard, WeightSaid, aNumber, aRatio, aDecimal, SetSaid, keeps, setsTo, BranchSaid, branch as said-branch, PlusSaid, plus as said-plus, StatementSaid, statement as said-statement, modeWord, RangeSaid, range, SharedSaid, unshared, sharing, CardSaid, card as said-card}
 use Rattle.grammar.specs.Rules.{Kept}
 use Rattle.grammar.specs.Verdicts.{KeptOn}

@@ -1,7 +1,6 @@
 -- The shared number stays in its range: a branch sets it to one of its values or leaves it, and a stuck step leaves it. Step by step as for the counters (`meaning/proofs/Within.antt`).
 -- Assumes nothing.
 use Prim.Native.Nat.{ℕ, zero, suc, _<_}
-use mathlib.Core.Path.{_≡_}
 use mathlib.Core.Bool.{Bool, true, false}
 use mathlib.Core.List.{List, [], _∷_, map}
 use mathlib.Core.Option.{Option, none, some}

@@ -1,12 +1,15 @@
-// The written card ("Texts, byte for byte", the paragraph on the written card), of a card that lies in arrays; and how long it is.
+// The written card ("Texts, byte for byte", the paragraph on the written card), of a card that lies in arrays: how long it is, and the text stored in a room where it fits.
 use card::Head;
+use card::limits::BRANCH_PLACES;
 use card::limits::MOST_BRANCHES;
 use card::limits::NODE_PLACES;
 use card::limits::ROW_PLACES;
+use card::refusals::ROOM_TOO_SMALL;
 use leaf_text::WRITTEN;
 use phrases::WEIGHT_MOST;
 use phrases::put_mode;
 use phrases::put_numbered;
+use room::Answer;
 use room::place;
 use room::put_bytes;
 use shared_text::put_declaration;
@@ -23,6 +26,8 @@ ghost use Rattle.phrases.specs.Puts.{Puts};
 ghost use Rattle.texts.specs.Writing.{moduleText, modules, writeOf};
 ghost use Rattle.texts.specs.Lengths.{writtenMost};
 ghost use Rattle.card_text.specs.Parts.{headText};
+ghost use Rattle.room.specs.Answer.{Entered};
+ghost use Rattle.entry.specs.Said.{says as text};
 
 fn put_module(room: &mut [u8], at: usize, seat: usize) -> usize
     ensures { λ r. ⌜ Puts (now (room .entry)) (now (room .exit)) at (moduleText seat) r ⌝ }
@@ -98,11 +103,34 @@ const SEAT_MOST: usize = 144;
 const MODULE_MOST: usize = 55;
 
 // Bytes that are enough for every card of so many seats and statements.
-pub fn written_most(seats: usize, count: usize) -> usize
+fn written_most(seats: usize, count: usize) -> usize
     requires { ⌜ seats ≤ mostSeats ⌝ }
     requires { ⌜ count ≤ mostStatements ⌝ }
     ensures { λ r. ⌜ r ≡ writtenMost seats count ⌝ }
 {
     let statement = BARE_MOST + SEAT_MOST * seats;
     HEAD_MOST + count * statement + seats * MODULE_MOST
+}
+
+// A card that was taken. A room that is long enough for every card of its size takes the text in one walk; else the text is measured first,
+// and stored where it fits.
+pub fn write_card<'a>(
+    room: &mut [u8],
+    head: Head,
+    rows: &'a [usize; ROW_PLACES],
+    nodes: &'a [u32; NODE_PLACES],
+    branches: &'a [u32; BRANCH_PLACES],
+) -> Answer
+    requires { ⌜ HoldsIn head (lent (now rows) (now nodes) (now branches)) ⌝ }
+    ensures { λ r. ⌜ Entered (now (room .entry)) (now (room .exit)) (text (writeOf (cardIn head (lent (now (rows .entry)) (now (nodes .entry)) (now (branches .entry)))))) r ⌝ }
+{
+    let most = written_most(head.seats, head.count);
+    if most <= room.len() {
+        return Answer::Done(put_card(room, head, rows, nodes, branches));
+    }
+    let need = written_length(head, rows, nodes, branches);
+    if room.len() < need {
+        return Answer::Refused(ROOM_TOO_SMALL, need);
+    }
+    Answer::Done(put_card(&mut room[..need], head, rows, nodes, branches))
 }

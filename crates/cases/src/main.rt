@@ -1,7 +1,7 @@
 // The edges that document 01 has run ("Both sides of the edge"): a card on each side of its limit, and a room on each side of a text's
 // length. What the writer answers is printed, and the file `stdout` fixes it.
-use entries::write;
 use libc::STDOUT_FILENO;
+use printing::write;
 use put_numbers::put_number;
 use room::Answer;
 use room::put_bytes;

@@ -13,7 +13,7 @@ use Rattle.entry.specs.Said.{refused}
 use Rattle.entry.specs.Stage.{Stage}
 use Rattle.entry.proofs.Exactly.{_↔∙_}
 use Rattle.seating.specs.SeatsSaid.{verdictSaid}
-use Rattle.seating.specs.Judged.{judgedBy, FirstAbove}
+use Rattle.seating.specs.Judged.{FirstAbove}
 use Rattle.seating.proofs.Judging.{Within, within-at, first-only, fine≢refused, same-refusal, judged-ways}
 use Rattle.seating.proofs.SeatsStage.{verdict-refused, verdict-fine}
 use Rattle.classes.specs.Classes.{ValidClasses}

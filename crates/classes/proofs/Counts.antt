@@ -11,7 +11,7 @@ use lib.ListN.{length, getD, take, set, replicate, length-map, length-take}
 use lib.Seq.{take-all}
 use Rattle.card.specs.Limits.{topClass, publicClasses}
 use Rattle.card.specs.Valid.{Every}
-use Rattle.meaning.specs.Sums.{gate, sum, upto}
+use Rattle.meaning.specs.Sums.{gate, sum}
 use Rattle.meaning.specs.Seats.{count, counts}
 use Rattle.meaning.specs.Reduced.{noOf}
 use Rattle.meaning.proofs.Sums.{gate-zero, sum-every, sum-one, sum-gate, sum-map, length-upto, upto-cong, every-upto, sumBelow, sum-upto, below-cong, below-exchange, below-pick}

@@ -8,7 +8,7 @@ use Rattle.card.specs.Valid.{Every}
 use Rattle.deck.specs.Contents.{Row, rowOf, countOf, contentsOf}
 use Rattle.deck.specs.Deck.{bodyOf}
 use Rattle.room.specs.Room.{cap, Put}
-use Rattle.deck_text.proofs.Still.{Still, still-all, still-none, still-less}
+use Rattle.deck_writer.proofs.Still.{Still, still-all, still-none, still-less}
 use Rattle.converted_rows.specs.Noted.{Each}
 use Rattle.converted_rows.specs.Notes.{bodyNoted, bodiesNoted}
 use Rattle.converted_rows.proofs.Left.{Place, starts, rowsLeft, all-left, next-place, first-left, note-and-rest}

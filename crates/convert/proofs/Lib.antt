@@ -1,2 +1,4 @@
+pub mod Entry
+mod Walk
 mod Bodies
 mod Storing

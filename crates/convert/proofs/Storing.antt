@@ -16,7 +16,7 @@ use Rattle.deck.proofs.DeckStages.{judged-stage}
 use Rattle.deck.proofs.Written.{length-text, length-rows, length-for}
 use Rattle.deck_entries.specs.Verdicts.{verdictOf}
 use Rattle.deck_entries.proofs.Laws.{verdict-refused, verdict-fine}
-use Rattle.deck_text.proofs.Putting.{rows-before}
+use Rattle.deck_writer.proofs.Putting.{rows-before}
 use Rattle.room.specs.declared.Answer.{Answer}
 use Rattle.room.specs.declared.Answer.the-variants.{Done, Refused}
 use Rattle.room.specs.Room.{Put}
@@ -31,7 +31,7 @@ use Rattle.converted_rows.specs.Noted.{rowsNoted, Each, SizesFit}
 use Rattle.converted_rows.specs.Notes.{noteOf, endSaid, bodiesNoted}
 use Rattle.converted_rows.proofs.Notes.{end-converts, end-stops}
 use Rattle.converted_rows.proofs.Text.{sound-right, rows-noted, bodies-noted, sizes-noted}
-use Rattle.converted_notes.specs.NotesFound.{NotesFound}
+use Rattle.convert.specs.NotesFound.{NotesFound}
 use Rattle.convert.specs.Ready.{BodiesFit, Ready}
 
 -- ---- a card is named, or none

@@ -1,1 +1,2 @@
+pub mod NotesFound
 pub mod Ready

@@ -10,7 +10,7 @@ use Rattle.deck.specs.Deck.{rowText, rowsText}
 use Rattle.deck_entries.proofs.Laws.{rowWith, row-there}
 use Rattle.room.specs.Room.{cap, Put}
 use Rattle.room.proofs.Laws.{put-as}
-use Rattle.deck_text.proofs.Still.{Still, still-all, still-none, still-less}
+use Rattle.deck_writer.proofs.Still.{Still, still-all, still-none, still-less}
 use Rattle.converted_rows.specs.Noted.{sizeBy, rowSized, rowsNoted, sizesNoted, Each, SizesFit}
 use Rattle.converted_rows.proofs.Left.{Place, starts, rowsLeft, all-left, next-place, first-left, note-and-rest}
 

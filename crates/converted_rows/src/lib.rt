@@ -5,7 +5,7 @@ use card::limits::FLAG_AT;
 use card::limits::SIZE_AT;
 use card::limits::ZERO_BYTE_AT;
 use deck_entries::word_at;
-use deck_text::put_row;
+use deck_writer::put_row;
 use room::place;
 ghost use mathlib.Core.Path.{_≡_};
 ghost use mathlib.Core.List.{[]};

@@ -7,7 +7,7 @@ use mathlib.Core.List.{List, [], _∷_, _++_}
 use lib.ListN.{length}
 use Rattle.card.specs.Card.{Card}
 use Rattle.card.specs.Refusals.{notConverted}
-use Rattle.entry.specs.Said.{Said, says, refused}
+use Rattle.entry.specs.Said.{says, refused}
 use Rattle.deck.specs.Deck.{Entry}
 use Rattle.reading.specs.Reading.{taken, refused as turned}
 use Rattle.texts.specs.Writing.{writeOf}

@@ -87,13 +87,6 @@ which at (e ∷ es) = go (λ k. which k es) (told-body e)
     go rest (hasNot b q) = notAll (e .number) (noBody b)
 
 module _ {at : ℕ} {es : List Entry} where
-  pub said-converts : {new : List Entry} → entriesSaid at es ≡ says new → Converts at es new
-  said-converts {new} q = go (which at es)
-    where
-      go : Which at es → Converts at es new
-      go (all other k) = let same : other ≡ new = same-said (sym (converts-said k) ∙ q) in rw (← same) k
-      go (notAll number k) = says≢refused (sym q ∙ stops-said k)
-
   pub said-stops : {r p : ℕ} → entriesSaid at es ≡ refused r p → (r ≡ notConverted) × Stops at es p
   said-stops {r} {p} q = go (which at es)
     where

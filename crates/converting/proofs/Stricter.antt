@@ -1,26 +1,25 @@
 -- What two rules say of one card: they judge it alike but for its weights, so what holds of one list of judgements holds of the other where it does of the weights. So what is
 -- read without decimals is read with them, as the same card; and what only the looser rule takes is refused with 17. Assumes nothing.
 use Prim.Native.Nat.{ℕ}
-use mathlib.Core.Path.{_≡_, refl, sym, ap, _∙_}
-use mathlib.Core.Bool.{Bool, true, false, _&&_, false≢true}
+use mathlib.Core.Path.{_≡_, refl, sym, _∙_}
+use mathlib.Core.Bool.{Bool, true, false}
 use mathlib.Core.List.{List, [], _∷_, _++_, map}
 use mathlib.Core.Option.{Option, none, some}
 use native.Mathlib.Omega.{arith}
 use lib.Dec.{leb}
 use lib.ListN.{length}
 use Rattle.card.specs.Limits.{cardBytes}
-use Rattle.card.specs.Refusals.{tooLong, wrongWeight, decimalWeight}
+use Rattle.card.specs.Refusals.{tooLong, decimalWeight}
 use Rattle.card.specs.Card.{Card}
 use Rattle.card.specs.Text.{if_then_else_}
 use Rattle.card.specs.Valid.{Every}
-use Rattle.card.specs.Weight.{Weight, whole, decimal, ratio, Rule, unitsOf, allowed, weightRefusal}
+use Rattle.card.specs.Weight.{Weight, whole, decimal, ratio, Rule, allowed}
 use Rattle.marks_on_a_card.specs.Marks.{Placed, marksOf}
 use Rattle.reading.specs.Reader.{Place, Result, ok, stop, at}
-use Rattle.reading.specs.Guard.{isSome}
-use Rattle.reading.specs.Judgements.{Judgement, weight, sum, placeIn, unless, broken, Verdict, fine, wrong, orElse, firstBroken}
+use Rattle.reading.specs.Judgements.{Judgement, weight, sum, placeIn, broken, Verdict, fine, wrong, orElse, firstBroken}
 use Rattle.reading.specs.Shape.{BranchShape, StatementShape, CardShape, card}
 use Rattle.reading.specs.Checks.{judgedState, judgedWords, judgedBranch, judgedSet, judgedEach, judgedOr, weightIn, judgedStatement, judgedModules, judgedCard, seatsIn, judgedShared, mostIn, cardIn}
-use Rattle.reading.specs.Reading.{Outcome, taken, refused, firstOutside, judged, shaped, marked, readUnder}
+use Rattle.reading.specs.Reading.{taken, refused, firstOutside, judged, shaped, marked, readUnder}
 use Rattle.grammar.specs.Rules.{Kept}
 use Rattle.grammar.specs.Verdicts.{Accepted}
 use Rattle.grammar.proofs.Fair.{every-append}

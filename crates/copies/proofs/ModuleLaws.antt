@@ -1,9 +1,9 @@
 -- The further modules and the end of the card. What is left after each module is read by the same reader with one module less; the
 -- numbers due in a module's words rise with the modules. Assumes nothing.
-use Prim.Native.Nat.{ℕ, zero, suc, _+_, _-_, _≤_, _<_}
+use Prim.Native.Nat.{ℕ, suc, _+_, _-_, _≤_, _<_}
 use mathlib.Core.Path.{_≡_, refl, sym, ap, _∙_}
 use mathlib.Core.Bool.{Bool, true, false}
-use mathlib.Core.List.{List, [], _∷_, _++_}
+use mathlib.Core.List.{List, _∷_}
 use native.Mathlib.Numerals.{add-one}
 use native.Mathlib.Omega.{arith}
 use borrow.Author.Tests.{eqb-true, eqb-false}
@@ -11,21 +11,19 @@ use lib.Dec.{eqb}
 use lib.ListN.{length, set}
 use Rattle.card.specs.Limits.{mostSeats}
 use Rattle.card.specs.Refusals.{outOfShape, pastLimit}
-use Rattle.card.specs.Text.{if_then_else_}
-use Rattle.marks_on_a_card.specs.Marks.{Placed, placed, placeOf}
 use Rattle.marks_on_a_card.specs.Kinds.{kEnd, kind}
 use Rattle.marks.specs.Step.{marksAt}
 use Rattle.marks_on_a_card.proofs.KindLaws.{kind-some}
 use Rattle.marks.specs.declared.Found.{Found}
 use Rattle.marks.specs.declared.Step.{Step}
 use Rattle.reading.specs.Reader.{State, Result, ok, stop, Reader, bind, return, refuse, Numbered, Item, line}
-use Rattle.reading.specs.Shape.{many, copy, theEnd}
+use Rattle.reading.specs.Shape.{copy, theEnd}
 use Rattle.reading.specs.Checks.{judgedWords, judgedModules}
 use Rattle.late.specs.Late.{Late, judgeAll}
-use Rattle.late.specs.State.{atValue, Sized, lateIn, valueIn, After, after, Halted}
+use Rattle.late.specs.State.{atValue, Sized, lateIn, After, after, Halted}
 use Rattle.late.proofs.Settling.{judge-append}
 use Rattle.late.proofs.StateLaws.{set-sized, value-set, late-set}
-use Rattle.parts.specs.Parts.{from, Read, Answers, Went, Told, itemsIn, duesIn, Sure, LineRead}
+use Rattle.parts.specs.Parts.{from, Answers, Went, Told, itemsIn, duesIn, Sure, LineRead}
 use Rattle.mode_and_range.specs.ModeRange.{Valued}
 use Rattle.frame.specs.Frame.{moduleDue, ModuleFrom, EndedBy, modules, ModulesRead, ModulesFrom}
 use Rattle.parts.proofs.Steps.{Next, end, one, place-seen, told}

@@ -8,7 +8,7 @@ use native.Mathlib.Omega.{arith}
 use lib.Dec.{eqb}
 use lib.ListN.{length, drop, length-append}
 use lib.Seq.{drop-drop, drop-append-seam, take-append-seam}
-use Rattle.entry.specs.Said.{Said, says, _>>=_, _>>_}
+use Rattle.entry.specs.Said.{Said, says, _>>=_}
 use Rattle.entry.proofs.Stages.{same-said}
 use Rattle.deck.specs.Contents.{word, Row, rowOf, rowsOf, behind, contentsOf, rowsSaid, rowsIn}
 use Rattle.deck.specs.Deck.{Entry, entryOf, deckOf, low, high, flagOf, rowFor, rowsFor, rowText, rowsText, bodies, deckText}

@@ -7,7 +7,7 @@ use lib.ListN.{take, drop}
 use Rattle.card.specs.Limits.{expansionFrom}
 use Rattle.card.specs.Refusals.{noLiveCard}
 use Rattle.card.specs.Text.{if_then_else_}
-use Rattle.entry.specs.Said.{Said, says, refused, _>>=_, _>>_, return, saying, placedFrom}
+use Rattle.entry.specs.Said.{Said, says, refused, _>>=_, _>>_, saying, placedFrom}
 use Rattle.deck.specs.Contents.{Row, rowsIn}
 use Rattle.deck.specs.Deck.{Entry, liveOf, deckOf}
 

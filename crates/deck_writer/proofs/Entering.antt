@@ -1,15 +1,13 @@
 -- What writing says, from what the contents say: their refusal is the entry's, and behind them bodies and total are judged. Assumes nothing.
-use Prim.Native.Nat.{ℕ, _+_, _*_, _/_, _≤_, _<_}
-use mathlib.Core.Path.{_≡_, refl, sym, ap, _∙_}
-use mathlib.Core.Bool.{Bool, true, false}
-use mathlib.Core.List.{List, [], _∷_}
+use Prim.Native.Nat.{ℕ, _+_, _≤_, _<_}
+use mathlib.Core.Path.{_≡_, sym, _∙_}
+use mathlib.Core.List.{List}
 use native.Mathlib.Omega.{arith}
-use lib.Dec.{leb, eqb}
 use borrow.Author.Tests.{lt-leb, eq-eqb, ne-eqb}
 use lib.ListN.{length}
 use Rattle.card.specs.Limits.{deckBytes}
 use Rattle.card.specs.Refusals.{malformedDeck, roomTooSmall}
-use Rattle.entry.specs.Said.{Said, says, refused, _>>=_, _>>_, unless}
+use Rattle.entry.specs.Said.{Said, says, refused, _>>_}
 use Rattle.entry.proofs.Stages.{says≢refused, same-said, same-number, same-place}
 use Rattle.deck.specs.Contents.{behind}
 use Rattle.deck.specs.Deck.{deckText}
@@ -21,9 +19,9 @@ use Rattle.deck_written.proofs.Entries.{deck-long}
 use Rattle.room.specs.declared.Answer.the-variants.{Done, Refused}
 use Rattle.room.specs.Answer.{told, Entered}
 use Rattle.room.proofs.Entries.{told-faithful, entered-short, entered-whole}
-use Rattle.deck_lines.specs.Measured.{measured, contentsSaid}
-use Rattle.deck_text.specs.Parts.{DeckPut}
-use Rattle.deck_text.proofs.Putting.{deck-there}
+use Rattle.deck_writer.specs.Measured.{measured, contentsSaid}
+use Rattle.deck_writer.specs.Parts.{DeckPut}
+use Rattle.deck_writer.proofs.Putting.{deck-there}
 
 pub told-refused : {x : Said ℕ} {r p : ℕ} → told x ≡ Refused r p → x ≡ refused r p
 told-refused {x} {r} {p} e = told-faithful x (refused r p) e

@@ -1,1 +1,4 @@
+pub mod Judging
+pub mod Still
+pub mod Putting
 pub mod Entering

@@ -1,6 +1,6 @@
 -- The entries that contents and bodies say: as many as there are lines, with the joined bodies as their bodies; where all is fine they can be
 -- written, so that the deck is sound and reads back as them. Assumes nothing.
-use Prim.Native.Nat.{ℕ, zero, suc, _+_, _*_, _/_, _<_, _≤_}
+use Prim.Native.Nat.{ℕ, zero, suc, _+_, _≤_}
 use mathlib.Core.Path.{_≡_, refl, sym, ap, _∙_}
 use mathlib.Core.Bool.{Bool, true, false}
 use mathlib.Core.List.{List, [], _∷_, _++_}
@@ -10,10 +10,10 @@ use borrow.Author.Tests.{leb-true, eqb-true}
 use lib.ListN.{length, take, drop, length-drop}
 use lib.Seq.{take-add, take-all, length-take-le}
 use Rattle.card.specs.Refusals.{malformedDeck}
-use Rattle.entry.specs.Said.{Said, says, refused, _>>=_, _>>_, unless}
+use Rattle.entry.specs.Said.{says, unless}
 use Rattle.entry.proofs.Stages.{says≢refused}
 use Rattle.deck.specs.Contents.{Row, rowOf, rowsOf, behind, contentsOf}
-use Rattle.deck.specs.Deck.{Entry, liveOf, deckOf, flagOf, rowFor, rowsFor, rowsText, bodies, deckText, Rising, Writable, Bytes}
+use Rattle.deck.specs.Deck.{Entry, liveOf, deckOf, flagOf, rowFor, rowsFor, bodies, deckText, Rising, Writable, Bytes}
 use Rattle.deck.specs.Sound.{Sound}
 use Rattle.deck.proofs.Judged.{past-test, past}
 use Rattle.deck.proofs.Kept.{byte-at, bytes-drop}

@@ -1,10 +1,10 @@
 -- What writing says, exactly: a deck where contents and bodies are fine, and 11 where they are not, at the place that the first of count, fields
 -- and bodies names. Each stage passes or stops; that there is no third way carries both directions. Assumes nothing.
-use Prim.Native.Nat.{ℕ, zero, suc, _+_, _*_, _/_, _%_, _<_, _≤_}
+use Prim.Native.Nat.{ℕ, zero, suc, _+_, _*_, _%_, _<_, _≤_}
 use mathlib.Core.Path.{_≡_, refl, sym, ap, _∙_, subst}
-use mathlib.Core.Bool.{Bool, true, false}
-use mathlib.Core.Logic.{_↔_, _⊎_, inl, inr}
-use mathlib.Core.List.{List, [], _∷_, _++_}
+use mathlib.Core.Bool.{true}
+use mathlib.Core.Logic.{_↔_, _⊎_}
+use mathlib.Core.List.{List}
 use native.Mathlib.Decide.{decLe, decLt, ℕ-discrete}
 use native.Mathlib.Omega.{arith}
 use lib.Dec.{leb, eqb}
@@ -12,18 +12,18 @@ use borrow.Author.Tests.{leb-true, le-leb, eqb-true, eq-eqb}
 use lib.ListN.{length}
 use Rattle.card.specs.Limits.{deckBytes, mostCards}
 use Rattle.card.specs.Refusals.{malformedDeck}
-use Rattle.entry.specs.Said.{Said, says, refused, _>>=_, _>>_, unless}
-use Rattle.entry.specs.Numbers.{Numbers, only, Among}
-use Rattle.entry.specs.Stage.{Passes, Stage}
+use Rattle.entry.specs.Said.{Said, says, refused, _>>_}
+use Rattle.entry.specs.Numbers.{only, Among}
+use Rattle.entry.specs.Stage.{Stage}
 use Rattle.entry.proofs.Stages.{says≢refused, same-said, same-place, among-refused}
-use Rattle.deck.specs.Contents.{rowsOf, behind, Field, fieldAt, numberField, offsetField, sizeField, flagField, zeroField}
+use Rattle.deck.specs.Contents.{rowsOf, behind, Field, numberField, offsetField, sizeField, flagField, zeroField}
 use Rattle.deck.specs.Deck.{deckText}
 use Rattle.deck.specs.Sound.{rowAt}
 use Rattle.deck.proofs.Judged.{flag-small, flag-either}
 use Rattle.deck_written.specs.WriteDeckSaid.{countIn, lines, countSaid, linesSaid, sizes, bodiesSaid, entriesSaid, writeDeckSaid}
-use Rattle.deck_written.specs.Fine.{Count, RisesIn, RightIn, placeIn, AllRight, FirstWrongIn, Fitting, Fine, RefusedAt, wrong-count, wrong-field, not-fitting}
-use Rattle.deck_written.proofs.InOrder.{First, None, InOrder, passed, stopped, order-passes, order-refuses, order-number}
-use Rattle.deck_written.proofs.OnePlace.{OnePlace, holds, fails, one-test, one-then, one-as, one-passes, one-refuses, one-number}
+use Rattle.deck_written.specs.Fine.{Count, RightIn, placeIn, AllRight, FirstWrongIn, Fitting, Fine, RefusedAt, wrong-count, wrong-field, not-fitting}
+use Rattle.deck_written.proofs.InOrder.{First, None, InOrder, passed, stopped, order-passes, order-refuses}
+use Rattle.deck_written.proofs.OnePlace.{OnePlace, holds, fails, one-test, one-then, one-as, one-passes, one-refuses}
 use Rattle.deck_written.proofs.Fields.{WrongAt, fields-order}
 
 -- ---- the count

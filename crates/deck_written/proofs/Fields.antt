@@ -1,22 +1,21 @@
 -- The fields of the contents, judged in the order of their bytes: each entry's three tests, then the entries one behind the other. Assumes nothing.
-use Prim.Native.Nat.{ℕ, zero, suc, _+_, _*_, _/_, _<_, _≤_}
-use mathlib.Core.Path.{_≡_, refl, sym, ap, _∙_, subst}
-use mathlib.Core.Bool.{Bool, true, false}
+use Prim.Native.Nat.{ℕ, zero, suc, _+_, _*_, _<_, _≤_}
+use mathlib.Core.Path.{_≡_, refl, sym, subst}
+use mathlib.Core.Bool.{false}
 use mathlib.Core.Logic.{_⊎_, inl, inr}
-use mathlib.Core.List.{List, [], _∷_}
+use mathlib.Core.List.{List}
 use native.Mathlib.Decide.{decLe, decLt}
 use native.Mathlib.Omega.{arith}
 use lib.Dec.{leb, eqb}
 use borrow.Author.Tests.{leb-false, lt-leb, eqb-false, ne-eqb}
-use lib.ListN.{length, drop}
+use lib.ListN.{drop}
 use Rattle.card.specs.Refusals.{malformedDeck}
-use Rattle.entry.specs.Said.{Said, says, refused, _>>=_, _>>_, unless}
 use Rattle.deck.specs.Contents.{Row, rowOf, rowsOf, Field, numberField, offsetField, sizeField, flagField, zeroField}
 use Rattle.deck.specs.Sound.{rowAt}
 use Rattle.deck.proofs.Judged.{flag-small, flag-either}
-use Rattle.deck_written.specs.WriteDeckSaid.{countIn, lines, lineSaid, linesSaid}
-use Rattle.deck_written.specs.Fine.{Count, RisesIn, RightIn, placeIn, AllRight, FirstWrongIn}
-use Rattle.deck_written.proofs.InOrder.{First, None, InOrder, passed, stopped, in-order-test, in-order-then, in-order-as}
+use Rattle.deck_written.specs.WriteDeckSaid.{lineSaid, linesSaid}
+use Rattle.deck_written.specs.Fine.{RightIn, placeIn}
+use Rattle.deck_written.proofs.InOrder.{InOrder, passed, in-order-test, in-order-then, in-order-as}
 
 -- ---- one entry, measured by the least number that rises
 

@@ -6,9 +6,7 @@ use mathlib.Core.Bool.{Bool, true, false, false≢true}
 use mathlib.Core.Logic.{_⊎_, inl, inr}
 use native.Mathlib.Decide.{decLt}
 use native.Mathlib.Omega.{arith}
-use Rattle.entry.specs.Said.{Said, says, refused, _>>=_, _>>_, unless}
-use Rattle.entry.specs.Numbers.{only, Among}
-use Rattle.entry.proofs.Stages.{says≢refused, same-number, in-span}
+use Rattle.entry.specs.Said.{Said, says, refused, _>>_, unless}
 
 -- the first place where something is wrong, and nothing wrong at all
 pub record First (W : ℕ → Type 0) (place : ℕ) : Type 0 where
@@ -64,7 +62,3 @@ module _ {r : ℕ} {x : Said (Unit {0})} {W : ℕ → Type 0} where
       same (yes l) _ = absurd (f .none-before q l (first .there))
       same (no l) (yes m) = absurd (first .none-before p m (f .there))
       same (no l) (no m) = omega arith
-
-  pub order-number : InOrder r x W → Among (only r) x
-  order-number (passed e n) = record { number = λ s p h. says≢refused (sym e ∙ h) }
-  order-number (stopped q e first) = record { number = λ s p h. rw (← same-number (sym e ∙ h), in-span r r r (omega arith) (omega arith)) }

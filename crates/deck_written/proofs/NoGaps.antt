@@ -1,11 +1,11 @@
 -- A deck's text leaves no gap: its entries are those of `rowsFor`, of which each starts where the one before ends. Assumes nothing.
-use Prim.Native.Nat.{ℕ, zero, suc, _+_, _*_, _<_, _≤_}
+use Prim.Native.Nat.{ℕ, zero, suc, _+_, _<_, _≤_}
 use mathlib.Core.Path.{_≡_, refl, sym, ap, _∙_}
-use mathlib.Core.List.{List, [], _∷_, _++_}
+use mathlib.Core.List.{List, [], _∷_}
 use native.Mathlib.Omega.{arith}
 use lib.ListN.{length, drop, getD, length-append}
-use Rattle.deck.specs.Contents.{Row, endOf, rowOf, rowsOf, countOf, behind, contentsOf}
-use Rattle.deck.specs.Deck.{Entry, rowFor, rowsFor, bodies, deckText}
+use Rattle.deck.specs.Contents.{Row, endOf, rowsOf, behind}
+use Rattle.deck.specs.Deck.{Entry, rowsFor, bodies, deckText}
 use Rattle.deck.specs.Sound.{rowAt, entryAt}
 use Rattle.deck.proofs.Written.{length-text, contents-text}
 use Rattle.deck_written.specs.Fine.{NoGaps}

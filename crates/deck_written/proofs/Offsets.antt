@@ -1,15 +1,14 @@
 -- Offsets are not read: what is said of contents is said of their lines with any offsets, and contents that differ in offsets only have the same
 -- such lines. Assumes nothing.
-use Prim.Native.Nat.{ℕ, zero, suc, _+_, _*_, _/_, _<_, _≤_}
+use Prim.Native.Nat.{ℕ, zero, suc, _+_, _*_, _/_, _<_}
 use mathlib.Core.Path.{_≡_, refl, sym, ap, _∙_}
 use mathlib.Core.List.{List, [], _∷_, map}
 use native.Mathlib.Omega.{arith}
-use lib.ListN.{length, take, drop}
+use lib.ListN.{take, drop}
 use lib.Seq.{getD-drop}
-use Rattle.card.specs.Limits.{deckBytes, mostCards}
-use Rattle.entry.specs.Said.{Said, says, refused, _>>=_, _>>_, unless}
+use Rattle.entry.specs.Said.{Said, _>>_}
 use Rattle.deck.specs.Contents.{byte, Row, rowOf, rowsOf}
-use Rattle.deck.specs.Deck.{Entry, liveOf, deckText}
+use Rattle.deck.specs.Deck.{Entry, liveOf}
 use Rattle.deck_written.specs.WriteDeckSaid.{countIn, lines, lineSaid, linesSaid, sizes, entriesWith, writeDeckSaid, lineFor}
 use Rattle.deck_written.specs.Fine.{SameButOffsets}
 

@@ -3,7 +3,7 @@ use Prim.Native.Nat.{ℕ}
 use mathlib.Core.Path.{_≡_, refl, sym, ap, _∙_}
 use mathlib.Core.Bool.{Bool, true, false, false≢true}
 use native.Mathlib.Omega.{arith}
-use Rattle.entry.specs.Said.{Said, says, refused, _>>=_, _>>_, unless}
+use Rattle.entry.specs.Said.{Said, says, refused, _>>_, unless}
 use Rattle.entry.specs.Numbers.{only, Among}
 use Rattle.entry.proofs.Stages.{says≢refused, same-number, in-span}
 

@@ -13,7 +13,7 @@ use Rattle.card.specs.declared.Verdict.{Verdict}
 use Rattle.card.specs.declared.Verdict.the-variants.{Taken, Refused}
 use Rattle.card.proofs.Held.{every-map}
 use Rattle.card.proofs.HeldIn.{holds-top, holds-count}
-use Rattle.entry.specs.Said.{Said, says, refused}
+use Rattle.entry.specs.Said.{says, refused}
 use Rattle.meaning.specs.Position.{Position, position}
 use Rattle.meaning.specs.Seats.{Seating, ValidSeating, counts, counted}
 use Rattle.meaning.proofs.Counting.{Within}
@@ -27,9 +27,9 @@ use Rattle.outline.specs.ReadingOf.{ReadsInto}
 use Rattle.outline.proofs.ReadInto.{taken-holds, refused-said, taken-said}
 use Rattle.moving.specs.FirstMove.{firstMove, firstAt}
 use Rattle.moving.proofs.FirstMove.{walks-alike}
-use Rattle.first_able.specs.FirstRow.{firstRow}
+use Rattle.able_seats.specs.FirstRow.{firstRow}
 use Rattle.move_said.specs.MoveSaid.{moveSeated, moveSaid}
-use Rattle.first_able.proofs.Laws.{rows-walk}
+use Rattle.able_seats.proofs.Laws.{rows-walk}
 
 module _ (card seats : List ℕ) {r : Outline} {x : Lent} (h : ReadsInto card r x) {s : Verdict} (e : s ≡ judgedSeats (r .head .seats) (r .head .top) (r .head .shared) seats)
     {told : Verdict} (f : told ≡ firstRefusal (r .verdict) s) where

@@ -4,19 +4,19 @@ use Prim.Native.Nat.{ℕ, _≤_, _<_}
 use mathlib.Core.Path.{_≡_, refl, sym, ap, _∙_}
 use mathlib.Core.Bool.{true, false}
 use mathlib.Core.Logic.{_↔_, _⊎_, inl, inr}
-use mathlib.Core.List.{List, [], _∷_}
+use mathlib.Core.List.{List}
 use native.Mathlib.Decide.{decLe}
 use native.Mathlib.Omega.{arith}
 use lib.Dec.{leb}
 use borrow.Author.Tests.{le-leb, lt-leb, leb-true, leb-false}
 use lib.ListN.{length}
 use Rattle.card.specs.Refusals.{roomTooSmall}
-use Rattle.entry.specs.Said.{Said, says, refused, _>>=_, _>>_, unless, saying}
+use Rattle.entry.specs.Said.{Said, says, refused, _>>=_, _>>_}
 use Rattle.entry.specs.Numbers.{Numbers, only, among, Among}
 use Rattle.entry.specs.Contract.{Ends, valued, left, Enters, fits, onto, stored, inRoom, Two, two, storedBoth, inRooms, lentNothing, Faithful, InRoom, InRooms}
-use Rattle.entry.specs.Stage.{Passes, Stage}
+use Rattle.entry.specs.Stage.{Stage}
 use Rattle.entry.proofs.Exactly.{_↔∙_, under}
-use Rattle.entry.proofs.Stages.{says≢refused, same-number, same-place, same-said, first, after, either, passes-then, passes-says, refused-unless, passes-unless, among-unless, among-says, among-then, silent}
+use Rattle.entry.proofs.Stages.{says≢refused, same-number, same-place, same-said, first, after, either, refused-unless, passes-unless, among-unless, among-says, among-then, silent}
 
 -- ---- any entry
 
@@ -49,15 +49,6 @@ module _ {A M S T : Type 0} {store : M → S → Said (Ends A M)} {tell : Said A
       -- a refusal leaves the lent memory as it was
       pub refused-left : (r p : ℕ) → answer ≡ tell (refused r p) → is ≡ was
       refused-left r p h = e .leaves ∙ ap (left was) (answer-refused r p .0 h)
-
--- what is told of it tells it too
-pub faithful-by : {A B T : Type 0} {tell : Said B → T} (f : A → B) → ((a b : A) → f a ≡ f b → a ≡ b) → Faithful tell → Faithful (λ (s : Said A). tell (saying f s))
-faithful-by f one faithful (says a) (says b) e = ap says (one a b (same-said (faithful (says (f a)) (says (f b)) e)))
-faithful-by f one faithful (says a) (refused r p) e = says≢refused (faithful (says (f a)) (refused r p) e)
-faithful-by f one faithful (refused r p) (says a) e = says≢refused (sym (faithful (refused r p) (says (f a)) e))
-faithful-by f one faithful (refused r p) (refused s q) e =
-    let h = faithful (refused r p) (refused s q) e in
-    rw (same-number h, same-place h)
 
 -- nothing is lent: what is said is told
 module _ {A T : Type 0} {tell : Said A → T} (faithful : Faithful tell) {said : Said A} {answer : T} (e : Enters lentNothing tell tt tt said answer) where

@@ -1,16 +1,16 @@
 -- A `do` block of stages: a refusal is given exactly where the stages before pass and a stage refuses so, and a value is said exactly where
 -- all pass. Whether other stages may give the same refusal is asked at one number and place, and mostly computed from their numbers.
 -- Assumes nothing.
-use Prim.Native.Nat.{ℕ, _+_, _≤_, _<_}
+use Prim.Native.Nat.{ℕ, _≤_, _<_}
 use mathlib.Core.Path.{_≡_, refl, sym, ap, _∙_}
 use mathlib.Core.Bool.{Bool, true, false, _&&_, false≢true}
 use mathlib.Core.Logic.{_↔_, _⊎_, inl, inr}
-use mathlib.Core.List.{List, [], _∷_, _++_}
+use mathlib.Core.List.{[], _∷_, _++_}
 use native.Mathlib.Omega.{arith}
 use lib.Dec.{leb, ltb}
 use borrow.Author.Tests.{le-leb, lt-leb, leb-true, ltb-true}
 use Rattle.card.specs.Text.{if_then_else_}
-use Rattle.entry.specs.Said.{Said, says, refused, _>>=_, _>>_, unless, saidNumber, besideOf, placedFrom}
+use Rattle.entry.specs.Said.{Said, says, refused, _>>=_, unless, saidNumber, besideOf}
 use Rattle.entry.specs.Stage.{Passes, Stage}
 use Rattle.entry.proofs.Exactly.{_↔∙_, under}
 use Rattle.entry.specs.Numbers.{Span, Numbers, only, inside, among, past, clear, apart, upTo, Among}
@@ -236,16 +236,3 @@ module _ {A B W : Type 0} {v : W → A} {x : Said A} {ns : Numbers} (s : Stage x
 
   pub last : (f : A → B) (r p : ℕ) → (x >>= (λ (a : A). says (f a)) ≡ refused r p) ↔ (x ≡ refused r p)
   last f r p = first x (λ (a : A). says (f a)) r p (λ a e. says≢refused e)
-
--- ---- one number of two stages, told apart by the place
-
-module _ {A : Type 0} where
-  pub placed-refused : (k : ℕ) (x : Said A) (r p : ℕ) → (placedFrom k x ≡ refused r (p + k)) ↔ (x ≡ refused r p)
-  placed-refused k (says a) r p = (λ e. says≢refused e, λ e. says≢refused e)
-  placed-refused k (refused s q) r p =
-      (λ e. let h : q ≡ p = omega (arith, same-place e) in rw (same-number e, h), λ e. rw (same-number e, same-place e))
-
-  -- no place before k
-  pub placed-past : (k : ℕ) (x : Said A) (r p : ℕ) → p < k → placedFrom k x ≡ refused r p → ⊥
-  placed-past k (says a) r p h e = says≢refused e
-  placed-past k (refused s q) r p h e = omega (arith, same-place e)

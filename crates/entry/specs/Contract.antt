@@ -7,7 +7,6 @@ use mathlib.Core.Logic.{_↔_, _⊎_}
 use mathlib.Core.List.{List, [], _++_, map}
 use lib.Dec.{leb}
 use lib.ListN.{length, drop}
-use Rattle.card.specs.Text.{if_then_else_}
 use Rattle.card.specs.Refusals.{roomTooSmall}
 use Rattle.entry.specs.Said.{Said, says, refused, _>>=_, _>>_, return, unless}
 

@@ -1,5 +1,4 @@
 -- A stage with all that is known of it: the numbers that it may refuse with, and what it has found where it passes. Assumes nothing.
-use Prim.Native.Nat.{ℕ}
 use mathlib.Core.Path.{_≡_}
 use Rattle.entry.specs.Said.{Said, says}
 use Rattle.entry.specs.Numbers.{Numbers, Among}

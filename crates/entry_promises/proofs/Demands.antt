@@ -1,5 +1,4 @@
 -- The demands, by citing. Assumes nothing.
-use Prim.Native.Nat.{ℕ}
 use Rattle.meaning.proofs.Vectors.{position-right}
 use mathlib.Core.Path.{ap}
 use mathlib.Core.List.{List}

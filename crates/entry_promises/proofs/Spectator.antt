@@ -2,7 +2,7 @@
 -- whatever stands behind it. Assumes nothing.
 use Prim.Native.Nat.{ℕ, _≤_}
 use mathlib.Core.Path.{_≡_, sym, ap, _∙_, subst}
-use mathlib.Core.Logic.{_↔_, _⊎_, inl}
+use mathlib.Core.Logic.{_⊎_, inl}
 use mathlib.Core.List.{List}
 use native.Mathlib.Omega.{arith}
 use lib.ListN.{length, drop}
@@ -13,8 +13,8 @@ use Rattle.card.specs.Valid.{ValidCard}
 use Rattle.card.specs.Weight.{cardRule}
 use Rattle.reading.specs.Reading.{taken, readOf}
 use Rattle.grammar.proofs.Theorems.{read-valid}
-use Rattle.meaning.specs.Seats.{Seating, ValidSeating, counts}
-use Rattle.entry.specs.Said.{says as text, _>>=_, _>>_, return}
+use Rattle.meaning.specs.Seats.{Seating, ValidSeating}
+use Rattle.entry.specs.Said.{says as text, _>>_, return}
 use Rattle.entry.specs.Contract.{onto}
 use Rattle.entry.proofs.Exactly.{_↔∙_}
 use Rattle.entry.proofs.Entries.{enters-unique}
@@ -30,7 +30,7 @@ use Rattle.classes.specs.ClassesSaid.{classesSaid}
 use Rattle.classes.specs.ClassesRoom.{classesRoom}
 use Rattle.classes.proofs.Counts.{by-counts, adds-up, how-many}
 use Rattle.classes.proofs.Line.{tells, fits}
-use Rattle.watch_said.specs.WatchSaid.{watchSeated, watchSaid}
+use Rattle.watch_said.specs.WatchSaid.{watchSaid}
 use Rattle.watch_said.specs.Watches.{Watches}
 use Rattle.watch_said.proofs.Theorems.{said, watches}
 use Rattle.answers.specs.Numbered.{numbers}

@@ -1,28 +1,24 @@
 -- The beginning of a card, part by part. Assumes nothing.
-use Prim.Native.Nat.{ℕ, _≤_}
+use Prim.Native.Nat.{ℕ}
 use mathlib.Core.Path.{_≡_, refl, sym, ap, _∙_}
 use mathlib.Core.List.{List, [], _∷_, _++_}
-use mathlib.Core.Option.{Option}
 use native.Mathlib.Omega.{arith}
 use lib.ListN.{length, getD, set}
 use lib.Seq.{getD-set-same, getD-set-other}
 use Rattle.card.specs.Limits.{topState}
-use Rattle.card.specs.Card.{Mode}
-use Rattle.card.specs.Laid.{modeNumber}
-use Rattle.reading.specs.Reader.{bind, return, the, Numbered, line}
+use Rattle.reading.specs.Reader.{the, line}
 use Rattle.reading.specs.Judgements.{Judgement}
-use Rattle.reading.specs.Shape.{Range, modeOf, range}
+use Rattle.reading.specs.Shape.{modeOf, range}
 use Rattle.reading.specs.Checks.{judgedState, judgedWords, judgedShared}
-use Rattle.late.specs.Late.{Late, judge, judgeAll}
-use Rattle.late.specs.Values.{valuesIn, initialIn}
+use Rattle.late.specs.Late.{Late, judgeAll}
 use Rattle.late.specs.State.{atMode, atTop, atStart, atShared, atInitial, Sized, lateIn, valueIn, After, after}
 use Rattle.late.proofs.Settling.{judge-append}
 use Rattle.late.proofs.StateLaws.{set-sized, late-set}
-use Rattle.parts.specs.Parts.{from, Answers, Sure, LineRead, RunFrom, itemsIn, kindsIn, numbersIn}
+use Rattle.parts.specs.Parts.{from, Sure, LineRead, RunFrom, itemsIn, kindsIn, numbersIn}
 use Rattle.parts.proofs.Steps.{told}
 use Rattle.parts.proofs.Answers.{onward, halted}
 use Rattle.mode_and_range.specs.ModeRange.{ModeFrom, RangeFrom}
-use Rattle.frame.specs.Frame.{sharing, SharedFrom, cardDue, HeaderShape, header, judgedHeader, HeaderIn, HeaderRead, HeaderFrom}
+use Rattle.frame.specs.Frame.{sharing, SharedFrom, cardDue, header, HeaderRead, HeaderFrom}
 
 pub card-sure : Sure cardDue
 card-sure = (told "module" (omega arith), (told ":" (omega arith), (told "[" (omega arith), tt)))

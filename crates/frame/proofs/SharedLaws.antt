@@ -1,30 +1,29 @@
 -- The shared number: nothing where none is declared, and else its words, its range, and the two numbers written. Assumes nothing.
-use Prim.Native.Nat.{ℕ, suc, _+_, _≤_, _<_}
+use Prim.Native.Nat.{ℕ, suc, _+_}
 use mathlib.Core.Path.{_≡_, refl, sym, ap, _∙_, subst}
 use mathlib.Core.Bool.{Bool, true, false, not}
-use mathlib.Core.List.{List, [], _∷_}
-use mathlib.Core.Option.{Option, none, some}
+use mathlib.Core.List.{List}
+use mathlib.Core.Option.{none, some}
 use native.Mathlib.Numerals.{add-one}
 use native.Mathlib.Omega.{arith}
 use borrow.Author.Tests.{eqb-true, eqb-false}
 use lib.Dec.{eqb}
-use lib.ListN.{length, getD, set}
+use lib.ListN.{getD, set}
 use lib.Seq.{getD-set-same, getD-set-other}
-use Rattle.card.specs.Limits.{topShared, mostShared}
+use Rattle.card.specs.Limits.{topShared}
 use Rattle.marks_on_a_card.specs.Kinds.{kind}
 use Rattle.marks.specs.declared.Step.{Step}
-use Rattle.reading.specs.Reader.{State, Result, ok, stop, Reader, bind, _>>=_, return, ifNext, line}
-use Rattle.reading.specs.Shape.{Range, range, declaration}
-use Rattle.reading.specs.Checks.{judgedState}
-use Rattle.late.specs.Late.{Late, judge, judgeAll}
+use Rattle.reading.specs.Reader.{bind, _>>=_, return, line}
+use Rattle.reading.specs.Shape.{range, declaration}
+use Rattle.late.specs.Late.{Late, judgeAll}
 use Rattle.late.specs.State.{atTop, atStart, atShared, atInitial, Sized, lateIn, After, after}
 use Rattle.late.proofs.StateLaws.{set-sized, late-set}
 use Rattle.parts.specs.Parts.{from, Answers, Told, Sure, RunFrom, itemsIn, kindsIn, numbersIn}
 use Rattle.parts.proofs.Steps.{Next, told}
-use Rattle.parts.proofs.Answers.{onward, halted, made, next-is, next-is-not}
+use Rattle.parts.proofs.Answers.{onward, halted, next-is, next-is-not}
 use Rattle.parts.proofs.Lines.{signs-read}
 use Rattle.mode_and_range.specs.ModeRange.{RangeIn, RangeRead, RangeFrom}
-use Rattle.frame.specs.Frame.{sharedDue, sharing, SharedIn, SharedRead, SharedFrom}
+use Rattle.frame.specs.Frame.{sharedDue, sharing, SharedRead, SharedFrom}
 
 -- the two numbers, written one after the other
 abbrev written : List ℕ → ℕ → ℕ → List ℕ

@@ -15,13 +15,13 @@ use Rattle.marks_on_a_card.specs.Bytes.{begins}
 use Rattle.marks_on_a_card.specs.Kinds.{kEnd}
 use Rattle.marks.specs.declared.Found.{Found}
 use Rattle.marks_on_a_card.specs.Quick.{wordAhead}
-use Rattle.reading.specs.Reader.{State, Result, Reader, bind, _>>=_, _>>_, return, the, ifNext, Numbered, line}
+use Rattle.reading.specs.Reader.{Result, Reader, _>>=_, _>>_, return, the, ifNext, Numbered, line}
 use Rattle.reading.specs.Judgements.{Judgement}
 use Rattle.reading.specs.Shape.{Range, modeOf, range, declaration, moreModules, theEnd}
 use Rattle.reading.specs.Checks.{judgedState, judgedWords, judgedModules, judgedShared}
-use Rattle.late.specs.Late.{Late, judgeAll}
+use Rattle.late.specs.Late.{Late}
 use Rattle.late.specs.Values.{valuesIn, initialIn}
-use Rattle.late.specs.State.{atMode, atTop, atStart, atShared, atInitial, Sized, lateIn, valueIn, After, Halted}
+use Rattle.late.specs.State.{atMode, atTop, atStart, atShared, atInitial, Sized, After, Halted}
 use Rattle.mode_and_range.specs.ModeRange.{Valued}
 use Rattle.parts.specs.Parts.{from, Answers, Kept, Went, Due, sign as due, seat, process, itemsIn, kindsIn, numbersIn, RunFrom}
 

@@ -12,7 +12,7 @@ use Rattle.deck.specs.Deck.{liveOf}
 use Rattle.deck.specs.Sound.{Sound}
 use Rattle.deck.proofs.Judged.{SoundRows, measured, sound-rest}
 use Rattle.deck_entries.proofs.Laws.{row-there}
-use Rattle.live_rows.specs.LiveRows.{liveSize}
+use Rattle.gathering.specs.LiveRows.{liveSize}
 use Rattle.gathering.specs.LiveText.{Ahead}
 
 pub ahead-from : (long a b : ℕ) (rs : List Row) → a ≤ b → Ahead long b rs → Ahead long a rs

@@ -10,8 +10,8 @@ use Rattle.deck_entries.proofs.Laws.{row-there}
 use Rattle.room.specs.Room.{clip}
 use Rattle.room.proofs.Laws.{clip-none, clip-append, length-clip}
 use Rattle.byte_blocks.proofs.Clips.{take-before, drop-behind}
-use Rattle.live_rows.specs.LiveRows.{liveSize}
-use Rattle.live_rows.proofs.Entries.{first-row, live-bodies}
+use Rattle.gathering.specs.LiveRows.{liveSize}
+use Rattle.gathering.proofs.Entries.{first-row, live-bodies}
 use Rattle.gathering.specs.LiveText.{rowsIn, bodiesStay, Ahead, Gatherable}
 use Rattle.gathering.proofs.Ahead.{ahead-from, size-most, same-row}
 

@@ -11,13 +11,13 @@ use Rattle.card.specs.Text.{if_then_else_}
 use Rattle.deck.specs.Contents.{byte, wordAt, Row, rowOf, rowsOf, behind}
 use Rattle.deck.specs.Deck.{liveOf, rowText, rowsText}
 use Rattle.deck_entries.proofs.Laws.{rowWith, row-there}
-use Rattle.deck_text.proofs.Still.{Still, still-all, still-none, still-less}
+use Rattle.deck_writer.proofs.Still.{Still, still-all, still-none, still-less}
 use Rattle.deck_written.specs.WriteDeckSaid.{lineFor, linesFor, sizes}
 use Rattle.room.specs.Room.{clip, cap, Put}
 use Rattle.room.proofs.Laws.{put-as, put-none}
 use Rattle.byte_blocks.proofs.Clips.{drop-behind}
-use Rattle.live_rows.specs.LiveRows.{liveRows, liveSize}
-use Rattle.live_rows.proofs.Entries.{first-row, live-sizes}
+use Rattle.gathering.specs.LiveRows.{liveRows, liveSize}
+use Rattle.gathering.proofs.Entries.{first-row, live-sizes}
 use Rattle.gathering.specs.LiveText.{rowStays, rowsIn, rowsStay, Offsets}
 use Rattle.gathering.proofs.Bodies.{same-later}
 

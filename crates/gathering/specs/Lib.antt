@@ -1,1 +1,3 @@
+pub mod LiveRows
 pub mod LiveText
+pub mod Kept

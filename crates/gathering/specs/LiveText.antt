@@ -7,7 +7,7 @@ use Rattle.card.specs.Text.{if_then_else_}
 use Rattle.deck.specs.Contents.{Row, rowsOf, endOf, behind}
 use Rattle.deck.specs.Deck.{liveOf, entryOf, rowText, rowsText, bodies}
 use Rattle.deck_written.specs.WriteDeckSaid.{lineFor, linesFor, sizes}
-use Rattle.live_rows.specs.LiveRows.{liveRows}
+use Rattle.gathering.specs.LiveRows.{liveRows}
 
 -- an entry with its body at `offset`; a withdrawn one leaves nothing
 abbrev pub rowStays : (offset : ℕ) → Row → List ℕ

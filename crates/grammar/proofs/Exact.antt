@@ -4,7 +4,7 @@ use Prim.Native.String.{String}
 use mathlib.Core.Path.{_≡_, refl, sym, ap, _∙_, subst}
 use mathlib.Core.Logic.{_⊎_, inl, inr}
 use mathlib.Core.Bool.{Bool, true, false, false≢true}
-use mathlib.Core.List.{List, [], _∷_, _++_, append-assoc, append-cancel-right, head?, tail-eq-of-cons-eq}
+use mathlib.Core.List.{List, [], _∷_, _++_, append-cancel-right, head?, tail-eq-of-cons-eq}
 use mathlib.Core.Option.{Option, none, some}
 use native.Mathlib.Omega.{arith}
 use lib.Dec.{eqb, leb}
@@ -20,7 +20,7 @@ use Rattle.reading.specs.Reader.{Place, State, at, Result, ok, stop, Reader, bi
 use Rattle.reading.specs.Guard.{isSome, seatNext, testNext, ifAhead, Read, unaryBy, chain, conjunction, expression, grouped as readGrouped, unary as readUnary}
 use Rattle.reading.specs.Group.{joint, relation, Literal, literalOf, Literals, literalsOf, relationOf, literal as readLiteral, joined, others, group, ofSeats, ofShared, sharedTest as readSharedTest, tested}
 use Rattle.reading.specs.Shape.{BranchShape, Range, CardShape, many, weightOf, over, weight, sets as readSets, branch as readBranch, nextBranch, pastBranches, moreBranches, guard, mayHave, statement as readStatement, moreStatements, copy, moreModules, modeOf, onlyZero, zeroOf, top, range as readRange, declaration, ended as readEnd, theEnd, modules, body, card as readCard}
-use Rattle.grammar.specs.Grammar.{Said, signAt, valued, LineSaid, ended, fixed, aSeat, aProcess, sharedRun, cardRun, statementRun, branchRun, setRun, moduleRun, ManySaid, done, again, LiteralSaid, literal, JoinedSaid, OthersSaid, close, next, GroupSaid, conjoined, disjoined, SharedTestSaid, sharedTest, TestedSaid, testSeats, testShared, Part, unary, joinedBy, operand, joining, GuardSaid, FormulaSaid, Anything, grouped, negated, bracketed, single, further}
+use Rattle.grammar.specs.Grammar.{Said, signAt, valued, LineSaid, ended, fixed, aSeat, aProcess, sharedRun, cardRun, statementRun, branchRun, setRun, moduleRun, ManySaid, done, again, LiteralSaid, literal, JoinedSaid, OthersSaid, close, next, GroupSaid, conjoined, disjoined, SharedTestSaid, sharedTest, TestedSaid, testSeats, testShared, Part, unary, joinedBy, operand, joining, FormulaSaid, Anything, grouped, negated, bracketed, single, further}
 use Rattle.grammar.specs.Grammar.{RestSaid, nothing, guarded, WeightSaid, aNumber, aRatio, aDecimal, SetSaid, keeps, setsTo, BranchSaid, branch, PlusSaid, plus, StatementSaid, statement, modeWord, RangeSaid, range, SharedSaid, unshared, sharing, CardSaid, card}
 use Rattle.grammar.specs.Verdicts.{CompletableIn, shares}
 use Rattle.grammar.proofs.Follows.{and-false, guard-no-test}

@@ -23,7 +23,7 @@ use Rattle.reading.specs.Guard.{grouped as readGrouped}
 use Rattle.reading.specs.Group.{joint, Literal, Literals, literal as readLiteral, others, group, Tested, tested}
 use Rattle.reading.specs.Shape.{BranchShape, StatementShape, Range, CardShape, many, weight, sets, branch as readBranch, nextBranch, pastBranches, moreBranches, guard, statement as readStatement, moreStatements, copy, moreModules, modeOf, range as readRange, modules, body, card as readCard, theEnd}
 use Rattle.grammar.specs.Grammar.{Said, signAt, valued, LineSaid, ended, fixed, aSeat, aProcess, cardRun, moduleRun, ManySaid, done, again, LiteralSaid, literal, OthersSaid, close, next, GroupSaid, conjoined, disjoined, sharedTest, TestedSaid, testSeats, testShared, Part, unary, joinedBy, operand, joining, GuardSaid, FormulaSaid, Anything, grouped, negated, bracketed, single, further}
-use Rattle.grammar.specs.Grammar.{RestSaid, nothing, guarded, WeightSaid, aNumber, aRatio, aDecimal, SetSaid, keeps, setsTo, BranchSaid, branch, PlusSaid, plus, StatementSaid, statement, modeWord, RangeSaid, range, SharedSaid, unshared, sharing, CardSaid, card}
+use Rattle.grammar.specs.Grammar.{RestSaid, nothing, guarded, WeightSaid, aNumber, aRatio, aDecimal, SetSaid, keeps, setsTo, BranchSaid, branch, PlusSaid, plus, StatementSaid, statement, modeWord, RangeSaid, range, unshared, sharing, CardSaid, card}
 use Rattle.grammar.specs.Counted.{Counted, counted, Within, Past, FirstPast, countedGuard, countedRest, countedMany, countedPlus, countedStatement, countedModule, countedRange, countedCard}
 use Rattle.reading.proofs.Through.{same-refl}
 

@@ -3,11 +3,11 @@ use Prim.Native.Nat.{ℕ, zero}
 use mathlib.Core.Path.{_≡_, refl}
 use mathlib.Core.Bool.{Bool}
 use mathlib.Core.Logic.{_⊎_}
-use mathlib.Core.List.{List, [], _∷_, _++_}
+use mathlib.Core.List.{[], _∷_, _++_}
 use Rattle.card.specs.Refusals.{outOfShape, pastLimit}
 use Rattle.card.specs.Valid.{Every}
 use Rattle.marks_on_a_card.specs.Marks.{Placed, placed}
-use Rattle.reading.specs.Reader.{Place, State, at, Result, ok, stop}
+use Rattle.reading.specs.Reader.{Place, State, at, ok, stop}
 use Rattle.reading.specs.Guard.{testNext}
 use Rattle.reading.specs.Shape.{CardShape, card}
 use Rattle.grammar.specs.Grammar.{CardSaid}

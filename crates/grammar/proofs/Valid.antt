@@ -1,7 +1,7 @@
 -- A card that is read is valid: what its shape keeps of the limits, and what each rule that is kept says of its part. Assumes nothing.
-use Prim.Native.Nat.{ℕ, suc, _+_, _-_, _≤_, _<_}
+use Prim.Native.Nat.{ℕ, _+_, _-_, _≤_, _<_}
 use mathlib.Core.Path.{_≡_, refl, ap, _∙_}
-use mathlib.Core.Bool.{Bool, true, false, _&&_, false≢true}
+use mathlib.Core.Bool.{Bool, true, false, false≢true}
 use mathlib.Core.List.{List, [], _∷_, _++_, map}
 use mathlib.Core.Option.{Option, none, some}
 use native.Mathlib.Omega.{arith}
@@ -18,7 +18,7 @@ use Rattle.card.specs.Formulas.{EveryAtom}
 use Rattle.card.proofs.Atoms.{size-over, depth-over}
 use Rattle.reading.specs.Guard.{isSome}
 use Rattle.reading.specs.Reader.{Numbered}
-use Rattle.reading.specs.Group.{Literal, Literals, Tested, ofSeats, ofShared}
+use Rattle.reading.specs.Group.{Literal, Tested, ofSeats, ofShared}
 use Rattle.reading.specs.Judgements.{once, kindOf, alike, symmetric, Judgement, sum, orZero, unitsIn, totalUnits, firstState, judgedTest, judgedGuard, orEveryone, groupIn, leafIn, guardIn}
 use Rattle.reading.specs.Shape.{BranchShape, StatementShape, Range, CardShape}
 use Rattle.reading.specs.Checks.{judgedState, judgedWords, judgedSet, judgedBranch, judgedEach, judgedOr, weightIn, judgedStatement, judgedModules, judgedShared, mostIn, judgedCard, valueOr, branchIn, guardOr, statementIn, sharedIn, seatsIn, cardIn}

@@ -18,10 +18,10 @@ use Rattle.reading.specs.Reader.{Place, State, at, Result, ok, stop, Reader, bi
 use Rattle.late.specs.Late.{Late}
 use Rattle.late.specs.State.{atLeft, atFree, Sized, leftIn, freeIn, lateIn, After, after}
 use Rattle.late.proofs.StateLaws.{set-sized, left-set, free-left, free-set, left-free, late-set}
-use Rattle.grouping.specs.Language.{Language, leavesOf, judgedOf}
-use Rattle.kept_items.specs.KeptItems.{Ready}
-use Rattle.grouping.specs.Items.{operatorOf}
-use Rattle.kept_items.proofs.Keeping.{spending, grown}
+use Rattle.items.specs.Language.{Language, leavesOf, judgedOf}
+use Rattle.items.specs.KeptItems.{Ready}
+use Rattle.items.specs.Items.{operatorOf}
+use Rattle.items.proofs.Keeping.{spending, grown}
 use Rattle.items.specs.GuardRead.{Read, GuardRead}
 use Rattle.items.specs.Pieces.{joinOf, thenNot, Onward}
 use Rattle.items.proofs.Opening.{read-as}

@@ -8,7 +8,7 @@ use native.Mathlib.Omega.{arith}
 use lib.ListN.{drop, set}
 use Rattle.card.specs.Limits.{nodePlaces, mostNodes}
 use Rattle.card.specs.Refusals.{pastLimit}
-use Rattle.card.specs.Card.{Formula, and}
+use Rattle.card.specs.Card.{Formula}
 use Rattle.card.specs.Laid.{opOr, packNode}
 use Rattle.card.proofs.Storing.{size-below}
 use Rattle.marks_on_a_card.specs.Kinds.{kind}
@@ -22,10 +22,10 @@ use Rattle.reading.specs.Guard.{chain, conjunction, expression}
 use Rattle.late.specs.Late.{Late}
 use Rattle.late.specs.State.{atFree, Sized, leftIn, freeIn, lateIn, After, after, Halted}
 use Rattle.late.proofs.StateLaws.{set-sized, free-set, left-free}
-use Rattle.grouping.specs.Language.{Language}
-use Rattle.kept_items.specs.KeptItems.{Ready}
-use Rattle.grouping.specs.Items.{operatorOf}
-use Rattle.kept_items.proofs.Keeping.{spending, grown}
+use Rattle.items.specs.Language.{Language}
+use Rattle.items.specs.KeptItems.{Ready}
+use Rattle.items.specs.Items.{operatorOf}
+use Rattle.items.proofs.Keeping.{spending, grown}
 use Rattle.items.specs.GuardRead.{Read, GuardRead}
 use Rattle.items.specs.Pieces.{joinOf, joiner, unaryIn, operandOf, chained, Begun, Onward}
 use Rattle.group.proofs.Groups.{joint-known}

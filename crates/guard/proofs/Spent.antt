@@ -13,12 +13,12 @@ use Rattle.card.specs.Card.{all, any, Formula, atom, neg, and, or}
 use Rattle.card.specs.Valid.{size}
 use Rattle.marks_on_a_card.specs.Marks.{Mark, Placed, placed}
 use Rattle.card.specs.Refusals.{pastLimit}
-use Rattle.reading.specs.Reader.{Place, State, at, Result, ok, stop, Reader, bind, _>>=_, _>>_, return, refuse, refuseAt, took, first, the, is, given, nextIs, ifNext, sign, seatOf, numberOf, here, Numbered, numbered, spend, node}
+use Rattle.reading.specs.Reader.{Place, State, at, Result, ok, stop, Reader, bind, _>>=_, _>>_, return, refuse, refuseAt, took, first, the, is, given, nextIs, ifNext, sign, seatOf, numberOf, here, numbered, spend, node}
 use Rattle.reading.specs.Guard.{seatNext, ifSeat, ifAhead, chain, conjunction, expression, grouped}
-use Rattle.reading.specs.Group.{Literal, literalOf, literalsOf, relationOf, literal, joint, joined, others, group, sharedTest, ofSeats, ofShared, tested}
+use Rattle.reading.specs.Group.{literalOf, literalsOf, relationOf, literal, joint, joined, others, group, sharedTest, ofSeats, ofShared, tested}
 use Rattle.asking.specs.Question.{aGroup, aTest, exactlyOne, term, exactly, item}
 use Rattle.languages.specs.Number.{valuesBy, asksBy}
-use Rattle.grouping.specs.Language.{Language, languageBy, languageOf}
+use Rattle.items.specs.Language.{Language, languageBy, languageOf}
 use Rattle.items.specs.Pieces.{unaryIn}
 
 -- what holds of a value and the state behind it; and a refusal has a number

@@ -20,7 +20,7 @@ use Rattle.late.specs.Late.{Late}
 use Rattle.late.specs.State.{leftIn, freeIn, lateIn, After, after, Halted}
 use Rattle.group.proofs.Signs.{Known}
 use Rattle.group.proofs.Ahead.{next-past}
-use Rattle.grouping.specs.Language.{Language}
+use Rattle.items.specs.Language.{Language}
 use Rattle.items.specs.GuardRead.{GuardRead}
 use Rattle.items.specs.Pieces.{unaryIn, thenNot, thenClose, Onward, NoItem}
 use Rattle.items.proofs.Opening.{place-here, sign-fits, sign-unfit, next-yes, not-known, open-known, kind-here, unkind-here, place-there, spent, none-left, ahead-no, read-as, bracketOf, Bracketed, unary-other, reads-bracket}

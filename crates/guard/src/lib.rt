@@ -1,14 +1,14 @@
 // Guards of a card, and questions, read from their bytes: the recursion over brackets, `!` and chains. Which of them it is, and how many
-// values the card's shared number has, is told by the number of a language (`grouping`); only what a bracket starts hangs on it.
+// values the card's shared number has, is told by the number of a language (`languages`); only what a bracket starts hangs on it.
 use card::limits::NODE_PLACES;
 use card::refusals::OUT_OF_SHAPE;
 use card::refusals::PAST_LIMIT;
 use due_signs::step_after;
 use due_signs::step_opening;
 use due_signs::step_sign;
-use grouping::NO_ITEM;
+use items::NO_ITEM;
 use items::keep_item;
-use kept_items::store;
+use items::store;
 use late::state::FREE;
 use late::state::LEFT;
 use late::state::STATE;
@@ -21,8 +21,8 @@ ghost use Rattle.marks.specs.Step.{marksAt};
 ghost use Rattle.reading.specs.Reader.{at as from};
 ghost use Rattle.reading.specs.Guard.{conjunction as conjunctionOf, expression as expressionOf};
 ghost use Rattle.late.specs.State.{leftIn, freeIn, lateIn, after};
-ghost use Rattle.grouping.specs.Language.{languageOf};
-ghost use Rattle.kept_items.specs.KeptItems.{Ready};
+ghost use Rattle.items.specs.Language.{languageOf};
+ghost use Rattle.items.specs.KeptItems.{Ready};
 ghost use Rattle.items.specs.GuardRead.{GuardRead};
 ghost use Rattle.items.specs.Pieces.{unaryIn, chained, Begun, Onward, NoItem};
 

@@ -11,7 +11,7 @@ use lib.Dec.{eqb, leb}
 use lib.ListN.{getD}
 use Rattle.card.specs.Text.{if_then_else_}
 use Rattle.card.specs.Card.{all, any, Leaf}
-use Rattle.card.specs.Valid.{middle, tight, needsAnd, needsOr}
+use Rattle.card.specs.Valid.{middle, needsAnd, needsOr}
 use Rattle.card.specs.Laid.{signNumber, either, opLeaf, opNot, opAnd, opOf, leftOf, rightOf, leafOf, guardAt, guardOf}
 use Rattle.card.proofs.Laws.{guard-at-leaf, guard-at-not, guard-at-and, guard-at-or, guard-of-none, guard-of-some}
 use Rattle.phrases.specs.Phrases.{Text, _▸_}

@@ -28,9 +28,9 @@ use Rattle.late.specs.Late.{Late, blamed}
 use Rattle.late.specs.State.{leftIn, freeIn, lateIn, After, after}
 use Rattle.group.proofs.Signs.{Known}
 use Rattle.group.proofs.Ahead.{fits, unfit, next-is, sign-next, place-next, next-within, next-past}
-use Rattle.grouping.specs.Language.{Language}
-use Rattle.kept_items.specs.KeptItems.{wantedBy, boundBy, LaidAt}
-use Rattle.grouping.specs.Items.{Inside, ReadItem, ItemRead, noItem, ItemIf, ItemAt}
+use Rattle.items.specs.Language.{Language}
+use Rattle.items.specs.KeptItems.{wantedBy, boundBy, LaidAt}
+use Rattle.items.specs.Items.{Inside, ReadItem, ItemRead, noItem, ItemIf, ItemAt}
 use Rattle.items.specs.GuardRead.{Read, GuardRead}
 use Rattle.items.specs.Pieces.{Guards, unaryIn, thenClose, NoItem, ItemKept}
 

@@ -12,7 +12,7 @@ use Rattle.marks.specs.Step.{marksAt}
 use Rattle.reading.specs.Reader.{State, Result, ok, stop}
 use Rattle.late.specs.Late.{Late}
 use Rattle.late.specs.State.{Sized, leftIn, freeIn, lateIn, After, Halted}
-use Rattle.grouping.specs.Language.{Language, leavesOf, judgedOf}
+use Rattle.items.specs.Language.{Language, leavesOf, judgedOf}
 
 -- A guard was read from the card s with top state k, its nodes stored from `used` on in the array `was`, which is now `is`; the
 -- next place may stand before the blanks of the next mark. Or reading stopped, and the array from `used` on holds anything.

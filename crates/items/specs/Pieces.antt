@@ -14,9 +14,9 @@ use Rattle.reading.specs.Group.{joint}
 use Rattle.late.specs.Late.{Late}
 use Rattle.late.specs.State.{leftIn, freeIn, lateIn, After, after}
 use Rattle.group.specs.LiteralRead.{signIn}
-use Rattle.grouping.specs.Language.{Language}
-use Rattle.kept_items.specs.KeptItems.{Ready}
-use Rattle.grouping.specs.Items.{noItem}
+use Rattle.items.specs.Language.{Language}
+use Rattle.items.specs.KeptItems.{Ready}
+use Rattle.items.specs.Items.{noItem}
 use Rattle.items.specs.GuardRead.{GuardRead}
 
 abbrev pub joiner : Bool → String

@@ -17,7 +17,7 @@ use Rattle.marks_on_a_card.specs.Marks.{placeOf}
 use Rattle.reading.specs.Reader.{Place}
 use Rattle.reading.specs.Guard.{isSome}
 use Rattle.reading.specs.Group.{Literal, Tested, ofSeats, ofShared}
-use Rattle.reading.specs.Judgements.{Judgement, state, word, oneGroup, weight, sum, placeIn, symmetric, unless, broken, Verdict, fine, wrong, orElse, firstBroken, totalUnits, firstState, judgedTest, judgedGuard, groupIn, leafIn, guardIn}
+use Rattle.reading.specs.Judgements.{Judgement, state, word, oneGroup, weight, sum, placeIn, symmetric, unless, broken, Verdict, fine, orElse, firstBroken, totalUnits, firstState, judgedTest, judgedGuard, groupIn, leafIn, guardIn}
 use Rattle.late.specs.Late.{Late, wantOf, noneYet, blame, splitAt, wants, grouped, blamed, judge, judgeAll, groupBy, leafBy, guardBy}
 use Rattle.late.specs.Settled.{Refusal, refusal, settled, verdict}
 use Rattle.late.proofs.Symmetric.{symmetric-want, symmetric-kind}

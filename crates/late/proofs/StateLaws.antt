@@ -111,9 +111,3 @@ module _ (state : List ℕ) where
 
     pub free-late : freeIn (withLate state x) ≡ freeIn state
     free-late = getD-drop atStop state 3 0
-
-    pub value-late : valueIn (withLate state x) ≡ valueIn state
-    value-late = getD-drop atStop state 4 0
-
-pub late-refusal : (state : List ℕ) (x : Refusal) → lateIn (withRefusal state x) ≡ lateIn state
-late-refusal state x = late-set (set state atStop (x .number)) atStopPlace (x .place) (omega arith) ∙ late-set state atStop (x .number) (omega arith)

@@ -1,5 +1,4 @@
 -- The shared number in one number says what its range says.
-use Prim.Native.Nat.{ℕ}
 use mathlib.Core.Path.{_≡_, refl}
 use mathlib.Core.Option.{Option, none, some}
 use Rattle.card.specs.Valid.{valuesOf}

@@ -15,12 +15,12 @@ use Rattle.marks_on_a_card.specs.Marks.{text, seat, process, numbered, wordMark
 use Rattle.marks_on_a_card.specs.Kinds.{kSeat, kProcess, kWord, knowns}
 use Rattle.marks.specs.Step.{stepTo, stepped}
 use Rattle.marks.specs.Parts.{valuedOf, bareOf}
-use Rattle.keywords.specs.Begun.{lettered, begunIn}
-use Rattle.numbered_words.specs.Numbered.{Numbered}
+use Rattle.words_and_digits.specs.Begun.{lettered, begunIn}
+use Rattle.words_and_digits.specs.Numbered.{Numbered}
 use Rattle.marks.specs.declared.Step.{Step}
-use Rattle.keywords.specs.declared.Keyword.{Keyword}
+use Rattle.words_and_digits.specs.declared.Keyword.{Keyword}
 use Rattle.marks.proofs.Starts.{word-step}
-use Rattle.keywords.proofs.Keywords.{keyword-is, keyword-not}
+use Rattle.words_and_digits.proofs.Keywords.{keyword-is, keyword-not}
 
 pub numbered-fits : (t s : List ℕ) (i : ℕ) → i ≤ length s → (d : Digits) → Numbered t (run inWord (drop i s)) d → (d .count ≡ 0 → ⊥) → i + d .count ≤ length s
 numbered-fits t s i h d is n = omega (arith, is .long n, run-length inWord (drop i s), length-drop i s)

@@ -14,12 +14,12 @@ use crate::answer::bare;
 use crate::answer::valued;
 use card::limits::FURTHER_DIGITS;
 use card::limits::NUMBER_DIGITS;
-use digits::digits_from;
-use digits::is_plain;
-use digits::is_pointed;
 use marks_on_a_card::kinds::DECIMAL;
 use marks_on_a_card::kinds::NUMBER;
 use marks_on_a_card::kinds::OUTSIDE;
+use words_and_digits::digits_from;
+use words_and_digits::is_plain;
+use words_and_digits::is_pointed;
 
 // The mark that starts with the digit at a place.
 pub fn numeral(card: &[u8], at: usize) -> Step

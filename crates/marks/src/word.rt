@@ -10,13 +10,13 @@ ghost use Rattle.marks.specs.declared.Step as step;
 use crate::Step;
 use crate::answer::bare;
 use crate::answer::valued;
-use keywords::is_other;
-use keywords::keyword_begun;
 use letters::bytes::word_end;
 use marks_on_a_card::kinds::PROCESS;
 use marks_on_a_card::kinds::SEAT;
 use marks_on_a_card::kinds::WORD;
-use numbered_words::numbered_at;
+use words_and_digits::is_other;
+use words_and_digits::keyword_begun;
+use words_and_digits::numbered_at;
 
 // The mark that starts with the letter at a place.
 pub fn word(card: &[u8], at: usize) -> Step

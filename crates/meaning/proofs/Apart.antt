@@ -10,7 +10,7 @@ use Rattle.meaning.specs.Sums.{flat}
 use Rattle.meaning.specs.Steps.{Turn}
 use Rattle.meaning.specs.Choices.{Choice, choice, choicesOf, turnsIn}
 use Rattle.meaning.specs.Offers.{OneForOne}
-use Rattle.meaning.specs.Seats.{Seating, stepBy, turn, turnsBy, turns, Stuck}
+use Rattle.meaning.specs.Seats.{Seating, seatStepBy, turn, turnsBy, turns, Stuck}
 use Rattle.meaning.specs.Apart.{SeatStep, takers}
 use Rattle.meaning.proofs.Stuck.{moving}
 
@@ -18,7 +18,7 @@ pub own-seat : (s : Statement) (x : Seating) (i : ℕ) → i < length (x .each) 
 unfolding turn
 own-seat s x i l = go (s .branches)
   where
-    go : (m : List Branch) → OneForOne (SeatStep x i) m (map (stepBy x i) m)
+    go : (m : List Branch) → OneForOne (SeatStep x i) m (map (seatStepBy x i) m)
     go [] = tt
     go (b ∷ m) = (
       record {

@@ -44,11 +44,6 @@ total-take zero l = omega arith
 total-take (suc i) [] = omega arith
 total-take (suc i) (b ∷ l) = omega (arith, total-take i l)
 
-pub every-take : {A : Type 0} (P : A → Type 0) (i : ℕ) (l : List A) → Every P l → Every P (take i l)
-every-take P zero l e = tt
-every-take P (suc i) [] e = tt
-every-take P (suc i) (a ∷ l) e = (e .0, every-take P i l (e .1))
-
 module _ (n k values g : ℕ) (s : Statement) (ok : ValidStatement n k values s) where
   pub stay-le : (h : ℕ) → stayOf g s h ≤ unit
   unfolding stayOf

@@ -21,7 +21,7 @@ use Rattle.meaning.specs.Position.{Position, sharedValues, setTo}
 use Rattle.meaning.specs.Steps.{Turn, weight}
 use Rattle.meaning.specs.Choices.{Choice, choice, choicesOf, stay, orStay, turnsIn, stepsIn}
 use Rattle.meaning.specs.Seats.{Seating, ValidSeating, state, counts, counted, turn, turnsBy, choicesFrom, choices, turns, steps, Stuck}
-use Rattle.meaning.specs.Panel.{Stay, Move, Block, sharedShown, stayLine, moveLine, movesFrom, block, goes, staysWith, goesWith, blockOf, oneOf, enabled, blocks, panel}
+use Rattle.meaning.specs.Panel.{Stay, Move, Block, sharedShown, stayLine, moveLine, block, goes, staysWith, goesWith, blockOf, oneOf, enabled, blocks, panel}
 use Rattle.meaning.specs.ByCounts.{able, unitsInto, stayOf, moveOf, allAble, allStay, allMove, choiceBlocks}
 use Rattle.meaning.specs.ByCounts.{takenBlocks, countTaken, stuckBlock, orStuck, countBlocks, countEnabled, countPanel}
 use Rattle.meaning.proofs.Sums.{gate-and, sum-cong, sum-flat, sum-gate, sum-one, sum-map, map-append}

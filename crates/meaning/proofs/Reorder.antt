@@ -1,12 +1,12 @@
 -- Reordering the seats changes nothing that the panel shows: it keeps the number of seats, their states and every count. Assumes nothing.
-use Prim.Native.Nat.{ℕ, suc, _<_}
+use Prim.Native.Nat.{ℕ, suc}
 use mathlib.Core.Path.{_≡_, refl, sym, ap, _∙_}
 use mathlib.Core.List.{List}
 use native.Mathlib.Omega.{arith}
 use lib.ListN.{length}
 use Rattle.card.specs.Card.{Card}
 use Rattle.meaning.specs.Seats.{Seating, ValidSeating, count, counts, counted}
-use Rattle.meaning.specs.Position.{position, sharedValues}
+use Rattle.meaning.specs.Position.{position}
 use Rattle.meaning.specs.Panel.{panel}
 use Rattle.meaning.specs.Reordered.{Swapped, done, keep, swap, then, Reordered}
 use Rattle.meaning.proofs.Sums.{upto-cong}

@@ -1,7 +1,6 @@
 -- A reduced program keeps its counters between 0 and their most: a lowered counter only falls, a raised one is cut at n, and a stuck step
 -- changes none.
-use Prim.Native.Nat.{ℕ, zero, suc, _+_, _-_, _≤_, min}
-use mathlib.Core.Path.{_≡_}
+use Prim.Native.Nat.{ℕ, zero, suc, _-_, _≤_}
 use mathlib.Core.Bool.{Bool, true, false}
 use mathlib.Core.List.{List, [], _∷_, map}
 use native.Mathlib.Omega.{arith}

@@ -11,7 +11,7 @@ use Rattle.meaning.specs.Sums.{gate, orOne, sum}
 use Rattle.meaning.specs.Formulas.{value, valueOr}
 use Rattle.meaning.specs.Position.{Position, sharedValues, setTo}
 use Rattle.meaning.specs.Reduced.{noOf, passes, counterOf}
-use Rattle.meaning.specs.Panel.{Stay, Block, Panel, block, sharedShown}
+use Rattle.meaning.specs.Panel.{Block, Panel, block, sharedShown}
 
 -- ---- one statement, at counts v of n seats, with the shared number beside them
 

@@ -87,12 +87,12 @@ mayTake s x i = eqb (state (x .each) i) (s .own) && valueOr (holds x i) (s .guar
 -- ---- steps
 
 -- the step of seat i by a branch: no other seat changes, and the shared number only where the branch sets it
-abbrev pub stepBy : Seating → ℕ → Branch → Step Seating
-stepBy x i b = record { units = b .units; next = position (set (x .each) i (b .end)) (setTo (x .shared) (b .sets)) }
+abbrev pub seatStepBy : Seating → ℕ → Branch → Step Seating
+seatStepBy x i b = record { units = b .units; next = position (set (x .each) i (b .end)) (setTo (x .shared) (b .sets)) }
 
 -- the steps of seat i by a statement
 unfoldable pub turn : Statement → Seating → ℕ → Turn Seating
-turn s x i = map (stepBy x i) (s .branches)
+turn s x i = map (seatStepBy x i) (s .branches)
 
 -- one turn for each seat that may take the statement
 unfoldable pub turnsBy : Statement → Seating → List (Turn Seating)

@@ -1,7 +1,7 @@
 -- The reader's verdict tells whether the card is taken. Assumes nothing.
 use Prim.Native.Nat.{ℕ}
 use mathlib.Core.Path.{_≡_, refl, sym, ap, _∙_}
-use mathlib.Core.Bool.{Bool, true, false}
+use mathlib.Core.Bool.{true, false}
 use mathlib.Core.List.{List}
 use Rattle.card.specs.Lent.{Lent}
 use Rattle.card.specs.declared.Verdict.the-variants.{Taken, Refused}

@@ -1,7 +1,7 @@
 -- The fates found are those that the deck and the list are put from. Assumes nothing.
 use Prim.Native.Nat.{ℕ, _≤_}
 use mathlib.Core.Path.{_≡_, sym, ap, _∙_}
-use mathlib.Core.List.{List, _++_, map}
+use mathlib.Core.List.{List, map}
 use native.Mathlib.Omega.{arith}
 use lib.ListN.{length, take, drop, length-take, length-map}
 use lib.Seq.{take-at}
@@ -11,7 +11,7 @@ use Rattle.mending.specs.Mending.{ruleOf, fatesIn}
 use Rattle.mending.proofs.Fates.{one-each}
 use Rattle.mending_walk.specs.declared.Walk.{Walk}
 use Rattle.mend.specs.Fated.{Fated}
-use Rattle.mended_deck.specs.KeptBy.{Fates}
+use Rattle.mended_rooms.specs.KeptBy.{Fates}
 
 module _ {deck was is : List ℕ} {w : Walk} {c : ℕ} (h : Head deck) (e : c ≡ countOf deck) (f : Fated deck was is w) where
   as-many : length (map ruleOf (fatesIn deck)) ≡ c

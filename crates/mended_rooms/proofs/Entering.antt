@@ -15,9 +15,9 @@ use Rattle.room.proofs.Laws.{put-as, clip-start}
 use Rattle.phrases.specs.Puts.{Puts}
 use Rattle.mending.specs.Mending.{fatesIn, keptIn, listText, mended, mendSaid}
 use Rattle.mending.proofs.MendStage.{none-kept, some-kept}
-use Rattle.mended_list.specs.Lines.{linesBy}
-use Rattle.mended_list.proofs.Listed.{listed-by, list-short}
-use Rattle.mended_deck.specs.KeptBy.{Fates}
+use Rattle.mended_rooms.specs.Lines.{linesBy}
+use Rattle.mended_rooms.proofs.Listed.{listed-by, list-short}
+use Rattle.mended_rooms.specs.KeptBy.{Fates}
 use Rattle.mended_rooms.specs.declared.Mended.the-variants.{Done, Refused}
 use Rattle.mended_rooms.specs.Mends.{Mends}
 

@@ -3,7 +3,7 @@ use Prim.Native.Nat.{ℕ}
 use mathlib.Core.Path.{_≡_, sym, ap, _∙_}
 use native.Mathlib.Omega.{arith}
 use Rattle.entry.specs.Said.{says, refused}
-use Rattle.entry.specs.Contract.{Faithful, Two, two}
+use Rattle.entry.specs.Contract.{Faithful, two}
 use Rattle.mended_rooms.specs.declared.Mended.the-variants.{Done, Refused}
 use Rattle.mended_rooms.specs.Mends.{told}
 

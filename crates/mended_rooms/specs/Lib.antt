@@ -1,1 +1,4 @@
+pub mod Lines
+pub mod Parts
+pub mod KeptBy
 pub mod Mends

@@ -5,7 +5,7 @@ use mathlib.Core.List.{List}
 use native.Mathlib.Omega.{arith}
 use lib.ListN.{drop}
 use Rattle.deck.specs.Contents.{wordAt, Row, rowOf}
-use Rattle.deck_entries.proofs.Laws.{rowWith, row-there}
+use Rattle.deck_entries.proofs.Laws.{row-there}
 use Rattle.mending_walk.specs.declared.Walk.{Walk}
 use Rattle.mending_walk.specs.Walking.{walkedBy}
 

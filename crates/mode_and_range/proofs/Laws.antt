@@ -3,11 +3,11 @@ use Prim.Native.Nat.{ℕ, _≤_, _<_}
 use mathlib.Core.Path.{_≡_, refl}
 use mathlib.Core.Bool.{Bool, true, false}
 use mathlib.Core.List.{List}
-use mathlib.Core.Option.{Option, none, some}
+use mathlib.Core.Option.{none, some}
 use native.Mathlib.Omega.{arith}
 use borrow.Author.Tests.{eq-eqb, ne-eqb, eqb-true, le-leb, lt-leb}
 use lib.Dec.{eqb, leb}
-use lib.ListN.{length, set}
+use lib.ListN.{set}
 use Rattle.card.specs.Refusals.{outOfShape, pastLimit}
 use Rattle.card.specs.Text.{if_then_else_}
 use Rattle.card.specs.Card.{Mode, nondeterministic, probabilistic}
@@ -15,16 +15,16 @@ use Rattle.card.specs.Laid.{modeNumber}
 use Rattle.marks_on_a_card.specs.Kinds.{kEnd, kNumber, kind}
 use Rattle.marks.specs.Step.{marksAt}
 use Rattle.marks.specs.declared.Step.{Step}
-use Rattle.reading.specs.Reader.{State, Result, ok, stop, Reader, bind, return, refuseAt, the, sign, numberOf}
+use Rattle.reading.specs.Reader.{bind, return, refuseAt, sign, numberOf}
 use Rattle.reading.specs.Shape.{modeOf, zeroOf, onlyZero, top}
 use Rattle.late.specs.Late.{Late}
-use Rattle.late.specs.State.{atStop, atValue, Sized, lateIn, valueIn, After, after, Halted}
+use Rattle.late.specs.State.{atValue, Sized, lateIn, After, after, Halted}
 use Rattle.late.proofs.StateLaws.{set-sized, value-set, late-set}
-use Rattle.parts.specs.Parts.{from, Read, Answers, Told}
+use Rattle.parts.specs.Parts.{from, Told}
 use Rattle.parts.proofs.Steps.{Next, place-seen, behind, seen, valueBy, number-shown, zero-shown, modeBy, mode-shown, told}
 use Rattle.parts.proofs.Answers.{fits, misses}
 use Rattle.parts.proofs.Lines.{sign-fits, sign-misses}
-use Rattle.mode_and_range.specs.ModeRange.{Valued, ModeRead, ModeFrom, span, SpanRead, SpanFrom}
+use Rattle.mode_and_range.specs.ModeRange.{Valued, ModeFrom, span, SpanRead, SpanFrom}
 
 -- a value written, and nothing judged
 valued : (was : List ℕ) → Sized was → (v : ℕ) → Valued (lateIn was) v (set was atValue v)

@@ -1,22 +1,21 @@
 -- A range, part by part: up to its k, and then the marks round what it starts at. Assumes nothing.
-use Prim.Native.Nat.{ℕ, _≤_, _<_}
+use Prim.Native.Nat.{ℕ}
 use mathlib.Core.Path.{_≡_, refl, ap, _∙_}
-use mathlib.Core.List.{List, [], _∷_}
+use mathlib.Core.List.{List}
 use native.Mathlib.Omega.{arith}
 use lib.ListN.{length, getD, set}
 use lib.Seq.{getD-set-same, getD-set-other}
 use Rattle.marks_on_a_card.specs.Kinds.{kind}
-use Rattle.reading.specs.Reader.{State, Result, ok, stop, Reader, bind, _>>=_, _>>_, return, the, sign, numberOf, Numbered, numbered}
+use Rattle.reading.specs.Reader.{State, Result, ok, stop, Reader, bind, _>>=_, _>>_, return, the, sign, numberOf, numbered}
 use Rattle.reading.specs.Shape.{Range, zeroOf, top, range}
 use Rattle.reading.specs.Checks.{judgedState}
 use Rattle.late.specs.Late.{Late, judge, judgeAll}
 use Rattle.late.specs.State.{atTop, atStart, Sized, lateIn, valueIn, After, after}
 use Rattle.late.proofs.StateLaws.{set-sized, late-set}
-use Rattle.parts.specs.Parts.{from, Answers, NumberFrom, SignRead, SignFrom}
+use Rattle.parts.specs.Parts.{from, NumberFrom, SignRead, SignFrom}
 use Rattle.parts.proofs.Steps.{told}
 use Rattle.parts.proofs.Answers.{onward, halted}
-use Rattle.parts.proofs.Lines.{assoc}
-use Rattle.mode_and_range.specs.ModeRange.{span, SpanFrom, RangeIn, RangeRead, RangeFrom}
+use Rattle.mode_and_range.specs.ModeRange.{span, SpanFrom, RangeRead, RangeFrom}
 
 -- behind its k
 abbrev behindTop : ℕ → Reader Range

@@ -5,7 +5,7 @@ use mathlib.Core.List.{List, [], _∷_}
 use lib.ListN.{getD}
 use Rattle.card.specs.Card.{Mode}
 use Rattle.card.specs.Laid.{modeNumber}
-use Rattle.reading.specs.Reader.{Result, Reader, bind, _>>=_, _>>_, the, sign}
+use Rattle.reading.specs.Reader.{Result, Reader, _>>=_, _>>_, the, sign}
 use Rattle.reading.specs.Shape.{Range, modeOf, zeroOf, top, range}
 use Rattle.reading.specs.Checks.{judgedState}
 use Rattle.late.specs.Late.{Late}

@@ -2,7 +2,7 @@
 -- is the first statement that can be taken, or nobody on a stuck seating. Assumes nothing.
 use Prim.Native.Nat.{ℕ}
 use mathlib.Core.Path.{_≡_, refl, sym, ap, _∙_}
-use mathlib.Core.Logic.{_⊎_, inl, inr}
+use mathlib.Core.Logic.{inl, inr}
 use mathlib.Core.List.{List, _++_}
 use mathlib.Core.Option.{Option, none, some}
 use native.Mathlib.Omega.{arith}
@@ -22,7 +22,7 @@ use Rattle.rows.proofs.Theorems.{card-stage, card-first}
 use Rattle.moving.specs.FirstMove.{firstMove}
 use Rattle.moving.proofs.FirstTaken.{first-exactly, nobody-exactly}
 use Rattle.move_said.specs.MoveSaid.{moveSeated, moveSaid, Moves}
-use Rattle.first_able.specs.Moved.{moved}
+use Rattle.able_seats.specs.Moved.{moved}
 
 module _ (card seats : List ℕ) where
   seated : (c : Card) → Stage (moveSeated seats c) seatsNumbers (Seated c seats) (λ _. firstMove c (seatingOf c seats))

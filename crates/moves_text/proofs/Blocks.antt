@@ -1,19 +1,18 @@
 -- The panel's blocks in the form in which the code puts them: a statement's moves all start from its own state, and stand in a row of what
 -- its branches weigh; those of a probabilistic card stand in a row for each old state. Assumes nothing.
-use Prim.Native.Nat.{ℕ, zero, suc, _+_, _*_, _/_, _%_, _≤_, _<_}
-use mathlib.Core.Path.{_≡_, refl, sym, ap, _∙_}
+use Prim.Native.Nat.{ℕ, zero, suc, _+_, _/_, _%_, _≤_, _<_}
+use mathlib.Core.Path.{_≡_, refl, ap, _∙_}
 use mathlib.Core.List.{List, [], _∷_}
-use mathlib.Core.Option.{none, some}
+use mathlib.Core.Option.{some}
 use native.Mathlib.Omega.{arith}
 use borrow.Author.Tests.{eq-eqb, ne-eqb, lt-ltb}
 use lib.ListN.{length, getD, take, replicate}
-use Rattle.card.specs.Limits.{topState, mostStates, mostShared}
-use Rattle.card.specs.Card.{nondeterministic, probabilistic, Branch, Statement}
+use Rattle.card.specs.Limits.{topState, mostShared}
+use Rattle.card.specs.Card.{nondeterministic, probabilistic, Statement}
 use Rattle.card.specs.Laid.{either}
 use Rattle.card.specs.declared.Head.{Head}
 use Rattle.phrases.specs.Phrases.{_▸_, num, modeText}
 use Rattle.phrases.specs.Puts.{Puts}
-use Rattle.phrases.proofs.Laws.{puts-as}
 use Rattle.room.specs.Room.{Put}
 use Rattle.meaning.specs.Sums.{orOne, upto, flat}
 use Rattle.meaning.specs.Panel.{Move, stayLine, movesFrom, block}
@@ -23,7 +22,7 @@ use Rattle.panel_numbers.specs.Table.{enabledPlace, sharedIn, stayIn, placeOf, 
 use Rattle.panel_numbers.specs.Fitting.{Most, heaviest}
 use Rattle.panel_numbers.proofs.Raised.{raised-long, raised-at}
 use Rattle.panel_wording.specs.PanelText.{line, sharedText, movesText, staysText, blockText, blocksText, panelText}
-use Rattle.panel_wording.specs.PanelIn.{Row, shownIf, tells, choiceIf, choicesIn, panelIn}
+use Rattle.panel_wording.specs.PanelIn.{shownIf, tells, choiceIf, choicesIn, panelIn}
 use Rattle.panel_wording.proofs.Laws.{told-if, one-most}
 use Rattle.panel_wording.proofs.Moves.{moves-cong, stays-cong, own-moves}
 

@@ -3,12 +3,12 @@
 use Prim.Native.Nat.{ℕ, zero, suc}
 use Prim.Native.String.{String}
 use mathlib.Core.Path.{_≡_}
-use mathlib.Core.Bool.{Bool, true, false}
+use mathlib.Core.Bool.{true, false}
 use mathlib.Core.List.{List, [], _∷_, _++_}
 use mathlib.Core.Option.{Option, none, some}
 use lib.ListN.{take}
 use Rattle.card.specs.Text.{bytes}
-use Rattle.card.specs.Card.{Mode, nondeterministic, probabilistic, is, isnt, sharedIs, atom, neg, Branch, Shared, Card}
+use Rattle.card.specs.Card.{Mode, nondeterministic, probabilistic, is, isnt, sharedIs, atom, neg, Branch, Card}
 use Rattle.reading.specs.Reading.{taken, refused as turned, readOf}
 use Rattle.entry.specs.Said.{Said, says, refused, saying}
 use Rattle.entry.specs.Contract.{Ends, Two}

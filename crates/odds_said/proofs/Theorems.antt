@@ -1,10 +1,10 @@
 -- What `odds` answers, refusal by refusal: each is that of the stage which gives its number, where the stages before it pass; by the theorem of
 -- stages, since no two stages share a number. Assumes nothing.
-use Prim.Native.Nat.{ℕ, suc, _≤_, _<_}
+use Prim.Native.Nat.{ℕ, _≤_, _<_}
 use mathlib.Core.Path.{_≡_, refl, sym, ap, _∙_}
 use mathlib.Core.Bool.{Bool, true, false, _&&_, and-eq-true-iff, false≢true}
 use mathlib.Core.Logic.{_↔_, _⊎_, inl, inr}
-use mathlib.Core.List.{List, [], _∷_, _++_}
+use mathlib.Core.List.{List, [], _++_}
 use native.Mathlib.Omega.{arith}
 use borrow.Author.Tests.{leb-true, leb-false, le-leb, lt-leb, eqb-true, eq-eqb}
 use lib.Dec.{eqb, leb}
@@ -13,9 +13,9 @@ use Rattle.card.specs.Refusals.{tooLong, notDue, wrongSeats, seatAboveTop, deci
 use Rattle.card.specs.Card.{Card}
 use Rattle.card.specs.Valid.{valuesOf}
 use Rattle.meaning.specs.Seats.{counted}
-use Rattle.entry.specs.Said.{Said, says, refused, _>>=_, unless}
-use Rattle.entry.specs.Numbers.{Numbers, _to_, only, among}
-use Rattle.entry.specs.Contract.{Ends, Two, two, Enters, inRows, Faithful}
+use Rattle.entry.specs.Said.{Said, says, refused, _>>=_}
+use Rattle.entry.specs.Numbers.{Numbers, only, among}
+use Rattle.entry.specs.Contract.{Ends, Two, Enters, inRows, Faithful}
 use Rattle.entry.specs.Stage.{Stage}
 use Rattle.entry.proofs.Stages.{in-span, apart-out, refused-unless, itself, test, value, followed, its, beyond, last, by-span}
 use Rattle.entry.proofs.Exactly.{_↔∙_}
@@ -23,7 +23,7 @@ use Rattle.entry.proofs.Entries.{ends-left, answer-refused, answer-says, refuse
 use Rattle.seating.specs.Judged.{seatingOf, Seated}
 use Rattle.seating.specs.SeatsSaid.{seatsSaid, seatsNumbers}
 use Rattle.seating.proofs.SeatsStage.{seats-stage, wrong-count, wrong-seat}
-use Rattle.rows.specs.Said.{cardSaid, cardNumbers, Read}
+use Rattle.rows.specs.Said.{cardNumbers, Read}
 use Rattle.rows.proofs.Theorems.{card-stage, card-first}
 use Rattle.asking.specs.Meant.{Question}
 use Rattle.asking.specs.Asking.{inQuestion}
@@ -31,7 +31,7 @@ use Rattle.asking.proofs.Answers.{numbered}
 use Rattle.ask_said.specs.AskSaid.{questionSaid, questionNumbers, Understood}
 use Rattle.evenings.specs.Limits.{mostNights, mostVectors, tooManyVectors, tooManyNights, wrongRow}
 use Rattle.evenings.specs.Rounds.{Aim}
-use Rattle.chances.specs.Chances.{chanceAt, positionsOf}
+use Rattle.chances.specs.Chances.{positionsOf}
 use Rattle.odds_said.specs.OddsSaid.{vectorsSaid, nightsSaid, rowsSaid, oddsOf, oddsSeated, oddsCard, oddsSaid, Fits, Odds}
 
 -- ---- tests and what they say

@@ -1,5 +1,4 @@
 -- How reading ends, in what it hands back: a refusal that is due, or what is judged late. Assumes nothing.
-use Prim.Native.Nat.{ℕ}
 use mathlib.Core.Path.{_≡_}
 use Rattle.card.specs.Lent.{Lent, noneLent}
 use Rattle.card.specs.declared.Head.{Head}

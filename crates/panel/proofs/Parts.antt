@@ -17,7 +17,7 @@ use Rattle.card.specs.Text.{if_then_else_}
 use Rattle.card.specs.Card.{Card}
 use Rattle.card.specs.Weight.{cardRule}
 use Rattle.reading.specs.Reading.{Outcome, taken, refused as turned, readOf}
-use Rattle.entry.specs.Said.{refused, _>>=_, _>>_, return}
+use Rattle.entry.specs.Said.{_>>=_, _>>_, return}
 use Rattle.card.specs.declared.Verdict.{Verdict}
 use Rattle.card.specs.declared.Verdict.the-variants.{Taken, Refused}
 use Rattle.card.specs.Valid.{valuesOf}

@@ -6,7 +6,7 @@ use card::limits::BRANCH_PLACES;
 use card::limits::NODE_PLACES;
 use card::limits::ROW_PLACES;
 use filling::fill;
-use panel_room::enter_panel;
+use panel_text::enter_panel;
 use reader::read_into;
 use room::Answer;
 use seating::first_refusal;

@@ -2,7 +2,7 @@
 use crate::panel;
 use card::limits::MOST_SEATS;
 use line_ends::line_end;
-use panel_room::PANEL_ROOM;
+use panel_text::PANEL_ROOM;
 use program_lines::put_refusal;
 use program_lines::put_seats;
 use room::Answer;

@@ -1,9 +1,9 @@
 -- Weights raised by branches, one after the other: a branch more raises the one place that it goes to, and all other places stay. A row's
 -- place is told by its state and its value of the shared number, and tells both. Assumes nothing.
-use Prim.Native.Nat.{ℕ, zero, suc, _+_, _*_, _/_, _%_, _≤_, _<_}
-use mathlib.Core.Path.{_≡_, refl, sym, ap, ap₂, _∙_}
-use mathlib.Core.Bool.{Bool, true, false, _&&_}
-use mathlib.Core.List.{List, [], _∷_, _++_, map}
+use Prim.Native.Nat.{ℕ, _+_, _*_, _/_, _%_, _≤_, _<_}
+use mathlib.Core.Path.{_≡_, refl, sym, ap, _∙_}
+use mathlib.Core.Bool.{_&&_}
+use mathlib.Core.List.{List, [], _∷_, _++_}
 use native.Mathlib.Nat.{mul-add}
 use native.Mathlib.Numerals.{add-one}
 use native.Mathlib.Decide.{ℕ-discrete, decLt}
@@ -15,7 +15,7 @@ use lib.Seq.{getD-set-same, getD-set-other, getD-drop, set-out, take-suc, ext-ge
 use Rattle.card.specs.Limits.{mostStates, mostShared, mostBranches}
 use Rattle.card.specs.Card.{Branch}
 use Rattle.card.specs.Laid.{setOf, unitsPart, setPart, endPart, branchOf}
-use Rattle.meaning.specs.Sums.{gate, upto}
+use Rattle.meaning.specs.Sums.{gate}
 use Rattle.meaning.specs.Position.{setTo}
 use Rattle.meaning.specs.ByCounts.{unitsInto}
 use Rattle.meaning.proofs.Sums.{length-upto, getD-upto, upto-cong, sum-append, map-append}

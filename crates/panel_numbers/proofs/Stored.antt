@@ -76,9 +76,6 @@ total-suc (suc n) f = omega (arith, total-suc n (λ i. f (suc i)))
 pub total-more : (n : ℕ) (f : ℕ → ℕ) → total (n + 1) f ≡ total n f + f n
 total-more n f = rw (add-one n) (total-suc n f)
 
-pub total-end : (i n : ℕ) (f : ℕ → ℕ) → i ≤ n → n ≤ i → total i f ≡ total n f
-total-end i n f h l = let e : i ≡ n = omega arith in rw e
-
 pub total-most : (n : ℕ) (f : ℕ → ℕ) (m : ℕ) → ((i : ℕ) → i < n → f i ≤ m) → total n f ≤ n * m
 total-most zero f m h = omega arith
 total-most (suc n) f m h = omega (arith, h 0 (omega arith), total-most n (λ i. f (suc i)) m (λ i l. h (suc i) (omega arith)))

@@ -13,7 +13,7 @@ use Rattle.card.specs.Card.{Branch, Statement}
 use Rattle.meaning.specs.Sums.{gate, sum}
 use Rattle.meaning.specs.Position.{Position, setTo}
 use Rattle.meaning.specs.ByCounts.{able, unitsInto, stayOf, moveOf, allStay, allMove}
-use Rattle.meaning.proofs.Sums.{sumBelow, below-cong, below-zero, below-gate, below-exchange}
+use Rattle.meaning.proofs.Sums.{sumBelow, below-cong, below-zero, below-exchange}
 
 le-of-eq : {a b : ℕ} → a ≡ b → a ≤ b
 le-of-eq e = omega (arith, e)

@@ -1,9 +1,9 @@
 -- Reordered seats are as many, and a seating exactly where the first are; so both are judged alike, and where they are fine their panels
 -- are the same. Assumes nothing.
 use Prim.Native.Nat.{ℕ, zero, suc, _+_}
-use mathlib.Core.Path.{_≡_, refl, sym, ap, ap₂, subst, _∙_}
+use mathlib.Core.Path.{_≡_, refl, sym, ap, ap₂, _∙_}
 use mathlib.Core.Logic.{inl, inr, ⊎-elim}
-use mathlib.Core.List.{List, [], _∷_, _++_}
+use mathlib.Core.List.{List, [], _∷_}
 use mathlib.Core.Option.{Option, none, some}
 use native.Mathlib.Omega.{arith}
 use lib.ListN.{length, getD, take, drop, length-append, take-append-drop}
@@ -23,7 +23,7 @@ use Rattle.meaning.proofs.Reorder.{reordered-length, reordered-valid, reordered
 use Rattle.meaning.proofs.Panel.{equal-counts}
 use Rattle.card.specs.declared.Verdict.{Verdict}
 use Rattle.card.specs.declared.Verdict.the-variants.{Taken, Refused}
-use Rattle.seating.specs.Judged.{bytesDue, judgedSeats, seatsDue, seatingIn, seatingOf, Seated, bytesOf}
+use Rattle.seating.specs.Judged.{bytesDue, judgedSeats, seatingIn, seatingOf, Seated, bytesOf}
 use Rattle.seating.proofs.Judging.{valid-exactly, wrong-seats-exactly, seat-above-exactly, judged-else}
 use Rattle.seating.proofs.Bytes.{bytes-back, bytes-seated}
 use Rattle.panel_wording.specs.PanelText.{panelText, panelOf}

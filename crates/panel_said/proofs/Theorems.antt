@@ -9,7 +9,7 @@ use lib.ListN.{length}
 use Rattle.card.specs.Refusals.{wrongSeats, seatAboveTop, OfCard}
 use Rattle.card.specs.Card.{Card}
 use Rattle.reading.specs.Reading.{taken, refused as turned, readOf}
-use Rattle.entry.specs.Said.{refused, _>>=_}
+use Rattle.entry.specs.Said.{refused}
 use Rattle.entry.specs.Numbers.{among}
 use Rattle.entry.specs.Stage.{Stage}
 use Rattle.entry.proofs.Stages.{value, followed, beyond, last}

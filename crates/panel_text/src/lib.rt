@@ -1,8 +1,11 @@
-// The panel's text ("Texts, byte for byte"; document 02, 2026-10), from the table of its numbers.
+// The panel's text ("Texts, byte for byte"; document 02, 2026-10), from the table of its numbers, and how it is stored in a room that it fits into.
 use card::Head;
 use card::NONDETERMINISTIC;
 use card::limits::BRANCH_PLACES;
+use card::limits::MOST_BRANCHES;
+use card::limits::MOST_STATEMENTS;
 use card::limits::ROW_PLACES;
+use card::refusals::ROOM_TOO_SMALL;
 use lines::put_line;
 use lines::put_stay;
 use lines::put_stays;
@@ -10,6 +13,7 @@ use moves_text::put_choices;
 use moves_text::put_table;
 use phrases::put_mode;
 use put_numbers::put_number;
+use room::Answer;
 use room::place;
 use room::put_bytes;
 use weighing::ENABLED;
@@ -29,6 +33,9 @@ ghost use Rattle.phrases.specs.Puts.{Puts};
 ghost use Rattle.panel_numbers.specs.Table.{enabledPlace, sharedIn, tablePlaces};
 ghost use Rattle.panel_wording.specs.PanelText.{line, sharedText, panelText};
 ghost use Rattle.panel_wording.specs.PanelIn.{Showing, shownIf, panelIn};
+ghost use Rattle.entry.specs.Said.{says as text};
+ghost use Rattle.room.specs.Answer.{Entered};
+ghost use Rattle.panel_wording.specs.PanelRoom.{Printable};
 
 // The shared number, where it has values at all.
 fn put_shared(room: &mut [u8], at: usize, shared: usize, present: usize) -> usize
@@ -68,7 +75,7 @@ fn put_head(room: &mut [u8], at: usize, head: Head, table: &[usize]) -> usize
 
 // The whole panel, of a card that lies in lent arrays. On a nondeterministic card the table has a weight of no change only where no choice
 // can be taken: then the shared number stays too.
-pub fn put_panel<'a>(
+fn put_panel<'a>(
     room: &mut [u8],
     at: usize,
     head: Head,
@@ -92,4 +99,48 @@ pub fn put_panel<'a>(
     let values = [0];
     let b = put_line(room, a, b"choice", &values);
     put_stay(room, b, stay, present, head.shared)
+}
+
+// A room that every panel fits into (panel_wording/specs/PanelRoom.antt).
+const LINE_MOST: usize = 21;
+
+const CHOICE_MOST: usize = 10 + MOST_BRANCHES * LINE_MOST;
+
+pub const PANEL_ROOM: usize = 78 + MOST_STATEMENTS * CHOICE_MOST;
+
+// How long a panel's text is: it is put into a room of no bytes.
+fn measure<'a>(
+    head: Head,
+    table: &'a [usize; TABLE_PLACES],
+    rows: &'a [usize; ROW_PLACES],
+    branches: &'a [u32; BRANCH_PLACES],
+) -> usize
+    requires { ⌜ Printable head (now table) (now rows) (now branches) ⌝ }
+    ensures { λ r. ⌜ r ≡ length (panelText (panelIn head (now (table .entry)) (now (rows .entry)) (now (branches .entry)))) ⌝ }
+{
+    let mut nothing: [u8; 0] = [0; 0];
+    put_panel(&mut nothing, 0, head, table, rows, branches)
+}
+
+// A panel of which all numbers are known. A room that every panel fits into takes it in one walk; else a first walk tells the length, and
+// a second one stores the text where it fits.
+pub fn enter_panel<'a>(
+    room: &mut [u8],
+    head: Head,
+    table: &'a [usize; TABLE_PLACES],
+    rows: &'a [usize; ROW_PLACES],
+    branches: &'a [u32; BRANCH_PLACES],
+) -> Answer
+    requires { ⌜ Printable head (now table) (now rows) (now branches) ⌝ }
+    ensures { λ r. ⌜ Entered (now (room .entry)) (now (room .exit)) (text (panelText (panelIn head (now (table .entry)) (now (rows .entry)) (now (branches .entry))))) r ⌝ }
+{
+    if PANEL_ROOM <= room.len() {
+        return Answer::Done(put_panel(room, 0, head, table, rows, branches));
+    }
+    let need = measure(head, table, rows, branches);
+    if room.len() < need {
+        return Answer::Refused(ROOM_TOO_SMALL, need);
+    }
+    let part = need;
+    Answer::Done(put_panel(&mut room[..part], 0, head, table, rows, branches))
 }

@@ -2,21 +2,18 @@
 -- handed on. Assumes nothing.
 use Prim.Native.Nat.{ℕ}
 use Prim.Native.String.{String}
-use mathlib.Core.Path.{_≡_, refl, sym, ap, _∙_, subst}
-use mathlib.Core.List.{List, [], _∷_}
+use mathlib.Core.Path.{_≡_, refl, subst}
+use mathlib.Core.List.{List}
 use mathlib.Core.Option.{Option, none, some}
-use native.Mathlib.Omega.{arith}
 use borrow.Author.Tests.{eq-eqb, ne-eqb}
-use lib.ListN.{length}
 use Rattle.card.specs.Refusals.{outOfShape}
-use Rattle.marks_on_a_card.specs.Marks.{Mark, placeOf}
+use Rattle.marks_on_a_card.specs.Marks.{Mark}
 use Rattle.marks_on_a_card.specs.Kinds.{kind}
-use Rattle.marks.specs.Step.{marksAt}
 use Rattle.marks.specs.declared.Found.{Found}
 use Rattle.marks.specs.declared.Step.{Step}
-use Rattle.reading.specs.Reader.{Place, State, at, Result, ok, stop, Reader, bind, return, the, ifNext}
+use Rattle.reading.specs.Reader.{Place, at, Result, ok, stop, Reader, bind, return, the, ifNext}
 use Rattle.late.specs.State.{After, after, Halted}
-use Rattle.parts.specs.Parts.{from, Read, Answers, Told}
+use Rattle.parts.specs.Parts.{from, Answers, Told}
 use Rattle.parts.proofs.Steps.{Next, place-seen, next-seen, Shown, seen}
 
 module _ {A B : Type 0} (s : List ℕ) (so : A → List ℕ → Type 0) (to : B → List ℕ → Type 0) where

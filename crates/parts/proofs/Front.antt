@@ -2,7 +2,7 @@
 use Prim.Native.Nat.{ℕ, _+_, _≤_, _<_}
 use mathlib.Core.Path.{_≡_, refl, sym, ap, _∙_}
 use mathlib.Core.Bool.{Bool, true, false, _&&_}
-use mathlib.Core.List.{List, [], _∷_}
+use mathlib.Core.List.{List, _∷_}
 use native.Mathlib.Decide.{decLt}
 use native.Mathlib.Omega.{arith}
 use lib.Dec.{eqb, leb}
@@ -12,7 +12,7 @@ use Rattle.marks_on_a_card.specs.Bytes.{isDigit, inWord, begins, isAlone, begun
 use Rattle.marks_on_a_card.specs.Kinds.{kSeat}
 use Rattle.marks.specs.Step.{stepAt}
 use Rattle.marks.specs.Parts.{bareOf, valuedOf}
-use Rattle.marks_on_a_card.specs.Quick.{signAhead, seatAhead}
+use Rattle.marks_on_a_card.specs.Quick.{seatAhead}
 use Rattle.marks_on_a_card.proofs.Lists.{cases, not-both, and-right, drop-at}
 use Rattle.marks_on_a_card.proofs.Runs.{begins-at}
 use Rattle.looks.proofs.Quick.{sign-at, sign-step, seat-at, seat-step}

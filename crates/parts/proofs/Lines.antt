@@ -3,9 +3,9 @@
 use Prim.Native.Nat.{ℕ, suc, _+_, _≤_, _<_}
 use Prim.Native.String.{String}
 use mathlib.Core.Path.{_≡_, refl, sym, ap, _∙_}
-use mathlib.Core.Bool.{Bool, true, false}
+use mathlib.Core.Bool.{true, false}
 use mathlib.Core.List.{List, [], _∷_}
-use mathlib.Core.Option.{Option, none, some}
+use mathlib.Core.Option.{Option, none}
 use native.Mathlib.Numerals.{add-one}
 use native.Mathlib.Omega.{arith}
 use borrow.Author.Tests.{eq-eqb, ne-eqb}
@@ -14,20 +14,17 @@ use lib.ListN.{length, getD, set, drop, drop-of-length-le}
 use lib.Seq.{drop-cons}
 use Rattle.card.specs.Limits.{numbers}
 use Rattle.card.specs.Refusals.{outOfShape, notDue}
-use Rattle.card.specs.Text.{if_then_else_}
-use Rattle.marks_on_a_card.specs.Marks.{Mark, text, seat as seatMark, process as processMark, number, decimal, outside, placeOf}
-use Rattle.marks_on_a_card.specs.Kinds.{kEnd, kNumber, kSeat, kProcess, kind, kindOf, valueOf}
-use Rattle.marks.specs.Step.{marksAt}
-use Rattle.marks.specs.declared.Found.{Found}
+use Rattle.marks_on_a_card.specs.Marks.{Mark, text, seat as seatMark, process as processMark, number, decimal, outside}
+use Rattle.marks_on_a_card.specs.Kinds.{kEnd, kNumber, kSeat, kProcess, kind, valueOf}
 use Rattle.marks_on_a_card.proofs.Lists.{not-both}
 use Rattle.marks.specs.declared.Step.{Step}
-use Rattle.reading.specs.Reader.{Place, State, at, Result, ok, stop, Reader, bind, return, the, is, given, sign as readSign, seatOf, processOf, numberOf, Numbered, numbered, keep, line}
-use Rattle.reading.specs.Judgements.{Judgement, word}
-use Rattle.reading.specs.Checks.{judgedState, judgedWords}
+use Rattle.reading.specs.Reader.{State, at, Result, ok, stop, Reader, bind, the, is, given, sign as readSign, seatOf, processOf, numberOf, Numbered, numbered, keep, line}
+use Rattle.reading.specs.Judgements.{word}
+use Rattle.reading.specs.Checks.{judgedWords}
 use Rattle.late.specs.Late.{Late, blame, judgeAll}
 use Rattle.late.specs.State.{atValue, Sized, lateIn, valueIn, withLate, After, after, Halted}
 use Rattle.late.proofs.StateLaws.{late-sized, set-sized, value-set, late-set}
-use Rattle.parts.specs.Parts.{from, Read, Answers, Went, stateBy, wordBy, SignFrom, NumberFrom, RunFrom, Told, Due, sign, seat, process, itemsIn, duesIn, kindsIn, numbersIn, Sure, LineRead}
+use Rattle.parts.specs.Parts.{from, Answers, stateBy, wordBy, SignFrom, NumberFrom, RunFrom, Told, Due, sign, seat, process, itemsIn, duesIn, kindsIn, numbersIn, Sure, LineRead}
 use Rattle.parts.proofs.Steps.{Next, end, one, place-seen, behind, Shown, seen, valueBy, signBy, sign-shown, seat-shown, process-shown, number-shown}
 use Rattle.parts.proofs.Answers.{made, fits, misses}
 

@@ -1,30 +1,30 @@
 -- The cursor's step shows the next of the marks, in numbers. What a reader of one mark does is read off those numbers (`seen`), for
 -- every reader whose test of a mark is a test of them (`Shown`). Assumes nothing.
-use Prim.Native.Nat.{ℕ, zero, suc, _+_, _-_, _≤_, _<_}
+use Prim.Native.Nat.{ℕ, _<_}
 use Prim.Native.String.{String}
 use mathlib.Core.Path.{_≡_, refl, sym, ap, _∙_}
-use mathlib.Core.Bool.{Bool, true, false, not, _&&_, _||_}
+use mathlib.Core.Bool.{Bool, true, false}
 use mathlib.Core.List.{List, [], _∷_}
 use mathlib.Core.Option.{Option, none, some}
 use native.Mathlib.Nat.{zero-add}
 use native.Mathlib.Omega.{arith}
-use borrow.Author.Tests.{eq-eqb, ne-eqb, eqb-true, leb-false}
-use lib.Dec.{eqb, leb}
-use lib.ListN.{length, drop}
+use borrow.Author.Tests.{eq-eqb, ne-eqb, eqb-true}
+use lib.Dec.{eqb}
+use lib.ListN.{length}
 use Rattle.card.specs.Limits.{numbers}
 use Rattle.card.specs.Refusals.{outOfShape}
-use Rattle.card.specs.Text.{bytes, same, if_then_else_}
+use Rattle.card.specs.Text.{bytes, if_then_else_}
 use Rattle.card.specs.Weight.{Weight, whole, decimal as point}
 use Rattle.card.specs.Card.{Mode, nondeterministic, probabilistic}
 use Rattle.marks_on_a_card.specs.Marks.{Mark, text, seat, process, number, decimal, outside, Placed, placed, placeOf}
-use Rattle.marks_on_a_card.specs.Kinds.{kEnd, kOutside, kNumber, kDecimal, kSeat, kProcess, kWord, Known, knowns, kindIn, kind, kindOf, valueOf, digitsOf, furtherOf}
+use Rattle.marks_on_a_card.specs.Kinds.{kEnd, kNumber, kDecimal, kSeat, kProcess, kWord, knowns, kindIn, kind, kindOf, valueOf, digitsOf, furtherOf}
 use Rattle.marks.specs.Step.{found, stepTo, stepEnd, stepAt, marksAt}
 use Rattle.marks.proofs.Next.{Meet, over, met, meet}
 use Rattle.marks_on_a_card.proofs.KindLaws.{kind-tells, kind-seat, kind-process, kind-number, kind-decimal}
 use Rattle.reading.proofs.Through.{same-refl, is→eq}
 use Rattle.marks.specs.declared.Found.{Found}
 use Rattle.marks.specs.declared.Step.{Step}
-use Rattle.reading.specs.Reader.{Place, State, at, Result, ok, stop, took, first, is, nextIs, given, seatOf, processOf, numberOf}
+use Rattle.reading.specs.Reader.{Place, at, Result, ok, stop, took, first, is, nextIs, given, seatOf, processOf, numberOf}
 use Rattle.reading.specs.Shape.{weightOf, modeOf, zeroOf, onlyZero}
 use Rattle.parts.specs.Parts.{Told}
 

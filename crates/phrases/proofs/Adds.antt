@@ -1,5 +1,5 @@
 -- How long a text can be: the bounds of its pieces, added up. Assumes nothing.
-use Prim.Native.Nat.{ℕ, suc, _+_, _-_, _*_, _/_, _^_, _≤_, _<_}
+use Prim.Native.Nat.{ℕ, suc, _+_, _-_, _/_, _^_, _≤_, _<_}
 use Prim.Native.String.{String}
 use mathlib.Core.Path.{_≡_, refl}
 use mathlib.Core.Bool.{Bool, true, false}
@@ -12,10 +12,10 @@ use lib.ListN.{length, length-append}
 use Rattle.card.specs.Limits.{mostSeats, topState, numberDigits, numbers, unit}
 use Rattle.card.specs.Text.{bytes, if_then_else_}
 use Rattle.card.specs.Card.{Mode, nondeterministic, probabilistic}
-use Rattle.card.specs.Weight.{Weight, whole, ratio}
+use Rattle.card.specs.Weight.{Weight, whole}
 use Rattle.room.specs.Digits.{decimal}
 use Rattle.room.proofs.Decimal.{decimal-length}
-use Rattle.phrases.specs.Phrases.{_▸_, num, modeText, divisor, lowest, spell, weightMost, weightText}
+use Rattle.phrases.specs.Phrases.{_▸_, num, modeText, divisor, spell, weightMost, weightText}
 use Rattle.phrases.proofs.Counted.{Text}
 
 -- a text adds so many bytes at most

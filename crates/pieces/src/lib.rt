@@ -1,6 +1,8 @@
 // Texts of five to seven bytes, and of eight and nine of which some are always the same, handed over one by one as the three of `short_pieces` are: where
-// all fit, each is stored straight from its register.
+// all fit, each is stored straight from its register. What stands in no guard is put as two where that is enough: in the recursion over a guard two
+// puts for one take more stack.
 use room::put_run;
+use short_pieces::put_three;
 ghost use mathlib.Core.List.{[], _∷_};
 ghost use Rattle.room.specs.Room.{Put};
 
@@ -24,19 +26,8 @@ pub fn put_five(room: &mut [u8], at: usize, a: u8, b: u8, c: u8, d: u8, e: u8) -
 pub fn put_six(room: &mut [u8], at: usize, a: u8, b: u8, c: u8, d: u8, e: u8, f: u8) -> usize
     ensures { λ r. ⌜ Put (now (room .entry)) (now (room .exit)) at (a ∷ b ∷ c ∷ d ∷ e ∷ f ∷ []) r ⌝ }
 {
-    if at < room.len() {
-        if 6 <= room.len() - at {
-            room[at] = a;
-            room[at + 1] = b;
-            room[at + 2] = c;
-            room[at + 3] = d;
-            room[at + 4] = e;
-            room[at + 5] = f;
-            return at + 6;
-        }
-    }
-    let text = [a, b, c, d, e, f];
-    put_run(room, at, &text)
+    let behind = put_three(room, at, a, b, c);
+    put_three(room, behind, d, e, f)
 }
 
 pub fn put_seven(
@@ -124,20 +115,6 @@ pub fn put_joined_five(
 pub fn put_above(room: &mut [u8], at: usize, own: u8) -> usize
     ensures { λ r. ⌜ Put (now (room .entry)) (now (room .exit)) at (91 ∷ 93 ∷ 32 ∷ 40 ∷ 110 ∷ 111 ∷ 95 ∷ own ∷ 62 ∷ []) r ⌝ }
 {
-    if at < room.len() {
-        if 9 <= room.len() - at {
-            room[at] = b'[';
-            room[at + 1] = b']';
-            room[at + 2] = b' ';
-            room[at + 3] = b'(';
-            room[at + 4] = b'n';
-            room[at + 5] = b'o';
-            room[at + 6] = b'_';
-            room[at + 7] = own;
-            room[at + 8] = b'>';
-            return at + 9;
-        }
-    }
-    let text = [b'[', b']', b' ', b'(', b'n', b'o', b'_', own, b'>'];
-    put_run(room, at, &text)
+    let behind = put_six(room, at, b'[', b']', b' ', b'(', b'n', b'o');
+    put_three(room, behind, b'_', own, b'>')
 }

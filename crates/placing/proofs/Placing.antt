@@ -19,7 +19,7 @@ use Rattle.tidying.proofs.Added.{with-count, with-bodies}
 use Rattle.tidying.proofs.Gap.{gap-held}
 use Rattle.tidying.proofs.Live.{kept-pass}
 use Rattle.tidying.proofs.NewDecks.{length-after}
-use Rattle.inserting.specs.Inserts.{Insertable}
+use Rattle.placing.specs.Inserts.{Insertable}
 use Rattle.tidy.specs.Tidies.{Measured}
 use Rattle.tidy.proofs.LiveDeck.{cards-count}
 use Rattle.tidy.proofs.Closing.{few, inside, text-long}

@@ -11,7 +11,7 @@ use Rattle.entry.specs.Said.{refused}
 use Rattle.deck.specs.Contents.{Row, rowOf, rowsOf, countOf, behind, contentsOf}
 use Rattle.deck.specs.Lookup.{isLive}
 use Rattle.tidying.specs.Tidying.{numberFree}
-use Rattle.live_rows.proofs.Entries.{first-row}
+use Rattle.gathering.proofs.Entries.{first-row}
 use Rattle.placing.specs.Free.{LivePlace}
 
 module _ (deck : List ℕ) (number : ℕ) where

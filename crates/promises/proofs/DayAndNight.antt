@@ -1,26 +1,23 @@
 -- By citing what a valid card is, and by cases on its declaration. Assumes nothing.
-use Prim.Native.Nat.{ℕ, suc, _≤_, _<_}
+use Prim.Native.Nat.{ℕ}
 use mathlib.Core.Path.{_≡_, refl, sym, ap, _∙_, subst}
 use mathlib.Core.List.{List, [], _∷_}
 use mathlib.Core.Option.{Option, none, some}
 use native.Mathlib.Nat.{not-suc-le-zero}
-use native.Mathlib.Omega.{arith}
-use native.Mathlib.Decide.{ℕ-discrete}
-use mathlib.Core.Bool.{Bool, true, false, not, false≢true}
+use mathlib.Core.Bool.{true, not, false≢true}
 use mathlib.Core.Logic.{_↔_}
 use borrow.Author.Tests.{eqb-true, eq-eqb, ne-eqb}
 use lib.Dec.{eqb}
 use Rattle.card.specs.Weight.{cardRule}
-use Rattle.card.specs.Card.{Leaf, group, one, sharedIs, Relation, Formula, atom, neg, and, or, Guard, Branch, Statement, Shared, Card}
-use Rattle.card.specs.Valid.{Every, valuesOf, ValidLeaf, ValidLeaves, ValidGuard, ValidSet, ValidBranch, ValidStatement, ValidShared, ValidCard}
+use Rattle.card.specs.Card.{Leaf, atom, neg, and, or, Guard, Branch, Statement, Shared, Card}
+use Rattle.card.specs.Valid.{Every, valuesOf, ValidLeaf, ValidLeaves, ValidGuard, ValidSet, ValidBranch, ValidStatement, ValidShared}
 use Rattle.card.specs.Formulas.{EveryAtom}
 use Rattle.reading.specs.Reading.{taken, readOf}
 use Rattle.grammar.proofs.Theorems.{read-valid}
-use Rattle.meaning.specs.Position.{Position}
 use Rattle.meaning.specs.Seats.{Seating, ValidSeating}
 use Rattle.meaning.specs.Reduced.{reduce}
 use Rattle.meaning.specs.Panel.{sharedShown, panel}
-use Rattle.seating.specs.Judged.{bytesDue, seatsDue, seatingOf, Seated, bytesIn, bytesOf}
+use Rattle.seating.specs.Judged.{bytesDue, seatingOf, Seated, bytesIn, bytesOf}
 use Rattle.seating.proofs.Judging.{valid-exactly}
 use Rattle.seating.proofs.Bytes.{bytes-back, bytes-seated}
 use Rattle.classes.specs.Classes.{classCounts, classesText, watchOf}

@@ -2,7 +2,7 @@
 use Prim.Native.Nat.{ℕ, _+_, _≤_}
 use mathlib.Core.Path.{_≡_, refl, sym, ap, _∙_, subst}
 use mathlib.Core.Logic.{_↔_, _⊎_, inl, inr}
-use mathlib.Core.List.{List, []}
+use mathlib.Core.List.{List}
 use native.Mathlib.Decide.{decLe}
 use native.Mathlib.Omega.{arith}
 use lib.ListN.{length, drop}
@@ -19,7 +19,7 @@ use Rattle.deck_written.proofs.Entries.{count-said, bodies-said, deck-contents,
 use Rattle.deck_written.proofs.NoGaps.{no-gaps}
 use Rattle.deck_written.proofs.Offsets.{offsets-unread}
 use Rattle.room.specs.declared.Answer.{Answer}
-use Rattle.room.specs.declared.Answer.the-variants.{Done, Refused}
+use Rattle.room.specs.declared.Answer.the-variants.{Refused}
 use Rattle.room.specs.Answer.{told, answerNumber, answered, Entered}
 use Rattle.room.proofs.Entries.{told-faithful}
 use Rattle.answers.specs.Numbered.{numbers}

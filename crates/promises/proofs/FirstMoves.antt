@@ -32,7 +32,7 @@ use Rattle.moving.proofs.FirstMove.{first-by-counts, rest-unread, equal-counts,
 use Rattle.moving.proofs.FirstTaken.{first-exactly, nobody-exactly}
 use Rattle.moving.proofs.Shown.{shown-first}
 use Rattle.move_said.specs.MoveSaid.{moveSeated, moveSaid, Moves}
-use Rattle.first_able.specs.Moved.{moved}
+use Rattle.able_seats.specs.Moved.{moved}
 use Rattle.move_said.proofs.Theorems.{moves, moved-faithful}
 use Rattle.tablet.specs.Moves.{movedNumbers}
 use Rattle.entry_promises.specs.ForC.{Answers}

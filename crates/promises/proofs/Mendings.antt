@@ -1,5 +1,5 @@
 -- Mending a box, from the one theorem of stages; what C is told, as for the other entries; the rest by citing. Assumes nothing.
-use Prim.Native.Nat.{ℕ, _≤_, _<_}
+use Prim.Native.Nat.{ℕ, _≤_}
 use mathlib.Core.Path.{_≡_, refl, sym, ap, _∙_, subst}
 use mathlib.Core.Logic.{_↔_, _⊎_, inl, inr}
 use mathlib.Core.List.{List}
@@ -23,7 +23,7 @@ use Rattle.mending.proofs.MendStage.{mendable, refused-exactly, mend-stage}
 use Rattle.mending.proofs.Unchanged.{comes-out-the-same, all-there}
 use Rattle.mending.proofs.Rules.{by-rules}
 use Rattle.mending.proofs.Again.{new-short, new-back, new-whole, again}
-use Rattle.mended_list.proofs.Listed.{list-short}
+use Rattle.mended_rooms.proofs.Listed.{list-short}
 use Rattle.mended_rooms.specs.declared.Mended.{Mended}
 use Rattle.mended_rooms.specs.declared.Mended.the-variants.{Done, Refused}
 use Rattle.mended_rooms.specs.Mends.{told, Mends}

@@ -6,9 +6,8 @@ use mathlib.Core.Bool.{true}
 use mathlib.Core.Logic.{_↔_}
 use mathlib.Core.List.{List, [], _∷_, _++_}
 use mathlib.Core.Option.{none, some}
-use lib.ListN.{length}
 use Rattle.card.specs.Card.{Leaf, sharedIs, Relation, is, isnt, Branch, Statement, Shared, Card}
-use Rattle.card.specs.Valid.{Every, ValidCard}
+use Rattle.card.specs.Valid.{Every}
 use Rattle.card.specs.Formulas.{EveryAtom}
 use Rattle.reading.specs.Reading.{taken, readOf}
 use Rattle.meaning.specs.Position.{setTo}

@@ -10,7 +10,7 @@ use lib.ListN.{length}
 use Rattle.card.specs.Limits.{cardBytes, unit}
 use Rattle.card.specs.Refusals.{tooLong, outsideRules, outOfShape, pastLimit, aboveTop, notDue, wrongWeight, decimalWeight}
 use Rattle.card.specs.Card.{Card}
-use Rattle.card.specs.Weight.{Weight, whole, decimal, ratio, Rule, cardRule, allowed}
+use Rattle.card.specs.Weight.{whole, decimal, ratio, Rule, cardRule, allowed}
 use Rattle.card.specs.Valid.{ValidCard}
 use Rattle.card.specs.Lent.{Lent, headOf, noHead, lentOf, noneLent}
 use Rattle.marks_on_a_card.specs.Marks.{marksOf}

@@ -22,9 +22,9 @@ use Rattle.panel_said.specs.PanelSaid.{panelSaid}
 use Rattle.moving.specs.FirstMove.{firstMove, firstAt}
 use Rattle.moving.specs.FirstTaken.{FirstTaken}
 use Rattle.moving.specs.Shown.{FirstChoice}
-use Rattle.first_able.specs.declared.FirstMove.{FirstMove}
+use Rattle.able_seats.specs.declared.FirstMove.{FirstMove}
 use Rattle.move_said.specs.MoveSaid.{moveSaid, Moves}
-use Rattle.first_able.specs.Moved.{moved}
+use Rattle.able_seats.specs.Moved.{moved}
 use Rattle.answers.specs.declared.OpenPanelAnswer.{OpenPanelAnswer}
 use Rattle.tablet.specs.Moves.{movedNumbers}
 use Rattle.entry_promises.specs.ForC.{Answers}

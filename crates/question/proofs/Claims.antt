@@ -5,19 +5,18 @@ use mathlib.Core.Path.{_≡_, refl, sym, ap, _∙_}
 use mathlib.Core.Bool.{Bool, true, false, _&&_}
 use mathlib.Core.List.{List, [], _∷_, _++_}
 use native.Mathlib.Omega.{arith}
-use borrow.Author.Tests.{eqb-true, eqb-false, eq-eqb, ne-eqb, le-leb}
+use borrow.Author.Tests.{eqb-true, ne-eqb, le-leb}
 use lib.Dec.{eqb, leb}
 use lib.ListN.{length}
 use Rattle.card.specs.Limits.{mostSeats}
 use Rattle.card.specs.Refusals.{aboveTop, notDue}
 use Rattle.card.specs.Text.{if_then_else_}
-use Rattle.card.specs.Card.{Kind, everyone, others, group, Formula, atom, neg, and, or}
+use Rattle.card.specs.Card.{everyone, group, Formula, atom, neg, and, or}
 use Rattle.card.specs.Formulas.{over}
 use Rattle.marks_on_a_card.specs.Marks.{placeOf}
-use Rattle.reading.specs.Reader.{Place}
-use Rattle.reading.specs.Group.{Literal, Literals}
+use Rattle.reading.specs.Group.{Literal}
 use Rattle.reading.specs.Judgements.{has, hasFrom, alike, Verdict, fine, wrong}
-use Rattle.late.specs.Late.{Late, noneYet, upToMost, wantOf, kindBy, groupBy, grouped as groupedLate}
+use Rattle.late.specs.Late.{Late, noneYet, upToMost, kindBy, groupBy, grouped as groupedLate}
 use Rattle.late.specs.Values.{mostOf}
 use Rattle.late.specs.Settled.{Refusal, refusal, settled, verdict}
 use Rattle.late.proofs.Symmetric.{and-both}
@@ -26,7 +25,7 @@ use Rattle.asking.specs.Question.{Item, aGroup, exactlyOne, aTest}
 use Rattle.asking.specs.Meant.{leafFor}
 use Rattle.asking.specs.Asking.{Claim, state, everyone as everyoneOf, exactly, claimAt, due, firstD, claimsOf, claims, isEveryone, isTerms, termD, isExactlyOne, fits, firstUnfit, firstRelation, literalD, atomIn, questionIn}
 use Rattle.term_literals.specs.Wanted.{wantOfTerms}
-use Rattle.grouping.specs.Language.{wantOfAll, judgeClaim, claimAll, itemBy, questions, leavesOf, judgedOf}
+use Rattle.items.specs.Language.{wantOfAll, judgeClaim, claimAll, itemBy, questions, leavesOf, judgedOf}
 
 -- ---- what an item wants is the number of seats for which it is as said
 

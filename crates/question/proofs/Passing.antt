@@ -2,18 +2,18 @@
 use Prim.Native.Nat.{ℕ}
 use mathlib.Core.Path.{_≡_}
 use mathlib.Core.Bool.{Bool, false}
-use mathlib.Core.List.{List, _∷_}
+use mathlib.Core.List.{_∷_}
 use lib.ListN.{length}
 use Rattle.card.specs.Limits.{mostNodes, mostDepth}
 use Rattle.card.specs.Card.{all, any}
 use Rattle.marks_on_a_card.specs.Marks.{Mark, placed}
-use Rattle.reading.specs.Reader.{Place, at, Reader, bind, _>>=_, _>>_, return, nextIs, sign}
+use Rattle.reading.specs.Reader.{Place, at, _>>=_, return, nextIs, sign}
 use Rattle.reading.specs.Guard.{seatNext, ifSeat, unaryBy}
 use Rattle.reading.specs.Group.{joint, literal, joined, others, group, sharedTest}
 use Rattle.reading.specs.Shape.{theEnd}
 use Rattle.reading.specs.Reading.{isOutside}
 use Rattle.search.proofs.Passed.{Safe, andThen, signP, choice, literalP, joinedP, groupP, sharedTestP, expressionP, unaryP, ended-held}
-use Rattle.asking.specs.Question.{Item, aGroup, aTest, itemNext, term, exactly, item, asked, question}
+use Rattle.asking.specs.Question.{aGroup, aTest, itemNext, term, exactly, item, asked, question}
 
 module _ (P : Place → Type 0) (pass : (m : Mark) (q : ℕ) (ms : Place) → isOutside m ≡ false → P (placed m q ∷ ms) → P ms) where
   termP : Safe P pass term

@@ -1,8 +1,8 @@
 -- The whole question: too long, a stop, marks behind it, or a shape whose claims decide. Assumes nothing.
-use Prim.Native.Nat.{ℕ, zero, suc, _+_, _-_, _≤_, _<_}
+use Prim.Native.Nat.{ℕ, zero, _-_, _≤_, _<_}
 use mathlib.Core.Path.{_≡_, refl, sym, ap, _∙_, subst}
-use mathlib.Core.Bool.{Bool, true, false}
-use mathlib.Core.List.{List, [], _∷_}
+use mathlib.Core.Bool.{true}
+use mathlib.Core.List.{List, []}
 use mathlib.Core.Option.{Option, none, some}
 use native.Mathlib.Omega.{arith}
 use borrow.Author.Tests.{le-leb, lt-leb}
@@ -10,13 +10,12 @@ use lib.ListN.{length, getD}
 use Rattle.card.specs.Limits.{cardBytes, mostSeats, mostNodes, mostDepth}
 use Rattle.card.specs.Refusals.{tooLong, outsideRules, outOfShape}
 use Rattle.card.specs.Card.{Leaf, Formula}
-use Rattle.card.specs.Formulas.{over}
 use Rattle.card.specs.Valid.{size}
 use Rattle.card.specs.Laid.{below, cells}
 use Rattle.card.specs.Stored.{stored}
 use Rattle.card.proofs.Atoms.{size-over}
 use Rattle.card.proofs.Storing.{size-below}
-use Rattle.marks_on_a_card.specs.Marks.{placed, marksOf, placeOf}
+use Rattle.marks_on_a_card.specs.Marks.{placeOf}
 use Rattle.marks_on_a_card.specs.Kinds.{kEnd}
 use Rattle.marks.specs.Step.{stepAt, marksAt}
 use Rattle.marks.specs.declared.Step.{Step}
@@ -29,25 +28,23 @@ use Rattle.reading.specs.Shape.{ended, theEnd}
 use Rattle.reading.specs.Reading.{firstOutside}
 use Rattle.late.specs.Values.{shares, mostOf}
 use Rattle.late.specs.Late.{noneYet}
-use Rattle.late.specs.Settled.{Refusal, refusal, settled, verdict}
+use Rattle.late.specs.Settled.{Refusal, settled, verdict}
 use Rattle.late.specs.State.{atStop, atStopPlace, freeIn, lateIn, refusalIn, After, Sized}
 use Rattle.parts.proofs.Steps.{Next, end, one, next-at, place-seen}
-use Rattle.search.specs.declared.Due.{Due}
 use Rattle.search.specs.Search.{searched}
 use Rattle.search.proofs.Passed.{Held}
 use Rattle.search.proofs.Places.{Reached, reached-first, reached-next, outside-behind}
-use Rattle.entry.specs.Said.{Said, says, refused}
+use Rattle.entry.specs.Said.{Said, refused}
 use Rattle.asking.specs.Question.{Item, asked, question}
-use Rattle.asking.specs.Meant.{Question, leafFor}
+use Rattle.asking.specs.Meant.{Question}
 use Rattle.asking.specs.Asking.{claims, firstUnfit, questionIn, inQuestion, judgedAs, shapedAs, markedAs, questionOf}
 use Rattle.languages.specs.Number.{valuesBy, asksBy}
-use Rattle.grouping.specs.Language.{Language, questions, languageOf, leavesOf}
-use Rattle.grouping.proofs.Answers.{question-language}
+use Rattle.items.specs.Language.{Language, questions, languageOf, leavesOf}
+use Rattle.items.proofs.Answers.{question-language}
 use Rattle.items.specs.GuardRead.{Read, GuardRead}
 use Rattle.items.specs.Pieces.{unaryIn}
 use Rattle.guard.proofs.Building.{still-sized}
-use Rattle.question.specs.declared.Understood.{Understood}
-use Rattle.question.specs.QuestionRead.{refusedWith, Understands, Refuses, QuestionRead}
+use Rattle.question.specs.QuestionRead.{refusedWith, QuestionRead}
 use Rattle.question.proofs.Claims.{settled-question, none-unfit, same-leaves}
 use Rattle.question.proofs.Passing.{questionP}
 

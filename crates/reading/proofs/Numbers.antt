@@ -4,24 +4,24 @@ use Prim.Native.Nat.{ℕ, zero, suc, _-_, _≤_}
 use Prim.Native.String.{String}
 use mathlib.Core.Path.{_≡_, refl, subst}
 use mathlib.Core.Bool.{Bool, true, false, _&&_}
-use mathlib.Core.Logic.{_⊎_, inl, inr}
+use mathlib.Core.Logic.{inl, inr}
 use mathlib.Core.List.{List, [], _∷_, _++_, map}
 use mathlib.Core.Option.{Option, none, some}
 use native.Mathlib.Omega.{arith}
 use lib.Dec.{eqb, leb}
 use lib.ListN.{length}
 use Rattle.card.specs.Limits.{cardBytes, mostSeats, topState, topShared, mostStatements, mostBranches, mostNodes, mostDepth, unit}
-use Rattle.card.specs.Refusals.{tooLong, outsideRules, outOfShape, pastLimit, aboveTop, notDue, wrongWeight, decimalWeight}
+use Rattle.card.specs.Refusals.{tooLong, outsideRules, pastLimit, aboveTop, notDue, wrongWeight, decimalWeight}
 use Rattle.card.specs.Text.{if_then_else_}
 use Rattle.card.specs.Card.{Mode, any, all, Formula, atom, neg, and, or, Card}
 use Rattle.card.specs.Weight.{Weight, whole, decimal as point, ratio, unitsOf, Rule, allowed, weightRefusal}
 use Rattle.card.specs.Valid.{Every}
 use Rattle.marks_on_a_card.specs.Marks.{Mark, Placed, placed, marksOf}
-use Rattle.reading.specs.Reader.{Place, State, at, Result, ok, stop, Reader, bind, _>>=_, _>>_, return, refuse, refuseAt, took, the, nextIs, ifNext, sign, numberOf, here, Numbered, numbered, spend, nodeAt, node, Item, exactly, seatWord, processWord, keep, line}
+use Rattle.reading.specs.Reader.{Place, State, at, Result, ok, stop, Reader, bind, _>>=_, _>>_, return, refuse, refuseAt, took, the, nextIs, ifNext, sign, numberOf, here, Numbered, numbered, spend, nodeAt, node, Item, exactly, seatWord, processWord, line}
 use Rattle.reading.specs.Guard.{isSome, testNext, ifAhead, Read, chain, conjunction, expression, grouped, unary}
-use Rattle.reading.specs.Group.{joint, literal, others, group, Literal, Literals, SharedTest, sharedTest, Tested, ofSeats, ofShared, tested}
-use Rattle.reading.specs.Judgements.{Judgement, state, word, oneGroup, weight as judgedWeight, sum, placeIn, symmetric, totalUnits, unless, broken, Verdict, fine, wrong, orElse, firstBroken, firstState, judgedTest, judgedGuard}
-use Rattle.reading.specs.Shape.{BranchShape, StatementShape, Range, modeOf, zeroOf, many, weightOf, over, weight, setting, sets, branch, nextBranch, pastBranches, moreBranches, guard, mayHave, statement, moreStatements, copy, moreModules, top, range, declaration, ended, theEnd, CardShape, modules, body, card}
+use Rattle.reading.specs.Group.{joint, literal, others, group, Literal, sharedTest, Tested, ofSeats, ofShared, tested}
+use Rattle.reading.specs.Judgements.{Judgement, sum, placeIn, symmetric, totalUnits, unless, broken, Verdict, fine, wrong, orElse, firstBroken, firstState, judgedTest, judgedGuard}
+use Rattle.reading.specs.Shape.{BranchShape, StatementShape, Range, modeOf, zeroOf, many, weightOf, over, weight, sets, branch, pastBranches, guard, mayHave, statement, copy, top, range, declaration, ended, theEnd, CardShape, modules, body, card}
 use Rattle.reading.specs.Checks.{judgedState, judgedWords, judgedSet, judgedBranch, judgedEach, judgedOr, weightIn, judgedStatement, moduleDues, judgedModules, judgedShared, mostIn, judgedCard, seatsIn, cardIn}
 use Rattle.reading.specs.Reading.{Outcome, taken, refused, firstOutside, judged, shaped, marked, readUnder, Refuses}
 

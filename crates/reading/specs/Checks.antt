@@ -1,6 +1,6 @@
 -- What refusals 5, 6, 7 and 17 judge on a whole card, in the order of the text, and the card itself, once nothing is broken
 -- ("Refusal numbers", "Shape of a card"). Assumes nothing.
-use Prim.Native.Nat.{ℕ, zero, suc}
+use Prim.Native.Nat.{ℕ, suc}
 use mathlib.Core.List.{List, [], _∷_, _++_, map}
 use mathlib.Core.Option.{Option, none, some}
 use lib.ListN.{length}

@@ -1,15 +1,14 @@
 -- A group of literals, and a test of the shared number, as they stand on a card ("Shape of a card"; document 02, 2026-10). Assumes nothing.
 use Prim.Native.Nat.{ℕ, zero, suc}
 use Prim.Native.String.{String}
-use mathlib.Core.Bool.{Bool, true, false}
 use mathlib.Core.List.{List, [], _∷_}
 use mathlib.Core.Option.{Option, none, some}
 use lib.ListN.{length}
-use Rattle.card.specs.Text.{bytes, if_then_else_}
+use Rattle.card.specs.Text.{if_then_else_}
 use Rattle.card.specs.Refusals.{pastLimit}
 use Rattle.card.specs.Card.{Sign, all, any, Relation, is as eq, isnt as ne}
-use Rattle.marks_on_a_card.specs.Marks.{Mark, Placed}
-use Rattle.reading.specs.Reader.{Place, State, at, Result, ok, stop, Reader, bind, _>>=_, _>>_, return, refuse, the, is, ifNext, sign, seatOf, numberOf, here, Numbered, numbered}
+use Rattle.marks_on_a_card.specs.Marks.{Mark}
+use Rattle.reading.specs.Reader.{Place, Reader, _>>=_, _>>_, return, refuse, the, is, ifNext, sign, seatOf, numberOf, here, Numbered, numbered}
 
 abbrev pub joint : Sign → String
 joint all = "&"

@@ -2,14 +2,14 @@
 use Prim.Native.Nat.{ℕ, zero, suc}
 use Prim.Native.String.{String}
 use mathlib.Core.Bool.{Bool, true, false, _&&_, _||_}
-use mathlib.Core.List.{List, [], _∷_}
+use mathlib.Core.List.{[], _∷_}
 use mathlib.Core.Option.{Option, none, some}
 use Rattle.card.specs.Limits.{mostNodes}
 use Rattle.card.specs.Refusals.{pastLimit}
 use Rattle.card.specs.Text.{if_then_else_}
 use Rattle.card.specs.Card.{Formula, atom, neg, and, or}
-use Rattle.marks_on_a_card.specs.Marks.{Mark, Placed, placed}
-use Rattle.reading.specs.Reader.{Place, State, at, Result, ok, stop, Reader, bind, _>>=_, _>>_, return, refuse, refuseAt, is, nextIs, ifNext, sign, seatOf, here, nodeAt, node}
+use Rattle.marks_on_a_card.specs.Marks.{placed}
+use Rattle.reading.specs.Reader.{Place, Reader, _>>=_, _>>_, return, refuse, refuseAt, nextIs, ifNext, sign, seatOf, here, nodeAt, node}
 
 abbrev pub isSome : {A : Type 0} → Option A → Bool
 isSome none = false

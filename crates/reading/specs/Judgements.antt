@@ -1,14 +1,14 @@
 -- What refusals 5, 6, 7 and 17 judge on a card of the right shape, and how ("Refusal numbers", "Shape of a card"). Assumes nothing.
 use Prim.Native.Nat.{ℕ, zero, suc, _+_, _-_}
 use mathlib.Core.Bool.{Bool, true, false, _&&_, _||_}
-use mathlib.Core.List.{List, [], _∷_, _++_}
+use mathlib.Core.List.{List, [], _∷_}
 use mathlib.Core.Option.{Option, none, some}
 use lib.Dec.{eqb, leb}
 use lib.ListN.{length}
 use Rattle.card.specs.Limits.{unit}
 use Rattle.card.specs.Refusals.{aboveTop, notDue, wrongWeight}
 use Rattle.card.specs.Text.{if_then_else_}
-use Rattle.card.specs.Card.{Kind, everyone, others, Sign, all, any, Relation, is, isnt, Leaf, group, sharedIs, Formula, Guard}
+use Rattle.card.specs.Card.{Kind, everyone, others, Sign, Relation, is, isnt, Leaf, group, sharedIs, Formula, Guard}
 use Rattle.card.specs.Formulas.{over, eachAtom}
 use Rattle.card.specs.Weight.{Weight, unitsOf, Rule, allowed, weightRefusal}
 use Rattle.reading.specs.Reader.{Place}

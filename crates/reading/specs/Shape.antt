@@ -8,11 +8,11 @@ use mathlib.Core.Option.{Option, none, some}
 use lib.Dec.{eqb, leb}
 use Rattle.card.specs.Limits.{mostSeats, topState, topShared, mostStatements, mostBranches, mostNodes, mostDepth}
 use Rattle.card.specs.Refusals.{outOfShape, pastLimit}
-use Rattle.card.specs.Text.{bytes, if_then_else_}
+use Rattle.card.specs.Text.{if_then_else_}
 use Rattle.card.specs.Card.{Mode, nondeterministic, probabilistic, Formula}
 use Rattle.card.specs.Weight.{Weight, whole, decimal as point, ratio}
-use Rattle.marks_on_a_card.specs.Marks.{Mark, text, seat, process, number, decimal, outside, Placed, placed}
-use Rattle.reading.specs.Reader.{Place, State, at, Result, ok, stop, Reader, bind, _>>=_, _>>_, return, refuse, refuseAt, the, is, ifNext, sign, seatOf, processOf, numberOf, here, Numbered, numbered, Item, exactly, seatWord, processWord, line}
+use Rattle.marks_on_a_card.specs.Marks.{Mark, text, seat, process, number, decimal, outside}
+use Rattle.reading.specs.Reader.{Place, at, Result, ok, stop, Reader, _>>=_, _>>_, return, refuse, refuseAt, the, is, ifNext, sign, numberOf, here, Numbered, numbered, exactly, seatWord, processWord, line}
 use Rattle.reading.specs.Guard.{isSome, conjunction, unary}
 use Rattle.reading.specs.Group.{Tested, tested}
 

@@ -2,7 +2,6 @@
 -- and one d, so each seat is there once. A written test of the shared number is that test.
 use Prim.Native.Nat.{ℕ, zero, suc, _+_, _-_, _^_, _≤_, _<_}
 use mathlib.Core.Path.{_≡_, refl, sym, ap, ap₂, _∙_}
-use mathlib.Core.Logic.{_≢_}
 use mathlib.Core.Bool.{Bool, true, false, _&&_, _||_, false≢true}
 use mathlib.Core.List.{List, [], _∷_}
 use mathlib.Core.Option.{Option, none, some}
@@ -16,12 +15,12 @@ use Rattle.card.specs.Card.{Kind, everyone, others, Sign, all, any, Relation, i
 use Rattle.card.specs.Valid.{firstSeat, Enough, ValidLeaf, Every}
 use Rattle.marks_on_a_card.specs.Marks.{seat, number, placed, marks}
 use Rattle.reading.specs.Reader.{Place}
-use Rattle.reading.specs.Group.{relation, Literal, literalOf, Literals, literalsOf, SharedTest, Tested, ofSeats, ofShared}
+use Rattle.reading.specs.Group.{relation, Literal, literalOf, literalsOf, Tested, ofSeats, ofShared}
 use Rattle.reading.specs.Guard.{isSome}
 use Rattle.reading.specs.Shape.{Range}
 use Rattle.reading.specs.Checks.{mostIn}
 use Rattle.reading.specs.Judgements.{Judgement, has, hasFrom, once, kindOf, sameRelation, alike, symmetric, broken, judgedGroup, judgedTest, groupIn, leafIn}
-use Rattle.grammar.specs.Grammar.{signAt, valued, LiteralSaid, literal as aLiteral, OthersSaid, close, next, GroupSaid, conjoined, disjoined, SharedTestSaid, sharedTest, TestedSaid, testSeats, testShared, GuardSaid, unary, grouped}
+use Rattle.grammar.specs.Grammar.{signAt, valued, LiteralSaid, literal as aLiteral, OthersSaid, close, next, GroupSaid, conjoined, disjoined, sharedTest, TestedSaid, testSeats, testShared, GuardSaid, unary, grouped}
 use Rattle.grammar.specs.Counted.{Within, countedGuard}
 use Rattle.phrases.specs.Phrases.{_▸_, num}
 use Rattle.texts.specs.Shared.{sharedText}

@@ -1,7 +1,6 @@
 -- Numbers and words, once written, are the marks they were written for: a run of digits or letters ends where the next text begins.
-use Prim.Native.Nat.{ℕ, zero, suc, _+_, _-_, _^_, _≤_, _<_}
+use Prim.Native.Nat.{ℕ, zero, suc, _-_, _^_, _≤_, _<_}
 use mathlib.Core.Path.{_≡_, refl, ap}
-use mathlib.Core.Logic.{_≢_}
 use mathlib.Core.Bool.{Bool, true, false, not, _&&_, _||_, false≢true}
 use mathlib.Core.List.{List, [], _∷_, _++_}
 use mathlib.Core.Option.{some}
@@ -14,7 +13,7 @@ use Rattle.card.specs.Limits.{numberDigits, wordDigits}
 use Rattle.card.specs.Text.{same}
 use Rattle.marks_on_a_card.specs.Bytes.{isDigit, inWord, run, begins, every}
 use Rattle.marks_on_a_card.specs.Digits.{valueFrom, plain, numberSpelt, pointed}
-use Rattle.marks_on_a_card.specs.Marks.{text, seat, process, number, Placed, placed, startAt, numeral, marks}
+use Rattle.marks_on_a_card.specs.Marks.{seat, process, number, Placed, placed, startAt, numeral, marks}
 use Rattle.room.specs.Digits.{decimal, AllDigits}
 use Rattle.room.proofs.Decimal.{decimal-digits, decimal-some, decimal-front, decimal-length, decimal-read}
 use Rattle.phrases.specs.Phrases.{_▸_, num}

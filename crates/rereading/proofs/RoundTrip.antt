@@ -8,17 +8,17 @@ use mathlib.Core.Option.{Option, none, some}
 use native.Mathlib.Omega.{arith}
 use borrow.Author.Tests.{le-leb}
 use lib.ListN.{length}
-use Rattle.card.specs.Limits.{cardBytes, numberDigits, wordDigits, mostSeats, topState, topShared, mostStatements}
+use Rattle.card.specs.Limits.{cardBytes, numberDigits, wordDigits, mostSeats, topState, mostStatements}
 use Rattle.card.specs.Card.{Mode, nondeterministic, probabilistic, Statement, Shared, Card}
 use Rattle.card.specs.Weight.{Rule, cardRule}
 use Rattle.card.specs.Valid.{Every, valuesOf, ValidStatement, ValidShared, ValidCard}
 use Rattle.marks_on_a_card.specs.Bytes.{isDigit, begins}
 use Rattle.marks_on_a_card.specs.Digits.{pointed}
-use Rattle.marks_on_a_card.specs.Marks.{text, number, placed, marks, marksOf}
+use Rattle.marks_on_a_card.specs.Marks.{number, placed, marks, marksOf}
 use Rattle.reading.specs.Reader.{Place, at, Result, ok, Numbered, Item}
 use Rattle.reading.specs.Group.{Literal, Literals, SharedTest, Tested}
 use Rattle.reading.specs.Guard.{isSome}
-use Rattle.reading.specs.Judgements.{Judgement, fine, broken, firstBroken}
+use Rattle.reading.specs.Judgements.{Judgement, fine, firstBroken}
 use Rattle.reading.specs.Shape.{BranchShape, StatementShape, Range, CardShape, card as readCard}
 use Rattle.reading.specs.Checks.{judgedWords, judgedEach, judgedStatement, judgedModules, judgedShared, judgedCard, mostIn, statementIn, seatsIn, sharedIn, cardIn}
 use Rattle.reading.specs.Reading.{taken, firstOutside, shaped, readUnder}

@@ -1,7 +1,6 @@
 -- A number in decimal. That it is the only way to write the number with digits and without a zero in front is proved in
 -- proofs/Decimal.antt. Assumes nothing.
 use Prim.Native.Nat.{ℕ, zero, suc, _+_, _-_, _*_, _/_, _%_, _≤_, _<_}
-use mathlib.Core.Path.{_≡_}
 use mathlib.Core.List.{List, [], _∷_, _++_}
 use lib.Dec.{ltb}
 use lib.ListN.{length, getD}

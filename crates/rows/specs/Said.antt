@@ -5,7 +5,7 @@ use mathlib.Core.List.{List, _∷_}
 use Rattle.card.specs.Refusals.{wrongWeight, decimalWeight}
 use Rattle.card.specs.Card.{Card}
 use Rattle.reading.specs.Reading.{Outcome, taken, refused as turned, readOf}
-use Rattle.entry.specs.Said.{Said, says, refused, _>>=_}
+use Rattle.entry.specs.Said.{Said, says, refused}
 use Rattle.entry.specs.Numbers.{Numbers, _to_, only}
 
 abbrev pub outcomeSaid : Outcome → Said Card

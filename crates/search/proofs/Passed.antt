@@ -11,15 +11,15 @@ use native.Mathlib.Omega.{arith}
 use lib.Dec.{leb}
 use lib.ListN.{length}
 use Rattle.card.specs.Limits.{mostSeats, topState, topShared, mostStatements, mostBranches, mostNodes, mostDepth}
-use Rattle.card.specs.Refusals.{outOfShape, pastLimit}
+use Rattle.card.specs.Refusals.{pastLimit}
 use Rattle.card.specs.Text.{if_then_else_}
 use Rattle.card.specs.Card.{Mode, Formula, and, or, any, all}
 use Rattle.card.specs.Weight.{Weight, whole, decimal as point, ratio}
-use Rattle.marks_on_a_card.specs.Marks.{Mark, text, seat, process, number, decimal, outside, Placed, placed}
-use Rattle.reading.specs.Reader.{Place, State, at, Result, ok, stop, Reader, bind, return, refuse, refuseAt, took, first, the, is, given, nextIs, ifNext, sign, seatOf, processOf, numberOf, here, numbered, spend, node, nodeAt, Item, exactly, seatWord, processWord, line}
+use Rattle.marks_on_a_card.specs.Marks.{Mark, text, seat, process, number, decimal, outside, placed}
+use Rattle.reading.specs.Reader.{Place, State, at, Result, ok, stop, Reader, bind, return, refuse, took, first, the, is, given, nextIs, ifNext, sign, seatOf, processOf, numberOf, numbered, spend, node, nodeAt, Item, exactly, seatWord, processWord, line}
 use Rattle.reading.specs.Guard.{isSome, testNext, Read, chain, conjunction, expression, grouped, unaryBy, unary}
 use Rattle.reading.specs.Group.{joint, relationOf, literal, joined, others, group, sharedTest, tested}
-use Rattle.reading.specs.Shape.{Range, many, weightOf, over, weight, setting, sets, branch, nextBranch, pastBranches, moreBranches, guard, mayHave, statement, moreStatements, copy, moreModules, modeOf, zeroOf, top, range, declaration, ended, theEnd, modules, body, card}
+use Rattle.reading.specs.Shape.{Range, many, weightOf, over, weight, setting, sets, branch, nextBranch, pastBranches, moreBranches, guard, statement, moreStatements, copy, moreModules, modeOf, zeroOf, top, range, declaration, ended, theEnd, modules, body, card}
 use Rattle.reading.specs.Reading.{isOutside}
 use Rattle.grammar.specs.Grammar.{sharedRun, cardRun, statementRun, branchRun, setRun, moduleRun}
 

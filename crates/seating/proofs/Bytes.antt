@@ -10,7 +10,7 @@ use Rattle.card.specs.Card.{Shared, Card}
 use Rattle.card.specs.Valid.{valuesOf}
 use Rattle.meaning.specs.Position.{position, sharedValues}
 use Rattle.meaning.specs.Seats.{Seating, ValidSeating}
-use Rattle.seating.specs.Judged.{bytesDue, sharedAt, seatingIn, seatingOf, Seated, bytesIn, bytesOf}
+use Rattle.seating.specs.Judged.{bytesDue, seatingIn, seatingOf, Seated, bytesIn, bytesOf}
 
 -- the last of a list with one more
 last-there : (l : List ℕ) (a : ℕ) → getD (l ++ a ∷ []) (length l) 0 ≡ a

@@ -4,7 +4,6 @@ use Prim.Native.Nat.{ℕ, zero, suc}
 use mathlib.Core.Path.{_≡_, refl, sym, ap, ap₂, _∙_}
 use mathlib.Core.List.{List}
 use lib.ListN.{take}
-use Rattle.card.specs.Card.{Card}
 use Rattle.card.specs.Valid.{valuesOf}
 use Rattle.card.specs.Laid.{sharedOf}
 use Rattle.card.specs.Lent.{Lent, cardIn}

@@ -2,7 +2,6 @@
 -- one look at the list: either all are within bounds, or one is the first that is not. Seats are one such list, with the shared number as its last. Assumes nothing.
 use Prim.Native.Nat.{ℕ, zero, suc, _+_, _-_, _≤_, _<_}
 use mathlib.Core.Path.{_≡_, refl, sym, ap, _∙_}
-use mathlib.Core.Bool.{Bool, true, false}
 use mathlib.Core.Logic.{_↔_, _⊎_, inl, inr}
 use mathlib.Core.List.{List, [], _∷_}
 use native.Mathlib.Nat.{not-suc-le-zero, le-of-suc-le-suc}
@@ -12,19 +11,18 @@ use native.Mathlib.Omega.{arith}
 use borrow.Author.Tests.{lt-ltb, le-ltb, eq-eqb, ne-eqb}
 use lib.Dec.{ltb}
 use lib.ListN.{length, getD, take, drop, length-take, drop-of-length-le}
-use lib.Seq.{drop-cons, getD-take, take-all}
+use lib.Seq.{drop-cons, getD-take}
 use mathlib.Core.Option.{Option, none, some}
 use Rattle.card.specs.Card.{Shared, Card}
 use Rattle.card.specs.Text.{if_then_else_}
 use Rattle.card.specs.Valid.{Every, valuesOf}
 use Rattle.card.specs.Refusals.{wrongSeats, seatAboveTop}
 use Rattle.card.specs.Verdict.{verdictNumber, verdictPlace}
-use Rattle.meaning.specs.Position.{position, sharedValues}
-use Rattle.meaning.specs.Seats.{Seating, ValidSeating}
+use Rattle.meaning.specs.Position.{sharedValues}
 use Rattle.seating.specs.FirstRefusal.{firstRefusal}
 use Rattle.card.specs.declared.Verdict.{Verdict}
 use Rattle.card.specs.declared.Verdict.the-variants.{Taken, Refused}
-use Rattle.seating.specs.Judged.{judgedBy, judgedFrom, judgedList, FirstOver, FirstAbove, bytesDue, mostAt, judgedSeats, sharedAt, seatsDue, FirstWrong, seatingOf, Seated}
+use Rattle.seating.specs.Judged.{judgedBy, judgedFrom, judgedList, FirstOver, FirstAbove, bytesDue, mostAt, judgedSeats, sharedAt, Seated}
 
 -- ---- as a loop judges
 

@@ -1,2 +1,4 @@
+pub mod OwnPassed
+pub mod GuardedLaws
 pub mod StatementLaws
 pub mod StatementsLaws

@@ -22,7 +22,7 @@ use Rattle.late.proofs.Settling.{judge-append}
 use Rattle.parts.specs.Parts.{from, Kept, Went, NumberFrom, Sure, LineRead}
 use Rattle.branches.specs.declared.Bounds.{Bounds}
 use Rattle.branches.specs.Branches.{BranchesShape, branchBy, branches, judgedBranches, BranchesFrom}
-use Rattle.statement_head.specs.StatementHead.{statementDue, OwnFrom, guarded, guardOrBy, GuardedFrom}
+use Rattle.statements.specs.StatementHead.{statementDue, OwnFrom, guarded, guardOrBy, GuardedFrom}
 use Rattle.statements.specs.OneStatement.{rowBy, statementBy, StatementRead, StatementFrom}
 use Rattle.parts.proofs.Steps.{told}
 use Rattle.parts.proofs.Answers.{onward, halted}

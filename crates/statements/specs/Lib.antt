@@ -1,2 +1,3 @@
+pub mod StatementHead
 pub mod OneStatement
 pub mod Statements

@@ -19,7 +19,7 @@ use Rattle.late.specs.State.{Sized, After}
 use Rattle.parts.specs.Parts.{from, Answers, Kept}
 use Rattle.branches.specs.declared.Bounds.{Bounds}
 use Rattle.branches.specs.Branches.{packedIn}
-use Rattle.statement_head.specs.StatementHead.{guardOrBy}
+use Rattle.statements.specs.StatementHead.{guardOrBy}
 
 -- ---- a statement's numbers
 

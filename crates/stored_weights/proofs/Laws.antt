@@ -1,8 +1,7 @@
 -- Weights added up statement by statement: a statement more adds what its branches weigh for all seats that are able to take it, and where
 -- none is it adds nothing. No sum is above all seats' weights of all statements. Assumes nothing.
-use Prim.Native.Nat.{ℕ, zero, suc, _+_, _*_, _/_, _%_, _≤_, _<_}
+use Prim.Native.Nat.{ℕ, suc, _+_, _*_, _/_, _%_, _≤_, _<_}
 use mathlib.Core.Path.{_≡_, refl, sym, ap, ap₂, _∙_}
-use mathlib.Core.Bool.{Bool}
 use mathlib.Core.List.{List}
 use native.Mathlib.Nat.{le-trans, mul-le-mul}
 use native.Mathlib.Numerals.{add-one}
@@ -11,16 +10,15 @@ use native.Mathlib.Omega.{arith}
 use borrow.Author.Tests.{eq-eqb, ne-eqb}
 use lib.Dec.{eqb}
 use lib.ListN.{length, getD, replicate, List·getD-eq-default}
-use Rattle.card.specs.Limits.{mostSeats, mostShared, mostStatements, mostBranches, unit}
+use Rattle.card.specs.Limits.{mostSeats, mostShared, unit}
 use Rattle.card.specs.Card.{nondeterministic, probabilistic, Branch}
 use Rattle.card.specs.Laid.{either, zeros}
 use Rattle.card.specs.Rows.{rowOf}
 use Rattle.card.specs.declared.Head.{Head}
-use Rattle.card.proofs.Filling.{zeros-repeat}
 use Rattle.meaning.specs.Sums.{gate, upto}
 use Rattle.meaning.specs.ByCounts.{unitsInto, stayOf, moveOf}
 use Rattle.meaning.proofs.Sums.{gate-le, gate-out, length-upto, getD-upto, upto-cong}
-use Rattle.panel_numbers.specs.Table.{sharedIn, ableIn, staysFrom, over, total, branchesIn, weighingRow, weightPlaces, byPlace, raised, added, addedStays, moveBy, stayBy, rowFrom, stays, stayed}
+use Rattle.panel_numbers.specs.Table.{sharedIn, ableIn, staysFrom, over, branchesIn, weighingRow, weightPlaces, byPlace, raised, added, addedStays, moveBy, stayBy, rowFrom, stays, stayed}
 use Rattle.panel_numbers.specs.Fitting.{Most, heaviest, Adding, Weighing}
 use Rattle.panel_numbers.proofs.Stored.{total-suc, total-most, over-cong}
 

@@ -2,8 +2,8 @@
 use Prim.Native.Nat.{ℕ}
 use mathlib.Core.Option.{Option}
 use Rattle.entry.specs.Said.{Said}
-use Rattle.first_able.specs.declared.FirstMove.{FirstMove}
-use Rattle.first_able.specs.Moved.{moved, moveNumber, moveValue}
+use Rattle.able_seats.specs.declared.FirstMove.{FirstMove}
+use Rattle.able_seats.specs.Moved.{moved, moveNumber, moveValue}
 use Rattle.answers.specs.declared.OpenPanelAnswer.{OpenPanelAnswer}
 
 abbrev pub moveNumbers : FirstMove → OpenPanelAnswer

@@ -1,5 +1,5 @@
--- What the code keeps of the literals and of the terms so far is what the definitions say of them; and an exactly-one is as said for
--- exactly the number of seats that it wants. Each step adds one at the end of a list.
+-- What the code keeps of the literals and of the terms so far is what the definitions say of them, the seats that they want among it. Each step adds
+-- one at the end of a list.
 use Prim.Native.Nat.{ℕ, suc, _+_, _≤_, min}
 use mathlib.Core.Path.{_≡_, refl, sym, ap, _∙_}
 use mathlib.Core.Bool.{Bool, true, false, not, _&&_, _||_, and-false}
@@ -16,7 +16,7 @@ use Rattle.reading.specs.Group.{Literal}
 use Rattle.reading.specs.Judgements.{hasFrom, once, sameRelation}
 use Rattle.late.proofs.Symmetric.{wanted}
 use Rattle.asking.specs.Question.{relations, among, both}
-use Rattle.asking.specs.Asking.{dueRelation, eachDue, isTerms, literalD, termD, isExactlyOne}
+use Rattle.asking.specs.Asking.{dueRelation, eachDue, isTerms, literalD}
 use Rattle.term_literals.specs.Wanted.{seatsOf, wantOfTerms}
 use Rattle.literals_due.specs.Due.{dueNumber}
 
@@ -166,6 +166,3 @@ module _ (all : Bool) (count seats : ℕ) (t : List Literal) (ts : List (List Li
       go : (b : Bool) → leb m mostSeats ≡ b → allWant count ≡ (if b && isTerms m (literalD t) 1 (t ∷ ts) then m else 0)
       go true e = few (leb-true m mostSeats e) (eqb m seats) refl
       go false e = unlike (λ z. omega (arith, leb-false m mostSeats e, few-seats seats t se))
-
-pub exactly-want : (n : ℕ) (ts : List (List Literal)) → 1 ≤ n → n ≤ mostSeats → isExactlyOne n ts ≡ eqb (wantOfTerms ts) n
-exactly-want n ts least most = wanted (length ts) n (length ts) n (λ c. isTerms c (termD ts) 1 ts) least most (λ s. s) (λ s. s)

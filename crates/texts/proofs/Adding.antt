@@ -11,7 +11,7 @@ use lib.ListN.{length}
 use Rattle.card.specs.Limits.{topShared, mostShared, mostBranches}
 use Rattle.card.specs.Card.{Relation, is, isnt, Leaf, atom, neg, and, or, Guard, Branch, Shared}
 use Rattle.card.specs.Valid.{Level, loose, middle, tight, size, Every, ValidLeaf, ValidLeaves, ValidGuard, ValidSet, ValidBranch, ValidShared}
-use Rattle.phrases.specs.Phrases.{Text, _▸_, counted}
+use Rattle.phrases.specs.Phrases.{Text, counted}
 use Rattle.phrases.proofs.Adds.{Adds, adds-then, adds-up, adds-none, adds-bytes, adds-state}
 use Rattle.texts.specs.Shared.{Brackets, hasAnd, hasOr, opening, closing, formulaText, formulaOr, more, summed, tailText, declaration, sharedText, setText, setLast}
 use Rattle.texts.specs.Lengths.{mostLeaves, testMost, branchesMost, tailMost, declarationMost, setMost}

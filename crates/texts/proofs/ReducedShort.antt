@@ -1,7 +1,6 @@
 -- How long the reduced text of a valid card can be: states have one digit, numbers of seats two, and of all that repeats there is at most
 -- so much. Assumes nothing.
 use Prim.Native.Nat.{ℕ, zero, suc, _+_, _-_, _*_, _≤_}
-use mathlib.Core.Path.{_≡_}
 use mathlib.Core.Bool.{Bool, true, false}
 use mathlib.Core.List.{List, [], _∷_, map}
 use mathlib.Core.Option.{Option, none, some}

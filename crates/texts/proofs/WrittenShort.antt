@@ -1,7 +1,6 @@
 -- How long the written form of a valid card can be, by its seats and the number of its statements: states have one digit, numbers of
 -- seats two, and the bounds of all pieces are added up. Assumes nothing.
 use Prim.Native.Nat.{ℕ, zero, suc, _+_, _-_, _*_, _≤_}
-use mathlib.Core.Path.{_≡_, refl}
 use mathlib.Core.List.{List, [], _∷_}
 use native.Mathlib.Nat.{suc-mul, mul-le-mul-right, le-trans}
 use native.Mathlib.Omega.{arith}

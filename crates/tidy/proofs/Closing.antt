@@ -13,11 +13,11 @@ use Rattle.room.specs.Room.{clip}
 use Rattle.room.proofs.Laws.{clip-one, clip-append, clip-fits, clip-start, length-clip}
 use Rattle.byte_blocks.proofs.Clips.{take-before, drop-behind, clip-clip}
 use Rattle.tidying.specs.Tidied.{tidyText, zeroed, lentAfter}
-use Rattle.live_rows.specs.LiveRows.{liveRows}
+use Rattle.gathering.specs.LiveRows.{liveRows}
 use Rattle.gathering.specs.LiveText.{rowsIn, rowsStay, bodiesStay, Offsets, Ahead, Gatherable}
 use Rattle.gathering.proofs.Ahead.{ahead-from, ahead-sound, same-rows}
-use Rattle.live_contents.specs.Kept.{keptRows}
-use Rattle.live_contents.proofs.KeptDeck.{kept-long, kept-rows, live-again, ahead-kept, same-bodies}
+use Rattle.gathering.specs.Kept.{keptRows}
+use Rattle.gathering.proofs.KeptDeck.{kept-long, kept-rows, live-again, ahead-kept, same-bodies}
 use Rattle.tidy.specs.Tidies.{Measured}
 use Rattle.tidy.proofs.LiveDeck.{few-rows, bodies-long, rows-long, all-ahead, tidy-text}
 

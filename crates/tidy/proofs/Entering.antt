@@ -18,8 +18,8 @@ use Rattle.deck_entries.proofs.Laws.{verdict-refused, verdict-fine}
 use Rattle.room.specs.declared.Answer.the-variants.{Done, Refused}
 use Rattle.tidying.specs.Tidying.{liveSaid, tidySaid, liveEntries}
 use Rattle.tidying.specs.Tidied.{liveCards, lentAfter, Tidiable}
-use Rattle.live_rows.specs.LiveRows.{Measures}
-use Rattle.live_rows.specs.declared.Live.{Live}
+use Rattle.gathering.specs.LiveRows.{Measures}
+use Rattle.gathering.specs.declared.Live.{Live}
 use Rattle.tidy.specs.Tidies.{Tidied, Measured}
 use Rattle.tidy.proofs.LiveDeck.{cards-count}
 

@@ -11,14 +11,14 @@ use Rattle.deck.specs.Contents.{Row, rowOf, rowsOf, endOf, countOf, entriesFrom
 use Rattle.deck.specs.Deck.{liveOf, entryOf, rowsFor, rowsText, bodies, deckText}
 use Rattle.deck.specs.Sound.{Sound}
 use Rattle.deck.proofs.Judged.{SoundRows, measured, sound-rest}
-use Rattle.deck_text.proofs.Putting.{rows-before}
+use Rattle.deck_writer.proofs.Putting.{rows-before}
 use Rattle.deck_written.proofs.Entries.{length-rows}
 use Rattle.deck_written.specs.WriteDeckSaid.{sizes, linesFor}
 use Rattle.mending.proofs.Mended.{KeptRow}
-use Rattle.mended_deck.proofs.Text.{lines-for, sizes-are}
+use Rattle.mended_rooms.proofs.Text.{lines-for, sizes-are}
 use Rattle.tidying.specs.Tidied.{liveCards, tidyText}
-use Rattle.live_rows.specs.LiveRows.{liveRows}
-use Rattle.live_rows.proofs.Entries.{live-held, live-sizes}
+use Rattle.gathering.specs.LiveRows.{liveRows}
+use Rattle.gathering.proofs.Entries.{live-held, live-sizes}
 use Rattle.gathering.specs.LiveText.{rowsStay, bodiesStay, Ahead}
 use Rattle.gathering.proofs.Ahead.{ahead-sound, size-most}
 

@@ -10,7 +10,7 @@ use Rattle.deck.specs.Sound.{Sound}
 use Rattle.deck_written.specs.WriteDeckSaid.{sizes}
 use Rattle.room.specs.declared.Answer.{Answer}
 use Rattle.room.specs.Answer.{told}
-use Rattle.live_rows.specs.LiveRows.{liveRows}
+use Rattle.gathering.specs.LiveRows.{liveRows}
 
 -- the deck `was` became `is`; bytes past the new length are zero
 abbrev pub Tidied : (was is : List ℕ) → Said (List ℕ) → Answer → Type 0

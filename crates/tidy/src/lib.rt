@@ -1,14 +1,14 @@
 // A box tidied within the lent deck: withdrawn entries dropped, gaps closed (document 02, 2026-12).
+use boxes::judge_deck;
 use card::Verdict;
 use card::limits::COUNT_BYTES;
 use card::limits::ENTRY_BYTES;
 use card::refusals::NO_LIVE_CARD;
-use contents::judge_deck;
 use deck_entries::wide;
 use gathering::gather_bodies;
 use gathering::gather_rows;
-use live_contents::keep_rows;
-use live_rows::measure_live;
+use gathering::keep_rows;
+use gathering::measure_live;
 use room::Answer;
 use shifting::clear_from;
 ghost use mathlib.Core.Path.{_≡_};

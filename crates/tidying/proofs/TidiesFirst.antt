@@ -13,8 +13,8 @@ use Rattle.rows.specs.Said.{cardSaid}
 use Rattle.deck.specs.Deck.{Entry, heldBy, Bytes}
 use Rattle.deck.specs.Given.{NoLive}
 use Rattle.deck.proofs.Lookups.{find-none}
-use Rattle.tidying.specs.Tidying.{isLiveEntry, liveEntries, liveSaid, addedText, placeSaid, addSaid}
-use Rattle.tidying.specs.Tidied.{liveCards, tidyText, textWith, zeroed, lentAfter, Tidiable, TidiedDeck}
+use Rattle.tidying.specs.Tidying.{isLiveEntry, liveEntries, addedText, placeSaid, addSaid}
+use Rattle.tidying.specs.Tidied.{liveCards, tidyText, zeroed, lentAfter, Tidiable, TidiedDeck}
 use Rattle.tidying.proofs.Gap.{gap-held}
 use Rattle.tidying.proofs.Live.{kept-pass, kept-all}
 use Rattle.tidying.proofs.NewDecks.{tidied-deck}
@@ -65,9 +65,6 @@ module _ (number : ℕ) (card : List ℕ) where
 module _ (deck : List ℕ) (b : Bytes deck) (t : Tidiable deck) (number : ℕ) (free : NoLive deck number) (card : List ℕ) where
   abbrev tidied : List ℕ
   tidied = lentAfter (tidyText deck) deck
-
-  pub same-text : textWith tidied number card ≡ textWith deck number card
-  same-text = ap (addedText number card) (same-live deck b t)
 
   pub same-said : addSaid tidied number card ≡ addSaid deck number card
   same-said =

@@ -2,12 +2,12 @@
 -- stages, since no two stages share a number. Assumes nothing.
 use Prim.Native.Nat.{ℕ, _≤_}
 use mathlib.Core.Path.{_≡_, refl}
-use mathlib.Core.Logic.{_↔_, _⊎_, inl, inr}
+use mathlib.Core.Logic.{_⊎_, inl, inr}
 use mathlib.Core.List.{List, _++_}
 use native.Mathlib.Omega.{arith}
 use Rattle.card.specs.Refusals.{wrongSeats, seatAboveTop, roomTooSmall, wrongClasses, decimalWeight}
 use Rattle.card.specs.Card.{Card}
-use Rattle.entry.specs.Said.{Said, refused, _>>=_}
+use Rattle.entry.specs.Said.{Said, refused}
 use Rattle.entry.specs.Numbers.{Numbers, only}
 use Rattle.entry.specs.Contract.{Enters, inRoom, stored, Faithful, InRoom}
 use Rattle.entry.specs.Stage.{Stage}

@@ -13,8 +13,8 @@ use borrow.Author.Tests.{eq-eqb, ne-eqb}
 use lib.Dec.{eqb}
 use lib.ListN.{length, getD, set, take, length-set}
 use lib.Seq.{getD-set-same, getD-set-other}
-use Rattle.card.specs.Limits.{mostSeats, topState, topShared, mostStates, mostShared, mostNodes, unit}
-use Rattle.card.specs.Card.{Mode, nondeterministic, probabilistic, Guard, Shared, Statement, Card}
+use Rattle.card.specs.Limits.{mostSeats, topState, mostStates, mostShared, mostNodes, unit}
+use Rattle.card.specs.Card.{Mode, nondeterministic, probabilistic, Guard, Shared}
 use Rattle.card.specs.Valid.{Every, valuesOf, ValidShared, ValidStatement}
 use Rattle.card.specs.Laid.{zeros, guardOf, statementOf}
 use Rattle.card.specs.Rows.{rowOf}

@@ -8,11 +8,10 @@ use borrow.Author.Needs.{needs}
 use native.Mathlib.Omega.{arith}
 use native.Mathlib.Nat.{mul-le-mul}
 use mathlib.Core.Logic.{⊎-elim}
-use mathlib.Core.Path.{_≡_, refl, sym, ap, _∙_}
+use mathlib.Core.Path.{_≡_, refl, _∙_}
 use Prim.Native.Nat.{ℕ, _≤_, _<_, _+_, _-_, _*_, _^_}
 use Rattle.added_weights.proofs.add_stays.Statement.{statement}
 use Rattle.added_weights.proofs.add_stays.Tie as tie
-use Rattle.added_weights.proofs.add_stays.Reads as reads
 
 abbrev Inv-loop : tie.InvT-loop
 Inv-loop stays₀ own able shared branches i many from j₀ stays j = (j ≤ many) × (stays ≡ addedStays shared own able (branchesIn branches i j) stays₀) × ((t : ℕ) → getD stays t 0 ≤ heaviest + j * (mostSeats * 2 ^ 32))

@@ -7,11 +7,10 @@ use lib.ListN.{getD}
 use borrow.Author.Needs.{needs}
 use native.Mathlib.Omega.{arith}
 use native.Mathlib.Nat.{mul-le-mul}
-use mathlib.Core.Path.{_≡_, refl, sym, ap, _∙_}
+use mathlib.Core.Path.{_≡_, refl}
 use Prim.Native.Nat.{ℕ, _≤_, _+_, _-_, _*_, _^_}
 use Rattle.added_weights.proofs.add_weights.Statement.{statement}
 use Rattle.added_weights.proofs.add_weights.Tie as tie
-use Rattle.added_weights.proofs.add_weights.Reads as reads
 
 abbrev Inv-loop : tie.InvT-loop
 Inv-loop row₀ able shared branches i many from j₀ row j = (j ≤ many) × (row ≡ added shared able (branchesIn branches i j) row₀) × ((t : ℕ) → getD row t 0 ≤ heaviest + j * (mostSeats * 2 ^ 32))

@@ -1,6 +1,5 @@
 -- `answers::is_largest` meets its contract: by whether the number is 0. Assumes nothing.
 use borrow.Author.Tests.{eq-eqb, ne-eqb}
-use borrow.Author.Needs.{needs}
 use Rattle.answers.proofs.is_largest.Statement.{statement}
 use Rattle.answers.proofs.is_largest.Tie as tie
 

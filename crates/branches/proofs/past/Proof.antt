@@ -1,6 +1,5 @@
 -- `branches::past` meets its contract: one branch too many is past the limit where it starts with a number, and else a stop. Assumes nothing.
 use Rattle.branches.proofs.BranchLaws.{number-past, decimal-past, none-past}
-use borrow.Author.Needs.{needs}
 use Rattle.branches.proofs.past.Statement.{statement}
 use Rattle.branches.proofs.past.Tie as tie
 

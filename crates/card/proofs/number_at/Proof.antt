@@ -4,8 +4,6 @@ use mathlib.Core.Path.{sym}
 use borrow.Author.Needs.{needs}
 use Rattle.card.proofs.number_at.Statement.{statement}
 use Rattle.card.proofs.number_at.Tie as tie
-use Rattle.card.proofs.number_at.Reads as reads
-use Rattle.card.proofs.number_at.Lts as lts
 
 -- src/lib.rt:51:16
 mul-result : tie.Need-mul-result

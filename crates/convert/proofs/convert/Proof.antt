@@ -4,7 +4,6 @@ use native.Mathlib.Omega.{arith}
 use borrow.Author.Needs.{needs}
 use Rattle.room.proofs.Entries.{entered-refused}
 use Rattle.convert.proofs.Storing.{wrong-deck, sound-deck, named, notes-count, notes-fit, notes-ready}
-use borrow.Author.Needs.{needs}
 use Rattle.convert.proofs.convert.Statement.{statement}
 use Rattle.convert.proofs.convert.Tie as tie
 

@@ -1,7 +1,6 @@
 -- `convert::put_body` meets its contract: by its note it is the part of the deck, or the written form. Assumes nothing.
 use borrow.Author.Needs.{needs}
-use Rattle.converted_notes.proofs.Entry.{in-deck, stays-put, form-put, form-fits}
-use borrow.Author.Needs.{needs}
+use Rattle.convert.proofs.Entry.{in-deck, stays-put, form-put, form-fits}
 use Rattle.convert.proofs.put_body.Statement.{statement}
 use Rattle.convert.proofs.put_body.Tie as tie
 

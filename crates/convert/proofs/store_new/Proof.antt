@@ -1,7 +1,6 @@
 -- `convert::store_new` meets its contract: count, rows and bodies, one behind the other, are the new deck. Assumes nothing.
 use borrow.Author.Needs.{needs}
 use Rattle.convert.proofs.Storing.{small-room, each, sizes-fit-at, bodies-fit, new-put}
-use borrow.Author.Needs.{needs}
 use Rattle.convert.proofs.store_new.Statement.{statement}
 use Rattle.convert.proofs.store_new.Tie as tie
 

@@ -1,5 +1,7 @@
 -- `converted_card::note_of_card` meets its contract: by the new rule, else by the old one and the length of the written form. Assumes nothing.
+use Prim.Native.Nat.{_<_}
 use mathlib.Core.Path.{sym}
+use Rattle.card.specs.Limits.{cardBytes}
 use Rattle.card.proofs.HeldIn.{holds-branches}
 use Rattle.converted_card.proofs.Reading.{taken-in, left-none, note-stays, note-none, note-long, note-written}
 use Rattle.outline.proofs.ReadInto.{arrays-none}
@@ -51,13 +53,23 @@ written-length-requires c κs =
     let at-read-under2 = at-enum-told3 .before .before in
     taken-in (at-read-under2 .read-under2 .ensures) (at-enum-told3 .enum-told3 .given .1) .holds
 
-returns-3 : tie.Need-returns-3
-returns-3 c =
+-- only a written form past a card's limit has no note
+abbrev OnlyLong : Type 0
+OnlyLong = (c : tie.Then1) → cardBytes < c .before .written-length .result
+
+only-long : OnlyLong
+only-long c = c .if1 .taken
+
+none-past : OnlyLong → tie.Need-returns-3
+none-past only-long c =
     let at-enum-told3 = c .before .before .before .before .before in
     let at-read-under2 = at-enum-told3 .before .before in
     let at-enum-told2 = at-read-under2 .before .before .before .before in
     let at-read-under = at-enum-told2 .before .before in
-    note-long _ (at-read-under .read-under .ensures) (at-enum-told2 .enum-told2 .given .1) (at-read-under2 .read-under2 .ensures) (at-enum-told3 .enum-told3 .given .1) (c .before .written-length .ensures) (c .if1 .taken)
+    note-long _ (at-read-under .read-under .ensures) (at-enum-told2 .enum-told2 .given .1) (at-read-under2 .read-under2 .ensures) (at-enum-told3 .enum-told3 .given .1) (c .before .written-length .ensures) (only-long c)
+
+returns-3 : tie.Need-returns-3
+returns-3 = none-past only-long
 
 add-result : tie.Need-add-result
 add-result c = omega (arith, c .if1 .left)

@@ -4,7 +4,7 @@ use mathlib.Core.Path.{_≡_}
 use native.Mathlib.Omega.{arith}
 use lib.ListN.{length}
 use Rattle.card.specs.Limits.{deckBytes}
-use Rattle.deck_text.specs.Parts.{DeckPut}
+use Rattle.deck_writer.specs.Parts.{DeckPut}
 use Rattle.room.proofs.Entries.{entered-refused}
 use Rattle.deck_writer.proofs.Entering.{few-entries, long-is, other-length, too-long, is-fine, small-room, stored}
 use borrow.Author.Needs.{needs}

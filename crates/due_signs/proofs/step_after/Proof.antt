@@ -5,12 +5,6 @@ use mathlib.Core.Path.{sym, _∙_}
 use borrow.Author.Needs.{needs}
 use Rattle.due_signs.proofs.step_after.Statement.{statement}
 use Rattle.due_signs.proofs.step_after.Tie as tie
-use Rattle.due_signs.proofs.step_after.Reads as reads
-use Rattle.due_signs.proofs.step_after.Lts as lts
-use Rattle.marks.proofs.answer.bare.Reads as bare-reads
-use Rattle.due_signs.proofs.step_arrow.Reads as step-arrow-reads
-use Rattle.looks.proofs.look.past_blank.Reads as past-blank-reads
-use Rattle.looks.proofs.look.sign_here.Reads as sign-here-reads
 
 sign-here-requires : tie.Need-sign-here-requires
 sign-here-requires c κs = search needs

@@ -5,11 +5,6 @@ use mathlib.Core.Path.{sym, _∙_}
 use borrow.Author.Needs.{needs}
 use Rattle.due_signs.proofs.step_and.Statement.{statement}
 use Rattle.due_signs.proofs.step_and.Tie as tie
-use Rattle.due_signs.proofs.step_and.Reads as reads
-use Rattle.due_signs.proofs.step_and.Lts as lts
-use Rattle.due_signs.proofs.step_from.Reads as step-from-reads
-use Rattle.looks.proofs.look.sign_here.Reads as sign-here-reads
-use Rattle.marks.proofs.answer.bare.Reads as bare-reads
 
 sign-here-requires : tie.Need-sign-here-requires
 sign-here-requires c κs = search needs

@@ -8,12 +8,6 @@ use Rattle.looks.proofs.Quick.{arrow-step, past-step}
 use borrow.Author.Needs.{needs}
 use Rattle.due_signs.proofs.step_arrow.Statement.{statement}
 use Rattle.due_signs.proofs.step_arrow.Tie as tie
-use Rattle.due_signs.proofs.step_arrow.Reads as reads
-use Rattle.due_signs.proofs.step_arrow.Lts as lts
-use Rattle.marks.proofs.answer.bare.Reads as bare-reads
-use Rattle.letters.proofs.bytes.stands.Reads as stands-reads
-use Rattle.due_signs.proofs.step_from.Reads as step-from-reads
-use Rattle.looks.proofs.look.past_blank.Reads as past-blank-reads
 
 past-blank-requires : tie.Need-past-blank-requires
 past-blank-requires c κs = search needs

@@ -5,12 +5,6 @@ use mathlib.Core.Path.{sym, _∙_}
 use borrow.Author.Needs.{needs}
 use Rattle.due_signs.proofs.step_guard.Statement.{statement}
 use Rattle.due_signs.proofs.step_guard.Tie as tie
-use Rattle.due_signs.proofs.step_guard.Reads as reads
-use Rattle.due_signs.proofs.step_guard.Lts as lts
-use Rattle.due_signs.proofs.step_arrow.Reads as step-arrow-reads
-use Rattle.looks.proofs.look.past_blank.Reads as past-blank-reads
-use Rattle.looks.proofs.look.sign_here.Reads as sign-here-reads
-use Rattle.marks.proofs.answer.bare.Reads as bare-reads
 
 past-blank-requires : tie.Need-past-blank-requires
 past-blank-requires c κs = search needs

@@ -5,12 +5,6 @@ use Rattle.looks.proofs.Quick.{sign-place, sign-step, past-step}
 use borrow.Author.Needs.{needs}
 use Rattle.due_signs.proofs.step_sign.Statement.{statement}
 use Rattle.due_signs.proofs.step_sign.Tie as tie
-use Rattle.due_signs.proofs.step_sign.Reads as reads
-use Rattle.due_signs.proofs.step_sign.Lts as lts
-use Rattle.marks.proofs.answer.bare.Reads as bare-reads
-use Rattle.due_signs.proofs.step_from.Reads as step-from-reads
-use Rattle.looks.proofs.look.past_blank.Reads as past-blank-reads
-use Rattle.looks.proofs.look.sign_here.Reads as sign-here-reads
 
 past-blank-requires : tie.Need-past-blank-requires
 past-blank-requires c κs = search needs

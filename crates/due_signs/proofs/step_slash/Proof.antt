@@ -8,12 +8,6 @@ use mathlib.Core.Path.{sym, _∙_}
 use borrow.Author.Needs.{needs}
 use Rattle.due_signs.proofs.step_slash.Statement.{statement}
 use Rattle.due_signs.proofs.step_slash.Tie as tie
-use Rattle.due_signs.proofs.step_slash.Reads as reads
-use Rattle.due_signs.proofs.step_slash.Lts as lts
-use Rattle.due_signs.proofs.step_sign.Reads as step-sign-reads
-use Rattle.looks.proofs.look.past_blank.Reads as past-blank-reads
-use Rattle.marks.proofs.answer.bare.Reads as bare-reads
-use Rattle.letters.proofs.bytes.stands.Reads as stands-reads
 
 past-blank-requires : tie.Need-past-blank-requires
 past-blank-requires c κs = search needs

@@ -5,12 +5,6 @@ use native.Mathlib.Omega.{arith}
 use borrow.Author.Needs.{needs}
 use Rattle.due_signs.proofs.step_square.Statement.{statement}
 use Rattle.due_signs.proofs.step_square.Tie as tie
-use Rattle.due_signs.proofs.step_square.Reads as reads
-use Rattle.due_signs.proofs.step_square.Lts as lts
-use Rattle.marks.proofs.answer.bare.Reads as bare-reads
-use Rattle.due_signs.proofs.step_from.Reads as step-from-reads
-use Rattle.looks.proofs.look.past_line.Reads as past-line-reads
-use Rattle.looks.proofs.look.sign_here.Reads as sign-here-reads
 
 past-line-requires : tie.Need-past-line-requires
 past-line-requires c κs = search needs

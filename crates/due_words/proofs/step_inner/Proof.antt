@@ -5,12 +5,6 @@ use Rattle.looks.proofs.Quick.{seat-room, seat-step, past-step}
 use borrow.Author.Needs.{needs}
 use Rattle.due_words.proofs.step_inner.Statement.{statement}
 use Rattle.due_words.proofs.step_inner.Tie as tie
-use Rattle.due_words.proofs.step_inner.Reads as reads
-use Rattle.due_words.proofs.step_inner.Lts as lts
-use Rattle.due_signs.proofs.step_opening.Reads as step-opening-reads
-use Rattle.looks.proofs.look.past_blank.Reads as past-blank-reads
-use Rattle.looks.proofs.look.seat_here.Reads as seat-here-reads
-use Rattle.marks.proofs.answer.valued.Reads as valued-reads
 
 seat-here-requires : tie.Need-seat-here-requires
 seat-here-requires c κs = search needs

@@ -5,12 +5,6 @@ use Rattle.looks.proofs.Quick.{digit-place, digit-step, past-step}
 use borrow.Author.Needs.{needs}
 use Rattle.due_words.proofs.step_number.Statement.{statement}
 use Rattle.due_words.proofs.step_number.Tie as tie
-use Rattle.due_words.proofs.step_number.Reads as reads
-use Rattle.due_words.proofs.step_number.Lts as lts
-use Rattle.marks.proofs.answer.valued.Reads as valued-reads
-use Rattle.due_signs.proofs.step_from.Reads as step-from-reads
-use Rattle.word_and_digit_looks.proofs.digit_here.Reads as digit-here-reads
-use Rattle.looks.proofs.look.past_blank.Reads as past-blank-reads
 
 digit-here-requires : tie.Need-digit-here-requires
 digit-here-requires c κs = search needs

@@ -5,12 +5,6 @@ use Rattle.looks.proofs.Quick.{process-room, process-step, past-step}
 use borrow.Author.Needs.{needs}
 use Rattle.due_words.proofs.step_process.Statement.{statement}
 use Rattle.due_words.proofs.step_process.Tie as tie
-use Rattle.due_words.proofs.step_process.Reads as reads
-use Rattle.due_words.proofs.step_process.Lts as lts
-use Rattle.due_signs.proofs.step_from.Reads as step-from-reads
-use Rattle.looks.proofs.look.past_blank.Reads as past-blank-reads
-use Rattle.looks.proofs.look.process_here.Reads as process-here-reads
-use Rattle.marks.proofs.answer.valued.Reads as valued-reads
 
 past-blank-requires : tie.Need-past-blank-requires
 past-blank-requires c κs = search needs

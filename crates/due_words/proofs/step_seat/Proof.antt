@@ -5,13 +5,6 @@ use mathlib.Core.Path.{sym, _∙_}
 use borrow.Author.Needs.{needs}
 use Rattle.due_words.proofs.step_seat.Statement.{statement}
 use Rattle.due_words.proofs.step_seat.Tie as tie
-use Rattle.due_words.proofs.step_seat.Reads as reads
-use Rattle.due_words.proofs.step_seat.Lts as lts
-use Rattle.due_signs.proofs.step_from.Reads as step-from-reads
-use Rattle.looks.proofs.look.past_blank.Reads as past-blank-reads
-use Rattle.looks.proofs.look.seat_here.Reads as seat-here-reads
-use Rattle.looks.proofs.look.teen_here.Reads as teen-here-reads
-use Rattle.marks.proofs.answer.valued.Reads as valued-reads
 
 seat-here-requires : tie.Need-seat-here-requires
 seat-here-requires c κs = search needs

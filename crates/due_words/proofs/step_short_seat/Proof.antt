@@ -5,12 +5,6 @@ use Rattle.looks.proofs.Quick.{seat-room, seat-step, past-step}
 use borrow.Author.Needs.{needs}
 use Rattle.due_words.proofs.step_short_seat.Statement.{statement}
 use Rattle.due_words.proofs.step_short_seat.Tie as tie
-use Rattle.due_words.proofs.step_short_seat.Reads as reads
-use Rattle.due_words.proofs.step_short_seat.Lts as lts
-use Rattle.marks.proofs.answer.valued.Reads as valued-reads
-use Rattle.due_signs.proofs.step_from.Reads as step-from-reads
-use Rattle.looks.proofs.look.past_blank.Reads as past-blank-reads
-use Rattle.looks.proofs.look.seat_here.Reads as seat-here-reads
 
 past-blank-requires : tie.Need-past-blank-requires
 past-blank-requires c κs = search needs

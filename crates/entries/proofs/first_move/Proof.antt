@@ -1,6 +1,6 @@
 -- `entries::first_move` meets its contract: the first refusal of card and seats, or what the walk finds. Assumes nothing.
 use Rattle.entries.proofs.MoveStages.{move-refused, few, answered}
-use Rattle.first_able.specs.Moved.{moved}
+use Rattle.able_seats.specs.Moved.{moved}
 use Rattle.outline.proofs.ReadInto.{arrays-none}
 use mathlib.Core.Path.{sym, ap, _∙_}
 use borrow.Author.Needs.{needs}

@@ -11,7 +11,6 @@ use Rattle.panel_numbers.specs.Table.{enabledPlace, staysFrom}
 use borrow.Author.Needs.{needs}
 use Rattle.filling.proofs.fill.Statement.{statement}
 use Rattle.filling.proofs.fill.Tie as tie
-use Rattle.filling.proofs.fill.Reads as reads
 
 count-seats-requires : tie.Need-count-seats-requires
 count-seats-requires c κs = search needs

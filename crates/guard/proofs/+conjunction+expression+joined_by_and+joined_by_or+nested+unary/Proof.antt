@@ -1,6 +1,6 @@
 -- The readers of a guard call each other, with a measure of eight steps for each bracket, `!` and node left. A chain's invariant:
 -- the guard is what was read so far and the chain behind it make (Chaining); its measure is how many nodes are left. Assumes nothing.
-use Prim.Native.Nat.{ℕ, _<_, _+_, _*_, _-_, _^_}
+use Prim.Native.Nat.{ℕ, _<_, _+_, _*_, _-_}
 use mathlib.Core.Path.{refl, sym, ap, _∙_}
 use mathlib.Core.Bool.{true, false}
 use native.Mathlib.Omega.{arith}
@@ -12,9 +12,8 @@ use Rattle.reading.specs.Reader.{at}
 use Rattle.reading.specs.Guard as grammar
 use Rattle.late.specs.State.{leftIn, freeIn, lateIn, after}
 use Rattle.late.proofs.StateLaws.{left-set}
-use Rattle.grouping.specs.Language.{languageOf}
-use Rattle.kept_items.specs.KeptItems.{Ready}
-use Rattle.grouping.specs.Items.{operatorOf}
+use Rattle.items.specs.Language.{languageOf}
+use Rattle.items.specs.Items.{operatorOf}
 use Rattle.items.specs.Pieces.{joiner, unaryIn, chained, thenNot, thenClose}
 use Rattle.guard.proofs.Spent.{keeping}
 use Rattle.guard.proofs.Building.{goes-wrong, goes-on-wrong, not-well, still-sized, spending-ready, read-spending}
@@ -43,7 +42,7 @@ use Rattle.guard.proofs.+conjunction+expression+joined_by_and+joined_by
 use Rattle.items.proofs.keep_item.Reads as keep-item-reads
 use Rattle.packing.proofs.pack_node.Reads as pack-node-reads
 use Rattle.late.proofs.stop.Reads as stop-reads
-use Rattle.kept_items.proofs.store.Reads as store-reads
+use Rattle.items.proofs.store.Reads as store-reads
 use Rattle.due_signs.proofs.step_after.Reads as step-after-reads
 use Rattle.due_signs.proofs.step_opening.Reads as step-opening-reads
 use Rattle.due_signs.proofs.step_sign.Reads as step-sign-reads

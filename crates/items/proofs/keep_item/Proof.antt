@@ -5,16 +5,11 @@ use denote.Ref.{now}
 use mathlib.Core.Path.{_≡_}
 use borrow.Author.Needs.{needs}
 use lib.ListN.{length, take, drop}
-use Rattle.grouping.specs.Language.{languageOf}
-use Rattle.kept_items.specs.KeptItems.{boundBy}
+use Rattle.items.specs.Language.{languageOf}
+use Rattle.items.specs.KeptItems.{boundBy}
 use Rattle.items.proofs.Opening.{step-within, part-is, part-placed, no-bracket, no-item, item-kept}
 use Rattle.items.proofs.keep_item.Statement.{statement}
 use Rattle.items.proofs.keep_item.Tie as tie
-use Rattle.items.proofs.keep_item.Reads as reads
-use Rattle.items.proofs.keep_item.Lts as lts
-use Rattle.grouping.proofs.item.Reads as item-reads
-use Rattle.kept_items.proofs.lay.Reads as lay-reads
-use Rattle.due_signs.proofs.step_opening.Reads as step-opening-reads
 
 step-opening-requires : tie.Need-step-opening-requires
 step-opening-requires c κs = search needs

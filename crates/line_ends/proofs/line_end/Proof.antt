@@ -9,8 +9,6 @@ use mathlib.Core.Bool.{not}
 use mathlib.Core.Path.{_≡_, refl, sym, ap, _∙_}
 use Rattle.line_ends.proofs.line_end.Statement.{statement}
 use Rattle.line_ends.proofs.line_end.Tie as tie
-use Rattle.line_ends.proofs.line_end.Reads as reads
-use Rattle.line_ends.proofs.line_end.Lts as lts
 
 abbrev Inv-loop : tie.InvT-loop
 Inv-loop card from at₀ at = runEnd notLF card from ≡ runEnd notLF card at

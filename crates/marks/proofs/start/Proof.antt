@@ -14,16 +14,6 @@ use Rattle.marks_on_a_card.proofs.StartLaws.{letter-starts, digit-starts, sign-
 use borrow.Author.Needs.{needs}
 use Rattle.marks.proofs.start.Statement.{statement}
 use Rattle.marks.proofs.start.Tie as tie
-use Rattle.marks.proofs.start.Reads as reads
-use Rattle.marks.proofs.start.Lts as lts
-use Rattle.marks.proofs.answer.bare.Reads as bare-reads
-use Rattle.letters.proofs.bytes.is_alone.Reads as is-alone-reads
-use Rattle.letters.proofs.bytes.is_digit.Reads as is-digit-reads
-use Rattle.letters.proofs.bytes.is_letter.Reads as is-letter-reads
-use Rattle.bytes_as_numbers.proofs.wide.Reads as wide-reads
-use Rattle.marks.proofs.number.numeral.Reads as numeral-reads
-use Rattle.marks.proofs.sign.sign.Reads as sign-reads
-use Rattle.marks.proofs.word.word.Reads as word-reads
 
 is-alone-requires : tie.Need-is-alone-requires
 is-alone-requires c κs = search needs

@@ -2,13 +2,10 @@
 use Prim.Native.Nat.{_≤_, _-_}
 use mathlib.Core.Path.{_≡_, refl}
 use lib.ListN.{length}
-use native.Mathlib.Omega.{arith}
 use borrow.Author.Needs.{needs}
 use Rattle.outline.proofs.Cleared.{cleared, cleared-none, cleared-next, cleared-all}
 use Rattle.outline.proofs.clear.Statement.{statement}
 use Rattle.outline.proofs.clear.Tie as tie
-use Rattle.outline.proofs.clear.Reads as reads
-use Rattle.outline.proofs.clear.Lts as lts
 
 abbrev Inv-loop : tie.InvT-loop
 Inv-loop array₀ i₀ array i = (i ≤ length array₀) × (length array ≡ length array₀) × (array ≡ cleared array₀ i)

@@ -2,13 +2,10 @@
 use Prim.Native.Nat.{_≤_, _-_}
 use mathlib.Core.Path.{_≡_, refl}
 use lib.ListN.{length}
-use native.Mathlib.Omega.{arith}
 use borrow.Author.Needs.{needs}
 use Rattle.outline.proofs.Cleared.{cleared, cleared-none, cleared-next, cleared-all}
 use Rattle.outline.proofs.clear_rows.Statement.{statement}
 use Rattle.outline.proofs.clear_rows.Tie as tie
-use Rattle.outline.proofs.clear_rows.Reads as reads
-use Rattle.outline.proofs.clear_rows.Lts as lts
 
 abbrev Inv-loop : tie.InvT-loop
 Inv-loop rows₀ i₀ rows i = (i ≤ length rows₀) × (length rows ≡ length rows₀) × (rows ≡ cleared rows₀ i)

@@ -2,8 +2,6 @@
 use borrow.Author.Needs.{needs}
 use Rattle.outline.proofs.refused.Statement.{statement}
 use Rattle.outline.proofs.refused.Tie as tie
-use Rattle.outline.proofs.refused.Reads as reads
-use Rattle.outline.proofs.refused.Lts as lts
 
 cast-t5 : tie.Need-cast-t5
 cast-t5 c = search needs

@@ -1,11 +1,8 @@
 -- By whether the number is the one due. Assumes nothing.
-use mathlib.Core.Path.{_≡_, ap, _∙_, sym}
-use borrow.Author.Tests.{eq-eqb, ne-eqb}
+use mathlib.Core.Path.{ap, _∙_}
 use Rattle.late.proofs.StateLaws.{late-same}
 use Rattle.late.specs.State.{lateIn, withLate}
-use Rattle.parts.specs.Parts.{wordBy}
 use Rattle.parts.proofs.Lines.{word-due, word-not-due}
-use borrow.Author.Needs.{needs}
 use Rattle.parts.proofs.judge_word.Statement.{statement}
 use Rattle.parts.proofs.judge_word.Tie as tie
 

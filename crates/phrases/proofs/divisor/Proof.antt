@@ -1,16 +1,13 @@
 -- `phrases::divisor` meets its contract: a round of the division keeps the greatest common divisor, and the second number falls. Assumes nothing.
 use Rattle.phrases.proofs.Lowest.{round, round-last, divisor-rounds, divisor-positive}
 use Rattle.phrases.specs.Phrases.{divisor, gcd}
-use Rattle.card.specs.Limits.{unit}
-use mathlib.Core.Path.{_≡_, refl, sym, _∙_}
+use mathlib.Core.Path.{_≡_, sym, _∙_}
 use native.Mathlib.Omega.{arith}
 use native.Mathlib.Nat.{mod-lt}
-use Prim.Native.Nat.{ℕ, suc, _≤_, _<_, _%_}
+use Prim.Native.Nat.{suc}
 use borrow.Author.Needs.{needs}
 use Rattle.phrases.proofs.divisor.Statement.{statement}
 use Rattle.phrases.proofs.divisor.Tie as tie
-use Rattle.phrases.proofs.divisor.Reads as reads
-use Rattle.phrases.proofs.divisor.Lts as lts
 
 abbrev Inv-loop : tie.InvT-loop
 Inv-loop units a₀ b₀ a b = divisor units ≡ gcd (suc b) a b

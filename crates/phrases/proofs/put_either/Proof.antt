@@ -4,9 +4,6 @@ use borrow.Author.Tests.{eq-eqb, ne-eqb}
 use borrow.Author.Needs.{needs}
 use Rattle.phrases.proofs.put_either.Statement.{statement}
 use Rattle.phrases.proofs.put_either.Tie as tie
-use Rattle.phrases.proofs.put_either.Reads as reads
-use Rattle.phrases.proofs.put_either.Lts as lts
-use Rattle.room.proofs.put_bytes.Reads as put-bytes-reads
 
 put-bytes-requires : tie.Need-put-bytes-requires
 put-bytes-requires c κs = search needs

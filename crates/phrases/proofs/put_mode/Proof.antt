@@ -5,9 +5,6 @@ use Rattle.phrases.proofs.Laws.{puts-as, either-text}
 use borrow.Author.Needs.{needs}
 use Rattle.phrases.proofs.put_mode.Statement.{statement}
 use Rattle.phrases.proofs.put_mode.Tie as tie
-use Rattle.phrases.proofs.put_mode.Reads as reads
-use Rattle.phrases.proofs.put_mode.Lts as lts
-use Rattle.phrases.proofs.put_either.Reads as put-either-reads
 
 slice-aggregate-put-either : tie.Need-slice-aggregate-put-either
 slice-aggregate-put-either c = search needs

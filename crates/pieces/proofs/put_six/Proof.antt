@@ -1,88 +1,23 @@
--- `pieces::put_six` meets its contract: where there is place, each byte is stored behind the one before (short_pieces/proofs/Stored.antt). Assumes nothing.
-use lib.ListN.{length-set}
-use native.Mathlib.Omega.{arith}
-use Rattle.short_pieces.proofs.Stored.{put-stored}
+-- `pieces::put_six` meets its contract: one put after the other. Assumes nothing.
+use Rattle.room.proofs.Laws.{then}
 use borrow.Author.Needs.{needs}
 use Rattle.pieces.proofs.put_six.Statement.{statement}
 use Rattle.pieces.proofs.put_six.Tie as tie
 
-sub-if2 : tie.Need-sub-if2
-sub-if2 c = search needs
+put-three-requires : tie.Need-put-three-requires
+put-three-requires c κs = search needs
 
-slice-write-room : tie.Need-slice-write-room
-slice-write-room c = search needs
-
-add-room : tie.Need-add-room
-add-room c = search needs
-
-slice-write-room-2 : tie.Need-slice-write-room-2
-slice-write-room-2 c = simp length-set (omega arith)
-
-add-room-2 : tie.Need-add-room-2
-add-room-2 c = search needs
-
-slice-write-room-3 : tie.Need-slice-write-room-3
-slice-write-room-3 c = simp length-set (omega arith)
-
-add-room-3 : tie.Need-add-room-3
-add-room-3 c = search needs
-
-slice-write-room-4 : tie.Need-slice-write-room-4
-slice-write-room-4 c = simp length-set (omega arith)
-
-add-room-4 : tie.Need-add-room-4
-add-room-4 c = search needs
-
-slice-write-room-5 : tie.Need-slice-write-room-5
-slice-write-room-5 c = simp length-set (omega arith)
-
-add-room-5 : tie.Need-add-room-5
-add-room-5 c = search needs
-
-slice-write-room-6 : tie.Need-slice-write-room-6
-slice-write-room-6 c = simp length-set (omega arith)
-
-add-result : tie.Need-add-result
-add-result c = search needs
+put-three-requires-2 : tie.Need-put-three-requires-2
+put-three-requires-2 c κs = search needs
 
 same-length : tie.Need-same-length
 same-length c = search needs
 
 returns : tie.Need-returns
-returns c = put-stored _ (search needs) (search needs) (search needs)
-
-slice-aggregate-put-run : tie.Need-slice-aggregate-put-run
-slice-aggregate-put-run c = search needs
-
-put-run-requires : tie.Need-put-run-requires
-put-run-requires c κs = search needs
-
-same-length-2 : tie.Need-same-length-2
-same-length-2 c = search needs
-
-returns-2 : tie.Need-returns-2
-returns-2 c = search needs
+returns c =
+    let at-second = c .before .before in
+    let at-first = at-second .before .before .before .before in
+    then (at-first .put-three .ensures) (at-second .put-three2 .ensures)
 
 pub put-six-spec : {M : Type 1} → statement M
-put-six-spec =
-    tie.close
-    (tie.spec
-    sub-if2
-    slice-write-room
-    add-room
-    slice-write-room-2
-    add-room-2
-    slice-write-room-3
-    add-room-3
-    slice-write-room-4
-    add-room-4
-    slice-write-room-5
-    add-room-5
-    slice-write-room-6
-    add-result
-    same-length
-    returns
-    slice-aggregate-put-run
-    put-run-requires
-    same-length-2
-    returns-2)
+put-six-spec = tie.close (tie.spec put-three-requires put-three-requires-2 same-length returns)

@@ -11,10 +11,6 @@ use mathlib.Core.Path.{_≡_, refl}
 use Prim.Native.Nat.{_+_}
 use Rattle.put_numbers.proofs.put_long_number.Statement.{statement}
 use Rattle.put_numbers.proofs.put_long_number.Tie as tie
-use Rattle.put_numbers.proofs.put_long_number.Reads as reads
-use Rattle.put_numbers.proofs.put_long_number.Lts as lts
-use Rattle.room.proofs.after.Reads as after-reads
-use Rattle.put_numbers.proofs.digits.Reads as digits-reads
 
 abbrev Inv-loop : tie.InvT-loop
 Inv-loop room₀ at n k left₀ j₀ room left j = Leads n j left × (length room ≡ length room₀) × (room ≡ clip room₀ (at + j) (drop j (decimal n)))

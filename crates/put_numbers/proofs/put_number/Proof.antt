@@ -3,10 +3,6 @@ use Rattle.room.proofs.Decimal.{decimal-one}
 use borrow.Author.Needs.{needs}
 use Rattle.put_numbers.proofs.put_number.Statement.{statement}
 use Rattle.put_numbers.proofs.put_number.Tie as tie
-use Rattle.put_numbers.proofs.put_number.Reads as reads
-use Rattle.put_numbers.proofs.put_number.Lts as lts
-use Rattle.room.proofs.put_byte.Reads as put-byte-reads
-use Rattle.put_numbers.proofs.put_long_number.Reads as put-long-number-reads
 
 cast-put-byte : tie.Need-cast-put-byte
 cast-put-byte c = search needs

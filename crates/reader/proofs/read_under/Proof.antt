@@ -1,6 +1,6 @@
 -- Too long, or short enough to be read (card_reader). Assumes nothing.
-use Rattle.card_reader.proofs.Outcomes.{read-long}
-use Rattle.card_reader.proofs.CardLaws.{reads-refused}
+use Rattle.reader.proofs.Outcomes.{read-long}
+use Rattle.reader.proofs.CardLaws.{reads-refused}
 use native.Mathlib.Omega.{arith}
 use borrow.Author.Needs.{needs}
 use Rattle.reader.proofs.read_under.Statement.{statement}

@@ -4,13 +4,10 @@ use Rattle.room.proofs.Laws.{clip-none}
 use Rattle.room.specs.Room.{clip}
 use lib.ListN.{length, take}
 use borrow.Author.Needs.{needs}
-use native.Mathlib.Omega.{arith}
 use mathlib.Core.Path.{_≡_, refl, sym}
 use Prim.Native.Nat.{_≤_, _-_}
 use Rattle.room.proofs.put_whole.Statement.{statement}
 use Rattle.room.proofs.put_whole.Tie as tie
-use Rattle.room.proofs.put_whole.Reads as reads
-use Rattle.room.proofs.put_whole.Lts as lts
 
 abbrev Inv-loop : tie.InvT-loop
 Inv-loop room₀ at s i₀ room i = (i ≤ length s) × (length room ≡ length room₀) × (room ≡ clip room₀ at (take i s))

@@ -6,7 +6,6 @@ use Rattle.reading.specs.Reading.{firstOutside}
 use Rattle.marks.specs.Step.{marksAt}
 use lib.ListN.{length}
 use borrow.Author.Needs.{needs}
-use native.Mathlib.Omega.{arith}
 use mathlib.Core.Path.{_≡_, refl, ap, _∙_, sym}
 use denote.Ref.{now}
 use Rattle.search.proofs.search.Statement.{statement}

@@ -1,14 +1,8 @@
 -- `seating::judge_seats` meets its contract: how many there are, then each, then the number behind them. Assumes nothing.
-use Prim.Native.Nat.{ℕ, suc, _-_, _≤_}
-use mathlib.Core.List.{List}
-use mathlib.Core.Path.{_≡_, sym, ap₂, _∙_}
+use mathlib.Core.Path.{sym, ap₂, _∙_}
 use native.Mathlib.Omega.{arith}
 use borrow.Author.Needs.{needs}
-use lib.ListN.{length}
 use lib.Seq.{length-take-le}
-use Rattle.card.specs.Refusals.{wrongSeats}
-use Rattle.card.specs.declared.Verdict.the-variants.{Refused}
-use Rattle.seating.specs.Judged.{judgedSeats}
 use Rattle.seating.specs.FirstRefusal.{firstRefusal}
 use Rattle.seating.proofs.Judging.{judged-other, judged-start, judged-behind, other-length}
 use Rattle.seating.proofs.judge_seats.Statement.{statement}

@@ -2,7 +2,6 @@
 use mathlib.Core.Path.{refl}
 use native.Mathlib.Omega.{arith}
 use Rattle.statements.proofs.StatementLaws.{words-halt, own-halts, guard-halts, branches-halt, statement-read}
-use borrow.Author.Needs.{needs}
 use Rattle.statements.proofs.statement.Statement.{statement}
 use Rattle.statements.proofs.statement.Tie as tie
 

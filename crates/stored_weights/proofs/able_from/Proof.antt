@@ -1,7 +1,5 @@
 -- `stored_weights::able_from` meets its contract, by its test. Assumes nothing.
 use borrow.Author.Tests.{eq-eqb, ne-eqb}
-use native.Mathlib.Omega.{arith}
-use mathlib.Core.Path.{refl, sym, _∙_}
 use borrow.Author.Needs.{needs}
 use Rattle.stored_weights.proofs.able_from.Statement.{statement}
 use Rattle.stored_weights.proofs.able_from.Tie as tie

@@ -4,11 +4,10 @@ use Rattle.panel_numbers.specs.Table.{stays as staysOf}
 use borrow.Author.Needs.{needs}
 use native.Mathlib.Omega.{arith}
 use mathlib.Core.Logic.{⊎-elim}
-use mathlib.Core.Path.{_≡_, refl, sym, _∙_}
+use mathlib.Core.Path.{_≡_, _∙_}
 use Prim.Native.Nat.{_≤_, _-_}
 use Rattle.stored_weights.proofs.stays_of.Statement.{statement}
 use Rattle.stored_weights.proofs.stays_of.Tie as tie
-use Rattle.stored_weights.proofs.stays_of.Reads as reads
 
 abbrev Inv-loop : tie.InvT-loop
 Inv-loop table rows branches count stays₀ i₀ stays i = (i ≤ count) × (stays ≡ staysOf table rows branches i)

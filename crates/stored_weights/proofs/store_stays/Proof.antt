@@ -1,11 +1,9 @@
 -- `stored_weights::store_stays` meets its contract: nothing on a nondeterministic card, and else the weights of no change one after the other. Assumes nothing.
 use Rattle.stored_weights.proofs.Laws.{stays-long, stored, stored-none}
 use native.Mathlib.Omega.{arith}
-use mathlib.Core.Path.{_≡_, refl, sym, _∙_}
-use borrow.Author.Needs.{needs}
+use mathlib.Core.Path.{sym, _∙_}
 use Rattle.stored_weights.proofs.store_stays.Statement.{statement}
 use Rattle.stored_weights.proofs.store_stays.Tie as tie
-use Rattle.stored_weights.proofs.store_stays.Reads as reads
 
 returns : tie.Need-returns
 returns c = stored-none _ _ _ _ _ (c .if1 .taken)

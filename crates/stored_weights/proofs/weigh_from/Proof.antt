@@ -4,11 +4,10 @@ use Rattle.panel_numbers.specs.Table.{rowFrom}
 use borrow.Author.Needs.{needs}
 use native.Mathlib.Omega.{arith}
 use mathlib.Core.Logic.{⊎-elim}
-use mathlib.Core.Path.{_≡_, refl, sym, _∙_}
+use mathlib.Core.Path.{_≡_, _∙_}
 use Prim.Native.Nat.{_≤_, _-_}
 use Rattle.stored_weights.proofs.weigh_from.Statement.{statement}
 use Rattle.stored_weights.proofs.weigh_from.Tie as tie
-use Rattle.stored_weights.proofs.weigh_from.Reads as reads
 
 abbrev Inv-loop : tie.InvT-loop
 Inv-loop row₀ old table rows branches count i₀ row i = (i ≤ count) × (row ≡ rowFrom table rows branches i old)

@@ -6,14 +6,6 @@ use mathlib.Core.Path.{_∙_}
 use borrow.Author.Needs.{needs}
 use Rattle.table.proofs.bound_of.Statement.{statement}
 use Rattle.table.proofs.bound_of.Tie as tie
-use Rattle.table.proofs.bound_of.Reads as reads
-use Rattle.table.proofs.bound_of.Lts as lts
-use Rattle.packing.proofs.kind_of.Reads as kind-of-reads
-use Rattle.packing.proofs.relation_of.Reads as relation-of-reads
-use Rattle.packing.proofs.sign_of.Reads as sign-of-reads
-use Rattle.packing.proofs.state_of.Reads as state-of-reads
-use Rattle.table.proofs.everyone_bound.Reads as everyone-bound-reads
-use Rattle.table.proofs.others_bound.Reads as others-bound-reads
 
 kind-of-requires : tie.Need-kind-of-requires
 kind-of-requires c κs = search needs

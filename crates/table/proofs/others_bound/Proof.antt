@@ -7,12 +7,6 @@ use Rattle.table.specs.Bounds.{boundRow}
 use borrow.Author.Needs.{needs}
 use Rattle.table.proofs.others_bound.Statement.{statement}
 use Rattle.table.proofs.others_bound.Tie as tie
-use Rattle.table.proofs.others_bound.Reads as reads
-use Rattle.table.proofs.others_bound.Lts as lts
-use Rattle.table.proofs.equal_to.Reads as equal-to-reads
-use Rattle.table.proofs.less_than.Reads as less-than-reads
-use Rattle.table.proofs.more_than.Reads as more-than-reads
-use Rattle.table.proofs.one_less.Reads as one-less-reads
 
 equal-to-requires : tie.Need-equal-to-requires
 equal-to-requires c κs = search needs

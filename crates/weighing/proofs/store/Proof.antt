@@ -1,7 +1,6 @@
 -- `weighing::store` meets its contract: after d turns the first d numbers are stored. Assumes nothing.
 use Rattle.panel_numbers.specs.Table.{over}
 use Rattle.panel_numbers.proofs.Stored.{over-start, over-next, over-end}
-use native.Mathlib.Omega.{arith}
 use mathlib.Core.Path.{_≡_, refl, _∙_}
 use lib.ListN.{length, getD}
 use borrow.Author.Needs.{needs}

@@ -1,20 +1,12 @@
 -- `weight_text::put_weight` meets its contract: nothing, the whole, or a fraction by its two numbers. Assumes nothing.
 use Rattle.phrases.proofs.Lowest.{text-none, text-whole, text-ratio}
 use Rattle.phrases.proofs.Laws.{put-first, puts-as, puts-then}
-use Rattle.phrases.specs.Phrases.{weightText}
-use Rattle.room.specs.Digits.{decimal}
 use Rattle.card.specs.Limits.{unit}
-use mathlib.Core.Path.{_≡_, refl, sym}
 use native.Mathlib.Nat.{div-le-self}
 use native.Mathlib.Omega.{arith}
 use borrow.Author.Needs.{needs}
 use Rattle.weight_text.proofs.put_weight.Statement.{statement}
 use Rattle.weight_text.proofs.put_weight.Tie as tie
-use Rattle.weight_text.proofs.put_weight.Reads as reads
-use Rattle.weight_text.proofs.put_weight.Lts as lts
-use Rattle.phrases.proofs.divisor.Reads as divisor-reads
-use Rattle.room.proofs.put_byte.Reads as put-byte-reads
-use Rattle.put_numbers.proofs.put_number.Reads as put-number-reads
 
 put-byte-requires : tie.Need-put-byte-requires
 put-byte-requires c κs = search needs

@@ -4,9 +4,6 @@ use lib.ListN.{length}
 use borrow.Author.Needs.{needs}
 use Rattle.word_and_digit_looks.proofs.all_here.Statement.{statement}
 use Rattle.word_and_digit_looks.proofs.all_here.Tie as tie
-use Rattle.word_and_digit_looks.proofs.all_here.Reads as reads
-use Rattle.word_and_digit_looks.proofs.all_here.Lts as lts
-use Rattle.letters.proofs.bytes.begins_at.Reads as begins-at-reads
 
 begins-at-requires : tie.Need-begins-at-requires
 begins-at-requires c κs = search needs

@@ -8,11 +8,6 @@ use Rattle.word_and_digit_looks.proofs.Looks.{digit-none, digit-low, di
 use borrow.Author.Needs.{needs}
 use Rattle.word_and_digit_looks.proofs.digit_here.Statement.{statement}
 use Rattle.word_and_digit_looks.proofs.digit_here.Tie as tie
-use Rattle.word_and_digit_looks.proofs.digit_here.Reads as reads
-use Rattle.word_and_digit_looks.proofs.digit_here.Lts as lts
-use Rattle.letters.proofs.bytes.digit_at.Reads as digit-at-reads
-use Rattle.letters.proofs.bytes.number_at.Reads as number-at-reads
-use Rattle.bytes_as_numbers.proofs.wide.Reads as wide-reads
 
 digit-at-requires : tie.Need-digit-at-requires
 digit-at-requires c κs = search needs

@@ -6,10 +6,6 @@ use Rattle.word_and_digit_looks.proofs.Looks.{bytes-fit}
 use borrow.Author.Needs.{needs}
 use Rattle.word_and_digit_looks.proofs.word_here.Statement.{statement}
 use Rattle.word_and_digit_looks.proofs.word_here.Tie as tie
-use Rattle.word_and_digit_looks.proofs.word_here.Reads as reads
-use Rattle.word_and_digit_looks.proofs.word_here.Lts as lts
-use Rattle.word_and_digit_looks.proofs.all_here.Reads as all-here-reads
-use Rattle.letters.proofs.bytes.word_at.Reads as word-at-reads
 
 all-here-requires : tie.Need-all-here-requires
 all-here-requires c κs = search needs

@@ -9,8 +9,6 @@ use native.Mathlib.Nat.{add-zero, add-assoc}
 use mathlib.Core.Path.{_≡_, sym, ap, _∙_}
 use Rattle.letters.proofs.bytes.begins_at.Statement.{statement}
 use Rattle.letters.proofs.bytes.begins_at.Tie as tie
-use Rattle.letters.proofs.bytes.begins_at.Reads as reads
-use Rattle.letters.proofs.bytes.begins_at.Lts as lts
 
 abbrev Inv-loop : tie.InvT-loop
 Inv-loop card at these i₀ i = (i ≤ length these) × (length these ≤ length card - at) × (begun these (drop at card) ≡ begun (drop i these) (drop (at + i) card))

@@ -5,9 +5,6 @@ use mathlib.Core.Path.{sym, _∙_}
 use borrow.Author.Needs.{needs}
 use Rattle.letters.proofs.bytes.digit_at.Statement.{statement}
 use Rattle.letters.proofs.bytes.digit_at.Tie as tie
-use Rattle.letters.proofs.bytes.digit_at.Reads as reads
-use Rattle.letters.proofs.bytes.digit_at.Lts as lts
-use Rattle.letters.proofs.bytes.is_digit.Reads as is-digit-reads
 
 shared-slice-read-is-digit : tie.Need-shared-slice-read-is-digit
 shared-slice-read-is-digit c = search needs

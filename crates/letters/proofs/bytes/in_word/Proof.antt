@@ -9,10 +9,6 @@ use Rattle.letters.proofs.Ranges.{agree}
 use borrow.Author.Needs.{needs}
 use Rattle.letters.proofs.bytes.in_word.Statement.{statement}
 use Rattle.letters.proofs.bytes.in_word.Tie as tie
-use Rattle.letters.proofs.bytes.in_word.Reads as reads
-use Rattle.letters.proofs.bytes.in_word.Lts as lts
-use Rattle.letters.proofs.bytes.is_digit.Reads as is-digit-reads
-use Rattle.letters.proofs.bytes.is_letter.Reads as is-letter-reads
 
 is-digit-requires : tie.Need-is-digit-requires
 is-digit-requires c κs = search needs

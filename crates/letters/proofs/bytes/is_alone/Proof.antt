@@ -8,8 +8,6 @@ use Rattle.marks_on_a_card.specs.Bytes.{isAlone}
 use Rattle.letters.proofs.Ranges.{agree}
 use Rattle.letters.proofs.bytes.is_alone.Statement.{statement}
 use Rattle.letters.proofs.bytes.is_alone.Tie as tie
-use Rattle.letters.proofs.bytes.is_alone.Reads as reads
-use Rattle.letters.proofs.bytes.is_alone.Lts as lts
 
 returns : tie.Need-returns
 returns c = agree (λ b. false) isAlone 38 0 refl (c .before .before .args .b) (omega arith) (omega arith)

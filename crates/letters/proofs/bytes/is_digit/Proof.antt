@@ -2,8 +2,6 @@
 use borrow.Author.Tests.{le-leb, lt-leb}
 use Rattle.letters.proofs.bytes.is_digit.Statement.{statement}
 use Rattle.letters.proofs.bytes.is_digit.Tie as tie
-use Rattle.letters.proofs.bytes.is_digit.Reads as reads
-use Rattle.letters.proofs.bytes.is_digit.Lts as lts
 
 returns : tie.Need-returns
 returns c = rw (le-leb _ _ (c .if1 .taken))

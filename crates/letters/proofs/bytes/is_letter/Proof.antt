@@ -7,8 +7,6 @@ use Rattle.marks_on_a_card.specs.Bytes.{isLetter}
 use Rattle.letters.proofs.Ranges.{agree}
 use Rattle.letters.proofs.bytes.is_letter.Statement.{statement}
 use Rattle.letters.proofs.bytes.is_letter.Tie as tie
-use Rattle.letters.proofs.bytes.is_letter.Reads as reads
-use Rattle.letters.proofs.bytes.is_letter.Lts as lts
 
 returns : tie.Need-returns
 returns c = agree (λ b. false) isLetter 65 0 refl (c .before .args .b) (omega arith) (omega arith)

@@ -8,8 +8,6 @@ use mathlib.Core.Bool.{not}
 use mathlib.Core.Path.{refl, sym}
 use Rattle.letters.proofs.bytes.is_sign.Statement.{statement}
 use Rattle.letters.proofs.bytes.is_sign.Tie as tie
-use Rattle.letters.proofs.bytes.is_sign.Reads as reads
-use Rattle.letters.proofs.bytes.is_sign.Lts as lts
 
 returns : tie.Need-returns
 returns c =

@@ -8,9 +8,6 @@ use Rattle.marks_on_a_card.proofs.Runs.{begins-at, begins-none}
 use borrow.Author.Needs.{needs}
 use Rattle.letters.proofs.bytes.number_at.Statement.{statement}
 use Rattle.letters.proofs.bytes.number_at.Tie as tie
-use Rattle.letters.proofs.bytes.number_at.Reads as reads
-use Rattle.letters.proofs.bytes.number_at.Lts as lts
-use Rattle.letters.proofs.bytes.is_digit.Reads as is-digit-reads
 
 shared-slice-read-b : tie.Need-shared-slice-read-b
 shared-slice-read-b c = search needs

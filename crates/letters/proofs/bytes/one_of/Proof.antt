@@ -8,8 +8,6 @@ use Prim.Native.Nat.{_-_}
 use mathlib.Core.Path.{_≡_, refl}
 use Rattle.letters.proofs.bytes.one_of.Statement.{statement}
 use Rattle.letters.proofs.bytes.one_of.Tie as tie
-use Rattle.letters.proofs.bytes.one_of.Reads as reads
-use Rattle.letters.proofs.bytes.one_of.Lts as lts
 
 abbrev Inv-loop : tie.InvT-loop
 Inv-loop b these i₀ i = oneOf these b ≡ oneOf (drop i these) b

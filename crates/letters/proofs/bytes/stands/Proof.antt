@@ -5,8 +5,6 @@ use lib.Dec.{eqb}
 use borrow.Author.Needs.{needs}
 use Rattle.letters.proofs.bytes.stands.Statement.{statement}
 use Rattle.letters.proofs.bytes.stands.Tie as tie
-use Rattle.letters.proofs.bytes.stands.Reads as reads
-use Rattle.letters.proofs.bytes.stands.Lts as lts
 
 shared-slice-read-result : tie.Need-shared-slice-read-result
 shared-slice-read-result c = search needs

@@ -5,9 +5,6 @@ use mathlib.Core.Path.{sym, _∙_}
 use borrow.Author.Needs.{needs}
 use Rattle.letters.proofs.bytes.word_at.Statement.{statement}
 use Rattle.letters.proofs.bytes.word_at.Tie as tie
-use Rattle.letters.proofs.bytes.word_at.Reads as reads
-use Rattle.letters.proofs.bytes.word_at.Lts as lts
-use Rattle.letters.proofs.bytes.in_word.Reads as in-word-reads
 
 shared-slice-read-in-word : tie.Need-shared-slice-read-in-word
 shared-slice-read-in-word c = search needs

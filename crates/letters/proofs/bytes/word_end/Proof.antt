@@ -8,9 +8,6 @@ use Prim.Native.Nat.{_-_}
 use mathlib.Core.Path.{_≡_, refl, sym, _∙_}
 use Rattle.letters.proofs.bytes.word_end.Statement.{statement}
 use Rattle.letters.proofs.bytes.word_end.Tie as tie
-use Rattle.letters.proofs.bytes.word_end.Reads as reads
-use Rattle.letters.proofs.bytes.word_end.Lts as lts
-use Rattle.letters.proofs.bytes.in_word.Reads as in-word-reads
 
 abbrev Inv-loop : tie.InvT-loop
 Inv-loop card from at₀ at = runEnd inWord card from ≡ runEnd inWord card at

@@ -10,11 +10,6 @@ use Rattle.marks_on_a_card.proofs.StartLaws.{not-blank, gap-blank, gap-comment,
 use borrow.Author.Needs.{needs}
 use Rattle.letters.proofs.gaps.gap.Statement.{statement}
 use Rattle.letters.proofs.gaps.gap.Tie as tie
-use Rattle.letters.proofs.gaps.gap.Reads as reads
-use Rattle.letters.proofs.gaps.gap.Lts as lts
-use Rattle.letters.proofs.bytes.is_blank.Reads as is-blank-reads
-use Rattle.line_ends.proofs.line_end.Reads as line-end-reads
-use Rattle.letters.proofs.bytes.stands.Reads as stands-reads
 
 returns : tie.Need-returns
 returns c = sym (gap-blank (c .before .before .args .b) (drop (c .before .before .args .at + 1) (c .before .before .args .card .now)) (rw (c .if1 .taken)))

@@ -8,11 +8,6 @@ use Rattle.word_and_digit_looks.proofs.Looks.{digit-none, digit-low, digit-more
 use borrow.Author.Needs.{needs}
 use Rattle.looks.proofs.look.last_digit.Statement.{statement}
 use Rattle.looks.proofs.look.last_digit.Tie as tie
-use Rattle.looks.proofs.look.last_digit.Reads as reads
-use Rattle.looks.proofs.look.last_digit.Lts as lts
-use Rattle.letters.proofs.bytes.digit_at.Reads as digit-at-reads
-use Rattle.bytes_as_numbers.proofs.wide.Reads as wide-reads
-use Rattle.letters.proofs.bytes.word_at.Reads as word-at-reads
 
 digit-at-requires : tie.Need-digit-at-requires
 digit-at-requires c κs = search needs

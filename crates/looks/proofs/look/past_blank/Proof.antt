@@ -6,9 +6,6 @@ use Rattle.marks_on_a_card.proofs.Runs.{begins-place}
 use borrow.Author.Needs.{needs}
 use Rattle.looks.proofs.look.past_blank.Statement.{statement}
 use Rattle.looks.proofs.look.past_blank.Tie as tie
-use Rattle.looks.proofs.look.past_blank.Reads as reads
-use Rattle.looks.proofs.look.past_blank.Lts as lts
-use Rattle.letters.proofs.bytes.stands.Reads as stands-reads
 
 stands-requires : tie.Need-stands-requires
 stands-requires c κs = search needs

@@ -6,10 +6,6 @@ use native.Mathlib.Omega.{arith}
 use borrow.Author.Needs.{needs}
 use Rattle.looks.proofs.look.past_line.Statement.{statement}
 use Rattle.looks.proofs.look.past_line.Tie as tie
-use Rattle.looks.proofs.look.past_line.Reads as reads
-use Rattle.looks.proofs.look.past_line.Lts as lts
-use Rattle.letters.proofs.bytes.stands.Reads as stands-reads
-use Rattle.looks.proofs.look.past_blank.Reads as past-blank-reads
 
 stands-requires : tie.Need-stands-requires
 stands-requires c κs = search needs

@@ -7,10 +7,6 @@ use Rattle.looks.proofs.Quick.{seat-none, seat-begun}
 use borrow.Author.Needs.{needs}
 use Rattle.looks.proofs.look.seat_here.Statement.{statement}
 use Rattle.looks.proofs.look.seat_here.Tie as tie
-use Rattle.looks.proofs.look.seat_here.Reads as reads
-use Rattle.looks.proofs.look.seat_here.Lts as lts
-use Rattle.looks.proofs.look.last_digit.Reads as last-digit-reads
-use Rattle.letters.proofs.bytes.stands.Reads as stands-reads
 
 stands-requires : tie.Need-stands-requires
 stands-requires c κs = search needs

@@ -6,10 +6,6 @@ use mathlib.Core.Path.{sym, _∙_}
 use borrow.Author.Needs.{needs}
 use Rattle.looks.proofs.look.sign_here.Statement.{statement}
 use Rattle.looks.proofs.look.sign_here.Tie as tie
-use Rattle.looks.proofs.look.sign_here.Reads as reads
-use Rattle.looks.proofs.look.sign_here.Lts as lts
-use Rattle.letters.proofs.bytes.is_alone.Reads as is-alone-reads
-use Rattle.bytes_as_numbers.proofs.wide.Reads as wide-reads
 
 shared-slice-read-b : tie.Need-shared-slice-read-b
 shared-slice-read-b c = search needs

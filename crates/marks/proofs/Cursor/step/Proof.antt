@@ -10,11 +10,6 @@ use Rattle.marks.proofs.Starts.{step-end, step-mark, step-gap}
 use Rattle.marks_on_a_card.proofs.StartLaws.{gap-fits}
 use Rattle.marks.proofs.Cursor.step.Statement.{statement}
 use Rattle.marks.proofs.Cursor.step.Tie as tie
-use Rattle.marks.proofs.Cursor.step.Reads as reads
-use Rattle.marks.proofs.Cursor.step.Lts as lts
-use Rattle.marks.proofs.answer.bare.Reads as bare-reads
-use Rattle.letters.proofs.gaps.gap.Reads as gap-reads
-use Rattle.marks.proofs.start.Reads as start-reads
 
 abbrev Inv-loop : tie.InvT-loop
 Inv-loop card at₀ at = stepAt card at₀ ≡ stepAt card at

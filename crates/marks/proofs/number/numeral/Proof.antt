@@ -12,13 +12,6 @@ use Rattle.marks_on_a_card.specs.Digits.{plain}
 use borrow.Author.Needs.{needs}
 use Rattle.marks.proofs.number.numeral.Statement.{statement}
 use Rattle.marks.proofs.number.numeral.Tie as tie
-use Rattle.marks.proofs.number.numeral.Reads as reads
-use Rattle.marks.proofs.number.numeral.Lts as lts
-use Rattle.digits.proofs.digits_from.Reads as digits-from-reads
-use Rattle.digits.proofs.is_plain.Reads as is-plain-reads
-use Rattle.digits.proofs.is_pointed.Reads as is-pointed-reads
-use Rattle.marks.proofs.answer.bare.Reads as bare-reads
-use Rattle.marks.proofs.answer.valued.Reads as valued-reads
 
 digits-from-requires : tie.Need-digits-from-requires
 digits-from-requires c κs = search needs

@@ -8,12 +8,6 @@ use Prim.Native.Nat.{ℕ, _+_}
 use borrow.Author.Needs.{needs}
 use Rattle.marks.proofs.sign.sign.Statement.{statement}
 use Rattle.marks.proofs.sign.sign.Tie as tie
-use Rattle.marks.proofs.sign.sign.Reads as reads
-use Rattle.marks.proofs.sign.sign.Lts as lts
-use Rattle.marks.proofs.answer.bare.Reads as bare-reads
-use Rattle.letters.proofs.bytes.is_sign.Reads as is-sign-reads
-use Rattle.letters.proofs.bytes.stands.Reads as stands-reads
-use Rattle.bytes_as_numbers.proofs.wide.Reads as wide-reads
 
 add-next : tie.Need-add-next
 add-next c = search needs

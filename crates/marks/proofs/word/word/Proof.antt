@@ -2,19 +2,11 @@
 use mathlib.Core.Path.{refl, sym, _∙_}
 use native.Mathlib.Omega.{arith}
 use Rattle.card.specs.Text.{bytes}
-use Rattle.keywords.proofs.Keywords.{keyword-fits}
+use Rattle.words_and_digits.proofs.Keywords.{keyword-fits}
 use Rattle.marks.proofs.Words.{numbered-fits, seat-word, process-word, other-word, keyword-word}
 use borrow.Author.Needs.{needs}
 use Rattle.marks.proofs.word.word.Statement.{statement}
 use Rattle.marks.proofs.word.word.Tie as tie
-use Rattle.marks.proofs.word.word.Reads as reads
-use Rattle.marks.proofs.word.word.Lts as lts
-use Rattle.letters.proofs.bytes.word_end.Reads as word-end-reads
-use Rattle.marks.proofs.answer.bare.Reads as bare-reads
-use Rattle.marks.proofs.answer.valued.Reads as valued-reads
-use Rattle.keywords.proofs.is_other.Reads as is-other-reads
-use Rattle.keywords.proofs.keyword_begun.Reads as keyword-begun-reads
-use Rattle.numbered_words.proofs.numbered_at.Reads as numbered-at-reads
 
 slice-aggregate-numbered-at : tie.Need-slice-aggregate-numbered-at
 slice-aggregate-numbered-at c = search needs

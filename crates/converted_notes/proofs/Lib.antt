@@ -1,2 +1,0 @@
-pub mod Entry
-mod Walk

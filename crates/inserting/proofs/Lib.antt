@@ -1,4 +1,0 @@
-pub mod Spotting
-pub mod Parts
-pub mod Rows
-pub mod Inserted

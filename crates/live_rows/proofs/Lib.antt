@@ -1,2 +1,0 @@
-pub mod Entries
-pub mod Counting

@@ -1,2 +1,0 @@
-pub mod OwnPassed
-pub mod GuardedLaws
