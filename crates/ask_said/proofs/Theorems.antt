@@ -2,8 +2,8 @@
 -- stages, since no two stages share a number. Assumes nothing.
 use Prim.Native.Nat.{ℕ, _≤_}
 use mathlib.Core.Path.{_≡_, refl, sym, ap, _∙_}
-use mathlib.Core.Bool.{Bool, true}
-use mathlib.Core.Logic.{_⊎_, inl, inr}
+use mathlib.Core.Bool.{Bool, true, false}
+use mathlib.Core.Logic.{_⊎_, inl, inr, _↔_}
 use mathlib.Core.List.{List, _++_}
 use native.Mathlib.Omega.{arith}
 use Rattle.card.specs.Refusals.{tooLong, notDue, wrongSeats, seatAboveTop, decimalWeight}
@@ -33,6 +33,10 @@ module _ (card question seats : List ℕ) where
   seated : (c : Card) (q : Question) → Stage (askSeated seats c q) seatsNumbers (Seated c seats) (λ _. holdsOn (seatingOf c seats) q)
   seated c q = value (seats-stage seats c) (λ _. holdsOn (seatingOf c seats) q)
 
+  -- a number of the question's is its refusal, whatever the seats are
+  question-first : (c : Card) (r p : ℕ) → among seatsNumbers r ≡ false → (askCard question seats c ≡ refused r p) ↔ (questionSaid question c ≡ refused r p)
+  question-first c r p h = its (asked c) (askSeated seats c) (λ u. seated c u .numbers) r p h
+
   behind : (c : Card) → Stage (askCard question seats c) (questionNumbers ++ seatsNumbers) ((u : Understood question c) × Seated c seats) (λ z. holdsOn (seatingOf c seats) (z .0 .0))
   behind c = followed (asked c) (askSeated seats c) (λ q. seated c q .numbers) (λ u. seated c (u .0) .found)
 
@@ -54,7 +58,7 @@ module _ (card question seats : List ℕ) where
           let q : among questionNumbers r ≡ true = rw (in-span (inQuestion tooLong) (inQuestion notDue) r l m) in
           refused-exactly faithful e r p
           ↔∙ beyond (card-stage card) (askCard question seats) r p (apart-out questionNumbers cardNumbers r refl q)
-          (λ w. its (asked (w .0)) (askSeated seats (w .0)) (λ u. seated (w .0) u .numbers) r p (apart-out questionNumbers seatsNumbers r refl q));
+          (λ w. question-first (w .0) r p (apart-out questionNumbers seatsNumbers r refl q));
       wrong-count = λ p. refused-exactly faithful e wrongSeats p ↔∙ beyond (card-stage card) (askCard question seats) wrongSeats p refl (λ w.
           beyond (asked (w .0)) (askSeated seats (w .0)) wrongSeats p refl (λ u. last (seats-stage seats (w .0)) (λ _. holdsOn (seatingOf (w .0) seats) (u .0)) wrongSeats p ↔∙ wrong-count seats (w .0) p));
       wrong-seat = λ p. refused-exactly faithful e seatAboveTop p ↔∙ beyond (card-stage card) (askCard question seats) seatAboveTop p refl (λ w.

@@ -259,12 +259,16 @@ module _ (base expansion : List ℕ) (number : ℕ) where
       back t h k z x (givenWith s a g) = absurd (none-gives h k g)
       back t h k z x (noneWith s _ _) = rw z
 
+  -- the expansion's places count from behind all of the base's
+  moved : {p q : ℕ} → Sound base → MalformedAt expansion q → p ≡ q + expansionFrom → EitherMalformed base expansion p
+  moved {p} {q} s m e = inr (s, (q, m, e))
+
   pub located-malformed : (p : ℕ) → (locatedWith base expansion number ≡ refused malformedDeck p) ↔ EitherMalformed base expansion p
   located-malformed p = (λ e. forth _ looks-with e, λ h. back h _ looks-with)
     where
       forth : (x : Said Part) → LooksWith x → x ≡ refused malformedDeck p → EitherMalformed base expansion p
       forth x (badBase q m) e = let z : q ≡ p = same-place e in inl (rw (sym z) m)
-      forth x (badExpansion s q m) e = inr (s, (q, m, sym (same-place e)))
+      forth x (badExpansion s q m) e = moved s m (sym (same-place e))
       forth x (givenWith s a g) e = says≢refused e
       forth x (noneWith s h k) e = absurd (omega (arith, same-number e))
 

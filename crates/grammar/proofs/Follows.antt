@@ -246,6 +246,10 @@ module _ {A : Type 0} (starts : Place → Bool) (Free : Place → Type 0) (Group
       go zero e = ran-one (λ w. absurd (omega arith)) (λ _. refl)
       go (suc n) e = ran-one (λ w. came tt (n, rw (reads _ ms r x s n), omega arith)) (λ w. absurd (omega arith))
 
+  -- a group adds a node, and no depth
+  grouped-runs : (a : ℕ) (ms r : Place) (x : A) (s : Group (signAt "(" a ∷ ms) ms x r) → Aim unary (signAt "(" a ∷ ms) r (atom x) (grouped s)
+  grouped-runs a ms r x s d n around nodes e e₁ = group-runs a ms r x s d n nodes e₁
+
   neg-runs : (a : ℕ) (ms r : Place) (g : Formula A) (u : FormulaSaid Free Group unary ms g r) → Aim unary ms r g u → Aim unary (signAt "!" a ∷ ms) r (neg g) (negated u)
   neg-runs a ms r g u h zero zero around nodes e e₁ = ran-one (λ w. absurd (omega arith)) (λ _. refl)
   neg-runs a ms r g u h zero (suc n) around nodes e e₁ = ran-one (λ w. ran-one (λ v. absurd (omega arith)) (λ _. refl)) (λ _. refl)
@@ -297,7 +301,7 @@ module _ {A : Type 0} (starts : Place → Bool) (Free : Place → Type 0) (Group
           (λ w. absurd (omega arith))
 
   runs : {v : Part} {ms r : Place} {g : Formula A} (u : FormulaSaid Free Group v ms g r) → Aim v ms r g u
-  runs (grouped {a} {ms} {r} {x} s) = λ d n around nodes e e₁. group-runs a ms r x s d n nodes e₁
+  runs (grouped {a} {ms} {r} {x} s) = grouped-runs a ms r x s
   runs (negated {a} {ms} {r} {g} u) = neg-runs a ms r g u (runs u)
   runs (bracketed {a} {b} {ms} {r} {g} f u) = bracket-runs a b ms r g f u (runs u)
   runs (single {s} {ms} {r} {g} u) = single-runs s ms r g u (runs u)
@@ -316,13 +320,17 @@ module _ {A : Type 0} (starts : Place → Bool) (Free : Place → Type 0) (Group
 if-not : {A : Type 0} (t : String) (p q : Reader A) (s : State) → nextIs t (s .marks) ≡ false → ifNext t p q s ≡ q s
 if-not t p q s e = rw e
 
+-- behind the test of the own state unaries are joined by `&` alone
+abbrev joined-by-and : {shared : Bool} {a : ℕ} {ms r : Place} {g : Formula Tested} → RestSaid shared (signAt "&" a ∷ ms) (some g) r → GuardSaid (TestedSaid shared) (joinedBy all) ms g r
+joined-by-and (guarded u) = u
+
 rest-runs : {shared : Bool} {ms r : Place} {g : Option (Formula Tested)} (u : RestSaid shared ms g r) → nextIs "&" r ≡ false
     → Ran (countedRest u) (Came Anyway g r) (guard shared (at ms mostNodes))
 unfolding guard
 rest-runs (nothing {r}) q = came tt (mostNodes, if-not "&" _ (return none) (at r mostNodes) q, tt)
-rest-runs {shared} (guarded u) q =
+rest-runs {shared} (guarded {a} u) q =
     ran-last (λ k. return (some k))
-    (conjunction-runs (testNext shared) Anything (TestedSaid shared) tested (λ q ms r x s. test-opens s) (λ ms r g f s. guard-no-test s) (λ q ms r x s. test-reads s) u q) λ left m.
+    (conjunction-runs (testNext shared) Anything (TestedSaid shared) tested (λ q ms r x s. test-opens s) (λ ms r g f s. guard-no-test s) (λ q ms r x s. test-reads s) (joined-by-and {a = a} (guarded u)) q) λ left m.
     (left, refl, tt)
 
 -- ---- branches

@@ -98,12 +98,19 @@ module _ (k values : ℕ) (w : ℕ → ℕ → ℕ → ℕ) where
   row-is : (P : Move → Type 0) (a : ℕ) → ((m : Move) → m .old ≡ a → P m) → Every P (row a)
   row-is P a q = every-flat-upto P (suc k) (pair a) (λ b. pair-is P a b (λ m e f. q m e))
 
+  -- moves to a lower state stand before those to a higher one, whatever the shared number becomes
+  pairs-apart : (a i j : ℕ) → i < j → Every (λ m. Every (Before m) (pair a j)) (pair a i)
+  pairs-apart a i j l = pair-is _ a i (λ m e f. pair-is _ a j (λ o e′ f′. inr (e ∙ sym e′, inl (omega arith))))
+
   row-rises : (a : ℕ) → Rising Before (row a)
-  row-rises a = rising-flat Before (suc k) (pair a) (pair-rises a)
-      (λ i j l. pair-is _ a i (λ m e f. pair-is _ a j (λ o e′ f′. inr (e ∙ sym e′, inl (omega arith)))))
+  row-rises a = rising-flat Before (suc k) (pair a) (pair-rises a) (pairs-apart a)
+
+  -- and moves from a lower state before those from a higher one
+  rows-apart : (i j : ℕ) → i < j → Every (λ m. Every (Before m) (row j)) (row i)
+  rows-apart i j l = row-is _ i (λ m e. row-is _ j (λ o g. inl (omega arith)))
 
   rows-rise : Rising Before (flat (upto (suc k) row))
-  rows-rise = rising-flat Before (suc k) row row-rises (λ i j l. row-is _ i (λ m e. row-is _ j (λ o g. inl (omega arith))))
+  rows-rise = rising-flat Before (suc k) row row-rises rows-apart
 
 module _ (k values : ℕ) (q : Option ℕ) (x : Seating) (l : Turn Seating) where
   block-rises : Rising Before (blockOf k values q x l .moves)
