@@ -53,7 +53,7 @@ pub fn able(
 }
 
 // A statement by its place on the card, from 1.
-#[derive(Drop)]
+#[derive(Clone, Copy)]
 pub enum FirstMove {
     Statement(usize),
     Nobody,

@@ -11,7 +11,7 @@ use room::Answer;
 
 // Number 0: the value is the text's length. Else the refusal's number, and the value is its place.
 #[repr(C)]
-#[derive(Drop)]
+#[derive(Clone, Copy)]
 pub struct OpenPanelAnswer {
     pub number: u8,
     pub value: usize,

@@ -68,7 +68,7 @@ pub fn is_live(deck: &[u8], at: usize, number: usize) -> bool
 }
 
 // Where a card stands: 0 in the base or 1 in the expansion, its first byte there, and how many bytes. All 0 where it is refused.
-#[derive(Drop)]
+#[derive(Clone, Copy)]
 pub struct Place {
     pub verdict: Verdict,
     pub which: usize,

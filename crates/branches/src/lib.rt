@@ -23,7 +23,7 @@ use word_and_digit_looks::all_here;
 
 // What the numbers in a card's branches are held to: its top state, how many values its shared number has (0: there is none), and whether
 // a decimal may be a weight.
-#[derive(Drop)]
+#[derive(Clone, Copy)]
 pub struct Bounds {
     pub top: usize,
     pub values: usize,

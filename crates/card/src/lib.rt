@@ -13,7 +13,7 @@ pub const NONDETERMINISTIC: usize = 0;
 pub const PROBABILISTIC: usize = 1;
 
 // [] s1=own & guard -> branches: its guard has so many nodes (0: no guard), and it has so many branches.
-#[derive(Drop)]
+#[derive(Clone, Copy)]
 pub struct Statement {
     pub own: usize,
     pub nodes: usize,
@@ -21,7 +21,7 @@ pub struct Statement {
 }
 
 // The number that all seats share has so many values (0: there is none), and starts at `initial`. Statement i's nodes stand from MOST_NODES * i on, the root last; its branches from MOST_BRANCHES * i on.
-#[derive(Drop)]
+#[derive(Clone, Copy)]
 pub struct Card {
     pub mode: usize,
     pub shared: usize,
@@ -36,7 +36,7 @@ pub struct Card {
 }
 
 // A card beside its arrays: what is handed on by value.
-#[derive(Drop)]
+#[derive(Clone, Copy)]
 pub struct Head {
     pub mode: usize,
     pub shared: usize,
@@ -48,7 +48,7 @@ pub struct Head {
 }
 
 // Taken, or refused with a number and a place ("Refusal numbers").
-#[derive(Drop)]
+#[derive(Clone, Copy)]
 pub enum Verdict {
     Taken,
     Refused(u8, usize),

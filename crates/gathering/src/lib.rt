@@ -38,7 +38,7 @@ fn live_size(deck: &[u8], at: usize) -> usize
 }
 
 // How many entries are live, and how long their bodies are together.
-#[derive(Drop)]
+#[derive(Clone, Copy)]
 pub struct Live {
     pub cards: usize,
     pub bytes: usize,

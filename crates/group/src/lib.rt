@@ -22,7 +22,7 @@ use seats_seen::{SEATS, kind, note, one_more, want};
 
 // What reading a group found: stop 0, the next cursor, how many seats the group wants (0: it is symmetric for no number of seats),
 // its kind, its node, its first d and where that stands; or the number of a refusal and its place.
-#[derive(Drop)]
+#[derive(Clone, Copy)]
 pub struct Grouped {
     pub stop: usize,
     pub place: usize,

@@ -23,7 +23,7 @@ pub const WRITTEN: usize = 0;
 pub const REDUCED: usize = 1;
 
 // How a statement is put: in which text, with which local state, for how many seats, and in how many copies.
-#[derive(Drop)]
+#[derive(Clone, Copy)]
 pub struct Style {
     pub text: usize,
     pub own: usize,

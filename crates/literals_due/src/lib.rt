@@ -6,7 +6,7 @@ use packing::{IS, ISNT};
 
 // What stands behind a seat word: stop 0, the next cursor, the relation, d and where d stands; or the number of a refusal and its
 // place.
-#[derive(Drop)]
+#[derive(Clone, Copy)]
 pub struct Tail {
     pub stop: usize,
     pub place: usize,

@@ -18,14 +18,14 @@ use number::numeral;
 use sign::sign;
 use word::word;
 
-#[derive(Drop)]
+#[derive(Clone, Copy)]
 pub struct Cursor {
     pub at: usize,
 }
 
 // A mark in numbers: its kind; the number of a word or a number, or before a decimal's point; a decimal's digits after the
 // point, and the number they spell; the place of its first byte.
-#[derive(Drop)]
+#[derive(Clone, Copy)]
 pub struct Found {
     pub kind: usize,
     pub value: usize,
@@ -34,7 +34,7 @@ pub struct Found {
     pub place: usize,
 }
 
-#[derive(Drop)]
+#[derive(Clone, Copy)]
 pub struct Step {
     pub mark: Found,
     pub next: Cursor,

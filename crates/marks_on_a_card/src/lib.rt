@@ -3,7 +3,7 @@
 pub mod kinds;
 
 // The digits from a place on: how many, and the number that they spell.
-#[derive(Drop)]
+#[derive(Clone, Copy)]
 pub struct Digits {
     pub count: usize,
     pub value: usize,

@@ -143,7 +143,7 @@ fn put_mended(room: &mut [u8], deck: &[u8], fates: &[usize], cards: usize) -> us
 }
 
 // The lengths of the deck and of the list; or a refusal's number and place.
-#[derive(Drop)]
+#[derive(Clone, Copy)]
 pub enum Mended {
     Done(usize, usize),
     Refused(u8, usize),

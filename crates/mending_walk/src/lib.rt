@@ -32,7 +32,7 @@ pub fn head_count(deck: &[u8]) -> usize
 }
 
 // The next number is at least `least`, the next body starts at `last` at the earliest; so many entries are kept, and their bodies have so many bytes.
-#[derive(Drop)]
+#[derive(Clone, Copy)]
 pub struct Walk {
     pub least: usize,
     pub last: usize,

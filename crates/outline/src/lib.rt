@@ -18,14 +18,14 @@ use late::state::{STATE, STOP, STOP_PLACE};
 use search::{Due, search};
 use seats_wanted::settle;
 
-#[derive(Drop)]
+#[derive(Clone, Copy)]
 pub struct Reading {
     pub verdict: Verdict,
     pub card: Card,
 }
 
 // What stands beside the arrays that the caller lends.
-#[derive(Drop)]
+#[derive(Clone, Copy)]
 pub struct Outline {
     pub verdict: Verdict,
     pub head: Head,

@@ -22,7 +22,7 @@ use shifting::move_up;
 use tidy::close_up;
 
 // The places of a new entry and of its body.
-#[derive(Drop)]
+#[derive(Clone, Copy)]
 pub struct Spot {
     pub row: usize,
     pub body: usize,

@@ -17,7 +17,7 @@ use seats_wanted::settle;
 
 // Number 0 and the place of the root, where the question is understood; or a card's number for what is wrong, without the twenty that
 // a question's refusals have more, and its place.
-#[derive(Drop)]
+#[derive(Clone, Copy)]
 pub struct Understood {
     pub number: usize,
     pub place: usize,

@@ -10,7 +10,7 @@ use marks::Cursor;
 use marks_on_a_card::kinds::{END, OUTSIDE};
 
 // A refusal that is due: its number and its place.
-#[derive(Drop)]
+#[derive(Clone, Copy)]
 pub struct Due {
     pub number: usize,
     pub place: usize,

@@ -8,7 +8,7 @@ ghost use Rattle.table.specs.Bounds.{boundRow, boundOf};
 use packing::{ALL, EVERYONE, IS, OTHERS, kind_of, relation_of, sign_of, state_of};
 
 // What a counter is held against: `=`, `>` or `<`, and a number.
-#[derive(Drop)]
+#[derive(Clone, Copy)]
 pub struct Bound {
     pub sign: u8,
     pub number: usize,

@@ -16,7 +16,7 @@ use seats_seen::{SEATS, each_once, note, one_more};
 // What reading a term found: stop 0, the next cursor, for how many seats each stands in it once (0: for no number of seats), whether
 // each literal is as due in the term of this number, whether it has both relations, its first d and where that stands; or the number of
 // a refusal and its place.
-#[derive(Drop)]
+#[derive(Clone, Copy)]
 pub struct TermFound {
     pub stop: usize,
     pub place: usize,

@@ -7,12 +7,12 @@ ghost use Rattle.weights.specs.Judged.{judgedOf};
 
 use card::limits::WEIGHT_DIGITS;
 
-#[derive(Drop)]
+#[derive(Clone, Copy)]
 pub struct Weight {
     pub units: u32,
 }
 
-#[derive(Drop)]
+#[derive(Clone, Copy)]
 pub enum Judged {
     Units(Weight),
     Broken,

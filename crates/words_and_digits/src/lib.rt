@@ -102,7 +102,7 @@ pub fn numbered_at(card: &[u8], at: usize, these: &[u8]) -> Digits
 }
 
 // A keyword's kind and its size; size 0: none.
-#[derive(Drop)]
+#[derive(Clone, Copy)]
 pub struct Keyword {
     pub kind: usize,
     pub size: usize,
