@@ -3,7 +3,7 @@ use Prim.Native.Nat.{ℕ, zero, suc, ◌*◌}
 use Rattle.std.specs.Prelude.{List}
 use Rattle.std.proofs.Math.Option.{Option, none, some}
 use Rattle.std.proofs.Math.Dec.{ltb}
-use Rattle.card.specs.Limits.{mostNodes}
+use Rattle.card.specs.Limits.{most_nodes}
 use Rattle.card.specs.Text.{if◌then◌else◌}
 use Rattle.card.specs.Laid.{guard_of}
 use Rattle.card.specs.Rows.{row_of}
@@ -12,11 +12,11 @@ use Rattle.panel_numbers.specs.Taking.{takers}
 
 module _ (n : ℕ) (v : Position) (nodes rows : List ℕ) where
   -- how many of n seats, at counts v, may take statement i, counted from 0
-  abbrev pub ableRow : ℕ → ℕ
-  ableRow i = takers n v (row_of rows i).own_val (guard_of nodes (i * mostNodes) (row_of rows i).nodes)
+  abbrev pub able_row : ℕ → ℕ
+  able_row i = takers n v (row_of rows i).own_val (guard_of nodes (i * most_nodes) (row_of rows i).nodes)
 
   -- of so many more statements, from i on, the first that some may take; places count from 1
-  unfoldable pub firstRow : ℕ → ℕ → Option ℕ
+  unfoldable pub first_row : ℕ → ℕ → Option ℕ
   unfolding takers
-  firstRow i zero = none
-  firstRow i (suc more) = if ltb 0 (ableRow i) then some (suc i) else firstRow (suc i) more
+  first_row i zero = none
+  first_row i (suc more) = if ltb 0 (able_row i) then some (suc i) else first_row (suc i) more

@@ -11,12 +11,12 @@ moved (says (some q)) = Statement q
 moved (says none) = Nobody
 moved (refused number place) = Refused number place
 
-abbrev pub moveNumber : FirstMove → ℕ
-moveNumber (Statement q) = 0
-moveNumber Nobody = 0
-moveNumber (Refused number place) = number
+abbrev pub move_number : FirstMove → ℕ
+move_number (Statement q) = 0
+move_number Nobody = 0
+move_number (Refused number place) = number
 
-abbrev pub moveValue : FirstMove → ℕ
-moveValue (Statement q) = q
-moveValue Nobody = 0
-moveValue (Refused number place) = place
+abbrev pub move_value : FirstMove → ℕ
+move_value (Statement q) = q
+move_value Nobody = 0
+move_value (Refused number place) = place

@@ -3,9 +3,9 @@ ghost use Rattle.std.specs.Prelude.{◌≡◌, ◌+◌, min, ◌≤◌};
 ghost use Rattle.card.specs.Laid.{guard_of};
 ghost use Rattle.meaning.specs.Position.{position};
 ghost use Rattle.panel_numbers.specs.Taking.{takers};
-ghost use Rattle.card.specs.Limits.{mostStatements};
+ghost use Rattle.card.specs.Limits.{most_statements};
 ghost use Rattle.entry.specs.Said.{says};
-ghost use Rattle.able_seats.specs.FirstRow.{firstRow};
+ghost use Rattle.able_seats.specs.FirstRow.{first_row};
 ghost use Rattle.able_seats.specs.Moved.{moved};
 
 use card::Head;
@@ -68,8 +68,8 @@ pub fn first_able<'a>(
     counts: &'a [usize],
     shared: usize,
 ) -> FirstMove
-    requires { head.count ≤ mostStatements }
-    ensures { result ≡ moved (says (firstRow head.seats (position counts.now shared) nodes.now rows.now 0 head.count)) }
+    requires { head.count ≤ most_statements }
+    ensures { result ≡ moved (says (first_row head.seats (position counts.now shared) nodes.now rows.now 0 head.count)) }
 {
     let n = head.seats;
     let count = head.count;

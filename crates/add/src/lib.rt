@@ -1,5 +1,5 @@
 // A live card added to a box within the lent deck (document 02, 2026-12).
-ghost use Rattle.tidying.specs.Tidying.{addSaid};
+ghost use Rattle.tidying.specs.Tidying.{add_said};
 ghost use Rattle.tidy.specs.Tidies.{Tidied};
 
 use boxes::judge_deck;
@@ -13,7 +13,7 @@ use room::Answer;
 
 // The deck is judged first, then whether a card is live, then the card, then its place.
 pub fn add(deck: &mut [u8], number: u16, card: &[u8]) -> Answer
-    ensures { Tidied deck.old deck.new (addSaid deck.old number card.now) result }
+    ensures { Tidied deck.old deck.new (add_said deck.old number card.now) result }
 {
     let judged = judge_deck(deck);
     if let Verdict::Refused(wrong, place) = judged {

@@ -2,15 +2,15 @@
 use Prim.Native.Nat.{ℕ, zero, suc, ◌-◌}
 use mathlib.Core.Path.{◌≡◌, refl, ap, ◌∙◌}
 use native.Mathlib.Omega.{arith}
-use Rattle.card.specs.Laid.{setOf}
+use Rattle.card.specs.Laid.{set_of}
 use Rattle.meaning.specs.Position.{set_to}
 
-pub set-nothing : {set g part : ℕ} → set ≡ part → set ≡ 0 → g ≡ set_to g (setOf part)
-set-nothing {set} {g} {part} e z = let none : part ≡ 0 = omega arith in rw none
+pub set_nothing : {set g part : ℕ} → set ≡ part → set ≡ 0 → g ≡ set_to g (set_of part)
+set_nothing {set} {g} {part} e z = let none : part ≡ 0 = omega arith in rw none
 
-pub set_value : (g : ℕ) {set part : ℕ} → set ≡ part → (set ≡ 0 → ⊥) → set - 1 ≡ set_to g (setOf part)
-set_value g {set} {part} e s = go set s ∙ ap (λ (p : ℕ). set_to g (setOf p)) e
+pub set_value : (g : ℕ) {set part : ℕ} → set ≡ part → (set ≡ 0 → ⊥) → set - 1 ≡ set_to g (set_of part)
+set_value g {set} {part} e s = go set s ∙ ap (λ (p : ℕ). set_to g (set_of p)) e
   where
-    go : (p : ℕ) → (p ≡ 0 → ⊥) → p - 1 ≡ set_to g (setOf p)
+    go : (p : ℕ) → (p ≡ 0 → ⊥) → p - 1 ≡ set_to g (set_of p)
     go zero z = absurd (z refl)
     go (suc p) z = omega arith

@@ -4,5 +4,5 @@ use Rattle.card.specs.Text.{if◌then◌else◌}
 use Rattle.evenings.specs.Rounds.{Aim, largest, smallest}
 
 -- 0 asks for the smallest, any other number for the largest
-abbrev pub aimBy : ℕ → Aim
-aimBy aim = if eqb aim 0 then smallest else largest
+abbrev pub aim_by : ℕ → Aim
+aim_by aim = if eqb aim 0 then smallest else largest

@@ -1,9 +1,9 @@
 // An entry's answer in numbers, for C ("Refusal numbers").
 ghost use Rattle.std.specs.Prelude.{◌≡◌};
 ghost use Rattle.evenings.specs.Rounds.{aim_of};
-ghost use Rattle.answers.specs.Numbered.{numbers, verdictNumbers};
+ghost use Rattle.answers.specs.Numbered.{numbers, verdict_numbers};
 ghost use Rattle.answers.specs.Stands.{Stands};
-ghost use Rattle.answers.specs.Aims.{aimBy};
+ghost use Rattle.answers.specs.Aims.{aim_by};
 
 use boxes::Place;
 use card::Verdict;
@@ -37,7 +37,7 @@ pub fn in_numbers(answer: Answer) -> OpenPanelAnswer
 }
 
 pub fn verdict_in_numbers(verdict: Verdict) -> OpenPanelAnswer
-    ensures { result ≡ verdictNumbers verdict }
+    ensures { result ≡ verdict_numbers verdict }
 {
     match verdict {
         Verdict::Taken => {
@@ -68,7 +68,7 @@ pub fn tell_part(place: Place, part: &mut [usize; 3]) -> OpenPanelAnswer
 
 // 0 asks for the smallest, any other number for the largest.
 pub fn is_largest(aim: u8) -> bool
-    ensures { aim_of result ≡ aimBy aim }
+    ensures { aim_of result ≡ aim_by aim }
 {
     if aim == 0 {
         return false;

@@ -1,9 +1,9 @@
 -- Where a card stands, and what a lookup hands back, in the code's values (document 02, 2026-02). Assumes nothing.
 use Rattle.std.specs.Prelude.{ℕ, ◌≡◌, List, set}
-use Rattle.card.specs.Verdict.{verdictNumber, verdictPlace}
+use Rattle.card.specs.Verdict.{verdict_number, verdict_place}
 use Rattle.card.specs.declared.Verdict.{Verdict}
 use Rattle.card.specs.declared.Verdict.TheVariants.{Taken, Refused}
-use Rattle.deck_entries.specs.Verdicts.{verdictOf}
+use Rattle.deck_entries.specs.Verdicts.{verdict_of}
 use Rattle.entry.specs.Said.{Said, says, refused}
 use Rattle.entry.specs.Contract.{part_of}
 use Rattle.deck.specs.Lookup.{Part}
@@ -16,9 +16,9 @@ placed (refused number place) = record { verdict = Refused number place; which =
 
 -- a lent array whose first two numbers become a verdict's, 0 and 0 where nothing is refused
 abbrev pub told : Verdict → List ℕ → List ℕ
-told v was = set (set was 0 (verdictNumber v)) 1 (verdictPlace v)
+told v was = set (set was 0 (verdict_number v)) 1 (verdict_place v)
 
 -- a lookup's part, and its verdict in the lent array `was`, which becomes `is`: a refusal hands back an empty part
 pub record Found (said : Said (List ℕ)) (part was is : List ℕ) : Type 0 where
-  pub hands-back : part ≡ part_of said
-  pub tells : is ≡ told (verdictOf said) was
+  pub hands_back : part ≡ part_of said
+  pub tells : is ≡ told (verdict_of said) was

@@ -1,9 +1,9 @@
 // A deck judged by its contents, and cards looked up in a box, alone or with an expansion (document 02, 2026-02). Only the contents are read, and no card.
 ghost use Rattle.std.specs.Prelude.{◌≡◌, ◌+◌, ◌≤◌, length, drop};
-ghost use Rattle.deck.specs.Contents.{judged, row_of, contentsOf};
-ghost use Rattle.deck_entries.specs.Verdicts.{verdictOf};
-ghost use Rattle.card.specs.Limits.{entryBytes};
-ghost use Rattle.deck.specs.Lookup.{isLive, partFor, liveRow, located, locatedWith};
+ghost use Rattle.deck.specs.Contents.{judged, row_of, contents_of};
+ghost use Rattle.deck_entries.specs.Verdicts.{verdict_of};
+ghost use Rattle.card.specs.Limits.{entry_bytes};
+ghost use Rattle.deck.specs.Lookup.{is_live as is_live_said, part_for, live_row, located, located_with};
 ghost use Rattle.entry.specs.Said.{refused, saying};
 ghost use Rattle.deck.specs.Sound.{Head};
 ghost use Rattle.boxes.specs.Boxes.{placed};
@@ -17,7 +17,7 @@ use deck_entries::{judge_row, wide, word_at};
 
 // Is it a deck? The first wrong field in the order of the bytes decides.
 pub fn judge_deck(deck: &[u8]) -> Verdict
-    ensures { result ≡ verdictOf (judged deck.now) }
+    ensures { result ≡ verdict_of (judged deck.now) }
 {
     if DECK_BYTES < deck.len() {
         return Verdict::Refused(MALFORMED_DECK, 0);
@@ -57,8 +57,8 @@ pub fn judge_deck(deck: &[u8]) -> Verdict
 
 // Is the entry at a place live, and has it this number?
 pub fn is_live(deck: &[u8], at: usize, number: usize) -> bool
-    requires { at + entryBytes ≤ length deck.now }
-    ensures { result ≡ isLive number (row_of (drop at deck.now)) }
+    requires { at + entry_bytes ≤ length deck.now }
+    ensures { result ≡ is_live_said number (row_of (drop at deck.now)) }
 {
     let named = word_at(deck, at);
     if named != number {
@@ -94,7 +94,7 @@ fn nowhere(number: u8, place: usize) -> Place
 // The live card of a number, entry by entry, in a deck that is taken.
 fn seek(deck: &[u8], number: usize, which: usize) -> Place
     requires { Head deck.now }
-    ensures { result ≡ placed (saying (partFor which) (liveRow number (contentsOf deck.now))) }
+    ensures { result ≡ placed (saying (part_for which) (live_row number (contents_of deck.now))) }
 {
     let count = wide(deck[0]);
     let mut left = count;
@@ -130,7 +130,7 @@ pub fn locate(deck: &[u8], number: u16) -> Place
 
 // Where a box with an expansion has a card; or 11, the base judged first, or 12.
 pub fn locate_with(base: &[u8], expansion: &[u8], number: u16) -> Place
-    ensures { result ≡ placed (locatedWith base.now expansion.now number) }
+    ensures { result ≡ placed (located_with base.now expansion.now number) }
 {
     let first = judge_deck(base);
     if let Verdict::Refused(wrong, place) = first {

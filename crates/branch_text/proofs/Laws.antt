@@ -10,69 +10,69 @@ use borrow.Author.Tests.{eq-eqb, ne_eqb}
 use lib.ListN.{length, get_or, take, drop}
 use lib.Seq.{take-suc, take_all}
 use Rattle.card.specs.Card.{Branch}
-use Rattle.card.specs.Laid.{unitsPart, setPart, endPart, setOf, branchOf}
-use Rattle.meaning.specs.Reduced.{updateOf}
-use Rattle.phrases.specs.Phrases.{Text, ◌▸◌, num, weightText}
+use Rattle.card.specs.Laid.{units_part, set_part, end_part, set_of, branch_of}
+use Rattle.meaning.specs.Reduced.{update_of}
+use Rattle.phrases.specs.Phrases.{Text, ◌▸◌, num, weight_text}
 use Rattle.phrases.specs.Puts.{Puts}
-use Rattle.texts.specs.Shared.{more, summed, setLast}
-use Rattle.texts.specs.ReducedText.{updateText}
+use Rattle.texts.specs.Shared.{more, summed, set_last}
+use Rattle.texts.specs.ReducedText.{update_text}
 use Rattle.leaf_text.specs.declared.Style.{Style}
-use Rattle.branch_text.specs.Branches.{endText, branchText}
+use Rattle.branch_text.specs.Branches.{end_text, branch_text}
 
-pub branch-parts : (s : Style) (x : ℕ) {u g e : ℕ} → u ≡ unitsPart x → g ≡ setPart x → e ≡ endPart x → (r : List ℕ)
-    → weightText u (endText s e (setOf g) r) ≡ branchText s (branchOf x) r
-unfolding branchOf
-branch-parts s x h j k r = rw (h, j, k)
+pub branch_parts : (s : Style) (x : ℕ) {u g e : ℕ} → u ≡ units_part x → g ≡ set_part x → e ≡ end_part x → (r : List ℕ)
+    → weight_text u (end_text s e (set_of g) r) ≡ branch_text s (branch_of x) r
+unfolding branch_of
+branch_parts s x h j k r = rw (h, j, k)
 
 -- behind its weight, by which text it is and by what it sets
-sets-some : (sets : ℕ) → (sets ≡ 0 → ⊥) → (r : List ℕ) → setLast (some (sets - 1)) r ≡ setLast (setOf sets) r
-sets-some zero h r = absurd (h refl)
-sets-some (suc v) h r = let e : suc v - 1 ≡ v = omega arith in rw e
+sets_some : (sets : ℕ) → (sets ≡ 0 → ⊥) → (r : List ℕ) → set_last (some (sets - 1)) r ≡ set_last (set_of sets) r
+sets_some zero h r = absurd (h refl)
+sets_some (suc v) h r = let e : suc v - 1 ≡ v = omega arith in rw e
 
 module _ (s : Style) (e sets : ℕ) where
-  pub written_bare : s.text ≡ 0 → sets ≡ 0 → (r : List ℕ) → ":(s1'=" ▸ num e (")" ▸ r) ≡ endText s e (setOf sets) r
+  pub written_bare : s.text ≡ 0 → sets ≡ 0 → (r : List ℕ) → ":(s1'=" ▸ num e (")" ▸ r) ≡ end_text s e (set_of sets) r
   written_bare h k r = rw (eq-eqb s.text 0 h, k)
 
-  pub written-set : s.text ≡ 0 → (sets ≡ 0 → ⊥) → (r : List ℕ) → ":(s1'=" ▸ num e (")" ▸ setLast (some (sets - 1)) r) ≡ endText s e (setOf sets) r
-  written-set h k r = rw (eq-eqb s.text 0 h, sets-some sets k r)
+  pub written_set : s.text ≡ 0 → (sets ≡ 0 → ⊥) → (r : List ℕ) → ":(s1'=" ▸ num e (")" ▸ set_last (some (sets - 1)) r) ≡ end_text s e (set_of sets) r
+  written_set h k r = rw (eq-eqb s.text 0 h, sets_some sets k r)
 
-  pub reduced-end : (s.text ≡ 0 → ⊥) → (r : List ℕ) → ":" ▸ updateText (updateOf s.seats s.own e) (setOf sets) r ≡ endText s e (setOf sets) r
-  reduced-end h r = rw (ne_eqb s.text 0 h)
+  pub reduced_end : (s.text ≡ 0 → ⊥) → (r : List ℕ) → ":" ▸ update_text (update_of s.seats s.own e) (set_of sets) r ≡ end_text s e (set_of sets) r
+  reduced_end h r = rw (ne_eqb s.text 0 h)
 
 -- ---- several branches
 
 module _ (branch : Branch → Text) where
-  more-append : (bs : List Branch) (b : Branch) (r : List ℕ) → more branch (bs ++ b ∷ []) r ≡ more branch bs (" + " ▸ branch b r)
-  more-append [] b r = refl
-  more-append (x ∷ bs) b r = rw (more-append bs b r)
+  more_append : (bs : List Branch) (b : Branch) (r : List ℕ) → more branch (bs ++ b ∷ []) r ≡ more branch bs (" + " ▸ branch b r)
+  more_append [] b r = refl
+  more_append (x ∷ bs) b r = rw (more_append bs b r)
 
-  map-one : (xs : List ℕ) (x : ℕ) → map branchOf (xs ++ x ∷ []) ≡ map branchOf xs ++ branchOf x ∷ []
-  map-one [] x = refl
-  map-one (y ∷ xs) x = ap (λ (l : List Branch). branchOf y ∷ l) (map-one xs x)
+  map_one : (xs : List ℕ) (x : ℕ) → map branch_of (xs ++ x ∷ []) ≡ map branch_of xs ++ branch_of x ∷ []
+  map_one [] x = refl
+  map_one (y ∷ xs) x = ap (λ (l : List Branch). branch_of y ∷ l) (map_one xs x)
 
   module _ (xs : List ℕ) where
-    abbrev pub someMore : ℕ → Text
-    someMore i = more branch (map branchOf (take i xs))
+    abbrev pub some_more : ℕ → Text
+    some_more i = more branch (map branch_of (take i xs))
 
-    pub more-next : (i : ℕ) → i < length xs → (r : List ℕ) → someMore i (" + " ▸ branch (branchOf (get_or xs i 0)) r) ≡ someMore (i + 1) r
-    more-next i h r = rw (add-one, take-suc xs i 0 h, map-one, more-append)
+    pub more_next : (i : ℕ) → i < length xs → (r : List ℕ) → some_more i (" + " ▸ branch (branch_of (get_or xs i 0)) r) ≡ some_more (i + 1) r
+    more_next i h r = rw (add-one, take-suc xs i 0 h, map_one, more_append)
 
-    pub more-end : (i : ℕ) {a b : List ℕ} {at m : ℕ} → length xs ≤ i → Puts a b at (someMore i) m → Puts a b at (more branch (map branchOf xs)) m
-    more-end i h p = rw (take_all i xs h) at p
+    pub more_end : (i : ℕ) {a b : List ℕ} {at m : ℕ} → length xs ≤ i → Puts a b at (some_more i) m → Puts a b at (more branch (map branch_of xs)) m
+    more_end i h p = rw (take_all i xs h) at p
 
-    pub summed-none : length xs ≡ 0 → (r : List ℕ) → r ≡ summed branch (map branchOf xs) r
-    summed-none e r = go xs e
+    pub summed_none : length xs ≡ 0 → (r : List ℕ) → r ≡ summed branch (map branch_of xs) r
+    summed_none e r = go xs e
       where
-        go : (ys : List ℕ) → length ys ≡ 0 → r ≡ summed branch (map branchOf ys) r
+        go : (ys : List ℕ) → length ys ≡ 0 → r ≡ summed branch (map branch_of ys) r
         go [] h = refl
         go (y ∷ ys) h = absurd (omega arith)
 
-    pub summed-some : (length xs ≡ 0 → ⊥) → (r : List ℕ)
-        → branch (branchOf (get_or xs 0 0)) (more branch (map branchOf (take (length xs - 1) (drop 1 xs))) r) ≡ summed branch (map branchOf xs) r
-    summed-some h r = go xs h
+    pub summed_some : (length xs ≡ 0 → ⊥) → (r : List ℕ)
+        → branch (branch_of (get_or xs 0 0)) (more branch (map branch_of (take (length xs - 1) (drop 1 xs))) r) ≡ summed branch (map branch_of xs) r
+    summed_some h r = go xs h
       where
         go : (ys : List ℕ) → (length ys ≡ 0 → ⊥)
-            → branch (branchOf (get_or ys 0 0)) (more branch (map branchOf (take (length ys - 1) (drop 1 ys))) r) ≡ summed branch (map branchOf ys) r
+            → branch (branch_of (get_or ys 0 0)) (more branch (map branch_of (take (length ys - 1) (drop 1 ys))) r) ≡ summed branch (map branch_of ys) r
         go [] k = absurd (k refl)
         go (y ∷ ys) k =
             let e : length ys ≤ suc (length ys) - 1 = omega arith in

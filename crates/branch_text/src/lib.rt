@@ -1,10 +1,10 @@
 // A statement's branches put as text, in either of the two texts.
 ghost use Rattle.std.specs.Prelude.{map};
-ghost use Rattle.card.specs.Laid.{setOf, branchOf};
+ghost use Rattle.card.specs.Laid.{set_of as set_of_said, branch_of};
 ghost use Rattle.phrases.specs.Phrases.{◌▸◌, num};
 ghost use Rattle.phrases.specs.Puts.{Puts};
 ghost use Rattle.texts.specs.Shared.{more, summed};
-ghost use Rattle.branch_text.specs.Branches.{endText, branchText};
+ghost use Rattle.branch_text.specs.Branches.{end_text, branch_text};
 
 use leaf_text::{Style, WRITTEN};
 use packing::{end_of, set_of, units_of};
@@ -30,7 +30,7 @@ fn put_seat(room: &mut [u8], at: usize, end: usize) -> usize
 
 // A branch behind its weight.
 fn put_end(room: &mut [u8], at: usize, end: usize, sets: usize, style: Style) -> usize
-    ensures { Puts room.old room.new at (endText style end (setOf sets)) result }
+    ensures { Puts room.old room.new at (end_text style end (set_of_said sets)) result }
 {
     if style.text == WRITTEN {
         let a = put_seat(room, at, end);
@@ -44,7 +44,7 @@ fn put_end(room: &mut [u8], at: usize, end: usize, sets: usize, style: Style) ->
 }
 
 fn put_branch(room: &mut [u8], at: usize, branch: u32, style: Style) -> usize
-    ensures { Puts room.old room.new at (branchText style (branchOf branch)) result }
+    ensures { Puts room.old room.new at (branch_text style (branch_of branch)) result }
 {
     let units = units_of(branch);
     let sets = set_of(branch);
@@ -55,7 +55,7 @@ fn put_branch(room: &mut [u8], at: usize, branch: u32, style: Style) -> usize
 
 // The branches behind the first.
 fn put_more(room: &mut [u8], at: usize, branches: &[u32], style: Style) -> usize
-    ensures { Puts room.old room.new at (more (branchText style) (map branchOf branches.now)) result }
+    ensures { Puts room.old room.new at (more (branch_text style) (map branch_of branches.now)) result }
 {
     let mut to = place(at);
     let mut i = 0;
@@ -68,7 +68,7 @@ fn put_more(room: &mut [u8], at: usize, branches: &[u32], style: Style) -> usize
 }
 
 pub fn put_branches(room: &mut [u8], at: usize, branches: &[u32], style: Style) -> usize
-    ensures { Puts room.old room.new at (summed (branchText style) (map branchOf branches.now)) result }
+    ensures { Puts room.old room.new at (summed (branch_text style) (map branch_of branches.now)) result }
 {
     if branches.len() == 0 {
         return place(at);

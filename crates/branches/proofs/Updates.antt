@@ -7,52 +7,52 @@ use native.Mathlib.Omega.{arith}
 use lib.ListN.{length, drop}
 use Rattle.card.specs.Text.{bytes}
 use Rattle.marks_on_a_card.specs.Bytes.{in_word, begun}
-use Rattle.marks_on_a_card.specs.Kinds.{kSeat, kind}
-use Rattle.marks.specs.Parts.{bareOf, valuedOf}
+use Rattle.marks_on_a_card.specs.Kinds.{k_seat, kind}
+use Rattle.marks.specs.Parts.{bare_of, valued_of}
 use Rattle.reading.specs.Reader.{line}
-use Rattle.late.specs.State.{Sized, lateIn, after}
-use Rattle.parts.specs.Parts.{from, Due, Sure, items_in, duesIn, kindsIn, numbersIn, LineRead}
+use Rattle.late.specs.State.{Sized, late_in, after}
+use Rattle.parts.specs.Parts.{from, Due, Sure, items_in, dues_in, kinds_in, numbers_in, LineRead}
 use Rattle.branches.specs.Branches.{UpdateFrom}
-use Rattle.parts.proofs.Steps.{next-at}
+use Rattle.parts.proofs.Steps.{next_at}
 use Rattle.parts.proofs.Lines.{run_end, run_more}
-use Rattle.parts.proofs.Front.{Front, front, sign-by, word-by}
+use Rattle.parts.proofs.Front.{Front, front, sign_by, word_by}
 
 -- between a branch's weight and its state
 module _ (s : List ℕ) (i : ℕ) (e : begun (bytes ":(s1'=") (drop i s) ≡ true) where
-  at-colon : Front 58 (bytes "(s1'=") s i
-  at-colon = front 58 (bytes "(s1'=") s i e
+  at_colon : Front 58 (bytes "(s1'=") s i
+  at_colon = front 58 (bytes "(s1'=") s i e
 
   at_open : Front 40 (bytes "s1'=") s (i + 1)
-  at_open = front 40 (bytes "s1'=") s (i + 1) at-colon.others
+  at_open = front 40 (bytes "s1'=") s (i + 1) at_colon.others
 
-  at-word : Front 115 (bytes "1'=") s (i + 1 + 1)
-  at-word = front 115 (bytes "1'=") s (i + 1 + 1) at_open.others
+  at_word : Front 115 (bytes "1'=") s (i + 1 + 1)
+  at_word = front 115 (bytes "1'=") s (i + 1 + 1) at_open.others
 
-  at-digit : Front 49 (bytes "'=") s (i + 1 + 1 + 1)
-  at-digit = front 49 (bytes "'=") s (i + 1 + 1 + 1) at-word.others
+  at_digit : Front 49 (bytes "'=") s (i + 1 + 1 + 1)
+  at_digit = front 49 (bytes "'=") s (i + 1 + 1 + 1) at_word.others
 
-  at-prime : Front 39 (bytes "=") s (i + 1 + 1 + 1 + 1)
-  at-prime = front 39 (bytes "=") s (i + 1 + 1 + 1 + 1) at-digit.others
+  at_prime : Front 39 (bytes "=") s (i + 1 + 1 + 1 + 1)
+  at_prime = front 39 (bytes "=") s (i + 1 + 1 + 1 + 1) at_digit.others
 
-  at-equal : Front 61 [] s (i + 1 + 1 + 1 + 1 + 1)
-  at-equal = front 61 [] s (i + 1 + 1 + 1 + 1 + 1) at-prime.others
+  at_equal : Front 61 [] s (i + 1 + 1 + 1 + 1 + 1)
+  at_equal = front 61 [] s (i + 1 + 1 + 1 + 1 + 1) at_prime.others
 
-  pub update-place : i + 5 < length s
-  update-place = omega (arith, at-equal.place)
+  pub update_place : i + 5 < length s
+  update_place = omega (arith, at_equal.place)
 
-  pub update-passed : (state : List ℕ) → Sized state → UpdateFrom s i (lateIn state) (after state (i + 6))
-  update-passed state sized = record { answers = passed; sized = sized }
+  pub update_passed : (state : List ℕ) → Sized state → UpdateFrom s i (late_in state) (after state (i + 6))
+  update_passed state sized = record { answers = passed; sized = sized }
     where
-      passed : (run : List Due) → Sure run → kind ":" ∷ kind "(" ∷ kSeat ∷ kind "'" ∷ kind "=" ∷ [] ≡ kindsIn run → 0 ∷ 0 ∷ 1 ∷ 0 ∷ 0 ∷ [] ≡ numbersIn run → (n : ℕ) → LineRead s (lateIn state) (duesIn run) (line (items_in run) (from s i n)) (after state (i + 6))
+      passed : (run : List Due) → Sure run → kind ":" ∷ kind "(" ∷ k_seat ∷ kind "'" ∷ kind "=" ∷ [] ≡ kinds_in run → 0 ∷ 0 ∷ 1 ∷ 0 ∷ 0 ∷ [] ≡ numbers_in run → (n : ℕ) → LineRead s (late_in state) (dues_in run) (line (items_in run) (from s i n)) (after state (i + 6))
       passed run h kinds dues n =
           let to : i + 1 + 1 + 1 + 1 + 1 + 1 ≡ i + 6 = omega arith in
           let p2 = i + 1 + 1 in
           let p4 = i + 1 + 1 + 1 + 1 in
           let p5 = i + 1 + 1 + 1 + 1 + 1 in
-          run_end s n (i + 6) (lateIn state) _ []
-          (run_more s n p5 (lateIn state) (bareOf 61 p5 (i + 6)) (next-at s p5 (bareOf 61 p5 (i + 6)) (sym (sign-by s 61 p5 (i + 6) (sym to) refl refl at-equal.place at-equal.byte))) _ (kind "=") [] 0 []
-          (run_more s n p4 (lateIn state) (bareOf 39 p4 p5) (next-at s p4 (bareOf 39 p4 p5) (sym (sign-by s 39 p4 p5 refl refl refl at-prime.place at-prime.byte))) _ (kind "'") (kind "=" ∷ []) 0 (0 ∷ [])
-          (run_more s n p2 (lateIn state) (valuedOf kSeat 1 p2 p4) (next-at s p2 (valuedOf kSeat 1 p2 p4) (sym (word-by s p2 at-word.place at-word.byte at-digit.place at-digit.byte at-prime.place (ap in_word at-prime.byte)))) _ kSeat (kind "'" ∷ kind "=" ∷ []) 1 (0 ∷ 0 ∷ [])
-          (run_more s n (i + 1) (lateIn state) (bareOf 40 (i + 1) p2) (next-at s (i + 1) (bareOf 40 (i + 1) p2) (sym (sign-by s 40 (i + 1) p2 refl refl refl at_open.place at_open.byte))) _ (kind "(") (kSeat ∷ kind "'" ∷ kind "=" ∷ []) 0 (1 ∷ 0 ∷ 0 ∷ [])
-          (run_more s n i (lateIn state) (bareOf 58 i (i + 1)) (next-at s i (bareOf 58 i (i + 1)) (sym (sign-by s 58 i (i + 1) refl refl refl at-colon.place at-colon.byte))) _ (kind ":") (kind "(" ∷ kSeat ∷ kind "'" ∷ kind "=" ∷ []) 0 (0 ∷ 1 ∷ 0 ∷ 0 ∷ [])
-          (record { rest = run; sure = h; kinds-left = kinds; dues-left = dues; answered = λ r y. y }) refl) refl) refl) refl) refl) (λ z. omega arith) state refl
+          run_end s n (i + 6) (late_in state) _ []
+          (run_more s n p5 (late_in state) (bare_of 61 p5 (i + 6)) (next_at s p5 (bare_of 61 p5 (i + 6)) (sym (sign_by s 61 p5 (i + 6) (sym to) refl refl at_equal.place at_equal.byte))) _ (kind "=") [] 0 []
+          (run_more s n p4 (late_in state) (bare_of 39 p4 p5) (next_at s p4 (bare_of 39 p4 p5) (sym (sign_by s 39 p4 p5 refl refl refl at_prime.place at_prime.byte))) _ (kind "'") (kind "=" ∷ []) 0 (0 ∷ [])
+          (run_more s n p2 (late_in state) (valued_of k_seat 1 p2 p4) (next_at s p2 (valued_of k_seat 1 p2 p4) (sym (word_by s p2 at_word.place at_word.byte at_digit.place at_digit.byte at_prime.place (ap in_word at_prime.byte)))) _ k_seat (kind "'" ∷ kind "=" ∷ []) 1 (0 ∷ 0 ∷ [])
+          (run_more s n (i + 1) (late_in state) (bare_of 40 (i + 1) p2) (next_at s (i + 1) (bare_of 40 (i + 1) p2) (sym (sign_by s 40 (i + 1) p2 refl refl refl at_open.place at_open.byte))) _ (kind "(") (k_seat ∷ kind "'" ∷ kind "=" ∷ []) 0 (1 ∷ 0 ∷ 0 ∷ [])
+          (run_more s n i (late_in state) (bare_of 58 i (i + 1)) (next_at s i (bare_of 58 i (i + 1)) (sym (sign_by s 58 i (i + 1) refl refl refl at_colon.place at_colon.byte))) _ (kind ":") (kind "(" ∷ k_seat ∷ kind "'" ∷ kind "=" ∷ []) 0 (0 ∷ 1 ∷ 0 ∷ 0 ∷ [])
+          (record { rest = run; sure = h; kinds_left = kinds; dues_left = dues; answered = λ r y. y }) refl) refl) refl) refl) refl) (λ z. omega arith) state refl

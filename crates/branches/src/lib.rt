@@ -1,7 +1,7 @@
 // Weights and branches, read from a card's bytes into the card's array of branches.
 ghost use Rattle.std.specs.Prelude.{◌≡◌, ◌+◌, ◌≤◌, ◌<◌};
-ghost use Rattle.card.specs.Limits.{mostBranches, branchPlaces};
-ghost use Rattle.late.specs.State.{Sized, lateIn, after};
+ghost use Rattle.card.specs.Limits.{most_branches, branch_places};
+ghost use Rattle.late.specs.State.{Sized, late_in, after};
 ghost use Rattle.branches.specs.Branches.{Weighed, WeightFrom, UpdateFrom, SettingFrom, SetsFrom, BranchFrom, ClosedBy, PastBy, BranchesFrom};
 
 use card::limits::{BRANCH_PLACES, MOST_BRANCHES};
@@ -49,7 +49,7 @@ fn weighed(judged: Judged, place: usize, state: &mut [usize; STATE])
 // A number, two numbers with `/` between, or a decimal, by the rule of a weight; its units become the value.
 fn weight(card: &[u8], at: usize, decimals: bool, state: &mut [usize; STATE]) -> usize
     requires { Sized state.old }
-    ensures { WeightFrom decimals card.now at (lateIn state.old) (after state.new result) }
+    ensures { WeightFrom decimals card.now at (late_in state.old) (after state.new result) }
 {
     let step = step_number(card, at);
     let mark = step.mark;
@@ -85,7 +85,7 @@ fn weight(card: &[u8], at: usize, decimals: bool, state: &mut [usize; STATE]) ->
 // :(s1'= mark by mark, unless it stands right there.
 fn updated(card: &[u8], at: usize, state: &mut [usize; STATE]) -> usize
     requires { Sized state.old }
-    ensures { UpdateFrom card.now at (lateIn state.old) (after state.new result) }
+    ensures { UpdateFrom card.now at (late_in state.old) (after state.new result) }
 {
     if all_here(card, at, b":(s1'=") {
         return at + 6;
@@ -99,7 +99,7 @@ fn updated(card: &[u8], at: usize, state: &mut [usize; STATE]) -> usize
 fn setting(card: &[u8], at: usize, most: usize, state: &mut [usize; STATE]) -> usize
     requires sized { Sized state.old }
     requires fact { at ≡ 0 → ⊥ }
-    ensures { SettingFrom card.now at most (lateIn state.old) (after state.new result) }
+    ensures { SettingFrom card.now at most (late_in state.old) (after state.new result) }
 {
     let step = step_sign(card, at, AND);
     let mark = step.mark;
@@ -130,7 +130,7 @@ fn setting(card: &[u8], at: usize, most: usize, state: &mut [usize; STATE]) -> u
 fn sets(card: &[u8], at: usize, values: usize, state: &mut [usize; STATE]) -> usize
     requires sized { Sized state.old }
     requires fact { at ≡ 0 → ⊥ }
-    ensures { SetsFrom card.now at values (lateIn state.old) (after state.new result) }
+    ensures { SetsFrom card.now at values (late_in state.old) (after state.new result) }
 {
     if values == 0 {
         state[VALUE] = 0;
@@ -150,8 +150,8 @@ fn branch(
     state: &mut [usize; STATE],
 ) -> usize
     requires sized { Sized state.old }
-    requires place_lt_branch_places { place < branchPlaces }
-    ensures { BranchFrom bounds card.now at (lateIn state.old) branches.old branches.new place (after state.new result) }
+    requires place_lt_branch_places { place < branch_places }
+    ensures { BranchFrom bounds card.now at (late_in state.old) branches.old branches.new place (after state.new result) }
 {
     let weighed = weight(card, at, bounds.decimals, state);
     if weighed == 0 {
@@ -183,7 +183,7 @@ fn branch(
 // The mark behind the last branch has to be the `;`, where the sum is judged; the number of branches becomes the value.
 fn closed(mark: Found, next: usize, count: usize, total: usize, state: &mut [usize; STATE]) -> usize
     requires { Sized state.old }
-    ensures { ClosedBy mark next count total (lateIn state.old) (after state.new result) }
+    ensures { ClosedBy mark next count total (late_in state.old) (after state.new result) }
 {
     if mark.kind != SEMICOLON {
         return stop(state, OUT_OF_SHAPE, mark.place);
@@ -217,8 +217,8 @@ pub fn branches(
     state: &mut [usize; STATE],
 ) -> usize
     requires sized { Sized state.old }
-    requires most_branches_bound { first + mostBranches ≤ branchPlaces }
-    ensures { BranchesFrom bounds card.now at (lateIn state.old) array.old array.new first (after state.new result) }
+    requires most_branches_bound { first + most_branches ≤ branch_places }
+    ensures { BranchesFrom bounds card.now at (late_in state.old) array.old array.new first (after state.new result) }
 {
     let mut next = at;
     let mut total = 0;

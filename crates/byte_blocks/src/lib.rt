@@ -1,13 +1,13 @@
 // Blocks of 32 bytes moved within one lent room, lower or higher (document 02, 2026-12).
 ghost use Rattle.std.specs.Prelude.{◌≡◌, ◌+◌, ◌≤◌, length, take, drop};
 ghost use Rattle.room.specs.Room.{clip};
-ghost use Rattle.byte_blocks.specs.Blocks.{blockBytes, BlocksDown, BlocksUp};
+ghost use Rattle.byte_blocks.specs.Blocks.{block_bytes, BlocksDown, BlocksUp};
 
 const BLOCK_BYTES: usize = 32;
 
 fn block_at(room: &[u8], from: usize) -> [u8; BLOCK_BYTES]
-    requires { from + blockBytes ≤ length room.now }
-    ensures { result ≡ take blockBytes (drop from room.now) }
+    requires { from + block_bytes ≤ length room.now }
+    ensures { result ≡ take block_bytes (drop from room.now) }
 {
     let mut block: [u8; BLOCK_BYTES] = [0; BLOCK_BYTES];
     let mut i: usize = 0;
@@ -19,8 +19,8 @@ fn block_at(room: &[u8], from: usize) -> [u8; BLOCK_BYTES]
 }
 
 fn put_block(room: &mut [u8], to: usize, block: &[u8; BLOCK_BYTES])
-    requires block_bytes_in_bounds { to + blockBytes ≤ length room.old }
-    requires block_len { length block.now ≡ blockBytes }
+    requires block_bytes_in_bounds { to + block_bytes ≤ length room.old }
+    requires block_len { length block.now ≡ block_bytes }
     ensures { room.new ≡ clip room.old to block.now }
 {
     let mut i: usize = 0;
@@ -32,9 +32,9 @@ fn put_block(room: &mut [u8], to: usize, block: &[u8; BLOCK_BYTES])
 
 // Wherever a block goes, all of it is read before any of it is stored, so that a compiler can take it in words.
 fn move_block(room: &mut [u8], from: usize, to: usize)
-    requires block_bytes_in_bounds { from + blockBytes ≤ length room.old }
-    requires block_bytes_in_bounds_2 { to + blockBytes ≤ length room.old }
-    ensures { room.new ≡ clip room.old to (take blockBytes (drop from room.old)) }
+    requires block_bytes_in_bounds { from + block_bytes ≤ length room.old }
+    requires block_bytes_in_bounds_2 { to + block_bytes ≤ length room.old }
+    ensures { room.new ≡ clip room.old to (take block_bytes (drop from room.old)) }
 {
     let block = block_at(room, from);
     put_block(room, to, &block);

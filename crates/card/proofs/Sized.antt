@@ -6,55 +6,55 @@ use mathlib.Core.Option.{Option, none, some}
 use native.Mathlib.Nat.{suc-mul, le_trans, mul-le-mul_right}
 use native.Mathlib.Omega.{arith}
 use lib.ListN.{length, get_or}
-use Rattle.card.specs.Limits.{topState, mostShared, numbers, mostStatements, mostNodes, mostBranches, nodePlaces, branchPlaces}
+use Rattle.card.specs.Limits.{top_state, most_shared, numbers, most_statements, most_nodes, most_branches, node_places, branch_places}
 use Rattle.card.specs.Card.{Guard, atom, neg, and, or, Branch, Statement, Card}
 use Rattle.card.specs.Valid.{size, Every, values_of, ValidSet, ValidBranch, ValidCard}
-use Rattle.card.specs.Laid.{opNot, opAnd, opOr, packNode, setNumber, branchNumber, below, cells, guardCells, guardSize, zeros, padded, rows, nodeRow, branchRow, laid}
-use Rattle.card.proofs.Packed.{words, node-fits, leaf-fits, branch_fits}
+use Rattle.card.specs.Laid.{op_not, op_and, op_or, pack_node, set_number, branch_number, below, cells, guard_cells, guard_size, zeros, padded, rows, node_row, branch_row, laid}
+use Rattle.card.proofs.Packed.{words, node_fits, leaf_fits, branch_fits}
 use Rattle.card.proofs.Storing.{size_below}
-use Rattle.card.proofs.Filling.{Narrow, length-padded, length-rows, rows_none, rows-one}
-use Rattle.card.proofs.Held.{States, GuardStates, Held, HeldCard, every_map, few-values, held-nodes, held-branches}
-use Rattle.card.proofs.Standing.{padded-parts}
-use Rattle.card.proofs.LaidBack.{laid-statements, laid-nodes, laid-branches, length-statement-rows}
+use Rattle.card.proofs.Filling.{Narrow, length_padded, length_rows, rows_none, rows_one}
+use Rattle.card.proofs.Held.{States, GuardStates, Held, HeldCard, every_map, few_values, held_nodes, held_branches}
+use Rattle.card.proofs.Standing.{padded_parts}
+use Rattle.card.proofs.LaidBack.{laid_statements, laid_nodes, laid_branches, length_statement_rows}
 
 -- ---- lengths
 
-padded-long : (width count most : ℕ) (f : ℕ → Statement → List ℕ) (xs : List Statement) → Narrow width f xs
+padded_long : (width count most : ℕ) (f : ℕ → Statement → List ℕ) (xs : List Statement) → Narrow width f xs
     → length xs ≤ count → count * width ≤ most → length (padded most (rows width f 0 xs)) ≡ most
-padded-long width count most f xs n h l =
-    length-padded most (rows width f 0 xs) (rw (length-rows width f 0 xs n) (le_trans (mul-le-mul_right width h) l))
+padded_long width count most f xs n h l =
+    length_padded most (rows width f 0 xs) (rw (length_rows width f 0 xs n) (le_trans (mul-le-mul_right width h) l))
 
 module _ (c : Card) where
-  pub statements-long : length (laid c).statements ≡ mostStatements
-  statements-long = rw laid-statements (length-statement-rows mostStatements c.statements)
+  pub statements_long : length (laid c).statements ≡ most_statements
+  statements_long = rw laid_statements (length_statement_rows most_statements c.statements)
 
   module _ (v : HeldCard c) where
-    pub nodes-long : length (laid c).nodes ≡ nodePlaces
-    nodes-long =
-        rw laid-nodes
-        (padded-long mostNodes mostStatements nodePlaces nodeRow c.statements (held-nodes c v) v.few (omega arith))
+    pub nodes_long : length (laid c).nodes ≡ node_places
+    nodes_long =
+        rw laid_nodes
+        (padded_long most_nodes most_statements node_places node_row c.statements (held_nodes c v) v.few (omega arith))
 
-    pub branches-long : length (laid c).branches ≡ branchPlaces
-    branches-long =
-        rw laid-branches
-        (padded-long mostBranches mostStatements branchPlaces branchRow c.statements (held-branches c v) v.few (omega arith))
+    pub branches_long : length (laid c).branches ≡ branch_places
+    branches_long =
+        rw laid_branches
+        (padded_long most_branches most_statements branch_places branch_row c.statements (held_branches c v) v.few (omega arith))
 
 -- ---- each number fits
 
 abbrev pub Small : ℕ → Type 0
 Small x = x < words
 
-small-append : (s t : List ℕ) → Every Small s → Every Small t → Every Small (s ++ t)
-small-append [] t p q = q
-small-append (x ∷ s) t p q = (p.0, small-append s t p.1 q)
+small_append : (s t : List ℕ) → Every Small s → Every Small t → Every Small (s ++ t)
+small_append [] t p q = q
+small_append (x ∷ s) t p q = (p.0, small_append s t p.1 q)
 
-small-zeros : (n : ℕ) → Every Small (zeros n)
+small_zeros : (n : ℕ) → Every Small (zeros n)
 unfolding zeros
-small-zeros zero = tt
-small-zeros (suc n) = (omega arith, small-zeros n)
+small_zeros zero = tt
+small_zeros (suc n) = (omega arith, small_zeros n)
 
-small-padded : (most : ℕ) (s : List ℕ) → Every Small s → Every Small (padded most s)
-small-padded most s h = rw padded-parts (small-append s (zeros (most - length s)) h (small-zeros (most - length s)))
+small_padded : (most : ℕ) (s : List ℕ) → Every Small s → Every Small (padded most s)
+small_padded most s h = rw padded_parts (small_append s (zeros (most - length s)) h (small_zeros (most - length s)))
 
 small_at : (s : List ℕ) (i : ℕ) → Every Small s → get_or s i 0 < words
 small_at [] i h = omega arith
@@ -66,63 +66,63 @@ module _ (width most : ℕ) (f : ℕ → Statement → List ℕ) where
   abbrev SmallRow : Statement → Type 0
   SmallRow x = (at : ℕ) → at + width ≤ most → Every Small (f at x)
 
-  small-rows : (at : ℕ) (xs : List Statement) → Every SmallRow xs → at + length xs * width ≤ most → Every Small (rows width f at xs)
-  small-rows at [] h l = rw rows_none tt
-  small-rows at (x ∷ xs) h l =
+  small_rows : (at : ℕ) (xs : List Statement) → Every SmallRow xs → at + length xs * width ≤ most → Every Small (rows width f at xs)
+  small_rows at [] h l = rw rows_none tt
+  small_rows at (x ∷ xs) h l =
       let e = suc-mul (length xs) width in
-      rw rows-one
-      (small-append (padded width (f at x)) (rows width f (at + width) xs)
-      (small-padded width (f at x) (h.0 at (omega arith)))
-      (small-rows (at + width) xs h.1 (omega arith)))
+      rw rows_one
+      (small_append (padded width (f at x)) (rows width f (at + width) xs)
+      (small_padded width (f at x) (h.0 at (omega arith)))
+      (small_rows (at + width) xs h.1 (omega arith)))
 
-pair_small : (op : ℕ) (g h : Guard) (at : ℕ) → op ≤ opOr → at + suc (size g + size h) ≤ nodePlaces
+pair_small : (op : ℕ) (g h : Guard) (at : ℕ) → op ≤ op_or → at + suc (size g + size h) ≤ node_places
     → Every Small (cells g at) → Every Small (cells h (at + size g))
-    → Every Small (cells g at ++ (cells h (at + size g) ++ packNode op (at + below g) (at + size g + below h) ∷ []))
+    → Every Small (cells g at ++ (cells h (at + size g) ++ pack_node op (at + below g) (at + size g + below h) ∷ []))
 pair_small op g h at k l p q =
-    small-append (cells g at) (cells h (at + size g) ++ packNode op (at + below g) (at + size g + below h) ∷ []) p
-    (small-append (cells h (at + size g)) (packNode op (at + below g) (at + size g + below h) ∷ []) q
-    (node-fits op (at + below g) (at + size g + below h) (omega (arith, size_below g)) (omega (arith, size_below h)) k, tt))
+    small_append (cells g at) (cells h (at + size g) ++ pack_node op (at + below g) (at + size g + below h) ∷ []) p
+    (small_append (cells h (at + size g)) (pack_node op (at + below g) (at + size g + below h) ∷ []) q
+    (node_fits op (at + below g) (at + size g + below h) (omega (arith, size_below g)) (omega (arith, size_below h)) k, tt))
 
-cells-small : (g : Guard) (at : ℕ) → States g → at + size g ≤ nodePlaces → Every Small (cells g at)
+cells_small : (g : Guard) (at : ℕ) → States g → at + size g ≤ node_places → Every Small (cells g at)
 unfolding cells
-cells-small (atom a) at t h = (leaf-fits a t, tt)
-cells-small (neg g) at t h =
-    small-append (cells g at) (packNode opNot (at + below g) 0 ∷ []) (cells-small g at t (omega arith))
-    (node-fits opNot (at + below g) 0 (omega (arith, size_below g)) (omega arith) (omega arith), tt)
-cells-small (and g h) at t l =
-    pair_small opAnd g h at (omega arith) l (cells-small g at t.0 (omega arith)) (cells-small h (at + size g) t.1 (omega arith))
-cells-small (or g h) at t l =
-    pair_small opOr g h at (omega arith) l (cells-small g at t.0 (omega arith)) (cells-small h (at + size g) t.1 (omega arith))
+cells_small (atom a) at t h = (leaf_fits a t, tt)
+cells_small (neg g) at t h =
+    small_append (cells g at) (pack_node op_not (at + below g) 0 ∷ []) (cells_small g at t (omega arith))
+    (node_fits op_not (at + below g) 0 (omega (arith, size_below g)) (omega arith) (omega arith), tt)
+cells_small (and g h) at t l =
+    pair_small op_and g h at (omega arith) l (cells_small g at t.0 (omega arith)) (cells_small h (at + size g) t.1 (omega arith))
+cells_small (or g h) at t l =
+    pair_small op_or g h at (omega arith) l (cells_small g at t.0 (omega arith)) (cells_small h (at + size g) t.1 (omega arith))
 
-small-nodes : (x : Statement) → Held x → (at : ℕ) → at + mostNodes ≤ nodePlaces → Every Small (nodeRow at x)
-small-nodes x v at h = go x.guard v.states v.nodes
+small_nodes : (x : Statement) → Held x → (at : ℕ) → at + most_nodes ≤ node_places → Every Small (node_row at x)
+small_nodes x v at h = go x.guard v.states v.nodes
   where
-    go : (g : Option Guard) → GuardStates g → guardSize g ≤ mostNodes → Every Small (guardCells g at)
+    go : (g : Option Guard) → GuardStates g → guard_size g ≤ most_nodes → Every Small (guard_cells g at)
     go none t l = tt
-    go (some g) t l = cells-small g at t (omega arith)
+    go (some g) t l = cells_small g at t (omega arith)
 
-small-set : (values : ℕ) → values ≤ mostShared → (s : Option ℕ) → ValidSet values s → setNumber s ≤ numbers
-small-set values few none v = omega arith
-small-set values few (some a) v = omega arith
+small_set : (values : ℕ) → values ≤ most_shared → (s : Option ℕ) → ValidSet values s → set_number s ≤ numbers
+small_set values few none v = omega arith
+small_set values few (some a) v = omega arith
 
-module _ (k values : ℕ) (top : k ≤ topState) (few : values ≤ mostShared) where
-  small-branches : (bs : List Branch) → Every (ValidBranch k values) bs → Every Small (map branchNumber bs)
-  small-branches [] v = tt
-  small-branches (b ∷ bs) v =
-      (branch_fits b.units (setNumber b.sets) b.end v.0.units (small-set values few b.sets v.0.sets) (omega (arith, v.0.end)), small-branches bs v.1)
+module _ (k values : ℕ) (top : k ≤ top_state) (few : values ≤ most_shared) where
+  small_branches : (bs : List Branch) → Every (ValidBranch k values) bs → Every Small (map branch_number bs)
+  small_branches [] v = tt
+  small_branches (b ∷ bs) v =
+      (branch_fits b.units (set_number b.sets) b.end v.0.units (small_set values few b.sets v.0.sets) (omega (arith, v.0.end)), small_branches bs v.1)
 
 module _ (c : Card) where
-  pub nodes-small : HeldCard c → (i : ℕ) → get_or (laid c).nodes i 0 < words
-  nodes-small v i =
-      rw laid-nodes
-      (small_at (padded nodePlaces (rows mostNodes nodeRow 0 c.statements)) i
-      (small-padded nodePlaces (rows mostNodes nodeRow 0 c.statements)
-      (small-rows mostNodes nodePlaces nodeRow 0 c.statements (every_map small-nodes c.statements v.each) (omega (arith, v.few)))))
+  pub nodes_small : HeldCard c → (i : ℕ) → get_or (laid c).nodes i 0 < words
+  nodes_small v i =
+      rw laid_nodes
+      (small_at (padded node_places (rows most_nodes node_row 0 c.statements)) i
+      (small_padded node_places (rows most_nodes node_row 0 c.statements)
+      (small_rows most_nodes node_places node_row 0 c.statements (every_map small_nodes c.statements v.each) (omega (arith, v.few)))))
 
-  pub branches-small : ValidCard c → (i : ℕ) → get_or (laid c).branches i 0 < words
-  branches-small v i =
-      rw laid-branches
-      (small_at (padded branchPlaces (rows mostBranches branchRow 0 c.statements)) i
-      (small-padded branchPlaces (rows mostBranches branchRow 0 c.statements)
-      (small-rows mostBranches branchPlaces branchRow 0 c.statements
-      (every_map (λ x w at h. small-branches c.k (values_of c.shared) v.top (few-values c.shared v.shared) x.branches w.branches) c.statements v.statements) (omega (arith, v.some.1)))))
+  pub branches_small : ValidCard c → (i : ℕ) → get_or (laid c).branches i 0 < words
+  branches_small v i =
+      rw laid_branches
+      (small_at (padded branch_places (rows most_branches branch_row 0 c.statements)) i
+      (small_padded branch_places (rows most_branches branch_row 0 c.statements)
+      (small_rows most_branches branch_places branch_row 0 c.statements
+      (every_map (λ x w at h. small_branches c.k (values_of c.shared) v.top (few_values c.shared v.shared) x.branches w.branches) c.statements v.statements) (omega (arith, v.some.1)))))

@@ -22,7 +22,7 @@ pub data Relation : Type 0 where
 pub data Leaf : Type 0 where
   group : Kind → Sign → Relation → ℕ → Leaf
   one : ℕ → Leaf
-  sharedIs : Relation → ℕ → Leaf
+  shared_is : Relation → ℕ → Leaf
 
 -- `!`, `&` and `|` over atoms
 pub data Formula (A : Type 0) : Type 0 where

@@ -22,8 +22,8 @@ EveryAtom P (and g h) = EveryAtom P g × EveryAtom P h
 EveryAtom P (or g h) = EveryAtom P g × EveryAtom P h
 
 -- what each atom has, in their order
-abbrev pub eachAtom : {A B : Type 0} → (A → List B) → Formula A → List B
-eachAtom f (atom a) = f a
-eachAtom f (neg g) = eachAtom f g
-eachAtom f (and g h) = eachAtom f g ++ eachAtom f h
-eachAtom f (or g h) = eachAtom f g ++ eachAtom f h
+abbrev pub each_atom : {A B : Type 0} → (A → List B) → Formula A → List B
+each_atom f (atom a) = f a
+each_atom f (neg g) = each_atom f g
+each_atom f (and g h) = each_atom f g ++ each_atom f h
+each_atom f (or g h) = each_atom f g ++ each_atom f h

@@ -1,10 +1,10 @@
 -- A card that lies in three lent arrays, beside its head: how it lies there, and the card that they hold ("What the box holds"). Assumes
 -- nothing.
 use Rattle.std.specs.Prelude.{ℕ, ◌≡◌, List, length}
-use Rattle.card.specs.Limits.{rowPlaces, nodePlaces, branchPlaces}
+use Rattle.card.specs.Limits.{row_places, node_places, branch_places}
 use Rattle.card.specs.Card.{nondeterministic, probabilistic, Card}
 use Rattle.card.specs.Valid.{values_of, ValidCard}
-use Rattle.card.specs.Laid.{either, modeNumber, start_of, sharedOf, zeros, laid, statementsOf}
+use Rattle.card.specs.Laid.{either, mode_number, start_of, shared_of, zeros, laid, statements_of}
 use Rattle.card.specs.Rows.{rows_of, rows_from}
 use Rattle.card.specs.declared.Head.{Head}
 
@@ -19,27 +19,27 @@ lent rows nodes branches = record { rows = rows; nodes = nodes; branches = branc
 -- ---- from the card to its head and the arrays; zeros where there is none
 
 abbrev pub head_of : Card → Head
-head_of c = record { mode = modeNumber c.mode; shared = values_of c.shared; initial = start_of c.shared; seats = c.n; top = c.k; start = c.l; count = length c.statements }
+head_of c = record { mode = mode_number c.mode; shared = values_of c.shared; initial = start_of c.shared; seats = c.n; top = c.k; start = c.l; count = length c.statements }
 
-abbrev pub noHead : Head
-noHead = record { mode = 0; shared = 0; initial = 0; seats = 0; top = 0; start = 0; count = 0 }
+abbrev pub no_head : Head
+no_head = record { mode = 0; shared = 0; initial = 0; seats = 0; top = 0; start = 0; count = 0 }
 
 abbrev pub lent_of : Card → Lent
 lent_of c = lent (rows_of (laid c).statements) (laid c).nodes (laid c).branches
 
-abbrev pub noneLent : Lent
-noneLent = lent (zeros rowPlaces) (zeros nodePlaces) (zeros branchPlaces)
+abbrev pub none_lent : Lent
+none_lent = lent (zeros row_places) (zeros node_places) (zeros branch_places)
 
 -- ---- and back, whatever numbers stand there
 
-abbrev pub cardIn : Head → Lent → Card
-cardIn h x = record {
+abbrev pub card_in : Head → Lent → Card
+card_in h x = record {
   mode = either nondeterministic probabilistic h.mode;
-  shared = sharedOf h.shared h.initial;
+  shared = shared_of h.shared h.initial;
   n = h.seats;
   k = h.top;
   l = h.start;
-  statements = statementsOf x.nodes x.branches (rows_from x.rows 0 h.count) 0;
+  statements = statements_of x.nodes x.branches (rows_from x.rows 0 h.count) 0;
 }
 
 -- they hold a valid card

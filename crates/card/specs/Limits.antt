@@ -3,116 +3,116 @@
 use Rattle.std.specs.Prelude.{ℕ, suc, ◌*◌, ◌^◌}
 
 -- bytes of a card
-abbrev pub cardBytes : ℕ
-cardBytes = 16384
+abbrev pub card_bytes : ℕ
+card_bytes = 16384
 
 -- seats, of which there is one at least
-abbrev pub mostSeats : ℕ
-mostSeats = 16
+abbrev pub most_seats : ℕ
+most_seats = 16
 
 -- the top state k, and how many states there are then
-abbrev pub topState : ℕ
-topState = 7
+abbrev pub top_state : ℕ
+top_state = 7
 
-abbrev pub mostStates : ℕ
-mostStates = suc topState
+abbrev pub most_states : ℕ
+most_states = suc top_state
 
 -- the most that the number shared by all seats may be, and how many values it can have (document 02, 2026-10)
-abbrev pub topShared : ℕ
-topShared = 7
+abbrev pub top_shared : ℕ
+top_shared = 7
 
-abbrev pub mostShared : ℕ
-mostShared = suc topShared
+abbrev pub most_shared : ℕ
+most_shared = suc top_shared
 
 -- statements of a card, of which there is one at least; branches, guard nodes, open brackets and `!` of one statement
-abbrev pub mostStatements : ℕ
-mostStatements = 32
+abbrev pub most_statements : ℕ
+most_statements = 32
 
-abbrev pub mostBranches : ℕ
-mostBranches = 8
+abbrev pub most_branches : ℕ
+most_branches = 8
 
-abbrev pub mostNodes : ℕ
-mostNodes = 32
+abbrev pub most_nodes : ℕ
+most_nodes = 32
 
-abbrev pub mostDepth : ℕ
-mostDepth = 8
+abbrev pub most_depth : ℕ
+most_depth = 8
 
 -- digits of a number, of the fraction of a decimal, and of the number in a seat or module word
-abbrev pub numberDigits : ℕ
-numberDigits = 6
+abbrev pub number_digits : ℕ
+number_digits = 6
 
-abbrev pub furtherDigits : ℕ
-furtherDigits = 6
+abbrev pub further_digits : ℕ
+further_digits = 6
 
-abbrev pub wordDigits : ℕ
-wordDigits = 5
+abbrev pub word_digits : ℕ
+word_digits = 5
 
 -- each number that a card can spell is below this
 abbrev pub numbers : ℕ
-numbers = 10 ^ numberDigits
+numbers = 10 ^ number_digits
 
 -- a weight of 1, in units; digits that the fraction of a decimal weight may have
 abbrev pub unit : ℕ
 unit = 277200
 
-abbrev pub weightDigits : ℕ
-weightDigits = 2
+abbrev pub weight_digits : ℕ
+weight_digits = 2
 
 -- the card's arrays: so many nodes and branches in all
-abbrev pub nodePlaces : ℕ
-nodePlaces = mostStatements * mostNodes
+abbrev pub node_places : ℕ
+node_places = most_statements * most_nodes
 
-abbrev pub branchPlaces : ℕ
-branchPlaces = mostStatements * mostBranches
+abbrev pub branch_places : ℕ
+branch_places = most_statements * most_branches
 
 -- what a branch sets the shared number to has so many values: none, or one of its own
-abbrev pub setPlaces : ℕ
-setPlaces = suc mostShared
+abbrev pub set_places : ℕ
+set_places = suc most_shared
 
 -- a statement's row has so many numbers: its own state, how many nodes, how many branches
-abbrev pub rowNumbers : ℕ
-rowNumbers = 3
+abbrev pub row_numbers : ℕ
+row_numbers = 3
 
-abbrev pub rowPlaces : ℕ
-rowPlaces = mostStatements * rowNumbers
+abbrev pub row_places : ℕ
+row_places = most_statements * row_numbers
 
 -- bytes of a deck, and its cards, of which there is one at least
-abbrev pub deckBytes : ℕ
-deckBytes = 65535
+abbrev pub deck_bytes : ℕ
+deck_bytes = 65535
 
-abbrev pub mostCards : ℕ
-mostCards = 64
+abbrev pub most_cards : ℕ
+most_cards = 64
 
 -- a deck's contents: bytes of the count and of an entry; an entry starts with its card number, and its other fields stand from here on in it
-abbrev pub countBytes : ℕ
-countBytes = 1
+abbrev pub count_bytes : ℕ
+count_bytes = 1
 
-abbrev pub entryBytes : ℕ
-entryBytes = 8
+abbrev pub entry_bytes : ℕ
+entry_bytes = 8
 
-abbrev pub offsetAt : ℕ
-offsetAt = 2
+abbrev pub offset_at : ℕ
+offset_at = 2
 
 abbrev pub size_at : ℕ
 size_at = 4
 
-abbrev pub flagAt : ℕ
-flagAt = 6
+abbrev pub flag_at : ℕ
+flag_at = 6
 
-abbrev pub zeroByteAt : ℕ
-zeroByteAt = 7
+abbrev pub zero_byte_at : ℕ
+zero_byte_at = 7
 
 -- a number of two bytes is below this
-abbrev pub wordNumbers : ℕ
-wordNumbers = 65536
+abbrev pub word_numbers : ℕ
+word_numbers = 65536
 
 -- places in an expansion count from here
-abbrev pub expansionFrom : ℕ
-expansionFrom = 65536
+abbrev pub expansion_from : ℕ
+expansion_from = 65536
 
 -- the top class of those that a spectator sees, and how many there are
-abbrev pub topClass : ℕ
-topClass = 7
+abbrev pub top_class : ℕ
+top_class = 7
 
-abbrev pub publicClasses : ℕ
-publicClasses = suc topClass
+abbrev pub public_classes : ℕ
+public_classes = suc top_class

@@ -2,19 +2,19 @@
 -- ("What the box holds", "Shape of a card"). Assumes nothing.
 use Rattle.std.specs.Prelude.{ℕ, suc, ◌+◌, ◌≤◌, ◌<◌, max, ◌≡◌, Bool, true, false, List, [], ◌∷◌, length}
 use Rattle.std.proofs.Math.Option.{Option, none, some}
-use Rattle.card.specs.Limits.{mostSeats, topState, topShared, mostStatements, mostBranches, mostNodes, mostDepth, unit}
-use Rattle.card.specs.Card.{Kind, everyone, others, Sign, all, any, Leaf, group, one, sharedIs, Formula, atom, neg, and, or, Guard, Branch, Statement, Shared, Card}
+use Rattle.card.specs.Limits.{most_seats, top_state, top_shared, most_statements, most_branches, most_nodes, most_depth, unit}
+use Rattle.card.specs.Card.{Kind, everyone, others, Sign, all, any, Leaf, group, one, shared_is, Formula, atom, neg, and, or, Guard, Branch, Statement, Shared, Card}
 use Rattle.card.specs.Formulas.{EveryAtom}
 
 -- the first seat that a group names
-abbrev pub firstSeat : Kind → ℕ
-firstSeat everyone = 1
-firstSeat others = 2
+abbrev pub first_seat : Kind → ℕ
+first_seat everyone = 1
+first_seat others = 2
 
 -- there is a seat to name; two, where a `|` joins the literals (one literal alone counts as joined by `&`)
 abbrev pub Enough : Sign → Kind → ℕ → Type 0
-Enough all kind n = firstSeat kind ≤ n
-Enough any kind n = firstSeat kind < n
+Enough all kind n = first_seat kind ≤ n
+Enough any kind n = first_seat kind < n
 
 -- how many values the shared number has: none where no such number is declared, so that nothing can be tested or set then
 abbrev pub values_of : Option Shared → ℕ
@@ -25,7 +25,7 @@ values_of (some s) = suc s.most
 abbrev pub ValidLeaf : ℕ → ℕ → ℕ → Leaf → Type 0
 ValidLeaf n k values (group kind s q d) = Enough s kind n × (d ≤ k)
 ValidLeaf n k values (one d) = ⊥  -- no card has one
-ValidLeaf n k values (sharedIs q v) = v < values
+ValidLeaf n k values (shared_is q v) = v < values
 
 abbrev pub ValidLeaves : ℕ → ℕ → ℕ → Guard → Type 0
 ValidLeaves n k values g = EveryAtom (ValidLeaf n k values) g
@@ -43,15 +43,15 @@ pub data Level : Type 0 where
   loose middle tight : Level
 
 -- does an `&`, or an `|`, need brackets of its own there?
-abbrev pub needsAnd : Level → Bool
-needsAnd loose = false
-needsAnd middle = false
-needsAnd tight = true
+abbrev pub needs_and : Level → Bool
+needs_and loose = false
+needs_and middle = false
+needs_and tight = true
 
-abbrev pub needsOr : Level → Bool
-needsOr loose = false
-needsOr middle = true
-needsOr tight = true
+abbrev pub needs_or : Level → Bool
+needs_or loose = false
+needs_or middle = true
+needs_or tight = true
 
 abbrev pub bracketed : Bool → ℕ → ℕ
 bracketed true d = suc d
@@ -61,12 +61,12 @@ bracketed false d = d
 abbrev pub depth : {A : Type 0} → Level → Formula A → ℕ
 depth v (atom a) = 0
 depth v (neg g) = suc (depth tight g)
-depth v (and g h) = bracketed (needsAnd v) (max (depth middle g) (depth tight h))
-depth v (or g h) = bracketed (needsOr v) (max (depth loose g) (depth middle h))
+depth v (and g h) = bracketed (needs_and v) (max (depth middle g) (depth tight h))
+depth v (or g h) = bracketed (needs_or v) (max (depth loose g) (depth middle h))
 
 abbrev pub ValidGuard : ℕ → ℕ → ℕ → Option Guard → Type 0
 ValidGuard n k values none = Unit {0}
-ValidGuard n k values (some g) = ValidLeaves n k values g × (depth middle g ≤ mostDepth) × (size g ≤ mostNodes)
+ValidGuard n k values (some g) = ValidLeaves n k values g × (depth middle g ≤ most_depth) × (size g ≤ most_nodes)
 
 -- ---- statements
 
@@ -96,19 +96,19 @@ pub record ValidBranch (k values : ℕ) (b : Branch) : Type 0 where
 pub record ValidStatement (n k values : ℕ) (x : Statement) : Type 0 where
   pub own : x.own ≤ k
   pub guard : ValidGuard n k values x.guard
-  pub some : Some mostBranches x.branches
+  pub some : Some most_branches x.branches
   pub branches : Every (ValidBranch k values) x.branches
   pub sum : total x.branches ≡ unit
 
 abbrev pub ValidShared : Option Shared → Type 0
 ValidShared none = Unit {0}
-ValidShared (some s) = (s.most ≤ topShared) × (s.start ≤ s.most)
+ValidShared (some s) = (s.most ≤ top_shared) × (s.start ≤ s.most)
 
 pub record ValidCard (c : Card) : Type 0 where
   pub shared : ValidShared c.shared
   pub seats : 1 ≤ c.n
-  pub seats-most : c.n ≤ mostSeats
-  pub top : c.k ≤ topState
+  pub seats_most : c.n ≤ most_seats
+  pub top : c.k ≤ top_state
   pub init : c.l ≤ c.k
-  pub some : Some mostStatements c.statements
+  pub some : Some most_statements c.statements
   pub statements : Every (ValidStatement c.n c.k (values_of c.shared)) c.statements

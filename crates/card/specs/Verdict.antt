@@ -3,10 +3,10 @@ use Rattle.std.specs.Prelude.{ℕ}
 use Rattle.card.specs.declared.Verdict.{Verdict}
 use Rattle.card.specs.declared.Verdict.TheVariants.{Taken, Refused}
 
-abbrev pub verdictNumber : Verdict → ℕ
-verdictNumber Taken = 0
-verdictNumber (Refused r p) = r
+abbrev pub verdict_number : Verdict → ℕ
+verdict_number Taken = 0
+verdict_number (Refused r p) = r
 
-abbrev pub verdictPlace : Verdict → ℕ
-verdictPlace Taken = 0
-verdictPlace (Refused r p) = p
+abbrev pub verdict_place : Verdict → ℕ
+verdict_place Taken = 0
+verdict_place (Refused r p) = p

@@ -3,8 +3,8 @@
 use Rattle.std.specs.Prelude.{ℕ, ◌+◌, ◌*◌, ◌/◌, ◌%◌, ◌^◌, ◌≤◌, ◌≡◌, Bool, true, false, ◌&&◌, eqb, leb}
 use Rattle.std.specs.Int.{◌∣◌}
 use Rattle.std.proofs.Math.Option.{Option, none, some}
-use Rattle.card.specs.Limits.{unit, weightDigits}
-use Rattle.card.specs.Refusals.{wrongWeight, decimalWeight}
+use Rattle.card.specs.Limits.{unit, weight_digits}
+use Rattle.card.specs.Refusals.{wrong_weight, decimal_weight}
 use Rattle.card.specs.Text.{if◌then◌else◌}
 
 pub data Weight : Type 0 where
@@ -20,7 +20,7 @@ shifted v n f = v * 10 ^ n + f
 
 abbrev pub Worth : Weight → ℕ → Type 0
 Worth (whole v) u = (v ≤ 1) × (u ≡ v * unit)
-Worth (decimal v n f) u = (1 ≤ n) × (n ≤ weightDigits) × (shifted v n f ≤ 10 ^ n) × (u * 10 ^ n ≡ shifted v n f * unit)
+Worth (decimal v n f) u = (1 ≤ n) × (n ≤ weight_digits) × (shifted v n f ≤ 10 ^ n) × (u * 10 ^ n ≡ shifted v n f * unit)
 Worth (ratio a b) u = (b ∣ unit) × (a ≤ b) × (u * b ≡ a * unit)
 
 -- ---- the same, computed
@@ -29,10 +29,10 @@ abbrev pub given : Bool → ℕ → Option ℕ
 given true u = some u
 given false u = none
 
-unfoldable pub unitsOf : Weight → Option ℕ
-unitsOf (whole v) = given (leb v 1) (v * unit)
-unitsOf (decimal v n f) = given (leb 1 n && leb n weightDigits && leb (shifted v n f) (10 ^ n)) (shifted v n f * (unit / 10 ^ n))
-unitsOf (ratio a b) = given (leb 1 b && eqb (unit % b) 0 && leb a b) (a * (unit / b))
+unfoldable pub units_of : Weight → Option ℕ
+units_of (whole v) = given (leb v 1) (v * unit)
+units_of (decimal v n f) = given (leb 1 n && leb n weight_digits && leb (shifted v n f) (10 ^ n)) (shifted v n f * (unit / 10 ^ n))
+units_of (ratio a b) = given (leb 1 b && eqb (unit % b) 0 && leb a b) (a * (unit / b))
 
 -- ---- the rule of a weight
 
@@ -41,8 +41,8 @@ abbrev pub Rule : Type 0
 Rule = Bool
 
 -- the rule by which every entry reads, but for the converter, which reads by both; the crate `weights` has it for the code
-abbrev pub cardRule : Rule
-cardRule = false
+abbrev pub card_rule : Rule
+card_rule = false
 
 -- may a weight of this form stand on a card?
 abbrev pub allowed : Rule → Weight → Bool
@@ -51,5 +51,5 @@ allowed decimals (decimal v n f) = decimals
 allowed decimals (ratio a b) = true
 
 -- the refusal that is due where it may not, or where it may and has no worth
-abbrev pub weightRefusal : Rule → Weight → ℕ
-weightRefusal decimals w = if allowed decimals w then wrongWeight else decimalWeight
+abbrev pub weight_refusal : Rule → Weight → ℕ
+weight_refusal decimals w = if allowed decimals w then wrong_weight else decimal_weight

@@ -3,7 +3,7 @@ pub mod limits;
 pub mod refusals;
 
 ghost use Rattle.std.specs.Prelude.{◌≡◌, get_or};
-ghost use Rattle.card.specs.Laid.{noStatement};
+ghost use Rattle.card.specs.Laid.{no_statement as no_statement_said};
 
 use limits::{BRANCH_PLACES, MOST_STATEMENTS, NODE_PLACES};
 
@@ -56,7 +56,7 @@ pub enum Verdict {
 
 // What stands there where there is no statement.
 pub fn no_statement() -> Statement
-    ensures { result ≡ noStatement }
+    ensures { result ≡ no_statement_said }
 {
     Statement {
         own: 0,

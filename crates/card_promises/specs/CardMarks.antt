@@ -7,7 +7,7 @@ use Rattle.card.specs.Text.{bytes}
 use Rattle.card.specs.Card.{Mode, Guard, Branch, Statement, Shared, Card}
 use Rattle.card.specs.Weight.{Weight, whole, decimal as point, ratio, Worth}
 use Rattle.marks_on_a_card.specs.Marks.{Mark, text, seat, process, number, decimal, Placed, placed}
-use Rattle.grammar.specs.Grammar.{modeWord}
+use Rattle.grammar.specs.Grammar.{mode_word}
 
 -- a sign or a keyword
 abbrev pub sign : String → Mark
@@ -19,19 +19,19 @@ mark_of (placed m p) = m
 
 -- ---- weight:(s1'=t), and & (g'=v) where it sets the shared number
 
-abbrev pub weightMarks : Weight → List Mark
-weightMarks (whole v) = number v ∷ []
-weightMarks (point v n f) = decimal v n f ∷ []
-weightMarks (ratio a b) = number a ∷ sign "/" ∷ number b ∷ []
+abbrev pub weight_marks : Weight → List Mark
+weight_marks (whole v) = number v ∷ []
+weight_marks (point v n f) = decimal v n f ∷ []
+weight_marks (ratio a b) = number a ∷ sign "/" ∷ number b ∷ []
 
-abbrev pub setMarks : Option ℕ → List Mark
-setMarks none = []
-setMarks (some v) = sign "&" ∷ sign "(" ∷ sign "g" ∷ sign "'" ∷ sign "=" ∷ number v ∷ sign ")" ∷ []
+abbrev pub set_marks : Option ℕ → List Mark
+set_marks none = []
+set_marks (some v) = sign "&" ∷ sign "(" ∷ sign "g" ∷ sign "'" ∷ sign "=" ∷ number v ∷ sign ")" ∷ []
 
 pub data BranchMarks : Branch → List Mark → Type 0 where
   branch : {units t : ℕ} {sets : Option ℕ} (w : Weight) → Worth w units
       → BranchMarks (record { units = units; end = t; sets = sets })
-      (weightMarks w ++ (sign ":" ∷ sign "(" ∷ seat 1 ∷ sign "'" ∷ sign "=" ∷ number t ∷ sign ")" ∷ setMarks sets))
+      (weight_marks w ++ (sign ":" ∷ sign "(" ∷ seat 1 ∷ sign "'" ∷ sign "=" ∷ number t ∷ sign ")" ∷ set_marks sets))
 
 -- + and a branch
 pub data PlusMarks : Branch → List Mark → Type 0 where
@@ -56,8 +56,8 @@ pub data StatementMarks : Statement → List Mark → Type 0 where
 
 -- ---- module processi = process1 [s1=si, si=s1] endmodule
 
-abbrev pub copyMarks : ℕ → List Mark
-copyMarks i =
+abbrev pub copy_marks : ℕ → List Mark
+copy_marks i =
     sign "module" ∷ process i ∷ sign "=" ∷ process 1
     ∷ sign "[" ∷ seat 1 ∷ sign "=" ∷ seat i ∷ sign "," ∷ seat i ∷ sign "=" ∷ seat 1 ∷ sign "]"
     ∷ sign "endmodule" ∷ []
@@ -65,13 +65,13 @@ copyMarks i =
 -- so many of them, from i on
 abbrev pub copies : ℕ → ℕ → List Mark
 copies i zero = []
-copies i (suc more) = copyMarks i ++ copies (suc i) more
+copies i (suc more) = copy_marks i ++ copies (suc i) more
 
 -- ---- global g : [0..m] init v;
 
-abbrev pub sharedMarks : Option Shared → List Mark
-sharedMarks none = []
-sharedMarks (some s) =
+abbrev pub shared_marks : Option Shared → List Mark
+shared_marks none = []
+shared_marks (some s) =
     sign "global" ∷ sign "g" ∷ sign ":" ∷ sign "[" ∷ number 0 ∷ sign ".." ∷ number s.most ∷ sign "]" ∷ sign "init" ∷ number s.start ∷ sign ";" ∷ []
 
 -- ---- the card
@@ -80,6 +80,6 @@ pub data CardMarks : Card → List Mark → Type 0 where
   card : {mode : Mode} {shared : Option Shared} {more k l : ℕ} {x : Statement} {xs : List Statement} {ms ns : List Mark}
       → StatementMarks x ms → Repeated StatementMarks xs ns
       → CardMarks (record { mode = mode; shared = shared; n = suc more; k = k; l = l; statements = x ∷ xs })
-      (sign (modeWord mode) ∷ (sharedMarks shared ++ (sign "module" ∷ process 1
+      (sign (mode_word mode) ∷ (shared_marks shared ++ (sign "module" ∷ process 1
       ∷ seat 1 ∷ sign ":" ∷ sign "[" ∷ number 0 ∷ sign ".." ∷ number k ∷ sign "]" ∷ sign "init" ∷ number l ∷ sign ";"
       ∷ (ms ++ (ns ++ (sign "endmodule" ∷ copies 2 more))))))

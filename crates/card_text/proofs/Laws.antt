@@ -7,41 +7,41 @@ use native.Mathlib.Numerals.{add-one}
 use native.Mathlib.Nat.{le_trans}
 use lib.ListN.{length}
 use Rattle.card.specs.Card.{Card}
-use Rattle.card.specs.Lent.{Lent, cardIn, HoldsIn}
+use Rattle.card.specs.Lent.{Lent, card_in, HoldsIn}
 use Rattle.card.specs.declared.Head.{Head}
-use Rattle.card.proofs.HeldIn.{holds-card, holds-seats, holds-count}
+use Rattle.card.proofs.HeldIn.{holds_card, holds_seats, holds_count}
 use Rattle.room.specs.Room.{cap, Put}
 use Rattle.room.proofs.Laws.{put_as}
 use Rattle.phrases.specs.Phrases.{Text, ◌▸◌, counted}
 use Rattle.phrases.specs.Puts.{Puts}
-use Rattle.texts.specs.Writing.{moduleText, modules, writeOf}
-use Rattle.texts.specs.Lengths.{writtenMost}
-use Rattle.texts.proofs.WrittenShort.{written-short, written-cap, room-cap}
-use Rattle.statement_text.specs.Statements.{statementsText}
-use Rattle.statement_text.proofs.Both.{written-each}
-use Rattle.card_text.specs.Parts.{headText}
+use Rattle.texts.specs.Writing.{module_text, modules, write_of}
+use Rattle.texts.specs.Lengths.{written_most}
+use Rattle.texts.proofs.WrittenShort.{written_short, written_cap, room_cap}
+use Rattle.statement_text.specs.Statements.{statements_text}
+use Rattle.statement_text.proofs.Both.{written_each}
+use Rattle.card_text.specs.Parts.{head_text}
 
-abbrev pub nextModule : ℕ → Text
-nextModule i = moduleText (i + 1)
+abbrev pub next_module : ℕ → Text
+next_module i = module_text (i + 1)
 
-pub modules-counted : (i c : ℕ) (r : List ℕ) → counted nextModule i c r ≡ modules i c r
+pub modules_counted : (i c : ℕ) (r : List ℕ) → counted next_module i c r ≡ modules i c r
 unfolding counted
-modules-counted i zero r = refl
-modules-counted i (suc c) r = rw (add-one, modules-counted (suc i) c r)
+modules_counted i zero r = refl
+modules_counted i (suc c) r = rw (add-one, modules_counted (suc i) c r)
 
-pub write-text : (c : Card) {a b : List ℕ} {m : ℕ}
-    → Puts a b 0 (λ r. headText c.mode c.shared c.k c.l (statementsText 0 c ("endmodule\n" ▸ modules 1 (c.n - 1) r))) m → Put a b 0 (writeOf c) m
-unfolding writeOf
-write-text c p =
-    put_as (ap (headText c.mode c.shared c.k c.l) (sym (written-each c.mode c.n c.statements ("endmodule\n" ▸ modules 1 (c.n - 1) [])))) p.put
+pub write_text : (c : Card) {a b : List ℕ} {m : ℕ}
+    → Puts a b 0 (λ r. head_text c.mode c.shared c.k c.l (statements_text 0 c ("endmodule\n" ▸ modules 1 (c.n - 1) r))) m → Put a b 0 (write_of c) m
+unfolding write_of
+write_text c p =
+    put_as (ap (head_text c.mode c.shared c.k c.l) (sym (written_each c.mode c.n c.statements ("endmodule\n" ▸ modules 1 (c.n - 1) [])))) p.put
 
 -- ---- of a head and arrays that hold a card
 
 module _ {h : Head} {x : Lent} (v : HoldsIn h x) where
-  pub held-most : length (writeOf (cardIn h x)) ≤ writtenMost h.seats h.count
-  held-most =
-      subst (λ (c : Card). length (writeOf c) ≤ writtenMost h.seats h.count) (sym (holds-card v))
-      (subst (λ (g : Head). length (writeOf v.card) ≤ writtenMost g.seats g.count) (sym v.head) (written-short v.card v.valid))
+  pub held_most : length (write_of (card_in h x)) ≤ written_most h.seats h.count
+  held_most =
+      subst (λ (c : Card). length (write_of c) ≤ written_most h.seats h.count) (sym (holds_card v))
+      (subst (λ (g : Head). length (write_of v.card) ≤ written_most g.seats g.count) (sym v.head) (written_short v.card v.valid))
 
-  pub held-cap : length (writeOf (cardIn h x)) ≤ cap
-  held-cap = le_trans held-most (le_trans (written-cap h.seats h.count (holds-seats v) (holds-count v)) room-cap)
+  pub held_cap : length (write_of (card_in h x)) ≤ cap
+  held_cap = le_trans held_most (le_trans (written_cap h.seats h.count (holds_seats v) (holds_count v)) room_cap)

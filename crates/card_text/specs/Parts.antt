@@ -2,8 +2,8 @@
 use Rattle.std.specs.Prelude.{ℕ}
 use Rattle.std.proofs.Math.Option.{Option}
 use Rattle.card.specs.Card.{Mode, Shared}
-use Rattle.phrases.specs.Phrases.{Text, ◌▸◌, num, modeWord}
+use Rattle.phrases.specs.Phrases.{Text, ◌▸◌, num, mode_word}
 use Rattle.texts.specs.Shared.{declaration}
 
-abbrev pub headText : Mode → Option Shared → ℕ → ℕ → Text
-headText m s k l r = modeWord m ▸ declaration s ("\nmodule process1\ns1 : [0.." ▸ num k ("] init " ▸ num l (";\n" ▸ r)))
+abbrev pub head_text : Mode → Option Shared → ℕ → ℕ → Text
+head_text m s k l r = mode_word m ▸ declaration s ("\nmodule process1\ns1 : [0.." ▸ num k ("] init " ▸ num l (";\n" ▸ r)))

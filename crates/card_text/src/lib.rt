@@ -1,14 +1,14 @@
 // The written card ("Texts, byte for byte", the paragraph on the written card), of a card that lies in arrays: how long it is, and the text stored in a room where it fits.
 ghost use Rattle.std.specs.Prelude.{◌≡◌, length, ◌-◌, ◌≤◌};
-ghost use Rattle.card.specs.Limits.{mostSeats, mostStatements};
+ghost use Rattle.card.specs.Limits.{most_seats, most_statements};
 ghost use Rattle.card.specs.Card.{nondeterministic, probabilistic};
-ghost use Rattle.card.specs.Laid.{either, sharedOf};
-ghost use Rattle.card.specs.Lent.{lent, cardIn, HoldsIn};
+ghost use Rattle.card.specs.Laid.{either, shared_of};
+ghost use Rattle.card.specs.Lent.{lent, card_in, HoldsIn};
 ghost use Rattle.room.specs.Room.{Put};
 ghost use Rattle.phrases.specs.Puts.{Puts};
-ghost use Rattle.texts.specs.Writing.{moduleText, modules, writeOf};
-ghost use Rattle.texts.specs.Lengths.{writtenMost};
-ghost use Rattle.card_text.specs.Parts.{headText};
+ghost use Rattle.texts.specs.Writing.{module_text, modules, write_of};
+ghost use Rattle.texts.specs.Lengths.{written_most as written_most_said};
+ghost use Rattle.card_text.specs.Parts.{head_text};
 ghost use Rattle.room.specs.Answer.{Entered};
 ghost use Rattle.entry.specs.Said.{says as text};
 
@@ -22,7 +22,7 @@ use shared_text::put_declaration;
 use statement_text::put_statements;
 
 fn put_module(room: &mut [u8], at: usize, seat: usize) -> usize
-    ensures { Puts room.old room.new at (moduleText seat) result }
+    ensures { Puts room.old room.new at (module_text seat) result }
 {
     let a = put_numbered(room, at, b"module process", seat);
     let b = put_numbered(room, a, b" = process1 [s1=s", seat);
@@ -45,7 +45,7 @@ fn put_modules(room: &mut [u8], at: usize, seats: usize) -> usize
 
 // All before the statements.
 fn put_head(room: &mut [u8], at: usize, head: Head) -> usize
-    ensures { Puts room.old room.new at (headText (either nondeterministic probabilistic head.mode) (sharedOf head.shared head.initial) head.top head.start) result }
+    ensures { Puts room.old room.new at (head_text (either nondeterministic probabilistic head.mode) (shared_of head.shared head.initial) head.top head.start) result }
 {
     let a = put_mode(room, at, head.mode);
     let b = put_declaration(room, a, head.shared, head.initial);
@@ -63,7 +63,7 @@ pub fn put_card<'a>(
     branches: &'a [u32],
 ) -> usize
     requires { HoldsIn head (lent rows.now nodes.now branches.now) }
-    ensures { Put room.old room.new 0 (writeOf (cardIn head (lent rows.now nodes.now branches.now))) result }
+    ensures { Put room.old room.new 0 (write_of (card_in head (lent rows.now nodes.now branches.now))) result }
 {
     let a = put_head(room, 0, head);
     let b = put_statements(room, a, head, rows, nodes, branches, WRITTEN);
@@ -79,7 +79,7 @@ pub fn written_length<'a>(
     branches: &'a [u32],
 ) -> usize
     requires { HoldsIn head (lent rows.now nodes.now branches.now) }
-    ensures { result ≡ length (writeOf (cardIn head (lent rows.now nodes.now branches.now))) }
+    ensures { result ≡ length (write_of (card_in head (lent rows.now nodes.now branches.now))) }
 {
     let mut none: [u8; 0] = [0; 0];
     put_card(&mut none, head, rows, nodes, branches)
@@ -96,9 +96,9 @@ const MODULE_MOST: usize = 55;
 
 // Bytes that are enough for every card of so many seats and statements.
 fn written_most(seats: usize, count: usize) -> usize
-    requires seats_le_most_seats { seats ≤ mostSeats }
-    requires count_le_most_statements { count ≤ mostStatements }
-    ensures { result ≡ writtenMost seats count }
+    requires seats_le_most_seats { seats ≤ most_seats }
+    requires count_le_most_statements { count ≤ most_statements }
+    ensures { result ≡ written_most_said seats count }
 {
     let statement = BARE_MOST + SEAT_MOST * seats;
     HEAD_MOST + count * statement + seats * MODULE_MOST
@@ -114,7 +114,7 @@ pub fn write_card<'a>(
     branches: &'a [u32; BRANCH_PLACES],
 ) -> Answer
     requires { HoldsIn head (lent rows.now nodes.now branches.now) }
-    ensures { Entered room.old room.new (text (writeOf (cardIn head (lent rows.now nodes.now branches.now)))) result }
+    ensures { Entered room.old room.new (text (write_of (card_in head (lent rows.now nodes.now branches.now)))) result }
 {
     let most = written_most(head.seats, head.count);
     if most <= room.len() {

@@ -2,9 +2,9 @@
 ghost use Rattle.std.specs.Prelude.{◌≡◌, ◌≤◌, length, take};
 ghost use Rattle.entry.specs.Said.{says as text};
 ghost use Rattle.room.specs.Answer.{Entered};
-ghost use Rattle.classes.specs.Classes.{classOf, classCounts, classesText};
-ghost use Rattle.classes.specs.ClassesSaid.{judgedClasses};
-ghost use Rattle.classes.specs.ClassesRoom.{classesRoom};
+ghost use Rattle.classes.specs.Classes.{class_of as class_of_said, class_counts, classes_text};
+ghost use Rattle.classes.specs.ClassesSaid.{judged_classes};
+ghost use Rattle.classes.specs.ClassesRoom.{classes_room};
 
 use bytes_as_numbers::wide;
 use card::Verdict;
@@ -16,7 +16,7 @@ use seating::judge_each;
 
 // Is it a list for a card of top state `top`?
 pub fn judge_classes(classes: &[u8], top: usize) -> Verdict
-    ensures { result ≡ judgedClasses top classes.now }
+    ensures { result ≡ judged_classes top classes.now }
 {
     if top < classes.len() {
         if classes.len() - top == 1 {
@@ -28,7 +28,7 @@ pub fn judge_classes(classes: &[u8], top: usize) -> Verdict
 
 // The class of a state, or 0 where the list has none for it.
 fn class_of(classes: &[u8], state: usize) -> usize
-    ensures { result ≡ classOf classes.now state }
+    ensures { result ≡ class_of_said classes.now state }
 {
     if state < classes.len() {
         return wide(classes[state]);
@@ -38,7 +38,7 @@ fn class_of(classes: &[u8], state: usize) -> usize
 
 // How many of the first n seats are in each class; a class above the top is passed over.
 pub fn count_classes(seats: &[u8], n: usize, classes: &[u8]) -> [usize; PUBLIC_CLASSES]
-    ensures { result ≡ classCounts classes.now (take n seats.now) }
+    ensures { result ≡ class_counts classes.now (take n seats.now) }
 {
     let mut counts: [usize; PUBLIC_CLASSES] = [0; PUBLIC_CLASSES];
     let mut i = 0;
@@ -58,8 +58,8 @@ pub fn count_classes(seats: &[u8], n: usize, classes: &[u8]) -> [usize; PUBLIC_C
 
 // The line of some class counts: put into a room of no bytes it tells its length, and then it is stored where it fits.
 pub fn enter_classes(room: &mut [u8], counts: &[usize]) -> Answer
-    requires { length (classesText counts.now) ≤ classesRoom }
-    ensures { Entered room.old room.new (text (classesText counts.now)) result }
+    requires { length (classes_text counts.now) ≤ classes_room }
+    ensures { Entered room.old room.new (text (classes_text counts.now)) result }
 {
     let mut nothing: [u8; 0] = [0; 0];
     let need = put_line(&mut nothing, 0, b"classes", counts);

@@ -1,26 +1,26 @@
 -- The list as a stage: 13, or nothing to say (document 02, 2026-05). Assumes nothing.
 use Rattle.std.specs.Prelude.{ℕ, suc, ◌≡◌, ◌⊎◌, List, length}
-use Rattle.card.specs.Limits.{topClass}
-use Rattle.card.specs.Refusals.{wrongClasses}
+use Rattle.card.specs.Limits.{top_class}
+use Rattle.card.specs.Refusals.{wrong_classes}
 use Rattle.card.specs.Card.{Card}
 use Rattle.card.specs.declared.Verdict.{Verdict}
 use Rattle.card.specs.declared.Verdict.TheVariants.{Refused}
 use Rattle.entry.specs.Said.{Said}
 use Rattle.entry.specs.Numbers.{Numbers, only}
-use Rattle.seating.specs.Judged.{judgedBy, judgedList, FirstAbove}
-use Rattle.seating.specs.SeatsSaid.{verdictSaid}
+use Rattle.seating.specs.Judged.{judged_by, judged_list, FirstAbove}
+use Rattle.seating.specs.SeatsSaid.{verdict_said}
 
 -- its length first, then its classes
-unfoldable pub judgedClasses : ℕ → List ℕ → Verdict
-unfolding judgedBy
-judgedClasses k list = judgedList (suc k) topClass (Refused wrongClasses (length list)) wrongClasses list
+unfoldable pub judged_classes : ℕ → List ℕ → Verdict
+unfolding judged_by
+judged_classes k list = judged_list (suc k) top_class (Refused wrong_classes (length list)) wrong_classes list
 
-abbrev pub classesSaid : List ℕ → Card → Said (Unit {0})
-classesSaid list c = verdictSaid (judgedClasses c.k list)
+abbrev pub classes_said : List ℕ → Card → Said (Unit {0})
+classes_said list c = verdict_said (judged_classes c.k list)
 
-abbrev pub classesNumbers : Numbers
-classesNumbers = only wrongClasses
+abbrev pub classes_numbers : Numbers
+classes_numbers = only wrong_classes
 
 -- a list that is not k + 1 long, at its own length; else the first class above 7, at its place
 abbrev pub WrongClasses : ℕ → List ℕ → ℕ → Type 0
-WrongClasses k list p = ((length list ≡ suc k → ⊥) × (p ≡ length list)) ⊎ ((length list ≡ suc k) × FirstAbove topClass list p)
+WrongClasses k list p = ((length list ≡ suc k → ⊥) × (p ≡ length list)) ⊎ ((length list ≡ suc k) × FirstAbove top_class list p)

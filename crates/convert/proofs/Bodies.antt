@@ -5,73 +5,73 @@ use mathlib.Core.List.{List, ◌∷◌, ◌++◌}
 use native.Mathlib.Omega.{arith}
 use lib.ListN.{length, drop, get_or, length-append, drop_of_length-le}
 use Rattle.card.specs.Valid.{Every}
-use Rattle.deck.specs.Contents.{Row, row_of, count_of, contentsOf}
+use Rattle.deck.specs.Contents.{Row, row_of, count_of, contents_of}
 use Rattle.deck.specs.Deck.{body_of}
 use Rattle.room.specs.Room.{cap, Put}
-use Rattle.deck_writer.proofs.Still.{Still, still-all, still-none, still-less}
+use Rattle.deck_writer.proofs.Still.{Still, still_all, still_none, still_less}
 use Rattle.converted_rows.specs.Noted.{Each}
-use Rattle.converted_rows.specs.Notes.{bodyNoted, bodiesNoted}
-use Rattle.converted_rows.proofs.Left.{Place, starts, rowsLeft, all_left, next_place, first-left, note-and-rest}
+use Rattle.converted_rows.specs.Notes.{body_noted, bodies_noted}
+use Rattle.converted_rows.proofs.Left.{Place, starts, rows_left, all_left, next_place, first_left, note_and_rest}
 use Rattle.converted_rows.proofs.Text.{RightRow}
 use Rattle.convert.specs.Ready.{BodiesFit}
 
 module _ (deck notes : List ℕ) where
   abbrev left : (i from : ℕ) → List ℕ
-  left i from = bodiesNoted deck (drop i notes) (rowsLeft deck i from)
+  left i from = bodies_noted deck (drop i notes) (rows_left deck i from)
 
   abbrev all : List ℕ
-  all = bodiesNoted deck notes (contentsOf deck)
+  all = bodies_noted deck notes (contents_of deck)
 
   pub record BodiesLeft (was is : List ℕ) (at i from to : ℕ) : Type 0 where
     pub place : Place deck i from
-    pub right : Every (RightRow deck) (rowsLeft deck i from)
+    pub right : Every (RightRow deck) (rows_left deck i from)
     pub still : Still was is at all (left i from) to
     pub fits : to + length (left i from) ≤ length was
 
   module _ (h : Each deck notes) where
-    pub bodies-start : {was : List ℕ} {at to : ℕ} → length was < cap → to ≡ min at cap → BodiesFit deck notes at was → BodiesLeft was was at 0 1 to
-    bodies-start s e f =
+    pub bodies_start : {was : List ℕ} {at to : ℕ} → length was < cap → to ≡ min at cap → BodiesFit deck notes at was → BodiesLeft was was at 0 1 to
+    bodies_start s e f =
         let same = all_left deck in
         record {
           place = starts deck;
           right = subst (Every (RightRow deck)) (sym same) f.right;
-          still = rw same (still-all all s e);
-          fits = omega (arith, f.fits, s, e, ap (λ (rs : List Row). length (bodiesNoted deck notes rs)) same);
+          still = rw same (still_all all s e);
+          fits = omega (arith, f.fits, s, e, ap (λ (rs : List Row). length (bodies_noted deck notes rs)) same);
         }
 
     module _ {was is : List ℕ} {at i from to : ℕ} (g : BodiesLeft was is at i from to) where
-      pub bodies-end : length notes ≤ i → Put was is at all to
-      bodies-end l = still-none g.still (ap (λ (ks : List ℕ). bodiesNoted deck ks (rowsLeft deck i from)) (drop_of_length-le notes l))
+      pub bodies_end : length notes ≤ i → Put was is at all to
+      bodies_end l = still_none g.still (ap (λ (ks : List ℕ). bodies_noted deck ks (rows_left deck i from)) (drop_of_length-le notes l))
 
       module _ (l : i < length notes) where
         abbrev row : Row
         row = row_of (drop from deck)
 
         abbrev part : List ℕ
-        part = bodyNoted (get_or notes i 0) (body_of deck row)
+        part = body_noted (get_or notes i 0) (body_of deck row)
 
         inside : i < count_of deck
         inside = omega (arith, h.long)
 
-        rows_split : Every (RightRow deck) (row ∷ rowsLeft deck (i + 1) (from + 8))
-        rows_split = subst (Every (RightRow deck)) (first-left deck g.place inside) g.right
+        rows_split : Every (RightRow deck) (row ∷ rows_left deck (i + 1) (from + 8))
+        rows_split = subst (Every (RightRow deck)) (first_left deck g.place inside) g.right
 
-        pub right-row : RightRow deck row
-        right-row = rows_split.0
+        pub right_row : RightRow deck row
+        right_row = rows_split.0
 
         split : left i from ≡ part ++ left (i + 1) (from + 8)
-        split = λ j. bodiesNoted deck (note-and-rest notes l j) (first-left deck g.place inside j)
+        split = λ j. bodies_noted deck (note_and_rest notes l j) (first_left deck g.place inside j)
 
         long : length (left i from) ≡ length part + length (left (i + 1) (from + 8))
         long = ap length split ∙ length-append part (left (i + 1) (from + 8))
 
-        pub part-fits : to + length part ≤ length is
-        part-fits = omega (arith, g.fits, long, g.still.long)
+        pub part_fits : to + length part ≤ length is
+        part_fits = omega (arith, g.fits, long, g.still.long)
 
-        pub bodies-next : {b : List ℕ} {m : ℕ} → Put is b to part m → BodiesLeft was b at (i + 1) (from + 8) m
-        bodies-next p = record {
+        pub bodies_next : {b : List ℕ} {m : ℕ} → Put is b to part m → BodiesLeft was b at (i + 1) (from + 8) m
+        bodies_next p = record {
           place = next_place deck g.place inside;
           right = rows_split.1;
-          still = still-less g.still (left (i + 1) (from + 8)) split p;
+          still = still_less g.still (left (i + 1) (from + 8)) split p;
           fits = omega (arith, g.fits, long, p.next);
         }

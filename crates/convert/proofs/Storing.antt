@@ -5,87 +5,87 @@ use mathlib.Core.List.{List, [], ◌∷◌, ◌++◌, map}
 use native.Mathlib.Omega.{arith}
 use lib.ListN.{length, take, drop, length-map, length-take}
 use lib.Seq.{take_at}
-use Rattle.card.specs.Refusals.{roomTooSmall}
+use Rattle.card.specs.Refusals.{room_too_small}
 use Rattle.card.specs.declared.Verdict.TheVariants.{Taken, Refused as Wrong}
 use Rattle.entry.specs.Said.{Said, says, refused, ◌>>=◌, ◌>>◌}
-use Rattle.entry.proofs.Stages.{says≢refused, same-said, same_number, same_place}
-use Rattle.deck.specs.Contents.{Row, byte, count_of, behind, contentsOf, judged}
-use Rattle.deck.specs.Deck.{Entry, entry_of, heldBy, rowsFor, rowsText, bodies, deckText}
+use Rattle.entry.proofs.Stages.{says≢refused, same_said, same_number, same_place}
+use Rattle.deck.specs.Contents.{Row, byte, count_of, behind, contents_of, judged}
+use Rattle.deck.specs.Deck.{Entry, entry_of, held_by, rows_for, rows_text, bodies, deck_text}
 use Rattle.deck.specs.Sound.{Sound}
-use Rattle.deck.proofs.DeckStages.{judged-stage}
-use Rattle.deck.proofs.Written.{length-text, length-rows, length-for}
-use Rattle.deck_entries.specs.Verdicts.{verdictOf}
-use Rattle.deck_entries.proofs.Laws.{verdict-refused, verdict-fine}
+use Rattle.deck.proofs.DeckStages.{judged_stage}
+use Rattle.deck.proofs.Written.{length_text, length_rows, length_for}
+use Rattle.deck_entries.specs.Verdicts.{verdict_of}
+use Rattle.deck_entries.proofs.Laws.{verdict_refused, verdict_fine}
 use Rattle.deck_writer.proofs.Putting.{rows_before}
 use Rattle.room.specs.declared.Answer.{Answer}
 use Rattle.room.specs.declared.Answer.TheVariants.{Done, Refused}
 use Rattle.room.specs.Room.{Put}
 use Rattle.room.specs.Answer.{told, Entered}
-use Rattle.room.proofs.Laws.{then, put_as, put-length}
-use Rattle.room.proofs.Entries.{entered-whole, entered-short, told-faithful}
-use Rattle.converting.specs.Converting.{convertSaid}
+use Rattle.room.proofs.Laws.{then, put_as, put_length}
+use Rattle.room.proofs.Entries.{entered_whole, entered_short, told_faithful}
+use Rattle.converting.specs.Converting.{convert_said}
 use Rattle.converting.specs.Converts.{Convertible}
-use Rattle.converting.proofs.Exactly.{Which, all, notAll, which, held-long, convertible-said, stops-in-said, not-sound-said}
-use Rattle.converting.proofs.Anew.{same_count, ends-within}
-use Rattle.converted_rows.specs.Noted.{rowsNoted, Each, SizesFit}
-use Rattle.converted_rows.specs.Notes.{note_of, endSaid, bodiesNoted}
-use Rattle.converted_rows.proofs.Notes.{end-converts, end-stops}
-use Rattle.converted_rows.proofs.Text.{sound-right, rows-noted, bodies-noted, sizes-noted}
+use Rattle.converting.proofs.Exactly.{Which, all, not_all, which, held_long, convertible_said, stops_in_said, not_sound_said}
+use Rattle.converting.proofs.Anew.{same_count, ends_within}
+use Rattle.converted_rows.specs.Noted.{rows_noted, Each, SizesFit}
+use Rattle.converted_rows.specs.Notes.{note_of, end_said, bodies_noted}
+use Rattle.converted_rows.proofs.Notes.{end_converts, end_stops}
+use Rattle.converted_rows.proofs.Text.{sound_right, rows_noted_law, bodies_noted_law, sizes_noted_law}
 use Rattle.convert.specs.NotesFound.{NotesFound}
 use Rattle.convert.specs.Ready.{BodiesFit, Ready}
 
 -- ---- a card is named, or none
 
 module _ (deck : List ℕ) where
-  pub wrong-deck : {r p : ℕ} → Wrong r p ≡ verdictOf (judged deck) → convertSaid deck ≡ refused r p
-  wrong-deck {r} {p} e =
-      let j = verdict-refused (judged deck) (sym e) in
-      not-sound-said deck (ap (λ (x : Said (Unit {0})). (x >> says (contentsOf deck)) >>= (λ (rows : List Row). says (map (entry_of deck) rows))) j)
+  pub wrong_deck : {r p : ℕ} → Wrong r p ≡ verdict_of (judged deck) → convert_said deck ≡ refused r p
+  wrong_deck {r} {p} e =
+      let j = verdict_refused (judged deck) (sym e) in
+      not_sound_said deck (ap (λ (x : Said (Unit {0})). (x >> says (contents_of deck)) >>= (λ (rows : List Row). says (map (entry_of deck) rows))) j)
 
-  pub sound-deck : Taken ≡ verdictOf (judged deck) → Sound deck
-  sound-deck e = ((judged-stage deck).found.only tt (verdict-fine (judged deck) (sym e))).0
+  pub sound_deck : Taken ≡ verdict_of (judged deck) → Sound deck
+  sound_deck e = ((judged_stage deck).found.only tt (verdict_fine (judged deck) (sym e))).0
 
   module _ (s : Sound deck) where
     abbrev first : ℕ
     first = behind (count_of deck)
 
-    pub named : {r p : ℕ} → Refused r p ≡ told (endSaid first (heldBy deck)) → convertSaid deck ≡ refused r p
-    named {r} {p} e = go (which first (heldBy deck))
+    pub named : {r p : ℕ} → Refused r p ≡ told (end_said first (held_by deck)) → convert_said deck ≡ refused r p
+    named {r} {p} e = go (which first (held_by deck))
       where
-        said : endSaid first (heldBy deck) ≡ refused r p
-        said = told-faithful (endSaid first (heldBy deck)) (refused r p) (sym e)
+        said : end_said first (held_by deck) ≡ refused r p
+        said = told_faithful (end_said first (held_by deck)) (refused r p) (sym e)
 
-        go : Which first (heldBy deck) → convertSaid deck ≡ refused r p
-        go (all new k) = says≢refused (sym (end-converts k) ∙ said)
-        go (notAll number k) =
-            let same = sym (end-stops k) ∙ said in
-            stops-in-said deck (record { sound = s; stops = k }) ∙ (λ i. refused (same_number same i) (same_place same i))
+        go : Which first (held_by deck) → convert_said deck ≡ refused r p
+        go (all new k) = says≢refused (sym (end_converts k) ∙ said)
+        go (not_all number k) =
+            let same = sym (end_stops k) ∙ said in
+            stops_in_said deck (record { sound = s; stops = k }) ∙ (λ i. refused (same_number same i) (same_place same i))
 
-    module _ {need : ℕ} (e : endSaid first (heldBy deck) ≡ says need) where
+    module _ {need : ℕ} (e : end_said first (held_by deck) ≡ says need) where
       pub convertible : (c : Convertible deck) × (need ≡ first + length (bodies c.new))
-      convertible = go (which first (heldBy deck))
+      convertible = go (which first (held_by deck))
         where
-          go : Which first (heldBy deck) → (c : Convertible deck) × (need ≡ first + length (bodies c.new))
-          go (all new k) = (record { sound = s; new = new; converts = k }, same-said (sym e ∙ end-converts k))
-          go (notAll number k) = says≢refused (sym e ∙ end-stops k)
+          go : Which first (held_by deck) → (c : Convertible deck) × (need ≡ first + length (bodies c.new))
+          go (all new k) = (record { sound = s; new = new; converts = k }, same_said (sym e ∙ end_converts k))
+          go (not_all number k) = says≢refused (sym e ∙ end_stops k)
 
 -- ---- the notes handed on
 
 module _ {deck was is : List ℕ} {r : Answer} {c long : ℕ} (s : Sound deck) (e : c ≡ count_of deck) (n : NotesFound deck was is r) (d : r ≡ Done long) where
-  as_many : length (map note_of (heldBy deck)) ≡ c
-  as_many = length-map (heldBy deck) note_of ∙ held-long deck ∙ sym e
+  as_many : length (map note_of (held_by deck)) ≡ c
+  as_many = length-map (held_by deck) note_of ∙ held_long deck ∙ sym e
 
-  numbers-are : take c is ≡ map note_of (heldBy deck)
-  numbers-are = ap (take c) (n.notes long d) ∙ take_at (map note_of (heldBy deck)) (drop (count_of deck) was) c as_many
+  numbers_are : take c is ≡ map note_of (held_by deck)
+  numbers_are = ap (take c) (n.notes long d) ∙ take_at (map note_of (held_by deck)) (drop (count_of deck) was) c as_many
 
-  pub notes-count : c ≡ length (take c is)
-  notes-count = sym (ap length numbers-are ∙ as_many)
+  pub notes_count : c ≡ length (take c is)
+  notes_count = sym (ap length numbers_are ∙ as_many)
 
-  pub notes-fit : c ≤ length is
-  notes-fit = omega (arith, notes-count, length-take c is)
+  pub notes_fit : c ≤ length is
+  notes_fit = omega (arith, notes_count, length-take c is)
 
-  pub notes-ready : Ready deck (take c is) long
-  notes-ready = record { sound = s; are = numbers-are; ends = sym (told-faithful (says long) (endSaid (behind (count_of deck)) (heldBy deck)) (sym d ∙ n.ends)) }
+  pub notes_ready : Ready deck (take c is) long
+  notes_ready = record { sound = s; are = numbers_are; ends = sym (told_faithful (says long) (end_said (behind (count_of deck)) (held_by deck)) (sym d ∙ n.ends)) }
 
 -- ---- the new deck put
 
@@ -97,58 +97,58 @@ module _ {deck notes : List ℕ} {need : ℕ} (h : Ready deck notes need) where
   new = found.0.new
 
   many : length new ≡ count_of deck
-  many = same_count found.0.converts ∙ held-long deck
+  many = same_count found.0.converts ∙ held_long deck
 
-  pub said : convertSaid deck ≡ says (deckText new)
-  said = convertible-said deck found.0
+  pub said : convert_said deck ≡ says (deck_text new)
+  said = convertible_said deck found.0
 
-  pub need-is : need ≡ length (deckText new)
-  need-is = omega (arith, found.1, length-text new, many)
+  pub need_is : need ≡ length (deck_text new)
+  need_is = omega (arith, found.1, length_text new, many)
 
-  pub small-room : {room : List ℕ} → length room < need → Entered room room (convertSaid deck) (Refused roomTooSmall need)
-  small-room l = entered-short need-is said l
+  pub small_room : {room : List ℕ} → length room < need → Entered room room (convert_said deck) (Refused room_too_small need)
+  small_room l = entered_short need_is said l
 
   pub each : Each deck notes
-  each = record { head = h.sound.head; long = ap length h.are ∙ length-map (heldBy deck) note_of ∙ held-long deck }
+  each = record { head = h.sound.head; long = ap length h.are ∙ length-map (held_by deck) note_of ∙ held_long deck }
 
-  sizes-fit : SizesFit deck notes (1 + 8 * count_of deck)
-  sizes-fit =
-      let sizes = sizes-noted deck (contentsOf deck) (sound-right deck h.sound) found.0.converts in
-      let within = ends-within found.0.converts (omega (arith, h.sound.head.whole, h.sound.head.short)) in
+  sizes_fit : SizesFit deck notes (1 + 8 * count_of deck)
+  sizes_fit =
+      let sizes = sizes_noted_law deck (contents_of deck) (sound_right deck h.sound) found.0.converts in
+      let within = ends_within found.0.converts (omega (arith, h.sound.head.whole, h.sound.head.short)) in
       subst (λ (ks : List ℕ). SizesFit deck ks (1 + 8 * count_of deck)) (sym h.are) (omega (arith, sizes, within))
 
-  pub sizes-fit-at : {c : ℕ} → c ≡ count_of deck → SizesFit deck notes (1 + 8 * c)
-  sizes-fit-at e = subst (λ (n : ℕ). SizesFit deck notes (1 + 8 * n)) (sym e) sizes-fit
+  pub sizes_fit_at : {c : ℕ} → c ≡ count_of deck → SizesFit deck notes (1 + 8 * c)
+  sizes_fit_at e = subst (λ (n : ℕ). SizesFit deck notes (1 + 8 * n)) (sym e) sizes_fit
 
-  rows_are : rowsNoted notes (1 + 8 * count_of deck) (contentsOf deck) ≡ rowsFor (behind (count_of deck)) new
+  rows_are : rows_noted notes (1 + 8 * count_of deck) (contents_of deck) ≡ rows_for (behind (count_of deck)) new
   rows_are =
-      ap (λ (ks : List ℕ). rowsNoted ks (1 + 8 * count_of deck) (contentsOf deck)) h.are
-      ∙ sym (rows-noted deck (contentsOf deck) (sound-right deck h.sound) found.0.converts)
+      ap (λ (ks : List ℕ). rows_noted ks (1 + 8 * count_of deck) (contents_of deck)) h.are
+      ∙ sym (rows_noted_law deck (contents_of deck) (sound_right deck h.sound) found.0.converts)
 
-  bodies-are : bodiesNoted deck notes (contentsOf deck) ≡ bodies new
-  bodies-are = ap (λ (ks : List ℕ). bodiesNoted deck ks (contentsOf deck)) h.are ∙ sym (bodies-noted deck (contentsOf deck) found.0.converts)
+  bodies_are : bodies_noted deck notes (contents_of deck) ≡ bodies new
+  bodies_are = ap (λ (ks : List ℕ). bodies_noted deck ks (contents_of deck)) h.are ∙ sym (bodies_noted_law deck (contents_of deck) found.0.converts)
 
-  text : deckText new ≡ (byte deck 0 ∷ []) ++ rowsText (rowsNoted notes (1 + 8 * count_of deck) (contentsOf deck)) [] ++ bodiesNoted deck notes (contentsOf deck)
+  text : deck_text new ≡ (byte deck 0 ∷ []) ++ rows_text (rows_noted notes (1 + 8 * count_of deck) (contents_of deck)) [] ++ bodies_noted deck notes (contents_of deck)
   text =
-      ap (λ (n : ℕ). n ∷ rowsText (rowsFor (behind n) new) (bodies new)) many
-      ∙ ap (λ (l : List ℕ). count_of deck ∷ l) (rows_before (rowsFor (behind (count_of deck)) new) (bodies new))
-      ∙ sym (λ i. count_of deck ∷ (rowsText (rows_are i) [] ++ bodies-are i))
+      ap (λ (n : ℕ). n ∷ rows_text (rows_for (behind n) new) (bodies new)) many
+      ∙ ap (λ (l : List ℕ). count_of deck ∷ l) (rows_before (rows_for (behind (count_of deck)) new) (bodies new))
+      ∙ sym (λ i. count_of deck ∷ (rows_text (rows_are i) [] ++ bodies_are i))
 
-  rows_long : length (rowsText (rowsNoted notes (1 + 8 * count_of deck) (contentsOf deck)) []) ≡ 8 * count_of deck
+  rows_long : length (rows_text (rows_noted notes (1 + 8 * count_of deck) (contents_of deck)) []) ≡ 8 * count_of deck
   rows_long =
-      ap (λ (rs : List Row). length (rowsText rs [])) rows_are
-      ∙ omega (arith, length-rows (rowsFor (behind (count_of deck)) new) [], length-for (behind (count_of deck)) new, many)
+      ap (λ (rs : List Row). length (rows_text rs [])) rows_are
+      ∙ omega (arith, length_rows (rows_for (behind (count_of deck)) new) [], length_for (behind (count_of deck)) new, many)
 
-  module _ {a b c : List ℕ} {k m n : ℕ} (e : k ≡ count_of deck) (p : Put a b 0 (byte deck 0 ∷ []) m) (rows : Put b c m (rowsText (rowsNoted notes (1 + 8 * k) (contentsOf deck)) []) n)
+  module _ {a b c : List ℕ} {k m n : ℕ} (e : k ≡ count_of deck) (p : Put a b 0 (byte deck 0 ∷ []) m) (rows : Put b c m (rows_text (rows_noted notes (1 + 8 * k) (contents_of deck)) []) n)
       (l : need ≤ length a) where
-    q : Put b c m (rowsText (rowsNoted notes (1 + 8 * count_of deck) (contentsOf deck)) []) n
-    q = subst (λ (x : ℕ). Put b c m (rowsText (rowsNoted notes (1 + 8 * x) (contentsOf deck)) []) n) e rows
+    q : Put b c m (rows_text (rows_noted notes (1 + 8 * count_of deck) (contents_of deck)) []) n
+    q = subst (λ (x : ℕ). Put b c m (rows_text (rows_noted notes (1 + 8 * x) (contents_of deck)) []) n) e rows
 
-    pub bodies-fit : BodiesFit deck notes n c
-    bodies-fit = record {
-      right = sound-right deck h.sound;
-      fits = omega (arith, p.next, q.next, rows_long, l, found.1, ap length bodies-are, put-length p, put-length q);
+    pub bodies_fit : BodiesFit deck notes n c
+    bodies_fit = record {
+      right = sound_right deck h.sound;
+      fits = omega (arith, p.next, q.next, rows_long, l, found.1, ap length bodies_are, put_length p, put_length q);
     }
 
-    pub new-put : {d : List ℕ} {r : ℕ} → Put c d n (bodiesNoted deck notes (contentsOf deck)) r → Entered a d (convertSaid deck) (Done r)
-    new-put s = entered-whole said (omega (arith, l, need-is)) (put_as text (then p (then q s)))
+    pub new_put : {d : List ℕ} {r : ℕ} → Put c d n (bodies_noted deck notes (contents_of deck)) r → Entered a d (convert_said deck) (Done r)
+    new_put s = entered_whole said (omega (arith, l, need_is)) (put_as text (then p (then q s)))

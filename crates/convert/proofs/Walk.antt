@@ -5,40 +5,40 @@ use mathlib.Core.List.{List, [], ◌∷◌, ◌++◌, map, append_assoc, append-
 use native.Mathlib.Omega.{arith}
 use lib.ListN.{length, drop, set, length-append}
 use lib.Seq.{drop-cons, set_at}
-use Rattle.card.specs.Refusals.{notConverted}
-use Rattle.card.specs.Limits.{deckBytes}
+use Rattle.card.specs.Refusals.{not_converted}
+use Rattle.card.specs.Limits.{deck_bytes}
 use Rattle.card.specs.Valid.{Every}
 use Rattle.entry.specs.Said.{refused}
 use Rattle.deck.specs.Contents.{word_at, Row, row_of, count_of, behind}
-use Rattle.deck.specs.Deck.{Entry, entry_of, heldBy}
+use Rattle.deck.specs.Deck.{Entry, entry_of, held_by}
 use Rattle.deck.specs.Sound.{Sound}
-use Rattle.deck_entries.proofs.Laws.{row-there}
-use Rattle.reading.specs.Reading.{readUnder}
+use Rattle.deck_entries.proofs.Laws.{row_there}
+use Rattle.reading.specs.Reading.{read_under}
 use Rattle.room.specs.declared.Answer.TheVariants.{Done, Refused}
 use Rattle.room.specs.Answer.{told}
-use Rattle.converting.specs.Converting.{oldRule, newRule}
-use Rattle.converted_rows.specs.Noted.{sizeBy}
-use Rattle.converted_rows.specs.Notes.{note_of, newSize, endSaid}
-use Rattle.converted_rows.proofs.Left.{Place, starts, rowsLeft, all_left, none_left, next_place, first-left}
-use Rattle.converted_rows.proofs.Notes.{fits_on, past_end, note-most}
-use Rattle.converted_rows.proofs.Text.{RightRow, sound-right, size_of}
+use Rattle.converting.specs.Converting.{old_rule, new_rule}
+use Rattle.converted_rows.specs.Noted.{size_by}
+use Rattle.converted_rows.specs.Notes.{note_of, new_size, end_said}
+use Rattle.converted_rows.proofs.Left.{Place, starts, rows_left, all_left, none_left, next_place, first_left}
+use Rattle.converted_rows.proofs.Notes.{fits_on, past_end_law, note_most}
+use Rattle.converted_rows.proofs.Text.{RightRow, sound_right, size_of}
 use Rattle.convert.specs.NotesFound.{NotesFound}
 
 done≢refused : {A : Type 0} {long number place : ℕ} → Done long ≡ Refused number place → A
 done≢refused e = let z : ◌≡◌ {A = ℕ} 0 1 = cc in absurd (omega arith)
 
 module _ (deck : List ℕ) where
-  abbrev entriesLeft : (i from : ℕ) → List Entry
-  entriesLeft i from = map (entry_of deck) (rowsLeft deck i from)
+  abbrev entries_left : (i from : ℕ) → List Entry
+  entries_left i from = map (entry_of deck) (rows_left deck i from)
 
   pub record Going (was is : List ℕ) (i from end : ℕ) : Type 0 where
     pub place : Place deck i from
-    pub right : Every (RightRow deck) (rowsLeft deck i from)
+    pub right : Every (RightRow deck) (rows_left deck i from)
     pub done : List ℕ
     pub long : length done ≡ i
-    pub notes : map note_of (heldBy deck) ≡ done ++ map note_of (entriesLeft i from)
+    pub notes : map note_of (held_by deck) ≡ done ++ map note_of (entries_left i from)
     pub stands : is ≡ done ++ drop i was
-    pub ends : endSaid (behind (count_of deck)) (heldBy deck) ≡ endSaid end (entriesLeft i from)
+    pub ends : end_said (behind (count_of deck)) (held_by deck) ≡ end_said end (entries_left i from)
     pub short : end ≤ 65535
 
   module _ (s : Sound deck) where
@@ -48,12 +48,12 @@ module _ (deck : List ℕ) where
         let first : behind (count_of deck) ≡ 1 + 8 * c = omega (arith, e) in
         record {
           place = starts deck;
-          right = subst (Every (RightRow deck)) (sym same) (sound-right deck s);
+          right = subst (Every (RightRow deck)) (sym same) (sound_right deck s);
           done = [];
           long = refl;
           notes = ap (λ (rs : List Row). map note_of (map (entry_of deck) rs)) (sym same);
           stands = refl;
-          ends = ap (λ (n : ℕ). endSaid n (heldBy deck)) first ∙ ap (λ (rs : List Row). endSaid (1 + 8 * c) (map (entry_of deck) rs)) (sym same);
+          ends = ap (λ (n : ℕ). end_said n (held_by deck)) first ∙ ap (λ (rs : List Row). end_said (1 + 8 * c) (map (entry_of deck) rs)) (sym same);
           short = omega (arith, first, s.head.whole, s.head.short);
         }
 
@@ -63,7 +63,7 @@ module _ (deck : List ℕ) where
           let none = none_left deck g.place l in
           let all : i ≡ count_of deck = omega (arith, g.place.within) in
           record {
-            ends = ap told (sym (g.ends ∙ ap (λ (rs : List Row). endSaid end (map (entry_of deck) rs)) none));
+            ends = ap told (sym (g.ends ∙ ap (λ (rs : List Row). end_said end (map (entry_of deck) rs)) none));
             notes = λ m e.
                 g.stands
                 ∙ ap (λ (n : ℕ). g.done ++ drop n was) all
@@ -77,40 +77,40 @@ module _ (deck : List ℕ) where
         abbrev entry : Entry
         entry = entry_of deck row
 
-        pub in-contents : from + 8 ≤ length deck
-        in-contents = omega (arith, g.place.at, s.head.whole)
+        pub in_contents : from + 8 ≤ length deck
+        in_contents = omega (arith, g.place.at, s.head.whole)
 
-        split : Every (RightRow deck) (row ∷ rowsLeft deck (i + 1) (from + 8))
-        split = subst (Every (RightRow deck)) (first-left deck g.place l) g.right
+        split : Every (RightRow deck) (row ∷ rows_left deck (i + 1) (from + 8))
+        split = subst (Every (RightRow deck)) (first_left deck g.place l) g.right
 
-        pub right-row : RightRow deck row
-        right-row = split.0
+        pub right_row : RightRow deck row
+        right_row = split.0
 
-        module _ {k z : ℕ} (ek : k ≡ note_of entry) (ez : z ≡ sizeBy k row.size) where
-          size_is : newSize entry ≡ z
-          size_is = size_of deck row right-row ∙ ap (λ (n : ℕ). sizeBy n row.size) (sym ek) ∙ sym ez
+        module _ {k z : ℕ} (ek : k ≡ note_of entry) (ez : z ≡ size_by k row.size) where
+          size_is : new_size entry ≡ z
+          size_is = size_of deck row right_row ∙ ap (λ (n : ℕ). size_by n row.size) (sym ek) ∙ sym ez
 
-          size-most : (n : ℕ) → n ≤ 65537 → sizeBy n row.size ≤ 65537
-          size-most zero h = omega (arith, right-row.ends, s.head.short)
-          size-most (suc n) h = omega arith
+          size_most : (n : ℕ) → n ≤ 65537 → size_by n row.size ≤ 65537
+          size_most zero h = omega (arith, right_row.ends, s.head.short)
+          size_most (suc n) h = omega arith
 
-          pub end-small : end + z ≤ 65535 + 65537
-          end-small =
-              let most : k ≤ 65537 = omega (arith, ek, note-most entry.live (readUnder oldRule entry.body) (readUnder newRule entry.body)) in
-              omega (arith, g.short, ez, size-most k most)
+          pub end_small : end + z ≤ 65535 + 65537
+          end_small =
+              let most : k ≤ 65537 = omega (arith, ek, note_most entry.live (read_under old_rule entry.body) (read_under new_rule entry.body)) in
+              omega (arith, g.short, ez, size_most k most)
 
-          ends-split : endSaid (behind (count_of deck)) (heldBy deck) ≡ endSaid end (entry ∷ entriesLeft (i + 1) (from + 8))
-          ends-split = g.ends ∙ ap (λ (rs : List Row). endSaid end (map (entry_of deck) rs)) (first-left deck g.place l)
+          ends_split : end_said (behind (count_of deck)) (held_by deck) ≡ end_said end (entry ∷ entries_left (i + 1) (from + 8))
+          ends_split = g.ends ∙ ap (λ (rs : List Row). end_said end (map (entry_of deck) rs)) (first_left deck g.place l)
 
-          pub stopped : deckBytes < end + z → {n : ℕ} {now : List ℕ} → n ≡ word_at deck from → NotesFound deck was now (Refused notConverted n)
+          pub stopped : deck_bytes < end + z → {n : ℕ} {now : List ℕ} → n ≡ word_at deck from → NotesFound deck was now (Refused not_converted n)
           stopped past {n} en =
-              let number : row.number ≡ n = ap (λ (r : Row). r.number) (row-there deck from 0 0 en refl refl refl refl) in
+              let number : row.number ≡ n = ap (λ (r : Row). r.number) (row_there deck from 0 0 en refl refl refl refl) in
               record {
-                ends = ap told (sym (ends-split ∙ past_end end entry (entriesLeft (i + 1) (from + 8)) (omega (arith, size_is)) ∙ ap (λ (m : ℕ). refused notConverted m) number));
+                ends = ap told (sym (ends_split ∙ past_end_law end entry (entries_left (i + 1) (from + 8)) (omega (arith, size_is)) ∙ ap (λ (m : ℕ). refused not_converted m) number));
                 notes = λ m e. done≢refused (sym e);
               }
 
-          pub goes_on : end + z ≤ deckBytes → i < length was → Going was (set is i k) (i + 1) (from + 8) (end + z)
+          pub goes_on : end + z ≤ deck_bytes → i < length was → Going was (set is i k) (i + 1) (from + 8) (end + z)
           goes_on fits room = record {
             place = next_place deck g.place l;
             right = split.1;
@@ -118,9 +118,9 @@ module _ (deck : List ℕ) where
             long = length-append g.done (k ∷ []) ∙ omega (arith, g.long);
             notes =
                 g.notes
-                ∙ ap (λ (rs : List Row). g.done ++ map note_of (map (entry_of deck) rs)) (first-left deck g.place l)
-                ∙ ap (λ (n : ℕ). g.done ++ n ∷ map note_of (entriesLeft (i + 1) (from + 8))) (sym ek)
-                ∙ sym (append_assoc g.done (k ∷ []) (map note_of (entriesLeft (i + 1) (from + 8))));
+                ∙ ap (λ (rs : List Row). g.done ++ map note_of (map (entry_of deck) rs)) (first_left deck g.place l)
+                ∙ ap (λ (n : ℕ). g.done ++ n ∷ map note_of (entries_left (i + 1) (from + 8))) (sym ek)
+                ∙ sym (append_assoc g.done (k ∷ []) (map note_of (entries_left (i + 1) (from + 8))));
             stands =
                 let one : suc i ≡ i + 1 = omega arith in
                 ap (λ (t : List ℕ). set t i k) (g.stands ∙ ap (λ (t : List ℕ). g.done ++ t) (drop-cons was i 0 room))
@@ -128,8 +128,8 @@ module _ (deck : List ℕ) where
                 ∙ sym (append_assoc g.done (k ∷ []) (drop (suc i) was))
                 ∙ ap (λ (n : ℕ). (g.done ++ k ∷ []) ++ drop n was) one;
             ends =
-                ends-split
-                ∙ fits_on end entry (entriesLeft (i + 1) (from + 8)) (omega (arith, size_is))
-                ∙ ap (λ (n : ℕ). endSaid (end + n) (entriesLeft (i + 1) (from + 8))) size_is;
+                ends_split
+                ∙ fits_on end entry (entries_left (i + 1) (from + 8)) (omega (arith, size_is))
+                ∙ ap (λ (n : ℕ). end_said (end + n) (entries_left (i + 1) (from + 8))) size_is;
             short = fits;
           }

@@ -1,15 +1,15 @@
 // A box converted: its live cards without decimal weights, in a deck without gaps; or the card that cannot be converted (document 02, 2026-11).
 ghost use Rattle.std.specs.Prelude.{◌≡◌, ◌+◌, ◌≤◌, length, drop};
-ghost use Rattle.card.specs.Limits.{entryBytes, mostCards};
-ghost use Rattle.deck.specs.Contents.{row_of, count_of, contentsOf};
+ghost use Rattle.card.specs.Limits.{entry_bytes, most_cards};
+ghost use Rattle.deck.specs.Contents.{row_of, count_of, contents_of};
 ghost use Rattle.deck.specs.Deck.{entry_of, body_of};
 ghost use Rattle.deck.specs.Sound.{Sound};
-ghost use Rattle.converted_rows.specs.Notes.{note_of, bodyNoted, bodiesNoted};
+ghost use Rattle.converted_rows.specs.Notes.{note_of, body_noted, bodies_noted};
 ghost use Rattle.converted_rows.proofs.Text.{RightRow};
 ghost use Rattle.convert.specs.NotesFound.{NotesFound};
 ghost use Rattle.room.specs.Room.{Put};
 ghost use Rattle.room.specs.Answer.{Entered};
-ghost use Rattle.converting.specs.Converting.{convertSaid};
+ghost use Rattle.converting.specs.Converting.{convert_said};
 ghost use Rattle.converted_rows.specs.Noted.{Each};
 ghost use Rattle.convert.specs.Ready.{BodiesFit, Ready};
 
@@ -24,7 +24,7 @@ use room::{Answer, place, put_byte, put_run};
 
 // The note of the entry at a place; a withdrawn card is not read.
 fn note_of(deck: &[u8], from: usize) -> usize
-    requires entry_bytes_in_bounds { from + entryBytes ≤ length deck.now }
+    requires entry_bytes_in_bounds { from + entry_bytes ≤ length deck.now }
     requires right_row { RightRow deck.now (row_of (drop from deck.now)) }
     ensures { result ≡ note_of (entry_of deck.now (row_of (drop from deck.now))) }
 {
@@ -41,7 +41,7 @@ fn note_of(deck: &[u8], from: usize) -> usize
 fn notes_into(deck: &[u8], count: usize, notes: &mut [usize; MOST_CARDS]) -> Answer
     requires sound { Sound deck.now }
     requires count_value { count ≡ count_of deck.now }
-    requires notes_len { length notes.old ≡ mostCards }
+    requires notes_len { length notes.old ≡ most_cards }
     ensures { NotesFound deck.now notes.old notes.new result }
 {
     let mut i: usize = 0;
@@ -63,10 +63,10 @@ fn notes_into(deck: &[u8], count: usize, notes: &mut [usize; MOST_CARDS]) -> Ans
 
 // The new body of the entry at a place, where the room has bytes for it.
 fn put_body(room: &mut [u8], at: usize, deck: &[u8], from: usize, note: usize) -> usize
-    requires entry_bytes_in_bounds { from + entryBytes ≤ length deck.now }
+    requires entry_bytes_in_bounds { from + entry_bytes ≤ length deck.now }
     requires right_row { RightRow deck.now (row_of (drop from deck.now)) }
-    requires deck_in_bounds { at + length (bodyNoted note (body_of deck.now (row_of (drop from deck.now)))) ≤ length room.old }
-    ensures { Put room.old room.new at (bodyNoted note (body_of deck.now (row_of (drop from deck.now)))) result }
+    requires deck_in_bounds { at + length (body_noted note (body_of deck.now (row_of (drop from deck.now)))) ≤ length room.old }
+    ensures { Put room.old room.new at (body_noted note (body_of deck.now (row_of (drop from deck.now)))) result }
 {
     let offset = word_at(deck, from + OFFSET_AT);
     let size = word_at(deck, from + SIZE_AT);
@@ -81,7 +81,7 @@ fn put_body(room: &mut [u8], at: usize, deck: &[u8], from: usize, note: usize) -
 fn put_bodies(room: &mut [u8], at: usize, deck: &[u8], notes: &[usize]) -> usize
     requires each { Each deck.now notes.now }
     requires bodies_fit { BodiesFit deck.now notes.now at room.old }
-    ensures { Put room.old room.new at (bodiesNoted deck.now notes.now (contentsOf deck.now)) result }
+    ensures { Put room.old room.new at (bodies_noted deck.now notes.now (contents_of deck.now)) result }
 {
     let mut i: usize = 0;
     let mut from: usize = COUNT_BYTES;
@@ -98,7 +98,7 @@ fn put_bodies(room: &mut [u8], at: usize, deck: &[u8], notes: &[usize]) -> usize
 fn store_new(deck: &[u8], count: usize, notes: &[usize], need: usize, room: &mut [u8]) -> Answer
     requires count_value { count ≡ count_of deck.now }
     requires ready { Ready deck.now notes.now need }
-    ensures { Entered room.old room.new (convertSaid deck.now) result }
+    ensures { Entered room.old room.new (convert_said deck.now) result }
 {
     if room.len() < need {
         return Answer::Refused(ROOM_TOO_SMALL, need);
@@ -111,7 +111,7 @@ fn store_new(deck: &[u8], count: usize, notes: &[usize], need: usize, room: &mut
 
 // The deck is judged first, then each card in the order of the contents, then the room.
 pub fn convert(deck: &[u8], room: &mut [u8]) -> Answer
-    ensures { Entered room.old room.new (convertSaid deck.now) result }
+    ensures { Entered room.old room.new (convert_said deck.now) result }
 {
     if let Verdict::Refused(number, place) = judge_deck(deck) {
         return Answer::Refused(number, place);

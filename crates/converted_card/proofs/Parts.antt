@@ -6,45 +6,45 @@ use native.Mathlib.Omega.{arith}
 use lib.ListN.{length, take, drop, length-drop, drop_of_length-le}
 use lib.Seq.{drop-drop, take_all}
 use Rattle.room.specs.Room.{clip, cap, Put}
-use Rattle.room.proofs.Laws.{clip-fits, clip-start, put_as}
-use Rattle.card.specs.Lent.{Lent, cardIn}
+use Rattle.room.proofs.Laws.{clip_fits, clip_start, put_as}
+use Rattle.card.specs.Lent.{Lent, card_in}
 use Rattle.card.specs.declared.Verdict.TheVariants.{Taken}
 use Rattle.outline.specs.ReadingOf.{ReadsUnder}
 use Rattle.outline.specs.declared.Outline.{Outline}
-use Rattle.reading.specs.Reading.{readUnder}
-use Rattle.texts.specs.Writing.{writeOf}
-use Rattle.converting.specs.Converting.{oldRule}
+use Rattle.reading.specs.Reading.{read_under}
+use Rattle.texts.specs.Writing.{write_of}
+use Rattle.converting.specs.Converting.{old_rule}
 use Rattle.converted_rows.specs.Notes.{written_of}
 use Rattle.converted_card.proofs.Reading.{form_of}
 
-pub put-from : (room : List ℕ) (at : ℕ) {ys t : List ℕ} {m : ℕ} → length room < cap → at + length t ≤ length room → Put (take (length room - at) (drop at room)) ys 0 t m
+pub put_from : (room : List ℕ) (at : ℕ) {ys t : List ℕ} {m : ℕ} → length room < cap → at + length t ≤ length room → Put (take (length room - at) (drop at room)) ys 0 t m
     → Put room (take at room ++ (ys ++ drop (length room - at) (drop at room))) at t (at + m)
-put-from room at {ys} {t} small h p =
+put_from room at {ys} {t} small h p =
     let rest = drop at room in
     let long : length rest ≡ length room - at = length-drop at room in
     let most : length rest ≤ length room - at = omega (arith, long) in
     let whole : take (length room - at) rest ≡ rest = take_all (length room - at) rest most in
     let none : drop (length room - at) rest ≡ [] = drop_of_length-le rest most in
     let fits : length t ≤ length rest = omega (arith, long) in
-    let there : ys ≡ t ++ drop (at + length t) room = p.wrote ∙ ap (λ (l : List ℕ). clip l 0 t) whole ∙ clip-start rest t fits ∙ ap (λ (l : List ℕ). t ++ l) (drop-drop (length t) at room) in
+    let there : ys ≡ t ++ drop (at + length t) room = p.wrote ∙ ap (λ (l : List ℕ). clip l 0 t) whole ∙ clip_start rest t fits ∙ ap (λ (l : List ℕ). t ++ l) (drop-drop (length t) at room) in
     record {
       small = small;
       wrote =
           ap (λ (l : List ℕ). take at room ++ (ys ++ l)) none
           ∙ ap (λ (l : List ℕ). take at room ++ l) (append-nil ys ∙ there)
           ∙ sym (append_assoc (take at room) t (drop (at + length t) room))
-          ∙ sym (clip-fits room at t h);
+          ∙ sym (clip_fits room at t h);
       next = omega (arith, p.next, p.small);
     }
 
 -- so a card in the arrays is put as the written form of its bytes
-module _ {s : List ℕ} {r : Outline} {x : Lent} (k : ReadsUnder oldRule s r x) (v : r.verdict ≡ Taken) (room : List ℕ) (at : ℕ) {ys : List ℕ} {m : ℕ} (small : length room < cap)
-    (h : at + length (written_of (readUnder oldRule s)) ≤ length room) (p : Put (take (length room - at) (drop at room)) ys 0 (writeOf (cardIn r.head x)) m) where
-  pub form-fits : at + length (writeOf (cardIn r.head x)) ≤ length room
-  form-fits = omega (arith, h, ap length (form_of k v))
+module _ {s : List ℕ} {r : Outline} {x : Lent} (k : ReadsUnder old_rule s r x) (v : r.verdict ≡ Taken) (room : List ℕ) (at : ℕ) {ys : List ℕ} {m : ℕ} (small : length room < cap)
+    (h : at + length (written_of (read_under old_rule s)) ≤ length room) (p : Put (take (length room - at) (drop at room)) ys 0 (write_of (card_in r.head x)) m) where
+  pub form_fits : at + length (write_of (card_in r.head x)) ≤ length room
+  form_fits = omega (arith, h, ap length (form_of k v))
 
-  pub form-put : Put room (take at room ++ (ys ++ drop (length room - at) (drop at room))) at (written_of (readUnder oldRule s)) (at + m)
-  form-put = put_as (form_of k v) (put-from room at small form-fits p)
+  pub form_put : Put room (take at room ++ (ys ++ drop (length room - at) (drop at room))) at (written_of (read_under old_rule s)) (at + m)
+  form_put = put_as (form_of k v) (put_from room at small form_fits p)
 
   pub next_small : at + m < cap
-  next_small = omega (arith, form-fits, p.next)
+  next_small = omega (arith, form_fits, p.next)

@@ -1,9 +1,9 @@
 // One live card of a box that is converted: what is noted of it, and its written form put into a room (document 02, 2026-11).
 ghost use Rattle.std.specs.Prelude.{◌≡◌, true, ◌+◌, ◌≤◌, length};
-ghost use Rattle.reading.specs.Reading.{readUnder};
+ghost use Rattle.reading.specs.Reading.{read_under as read_under_said};
 ghost use Rattle.room.specs.Room.{Put};
-ghost use Rattle.converting.specs.Converting.{oldRule, newRule};
-ghost use Rattle.converted_rows.specs.Notes.{noteBy, written_of};
+ghost use Rattle.converting.specs.Converting.{old_rule, new_rule};
+ghost use Rattle.converted_rows.specs.Notes.{note_by, written_of};
 
 use card::Verdict;
 use card::limits::{BRANCH_PLACES, CARD_BYTES, DECK_BYTES, NODE_PLACES, ROW_PLACES};
@@ -20,7 +20,7 @@ const NO_NOTE: usize = DECK_BYTES + 2;
 
 // 0 if the new rule takes the card too, else one more than the length of its written form.
 pub fn note_of_card(card: &[u8]) -> usize
-    ensures { result ≡ noteBy true (readUnder oldRule card.now) (readUnder newRule card.now) }
+    ensures { result ≡ note_by true (read_under_said old_rule card.now) (read_under_said new_rule card.now) }
 {
     let mut rows: [usize; ROW_PLACES] = [0; ROW_PLACES];
     let mut nodes: [u32; NODE_PLACES] = [0; NODE_PLACES];
@@ -44,8 +44,8 @@ pub fn note_of_card(card: &[u8]) -> usize
 
 // The card's written form at a place, where the room has bytes for it; nothing if the old rule does not take it.
 pub fn put_written(room: &mut [u8], at: usize, card: &[u8]) -> usize
-    requires { at + length (written_of (readUnder oldRule card.now)) ≤ length room.old }
-    ensures { Put room.old room.new at (written_of (readUnder oldRule card.now)) result }
+    requires { at + length (written_of (read_under_said old_rule card.now)) ≤ length room.old }
+    ensures { Put room.old room.new at (written_of (read_under_said old_rule card.now)) result }
 {
     let mut rows: [usize; ROW_PLACES] = [0; ROW_PLACES];
     let mut nodes: [u32; NODE_PLACES] = [0; NODE_PLACES];

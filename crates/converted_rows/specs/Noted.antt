@@ -1,27 +1,27 @@
 -- The new contents by a note for each entry: 0 if its body stays, else one more than the length of its written form. Assumes nothing.
 use Rattle.std.specs.Prelude.{ℕ, zero, suc, ◌+◌, ◌≤◌, ◌≡◌, List, [], ◌∷◌, length}
-use Rattle.card.specs.Limits.{deckBytes}
-use Rattle.deck.specs.Contents.{Row, count_of, contentsOf}
+use Rattle.card.specs.Limits.{deck_bytes}
+use Rattle.deck.specs.Contents.{Row, count_of, contents_of}
 use Rattle.deck.specs.Sound.{Head}
 
 -- how long a body is that had so many bytes
-abbrev pub sizeBy : (note size : ℕ) → ℕ
-sizeBy zero size = size
-sizeBy (suc long) size = long
+abbrev pub size_by : (note size : ℕ) → ℕ
+size_by zero size = size
+size_by (suc long) size = long
 
-abbrev pub rowSized : (offset size : ℕ) → Row → Row
-rowSized offset size r = record { number = r.number; offset = offset; size = size; flag = r.flag; zeroByte = r.zeroByte }
+abbrev pub row_sized : (offset size : ℕ) → Row → Row
+row_sized offset size r = record { number = r.number; offset = offset; size = size; flag = r.flag; zero_byte = r.zero_byte }
 
 -- each body starts where the one before ends
-abbrev pub rowsNoted : (notes : List ℕ) (at : ℕ) → List Row → List Row
-rowsNoted [] at rs = []
-rowsNoted (k ∷ ks) at [] = []
-rowsNoted (k ∷ ks) at (r ∷ rs) = rowSized at (sizeBy k r.size) r ∷ rowsNoted ks (at + sizeBy k r.size) rs
+abbrev pub rows_noted : (notes : List ℕ) (at : ℕ) → List Row → List Row
+rows_noted [] at rs = []
+rows_noted (k ∷ ks) at [] = []
+rows_noted (k ∷ ks) at (r ∷ rs) = row_sized at (size_by k r.size) r ∷ rows_noted ks (at + size_by k r.size) rs
 
-abbrev pub sizesNoted : (notes : List ℕ) → List Row → ℕ
-sizesNoted [] rs = 0
-sizesNoted (k ∷ ks) [] = 0
-sizesNoted (k ∷ ks) (r ∷ rs) = sizeBy k r.size + sizesNoted ks rs
+abbrev pub sizes_noted : (notes : List ℕ) → List Row → ℕ
+sizes_noted [] rs = 0
+sizes_noted (k ∷ ks) [] = 0
+sizes_noted (k ∷ ks) (r ∷ rs) = size_by k r.size + sizes_noted ks rs
 
 -- a note for each entry
 pub record Each (deck notes : List ℕ) : Type 0 where
@@ -30,4 +30,4 @@ pub record Each (deck notes : List ℕ) : Type 0 where
 
 -- bodies that start at `first` end in a deck that is not too long
 abbrev pub SizesFit : (deck notes : List ℕ) (first : ℕ) → Type 0
-SizesFit deck notes first = first + sizesNoted notes (contentsOf deck) ≤ deckBytes
+SizesFit deck notes first = first + sizes_noted notes (contents_of deck) ≤ deck_bytes

@@ -1,50 +1,50 @@
 -- The note of a card, by what both rules say of it, and what the notes say of the new deck: where its bodies end, and their bytes. Assumes nothing.
 use Rattle.std.specs.Prelude.{ℕ, zero, suc, ◌+◌, Bool, true, false, List, [], ◌∷◌, ◌++◌, leb, length}
-use Rattle.card.specs.Refusals.{notConverted}
-use Rattle.card.specs.Limits.{cardBytes, deckBytes}
+use Rattle.card.specs.Refusals.{not_converted}
+use Rattle.card.specs.Limits.{card_bytes, deck_bytes}
 use Rattle.card.specs.Text.{if◌then◌else◌}
 use Rattle.entry.specs.Said.{Said, says, ◌>>=◌, ◌>>◌, unless}
 use Rattle.deck.specs.Contents.{Row}
 use Rattle.deck.specs.Deck.{Entry, body_of}
-use Rattle.reading.specs.Reading.{Outcome, taken, refused as turned, readUnder}
-use Rattle.texts.specs.Writing.{writeOf}
-use Rattle.converting.specs.Converting.{oldRule, newRule}
-use Rattle.converted_rows.specs.Noted.{sizeBy}
+use Rattle.reading.specs.Reading.{Outcome, taken, refused as turned, read_under}
+use Rattle.texts.specs.Writing.{write_of}
+use Rattle.converting.specs.Converting.{old_rule, new_rule}
+use Rattle.converted_rows.specs.Noted.{size_by}
 
 -- of a card that cannot be converted: as if its body were longer by one byte than any deck
-abbrev pub noNote : ℕ
-noNote = suc (suc deckBytes)
+abbrev pub no_note : ℕ
+no_note = suc (suc deck_bytes)
 
-abbrev pub noteBy : (live : Bool) (old new : Outcome) → ℕ
-noteBy false old new = 0
-noteBy true (turned r p) new = noNote
-noteBy true (taken c) (taken d) = 0
-noteBy true (taken c) (turned r p) = if leb (length (writeOf c)) cardBytes then suc (length (writeOf c)) else noNote
+abbrev pub note_by : (live : Bool) (old new : Outcome) → ℕ
+note_by false old new = 0
+note_by true (turned r p) new = no_note
+note_by true (taken c) (taken d) = 0
+note_by true (taken c) (turned r p) = if leb (length (write_of c)) card_bytes then suc (length (write_of c)) else no_note
 
 abbrev pub note_of : Entry → ℕ
-note_of e = noteBy e.live (readUnder oldRule e.body) (readUnder newRule e.body)
+note_of e = note_by e.live (read_under old_rule e.body) (read_under new_rule e.body)
 
 -- where the last body ends, the first at `at`; or the card that is named
-abbrev pub newSize : Entry → ℕ
-newSize e = sizeBy (note_of e) (length e.body)
+abbrev pub new_size : Entry → ℕ
+new_size e = size_by (note_of e) (length e.body)
 
-abbrev pub endSaid : (at : ℕ) → List Entry → Said ℕ
-endSaid at [] = says at
-endSaid at (e ∷ es) = do
-  unless (leb (at + newSize e) deckBytes) notConverted e.number
-  endSaid (at + newSize e) es
+abbrev pub end_said : (at : ℕ) → List Entry → Said ℕ
+end_said at [] = says at
+end_said at (e ∷ es) = do
+  unless (leb (at + new_size e) deck_bytes) not_converted e.number
+  end_said (at + new_size e) es
 
 -- the written form of a card that is taken
 abbrev pub written_of : Outcome → List ℕ
-written_of (taken c) = writeOf c
+written_of (taken c) = write_of c
 written_of (turned r p) = []
 
 -- the bytes of a card by its note, and those of all
-abbrev pub bodyNoted : (note : ℕ) → List ℕ → List ℕ
-bodyNoted zero card = card
-bodyNoted (suc long) card = written_of (readUnder oldRule card)
+abbrev pub body_noted : (note : ℕ) → List ℕ → List ℕ
+body_noted zero card = card
+body_noted (suc long) card = written_of (read_under old_rule card)
 
-abbrev pub bodiesNoted : (deck notes : List ℕ) → List Row → List ℕ
-bodiesNoted deck [] rs = []
-bodiesNoted deck (k ∷ ks) [] = []
-bodiesNoted deck (k ∷ ks) (r ∷ rs) = bodyNoted k (body_of deck r) ++ bodiesNoted deck ks rs
+abbrev pub bodies_noted : (deck notes : List ℕ) → List Row → List ℕ
+bodies_noted deck [] rs = []
+bodies_noted deck (k ∷ ks) [] = []
+bodies_noted deck (k ∷ ks) (r ∷ rs) = body_noted k (body_of deck r) ++ bodies_noted deck ks rs

@@ -1,10 +1,10 @@
 // The contents of a converted deck put into a room, by a note for each entry: 0 if its body stays, else one more than the length of its written form (document 02, 2026-11).
 ghost use Rattle.std.specs.Prelude.{◌≡◌, [], ◌+◌, ◌≤◌, ◌<◌, length, drop};
-ghost use Rattle.card.specs.Limits.{entryBytes, wordNumbers};
-ghost use Rattle.deck.specs.Contents.{row_of, contentsOf};
-ghost use Rattle.deck.specs.Deck.{rowText, rowsText};
+ghost use Rattle.card.specs.Limits.{entry_bytes, word_numbers};
+ghost use Rattle.deck.specs.Contents.{row_of, contents_of};
+ghost use Rattle.deck.specs.Deck.{row_text, rows_text};
 ghost use Rattle.room.specs.Room.{Put};
-ghost use Rattle.converted_rows.specs.Noted.{sizeBy, rowSized, rowsNoted, Each, SizesFit};
+ghost use Rattle.converted_rows.specs.Noted.{size_by, row_sized, rows_noted, Each, SizesFit};
 
 use card::limits::{COUNT_BYTES, ENTRY_BYTES, FLAG_AT, SIZE_AT, ZERO_BYTE_AT};
 use deck_entries::word_at;
@@ -13,8 +13,8 @@ use room::place;
 
 // How long the body of the entry at a place is in the new deck.
 pub fn new_size(deck: &[u8], from: usize, note: usize) -> usize
-    requires { from + entryBytes ≤ length deck.now }
-    ensures { result ≡ sizeBy note (row_of (drop from deck.now)).size }
+    requires { from + entry_bytes ≤ length deck.now }
+    ensures { result ≡ size_by note (row_of (drop from deck.now)).size }
 {
     if note != 0 {
         return note - 1;
@@ -31,9 +31,9 @@ fn put_sized_row(
     offset: usize,
     size: usize,
 ) -> usize
-    requires entry_bytes_in_bounds { from + entryBytes ≤ length deck.now }
-    requires offset_lt_word_numbers { (offset < wordNumbers) × (size < wordNumbers) }
-    ensures { Put room.old room.new at (rowText (rowSized offset size (row_of (drop from deck.now))) []) result }
+    requires entry_bytes_in_bounds { from + entry_bytes ≤ length deck.now }
+    requires offset_lt_word_numbers { (offset < word_numbers) × (size < word_numbers) }
+    ensures { Put room.old room.new at (row_text (row_sized offset size (row_of (drop from deck.now))) []) result }
 {
     let number = word_at(deck, from);
     let flag = deck[from + FLAG_AT];
@@ -45,7 +45,7 @@ fn put_sized_row(
 pub fn put_new_rows(room: &mut [u8], at: usize, deck: &[u8], notes: &[usize], first: usize) -> usize
     requires each { Each deck.now notes.now }
     requires sizes_fit { SizesFit deck.now notes.now first }
-    ensures { Put room.old room.new at (rowsText (rowsNoted notes.now first (contentsOf deck.now)) []) result }
+    ensures { Put room.old room.new at (rows_text (rows_noted notes.now first (contents_of deck.now)) []) result }
 {
     let mut i: usize = 0;
     let mut from: usize = COUNT_BYTES;

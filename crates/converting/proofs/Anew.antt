@@ -6,22 +6,22 @@ use mathlib.Core.Bool.{Bool, false, false≢true}
 use mathlib.Core.List.{List, [], ◌∷◌, map}
 use native.Mathlib.Omega.{arith}
 use lib.ListN.{length, length-append}
-use Rattle.card.specs.Limits.{deckBytes}
+use Rattle.card.specs.Limits.{deck_bytes}
 use Rattle.card.specs.Valid.{Every}
 use Rattle.entry.specs.Said.{says}
-use Rattle.entry.proofs.Stages.{same-said}
+use Rattle.entry.proofs.Stages.{same_said}
 use Rattle.deck.specs.Contents.{count_of, behind}
-use Rattle.deck.specs.Deck.{Entry, heldBy, deckOf, bodies, deckText, Rising, Writable, Bytes}
+use Rattle.deck.specs.Deck.{Entry, held_by, deck_of, bodies, deck_text, Rising, Writable, Bytes}
 use Rattle.deck.specs.Sound.{Sound}
-use Rattle.deck.proofs.Kept.{held-writable}
-use Rattle.deck.proofs.Written.{text-sound, text-back}
-use Rattle.deck.proofs.DeckStages.{deck-stage}
+use Rattle.deck.proofs.Kept.{held_writable}
+use Rattle.deck.proofs.Written.{text_sound, text_back}
+use Rattle.deck.proofs.DeckStages.{deck_stage}
 use Rattle.deck_written.specs.Fine.{NoGaps}
 use Rattle.deck_written.proofs.NoGaps.{no_gaps}
-use Rattle.converting.specs.Converting.{entriesSaid, convertSaid}
+use Rattle.converting.specs.Converting.{entries_said, convert_said}
 use Rattle.converting.specs.Converts.{Converts, end, next, Convertible, AllNew}
-use Rattle.converting.proofs.Bodies.{new-live, stays}
-use Rattle.converting.proofs.Exactly.{converts-said, sound-said, held-long}
+use Rattle.converting.proofs.Bodies.{new_live, stays}
+use Rattle.converting.proofs.Exactly.{converts_said, sound_said, held_long}
 
 -- ---- entries
 
@@ -38,79 +38,79 @@ pub same_count : {at : ℕ} {es new : List Entry} → Converts at es new → len
 same_count end = refl
 same_count (next b l more) = ap suc (same_count more)
 
-still-rising : {at : ℕ} {es new : List Entry} (least : ℕ) → Converts at es new → Rising least es → Rising least new
-still-rising least end h = tt
-still-rising least (next {e = e} b l more) h = (h.0, h.1, still-rising (suc e.number) more h.2)
+still_rising : {at : ℕ} {es new : List Entry} (least : ℕ) → Converts at es new → Rising least es → Rising least new
+still_rising least end h = tt
+still_rising least (next {e = e} b l more) h = (h.0, h.1, still_rising (suc e.number) more h.2)
 
 -- where the last one ends
-pub ends-within : {at : ℕ} {es new : List Entry} → Converts at es new → at ≤ deckBytes → at + length (bodies new) ≤ deckBytes
-ends-within end h = omega arith
-ends-within (next {at} {new = new} {body = body} b l more) h = omega (arith, ends-within more l, length-append body (bodies new))
+pub ends_within : {at : ℕ} {es new : List Entry} → Converts at es new → at ≤ deck_bytes → at + length (bodies new) ≤ deck_bytes
+ends_within end h = omega arith
+ends_within (next {at} {new = new} {body = body} b l more) h = omega (arith, ends_within more l, length-append body (bodies new))
 
 all_new : {at : ℕ} {es new : List Entry} → Converts at es new → AllNew new
 all_new end = tt
-all_new (next {e = e} b l more) = (new-live e b, all_new more)
+all_new (next {e = e} b l more) = (new_live e b, all_new more)
 
 -- what is new already stays
-stay : (at : ℕ) (es : List Entry) → AllNew es → at + length (bodies es) ≤ deckBytes → Converts at es es
+stay : (at : ℕ) (es : List Entry) → AllNew es → at + length (bodies es) ≤ deck_bytes → Converts at es es
 stay at [] h l = end
 stay at (e ∷ es) h l =
     let long = length-append e.body (bodies es) in
-    let fits : at + length e.body ≤ deckBytes = omega (arith, long) in
+    let fits : at + length e.body ≤ deck_bytes = omega (arith, long) in
     next (stays e h.0) fits (stay (at + length e.body) es h.1 (omega (arith, long)))
 
 -- ---- a deck whose live cards the new rule takes
 
 module _ (deck : List ℕ) (s : Sound deck) (b : Bytes deck) where
-  writable : Writable (heldBy deck)
-  writable = held-writable deck s b
+  writable : Writable (held_by deck)
+  writable = held_writable deck s b
 
-  pub only-gaps-go : AllNew (heldBy deck) → convertSaid deck ≡ says (deckText (heldBy deck))
-  only-gaps-go h = sound-said deck s (converts-said (stay (behind (count_of deck)) (heldBy deck) h (omega (arith, writable.short, held-long deck))))
+  pub only_gaps_go : AllNew (held_by deck) → convert_said deck ≡ says (deck_text (held_by deck))
+  only_gaps_go h = sound_said deck s (converts_said (stay (behind (count_of deck)) (held_by deck) h (omega (arith, writable.short, held_long deck))))
 
   -- so any deck without live cards
-  none-new : (es : List Entry) → Every (λ (e : Entry). e.live ≡ false) es → AllNew es
-  none-new [] h = tt
-  none-new (e ∷ es) h = (λ live. absurd (false≢true (sym h.0 ∙ live)), none-new es h.1)
+  none_new : (es : List Entry) → Every (λ (e : Entry). e.live ≡ false) es → AllNew es
+  none_new [] h = tt
+  none_new (e ∷ es) h = (λ live. absurd (false≢true (sym h.0 ∙ live)), none_new es h.1)
 
-  pub no-live-card : Every (λ (e : Entry). e.live ≡ false) (heldBy deck) → convertSaid deck ≡ says (deckText (heldBy deck))
-  no-live-card h = only-gaps-go (none-new (heldBy deck) h)
+  pub no_live_card : Every (λ (e : Entry). e.live ≡ false) (held_by deck) → convert_said deck ≡ says (deck_text (held_by deck))
+  no_live_card h = only_gaps_go (none_new (held_by deck) h)
 
 -- ---- the new deck
 
 module _ (deck : List ℕ) (c : Convertible deck) (b : Bytes deck) where
   abbrev new : List ℕ
-  new = deckText c.new
+  new = deck_text c.new
 
-  old-writable : Writable (heldBy deck)
-  old-writable = held-writable deck c.sound b
+  old_writable : Writable (held_by deck)
+  old_writable = held_writable deck c.sound b
 
-  pub new-writable : Writable c.new
-  new-writable =
+  pub new_writable : Writable c.new
+  new_writable =
       let count = same_count c.converts in
       record {
-        some = omega (arith, count, old-writable.some);
-        few = omega (arith, count, old-writable.few);
-        rising = still-rising 0 c.converts old-writable.rising;
-        short = omega (arith, count, held-long deck, ends-within c.converts (omega (arith, c.sound.head.whole, c.sound.head.short)));
+        some = omega (arith, count, old_writable.some);
+        few = omega (arith, count, old_writable.few);
+        rising = still_rising 0 c.converts old_writable.rising;
+        short = omega (arith, count, held_long deck, ends_within c.converts (omega (arith, c.sound.head.whole, c.sound.head.short)));
       }
 
-  pub new-sound : Sound new
-  new-sound = text-sound c.new new-writable
+  pub new_sound : Sound new
+  new_sound = text_sound c.new new_writable
 
-  pub new-back : deckOf new ≡ says c.new
-  new-back = text-back c.new new-writable
+  pub new_back : deck_of new ≡ says c.new
+  new_back = text_back c.new new_writable
 
-  pub new-held : heldBy new ≡ c.new
-  new-held = same-said (sym ((deck-stage new).found.each new-sound) ∙ new-back)
+  pub new_held : held_by new ≡ c.new
+  new_held = same_said (sym ((deck_stage new).found.each new_sound) ∙ new_back)
 
-  pub new-no-gaps : NoGaps new
-  new-no-gaps = no_gaps c.new new-writable.some
+  pub new_no_gaps : NoGaps new
+  new_no_gaps = no_gaps c.new new_writable.some
 
-  pub new-all : AllNew (heldBy new)
-  new-all = rw new-held (all_new c.converts)
+  pub new_all : AllNew (held_by new)
+  new_all = rw new_held (all_new c.converts)
 
-  pub again : convertSaid new ≡ says new
+  pub again : convert_said new ≡ says new
   again =
-      sound-said new new-sound
-      (ap (λ (es : List Entry). entriesSaid (behind (count_of new)) es) new-held ∙ converts-said (stay (behind (length c.new)) c.new (all_new c.converts) new-writable.short))
+      sound_said new new_sound
+      (ap (λ (es : List Entry). entries_said (behind (count_of new)) es) new_held ∙ converts_said (stay (behind (length c.new)) c.new (all_new c.converts) new_writable.short))

@@ -1,49 +1,49 @@
 -- Each by computing. Assumes nothing.
 use mathlib.Core.Path.{refl}
-use Rattle.card.specs.Weight.{unitsOf}
-use Rattle.reading.specs.Reading.{readUnder}
+use Rattle.card.specs.Weight.{units_of}
+use Rattle.reading.specs.Reading.{read_under}
 use Rattle.room.specs.Digits.{decimal}
 use Rattle.phrases.specs.Phrases.{gcd, divisor}
-use Rattle.texts.specs.Writing.{writeOf}
-use Rattle.mending.specs.Mending.{mendSaid}
-use Rattle.converting.specs.Converting.{convertSaid}
+use Rattle.texts.specs.Writing.{write_of}
+use Rattle.mending.specs.Mending.{mend_said}
+use Rattle.converting.specs.Converting.{convert_said}
 use Rattle.converting_edges.specs.ConvertingEdges.{ConvertingEdges}
 
-pub converting-edges : ConvertingEdges
-unfolding convertSaid mendSaid readUnder unitsOf writeOf decimal gcd divisor
-converting-edges = record {
+pub converting_edges : ConvertingEdges
+unfolding convert_said mend_said read_under units_of write_of decimal gcd divisor
+converting_edges = record {
   decimals = refl;
-  one-decimal = refl;
+  one_decimal = refl;
   longer = refl;
   whole = refl;
-  blanks-go = refl;
-  comment-goes = refl;
-  shared-number = refl;
+  blanks_go = refl;
+  comment_goes = refl;
+  shared_number = refl;
   nothing = refl;
-  two-live = refl;
+  two_live = refl;
   unchanged = refl;
-  blanks-stay = refl;
+  blanks_stay = refl;
   comment = refl;
   unreduced = refl;
-  no-units = refl;
+  no_units = refl;
   withdrawn = refl;
   empty = refl;
-  gaps-closed = refl;
+  gaps_closed = refl;
   again = refl;
   mended = refl;
-  converted-first = refl;
-  withdrawn-mended = refl;
-  no-card = refl;
+  converted_first = refl;
+  withdrawn_mended = refl;
+  no_card = refl;
   no_byte = refl;
-  wrong-decimal = refl;
-  number-0 = refl;
+  wrong_decimal = refl;
+  number_0 = refl;
   two_bytes = refl;
-  first-such = refl;
+  first_such = refl;
   most_bytes = (refl, refl);
   first_past = refl;
   malformed = (refl, refl, refl);
-  card-first = (refl, refl);
-  room-to-spare = (refl, refl);
-  exact-room = (refl, refl);
-  room-short = (refl, refl);
+  card_first = (refl, refl);
+  room_to_spare = (refl, refl);
+  exact_room = (refl, refl);
+  room_short = (refl, refl);
 }

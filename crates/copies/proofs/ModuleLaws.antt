@@ -9,54 +9,54 @@ use native.Mathlib.Omega.{arith}
 use borrow.Author.Tests.{eqb-true, eqb-false}
 use lib.Dec.{eqb}
 use lib.ListN.{length, set}
-use Rattle.card.specs.Limits.{mostSeats}
-use Rattle.card.specs.Refusals.{outOfShape, pastLimit}
-use Rattle.marks_on_a_card.specs.Kinds.{kEnd, kind}
-use Rattle.marks.specs.Step.{marksAt}
-use Rattle.marks_on_a_card.proofs.KindLaws.{kind-some}
+use Rattle.card.specs.Limits.{most_seats}
+use Rattle.card.specs.Refusals.{out_of_shape, past_limit}
+use Rattle.marks_on_a_card.specs.Kinds.{k_end, kind}
+use Rattle.marks.specs.Step.{marks_at}
+use Rattle.marks_on_a_card.proofs.KindLaws.{kind_some}
 use Rattle.marks.specs.declared.Found.{Found}
 use Rattle.marks.specs.declared.Step.{Step}
 use Rattle.reading.specs.Reader.{State, Result, ok, stop, Reader, bind, return, refuse, Numbered, Item, line}
-use Rattle.reading.specs.Shape.{copy, theEnd}
-use Rattle.reading.specs.Checks.{judgedWords, judgedModules}
-use Rattle.late.specs.Late.{Late, judgeAll}
-use Rattle.late.specs.State.{atValue, Sized, lateIn, After, after, Halted}
-use Rattle.late.proofs.Settling.{judge-append}
-use Rattle.late.proofs.StateLaws.{set-sized, value_set, late-set}
-use Rattle.parts.specs.Parts.{from, Answers, Went, Told, items_in, duesIn, Sure, LineRead}
+use Rattle.reading.specs.Shape.{copy, the_end}
+use Rattle.reading.specs.Checks.{judged_words, judged_modules}
+use Rattle.late.specs.Late.{Late, judge_all}
+use Rattle.late.specs.State.{at_value, Sized, late_in, After, after, Halted}
+use Rattle.late.proofs.Settling.{judge_append}
+use Rattle.late.proofs.StateLaws.{set_sized, value_set, late_set}
+use Rattle.parts.specs.Parts.{from, Answers, Went, Told, items_in, dues_in, Sure, LineRead}
 use Rattle.mode_and_range.specs.ModeRange.{Valued}
-use Rattle.frame.specs.Frame.{moduleDue, ModuleFrom, EndedBy, modules, ModulesRead, ModulesFrom}
-use Rattle.parts.proofs.Steps.{Next, end, one, place-seen, told}
+use Rattle.frame.specs.Frame.{module_due, ModuleFrom, EndedBy, modules, ModulesRead, ModulesFrom}
+use Rattle.parts.proofs.Steps.{Next, end, one, place_seen, told}
 use Rattle.parts.proofs.Answers.{onward, halted, made}
 use Rattle.parts.proofs.Counted.{up_to, another, too_many, no_other}
-use Rattle.parts.proofs.Lines.{sign-took}
+use Rattle.parts.proofs.Lines.{sign_took}
 
-pub module-sure : (i : ℕ) → Sure (moduleDue i)
-module-sure i =
+pub module_sure : (i : ℕ) → Sure (module_due i)
+module_sure i =
     let equal = told "=" (omega arith) in
     (equal, (told "[" (omega arith), (equal, (told "," (omega arith), (equal, (told "]" (omega arith), (told "endmodule" (omega arith), tt)))))))
 
 -- ---- the end of the card
 
 module _ (s : List ℕ) (i : ℕ) where
-  pub end_fits : (x : Step) → Next s i x → x.mark.kind ≡ kEnd → (n : ℕ) → theEnd (from s i n) ≡ ok tt (from s i n)
+  pub end_fits : (x : Step) → Next s i x → x.mark.kind ≡ k_end → (n : ℕ) → the_end (from s i n) ≡ ok tt (from s i n)
   end_fits _ (end e) z n = rw e
-  end_fits _ (one m p next l e) z n = absurd (kind-some m z)
+  end_fits _ (one m p next l e) z n = absurd (kind_some m z)
 
-  pub end-misses : (x : Step) → Next s i x → (x.mark.kind ≡ kEnd → ⊥) → (n : ℕ) → theEnd (from s i n) ≡ stop outOfShape (marksAt 0 s i)
-  end-misses _ (end e) z n = absurd (z refl)
-  end-misses _ (one m p next l e) z n = rw e
+  pub end_misses : (x : Step) → Next s i x → (x.mark.kind ≡ k_end → ⊥) → (n : ℕ) → the_end (from s i n) ≡ stop out_of_shape (marks_at 0 s i)
+  end_misses _ (end e) z n = absurd (z refl)
+  end_misses _ (one m p next l e) z n = rw e
 
 -- ---- the modules
 
 abbrev ends : List (List Numbered) → Reader (List (List Numbered))
-ends ms s = bind (theEnd s) (λ u. return ms)
+ends ms s = bind (the_end s) (λ u. return ms)
 
 abbrev more : List Numbered → List (List Numbered) → List (List Numbered)
 more m ms = m ∷ ms
 
 step : (m : List Numbered) (ms : List (List Numbered)) (s : State) → ends (m ∷ ms) s ≡ bind (ends ms s) (λ xs. return (more m xs))
-step m ms s = go (theEnd s)
+step m ms s = go (the_end s)
   where
     go : (y : Result (Unit {0})) → bind y (λ u. return (m ∷ ms)) ≡ bind (bind y (λ u. return ms)) (λ xs. return (m ∷ xs))
     go (ok u t) = refl
@@ -66,110 +66,110 @@ keyword : Told "module"
 keyword = told "module" (omega arith)
 
 abbrev pub further : ℕ → Reader (List (List Numbered))
-further = up_to "module" copy (refuse pastLimit) ends
+further = up_to "module" copy (refuse past_limit) ends
 
 abbrev pub RestRead : List ℕ → ℕ → Late → Result (List (List Numbered)) → After → Type 0
-RestRead s seats late = Answers s (λ ms. Went s late (seats + length ms) (judgedModules (seats + 1) ms))
+RestRead s seats late = Answers s (λ ms. Went s late (seats + length ms) (judged_modules (seats + 1) ms))
 
 -- what stands behind the keyword
-abbrev moduleRest : List Item
-moduleRest = items_in (moduleDue 0)
+abbrev module_rest : List Item
+module_rest = items_in (module_due 0)
 
 module _ (s : List ℕ) (seats : ℕ) (late : Late) (i n : ℕ) (x : Step) (v : Next s i x) (r : After) where
   module _ (d : x.mark.kind ≡ kind "module" → ⊥) (most : ℕ) where
-    pub modules-stop : (x.mark.kind ≡ kEnd → ⊥) → Halted outOfShape x.mark.place r → RestRead s seats late (further most (from s i n)) r
-    modules-stop e h =
-        rw (no_other "module" copy (refuse pastLimit) ends more step keyword s i x v d most n, end-misses s i x v e n, ← place-seen s i x v) h
+    pub modules_stop : (x.mark.kind ≡ k_end → ⊥) → Halted out_of_shape x.mark.place r → RestRead s seats late (further most (from s i n)) r
+    modules_stop e h =
+        rw (no_other "module" copy (refuse past_limit) ends more step keyword s i x v d most n, end_misses s i x v e n, ← place_seen s i x v) h
 
-    pub modules-end : x.mark.kind ≡ kEnd → (i ≡ 0 → ⊥) → r.next ≡ i → Valued late seats r.state → RestRead s seats late (further most (from s i n)) r
-    unfolding judgeAll
-    modules-end e there f h =
-        rw (no_other "module" copy (refuse pastLimit) ends more step keyword s i x v d most n, end_fits s i x v e n)
-        (record { went = λ z. there (sym f ∙ z); rest = ap (marksAt 0 s) f; told = record { value = h.value ∙ omega arith; late = h.late } })
+    pub modules_end : x.mark.kind ≡ k_end → (i ≡ 0 → ⊥) → r.next ≡ i → Valued late seats r.state → RestRead s seats late (further most (from s i n)) r
+    unfolding judge_all
+    modules_end e there f h =
+        rw (no_other "module" copy (refuse past_limit) ends more step keyword s i x v d most n, end_fits s i x v e n)
+        (record { went = λ z. there (sym f ∙ z); rest = ap (marks_at 0 s) f; told = record { value = h.value ∙ omega arith; late = h.late } })
 
   module _ (d : x.mark.kind ≡ kind "module") where
-    pub past-modules : Halted pastLimit x.mark.place r → RestRead s seats late (further 0 (from s i n)) r
-    past-modules h = rw (too_many "module" copy (refuse pastLimit) ends more step keyword s i x v d n, ← place-seen s i x v) h
+    pub past_modules : Halted past_limit x.mark.place r → RestRead s seats late (further 0 (from s i n)) r
+    past_modules h = rw (too_many "module" copy (refuse past_limit) ends more step keyword s i x v d n, ← place_seen s i x v) h
 
-    module _ (most : ℕ) (state : List ℕ) (c : ℕ) (hc : (n : ℕ) → LineRead s late (duesIn (moduleDue (seats + 1))) (line moduleRest (from s x.next.at n)) (after state c)) where
-      opened : further (suc most) (from s i n) ≡ bind (line moduleRest (from s x.next.at n)) (λ m s₁. bind (further most s₁) (λ ms. return (more m ms)))
+    module _ (most : ℕ) (state : List ℕ) (c : ℕ) (hc : (n : ℕ) → LineRead s late (dues_in (module_due (seats + 1))) (line module_rest (from s x.next.at n)) (after state c)) where
+      opened : further (suc most) (from s i n) ≡ bind (line module_rest (from s x.next.at n)) (λ m s₁. bind (further most s₁) (λ ms. return (more m ms)))
       opened =
-          another "module" copy (refuse pastLimit) ends more step keyword s i x v d most n
-          ∙ ap (λ (y : Result (Unit {0})). bind (bind y (λ u. line moduleRest)) (λ m s₁. bind (further most s₁) (λ ms. return (more m ms)))) (sign-took "module" keyword s i x v d n)
+          another "module" copy (refuse past_limit) ends more step keyword s i x v d most n
+          ∙ ap (λ (y : Result (Unit {0})). bind (bind y (λ u. line module_rest)) (λ m s₁. bind (further most s₁) (λ ms. return (more m ms)))) (sign_took "module" keyword s i x v d n)
 
-      pub module-stops : c ≡ 0 → r ≡ after state 0 → RestRead s seats late (further (suc most) (from s i n)) r
-      module-stops e f = rw (opened, f) (halted s _ _ (line moduleRest (from s x.next.at n)) _ state c (hc n) e)
+      pub module_stops : c ≡ 0 → r ≡ after state 0 → RestRead s seats late (further (suc most) (from s i n)) r
+      module_stops e f = rw (opened, f) (halted s _ _ (line module_rest (from s x.next.at n)) _ state c (hc n) e)
 
-      pub one_more : (c ≡ 0 → ⊥) → ((m : ℕ) → RestRead s (seats + 1) (lateIn state) (further most (from s c m)) r) → RestRead s seats late (further (suc most) (from s i n)) r
-      unfolding judgeAll
-      one_more e y = rw opened (onward s _ _ (line moduleRest (from s x.next.at n)) _ state c r (hc n) e λ m n₁ g.
+      pub one_more : (c ≡ 0 → ⊥) → ((m : ℕ) → RestRead s (seats + 1) (late_in state) (further most (from s c m)) r) → RestRead s seats late (further (suc most) (from s i n)) r
+      unfolding judge_all
+      one_more e y = rw opened (onward s _ _ (line module_rest (from s x.next.at n)) _ state c r (hc n) e λ m n₁ g.
           made s _ _ (further most (from s c n₁)) (more m) r (y n₁) λ ms h.
           record {
             value = omega (arith, h.value);
-            late = h.late ∙ ap (judgeAll (length s) (judgedModules (seats + 1 + 1) ms)) g ∙ sym (judge-append (length s) (judgedWords (duesIn (moduleDue (seats + 1))) m) (judgedModules (seats + 1 + 1) ms) late) ∙ rw (add-one (seats + 1));
+            late = h.late ∙ ap (judge_all (length s) (judged_modules (seats + 1 + 1) ms)) g ∙ sym (judge_append (length s) (judged_words (dues_in (module_due (seats + 1))) m) (judged_modules (seats + 1 + 1) ms) late) ∙ rw (add-one (seats + 1));
           })
 
 -- before the first module
-pub none-counted : (s : List ℕ) (late : Late) (x : Result (List (List Numbered))) (r : After) → RestRead s 1 late x r → ModulesRead s late x r
-none-counted s late (ok ms b) r y = record { went = y.went; rest = y.rest; told = record { value = omega (arith, y.told.value); late = y.told.late } }
-none-counted s late (stop n p) r y = y
+pub none_counted : (s : List ℕ) (late : Late) (x : Result (List (List Numbered))) (r : After) → RestRead s 1 late x r → ModulesRead s late x r
+none_counted s late (ok ms b) r y = record { went = y.went; rest = y.rest; told = record { value = omega (arith, y.told.value); late = y.told.late } }
+none_counted s late (stop n p) r y = y
 
 -- ---- the loop: an answer to what is left answers the whole
 
 pub record Going (s : List ℕ) (before : Late) (i seats next : ℕ) (state : List ℕ) : Type 0 where
-  pub few : seats ≤ mostSeats
+  pub few : seats ≤ most_seats
   pub there : next ≡ 0 → ⊥
   pub sized : Sized state
-  pub whole : (r : After) → ((m : ℕ) → RestRead s seats (lateIn state) (further (mostSeats - seats) (from s next m)) r) → (n : ℕ) → ModulesRead s before (modules (from s i n)) r
+  pub whole : (r : After) → ((m : ℕ) → RestRead s seats (late_in state) (further (most_seats - seats) (from s next m)) r) → (n : ℕ) → ModulesRead s before (modules (from s i n)) r
 
-pub going_start : {s : List ℕ} {i : ℕ} (state : List ℕ) → Sized state → (i ≡ 0 → ⊥) → Going s (lateIn state) i 1 i state
+pub going_start : {s : List ℕ} {i : ℕ} (state : List ℕ) → Sized state → (i ≡ 0 → ⊥) → Going s (late_in state) i 1 i state
 going_start {s} {i} state sized there = record {
   few = omega arith;
   there = there;
   sized = sized;
-  whole = λ r y n. none-counted s (lateIn state) (modules (from s i n)) r (y n);
+  whole = λ r y n. none_counted s (late_in state) (modules (from s i n)) r (y n);
 }
 
 -- the mark behind the last module
-pub end-stops : {m : Found} {at seats : ℕ} {late : Late} {r : After} → (m.kind ≡ kEnd → ⊥) → Halted outOfShape m.place r → EndedBy m at seats late r
-end-stops e h = record { ends = λ f. absurd (e f); stops = λ f. h; sized = h.sized }
+pub end_stops : {m : Found} {at seats : ℕ} {late : Late} {r : After} → (m.kind ≡ k_end → ⊥) → Halted out_of_shape m.place r → EndedBy m at seats late r
+end_stops e h = record { ends = λ f. absurd (e f); stops = λ f. h; sized = h.sized }
 
-pub end_read : {m : Found} {at seats : ℕ} (was : List ℕ) → m.kind ≡ kEnd → Sized was → EndedBy m at seats (lateIn was) (after (set was atValue seats) at)
+pub end_read : {m : Found} {at seats : ℕ} (was : List ℕ) → m.kind ≡ k_end → Sized was → EndedBy m at seats (late_in was) (after (set was at_value seats) at)
 end_read {seats = seats} was e sized = record {
-  ends = λ f. (refl, record { value = value_set was sized seats; late = late-set was atValue seats (omega arith) });
+  ends = λ f. (refl, record { value = value_set was sized seats; late = late_set was at_value seats (omega arith) });
   stops = λ f. absurd (f e);
-  sized = set-sized was sized atValue seats;
+  sized = set_sized was sized at_value seats;
 }
 
 module _ {s : List ℕ} {before : Late} {i seats next : ℕ} {state : List ℕ} (g : Going s before i seats next state) {x : Step} (v : Next s next x) where
-  pub going-ended : (x.mark.kind ≡ kind "module" → ⊥) → {r : After} → EndedBy x.mark next seats (lateIn state) r → ModulesFrom s i before r
-  going-ended d {r} h = record { answers = g.whole r λ m. by m (eqb x.mark.kind kEnd) refl; sized = h.sized }
+  pub going_ended : (x.mark.kind ≡ kind "module" → ⊥) → {r : After} → EndedBy x.mark next seats (late_in state) r → ModulesFrom s i before r
+  going_ended d {r} h = record { answers = g.whole r λ m. by m (eqb x.mark.kind k_end) refl; sized = h.sized }
     where
-      by : (m : ℕ) (t : Bool) → eqb x.mark.kind kEnd ≡ t → RestRead s seats (lateIn state) (further (mostSeats - seats) (from s next m)) r
+      by : (m : ℕ) (t : Bool) → eqb x.mark.kind k_end ≡ t → RestRead s seats (late_in state) (further (most_seats - seats) (from s next m)) r
       by m true e =
           let y = h.ends (eqb-true _ _ e) in
-          modules-end s seats (lateIn state) next m x v r d (mostSeats - seats) (eqb-true _ _ e) g.there y.0 y.1
-      by m false e = modules-stop s seats (lateIn state) next m x v r d (mostSeats - seats) (eqb-false _ _ e) (h.stops (eqb-false _ _ e))
+          modules_end s seats (late_in state) next m x v r d (most_seats - seats) (eqb-true _ _ e) g.there y.0 y.1
+      by m false e = modules_stop s seats (late_in state) next m x v r d (most_seats - seats) (eqb-false _ _ e) (h.stops (eqb-false _ _ e))
 
   module _ (d : x.mark.kind ≡ kind "module") where
-    pub going-past : mostSeats ≤ seats → {r : After} → Halted pastLimit x.mark.place r → ModulesFrom s i before r
-    going-past l {r} h = record {
+    pub going_past : most_seats ≤ seats → {r : After} → Halted past_limit x.mark.place r → ModulesFrom s i before r
+    going_past l {r} h = record {
       answers = g.whole r λ m.
-          let z : mostSeats - seats ≡ 0 = omega arith in
-          rw z (past-modules s seats (lateIn state) next m x v r d h);
+          let z : most_seats - seats ≡ 0 = omega arith in
+          rw z (past_modules s seats (late_in state) next m x v r d h);
       sized = h.sized;
     }
 
-    module _ (l : seats < mostSeats) (after_one : List ℕ) {c : ℕ} (hc : ModuleFrom s x.next.at (seats + 1) (lateIn state) (after after_one c)) where
-      one_less : mostSeats - seats ≡ suc (mostSeats - (seats + 1))
+    module _ (l : seats < most_seats) (after_one : List ℕ) {c : ℕ} (hc : ModuleFrom s x.next.at (seats + 1) (late_in state) (after after_one c)) where
+      one_less : most_seats - seats ≡ suc (most_seats - (seats + 1))
       one_less = omega arith
 
-      line_read : (n : ℕ) → LineRead s (lateIn state) (duesIn (moduleDue (seats + 1))) (line moduleRest (from s x.next.at n)) (after after_one c)
-      line_read n = hc.answers (moduleDue (seats + 1)) (module-sure (seats + 1)) refl refl n
+      line_read : (n : ℕ) → LineRead s (late_in state) (dues_in (module_due (seats + 1))) (line module_rest (from s x.next.at n)) (after after_one c)
+      line_read n = hc.answers (module_due (seats + 1)) (module_sure (seats + 1)) refl refl n
 
-      pub going-stops : c ≡ 0 → ModulesFrom s i before (after after_one 0)
-      going-stops e = record {
-        answers = g.whole _ λ m. rw one_less (module-stops s seats (lateIn state) next m x v _ d (mostSeats - (seats + 1)) after_one c line_read e refl);
+      pub going_stops : c ≡ 0 → ModulesFrom s i before (after after_one 0)
+      going_stops e = record {
+        answers = g.whole _ λ m. rw one_less (module_stops s seats (late_in state) next m x v _ d (most_seats - (seats + 1)) after_one c line_read e refl);
         sized = hc.sized;
       }
 
@@ -178,5 +178,5 @@ module _ {s : List ℕ} {before : Late} {i seats next : ℕ} {state : List ℕ} 
         few = omega arith;
         there = e;
         sized = hc.sized;
-        whole = λ r y. g.whole r λ m. rw one_less (one_more s seats (lateIn state) next m x v r d (mostSeats - (seats + 1)) after_one c line_read e y);
+        whole = λ r y. g.whole r λ m. rw one_less (one_more s seats (late_in state) next m x v r d (most_seats - (seats + 1)) after_one c line_read e y);
       }

@@ -1,7 +1,7 @@
 // The further modules of a card, up to its end, read from its bytes.
 ghost use Rattle.std.specs.Prelude.{◌≡◌, ◌≤◌};
-ghost use Rattle.card.specs.Limits.{mostSeats};
-ghost use Rattle.late.specs.State.{Sized, lateIn, after};
+ghost use Rattle.card.specs.Limits.{most_seats};
+ghost use Rattle.late.specs.State.{Sized, late_in, after};
 ghost use Rattle.frame.specs.Frame.{ModuleFrom, EndedBy, ModulesFrom};
 
 use card::limits::MOST_SEATS;
@@ -19,8 +19,8 @@ use written_copy::past_copy;
 // The place behind a further module, the one of this seat: where its text stands as a written card has it, or tight, it is passed at once, else mark by mark.
 fn copy(card: &[u8], at: usize, seat: usize, state: &mut [usize; STATE]) -> usize
     requires sized { Sized state.old }
-    requires seat_le_most_seats { seat ≤ mostSeats }
-    ensures { ModuleFrom card.now at seat (lateIn state.old) (after state.new result) }
+    requires seat_le_most_seats { seat ≤ most_seats }
+    ensures { ModuleFrom card.now at seat (late_in state.old) (after state.new result) }
 {
     let next = past_copy(card, at, seat);
     if next != 0 {
@@ -48,7 +48,7 @@ fn copy(card: &[u8], at: usize, seat: usize, state: &mut [usize; STATE]) -> usiz
 // The mark behind the last module has to be the end; the number of seats becomes the value.
 fn ended(mark: Found, at: usize, seats: usize, state: &mut [usize; STATE]) -> usize
     requires { Sized state.old }
-    ensures { EndedBy mark at seats (lateIn state.old) (after state.new result) }
+    ensures { EndedBy mark at seats (late_in state.old) (after state.new result) }
 {
     if mark.kind != END {
         return stop(state, OUT_OF_SHAPE, mark.place);
@@ -61,7 +61,7 @@ fn ended(mark: Found, at: usize, seats: usize, state: &mut [usize; STATE]) -> us
 pub fn modules(card: &[u8], at: usize, state: &mut [usize; STATE]) -> usize
     requires sized { Sized state.old }
     requires fact { at ≡ 0 → ⊥ }
-    ensures { ModulesFrom card.now at (lateIn state.old) (after state.new result) }
+    ensures { ModulesFrom card.now at (late_in state.old) (after state.new result) }
 {
     let mut next = at;
     let mut seats = 1;

@@ -9,71 +9,71 @@ use borrow.Author.Tests.{eq-eqb, ne_eqb}
 use lib.Dec.{eqb}
 use lib.ListN.{length, get_or, take, drop, set, replicate, length-set, length-drop}
 use lib.Seq.{get_or-set_same, get_or-set_other, get_or-drop, set_out, take-suc, take_all, ext_get_or}
-use Rattle.card.specs.Limits.{mostStates}
+use Rattle.card.specs.Limits.{most_states}
 use Rattle.card.specs.Card.{Branch}
-use Rattle.card.specs.Laid.{branchOf, unitsPart, setOf, setPart, endPart}
+use Rattle.card.specs.Laid.{branch_of, units_part, set_of, set_part, end_part}
 use Rattle.meaning.specs.Sums.{gate}
-use Rattle.meaning.specs.ByCounts.{unitsTo}
-use Rattle.meaning.proofs.Sums.{length-upto, getD-upto, sum-append, map-append}
-use Rattle.panel_numbers.specs.Taking.{unitsToEach}
+use Rattle.meaning.specs.ByCounts.{units_to}
+use Rattle.meaning.proofs.Sums.{length_upto, get_d_upto, sum_append, map_append}
+use Rattle.panel_numbers.specs.Taking.{units_to_each}
 
-pub each_none : replicate mostStates 0 ≡ unitsToEach []
-unfolding unitsToEach unitsTo
+pub each_none : replicate most_states 0 ≡ units_to_each []
+unfolding units_to_each units_to
 each_none = refl
 
-pub length-each : (l : List Branch) → length (unitsToEach l) ≡ mostStates
-unfolding unitsToEach
-length-each l = length-upto mostStates (λ t. unitsTo t l)
+pub length_each : (l : List Branch) → length (units_to_each l) ≡ most_states
+unfolding units_to_each
+length_each l = length_upto most_states (λ t. units_to t l)
 
-pub each_at : (l : List Branch) (t : ℕ) → t < mostStates → get_or (unitsToEach l) t 0 ≡ unitsTo t l
-unfolding unitsToEach
-each_at l t h = getD-upto mostStates (λ t. unitsTo t l) t 0 h
+pub each_at : (l : List Branch) (t : ℕ) → t < most_states → get_or (units_to_each l) t 0 ≡ units_to t l
+unfolding units_to_each
+each_at l t h = get_d_upto most_states (λ t. units_to t l) t 0 h
 
-units-more : (t : ℕ) (l : List Branch) (b : Branch) → unitsTo t (l ++ b ∷ []) ≡ unitsTo t l + gate (eqb b.end t) b.units
-unfolding unitsTo
-units-more t l b = sum-append (λ (b : Branch). gate (eqb b.end t) b.units) l (b ∷ []) ∙ omega arith
+units_more : (t : ℕ) (l : List Branch) (b : Branch) → units_to t (l ++ b ∷ []) ≡ units_to t l + gate (eqb b.end t) b.units
+unfolding units_to
+units_more t l b = sum_append (λ (b : Branch). gate (eqb b.end t) b.units) l (b ∷ []) ∙ omega arith
 
-each_more : (l : List Branch) (b : Branch) → b.end < mostStates
-    → set (unitsToEach l) b.end (get_or (unitsToEach l) b.end 0 + b.units) ≡ unitsToEach (l ++ b ∷ [])
+each_more : (l : List Branch) (b : Branch) → b.end < most_states
+    → set (units_to_each l) b.end (get_or (units_to_each l) b.end 0 + b.units) ≡ units_to_each (l ++ b ∷ [])
 each_more l b h =
-    let v = unitsToEach l in
+    let v = units_to_each l in
     let w = set v b.end (get_or v b.end 0 + b.units) in
-    let long : length w ≡ mostStates = length-set v b.end (get_or v b.end 0 + b.units) ∙ length-each l in
-    ext_get_or 0 w (unitsToEach (l ++ b ∷ [])) (long ∙ sym (length-each (l ++ b ∷ []))) λ t m. go t (omega arith) (ℕ_discrete t b.end)
+    let long : length w ≡ most_states = length-set v b.end (get_or v b.end 0 + b.units) ∙ length_each l in
+    ext_get_or 0 w (units_to_each (l ++ b ∷ [])) (long ∙ sym (length_each (l ++ b ∷ []))) λ t m. go t (omega arith) (ℕ_discrete t b.end)
   where
-    go : (t : ℕ) → t < mostStates → Dec (t ≡ b.end)
-        → get_or (set (unitsToEach l) b.end (get_or (unitsToEach l) b.end 0 + b.units)) t 0 ≡ get_or (unitsToEach (l ++ b ∷ [])) t 0
+    go : (t : ℕ) → t < most_states → Dec (t ≡ b.end)
+        → get_or (set (units_to_each l) b.end (get_or (units_to_each l) b.end 0 + b.units)) t 0 ≡ get_or (units_to_each (l ++ b ∷ [])) t 0
     go t m (yes e) =
-        let v = unitsToEach l in
-        let in-range : b.end < length v = omega (arith, length-each l) in
-        rw (each_at (l ++ b ∷ []) t m, units-more t l b, e, get_or-set_same v b.end (get_or v b.end 0 + b.units) 0 in-range, each_at l b.end h, eq-eqb b.end b.end refl)
+        let v = units_to_each l in
+        let in-range : b.end < length v = omega (arith, length_each l) in
+        rw (each_at (l ++ b ∷ []) t m, units_more t l b, e, get_or-set_same v b.end (get_or v b.end 0 + b.units) 0 in-range, each_at l b.end h, eq-eqb b.end b.end refl)
     go t m (no e) =
-        let v = unitsToEach l in
-        rw (each_at (l ++ b ∷ []) t m, units-more t l b, get_or-set_other v b.end t (get_or v b.end 0 + b.units) 0 e, each_at l t m, ne_eqb b.end t (λ z. e (sym z)))
+        let v = units_to_each l in
+        rw (each_at (l ++ b ∷ []) t m, units_more t l b, get_or-set_other v b.end t (get_or v b.end 0 + b.units) 0 e, each_at l t m, ne_eqb b.end t (λ z. e (sym z)))
         (omega arith)
 
 -- ---- branches in an array, from `at` on
 
 module _ (branches : List ℕ) (at i : ℕ) where
   -- the next of them is x
-  pub each_next : (x : ℕ) {end units : ℕ} → x ≡ get_or branches (at + i) 0 → at + i < length branches → end ≡ endPart x → units ≡ unitsPart x → end < mostStates
-      → {v : List ℕ} → v ≡ unitsToEach (map branchOf (take i (drop at branches)))
-      → set v end (get_or v end 0 + units) ≡ unitsToEach (map branchOf (take (i + 1) (drop at branches)))
-  unfolding branchOf
+  pub each_next : (x : ℕ) {end units : ℕ} → x ≡ get_or branches (at + i) 0 → at + i < length branches → end ≡ end_part x → units ≡ units_part x → end < most_states
+      → {v : List ℕ} → v ≡ units_to_each (map branch_of (take i (drop at branches)))
+      → set v end (get_or v end 0 + units) ≡ units_to_each (map branch_of (take (i + 1) (drop at branches)))
+  unfolding branch_of
   each_next x {end} {units} is l e f h {v} p =
       let here : i < length (drop at branches) = rw length-drop (omega arith) in
-      let b : Branch = record { units = unitsPart x; end = endPart x; sets = setOf (setPart x) } in
-      rw (p, add-one i, take-suc (drop at branches) i 0 here, get_or-drop at branches i 0, ← is, map-append branchOf (take i (drop at branches)) (x ∷ []), e, f)
-      (each_more (map branchOf (take i (drop at branches))) b (rw (← e) h))
+      let b : Branch = record { units = units_part x; end = end_part x; sets = set_of (set_part x) } in
+      rw (p, add-one i, take-suc (drop at branches) i 0 here, get_or-drop at branches i 0, ← is, map_append branch_of (take i (drop at branches)) (x ∷ []), e, f)
+      (each_more (map branch_of (take i (drop at branches))) b (rw (← e) h))
 
   -- and there is none
   pub each_all : (size : ℕ) → i ≤ size → length (drop at branches) ≤ i
-      → unitsToEach (map branchOf (take i (drop at branches))) ≡ unitsToEach (map branchOf (take size (drop at branches)))
+      → units_to_each (map branch_of (take i (drop at branches))) ≡ units_to_each (map branch_of (take size (drop at branches)))
   each_all size h l = rw (take_all i (drop at branches) l, take_all size (drop at branches) (omega arith))
 
   -- and they are all that were asked for
-  pub each-end : (size : ℕ) → i ≡ size → unitsToEach (map branchOf (take i (drop at branches))) ≡ unitsToEach (map branchOf (take size (drop at branches)))
-  each-end size e = rw e
+  pub each_end : (size : ℕ) → i ≡ size → units_to_each (map branch_of (take i (drop at branches))) ≡ units_to_each (map branch_of (take size (drop at branches)))
+  each_end size e = rw e
 
 -- ---- sums that fit
 
@@ -89,7 +89,7 @@ sums_next v a u w i h l t = go (dec_lt a (length v)) (ℕ_discrete t a)
     go (yes m) (no e) = rw (get_or-set_other v a t (get_or v a 0 + u) 0 e, more) (omega (arith, h t))
     go (no m) _ = rw (set_out v a (get_or v a 0 + u) (omega arith), more) (omega (arith, h t))
 
-pub zeros-small : (n : ℕ) {w : ℕ} (t : ℕ) → get_or (replicate n 0) t 0 ≤ w
-zeros-small zero t = omega arith
-zeros-small (suc n) zero = omega arith
-zeros-small (suc n) (suc t) = zeros-small n t
+pub zeros_small : (n : ℕ) {w : ℕ} (t : ℕ) → get_or (replicate n 0) t 0 ≤ w
+zeros_small zero t = omega arith
+zeros_small (suc n) zero = omega arith
+zeros_small (suc n) (suc t) = zeros_small n t

@@ -1,10 +1,10 @@
 // Guards held at the counts of a seating, and the units of a statement by where they end ("What a card means").
 ghost use Rattle.std.specs.Prelude.{◌≡◌, map, ◌+◌, min, take, drop};
-ghost use Rattle.card.specs.Limits.{mostBranches};
-ghost use Rattle.card.specs.Laid.{guardAt, branchOf};
+ghost use Rattle.card.specs.Limits.{most_branches};
+ghost use Rattle.card.specs.Laid.{guard_at, branch_of};
 ghost use Rattle.meaning.specs.Position.{position};
 ghost use Rattle.meaning.specs.ByCounts.{held_at};
-ghost use Rattle.panel_numbers.specs.Taking.{unitsToEach};
+ghost use Rattle.panel_numbers.specs.Taking.{units_to_each};
 
 use card::limits::{MOST_BRANCHES, MOST_STATES};
 use card::number_at;
@@ -20,7 +20,7 @@ pub fn held(
     counts: &[usize],
     shared: usize,
 ) -> bool
-    ensures { result ≡ held_at n own (position counts.now shared) (guardAt nodes.now root) }
+    ensures { result ≡ held_at n own (position counts.now shared) (guard_at nodes.now root) }
 {
     let node = number_at(nodes, root);
     let op = op_of(node);
@@ -48,7 +48,7 @@ pub fn held(
 
 // The units of `size` branches from `at` on, by where they end; no statement has more than MOST_BRANCHES.
 pub fn units_to(branches: &[u32], at: usize, size: usize) -> [usize; MOST_STATES]
-    ensures { result ≡ unitsToEach (map branchOf (take (min size mostBranches) (drop at branches.now))) }
+    ensures { result ≡ units_to_each (map branch_of (take (min size most_branches) (drop at branches.now))) }
 {
     let mut units: [usize; MOST_STATES] = [0; MOST_STATES];
     let mut i = 0;

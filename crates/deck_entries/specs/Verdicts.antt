@@ -3,6 +3,6 @@ use Rattle.card.specs.declared.Verdict.{Verdict}
 use Rattle.card.specs.declared.Verdict.TheVariants.{Taken, Refused}
 use Rattle.entry.specs.Said.{Said, says, refused}
 
-abbrev pub verdictOf : {A : Type 0} → Said A → Verdict
-verdictOf (says a) = Taken
-verdictOf (refused number place) = Refused number place
+abbrev pub verdict_of : {A : Type 0} → Said A → Verdict
+verdict_of (says a) = Taken
+verdict_of (refused number place) = Refused number place

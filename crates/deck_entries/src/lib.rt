@@ -1,8 +1,8 @@
 // An entry of a deck's contents, from its bytes (document 02, 2026-02).
 ghost use Rattle.std.specs.Prelude.{◌≡◌, ◌+◌, ◌≤◌, ◌<◌, length, drop};
-ghost use Rattle.card.specs.Limits.{entryBytes, wordNumbers};
-ghost use Rattle.deck.specs.Contents.{word_at, row_of, rowSaid};
-ghost use Rattle.deck_entries.specs.Verdicts.{verdictOf};
+ghost use Rattle.card.specs.Limits.{entry_bytes, word_numbers};
+ghost use Rattle.deck.specs.Contents.{word_at, row_of, row_said};
+ghost use Rattle.deck_entries.specs.Verdicts.{verdict_of};
 
 use card::Verdict;
 use card::limits::{FLAG_AT, OFFSET_AT, SIZE_AT, ZERO_BYTE_AT};
@@ -20,7 +20,7 @@ pub fn wide(b: u8) -> usize
 // The number of two bytes at a place, low byte first.
 pub fn word_at(deck: &[u8], at: usize) -> usize
     requires { at + 2 ≤ length deck.now }
-    ensures { (result ≡ word_at deck.now at) × (result < wordNumbers) }
+    ensures { (result ≡ word_at deck.now at) × (result < word_numbers) }
 {
     let lo = wide(deck[at]);
     let hi = wide(deck[at + 1]);
@@ -29,8 +29,8 @@ pub fn word_at(deck: &[u8], at: usize) -> usize
 
 // The entry at a place: its number is at least `least`, its body starts at `last` at the earliest.
 pub fn judge_row(deck: &[u8], at: usize, least: usize, last: usize) -> Verdict
-    requires { at + entryBytes ≤ length deck.now }
-    ensures { result ≡ verdictOf (rowSaid (length deck.now) at least last (row_of (drop at deck.now))) }
+    requires { at + entry_bytes ≤ length deck.now }
+    ensures { result ≡ verdict_of (row_said (length deck.now) at least last (row_of (drop at deck.now))) }
 {
     let number = word_at(deck, at);
     let offset = word_at(deck, at + OFFSET_AT);

@@ -1,12 +1,12 @@
 // A box written from contents and bodies, without gaps: its lines judged, its count, entries and bodies put (document 02, 2026-02). No offset is read, and no card.
 ghost use Rattle.std.specs.Prelude.{◌≡◌, ◌*◌, ◌≤◌, ◌+◌, ◌<◌, length, [], ◌∷◌};
-ghost use Rattle.card.specs.Limits.{entryBytes, mostCards, deckBytes, wordNumbers};
-ghost use Rattle.deck_written.specs.WriteDeckSaid.{lines, sizes, writeDeckSaid};
+ghost use Rattle.card.specs.Limits.{entry_bytes, most_cards, deck_bytes, word_numbers};
+ghost use Rattle.deck_written.specs.WriteDeckSaid.{lines, sizes, write_deck_said};
 ghost use Rattle.room.specs.Answer.{told, Entered};
-ghost use Rattle.deck_writer.specs.Measured.{measured, contentsSaid, rowWith};
-ghost use Rattle.deck.specs.Deck.{low, high, rowText};
+ghost use Rattle.deck_writer.specs.Measured.{measured, contents_said, row_with};
+ghost use Rattle.deck.specs.Deck.{low, high, row_text};
 ghost use Rattle.room.specs.Room.{Put};
-ghost use Rattle.deck_writer.specs.Parts.{linesText, DeckPut};
+ghost use Rattle.deck_writer.specs.Parts.{lines_text, DeckPut};
 ghost use Rattle.entry.specs.Said.{says};
 
 use card::limits::{
@@ -18,7 +18,7 @@ use room::{Answer, place, put_byte, put_run};
 
 // The entries one behind the other: how long their bodies are together, or 11 at the first wrong field.
 fn judge_lines(contents: &[u8]) -> Answer
-    requires { length contents.now ≤ entryBytes * mostCards }
+    requires { length contents.now ≤ entry_bytes * most_cards }
     ensures { result ≡ told (measured 0 0 0 (lines contents.now)) }
 {
     let mut left = contents.len() / ENTRY_BYTES;
@@ -47,7 +47,7 @@ fn judge_lines(contents: &[u8]) -> Answer
 
 // Contents that a deck is to be written from: the count first, then the entries.
 fn judge_contents(contents: &[u8]) -> Answer
-    ensures { result ≡ told (contentsSaid contents.now) }
+    ensures { result ≡ told (contents_said contents.now) }
 {
     if contents.len() % ENTRY_BYTES != 0 {
         return Answer::Refused(MALFORMED_DECK, contents.len());
@@ -63,7 +63,7 @@ fn judge_contents(contents: &[u8]) -> Answer
 
 // A number of two bytes, low byte first.
 fn put_word(room: &mut [u8], at: usize, n: usize) -> usize
-    requires { n < wordNumbers }
+    requires { n < word_numbers }
     ensures { Put room.old room.new at (low n ∷ high n ∷ []) result }
 {
     let a = put_byte(room, at, (n % BYTE_VALUES) as u8);
@@ -80,8 +80,8 @@ pub fn put_row(
     flag: u8,
     zero: u8,
 ) -> usize
-    requires { (number < wordNumbers) × (offset < wordNumbers) × (size < wordNumbers) }
-    ensures { Put room.old room.new at (rowText (rowWith number offset size flag zero) []) result }
+    requires { (number < word_numbers) × (offset < word_numbers) × (size < word_numbers) }
+    ensures { Put room.old room.new at (row_text (row_with number offset size flag zero) []) result }
 {
     let a = put_word(room, at, number);
     let b = put_word(room, a, offset);
@@ -92,8 +92,8 @@ pub fn put_row(
 
 // The entries of a deck whose first body starts at `first`, and each other one where the body before ends.
 fn put_lines(room: &mut [u8], at: usize, contents: &[u8], first: usize) -> usize
-    requires { first + sizes (lines contents.now) ≤ deckBytes }
-    ensures { Put room.old room.new at (linesText first contents.now) result }
+    requires { first + sizes (lines contents.now) ≤ deck_bytes }
+    ensures { Put room.old room.new at (lines_text first contents.now) result }
 {
     let mut left = contents.len() / ENTRY_BYTES;
     let mut from: usize = 0;
@@ -114,8 +114,8 @@ fn put_lines(room: &mut [u8], at: usize, contents: &[u8], first: usize) -> usize
 
 // The whole deck, its bodies from `first` on; the answer is the place behind them.
 fn put_deck(room: &mut [u8], contents: &[u8], bodies: &[u8], first: usize) -> usize
-    requires contents_len_bound { length contents.now ≤ entryBytes * mostCards }
-    requires contents_bound { first + sizes (lines contents.now) ≤ deckBytes }
+    requires contents_len_bound { length contents.now ≤ entry_bytes * most_cards }
+    requires contents_bound { first + sizes (lines contents.now) ≤ deck_bytes }
     ensures { DeckPut room.old room.new contents.now bodies.now first result }
 {
     let a = put_byte(room, 0, (contents.len() / ENTRY_BYTES) as u8);
@@ -125,8 +125,8 @@ fn put_deck(room: &mut [u8], contents: &[u8], bodies: &[u8], first: usize) -> us
 
 // Contents that were judged: do the bodies fit to them, and the deck into the room?
 fn write_bodies(contents: &[u8], bodies: &[u8], long: usize, room: &mut [u8]) -> Answer
-    requires { contentsSaid contents.now ≡ says long }
-    ensures { Entered room.old room.new (writeDeckSaid contents.now bodies.now) result }
+    requires { contents_said contents.now ≡ says long }
+    ensures { Entered room.old room.new (write_deck_said contents.now bodies.now) result }
 {
     if long != bodies.len() {
         return Answer::Refused(MALFORMED_DECK, contents.len());
@@ -144,7 +144,7 @@ fn write_bodies(contents: &[u8], bodies: &[u8], long: usize, room: &mut [u8]) ->
 
 // The contents are judged first, the bodies behind them, and the room last.
 pub fn write_deck(contents: &[u8], bodies: &[u8], room: &mut [u8]) -> Answer
-    ensures { Entered room.old room.new (writeDeckSaid contents.now bodies.now) result }
+    ensures { Entered room.old room.new (write_deck_said contents.now bodies.now) result }
 {
     match judge_contents(contents) {
         Answer::Refused(number, place) => {

@@ -2,7 +2,7 @@
 // there. The most frequent marks are looked for right at the place first: the processor then goes on behind the mark that it expects, while
 // past a blank or none it would have to wait for the byte.
 ghost use Rattle.std.specs.Prelude.{◌≡◌};
-ghost use Rattle.marks.specs.Step.{stepAt};
+ghost use Rattle.marks.specs.Step.{step_at};
 
 use letters::bytes::stands;
 use looks::look::{past_blank, past_line, sign_here};
@@ -15,7 +15,7 @@ use marks_on_a_card::kinds::{
 
 // The cursor's step from a place on. The answer is made anew, so that the callers' quick answers need not lie in memory for it.
 pub fn step_from(card: &[u8], at: usize) -> Step
-    ensures { result ≡ stepAt card.now at }
+    ensures { result ≡ step_at card.now at }
 {
     let cursor = Cursor { at };
     let step = cursor.step(card);
@@ -26,7 +26,7 @@ pub fn step_from(card: &[u8], at: usize) -> Step
 
 // A sign of this kind.
 pub fn step_sign(card: &[u8], at: usize, kind: usize) -> Step
-    ensures { result ≡ stepAt card.now at }
+    ensures { result ≡ step_at card.now at }
 {
     let from = past_blank(card, at);
     if sign_here(card, from, kind) {
@@ -37,7 +37,7 @@ pub fn step_sign(card: &[u8], at: usize, kind: usize) -> Step
 
 // A `&` or a `)`, right here: a term is mostly written without blanks.
 pub fn step_and(card: &[u8], at: usize) -> Step
-    ensures { result ≡ stepAt card.now at }
+    ensures { result ≡ step_at card.now at }
 {
     if sign_here(card, at, AND) {
         return bare(AND, at, at + 1);
@@ -50,7 +50,7 @@ pub fn step_and(card: &[u8], at: usize) -> Step
 
 // A sign of this kind, a `)` or a `->`.
 pub fn step_closing(card: &[u8], at: usize, kind: usize) -> Step
-    ensures { result ≡ stepAt card.now at }
+    ensures { result ≡ step_at card.now at }
 {
     if sign_here(card, at, kind) {
         return bare(kind, at, at + 1);
@@ -67,7 +67,7 @@ pub fn step_closing(card: &[u8], at: usize, kind: usize) -> Step
 
 // A `)`, a `&`, a `|` or a `->`.
 pub fn step_after(card: &[u8], at: usize) -> Step
-    ensures { result ≡ stepAt card.now at }
+    ensures { result ≡ step_at card.now at }
 {
     if sign_here(card, at, ROUND_CLOSE) {
         return bare(ROUND_CLOSE, at, at + 1);
@@ -87,7 +87,7 @@ pub fn step_after(card: &[u8], at: usize) -> Step
 
 // A `|`, a `&` or a `)`.
 pub fn step_joint(card: &[u8], at: usize) -> Step
-    ensures { result ≡ stepAt card.now at }
+    ensures { result ≡ step_at card.now at }
 {
     if sign_here(card, at, OR) {
         return bare(OR, at, at + 1);
@@ -104,7 +104,7 @@ pub fn step_joint(card: &[u8], at: usize) -> Step
 
 // A `=` or a `!=`.
 pub fn step_relation(card: &[u8], at: usize) -> Step
-    ensures { result ≡ stepAt card.now at }
+    ensures { result ≡ step_at card.now at }
 {
     let from = past_blank(card, at);
     if sign_here(card, from, EQUAL) {
@@ -121,7 +121,7 @@ pub fn step_relation(card: &[u8], at: usize) -> Step
 
 // A `+` or a `;`.
 pub fn step_further(card: &[u8], at: usize) -> Step
-    ensures { result ≡ stepAt card.now at }
+    ensures { result ≡ step_at card.now at }
 {
     let from = past_blank(card, at);
     if sign_here(card, from, SEMICOLON) {
@@ -132,7 +132,7 @@ pub fn step_further(card: &[u8], at: usize) -> Step
 
 // A `(` or a `!`.
 pub fn step_opening(card: &[u8], at: usize) -> Step
-    ensures { result ≡ stepAt card.now at }
+    ensures { result ≡ step_at card.now at }
 {
     if sign_here(card, at, ROUND_OPEN) {
         return bare(ROUND_OPEN, at, at + 1);
@@ -152,7 +152,7 @@ pub fn step_opening(card: &[u8], at: usize) -> Step
 
 // A `[`, also on the next line.
 pub fn step_square(card: &[u8], at: usize) -> Step
-    ensures { result ≡ stepAt card.now at }
+    ensures { result ≡ step_at card.now at }
 {
     let from = past_line(card, at);
     if sign_here(card, from, SQUARE_OPEN) {
@@ -163,7 +163,7 @@ pub fn step_square(card: &[u8], at: usize) -> Step
 
 // A `/` or a `:`.
 pub fn step_slash(card: &[u8], at: usize) -> Step
-    ensures { result ≡ stepAt card.now at }
+    ensures { result ≡ step_at card.now at }
 {
     let from = past_blank(card, at);
     if stands(card, from, b'/') {
@@ -177,7 +177,7 @@ pub fn step_slash(card: &[u8], at: usize) -> Step
 
 // A `&` or a `->`.
 pub fn step_guard(card: &[u8], at: usize) -> Step
-    ensures { result ≡ stepAt card.now at }
+    ensures { result ≡ step_at card.now at }
 {
     let from = past_blank(card, at);
     if sign_here(card, from, AND) {
@@ -188,7 +188,7 @@ pub fn step_guard(card: &[u8], at: usize) -> Step
 
 // A `->`.
 pub fn step_arrow(card: &[u8], at: usize) -> Step
-    ensures { result ≡ stepAt card.now at }
+    ensures { result ≡ step_at card.now at }
 {
     let from = past_blank(card, at);
     if stands(card, from, b'-') {

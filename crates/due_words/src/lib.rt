@@ -1,6 +1,6 @@
 // A step where a word or a number is due, by looks that go as those for a sign do (due_signs).
 ghost use Rattle.std.specs.Prelude.{◌≡◌};
-ghost use Rattle.marks.specs.Step.{stepAt};
+ghost use Rattle.marks.specs.Step.{step_at};
 
 use due_signs::{step_from, step_opening, step_sign};
 use looks::look::{past_blank, past_line, process_here, seat_here, teen_here};
@@ -11,7 +11,7 @@ use word_and_digit_looks::{NO_DIGIT, digit_here, word_here};
 
 // A number.
 pub fn step_number(card: &[u8], at: usize) -> Step
-    ensures { result ≡ stepAt card.now at }
+    ensures { result ≡ step_at card.now at }
 {
     let tight = digit_here(card, at);
     if tight < NO_DIGIT {
@@ -27,7 +27,7 @@ pub fn step_number(card: &[u8], at: usize) -> Step
 
 // A seat word, with one digit or two.
 pub fn step_seat(card: &[u8], at: usize) -> Step
-    ensures { result ≡ stepAt card.now at }
+    ensures { result ≡ step_at card.now at }
 {
     let tight = seat_here(card, at);
     if tight < NO_DIGIT {
@@ -51,7 +51,7 @@ pub fn step_seat(card: &[u8], at: usize) -> Step
 
 // A seat word, right here: those of a term mostly stand right behind their bracket or `&`.
 pub fn step_tight_seat(card: &[u8], at: usize) -> Step
-    ensures { result ≡ stepAt card.now at }
+    ensures { result ≡ step_at card.now at }
 {
     let value = seat_here(card, at);
     if value < NO_DIGIT {
@@ -66,7 +66,7 @@ pub fn step_tight_seat(card: &[u8], at: usize) -> Step
 
 // A seat word, most likely of one digit.
 fn step_short_seat(card: &[u8], at: usize) -> Step
-    ensures { result ≡ stepAt card.now at }
+    ensures { result ≡ step_at card.now at }
 {
     let from = past_blank(card, at);
     let value = seat_here(card, from);
@@ -78,7 +78,7 @@ fn step_short_seat(card: &[u8], at: usize) -> Step
 
 // A seat word, a `(` or a `!`.
 pub fn step_inner(card: &[u8], at: usize) -> Step
-    ensures { result ≡ stepAt card.now at }
+    ensures { result ≡ step_at card.now at }
 {
     let tight = seat_here(card, at);
     if tight < NO_DIGIT {
@@ -94,7 +94,7 @@ pub fn step_inner(card: &[u8], at: usize) -> Step
 
 // A `module`, also on the next line.
 pub fn step_module(card: &[u8], at: usize) -> Step
-    ensures { result ≡ stepAt card.now at }
+    ensures { result ≡ step_at card.now at }
 {
     let from = past_line(card, at);
     if word_here(card, from, b"module") {
@@ -105,7 +105,7 @@ pub fn step_module(card: &[u8], at: usize) -> Step
 
 // An `endmodule`, also on the next line.
 pub fn step_endmodule(card: &[u8], at: usize) -> Step
-    ensures { result ≡ stepAt card.now at }
+    ensures { result ≡ step_at card.now at }
 {
     let from = past_line(card, at);
     if word_here(card, from, b"endmodule") {
@@ -116,7 +116,7 @@ pub fn step_endmodule(card: &[u8], at: usize) -> Step
 
 // A module word.
 pub fn step_process(card: &[u8], at: usize) -> Step
-    ensures { result ≡ stepAt card.now at }
+    ensures { result ≡ step_at card.now at }
 {
     let from = past_blank(card, at);
     let value = process_here(card, from);
@@ -128,7 +128,7 @@ pub fn step_process(card: &[u8], at: usize) -> Step
 
 // A word of this kind, or a sign.
 pub fn step_kind(card: &[u8], at: usize, kind: usize) -> Step
-    ensures { result ≡ stepAt card.now at }
+    ensures { result ≡ step_at card.now at }
 {
     if kind == SEAT {
         return step_short_seat(card, at);

@@ -2,22 +2,22 @@
 use mathlib.Core.Path.{refl}
 use Rattle.edges.specs.DeckEdges.{DeckEdges}
 
-pub deck-edges : DeckEdges
-deck-edges = record {
-  one_entry = (refl, refl, refl);
+pub deck_edges : DeckEdges
+deck_edges = record {
+  one_entry_holds = (refl, refl, refl);
   written = refl;
-  with-gaps = (refl, refl);
-  without-gaps = refl;
-  empty-bodies = (refl, refl, refl);
-  falls-through = (refl, refl);
-  from-expansion = (refl, refl);
-  expansion-first = (refl, refl);
-  in-neither = refl;
-  first-place = (refl, refl);
-  past-deck = (refl, refl);
-  last-fields = (refl, refl, refl);
+  with_gaps = (refl, refl);
+  without_gaps = refl;
+  empty_bodies = (refl, refl, refl);
+  falls_through = (refl, refl);
+  from_expansion = (refl, refl);
+  expansion_first = (refl, refl);
+  in_neither = refl;
+  first_place = (refl, refl);
+  past_deck = (refl, refl);
+  last_fields = (refl, refl, refl);
   same_number = refl;
   overlap = refl;
-  wrong-count = (refl, refl, refl, refl);
-  two-decks = (refl, refl, refl);
+  wrong_count = (refl, refl, refl, refl);
+  two_decks = (refl, refl, refl);
 }

@@ -2,8 +2,8 @@
 use Rattle.std.specs.Prelude.{ℕ, ◌≡◌, true, false, List, [], ◌∷◌, replicate}
 use Rattle.card.specs.Text.{bytes}
 use Rattle.entry.specs.Said.{says, refused}
-use Rattle.deck.specs.Deck.{Entry, deckOf, deckText}
-use Rattle.deck.specs.Lookup.{find, findWith, Part, locatedWith}
+use Rattle.deck.specs.Deck.{Entry, deck_of, deck_text}
+use Rattle.deck.specs.Lookup.{find, find_with, Part, located_with}
 
 abbrev pub live : ℕ → List ℕ → Entry
 live number body = record { number = number; live = true; body = body }
@@ -15,8 +15,8 @@ abbrev pub part : ℕ → ℕ → ℕ → Part
 part which offset size = record { which = which; offset = offset; size = size }
 
 -- one entry: number 3 from byte 9 on, two bytes
-abbrev pub oneEntry : List ℕ
-oneEntry = 1 ∷ 3 ∷ 0 ∷ 9 ∷ 0 ∷ 2 ∷ 0 ∷ 1 ∷ 0 ∷ bytes "AB"
+abbrev pub one_entry : List ℕ
+one_entry = 1 ∷ 3 ∷ 0 ∷ 9 ∷ 0 ∷ 2 ∷ 0 ∷ 1 ∷ 0 ∷ bytes "AB"
 
 -- number 0 at byte 19 and 300 at byte 22, with gaps before, between and behind the bodies
 abbrev pub gaps : List ℕ
@@ -38,31 +38,31 @@ abbrev pub bare : (n m o p s t flag z : ℕ) → List ℕ
 bare n m o p s t flag z = 1 ∷ n ∷ m ∷ o ∷ p ∷ s ∷ t ∷ flag ∷ z ∷ []
 
 pub record DeckEdges : Type 0 where
-  pub one_entry : (deckOf oneEntry ≡ says (live 3 (bytes "AB") ∷ [])) × (find oneEntry 3 ≡ says (bytes "AB")) × (find oneEntry 4 ≡ refused 12 0)
-  pub written : deckText (live 3 (bytes "AB") ∷ []) ≡ oneEntry
+  pub one_entry_holds : (deck_of one_entry ≡ says (live 3 (bytes "AB") ∷ [])) × (find one_entry 3 ≡ says (bytes "AB")) × (find one_entry 4 ≡ refused 12 0)
+  pub written : deck_text (live 3 (bytes "AB") ∷ []) ≡ one_entry
   -- gaps are allowed, and are not written again
-  pub with-gaps : (deckOf gaps ≡ says (live 0 (bytes "AB") ∷ live 300 (bytes "C") ∷ [])) × (find gaps 300 ≡ says (bytes "C"))
-  pub without-gaps : deckText (live 0 (bytes "AB") ∷ live 300 (bytes "C") ∷ [])
+  pub with_gaps : (deck_of gaps ≡ says (live 0 (bytes "AB") ∷ live 300 (bytes "C") ∷ [])) × (find gaps 300 ≡ says (bytes "C"))
+  pub without_gaps : deck_text (live 0 (bytes "AB") ∷ live 300 (bytes "C") ∷ [])
       ≡ 2 ∷ 0 ∷ 0 ∷ 17 ∷ 0 ∷ 2 ∷ 0 ∷ 1 ∷ 0 ∷ 44 ∷ 1 ∷ 19 ∷ 0 ∷ 1 ∷ 0 ∷ 1 ∷ 0 ∷ bytes "ABC"
   -- an empty card that is live is found, and one that is withdrawn is not
-  pub empty-bodies : (deckOf empties ≡ says (live 3 [] ∷ withdrawn 4 [] ∷ [])) × (find empties 3 ≡ says []) × (find empties 4 ≡ refused 12 0)
+  pub empty_bodies : (deck_of empties ≡ says (live 3 [] ∷ withdrawn 4 [] ∷ [])) × (find empties 3 ≡ says []) × (find empties 4 ≡ refused 12 0)
   -- in the expansion if live there, else in the base; withdrawn there falls through
-  pub falls-through : (findWith oneEntry expansion 3 ≡ says (bytes "AB")) × (locatedWith oneEntry expansion 3 ≡ says (part 0 9 2))
-  pub from-expansion : (findWith oneEntry expansion 5 ≡ says (bytes "YZ")) × (locatedWith oneEntry expansion 5 ≡ says (part 1 18 2))
-  pub expansion-first : (findWith oneEntry another 3 ≡ says (bytes "CDE")) × (locatedWith oneEntry another 3 ≡ says (part 1 9 3))
-  pub in-neither : findWith oneEntry expansion 4 ≡ refused 12 0
+  pub falls_through : (find_with one_entry expansion 3 ≡ says (bytes "AB")) × (located_with one_entry expansion 3 ≡ says (part 0 9 2))
+  pub from_expansion : (find_with one_entry expansion 5 ≡ says (bytes "YZ")) × (located_with one_entry expansion 5 ≡ says (part 1 18 2))
+  pub expansion_first : (find_with one_entry another 3 ≡ says (bytes "CDE")) × (located_with one_entry another 3 ≡ says (part 1 9 3))
+  pub in_neither : find_with one_entry expansion 4 ≡ refused 12 0
   -- the end of the contents is the first place for a body; an offset past the deck shows as a length past it, with length 0 too
-  pub first-place : (deckOf (bare 3 0 9 0 0 0 1 0) ≡ says (live 3 [] ∷ [])) × (deckOf (bare 3 0 8 0 0 0 1 0) ≡ refused 11 3)
-  pub past-deck : (deckOf (bare 3 0 10 0 0 0 1 0) ≡ refused 11 5) × (deckOf (bare 3 0 9 0 1 0 1 0) ≡ refused 11 5)
+  pub first_place : (deck_of (bare 3 0 9 0 0 0 1 0) ≡ says (live 3 [] ∷ [])) × (deck_of (bare 3 0 8 0 0 0 1 0) ≡ refused 11 3)
+  pub past_deck : (deck_of (bare 3 0 10 0 0 0 1 0) ≡ refused 11 5) × (deck_of (bare 3 0 9 0 1 0 1 0) ≡ refused 11 5)
   -- a flag of 2, a byte that is not 0, and both
-  pub last-fields : (deckOf (bare 3 0 9 0 0 0 2 0) ≡ refused 11 7) × (deckOf (bare 3 0 9 0 0 0 1 1) ≡ refused 11 8)
-      × (deckOf (bare 3 0 9 0 0 0 2 1) ≡ refused 11 7)
+  pub last_fields : (deck_of (bare 3 0 9 0 0 0 2 0) ≡ refused 11 7) × (deck_of (bare 3 0 9 0 0 0 1 1) ≡ refused 11 8)
+      × (deck_of (bare 3 0 9 0 0 0 2 1) ≡ refused 11 7)
   -- the same number twice, and bodies that overlap: at the second entry's number and offset
-  pub same_number : deckOf (2 ∷ 3 ∷ 0 ∷ 17 ∷ 0 ∷ 0 ∷ 0 ∷ 1 ∷ 0 ∷ 3 ∷ 0 ∷ 17 ∷ 0 ∷ 0 ∷ 0 ∷ 1 ∷ 0 ∷ []) ≡ refused 11 9
-  pub overlap : deckOf (2 ∷ 3 ∷ 0 ∷ 17 ∷ 0 ∷ 2 ∷ 0 ∷ 1 ∷ 0 ∷ 4 ∷ 0 ∷ 18 ∷ 0 ∷ 1 ∷ 0 ∷ 1 ∷ 0 ∷ bytes "AB") ≡ refused 11 11
+  pub same_number : deck_of (2 ∷ 3 ∷ 0 ∷ 17 ∷ 0 ∷ 0 ∷ 0 ∷ 1 ∷ 0 ∷ 3 ∷ 0 ∷ 17 ∷ 0 ∷ 0 ∷ 0 ∷ 1 ∷ 0 ∷ []) ≡ refused 11 9
+  pub overlap : deck_of (2 ∷ 3 ∷ 0 ∷ 17 ∷ 0 ∷ 2 ∷ 0 ∷ 1 ∷ 0 ∷ 4 ∷ 0 ∷ 18 ∷ 0 ∷ 1 ∷ 0 ∷ 1 ∷ 0 ∷ bytes "AB") ≡ refused 11 11
   -- no byte, no card, 65 cards with as many entries, contents cut short
-  pub wrong-count : (deckOf [] ≡ refused 11 0) × (deckOf (0 ∷ []) ≡ refused 11 0) × (deckOf (65 ∷ replicate 520 0) ≡ refused 11 0)
-      × (deckOf (1 ∷ 3 ∷ 0 ∷ 9 ∷ 0 ∷ 0 ∷ 0 ∷ 1 ∷ []) ≡ refused 11 0)
+  pub wrong_count : (deck_of [] ≡ refused 11 0) × (deck_of (0 ∷ []) ≡ refused 11 0) × (deck_of (65 ∷ replicate 520 0) ≡ refused 11 0)
+      × (deck_of (1 ∷ 3 ∷ 0 ∷ 9 ∷ 0 ∷ 0 ∷ 0 ∷ 1 ∷ []) ≡ refused 11 0)
   -- the base is judged first; the expansion's places count from 65,536
-  pub two-decks : (findWith (bare 3 0 8 0 0 0 1 0) [] 3 ≡ refused 11 3) × (findWith oneEntry [] 3 ≡ refused 11 65536)
-      × (findWith oneEntry (bare 3 0 8 0 0 0 1 0) 3 ≡ refused 11 65539)
+  pub two_decks : (find_with (bare 3 0 8 0 0 0 1 0) [] 3 ≡ refused 11 3) × (find_with one_entry [] 3 ≡ refused 11 65536)
+      × (find_with one_entry (bare 3 0 8 0 0 0 1 0) 3 ≡ refused 11 65539)

@@ -9,12 +9,12 @@ asked (says true) = Yes
 asked (says false) = No
 asked (refused number place) = Refused number place
 
-abbrev pub askedNumber : Asked → ℕ
-askedNumber Yes = 0
-askedNumber No = 0
-askedNumber (Refused number place) = number
+abbrev pub asked_number : Asked → ℕ
+asked_number Yes = 0
+asked_number No = 0
+asked_number (Refused number place) = number
 
-abbrev pub askedValue : Asked → ℕ
-askedValue Yes = 1
-askedValue No = 0
-askedValue (Refused number place) = place
+abbrev pub asked_value : Asked → ℕ
+asked_value Yes = 1
+asked_value No = 0
+asked_value (Refused number place) = place

@@ -30,17 +30,17 @@ module _ {A B : Type 0} where
   saying f (refused number place) = refused number place
 
 -- places count from another byte, as an expansion's from 65,536
-abbrev pub placedFrom : {A : Type 0} → ℕ → Said A → Said A
-placedFrom k (says a) = says a
-placedFrom k (refused number place) = refused number (place + k)
+abbrev pub placed_from : {A : Type 0} → ℕ → Said A → Said A
+placed_from k (says a) = says a
+placed_from k (refused number place) = refused number (place + k)
 
 -- in the document's numbers: 0 if nothing is refused
 module _ {A : Type 0} where
-  abbrev pub saidNumber : Said A → ℕ
-  saidNumber (says a) = 0
-  saidNumber (refused number place) = number
+  abbrev pub said_number : Said A → ℕ
+  said_number (says a) = 0
+  said_number (refused number place) = number
 
   -- what stands beside it: the value as a number, or the refusal's place
-  abbrev pub besideOf : (A → ℕ) → Said A → ℕ
-  besideOf f (says a) = f a
-  besideOf f (refused number place) = place
+  abbrev pub beside_of : (A → ℕ) → Said A → ℕ
+  beside_of f (says a) = f a
+  beside_of f (refused number place) = place

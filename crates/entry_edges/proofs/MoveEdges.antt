@@ -1,22 +1,22 @@
 -- Each by computing. Assumes nothing.
 use mathlib.Core.Path.{refl}
-use Rattle.card.specs.Weight.{unitsOf}
-use Rattle.reading.specs.Reading.{readUnder}
-use Rattle.seating.specs.Judged.{judgedSeats, judgedBy}
-use Rattle.moving.specs.FirstMove.{firstMove}
-use Rattle.move_said.specs.MoveSaid.{moveSaid}
+use Rattle.card.specs.Weight.{units_of}
+use Rattle.reading.specs.Reading.{read_under}
+use Rattle.seating.specs.Judged.{judged_seats, judged_by}
+use Rattle.moving.specs.FirstMove.{first_move}
+use Rattle.move_said.specs.MoveSaid.{move_said}
 use Rattle.entry_edges.specs.MoveEdges.{MoveEdges}
 
-pub move-edges : MoveEdges
-unfolding moveSaid readUnder unitsOf judgedSeats judgedBy firstMove
-move-edges = record {
-  at-001 = (refl, refl);
-  at-100 = (refl, refl);
-  at-011 = (refl, refl);
-  at-012 = (refl, refl);
-  second-first = (refl, refl);
+pub move_edges : MoveEdges
+unfolding move_said read_under units_of judged_seats judged_by first_move
+move_edges = record {
+  at_001 = (refl, refl);
+  at_100 = (refl, refl);
+  at_011 = (refl, refl);
+  at_012 = (refl, refl);
+  second_first_holds = (refl, refl);
   staying = refl;
-  seat-count = (refl, refl, refl, refl);
-  seat-above = (refl, refl);
-  card-first = (refl, refl, refl);
+  seat_count = (refl, refl, refl, refl);
+  seat_above = (refl, refl);
+  card_first = (refl, refl, refl);
 }

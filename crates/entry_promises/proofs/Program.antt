@@ -10,115 +10,115 @@ use native.Mathlib.Omega.{arith}
 use borrow.Author.Tests.{ne_eqb, le-leb, lt-leb}
 use lib.Dec.{leb}
 use lib.ListN.{length, take}
-use Rattle.rows.proofs.Theorems.{of-card?}
-use Rattle.card.specs.Weight.{cardRule}
-use Rattle.card.specs.Refusals.{wrongWeight, wrongSeats, seatAboveTop, decimalWeight, OfCard}
+use Rattle.rows.proofs.Theorems.{of_card?}
+use Rattle.card.specs.Weight.{card_rule}
+use Rattle.card.specs.Refusals.{wrong_weight, wrong_seats, seat_above_top, decimal_weight, OfCard}
 use Rattle.card.specs.Card.{Card}
 use Rattle.card.specs.Valid.{Every}
 use Rattle.reading.specs.Reading.{taken, refused, read_of}
-use Rattle.grammar.proofs.Theorems.{read-valid}
+use Rattle.grammar.proofs.Theorems.{read_valid}
 use Rattle.reading.proofs.Numbers.{read_number}
 use Rattle.entry.specs.Said.{says as text, refused as refusal}
 use Rattle.room.specs.Digits.{digit}
 use Rattle.room.specs.Answer.{Text}
-use Rattle.seating.specs.Judged.{seatsDue, FirstWrong, seatingOf, Seated}
-use Rattle.seating.specs.SeatsSaid.{seatsNumbers}
-use Rattle.rows.specs.Said.{cardNumbers}
-use Rattle.panel_wording.specs.PanelText.{panelOf}
-use Rattle.panel_said.specs.PanelSaid.{panelSaid}
-use Rattle.panel_said.proofs.Short.{panel-fits}
-use Rattle.panel_said.proofs.Theorems.{said, said-card, said-count, said-seat}
+use Rattle.seating.specs.Judged.{seats_due, FirstWrong, seating_of, Seated}
+use Rattle.seating.specs.SeatsSaid.{seats_numbers}
+use Rattle.rows.specs.Said.{card_numbers}
+use Rattle.panel_wording.specs.PanelText.{panel_of}
+use Rattle.panel_said.specs.PanelSaid.{panel_said}
+use Rattle.panel_said.proofs.Short.{panel_fits}
+use Rattle.panel_said.proofs.Theorems.{said, said_card, said_count, said_seat}
 use Rattle.entry.proofs.Stages.{by_span}
-use Rattle.panel_said.specs.Program.{inputBytes, lineEnd, seatsLine, cardBehind, noState, seatOf, printed, program_of, answerTo}
-use Rattle.entry_promises.specs.Entries.{Input, seatsRead, cardRead, Response, wrong-card, wrong-count, wrong-seat, the-panel}
-use Rattle.card_promises.proofs.Numbers.{number-some}
+use Rattle.panel_said.specs.Program.{input_bytes, line_end, seats_line, card_behind, no_state, seat_of, printed, program_of, answer_to}
+use Rattle.entry_promises.specs.Entries.{Input, seats_read, card_read, Response, wrong_card, wrong_count, wrong_seat, the_panel}
+use Rattle.card_promises.proofs.Numbers.{number_some}
 
 module _ (card seats : List ℕ) where
   pub data Way : Type 0 where
-    of-card : (number place : ℕ) → read_of card ≡ refused number place → panelSaid card seats ≡ refusal number place → Way
-    of-count : (c : Card) → read_of card ≡ taken c → (length seats ≡ seatsDue c → ⊥) → panelSaid card seats ≡ refusal wrongSeats 0 → Way
-    of-seat : (c : Card) → read_of card ≡ taken c → length seats ≡ seatsDue c → (place : ℕ) → FirstWrong c seats place → panelSaid card seats ≡ refusal seatAboveTop place → Way
-    of-panel : (c : Card) → read_of card ≡ taken c → Seated c seats → panelSaid card seats ≡ text (panelOf c (seatingOf c seats)) → Way
+    of_card : (number place : ℕ) → read_of card ≡ refused number place → panel_said card seats ≡ refusal number place → Way
+    of_count : (c : Card) → read_of card ≡ taken c → (length seats ≡ seats_due c → ⊥) → panel_said card seats ≡ refusal wrong_seats 0 → Way
+    of_seat : (c : Card) → read_of card ≡ taken c → length seats ≡ seats_due c → (place : ℕ) → FirstWrong c seats place → panel_said card seats ≡ refusal seat_above_top place → Way
+    of_panel : (c : Card) → read_of card ≡ taken c → Seated c seats → panel_said card seats ≡ text (panel_of c (seating_of c seats)) → Way
 
-  most : (r p : ℕ) → panelSaid card seats ≡ refusal r p → (r ≤ seatAboveTop) ⊎ (r ≡ decimalWeight)
-  most r p e = by_span (cardNumbers ++ seatsNumbers) r ((said card seats).numbers.number r p e) ((λ l m. inl (omega arith)), ((λ l m. inr (omega arith)), ((λ l m. inl m), tt)))
+  most : (r p : ℕ) → panel_said card seats ≡ refusal r p → (r ≤ seat_above_top) ⊎ (r ≡ decimal_weight)
+  most r p e = by_span (card_numbers ++ seats_numbers) r ((said card seats).numbers.number r p e) ((λ l m. inl (omega arith)), ((λ l m. inr (omega arith)), ((λ l m. inl m), tt)))
 
   pub way : Way
-  way = go (panelSaid card seats) refl
+  way = go (panel_said card seats) refl
     where
-      by_number : (r p : ℕ) → panelSaid card seats ≡ refusal r p → Dec (OfCard r) → Dec (r ≡ wrongSeats) → Way
-      by_number r p e (yes l) k = of-card r p ((said-card card seats r p l).0 e) e
+      by_number : (r p : ℕ) → panel_said card seats ≡ refusal r p → Dec (OfCard r) → Dec (r ≡ wrong_seats) → Way
+      by_number r p e (yes l) k = of_card r p ((said_card card seats r p l).0 e) e
       by_number r p e (no l) (yes k) =
-          let (c, t, n, z) = (said-count card seats p).0 (e ∙ ap (λ (s : ℕ). refusal s p) k) in
-          of-count c t n ((said-count card seats 0).1 (c, t, n, refl))
+          let (c, t, n, z) = (said_count card seats p).0 (e ∙ ap (λ (s : ℕ). refusal s p) k) in
+          of_count c t n ((said_count card seats 0).1 (c, t, n, refl))
       by_number r p e (no l) (no k) =
-          let nine : r ≡ seatAboveTop = ninth (most r p e) in
+          let nine : r ≡ seat_above_top = ninth (most r p e) in
           let h = e ∙ ap (λ (s : ℕ). refusal s p) nine in
-          let (c, t, n, f) = (said-seat card seats p).0 h in
-          of-seat c t n p f h
+          let (c, t, n, f) = (said_seat card seats p).0 h in
+          of_seat c t n p f h
         where
-          ninth : (r ≤ seatAboveTop) ⊎ (r ≡ decimalWeight) → r ≡ seatAboveTop
-          ninth (inl m) = let o : r ≤ wrongWeight → ⊥ = λ h. l (inl h) in omega arith
+          ninth : (r ≤ seat_above_top) ⊎ (r ≡ decimal_weight) → r ≡ seat_above_top
+          ninth (inl m) = let o : r ≤ wrong_weight → ⊥ = λ h. l (inl h) in omega arith
           ninth (inr m) = absurd (l (inr m))
 
-      go : (s : Text) → panelSaid card seats ≡ s → Way
-      go (text t) e = let (z, k) = (said card seats).found.only t e in of-panel z.0.0 z.0.1 z.1 (e ∙ ap text k)
-      go (refusal r p) e = by_number r p e (of-card? r) (ℕ_discrete r wrongSeats)
+      go : (s : Text) → panel_said card seats ≡ s → Way
+      go (text t) e = let (z, k) = (said card seats).found.only t e in of_panel z.0.0 z.0.1 z.1 (e ∙ ap text k)
+      go (refusal r p) e = by_number r p e (of_card? r) (ℕ_discrete r wrong_seats)
 
-  pub never-10 : (number place : ℕ) → panelSaid card seats ≡ refusal number place → (1 ≤ number) × ((number ≤ seatAboveTop) ⊎ (number ≡ decimalWeight))
-  never-10 number place e = (go (of-card? number), most number place e)
+  pub never_10 : (number place : ℕ) → panel_said card seats ≡ refusal number place → (1 ≤ number) × ((number ≤ seat_above_top) ⊎ (number ≡ decimal_weight))
+  never_10 number place e = (go (of_card? number), most number place e)
     where
       go : Dec (OfCard number) → 1 ≤ number
-      go (yes l) = number-some cardRule card ((said-card card seats number place l).0 e)
-      go (no l) = let m : number ≤ wrongWeight → ⊥ = λ h. l (inl h) in omega arith
+      go (yes l) = number_some card_rule card ((said_card card seats number place l).0 e)
+      go (no l) = let m : number ≤ wrong_weight → ⊥ = λ h. l (inl h) in omega arith
 
 -- ---- the input
 
-line : (seats card : List ℕ) → Every (λ b. b ≡ lineEnd → ⊥) seats → (seatsLine (seats ++ (lineEnd ∷ card)) ≡ seats) × (cardBehind (seats ++ (lineEnd ∷ card)) ≡ card)
-unfolding seatsLine cardBehind
+line : (seats card : List ℕ) → Every (λ b. b ≡ line_end → ⊥) seats → (seats_line (seats ++ (line_end ∷ card)) ≡ seats) × (card_behind (seats ++ (line_end ∷ card)) ≡ card)
+unfolding seats_line card_behind
 line [] card h = (refl, refl)
 line (b ∷ seats) card h =
     let (e, f) = line seats card h.1 in
-    (rw (ne_eqb b lineEnd h.0, e), rw (ne_eqb b lineEnd h.0, f))
+    (rw (ne_eqb b line_end h.0, e), rw (ne_eqb b line_end h.0, f))
 
-no_line : (seats : List ℕ) → Every (λ b. b ≡ lineEnd → ⊥) seats → (seatsLine seats ≡ seats) × (cardBehind seats ≡ [])
-unfolding seatsLine cardBehind
+no_line : (seats : List ℕ) → Every (λ b. b ≡ line_end → ⊥) seats → (seats_line seats ≡ seats) × (card_behind seats ≡ [])
+unfolding seats_line card_behind
 no_line [] h = (refl, refl)
 no_line (b ∷ seats) h =
     let (e, f) = no_line seats h.1 in
-    (rw (ne_eqb b lineEnd h.0, e), rw (ne_eqb b lineEnd h.0, f))
+    (rw (ne_eqb b line_end h.0, e), rw (ne_eqb b line_end h.0, f))
 
-and-false : (b : Bool) → (b && false) ≡ false
-and-false true = refl
-and-false false = refl
+and_false : (b : Bool) → (b && false) ≡ false
+and_false true = refl
+and_false false = refl
 
-digits : (d : ℕ) → d ≤ 9 → seatOf (digit d) ≡ d
+digits : (d : ℕ) → d ≤ 9 → seat_of (digit d) ≡ d
 digits d h = rw (le-leb (digit 0) (digit d) (omega arith), le-leb (digit d) (digit 9) (omega arith)) (omega arith)
 
-no_digit : (b : ℕ) → (b < digit 0) ⊎ (digit 9 < b) → seatOf b ≡ noState
+no_digit : (b : ℕ) → (b < digit 0) ⊎ (digit 9 < b) → seat_of b ≡ no_state
 no_digit b (inl h) = rw (lt-leb (digit 0) b h)
-no_digit b (inr h) = rw (lt-leb b (digit 9) h, and-false (leb (digit 0) b))
+no_digit b (inr h) = rw (lt-leb b (digit 9) h, and_false (leb (digit 0) b))
 
 pub input : Input
 input = record { line = line; no_line = no_line; digits = digits; no_digit = no_digit }
 
 -- ---- the program prints what is said of the card and the seats that it reads
-answer-printed : (s : List ℕ) → answerTo s ≡ printed (panelSaid (cardBehind s) (map seatOf (seatsLine s)))
-unfolding answerTo
-answer-printed s = refl
+answer_printed : (s : List ℕ) → answer_to s ≡ printed (panel_said (card_behind s) (map seat_of (seats_line s)))
+unfolding answer_to
+answer_printed s = refl
 
-program-printed : (input : List ℕ) → program_of input ≡ printed (panelSaid (cardRead input) (seatsRead input))
+program_printed : (input : List ℕ) → program_of input ≡ printed (panel_said (card_read input) (seats_read input))
 unfolding program_of
-program-printed input = answer-printed (take inputBytes input)
+program_printed input = answer_printed (take input_bytes input)
 
 pub responds : (input : List ℕ) → Response input
-responds input = go (way (cardRead input) (seatsRead input))
+responds input = go (way (card_read input) (seats_read input))
   where
-    prints : {said : Text} → panelSaid (cardRead input) (seatsRead input) ≡ said → program_of input ≡ printed said
-    prints e = program-printed input ∙ ap printed e
+    prints : {said : Text} → panel_said (card_read input) (seats_read input) ≡ said → program_of input ≡ printed said
+    prints e = program_printed input ∙ ap printed e
 
-    go : Way (cardRead input) (seatsRead input) → Response input
-    go (of-card number place h k) = wrong-card number place h (number-some cardRule (cardRead input) h) (read_number cardRule (cardRead input) h) (prints k)
-    go (of-count c h n k) = wrong-count c h n (prints k)
-    go (of-seat c h n p f k) = wrong-seat c h n p f (prints k)
-    go (of-panel c h ok k) = the-panel c h ok (panel-fits c (read-valid cardRule (cardRead input) c h) (seatingOf c (seatsRead input)) ok.valid) (prints k)
+    go : Way (card_read input) (seats_read input) → Response input
+    go (of_card number place h k) = wrong_card number place h (number_some card_rule (card_read input) h) (read_number card_rule (card_read input) h) (prints k)
+    go (of_count c h n k) = wrong_count c h n (prints k)
+    go (of_seat c h n p f k) = wrong_seat c h n p f (prints k)
+    go (of_panel c h ok k) = the_panel c h ok (panel_fits c (read_valid card_rule (card_read input) c h) (seating_of c (seats_read input)) ok.valid) (prints k)

@@ -2,8 +2,8 @@
 ghost use Rattle.std.specs.Prelude.{◌≡◌, ◌<◌, set};
 ghost use Rattle.card.specs.Limits.{unit};
 ghost use Rattle.card.specs.Lent.{lent};
-ghost use Rattle.seating.specs.Judged.{seatingIn};
-ghost use Rattle.panel_numbers.specs.Table.{enabledPlace, tablePlaces, table_of};
+ghost use Rattle.seating.specs.Judged.{seating_in};
+ghost use Rattle.panel_numbers.specs.Table.{enabled_place, table_places, table_of};
 ghost use Rattle.panel_numbers.specs.Fitting.{Filling};
 
 use card::Head;
@@ -22,8 +22,8 @@ fn stuck_weight() -> usize
 
 // That step, stored: it is enabled.
 fn store_stuck(table: &mut [usize; TABLE_PLACES], stay: usize, weight: usize)
-    requires { stay < tablePlaces }
-    ensures { table.new ≡ set (set table.old enabledPlace 1) stay weight }
+    requires { stay < table_places }
+    ensures { table.new ≡ set (set table.old enabled_place 1) stay weight }
 {
     table[ENABLED] = 1;
     table[stay] = weight;
@@ -38,8 +38,8 @@ pub fn fill<'a>(
     nodes: &'a [u32; NODE_PLACES],
     branches: &'a [u32; BRANCH_PLACES],
 )
-    requires { Filling table.old head (lent rows.now nodes.now branches.now) (seatingIn head.seats head.shared seats.now) }
-    ensures { table.new ≡ table_of head (lent rows.now nodes.now branches.now) (seatingIn head.seats head.shared seats.now) }
+    requires { Filling table.old head (lent rows.now nodes.now branches.now) (seating_in head.seats head.shared seats.now) }
+    ensures { table.new ≡ table_of head (lent rows.now nodes.now branches.now) (seating_in head.seats head.shared seats.now) }
 {
     let counts = count_seats(seats, head.seats);
     let shared = shared_of(seats, head.seats, head.shared);

@@ -8,8 +8,8 @@ use Rattle.card.specs.declared.Verdict.TheVariants.{Taken, Refused}
 use Rattle.boxes.specs.Boxes.{told}
 
 module _ (was : List ℕ) {v : Verdict} where
-  pub tell-refused : {r p n : ℕ} → v ≡ Refused r p → n ≡ r → set (set was 0 n) 1 p ≡ told v was
-  tell-refused {r} {p} {n} e f = rw (f, e)
+  pub tell_refused : {r p n : ℕ} → v ≡ Refused r p → n ≡ r → set (set was 0 n) 1 p ≡ told v was
+  tell_refused {r} {p} {n} e f = rw (f, e)
 
-  pub tell-taken : v ≡ Taken → set (set was 0 0) 1 0 ≡ told v was
-  tell-taken e = rw e
+  pub tell_taken : v ≡ Taken → set (set was 0 0) 1 0 ≡ told v was
+  tell_taken e = rw e

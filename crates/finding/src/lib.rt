@@ -1,6 +1,6 @@
 // The bytes of a card in a box, alone or with an expansion (document 02, 2026-02).
 ghost use Rattle.std.specs.Prelude.{◌≡◌, ◌+◌, ◌≤◌, length, drop, take};
-ghost use Rattle.deck.specs.Lookup.{find as findSaid, findWith as findWithSaid};
+ghost use Rattle.deck.specs.Lookup.{find as find_said, find_with as find_with_said};
 ghost use Rattle.boxes.specs.Boxes.{told, Found};
 
 use boxes::{EXPANSION, locate, locate_with};
@@ -31,7 +31,7 @@ fn tell(verdict: Verdict, numbers: &mut [usize; 2])
 
 // The card's bytes as they stand in the box, and its refusal's number and place, or 0 and 0; a refusal hands back an empty part.
 pub fn find<'a>(deck: &'a [u8], number: u16, verdict: &mut [usize; 2]) -> &'a [u8]
-    ensures { Found (findSaid deck.now number) result.now verdict.old verdict.new }
+    ensures { Found (find_said deck.now number) result.now verdict.old verdict.new }
 {
     let place = locate(deck, number);
     let found = place.verdict;
@@ -46,7 +46,7 @@ pub fn find_with<'a>(
     number: u16,
     verdict: &mut [usize; 2],
 ) -> &'a [u8]
-    ensures { Found (findWithSaid base.now expansion.now number) result.now verdict.old verdict.new }
+    ensures { Found (find_with_said base.now expansion.now number) result.now verdict.old verdict.new }
 {
     let place = locate_with(base, expansion, number);
     let found = place.verdict;

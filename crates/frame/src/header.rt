@@ -1,5 +1,5 @@
 // The beginning of a card, up to its statements, read from its bytes.
-ghost use Rattle.late.specs.State.{Sized, lateIn, after};
+ghost use Rattle.late.specs.State.{Sized, late_in, after};
 ghost use Rattle.frame.specs.Frame.{HeaderFrom};
 
 use crate::shared::shared;
@@ -12,7 +12,7 @@ use parts::run;
 // The mode, the shared number, the top state and the start state go to their places in the state.
 pub fn header(card: &[u8], at: usize, state: &mut [usize; STATE]) -> usize
     requires { Sized state.old }
-    ensures { HeaderFrom card.now at (lateIn state.old) (after state.new result) }
+    ensures { HeaderFrom card.now at (late_in state.old) (after state.new result) }
 {
     let first = mode(card, at, state);
     if first == 0 {

@@ -1,8 +1,8 @@
 // The number that all seats share, where a card declares one behind its mode (document 02, 2026-10).
 ghost use Rattle.std.specs.Prelude.{◌≡◌, eqb};
 ghost use Rattle.marks_on_a_card.specs.Kinds.{kind};
-ghost use Rattle.marks.specs.Step.{stepAt};
-ghost use Rattle.late.specs.State.{Sized, lateIn, after};
+ghost use Rattle.marks.specs.Step.{step_at};
+ghost use Rattle.late.specs.State.{Sized, late_in, after};
 ghost use Rattle.frame.specs.Frame.{SharedFrom};
 
 use card::limits::TOP_SHARED;
@@ -16,7 +16,7 @@ use word_and_digit_looks::word_here;
 
 // Does a `global` stand there? Most cards declare no number, and have a `module` there, which is looked for first.
 fn declared(card: &[u8], at: usize) -> bool
-    ensures { result ≡ eqb (stepAt card.now at).mark.kind (kind "global") }
+    ensures { result ≡ eqb (step_at card.now at).mark.kind (kind "global") }
 {
     let from = past_line(card, at);
     if word_here(card, from, b"module") {
@@ -31,7 +31,7 @@ fn declared(card: &[u8], at: usize) -> bool
 pub fn shared(card: &[u8], at: usize, state: &mut [usize; STATE]) -> usize
     requires sized { Sized state.old }
     requires fact { at ≡ 0 → ⊥ }
-    ensures { SharedFrom card.now at (lateIn state.old) (after state.new result) }
+    ensures { SharedFrom card.now at (late_in state.old) (after state.new result) }
 {
     if !declared(card, at) {
         state[SHARED] = 0;

@@ -7,30 +7,30 @@ use native.Mathlib.Omega.{arith}
 use lib.ListN.{length, take, drop, get_or}
 use lib.Seq.{get_or-take, drop-drop}
 use Rattle.card.specs.Text.{if◌then◌else◌}
-use Rattle.deck.specs.Contents.{byte, word_at, Row, row_of, rows_of, end_of, count_of, entriesFrom, behind, contentsOf}
+use Rattle.deck.specs.Contents.{byte, word_at, Row, row_of, rows_of, end_of, count_of, entries_from, behind, contents_of}
 use Rattle.deck.specs.Deck.{live_of}
 use Rattle.deck.specs.Sound.{Sound}
-use Rattle.deck.proofs.Judged.{SoundRows, measured, sound-rest}
-use Rattle.deck_entries.proofs.Laws.{row-there}
-use Rattle.gathering.specs.LiveRows.{liveSize}
+use Rattle.deck.proofs.Judged.{SoundRows, measured, sound_rest}
+use Rattle.deck_entries.proofs.Laws.{row_there}
+use Rattle.gathering.specs.LiveRows.{live_size}
 use Rattle.gathering.specs.LiveText.{Ahead}
 
-pub ahead-from : (long a b : ℕ) (rs : List Row) → a ≤ b → Ahead long b rs → Ahead long a rs
-ahead-from long a b [] l h = omega arith
-ahead-from long a b (r ∷ rs) l h = (omega (arith, h.0), h.1, h.2)
+pub ahead_from : (long a b : ℕ) (rs : List Row) → a ≤ b → Ahead long b rs → Ahead long a rs
+ahead_from long a b [] l h = omega arith
+ahead_from long a b (r ∷ rs) l h = (omega (arith, h.0), h.1, h.2)
 
-ahead-rows : (long c least last : ℕ) (t : List ℕ) → SoundRows long least last c t → last ≤ long → Ahead long last (rows_of c t)
-ahead-rows long zero least last t s l = l
-ahead-rows long (suc c) least last t s l =
+ahead_rows : (long c least last : ℕ) (t : List ℕ) → SoundRows long least last c t → last ≤ long → Ahead long last (rows_of c t)
+ahead_rows long zero least last t s l = l
+ahead_rows long (suc c) least last t s l =
     let r = s.each 0 (omega arith) in
-    (r.begins, r.ends, ahead-rows long c (suc (row_of t).number) (end_of (row_of t)) (drop 8 t) (sound-rest long c least last t s) r.ends)
+    (r.begins, r.ends, ahead_rows long c (suc (row_of t).number) (end_of (row_of t)) (drop 8 t) (sound_rest long c least last t s) r.ends)
 
-pub ahead-sound : (deck : List ℕ) → Sound deck → Ahead (length deck) (behind (count_of deck)) (contentsOf deck)
-ahead-sound deck s = ahead-rows (length deck) (count_of deck) 0 (behind (count_of deck)) (entriesFrom deck) (measured deck s) s.head.whole
+pub ahead_sound : (deck : List ℕ) → Sound deck → Ahead (length deck) (behind (count_of deck)) (contents_of deck)
+ahead_sound deck s = ahead_rows (length deck) (count_of deck) 0 (behind (count_of deck)) (entries_from deck) (measured deck s) s.head.whole
 
 -- no more than its length is kept of a body
-pub size-most : (r : Row) → liveSize r ≤ r.size
-size-most r = go (live_of r)
+pub size_most : (r : Row) → live_size r ≤ r.size
+size_most r = go (live_of r)
   where
     go : (b : Bool) → (if b then r.size else 0) ≤ r.size
     go true = omega arith
@@ -47,9 +47,9 @@ module _ (n : ℕ) (is was : List ℕ) (e : take n is ≡ take n was) where
 
   pub same_row : (at : ℕ) → at + 8 ≤ n → row_of (drop at is) ≡ row_of (drop at was)
   same_row at h =
-      row-there is at 0 0 refl refl refl refl refl
+      row_there is at 0 0 refl refl refl refl refl
       ∙ sym
-      (row-there was at 0 0 (same_word at (omega arith)) (same_word (at + 2) (omega arith)) (same_word (at + 4) (omega arith)) (same_byte (at + 6) (omega arith))
+      (row_there was at 0 0 (same_word at (omega arith)) (same_word (at + 2) (omega arith)) (same_word (at + 4) (omega arith)) (same_byte (at + 6) (omega arith))
       (same_byte (at + 7) (omega arith)))
 
   pub same_rows : (c at : ℕ) → at + 8 * c ≤ n → rows_of c (drop at is) ≡ rows_of c (drop at was)

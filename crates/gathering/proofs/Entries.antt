@@ -10,51 +10,51 @@ use lib.Seq.{drop-drop}
 use Rattle.card.specs.Text.{if◌then◌else◌}
 use Rattle.deck.specs.Contents.{byte, word_at, Row, row_of, rows_of}
 use Rattle.deck.specs.Deck.{Entry, live_of, entry_of, bodies}
-use Rattle.deck_entries.proofs.Laws.{row-there}
+use Rattle.deck_entries.proofs.Laws.{row_there}
 use Rattle.deck_written.specs.WriteDeckSaid.{sizes}
-use Rattle.tidying.specs.Tidying.{liveEntries}
-use Rattle.gathering.specs.LiveRows.{liveRows, liveOne, liveSize}
+use Rattle.tidying.specs.Tidying.{live_entries}
+use Rattle.gathering.specs.LiveRows.{live_rows, live_one, live_size}
 
 -- so many entries from a place on, of which there is one at least
-pub first-row : (deck : List ℕ) (left at : ℕ) → (left ≡ 0 → ⊥) → rows_of left (drop at deck) ≡ row_of (drop at deck) ∷ rows_of (left - 1) (drop (at + 8) deck)
-first-row deck zero at h = absurd (h refl)
-first-row deck (suc left) at h =
+pub first_row : (deck : List ℕ) (left at : ℕ) → (left ≡ 0 → ⊥) → rows_of left (drop at deck) ≡ row_of (drop at deck) ∷ rows_of (left - 1) (drop (at + 8) deck)
+first_row deck zero at h = absurd (h refl)
+first_row deck (suc left) at h =
     let p : suc left - 1 ≡ left = omega arith in
     rw p (ap (λ (t : List ℕ). row_of (drop at deck) ∷ rows_of left t) (drop-drop 8 at deck))
 
 -- ---- the live ones of them
 
 module _ (r : Row) (rs : List Row) where
-  pub live-count : length (liveRows (r ∷ rs)) ≡ liveOne r + length (liveRows rs)
-  live-count = go (live_of r)
+  pub live_count : length (live_rows (r ∷ rs)) ≡ live_one r + length (live_rows rs)
+  live_count = go (live_of r)
     where
-      go : (b : Bool) → length (if b then r ∷ liveRows rs else liveRows rs) ≡ (if b then 1 else 0) + length (liveRows rs)
+      go : (b : Bool) → length (if b then r ∷ live_rows rs else live_rows rs) ≡ (if b then 1 else 0) + length (live_rows rs)
       go true = omega arith
       go false = omega arith
 
-  pub live-sizes : sizes (liveRows (r ∷ rs)) ≡ liveSize r + sizes (liveRows rs)
-  live-sizes = go (live_of r)
+  pub live_sizes : sizes (live_rows (r ∷ rs)) ≡ live_size r + sizes (live_rows rs)
+  live_sizes = go (live_of r)
     where
-      go : (b : Bool) → sizes (if b then r ∷ liveRows rs else liveRows rs) ≡ (if b then r.size else 0) + sizes (liveRows rs)
+      go : (b : Bool) → sizes (if b then r ∷ live_rows rs else live_rows rs) ≡ (if b then r.size else 0) + sizes (live_rows rs)
       go true = refl
       go false = omega arith
 
   -- its body, and theirs
-  pub live-bodies : (deck : List ℕ) → bodies (map (entry_of deck) (liveRows (r ∷ rs))) ≡ take (liveSize r) (drop r.offset deck) ++ bodies (map (entry_of deck) (liveRows rs))
-  live-bodies deck = go (live_of r)
+  pub live_bodies : (deck : List ℕ) → bodies (map (entry_of deck) (live_rows (r ∷ rs))) ≡ take (live_size r) (drop r.offset deck) ++ bodies (map (entry_of deck) (live_rows rs))
+  live_bodies deck = go (live_of r)
     where
-      go : (b : Bool) → bodies (map (entry_of deck) (if b then r ∷ liveRows rs else liveRows rs))
-          ≡ take (if b then r.size else 0) (drop r.offset deck) ++ bodies (map (entry_of deck) (liveRows rs))
+      go : (b : Bool) → bodies (map (entry_of deck) (if b then r ∷ live_rows rs else live_rows rs))
+          ≡ take (if b then r.size else 0) (drop r.offset deck) ++ bodies (map (entry_of deck) (live_rows rs))
       go true = refl
       go false = refl
 
 -- the live entries are those of the live rows
-pub live-held : (deck : List ℕ) (rows : List Row) → liveEntries (map (entry_of deck) rows) ≡ map (entry_of deck) (liveRows rows)
-live-held deck [] = refl
-live-held deck (r ∷ rs) = go (live_of r) (live-held deck rs)
+pub live_held : (deck : List ℕ) (rows : List Row) → live_entries (map (entry_of deck) rows) ≡ map (entry_of deck) (live_rows rows)
+live_held deck [] = refl
+live_held deck (r ∷ rs) = go (live_of r) (live_held deck rs)
   where
-    go : (b : Bool) → liveEntries (map (entry_of deck) rs) ≡ map (entry_of deck) (liveRows rs)
-        → (if b then entry_of deck r ∷ liveEntries (map (entry_of deck) rs) else liveEntries (map (entry_of deck) rs)) ≡ map (entry_of deck) (if b then r ∷ liveRows rs else liveRows rs)
+    go : (b : Bool) → live_entries (map (entry_of deck) rs) ≡ map (entry_of deck) (live_rows rs)
+        → (if b then entry_of deck r ∷ live_entries (map (entry_of deck) rs) else live_entries (map (entry_of deck) rs)) ≡ map (entry_of deck) (if b then r ∷ live_rows rs else live_rows rs)
     go true e = ap (λ (l : List Entry). entry_of deck r ∷ l) e
     go false e = e
 
@@ -64,17 +64,17 @@ module _ (deck : List ℕ) (at : ℕ) {f : ℕ} (ef : f ≡ byte deck (at + 6)) 
   abbrev row : Row
   row = row_of (drop at deck)
 
-  flag-there : row.flag ≡ f
-  flag-there = ap (λ (r : Row). r.flag) (row-there deck at 0 0 refl refl refl ef refl)
+  flag_there : row.flag ≡ f
+  flag_there = ap (λ (r : Row). r.flag) (row_there deck at 0 0 refl refl refl ef refl)
 
-  pub one-live : f ≡ 1 → 1 ≡ liveOne row
-  one-live h = rw (eq-eqb row.flag 1 (flag-there ∙ h))
+  pub one_live : f ≡ 1 → 1 ≡ live_one row
+  one_live h = rw (eq-eqb row.flag 1 (flag_there ∙ h))
 
-  pub none-live : (f ≡ 1 → ⊥) → 0 ≡ liveOne row
-  none-live h = rw (ne_eqb row.flag 1 (λ e. h (sym flag-there ∙ e)))
+  pub none_live : (f ≡ 1 → ⊥) → 0 ≡ live_one row
+  none_live h = rw (ne_eqb row.flag 1 (λ e. h (sym flag_there ∙ e)))
 
-  pub size-live : {s : ℕ} → s ≡ word_at deck (at + 4) → f ≡ 1 → s ≡ liveSize row
-  size-live es h = rw (eq-eqb row.flag 1 (flag-there ∙ h)) (sym (ap (λ (r : Row). r.size) (row-there deck at 0 0 refl refl es refl refl)))
+  pub size_live : {s : ℕ} → s ≡ word_at deck (at + 4) → f ≡ 1 → s ≡ live_size row
+  size_live es h = rw (eq-eqb row.flag 1 (flag_there ∙ h)) (sym (ap (λ (r : Row). r.size) (row_there deck at 0 0 refl refl es refl refl)))
 
-  pub size_none : (f ≡ 1 → ⊥) → 0 ≡ liveSize row
-  size_none h = rw (ne_eqb row.flag 1 (λ e. h (sym flag-there ∙ e)))
+  pub size_none : (f ≡ 1 → ⊥) → 0 ≡ live_size row
+  size_none h = rw (ne_eqb row.flag 1 (λ e. h (sym flag_there ∙ e)))

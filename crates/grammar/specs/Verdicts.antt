@@ -1,18 +1,18 @@
 -- What it is for a card to be taken, and for each of the refusals 1 to 7 and 17 to be given at a place ("Refusal numbers"), in terms of its
 -- marks, the grammar, the limits and the rules. Assumes nothing.
 use Rattle.std.specs.Prelude.{ℕ, ◌≤◌, ◌<◌, ◌≡◌, Bool, true, false, List, [], ◌∷◌, ◌++◌, length}
-use Rattle.card.specs.Limits.{cardBytes}
+use Rattle.card.specs.Limits.{card_bytes}
 use Rattle.card.specs.Card.{Card}
 use Rattle.card.specs.Weight.{Rule}
 use Rattle.card.specs.Valid.{Every}
-use Rattle.marks_on_a_card.specs.Marks.{outside, Placed, placed, marksOf, place_of}
-use Rattle.reading.specs.Reader.{Place, nextIs}
-use Rattle.reading.specs.Guard.{testNext}
+use Rattle.marks_on_a_card.specs.Marks.{outside, Placed, placed, marks_of, place_of}
+use Rattle.reading.specs.Reader.{Place, next_is}
+use Rattle.reading.specs.Guard.{test_next}
 use Rattle.reading.specs.Judgements.{Judgement, place_in}
 use Rattle.reading.specs.Shape.{CardShape}
-use Rattle.reading.specs.Checks.{judgedCard, seatsIn, cardIn}
+use Rattle.reading.specs.Checks.{judged_card, seats_in, card_in}
 use Rattle.grammar.specs.Grammar.{CardSaid}
-use Rattle.grammar.specs.Counted.{Counted, Within, FirstPast, countedCard}
+use Rattle.grammar.specs.Counted.{Counted, Within, FirstPast, counted_card}
 use Rattle.grammar.specs.Rules.{Kept, Breaks}
 
 -- ---- 1 and 2
@@ -23,19 +23,19 @@ Inside (placed m p ∷ ms) = (m ≡ outside → ⊥) × Inside ms
 
 -- no 1 and no 2
 pub record Clean (s : List ℕ) : Type 0 where
-  pub short : length s ≤ cardBytes
-  pub inside : Inside (marksOf s)
+  pub short : length s ≤ card_bytes
+  pub inside : Inside (marks_of s)
 
 pub record TooLong (s : List ℕ) (p : ℕ) : Type 0 where
-  pub long : cardBytes < length s
+  pub long : card_bytes < length s
   pub place : p ≡ 0
 
 -- p is the place of the first mark outside the rules
 pub record OutsideRules (s : List ℕ) (p : ℕ) : Type 0 where
-  pub short : length s ≤ cardBytes
+  pub short : length s ≤ card_bytes
   pub before : List Placed
   pub after : List Placed
-  pub split : marksOf s ≡ before ++ (placed outside p ∷ after)
+  pub split : marks_of s ≡ before ++ (placed outside p ∷ after)
   pub inside : Inside before
 
 -- ---- 3: where nothing of a language goes on as these marks do
@@ -67,7 +67,7 @@ pub record PastIn {C Look : Type 0} (Said : Place → C → Type 0) (counts : (m
   pub split : ms ≡ before ++ (mark ∷ after)
   pub place : r ≡ mark ∷ after
   pub other : Place
-  pub starts : nextIs "(" (mark ∷ after) ≡ true → look after ≡ look other
+  pub starts : next_is "(" (mark ∷ after) ≡ true → look after ≡ look other
   pub shape : C
   pub said : Said (before ++ (mark ∷ other)) shape
   pub past : FirstPast (counts (before ++ (mark ∷ other)) shape said) (mark ∷ other)
@@ -77,29 +77,29 @@ pub record PastIn {C Look : Type 0} (Said : Place → C → Type 0) (counts : (m
 
 abbrev pub shares : Place → Bool
 shares [] = false
-shares (m ∷ ms) = nextIs "global" ms
+shares (m ∷ ms) = next_is "global" ms
 
-abbrev pub countsOf : (ms : Place) (c : CardShape) → CardSaid ms c → List Counted
-countsOf ms c d = countedCard d
+abbrev pub counts_of : (ms : Place) (c : CardShape) → CardSaid ms c → List Counted
+counts_of ms c d = counted_card d
 
 abbrev pub UnfitAt : Place → Place → Type 0
 UnfitAt ms r = UnfitIn CardSaid ms r
 
 abbrev pub PastAt : Place → Place → Type 0
-PastAt ms r = PastIn CardSaid countsOf (testNext (shares ms)) ms r
+PastAt ms r = PastIn CardSaid counts_of (test_next (shares ms)) ms r
 
 -- ---- 3 and 4 on a card, by place; a mark that passes a limit is still one of the shape, so no 3 stands before it or there
 
 pub record PastLimit (s : List ℕ) (p : ℕ) : Type 0 where
   pub clean : Clean s
   pub at : Place
-  pub past : PastAt (marksOf s) at
+  pub past : PastAt (marks_of s) at
   pub place : place_of (length s) at ≡ p
 
 pub record OutOfShape (s : List ℕ) (p : ℕ) : Type 0 where
   pub clean : Clean s
   pub at : Place
-  pub unfit : UnfitAt (marksOf s) at
+  pub unfit : UnfitAt (marks_of s) at
   pub place : place_of (length s) at ≡ p
   pub earlier : (q : ℕ) → q < p → PastLimit s q → ⊥
 
@@ -108,12 +108,12 @@ pub record OutOfShape (s : List ℕ) (p : ℕ) : Type 0 where
 pub record Shaped (s : List ℕ) : Type 0 where
   pub clean : Clean s
   pub shape : CardShape
-  pub said : CardSaid (marksOf s) shape
-  pub within : Every Within (countedCard said)
+  pub said : CardSaid (marks_of s) shape
+  pub within : Every Within (counted_card said)
 
 -- on a card of this shape
 abbrev pub KeptOn : CardShape → Judgement → Type 0
-KeptOn c j = Kept (seatsIn c) j
+KeptOn c j = Kept (seats_in c) j
 
 -- ---- 5, 6, 7 and 17, by the rule of a weight
 
@@ -125,14 +125,14 @@ pub data In {A : Type 0} (x : A) : List A → Type 0 where
 pub record Broken (decimals : Rule) (r : ℕ) (s : List ℕ) (p : ℕ) : Type 0 where
   pub shaped : Shaped s
   pub judgement : Judgement
-  pub judged : In judgement (judgedCard decimals shaped.shape)
-  pub broken : Breaks (seatsIn shaped.shape) r judgement
+  pub judged : In judgement (judged_card decimals shaped.shape)
+  pub broken : Breaks (seats_in shaped.shape) r judgement
   pub place : place_of (length s) (place_in judgement) ≡ p
-  pub earlier : (j : Judgement) → In j (judgedCard decimals shaped.shape) → place_of (length s) (place_in j) < p → KeptOn shaped.shape j
+  pub earlier : (j : Judgement) → In j (judged_card decimals shaped.shape) → place_of (length s) (place_in j) < p → KeptOn shaped.shape j
 
 -- ---- taken
 
 pub record Accepted (decimals : Rule) (s : List ℕ) (c : Card) : Type 0 where
   pub shaped : Shaped s
-  pub kept : Every (KeptOn shaped.shape) (judgedCard decimals shaped.shape)
-  pub card : c ≡ cardIn shaped.shape
+  pub kept : Every (KeptOn shaped.shape) (judged_card decimals shaped.shape)
+  pub card : c ≡ card_in shaped.shape

@@ -1,40 +1,40 @@
 -- What the code hands back for what reading a group finds ("Shape of a card"). A group is read from a part of the card that begins
 -- at place o of it; the places in the answer are the part's own. Assumes nothing.
 use Rattle.std.specs.Prelude.{ℕ, ◌+◌, ◌≤◌, ◌≡◌, List, [], ◌∷◌, length}
-use Rattle.card.specs.Refusals.{outOfShape}
-use Rattle.card.specs.Laid.{kindNumber, leafNumber}
+use Rattle.card.specs.Refusals.{out_of_shape}
+use Rattle.card.specs.Laid.{kind_number, leaf_number}
 use Rattle.marks_on_a_card.specs.Marks.{place_of}
-use Rattle.marks.specs.Step.{marksAt}
+use Rattle.marks.specs.Step.{marks_at}
 use Rattle.reading.specs.Reader.{Place, State, Result, ok, stop}
 use Rattle.reading.specs.Group.{Literals}
-use Rattle.reading.specs.Judgements.{state, firstState}
+use Rattle.reading.specs.Judgements.{state, first_state}
 use Rattle.group.specs.declared.Grouped.{Grouped}
-use Rattle.late.specs.Late.{wantOf, kindBy, groupBy}
+use Rattle.late.specs.Late.{want_of, kind_by, group_by}
 
-abbrev pub noGroup : ℕ → Grouped
-noGroup p = record { stop = outOfShape; place = p; next = 0; want = 0; kind = 0; node = 0; d = 0; first = 0 }
+abbrev pub no_group : ℕ → Grouped
+no_group p = record { stop = out_of_shape; place = p; next = 0; want = 0; kind = 0; node = 0; d = 0; first = 0 }
 
 -- with n nodes left, and the bracket at p
 pub record ReadGroup (o : ℕ) (s : List ℕ) (n : ℕ) (p : Place) (g : Literals) (behind : State) (r : Grouped) : Type 0 where
   pub went : r.stop ≡ 0
   pub place : r.place ≡ 0
-  pub rest : marksAt o s r.next ≡ behind.marks
+  pub rest : marks_at o s r.next ≡ behind.marks
   pub left : behind.nodes ≡ n
   pub bracket : g.place ≡ p
-  pub want : r.want ≡ wantOf g.literals
-  pub kind : r.kind ≡ kindNumber (kindBy g.literals)
-  pub node : r.node ≡ leafNumber (groupBy g.sign g.literals)
+  pub want : r.want ≡ want_of g.literals
+  pub kind : r.kind ≡ kind_number (kind_by g.literals)
+  pub node : r.node ≡ leaf_number (group_by g.sign g.literals)
   -- its first d, and where that stands
   pub numeral : Place
-  pub states : (k : ℕ) → firstState k g.literals ≡ state k r.d numeral ∷ []
+  pub states : (k : ℕ) → first_state k g.literals ≡ state k r.d numeral ∷ []
   pub first : place_of (o + length s) numeral ≡ o + r.first
   pub past : r.next ≡ 0 → ⊥
-  pub next-within : r.next ≤ length s
-  pub first-within : r.first ≤ length s
+  pub next_within : r.next ≤ length s
+  pub first_within : r.first ≤ length s
 
 pub record StoppedGroup (o : ℕ) (s : List ℕ) (m : ℕ) (q : Place) (r : Grouped) : Type 0 where
-  pub number : m ≡ outOfShape
-  pub answer : r ≡ noGroup r.place
+  pub number : m ≡ out_of_shape
+  pub answer : r ≡ no_group r.place
   pub place : place_of (o + length s) q ≡ o + r.place
   pub within : r.place ≤ length s
 

@@ -2,14 +2,14 @@
 pub mod literal;
 
 ghost use Rattle.std.specs.Prelude.{◌≡◌, ◌&&◌, ◌∷◌, ℕ, eqb};
-ghost use Rattle.card.specs.Laid.{signNumber};
-ghost use Rattle.marks_on_a_card.specs.Marks.{placed, seat as seatWord};
+ghost use Rattle.card.specs.Laid.{sign_number};
+ghost use Rattle.marks_on_a_card.specs.Marks.{placed, seat as seat_word};
 ghost use Rattle.marks_on_a_card.specs.Kinds.{kind as kind_of};
-ghost use Rattle.marks.specs.Step.{marksAt};
+ghost use Rattle.marks.specs.Step.{marks_at};
 ghost use Rattle.reading.specs.Reader.{Place, at as from};
-ghost use Rattle.reading.specs.Group.{joint as jointOf, group as group_of};
-ghost use Rattle.group.specs.GroupRead.{noGroup, GroupRead};
-ghost use Rattle.group.specs.LiteralRead.{signIn};
+ghost use Rattle.reading.specs.Group.{joint as joint_of, group as group_of};
+ghost use Rattle.group.specs.GroupRead.{no_group as no_group_said, GroupRead};
+ghost use Rattle.group.specs.LiteralRead.{sign_in};
 
 use card::refusals::OUT_OF_SHAPE;
 use due_signs::{step_closing, step_joint};
@@ -35,7 +35,7 @@ pub struct Grouped {
 }
 
 pub fn no_group(place: usize) -> Grouped
-    ensures { result ≡ noGroup place }
+    ensures { result ≡ no_group_said place }
 {
     Grouped {
         stop: OUT_OF_SHAPE as usize,
@@ -52,7 +52,7 @@ pub fn no_group(place: usize) -> Grouped
 // ---- what joins the literals of a group, and the parts of a guard
 
 pub fn joint(any: bool) -> usize
-    ensures { result ≡ kind_of (jointOf (signIn any)) }
+    ensures { result ≡ kind_of (joint_of (sign_in any)) }
 {
     if any {
         return kinds::OR;
@@ -61,7 +61,7 @@ pub fn joint(any: bool) -> usize
 }
 
 fn sign(any: bool) -> usize
-    ensures { result ≡ signNumber (signIn any) }
+    ensures { result ≡ sign_number (sign_in any) }
 {
     if any {
         return 1;
@@ -83,7 +83,7 @@ fn same(alike: bool, a: Tail, b: Tail) -> bool
 
 // The rest of a group whose first seat word has the number `seat`; `at` stands behind that word in the part.
 pub fn group(part: &[u8], at: usize, seat: usize) -> Grouped
-    ensures { (o n x : ℕ) (p : Place) → GroupRead o part.now n p (group_of p (from (placed (seatWord seat) x ∷ marksAt o part.now at) n)) result }
+    ensures { (o n x : ℕ) (p : Place) → GroupRead o part.now n p (group_of p (from (placed (seat_word seat) x ∷ marks_at o part.now at) n)) result }
 {
     let first = literal(part, at);
     if first.stop != 0 {

@@ -1,10 +1,10 @@
 // A literal, read from a part of the card.
 ghost use Rattle.std.specs.Prelude.{◌≡◌, ◌∷◌, ℕ};
-ghost use Rattle.marks_on_a_card.specs.Marks.{placed, seat as seatWord};
-ghost use Rattle.marks.specs.Step.{marksAt};
+ghost use Rattle.marks_on_a_card.specs.Marks.{placed, seat as seat_word};
+ghost use Rattle.marks.specs.Step.{marks_at};
 ghost use Rattle.reading.specs.Reader.{at as from};
-ghost use Rattle.reading.specs.Group.{literal as literalOf};
-ghost use Rattle.group.specs.LiteralRead.{relationBy, noTail, LiteralRead};
+ghost use Rattle.reading.specs.Group.{literal as literal_of};
+ghost use Rattle.group.specs.LiteralRead.{relation_by, no_tail as no_tail_said, LiteralRead};
 
 use card::refusals::OUT_OF_SHAPE;
 use due_signs::step_relation;
@@ -16,7 +16,7 @@ use marks_on_a_card::kinds;
 use word_and_digit_looks::{NO_DIGIT, digit_here};
 
 fn no_tail(place: usize) -> Tail
-    ensures { result ≡ noTail place }
+    ensures { result ≡ no_tail_said place }
 {
     Tail {
         stop: OUT_OF_SHAPE as usize,
@@ -31,7 +31,7 @@ fn no_tail(place: usize) -> Tail
 const NO_RELATION: usize = 2;
 
 fn relation(kind: usize) -> usize
-    ensures { result ≡ relationBy kind }
+    ensures { result ≡ relation_by kind }
 {
     if kind == kinds::EQUAL {
         return 0;
@@ -44,7 +44,7 @@ fn relation(kind: usize) -> usize
 
 // A literal from behind its seat word on.
 fn long_literal(part: &[u8], at: usize) -> Tail
-    ensures { (o n i x : ℕ) → LiteralRead o part.now at n i (literalOf (from (placed (seatWord i) x ∷ marksAt o part.now at) n)) result }
+    ensures { (o n i x : ℕ) → LiteralRead o part.now at n i (literal_of (from (placed (seat_word i) x ∷ marks_at o part.now at) n)) result }
 {
     let sign = step_relation(part, at);
     let relation = relation(sign.mark.kind);
@@ -68,7 +68,7 @@ fn long_literal(part: &[u8], at: usize) -> Tail
 
 // The same; most literals are `=` and one digit.
 pub fn literal(part: &[u8], at: usize) -> Tail
-    ensures { (o n i x : ℕ) → LiteralRead o part.now at n i (literalOf (from (placed (seatWord i) x ∷ marksAt o part.now at) n)) result }
+    ensures { (o n i x : ℕ) → LiteralRead o part.now at n i (literal_of (from (placed (seat_word i) x ∷ marks_at o part.now at) n)) result }
 {
     if !sign_here(part, at, kinds::EQUAL) {
         return long_literal(part, at);
@@ -90,7 +90,7 @@ pub fn literal(part: &[u8], at: usize) -> Tail
 
 // A literal from behind its seat word on, as `literal` reads it; most literals of a term but its first are `!=` and one digit, right behind each other.
 pub fn literal_apart(part: &[u8], at: usize) -> Tail
-    ensures { (o n i x : ℕ) → LiteralRead o part.now at n i (literalOf (from (placed (seatWord i) x ∷ marksAt o part.now at) n)) result }
+    ensures { (o n i x : ℕ) → LiteralRead o part.now at n i (literal_of (from (placed (seat_word i) x ∷ marks_at o part.now at) n)) result }
 {
     if !stands(part, at, b'!') {
         return literal(part, at);

@@ -1,14 +1,14 @@
 // Guards of a card, and questions, read from their bytes: the recursion over brackets, `!` and chains. Which of them it is, and how many
 // values the card's shared number has, is told by the number of a language (`languages`); only what a bracket starts hangs on it.
 ghost use Rattle.std.specs.Prelude.{true, false};
-ghost use Rattle.marks.specs.Step.{marksAt};
+ghost use Rattle.marks.specs.Step.{marks_at};
 ghost use Rattle.reading.specs.Reader.{at as from};
-ghost use Rattle.reading.specs.Guard.{conjunction as conjunctionOf, expression as expressionOf};
-ghost use Rattle.late.specs.State.{leftIn, freeIn, lateIn, after};
-ghost use Rattle.items.specs.Language.{languageOf};
+ghost use Rattle.reading.specs.Guard.{conjunction as conjunction_of, expression as expression_of};
+ghost use Rattle.late.specs.State.{left_in, free_in, late_in, after};
+ghost use Rattle.items.specs.Language.{language_of};
 ghost use Rattle.items.specs.KeptItems.{Ready};
 ghost use Rattle.items.specs.GuardRead.{GuardRead};
-ghost use Rattle.items.specs.Pieces.{unaryIn, chained, Begun, Onward, NoItem};
+ghost use Rattle.items.specs.Pieces.{unary_in, chained, Begun, Onward, NoItem};
 
 use card::limits::NODE_PLACES;
 use card::refusals::{OUT_OF_SHAPE, PAST_LIMIT};
@@ -35,8 +35,8 @@ fn nested(
     top: usize,
     language: usize,
 ) -> usize
-    requires { Ready state.old × NoItem (languageOf language) card.now at }
-    ensures { GuardRead (languageOf language) card.now top nodes.old nodes.new (freeIn state.old) (lateIn state.old) (unaryIn (languageOf language) depth (from (marksAt 0 card.now at) (leftIn state.old))) (after state.new result) }
+    requires { Ready state.old × NoItem (language_of language) card.now at }
+    ensures { GuardRead (language_of language) card.now top nodes.old nodes.new (free_in state.old) (late_in state.old) (unary_in (language_of language) depth (from (marks_at 0 card.now at) (left_in state.old))) (after state.new result) }
 {
     let s = step_opening(card, at);
     if s.mark.kind == kinds::ROUND_OPEN {
@@ -84,7 +84,7 @@ fn unary(
     language: usize,
 ) -> usize
     requires { Ready state.old }
-    ensures { GuardRead (languageOf language) card.now top nodes.old nodes.new (freeIn state.old) (lateIn state.old) (unaryIn (languageOf language) depth (from (marksAt 0 card.now at) (leftIn state.old))) (after state.new result) }
+    ensures { GuardRead (language_of language) card.now top nodes.old nodes.new (free_in state.old) (late_in state.old) (unary_in (language_of language) depth (from (marks_at 0 card.now at) (left_in state.old))) (after state.new result) }
 {
     let next = keep_item(card, at, nodes, state, top, language);
     if next != NO_ITEM {
@@ -105,7 +105,7 @@ fn joined_by_and(
     language: usize,
 ) -> usize
     requires { Begun (after state.old first) }
-    ensures { Onward (languageOf language) card.now top nodes.old nodes.new (after state.old first) (chained (languageOf language) false depth) (after state.new result) }
+    ensures { Onward (language_of language) card.now top nodes.old nodes.new (after state.old first) (chained (language_of language) false depth) (after state.new result) }
 {
     let mut next = first;
     while next != 0 {
@@ -145,7 +145,7 @@ fn joined_by_or(
     language: usize,
 ) -> usize
     requires { Begun (after state.old first) }
-    ensures { Onward (languageOf language) card.now top nodes.old nodes.new (after state.old first) (chained (languageOf language) true depth) (after state.new result) }
+    ensures { Onward (language_of language) card.now top nodes.old nodes.new (after state.old first) (chained (language_of language) true depth) (after state.new result) }
 {
     let mut next = first;
     while next != 0 {
@@ -184,7 +184,7 @@ pub fn conjunction(
     language: usize,
 ) -> usize
     requires { Ready state.old }
-    ensures { GuardRead (languageOf language) card.now top nodes.old nodes.new (freeIn state.old) (lateIn state.old) (conjunctionOf (unaryIn (languageOf language) depth) (from (marksAt 0 card.now at) (leftIn state.old))) (after state.new result) }
+    ensures { GuardRead (language_of language) card.now top nodes.old nodes.new (free_in state.old) (late_in state.old) (conjunction_of (unary_in (language_of language) depth) (from (marks_at 0 card.now at) (left_in state.old))) (after state.new result) }
 {
     let first = unary(card, at, nodes, state, depth, top, language);
     if first == 0 {
@@ -208,7 +208,7 @@ pub fn expression(
     language: usize,
 ) -> usize
     requires { Ready state.old }
-    ensures { GuardRead (languageOf language) card.now top nodes.old nodes.new (freeIn state.old) (lateIn state.old) (expressionOf (unaryIn (languageOf language) depth) (from (marksAt 0 card.now at) (leftIn state.old))) (after state.new result) }
+    ensures { GuardRead (language_of language) card.now top nodes.old nodes.new (free_in state.old) (late_in state.old) (expression_of (unary_in (language_of language) depth) (from (marks_at 0 card.now at) (left_in state.old))) (after state.new result) }
 {
     let first = conjunction(card, at, nodes, state, depth, top, language);
     if first == 0 {

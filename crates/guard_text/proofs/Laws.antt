@@ -11,57 +11,57 @@ use lib.Dec.{eqb, leb}
 use lib.ListN.{get_or}
 use Rattle.card.specs.Text.{if◌then◌else◌}
 use Rattle.card.specs.Card.{all, any, Leaf}
-use Rattle.card.specs.Valid.{middle, needsAnd, needsOr}
-use Rattle.card.specs.Laid.{signNumber, either, opLeaf, opNot, opAnd, op_of, left_of, rightOf, leafOf, guardAt, guard_of}
-use Rattle.card.proofs.Laws.{guard-at-leaf, guard-at-not, guard-at-and, guard-at-or, guard-of-none, guard-of-some}
+use Rattle.card.specs.Valid.{middle, needs_and, needs_or}
+use Rattle.card.specs.Laid.{sign_number, either, op_leaf, op_not, op_and, op_of, left_of, right_of, leaf_of, guard_at, guard_of}
+use Rattle.card.proofs.Laws.{guard_at_leaf, guard_at_not, guard_at_and, guard_at_or, guard_of_none, guard_of_some}
 use Rattle.phrases.specs.Phrases.{Text, ◌▸◌}
-use Rattle.texts.specs.Shared.{Brackets, needed, always, hasAnd, hasOr, opening, closing, formulaText, formulaOr}
-use Rattle.texts.specs.Writing.{signText}
-use Rattle.guard_text.specs.Levels.{tightNumber, levelOf}
+use Rattle.texts.specs.Shared.{Brackets, needed, always, has_and, has_or, opening, closing, formula_text, formula_or}
+use Rattle.texts.specs.Writing.{sign_text}
+use Rattle.guard_text.specs.Levels.{tight_number, level_of}
 
 -- ---- brackets
 
 -- an `&` has brackets of its own under `!` and right of `&`, an `|` also left of `&` and as the whole guard
-needs-and : (level : ℕ) → needsAnd (levelOf level) ≡ leb 2 level
-needs-and zero = refl
-needs-and (suc zero) = refl
-needs-and (suc (suc v)) = sym (le-leb 2 (suc (suc v)) (omega arith))
+needs_and_law : (level : ℕ) → needs_and (level_of level) ≡ leb 2 level
+needs_and_law zero = refl
+needs_and_law (suc zero) = refl
+needs_and_law (suc (suc v)) = sym (le-leb 2 (suc (suc v)) (omega arith))
 
-needs-or : (level : ℕ) → needsOr (levelOf level) ≡ leb 1 level
-needs-or zero = refl
-needs-or (suc zero) = refl
-needs-or (suc (suc v)) = sym (le-leb 1 (suc (suc v)) (omega arith))
+needs_or_law : (level : ℕ) → needs_or (level_of level) ≡ leb 1 level
+needs_or_law zero = refl
+needs_or_law (suc zero) = refl
+needs_or_law (suc (suc v)) = sym (le-leb 1 (suc (suc v)) (omega arith))
 
 -- where all joined nodes have brackets, each has them as where it stands tight
 module _ (level : ℕ) where
-  has-and : (t : Bool) → hasAnd (if t then needed else always) (levelOf level) ≡ leb 2 (if t then level else tightNumber)
-  has-and true = needs-and level
-  has-and false = refl
+  has_and_law : (t : Bool) → has_and (if t then needed else always) (level_of level) ≡ leb 2 (if t then level else tight_number)
+  has_and_law true = needs_and_law level
+  has_and_law false = refl
 
-  has-or : (t : Bool) → hasOr (if t then needed else always) (levelOf level) ≡ leb 1 (if t then level else tightNumber)
-  has-or true = needs-or level
-  has-or false = refl
+  has_or_law : (t : Bool) → has_or (if t then needed else always) (level_of level) ≡ leb 1 (if t then level else tight_number)
+  has_or_law true = needs_or_law level
+  has_or_law false = refl
 
 -- a bracket by its byte
-abbrev pub bracketIf : Bool → ℕ → Text
-bracketIf b x r = if b then x ∷ r else r
+abbrev pub bracket_if : Bool → ℕ → Text
+bracket_if b x r = if b then x ∷ r else r
 
-opens : (b : Bool) (r : List ℕ) → bracketIf b 40 r ≡ opening b r
+opens : (b : Bool) (r : List ℕ) → bracket_if b 40 r ≡ opening b r
 opens true r = refl
 opens false r = refl
 
-closes : (b : Bool) (r : List ℕ) → bracketIf b 41 r ≡ closing b r
+closes : (b : Bool) (r : List ℕ) → bracket_if b 41 r ≡ closing b r
 closes true r = refl
 closes false r = refl
 
 -- ---- the operator of node m, at which x stands, where node 0 is read as a leaf
 
-module _ (m x : ℕ) {op : ℕ} (o : op ≡ (if eqb m 0 then opLeaf else op_of x)) (g : op ≡ opLeaf → ⊥) where
-  pub joined-above : m ≡ 0 → ⊥
-  joined-above z = g (o ∙ rw (eq-eqb m 0 z))
+module _ (m x : ℕ) {op : ℕ} (o : op ≡ (if eqb m 0 then op_leaf else op_of x)) (g : op ≡ op_leaf → ⊥) where
+  pub joined_above : m ≡ 0 → ⊥
+  joined_above z = g (o ∙ rw (eq-eqb m 0 z))
 
-  pub joined-op : op ≡ op_of x
-  joined-op = o ∙ rw (ne_eqb m 0 joined-above)
+  pub joined_op : op ≡ op_of x
+  joined_op = o ∙ rw (ne_eqb m 0 joined_above)
 
 -- ---- and its text; `text` is 0 for the written card
 
@@ -70,63 +70,63 @@ module _ (text : ℕ) (leaf : Leaf → Text) (v : ℕ) (nodes : List ℕ) (m x :
   brackets = either needed always text
 
   abbrev part : ℕ → ℕ → Text
-  part level i = formulaText brackets leaf (levelOf level) (guardAt nodes i)
+  part level i = formula_text brackets leaf (level_of level) (guard_at nodes i)
 
   abbrev Here : Text → Type 0
   Here f = (r : List ℕ) → f r ≡ part v m r
 
-  text-first : m ≡ 0 → Here (leaf (leafOf x))
-  unfolding formulaText
-  text-first h r = rw (guard-at-leaf nodes m x at (inr h))
+  text_first : m ≡ 0 → Here (leaf (leaf_of x))
+  unfolding formula_text
+  text_first h r = rw (guard_at_leaf nodes m x at (inr h))
 
   module _ {op : ℕ} (o : op ≡ op_of x) where
-    text-leaf : op ≡ opLeaf → Here (leaf (leafOf x))
-    unfolding formulaText
-    text-leaf e r = rw (guard-at-leaf nodes m x at (inl (sym o ∙ e)))
+    text_leaf : op ≡ op_leaf → Here (leaf (leaf_of x))
+    unfolding formula_text
+    text_leaf e r = rw (guard_at_leaf nodes m x at (inl (sym o ∙ e)))
 
-  module _ {op : ℕ} (o : op ≡ (if eqb m 0 then opLeaf else op_of x)) where
-    pub text-at-leaf : op ≡ opLeaf → Here (leaf (leafOf x))
-    text-at-leaf e = go (eqb m 0) refl
+  module _ {op : ℕ} (o : op ≡ (if eqb m 0 then op_leaf else op_of x)) where
+    pub text_at_leaf : op ≡ op_leaf → Here (leaf (leaf_of x))
+    text_at_leaf e = go (eqb m 0) refl
       where
-        go : (t : Bool) → eqb m 0 ≡ t → Here (leaf (leafOf x))
-        go true j = text-first (eqb-true m 0 j)
-        go false j = let q : op ≡ op_of x = o ∙ rw j in text-leaf q e
+        go : (t : Bool) → eqb m 0 ≡ t → Here (leaf (leaf_of x))
+        go true j = text_first (eqb-true m 0 j)
+        go false j = let q : op ≡ op_of x = o ∙ rw j in text_leaf q e
 
   module _ {op : ℕ} (o : op ≡ op_of x) where
     module _ (h : m ≡ 0 → ⊥) {a : ℕ} (l : a ≡ min (left_of x) (m - 1)) where
-      pub text-not : op ≡ opNot → Here (λ r. "!" ▸ part 2 a r)
-      unfolding formulaText
-      text-not e r = rw (guard-at-not nodes m x at h (sym o ∙ e), l)
+      pub text_not : op ≡ op_not → Here (λ r. "!" ▸ part 2 a r)
+      unfolding formula_text
+      text_not e r = rw (guard_at_not nodes m x at h (sym o ∙ e), l)
 
       -- `&` and `|` alike: the level from which on the node has brackets is its right part's, and the left part's is one below
-      module _ {w : ℕ} (k : w ≡ either v tightNumber text) where
+      module _ {w : ℕ} (k : w ≡ either v tight_number text) where
         abbrev joined : ℕ → ℕ → Text
         joined s b r =
-            bracketIf (leb (2 - s) w) 40
-            (part (2 - s - 1) a (signText (either all any s) ▸ part (2 - s) b (bracketIf (leb (2 - s) w) 41 r)))
+            bracket_if (leb (2 - s) w) 40
+            (part (2 - s - 1) a (sign_text (either all any s) ▸ part (2 - s) b (bracket_if (leb (2 - s) w) 41 r)))
 
-        module _ {b : ℕ} (g : b ≡ min (rightOf x) (m - 1)) where
-          text-and : op ≡ opAnd → Here (joined 0 b)
-          unfolding formulaText
-          text-and e r = rw (guard-at-and nodes m x at h (sym o ∙ e), has-and v (eqb text 0), k, opens, closes, l, g)
+        module _ {b : ℕ} (g : b ≡ min (right_of x) (m - 1)) where
+          text_and : op ≡ op_and → Here (joined 0 b)
+          unfolding formula_text
+          text_and e r = rw (guard_at_and nodes m x at h (sym o ∙ e), has_and_law v (eqb text 0), k, opens, closes, l, g)
 
-          text-or : (op ≡ opLeaf → ⊥) → (op ≡ opNot → ⊥) → (op ≡ opAnd → ⊥) → Here (joined 1 b)
-          unfolding formulaText
-          text-or c d e r = rw (guard-at-or nodes m x at h (λ z. c (o ∙ z)) (λ z. d (o ∙ z)) (λ z. e (o ∙ z)), has-or v (eqb text 0), k, opens, closes, l, g)
+          text_or : (op ≡ op_leaf → ⊥) → (op ≡ op_not → ⊥) → (op ≡ op_and → ⊥) → Here (joined 1 b)
+          unfolding formula_text
+          text_or c d e r = rw (guard_at_or nodes m x at h (λ z. c (o ∙ z)) (λ z. d (o ∙ z)) (λ z. e (o ∙ z)), has_or_law v (eqb text 0), k, opens, closes, l, g)
 
-          pub text-joined : {s : ℕ} → (op ≡ opLeaf → ⊥) → (op ≡ opNot → ⊥) → s ≡ (if eqb op opAnd then signNumber all else signNumber any) → Here (joined s b)
-          text-joined {s} c d e = go (eqb op opAnd) refl
+          pub text_joined : {s : ℕ} → (op ≡ op_leaf → ⊥) → (op ≡ op_not → ⊥) → s ≡ (if eqb op op_and then sign_number all else sign_number any) → Here (joined s b)
+          text_joined {s} c d e = go (eqb op op_and) refl
             where
-              go : (t : Bool) → eqb op opAnd ≡ t → Here (joined s b)
-              go true j = let z : s ≡ 0 = e ∙ rw j in rw z (text-and (eqb-true op opAnd j))
-              go false j = let z : s ≡ 1 = e ∙ rw j in rw z (text-or c d (eqb-false op opAnd j))
+              go : (t : Bool) → eqb op op_and ≡ t → Here (joined s b)
+              go true j = let z : s ≡ 0 = e ∙ rw j in rw z (text_and (eqb-true op op_and j))
+              go false j = let z : s ≡ 1 = e ∙ rw j in rw z (text_or c d (eqb-false op op_and j))
 
 -- ---- a statement's guard
 
 module _ (k : Brackets) (leaf : Leaf → Text) (nodes : List ℕ) (from m : ℕ) where
-  pub test-none : m ≡ 0 → (r : List ℕ) → r ≡ formulaOr k leaf (guard_of nodes from m) r
-  test-none e r = rw (guard-of-none nodes from m e)
+  pub test_none : m ≡ 0 → (r : List ℕ) → r ≡ formula_or k leaf (guard_of nodes from m) r
+  test_none e r = rw (guard_of_none nodes from m e)
 
-  pub test-some : (root : ℕ) → (m ≡ 0 → ⊥) → root + 1 ≡ from + m → (r : List ℕ)
-      → " & " ▸ formulaText k leaf middle (guardAt nodes root) r ≡ formulaOr k leaf (guard_of nodes from m) r
-  test-some root h e r = rw (guard-of-some nodes from m root h e)
+  pub test_some : (root : ℕ) → (m ≡ 0 → ⊥) → root + 1 ≡ from + m → (r : List ℕ)
+      → " & " ▸ formula_text k leaf middle (guard_at nodes root) r ≡ formula_or k leaf (guard_of nodes from m) r
+  test_some root h e r = rw (guard_of_some nodes from m root h e)

@@ -2,10 +2,10 @@
 use Rattle.std.specs.Prelude.{ℕ, zero, suc}
 use Rattle.card.specs.Valid.{Level, loose, middle, tight}
 
-abbrev pub tightNumber : ℕ
-tightNumber = 2
+abbrev pub tight_number : ℕ
+tight_number = 2
 
-abbrev pub levelOf : ℕ → Level
-levelOf zero = loose
-levelOf (suc zero) = middle
-levelOf (suc (suc v)) = tight
+abbrev pub level_of : ℕ → Level
+level_of zero = loose
+level_of (suc zero) = middle
+level_of (suc (suc v)) = tight

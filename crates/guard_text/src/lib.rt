@@ -1,13 +1,13 @@
 // A guard's nodes put as text, in either of the two texts: leaves, `!`, `&` and `|`.
 ghost use Rattle.std.specs.Prelude.{◌≡◌, ◌∷◌, ◌+◌, ◌<◌, ◌≤◌, eqb, leb};
-ghost use Rattle.card.specs.Limits.{nodePlaces};
+ghost use Rattle.card.specs.Limits.{node_places};
 ghost use Rattle.card.specs.Text.{if◌then◌else◌};
 ghost use Rattle.card.specs.Card.{all, any};
-ghost use Rattle.card.specs.Laid.{signNumber, opLeaf, opAnd, op_of, either, guardAt, guard_of};
+ghost use Rattle.card.specs.Laid.{sign_number, op_leaf, op_and, op_of, either, guard_at, guard_of};
 ghost use Rattle.phrases.specs.Puts.{Puts};
-ghost use Rattle.texts.specs.Shared.{formulaText, formulaOr};
-ghost use Rattle.leaf_text.specs.Style.{styleOf, bracketsOf, leafText};
-ghost use Rattle.guard_text.specs.Levels.{tightNumber, levelOf};
+ghost use Rattle.texts.specs.Shared.{formula_text, formula_or};
+ghost use Rattle.leaf_text.specs.Style.{style_of, brackets_of, leaf_text as leaf_text_said};
+ghost use Rattle.guard_text.specs.Levels.{tight_number, level_of};
 
 use card::limits::NODE_PLACES;
 use card::number_at;
@@ -24,7 +24,7 @@ const TIGHT: usize = 2;
 
 // The level by which a part has brackets: in the reduced text always, as where it stands tight.
 fn bracket_level(level: usize, text: usize) -> usize
-    ensures { result ≡ either level tightNumber text }
+    ensures { result ≡ either level tight_number text }
 {
     if text == WRITTEN {
         return level;
@@ -44,7 +44,7 @@ fn put_bracket(room: &mut [u8], at: usize, bracket: u8, level: usize, least: usi
 
 // The sign of a joined node, by its operator.
 fn sign_between(op: usize) -> usize
-    ensures sign { result ≡ (if eqb op opAnd then signNumber all else signNumber any) }
+    ensures sign { result ≡ (if eqb op op_and then sign_number all else sign_number any) }
     ensures small { result < 2 }
 {
     if op == AND {
@@ -55,7 +55,7 @@ fn sign_between(op: usize) -> usize
 
 // The operator of node n, where `x` stands: node 0 is read as a leaf.
 fn operator_at(x: u32, n: usize) -> usize
-    ensures { result ≡ (if eqb n 0 then opLeaf else op_of x) }
+    ensures { result ≡ (if eqb n 0 then op_leaf else op_of x) }
 {
     if n == 0 {
         return LEAF;
@@ -75,7 +75,7 @@ fn put_guard(
     own: usize,
     seats: usize,
 ) -> usize
-    ensures { Puts room.old room.new at (formulaText (bracketsOf (styleOf text own seats 1)) (leafText (styleOf text own seats 1)) (levelOf level) (guardAt nodes.now n)) result }
+    ensures { Puts room.old room.new at (formula_text (brackets_of (style_of text own seats 1)) (leaf_text_said (style_of text own seats 1)) (level_of level) (guard_at nodes.now n)) result }
 {
     let x = number_at(nodes, n);
     let op = operator_at(x, n);
@@ -115,8 +115,8 @@ pub fn put_test(
     count: usize,
     style: Style,
 ) -> usize
-    requires { from + count ≤ nodePlaces }
-    ensures { Puts room.old room.new at (formulaOr (bracketsOf style) (leafText style) (guard_of nodes.now from count)) result }
+    requires { from + count ≤ node_places }
+    ensures { Puts room.old room.new at (formula_or (brackets_of style) (leaf_text_said style) (guard_of nodes.now from count)) result }
 {
     if count == 0 {
         return place(at);

@@ -1,10 +1,10 @@
 // A leaf of a guard held at counts: its counter against its bound, or the shared number against its value.
 ghost use Rattle.std.specs.Prelude.{◌≡◌, eqb};
 ghost use Rattle.card.specs.Card.{is, isnt};
-ghost use Rattle.card.specs.Laid.{either, leafOf, relationPart, statePart};
+ghost use Rattle.card.specs.Laid.{either, leaf_of, relation_part, state_part};
 ghost use Rattle.meaning.specs.Position.{position};
 ghost use Rattle.meaning.specs.Seats.{literal};
-ghost use Rattle.meaning.specs.Reduced.{no_of, counterOf, passes as passesAt};
+ghost use Rattle.meaning.specs.Reduced.{no_of, counter_of, passes as passes_at};
 
 use packing::{IS, SHARED, kind_of, relation_of, state_of};
 use table::bound_of;
@@ -21,7 +21,7 @@ pub fn count_at(counts: &[usize], d: usize) -> usize
 
 // A test of the shared number.
 fn shared_holds(node: u32, shared: usize) -> bool
-    ensures { result ≡ literal (either is isnt (relationPart node)) (eqb shared (statePart node)) }
+    ensures { result ≡ literal (either is isnt (relation_part node)) (eqb shared (state_part node)) }
 {
     let value = state_of(node);
     if relation_of(node) == IS {
@@ -32,7 +32,7 @@ fn shared_holds(node: u32, shared: usize) -> bool
 
 // Does the leaf in `node` hold for a seat in state `own`, of n seats? Its counter is held against its bound.
 pub fn leaf_holds(node: u32, own: usize, n: usize, counts: &[usize], shared: usize) -> bool
-    ensures { result ≡ passesAt (position counts.now shared) (counterOf n own (leafOf node)) }
+    ensures { result ≡ passes_at (position counts.now shared) (counter_of n own (leaf_of node)) }
 {
     if SHARED <= kind_of(node) {
         return shared_holds(node, shared);

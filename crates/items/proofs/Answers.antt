@@ -8,134 +8,134 @@ use native.Mathlib.Omega.{arith}
 use borrow.Author.Tests.{eq-eqb, ne_eqb}
 use lib.Dec.{eqb, leb}
 use lib.ListN.{length}
-use Rattle.card.specs.Refusals.{aboveTop}
+use Rattle.card.specs.Refusals.{above_top}
 use Rattle.card.specs.Text.{if◌then◌else◌}
 use Rattle.card.specs.Card.{Kind, everyone, others, Formula, atom, neg, and, or}
-use Rattle.card.specs.Laid.{kindNumber, sharedKind}
+use Rattle.card.specs.Laid.{kind_number, shared_kind}
 use Rattle.marks_on_a_card.specs.Marks.{placed, seat, place_of}
-use Rattle.marks_on_a_card.specs.Kinds.{kSeat, kind}
-use Rattle.marks.specs.Step.{stepAt, marksAt}
+use Rattle.marks_on_a_card.specs.Kinds.{k_seat, kind}
+use Rattle.marks.specs.Step.{step_at, marks_at}
 use Rattle.marks.specs.declared.Step.{Step}
 use Rattle.marks.proofs.Next.{Meet, over, met, meet}
-use Rattle.marks_on_a_card.proofs.KindLaws.{kind-is}
-use Rattle.reading.specs.Reader.{Place, State, at, Result, ok, stop, Reader, bind, return, nextIs}
-use Rattle.reading.specs.Guard.{seatNext, testNext}
-use Rattle.reading.specs.Group.{Literal, Literals, group, SharedTest, Tested, ofSeats, ofShared, sharedTest}
-use Rattle.reading.specs.Judgements.{state, oneGroup, has, unless, firstState, judgedGroup, judgedGuard}
-use Rattle.grammar.specs.Grammar.{signAt}
-use Rattle.grammar.proofs.Follows.{and-false}
+use Rattle.marks_on_a_card.proofs.KindLaws.{kind_is}
+use Rattle.reading.specs.Reader.{Place, State, at, Result, ok, stop, Reader, bind, return, next_is}
+use Rattle.reading.specs.Guard.{seat_next, test_next}
+use Rattle.reading.specs.Group.{Literal, Literals, group, SharedTest, Tested, of_seats, of_shared, shared_test}
+use Rattle.reading.specs.Judgements.{state, one_group, has, unless, first_state, judged_group, judged_guard}
+use Rattle.grammar.specs.Grammar.{sign_at}
+use Rattle.grammar.proofs.Follows.{and_false}
 use Rattle.late.specs.Values.{shares, most_of}
-use Rattle.items.specs.KeptItems.{wantedBy, boundBy}
+use Rattle.items.specs.KeptItems.{wanted_by, bound_by}
 use Rattle.group.specs.declared.Grouped.{Grouped}
-use Rattle.late.specs.Late.{Late, wantOf, kindBy, blamed, grouped, judgeAll}
+use Rattle.late.specs.Late.{Late, want_of, kind_by, blamed, grouped, judge_all}
 use Rattle.group.specs.GroupRead.{ReadGroup, GroupRead}
 use Rattle.group.proofs.Signs.{Known}
-use Rattle.group.proofs.Ahead.{seat-next, next-is}
-use Rattle.late.proofs.Settling.{judge-append}
-use Rattle.group.proofs.Groups.{seat-marks, Answers, inside}
-use Rattle.asking.specs.Question.{Item, aGroup, exactlyOne, aTest, twiceNext, itemNext, exactly as exactlyOf}
-use Rattle.asking.specs.Asking.{state as claimed, everyone as everyoneOf, firstD, claims_of}
+use Rattle.group.proofs.Ahead.{seat_next_law, next_is_law}
+use Rattle.late.proofs.Settling.{judge_append}
+use Rattle.group.proofs.Groups.{seat_marks, Answers, inside}
+use Rattle.asking.specs.Question.{Item, a_group, exactly_one, a_test, twice_next, item_next, exactly as exactly_of}
+use Rattle.asking.specs.Asking.{state as claimed, everyone as everyone_of, first_d, claims_of}
 use Rattle.items.specs.OneRead.{ReadOne, OneRead}
-use Rattle.term_literals.specs.Wanted.{wantOfTerms}
-use Rattle.items.specs.Language.{Language, cards, judgedOf, wantOfAll, claimAll, questions, languageBy, languageOf}
-use Rattle.languages.specs.Number.{valuesBy, asksBy}
+use Rattle.term_literals.specs.Wanted.{want_of_terms}
+use Rattle.items.specs.Language.{Language, cards, judged_of, want_of_all, claim_all, questions, language_by, language_of}
+use Rattle.languages.specs.Number.{values_by, asks_by}
 use Rattle.items.specs.GroupsAsked.{unwanted, of_all}
 use Rattle.items.specs.SharedRead.{ReadTest, TestRead}
 use Rattle.items.specs.Items.{Inside, ReadItem, ItemRead, ItemIf, ItemAt, nothing}
 
 -- whether an item starts
-pub item-if : (L : Language) (o : ℕ) (s : List ℕ) (n : ℕ) (p : Place) (r : Grouped) (a b : Bool) → a ≡ b → ItemIf L o s n p b r → ItemIf L o s n p a r
-item-if L o s n p r a b e h = rw e h
+pub item_if : (L : Language) (o : ℕ) (s : List ℕ) (n : ℕ) (p : Place) (r : Grouped) (a b : Bool) → a ≡ b → ItemIf L o s n p b r → ItemIf L o s n p a r
+item_if L o s n p r a b e h = rw e h
 
-judged-group : (e k : ℕ) (a : Literals) (d : ℕ) (m : Place) (before : Late) → firstState k a.literals ≡ state k d m ∷ []
-    → judgeAll e (judgedGroup k a) before ≡ blamed (unless (leb d k) aboveTop) (place_of e m) (grouped (wantOf a.literals) (place_of e a.place) before)
-unfolding judgeAll
-judged-group e k a d m before h = ap (λ js. judgeAll e (oneGroup a ∷ js) before) h
+judged_group_law : (e k : ℕ) (a : Literals) (d : ℕ) (m : Place) (before : Late) → first_state k a.literals ≡ state k d m ∷ []
+    → judge_all e (judged_group k a) before ≡ blamed (unless (leb d k) above_top) (place_of e m) (grouped (want_of a.literals) (place_of e a.place) before)
+unfolding judge_all
+judged_group_law e k a d m before h = ap (λ js. judge_all e (one_group a ∷ js) before) h
 
-same-late : (d k i j m n p r : ℕ) (before : Late) → i ≡ j → m ≡ n → p ≡ r
-    → blamed (unless (leb d k) aboveTop) i (grouped m p before) ≡ blamed (unless (leb d k) aboveTop) j (grouped n r before)
-same-late d k i j m n p r before e f h = rw (e, f, h)
+same_late : (d k i j m n p r : ℕ) (before : Late) → i ≡ j → m ≡ n → p ≡ r
+    → blamed (unless (leb d k) above_top) i (grouped m p before) ≡ blamed (unless (leb d k) above_top) j (grouped n r before)
+same_late d k i j m n p r before e f h = rw (e, f, h)
 
-same-one : (c d k i j m n p : ℕ) (before : Late) → c ≡ d → i ≡ j → m ≡ n
-    → blamed (unless (leb c k) aboveTop) i (grouped m p before) ≡ blamed (unless (leb d k) aboveTop) j (grouped n p before)
-same-one c d k i j m n p before e f h = rw (e, f, h)
+same_one : (c d k i j m n p : ℕ) (before : Late) → c ≡ d → i ≡ j → m ≡ n
+    → blamed (unless (leb c k) above_top) i (grouped m p before) ≡ blamed (unless (leb d k) above_top) j (grouped n p before)
+same_one c d k i j m n p before e f h = rw (e, f, h)
 
 -- what an item's kind decides
-by_kind : (m d k i want p kind : ℕ) (x : Late) → eqb kind sharedKind ≡ false
-    → blamed (unless (leb d k) aboveTop) i (grouped want p x) ≡ blamed (unless (leb d (boundBy m kind k)) aboveTop) i (wantedBy kind want p x)
+by_kind : (m d k i want p kind : ℕ) (x : Late) → eqb kind shared_kind ≡ false
+    → blamed (unless (leb d k) above_top) i (grouped want p x) ≡ blamed (unless (leb d (bound_by m kind k)) above_top) i (wanted_by kind want p x)
 by_kind m d k i want p kind x e = rw e
 
-as-shared : (m d k i j want p kind v : ℕ) (x : Late) → kind ≡ sharedKind → d ≡ v → i ≡ j
-    → blamed (unless (leb v m) aboveTop) i x ≡ blamed (unless (leb d (boundBy m kind k)) aboveTop) j (wantedBy kind want p x)
-as-shared m d k i j want p kind v x e f h = rw (e, f, h)
+as_shared_law : (m d k i j want p kind v : ℕ) (x : Late) → kind ≡ shared_kind → d ≡ v → i ≡ j
+    → blamed (unless (leb v m) above_top) i x ≡ blamed (unless (leb d (bound_by m kind k)) above_top) j (wanted_by kind want p x)
+as_shared_law m d k i j want p kind v x e f h = rw (e, f, h)
 
-group-kind : (kind : Kind) → eqb (kindNumber kind) sharedKind ≡ false
-group-kind everyone = refl
-group-kind others = refl
+group_kind : (kind : Kind) → eqb (kind_number kind) shared_kind ≡ false
+group_kind everyone = refl
+group_kind others = refl
 
-plain : (o : ℕ) (s : List ℕ) (n : ℕ) (p : Place) (a : Literals) (b : State) (r : Grouped) → ReadGroup o s n p a b r → eqb r.kind sharedKind ≡ false
-plain o s n p a b r h = ap (λ k. eqb k sharedKind) h.kind ∙ group-kind (kindBy a.literals)
+plain : (o : ℕ) (s : List ℕ) (n : ℕ) (p : Place) (a : Literals) (b : State) (r : Grouped) → ReadGroup o s n p a b r → eqb r.kind shared_kind ≡ false
+plain o s n p a b r h = ap (λ k. eqb k shared_kind) h.kind ∙ group_kind (kind_by a.literals)
 
-abbrev asSeats : Literals → Reader Tested
-asSeats x = return (ofSeats x)
+abbrev as_seats : Literals → Reader Tested
+as_seats x = return (of_seats x)
 
-group-item : (v o : ℕ) (s : List ℕ) (n : ℕ) (p : Place) (y : Result Literals) (r : Grouped) → GroupRead o s n p y r → ItemRead (cards v) o s n p (bind y asSeats) r
-group-item v o s n p (ok a b) r h = record {
+group_item : (v o : ℕ) (s : List ℕ) (n : ℕ) (p : Place) (y : Result Literals) (r : Grouped) → GroupRead o s n p y r → ItemRead (cards v) o s n p (bind y as_seats) r
+group_item v o s n p (ok a b) r h = record {
   went = h.went;
   rest = h.rest;
   left = h.left;
   past = h.past;
   node = h.node;
   judged = λ k x.
-      judged-group (o + length s) k a r.d h.numeral x (h.states k)
-      ∙ same-late r.d k (place_of (o + length s) h.numeral) (o + r.first) (wantOf a.literals) r.want (place_of (o + length s) a.place) (place_of (o + length s) p) x
+      judged_group_law (o + length s) k a r.d h.numeral x (h.states k)
+      ∙ same_late r.d k (place_of (o + length s) h.numeral) (o + r.first) (want_of a.literals) r.want (place_of (o + length s) a.place) (place_of (o + length s) p) x
       h.first (sym h.want) (ap (place_of (o + length s)) h.bracket)
       ∙ by_kind (most_of v) r.d k (o + r.first) r.want (place_of (o + length s) p) r.kind x (plain o s n p a b r h);
 }
-group-item v o s n p (stop m q) r h = h
+group_item v o s n p (stop m q) r h = h
 
 -- what is judged of a card's guard, as its list of judgements
-pub card-judged : (v k e : ℕ) (g : Formula Tested) (x : Late) → judgedOf (cards v) k e g x ≡ judgeAll e (judgedGuard k (most_of v) g) x
-card-judged v k e (atom a) x = refl
-card-judged v k e (neg g) x = card-judged v k e g x
-card-judged v k e (and g h) x =
-    let gs = judgedGuard k (most_of v) g in
-    let hs = judgedGuard k (most_of v) h in
-    ap (judgedOf (cards v) k e h) (card-judged v k e g x) ∙ card-judged v k e h (judgeAll e gs x) ∙ sym (judge-append e gs hs x)
-card-judged v k e (or g h) x =
-    let gs = judgedGuard k (most_of v) g in
-    let hs = judgedGuard k (most_of v) h in
-    ap (judgedOf (cards v) k e h) (card-judged v k e g x) ∙ card-judged v k e h (judgeAll e gs x) ∙ sym (judge-append e gs hs x)
+pub card_judged : (v k e : ℕ) (g : Formula Tested) (x : Late) → judged_of (cards v) k e g x ≡ judge_all e (judged_guard k (most_of v) g) x
+card_judged v k e (atom a) x = refl
+card_judged v k e (neg g) x = card_judged v k e g x
+card_judged v k e (and g h) x =
+    let gs = judged_guard k (most_of v) g in
+    let hs = judged_guard k (most_of v) h in
+    ap (judged_of (cards v) k e h) (card_judged v k e g x) ∙ card_judged v k e h (judge_all e gs x) ∙ sym (judge_append e gs hs x)
+card_judged v k e (or g h) x =
+    let gs = judged_guard k (most_of v) g in
+    let hs = judged_guard k (most_of v) h in
+    ap (judged_of (cards v) k e h) (card_judged v k e g x) ∙ card_judged v k e h (judge_all e gs x) ∙ sym (judge_append e gs hs x)
 
 -- ---- a test of the shared number, in either language
 
-abbrev asShared : SharedTest → Reader Tested
-asShared x = return (ofShared x)
+abbrev as_shared : SharedTest → Reader Tested
+as_shared x = return (of_shared x)
 
-abbrev asTest : SharedTest → Reader Item
-asTest x = return (aTest x)
+abbrev as_test : SharedTest → Reader Item
+as_test x = return (a_test x)
 
 module _ (v o : ℕ) (s : List ℕ) (n : ℕ) (p : Place) where
-  test-judged : (x : SharedTest) (b : State) (r : Grouped) → ReadTest o s n x b r → (k : ℕ) (y : Late)
-      → blamed (unless (leb x.value.value (most_of v)) aboveTop) (place_of (o + length s) x.value.place) y
-      ≡ blamed (unless (leb r.d (boundBy (most_of v) r.kind k)) aboveTop) (o + r.first) (wantedBy r.kind r.want (place_of (o + length s) p) y)
-  test-judged x b r h k y =
-      as-shared (most_of v) r.d k (place_of (o + length s) x.value.place) (o + r.first) r.want (place_of (o + length s) p) r.kind x.value.value y
+  test_judged : (x : SharedTest) (b : State) (r : Grouped) → ReadTest o s n x b r → (k : ℕ) (y : Late)
+      → blamed (unless (leb x.value.value (most_of v)) above_top) (place_of (o + length s) x.value.place) y
+      ≡ blamed (unless (leb r.d (bound_by (most_of v) r.kind k)) above_top) (o + r.first) (wanted_by r.kind r.want (place_of (o + length s) p) y)
+  test_judged x b r h k y =
+      as_shared_law (most_of v) r.d k (place_of (o + length s) x.value.place) (o + r.first) r.want (place_of (o + length s) p) r.kind x.value.value y
       h.kind h.d h.first
 
-  test-item : (y : Result SharedTest) (r : Grouped) → TestRead o s n y r → ItemRead (cards v) o s n p (bind y asShared) r
-  unfolding judgeAll
-  test-item (ok x b) r h = record { went = h.went; rest = h.rest; left = h.left; past = h.past; node = h.node; judged = test-judged x b r h }
-  test-item (stop m q) r h = h
+  test_item : (y : Result SharedTest) (r : Grouped) → TestRead o s n y r → ItemRead (cards v) o s n p (bind y as_shared) r
+  unfolding judge_all
+  test_item (ok x b) r h = record { went = h.went; rest = h.rest; left = h.left; past = h.past; node = h.node; judged = test_judged x b r h }
+  test_item (stop m q) r h = h
 
-  test-asked : (y : Result SharedTest) (r : Grouped) → TestRead o s n y r → ItemRead (questions v) o s n p (bind y asTest) r
-  unfolding claimAll
-  test-asked (ok x b) r h = record { went = h.went; rest = h.rest; left = h.left; past = h.past; node = h.node; judged = test-judged x b r h }
-  test-asked (stop m q) r h = h
+  test_asked : (y : Result SharedTest) (r : Grouped) → TestRead o s n y r → ItemRead (questions v) o s n p (bind y as_test) r
+  unfolding claim_all
+  test_asked (ok x b) r h = record { went = h.went; rest = h.rest; left = h.left; past = h.past; node = h.node; judged = test_judged x b r h }
+  test_asked (stop m q) r h = h
 
-test-inside : (s : List ℕ) (y : Result SharedTest) (r : Grouped) → TestRead 0 s 0 y r → Inside s r
-test-inside s (ok x b) r h = record { place = omega (arith, h.place); next = h.next-within; first = h.first-within }
-test-inside s (stop m q) r h = record {
+test_inside : (s : List ℕ) (y : Result SharedTest) (r : Grouped) → TestRead 0 s 0 y r → Inside s r
+test_inside s (ok x b) r h = record { place = omega (arith, h.place); next = h.next_within; first = h.first_within }
+test_inside s (stop m q) r h = record {
   place = h.within;
   next = omega (arith, ap (λ (u : Grouped). u.next) h.answer);
   first = omega (arith, ap (λ (u : Grouped). u.first) h.answer);
@@ -143,77 +143,77 @@ test-inside s (stop m q) r h = record {
 
 -- ---- a question's items
 
-has-kind : (ls : List Literal) → eqb (kindNumber (kindBy ls)) 0 ≡ has 1 ls
-has-kind ls = go (has 1 ls)
+has_kind : (ls : List Literal) → eqb (kind_number (kind_by ls)) 0 ≡ has 1 ls
+has_kind ls = go (has 1 ls)
   where
-    go : (b : Bool) → eqb (kindNumber (if b then everyone else others)) 0 ≡ b
+    go : (b : Bool) → eqb (kind_number (if b then everyone else others)) 0 ≡ b
     go true = refl
     go false = refl
 
-first-claim : (k d : ℕ) (m : Place) (ls : List Literal) → firstState k ls ≡ state k d m ∷ [] → firstD k ls ≡ claimed k d m ∷ []
-first-claim k d m [] e = let z : ◌≡◌ {A = ℕ} 0 1 = cc in absurd (omega arith)
-first-claim k d m (l ∷ ls) e =
+first_claim : (k d : ℕ) (m : Place) (ls : List Literal) → first_state k ls ≡ state k d m ∷ [] → first_d k ls ≡ claimed k d m ∷ []
+first_claim k d m [] e = let z : ◌≡◌ {A = ℕ} 0 1 = cc in absurd (omega arith)
+first_claim k d m (l ∷ ls) e =
     let y : l.d ≡ d = cc in
     let z : l.place ≡ m = cc in
     rw (y, z)
 
-claimed-group : (e k m₁ : ℕ) (a : Literals) (d : ℕ) (m : Place) (before : Late) → firstState k a.literals ≡ state k d m ∷ []
-    → claimAll e (claims_of k m₁ (aGroup a)) before ≡ blamed (unless (leb d k) aboveTop) (place_of e m) (grouped (wantOfAll a.literals) (place_of e a.place) before)
-unfolding claimAll
-claimed-group e k m₁ a d m before h = ap (λ js. claimAll e (everyoneOf a ∷ js) before) (first-claim k d m a.literals h)
+claimed_group : (e k m₁ : ℕ) (a : Literals) (d : ℕ) (m : Place) (before : Late) → first_state k a.literals ≡ state k d m ∷ []
+    → claim_all e (claims_of k m₁ (a_group a)) before ≡ blamed (unless (leb d k) above_top) (place_of e m) (grouped (want_of_all a.literals) (place_of e a.place) before)
+unfolding claim_all
+claimed_group e k m₁ a d m before h = ap (λ js. claim_all e (everyone_of a ∷ js) before) (first_claim k d m a.literals h)
 
-abbrev asGroup : Literals → Reader Item
-asGroup x = return (aGroup x)
+abbrev as_group : Literals → Reader Item
+as_group x = return (a_group x)
 
 module _ (v o : ℕ) (s : List ℕ) (n : ℕ) (p : Place) where
   -- whatever number of seats is told
-  wanting : (a : Literals) (b : State) (r : Grouped) → ReadGroup o s n p a b r → (m : ℕ) → wantOfAll a.literals ≡ m → (k : ℕ) (x : Late)
-      → (questions v).judged k (o + length s) (aGroup a) x
-      ≡ blamed (unless (leb r.d (boundBy (most_of v) r.kind k)) aboveTop) (o + r.first) (wantedBy r.kind m (place_of (o + length s) p) x)
+  wanting : (a : Literals) (b : State) (r : Grouped) → ReadGroup o s n p a b r → (m : ℕ) → want_of_all a.literals ≡ m → (k : ℕ) (x : Late)
+      → (questions v).judged k (o + length s) (a_group a) x
+      ≡ blamed (unless (leb r.d (bound_by (most_of v) r.kind k)) above_top) (o + r.first) (wanted_by r.kind m (place_of (o + length s) p) x)
   wanting a b r h m w k x =
-      claimed-group (o + length s) k (most_of v) a r.d h.numeral x (h.states k)
-      ∙ same-late r.d k (place_of (o + length s) h.numeral) (o + r.first) (wantOfAll a.literals) m (place_of (o + length s) a.place) (place_of (o + length s) p) x
+      claimed_group (o + length s) k (most_of v) a r.d h.numeral x (h.states k)
+      ∙ same_late r.d k (place_of (o + length s) h.numeral) (o + r.first) (want_of_all a.literals) m (place_of (o + length s) a.place) (place_of (o + length s) p) x
       h.first w (ap (place_of (o + length s)) h.bracket)
       ∙ by_kind (most_of v) r.d k (o + r.first) m (place_of (o + length s) p) r.kind x (plain o s n p a b r h)
 
-  group-asked : (y : Result Literals) (r : Grouped) → GroupRead o s n p y r → ItemRead (questions v) o s n p (bind y asGroup) (of_all r)
-  group-asked (ok a b) r h = go (eqb r.kind 0) (ap (λ k. eqb k 0) h.kind ∙ has-kind a.literals)
+  group_asked : (y : Result Literals) (r : Grouped) → GroupRead o s n p y r → ItemRead (questions v) o s n p (bind y as_group) (of_all r)
+  group_asked (ok a b) r h = go (eqb r.kind 0) (ap (λ k. eqb k 0) h.kind ∙ has_kind a.literals)
     where
-      go : (c : Bool) → c ≡ has 1 a.literals → ReadItem (questions v) o s n p (aGroup a) b (if c then r else unwanted r)
+      go : (c : Bool) → c ≡ has 1 a.literals → ReadItem (questions v) o s n p (a_group a) b (if c then r else unwanted r)
       go true e = record { went = h.went; rest = h.rest; left = h.left; past = h.past; node = h.node; judged = wanting a b r h r.want (rw (← e) (sym h.want)) }
       go false e = record { went = h.went; rest = h.rest; left = h.left; past = h.past; node = h.node; judged = wanting a b r h 0 (rw (← e) refl) }
-  group-asked (stop m q) r h = rw h.answer (record { number = h.number; answer = refl; place = h.place; within = h.within })
+  group_asked (stop m q) r h = rw h.answer (record { number = h.number; answer = refl; place = h.place; within = h.within })
 
-  one-judged : (x : Item) (b : State) (r : Grouped) (h : ReadOne o s n p x b r) (k : ℕ) (y : Late)
-      → (questions v).judged k (o + length s) (exactlyOne p ((h.head ∷ h.more) ∷ h.later)) y
-      ≡ blamed (unless (leb r.d (boundBy (most_of v) r.kind k)) aboveTop) (o + r.first) (wantedBy r.kind r.want (place_of (o + length s) p) y)
-  unfolding claimAll
-  one-judged x b r h k y =
-      same-one h.head.d r.d k (place_of (o + length s) h.head.place) (o + r.first) (wantOfTerms ((h.head ∷ h.more) ∷ h.later)) r.want (place_of (o + length s) p) y
+  one_judged : (x : Item) (b : State) (r : Grouped) (h : ReadOne o s n p x b r) (k : ℕ) (y : Late)
+      → (questions v).judged k (o + length s) (exactly_one p ((h.head ∷ h.more) ∷ h.later)) y
+      ≡ blamed (unless (leb r.d (bound_by (most_of v) r.kind k)) above_top) (o + r.first) (wanted_by r.kind r.want (place_of (o + length s) p) y)
+  unfolding claim_all
+  one_judged x b r h k y =
+      same_one h.head.d r.d k (place_of (o + length s) h.head.place) (o + r.first) (want_of_terms ((h.head ∷ h.more) ∷ h.later)) r.want (place_of (o + length s) p) y
       (sym h.d) h.first (sym h.want)
-      ∙ by_kind (most_of v) r.d k (o + r.first) r.want (place_of (o + length s) p) r.kind y (ap (λ k. eqb k sharedKind) h.kind)
+      ∙ by_kind (most_of v) r.d k (o + r.first) r.want (place_of (o + length s) p) r.kind y (ap (λ k. eqb k shared_kind) h.kind)
 
-  one-asked : (y : Result Item) (r : Grouped) → OneRead o s n p y r → ItemRead (questions v) o s n p y r
-  one-asked (ok x b) r h = rw h.item (record {
+  one_asked : (y : Result Item) (r : Grouped) → OneRead o s n p y r → ItemRead (questions v) o s n p y r
+  one_asked (ok x b) r h = rw h.item (record {
     went = h.went;
     rest = h.rest;
     left = h.left;
     past = h.past;
     node = h.node;
-    judged = one-judged x b r h;
+    judged = one_judged x b r h;
   })
-  one-asked (stop m q) r h = h
+  one_asked (stop m q) r h = h
 
 one_inside : (s : List ℕ) (y : Result Item) (r : Grouped) → OneRead 0 s 0 [] y r → Inside s r
-one_inside s (ok x b) r h = record { place = omega (arith, h.place); next = h.next-within; first = h.first-within }
+one_inside s (ok x b) r h = record { place = omega (arith, h.place); next = h.next_within; first = h.first_within }
 one_inside s (stop m q) r h = record {
   place = h.within;
   next = omega (arith, ap (λ (u : Grouped). u.next) h.answer);
   first = omega (arith, ap (λ (u : Grouped). u.first) h.answer);
 }
 
-of-all-inside : (s : List ℕ) (r : Grouped) → Inside s r → Inside s (of_all r)
-of-all-inside s r h = go (eqb r.kind 0)
+of_all_inside : (s : List ℕ) (r : Grouped) → Inside s r → Inside s (of_all r)
+of_all_inside s r h = go (eqb r.kind 0)
   where
     go : (b : Bool) → Inside s (if b then r else unwanted r)
     go true = h
@@ -221,24 +221,24 @@ of-all-inside s r h = go (eqb r.kind 0)
 
 -- ---- as the code finds them
 
-number-known : Known "g"
-number-known = record { above = omega arith; alone = refl; same = refl }
+number_known : Known "g"
+number_known = record { above = omega arith; alone = refl; same = refl }
 
 nowhere : (s : List ℕ) → Inside s nothing
 nowhere s = record { place = omega arith; next = omega arith; first = omega arith }
 
 -- by how many values the shared number has
-shares-some : (v : ℕ) → (v ≡ 0 → ⊥) → shares v ≡ true
-shares-some zero h = absurd (h refl)
-shares-some (suc m) h = refl
+shares_some : (v : ℕ) → (v ≡ 0 → ⊥) → shares v ≡ true
+shares_some zero h = absurd (h refl)
+shares_some (suc m) h = refl
 
-shares-none : (v : ℕ) → v ≡ 0 → shares v ≡ false
-shares-none zero h = refl
-shares-none (suc m) h = absurd (omega arith)
+shares_none : (v : ℕ) → v ≡ 0 → shares v ≡ false
+shares_none zero h = refl
+shares_none (suc m) h = absurd (omega arith)
 
 -- what starts, from what each kind of item asks
-starts-seat : (shared a b c : Bool) → a ≡ true → ((a || (shared && b)) ≡ true) × (((a || (shared && b)) || c) ≡ true)
-starts-seat shared a b c e = rw e (refl, refl)
+starts_seat : (shared a b c : Bool) → a ≡ true → ((a || (shared && b)) ≡ true) × (((a || (shared && b)) || c) ≡ true)
+starts_seat shared a b c e = rw e (refl, refl)
 
 starts_test : (shared a b c : Bool) → shared ≡ true → a ≡ false → b ≡ true → ((a || (shared && b)) ≡ true) × (((a || (shared && b)) || c) ≡ true)
 starts_test shared a b c d e f = rw (d, e, f) (refl, refl)
@@ -246,163 +246,163 @@ starts_test shared a b c d e f = rw (d, e, f) (refl, refl)
 starts_none : (shared a b c : Bool) → a ≡ false → (shared && b) ≡ false → ((a || (shared && b)) ≡ false) × (((a || (shared && b)) || c) ≡ c)
 starts_none shared a b c e f = rw (e, f) (refl, refl)
 
-module _ (v : ℕ) (s : List ℕ) (w : Step) (step : w ≡ stepAt s 0) where
-  kind-there : (stepAt s 0).mark.kind ≡ w.mark.kind
-  kind-there = ap (λ (u : Step). u.mark.kind) (sym step)
+module _ (v : ℕ) (s : List ℕ) (w : Step) (step : w ≡ step_at s 0) where
+  kind_there : (step_at s 0).mark.kind ≡ w.mark.kind
+  kind_there = ap (λ (u : Step). u.mark.kind) (sym step)
 
-  seat-as : (o : ℕ) → seatNext (marksAt o s 0) ≡ eqb w.mark.kind kSeat
-  seat-as o = seat-next o s (stepAt s 0) (marksAt o s 0) (meet o s 0) ∙ ap (λ k. eqb k kSeat) kind-there
+  seat_as : (o : ℕ) → seat_next (marks_at o s 0) ≡ eqb w.mark.kind k_seat
+  seat_as o = seat_next_law o s (step_at s 0) (marks_at o s 0) (meet o s 0) ∙ ap (λ k. eqb k k_seat) kind_there
 
-  number-as : (o : ℕ) → nextIs "g" (marksAt o s 0) ≡ eqb w.mark.kind (kind "g")
-  number-as o = next-is o s "g" number-known (stepAt s 0) (marksAt o s 0) (meet o s 0) ∙ ap (λ k. eqb k (kind "g")) kind-there
+  number_as : (o : ℕ) → next_is "g" (marks_at o s 0) ≡ eqb w.mark.kind (kind "g")
+  number_as o = next_is_law o s "g" number_known (step_at s 0) (marks_at o s 0) (meet o s 0) ∙ ap (λ k. eqb k (kind "g")) kind_there
 
   -- ---- a seat word
 
-  module _ (h : w.mark.kind ≡ kSeat) (g : Grouped) (answers : Answers s w.next.at w.mark.value g) where
-    seat-there : (o : ℕ) → seatNext (marksAt o s 0) ≡ true
-    seat-there o = seat-as o ∙ eq-eqb w.mark.kind kSeat h
+  module _ (h : w.mark.kind ≡ k_seat) (g : Grouped) (answers : Answers s w.next.at w.mark.value g) where
+    seat_there : (o : ℕ) → seat_next (marks_at o s 0) ≡ true
+    seat_there o = seat_as o ∙ eq-eqb w.mark.kind k_seat h
 
-    no_number : (o : ℕ) → nextIs "g" (marksAt o s 0) ≡ false
-    no_number o = number-as o ∙ ne_eqb w.mark.kind (kind "g") (λ z. omega arith)
+    no_number : (o : ℕ) → next_is "g" (marks_at o s 0) ≡ false
+    no_number o = number_as o ∙ ne_eqb w.mark.kind (kind "g") (λ z. omega arith)
 
-    reads : (o n : ℕ) (p : Place) → GroupRead o s n p (group p (at (marksAt o s 0) n)) g
+    reads : (o n : ℕ) (p : Place) → GroupRead o s n p (group p (at (marks_at o s 0) n)) g
     reads o n p = rw begins (answers o n (o + w.mark.place) p)
       where
-        begins : marksAt o s 0 ≡ placed (seat w.mark.value) (o + w.mark.place) ∷ marksAt o s w.next.at
-        begins = rw step (seat-marks o s (stepAt s 0) (marksAt o s 0) (meet o s 0) (kind-there ∙ h))
+        begins : marks_at o s 0 ≡ placed (seat w.mark.value) (o + w.mark.place) ∷ marks_at o s w.next.at
+        begins = rw step (seat_marks o s (step_at s 0) (marks_at o s 0) (meet o s 0) (kind_there ∙ h))
 
     within : Inside s g
     within = let i = inside s w.next.at w.mark.value g answers in record { place = i.place; next = i.next; first = i.first }
 
-    starting : (o : ℕ) → (testNext (shares v) (marksAt o s 0) ≡ true) × (itemNext (shares v) (marksAt o s 0) ≡ true)
-    starting o = starts-seat (shares v) (seatNext (marksAt o s 0)) (nextIs "g" (marksAt o s 0)) (twiceNext (marksAt o s 0)) (seat-there o)
+    starting : (o : ℕ) → (test_next (shares v) (marks_at o s 0) ≡ true) × (item_next (shares v) (marks_at o s 0) ≡ true)
+    starting o = starts_seat (shares v) (seat_next (marks_at o s 0)) (next_is "g" (marks_at o s 0)) (twice_next (marks_at o s 0)) (seat_there o)
 
-    pub card-group : ItemAt (cards v) s g
-    card-group = record {
-      read = λ o n p. item-if (cards v) o s n p g (testNext (shares v) (marksAt o s 0)) true (starting o).0
-          (rw (no_number o) (group-item v o s n p (group p (at (marksAt o s 0) n)) g (reads o n p)));
+    pub card_group : ItemAt (cards v) s g
+    card_group = record {
+      read = λ o n p. item_if (cards v) o s n p g (test_next (shares v) (marks_at o s 0)) true (starting o).0
+          (rw (no_number o) (group_item v o s n p (group p (at (marks_at o s 0) n)) g (reads o n p)));
       inside = within;
     }
 
-    pub question-group : ItemAt (questions v) s (of_all g)
-    question-group = record {
-      read = λ o n p. item-if (questions v) o s n p (of_all g) (itemNext (shares v) (marksAt o s 0)) true (starting o).1
-          (rw (no_number o, seat-there o) (group-asked v o s n p (group p (at (marksAt o s 0) n)) g (reads o n p)));
-      inside = of-all-inside s g within;
+    pub question_group : ItemAt (questions v) s (of_all g)
+    question_group = record {
+      read = λ o n p. item_if (questions v) o s n p (of_all g) (item_next (shares v) (marks_at o s 0)) true (starting o).1
+          (rw (no_number o, seat_there o) (group_asked v o s n p (group p (at (marks_at o s 0) n)) g (reads o n p)));
+      inside = of_all_inside s g within;
     }
 
-  module _ (other : w.mark.kind ≡ kSeat → ⊥) where
-    no-seat : (o : ℕ) → seatNext (marksAt o s 0) ≡ false
-    no-seat o = seat-as o ∙ ne_eqb w.mark.kind kSeat other
+  module _ (other : w.mark.kind ≡ k_seat → ⊥) where
+    no_seat : (o : ℕ) → seat_next (marks_at o s 0) ≡ false
+    no_seat o = seat_as o ∙ ne_eqb w.mark.kind k_seat other
 
     -- ---- the name of the shared number
 
     module _ (h : w.mark.kind ≡ kind "g") where
-      number-there : (o : ℕ) → nextIs "g" (marksAt o s 0) ≡ true
-      number-there o = number-as o ∙ eq-eqb w.mark.kind (kind "g") h
+      number_there : (o : ℕ) → next_is "g" (marks_at o s 0) ≡ true
+      number_there o = number_as o ∙ eq-eqb w.mark.kind (kind "g") h
 
-      begins : (o : ℕ) → (x : ℕ) × (marksAt o s 0 ≡ signAt "g" x ∷ marksAt o s w.next.at)
-      begins o = rw step (go (stepAt s 0) (marksAt o s 0) (meet o s 0) (kind-there ∙ h))
+      begins : (o : ℕ) → (x : ℕ) × (marks_at o s 0 ≡ sign_at "g" x ∷ marks_at o s w.next.at)
+      begins o = rw step (go (step_at s 0) (marks_at o s 0) (meet o s 0) (kind_there ∙ h))
         where
-          go : (x : Step) (ms : Place) → Meet o s x ms → x.mark.kind ≡ kind "g" → (a : ℕ) × (ms ≡ signAt "g" a ∷ marksAt o s x.next.at)
+          go : (x : Step) (ms : Place) → Meet o s x ms → x.mark.kind ≡ kind "g" → (a : ℕ) × (ms ≡ sign_at "g" a ∷ marks_at o s x.next.at)
           go x ms over e = absurd (omega arith)
-          go x ms (met m p next small l k) e = (o + p, ap (λ z. placed z (o + p) ∷ marksAt o s next) (kind-is "g" (kind "g") (omega arith) refl m e))
+          go x ms (met m p next small l k) e = (o + p, ap (λ z. placed z (o + p) ∷ marks_at o s next) (kind_is "g" (kind "g") (omega arith) refl m e))
 
-      no-twice : (o : ℕ) → twiceNext (marksAt o s 0) ≡ false
-      no-twice o = let (x, e) = begins o in rw e refl
+      no_twice : (o : ℕ) → twice_next (marks_at o s 0) ≡ false
+      no_twice o = let (x, e) = begins o in rw e refl
 
-      module _ (some : v ≡ 0 → ⊥) (g : Grouped) (answers : (o n x : ℕ) → TestRead o s n (sharedTest (at (signAt "g" x ∷ marksAt o s w.next.at) n)) g) where
-        tests : (o n : ℕ) → TestRead o s n (sharedTest (at (marksAt o s 0) n)) g
+      module _ (some : v ≡ 0 → ⊥) (g : Grouped) (answers : (o n x : ℕ) → TestRead o s n (shared_test (at (sign_at "g" x ∷ marks_at o s w.next.at) n)) g) where
+        tests : (o n : ℕ) → TestRead o s n (shared_test (at (marks_at o s 0) n)) g
         tests o n = let (x, e) = begins o in rw e (answers o n x)
 
-        within-test : Inside s g
-        within-test = test-inside s (sharedTest (at (marksAt 0 s 0) 0)) g (tests 0 0)
+        within_test : Inside s g
+        within_test = test_inside s (shared_test (at (marks_at 0 s 0) 0)) g (tests 0 0)
 
-        starting-test : (o : ℕ) → (testNext (shares v) (marksAt o s 0) ≡ true) × (itemNext (shares v) (marksAt o s 0) ≡ true)
-        starting-test o = starts_test (shares v) (seatNext (marksAt o s 0)) (nextIs "g" (marksAt o s 0)) (twiceNext (marksAt o s 0)) (shares-some v some) (no-seat o) (number-there o)
+        starting_test : (o : ℕ) → (test_next (shares v) (marks_at o s 0) ≡ true) × (item_next (shares v) (marks_at o s 0) ≡ true)
+        starting_test o = starts_test (shares v) (seat_next (marks_at o s 0)) (next_is "g" (marks_at o s 0)) (twice_next (marks_at o s 0)) (shares_some v some) (no_seat o) (number_there o)
 
-        card-test : ItemAt (cards v) s g
-        card-test = record {
-          read = λ o n p. item-if (cards v) o s n p g (testNext (shares v) (marksAt o s 0)) true (starting-test o).0
-              (rw (number-there o) (test-item v o s n p (sharedTest (at (marksAt o s 0) n)) g (tests o n)));
-          inside = within-test;
+        card_test : ItemAt (cards v) s g
+        card_test = record {
+          read = λ o n p. item_if (cards v) o s n p g (test_next (shares v) (marks_at o s 0)) true (starting_test o).0
+              (rw (number_there o) (test_item v o s n p (shared_test (at (marks_at o s 0) n)) g (tests o n)));
+          inside = within_test;
         }
 
-        question-test : ItemAt (questions v) s g
-        question-test = record {
-          read = λ o n p. item-if (questions v) o s n p g (itemNext (shares v) (marksAt o s 0)) true (starting-test o).1
-              (rw (number-there o) (test-asked v o s n p (sharedTest (at (marksAt o s 0) n)) g (tests o n)));
-          inside = within-test;
+        question_test : ItemAt (questions v) s g
+        question_test = record {
+          read = λ o n p. item_if (questions v) o s n p g (item_next (shares v) (marks_at o s 0)) true (starting_test o).1
+              (rw (number_there o) (test_asked v o s n p (shared_test (at (marks_at o s 0) n)) g (tests o n)));
+          inside = within_test;
         }
 
-        pub either-test : (asks : Bool) → ItemAt (languageBy asks v) s g
-        either-test false = card-test
-        either-test true = question-test
+        pub either_test : (asks : Bool) → ItemAt (language_by asks v) s g
+        either_test false = card_test
+        either_test true = question_test
 
-      pub undeclared : v ≡ 0 → (asks : Bool) → ItemAt (languageBy asks v) s nothing
+      pub undeclared : v ≡ 0 → (asks : Bool) → ItemAt (language_by asks v) s nothing
       undeclared z asks = go asks
         where
-          none-starts : (o : ℕ) → (testNext (shares v) (marksAt o s 0) ≡ false) × (itemNext (shares v) (marksAt o s 0) ≡ twiceNext (marksAt o s 0))
-          none-starts o = starts_none (shares v) (seatNext (marksAt o s 0)) (nextIs "g" (marksAt o s 0)) (twiceNext (marksAt o s 0)) (no-seat o) (ap (λ b. b && nextIs "g" (marksAt o s 0)) (shares-none v z))
+          none_starts : (o : ℕ) → (test_next (shares v) (marks_at o s 0) ≡ false) × (item_next (shares v) (marks_at o s 0) ≡ twice_next (marks_at o s 0))
+          none_starts o = starts_none (shares v) (seat_next (marks_at o s 0)) (next_is "g" (marks_at o s 0)) (twice_next (marks_at o s 0)) (no_seat o) (ap (λ b. b && next_is "g" (marks_at o s 0)) (shares_none v z))
 
-          go : (asks : Bool) → ItemAt (languageBy asks v) s nothing
-          go false = record { read = λ o n p. item-if (cards v) o s n p nothing (testNext (shares v) (marksAt o s 0)) false (none-starts o).0 refl; inside = nowhere s }
+          go : (asks : Bool) → ItemAt (language_by asks v) s nothing
+          go false = record { read = λ o n p. item_if (cards v) o s n p nothing (test_next (shares v) (marks_at o s 0)) false (none_starts o).0 refl; inside = nowhere s }
           go true = record {
-            read = λ o n p. item-if (questions v) o s n p nothing (itemNext (shares v) (marksAt o s 0)) false ((none-starts o).1 ∙ no-twice o) refl;
+            read = λ o n p. item_if (questions v) o s n p nothing (item_next (shares v) (marks_at o s 0)) false ((none_starts o).1 ∙ no_twice o) refl;
             inside = nowhere s;
           }
 
     -- ---- neither
 
     module _ (h : w.mark.kind ≡ kind "g" → ⊥) where
-      number-nowhere : (o : ℕ) → (shares v && nextIs "g" (marksAt o s 0)) ≡ false
-      number-nowhere o = ap (λ b. shares v && b) (no_name o) ∙ and-false (shares v)
+      number_nowhere : (o : ℕ) → (shares v && next_is "g" (marks_at o s 0)) ≡ false
+      number_nowhere o = ap (λ b. shares v && b) (no_name o) ∙ and_false (shares v)
         where
-          no_name : (o : ℕ) → nextIs "g" (marksAt o s 0) ≡ false
-          no_name o = number-as o ∙ ne_eqb w.mark.kind (kind "g") h
+          no_name : (o : ℕ) → next_is "g" (marks_at o s 0) ≡ false
+          no_name o = number_as o ∙ ne_eqb w.mark.kind (kind "g") h
 
-      neither : (o : ℕ) → (testNext (shares v) (marksAt o s 0) ≡ false) × (itemNext (shares v) (marksAt o s 0) ≡ twiceNext (marksAt o s 0))
-      neither o = starts_none (shares v) (seatNext (marksAt o s 0)) (nextIs "g" (marksAt o s 0)) (twiceNext (marksAt o s 0)) (no-seat o) (number-nowhere o)
+      neither : (o : ℕ) → (test_next (shares v) (marks_at o s 0) ≡ false) × (item_next (shares v) (marks_at o s 0) ≡ twice_next (marks_at o s 0))
+      neither o = starts_none (shares v) (seat_next (marks_at o s 0)) (next_is "g" (marks_at o s 0)) (twice_next (marks_at o s 0)) (no_seat o) (number_nowhere o)
 
-      pub card-nothing : ItemAt (cards v) s nothing
-      card-nothing = record { read = λ o n p. item-if (cards v) o s n p nothing (testNext (shares v) (marksAt o s 0)) false (neither o).0 refl; inside = nowhere s }
+      pub card_nothing : ItemAt (cards v) s nothing
+      card_nothing = record { read = λ o n p. item_if (cards v) o s n p nothing (test_next (shares v) (marks_at o s 0)) false (neither o).0 refl; inside = nowhere s }
 
-      module _ (t : Bool) (looks : (o : ℕ) → t ≡ twiceNext (marksAt o s 0)) where
-        pub question-one : t ≡ true → (g : Grouped) → ((o n : ℕ) (p : Place) → OneRead o s n p (exactlyOf p (at (marksAt o s 0) n)) g) → ItemAt (questions v) s g
-        question-one e g answers = record {
-          read = λ o n p. item-if (questions v) o s n p g (itemNext (shares v) (marksAt o s 0)) true ((neither o).1 ∙ sym (looks o) ∙ e)
-              (rw (number-as o ∙ ne_eqb w.mark.kind (kind "g") h, no-seat o) (one-asked v o s n p (exactlyOf p (at (marksAt o s 0) n)) g (answers o n p)));
-          inside = one_inside s (exactlyOf [] (at (marksAt 0 s 0) 0)) g (answers 0 0 []);
+      module _ (t : Bool) (looks : (o : ℕ) → t ≡ twice_next (marks_at o s 0)) where
+        pub question_one : t ≡ true → (g : Grouped) → ((o n : ℕ) (p : Place) → OneRead o s n p (exactly_of p (at (marks_at o s 0) n)) g) → ItemAt (questions v) s g
+        question_one e g answers = record {
+          read = λ o n p. item_if (questions v) o s n p g (item_next (shares v) (marks_at o s 0)) true ((neither o).1 ∙ sym (looks o) ∙ e)
+              (rw (number_as o ∙ ne_eqb w.mark.kind (kind "g") h, no_seat o) (one_asked v o s n p (exactly_of p (at (marks_at o s 0) n)) g (answers o n p)));
+          inside = one_inside s (exactly_of [] (at (marks_at 0 s 0) 0)) g (answers 0 0 []);
         }
 
-        pub question-nothing : t ≡ false → ItemAt (questions v) s nothing
-        question-nothing e = record {
-          read = λ o n p. item-if (questions v) o s n p nothing (itemNext (shares v) (marksAt o s 0)) false ((neither o).1 ∙ sym (looks o) ∙ e) refl;
+        pub question_nothing : t ≡ false → ItemAt (questions v) s nothing
+        question_nothing e = record {
+          read = λ o n p. item_if (questions v) o s n p nothing (item_next (shares v) (marks_at o s 0)) false ((neither o).1 ∙ sym (looks o) ∙ e) refl;
           inside = nowhere s;
         }
 
 -- ---- by the number of the language
 
 module _ {s : List ℕ} {g : Grouped} (language : ℕ) where
-  pub by_flag : (b : Bool) → b ≡ asksBy language → ItemAt (languageBy b (valuesBy language)) s g → ItemAt (languageOf language) s g
-  by_flag b e h = subst (λ (z : Bool). ItemAt (languageBy z (valuesBy language)) s g) e h
+  pub by_flag : (b : Bool) → b ≡ asks_by language → ItemAt (language_by b (values_by language)) s g → ItemAt (language_of language) s g
+  by_flag b e h = subst (λ (z : Bool). ItemAt (language_by z (values_by language)) s g) e h
 
-  pub by_values : (v : ℕ) → v ≡ valuesBy language → ItemAt (languageBy (asksBy language) v) s g → ItemAt (languageOf language) s g
-  by_values v e h = subst (λ (z : ℕ). ItemAt (languageBy (asksBy language) z) s g) e h
+  pub by_values : (v : ℕ) → v ≡ values_by language → ItemAt (language_by (asks_by language) v) s g → ItemAt (language_of language) s g
+  by_values v e h = subst (λ (z : ℕ). ItemAt (language_by (asks_by language) z) s g) e h
 
-pub most-by : (b : Bool) (v : ℕ) → (languageBy b v).most ≡ most_of v
-most-by false v = refl
-most-by true v = refl
+pub most_by : (b : Bool) (v : ℕ) → (language_by b v).most ≡ most_of v
+most_by false v = refl
+most_by true v = refl
 
-pub most-none : (language v : ℕ) → v ≡ valuesBy language → v ≡ 0 → 0 ≡ (languageOf language).most
-most-none language v e z = go (valuesBy language) (sym e ∙ z) ∙ sym (most-by (asksBy language) (valuesBy language))
+pub most_none : (language v : ℕ) → v ≡ values_by language → v ≡ 0 → 0 ≡ (language_of language).most
+most_none language v e z = go (values_by language) (sym e ∙ z) ∙ sym (most_by (asks_by language) (values_by language))
   where
     go : (w : ℕ) → w ≡ 0 → 0 ≡ most_of w
     go zero h = refl
     go (suc m) h = absurd (omega arith)
 
-pub most-some : (language v : ℕ) → v ≡ valuesBy language → (v ≡ 0 → ⊥) → v - 1 ≡ (languageOf language).most
-most-some language v e z = ap (λ w. w - 1) e ∙ go (valuesBy language) (λ h. z (e ∙ h)) ∙ sym (most-by (asksBy language) (valuesBy language))
+pub most_some : (language v : ℕ) → v ≡ values_by language → (v ≡ 0 → ⊥) → v - 1 ≡ (language_of language).most
+most_some language v e z = ap (λ w. w - 1) e ∙ go (values_by language) (λ h. z (e ∙ h)) ∙ sym (most_by (asks_by language) (values_by language))
   where
     go : (w : ℕ) → (w ≡ 0 → ⊥) → w - 1 ≡ most_of w
     go zero h = absurd (h refl)
@@ -410,8 +410,8 @@ most-some language v e z = ap (λ w. w - 1) e ∙ go (valuesBy language) (λ h. 
 
 -- a card's language, and a question's on it
 module _ (language : ℕ) {v : ℕ} where
-  pub card-language : (asksBy language ≡ false) × (valuesBy language ≡ v) → languageOf language ≡ cards v
-  card-language t = ap₂ languageBy t.0 t.1
+  pub card_language : (asks_by language ≡ false) × (values_by language ≡ v) → language_of language ≡ cards v
+  card_language t = ap₂ language_by t.0 t.1
 
-  pub question-language : (asksBy language ≡ true) × (valuesBy language ≡ v) → languageOf language ≡ questions v
-  question-language t = ap₂ languageBy t.0 t.1
+  pub question_language : (asks_by language ≡ true) × (values_by language ≡ v) → language_of language ≡ questions v
+  question_language t = ap₂ language_by t.0 t.1

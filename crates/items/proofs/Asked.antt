@@ -14,5 +14,5 @@ chosen b c x y e = rw e
 pub all_wanted : (g : Grouped) → g.kind ≡ 0 → g ≡ of_all g
 all_wanted g e = chosen (eqb g.kind 0) true g (unwanted g) (eq-eqb g.kind 0 e)
 
-pub none-wanted : (g : Grouped) → (g.kind ≡ 0 → ⊥) → unwanted g ≡ of_all g
-none-wanted g e = chosen (eqb g.kind 0) false g (unwanted g) (ne_eqb g.kind 0 e)
+pub none_wanted : (g : Grouped) → (g.kind ≡ 0 → ⊥) → unwanted g ≡ of_all g
+none_wanted g e = chosen (eqb g.kind 0) false g (unwanted g) (ne_eqb g.kind 0 e)

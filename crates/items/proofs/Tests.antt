@@ -6,33 +6,33 @@ use mathlib.Core.List.{List, ◌∷◌}
 use native.Mathlib.Omega.{arith}
 use Rattle.card.specs.Limits.{numbers}
 use Rattle.card.specs.Card.{Relation, is, isnt}
-use Rattle.card.specs.Laid.{relationNumber, sharedKind, packGroup}
+use Rattle.card.specs.Laid.{relation_number, shared_kind, pack_group}
 use Rattle.marks_on_a_card.specs.Marks.{placed, seat}
 use Rattle.marks_on_a_card.specs.Kinds.{kind}
-use Rattle.marks.specs.Step.{stepAt, marksAt}
+use Rattle.marks.specs.Step.{step_at, marks_at}
 use Rattle.marks.specs.declared.Step.{Step}
 use Rattle.marks.proofs.Next.{meet}
 use Rattle.literals_due.specs.declared.Tail.{Tail}
 use Rattle.reading.specs.Reader.{Place, State, at, Result, ok, stop, Reader, bind, ◌>>◌, return, the, sign, number_of}
-use Rattle.reading.specs.Group.{Literal, relationOf, literal, SharedTest, sharedTest}
-use Rattle.grammar.specs.Grammar.{signAt, valued}
+use Rattle.reading.specs.Group.{Literal, relation_of, literal, SharedTest, shared_test}
+use Rattle.grammar.specs.Grammar.{sign_at, valued}
 use Rattle.group.specs.declared.Grouped.{Grouped}
-use Rattle.group.specs.GroupRead.{noGroup, StoppedGroup}
+use Rattle.group.specs.GroupRead.{no_group, StoppedGroup}
 use Rattle.group.specs.LiteralRead.{ReadLiteral, StoppedLiteral, LiteralRead}
 use Rattle.group.proofs.Signs.{Known}
-use Rattle.group.proofs.Ahead.{fits, unfit, sign-next, place-next, place-within, next-within, next_past}
+use Rattle.group.proofs.Ahead.{fits, unfit, sign_next, place_next, place_within, next_within, next_past}
 use Rattle.group.proofs.Literals.{Reads}
 use Rattle.items.specs.SharedRead.{TestRead}
 
-close-known : Known ")"
-close-known = record { above = omega arith; alone = refl; same = refl }
+close_known : Known ")"
+close_known = record { above = omega arith; alone = refl; same = refl }
 
 -- the test that a literal's relation and number make, with the bracket behind it
 abbrev closes : Literal → Reader SharedTest
 closes l = sign ")" >> return (record { relation = l.relation; value = valued l.d l.place })
 
-by-literal : (ms : Place) (n x i y : ℕ) → sharedTest (at (signAt "g" x ∷ ms) n) ≡ bind (literal (at (placed (seat i) y ∷ ms) n)) closes
-by-literal ms n x i y = related (the relationOf (at ms n))
+by_literal : (ms : Place) (n x i y : ℕ) → shared_test (at (sign_at "g" x ∷ ms) n) ≡ bind (literal (at (placed (seat i) y ∷ ms) n)) closes
+by_literal ms n x i y = related (the relation_of (at ms n))
   where
     numbered : (q : Relation) (p : Place) (z : Result ℕ)
         → bind (bind z (λ v. return (valued v p))) (λ w s. bind (sign ")" s) (λ u. return (record { relation = q; value = w })))
@@ -46,67 +46,67 @@ by-literal ms n x i y = related (the relationOf (at ms n))
     related (ok q s) = numbered q s.marks (the number_of s)
     related (stop m r) = refl
 
-test-as : (o : ℕ) (s : List ℕ) (n : ℕ) (r : Grouped) {x y : Result SharedTest} → x ≡ y → TestRead o s n y r → TestRead o s n x r
-test-as o s n r e h = rw e h
+test_as : (o : ℕ) (s : List ℕ) (n : ℕ) (r : Grouped) {x y : Result SharedTest} → x ≡ y → TestRead o s n y r → TestRead o s n x r
+test_as o s n r e h = rw e h
 
-no_test : (o : ℕ) (s : List ℕ) (m : ℕ) (q : Place) (t : Tail) → StoppedLiteral o s m q t → StoppedGroup o s m q (noGroup t.place)
+no_test : (o : ℕ) (s : List ℕ) (m : ℕ) (q : Place) (t : Tail) → StoppedLiteral o s m q t → StoppedGroup o s m q (no_group t.place)
 no_test o s m q t h = record { number = h.number; answer = refl; place = h.place; within = h.within }
 
-relation-small : (q : Relation) → min (relationNumber q) 1 ≡ relationNumber q
-relation-small is = refl
-relation-small isnt = refl
+relation_small : (q : Relation) → min (relation_number q) 1 ≡ relation_number q
+relation_small is = refl
+relation_small isnt = refl
 
 -- ---- as the code finds it
 
 abbrev pub Answers : List ℕ → ℕ → Grouped → Type 0
-Answers s from r = (o n x : ℕ) → TestRead o s n (sharedTest (at (signAt "g" x ∷ marksAt o s from) n)) r
+Answers s from r = (o n x : ℕ) → TestRead o s n (shared_test (at (sign_at "g" x ∷ marks_at o s from) n)) r
 
 module _ (s : List ℕ) (from : ℕ) (t : Tail) (reads : Reads s from t) where
-  pub literal-wrong : (t.stop ≡ 0 → ⊥) → Answers s from (noGroup t.place)
-  literal-wrong z o n x =
-      test-as o s n _ (by-literal (marksAt o s from) n x 0 0) (go (literal (at (placed (seat 0) 0 ∷ marksAt o s from) n)) (reads o n 0 0))
+  pub literal_wrong : (t.stop ≡ 0 → ⊥) → Answers s from (no_group t.place)
+  literal_wrong z o n x =
+      test_as o s n _ (by_literal (marks_at o s from) n x 0 0) (go (literal (at (placed (seat 0) 0 ∷ marks_at o s from) n)) (reads o n 0 0))
     where
-      go : (y : Result Literal) → LiteralRead o s from n 0 y t → TestRead o s n (bind y closes) (noGroup t.place)
+      go : (y : Result Literal) → LiteralRead o s from n 0 y t → TestRead o s n (bind y closes) (no_group t.place)
       go (ok l b) h = absurd (z h.went)
       go (stop m q) h = no_test o s m q t h
 
-  module _ (z : t.stop ≡ 0) (c : Step) (step : c ≡ stepAt s t.next) where
-    behind : (r : Grouped) → ((o n : ℕ) (l : Literal) (b : State) → ReadLiteral o s from n 0 l b t → TestRead o s n (closes l (at (marksAt o s t.next) n)) r) → Answers s from r
+  module _ (z : t.stop ≡ 0) (c : Step) (step : c ≡ step_at s t.next) where
+    behind : (r : Grouped) → ((o n : ℕ) (l : Literal) (b : State) → ReadLiteral o s from n 0 l b t → TestRead o s n (closes l (at (marks_at o s t.next) n)) r) → Answers s from r
     behind r k o n x =
-        test-as o s n r (by-literal (marksAt o s from) n x 0 0) (go (literal (at (placed (seat 0) 0 ∷ marksAt o s from) n)) (reads o n 0 0))
+        test_as o s n r (by_literal (marks_at o s from) n x 0 0) (go (literal (at (placed (seat 0) 0 ∷ marks_at o s from) n)) (reads o n 0 0))
       where
         go : (y : Result Literal) → LiteralRead o s from n 0 y t → TestRead o s n (bind y closes) r
-        go (ok l b) h = test-as o s n r (ap (closes l) h.rest) (k o n l b h)
+        go (ok l b) h = test_as o s n r (ap (closes l) h.rest) (k o n l b h)
         go (stop m q) h = absurd (omega (arith, z, ap (λ (u : Tail). u.stop) h.answer))
 
-    pub stays_open : (c.mark.kind ≡ kind ")" → ⊥) → Answers s from (noGroup c.mark.place)
-    stays_open h = rw step (behind (noGroup (stepAt s t.next).mark.place) λ o n l b r.
+    pub stays_open : (c.mark.kind ≡ kind ")" → ⊥) → Answers s from (no_group c.mark.place)
+    stays_open h = rw step (behind (no_group (step_at s t.next).mark.place) λ o n l b r.
         let i = meet o s t.next in
-        let e = sign-next o s ")" close-known (stepAt s t.next) (marksAt o s t.next) n i ∙ unfit tt o s (stepAt s t.next) (marksAt o s t.next) n (kind ")") (rw step at h) in
+        let e = sign_next o s ")" close_known (step_at s t.next) (marks_at o s t.next) n i ∙ unfit tt o s (step_at s t.next) (marks_at o s t.next) n (kind ")") (rw step at h) in
         rw e (record {
           number = refl;
           answer = refl;
-          place = place-next o s (stepAt s t.next) (marksAt o s t.next) i;
-          within = place-within o s (stepAt s t.next) (marksAt o s t.next) i;
+          place = place_next o s (step_at s t.next) (marks_at o s t.next) i;
+          within = place_within o s (step_at s t.next) (marks_at o s t.next) i;
         }))
 
-    pub closed : c.mark.kind ≡ kind ")" → (node : ℕ) → node ≡ packGroup sharedKind 0 (min t.relation 1) (min t.d numbers)
-        → Answers s from (record { stop = 0; place = 0; next = c.next.at; want = 0; kind = sharedKind; node = node; d = t.d; first = t.first })
+    pub closed : c.mark.kind ≡ kind ")" → (node : ℕ) → node ≡ pack_group shared_kind 0 (min t.relation 1) (min t.d numbers)
+        → Answers s from (record { stop = 0; place = 0; next = c.next.at; want = 0; kind = shared_kind; node = node; d = t.d; first = t.first })
     closed h node packed = rw step (behind _ λ o n l b r.
         let i = meet o s t.next in
-        let e = sign-next o s ")" close-known (stepAt s t.next) (marksAt o s t.next) n i ∙ fits tt o s (stepAt s t.next) (marksAt o s t.next) n (kind ")") (rw step at h) in
+        let e = sign_next o s ")" close_known (step_at s t.next) (marks_at o s t.next) n i ∙ fits tt o s (step_at s t.next) (marks_at o s t.next) n (kind ")") (rw step at h) in
         rw e (record {
           went = refl;
           place = refl;
           rest = refl;
           left = refl;
           kind = refl;
-          node = packed ∙ ap₂ (packGroup sharedKind 0) (ap (λ v. min v 1) r.relation ∙ relation-small l.relation) (small r.small ∙ r.d);
+          node = packed ∙ ap₂ (pack_group shared_kind 0) (ap (λ v. min v 1) r.relation ∙ relation_small l.relation) (small r.small ∙ r.d);
           d = r.d;
           first = r.first;
-          past = next_past o s (stepAt s t.next) (marksAt o s t.next) i (λ z. omega (arith, rw step at h));
-          next-within = next-within o s (stepAt s t.next) (marksAt o s t.next) i;
-          first-within = r.first-within;
+          past = next_past o s (step_at s t.next) (marks_at o s t.next) i (λ z. omega (arith, rw step at h));
+          next_within = next_within o s (step_at s t.next) (marks_at o s t.next) i;
+          first_within = r.first_within;
         }))
       where
         small : {v : ℕ} → v < numbers → min v numbers ≡ v

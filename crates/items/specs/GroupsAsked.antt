@@ -2,7 +2,7 @@
 use Rattle.std.specs.Prelude.{eqb}
 use Rattle.card.specs.Text.{if◌then◌else◌}
 use Rattle.card.specs.Card.{everyone}
-use Rattle.card.specs.Laid.{kindNumber}
+use Rattle.card.specs.Laid.{kind_number}
 use Rattle.group.specs.declared.Grouped.{Grouped}
 
 -- a group, with a want only if it is one of everyone
@@ -10,4 +10,4 @@ abbrev pub unwanted : Grouped → Grouped
 unwanted g = record { stop = g.stop; place = g.place; next = g.next; want = 0; kind = g.kind; node = g.node; d = g.d; first = g.first }
 
 abbrev pub of_all : Grouped → Grouped
-of_all g = if eqb g.kind (kindNumber everyone) then g else unwanted g
+of_all g = if eqb g.kind (kind_number everyone) then g else unwanted g

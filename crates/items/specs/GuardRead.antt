@@ -5,21 +5,21 @@ use Rattle.card.specs.Valid.{size}
 use Rattle.card.specs.Laid.{cells}
 use Rattle.card.specs.Stored.{stored}
 use Rattle.marks_on_a_card.specs.Marks.{place_of}
-use Rattle.marks.specs.Step.{marksAt}
+use Rattle.marks.specs.Step.{marks_at}
 use Rattle.reading.specs.Reader.{State, Result, ok, stop}
 use Rattle.late.specs.Late.{Late}
-use Rattle.late.specs.State.{Sized, leftIn, freeIn, lateIn, After, Halted}
-use Rattle.items.specs.Language.{Language, leavesOf, judgedOf}
+use Rattle.late.specs.State.{Sized, left_in, free_in, late_in, After, Halted}
+use Rattle.items.specs.Language.{Language, leaves_of, judged_of}
 
 -- A guard was read from the card s with top state k, its nodes stored from `used` on in the array `was`, which is now `is`; the
 -- next place may stand before the blanks of the next mark. Or reading stopped, and the array from `used` on holds anything.
 pub record Read (L : Language) (s : List ℕ) (k : ℕ) (was is : List ℕ) (used : ℕ) (before : Late) (g : Formula L.Item) (behind : State) (r : After) : Type 0 where
   pub went : r.next ≡ 0 → ⊥
-  pub rest : marksAt 0 s r.next ≡ behind.marks
-  pub free : freeIn r.state ≡ used + size g
-  pub left : leftIn r.state ≡ behind.nodes
-  pub late : lateIn r.state ≡ judgedOf L k (length s) g before
-  pub nodes : is ≡ stored was used (cells (leavesOf L g) used)
+  pub rest : marks_at 0 s r.next ≡ behind.marks
+  pub free : free_in r.state ≡ used + size g
+  pub left : left_in r.state ≡ behind.nodes
+  pub late : late_in r.state ≡ judged_of L k (length s) g before
+  pub nodes : is ≡ stored was used (cells (leaves_of L g) used)
   pub sized : Sized r.state
 
 abbrev pub GuardRead : (L : Language) → List ℕ → ℕ → List ℕ → List ℕ → ℕ → Late → Result (Formula L.Item) → After → Type 0

@@ -1,15 +1,15 @@
 -- What the code hands back for an item: read from the part of the card behind its bracket, which begins at place o of the card. The
 -- places in the answer are the part's own. Assumes nothing.
 use Rattle.std.specs.Prelude.{ℕ, ◌+◌, ◌≤◌, ◌≡◌, Bool, true, false, List, leb, length}
-use Rattle.card.specs.Refusals.{aboveTop}
-use Rattle.card.specs.Laid.{opAnd, opOr, leafNumber}
+use Rattle.card.specs.Refusals.{above_top}
+use Rattle.card.specs.Laid.{op_and, op_or, leaf_number}
 use Rattle.marks_on_a_card.specs.Marks.{place_of}
-use Rattle.marks.specs.Step.{marksAt}
+use Rattle.marks.specs.Step.{marks_at}
 use Rattle.reading.specs.Reader.{Place, State, at as from, Result, ok, stop}
 use Rattle.reading.specs.Judgements.{unless}
 use Rattle.group.specs.declared.Grouped.{Grouped}
 use Rattle.late.specs.Late.{Late, blamed}
-use Rattle.items.specs.KeptItems.{wantedBy, boundBy}
+use Rattle.items.specs.KeptItems.{wanted_by, bound_by}
 use Rattle.group.specs.GroupRead.{StoppedGroup}
 use Rattle.items.specs.Language.{Language}
 
@@ -22,14 +22,14 @@ pub record Inside (s : List ℕ) (r : Grouped) : Type 0 where
 -- with n nodes left, and the bracket at p
 pub record ReadItem (L : Language) (o : ℕ) (s : List ℕ) (n : ℕ) (p : Place) (a : L.Item) (behind : State) (r : Grouped) : Type 0 where
   pub went : r.stop ≡ 0
-  pub rest : marksAt o s r.next ≡ behind.marks
+  pub rest : marks_at o s r.next ≡ behind.marks
   pub left : behind.nodes ≡ n
   pub past : r.next ≡ 0 → ⊥
-  pub node : r.node ≡ leafNumber (L.leaf a)
+  pub node : r.node ≡ leaf_number (L.leaf a)
   -- the seats that it wants, and its first number
   pub judged : (k : ℕ) (x : Late)
       → L.judged k (o + length s) a x
-      ≡ blamed (unless (leb r.d (boundBy L.most r.kind k)) aboveTop) (o + r.first) (wantedBy r.kind r.want (place_of (o + length s) p) x)
+      ≡ blamed (unless (leb r.d (bound_by L.most r.kind k)) above_top) (o + r.first) (wanted_by r.kind r.want (place_of (o + length s) p) x)
 
 abbrev pub ItemRead : (L : Language) → ℕ → List ℕ → ℕ → Place → Result L.Item → Grouped → Type 0
 ItemRead L o s n p (ok a behind) r = ReadItem L o s n p a behind r
@@ -43,15 +43,15 @@ abbrev pub nothing : Grouped
 nothing = record { stop = no_item; place = 0; next = 0; want = 0; kind = 0; node = 0; d = 0; first = 0 }
 
 abbrev pub ItemIf : (L : Language) → ℕ → List ℕ → ℕ → Place → Bool → Grouped → Type 0
-ItemIf L o s n p true r = ItemRead L o s n p (L.item p (from (marksAt o s 0) n)) r
+ItemIf L o s n p true r = ItemRead L o s n p (L.item p (from (marks_at o s 0) n)) r
 ItemIf L o s n p false r = r.stop ≡ no_item
 
 pub record ItemAt (L : Language) (s : List ℕ) (r : Grouped) : Type 0 where
-  pub read : (o n : ℕ) (p : Place) → ItemIf L o s n p (L.starts (marksAt o s 0)) r
+  pub read : (o n : ℕ) (p : Place) → ItemIf L o s n p (L.starts (marks_at o s 0)) r
   pub inside : Inside s r
 
 -- ---- the two signs that join parts of a guard: `&`, and `|` where a choice is meant
 
-abbrev pub operatorOf : Bool → ℕ
-operatorOf false = opAnd
-operatorOf true = opOr
+abbrev pub operator_of : Bool → ℕ
+operator_of false = op_and
+operator_of true = op_or

@@ -1,21 +1,21 @@
 -- The languages that one reader reads: formulas over items, of which each language has its own, on a card whose shared number has so many values
 -- (document 02, 2026-10; 0 where none is declared). Assumes nothing.
 use Rattle.std.specs.Prelude.{ℕ, Bool, true, false, List, [], ◌∷◌, leb}
-use Rattle.card.specs.Refusals.{aboveTop}
+use Rattle.card.specs.Refusals.{above_top}
 use Rattle.card.specs.Text.{if◌then◌else◌}
-use Rattle.card.specs.Card.{Leaf, one, sharedIs, Formula, atom, neg, and, or, Guard}
+use Rattle.card.specs.Card.{Leaf, one, shared_is, Formula, atom, neg, and, or, Guard}
 use Rattle.card.specs.Formulas.{over}
 use Rattle.marks_on_a_card.specs.Marks.{place_of}
-use Rattle.languages.specs.Number.{valuesBy, asksBy}
+use Rattle.languages.specs.Number.{values_by, asks_by}
 use Rattle.reading.specs.Reader.{Place, Reader}
-use Rattle.reading.specs.Guard.{testNext}
+use Rattle.reading.specs.Guard.{test_next}
 use Rattle.reading.specs.Group.{Literal, Tested, tested}
-use Rattle.reading.specs.Judgements.{has, unless, judgedTest}
+use Rattle.reading.specs.Judgements.{has, unless, judged_test}
 use Rattle.late.specs.Values.{shares, most_of}
-use Rattle.late.specs.Late.{Late, wantOf, groupBy, leafBy, grouped, blamed, judgeAll}
+use Rattle.late.specs.Late.{Late, want_of, group_by, leaf_by, grouped, blamed, judge_all}
 use Rattle.asking.specs.Question as asking
-use Rattle.asking.specs.Asking.{Claim, state, everyone, exactly, claims_of, termD}
-use Rattle.term_literals.specs.Wanted.{wantOfTerms}
+use Rattle.asking.specs.Asking.{Claim, state, everyone, exactly, claims_of, term_d}
+use Rattle.term_literals.specs.Wanted.{want_of_terms}
 
 -- What a bracket starts where it starts no expression: by which marks behind the bracket, how it is read from there (the place is the
 -- bracket's), the leaf that it is among the nodes, and what is judged of it: with top state k, in a text that ends at place e.
@@ -31,62 +31,62 @@ pub record Language : Type 1 where
 abbrev pub cards : ℕ → Language
 cards values = record {
   Item = Tested;
-  starts = testNext (shares values);
+  starts = test_next (shares values);
   item = tested;
-  leaf = leafBy;
+  leaf = leaf_by;
   most = most_of values;
-  judged = λ k e x. judgeAll e (judgedTest k (most_of values) x);
+  judged = λ k e x. judge_all e (judged_test k (most_of values) x);
 }
 
 -- ---- a question's: groups of everyone, exactly-ones ("2026-01"), and tests of the shared number
 
 -- how many seats a group of everyone wants; one of the others is symmetric for no question
-abbrev pub wantOfAll : List Literal → ℕ
-wantOfAll ls = if has 1 ls then wantOf ls else 0
+abbrev pub want_of_all : List Literal → ℕ
+want_of_all ls = if has 1 ls then want_of ls else 0
 
-abbrev pub judgeClaim : ℕ → Claim → Late → Late
-judgeClaim e (state most v p) x = blamed (unless (leb v most) aboveTop) (place_of e p) x
-judgeClaim e (everyone g) x = grouped (wantOfAll g.literals) (place_of e g.place) x
-judgeClaim e (exactly p ts) x = grouped (wantOfTerms ts) (place_of e p) x
+abbrev pub judge_claim : ℕ → Claim → Late → Late
+judge_claim e (state most v p) x = blamed (unless (leb v most) above_top) (place_of e p) x
+judge_claim e (everyone g) x = grouped (want_of_all g.literals) (place_of e g.place) x
+judge_claim e (exactly p ts) x = grouped (want_of_terms ts) (place_of e p) x
 
-unfoldable pub claimAll : ℕ → List Claim → Late → Late
-claimAll e [] x = x
-claimAll e (c ∷ cs) x = claimAll e cs (judgeClaim e c x)
+unfoldable pub claim_all : ℕ → List Claim → Late → Late
+claim_all e [] x = x
+claim_all e (c ∷ cs) x = claim_all e cs (judge_claim e c x)
 
-abbrev pub itemBy : asking.Item → Leaf
-itemBy (asking.aGroup g) = groupBy g.sign g.literals
-itemBy (asking.exactlyOne p ts) = one (termD ts)
-itemBy (asking.aTest x) = sharedIs x.relation x.value.value
+abbrev pub item_by : asking.Item → Leaf
+item_by (asking.a_group g) = group_by g.sign g.literals
+item_by (asking.exactly_one p ts) = one (term_d ts)
+item_by (asking.a_test x) = shared_is x.relation x.value.value
 
 abbrev pub questions : ℕ → Language
 questions values = record {
   Item = asking.Item;
-  starts = asking.itemNext (shares values);
+  starts = asking.item_next (shares values);
   item = asking.item;
-  leaf = itemBy;
+  leaf = item_by;
   most = most_of values;
-  judged = λ k e x. claimAll e (claims_of k (most_of values) x);
+  judged = λ k e x. claim_all e (claims_of k (most_of values) x);
 }
 
 -- ---- by the code's number
 
-abbrev pub languageBy : Bool → ℕ → Language
-languageBy false values = cards values
-languageBy true values = questions values
+abbrev pub language_by : Bool → ℕ → Language
+language_by false values = cards values
+language_by true values = questions values
 
-abbrev pub languageOf : ℕ → Language
-languageOf language = languageBy (asksBy language) (valuesBy language)
+abbrev pub language_of : ℕ → Language
+language_of language = language_by (asks_by language) (values_by language)
 
 -- ---- a formula of any language
 
 module _ (L : Language) where
   -- the formula as it lies among the nodes
-  abbrev pub leavesOf : Formula L.Item → Guard
-  leavesOf g = over L.leaf g
+  abbrev pub leaves_of : Formula L.Item → Guard
+  leaves_of g = over L.leaf g
 
   -- what is judged of a formula: of each item, in the order of the text
-  abbrev pub judgedOf : (k e : ℕ) → Formula L.Item → Late → Late
-  judgedOf k e (atom a) x = L.judged k e a x
-  judgedOf k e (neg g) x = judgedOf k e g x
-  judgedOf k e (and g h) x = judgedOf k e h (judgedOf k e g x)
-  judgedOf k e (or g h) x = judgedOf k e h (judgedOf k e g x)
+  abbrev pub judged_of : (k e : ℕ) → Formula L.Item → Late → Late
+  judged_of k e (atom a) x = L.judged k e a x
+  judged_of k e (neg g) x = judged_of k e g x
+  judged_of k e (and g h) x = judged_of k e h (judged_of k e g x)
+  judged_of k e (or g h) x = judged_of k e h (judged_of k e g x)

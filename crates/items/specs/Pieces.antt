@@ -1,29 +1,29 @@
 -- What the pieces of the guard reader promise each other: each goes on from what another has read. Assumes nothing.
 use Rattle.std.specs.Prelude.{ℕ, ◌<◌, ◌≡◌, Bool, true, false, List}
 use Prim.Native.String.{String}
-use Rattle.card.specs.Limits.{mostNodes}
+use Rattle.card.specs.Limits.{most_nodes}
 use Rattle.card.specs.Card.{Formula, neg, and, or}
 use Rattle.marks_on_a_card.specs.Kinds.{kind}
-use Rattle.marks.specs.Step.{stepAt, marksAt}
+use Rattle.marks.specs.Step.{step_at, marks_at}
 use Rattle.reading.specs.Reader.{at as from, Result, Reader, bind, ◌>>◌, return, sign}
-use Rattle.reading.specs.Guard.{chain, conjunction, unaryBy}
+use Rattle.reading.specs.Guard.{chain, conjunction, unary_by}
 use Rattle.reading.specs.Group.{joint}
 use Rattle.late.specs.Late.{Late}
-use Rattle.late.specs.State.{leftIn, freeIn, lateIn, After, after}
-use Rattle.group.specs.LiteralRead.{signIn}
+use Rattle.late.specs.State.{left_in, free_in, late_in, After, after}
+use Rattle.group.specs.LiteralRead.{sign_in}
 use Rattle.items.specs.Language.{Language}
 use Rattle.items.specs.KeptItems.{Ready}
 use Rattle.items.specs.Items.{no_item}
 use Rattle.items.specs.GuardRead.{GuardRead}
 
 abbrev pub joiner : Bool → String
-joiner b = joint (signIn b)
+joiner b = joint (sign_in b)
 
 -- something was read, its nodes are stored, and there is room for what may follow
 pub record Begun (r : After) : Type 0 where
   pub ready : Ready r.state
   pub some : r.next ≡ 0 → ⊥
-  pub stored : 0 < freeIn r.state
+  pub stored : 0 < free_in r.state
 
 module _ {A : Type 0} where
   abbrev pub join_of : Bool → Formula A → Formula A → Formula A
@@ -31,26 +31,26 @@ module _ {A : Type 0} where
   join_of true = or
 
   -- a `!` before it, a bracket behind it
-  abbrev pub thenNot : Formula A → Reader (Formula A)
-  thenNot g = return (neg g)
+  abbrev pub then_not : Formula A → Reader (Formula A)
+  then_not g = return (neg g)
 
-  abbrev pub thenClose : Formula A → Reader (Formula A)
-  thenClose g = sign ")" >> return g
+  abbrev pub then_close : Formula A → Reader (Formula A)
+  then_close g = sign ")" >> return g
 
 module _ (L : Language) where
   abbrev pub Guards : Type 0
   Guards = Reader (Formula L.Item)
 
-  abbrev pub unaryIn : ℕ → Guards
-  unaryIn depth = unaryBy L.starts L.item depth
+  abbrev pub unary_in : ℕ → Guards
+  unary_in depth = unary_by L.starts L.item depth
 
   -- `&` binds before `|`: it joins unaries, and `|` joins what `&` has joined
-  abbrev pub operandOf : Bool → ℕ → Guards
-  operandOf false depth = unaryIn depth
-  operandOf true depth = conjunction (unaryIn depth)
+  abbrev pub operand_of : Bool → ℕ → Guards
+  operand_of false depth = unary_in depth
+  operand_of true depth = conjunction (unary_in depth)
 
   abbrev pub chained : Bool → ℕ → Formula L.Item → Guards
-  chained b depth g = chain (joiner b) (join_of b) (operandOf b depth) mostNodes g
+  chained b depth g = chain (joiner b) (join_of b) (operand_of b depth) most_nodes g
 
   -- whatever guard g and the array `mid` stand for: r and the array `is` stand for reading on behind it
   abbrev pub Onward : List ℕ → ℕ → List ℕ → List ℕ → After → (Formula L.Item → Guards) → After → Type 0
@@ -60,9 +60,9 @@ module _ (L : Language) where
 
   -- at place i of the card stands no bracket that starts an item
   abbrev pub NoItem : List ℕ → ℕ → Type 0
-  NoItem s i = (stepAt s i).mark.kind ≡ kind "(" → L.starts (marksAt 0 s (stepAt s i).next.at) ≡ false
+  NoItem s i = (step_at s i).mark.kind ≡ kind "(" → L.starts (marks_at 0 s (step_at s i).next.at) ≡ false
 
   -- an item that starts there is a unary, however many brackets may still be opened; where none does nothing changes
   pub record ItemKept (s : List ℕ) (i k : ℕ) (was is state behind : List ℕ) (r : ℕ) : Type 0 where
-    pub some : (r ≡ no_item → ⊥) → (depth : ℕ) → GuardRead L s k was is (freeIn state) (lateIn state) (unaryIn depth (from (marksAt 0 s i) (leftIn state))) (after behind r)
+    pub some : (r ≡ no_item → ⊥) → (depth : ℕ) → GuardRead L s k was is (free_in state) (late_in state) (unary_in depth (from (marks_at 0 s i) (left_in state))) (after behind r)
     pub none : r ≡ no_item → (is ≡ was) × (behind ≡ state) × NoItem s i

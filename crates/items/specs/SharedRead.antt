@@ -1,10 +1,10 @@
 -- What the code hands back for what reading a test of the shared number finds (document 02, 2026-10), from behind its bracket on. It is read from
 -- a part of the card that begins at place o of it; the places in the answer are the part's own. Assumes nothing.
 use Rattle.std.specs.Prelude.{ℕ, ◌+◌, ◌≤◌, ◌≡◌, List, length}
-use Rattle.card.specs.Card.{sharedIs}
-use Rattle.card.specs.Laid.{sharedKind, leafNumber}
+use Rattle.card.specs.Card.{shared_is}
+use Rattle.card.specs.Laid.{shared_kind, leaf_number}
 use Rattle.marks_on_a_card.specs.Marks.{place_of}
-use Rattle.marks.specs.Step.{marksAt}
+use Rattle.marks.specs.Step.{marks_at}
 use Rattle.reading.specs.Reader.{State, Result, ok, stop}
 use Rattle.reading.specs.Group.{SharedTest}
 use Rattle.group.specs.declared.Grouped.{Grouped}
@@ -14,16 +14,16 @@ use Rattle.group.specs.GroupRead.{StoppedGroup}
 pub record ReadTest (o : ℕ) (s : List ℕ) (n : ℕ) (x : SharedTest) (behind : State) (r : Grouped) : Type 0 where
   pub went : r.stop ≡ 0
   pub place : r.place ≡ 0
-  pub rest : marksAt o s r.next ≡ behind.marks
+  pub rest : marks_at o s r.next ≡ behind.marks
   pub left : behind.nodes ≡ n
-  pub kind : r.kind ≡ sharedKind
-  pub node : r.node ≡ leafNumber (sharedIs x.relation x.value.value)
+  pub kind : r.kind ≡ shared_kind
+  pub node : r.node ≡ leaf_number (shared_is x.relation x.value.value)
   -- what the number is compared with, and where that stands
   pub d : r.d ≡ x.value.value
   pub first : place_of (o + length s) x.value.place ≡ o + r.first
   pub past : r.next ≡ 0 → ⊥
-  pub next-within : r.next ≤ length s
-  pub first-within : r.first ≤ length s
+  pub next_within : r.next ≤ length s
+  pub first_within : r.first ≤ length s
 
 abbrev pub TestRead : ℕ → List ℕ → ℕ → Result SharedTest → Grouped → Type 0
 TestRead o s n (ok x behind) r = ReadTest o s n x behind r

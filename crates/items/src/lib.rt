@@ -1,19 +1,19 @@
 // A guard's items, read from the bytes of a card or a question and kept: what a bracket starts where it starts no expression. That is a group, a test of the shared number, or exactly one seat in a state (document 02, 2026-01 and 2026-10).
 ghost use Rattle.std.specs.Prelude.{◌≡◌, ◌+◌, ◌<◌, ℕ, set, ◌∷◌, ◌&&◌, eqb};
 ghost use Rattle.items.specs.GroupsAsked.{of_all};
-ghost use Rattle.card.specs.Limits.{nodePlaces};
-ghost use Rattle.late.specs.State.{atFree, Sized, freeIn, lateIn, withLate, after};
-ghost use Rattle.items.specs.KeptItems.{Ready, Placed, wantedBy, LaidAt, boundBy};
-ghost use Rattle.marks.specs.Step.{marksAt};
-ghost use Rattle.grammar.specs.Grammar.{signAt};
+ghost use Rattle.card.specs.Limits.{node_places};
+ghost use Rattle.late.specs.State.{at_free, Sized, free_in, late_in, with_late, after};
+ghost use Rattle.items.specs.KeptItems.{Ready, Placed, wanted_by, LaidAt, bound_by};
+ghost use Rattle.marks.specs.Step.{marks_at};
+ghost use Rattle.grammar.specs.Grammar.{sign_at};
 ghost use Rattle.reading.specs.Reader.{at as from, Place};
-ghost use Rattle.reading.specs.Group.{sharedTest};
+ghost use Rattle.reading.specs.Group.{shared_test as shared_test_said};
 ghost use Rattle.items.specs.SharedRead.{TestRead};
-ghost use Rattle.asking.specs.Question.{term as termOf, twiceNext, exactly as exactlyOf};
+ghost use Rattle.asking.specs.Question.{term as term_of, twice_next, exactly as exactly_of};
 ghost use Rattle.term_literals.specs.TermRead.{TermRead};
 ghost use Rattle.card.specs.Text.{if◌then◌else◌};
 ghost use Rattle.items.specs.OneRead.{OneRead};
-ghost use Rattle.items.specs.Language.{languageOf};
+ghost use Rattle.items.specs.Language.{language_of};
 ghost use Rattle.items.specs.Items.{ItemAt, nothing};
 ghost use Rattle.items.specs.Pieces.{ItemKept};
 
@@ -54,9 +54,9 @@ fn of_all(g: Grouped) -> Grouped
 
 // A node more in the next free place.
 pub fn store(nodes: &mut [u32; NODE_PLACES], state: &mut [usize; STATE], node: u32)
-    requires { freeIn state.old < nodePlaces }
-    ensures stored { nodes.new ≡ set nodes.old (freeIn state.old) node }
-    ensures next { state.new ≡ set state.old atFree (freeIn state.old + 1) }
+    requires { free_in state.old < node_places }
+    ensures stored { nodes.new ≡ set nodes.old (free_in state.old) node }
+    ensures next { state.new ≡ set state.old at_free (free_in state.old + 1) }
 {
     let free = state[FREE];
     nodes[free] = node;
@@ -66,7 +66,7 @@ pub fn store(nodes: &mut [u32; NODE_PLACES], state: &mut [usize; STATE], node: u
 // The seats that an item wants: a test of the shared number wants none.
 fn wanted(state: &mut [usize; STATE], kind: usize, want: usize, place: usize)
     requires { Sized state.old }
-    ensures { state.new ≡ withLate state.old (wantedBy kind want place (lateIn state.old)) }
+    ensures { state.new ≡ with_late state.old (wanted_by kind want place (late_in state.old)) }
 {
     if kind == node::SHARED {
         return;
@@ -104,7 +104,7 @@ fn lay(
 
 // The rest of a test of the shared number, from behind the name of the number on: a relation and a number, as in a literal behind its seat word, and the bracket.
 fn shared_test(part: &[u8], at: usize) -> Grouped
-    ensures { (o n x : ℕ) → TestRead o part.now n (sharedTest (from (signAt "g" x ∷ marksAt o part.now at) n)) result }
+    ensures { (o n x : ℕ) → TestRead o part.now n (shared_test_said (from (sign_at "g" x ∷ marks_at o part.now at) n)) result }
 {
     let tail = literal(part, at);
     if tail.stop != 0 {
@@ -128,7 +128,7 @@ fn shared_test(part: &[u8], at: usize) -> Grouped
 
 // The i-th term of an exactly-one, from its bracket on.
 fn term(part: &[u8], at: usize, i: usize) -> TermFound
-    ensures { (o n : ℕ) → TermRead o part.now at n i (termOf (from (marksAt o part.now at) n)) result }
+    ensures { (o n : ℕ) → TermRead o part.now at n i (term_of (from (marks_at o part.now at) n)) result }
 {
     let bracket = step_sign(part, at, kinds::ROUND_OPEN);
     if bracket.mark.kind != kinds::ROUND_OPEN {
@@ -144,7 +144,7 @@ fn term(part: &[u8], at: usize, i: usize) -> TermFound
 // Does the bracket before the part start an exactly-one? It does where its first term has both relations; no mark behind that term is
 // looked at.
 fn twice(part: &[u8]) -> bool
-    ensures { (o : ℕ) → result ≡ twiceNext (marksAt o part.now 0) }
+    ensures { (o : ℕ) → result ≡ twice_next (marks_at o part.now 0) }
 {
     term(part, 0, 1).mixed
 }
@@ -180,7 +180,7 @@ fn seats_asked(all: bool, seats: usize, count: usize) -> usize
 
 // An exactly-one: its terms and the closing bracket, from behind the outer bracket on.
 fn exactly(part: &[u8]) -> Grouped
-    ensures { (o n : ℕ) (p : Place) → OneRead o part.now n p (exactlyOf p (from (marksAt o part.now 0) n)) result }
+    ensures { (o n : ℕ) (p : Place) → OneRead o part.now n p (exactly_of p (from (marks_at o part.now 0) n)) result }
 {
     let first = term(part, 0, 1);
     if first.stop != 0 {
@@ -235,7 +235,7 @@ fn no_item() -> Grouped
 
 // The most that the number in an item of this kind may be: what the shared number may be in a test of it, else the top state.
 fn bound(kind: usize, top: usize, language: usize) -> usize
-    ensures { result ≡ boundBy (languageOf language).most kind top }
+    ensures { result ≡ bound_by (language_of language).most kind top }
 {
     if kind != node::SHARED {
         return top;
@@ -250,7 +250,7 @@ fn bound(kind: usize, top: usize, language: usize) -> usize
 // What a bracket starts, from the rest of the card or question behind that bracket: with a seat word there a group, with the name of the
 // shared number a test of that, where one is declared, and in a question also an exactly-one.
 fn item(part: &[u8], language: usize) -> Grouped
-    ensures { ItemAt (languageOf language) part.now result }
+    ensures { ItemAt (language_of language) part.now result }
 {
     let question = is_question(language);
     let word = step_inner(part, 0);
@@ -287,7 +287,7 @@ pub fn keep_item(
     language: usize,
 ) -> usize
     requires { Ready state.old }
-    ensures { ItemKept (languageOf language) card.now at top nodes.old nodes.new state.old state.new result }
+    ensures { ItemKept (language_of language) card.now at top nodes.old nodes.new state.old state.new result }
 {
     let s = step_opening(card, at);
     if s.mark.kind != kinds::ROUND_OPEN {

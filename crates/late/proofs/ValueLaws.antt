@@ -5,21 +5,21 @@ use Rattle.card.specs.Valid.{values_of}
 use Rattle.card.specs.Laid.{start_of}
 use Rattle.reading.specs.Guard.{is_some}
 use Rattle.reading.specs.Shape.{Range}
-use Rattle.reading.specs.Checks.{mostIn, sharedIn}
-use Rattle.late.specs.Values.{valuesIn, shares, most_of, initialIn}
+use Rattle.reading.specs.Checks.{most_in, shared_in}
+use Rattle.late.specs.Values.{values_in, shares, most_of, initial_in}
 
-pub shares-values : (g : Option Range) → shares (valuesIn g) ≡ is_some g
-shares-values none = refl
-shares-values (some r) = refl
+pub shares_values : (g : Option Range) → shares (values_in g) ≡ is_some g
+shares_values none = refl
+shares_values (some r) = refl
 
-pub most_values : (g : Option Range) → most_of (valuesIn g) ≡ mostIn g
+pub most_values : (g : Option Range) → most_of (values_in g) ≡ most_in g
 most_values none = refl
 most_values (some r) = refl
 
-pub values-shared : (g : Option Range) → values_of (sharedIn g) ≡ valuesIn g
-values-shared none = refl
-values-shared (some r) = refl
+pub values_shared : (g : Option Range) → values_of (shared_in g) ≡ values_in g
+values_shared none = refl
+values_shared (some r) = refl
 
-pub start-shared : (g : Option Range) → start_of (sharedIn g) ≡ initialIn g
-start-shared none = refl
-start-shared (some r) = refl
+pub start_shared : (g : Option Range) → start_of (shared_in g) ≡ initial_in g
+start_shared none = refl
+start_shared (some r) = refl

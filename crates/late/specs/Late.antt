@@ -3,43 +3,43 @@
 -- seats the groups before it want. Assumes nothing.
 use Rattle.std.specs.Prelude.{ℕ, suc, Bool, ◌&&◌, List, [], ◌∷◌, eqb, leb, length}
 use Rattle.std.proofs.Math.Option.{Option, none, some}
-use Rattle.card.specs.Limits.{mostSeats}
-use Rattle.card.specs.Refusals.{notDue}
+use Rattle.card.specs.Limits.{most_seats}
+use Rattle.card.specs.Refusals.{not_due}
 use Rattle.card.specs.Text.{if◌then◌else◌}
-use Rattle.card.specs.Card.{Kind, everyone, others, Sign, Leaf, group, sharedIs, is, Formula, Guard}
+use Rattle.card.specs.Card.{Kind, everyone, others, Sign, Leaf, group, shared_is, is, Formula, Guard}
 use Rattle.card.specs.Formulas.{over}
 use Rattle.marks_on_a_card.specs.Marks.{place_of}
-use Rattle.reading.specs.Group.{Literal, Tested, ofSeats, ofShared}
-use Rattle.reading.specs.Judgements.{Judgement, state, word, oneGroup, weight, sum, has, hasFrom, alike, broken}
+use Rattle.reading.specs.Group.{Literal, Tested, of_seats, of_shared}
+use Rattle.reading.specs.Judgements.{Judgement, state, word, one_group, weight, sum, has, has_from, alike, broken}
 
 -- ---- how many seats a group wants: its seats are 1 to m, or 2 to m, once each; 0 where it is symmetric for no card
 
-abbrev pub upToMost : ℕ → Bool → ℕ
-upToMost m b = if leb m mostSeats && b then m else 0
+abbrev pub up_to_most : ℕ → Bool → ℕ
+up_to_most m b = if leb m most_seats && b then m else 0
 
-abbrev pub wantOf : List Literal → ℕ
-wantOf [] = 0
-wantOf (l ∷ ls) =
+abbrev pub want_of : List Literal → ℕ
+want_of [] = 0
+want_of (l ∷ ls) =
     if alike l ls
     then (if has 1 (l ∷ ls)
-    then upToMost (length (l ∷ ls)) (hasFrom 1 (length (l ∷ ls)) (l ∷ ls))
-    else upToMost (suc (length (l ∷ ls))) (hasFrom 2 (length (l ∷ ls)) (l ∷ ls)))
+    then up_to_most (length (l ∷ ls)) (has_from 1 (length (l ∷ ls)) (l ∷ ls))
+    else up_to_most (suc (length (l ∷ ls))) (has_from 2 (length (l ∷ ls)) (l ∷ ls)))
     else 0
 
 -- the group that it is then
-abbrev pub kindBy : List Literal → Kind
-kindBy ls = if has 1 ls then everyone else others
+abbrev pub kind_by : List Literal → Kind
+kind_by ls = if has 1 ls then everyone else others
 
-abbrev pub groupBy : Sign → List Literal → Leaf
-groupBy s [] = group everyone s is 0
-groupBy s (l ∷ ls) = group (kindBy (l ∷ ls)) s l.relation l.d
+abbrev pub group_by : Sign → List Literal → Leaf
+group_by s [] = group everyone s is 0
+group_by s (l ∷ ls) = group (kind_by (l ∷ ls)) s l.relation l.d
 
-abbrev pub leafBy : Tested → Leaf
-leafBy (ofSeats x) = groupBy x.sign x.literals
-leafBy (ofShared x) = sharedIs x.relation x.value.value
+abbrev pub leaf_by : Tested → Leaf
+leaf_by (of_seats x) = group_by x.sign x.literals
+leaf_by (of_shared x) = shared_is x.relation x.value.value
 
-abbrev pub guardBy : Formula Tested → Guard
-guardBy g = over leafBy g
+abbrev pub guard_by : Formula Tested → Guard
+guard_by g = over leaf_by g
 
 -- ---- what is kept
 
@@ -53,27 +53,27 @@ pub record Late : Type 0 where
   pub split : ℕ
   pub second : ℕ
 
-abbrev pub noneYet : Late
-noneYet = record { number = 0; place = 0; want = 0; first = 0; split = 0; second = 0 }
+abbrev pub none_yet : Late
+none_yet = record { number = 0; place = 0; want = 0; first = 0; split = 0; second = 0 }
 
 -- a refusal that does not hang on the number of seats
 abbrev pub blame : ℕ → ℕ → Late → Late
 blame r p x = if eqb x.number 0 then record { number = r; place = p; want = x.want; first = x.first; split = x.split; second = x.second } else x
 
 -- the first group says how many seats are wanted; the first that wants another number is wrong if that is right
-abbrev pub splitAt : ℕ → Late → Late
-splitAt p x = record { number = x.number; place = x.place; want = x.want; first = x.first; split = 1; second = p }
+abbrev pub split_at : ℕ → Late → Late
+split_at p x = record { number = x.number; place = x.place; want = x.want; first = x.first; split = 1; second = p }
 
 abbrev pub wants : ℕ → ℕ → Late → Late
 wants m p x =
     if eqb x.number 0
     then (if eqb x.want 0
     then record { number = 0; place = x.place; want = m; first = p; split = x.split; second = x.second }
-    else (if eqb x.want m then x else (if eqb x.split 0 then splitAt p x else x)))
+    else (if eqb x.want m then x else (if eqb x.split 0 then split_at p x else x)))
     else x
 
 abbrev pub grouped : ℕ → ℕ → Late → Late
-grouped m p x = if eqb m 0 then blame notDue p x else wants m p x
+grouped m p x = if eqb m 0 then blame not_due p x else wants m p x
 
 abbrev pub blamed : Option ℕ → ℕ → Late → Late
 blamed none p x = x
@@ -83,10 +83,10 @@ blamed (some r) p x = blame r p x
 abbrev pub judge : ℕ → Judgement → Late → Late
 judge e (state most v p) x = blamed (broken 0 (state most v p)) (place_of e p) x
 judge e (word due was p) x = blamed (broken 0 (word due was p)) (place_of e p) x
-judge e (oneGroup g) x = grouped (wantOf g.literals) (place_of e g.place) x
+judge e (one_group g) x = grouped (want_of g.literals) (place_of e g.place) x
 judge e (weight decimals w p) x = blamed (broken 0 (weight decimals w p)) (place_of e p) x
 judge e (sum ws p) x = blamed (broken 0 (sum ws p)) (place_of e p) x
 
-unfoldable pub judgeAll : ℕ → List Judgement → Late → Late
-judgeAll e [] x = x
-judgeAll e (j ∷ js) x = judgeAll e js (judge e j x)
+unfoldable pub judge_all : ℕ → List Judgement → Late → Late
+judge_all e [] x = x
+judge_all e (j ∷ js) x = judge_all e js (judge e j x)

@@ -7,97 +7,97 @@ use Rattle.late.specs.Settled.{Refusal, refusal}
 -- ---- the places
 
 -- what is judged late (specs/Late.antt)
-abbrev pub atLate : ℕ
-atLate = 0
+abbrev pub at_late : ℕ
+at_late = 0
 
-abbrev pub atLatePlace : ℕ
-atLatePlace = 1
+abbrev pub at_late_place : ℕ
+at_late_place = 1
 
-abbrev pub atWant : ℕ
-atWant = 2
+abbrev pub at_want : ℕ
+at_want = 2
 
-abbrev pub atFirst : ℕ
-atFirst = 3
+abbrev pub at_first : ℕ
+at_first = 3
 
-abbrev pub atSplit : ℕ
-atSplit = 4
+abbrev pub at_split : ℕ
+at_split = 4
 
-abbrev pub atSecond : ℕ
-atSecond = 5
+abbrev pub at_second : ℕ
+at_second = 5
 
 -- the refusal that reading stopped with
-abbrev pub atStop : ℕ
-atStop = 6
+abbrev pub at_stop : ℕ
+at_stop = 6
 
-abbrev pub atStopPlace : ℕ
-atStopPlace = 7
+abbrev pub at_stop_place : ℕ
+at_stop_place = 7
 
 -- how many nodes a guard may still have, and where the next one is stored
-abbrev pub atLeft : ℕ
-atLeft = 8
+abbrev pub at_left : ℕ
+at_left = 8
 
-abbrev pub atFree : ℕ
-atFree = 9
+abbrev pub at_free : ℕ
+at_free = 9
 
 -- what a part of the card hands back, and what its beginning does
-abbrev pub atValue : ℕ
-atValue = 10
+abbrev pub at_value : ℕ
+at_value = 10
 
-abbrev pub atMode : ℕ
-atMode = 11
+abbrev pub at_mode : ℕ
+at_mode = 11
 
-abbrev pub atTop : ℕ
-atTop = 12
+abbrev pub at_top : ℕ
+at_top = 12
 
 abbrev pub at_start : ℕ
 at_start = 13
 
 -- how many values the shared number has (specs/Values.antt), and what it starts at
-abbrev pub atShared : ℕ
-atShared = 14
+abbrev pub at_shared : ℕ
+at_shared = 14
 
-abbrev pub atInitial : ℕ
-atInitial = 15
+abbrev pub at_initial : ℕ
+at_initial = 15
 
-abbrev pub statePlaces : ℕ
-statePlaces = 16
+abbrev pub state_places : ℕ
+state_places = 16
 
 -- the array has all of them
 abbrev pub Sized : List ℕ → Type 0
-Sized state = length state ≡ statePlaces
+Sized state = length state ≡ state_places
 
 -- ---- what they hold
 
-abbrev pub lateIn : List ℕ → Late
-lateIn state = record {
-  number = get_or state atLate 0;
-  place = get_or state atLatePlace 0;
-  want = get_or state atWant 0;
-  first = get_or state atFirst 0;
-  split = get_or state atSplit 0;
-  second = get_or state atSecond 0;
+abbrev pub late_in : List ℕ → Late
+late_in state = record {
+  number = get_or state at_late 0;
+  place = get_or state at_late_place 0;
+  want = get_or state at_want 0;
+  first = get_or state at_first 0;
+  split = get_or state at_split 0;
+  second = get_or state at_second 0;
 }
 
-abbrev pub refusalIn : List ℕ → Refusal
-refusalIn state = refusal (get_or state atStop 0) (get_or state atStopPlace 0)
+abbrev pub refusal_in : List ℕ → Refusal
+refusal_in state = refusal (get_or state at_stop 0) (get_or state at_stop_place 0)
 
-abbrev pub leftIn : List ℕ → ℕ
-leftIn state = get_or state atLeft 0
+abbrev pub left_in : List ℕ → ℕ
+left_in state = get_or state at_left 0
 
-abbrev pub freeIn : List ℕ → ℕ
-freeIn state = get_or state atFree 0
+abbrev pub free_in : List ℕ → ℕ
+free_in state = get_or state at_free 0
 
-abbrev pub valueIn : List ℕ → ℕ
-valueIn state = get_or state atValue 0
+abbrev pub value_in : List ℕ → ℕ
+value_in state = get_or state at_value 0
 
 -- ---- what is changed, and nothing else
 
 -- what is judged late stands first
-abbrev pub withLate : List ℕ → Late → List ℕ
-withLate state x = x.number ∷ x.place ∷ x.want ∷ x.first ∷ x.split ∷ x.second ∷ drop atStop state
+abbrev pub with_late : List ℕ → Late → List ℕ
+with_late state x = x.number ∷ x.place ∷ x.want ∷ x.first ∷ x.split ∷ x.second ∷ drop at_stop state
 
-abbrev pub withRefusal : List ℕ → Refusal → List ℕ
-withRefusal state x = set (set state atStop x.number) atStopPlace x.place
+abbrev pub with_refusal : List ℕ → Refusal → List ℕ
+with_refusal state x = set (set state at_stop x.number) at_stop_place x.place
 
 -- ---- what a reader leaves behind it: the state, and the next place
 
@@ -111,5 +111,5 @@ after state next = record { state = state; next = next }
 -- it stopped with this refusal: there is no next place
 pub record Halted (n p : ℕ) (r : After) : Type 0 where
   pub none : r.next ≡ 0
-  pub refused : refusalIn r.state ≡ refusal n p
+  pub refused : refusal_in r.state ≡ refusal n p
   pub sized : Sized r.state

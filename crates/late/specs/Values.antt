@@ -3,9 +3,9 @@ use Rattle.std.specs.Prelude.{ℕ, zero, suc, Bool, true, false}
 use Rattle.std.proofs.Math.Option.{Option, none, some}
 use Rattle.reading.specs.Shape.{Range}
 
-abbrev pub valuesIn : Option Range → ℕ
-valuesIn none = 0
-valuesIn (some r) = suc r.top
+abbrev pub values_in : Option Range → ℕ
+values_in none = 0
+values_in (some r) = suc r.top
 
 -- is one declared? and the most that it may be
 abbrev pub shares : ℕ → Bool
@@ -17,6 +17,6 @@ most_of zero = 0
 most_of (suc m) = m
 
 -- what it starts at
-abbrev pub initialIn : Option Range → ℕ
-initialIn none = 0
-initialIn (some r) = r.start.value
+abbrev pub initial_in : Option Range → ℕ
+initial_in none = 0
+initial_in (some r) = r.start.value

@@ -1,7 +1,7 @@
 // What is judged late of weights: their form, and their sum.
 ghost use Rattle.std.specs.Prelude.{◌≡◌};
-ghost use Rattle.late.specs.State.{Sized, lateIn, withLate};
-ghost use Rattle.late_weights.specs.LateWeights.{formBy, sumBy};
+ghost use Rattle.late.specs.State.{Sized, late_in, with_late};
+ghost use Rattle.late_weights.specs.LateWeights.{form_by, sum_by};
 
 use card::refusals::{DECIMAL_WEIGHT, WRONG_WEIGHT};
 use late::blame;
@@ -17,7 +17,7 @@ pub fn wide(x: u32) -> usize
 // A decimal is a late refusal where none may be a weight.
 pub fn judge_form(decimals: bool, place: usize, state: &mut [usize; STATE])
     requires { Sized state.old }
-    ensures { state.new ≡ withLate state.old (formBy decimals place (lateIn state.old)) }
+    ensures { state.new ≡ with_late state.old (form_by decimals place (late_in state.old)) }
 {
     if decimals {
         return;
@@ -28,7 +28,7 @@ pub fn judge_form(decimals: bool, place: usize, state: &mut [usize; STATE])
 // A sum of units that is not the unit is one too.
 pub fn judge_sum(total: usize, place: usize, state: &mut [usize; STATE])
     requires { Sized state.old }
-    ensures { state.new ≡ withLate state.old (sumBy total place (lateIn state.old)) }
+    ensures { state.new ≡ with_late state.old (sum_by total place (late_in state.old)) }
 {
     if total == wide(Weight::UNIT) {
         return;

@@ -1,13 +1,13 @@
 // How a leaf of a guard is put, in the written card and in the reduced program ("Texts, byte for byte").
 ghost use Rattle.std.specs.Prelude.{◌-◌};
 ghost use Rattle.card.specs.Card.{all, any, is, isnt};
-ghost use Rattle.card.specs.Laid.{either, leafOf};
-ghost use Rattle.meaning.specs.Reduced.{counterOf};
+ghost use Rattle.card.specs.Laid.{either, leaf_of};
+ghost use Rattle.meaning.specs.Reduced.{counter_of};
 ghost use Rattle.phrases.specs.Phrases.{◌▸◌};
 ghost use Rattle.phrases.specs.Puts.{Puts};
-ghost use Rattle.texts.specs.Writing.{literal, literals, groupText};
-ghost use Rattle.texts.specs.ReducedText.{counterText};
-ghost use Rattle.leaf_text.specs.Style.{leafText};
+ghost use Rattle.texts.specs.Writing.{literal, literals, group_text};
+ghost use Rattle.texts.specs.ReducedText.{counter_text};
+ghost use Rattle.leaf_text.specs.Style.{leaf_text};
 
 use literal_text::{put_further, put_literal};
 use packing::{IS, ONE, SHARED, kind_of, relation_of, sign_of, state_of};
@@ -72,7 +72,7 @@ fn put_opened(room: &mut [u8], at: usize, relation: usize, state: usize, seat: u
 
 // A group as its literals, and a test of the shared number as it stands; of exactly one seat nothing, for no card has it.
 fn put_group(room: &mut [u8], at: usize, node: u32, seats: usize) -> usize
-    ensures { Puts room.old room.new at (groupText seats (leafOf node)) result }
+    ensures { Puts room.old room.new at (group_text seats (leaf_of node)) result }
 {
     let kind = kind_of(node);
     let relation = relation_of(node);
@@ -92,7 +92,7 @@ fn put_group(room: &mut [u8], at: usize, node: u32, seats: usize) -> usize
 
 // A leaf as its counter test, and a test of the shared number as it stands.
 fn put_counter(room: &mut [u8], at: usize, node: u32, own: usize, seats: usize) -> usize
-    ensures { Puts room.old room.new at (counterText (counterOf seats own (leafOf node))) result }
+    ensures { Puts room.old room.new at (counter_text (counter_of seats own (leaf_of node))) result }
 {
     let kind = kind_of(node);
     let d = state_of(node);
@@ -108,7 +108,7 @@ fn put_counter(room: &mut [u8], at: usize, node: u32, own: usize, seats: usize) 
 }
 
 pub fn put_leaf(room: &mut [u8], at: usize, node: u32, style: Style) -> usize
-    ensures { Puts room.old room.new at (leafText style (leafOf node)) result }
+    ensures { Puts room.old room.new at (leaf_text style (leaf_of node)) result }
 {
     if style.text == WRITTEN {
         return put_group(room, at, node, style.seats);

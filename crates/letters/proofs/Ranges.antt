@@ -9,7 +9,7 @@ use lib.Dec.{eqb}
 use mir.Val.{has_key}
 use types.Run.{OneOf, hit, miss}
 use Rattle.marks_on_a_card.specs.Bytes.{every}
-use Rattle.marks_on_a_card.proofs.Lists.{cases, not-both, and_left, and_right, or-true}
+use Rattle.marks_on_a_card.proofs.Lists.{cases, not_both, and_left, and_right, or_true}
 
 -- the bytes from a on, n of them
 abbrev all_from : (ℕ → Bool) → ℕ → ℕ → Bool
@@ -29,24 +29,24 @@ alike false b = not b
 
 alike_same : (a b : Bool) → alike a b ≡ true → a ≡ b
 alike_same true b e = sym e
-alike_same false true e = not-both false e refl
+alike_same false true e = not_both false e refl
 alike_same false false e = refl
 
 pub agree : (f g : ℕ → Bool) (n a : ℕ) → all_from (λ b. alike (f b) (g b)) n a ≡ true → (b : ℕ) → a ≤ b → b < a + n → f b ≡ g b
 agree f g n a e b l h = alike_same (f b) (g b) (between (λ b. alike (f b) (g b)) n a e b l h)
 
 -- of the keys of a `match`
-pub of-keys : (f : ℕ → Bool) (ks : List ℕ) → every f ks ≡ true → (b : ℕ) → OneOf ks b → f b ≡ true
-of-keys f ks e b h = cases (has_key ks b)
+pub of_keys : (f : ℕ → Bool) (ks : List ℕ) → every f ks ≡ true → (b : ℕ) → OneOf ks b → f b ≡ true
+of_keys f ks e b h = cases (has_key ks b)
     (λ q. each f ks e b q)
     (λ q. absurd (miss ks b (rw q tt) h))
   where
     each : (f : ℕ → Bool) (ks : List ℕ) → every f ks ≡ true → (b : ℕ) → has_key ks b ≡ true → f b ≡ true
-    each f [] e b q = not-both false q refl
-    each f (k ∷ ks) e b q = or-true (eqb k b) (has_key ks b) q
+    each f [] e b q = not_both false q refl
+    each f (k ∷ ks) e b q = or_true (eqb k b) (has_key ks b) q
         (λ z. rw (← eqb-true k b z) (and_left (f k) (every f ks) e))
         (λ z. each f ks (and_right (f k) (every f ks) e) b z)
 
 -- in a range, of all but the keys
-pub but-keys : (f : ℕ → Bool) (ks : List ℕ) (n a : ℕ) → all_from (λ b. f b || has_key ks b) n a ≡ true → (b : ℕ) → a ≤ b → b < a + n → (OneOf ks b → ⊥) → f b ≡ true
-but-keys f ks n a e b l h no_key = or-true (f b) (has_key ks b) (between (λ b. f b || has_key ks b) n a e b l h) (λ q. q) (λ q. absurd (no_key (hit ks b (rw q tt))))
+pub but_keys : (f : ℕ → Bool) (ks : List ℕ) (n a : ℕ) → all_from (λ b. f b || has_key ks b) n a ≡ true → (b : ℕ) → a ≤ b → b < a + n → (OneOf ks b → ⊥) → f b ≡ true
+but_keys f ks n a e b l h no_key = or_true (f b) (has_key ks b) (between (λ b. f b || has_key ks b) n a e b l h) (λ q. q) (λ q. absurd (no_key (hit ks b (rw q tt))))

@@ -1,15 +1,15 @@
 // Classes of bytes, and runs of them ("Marks on a card").
 ghost use Rattle.std.specs.Prelude.{◌≡◌, ◌≤◌, length, drop, eqb};
-ghost use Rattle.marks_on_a_card.specs.Bytes.{isDigit, isLetter, in_word, isBlank, isSign, one_of, begins, isAlone, inNumber, runEnd, begun};
+ghost use Rattle.marks_on_a_card.specs.Bytes.{is_digit as is_digit_said, is_letter as is_letter_said, in_word, is_blank as is_blank_said, is_sign as is_sign_said, one_of, begins, is_alone as is_alone_said, in_number, run_end, begun};
 
 pub fn is_digit(b: u8) -> bool
-    ensures { result ≡ isDigit b }
+    ensures { result ≡ is_digit_said b }
 {
     b'0' <= b && b <= b'9'
 }
 
 pub fn is_letter(b: u8) -> bool
-    ensures { result ≡ isLetter b }
+    ensures { result ≡ is_letter_said b }
 {
     if b < b'A' {
         return false;
@@ -46,14 +46,14 @@ fn one_of(b: u8, these: &[u8]) -> bool
 }
 
 pub fn is_blank(b: u8) -> bool
-    ensures { result ≡ isBlank b }
+    ensures { result ≡ is_blank_said b }
 {
     one_of(b, b" \t\r\n")
 }
 
 // One test of a machine word, where `one_of` would compare fourteen times.
 pub fn is_sign(b: u8) -> bool
-    ensures { result ≡ isSign b }
+    ensures { result ≡ is_sign_said b }
 {
     match b {
         b'['
@@ -76,7 +76,7 @@ pub fn is_sign(b: u8) -> bool
 
 // A sign that begins no other mark; the most frequent bytes take the fewest tests.
 pub fn is_alone(b: u8) -> bool
-    ensures { result ≡ isAlone b }
+    ensures { result ≡ is_alone_said b }
 {
     if b < b'0' {
         if b < b'&' {
@@ -123,7 +123,7 @@ pub fn word_at(card: &[u8], at: usize) -> bool
 }
 
 pub fn digit_at(card: &[u8], at: usize) -> bool
-    ensures { result ≡ begins isDigit (drop at card.now) }
+    ensures { result ≡ begins is_digit_said (drop at card.now) }
 {
     if at < card.len() {
         return is_digit(card[at]);
@@ -133,7 +133,7 @@ pub fn digit_at(card: &[u8], at: usize) -> bool
 
 // Does a number go on at a place, with a digit or a point?
 pub fn number_at(card: &[u8], at: usize) -> bool
-    ensures { result ≡ begins inNumber (drop at card.now) }
+    ensures { result ≡ begins in_number (drop at card.now) }
 {
     if at < card.len() {
         let b = card[at];
@@ -146,7 +146,7 @@ pub fn number_at(card: &[u8], at: usize) -> bool
 }
 
 pub fn word_end(card: &[u8], from: usize) -> usize
-    ensures { result ≡ runEnd in_word card.now from }
+    ensures { result ≡ run_end in_word card.now from }
 {
     let mut at = from;
     while at < card.len() {

@@ -1,9 +1,9 @@
 // Where a comment, or a line, ends ("Marks on a card"): at LF, or at the end of the card.
 ghost use Rattle.std.specs.Prelude.{◌≡◌};
-ghost use Rattle.marks_on_a_card.specs.Bytes.{notLF, runEnd};
+ghost use Rattle.marks_on_a_card.specs.Bytes.{not_lf, run_end};
 
 pub fn line_end(card: &[u8], from: usize) -> usize
-    ensures { result ≡ runEnd notLF card.now from }
+    ensures { result ≡ run_end not_lf card.now from }
 {
     let mut at = from;
     while at < card.len() {

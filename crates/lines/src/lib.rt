@@ -1,12 +1,12 @@
 // The panel's lines ("Texts, byte for byte"), one by one.
 ghost use Rattle.std.specs.Prelude.{◌≡◌, ◌++◌, ◌+◌, ◌≤◌, length, get_or};
-ghost use Rattle.card.specs.Limits.{mostShared};
+ghost use Rattle.card.specs.Limits.{most_shared};
 ghost use Rattle.phrases.specs.Phrases.{◌▸◌};
 ghost use Rattle.phrases.specs.Puts.{Puts};
-ghost use Rattle.meaning.specs.Sums.{orOne, upto, flat};
-ghost use Rattle.meaning.specs.Panel.{stayLine, move_line, movesFrom};
-ghost use Rattle.panel_numbers.specs.Table.{weightIn};
-ghost use Rattle.panel_wording.specs.PanelText.{numbers, movesText, staysText};
+ghost use Rattle.meaning.specs.Sums.{or_one, upto, flat};
+ghost use Rattle.meaning.specs.Panel.{stay_line, move_line, moves_from};
+ghost use Rattle.panel_numbers.specs.Table.{weight_in};
+ghost use Rattle.panel_wording.specs.PanelText.{numbers, moves_text, stays_text};
 ghost use Rattle.panel_wording.specs.PanelIn.{Row, tells};
 
 use card::limits::MOST_SHARED;
@@ -38,7 +38,7 @@ pub fn put_line<'a>(room: &mut [u8], at: usize, word: &'a [u8], values: &'a [usi
 
 // How many values the shared number takes: one where there is none.
 fn values_of(shared: usize) -> usize
-    ensures { result ≡ orOne shared }
+    ensures { result ≡ or_one shared }
 {
     if shared == 0 {
         return 1;
@@ -48,7 +48,7 @@ fn values_of(shared: usize) -> usize
 
 // A weight of no change, and what the shared number becomes with it (document 02, 2026-10), where it has values at all.
 pub fn put_stay(room: &mut [u8], at: usize, weight: usize, becomes: usize, shared: usize) -> usize
-    ensures { Puts room.old room.new at (staysText (tells shared) (stayLine becomes weight)) result }
+    ensures { Puts room.old room.new at (stays_text (tells shared) (stay_line becomes weight)) result }
 {
     if weight == 0 {
         return place(at);
@@ -63,8 +63,8 @@ pub fn put_stay(room: &mut [u8], at: usize, weight: usize, becomes: usize, share
 
 // By the weight for each value, from a place on.
 pub fn put_stays(room: &mut [u8], at: usize, weights: &[usize], from: usize, shared: usize) -> usize
-    requires { (from + mostShared ≤ length weights.now) × (shared ≤ mostShared) }
-    ensures { Puts room.old room.new at (staysText (tells shared) (flat (upto (orOne shared) (λ h. stayLine h (get_or weights.now (from + h) 0))))) result }
+    requires { (from + most_shared ≤ length weights.now) × (shared ≤ most_shared) }
+    ensures { Puts room.old room.new at (stays_text (tells shared) (flat (upto (or_one shared) (λ h. stay_line h (get_or weights.now (from + h) 0))))) result }
 {
     let values = values_of(shared);
     let mut to = place(at);
@@ -85,7 +85,7 @@ fn put_move(
     becomes: usize,
     shared: usize,
 ) -> usize
-    ensures { Puts room.old room.new at (movesText (tells shared) (move_line old new becomes weight)) result }
+    ensures { Puts room.old room.new at (moves_text (tells shared) (move_line old new becomes weight)) result }
 {
     if old == new {
         return place(at);
@@ -110,7 +110,7 @@ fn put_pair(
     weights: &[usize],
     shared: usize,
 ) -> usize
-    ensures { Puts room.old room.new at (movesText (tells shared) (flat (upto (length weights.now) (λ h. move_line old new h (get_or weights.now h 0))))) result }
+    ensures { Puts room.old room.new at (moves_text (tells shared) (flat (upto (length weights.now) (λ h. move_line old new h (get_or weights.now h 0))))) result }
 {
     let mut to = place(at);
     let mut becomes = 0;
@@ -131,7 +131,7 @@ pub fn put_moves(
     shared: usize,
 ) -> usize
     requires { Row top shared row.now }
-    ensures { Puts room.old room.new at (movesText (tells shared) (movesFrom top (orOne shared) old (weightIn row.now))) result }
+    ensures { Puts room.old room.new at (moves_text (tells shared) (moves_from top (or_one shared) old (weight_in row.now))) result }
 {
     let values = values_of(shared);
     let mut to = place(at);

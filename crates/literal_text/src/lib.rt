@@ -4,7 +4,7 @@ ghost use Rattle.card.specs.Card.{all, any, is, isnt};
 ghost use Rattle.card.specs.Laid.{either};
 ghost use Rattle.phrases.specs.Phrases.{◌▸◌};
 ghost use Rattle.phrases.specs.Puts.{Puts};
-ghost use Rattle.texts.specs.Writing.{signText, literal};
+ghost use Rattle.texts.specs.Writing.{sign_text, literal};
 
 use packing::IS;
 use phrases::{put_either, put_numbered};
@@ -38,7 +38,7 @@ pub fn put_further(
     state: usize,
     seat: usize,
 ) -> usize
-    ensures { Puts room.old room.new at (λ t. signText (either all any sign) ▸ literal (either is isnt relation) state seat t) result }
+    ensures { Puts room.old room.new at (λ t. sign_text (either all any sign) ▸ literal (either is isnt relation) state seat t) result }
 {
     if state < 10 {
         let joint = joint_of(sign);

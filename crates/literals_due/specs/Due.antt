@@ -2,8 +2,8 @@
 use Rattle.std.specs.Prelude.{ℕ, eqb}
 use Rattle.card.specs.Text.{if◌then◌else◌}
 use Rattle.card.specs.Card.{is, isnt}
-use Rattle.card.specs.Laid.{relationNumber}
+use Rattle.card.specs.Laid.{relation_number}
 
 -- the number of the relation that is due in the i-th term, to a literal of this seat
-abbrev pub dueNumber : ℕ → ℕ → ℕ
-dueNumber i seat = if eqb seat i then relationNumber is else relationNumber isnt
+abbrev pub due_number : ℕ → ℕ → ℕ
+due_number i seat = if eqb seat i then relation_number is else relation_number isnt

@@ -1,6 +1,6 @@
 // What a literal says behind its seat word, and whether it is as due in a term of an exactly-one (document 02, 2026-01).
 ghost use Rattle.std.specs.Prelude.{◌≡◌, not, ◌&&◌, ◌||◌, eqb};
-ghost use Rattle.literals_due.specs.Due.{dueNumber};
+ghost use Rattle.literals_due.specs.Due.{due_number};
 
 use packing::{IS, ISNT};
 
@@ -18,7 +18,7 @@ pub struct Tail {
 
 // In the i-th term seat i is d, and all others are not.
 pub fn relation_due(i: usize, seat: usize) -> usize
-    ensures { result ≡ dueNumber i seat }
+    ensures { result ≡ due_number i seat }
 {
     if seat == i {
         return IS;

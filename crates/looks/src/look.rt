@@ -1,6 +1,6 @@
 // Quick looks: does a frequent mark stand right at a place? Each asks two or three bytes at most.
 ghost use Rattle.std.specs.Prelude.{◌≡◌, drop};
-ghost use Rattle.marks_on_a_card.specs.Quick.{signAhead, lastDigit, seatAhead, processAhead, teenAhead, pastBlank, pastLine};
+ghost use Rattle.marks_on_a_card.specs.Quick.{sign_ahead, last_digit as last_digit_said, seat_ahead, process_ahead, teen_ahead, past_blank as past_blank_said, past_line as past_line_said};
 
 use bytes_as_numbers::wide;
 use letters::bytes::{digit_at, is_alone, stands, word_at};
@@ -8,7 +8,7 @@ use word_and_digit_looks::{NO_DIGIT, all_here};
 
 // The place behind one blank, where one stands: most marks that are set off are so by one.
 pub fn past_blank(card: &[u8], at: usize) -> usize
-    ensures { result ≡ pastBlank card.now at }
+    ensures { result ≡ past_blank_said card.now at }
 {
     if stands(card, at, b' ') {
         return at + 1;
@@ -18,7 +18,7 @@ pub fn past_blank(card: &[u8], at: usize) -> usize
 
 // The same, or the place behind the end of a line.
 pub fn past_line(card: &[u8], at: usize) -> usize
-    ensures { result ≡ pastLine card.now at }
+    ensures { result ≡ past_line_said card.now at }
 {
     if stands(card, at, b'\n') {
         return at + 1;
@@ -28,7 +28,7 @@ pub fn past_line(card: &[u8], at: usize) -> usize
 
 // A sign of this kind that begins no other mark?
 pub fn sign_here(card: &[u8], at: usize, kind: usize) -> bool
-    ensures { result ≡ signAhead kind (drop at card.now) }
+    ensures { result ≡ sign_ahead kind (drop at card.now) }
 {
     if at < card.len() {
         let b = card[at];
@@ -41,7 +41,7 @@ pub fn sign_here(card: &[u8], at: usize, kind: usize) -> bool
 
 // The number of the one digit that ends a word.
 fn last_digit(card: &[u8], at: usize) -> usize
-    ensures { result ≡ lastDigit (drop at card.now) }
+    ensures { result ≡ last_digit_said (drop at card.now) }
 {
     if !digit_at(card, at) {
         return NO_DIGIT;
@@ -54,7 +54,7 @@ fn last_digit(card: &[u8], at: usize) -> usize
 
 // The number of the seat word with one digit.
 pub fn seat_here(card: &[u8], at: usize) -> usize
-    ensures { result ≡ seatAhead (drop at card.now) }
+    ensures { result ≡ seat_ahead (drop at card.now) }
 {
     if stands(card, at, b's') {
         return last_digit(card, at + 1);
@@ -64,7 +64,7 @@ pub fn seat_here(card: &[u8], at: usize) -> usize
 
 // The number of the module word with one digit.
 pub fn process_here(card: &[u8], at: usize) -> usize
-    ensures { result ≡ processAhead card.now at }
+    ensures { result ≡ process_ahead card.now at }
 {
     if all_here(card, at, b"process") {
         return last_digit(card, at + 7);
@@ -74,7 +74,7 @@ pub fn process_here(card: &[u8], at: usize) -> usize
 
 // The second digit of the seat word from s10 to s19.
 pub fn teen_here(card: &[u8], at: usize) -> usize
-    ensures { result ≡ teenAhead card.now at }
+    ensures { result ≡ teen_ahead card.now at }
 {
     if all_here(card, at, b"s1") {
         return last_digit(card, at + 2);

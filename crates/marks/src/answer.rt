@@ -1,11 +1,11 @@
 // A mark without numbers, or with one, and the cursor behind it.
 ghost use Rattle.std.specs.Prelude.{◌≡◌};
-ghost use Rattle.marks.specs.Parts.{bareOf, valuedOf};
+ghost use Rattle.marks.specs.Parts.{bare_of, valued_of};
 
 use crate::{Cursor, Found, Step};
 
 pub fn bare(kind: usize, place: usize, next: usize) -> Step
-    ensures { result ≡ bareOf kind place next }
+    ensures { result ≡ bare_of kind place next }
 {
     Step {
         mark: Found {
@@ -20,7 +20,7 @@ pub fn bare(kind: usize, place: usize, next: usize) -> Step
 }
 
 pub fn valued(kind: usize, value: usize, place: usize, next: usize) -> Step
-    ensures { result ≡ valuedOf kind value place next }
+    ensures { result ≡ valued_of kind value place next }
 {
     Step {
         mark: Found {

@@ -6,7 +6,7 @@ mod word;
 
 ghost use Rattle.std.specs.Prelude.{◌≡◌, ℕ, ◌+◌, ◌<◌, length, drop, get_or};
 ghost use Rattle.marks_on_a_card.specs.Marks.{start_at, gap_of};
-ghost use Rattle.marks.specs.Step.{stepped, stepAt};
+ghost use Rattle.marks.specs.Step.{stepped, step_at};
 ghost use Rattle.marks.specs.declared.Step as steps;
 
 use answer::bare;
@@ -67,7 +67,7 @@ impl Cursor {
 
     // The next mark of the card, and the cursor behind it; at the end, a mark of the kind END at the card's length.
     pub fn step(self, card: &[u8]) -> Step
-        ensures { result ≡ stepAt card.now self.at }
+        ensures { result ≡ step_at card.now self.at }
     {
         let mut at = self.at;
         while at < card.len() {

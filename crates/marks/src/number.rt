@@ -1,7 +1,7 @@
 // Numbers and decimals ("Marks on a card"): a whole run of digits, and a point only where a digit follows.
 ghost use Rattle.std.specs.Prelude.{◌≡◌, true, ℕ, ◌+◌, ◌<◌, length, drop, get_or};
-ghost use Rattle.marks_on_a_card.specs.Bytes.{isDigit};
-ghost use Rattle.marks_on_a_card.specs.Marks.{numeral as numeralOf};
+ghost use Rattle.marks_on_a_card.specs.Bytes.{is_digit};
+ghost use Rattle.marks_on_a_card.specs.Marks.{numeral as numeral_of};
 ghost use Rattle.marks.specs.Step.{stepped};
 ghost use Rattle.marks.specs.declared.Step as step;
 
@@ -13,8 +13,8 @@ use words_and_digits::{digits_from, is_plain, is_pointed};
 
 // The mark that starts with the digit at a place.
 pub fn numeral(card: &[u8], at: usize) -> Step
-    requires { (at < length card.now) × (isDigit (get_or card.now at 0) ≡ true) }
-    ensures { (k : ℕ → step.Step) → result ≡ stepped at (numeralOf (get_or card.now at 0) (drop (at + 1) card.now)) k }
+    requires { (at < length card.now) × (is_digit (get_or card.now at 0) ≡ true) }
+    ensures { (k : ℕ → step.Step) → result ≡ stepped at (numeral_of (get_or card.now at 0) (drop (at + 1) card.now)) k }
 {
     let d = digits_from(card, at);
     let count = d.count;

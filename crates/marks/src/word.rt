@@ -1,6 +1,6 @@
 // Words ("Marks on a card"): seat words, module words, keywords and others.
 ghost use Rattle.std.specs.Prelude.{◌≡◌, true, ℕ, ◌+◌, ◌<◌, length, drop, get_or};
-ghost use Rattle.marks_on_a_card.specs.Bytes.{isLetter};
+ghost use Rattle.marks_on_a_card.specs.Bytes.{is_letter};
 ghost use Rattle.marks_on_a_card.specs.Marks.{word as word_of};
 ghost use Rattle.marks.specs.Step.{stepped};
 ghost use Rattle.marks.specs.declared.Step as step;
@@ -13,7 +13,7 @@ use words_and_digits::{is_other, keyword_begun, numbered_at};
 
 // The mark that starts with the letter at a place.
 pub fn word(card: &[u8], at: usize) -> Step
-    requires { (at < length card.now) × (isLetter (get_or card.now at 0) ≡ true) }
+    requires { (at < length card.now) × (is_letter (get_or card.now at 0) ≡ true) }
     ensures { (k : ℕ → step.Step) → result ≡ stepped at (word_of (get_or card.now at 0) (drop (at + 1) card.now)) k }
 {
     let s = numbered_at(card, at, b"s");

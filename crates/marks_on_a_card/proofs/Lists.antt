@@ -13,8 +13,8 @@ pub cases : {C : Type 0} (b : Bool) → (b ≡ true → C) → (b ≡ false → 
 cases true f g = f refl
 cases false f g = g refl
 
-pub not-both : {C : Type 0} (b : Bool) → b ≡ true → b ≡ false → C
-not-both b p q = let z : ◌≡◌ {A = Bool} true false = cc in absurd (clash z)
+pub not_both : {C : Type 0} (b : Bool) → b ≡ true → b ≡ false → C
+not_both b p q = let z : ◌≡◌ {A = Bool} true false = cc in absurd (clash z)
   where
     clash : true ≡ false → ⊥
     clash e = mathlib.Core.Bool.true≢false e
@@ -25,22 +25,22 @@ and_left false b e = e
 
 pub and_right : (a b : Bool) → (a && b) ≡ true → b ≡ true
 and_right true b e = e
-and_right false b e = not-both false e refl
+and_right false b e = not_both false e refl
 
-pub and-off : (a b : Bool) → b ≡ false → (a && b) ≡ false
-and-off true b e = e
-and-off false b e = refl
+pub and_off : (a b : Bool) → b ≡ false → (a && b) ≡ false
+and_off true b e = e
+and_off false b e = refl
 
-pub or-true : {C : Type 0} (a b : Bool) → (a || b) ≡ true → (a ≡ true → C) → (b ≡ true → C) → C
-or-true true b e f g = f refl
-or-true false b e f g = g e
+pub or_true : {C : Type 0} (a b : Bool) → (a || b) ≡ true → (a ≡ true → C) → (b ≡ true → C) → C
+or_true true b e f g = f refl
+or_true false b e f g = g e
 
 pub or_left : (a b : Bool) → (a || b) ≡ false → a ≡ false
 or_left true b e = e
 or_left false b e = refl
 
 pub or_right : (a b : Bool) → (a || b) ≡ false → b ≡ false
-or_right true b e = not-both true refl e
+or_right true b e = not_both true refl e
 or_right false b e = e
 
 -- the list from a place on: its first element, and the rest

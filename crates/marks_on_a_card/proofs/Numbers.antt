@@ -10,109 +10,109 @@ use lib.Dec.{eqb, leb, ltb}
 use lib.ListN.{length, get_or, drop, length-drop, drop_of_length-le}
 use borrow.Author.Tests.{le-leb, lt-leb, leb-true, ltb-false}
 use Rattle.card.specs.Text.{same}
-use Rattle.marks_on_a_card.specs.Bytes.{isDigit, run, begins, every, runEnd}
-use Rattle.marks_on_a_card.specs.Digits.{valueFrom, plain, pointed, heldDigits, grownBy, Counted}
+use Rattle.marks_on_a_card.specs.Bytes.{is_digit, run, begins, every, run_end}
+use Rattle.marks_on_a_card.specs.Digits.{value_from, plain, pointed, held_digits, grown_by, Counted}
 use Rattle.marks_on_a_card.specs.declared.Digits.{Digits}
-use Rattle.marks_on_a_card.proofs.Lists.{cases, not-both, and_left, and_right, drop_at, none_left}
-use Rattle.marks_on_a_card.proofs.Runs.{run_on, run_length, run-passes, run-first, end_on, eqb-sym, begins-place}
+use Rattle.marks_on_a_card.proofs.Lists.{cases, not_both, and_left, and_right, drop_at, none_left}
+use Rattle.marks_on_a_card.proofs.Runs.{run_on, run_length, run_passes, run_first, end_on, eqb_sym, begins_place}
 
 -- ---- when digits are a number
 
-plain-long : (most : ℕ) (ds : List ℕ) → most < length ds → plain most ds ≡ false
-plain-long most [] h = refl
-plain-long most (b ∷ ds) h = rw (lt-leb (length (b ∷ ds)) most h) (and-false (every isDigit (b ∷ ds) && (not (eqb b 48) || same ds [])))
+plain_long : (most : ℕ) (ds : List ℕ) → most < length ds → plain most ds ≡ false
+plain_long most [] h = refl
+plain_long most (b ∷ ds) h = rw (lt-leb (length (b ∷ ds)) most h) (and-false (every is_digit (b ∷ ds) && (not (eqb b 48) || same ds [])))
 
-pub one-digit : (most : ℕ) (ds : List ℕ) → every isDigit ds ≡ true → length ds ≡ 1 → 1 ≤ most → plain most ds ≡ true
-one-digit most [] e n h = absurd (omega arith)
-one-digit most (b ∷ []) e n h = rw (e, le-leb 1 most h, or-true (not (eqb b 48)))
-one-digit most (b ∷ c ∷ ds) e n h = absurd (omega arith)
+pub one_digit : (most : ℕ) (ds : List ℕ) → every is_digit ds ≡ true → length ds ≡ 1 → 1 ≤ most → plain most ds ≡ true
+one_digit most [] e n h = absurd (omega arith)
+one_digit most (b ∷ []) e n h = rw (e, le-leb 1 most h, or-true (not (eqb b 48)))
+one_digit most (b ∷ c ∷ ds) e n h = absurd (omega arith)
 
-more-digits : (most : ℕ) (ds : List ℕ) → every isDigit ds ≡ true → 1 < length ds → length ds ≤ most → plain most ds ≡ not (eqb (get_or ds 0 0) 48)
-more-digits most [] e n h = absurd (omega arith)
-more-digits most (b ∷ []) e n h = absurd (omega arith)
-more-digits most (b ∷ c ∷ ds) e n h = rw (e, le-leb (length (b ∷ c ∷ ds)) most h, or-false (not (eqb b 48))) (and-true _)
+more_digits : (most : ℕ) (ds : List ℕ) → every is_digit ds ≡ true → 1 < length ds → length ds ≤ most → plain most ds ≡ not (eqb (get_or ds 0 0) 48)
+more_digits most [] e n h = absurd (omega arith)
+more_digits most (b ∷ []) e n h = absurd (omega arith)
+more_digits most (b ∷ c ∷ ds) e n h = rw (e, le-leb (length (b ∷ c ∷ ds)) most h, or-false (not (eqb b 48))) (and-true _)
 
 module _ (most : ℕ) (s : List ℕ) where
-  pub plain-none : length (run isDigit s) ≡ 0 → plain most (run isDigit s) ≡ false
-  plain-none h = rw (none_left (run isDigit s) h)
+  pub plain_none : length (run is_digit s) ≡ 0 → plain most (run is_digit s) ≡ false
+  plain_none h = rw (none_left (run is_digit s) h)
 
-  pub plain-many : most < length (run isDigit s) → plain most (run isDigit s) ≡ false
-  plain-many h = plain-long most (run isDigit s) h
+  pub plain_many : most < length (run is_digit s) → plain most (run is_digit s) ≡ false
+  plain_many h = plain_long most (run is_digit s) h
 
-  pub plain-one : length (run isDigit s) ≡ 1 → 1 ≤ most → plain most (run isDigit s) ≡ true
-  plain-one n h = one-digit most (run isDigit s) (run-passes isDigit s) n h
+  pub plain_one : length (run is_digit s) ≡ 1 → 1 ≤ most → plain most (run is_digit s) ≡ true
+  plain_one n h = one_digit most (run is_digit s) (run_passes is_digit s) n h
 
-  pub plain_more : 1 < length (run isDigit s) → length (run isDigit s) ≤ most → plain most (run isDigit s) ≡ not (eqb (get_or s 0 0) 48)
-  plain_more n h = more-digits most (run isDigit s) (run-passes isDigit s) n h ∙ ap (λ (b : ℕ). not (eqb b 48)) (run-first isDigit s (omega arith))
+  pub plain_more : 1 < length (run is_digit s) → length (run is_digit s) ≤ most → plain most (run is_digit s) ≡ not (eqb (get_or s 0 0) 48)
+  plain_more n h = more_digits most (run is_digit s) (run_passes is_digit s) n h ∙ ap (λ (b : ℕ). not (eqb b 48)) (run_first is_digit s (omega arith))
 
 -- a number has so many digits at most, and one at least
-pub plain-short : (most : ℕ) (ds : List ℕ) → plain most ds ≡ true → length ds ≤ most
-plain-short most [] e = omega arith
-plain-short most (b ∷ ds) e = leb-true (length (b ∷ ds)) most (and_right (every isDigit (b ∷ ds) && (not (eqb b 48) || same ds [])) (leb (length (b ∷ ds)) most) e)
+pub plain_short : (most : ℕ) (ds : List ℕ) → plain most ds ≡ true → length ds ≤ most
+plain_short most [] e = omega arith
+plain_short most (b ∷ ds) e = leb-true (length (b ∷ ds)) most (and_right (every is_digit (b ∷ ds) && (not (eqb b 48) || same ds [])) (leb (length (b ∷ ds)) most) e)
 
-pub plain-digits : (most : ℕ) (ds : List ℕ) → plain most ds ≡ true → (every isDigit ds ≡ true) × (0 < length ds)
-plain-digits most [] e = not-both false e refl
-plain-digits most (b ∷ ds) e =
-    let f = and_left (every isDigit (b ∷ ds) && (not (eqb b 48) || same ds [])) (leb (length (b ∷ ds)) most) e in
-    (and_left (every isDigit (b ∷ ds)) (not (eqb b 48) || same ds []) f, omega arith)
+pub plain_digits : (most : ℕ) (ds : List ℕ) → plain most ds ≡ true → (every is_digit ds ≡ true) × (0 < length ds)
+plain_digits most [] e = not_both false e refl
+plain_digits most (b ∷ ds) e =
+    let f = and_left (every is_digit (b ∷ ds) && (not (eqb b 48) || same ds [])) (leb (length (b ∷ ds)) most) e in
+    (and_left (every is_digit (b ∷ ds)) (not (eqb b 48) || same ds []) f, omega arith)
 
 -- ---- a point and a digit
 
-pub pointed-at : (s : List ℕ) (i : ℕ) → pointed (drop i s) ≡ (begins (eqb 46) (drop i s) && begins isDigit (drop (i + 1) s))
-pointed-at s i = go (dec_lt i (length s))
+pub pointed_at : (s : List ℕ) (i : ℕ) → pointed (drop i s) ≡ (begins (eqb 46) (drop i s) && begins is_digit (drop (i + 1) s))
+pointed_at s i = go (dec_lt i (length s))
   where
-    go : Dec (i < length s) → pointed (drop i s) ≡ (begins (eqb 46) (drop i s) && begins isDigit (drop (i + 1) s))
-    go (yes h) = rw (drop_at s i h, eqb-sym (get_or s i 0) 46)
+    go : Dec (i < length s) → pointed (drop i s) ≡ (begins (eqb 46) (drop i s) && begins is_digit (drop (i + 1) s))
+    go (yes h) = rw (drop_at s i h, eqb_sym (get_or s i 0) 46)
     go (no h) = let l : length s ≤ i = omega arith in rw (drop_of_length-le s l)
 
 -- ---- the value kept: that of the digits read, if they are held
 
 pub record Held (s : List ℕ) (from i value : ℕ) : Type 0 where
   pub begun : from ≤ i
-  pub ends : runEnd isDigit s from ≡ runEnd isDigit s i
-  pub small : i - from ≤ heldDigits → value < 10 ^ (i - from)
-  pub value-is : i - from ≤ heldDigits → valueFrom 0 (run isDigit (drop from s)) ≡ valueFrom value (run isDigit (drop i s))
+  pub ends : run_end is_digit s from ≡ run_end is_digit s i
+  pub small : i - from ≤ held_digits → value < 10 ^ (i - from)
+  pub value_is : i - from ≤ held_digits → value_from 0 (run is_digit (drop from s)) ≡ value_from value (run is_digit (drop i s))
 
 pub held_none : (s : List ℕ) (from : ℕ) → Held s from from 0
 held_none s from =
     let z : from - from ≡ 0 = omega arith in
-    record { begun = omega arith; ends = refl; small = λ h. rw z (omega arith); value-is = λ h. refl }
+    record { begun = omega arith; ends = refl; small = λ h. rw z (omega arith); value_is = λ h. refl }
 
-module _ (s : List ℕ) (from i value : ℕ) (h : i < length s) (d : isDigit (get_or s i 0) ≡ true) (held : Held s from i value) where
+module _ (s : List ℕ) (from i value : ℕ) (h : i < length s) (d : is_digit (get_or s i 0) ≡ true) (held : Held s from i value) where
   next : i + 1 - from ≡ suc (i - from)
   next = omega (arith, held.begun)
 
   held_more : Held s from (i + 1) (value * 10 + (get_or s i 0 - 48))
   held_more = record {
     begun = omega (arith, held.begun);
-    ends = held.ends ∙ end_on isDigit s i h d;
+    ends = held.ends ∙ end_on is_digit s i h d;
     small = λ l. rw (next, pow-suc 10 (i - from)) (omega (arith, held.small (omega (arith, next)), leb-true (get_or s i 0) 57 (and_right (leb 48 (get_or s i 0)) (leb (get_or s i 0) 57) d)));
-    value-is = λ l. held.value-is (omega (arith, next)) ∙ ap (valueFrom value) (run_on isDigit s i h d);
+    value_is = λ l. held.value_is (omega (arith, next)) ∙ ap (value_from value) (run_on is_digit s i h d);
   }
 
-  held-full : 10 ^ heldDigits ≤ value → Held s from (i + 1) value
-  held-full f =
-      let full : i + 1 - from ≤ heldDigits → ⊥ = λ l. omega (arith, held.small (omega (arith, next)), pow-le-pow_right {n = 10} (omega arith) {i = i - from} {j = heldDigits} (omega (arith, next))) in
+  held_full : 10 ^ held_digits ≤ value → Held s from (i + 1) value
+  held_full f =
+      let full : i + 1 - from ≤ held_digits → ⊥ = λ l. omega (arith, held.small (omega (arith, next)), pow-le-pow_right {n = 10} (omega arith) {i = i - from} {j = held_digits} (omega (arith, next))) in
       record {
         begun = omega (arith, held.begun);
-        ends = held.ends ∙ end_on isDigit s i h d;
+        ends = held.ends ∙ end_on is_digit s i h d;
         small = λ l. absurd (full l);
-        value-is = λ l. absurd (full l);
+        value_is = λ l. absurd (full l);
       }
 
-  pub held_next : Held s from (i + 1) (grownBy value (get_or s i 0))
-  held_next = cases (ltb value (10 ^ heldDigits)) (λ e. rw e held_more) (λ e. rw e (held-full (ltb-false value (10 ^ heldDigits) e)))
+  pub held_next : Held s from (i + 1) (grown_by value (get_or s i 0))
+  held_next = cases (ltb value (10 ^ held_digits)) (λ e. rw e held_more) (λ e. rw e (held_full (ltb-false value (10 ^ held_digits) e)))
 
-pub held_all : (s : List ℕ) (from i value : ℕ) → Held s from i value → runEnd isDigit s i ≡ i → Counted (drop from s) (record { count = i - from; value = value })
+pub held_all : (s : List ℕ) (from i value : ℕ) → Held s from i value → run_end is_digit s i ≡ i → Counted (drop from s) (record { count = i - from; value = value })
 held_all s from i value held done =
-    let n : length (run isDigit (drop from s)) ≡ i - from = omega (arith, held.ends, held.begun) in
-    let none : run isDigit (drop i s) ≡ [] = none_left (run isDigit (drop i s)) (omega arith) in
-    record { count-is = sym n; value-is = λ l. sym (held.value-is (omega arith) ∙ ap (valueFrom value) none) }
+    let n : length (run is_digit (drop from s)) ≡ i - from = omega (arith, held.ends, held.begun) in
+    let none : run is_digit (drop i s) ≡ [] = none_left (run is_digit (drop i s)) (omega arith) in
+    record { count_is = sym n; value_is = λ l. sym (held.value_is (omega arith) ∙ ap (value_from value) none) }
 
 -- ---- the digits and the point lie within the text
 
-pub counted-fits : (s : List ℕ) (i : ℕ) → i ≤ length s → (d : Digits) → Counted (drop i s) d → i + d.count ≤ length s
-counted-fits s i h d counted = omega (arith, counted.count-is, run_length isDigit (drop i s), length-drop i s)
+pub counted_fits : (s : List ℕ) (i : ℕ) → i ≤ length s → (d : Digits) → Counted (drop i s) d → i + d.count ≤ length s
+counted_fits s i h d counted = omega (arith, counted.count_is, run_length is_digit (drop i s), length-drop i s)
 
-pub pointed-place : (s : List ℕ) (i : ℕ) → pointed (drop i s) ≡ true → i + 1 < length s
-pointed-place s i e = begins-place isDigit s (i + 1) (and_right (begins (eqb 46) (drop i s)) (begins isDigit (drop (i + 1) s)) (sym (pointed-at s i) ∙ e))
+pub pointed_place : (s : List ℕ) (i : ℕ) → pointed (drop i s) ≡ true → i + 1 < length s
+pointed_place s i e = begins_place is_digit s (i + 1) (and_right (begins (eqb 46) (drop i s)) (begins is_digit (drop (i + 1) s)) (sym (pointed_at s i) ∙ e))

@@ -9,43 +9,43 @@ use native.Mathlib.Omega.{arith}
 use borrow.Author.Tests.{leb-true}
 use lib.Dec.{eqb, leb}
 use lib.ListN.{length, drop}
-use Rattle.card.specs.Limits.{numberDigits, furtherDigits, wordDigits}
+use Rattle.card.specs.Limits.{number_digits, further_digits, word_digits}
 use Rattle.card.specs.Text.{bytes, if◌then◌else◌}
-use Rattle.marks_on_a_card.specs.Bytes.{isDigit, isLetter, isBlank, isSign, in_word, run, begins, every, after}
-use Rattle.marks_on_a_card.specs.Digits.{valueFrom, plain, numberSpelt, pointed}
+use Rattle.marks_on_a_card.specs.Bytes.{is_digit, is_letter, is_blank, is_sign, in_word, run, begins, every, after}
+use Rattle.marks_on_a_card.specs.Digits.{value_from, plain, number_spelt, pointed}
 use Rattle.marks_on_a_card.proofs.Lists.{and_left, and_right}
-use Rattle.marks_on_a_card.proofs.Runs.{run-passes}
-use Rattle.marks_on_a_card.proofs.Numbers.{plain-short, plain-digits}
-use Rattle.marks_on_a_card.specs.Marks.{Mark, text, seat, process, number, decimal, outside, second, Start, blank, mark, made, numbered, word, decimalMark, numeralMark, numeral, sign1, sign2, sign, comment, start_at}
+use Rattle.marks_on_a_card.proofs.Runs.{run_passes}
+use Rattle.marks_on_a_card.proofs.Numbers.{plain_short, plain_digits}
+use Rattle.marks_on_a_card.specs.Marks.{Mark, text, seat, process, number, decimal, outside, second, Start, blank, mark, made, numbered, word, decimal_mark, numeral_mark, numeral, sign1, sign2, sign, comment, start_at}
 
 -- the numbers in a mark have so many digits at most
 abbrev pub Small : Mark → Type 0
 Small (text s) = Unit {0}
-Small (seat i) = i < 10 ^ wordDigits
-Small (process i) = i < 10 ^ wordDigits
-Small (number v) = v < 10 ^ numberDigits
-Small (decimal v n f) = (v < 10 ^ numberDigits) × (n ≤ furtherDigits) × (f < 10 ^ n)
+Small (seat i) = i < 10 ^ word_digits
+Small (process i) = i < 10 ^ word_digits
+Small (number v) = v < 10 ^ number_digits
+Small (decimal v n f) = (v < 10 ^ number_digits) × (n ≤ further_digits) × (f < 10 ^ n)
 Small outside = Unit {0}
 
-value-below : (v : ℕ) (s : List ℕ) → every isDigit s ≡ true → valueFrom v s < suc v * 10 ^ length s
-value-below v [] e = omega arith
-value-below v (b ∷ s) e =
-    let next = value-below (v * 10 + (b - 48)) s (and_right (isDigit b) (every isDigit s) e) in
-    let hi = and_right (leb 48 b) (leb b 57) (and_left (isDigit b) (every isDigit s) e) in
+value_below : (v : ℕ) (s : List ℕ) → every is_digit s ≡ true → value_from v s < suc v * 10 ^ length s
+value_below v [] e = omega arith
+value_below v (b ∷ s) e =
+    let next = value_below (v * 10 + (b - 48)) s (and_right (is_digit b) (every is_digit s) e) in
+    let hi = and_right (leb 48 b) (leb b 57) (and_left (is_digit b) (every is_digit s) e) in
     let top : suc (v * 10 + (b - 48)) ≤ suc v * 10 = omega (arith, leb-true b 57 hi) in
     let grown = mul-le-mul_right (10 ^ length s) top in
     let power : suc v * 10 * 10 ^ length s ≡ suc v * (10 * 10 ^ length s) = mul_assoc (suc v) 10 (10 ^ length s) in
     let last : 10 ^ suc (length s) ≡ 10 * 10 ^ length s = omega (arith, pow-suc 10 (length s)) in
     rw last (omega (arith, next, grown, power))
 
-plain-below : (most : ℕ) (s : List ℕ) → plain most s ≡ true → valueFrom 0 s < 10 ^ most
-plain-below most s e = omega (arith, value-below 0 s (plain-digits most s e).0, pow-le-pow_right {n = 10} (omega arith) (plain-short most s e))
+plain_below : (most : ℕ) (s : List ℕ) → plain most s ≡ true → value_from 0 s < 10 ^ most
+plain_below most s e = omega (arith, value_below 0 s (plain_digits most s e).0, pow-le-pow_right {n = 10} (omega arith) (plain_short most s e))
 
-number-below : (most : ℕ) (s : List ℕ) (v : ℕ) → numberSpelt most s ≡ some v → v < 10 ^ most
-number-below most s v e = go (plain most s) refl e
+number_below : (most : ℕ) (s : List ℕ) (v : ℕ) → number_spelt most s ≡ some v → v < 10 ^ most
+number_below most s v e = go (plain most s) refl e
   where
-    go : (b : Bool) → plain most s ≡ b → (if b then some (valueFrom 0 s) else none) ≡ some v → v < 10 ^ most
-    go true q e = let z : valueFrom 0 s ≡ v = cc in rw (← z) (plain-below most s q)
+    go : (b : Bool) → plain most s ≡ b → (if b then some (value_from 0 s) else none) ≡ some v → v < 10 ^ most
+    go true q e = let z : value_from 0 s ≡ v = cc in rw (← z) (plain_below most s q)
     go false q e = let z : ◌≡◌ {A = ℕ} 0 1 = cc in absurd (omega arith)
 
 -- ---- whatever starts at a byte
@@ -58,31 +58,31 @@ choose : (b : Bool) (x y : Start) → SmallStart x → SmallStart y → SmallSta
 choose true x y p q = p
 choose false x y p q = q
 
-numbered-small : (f : ℕ → Mark) → ((v : ℕ) → v < 10 ^ wordDigits → Small (f v)) → (o : Option (List ℕ)) (other : Mark) → Small other → Small (numbered f o other)
-numbered-small f h none other k = k
-numbered-small f h (some s) other k = go (numberSpelt wordDigits s) refl
+numbered_small : (f : ℕ → Mark) → ((v : ℕ) → v < 10 ^ word_digits → Small (f v)) → (o : Option (List ℕ)) (other : Mark) → Small other → Small (numbered f o other)
+numbered_small f h none other k = k
+numbered_small f h (some s) other k = go (number_spelt word_digits s) refl
   where
-    go : (o : Option ℕ) → numberSpelt wordDigits s ≡ o → Small (made f o other)
+    go : (o : Option ℕ) → number_spelt word_digits s ≡ o → Small (made f o other)
     go none e = k
-    go (some v) e = h v (number-below wordDigits s v e)
+    go (some v) e = h v (number_below word_digits s v e)
 
-decimal-small : (v more : ℕ) (f : List ℕ) → v < 10 ^ numberDigits → every isDigit f ≡ true → SmallStart (decimalMark v more f)
-decimal-small v more f h d = go (leb (length f) furtherDigits) refl
+decimal_small : (v more : ℕ) (f : List ℕ) → v < 10 ^ number_digits → every is_digit f ≡ true → SmallStart (decimal_mark v more f)
+decimal_small v more f h d = go (leb (length f) further_digits) refl
   where
-    go : (b : Bool) → leb (length f) furtherDigits ≡ b → SmallStart (if b then mark (decimal v (length f) (valueFrom 0 f)) (more + 1 + length f) else mark outside 0)
-    go true e = (h, leb-true (length f) furtherDigits e, omega (arith, value-below 0 f d))
+    go : (b : Bool) → leb (length f) further_digits ≡ b → SmallStart (if b then mark (decimal v (length f) (value_from 0 f)) (more + 1 + length f) else mark outside 0)
+    go true e = (h, leb-true (length f) further_digits e, omega (arith, value_below 0 f d))
     go false e = tt
 
-numeral-small : (more : ℕ) (z : List ℕ) (o : Option ℕ) → ((v : ℕ) → o ≡ some v → v < 10 ^ numberDigits) → SmallStart (numeralMark o more z)
-numeral-small more z none h = tt
-numeral-small more z (some v) h =
-    choose (pointed z) (decimalMark v more (run isDigit (drop 1 z))) (mark (number v) more) (decimal-small v more (run isDigit (drop 1 z)) (h v refl) (run-passes isDigit (drop 1 z))) (h v refl)
+numeral_small : (more : ℕ) (z : List ℕ) (o : Option ℕ) → ((v : ℕ) → o ≡ some v → v < 10 ^ number_digits) → SmallStart (numeral_mark o more z)
+numeral_small more z none h = tt
+numeral_small more z (some v) h =
+    choose (pointed z) (decimal_mark v more (run is_digit (drop 1 z))) (mark (number v) more) (decimal_small v more (run is_digit (drop 1 z)) (h v refl) (run_passes is_digit (drop 1 z))) (h v refl)
 
 sign_small : (a : ℕ) (s : List ℕ) → SmallStart (sign a s)
 sign_small a s = two (second a)
   where
     one : SmallStart (sign1 a)
-    one = choose (isSign a) (mark (text (a ∷ [])) 0) (mark outside 0) tt tt
+    one = choose (is_sign a) (mark (text (a ∷ [])) 0) (mark outside 0) tt tt
 
     two : (o : Option ℕ) → SmallStart (sign2 a o s)
     two none = one
@@ -90,12 +90,12 @@ sign_small a s = two (second a)
 
 pub start_small : (b : ℕ) (s : List ℕ) → SmallStart (start_at b s)
 start_small b s =
-    choose (isBlank b) (blank 0) _ tt
+    choose (is_blank b) (blank 0) _ tt
     (choose (eqb b 47 && begins (eqb 47) s) (comment s) _ tt
-    (choose (isLetter b) (word b s) _
+    (choose (is_letter b) (word b s) _
     (let w = b ∷ run in_word s in
-    numbered-small seat (λ v h. h) (after (bytes "s") w) (numbered process (after (bytes "process") w) (text w))
-    (numbered-small process (λ v h. h) (after (bytes "process") w) (text w) tt))
-    (choose (isDigit b) (numeral b s) (sign b s)
-    (numeral-small (length (run isDigit s)) (drop (length (run isDigit s)) s) (numberSpelt numberDigits (b ∷ run isDigit s)) (number-below numberDigits (b ∷ run isDigit s)))
+    numbered_small seat (λ v h. h) (after (bytes "s") w) (numbered process (after (bytes "process") w) (text w))
+    (numbered_small process (λ v h. h) (after (bytes "process") w) (text w) tt))
+    (choose (is_digit b) (numeral b s) (sign b s)
+    (numeral_small (length (run is_digit s)) (drop (length (run is_digit s)) s) (number_spelt number_digits (b ∷ run is_digit s)) (number_below number_digits (b ∷ run is_digit s)))
     (sign_small b s))))

@@ -6,35 +6,35 @@ use Rattle.card.specs.Text.{bytes, if◌then◌else◌}
 abbrev pub within : ℕ → ℕ → ℕ → Bool
 within a z b = leb a b && leb b z
 
-abbrev pub isDigit : ℕ → Bool
-isDigit = within 48 57
+abbrev pub is_digit : ℕ → Bool
+is_digit = within 48 57
 
-abbrev pub isLetter : ℕ → Bool
-isLetter b = within 65 90 b || within 97 122 b
+abbrev pub is_letter : ℕ → Bool
+is_letter b = within 65 90 b || within 97 122 b
 
 abbrev pub in_word : ℕ → Bool
-in_word b = isDigit b || isLetter b || eqb b 95
+in_word b = is_digit b || is_letter b || eqb b 95
 
 abbrev pub one_of : List ℕ → ℕ → Bool
 one_of [] b = false
 one_of (a ∷ s) b = eqb b a || one_of s b
 
-abbrev pub isBlank : ℕ → Bool
-isBlank = one_of (bytes " \t\r\n")
+abbrev pub is_blank : ℕ → Bool
+is_blank = one_of (bytes " \t\r\n")
 
-abbrev pub isSign : ℕ → Bool
-isSign = one_of (bytes "[]:;=!&|()+',/")
+abbrev pub is_sign : ℕ → Bool
+is_sign = one_of (bytes "[]:;=!&|()+',/")
 
 -- the signs of one byte that begin no other mark
-abbrev pub isAlone : ℕ → Bool
-isAlone b = isSign b && not (eqb b 33 || eqb b 47)
+abbrev pub is_alone : ℕ → Bool
+is_alone b = is_sign b && not (eqb b 33 || eqb b 47)
 
 -- a number goes on, with a digit or a point
-abbrev pub inNumber : ℕ → Bool
-inNumber b = isDigit b || eqb b 46
+abbrev pub in_number : ℕ → Bool
+in_number b = is_digit b || eqb b 46
 
-abbrev pub notLF : ℕ → Bool
-notLF b = not (eqb b 10)
+abbrev pub not_lf : ℕ → Bool
+not_lf b = not (eqb b 10)
 
 -- the bytes at the front that pass a test
 abbrev pub run : (ℕ → Bool) → List ℕ → List ℕ
@@ -59,8 +59,8 @@ after (a ∷ t) [] = none
 after (a ∷ t) (b ∷ s) = if eqb a b then after t s else none
 
 -- the place behind the bytes from i on that pass a test
-abbrev pub runEnd : (ℕ → Bool) → List ℕ → ℕ → ℕ
-runEnd p s i = i + length (run p (drop i s))
+abbrev pub run_end : (ℕ → Bool) → List ℕ → ℕ → ℕ
+run_end p s i = i + length (run p (drop i s))
 
 -- does a text begin with these bytes?
 abbrev pub is_some : Option (List ℕ) → Bool

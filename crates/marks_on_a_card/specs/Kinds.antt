@@ -4,27 +4,27 @@ use Prim.Native.String.{String}
 use Rattle.card.specs.Text.{bytes, same, if◌then◌else◌}
 use Rattle.marks_on_a_card.specs.Marks.{Mark, text, seat, process, number, decimal, outside}
 
-abbrev pub kEnd : ℕ
-kEnd = 0
+abbrev pub k_end : ℕ
+k_end = 0
 
-abbrev pub kOutside : ℕ
-kOutside = 1
+abbrev pub k_outside : ℕ
+k_outside = 1
 
-abbrev pub kNumber : ℕ
-kNumber = 2
+abbrev pub k_number : ℕ
+k_number = 2
 
-abbrev pub kDecimal : ℕ
-kDecimal = 3
+abbrev pub k_decimal : ℕ
+k_decimal = 3
 
-abbrev pub kSeat : ℕ
-kSeat = 4
+abbrev pub k_seat : ℕ
+k_seat = 4
 
-abbrev pub kProcess : ℕ
-kProcess = 5
+abbrev pub k_process : ℕ
+k_process = 5
 
 -- a word that is no keyword
-abbrev pub kWord : ℕ
-kWord = 6
+abbrev pub k_word : ℕ
+k_word = 6
 
 -- the signs and keywords; among these the two words of the shared number (document 02, 2026-10)
 pub record Known : Type 0 where
@@ -43,21 +43,21 @@ knowns =
     ∷ known "global" 13 ∷ known "g" 14
     ∷ []
 
-abbrev pub kindIn : List Known → List ℕ → ℕ
-kindIn [] s = kWord
-kindIn (x ∷ xs) s = if same s x.spelt then x.kind else kindIn xs s
+abbrev pub kind_in : List Known → List ℕ → ℕ
+kind_in [] s = k_word
+kind_in (x ∷ xs) s = if same s x.spelt then x.kind else kind_in xs s
 
 -- the kind of a sign or keyword, by its text
 abbrev pub kind : String → ℕ
-kind t = kindIn knowns (bytes t)
+kind t = kind_in knowns (bytes t)
 
 abbrev pub kind_of : Mark → ℕ
-kind_of (text s) = kindIn knowns s
-kind_of (seat i) = kSeat
-kind_of (process i) = kProcess
-kind_of (number v) = kNumber
-kind_of (decimal v n f) = kDecimal
-kind_of outside = kOutside
+kind_of (text s) = kind_in knowns s
+kind_of (seat i) = k_seat
+kind_of (process i) = k_process
+kind_of (number v) = k_number
+kind_of (decimal v n f) = k_decimal
+kind_of outside = k_outside
 
 -- the number of a word, a number, or before a decimal's point
 abbrev pub value_of : Mark → ℕ
@@ -69,18 +69,18 @@ value_of (decimal v n f) = v
 value_of outside = 0
 
 -- of a decimal: how many digits stand after the point, and the number they spell
-abbrev pub digitsOf : Mark → ℕ
-digitsOf (text s) = 0
-digitsOf (seat i) = 0
-digitsOf (process i) = 0
-digitsOf (number v) = 0
-digitsOf (decimal v n f) = n
-digitsOf outside = 0
+abbrev pub digits_of : Mark → ℕ
+digits_of (text s) = 0
+digits_of (seat i) = 0
+digits_of (process i) = 0
+digits_of (number v) = 0
+digits_of (decimal v n f) = n
+digits_of outside = 0
 
-abbrev pub furtherOf : Mark → ℕ
-furtherOf (text s) = 0
-furtherOf (seat i) = 0
-furtherOf (process i) = 0
-furtherOf (number v) = 0
-furtherOf (decimal v n f) = f
-furtherOf outside = 0
+abbrev pub further_of : Mark → ℕ
+further_of (text s) = 0
+further_of (seat i) = 0
+further_of (process i) = 0
+further_of (number v) = 0
+further_of (decimal v n f) = f
+further_of outside = 0

@@ -1,10 +1,10 @@
 -- The marks of a card, each with its place ("Marks on a card"). Assumes nothing.
 use Rattle.std.specs.Prelude.{ℕ, zero, suc, ◌+◌, ◌-◌, ◌&&◌, List, [], ◌∷◌, eqb, leb, length, drop}
 use Rattle.std.proofs.Math.Option.{Option, none, some}
-use Rattle.card.specs.Limits.{numberDigits, furtherDigits, wordDigits}
+use Rattle.card.specs.Limits.{number_digits, further_digits, word_digits}
 use Rattle.card.specs.Text.{bytes, if◌then◌else◌}
-use Rattle.marks_on_a_card.specs.Bytes.{isDigit, isLetter, in_word, isBlank, isSign, notLF, run, begins, after}
-use Rattle.marks_on_a_card.specs.Digits.{valueFrom, numberSpelt, pointed}
+use Rattle.marks_on_a_card.specs.Bytes.{is_digit, is_letter, in_word, is_blank, is_sign, not_lf, run, begins, after}
+use Rattle.marks_on_a_card.specs.Digits.{value_from, number_spelt, pointed}
 
 pub data Mark : Type 0 where
   text : List ℕ → Mark  -- a sign, a keyword or another word: its bytes
@@ -29,30 +29,30 @@ made f (some v) other = f v
 
 abbrev pub numbered : (ℕ → Mark) → Option (List ℕ) → Mark → Mark
 numbered f none other = other
-numbered f (some s) other = made f (numberSpelt wordDigits s) other
+numbered f (some s) other = made f (number_spelt word_digits s) other
 
-abbrev pub wordMark : List ℕ → Mark
-wordMark w = numbered seat (after (bytes "s") w) (numbered process (after (bytes "process") w) (text w))
+abbrev pub word_mark : List ℕ → Mark
+word_mark w = numbered seat (after (bytes "s") w) (numbered process (after (bytes "process") w) (text w))
 
 abbrev pub word : ℕ → List ℕ → Start
-word b s = let t = run in_word s in mark (wordMark (b ∷ t)) (length t)
+word b s = let t = run in_word s in mark (word_mark (b ∷ t)) (length t)
 
-abbrev pub decimalMark : ℕ → ℕ → List ℕ → Start
-decimalMark v more f = if leb (length f) furtherDigits then mark (decimal v (length f) (valueFrom 0 f)) (more + 1 + length f) else mark outside 0
+abbrev pub decimal_mark : ℕ → ℕ → List ℕ → Start
+decimal_mark v more f = if leb (length f) further_digits then mark (decimal v (length f) (value_from 0 f)) (more + 1 + length f) else mark outside 0
 
-abbrev pub numeralMark : Option ℕ → ℕ → List ℕ → Start
-numeralMark none more z = mark outside 0
-numeralMark (some v) more z = if pointed z then decimalMark v more (run isDigit (drop 1 z)) else mark (number v) more
+abbrev pub numeral_mark : Option ℕ → ℕ → List ℕ → Start
+numeral_mark none more z = mark outside 0
+numeral_mark (some v) more z = if pointed z then decimal_mark v more (run is_digit (drop 1 z)) else mark (number v) more
 
 abbrev pub numeral : ℕ → List ℕ → Start
-numeral b s = let t = run isDigit s in numeralMark (numberSpelt numberDigits (b ∷ t)) (length t) (drop (length t) s)
+numeral b s = let t = run is_digit s in numeral_mark (number_spelt number_digits (b ∷ t)) (length t) (drop (length t) s)
 
 -- the second byte of `..`, `->`, `!=`
 abbrev pub second : ℕ → Option ℕ
 second a = if eqb a 46 then some 46 else (if eqb a 45 then some 62 else (if eqb a 33 then some 61 else none))
 
 abbrev pub sign1 : ℕ → Start
-sign1 a = if isSign a then mark (text (a ∷ [])) 0 else mark outside 0
+sign1 a = if is_sign a then mark (text (a ∷ [])) 0 else mark outside 0
 
 abbrev pub sign2 : ℕ → Option ℕ → List ℕ → Start
 sign2 a none s = sign1 a
@@ -62,14 +62,14 @@ abbrev pub sign : ℕ → List ℕ → Start
 sign a s = sign2 a (second a) s
 
 abbrev pub comment : List ℕ → Start
-comment s = blank (length (run notLF s))
+comment s = blank (length (run not_lf s))
 
 abbrev pub start_at : ℕ → List ℕ → Start
 start_at b s =
-    if isBlank b then blank 0
+    if is_blank b then blank 0
     else (if eqb b 47 && begins (eqb 47) s then comment s
-    else (if isLetter b then word b s
-    else (if isDigit b then numeral b s
+    else (if is_letter b then word b s
+    else (if is_digit b then numeral b s
     else sign b s)))
 
 -- how many bytes a blank or a comment takes; none where a mark starts
@@ -88,8 +88,8 @@ marks e skip [] = []
 marks e zero (b ∷ s) = emit (e - length (b ∷ s)) (start_at b s) (λ more. marks e more s)
 marks e (suc skip) (b ∷ s) = marks e skip s
 
-abbrev pub marksOf : List ℕ → List Placed
-marksOf s = marks (length s) 0 s
+abbrev pub marks_of : List ℕ → List Placed
+marks_of s = marks (length s) 0 s
 
 -- the place at which these marks begin: that of the first, or the end of the text
 abbrev pub place_of : ℕ → List Placed → ℕ

@@ -1,52 +1,52 @@
 -- Marks that stand right at the front of a text, told from their first bytes. Assumes nothing.
 use Rattle.std.specs.Prelude.{ℕ, ◌+◌, ◌-◌, Bool, false, not, ◌&&◌, List, [], ◌∷◌, eqb, leb, length, drop}
 use Rattle.card.specs.Text.{bytes, if◌then◌else◌}
-use Rattle.marks_on_a_card.specs.Bytes.{isDigit, in_word, begins, isAlone, inNumber, begun}
+use Rattle.marks_on_a_card.specs.Bytes.{is_digit, in_word, begins, is_alone, in_number, begun}
 
 -- a sign of one kind that begins no other mark
-abbrev pub signAhead : ℕ → List ℕ → Bool
-signAhead kind [] = false
-signAhead kind (b ∷ s) = eqb b kind && isAlone b
+abbrev pub sign_ahead : ℕ → List ℕ → Bool
+sign_ahead kind [] = false
+sign_ahead kind (b ∷ s) = eqb b kind && is_alone b
 
 -- the number of one digit behind which no byte of a kind stands; where there is none, no digit has that number
-abbrev pub noDigit : ℕ
-noDigit = 10
+abbrev pub no_digit : ℕ
+no_digit = 10
 
-abbrev pub oneDigit : (ℕ → Bool) → List ℕ → ℕ
-oneDigit more [] = noDigit
-oneDigit more (b ∷ s) = if isDigit b && not (begins more s) then b - 48 else noDigit
+abbrev pub one_digit : (ℕ → Bool) → List ℕ → ℕ
+one_digit more [] = no_digit
+one_digit more (b ∷ s) = if is_digit b && not (begins more s) then b - 48 else no_digit
 
 -- the number with one digit; the digit that ends a word
-abbrev pub digitAhead : List ℕ → ℕ
-digitAhead = oneDigit inNumber
+abbrev pub digit_ahead : List ℕ → ℕ
+digit_ahead = one_digit in_number
 
-abbrev pub lastDigit : List ℕ → ℕ
-lastDigit = oneDigit in_word
+abbrev pub last_digit : List ℕ → ℕ
+last_digit = one_digit in_word
 
 -- the number of the seat word with one digit
-abbrev pub seatAhead : List ℕ → ℕ
-seatAhead s = if begins (eqb 115) s then lastDigit (drop 1 s) else noDigit
+abbrev pub seat_ahead : List ℕ → ℕ
+seat_ahead s = if begins (eqb 115) s then last_digit (drop 1 s) else no_digit
 
 -- the place behind one blank, where one stands
-abbrev pub pastBlank : List ℕ → ℕ → ℕ
-pastBlank s i = if begins (eqb 32) (drop i s) then i + 1 else i
+abbrev pub past_blank : List ℕ → ℕ → ℕ
+past_blank s i = if begins (eqb 32) (drop i s) then i + 1 else i
 
 -- the same, or the place behind the end of a line
-abbrev pub pastLine : List ℕ → ℕ → ℕ
-pastLine s i = if begins (eqb 10) (drop i s) then i + 1 else pastBlank s i
+abbrev pub past_line : List ℕ → ℕ → ℕ
+past_line s i = if begins (eqb 10) (drop i s) then i + 1 else past_blank s i
 
 -- these bytes at a place
-abbrev pub bytesAhead : List ℕ → List ℕ → ℕ → Bool
-bytesAhead t s i = leb i (length s) && begun t (drop i s)
+abbrev pub bytes_ahead : List ℕ → List ℕ → ℕ → Bool
+bytes_ahead t s i = leb i (length s) && begun t (drop i s)
 
 -- the same, and no word that goes on behind them
-abbrev pub wordAhead : List ℕ → List ℕ → ℕ → Bool
-wordAhead t s i = bytesAhead t s i && not (begins in_word (drop (i + length t) s))
+abbrev pub word_ahead : List ℕ → List ℕ → ℕ → Bool
+word_ahead t s i = bytes_ahead t s i && not (begins in_word (drop (i + length t) s))
 
 -- the number of the module word with one digit
-abbrev pub processAhead : List ℕ → ℕ → ℕ
-processAhead s i = if bytesAhead (bytes "process") s i then lastDigit (drop (i + 7) s) else noDigit
+abbrev pub process_ahead : List ℕ → ℕ → ℕ
+process_ahead s i = if bytes_ahead (bytes "process") s i then last_digit (drop (i + 7) s) else no_digit
 
 -- the second digit of the seat word from s10 to s19
-abbrev pub teenAhead : List ℕ → ℕ → ℕ
-teenAhead s i = if bytesAhead (bytes "s1") s i then lastDigit (drop (i + 2) s) else noDigit
+abbrev pub teen_ahead : List ℕ → ℕ → ℕ
+teen_ahead s i = if bytes_ahead (bytes "s1") s i then last_digit (drop (i + 2) s) else no_digit

@@ -8,17 +8,17 @@ use lib.Seq.{get_or-set_same, get_or-set_other}
 use Rattle.card.specs.Card.{Branch, Statement, Card}
 use Rattle.meaning.specs.Sums.{flat}
 use Rattle.meaning.specs.Steps.{Turn}
-use Rattle.meaning.specs.Choices.{Choice, choice, choicesOf, turnsIn}
+use Rattle.meaning.specs.Choices.{Choice, choice, choices_of, turns_in}
 use Rattle.meaning.specs.Offers.{OneForOne}
-use Rattle.meaning.specs.Seats.{Seating, seatStepBy, turn, turnsBy, turns, Stuck}
+use Rattle.meaning.specs.Seats.{Seating, seat_step_by, turn, turns_by, turns, Stuck}
 use Rattle.meaning.specs.Apart.{SeatStep, takers}
 use Rattle.meaning.proofs.Stuck.{moving}
 
-pub own-seat : (s : Statement) (x : Seating) (i : ℕ) → i < length x.each → OneForOne (SeatStep x i) s.branches (turn s x i)
+pub own_seat : (s : Statement) (x : Seating) (i : ℕ) → i < length x.each → OneForOne (SeatStep x i) s.branches (turn s x i)
 unfolding turn
-own-seat s x i l = go s.branches
+own_seat s x i l = go s.branches
   where
-    go : (m : List Branch) → OneForOne (SeatStep x i) m (map (seatStepBy x i) m)
+    go : (m : List Branch) → OneForOne (SeatStep x i) m (map (seat_step_by x i) m)
     go [] = tt
     go (b ∷ m) = (
       record {
@@ -32,15 +32,15 @@ own-seat s x i l = go s.branches
     )
 
 -- the turns of all choices, from place q on
-all-turns : {A S : Type 0} (of : A → List (Turn S)) (q : ℕ) (l : List A) → turnsIn (choicesOf of q l) ≡ flat (map of l)
-unfolding choicesOf
-all-turns of q [] = refl
-all-turns {S = S} of q (a ∷ l) = go (of a) (all-turns of (suc q) l)
+all_turns : {A S : Type 0} (of : A → List (Turn S)) (q : ℕ) (l : List A) → turns_in (choices_of of q l) ≡ flat (map of l)
+unfolding choices_of
+all_turns of q [] = refl
+all_turns {S = S} of q (a ∷ l) = go (of a) (all_turns of (suc q) l)
   where
-    go : (m : List (Turn S)) → turnsIn (choicesOf of (suc q) l) ≡ flat (map of l) → turnsIn (choice q m ++ choicesOf of (suc q) l) ≡ m ++ flat (map of l)
+    go : (m : List (Turn S)) → turns_in (choices_of of (suc q) l) ≡ flat (map of l) → turns_in (choice q m ++ choices_of of (suc q) l) ≡ m ++ flat (map of l)
     go [] h = h
     go (t ∷ m) h = ap (λ (r : List (Turn S)). (t ∷ m) ++ r) h
 
 pub pairs : (c : Card) (x : Seating) → (Stuck c x → ⊥) → turns c x ≡ flat (map (λ s. map (turn s x) (takers s x)) c.statements)
-unfolding turns turnsBy
-pairs c x h = ap (λ (l : List (Choice Seating)). turnsIn l) (moving c x h) ∙ all-turns (λ s. turnsBy s x) 1 c.statements
+unfolding turns turns_by
+pairs c x h = ap (λ (l : List (Choice Seating)). turns_in l) (moving c x h) ∙ all_turns (λ s. turns_by s x) 1 c.statements

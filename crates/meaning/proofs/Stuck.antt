@@ -13,11 +13,11 @@ use Rattle.card.specs.Card.{Statement, Card}
 use Rattle.meaning.specs.Sums.{upto, those}
 use Rattle.meaning.specs.Position.{Position}
 use Rattle.meaning.specs.Steps.{Turn}
-use Rattle.meaning.specs.Choices.{choicesOf, stay, stuckChoices}
-use Rattle.meaning.specs.Seats.{Seating, mayTake, turn, turnsBy, choicesFrom, choices, turns, steps, Stuck}
-use Rattle.meaning.specs.Reduced.{Reduced, Program, canTake, reducedTurn, reducedTurnsBy, reducedChoices, reducedTurns, reducedSteps, StuckAt}
-use Rattle.meaning.proofs.Sums.{every-imp}
-use Rattle.meaning.proofs.Choices.{choices-placed, choices-none, none-chosen, or-stay, or-taken, stuck-only}
+use Rattle.meaning.specs.Choices.{choices_of, stay, stuck_choices}
+use Rattle.meaning.specs.Seats.{Seating, may_take, turn, turns_by, choices_from, choices, turns, steps, Stuck}
+use Rattle.meaning.specs.Reduced.{Reduced, Program, can_take, reduced_turn, reduced_turns_by, reduced_choices, reduced_turns, reduced_steps, StuckAt}
+use Rattle.meaning.proofs.Sums.{every_imp}
+use Rattle.meaning.proofs.Choices.{choices_placed, choices_none, none_chosen, or_stay_law, or_taken, stuck_only}
 use Rattle.meaning.proofs.Turns.{Taker, takers}
 
 -- ---- one statement
@@ -36,16 +36,16 @@ none_below p (suc n) f e (suc i) l = go (p (f zero)) e (λ r. none_below p n (λ
     go true e h = absurd (cons≢nil e)
     go false e h = h e
 
-map-none : {A B : Type 0} (f : A → B) (l : List A) → map f l ≡ [] → l ≡ []
-map-none f [] e = refl
-map-none f (a ∷ l) e = absurd (cons≢nil e)
+map_none : {A B : Type 0} (f : A → B) (l : List A) → map f l ≡ [] → l ≡ []
+map_none f [] e = refl
+map_none f (a ∷ l) e = absurd (cons≢nil e)
 
-pub no-taker : (s : Statement) (x : Seating) → turnsBy s x ≡ [] → (i : ℕ) → i < length x.each → mayTake s x i ≡ false
-unfolding turnsBy
-no-taker s x e = none_below (mayTake s x) (length x.each) (λ i. i) (map-none (turn s x) _ e)
+pub no_taker : (s : Statement) (x : Seating) → turns_by s x ≡ [] → (i : ℕ) → i < length x.each → may_take s x i ≡ false
+unfolding turns_by
+no_taker s x e = none_below (may_take s x) (length x.each) (λ i. i) (map_none (turn s x) _ e)
 
-no-turn : (s : Statement) (x : Seating) → ((i : ℕ) → i < length x.each → mayTake s x i ≡ false) → turnsBy s x ≡ []
-no-turn s x h = go (turnsBy s x) (takers s x)
+no_turn : (s : Statement) (x : Seating) → ((i : ℕ) → i < length x.each → may_take s x i ≡ false) → turns_by s x ≡ []
+no_turn s x h = go (turns_by s x) (takers s x)
   where
     go : (m : List (Turn Seating)) → Every (Taker s x) m → m ≡ []
     go [] e = refl
@@ -54,64 +54,64 @@ no-turn s x h = go (turnsBy s x) (takers s x)
 -- ---- all statements
 
 module _ (x : Seating) where
-  to : (l : List Statement) → Every (λ s. (i : ℕ) → i < length x.each → mayTake s x i ≡ false) l → Every (λ s. turnsBy s x ≡ []) l
-  to l h = every-imp _ l h (λ s. no-turn s x)
+  to : (l : List Statement) → Every (λ s. (i : ℕ) → i < length x.each → may_take s x i ≡ false) l → Every (λ s. turns_by s x ≡ []) l
+  to l h = every_imp _ l h (λ s. no_turn s x)
 
-  from : (l : List Statement) → Every (λ s. turnsBy s x ≡ []) l → Every (λ s. (i : ℕ) → i < length x.each → mayTake s x i ≡ false) l
-  from l h = every-imp _ l h (λ s. no-taker s x)
+  from : (l : List Statement) → Every (λ s. turns_by s x ≡ []) l → Every (λ s. (i : ℕ) → i < length x.each → may_take s x i ≡ false) l
+  from l h = every_imp _ l h (λ s. no_taker s x)
 
 module _ (c : Card) (x : Seating) where
-  pub nothing-taken : Stuck c x ↔ (choicesFrom 1 c.statements x ≡ [])
-  nothing-taken = (
-    λ h. choices-none (λ s. turnsBy s x) 1 c.statements (to x c.statements h),
-    λ e. from x c.statements (none-chosen (λ s. turnsBy s x) 1 c.statements e),
+  pub nothing_taken : Stuck c x ↔ (choices_from 1 c.statements x ≡ [])
+  nothing_taken = (
+    λ h. choices_none (λ s. turns_by s x) 1 c.statements (to x c.statements h),
+    λ e. from x c.statements (none_chosen (λ s. turns_by s x) 1 c.statements e),
   )
 
   -- the stuck choice is there exactly where the seating is stuck
-  pub stuck : Stuck c x ↔ (choices c x ≡ stuckChoices x)
+  pub stuck : Stuck c x ↔ (choices c x ≡ stuck_choices x)
   unfolding choices
   stuck = (
-    λ h. or-stay x (nothing-taken.0 h),
-    λ e. nothing-taken.1 (stuck-only x (choicesFrom 1 c.statements x) (choices-placed (λ s. turnsBy s x) c.statements) e),
+    λ h. or_stay_law x (nothing_taken.0 h),
+    λ e. nothing_taken.1 (stuck_only x (choices_from 1 c.statements x) (choices_placed (λ s. turns_by s x) c.statements) e),
   )
 
   -- elsewhere the choices are the statements that can be taken
-  pub moving : (Stuck c x → ⊥) → choices c x ≡ choicesFrom 1 c.statements x
+  pub moving : (Stuck c x → ⊥) → choices c x ≡ choices_from 1 c.statements x
   unfolding choices
-  moving h = or-taken x (choicesFrom 1 c.statements x) (λ e. h (nothing-taken.1 e))
+  moving h = or_taken x (choices_from 1 c.statements x) (λ e. h (nothing_taken.1 e))
 
-  pub stuck-step : Stuck c x → steps c x ≡ stay x
+  pub stuck_step : Stuck c x → steps c x ≡ stay x
   unfolding steps turns
-  stuck-step h = rw (stuck.0 h)
+  stuck_step h = rw (stuck.0 h)
 
 -- ---- by counts
 
-no_copy : (v : Position) (r : Reduced) → (canTake v r ≡ false) ↔ (reducedTurnsBy v r ≡ [])
-unfolding reducedTurnsBy
-no_copy v r = go (canTake v r)
+no_copy : (v : Position) (r : Reduced) → (can_take v r ≡ false) ↔ (reduced_turns_by v r ≡ [])
+unfolding reduced_turns_by
+no_copy v r = go (can_take v r)
   where
-    go : (b : Bool) → (b ≡ false) ↔ ((if b then reducedTurn v r ∷ [] else []) ≡ [])
+    go : (b : Bool) → (b ≡ false) ↔ ((if b then reduced_turn v r ∷ [] else []) ≡ [])
     go true = (λ e. absurd (true≢false e), λ e. absurd (cons≢nil e))
     go false = (λ e. refl, λ e. refl)
 
 module _ (p : Program) (v : Position) where
-  pub none-taken-at : StuckAt p v ↔ (choicesOf (reducedTurnsBy v) 1 p.statements ≡ [])
-  none-taken-at = (
-    λ h. choices-none (reducedTurnsBy v) 1 p.statements (every-imp _ p.statements h (λ r. (no_copy v r).0)),
-    λ e. every-imp _ p.statements (none-chosen (reducedTurnsBy v) 1 p.statements e) (λ r. (no_copy v r).1),
+  pub none_taken_at : StuckAt p v ↔ (choices_of (reduced_turns_by v) 1 p.statements ≡ [])
+  none_taken_at = (
+    λ h. choices_none (reduced_turns_by v) 1 p.statements (every_imp _ p.statements h (λ r. (no_copy v r).0)),
+    λ e. every_imp _ p.statements (none_chosen (reduced_turns_by v) 1 p.statements e) (λ r. (no_copy v r).1),
   )
 
-  pub stuck_at : StuckAt p v ↔ (reducedChoices p v ≡ stuckChoices v)
-  unfolding reducedChoices
+  pub stuck_at : StuckAt p v ↔ (reduced_choices p v ≡ stuck_choices v)
+  unfolding reduced_choices
   stuck_at = (
-    λ h. or-stay v (none-taken-at.0 h),
-    λ e. none-taken-at.1 (stuck-only v (choicesOf (reducedTurnsBy v) 1 p.statements) (choices-placed (reducedTurnsBy v) p.statements) e),
+    λ h. or_stay_law v (none_taken_at.0 h),
+    λ e. none_taken_at.1 (stuck_only v (choices_of (reduced_turns_by v) 1 p.statements) (choices_placed (reduced_turns_by v) p.statements) e),
   )
 
-  pub moving-at : (StuckAt p v → ⊥) → reducedChoices p v ≡ choicesOf (reducedTurnsBy v) 1 p.statements
-  unfolding reducedChoices
-  moving-at h = or-taken v (choicesOf (reducedTurnsBy v) 1 p.statements) (λ e. h (none-taken-at.1 e))
+  pub moving_at : (StuckAt p v → ⊥) → reduced_choices p v ≡ choices_of (reduced_turns_by v) 1 p.statements
+  unfolding reduced_choices
+  moving_at h = or_taken v (choices_of (reduced_turns_by v) 1 p.statements) (λ e. h (none_taken_at.1 e))
 
-  pub stuck-step-at : StuckAt p v → reducedSteps p v ≡ stay v
-  unfolding reducedSteps reducedTurns
-  stuck-step-at h = rw (stuck_at.0 h)
+  pub stuck_step_at : StuckAt p v → reduced_steps p v ≡ stay v
+  unfolding reduced_steps reduced_turns
+  stuck_step_at h = rw (stuck_at.0 h)

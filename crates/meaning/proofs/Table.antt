@@ -13,15 +13,15 @@ use native.Mathlib.Omega.{arith}
 use borrow.Author.Tests.{ne_eqb, le-leb}
 use lib.Dec.{eqb, leb-zero, leb-suc-zero, leb-suc-suc, eqb-suc-suc, eqb-suc-zero, eqb-zero-suc}
 use lib.ListN.{length}
-use Rattle.card.specs.Card.{Kind, everyone, others, Sign, all, any, Relation, is, isnt, Leaf, group, one, sharedIs, Formula, atom, neg, and, or, Guard}
+use Rattle.card.specs.Card.{Kind, everyone, others, Sign, all, any, Relation, is, isnt, Leaf, group, one, shared_is, Formula, atom, neg, and, or, Guard}
 use Rattle.card.specs.Formulas.{over}
 use Rattle.meaning.specs.Sums.{gate, upto}
-use Rattle.meaning.specs.Formulas.{value, valueOr}
+use Rattle.meaning.specs.Formulas.{value, value_or}
 use Rattle.meaning.specs.Seats.{Seating, state, without, count, counted, literal, joined, alone, any_of, holds}
 use Rattle.meaning.specs.Position.{Position}
-use Rattle.meaning.specs.Reduced.{table, meets, passes, counterOf, test_of}
-use Rattle.meaning.specs.ByCounts.{heldOr}
-use Rattle.meaning.proofs.Counting.{Within, count-le, count-without, length_without, no-count}
+use Rattle.meaning.specs.Reduced.{table, meets, passes, counter_of, test_of}
+use Rattle.meaning.specs.ByCounts.{held_or}
+use Rattle.meaning.proofs.Counting.{Within, count_le, count_without, length_without, no_count}
 
 -- ---- groups
 
@@ -48,30 +48,30 @@ module _ (e : Bool) where
   one_more any isnt true c n h = simp unary
   one_more any isnt false c n h = simp (unary, le-leb c n h)
 
-  none-joined : (s : Sign) (q : Relation) (d : ℕ) → joined s q d [] ≡ test s q 0 0
-  none-joined all is d = refl
-  none-joined any is d = refl
-  none-joined all isnt d = refl
-  none-joined any isnt d = refl
+  none_joined : (s : Sign) (q : Relation) (d : ℕ) → joined s q d [] ≡ test s q 0 0
+  none_joined all is d = refl
+  none_joined any is d = refl
+  none_joined all isnt d = refl
+  none_joined any isnt d = refl
 
-  joined-right : (s : Sign) (q : Relation) (d : ℕ) (x : List ℕ) → joined s q d x ≡ test s q (length x) (count d x)
-  joined-right s q d [] = none-joined s q d
-  joined-right s q d (a ∷ x) = first s ∙ rw (joined-right s q d x) (one_more s q (eqb a d) (count d x) (length x) (count-le d x))
+  joined_right : (s : Sign) (q : Relation) (d : ℕ) (x : List ℕ) → joined s q d x ≡ test s q (length x) (count d x)
+  joined_right s q d [] = none_joined s q d
+  joined_right s q d (a ∷ x) = first s ∙ rw (joined_right s q d x) (one_more s q (eqb a d) (count d x) (length x) (count_le d x))
     where
       first : (s : Sign) → joined s q d (a ∷ x) ≡ join s (literal q (eqb a d)) (joined s q d x)
       first all = refl
       first any = refl
 
   -- all seats but one: b says whether its state is d
-  but-one : (s : Sign) (q : Relation) (b : Bool) (c n : ℕ) → test s q n c ≡ meets (table (suc n) others b s q) (gate b 1 + c)
-  but-one all is true c n = simp unary
-  but-one any is true c n = simp (unary, leb-suc-suc 1 c)
-  but-one all isnt true c n = simp (unary, eqb-suc-suc c 0)
-  but-one any isnt true c n = simp unary
-  but-one all is false c n = simp unary
-  but-one any is false c n = simp unary
-  but-one all isnt false c n = simp unary
-  but-one any isnt false c n = simp unary
+  but_one : (s : Sign) (q : Relation) (b : Bool) (c n : ℕ) → test s q n c ≡ meets (table (suc n) others b s q) (gate b 1 + c)
+  but_one all is true c n = simp unary
+  but_one any is true c n = simp (unary, leb-suc-suc 1 c)
+  but_one all isnt true c n = simp (unary, eqb-suc-suc c 0)
+  but_one any isnt true c n = simp unary
+  but_one all is false c n = simp unary
+  but_one any is false c n = simp unary
+  but_one all isnt false c n = simp unary
+  but_one any isnt false c n = simp unary
 
 -- ---- exactly one seat
 
@@ -83,28 +83,28 @@ any_false : (n : ℕ) → any_of (upto n (λ i. false)) ≡ false
 any_false zero = refl
 any_false (suc n) = any_false n
 
-and-false : (b : Bool) → (b && false) ≡ false
-and-false true = refl
-and-false false = refl
+and_false : (b : Bool) → (b && false) ≡ false
+and_false true = refl
+and_false false = refl
 
-or-false : (b : Bool) → (b || false) ≡ b
-or-false true = refl
-or-false false = refl
+or_false : (b : Bool) → (b || false) ≡ b
+or_false true = refl
+or_false false = refl
 
 -- a term where one seat more is there: b says whether its state is d
-alone-more : (d : ℕ) (x : List ℕ) (b : Bool) (i : ℕ) → (eqb (state x i) d && (not b && joined all isnt d (without x i))) ≡ (not b && alone d x i)
-alone-more d x true i = and-false (eqb (state x i) d)
-alone-more d x false i = refl
+alone_more : (d : ℕ) (x : List ℕ) (b : Bool) (i : ℕ) → (eqb (state x i) d && (not b && joined all isnt d (without x i))) ≡ (not b && alone d x i)
+alone_more d x true i = and_false (eqb (state x i) d)
+alone_more d x false i = refl
 
-pub one-by-count : (d : ℕ) (x : List ℕ) → any_of (upto (length x) (alone d x)) ≡ eqb (count d x) 1
-one-by-count d [] = refl
-one-by-count d (a ∷ x) =
-    ap (λ c. (eqb a d && joined all isnt d x) || c) (any_same (length x) _ (λ i. not (eqb a d) && alone d x i) (alone-more d x (eqb a d)))
-    ∙ go (eqb a d) (one-by-count d x)
+pub one_by_count : (d : ℕ) (x : List ℕ) → any_of (upto (length x) (alone d x)) ≡ eqb (count d x) 1
+one_by_count d [] = refl
+one_by_count d (a ∷ x) =
+    ap (λ c. (eqb a d && joined all isnt d x) || c) (any_same (length x) _ (λ i. not (eqb a d) && alone d x i) (alone_more d x (eqb a d)))
+    ∙ go (eqb a d) (one_by_count d x)
   where
     go : (b : Bool) → any_of (upto (length x) (alone d x)) ≡ eqb (count d x) 1
         → ((b && joined all isnt d x) || any_of (upto (length x) (λ i. not b && alone d x i))) ≡ eqb (gate b 1 + count d x) 1
-    go true h = rw (any_false (length x), or-false (joined all isnt d x), joined-right false all isnt d x, one-add (count d x), eqb-suc-suc (count d x) 0)
+    go true h = rw (any_false (length x), or_false (joined all isnt d x), joined_right false all isnt d x, one-add (count d x), eqb-suc-suc (count d x) 0)
     go false h = rw (zero-add (count d x)) h
 
 -- ---- guards
@@ -112,27 +112,27 @@ one-by-count d (a ∷ x) =
 module _ (k : ℕ) (x : Seating) (w : Within k x.each) (i : ℕ) (l : i < length x.each) where
   by_count : (kind : Kind) (s : Sign) (q : Relation) (d : ℕ)
       → holds x i (group kind s q d) ≡ meets (table (length x.each) kind (eqb (state x.each i) d) s q) (count d x.each)
-  by_count everyone s q d = joined-right (eqb (state x.each i) d) s q d x.each
+  by_count everyone s q d = joined_right (eqb (state x.each i) d) s q d x.each
   by_count others s q d =
       let b = eqb (state x.each i) d in
       let rest = without x.each i in
-      rw (length_without x.each i l, count-without d x.each i l) (joined-right b s q d rest ∙ but-one b s q b (count d rest) (length rest))
+      rw (length_without x.each i l, count_without d x.each i l) (joined_right b s q d rest ∙ but_one b s q b (count d rest) (length rest))
 
-  pub leaf-right : (a : Leaf) → holds x i a ≡ passes (counted k x) (counterOf (length x.each) (state x.each i) a)
-  leaf-right (group kind s q d) = rw (no-count k x.each w d) (by_count kind s q d)
-  leaf-right (one d) = rw (no-count k x.each w d) (one-by-count d x.each)
-  leaf-right (sharedIs q v) = refl
+  pub leaf_right : (a : Leaf) → holds x i a ≡ passes (counted k x) (counter_of (length x.each) (state x.each i) a)
+  leaf_right (group kind s q d) = rw (no_count k x.each w d) (by_count kind s q d)
+  leaf_right (one d) = rw (no_count k x.each w d) (one_by_count d x.each)
+  leaf_right (shared_is q v) = refl
 
-  pub guard-right : (g : Option Guard) → valueOr (holds x i) g ≡ heldOr (length x.each) (state x.each i) (counted k x) g
-  guard-right g = ap (λ (p : Leaf → Bool). valueOr p g) (fun_ext leaf-right)
+  pub guard_right : (g : Option Guard) → value_or (holds x i) g ≡ held_or (length x.each) (state x.each i) (counted k x) g
+  guard_right g = ap (λ (p : Leaf → Bool). value_or p g) (fun_ext leaf_right)
 
 -- the translated guard's value
-pub value-over : {A B : Type 0} (p : B → Bool) (f : A → B) (g : Formula A) → value p (over f g) ≡ value (λ a. p (f a)) g
-value-over p f (atom a) = refl
-value-over p f (neg g) = ap not (value-over p f g)
-value-over p f (and g h) = ap₂ ◌&&◌ (value-over p f g) (value-over p f h)
-value-over p f (or g h) = ap₂ ◌||◌ (value-over p f g) (value-over p f h)
+pub value_over : {A B : Type 0} (p : B → Bool) (f : A → B) (g : Formula A) → value p (over f g) ≡ value (λ a. p (f a)) g
+value_over p f (atom a) = refl
+value_over p f (neg g) = ap not (value_over p f g)
+value_over p f (and g h) = ap₂ ◌&&◌ (value_over p f g) (value_over p f h)
+value_over p f (or g h) = ap₂ ◌||◌ (value_over p f g) (value_over p f h)
 
-pub test-held : (n j : ℕ) (v : Position) (g : Option Guard) → valueOr (passes v) (test_of n j g) ≡ heldOr n j v g
-test-held n j v none = refl
-test-held n j v (some g) = value-over (passes v) (counterOf n j) g
+pub test_held : (n j : ℕ) (v : Position) (g : Option Guard) → value_or (passes v) (test_of n j g) ≡ held_or n j v g
+test_held n j v none = refl
+test_held n j v (some g) = value_over (passes v) (counter_of n j) g

@@ -12,78 +12,78 @@ use Rattle.card.specs.Valid.{Every, total, ValidStatement, ValidCard}
 use Rattle.meaning.specs.Sums.{sum}
 use Rattle.meaning.specs.Position.{Position}
 use Rattle.meaning.specs.Steps.{Step}
-use Rattle.meaning.specs.Choices.{choicesOf, turnsIn}
-use Rattle.meaning.specs.Seats.{Seating, turn, turnsBy, choicesFrom, choices, turns, steps}
-use Rattle.meaning.specs.Reduced.{Outcome, updateOf, Reduced, copy, copies, reduce}
-use Rattle.meaning.specs.Reduced.{canTake, reducedTurn, reducedTurnsBy, reducedChoices, reducedTurns, reducedSteps}
-use Rattle.meaning.proofs.Sums.{sum-map, every-flat, every_map, every_upto, every-imp}
-use Rattle.meaning.proofs.Choices.{Full, choices-some, choices-turns, or-stay-every, total as some-step}
+use Rattle.meaning.specs.Choices.{choices_of, turns_in}
+use Rattle.meaning.specs.Seats.{Seating, turn, turns_by, choices_from, choices, turns, steps}
+use Rattle.meaning.specs.Reduced.{Outcome, update_of, Reduced, copy, copies, reduce}
+use Rattle.meaning.specs.Reduced.{can_take, reduced_turn, reduced_turns_by, reduced_choices, reduced_turns, reduced_steps}
+use Rattle.meaning.proofs.Sums.{sum_map, every_flat, every_map, every_upto, every_imp}
+use Rattle.meaning.proofs.Choices.{Full, choices_some, choices_turns, or_stay_every, total as some_step}
 use Rattle.meaning.proofs.Turns.{Taker, takers}
 
 -- ---- one turn
 
-total-sum : (l : List Branch) → sum (λ (b : Branch). b.units) l ≡ total l
-total-sum [] = refl
-total-sum (b ∷ l) = ap (λ (r : ℕ). b.units + r) (total-sum l)
+total_sum : (l : List Branch) → sum (λ (b : Branch). b.units) l ≡ total l
+total_sum [] = refl
+total_sum (b ∷ l) = ap (λ (r : ℕ). b.units + r) (total_sum l)
 
 module _ {n k values : ℕ} (s : Statement) (v : ValidStatement n k values s) where
-  pub turn-full : (x : Seating) (i : ℕ) → Full (turn s x i)
+  pub turn_full : (x : Seating) (i : ℕ) → Full (turn s x i)
   unfolding turn
-  turn-full x i = sum-map (λ (s : Step Seating). s.units) _ s.branches ∙ total-sum s.branches ∙ v.sum
+  turn_full x i = sum_map (λ (s : Step Seating). s.units) _ s.branches ∙ total_sum s.branches ∙ v.sum
 
-  turns-full : (x : Seating) → Every Full (turnsBy s x)
-  turns-full x = every-imp (Taker s x) (turnsBy s x) (takers s x) (λ t m. let (i, l, may, e) = m in rw e (turn-full x i))
+  turns_full : (x : Seating) → Every Full (turns_by s x)
+  turns_full x = every_imp (Taker s x) (turns_by s x) (takers s x) (λ t m. let (i, l, may, e) = m in rw e (turn_full x i))
 
-  copy-full : (u : Position) (c m : ℕ) → Full (reducedTurn u (copy c s m))
-  unfolding reducedTurn copy
-  copy-full u c m =
-      sum-map (λ (s : Step Position). s.units) _ (map (λ (b : Branch). record { units = b.units; update = updateOf c s.own b.end; sets = b.sets }) s.branches)
-      ∙ sum-map (λ (o : Outcome). o.units) _ s.branches
-      ∙ total-sum s.branches
+  copy_full : (u : Position) (c m : ℕ) → Full (reduced_turn u (copy c s m))
+  unfolding reduced_turn copy
+  copy_full u c m =
+      sum_map (λ (s : Step Position). s.units) _ (map (λ (b : Branch). record { units = b.units; update = update_of c s.own b.end; sets = b.sets }) s.branches)
+      ∙ sum_map (λ (o : Outcome). o.units) _ s.branches
+      ∙ total_sum s.branches
       ∙ v.sum
 
 -- the one turn of a reduced statement, if any
-once-full : (u : Position) (r : Reduced) → Full (reducedTurn u r) → Every Full (reducedTurnsBy u r)
-unfolding reducedTurnsBy
-once-full u r f = go (canTake u r)
+once_full : (u : Position) (r : Reduced) → Full (reduced_turn u r) → Every Full (reduced_turns_by u r)
+unfolding reduced_turns_by
+once_full u r f = go (can_take u r)
   where
-    go : (b : Bool) → Every Full (if b then reducedTurn u r ∷ [] else [])
+    go : (b : Bool) → Every Full (if b then reduced_turn u r ∷ [] else [])
     go true = (f, tt)
     go false = tt
 
-copies-full : {n k values : ℕ} (m : Mode) (c : ℕ) (s : Statement) → ValidStatement n k values s → (u : Position) → Every (λ r. Full (reducedTurn u r)) (copies m c s)
-copies-full nondeterministic c s v u = (copy-full s v u c 0, tt)
-copies-full probabilistic c s v u = every_upto (λ r. Full (reducedTurn u r)) c (copy c s) (λ m l. copy-full s v u c m)
+copies_full : {n k values : ℕ} (m : Mode) (c : ℕ) (s : Statement) → ValidStatement n k values s → (u : Position) → Every (λ r. Full (reduced_turn u r)) (copies m c s)
+copies_full nondeterministic c s v u = (copy_full s v u c 0, tt)
+copies_full probabilistic c s v u = every_upto (λ r. Full (reduced_turn u r)) c (copy c s) (λ m l. copy_full s v u c m)
 
 -- ---- all turns of a valid card
 
 module _ (c : Card) (valid : ValidCard c) where
   module _ (x : Seating) where
-    taken-full : Every Full (turnsIn (choicesFrom 1 c.statements x))
-    taken-full = choices-turns (λ s. turnsBy s x) Full 1 c.statements (every-imp _ c.statements valid.statements (λ s v. turns-full s v x))
+    taken_full : Every Full (turns_in (choices_from 1 c.statements x))
+    taken_full = choices_turns (λ s. turns_by s x) Full 1 c.statements (every_imp _ c.statements valid.statements (λ s v. turns_full s v x))
 
-    pub seats-full : Every Full (turns c x)
+    pub seats_full : Every Full (turns c x)
     unfolding turns choices
-    seats-full = or-stay-every x Full (choicesFrom 1 c.statements x) (omega arith) taken-full
+    seats_full = or_stay_every x Full (choices_from 1 c.statements x) (omega arith) taken_full
 
-    pub seats-total : 1 ≤ length (steps c x)
+    pub seats_total : 1 ≤ length (steps c x)
     unfolding steps turns choices
-    seats-total = some-step x (choicesFrom 1 c.statements x) (choices-some (λ s. turnsBy s x) 1 c.statements) taken-full
+    seats_total = some_step x (choices_from 1 c.statements x) (choices_some (λ s. turns_by s x) 1 c.statements) taken_full
 
   module _ (u : Position) where
-    program-full : Every (λ r. Every Full (reducedTurnsBy u r)) (reduce c).statements
+    program_full : Every (λ r. Every Full (reduced_turns_by u r)) (reduce c).statements
     unfolding reduce
-    program-full = every-flat _ (map (copies c.mode c.n) c.statements)
-        (every_map (Every (λ r. Every Full (reducedTurnsBy u r))) (copies c.mode c.n) c.statements
-        (every-imp _ c.statements valid.statements (λ s v. every-imp _ (copies c.mode c.n s) (copies-full c.mode c.n s v u) (once-full u))))
+    program_full = every_flat _ (map (copies c.mode c.n) c.statements)
+        (every_map (Every (λ r. Every Full (reduced_turns_by u r))) (copies c.mode c.n) c.statements
+        (every_imp _ c.statements valid.statements (λ s v. every_imp _ (copies c.mode c.n s) (copies_full c.mode c.n s v u) (once_full u))))
 
-    program-taken : Every Full (turnsIn (choicesOf (reducedTurnsBy u) 1 (reduce c).statements))
-    program-taken = choices-turns (reducedTurnsBy u) Full 1 (reduce c).statements program-full
+    program_taken : Every Full (turns_in (choices_of (reduced_turns_by u) 1 (reduce c).statements))
+    program_taken = choices_turns (reduced_turns_by u) Full 1 (reduce c).statements program_full
 
-    pub counts-full : Every Full (reducedTurns (reduce c) u)
-    unfolding reducedTurns reducedChoices
-    counts-full = or-stay-every u Full (choicesOf (reducedTurnsBy u) 1 (reduce c).statements) (omega arith) program-taken
+    pub counts_full : Every Full (reduced_turns (reduce c) u)
+    unfolding reduced_turns reduced_choices
+    counts_full = or_stay_every u Full (choices_of (reduced_turns_by u) 1 (reduce c).statements) (omega arith) program_taken
 
-    pub counts-total : 1 ≤ length (reducedSteps (reduce c) u)
-    unfolding reducedSteps reducedTurns reducedChoices
-    counts-total = some-step u (choicesOf (reducedTurnsBy u) 1 (reduce c).statements) (choices-some (reducedTurnsBy u) 1 (reduce c).statements) program-taken
+    pub counts_total : 1 ≤ length (reduced_steps (reduce c) u)
+    unfolding reduced_steps reduced_turns reduced_choices
+    counts_total = some_step u (choices_of (reduced_turns_by u) 1 (reduce c).statements) (choices_some (reduced_turns_by u) 1 (reduce c).statements) program_taken

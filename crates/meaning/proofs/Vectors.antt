@@ -8,28 +8,28 @@ use lib.Dec.{eqb}
 use borrow.Author.Tests.{eqb-true, eq-eqb}
 use Rattle.card.specs.Text.{same}
 use Rattle.meaning.specs.Position.{Position, position}
-use Rattle.meaning.specs.Demand.{samePosition}
+use Rattle.meaning.specs.Demand.{same_position}
 
 pub same_self : (l : List ℕ) → same l l ≡ true
 same_self [] = refl
 same_self (a ∷ l) = rw (eq-eqb a a refl) (same_self l)
 
-pub same-equal : (l m : List ℕ) → same l m ≡ true → l ≡ m
-same-equal [] [] e = refl
-same-equal [] (b ∷ m) e = absurd (true≢false (sym e))
-same-equal (a ∷ l) [] e = absurd (true≢false (sym e))
-same-equal (a ∷ l) (b ∷ m) e =
+pub same_equal : (l m : List ℕ) → same l m ≡ true → l ≡ m
+same_equal [] [] e = refl
+same_equal [] (b ∷ m) e = absurd (true≢false (sym e))
+same_equal (a ∷ l) [] e = absurd (true≢false (sym e))
+same_equal (a ∷ l) (b ∷ m) e =
     let h = (and-eq-true_iff (eqb a b) (same l m)).0 e in
-    ap₂ (λ (x : ℕ) (t : List ℕ). x ∷ t) (eqb-true a b h.0) (same-equal l m h.1)
+    ap₂ (λ (x : ℕ) (t : List ℕ). x ∷ t) (eqb-true a b h.0) (same_equal l m h.1)
 
-pub same-right : (l m : List ℕ) → (same l m ≡ true) ↔ (l ≡ m)
-same-right l m = (same-equal l m, λ p. rw p (same_self m))
+pub same_right : (l m : List ℕ) → (same l m ≡ true) ↔ (l ≡ m)
+same_right l m = (same_equal l m, λ p. rw p (same_self m))
 
 -- and so is the test of both, the list and the shared number
-pub position-right : (u v : Position) → (samePosition u v ≡ true) ↔ (u ≡ v)
-position-right u v = (
+pub position_right : (u v : Position) → (same_position u v ≡ true) ↔ (u ≡ v)
+position_right u v = (
   λ e.
       let h = (and-eq-true_iff (same u.each v.each) (eqb u.shared v.shared)).0 e in
-      ap₂ position (same-equal u.each v.each h.0) (eqb-true u.shared v.shared h.1),
+      ap₂ position (same_equal u.each v.each h.0) (eqb-true u.shared v.shared h.1),
   λ p. rw (p, same_self v.each) (eq-eqb v.shared v.shared refl),
 )

@@ -4,7 +4,7 @@ use Rattle.card.specs.Card.{Branch, Statement}
 use Rattle.meaning.specs.Sums.{upto, those}
 use Rattle.meaning.specs.Position.{set_to}
 use Rattle.meaning.specs.Steps.{Step}
-use Rattle.meaning.specs.Seats.{Seating, state, mayTake}
+use Rattle.meaning.specs.Seats.{Seating, state, may_take}
 
 -- a branch's step where seat i takes it: the seat's own state is the branch's end, no other seat moves, and the shared number is what the branch makes of it
 pub record SeatStep (x : Seating) (i : ℕ) (b : Branch) (t : Step Seating) : Type 0 where
@@ -16,4 +16,4 @@ pub record SeatStep (x : Seating) (i : ℕ) (b : Branch) (t : Step Seating) : Ty
 
 -- the seats that may take a statement, each by its place, in order
 abbrev pub takers : Statement → Seating → List ℕ
-takers s x = those (mayTake s x) (upto (length x.each) (λ i. i))
+takers s x = those (may_take s x) (upto (length x.each) (λ i. i))

@@ -7,8 +7,8 @@ use Rattle.card.specs.Card.{Mode, everyone, others, all, any, is, isnt, group, a
 abbrev to : ℕ → ℕ → Branch
 to units end = record { units = units; end = end; sets = none }
 
-unfoldable pub cardA : Mode → Card
-cardA mode = record {
+unfoldable pub card_a : Mode → Card
+card_a mode = record {
   mode = mode;
   shared = none;
   n = 3;

@@ -16,9 +16,9 @@ choice q [] = []
 choice q (t ∷ l) = record { place = q; turns = t ∷ l } ∷ []
 
 -- the choices among statements from place q on, each with its turns
-unfoldable pub choicesOf : {A S : Type 0} → (A → List (Turn S)) → ℕ → List A → List (Choice S)
-choicesOf turns q [] = []
-choicesOf turns q (a ∷ l) = choice q (turns a) ++ choicesOf turns (suc q) l
+unfoldable pub choices_of : {A S : Type 0} → (A → List (Turn S)) → ℕ → List A → List (Choice S)
+choices_of turns q [] = []
+choices_of turns q (a ∷ l) = choice q (turns a) ++ choices_of turns (suc q) l
 
 -- ---- a stuck state
 
@@ -27,22 +27,22 @@ abbrev pub stay : {S : Type 0} → S → Turn S
 stay x = record { units = unit; next = x } ∷ []
 
 -- and is its only choice, at place 0
-abbrev pub stuckChoices : {S : Type 0} → S → List (Choice S)
-stuckChoices x = record { place = 0; turns = stay x ∷ [] } ∷ []
+abbrev pub stuck_choices : {S : Type 0} → S → List (Choice S)
+stuck_choices x = record { place = 0; turns = stay x ∷ [] } ∷ []
 
-abbrev pub orStay : {S : Type 0} → S → List (Choice S) → List (Choice S)
-orStay x [] = stuckChoices x
-orStay x (c ∷ l) = c ∷ l
+abbrev pub or_stay : {S : Type 0} → S → List (Choice S) → List (Choice S)
+or_stay x [] = stuck_choices x
+or_stay x (c ∷ l) = c ∷ l
 
 -- ---- any state
 
 -- all that can happen at x, where the statements have these turns
-abbrev pub choicesAt : {A S : Type 0} → (A → List (Turn S)) → List A → S → List (Choice S)
-choicesAt turns l x = orStay x (choicesOf turns 1 l)
+abbrev pub choices_at : {A S : Type 0} → (A → List (Turn S)) → List A → S → List (Choice S)
+choices_at turns l x = or_stay x (choices_of turns 1 l)
 
 -- the turns of all choices, and all their steps
-abbrev pub turnsIn : {S : Type 0} → List (Choice S) → List (Turn S)
-turnsIn {S} l = flat (map (λ (c : Choice S). c.turns) l)
+abbrev pub turns_in : {S : Type 0} → List (Choice S) → List (Turn S)
+turns_in {S} l = flat (map (λ (c : Choice S). c.turns) l)
 
-abbrev pub stepsIn : {S : Type 0} → List (Choice S) → List (Step S)
-stepsIn l = flat (turnsIn l)
+abbrev pub steps_in : {S : Type 0} → List (Choice S) → List (Step S)
+steps_in l = flat (turns_in l)

@@ -10,6 +10,6 @@ value p (and g h) = value p g && value p h
 value p (or g h) = value p g || value p h
 
 -- where there is none, nothing is asked for
-abbrev pub valueOr : {A : Type 0} → (A → Bool) → Option (Formula A) → Bool
-valueOr p none = true
-valueOr p (some g) = value p g
+abbrev pub value_or : {A : Type 0} → (A → Bool) → Option (Formula A) → Bool
+value_or p none = true
+value_or p (some g) = value p g

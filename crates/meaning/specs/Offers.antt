@@ -4,7 +4,7 @@ use Rattle.card.specs.Card.{Mode, nondeterministic, probabilistic}
 use Rattle.card.specs.Valid.{Every}
 use Rattle.meaning.specs.Sums.{sum}
 use Rattle.meaning.specs.Steps.{Turn, seen}
-use Rattle.meaning.specs.Choices.{Choice, turnsIn}
+use Rattle.meaning.specs.Choices.{Choice, turns_in}
 
 -- two lists, one for one, in order
 abbrev pub OneForOne : {A B : Type 0} → (A → B → Type 0) → List A → List B → Type 0
@@ -23,5 +23,5 @@ pub record SameChoice {S T : Type 0} (h : S → T) (a : Choice S) (b : Choice T)
 
 -- on a probabilistic card any number of a turn has the same sum over the turns of both; on a nondeterministic one the choices are the same
 abbrev pub Offers : {S T : Type 0} → Mode → (S → T) → List (Choice S) → List (Choice T) → Type 0
-Offers {S} {T} probabilistic h l m = (f : Turn T → ℕ) → sum (λ t. f (seen h t)) (turnsIn l) ≡ sum f (turnsIn m)
+Offers {S} {T} probabilistic h l m = (f : Turn T → ℕ) → sum (λ t. f (seen h t)) (turns_in l) ≡ sum f (turns_in m)
 Offers nondeterministic h l m = OneForOne (SameChoice h) l m

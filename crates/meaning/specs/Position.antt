@@ -4,7 +4,7 @@ use Rattle.std.specs.Prelude.{ℕ, List}
 use Rattle.std.proofs.Math.Option.{Option, none, some}
 use Rattle.card.specs.Card.{Shared}
 use Rattle.card.specs.Valid.{values_of}
-use Rattle.meaning.specs.Sums.{orOne}
+use Rattle.meaning.specs.Sums.{or_one}
 
 -- the state of each seat, or how many seats are in each state
 pub record Position : Type 0 where
@@ -15,8 +15,8 @@ abbrev pub position : List ℕ → ℕ → Position
 position each shared = record { each = each; shared = shared }
 
 -- what it can be: 0 where there is none
-abbrev pub sharedValues : Option Shared → ℕ
-sharedValues s = orOne (values_of s)
+abbrev pub shared_values : Option Shared → ℕ
+shared_values s = or_one (values_of s)
 
 -- what a branch makes of it
 abbrev pub set_to : ℕ → Option ℕ → ℕ

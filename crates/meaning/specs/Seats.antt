@@ -1,13 +1,13 @@
 -- What a card means, by seats ("What a card means", first part; document 02, 2026-10). A seating is the list of the seats' states beside the
 -- shared number; seats count from 0 here. Assumes nothing.
 use Rattle.std.specs.Prelude.{ℕ, zero, suc, ◌≤◌, ◌<◌, ◌≡◌, Bool, true, false, not, ◌&&◌, ◌||◌, List, [], ◌∷◌, map, eqb, length, get_or, set}
-use Rattle.card.specs.Card.{Kind, everyone, others, Sign, all, any, Relation, is, isnt, Leaf, group, one, sharedIs, Branch, Statement, Card}
+use Rattle.card.specs.Card.{Kind, everyone, others, Sign, all, any, Relation, is, isnt, Leaf, group, one, shared_is, Branch, Statement, Card}
 use Rattle.card.specs.Valid.{Every}
 use Rattle.meaning.specs.Sums.{gate, sum, upto, those, flat}
-use Rattle.meaning.specs.Formulas.{valueOr}
-use Rattle.meaning.specs.Position.{Position, position, sharedValues, set_to}
+use Rattle.meaning.specs.Formulas.{value_or}
+use Rattle.meaning.specs.Position.{Position, position, shared_values, set_to}
 use Rattle.meaning.specs.Steps.{Step, Turn}
-use Rattle.meaning.specs.Choices.{Choice, choicesOf, choicesAt, turnsIn}
+use Rattle.meaning.specs.Choices.{Choice, choices_of, choices_at, turns_in}
 
 abbrev pub Seating : Type 0
 Seating = Position
@@ -16,7 +16,7 @@ Seating = Position
 pub record ValidSeating (c : Card) (x : Seating) : Type 0 where
   pub seats : length x.each ≡ c.n
   pub states : Every (λ a. a ≤ c.k) x.each
-  pub shared : x.shared < sharedValues c.shared
+  pub shared : x.shared < shared_values c.shared
 
 -- ---- counts
 
@@ -73,40 +73,40 @@ any_of (b ∷ bs) = b || any_of bs
 abbrev pub holds : Seating → ℕ → Leaf → Bool
 holds x i (group kind s q d) = joined s q d (named kind x.each i)
 holds x i (one d) = any_of (upto (length x.each) (alone d x.each))
-holds x i (sharedIs q v) = literal q (eqb x.shared v)
+holds x i (shared_is q v) = literal q (eqb x.shared v)
 
 -- seat i is in the local state, and the guard holds for it
-unfoldable pub mayTake : Statement → Seating → ℕ → Bool
-mayTake s x i = eqb (state x.each i) s.own && valueOr (holds x i) s.guard
+unfoldable pub may_take : Statement → Seating → ℕ → Bool
+may_take s x i = eqb (state x.each i) s.own && value_or (holds x i) s.guard
 
 -- ---- steps
 
 -- the step of seat i by a branch: no other seat changes, and the shared number only where the branch sets it
-abbrev pub seatStepBy : Seating → ℕ → Branch → Step Seating
-seatStepBy x i b = record { units = b.units; next = position (set x.each i b.end) (set_to x.shared b.sets) }
+abbrev pub seat_step_by : Seating → ℕ → Branch → Step Seating
+seat_step_by x i b = record { units = b.units; next = position (set x.each i b.end) (set_to x.shared b.sets) }
 
 -- the steps of seat i by a statement
 unfoldable pub turn : Statement → Seating → ℕ → Turn Seating
-turn s x i = map (seatStepBy x i) s.branches
+turn s x i = map (seat_step_by x i) s.branches
 
 -- one turn for each seat that may take the statement
-unfoldable pub turnsBy : Statement → Seating → List (Turn Seating)
-unfolding mayTake turn
-turnsBy s x = map (turn s x) (those (mayTake s x) (upto (length x.each) (λ i. i)))
+unfoldable pub turns_by : Statement → Seating → List (Turn Seating)
+unfolding may_take turn
+turns_by s x = map (turn s x) (those (may_take s x) (upto (length x.each) (λ i. i)))
 
 -- the choices among the statements from place q of the card on
-abbrev pub choicesFrom : ℕ → List Statement → Seating → List (Choice Seating)
-choicesFrom q l x = choicesOf (λ s. turnsBy s x) q l
+abbrev pub choices_from : ℕ → List Statement → Seating → List (Choice Seating)
+choices_from q l x = choices_of (λ s. turns_by s x) q l
 
 -- all that can happen at a seating
 unfoldable pub choices : Card → Seating → List (Choice Seating)
-unfolding choicesOf turnsBy
-choices c x = choicesAt (λ s. turnsBy s x) c.statements x
+unfolding choices_of turns_by
+choices c x = choices_at (λ s. turns_by s x) c.statements x
 
 -- a turn for each pair of a seat and a statement that it may take, or the stuck one
 unfoldable pub turns : Card → Seating → List (Turn Seating)
 unfolding choices
-turns c x = turnsIn (choices c x)
+turns c x = turns_in (choices c x)
 
 -- all their steps, in one list
 unfoldable pub steps : Card → Seating → List (Step Seating)
@@ -115,4 +115,4 @@ steps c x = flat (turns c x)
 
 -- no seat may take any statement
 abbrev pub Stuck : Card → Seating → Type 0
-Stuck c x = Every (λ s. (i : ℕ) → i < length x.each → mayTake s x i ≡ false) c.statements
+Stuck c x = Every (λ s. (i : ℕ) → i < length x.each → may_take s x i ≡ false) c.statements

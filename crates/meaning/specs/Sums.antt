@@ -8,9 +8,9 @@ gate true w = w
 gate false w = 0
 
 -- one at least
-abbrev pub orOne : ℕ → ℕ
-orOne zero = 1
-orOne (suc m) = suc m
+abbrev pub or_one : ℕ → ℕ
+or_one zero = 1
+or_one (suc m) = suc m
 
 -- f summed over a list
 abbrev pub sum : {A : Type 0} → (A → ℕ) → List A → ℕ

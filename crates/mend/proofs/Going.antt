@@ -9,49 +9,49 @@ use lib.Seq.{drop-drop, drop-cons, set_at}
 use Rattle.deck.specs.Contents.{Row, end_of, row_of, rows_of, count_of, behind}
 use Rattle.deck.specs.Deck.{Entry, entry_of, body_of, bodies}
 use Rattle.deck.specs.Sound.{Head}
-use Rattle.deck.proofs.Kept.{body-long}
-use Rattle.mending.specs.Mending.{Fate, kept, dropped, fateOf, leastBehind, lastBehind, fatesFrom, fatesIn, keptRows, keptIn, ruleOf}
-use Rattle.mending.proofs.Fates.{zero-kept}
-use Rattle.mending.proofs.Mended.{isKept, kept-right}
+use Rattle.deck.proofs.Kept.{body_long}
+use Rattle.mending.specs.Mending.{Fate, kept, dropped, fate_of, least_behind, last_behind, fates_from, fates_in, kept_rows, kept_in, rule_of}
+use Rattle.mending.proofs.Fates.{zero_kept}
+use Rattle.mending.proofs.Mended.{is_kept, kept_right}
 use Rattle.mending_walk.specs.declared.Walk.{Walk}
-use Rattle.mending_walk.specs.Walking.{walkBefore, walkedBy, Roomy}
+use Rattle.mending_walk.specs.Walking.{walk_before, walked_by, Roomy}
 use Rattle.mending_walk.proofs.Laws.{stays}
 use Rattle.mend.specs.Fated.{Fated}
 
-abbrev keptFrom : (deck : List ℕ) (least last : ℕ) → List Row → List Entry
-keptFrom deck least last rs = map (entry_of deck) (keptRows (fatesFrom deck least last rs) rs)
+abbrev kept_from : (deck : List ℕ) (least last : ℕ) → List Row → List Entry
+kept_from deck least last rs = map (entry_of deck) (kept_rows (fates_from deck least last rs) rs)
 
 -- the rows still to be judged
-abbrev rowsLeft : (deck : List ℕ) (i at : ℕ) → List Row
-rowsLeft deck i at = rows_of (count_of deck - i) (drop at deck)
+abbrev rows_left : (deck : List ℕ) (i at : ℕ) → List Row
+rows_left deck i at = rows_of (count_of deck - i) (drop at deck)
 
 pub record Going (deck was is : List ℕ) (i at : ℕ) (w : Walk) : Type 0 where
   pub done : List Fate
-  pub keptSoFar : List Entry
+  pub kept_so_far : List Entry
   pub long : length done ≡ i
-  pub fates : fatesIn deck ≡ done ++ fatesFrom deck w.least w.last (rowsLeft deck i at)
-  pub keeps : keptIn deck ≡ keptSoFar ++ keptFrom deck w.least w.last (rowsLeft deck i at)
-  pub stands : is ≡ map ruleOf done ++ drop i was
-  pub cards : w.cards ≡ length keptSoFar
-  pub bytes : w.bytes ≡ length (bodies keptSoFar)
+  pub fates : fates_in deck ≡ done ++ fates_from deck w.least w.last (rows_left deck i at)
+  pub keeps : kept_in deck ≡ kept_so_far ++ kept_from deck w.least w.last (rows_left deck i at)
+  pub stands : is ≡ map rule_of done ++ drop i was
+  pub cards : w.cards ≡ length kept_so_far
+  pub bytes : w.bytes ≡ length (bodies kept_so_far)
   pub few : w.cards ≤ i
   pub short : behind (count_of deck) + w.bytes ≤ w.last
   pub inside : w.last ≤ length deck
   pub place : at ≡ 1 + 8 * i
   pub within : i ≤ count_of deck
 
-bodies-append : (a b : List Entry) → bodies (a ++ b) ≡ bodies a ++ bodies b
-bodies-append [] b = refl
-bodies-append (e ∷ a) b = ap (λ (l : List ℕ). e.body ++ l) (bodies-append a b) ∙ sym (append_assoc e.body (bodies a) (bodies b))
+bodies_append : (a b : List Entry) → bodies (a ++ b) ≡ bodies a ++ bodies b
+bodies_append [] b = refl
+bodies_append (e ∷ a) b = ap (λ (l : List ℕ). e.body ++ l) (bodies_append a b) ∙ sym (append_assoc e.body (bodies a) (bodies b))
 
 module _ (deck : List ℕ) (h : Head deck) where
-  pub begins : (was : List ℕ) {c : ℕ} {w : Walk} → c ≡ count_of deck → w ≡ walkBefore c → Going deck was was 0 1 w
+  pub begins : (was : List ℕ) {c : ℕ} {w : Walk} → c ≡ count_of deck → w ≡ walk_before c → Going deck was was 0 1 w
   begins was {c} e is =
       let z : count_of deck - 0 ≡ count_of deck = omega arith in
       let b : 1 + 8 * c ≡ behind (count_of deck) = omega (arith, e) in
       rw is (record {
         done = [];
-        keptSoFar = [];
+        kept_so_far = [];
         long = refl;
         fates = sym (rw (z, b) refl);
         keeps = sym (rw (z, b) refl);
@@ -70,12 +70,12 @@ module _ (deck : List ℕ) (h : Head deck) where
     ended l =
         let all : i ≡ count_of deck = omega (arith, g.within) in
         let none : count_of deck - i ≡ 0 = omega arith in
-        let fates : fatesIn deck ≡ g.done
-        = g.fates ∙ ap (λ (n : ℕ). g.done ++ fatesFrom deck w.least w.last (rows_of n (drop at deck))) none ∙ append-nil g.done in
-        let keeps : keptIn deck ≡ g.keptSoFar
-        = g.keeps ∙ ap (λ (n : ℕ). g.keptSoFar ++ keptFrom deck w.least w.last (rows_of n (drop at deck))) none ∙ append-nil g.keptSoFar in
+        let fates : fates_in deck ≡ g.done
+        = g.fates ∙ ap (λ (n : ℕ). g.done ++ fates_from deck w.least w.last (rows_of n (drop at deck))) none ∙ append-nil g.done in
+        let keeps : kept_in deck ≡ g.kept_so_far
+        = g.keeps ∙ ap (λ (n : ℕ). g.kept_so_far ++ kept_from deck w.least w.last (rows_of n (drop at deck))) none ∙ append-nil g.kept_so_far in
         record {
-          fates = g.stands ∙ ap (λ (n : ℕ). map ruleOf g.done ++ drop n was) all ∙ ap (λ (fs : List Fate). map ruleOf fs ++ drop (count_of deck) was) (sym fates);
+          fates = g.stands ∙ ap (λ (n : ℕ). map rule_of g.done ++ drop n was) all ∙ ap (λ (fs : List Fate). map rule_of fs ++ drop (count_of deck) was) (sym fates);
           cards = g.cards ∙ ap length (sym keeps);
           bytes = g.bytes ∙ ap (λ (es : List Entry). length (bodies es)) (sym keeps);
           short = omega (arith, g.few, g.within, g.short, g.inside);
@@ -84,15 +84,15 @@ module _ (deck : List ℕ) (h : Head deck) where
     pub roomy : i < count_of deck → Roomy w
     roomy l = record { cards = omega (arith, g.few, h.few); bytes = omega (arith, g.short, g.inside, h.short) }
 
-    pub in-contents : i < count_of deck → at + 8 ≤ length deck
-    in-contents l = omega (arith, g.place, h.whole)
+    pub in_contents : i < count_of deck → at + 8 ≤ length deck
+    in_contents l = omega (arith, g.place, h.whole)
 
     -- one entry further: f is its fate, `more` what is kept of it
-    module _ (l : i < count_of deck) {k : ℕ} {v : Walk} (f : Fate) (more : List Entry) (e : k ≡ ruleOf f)
-        (ef : fateOf deck w.least w.last (row_of (drop at deck)) ≡ f)
-        (least-is : v.least ≡ leastBehind f (row_of (drop at deck)) w.least)
-        (last-is : v.last ≡ lastBehind f (row_of (drop at deck)) w.last)
-        (kept-is : (fs : List Fate) (rs : List Row) → map (entry_of deck) (keptRows (f ∷ fs) (row_of (drop at deck) ∷ rs)) ≡ more ++ map (entry_of deck) (keptRows fs rs))
+    module _ (l : i < count_of deck) {k : ℕ} {v : Walk} (f : Fate) (more : List Entry) (e : k ≡ rule_of f)
+        (ef : fate_of deck w.least w.last (row_of (drop at deck)) ≡ f)
+        (least-is : v.least ≡ least_behind f (row_of (drop at deck)) w.least)
+        (last-is : v.last ≡ last_behind f (row_of (drop at deck)) w.last)
+        (kept-is : (fs : List Fate) (rs : List Row) → map (entry_of deck) (kept_rows (f ∷ fs) (row_of (drop at deck) ∷ rs)) ≡ more ++ map (entry_of deck) (kept_rows fs rs))
         (cards-are : v.cards ≡ w.cards + length more)
         (bytes-are : v.bytes ≡ w.bytes + length (bodies more))
         (few-more : length more ≤ 1)
@@ -100,48 +100,48 @@ module _ (deck : List ℕ) (h : Head deck) where
         (inside-still : v.last ≤ length deck)
         (room : i < length was) where
       abbrev rest : List Row
-      rest = rowsLeft deck (i + 1) (at + 8)
+      rest = rows_left deck (i + 1) (at + 8)
 
-      rows_are : rowsLeft deck i at ≡ row_of (drop at deck) ∷ rest
+      rows_are : rows_left deck i at ≡ row_of (drop at deck) ∷ rest
       rows_are =
           let n : count_of deck - i ≡ suc (count_of deck - (i + 1)) = omega arith in
           ap (λ (c : ℕ). rows_of c (drop at deck)) n
           ∙ ap (λ (t : List ℕ). row_of (drop at deck) ∷ rows_of (count_of deck - (i + 1)) t) (drop-drop 8 at deck)
 
-      fates-are : fatesFrom deck w.least w.last (rowsLeft deck i at) ≡ f ∷ fatesFrom deck v.least v.last rest
-      fates-are =
-          ap (fatesFrom deck w.least w.last) rows_are
-          ∙ ap (λ (x : Fate). x ∷ fatesFrom deck (leastBehind x (row_of (drop at deck)) w.least) (lastBehind x (row_of (drop at deck)) w.last) rest) ef
-          ∙ ap (λ (n : ℕ). f ∷ fatesFrom deck n (lastBehind f (row_of (drop at deck)) w.last) rest) (sym least-is)
-          ∙ ap (λ (n : ℕ). f ∷ fatesFrom deck v.least n rest) (sym last-is)
+      fates_are : fates_from deck w.least w.last (rows_left deck i at) ≡ f ∷ fates_from deck v.least v.last rest
+      fates_are =
+          ap (fates_from deck w.least w.last) rows_are
+          ∙ ap (λ (x : Fate). x ∷ fates_from deck (least_behind x (row_of (drop at deck)) w.least) (last_behind x (row_of (drop at deck)) w.last) rest) ef
+          ∙ ap (λ (n : ℕ). f ∷ fates_from deck n (last_behind f (row_of (drop at deck)) w.last) rest) (sym least-is)
+          ∙ ap (λ (n : ℕ). f ∷ fates_from deck v.least n rest) (sym last-is)
 
-      kept-are : keptFrom deck w.least w.last (rowsLeft deck i at) ≡ more ++ keptFrom deck v.least v.last rest
-      kept-are =
-          ap (λ (fs : List Fate). map (entry_of deck) (keptRows fs (rowsLeft deck i at))) fates-are
-          ∙ ap (λ (rs : List Row). map (entry_of deck) (keptRows (f ∷ fatesFrom deck v.least v.last rest) rs)) rows_are
-          ∙ kept-is (fatesFrom deck v.least v.last rest) rest
+      kept_are : kept_from deck w.least w.last (rows_left deck i at) ≡ more ++ kept_from deck v.least v.last rest
+      kept_are =
+          ap (λ (fs : List Fate). map (entry_of deck) (kept_rows fs (rows_left deck i at))) fates_are
+          ∙ ap (λ (rs : List Row). map (entry_of deck) (kept_rows (f ∷ fates_from deck v.least v.last rest) rs)) rows_are
+          ∙ kept-is (fates_from deck v.least v.last rest) rest
 
-      stored-are : set is i k ≡ map ruleOf (g.done ++ f ∷ []) ++ drop (i + 1) was
-      stored-are =
+      stored_are : set is i k ≡ map rule_of (g.done ++ f ∷ []) ++ drop (i + 1) was
+      stored_are =
           let one : i + 1 ≡ suc i = omega arith in
-          let long : length (map ruleOf g.done) ≡ i = length-map g.done ruleOf ∙ g.long in
-          ap (λ (t : List ℕ). set t i k) (g.stands ∙ ap (λ (t : List ℕ). map ruleOf g.done ++ t) (drop-cons was i 0 room))
-          ∙ set_at (map ruleOf g.done) _ (drop (suc i) was) k i long
-          ∙ sym (append_assoc (map ruleOf g.done) (k ∷ []) (drop (suc i) was))
-          ∙ ap (λ (n : ℕ). map ruleOf g.done ++ (n ∷ []) ++ drop (suc i) was) e
-          ∙ ap (λ (t : List ℕ). t ++ drop (suc i) was) (sym (map-append ruleOf g.done (f ∷ [])))
-          ∙ ap (λ (n : ℕ). map ruleOf (g.done ++ f ∷ []) ++ drop n was) (sym one)
+          let long : length (map rule_of g.done) ≡ i = length-map g.done rule_of ∙ g.long in
+          ap (λ (t : List ℕ). set t i k) (g.stands ∙ ap (λ (t : List ℕ). map rule_of g.done ++ t) (drop-cons was i 0 room))
+          ∙ set_at (map rule_of g.done) _ (drop (suc i) was) k i long
+          ∙ sym (append_assoc (map rule_of g.done) (k ∷ []) (drop (suc i) was))
+          ∙ ap (λ (n : ℕ). map rule_of g.done ++ (n ∷ []) ++ drop (suc i) was) e
+          ∙ ap (λ (t : List ℕ). t ++ drop (suc i) was) (sym (map-append rule_of g.done (f ∷ [])))
+          ∙ ap (λ (n : ℕ). map rule_of (g.done ++ f ∷ []) ++ drop n was) (sym one)
 
       further : Going deck was (set is i k) (i + 1) (at + 8) v
       further = record {
         done = g.done ++ f ∷ [];
-        keptSoFar = g.keptSoFar ++ more;
+        kept_so_far = g.kept_so_far ++ more;
         long = length-append g.done (f ∷ []) ∙ omega (arith, g.long);
-        fates = g.fates ∙ ap (λ (fs : List Fate). g.done ++ fs) fates-are ∙ sym (append_assoc g.done (f ∷ []) (fatesFrom deck v.least v.last rest));
-        keeps = g.keeps ∙ ap (λ (es : List Entry). g.keptSoFar ++ es) kept-are ∙ sym (append_assoc g.keptSoFar more (keptFrom deck v.least v.last rest));
-        stands = stored-are;
-        cards = omega (arith, cards-are, g.cards, length-append g.keptSoFar more);
-        bytes = omega (arith, bytes-are, g.bytes, ap length (bodies-append g.keptSoFar more), length-append (bodies g.keptSoFar) (bodies more));
+        fates = g.fates ∙ ap (λ (fs : List Fate). g.done ++ fs) fates_are ∙ sym (append_assoc g.done (f ∷ []) (fates_from deck v.least v.last rest));
+        keeps = g.keeps ∙ ap (λ (es : List Entry). g.kept_so_far ++ es) kept_are ∙ sym (append_assoc g.kept_so_far more (kept_from deck v.least v.last rest));
+        stands = stored_are;
+        cards = omega (arith, cards-are, g.cards, length-append g.kept_so_far more);
+        bytes = omega (arith, bytes-are, g.bytes, ap length (bodies_append g.kept_so_far more), length-append (bodies g.kept_so_far) (bodies more));
         few = omega (arith, cards-are, g.few, few-more);
         short = IsShort-still;
         inside = inside-still;
@@ -150,35 +150,35 @@ module _ (deck : List ℕ) (h : Head deck) where
       }
 
     -- by its fate
-    module _ (l : i < count_of deck) {k : ℕ} {v : Walk} (e : k ≡ ruleOf (fateOf deck w.least w.last (row_of (drop at deck))))
-        (s : v ≡ walkedBy k (row_of (drop at deck)) w) (room : i < length was) where
+    module _ (l : i < count_of deck) {k : ℕ} {v : Walk} (e : k ≡ rule_of (fate_of deck w.least w.last (row_of (drop at deck))))
+        (s : v ≡ walked_by k (row_of (drop at deck)) w) (room : i < length was) where
       abbrev r : Row
       r = row_of (drop at deck)
 
-      kept_on : fateOf deck w.least w.last r ≡ kept → Going deck was (set is i k) (i + 1) (at + 8) v
+      kept_on : fate_of deck w.least w.last r ≡ kept → Going deck was (set is i k) (i + 1) (at + 8) v
       kept_on ef =
-          let zero_is : k ≡ 0 = e ∙ ap ruleOf ef in
+          let zero_is : k ≡ 0 = e ∙ ap rule_of ef in
           let walk_is : v ≡ record { least = suc r.number; last = end_of r; cards = w.cards + 1; bytes = w.bytes + r.size }
-          = s ∙ ap (λ (n : ℕ). walkedBy n r w) zero_is in
-          let right = (kept-right deck w.least w.last r ef).0 in
-          let long = body-long deck r right.ends in
+          = s ∙ ap (λ (n : ℕ). walked_by n r w) zero_is in
+          let right = (kept_right deck w.least w.last r ef).0 in
+          let long = body_long deck r right.ends in
           let last-is : v.last ≡ end_of r = ap (λ (x : Walk). x.last) walk_is in
           let bytes-is : v.bytes ≡ w.bytes + r.size = ap (λ (x : Walk). x.bytes) walk_is in
-          further l kept (entry_of deck r ∷ []) (e ∙ ap ruleOf ef) ef (ap (λ (x : Walk). x.least) walk_is) last-is (λ fs rs. refl) (ap (λ (x : Walk). x.cards) walk_is)
+          further l kept (entry_of deck r ∷ []) (e ∙ ap rule_of ef) ef (ap (λ (x : Walk). x.least) walk_is) last-is (λ fs rs. refl) (ap (λ (x : Walk). x.cards) walk_is)
           (omega (arith, bytes-is, long, length-append (body_of deck r) [])) (omega arith) (omega (arith, bytes-is, last-is, right.begins, g.short)) (omega (arith, last-is, right.ends)) room
 
-      dropped-on : (rule : ℕ) → fateOf deck w.least w.last r ≡ dropped rule → Going deck was (set is i k) (i + 1) (at + 8) v
-      dropped-on rule ef =
-          let some : k ≡ 0 → ⊥ = λ z. true≢false (sym (ap isKept (sym ef ∙ zero-kept deck w.least w.last r (sym e ∙ z)))) in
+      dropped_on : (rule : ℕ) → fate_of deck w.least w.last r ≡ dropped rule → Going deck was (set is i k) (i + 1) (at + 8) v
+      dropped_on rule ef =
+          let some : k ≡ 0 → ⊥ = λ z. true≢false (sym (ap is_kept (sym ef ∙ zero_kept deck w.least w.last r (sym e ∙ z)))) in
           let walk_is : v ≡ w = s ∙ sym (stays k r w some) in
           let part : (f : Walk → ℕ) → f v ≡ f w = λ f. ap f walk_is in
-          further l (dropped rule) [] (e ∙ ap ruleOf ef) ef (part (λ (x : Walk). x.least)) (part (λ (x : Walk). x.last)) (λ fs rs. refl)
+          further l (dropped rule) [] (e ∙ ap rule_of ef) ef (part (λ (x : Walk). x.least)) (part (λ (x : Walk). x.last)) (λ fs rs. refl)
           (omega (arith, part (λ (x : Walk). x.cards))) (omega (arith, part (λ (x : Walk). x.bytes))) (omega arith)
           (omega (arith, part (λ (x : Walk). x.bytes), part (λ (x : Walk). x.last), g.short)) (omega (arith, part (λ (x : Walk). x.last), g.inside)) room
 
       pub goes_on : Going deck was (set is i k) (i + 1) (at + 8) v
-      goes_on = go (fateOf deck w.least w.last r) refl
+      goes_on = go (fate_of deck w.least w.last r) refl
         where
-          go : (f : Fate) → fateOf deck w.least w.last r ≡ f → Going deck was (set is i k) (i + 1) (at + 8) v
+          go : (f : Fate) → fate_of deck w.least w.last r ≡ f → Going deck was (set is i k) (i + 1) (at + 8) v
           go kept ef = kept_on ef
-          go (dropped rule) ef = dropped-on rule ef
+          go (dropped rule) ef = dropped_on rule ef

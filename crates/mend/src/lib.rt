@@ -1,11 +1,11 @@
 // A box mended: the entries that obey the rules in a deck without gaps, and a list with a line for each entry (document 02, 2026-09).
 ghost use Rattle.std.specs.Prelude.{◌≡◌, ◌+◌, ◌≤◌, length, drop};
-ghost use Rattle.card.specs.Limits.{entryBytes, mostCards};
+ghost use Rattle.card.specs.Limits.{entry_bytes, most_cards};
 ghost use Rattle.entry.specs.Contract.{two};
 ghost use Rattle.deck.specs.Contents.{row_of, count_of};
 ghost use Rattle.deck.specs.Sound.{Head};
 ghost use Rattle.reading.specs.Reading.{read_of};
-ghost use Rattle.mending.specs.Mending.{is_taken, fateOf, ruleOf};
+ghost use Rattle.mending.specs.Mending.{is_taken, fate_of as fate_of_said, rule_of};
 ghost use Rattle.mended_rooms.specs.Mends.{Mends};
 ghost use Rattle.mend.specs.Fated.{Fated};
 
@@ -40,8 +40,8 @@ const CARD_RULE: usize = 4;
 
 // The first rule that the entry at a place breaks, or 0 if it is kept. Its card is read only if it is live and breaks none of the others.
 fn fate_of(deck: &[u8], at: usize, least: usize, last: usize) -> usize
-    requires { at + entryBytes ≤ length deck.now }
-    ensures { result ≡ ruleOf (fateOf deck.now least last (row_of (drop at deck.now))) }
+    requires { at + entry_bytes ≤ length deck.now }
+    ensures { result ≡ rule_of (fate_of_said deck.now least last (row_of (drop at deck.now))) }
 {
     let rule = broken_rule(deck, at, least, last);
     if rule != 0 {
@@ -63,7 +63,7 @@ fn fate_of(deck: &[u8], at: usize, least: usize, last: usize) -> usize
 fn fates_into(deck: &[u8], count: usize, fates: &mut [usize; MOST_CARDS]) -> Walk
     requires head { Head deck.now }
     requires count_value { count ≡ count_of deck.now }
-    requires fates_len { length fates.old ≡ mostCards }
+    requires fates_len { length fates.old ≡ most_cards }
     ensures { Fated deck.now fates.old fates.new result }
 {
     let mut i: usize = 0;

@@ -5,79 +5,79 @@ use mathlib.Core.List.{List, []}
 use native.Mathlib.Omega.{arith}
 use lib.ListN.{length}
 use borrow.Author.Tests.{le-leb, lt-leb}
-use Rattle.card.specs.Refusals.{malformedDeck, roomTooSmall}
+use Rattle.card.specs.Refusals.{malformed_deck, room_too_small}
 use Rattle.entry.specs.Said.{says, refused}
 use Rattle.entry.specs.Contract.{onto, Two, two}
-use Rattle.deck.specs.Deck.{bodies, deckText}
-use Rattle.deck.proofs.Written.{length-text}
+use Rattle.deck.specs.Deck.{bodies, deck_text}
+use Rattle.deck.proofs.Written.{length_text}
 use Rattle.room.specs.Room.{Put}
-use Rattle.room.proofs.Laws.{put_as, clip-start}
+use Rattle.room.proofs.Laws.{put_as, clip_start}
 use Rattle.phrases.specs.Puts.{Puts}
-use Rattle.mending.specs.Mending.{fatesIn, keptIn, listText, mended, mendSaid}
-use Rattle.mending.proofs.MendStage.{none_kept, some-kept}
-use Rattle.mended_rooms.specs.Lines.{linesBy}
-use Rattle.mended_rooms.proofs.Listed.{listed_by, list-short}
+use Rattle.mending.specs.Mending.{fates_in, kept_in, list_text, mended, mend_said}
+use Rattle.mending.proofs.MendStage.{none_kept, some_kept_law}
+use Rattle.mended_rooms.specs.Lines.{lines_by}
+use Rattle.mended_rooms.proofs.Listed.{listed_by, list_short}
 use Rattle.mended_rooms.specs.KeptBy.{Fates}
 use Rattle.mended_rooms.specs.declared.Mended.TheVariants.{Done, Refused}
 use Rattle.mended_rooms.specs.Mends.{Mends}
 
-pub mends-refused : {was : Two (List ℕ)} (deck : List ℕ) {number place : ℕ} → mendSaid deck ≡ refused number place → Mends was was deck (Refused number place)
-mends-refused deck e = rw e (record { answers = refl; leaves = refl })
+pub mends_refused : {was : Two (List ℕ)} (deck : List ℕ) {number place : ℕ} → mend_said deck ≡ refused number place → Mends was was deck (Refused number place)
+mends_refused deck e = rw e (record { answers = refl; leaves = refl })
 
 module _ {deck fates : List ℕ} {cards : ℕ} (h : Fates deck fates cards) where
-  pub nothing-kept : {was : Two (List ℕ)} → cards ≡ 0 → Mends was was deck (Refused malformedDeck 0)
-  nothing-kept z = mends-refused deck (none_kept deck h.head (sym h.count ∙ z))
+  pub nothing_kept : {was : Two (List ℕ)} → cards ≡ 0 → Mends was was deck (Refused malformed_deck 0)
+  nothing_kept z = mends_refused deck (none_kept deck h.head (sym h.count ∙ z))
 
-  says-mended : (cards ≡ 0 → ⊥) → mendSaid deck ≡ says (mended deck)
-  says-mended some = some-kept deck h.head (omega (arith, h.count, some))
+  says_mended : (cards ≡ 0 → ⊥) → mend_said deck ≡ says (mended deck)
+  says_mended some = some_kept_law deck h.head (omega (arith, h.count, some))
 
   -- the list, put into a room of no bytes or into the lent one
-  module _ {was is : List ℕ} {r : ℕ} (p : Puts was is 0 (linesBy fates) r) where
-    list_put : Put was is 0 (listText (fatesIn deck)) r
-    list_put = put_as (sym (ap (λ (ks : List ℕ). linesBy ks []) h.are ∙ listed_by deck)) p.put
+  module _ {was is : List ℕ} {r : ℕ} (p : Puts was is 0 (lines_by fates) r) where
+    list_put : Put was is 0 (list_text (fates_in deck)) r
+    list_put = put_as (sym (ap (λ (ks : List ℕ). lines_by ks []) h.are ∙ listed_by deck)) p.put
 
-    lines_are : r ≡ length (listText (fatesIn deck))
-    lines_are = omega (arith, list_put.next, list-short deck, h.head.few)
+    lines_are : r ≡ length (list_text (fates_in deck))
+    lines_are = omega (arith, list_put.next, list_short deck, h.head.few)
 
-  module _ {bytes : ℕ} (eb : bytes ≡ length (bodies (keptIn deck))) where
+  module _ {bytes : ℕ} (eb : bytes ≡ length (bodies (kept_in deck))) where
     -- the length needed is the deck's
-    pub need-small : 1 + 8 * cards + bytes ≤ 65535
-    need-small = omega (arith, h.short, h.head.short, eb)
+    pub need_small : 1 + 8 * cards + bytes ≤ 65535
+    need_small = omega (arith, h.short, h.head.short, eb)
 
-    need-is : length (deckText (keptIn deck)) ≡ 1 + 8 * cards + bytes
-    need-is = length-text (keptIn deck) ∙ omega (arith, h.count, eb)
+    need_is : length (deck_text (kept_in deck)) ≡ 1 + 8 * cards + bytes
+    need_is = length_text (kept_in deck) ∙ omega (arith, h.count, eb)
 
     module _ (room list : List ℕ) (some : cards ≡ 0 → ⊥) where
-      pub small-room : length room < 1 + 8 * cards + bytes → Mends (two room list) (two room list) deck (Refused roomTooSmall (1 + 8 * cards + bytes))
-      small-room l =
-          let t = deckText (keptIn deck) in
-          let longer : length room < length t = omega (arith, need-is) in
-          rw (says-mended some) (record { answers = rw (lt-leb (length t) (length room) longer, need-is); leaves = rw (lt-leb (length t) (length room) longer) })
+      pub small_room : length room < 1 + 8 * cards + bytes → Mends (two room list) (two room list) deck (Refused room_too_small (1 + 8 * cards + bytes))
+      small_room l =
+          let t = deck_text (kept_in deck) in
+          let longer : length room < length t = omega (arith, need_is) in
+          rw (says_mended some) (record { answers = rw (lt-leb (length t) (length room) longer, need_is); leaves = rw (lt-leb (length t) (length room) longer) })
 
-      module _ (roomy : 1 + 8 * cards + bytes ≤ length room) {a b : List ℕ} {lines : ℕ} (measured : Puts a b 0 (linesBy fates) lines) where
-        deck-fits : length (deckText (keptIn deck)) ≤ length room
-        deck-fits = omega (arith, need-is)
+      module _ (roomy : 1 + 8 * cards + bytes ≤ length room) {a b : List ℕ} {lines : ℕ} (measured : Puts a b 0 (lines_by fates) lines) where
+        deck_fits : length (deck_text (kept_in deck)) ≤ length room
+        deck_fits = omega (arith, need_is)
 
-        pub small-list : length list < lines → Mends (two room list) (two room list) deck (Refused roomTooSmall lines)
-        small-list l =
-            let t = deckText (keptIn deck) in
-            let u = listText (fatesIn deck) in
+        pub small_list : length list < lines → Mends (two room list) (two room list) deck (Refused room_too_small lines)
+        small_list l =
+            let t = deck_text (kept_in deck) in
+            let u = list_text (fates_in deck) in
             let longer : length list < length u = omega (arith, lines_are measured) in
-            rw (says-mended some, lines_are measured) (record {
-              answers = rw (le-leb (length t) (length room) deck-fits, lt-leb (length u) (length list) longer);
-              leaves = rw (le-leb (length t) (length room) deck-fits, lt-leb (length u) (length list) longer);
+            rw (says_mended some, lines_are measured) (record {
+              answers = rw (le-leb (length t) (length room) deck_fits, lt-leb (length u) (length list) longer);
+              leaves = rw (le-leb (length t) (length room) deck_fits, lt-leb (length u) (length list) longer);
             })
 
-        pub both-put : {room' list' : List ℕ} {r s : ℕ} → lines ≤ length list → Put room room' 0 (deckText (keptIn deck)) r → Puts list list' 0 (linesBy fates) s
+        pub both_put : {room' list' : List ℕ} {r s : ℕ} → lines ≤ length list → Put room room' 0 (deck_text (kept_in deck)) r → Puts list list' 0 (lines_by fates) s
             → Mends (two room list) (two room' list') deck (Done r s)
-        both-put {room'} {list'} {r} {s} l p q =
-            let t = deckText (keptIn deck) in
-            let u = listText (fatesIn deck) in
+        both_put {room'} {list'} {r} {s} l p q =
+            let t = deck_text (kept_in deck) in
+            let u = list_text (fates_in deck) in
             let list-fits : length u ≤ length list = omega (arith, lines_are measured) in
-            let first-length : r ≡ length t = omega (arith, p.next, p.small, deck-fits) in
-            let first-room : room' ≡ onto t room = p.wrote ∙ clip-start room t deck-fits in
-            let second-room : list' ≡ onto u list = (list_put q).wrote ∙ clip-start list u list-fits in
-            rw (says-mended some, first-length, lines_are q, first-room, second-room) (record {
-              answers = rw (le-leb (length t) (length room) deck-fits, le-leb (length u) (length list) list-fits);
-              leaves = rw (le-leb (length t) (length room) deck-fits, le-leb (length u) (length list) list-fits);
+            let first-length : r ≡ length t = omega (arith, p.next, p.small, deck_fits) in
+            let first-room : room' ≡ onto t room = p.wrote ∙ clip_start room t deck_fits in
+            let second-room : list' ≡ onto u list = (list_put q).wrote ∙ clip_start list u list-fits in
+            rw (says_mended some, first-length, lines_are q, first-room, second-room) (record {
+              answers = rw (le-leb (length t) (length room) deck_fits, le-leb (length u) (length list) list-fits);
+              leaves = rw (le-leb (length t) (length room) deck_fits, le-leb (length u) (length list) list-fits);
             })

@@ -10,11 +10,11 @@ use Rattle.mended_rooms.specs.Mends.{told}
 pub done≢refused : {A : Type 0} {d l number place : ℕ} → Done d l ≡ Refused number place → A
 done≢refused e = let z : ◌≡◌ {A = ℕ} 0 1 = cc in absurd (omega arith)
 
-pub same-deck : {d l d' l' : ℕ} → Done d l ≡ Done d' l' → d ≡ d'
-same-deck e = cc
+pub same_deck : {d l d' l' : ℕ} → Done d l ≡ Done d' l' → d ≡ d'
+same_deck e = cc
 
-pub same-list : {d l d' l' : ℕ} → Done d l ≡ Done d' l' → l ≡ l'
-same-list e = cc
+pub same_list : {d l d' l' : ℕ} → Done d l ≡ Done d' l' → l ≡ l'
+same_list e = cc
 
 pub same_number : {r p s q : ℕ} → Refused r p ≡ Refused s q → r ≡ s
 same_number e = cc
@@ -22,11 +22,11 @@ same_number e = cc
 pub same_place : {r p s q : ℕ} → Refused r p ≡ Refused s q → p ≡ q
 same_place e = cc
 
-pub told-faithful : Faithful told
-told-faithful (says a) (says b) e = ap says (pair (same-deck e) (same-list e))
+pub told_faithful : Faithful told
+told_faithful (says a) (says b) e = ap says (pair (same_deck e) (same_list e))
   where
     pair : a.first ≡ b.first → a.second ≡ b.second → a ≡ b
     pair f s = ap (λ (x : ℕ). two x a.second) f ∙ ap (λ (x : ℕ). two b.first x) s
-told-faithful (says a) (refused r p) e = done≢refused e
-told-faithful (refused r p) (says a) e = done≢refused (sym e)
-told-faithful (refused r p) (refused s q) e = rw (same_number e, same_place e)
+told_faithful (says a) (refused r p) e = done≢refused e
+told_faithful (refused r p) (says a) e = done≢refused (sym e)
+told_faithful (refused r p) (refused s q) e = rw (same_number e, same_place e)

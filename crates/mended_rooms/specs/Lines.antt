@@ -2,10 +2,10 @@
 use Rattle.std.specs.Prelude.{ℕ, zero, suc, List, [], ◌∷◌}
 use Rattle.phrases.specs.Phrases.{◌▸◌, num}
 
-abbrev pub lineBy : ℕ → List ℕ → List ℕ
-lineBy zero r = "kept\n" ▸ r
-lineBy (suc rule) r = "dropped " ▸ num (suc rule) ("\n" ▸ r)
+abbrev pub line_by : ℕ → List ℕ → List ℕ
+line_by zero r = "kept\n" ▸ r
+line_by (suc rule) r = "dropped " ▸ num (suc rule) ("\n" ▸ r)
 
-abbrev pub linesBy : List ℕ → List ℕ → List ℕ
-linesBy [] r = r
-linesBy (k ∷ ks) r = lineBy k (linesBy ks r)
+abbrev pub lines_by : List ℕ → List ℕ → List ℕ
+lines_by [] r = r
+lines_by (k ∷ ks) r = line_by k (lines_by ks r)

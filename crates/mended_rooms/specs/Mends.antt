@@ -1,8 +1,8 @@
 -- What mending answers: the lengths of the new deck and of the list, or a refusal; and what it promises of both rooms. Assumes nothing.
 use Rattle.std.specs.Prelude.{ℕ, List}
 use Rattle.entry.specs.Said.{Said, says, refused}
-use Rattle.entry.specs.Contract.{Enters, Two, inRooms}
-use Rattle.mending.specs.Mending.{mendSaid}
+use Rattle.entry.specs.Contract.{Enters, Two, in_rooms}
+use Rattle.mending.specs.Mending.{mend_said}
 use Rattle.mended_rooms.specs.declared.Mended.{Mended}
 use Rattle.mended_rooms.specs.declared.Mended.TheVariants.{Done, Refused}
 
@@ -12,4 +12,4 @@ told (refused number place) = Refused number place
 
 -- the rooms `was`, for the deck and for the list, became `is`
 abbrev pub Mends : (was is : Two (List ℕ)) (deck : List ℕ) → Mended → Type 0
-Mends was is deck answer = Enters inRooms told was is (mendSaid deck) answer
+Mends was is deck answer = Enters in_rooms told was is (mend_said deck) answer

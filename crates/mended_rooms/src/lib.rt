@@ -1,15 +1,15 @@
 // A mended deck and its list, put into a room each, all or nothing (document 02, 2026-09).
 ghost use Rattle.phrases.specs.Puts.{Puts};
-ghost use Rattle.mended_rooms.specs.Lines.{lineBy, linesBy};
+ghost use Rattle.mended_rooms.specs.Lines.{line_by, lines_by};
 ghost use Rattle.std.specs.Prelude.{◌≡◌, ◌+◌, ◌≤◌, ◌<◌, length, drop, [], map};
-ghost use Rattle.card.specs.Limits.{entryBytes, wordNumbers};
+ghost use Rattle.card.specs.Limits.{entry_bytes, word_numbers};
 ghost use Rattle.deck.specs.Contents.{row_of, end_of};
 ghost use Rattle.room.specs.Room.{Put};
-ghost use Rattle.mended_rooms.specs.Parts.{row_by, bodyBy, behindBy};
-ghost use Rattle.deck.specs.Deck.{entry_of, rowsText, bodies, deckText};
-ghost use Rattle.deck_written.specs.WriteDeckSaid.{linesFor};
-ghost use Rattle.mending.specs.Mending.{keptIn};
-ghost use Rattle.mended_rooms.specs.KeptBy.{rowsKept, Each, OffsetsFit, BodiesInside, Fates};
+ghost use Rattle.mended_rooms.specs.Parts.{row_by, body_by, behind_by};
+ghost use Rattle.deck.specs.Deck.{entry_of, rows_text, bodies, deck_text};
+ghost use Rattle.deck_written.specs.WriteDeckSaid.{lines_for};
+ghost use Rattle.mending.specs.Mending.{kept_in};
+ghost use Rattle.mended_rooms.specs.KeptBy.{rows_kept, Each, OffsetsFit, BodiesInside, Fates};
 ghost use Rattle.entry.specs.Contract.{two};
 ghost use Rattle.mended_rooms.specs.Mends.{Mends};
 
@@ -22,7 +22,7 @@ use room::{place, put_byte, put_bytes, put_run};
 
 // A line of the list, by an entry's fate: 0 if it is kept, else the rule that it breaks.
 fn put_line(room: &mut [u8], at: usize, fate: usize) -> usize
-    ensures { Puts room.old room.new at (lineBy fate) result }
+    ensures { Puts room.old room.new at (line_by fate) result }
 {
     if fate == 0 {
         return put_bytes(room, at, b"kept\n");
@@ -34,7 +34,7 @@ fn put_line(room: &mut [u8], at: usize, fate: usize) -> usize
 
 // The list, a line for each entry; the answer is the place behind the last.
 fn put_list(room: &mut [u8], fates: &[usize]) -> usize
-    ensures { Puts room.old room.new 0 (linesBy fates.now) result }
+    ensures { Puts room.old room.new 0 (lines_by fates.now) result }
 {
     let mut to = place(0);
     let mut i = 0;
@@ -47,9 +47,9 @@ fn put_list(room: &mut [u8], fates: &[usize]) -> usize
 
 // Where the next body starts, behind the entry at a place.
 fn offset_behind(deck: &[u8], from: usize, fate: usize, offset: usize) -> usize
-    requires entry_bytes_in_bounds { from + entryBytes ≤ length deck.now }
-    requires offset_lt_word_numbers { offset < wordNumbers }
-    ensures { result ≡ behindBy fate (row_of (drop from deck.now)) offset }
+    requires entry_bytes_in_bounds { from + entry_bytes ≤ length deck.now }
+    requires offset_lt_word_numbers { offset < word_numbers }
+    ensures { result ≡ behind_by fate (row_of (drop from deck.now)) offset }
 {
     if fate != 0 {
         return offset;
@@ -66,8 +66,8 @@ fn put_kept_row(
     fate: usize,
     offset: usize,
 ) -> usize
-    requires entry_bytes_in_bounds { from + entryBytes ≤ length deck.now }
-    requires offset_lt_word_numbers { offset < wordNumbers }
+    requires entry_bytes_in_bounds { from + entry_bytes ≤ length deck.now }
+    requires offset_lt_word_numbers { offset < word_numbers }
     ensures { Put room.old room.new at (row_by fate (row_of (drop from deck.now)) offset) result }
 {
     if fate != 0 {
@@ -82,9 +82,9 @@ fn put_kept_row(
 
 // The body of the entry at a place: of one that is kept it lies in the deck, and one that is dropped puts nothing.
 fn put_kept_body(room: &mut [u8], at: usize, deck: &[u8], from: usize, fate: usize) -> usize
-    requires entry_bytes_in_bounds { from + entryBytes ≤ length deck.now }
+    requires entry_bytes_in_bounds { from + entry_bytes ≤ length deck.now }
     requires deck_in_bounds { fate ≡ 0 → end_of (row_of (drop from deck.now)) ≤ length deck.now }
-    ensures { Put room.old room.new at (bodyBy deck.now fate (row_of (drop from deck.now))) result }
+    ensures { Put room.old room.new at (body_by deck.now fate (row_of (drop from deck.now))) result }
 {
     if fate != 0 {
         return place(at);
@@ -99,7 +99,7 @@ fn put_kept_body(room: &mut [u8], at: usize, deck: &[u8], from: usize, fate: usi
 fn put_rows(room: &mut [u8], at: usize, deck: &[u8], fates: &[usize], first: usize) -> usize
     requires each { Each deck.now fates.now }
     requires offsets_fit { OffsetsFit deck.now fates.now first }
-    ensures { Put room.old room.new at (rowsText (linesFor first (rowsKept deck.now fates.now)) []) result }
+    ensures { Put room.old room.new at (rows_text (lines_for first (rows_kept deck.now fates.now)) []) result }
 {
     let mut i: usize = 0;
     let mut from: usize = COUNT_BYTES;
@@ -118,7 +118,7 @@ fn put_rows(room: &mut [u8], at: usize, deck: &[u8], fates: &[usize], first: usi
 fn put_bodies(room: &mut [u8], at: usize, deck: &[u8], fates: &[usize]) -> usize
     requires each { Each deck.now fates.now }
     requires bodies_inside { BodiesInside deck.now fates.now }
-    ensures { Put room.old room.new at (bodies (map (entry_of deck.now) (rowsKept deck.now fates.now))) result }
+    ensures { Put room.old room.new at (bodies (map (entry_of deck.now) (rows_kept deck.now fates.now))) result }
 {
     let mut i: usize = 0;
     let mut from: usize = COUNT_BYTES;
@@ -134,7 +134,7 @@ fn put_bodies(room: &mut [u8], at: usize, deck: &[u8], fates: &[usize]) -> usize
 // The whole deck of the `cards` entries kept.
 fn put_mended(room: &mut [u8], deck: &[u8], fates: &[usize], cards: usize) -> usize
     requires { Fates deck.now fates.now cards }
-    ensures { Put room.old room.new 0 (deckText (keptIn deck.now)) result }
+    ensures { Put room.old room.new 0 (deck_text (kept_in deck.now)) result }
 {
     let first = COUNT_BYTES + ENTRY_BYTES * cards;
     let a = put_byte(room, 0, cards as u8);
@@ -159,7 +159,7 @@ pub fn store_mended(
     list: &mut [u8],
 ) -> Mended
     requires fates { Fates deck.now fates.now cards }
-    requires bytes_value { bytes ≡ length (bodies (keptIn deck.now)) }
+    requires bytes_value { bytes ≡ length (bodies (kept_in deck.now)) }
     ensures { Mends (two room.old list.old) (two room.new list.new) deck.now result }
 {
     if cards == 0 {

@@ -1,7 +1,7 @@
 -- What C is told of a mended deck (document 02, 2026-09): 0 and the deck's length, or a refusal's number and place; the list's length goes into a lent number, which a refusal leaves as it was. Assumes nothing.
 use Rattle.std.specs.Prelude.{ℕ, ◌≡◌, List, set}
 use Rattle.entry.specs.Said.{Said, ◌>>=◌, return}
-use Rattle.entry.specs.Contract.{Ends, Enters, Two, inRooms}
+use Rattle.entry.specs.Contract.{Ends, Enters, Two, in_rooms}
 use Rattle.room.specs.Answer.{told}
 use Rattle.answers.specs.Numbered.{numbers}
 use Rattle.answers.specs.declared.OpenPanelAnswer.{OpenPanelAnswer}
@@ -10,17 +10,17 @@ use Rattle.mended_rooms.specs.declared.Mended.TheVariants.{Done, Refused}
 
 -- ---- an answer in numbers
 
-abbrev pub mendedNumbers : Mended → OpenPanelAnswer
-mendedNumbers (Done deck list) = record { number = 0; value = deck }
-mendedNumbers (Refused number place) = record { number = number; value = place }
+abbrev pub mended_numbers : Mended → OpenPanelAnswer
+mended_numbers (Done deck list) = record { number = 0; value = deck }
+mended_numbers (Refused number place) = record { number = number; value = place }
 
-abbrev pub listLength : Mended → List ℕ → List ℕ
-listLength (Done deck list) was = set was 0 list
-listLength (Refused number place) was = was
+abbrev pub list_length : Mended → List ℕ → List ℕ
+list_length (Done deck list) was = set was 0 list
+list_length (Refused number place) was = was
 
 pub record Tells (m : Mended) (was is : List ℕ) (answer : OpenPanelAnswer) : Type 0 where
-  pub answers : answer ≡ mendedNumbers m
-  pub leaves : is ≡ listLength m was
+  pub answers : answer ≡ mended_numbers m
+  pub leaves : is ≡ list_length m was
 
 -- ---- the entry
 
@@ -32,11 +32,11 @@ pub record LentRooms : Type 0 where
 abbrev pub lent : Two (List ℕ) → List ℕ → LentRooms
 lent rooms length = record { rooms = rooms; length = length }
 
-abbrev pub inRoomsWithLength : LentRooms → Said (Two (List ℕ)) → Said (Ends ℕ LentRooms)
-inRoomsWithLength was said = do
-  both ← inRooms was.rooms said
+abbrev pub in_rooms_with_length : LentRooms → Said (Two (List ℕ)) → Said (Ends ℕ LentRooms)
+in_rooms_with_length was said = do
+  both ← in_rooms was.rooms said
   return (record { value = both.value.first; memory = lent both.memory (set was.length 0 both.value.second) })
 
 -- what was lent became `is`
 abbrev pub RoomsTold : (was is : LentRooms) → Said (Two (List ℕ)) → OpenPanelAnswer → Type 0
-RoomsTold was is said answer = Enters inRoomsWithLength (λ (s : Said ℕ). numbers (told s)) was is said answer
+RoomsTold was is said answer = Enters in_rooms_with_length (λ (s : Said ℕ). numbers (told s)) was is said answer

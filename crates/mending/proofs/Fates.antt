@@ -6,14 +6,14 @@ use mathlib.Core.List.{List, [], ◌∷◌}
 use native.Mathlib.Omega.{arith}
 use lib.ListN.{length}
 use Rattle.card.specs.Text.{if◌then◌else◌}
-use Rattle.deck.specs.Contents.{Row, count_of, entriesFrom, behind, contentsOf}
-use Rattle.deck_written.proofs.Entries.{length-rows}
-use Rattle.mending.specs.Mending.{flagsRight, numberRises, rangeLies, cardRight, Fate, kept, dropped, fateOf, leastBehind, lastBehind, fatesFrom, fatesIn, ruleOf}
+use Rattle.deck.specs.Contents.{Row, count_of, entries_from, behind, contents_of}
+use Rattle.deck_written.proofs.Entries.{length_rows}
+use Rattle.mending.specs.Mending.{flags_right, number_rises, range_lies, card_right, Fate, kept, dropped, fate_of, least_behind, last_behind, fates_from, fates_in, rule_of}
 
 module _ (deck : List ℕ) (least last : ℕ) (r : Row) where
   -- what holds of both holds of it
-  pub by-fate : (P : Fate → Type 0) → P kept → ((rule : ℕ) → rule < 4 → P (dropped (suc rule))) → P (fateOf deck least last r)
-  by-fate P k d = go (flagsRight r) (numberRises least r) (rangeLies (length deck) last r) (cardRight deck r)
+  pub by_fate : (P : Fate → Type 0) → P kept → ((rule : ℕ) → rule < 4 → P (dropped (suc rule))) → P (fate_of deck least last r)
+  by_fate P k d = go (flags_right r) (number_rises least r) (range_lies (length deck) last r) (card_right deck r)
     where
       go : (a b c e : Bool) → P (if a then if b then if c then if e then kept else dropped 4 else dropped 3 else dropped 2 else dropped 1)
       go true true true true = k
@@ -23,13 +23,13 @@ module _ (deck : List ℕ) (least last : ℕ) (r : Row) where
       go false b c e = d 0 (omega arith)
 
   -- without a rule it is kept
-  pub zero-kept : ruleOf (fateOf deck least last r) ≡ 0 → fateOf deck least last r ≡ kept
-  zero-kept = by-fate (λ (f : Fate). ruleOf f ≡ 0 → f ≡ kept) (λ h. refl) (λ rule l h. absurd (omega (arith, h)))
+  pub zero_kept : rule_of (fate_of deck least last r) ≡ 0 → fate_of deck least last r ≡ kept
+  zero_kept = by_fate (λ (f : Fate). rule_of f ≡ 0 → f ≡ kept) (λ h. refl) (λ rule l h. absurd (omega (arith, h)))
 
 -- there is one for each entry
-fates-long : (deck : List ℕ) (least last : ℕ) (rs : List Row) → length (fatesFrom deck least last rs) ≡ length rs
-fates-long deck least last [] = refl
-fates-long deck least last (r ∷ rs) = let f = fateOf deck least last r in ap suc (fates-long deck (leastBehind f r least) (lastBehind f r last) rs)
+fates_long : (deck : List ℕ) (least last : ℕ) (rs : List Row) → length (fates_from deck least last rs) ≡ length rs
+fates_long deck least last [] = refl
+fates_long deck least last (r ∷ rs) = let f = fate_of deck least last r in ap suc (fates_long deck (least_behind f r least) (last_behind f r last) rs)
 
-pub one_each : (deck : List ℕ) → length (fatesIn deck) ≡ count_of deck
-one_each deck = fates-long deck 0 (behind (count_of deck)) (contentsOf deck) ∙ length-rows (count_of deck) (entriesFrom deck)
+pub one_each : (deck : List ℕ) → length (fates_in deck) ≡ count_of deck
+one_each deck = fates_long deck 0 (behind (count_of deck)) (contents_of deck) ∙ length_rows (count_of deck) (entries_from deck)

@@ -6,7 +6,7 @@ use Rattle.deck.specs.Deck.{body_of}
 use Rattle.deck.specs.Sound.{entry_at, Head, Sound}
 use Rattle.deck_written.specs.Fine.{NoGaps}
 use Rattle.reading.specs.Reading.{taken, read_of}
-use Rattle.mending.specs.Mending.{keptIn}
+use Rattle.mending.specs.Mending.{kept_in}
 
 -- the card of every live entry is accepted
 abbrev pub Accepted : List ℕ → Type 0
@@ -19,9 +19,9 @@ pub record Good (deck : List ℕ) : Type 0 where
 
 pub record Whole (deck : List ℕ) : Type 0 where
   pub good : Good deck
-  pub noGaps : NoGaps deck
+  pub no_gaps : NoGaps deck
 
 -- a deck that can be mended: count, contents and length are right, and something is kept
 pub record Mendable (deck : List ℕ) : Type 0 where
   pub head : Head deck
-  pub some : 1 ≤ length (keptIn deck)
+  pub some : 1 ≤ length (kept_in deck)

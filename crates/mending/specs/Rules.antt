@@ -8,7 +8,7 @@ use Rattle.mending.specs.Mending.{Fate, kept, dropped}
 
 -- 1 to 4: the number is at least `least`, one above the last number kept; the body starts at `last` at the earliest, behind the contents and the last body kept
 abbrev pub FlagsRight : Row → Type 0
-FlagsRight r = ((r.flag ≡ 0) ⊎ (r.flag ≡ 1)) × (r.zeroByte ≡ 0)
+FlagsRight r = ((r.flag ≡ 0) ⊎ (r.flag ≡ 1)) × (r.zero_byte ≡ 0)
 
 abbrev pub NumberRises : (least : ℕ) → Row → Type 0
 NumberRises least r = least ≤ r.number

@@ -1,46 +1,46 @@
 -- Each by computing. Assumes nothing.
 use mathlib.Core.Path.{refl}
-use Rattle.card.specs.Weight.{unitsOf}
-use Rattle.reading.specs.Reading.{readUnder}
+use Rattle.card.specs.Weight.{units_of}
+use Rattle.reading.specs.Reading.{read_under}
 use Rattle.room.specs.Digits.{decimal}
-use Rattle.mending.specs.Mending.{mendSaid}
+use Rattle.mending.specs.Mending.{mend_said}
 use Rattle.mending_edges.specs.MendingEdges.{MendingEdges}
 
-pub mending-edges : MendingEdges
-unfolding mendSaid readUnder unitsOf decimal
-mending-edges = record {
+pub mending_edges : MendingEdges
+unfolding mend_said read_under units_of decimal
+mending_edges = record {
   same = refl;
-  gaps-closed = refl;
-  wrong-flag = refl;
-  wrong-zero-byte = refl;
+  gaps_closed = refl;
+  wrong_flag = refl;
+  wrong_zero_byte = refl;
   same_number = refl;
-  number-falls = refl;
-  in-contents = refl;
-  past-deck = refl;
+  number_falls = refl;
+  in_contents = refl;
+  past_deck = refl;
   overlap = refl;
-  not-a-card = refl;
-  empty-card = refl;
-  first-broken = refl;
-  number-stays = refl;
+  not_a_card = refl;
+  empty_card = refl;
+  first_broken = refl;
+  number_stays = refl;
   end_stays = refl;
-  flag-moves-nothing = refl;
-  number-moves-nothing = refl;
-  card-moves-nothing = refl;
-  number-0 = refl;
-  old-contents = refl;
-  empty-first = refl;
-  empty-last = refl;
-  empty-early = refl;
-  empty-past = refl;
-  empty-inside = refl;
-  empty-moves-end = refl;
-  no-head = (refl, refl, refl, refl);
+  flag_moves_nothing = refl;
+  number_moves_nothing = refl;
+  card_moves_nothing = refl;
+  number_0 = refl;
+  old_contents = refl;
+  empty_first = refl;
+  empty_last = refl;
+  empty_early = refl;
+  empty_past = refl;
+  empty_inside = refl;
+  empty_moves_end = refl;
+  no_head = (refl, refl, refl, refl);
   most_bytes = (refl, refl);
-  nothing-kept = (refl, refl);
+  nothing_kept = (refl, refl);
   head_first = (refl, refl);
-  kept-first = (refl, refl);
-  both-fit = (refl, refl);
-  exact-rooms = (refl, refl);
-  deck-first = (refl, refl);
-  list-short = (refl, refl);
+  kept_first = (refl, refl);
+  both_fit = (refl, refl);
+  exact_rooms = (refl, refl);
+  deck_first = (refl, refl);
+  list_short = (refl, refl);
 }

@@ -1,10 +1,10 @@
 // What mending sees without reading a card (document 02, 2026-09): the head of a deck, how far it has come from entry to entry, and which rules of the contents an entry breaks.
 ghost use Rattle.mending_walk.specs.Headed.{Headed};
 ghost use Rattle.std.specs.Prelude.{◌≡◌, ◌+◌, ◌≤◌, length, drop};
-ghost use Rattle.card.specs.Limits.{entryBytes, mostCards};
+ghost use Rattle.card.specs.Limits.{entry_bytes, most_cards};
 ghost use Rattle.deck.specs.Contents.{row_of};
-ghost use Rattle.mending_walk.specs.Walking.{walkBefore, walkedBy, Roomy};
-ghost use Rattle.mending.specs.Mending.{kept, byContents, ruleOf};
+ghost use Rattle.mending_walk.specs.Walking.{walk_before, walked_by, Roomy};
+ghost use Rattle.mending.specs.Mending.{kept, by_contents, rule_of};
 
 use card::limits::{
     COUNT_BYTES, DECK_BYTES, ENTRY_BYTES, FLAG_AT, MOST_CARDS, OFFSET_AT, SIZE_AT, ZERO_BYTE_AT,
@@ -42,8 +42,8 @@ pub struct Walk {
 
 // Before the first entry: any number rises, and a body starts behind the contents, which have so many entries.
 pub fn walk_from(count: usize) -> Walk
-    requires { count ≤ mostCards }
-    ensures { result ≡ walkBefore count }
+    requires { count ≤ most_cards }
+    ensures { result ≡ walk_before count }
 {
     Walk {
         least: 0,
@@ -55,9 +55,9 @@ pub fn walk_from(count: usize) -> Walk
 
 // Behind the entry at a place, whose fate is 0 if it is kept.
 pub fn walked(deck: &[u8], at: usize, fate: usize, walk: Walk) -> Walk
-    requires entry_bytes_in_bounds { at + entryBytes ≤ length deck.now }
+    requires entry_bytes_in_bounds { at + entry_bytes ≤ length deck.now }
     requires roomy { Roomy walk }
-    ensures { result ≡ walkedBy fate (row_of (drop at deck.now)) walk }
+    ensures { result ≡ walked_by fate (row_of (drop at deck.now)) walk }
 {
     let number = word_at(deck, at);
     let offset = word_at(deck, at + OFFSET_AT);
@@ -82,8 +82,8 @@ pub fn walked(deck: &[u8], at: usize, fate: usize, walk: Walk) -> Walk
 
 // The first rule that the entry at a place breaks, or 0: its number is at least `least`, its body starts at `last` at the earliest. Its card is not read.
 pub fn broken_rule(deck: &[u8], at: usize, least: usize, last: usize) -> usize
-    requires { at + entryBytes ≤ length deck.now }
-    ensures { result ≡ ruleOf (byContents (length deck.now) least last (row_of (drop at deck.now)) kept) }
+    requires { at + entry_bytes ≤ length deck.now }
+    ensures { result ≡ rule_of (by_contents (length deck.now) least last (row_of (drop at deck.now)) kept) }
 {
     let number = word_at(deck, at);
     let offset = word_at(deck, at + OFFSET_AT);

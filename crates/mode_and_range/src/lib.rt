@@ -1,6 +1,6 @@
 // The mode of a card, and a range with its start, read from its bytes.
 ghost use Rattle.std.specs.Prelude.{◌≡◌, set};
-ghost use Rattle.late.specs.State.{atTop, at_start, Sized, lateIn, after};
+ghost use Rattle.late.specs.State.{at_top, at_start, Sized, late_in, after};
 ghost use Rattle.mode_and_range.specs.ModeRange.{ModeFrom, SpanFrom, RangeFrom};
 
 use card::refusals::{OUT_OF_SHAPE, PAST_LIMIT};
@@ -17,7 +17,7 @@ use parts::{number, sign};
 // The mode becomes the value.
 pub fn mode(card: &[u8], at: usize, state: &mut [usize; STATE]) -> usize
     requires { Sized state.old }
-    ensures { ModeFrom card.now at (lateIn state.old) (after state.new result) }
+    ensures { ModeFrom card.now at (late_in state.old) (after state.new result) }
 {
     let cursor = Cursor { at };
     let step = cursor.step(card);
@@ -37,7 +37,7 @@ pub fn mode(card: &[u8], at: usize, state: &mut [usize; STATE]) -> usize
 // 0..k, where k may be `most`; k becomes the value.
 fn span(card: &[u8], at: usize, most: usize, state: &mut [usize; STATE]) -> usize
     requires { Sized state.old }
-    ensures { SpanFrom card.now at most (lateIn state.old) (after state.new result) }
+    ensures { SpanFrom card.now at most (late_in state.old) (after state.new result) }
 {
     let step = step_number(card, at);
     let mark = step.mark;
@@ -69,7 +69,7 @@ fn span(card: &[u8], at: usize, most: usize, state: &mut [usize; STATE]) -> usiz
 
 // The two numbers of a range, stored.
 fn keep(state: &mut [usize; STATE], top: usize, start: usize)
-    ensures { state.new ≡ set (set state.old atTop top) at_start start }
+    ensures { state.new ≡ set (set state.old at_top top) at_start start }
 {
     state[TOP] = top;
     state[START] = start;
@@ -78,7 +78,7 @@ fn keep(state: &mut [usize; STATE], top: usize, start: usize)
 // 0..k] init l; of the states, or of the shared number: k goes to the top state's place and l to the start state's.
 pub fn range(card: &[u8], at: usize, most: usize, state: &mut [usize; STATE]) -> usize
     requires { Sized state.old }
-    ensures { RangeFrom card.now at most (lateIn state.old) (after state.new result) }
+    ensures { RangeFrom card.now at most (late_in state.old) (after state.new result) }
 {
     let values = span(card, at, most, state);
     if values == 0 {

@@ -7,136 +7,136 @@ use mathlib.Core.Option.{some}
 use native.Mathlib.Omega.{arith}
 use borrow.Author.Tests.{eq-eqb, ne_eqb, lt-ltb}
 use lib.ListN.{length, get_or, take, replicate}
-use Rattle.card.specs.Limits.{topState, mostShared}
+use Rattle.card.specs.Limits.{top_state, most_shared}
 use Rattle.card.specs.Card.{nondeterministic, probabilistic, Statement}
 use Rattle.card.specs.Laid.{either}
 use Rattle.card.specs.declared.Head.{Head}
-use Rattle.phrases.specs.Phrases.{◌▸◌, num, modeText}
+use Rattle.phrases.specs.Phrases.{◌▸◌, num, mode_text}
 use Rattle.phrases.specs.Puts.{Puts}
 use Rattle.room.specs.Room.{Put}
-use Rattle.meaning.specs.Sums.{orOne, upto, flat}
-use Rattle.meaning.specs.Panel.{Move, stayLine, movesFrom, block}
-use Rattle.meaning.specs.ByCounts.{unitsInto, stayOf, move_of}
-use Rattle.meaning.proofs.Sums.{length-upto, getD-upto}
-use Rattle.panel_numbers.specs.Table.{enabledPlace, sharedIn, stayIn, place_of, weightIn, byPlace, weightPlaces, branchesIn, weighing, raised, added, moveBy, rowFrom}
+use Rattle.meaning.specs.Sums.{or_one, upto, flat}
+use Rattle.meaning.specs.Panel.{Move, stay_line, moves_from, block}
+use Rattle.meaning.specs.ByCounts.{units_into, stay_of, move_of}
+use Rattle.meaning.proofs.Sums.{length_upto, get_d_upto}
+use Rattle.panel_numbers.specs.Table.{enabled_place, shared_in, stay_in, place_of, weight_in, by_place, weight_places, branches_in, weighing, raised, added, move_by, row_from}
 use Rattle.panel_numbers.specs.Fitting.{Most, heaviest}
 use Rattle.panel_numbers.proofs.Raised.{raised_long, raised_at}
-use Rattle.panel_wording.specs.PanelText.{line, sharedText, movesText, staysText, blockText, blocksText, panelText}
-use Rattle.panel_wording.specs.PanelIn.{shownIf, tells, choiceIf, choicesIn, panelIn}
-use Rattle.panel_wording.proofs.Laws.{told-if, one-most}
-use Rattle.panel_wording.proofs.Moves.{moves-cong, stays-cong, own-moves}
+use Rattle.panel_wording.specs.PanelText.{line, shared_text, moves_text, stays_text, block_text, blocks_text, panel_text}
+use Rattle.panel_wording.specs.PanelIn.{shown_if, tells, choice_if, choices_in, panel_in}
+use Rattle.panel_wording.proofs.Laws.{told_if, one_most}
+use Rattle.panel_wording.proofs.Moves.{moves_cong, stays_cong, own_moves}
 
 -- ---- rows of weights
 
 -- a place tells its state and its value
-by_place : (w : ℕ → ℕ → ℕ) (b h : ℕ) → h < mostShared → byPlace w (place_of b h) ≡ w b h
-by_place w b h l =
-    let state : place_of b h / mostShared ≡ b = omega arith in
-    let value : place_of b h % mostShared ≡ h = omega arith in
+by_place_law : (w : ℕ → ℕ → ℕ) (b h : ℕ) → h < most_shared → by_place w (place_of b h) ≡ w b h
+by_place_law w b h l =
+    let state : place_of b h / most_shared ≡ b = omega arith in
+    let value : place_of b h % most_shared ≡ h = omega arith in
     rw (state, value)
 
 -- a row as the code makes it
 abbrev empty : List ℕ
-empty = replicate weightPlaces 0
+empty = replicate weight_places 0
 
-zero-at : (n i : ℕ) → ◌≡◌ {A = ℕ} (get_or (replicate n 0) i 0) 0
-zero-at zero i = refl
-zero-at (suc n) zero = refl
-zero-at (suc n) (suc i) = zero-at n i
+zero_at : (n i : ℕ) → ◌≡◌ {A = ℕ} (get_or (replicate n 0) i 0) 0
+zero_at zero i = refl
+zero_at (suc n) zero = refl
+zero_at (suc n) (suc i) = zero_at n i
 
-pub empty-light : Most heaviest empty
-empty-light i = rw (zero-at weightPlaces i) (omega arith)
+pub empty_light : Most heaviest empty
+empty_light i = rw (zero_at weight_places i) (omega arith)
 
-pub raised-row : (u : ℕ → ℕ) (able : ℕ) (was : List ℕ) {row : List ℕ} → row ≡ raised weightPlaces u able was → length row ≡ weightPlaces
-raised-row u able was e = rw e (raised_long weightPlaces u able was)
+pub raised_row : (u : ℕ → ℕ) (able : ℕ) (was : List ℕ) {row : List ℕ} → row ≡ raised weight_places u able was → length row ≡ weight_places
+raised_row u able was e = rw e (raised_long weight_places u able was)
 
-module _ (table rows branches : List ℕ) (count a : ℕ) {row : List ℕ} (is : row ≡ rowFrom table rows branches count a) where
-  pub from-long : length row ≡ weightPlaces
-  unfolding rowFrom
-  from-long = rw is (length-upto weightPlaces (byPlace (moveBy table rows branches count a)))
+module _ (table rows branches : List ℕ) (count a : ℕ) {row : List ℕ} (is : row ≡ row_from table rows branches count a) where
+  pub from_long : length row ≡ weight_places
+  unfolding row_from
+  from_long = rw is (length_upto weight_places (by_place (move_by table rows branches count a)))
 
-  from_at : (b h : ℕ) → b ≤ topState → h < mostShared → weightIn row b h ≡ moveBy table rows branches count a b h
-  unfolding rowFrom
+  from_at : (b h : ℕ) → b ≤ top_state → h < most_shared → weight_in row b h ≡ move_by table rows branches count a b h
+  unfolding row_from
   from_at b h l m =
-      rw is (getD-upto weightPlaces (byPlace (moveBy table rows branches count a)) (place_of b h) 0 (omega arith)
-      ∙ by_place (moveBy table rows branches count a) b h m)
+      rw is (get_d_upto weight_places (by_place (move_by table rows branches count a)) (place_of b h) 0 (omega arith)
+      ∙ by_place_law (move_by table rows branches count a) b h m)
 
-  pub from-text : (k shared : ℕ) → k ≤ topState → shared ≤ mostShared → (r : List ℕ)
-      → movesText (tells shared) (movesFrom k (orOne shared) a (weightIn row)) r ≡ movesText (tells shared) (movesFrom k (orOne shared) a (moveBy table rows branches count a)) r
-  from-text k shared t v r =
-      ap (λ l. movesText (tells shared) l r)
-      (moves-cong k (orOne shared) a (weightIn row) (moveBy table rows branches count a) (λ b h l m. from_at b h (omega arith) (omega (arith, one-most shared v))))
+  pub from_text : (k shared : ℕ) → k ≤ top_state → shared ≤ most_shared → (r : List ℕ)
+      → moves_text (tells shared) (moves_from k (or_one shared) a (weight_in row)) r ≡ moves_text (tells shared) (moves_from k (or_one shared) a (move_by table rows branches count a)) r
+  from_text k shared t v r =
+      ap (λ l. moves_text (tells shared) l r)
+      (moves_cong k (or_one shared) a (weight_in row) (move_by table rows branches count a) (λ b h l m. from_at b h (omega arith) (omega (arith, one_most shared v))))
 
 -- in all, by old state
-abbrev pub fromState : Head → List ℕ → List ℕ → List ℕ → ℕ → List Move
-fromState h table rows branches a = movesFrom h.top (orOne h.shared) a (moveBy table rows branches h.count a)
+abbrev pub from_state : Head → List ℕ → List ℕ → List ℕ → ℕ → List Move
+from_state h table rows branches a = moves_from h.top (or_one h.shared) a (move_by table rows branches h.count a)
 
 -- ---- a choice
 
 module _ (k values g i able : ℕ) (s : Statement) (r : List ℕ) where
-  pub choice-none : (shared : ℕ) → able ≡ 0 → r ≡ blocksText (tells shared) (choiceIf k values g i able s) r
-  unfolding choiceIf
-  choice-none shared e = rw e
+  pub choice_none : (shared : ℕ) → able ≡ 0 → r ≡ blocks_text (tells shared) (choice_if k values g i able s) r
+  unfolding choice_if
+  choice_none shared e = rw e
 
-  choice-some : (shared : ℕ) → (able ≡ 0 → ⊥) → blockText (tells shared) (block k values (some (suc i)) (stayOf g s) (move_of g s)) r ≡ blocksText (tells shared) (choiceIf k values g i able s) r
-  unfolding choiceIf
-  choice-some shared h = let l : 0 < able = omega arith in rw (lt-ltb 0 able l)
+  choice_some : (shared : ℕ) → (able ≡ 0 → ⊥) → block_text (tells shared) (block k values (some (suc i)) (stay_of g s) (move_of g s)) r ≡ blocks_text (tells shared) (choice_if k values g i able s) r
+  unfolding choice_if
+  choice_some shared h = let l : 0 < able = omega arith in rw (lt-ltb 0 able l)
 
 module _ (k shared g i able own many : ℕ) (branches : List ℕ) where
   abbrev s : Statement
   s = weighing branches i own many
 
   abbrev into : ℕ → ℕ → ℕ
-  into b h = unitsInto g b h s.branches
+  into b h = units_into g b h s.branches
 
-  module _ {row : List ℕ} (is : row ≡ added g 1 (branchesIn branches i many) empty) where
-    choice-at : (b h : ℕ) → b ≤ topState → h < mostShared → weightIn row b h ≡ into b h
-    choice-at b h l m =
-        rw (is, raised_at weightPlaces (byPlace into) 1 empty (place_of b h) (omega arith), zero-at weightPlaces (place_of b h), by_place into b h m) (omega arith)
+  module _ {row : List ℕ} (is : row ≡ added g 1 (branches_in branches i many) empty) where
+    choice_at : (b h : ℕ) → b ≤ top_state → h < most_shared → weight_in row b h ≡ into b h
+    choice_at b h l m =
+        rw (is, raised_at weight_places (by_place into) 1 empty (place_of b h) (omega arith), zero_at weight_places (place_of b h), by_place_law into b h m) (omega arith)
 
-    module _ (t : k ≤ topState) (v : shared ≤ mostShared) (o : own ≤ k) (r : List ℕ) where
-      choice-lines : line "choice" (suc i ∷ []) (staysText (tells shared) (flat (upto (orOne shared) (λ h. stayLine h (weightIn row own h)))) (movesText (tells shared) (movesFrom k (orOne shared) own (weightIn row)) r))
-          ≡ blockText (tells shared) (block k (orOne shared) (some (suc i)) (stayOf g s) (move_of g s)) r
-      unfolding blockText block stayOf move_of
-      choice-lines = rw (
-        stays-cong (orOne shared) (λ h. weightIn row own h) (into own) (λ h m. choice-at own h (omega arith) (omega (arith, one-most shared v))),
-        own-moves k (orOne shared) own o (weightIn row) into (λ b h l m. choice-at b h (omega arith) (omega (arith, one-most shared v))),
+    module _ (t : k ≤ top_state) (v : shared ≤ most_shared) (o : own ≤ k) (r : List ℕ) where
+      choice_lines : line "choice" (suc i ∷ []) (stays_text (tells shared) (flat (upto (or_one shared) (λ h. stay_line h (weight_in row own h)))) (moves_text (tells shared) (moves_from k (or_one shared) own (weight_in row)) r))
+          ≡ block_text (tells shared) (block k (or_one shared) (some (suc i)) (stay_of g s) (move_of g s)) r
+      unfolding block_text block stay_of move_of
+      choice_lines = rw (
+        stays_cong (or_one shared) (λ h. weight_in row own h) (into own) (λ h m. choice_at own h (omega arith) (omega (arith, one_most shared v))),
+        own_moves k (or_one shared) own o (weight_in row) into (λ b h l m. choice_at b h (omega arith) (omega (arith, one_most shared v))),
       )
 
-      pub choice-text : {q : ℕ} → (able ≡ 0 → ⊥) → q ≡ i + 1
-          → line "choice" (q ∷ []) (staysText (tells shared) (flat (upto (orOne shared) (λ h. stayLine h (weightIn row own h)))) (movesText (tells shared) (movesFrom k (orOne shared) own (weightIn row)) r))
-          ≡ blocksText (tells shared) (choiceIf k (orOne shared) g i able s) r
-      choice-text {q} z p = let q-is : q ≡ suc i = omega arith in rw q-is choice-lines ∙ choice-some k (orOne shared) g i able s r shared z
+      pub choice_text : {q : ℕ} → (able ≡ 0 → ⊥) → q ≡ i + 1
+          → line "choice" (q ∷ []) (stays_text (tells shared) (flat (upto (or_one shared) (λ h. stay_line h (weight_in row own h)))) (moves_text (tells shared) (moves_from k (or_one shared) own (weight_in row)) r))
+          ≡ blocks_text (tells shared) (choice_if k (or_one shared) g i able s) r
+      choice_text {q} z p = let q-is : q ≡ suc i = omega arith in rw q-is choice_lines ∙ choice_some k (or_one shared) g i able s r shared z
 
 -- ---- the panel
 
 module _ (h : Head) (table rows branches : List ℕ) where
   abbrev head : List ℕ → List ℕ
   head r =
-      modeText (either nondeterministic probabilistic h.mode) ("\nseats " ▸ num h.seats (line " enabled" (get_or table enabledPlace 0 ∷ [])
-      (line "counts" (take (h.top + 1) table) (sharedText (shownIf h.shared (sharedIn table)) r))))
+      mode_text (either nondeterministic probabilistic h.mode) ("\nseats " ▸ num h.seats (line " enabled" (get_or table enabled_place 0 ∷ [])
+      (line "counts" (take (h.top + 1) table) (shared_text (shown_if h.shared (shared_in table)) r))))
 
   abbrev still : ℕ
-  still = stayIn table (sharedIn table)
+  still = stay_in table (shared_in table)
 
   module _ {a b : List ℕ} {at m : ℕ} where
-    pub choices-text : h.mode ≡ 0 → still ≡ 0
-        → Puts a b at (λ r. head (blocksText (tells h.shared) (choicesIn h.top (orOne h.shared) table rows branches h.count) r)) m
-        → Put a b at (panelText (panelIn h table rows branches)) m
-    unfolding panelText panelIn
-    choices-text e z p = rw (told-if h.shared (sharedIn table), eq-eqb h.mode 0 e, eq-eqb still 0 z) (rw (eq-eqb h.mode 0 e) at p.put)
+    pub choices_text : h.mode ≡ 0 → still ≡ 0
+        → Puts a b at (λ r. head (blocks_text (tells h.shared) (choices_in h.top (or_one h.shared) table rows branches h.count) r)) m
+        → Put a b at (panel_text (panel_in h table rows branches)) m
+    unfolding panel_text panel_in
+    choices_text e z p = rw (told_if h.shared (shared_in table), eq-eqb h.mode 0 e, eq-eqb still 0 z) (rw (eq-eqb h.mode 0 e) at p.put)
 
-    pub stuck-text : h.mode ≡ 0 → (still ≡ 0 → ⊥)
-        → Puts a b at (λ r. head (line "choice" (0 ∷ []) (staysText (tells h.shared) (stayLine (sharedIn table) still) r))) m
-        → Put a b at (panelText (panelIn h table rows branches)) m
-    unfolding panelText panelIn blockText
-    stuck-text e s p =
+    pub stuck_text : h.mode ≡ 0 → (still ≡ 0 → ⊥)
+        → Puts a b at (λ r. head (line "choice" (0 ∷ []) (stays_text (tells h.shared) (stay_line (shared_in table) still) r))) m
+        → Put a b at (panel_text (panel_in h table rows branches)) m
+    unfolding panel_text panel_in block_text
+    stuck_text e s p =
         let some-still : 0 < still = omega arith in
-        rw (told-if h.shared (sharedIn table), eq-eqb h.mode 0 e, ne_eqb still 0 s) (rw (eq-eqb h.mode 0 e, lt-ltb 0 still some-still) at p.put)
+        rw (told_if h.shared (shared_in table), eq-eqb h.mode 0 e, ne_eqb still 0 s) (rw (eq-eqb h.mode 0 e, lt-ltb 0 still some-still) at p.put)
 
-    pub weights-text : (h.mode ≡ 0 → ⊥)
-        → Puts a b at (λ r. head (staysText (tells h.shared) (flat (upto (orOne h.shared) (λ d. stayLine d (stayIn table d))))
-        (movesText (tells h.shared) (flat (upto (suc h.top) (λ a. movesFrom h.top (orOne h.shared) a (moveBy table rows branches h.count a)))) r))) m
-        → Put a b at (panelText (panelIn h table rows branches)) m
-    unfolding panelText panelIn blockText block
-    weights-text e p = rw (told-if h.shared (sharedIn table), ne_eqb h.mode 0 e) (rw (ne_eqb h.mode 0 e) at p.put)
+    pub weights_text : (h.mode ≡ 0 → ⊥)
+        → Puts a b at (λ r. head (stays_text (tells h.shared) (flat (upto (or_one h.shared) (λ d. stay_line d (stay_in table d))))
+        (moves_text (tells h.shared) (flat (upto (suc h.top) (λ a. moves_from h.top (or_one h.shared) a (move_by table rows branches h.count a)))) r))) m
+        → Put a b at (panel_text (panel_in h table rows branches)) m
+    unfolding panel_text panel_in block_text block
+    weights_text e p = rw (told_if h.shared (shared_in table), ne_eqb h.mode 0 e) (rw (ne_eqb h.mode 0 e) at p.put)

@@ -1,12 +1,12 @@
 // The weights of a panel ("Texts, byte for byte"; document 02, 2026-10): of a nondeterministic card in blocks, a statement each; of a
 // probabilistic card all moves by old state.
 ghost use Rattle.std.specs.Prelude.{suc, ◌<◌};
-ghost use Rattle.meaning.specs.Sums.{orOne, upto, flat};
-ghost use Rattle.meaning.specs.Panel.{movesFrom};
+ghost use Rattle.meaning.specs.Sums.{or_one, upto, flat};
+ghost use Rattle.meaning.specs.Panel.{moves_from};
 ghost use Rattle.phrases.specs.Puts.{Puts};
-ghost use Rattle.panel_numbers.specs.Table.{moveBy};
-ghost use Rattle.panel_wording.specs.PanelText.{blocksText, movesText};
-ghost use Rattle.panel_wording.specs.PanelIn.{Showing, tells, choiceAt, choicesIn};
+ghost use Rattle.panel_numbers.specs.Table.{move_by};
+ghost use Rattle.panel_wording.specs.PanelText.{blocks_text, moves_text};
+ghost use Rattle.panel_wording.specs.PanelIn.{Showing, tells, choice_at, choices_in};
 
 use added_weights::{WEIGHT_PLACES, add_weights};
 use card::Head;
@@ -28,7 +28,7 @@ fn put_choice<'a>(
     branches: &'a [u32; BRANCH_PLACES],
 ) -> usize
     requires { Showing head table.now rows.now branches.now × (i < head.count) }
-    ensures { Puts room.old room.new at (blocksText (tells head.shared) (choiceAt head.top (orOne head.shared) table.now rows.now branches.now i)) result }
+    ensures { Puts room.old room.new at (blocks_text (tells head.shared) (choice_at head.top (or_one head.shared) table.now rows.now branches.now i)) result }
 {
     if table[ABLES + i] == 0 {
         return place(at);
@@ -52,7 +52,7 @@ pub fn put_choices<'a>(
     branches: &'a [u32; BRANCH_PLACES],
 ) -> usize
     requires { Showing head table.now rows.now branches.now }
-    ensures { Puts room.old room.new at (blocksText (tells head.shared) (choicesIn head.top (orOne head.shared) table.now rows.now branches.now head.count)) result }
+    ensures { Puts room.old room.new at (blocks_text (tells head.shared) (choices_in head.top (or_one head.shared) table.now rows.now branches.now head.count)) result }
 {
     let count = head.count;
     let mut to = place(at);
@@ -75,7 +75,7 @@ fn put_from<'a>(
     branches: &'a [u32; BRANCH_PLACES],
 ) -> usize
     requires { Showing head table.now rows.now branches.now }
-    ensures { Puts room.old room.new at (movesText (tells head.shared) (movesFrom head.top (orOne head.shared) old (moveBy table.now rows.now branches.now head.count old))) result }
+    ensures { Puts room.old room.new at (moves_text (tells head.shared) (moves_from head.top (or_one head.shared) old (move_by table.now rows.now branches.now head.count old))) result }
 {
     let mut row: [usize; WEIGHT_PLACES] = [0; WEIGHT_PLACES];
     weigh_from(&mut row, old, head, table, rows, branches);
@@ -92,7 +92,7 @@ pub fn put_table<'a>(
     branches: &'a [u32; BRANCH_PLACES],
 ) -> usize
     requires { Showing head table.now rows.now branches.now }
-    ensures { Puts room.old room.new at (movesText (tells head.shared) (flat (upto (suc head.top) (λ a. movesFrom head.top (orOne head.shared) a (moveBy table.now rows.now branches.now head.count a))))) result }
+    ensures { Puts room.old room.new at (moves_text (tells head.shared) (flat (upto (suc head.top) (λ a. moves_from head.top (or_one head.shared) a (move_by table.now rows.now branches.now head.count a))))) result }
 {
     let top = head.top;
     let mut to = place(at);

@@ -5,8 +5,8 @@ use Rattle.std.proofs.Math.Option.{Option, none, some}
 use Rattle.card.specs.Text.{if◌then◌else◌}
 use Rattle.card.specs.Card.{Statement, Card}
 use Rattle.meaning.specs.Position.{Position}
-use Rattle.meaning.specs.Choices.{Choice, choicesOf}
-use Rattle.meaning.specs.Seats.{Seating, turnsBy, choicesFrom}
+use Rattle.meaning.specs.Choices.{Choice, choices_of}
+use Rattle.meaning.specs.Seats.{Seating, turns_by, choices_from}
 use Rattle.meaning.specs.ByCounts.{able}
 
 -- ---- by seats: the full walk
@@ -17,9 +17,9 @@ first_of [] = none
 first_of (c ∷ l) = some c.place
 
 -- every statement that some seat may take is found, with its place from 1, and of all these the first is given; the stuck step is none of them
-unfoldable pub firstMove : Card → Seating → Option ℕ
-unfolding choicesOf turnsBy
-firstMove c x = first_of (choicesFrom 1 c.statements x)
+unfoldable pub first_move : Card → Seating → Option ℕ
+unfolding choices_of turns_by
+first_move c x = first_of (choices_from 1 c.statements x)
 
 -- ---- by counts v of n seats, the shared number beside them: no statement behind the first that can be taken is looked at
 

@@ -5,16 +5,16 @@ use mathlib.Core.List.{List, [], ◌∷◌, ◌++◌, append-nil}
 use native.Mathlib.Numerals.{add-one}
 use native.Mathlib.Omega.{arith}
 use lib.ListN.{length, drop, set, drop_of_length-le}
-use Rattle.card.specs.Limits.{rowPlaces, nodePlaces, branchPlaces}
+use Rattle.card.specs.Limits.{row_places, node_places, branch_places}
 use Rattle.card.specs.Laid.{zeros}
-use Rattle.card.specs.Lent.{lent, noneLent}
+use Rattle.card.specs.Lent.{lent, none_lent}
 
 abbrev pub cleared : List ℕ → ℕ → List ℕ
 cleared xs i = zeros i ++ drop i xs
 
-pub cleared-none : (xs : List ℕ) → xs ≡ cleared xs 0
+pub cleared_none : (xs : List ℕ) → xs ≡ cleared xs 0
 unfolding zeros
-cleared-none xs = refl
+cleared_none xs = refl
 
 set_next : (xs : List ℕ) (i : ℕ) → i < length xs → set (cleared xs i) i 0 ≡ cleared xs (suc i)
 unfolding zeros
@@ -22,15 +22,15 @@ set_next [] i h = absurd (omega arith)
 set_next (x ∷ xs) zero h = refl
 set_next (x ∷ xs) (suc i) h = ap (λ (l : List ℕ). 0 ∷ l) (set_next xs i (omega arith))
 
-pub cleared-next : (xs : List ℕ) (i : ℕ) {ys : List ℕ} → i < length xs → ys ≡ cleared xs i → set ys i 0 ≡ cleared xs (i + 1)
-cleared-next xs i h e = rw (e, add-one) (set_next xs i h)
+pub cleared_next : (xs : List ℕ) (i : ℕ) {ys : List ℕ} → i < length xs → ys ≡ cleared xs i → set ys i 0 ≡ cleared xs (i + 1)
+cleared_next xs i h e = rw (e, add-one) (set_next xs i h)
 
-pub cleared-all : (xs : List ℕ) (i : ℕ) {ys : List ℕ} → length xs ≡ i → ys ≡ cleared xs i → ys ≡ zeros (length xs)
-cleared-all xs i h e =
+pub cleared_all : (xs : List ℕ) (i : ℕ) {ys : List ℕ} → length xs ≡ i → ys ≡ cleared xs i → ys ≡ zeros (length xs)
+cleared_all xs i h e =
     let b : length xs ≤ i = omega arith in
     e ∙ rw (drop_of_length-le xs b, append-nil, h)
 
 -- the card's three arrays, once each is cleared
-pub all-cleared : {rows nodes branches : List ℕ} {a b c : ℕ} → rows ≡ zeros a → a ≡ rowPlaces → nodes ≡ zeros b → b ≡ nodePlaces → branches ≡ zeros c → c ≡ branchPlaces
-    → lent rows nodes branches ≡ noneLent
-all-cleared e f g h i j = λ q. lent ((e ∙ ap zeros f) q) ((g ∙ ap zeros h) q) ((i ∙ ap zeros j) q)
+pub all_cleared : {rows nodes branches : List ℕ} {a b c : ℕ} → rows ≡ zeros a → a ≡ row_places → nodes ≡ zeros b → b ≡ node_places → branches ≡ zeros c → c ≡ branch_places
+    → lent rows nodes branches ≡ none_lent
+all_cleared e f g h i j = λ q. lent ((e ∙ ap zeros f) q) ((g ∙ ap zeros h) q) ((i ∙ ap zeros j) q)

@@ -1,11 +1,11 @@
 -- What the reader hands back for every outcome: the card that was taken, as a struct or in lent arrays, or zeros. Assumes nothing.
 use Rattle.std.specs.Prelude.{ℕ, ◌≡◌, List}
 use Rattle.card.specs.Card.{Card}
-use Rattle.card.specs.Weight.{Rule, cardRule}
+use Rattle.card.specs.Weight.{Rule, card_rule}
 use Rattle.card.specs.Valid.{ValidCard}
 use Rattle.card.specs.Laid.{laid, blank}
-use Rattle.reading.specs.Reading.{Outcome, taken, refused, readUnder, read_of}
-use Rattle.card.specs.Lent.{Lent, head_of, noHead, lent_of, noneLent}
+use Rattle.reading.specs.Reading.{Outcome, taken, refused, read_under, read_of}
+use Rattle.card.specs.Lent.{Lent, head_of, no_head, lent_of, none_lent}
 use Rattle.card.specs.declared.Verdict.TheVariants.{Taken, Refused}
 use Rattle.outline.specs.declared.Reading.{Reading}
 use Rattle.outline.specs.declared.Outline.{Outline}
@@ -21,19 +21,19 @@ pub record Reads (bytes : List ℕ) (r : Reading) : Type 0 where
 
 -- ---- the same in lent arrays
 
-abbrev pub outlineOf : Outcome → Outline
-outlineOf (taken c) = record { verdict = Taken; head = head_of c }
-outlineOf (refused r p) = record { verdict = Refused r p; head = noHead }
+abbrev pub outline_of : Outcome → Outline
+outline_of (taken c) = record { verdict = Taken; head = head_of c }
+outline_of (refused r p) = record { verdict = Refused r p; head = no_head }
 
-abbrev pub memoryOf : Outcome → Lent
-memoryOf (taken c) = lent_of c
-memoryOf (refused r p) = noneLent
+abbrev pub memory_of : Outcome → Lent
+memory_of (taken c) = lent_of c
+memory_of (refused r p) = none_lent
 
 -- under a rule of a weight
 pub record ReadsUnder (decimals : Rule) (bytes : List ℕ) (r : Outline) (x : Lent) : Type 0 where
-  pub outline : r ≡ outlineOf (readUnder decimals bytes)
-  pub memory : x ≡ memoryOf (readUnder decimals bytes)
-  pub valid : (c : Card) → readUnder decimals bytes ≡ taken c → ValidCard c
+  pub outline : r ≡ outline_of (read_under decimals bytes)
+  pub memory : x ≡ memory_of (read_under decimals bytes)
+  pub valid : (c : Card) → read_under decimals bytes ≡ taken c → ValidCard c
 
 abbrev pub ReadsInto : List ℕ → Outline → Lent → Type 0
-ReadsInto bytes r x = ReadsUnder cardRule bytes r x
+ReadsInto bytes r x = ReadsUnder card_rule bytes r x

@@ -1,16 +1,16 @@
 // What reading a card hands back: beside arrays that the caller lends, or as one struct. A refusal leaves the arrays as zeros.
 ghost use Rattle.std.specs.Prelude.{◌≡◌, ◌≤◌, length};
-ghost use Rattle.card.specs.Limits.{mostStatements};
+ghost use Rattle.card.specs.Limits.{most_statements};
 ghost use Rattle.card.specs.Laid.{zeros};
 ghost use Rattle.card.specs.Rows.{rows_from};
-ghost use Rattle.card.specs.Lent.{lent, noneLent};
-ghost use Rattle.card.specs.Refusals.{decimalWeight};
-ghost use Rattle.marks.specs.Step.{marksAt};
-ghost use Rattle.reading.specs.Reading.{firstOutside};
+ghost use Rattle.card.specs.Lent.{lent, none_lent};
+ghost use Rattle.card.specs.Refusals.{decimal_weight};
+ghost use Rattle.marks.specs.Step.{marks_at};
+ghost use Rattle.reading.specs.Reading.{first_outside};
 ghost use Rattle.late.specs.Settled.{settled};
-ghost use Rattle.late.specs.State.{Sized, lateIn};
+ghost use Rattle.late.specs.State.{Sized, late_in};
 ghost use Rattle.search.specs.Search.{searched};
-ghost use Rattle.outline.specs.Refusing.{dueOutline, Judged};
+ghost use Rattle.outline.specs.Refusing.{due_outline, Judged};
 
 use card::limits::{BRANCH_PLACES, MOST_STATEMENTS, NODE_PLACES, ROW, ROW_PLACES};
 use card::{Card, Head, Statement, Verdict, no_statement};
@@ -54,8 +54,8 @@ fn clear_rows(rows: &mut [usize])
 
 // Reading refuses with one of the first seven numbers, or with that of a decimal.
 pub fn refused(due: Due) -> Outline
-    requires { due.number ≤ decimalWeight }
-    ensures { result ≡ dueOutline due }
+    requires { due.number ≤ decimal_weight }
+    ensures { result ≡ due_outline due }
 {
     let number = due.number;
     let verdict = Verdict::Refused(number as u8, due.place);
@@ -78,9 +78,9 @@ fn refused_late(
     nodes: &mut [u32; NODE_PLACES],
     branches: &mut [u32; BRANCH_PLACES],
 ) -> Outline
-    requires { due.number ≤ decimalWeight }
-    ensures outline { result ≡ dueOutline due }
-    ensures memory { lent rows.new nodes.new branches.new ≡ noneLent }
+    requires { due.number ≤ decimal_weight }
+    ensures outline { result ≡ due_outline due }
+    ensures memory { lent rows.new nodes.new branches.new ≡ none_lent }
 {
     clear_rows(rows);
     clear(nodes);
@@ -97,9 +97,9 @@ pub fn stopped(
     nodes: &mut [u32; NODE_PLACES],
     branches: &mut [u32; BRANCH_PLACES],
 ) -> Outline
-    requires { (searched stop place (firstOutside (marksAt 0 card.now place))).number ≤ decimalWeight }
-    ensures outline { result ≡ dueOutline (searched stop place (firstOutside (marksAt 0 card.now place))) }
-    ensures memory { lent rows.new nodes.new branches.new ≡ noneLent }
+    requires { (searched stop place (first_outside (marks_at 0 card.now place))).number ≤ decimal_weight }
+    ensures outline { result ≡ due_outline (searched stop place (first_outside (marks_at 0 card.now place))) }
+    ensures memory { lent rows.new nodes.new branches.new ≡ none_lent }
 {
     let due = search(card, stop, place);
     refused_late(due, rows, nodes, branches)
@@ -114,8 +114,8 @@ pub fn judged(
     branches: &mut [u32; BRANCH_PLACES],
 ) -> Outline
     requires sized { Sized state.old }
-    requires state_bound { (settled head.seats (lateIn state.old)).number ≤ decimalWeight }
-    ensures { Judged head (settled head.seats (lateIn state.old)) (lent rows.old nodes.old branches.old) (lent rows.new nodes.new branches.new) result }
+    requires state_bound { (settled head.seats (late_in state.old)).number ≤ decimal_weight }
+    ensures { Judged head (settled head.seats (late_in state.old)) (lent rows.old nodes.old branches.old) (lent rows.new nodes.new branches.new) result }
 {
     settle(state, head.seats);
     let number = state[STOP];
@@ -131,7 +131,7 @@ pub fn judged(
 
 // The statements that stand in rows.
 pub fn statements_in(rows: &[usize; ROW_PLACES]) -> [Statement; MOST_STATEMENTS]
-    ensures { result ≡ rows_from rows.now 0 mostStatements }
+    ensures { result ≡ rows_from rows.now 0 most_statements }
 {
     let none = no_statement();
     let mut statements = [none; MOST_STATEMENTS];

@@ -1,9 +1,9 @@
 // A node and a branch as one number each ("What the box holds"). A packer takes an argument that is too large as the largest that it
 // takes; a reader of a packed number takes any.
 ghost use Rattle.std.specs.Prelude.{◌≡◌, ◌-◌, ◌<◌, min};
-ghost use Rattle.card.specs.Limits.{mostStates, setPlaces, nodePlaces, numbers, unit};
+ghost use Rattle.card.specs.Limits.{most_states, set_places, node_places, numbers, unit};
 ghost use Rattle.card.specs.Card.{one};
-ghost use Rattle.card.specs.Laid.{opOr, sharedKind, leafNumber, packNode, packGroup, packBranch, op_of, left_of, rightOf, kindPart, signPart, relationPart, statePart, unitsPart, setPart, endPart};
+ghost use Rattle.card.specs.Laid.{op_or, shared_kind, leaf_number, pack_node as pack_node_said, pack_group as pack_group_said, pack_branch as pack_branch_said, op_of, left_of, right_of as right_of_said, kind_part, sign_part, relation_part, state_part, units_part, set_part, end_part};
 
 use card::limits::{MOST_STATES, NODE_PLACES, NUMBERS, SET_PLACES};
 use weights::Weight;
@@ -49,7 +49,7 @@ fn at_most(x: usize, most: usize) -> usize
 }
 
 pub fn pack_node(op: usize, left: usize, right: usize) -> u32
-    ensures { result ≡ packNode (min op opOr) (min left (nodePlaces - 1)) (min right (nodePlaces - 1)) }
+    ensures { result ≡ pack_node_said (min op op_or) (min left (node_places - 1)) (min right (node_places - 1)) }
 {
     let op = at_most(op, OR);
     let left = at_most(left, NODE_PLACES - 1);
@@ -58,7 +58,7 @@ pub fn pack_node(op: usize, left: usize, right: usize) -> u32
 }
 
 pub fn pack_group(kind: usize, sign: usize, relation: usize, d: usize) -> u32
-    ensures { result ≡ packGroup (min kind 1) (min sign 1) (min relation 1) (min d numbers) }
+    ensures { result ≡ pack_group_said (min kind 1) (min sign 1) (min relation 1) (min d numbers) }
 {
     let kind = at_most(kind, OTHERS);
     let sign = at_most(sign, ANY);
@@ -69,7 +69,7 @@ pub fn pack_group(kind: usize, sign: usize, relation: usize, d: usize) -> u32
 
 // a leaf that is exactly one seat in state d
 pub fn pack_one(d: usize) -> u32
-    ensures { result ≡ leafNumber (one (min d numbers)) }
+    ensures { result ≡ leaf_number (one (min d numbers)) }
 {
     let d = at_most(d, NUMBERS);
     (ONE * (4 * MOST_STATES) + d) as u32
@@ -77,7 +77,7 @@ pub fn pack_one(d: usize) -> u32
 
 // a leaf that tests the shared number
 pub fn pack_shared(relation: usize, value: usize) -> u32
-    ensures { result ≡ packGroup sharedKind 0 (min relation 1) (min value numbers) }
+    ensures { result ≡ pack_group_said shared_kind 0 (min relation 1) (min value numbers) }
 {
     let relation = at_most(relation, ISNT);
     let value = at_most(value, NUMBERS);
@@ -86,7 +86,7 @@ pub fn pack_shared(relation: usize, value: usize) -> u32
 
 // `sets` is 0 where a branch sets nothing, and else one more than what it sets the shared number to
 pub fn pack_branch(units: u32, sets: usize, end: usize) -> u32
-    ensures { result ≡ packBranch (min units unit) (min sets numbers) (min end numbers) }
+    ensures { result ≡ pack_branch_said (min units unit) (min sets numbers) (min end numbers) }
 {
     let units = at_most(units as usize, Weight::UNIT as usize);
     let sets = at_most(sets, NUMBERS);
@@ -113,7 +113,7 @@ pub fn left_of(node: u32, n: usize) -> usize
 }
 
 pub fn right_of(node: u32, n: usize) -> usize
-    ensures child { result ≡ min (rightOf node) (n - 1) }
+    ensures child { result ≡ min (right_of_said node) (n - 1) }
     ensures below { (n ≡ 0 → ⊥) → result < n }
 {
     if n == 0 {
@@ -123,48 +123,48 @@ pub fn right_of(node: u32, n: usize) -> usize
 }
 
 pub fn kind_of(node: u32) -> usize
-    ensures { result ≡ kindPart node }
+    ensures { result ≡ kind_part node }
 {
     (node as usize) / (4 * MOST_STATES)
 }
 
 pub fn sign_of(node: u32) -> usize
-    ensures part { result ≡ signPart node }
+    ensures part { result ≡ sign_part node }
     ensures small { result < 2 }
 {
     (node as usize) / (2 * MOST_STATES) % 2
 }
 
 pub fn relation_of(node: u32) -> usize
-    ensures part { result ≡ relationPart node }
+    ensures part { result ≡ relation_part node }
     ensures small { result < 2 }
 {
     (node as usize) / MOST_STATES % 2
 }
 
 pub fn state_of(node: u32) -> usize
-    ensures part { result ≡ statePart node }
-    ensures small { result < mostStates }
+    ensures part { result ≡ state_part node }
+    ensures small { result < most_states }
 {
     (node as usize) % MOST_STATES
 }
 
 pub fn units_of(branch: u32) -> u32
-    ensures { result ≡ unitsPart branch }
+    ensures { result ≡ units_part branch }
 {
     branch / (BELOW_UNITS as u32)
 }
 
 pub fn set_of(branch: u32) -> usize
-    ensures part { result ≡ setPart branch }
-    ensures small { result < setPlaces }
+    ensures part { result ≡ set_part branch }
+    ensures small { result < set_places }
 {
     (branch as usize) / MOST_STATES % SET_PLACES
 }
 
 pub fn end_of(branch: u32) -> usize
-    ensures part { result ≡ endPart branch }
-    ensures small { result < mostStates }
+    ensures part { result ≡ end_part branch }
+    ensures small { result < most_states }
 {
     (branch as usize) % MOST_STATES
 }

@@ -8,27 +8,27 @@ use native.Mathlib.Nat.{add-zero, zero-add}
 use native.Mathlib.Omega.{arith}
 use borrow.Author.Tests.{eq-eqb}
 use lib.Dec.{eqb}
-use Rattle.card.specs.Limits.{mostShared, unit}
+use Rattle.card.specs.Limits.{most_shared, unit}
 use Rattle.card.specs.Card.{Mode, nondeterministic, probabilistic, Statement}
-use Rattle.card.specs.Laid.{statementOf, statementsOf}
+use Rattle.card.specs.Laid.{statement_of, statements_of}
 use Rattle.card.specs.Rows.{rows_from}
-use Rattle.card.specs.Lent.{Lent, cardIn, HoldsIn}
+use Rattle.card.specs.Lent.{Lent, card_in, HoldsIn}
 use Rattle.card.specs.declared.Head.{Head}
-use Rattle.card.proofs.Held.{few-values}
-use Rattle.meaning.specs.Sums.{gate, orOne, upto, flat}
-use Rattle.meaning.specs.Position.{Position, sharedValues}
+use Rattle.card.proofs.Held.{few_values}
+use Rattle.meaning.specs.Sums.{gate, or_one, upto, flat}
+use Rattle.meaning.specs.Position.{Position, shared_values}
 use Rattle.meaning.specs.Seats.{Seating, ValidSeating, counted}
-use Rattle.meaning.specs.Panel.{Stay, movesFrom, Block, block, sharedShown, panel}
-use Rattle.meaning.specs.ByCounts.{able, stayOf, move_of, allStay, allMove, choiceBlocks, takenBlocks, countTaken, stuckBlock, orStuck, countBlocks, countPanel}
-use Rattle.meaning.proofs.Sums.{upto-cong}
-use Rattle.meaning.proofs.Panel.{no-moves, still-line, panel-by-counts}
-use Rattle.panel_numbers.specs.Table.{sharedIn, stayIn, ableIn, weighingRow, moveBy, modeIn, taken, table_of}
-use Rattle.panel_numbers.proofs.Statements.{at, statements-upto}
-use Rattle.weighing.proofs.Filled.{shared-few, table-shared, stuck-stay, no-stay, table-counts}
-use Rattle.weighing.proofs.ByCounts.{able-row, taken-row, enabled-row, move_row, stay-row, stuck-moves}
-use Rattle.panel_wording.specs.PanelIn.{shownIf, choiceIf, choiceAt, choicesIn, blocksIn, panelIn}
-use Rattle.panel_wording.proofs.Laws.{shown-if, values_one}
-use Rattle.panel_wording.proofs.Moves.{moves-cong, stays-cong}
+use Rattle.meaning.specs.Panel.{Stay, moves_from, Block, block, shared_shown, panel}
+use Rattle.meaning.specs.ByCounts.{able, stay_of, move_of, all_stay, all_move, choice_blocks, taken_blocks, count_taken, stuck_block, or_stuck, count_blocks, count_panel}
+use Rattle.meaning.proofs.Sums.{upto_cong}
+use Rattle.meaning.proofs.Panel.{no_moves, still_line, panel_by_counts}
+use Rattle.panel_numbers.specs.Table.{shared_in, stay_in, able_in, weighing_row, move_by, mode_in, taken, table_of}
+use Rattle.panel_numbers.proofs.Statements.{at, statements_upto}
+use Rattle.weighing.proofs.Filled.{shared_few, table_shared, stuck_stay, no_stay, table_counts}
+use Rattle.weighing.proofs.ByCounts.{able_row, taken_row, enabled_row, move_row, stay_row, stuck_moves}
+use Rattle.panel_wording.specs.PanelIn.{shown_if, choice_if, choice_at, choices_in, blocks_in, panel_in}
+use Rattle.panel_wording.proofs.Laws.{shown_if_law, values_one}
+use Rattle.panel_wording.proofs.Moves.{moves_cong, stays_cong}
 
 -- ---- a block by its weights
 
@@ -36,120 +36,120 @@ module _ (k values : ℕ) (q : Option ℕ) (u v : ℕ → ℕ) (f g : ℕ → �
   block_same : ((t : ℕ) → t < values → u t ≡ v t) → ((a b t : ℕ) → f a b t ≡ g a b t) → block k values q u f ≡ block k values q v g
   unfolding block
   block_same e h =
-      let rows = upto-cong (suc k) (λ a. movesFrom k values a (f a)) (λ a. movesFrom k values a (g a)) (λ a l. moves-cong k values a (f a) (g a) (λ b t i j. h a b t)) in
-      let lines = stays-cong values u v e in
+      let rows = upto_cong (suc k) (λ a. moves_from k values a (f a)) (λ a. moves_from k values a (g a)) (λ a l. moves_cong k values a (f a) (g a) (λ b t i j. h a b t)) in
+      let lines = stays_cong values u v e in
       λ r. record { choice = q; stays = lines r; moves = flat (rows r) }
 
 -- ---- choices
 
 module _ (n : ℕ) (v : Position) (k values : ℕ) where
-  choices-from : (q c : ℕ) (s : ℕ → Statement) → choiceBlocks n k values v (suc q) (upto c s) ≡ flat (upto c (λ j. choiceIf k values v.shared (q + j) (able n v (s j)) (s j)))
-  unfolding choiceBlocks choiceIf
-  choices-from q zero s = refl
-  choices-from q (suc c) s =
+  choices_from : (q c : ℕ) (s : ℕ → Statement) → choice_blocks n k values v (suc q) (upto c s) ≡ flat (upto c (λ j. choice_if k values v.shared (q + j) (able n v (s j)) (s j)))
+  unfolding choice_blocks choice_if
+  choices_from q zero s = refl
+  choices_from q (suc c) s =
       ap₂ ◌++◌
-      (ap (λ (p : ℕ). choiceIf k values v.shared p (able n v (s 0)) (s 0)) (sym (add-zero q)))
-      (choices-from (suc q) c (λ j. s (suc j))
-      ∙ ap (λ (l : List (List Block)). flat l) (upto-cong c _ (λ j. choiceIf k values v.shared (q + suc j) (able n v (s (suc j))) (s (suc j)))
-      (λ j l. ap (λ (p : ℕ). choiceIf k values v.shared p (able n v (s (suc j))) (s (suc j))) (omega arith))))
+      (ap (λ (p : ℕ). choice_if k values v.shared p (able n v (s 0)) (s 0)) (sym (add-zero q)))
+      (choices_from (suc q) c (λ j. s (suc j))
+      ∙ ap (λ (l : List (List Block)). flat l) (upto_cong c _ (λ j. choice_if k values v.shared (q + suc j) (able n v (s (suc j))) (s (suc j)))
+      (λ j l. ap (λ (p : ℕ). choice_if k values v.shared p (able n v (s (suc j))) (s (suc j))) (omega arith))))
 
-choice-weighs : (nodes branches rows : List ℕ) (k values g i m : ℕ) → choiceIf k values g i m (at nodes branches rows i) ≡ choiceIf k values g i m (weighingRow rows branches i)
-unfolding choiceIf stayOf move_of statementOf
-choice-weighs nodes branches rows k values g i m = refl
+choice_weighs : (nodes branches rows : List ℕ) (k values g i m : ℕ) → choice_if k values g i m (at nodes branches rows i) ≡ choice_if k values g i m (weighing_row rows branches i)
+unfolding choice_if stay_of move_of statement_of
+choice_weighs nodes branches rows k values g i m = refl
 
-one-most : (s : ℕ) → s ≤ mostShared → orOne s ≤ mostShared
-one-most zero l = omega arith
-one-most (suc s) l = l
+one_most : (s : ℕ) → s ≤ most_shared → or_one s ≤ most_shared
+one_most zero l = omega arith
+one_most (suc s) l = l
 
 -- ---- the panel
 
-module _ {h : Head} {x : Lent} {seats : Seating} (v : HoldsIn h x) (ok : ValidSeating (cardIn h x) seats) where
+module _ {h : Head} {x : Lent} {seats : Seating} (v : HoldsIn h x) (ok : ValidSeating (card_in h x) seats) where
   abbrev table : List ℕ
   table = table_of h x seats
 
   abbrev statements : List Statement
-  statements = statementsOf x.nodes x.branches (rows_from x.rows 0 h.count) 0
+  statements = statements_of x.nodes x.branches (rows_from x.rows 0 h.count) 0
 
   abbrev values : ℕ
-  values = orOne h.shared
+  values = or_one h.shared
 
   abbrev c : Position
   c = counted h.top seats
 
-  few : seats.shared < mostShared
-  few = shared-few v seats ok
+  few : seats.shared < most_shared
+  few = shared_few v seats ok
 
-  same-shared : sharedIn table ≡ seats.shared
-  same-shared = table-shared h x seats few
+  same_shared : shared_in table ≡ seats.shared
+  same_shared = table_shared h x seats few
 
-  pub values-few : h.shared ≤ mostShared
-  values-few = let e = ap (λ (h : Head). h.shared) v.head in omega (arith, few-values v.card.shared v.valid.shared)
+  pub values_few : h.shared ≤ most_shared
+  values_few = let e = ap (λ (h : Head). h.shared) v.head in omega (arith, few_values v.card.shared v.valid.shared)
 
-  values-most : values ≤ mostShared
-  values-most = one-most h.shared values-few
+  values_most : values ≤ most_shared
+  values_most = one_most h.shared values_few
 
   one_of : seats.shared < values
   one_of = subst (λ (m : ℕ). seats.shared < m) (values_one h.shared h.initial) ok.shared
 
-  choice-rows : choiceBlocks h.seats h.top values c 1 statements ≡ choicesIn h.top values table x.rows x.branches h.count
-  choice-rows =
-      ap (choiceBlocks h.seats h.top values c 1) (statements-upto x.nodes x.branches x.rows h.count)
-      ∙ choices-from h.seats c h.top values 0 h.count (at x.nodes x.branches x.rows)
-      ∙ ap (λ (l : List (List Block)). flat l) (upto-cong h.count _ (choiceAt h.top values table x.rows x.branches) each)
+  choice_rows : choice_blocks h.seats h.top values c 1 statements ≡ choices_in h.top values table x.rows x.branches h.count
+  choice_rows =
+      ap (choice_blocks h.seats h.top values c 1) (statements_upto x.nodes x.branches x.rows h.count)
+      ∙ choices_from h.seats c h.top values 0 h.count (at x.nodes x.branches x.rows)
+      ∙ ap (λ (l : List (List Block)). flat l) (upto_cong h.count _ (choice_at h.top values table x.rows x.branches) each)
     where
       each : (i : ℕ) → i < h.count
-          → choiceIf h.top values seats.shared (0 + i) (able h.seats c (at x.nodes x.branches x.rows i)) (at x.nodes x.branches x.rows i)
-          ≡ choiceAt h.top values table x.rows x.branches i
+          → choice_if h.top values seats.shared (0 + i) (able h.seats c (at x.nodes x.branches x.rows i)) (at x.nodes x.branches x.rows i)
+          ≡ choice_at h.top values table x.rows x.branches i
       each i l =
-          ap (λ (m : ℕ). choiceIf h.top values seats.shared (0 + i) m (at x.nodes x.branches x.rows i)) (sym (able-row v ok i l))
-          ∙ ap (λ (p : ℕ). choiceIf h.top values seats.shared p (ableIn table i) (at x.nodes x.branches x.rows i)) (zero-add i)
-          ∙ ap (λ (g : ℕ). choiceIf h.top values g i (ableIn table i) (at x.nodes x.branches x.rows i)) (sym same-shared)
-          ∙ choice-weighs x.nodes x.branches x.rows h.top values (sharedIn table) i (ableIn table i)
+          ap (λ (m : ℕ). choice_if h.top values seats.shared (0 + i) m (at x.nodes x.branches x.rows i)) (sym (able_row v ok i l))
+          ∙ ap (λ (p : ℕ). choice_if h.top values seats.shared p (able_in table i) (at x.nodes x.branches x.rows i)) (zero-add i)
+          ∙ ap (λ (g : ℕ). choice_if h.top values g i (able_in table i) (at x.nodes x.branches x.rows i)) (sym same_shared)
+          ∙ choice_weighs x.nodes x.branches x.rows h.top values (shared_in table) i (able_in table i)
 
   -- where some can be taken
-  moving-rows : (taken h x seats ≡ 0 → ⊥) → (m : Mode) → modeIn h ≡ m
-      → takenBlocks m h.seats h.top values c statements ≡ blocksIn m h.top values table x.rows x.branches h.count
-  unfolding takenBlocks
-  moving-rows s nondeterministic e = rw (no-stay h x seats s e (sharedIn table) (rw same-shared few)) choice-rows
-  moving-rows s probabilistic e =
+  moving_rows : (taken h x seats ≡ 0 → ⊥) → (m : Mode) → mode_in h ≡ m
+      → taken_blocks m h.seats h.top values c statements ≡ blocks_in m h.top values table x.rows x.branches h.count
+  unfolding taken_blocks
+  moving_rows s nondeterministic e = rw (no_stay h x seats s e (shared_in table) (rw same_shared few)) choice_rows
+  moving_rows s probabilistic e =
       ap (λ (b : Block). b ∷ [])
-      (block_same h.top values none (allStay h.seats c statements) (stayIn table) (allMove h.seats c statements) (moveBy table x.rows x.branches h.count)
-      (λ t l. stay-row v ok s e t (omega (arith, values-most))) (move_row v ok))
+      (block_same h.top values none (all_stay h.seats c statements) (stay_in table) (all_move h.seats c statements) (move_by table x.rows x.branches h.count)
+      (λ t l. stay_row v ok s e t (omega (arith, values_most))) (move_row v ok))
 
   -- and where none can
-  stuck-rows : taken h x seats ≡ 0 → (m : Mode) → modeIn h ≡ m → stuckBlock m seats.shared ∷ [] ≡ blocksIn m h.top values table x.rows x.branches h.count
-  stuck-rows z nondeterministic e = rw (same-shared, stuck-stay h x seats few z seats.shared few, eq-eqb seats.shared seats.shared refl)
-  stuck-rows z probabilistic e =
+  stuck_rows : taken h x seats ≡ 0 → (m : Mode) → mode_in h ≡ m → stuck_block m seats.shared ∷ [] ≡ blocks_in m h.top values table x.rows x.branches h.count
+  stuck_rows z nondeterministic e = rw (same_shared, stuck_stay h x seats few z seats.shared few, eq-eqb seats.shared seats.shared refl)
+  stuck_rows z probabilistic e =
       ap (λ (b : Block). b ∷ []) (sym
-      (block_same h.top values none (stayIn table) (λ t. gate (eqb seats.shared t) unit) (moveBy table x.rows x.branches h.count) (λ a b t. 0)
-      (λ t l. stuck-stay h x seats few z t (omega (arith, values-most))) (stuck-moves v ok z e)
-      ∙ no-moves h.top values none {u = λ t. gate (eqb seats.shared t) unit} {v = λ t. gate (eqb seats.shared t) unit} {f = λ a b t. 0} (λ t. refl) (λ a b t n. refl)
-      ∙ ap (λ (l : List Stay). record { choice = none; stays = l; moves = [] }) (still-line values seats.shared one_of)))
+      (block_same h.top values none (stay_in table) (λ t. gate (eqb seats.shared t) unit) (move_by table x.rows x.branches h.count) (λ a b t. 0)
+      (λ t l. stuck_stay h x seats few z t (omega (arith, values_most))) (stuck_moves v ok z e)
+      ∙ no_moves h.top values none {u = λ t. gate (eqb seats.shared t) unit} {v = λ t. gate (eqb seats.shared t) unit} {f = λ a b t. 0} (λ t. refl) (λ a b t n. refl)
+      ∙ ap (λ (l : List Stay). record { choice = none; stays = l; moves = [] }) (still_line values seats.shared one_of)))
 
-  blocks-rows : (m : Mode) → modeIn h ≡ m → countBlocks m h.seats h.top values c statements ≡ blocksIn m h.top values table x.rows x.branches h.count
-  unfolding countBlocks
-  blocks-rows m e = go (taken_of m) (ap taken_of (sym e) ∙ taken-row v ok)
+  blocks_rows : (m : Mode) → mode_in h ≡ m → count_blocks m h.seats h.top values c statements ≡ blocks_in m h.top values table x.rows x.branches h.count
+  unfolding count_blocks
+  blocks_rows m e = go (taken_of m) (ap taken_of (sym e) ∙ taken_row v ok)
     where
       taken_of : Mode → ℕ
-      taken_of k = countTaken k h.seats c statements
+      taken_of k = count_taken k h.seats c statements
 
       go : (t : ℕ) → t ≡ taken h x seats
-          → orStuck m seats.shared t (takenBlocks m h.seats h.top values c statements) ≡ blocksIn m h.top values table x.rows x.branches h.count
-      go zero k = stuck-rows (sym k) m e
-      go (suc t) k = moving-rows (λ z. omega arith) m e
+          → or_stuck m seats.shared t (taken_blocks m h.seats h.top values c statements) ≡ blocks_in m h.top values table x.rows x.branches h.count
+      go zero k = stuck_rows (sym k) m e
+      go (suc t) k = moving_rows (λ z. omega arith) m e
 
-  pub is-panel : panel (cardIn h x) seats ≡ panelIn h table x.rows x.branches
-  unfolding countPanel panelIn
-  is-panel =
-      let told : sharedShown (cardIn h x).shared seats.shared ≡ shownIf h.shared (sharedIn table) = shown-if h.shared h.initial seats.shared ∙ ap (shownIf h.shared) (sym same-shared) in
-      let shown : countBlocks (modeIn h) h.seats h.top (sharedValues (cardIn h x).shared) c statements ≡ blocksIn (modeIn h) h.top values table x.rows x.branches h.count =
-      ap (λ (m : ℕ). countBlocks (modeIn h) h.seats h.top m c statements) (values_one h.shared h.initial) ∙ blocks-rows (modeIn h) refl in
-      panel-by-counts (cardIn h x) seats ok
+  pub is_panel : panel (card_in h x) seats ≡ panel_in h table x.rows x.branches
+  unfolding count_panel panel_in
+  is_panel =
+      let told : shared_shown (card_in h x).shared seats.shared ≡ shown_if h.shared (shared_in table) = shown_if_law h.shared h.initial seats.shared ∙ ap (shown_if h.shared) (sym same_shared) in
+      let shown : count_blocks (mode_in h) h.seats h.top (shared_values (card_in h x).shared) c statements ≡ blocks_in (mode_in h) h.top values table x.rows x.branches h.count =
+      ap (λ (m : ℕ). count_blocks (mode_in h) h.seats h.top m c statements) (values_one h.shared h.initial) ∙ blocks_rows (mode_in h) refl in
+      panel_by_counts (card_in h x) seats ok
       ∙ (λ r. record {
-        mode = modeIn h;
+        mode = mode_in h;
         seats = h.seats;
-        enabled = enabled-row v ok r;
-        counts = sym (table-counts v ok) r;
+        enabled = enabled_row v ok r;
+        counts = sym (table_counts v ok) r;
         shared = told r;
         blocks = shown r;
       })

@@ -2,7 +2,7 @@
 pub mod program;
 
 ghost use Rattle.room.specs.Answer.{Entered};
-ghost use Rattle.panel_said.specs.PanelSaid.{panelSaid};
+ghost use Rattle.panel_said.specs.PanelSaid.{panel_said};
 
 use card::Verdict;
 use card::limits::{BRANCH_PLACES, NODE_PLACES, ROW_PLACES};
@@ -15,7 +15,7 @@ use weighing::TABLE_PLACES;
 
 // The card is judged first, then the seats; then the panel's text is stored where it fits.
 pub fn panel(card: &[u8], seats: &[u8], room: &mut [u8]) -> Answer
-    ensures { Entered room.old room.new (panelSaid card.now seats.now) result }
+    ensures { Entered room.old room.new (panel_said card.now seats.now) result }
 {
     let mut rows: [usize; ROW_PLACES] = [0; ROW_PLACES];
     let mut nodes: [u32; NODE_PLACES] = [0; NODE_PLACES];

@@ -1,8 +1,8 @@
 // The panel program as a function from the bytes that it reads to the bytes that it prints ("Texts, byte for byte").
 ghost use Rattle.std.specs.Prelude.{◌≤◌, length};
-ghost use Rattle.panel_said.specs.PanelSaid.{panelSaid};
-ghost use Rattle.panel_wording.specs.PanelRoom.{panelRoom};
-ghost use Rattle.panel_said.specs.Program.{printed, answerTo, program_of, Printed};
+ghost use Rattle.panel_said.specs.PanelSaid.{panel_said};
+ghost use Rattle.panel_wording.specs.PanelRoom.{panel_room};
+ghost use Rattle.panel_said.specs.Program.{printed, answer_to as answer_to_said, program_of, Printed};
 
 use crate::panel;
 use card::limits::MOST_SEATS;
@@ -22,8 +22,8 @@ const SEAT_PLACES: usize = MOST_SEATS + 2;
 
 // The panel, or a refusal's line.
 fn print<'a>(card: &'a [u8], seats: &'a [u8], room: &mut [u8]) -> usize
-    requires { panelRoom ≤ length room.old }
-    ensures { Printed room.old room.new (printed (panelSaid card.now seats.now)) result }
+    requires { panel_room ≤ length room.old }
+    ensures { Printed room.old room.new (printed (panel_said card.now seats.now)) result }
 {
     let answer = panel(card, seats, room);
     match answer {
@@ -38,8 +38,8 @@ fn print<'a>(card: &'a [u8], seats: &'a [u8], room: &mut [u8]) -> usize
 
 // The line of seats, and the card behind it.
 fn answer_to(input: &[u8], room: &mut [u8]) -> usize
-    requires { panelRoom ≤ length room.old }
-    ensures { Printed room.old room.new (answerTo input.now) result }
+    requires { panel_room ≤ length room.old }
+    ensures { Printed room.old room.new (answer_to_said input.now) result }
 {
     let mut seats: [u8; SEAT_PLACES] = [0; SEAT_PLACES];
     let end = line_end(input, 0);

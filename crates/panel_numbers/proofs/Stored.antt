@@ -15,50 +15,50 @@ use Rattle.panel_numbers.specs.Table.{over, total}
 -- ---- stored numbers
 
 module _ (from : ℕ) (f : ℕ → ℕ) (table : List ℕ) where
-  pub over-start : table ≡ over from 0 f table
+  pub over_start : table ≡ over from 0 f table
   unfolding over
-  over-start = refl
+  over_start = refl
 
-  pub over-next : (n : ℕ) {v at : ℕ} {is : List ℕ} → is ≡ over from n f table → at ≡ from + n → v ≡ f n → set is at v ≡ over from (n + 1) f table
+  pub over_next : (n : ℕ) {v at : ℕ} {is : List ℕ} → is ≡ over from n f table → at ≡ from + n → v ≡ f n → set is at v ≡ over from (n + 1) f table
   unfolding over
-  over-next n e a v = rw (e, a, v, add-one n)
+  over_next n e a v = rw (e, a, v, add-one n)
 
-  pub over-end : (i n : ℕ) → i ≤ n → n ≤ i → over from i f table ≡ over from n f table
-  over-end i n h l = let e : i ≡ n = omega arith in rw e
+  pub over_end : (i n : ℕ) → i ≤ n → n ≤ i → over from i f table ≡ over from n f table
+  over_end i n h l = let e : i ≡ n = omega arith in rw e
 
-  pub over-long : (n : ℕ) → length (over from n f table) ≡ length table
+  pub over_long : (n : ℕ) → length (over from n f table) ≡ length table
   unfolding over
-  over-long zero = refl
-  over-long (suc n) = length-set (over from n f table) (from + n) (f n) ∙ over-long n
+  over_long zero = refl
+  over_long (suc n) = length-set (over from n f table) (from + n) (f n) ∙ over_long n
 
   -- another place
-  pub over-else : (n p : ℕ) → (p < from) ⊎ (from + n ≤ p) → get_or (over from n f table) p 0 ≡ get_or table p 0
+  pub over_else : (n p : ℕ) → (p < from) ⊎ (from + n ≤ p) → get_or (over from n f table) p 0 ≡ get_or table p 0
   unfolding over
-  over-else zero p h = refl
-  over-else (suc n) p (inl h) = get_or-set_other (over from n f table) (from + n) p (f n) 0 (λ e. omega arith) ∙ over-else n p (inl h)
-  over-else (suc n) p (inr h) = get_or-set_other (over from n f table) (from + n) p (f n) 0 (λ e. omega arith) ∙ over-else n p (inr (omega arith))
+  over_else zero p h = refl
+  over_else (suc n) p (inl h) = get_or-set_other (over from n f table) (from + n) p (f n) 0 (λ e. omega arith) ∙ over_else n p (inl h)
+  over_else (suc n) p (inr h) = get_or-set_other (over from n f table) (from + n) p (f n) 0 (λ e. omega arith) ∙ over_else n p (inr (omega arith))
 
   -- one of them
-  pub over-at : (n i : ℕ) → i < n → from + n ≤ length table → get_or (over from n f table) (from + i) 0 ≡ f i
+  pub over_at : (n i : ℕ) → i < n → from + n ≤ length table → get_or (over from n f table) (from + i) 0 ≡ f i
   unfolding over
-  over-at zero i l h = absurd (not-suc-le-zero l)
-  over-at (suc n) i l h = go (dec_lt i n) (λ k. over-at n i k (omega arith))
+  over_at zero i l h = absurd (not-suc-le-zero l)
+  over_at (suc n) i l h = go (dec_lt i n) (λ k. over_at n i k (omega arith))
     where
       go : Dec (i < n) → (i < n → get_or (over from n f table) (from + i) 0 ≡ f i) → get_or (set (over from n f table) (from + n) (f n)) (from + i) 0 ≡ f i
       go (yes k) at = get_or-set_other (over from n f table) (from + n) (from + i) (f n) 0 (λ e. omega arith) ∙ at k
       go (no k) at =
           let same : i ≡ n = omega arith in
-          rw same (get_or-set_same (over from n f table) (from + n) (f n) 0 (omega (arith, over-long n)))
+          rw same (get_or-set_same (over from n f table) (from + n) (f n) 0 (omega (arith, over_long n)))
 
 -- the same numbers
-pub over-cong : (from : ℕ) (f g : ℕ → ℕ) (table : List ℕ) (n : ℕ) → ((i : ℕ) → i < n → f i ≡ g i) → over from n f table ≡ over from n g table
+pub over_cong : (from : ℕ) (f g : ℕ → ℕ) (table : List ℕ) (n : ℕ) → ((i : ℕ) → i < n → f i ≡ g i) → over from n f table ≡ over from n g table
 unfolding over
-over-cong from f g table zero h = refl
-over-cong from f g table (suc n) h = ap₂ (λ (l : List ℕ) (w : ℕ). set l (from + n) w) (over-cong from f g table n (λ i l. h i (omega arith))) (h n (omega arith))
+over_cong from f g table zero h = refl
+over_cong from f g table (suc n) h = ap₂ (λ (l : List ℕ) (w : ℕ). set l (from + n) w) (over_cong from f g table n (λ i l. h i (omega arith))) (h n (omega arith))
 
 -- the first places of a table, one by one
-pub take-is : (k : ℕ) (table v : List ℕ) → length v ≡ k → k ≤ length table → ((d : ℕ) → d < k → get_or table d 0 ≡ get_or v d 0) → take k table ≡ v
-take-is k table v e h at =
+pub take_is : (k : ℕ) (table v : List ℕ) → length v ≡ k → k ≤ length table → ((d : ℕ) → d < k → get_or table d 0 ≡ get_or v d 0) → take k table ≡ v
+take_is k table v e h at =
     ext_get_or 0 (take k table) v (length-take-le k table h ∙ sym e) (λ d l.
     let m : d < k = omega (arith, length-take k table) in get_or-take k table d 0 m ∙ at d m)
 
@@ -69,13 +69,13 @@ upto_take {A} (suc n) (suc m) f h = ap (λ (l : List A). f 0 ∷ l) (upto_take n
 
 -- ---- sums
 
-pub total-suc : (n : ℕ) (f : ℕ → ℕ) → total (suc n) f ≡ total n f + f n
-total-suc zero f = omega arith
-total-suc (suc n) f = omega (arith, total-suc n (λ i. f (suc i)))
+pub total_suc : (n : ℕ) (f : ℕ → ℕ) → total (suc n) f ≡ total n f + f n
+total_suc zero f = omega arith
+total_suc (suc n) f = omega (arith, total_suc n (λ i. f (suc i)))
 
-pub total-more : (n : ℕ) (f : ℕ → ℕ) → total (n + 1) f ≡ total n f + f n
-total-more n f = rw (add-one n) (total-suc n f)
+pub total_more : (n : ℕ) (f : ℕ → ℕ) → total (n + 1) f ≡ total n f + f n
+total_more n f = rw (add-one n) (total_suc n f)
 
-pub total-most : (n : ℕ) (f : ℕ → ℕ) (m : ℕ) → ((i : ℕ) → i < n → f i ≤ m) → total n f ≤ n * m
-total-most zero f m h = omega arith
-total-most (suc n) f m h = omega (arith, h 0 (omega arith), total-most n (λ i. f (suc i)) m (λ i l. h (suc i) (omega arith)))
+pub total_most : (n : ℕ) (f : ℕ → ℕ) (m : ℕ) → ((i : ℕ) → i < n → f i ≤ m) → total n f ≤ n * m
+total_most zero f m h = omega arith
+total_most (suc n) f m h = omega (arith, h 0 (omega arith), total_most n (λ i. f (suc i)) m (λ i l. h (suc i) (omega arith)))

@@ -4,32 +4,32 @@ use Prim.Native.String.{String}
 use mathlib.Core.Path.{◌≡◌, refl, ap}
 use mathlib.Core.Bool.{Bool, true, false, not, ◌&&◌}
 use mathlib.Core.List.{List, [], ◌∷◌, ◌++◌}
-use mathlib.Core.Option.{Option, none, some as some-choice}
+use mathlib.Core.Option.{Option, none, some as some_choice}
 use native.Mathlib.Nat.{le_trans, mul-le-mul, mul-le-mul_right}
 use native.Mathlib.Omega.{arith}
 use lib.Dec.{eqb, ltb}
 use lib.ListN.{length}
-use Rattle.card.specs.Limits.{mostSeats, topState, topShared, mostShared, mostStatements, mostBranches, unit}
+use Rattle.card.specs.Limits.{most_seats, top_state, top_shared, most_shared, most_statements, most_branches, unit}
 use Rattle.card.specs.Text.{bytes, if◌then◌else◌}
 use Rattle.card.specs.Card.{Mode, nondeterministic, probabilistic, Statement, Shared, Card}
 use Rattle.card.specs.Valid.{Every, values_of, ValidStatement, ValidShared, ValidCard}
-use Rattle.phrases.specs.Phrases.{◌▸◌, num, modeText}
+use Rattle.phrases.specs.Phrases.{◌▸◌, num, mode_text}
 use Rattle.phrases.proofs.Counted.{Text}
-use Rattle.phrases.proofs.Adds.{Adds, adds_then, adds-up, adds_none, adds_bytes, adds-digits, adds-mode}
+use Rattle.phrases.proofs.Adds.{Adds, adds_then, adds_up, adds_none, adds_bytes, adds_digits, adds_mode}
 use Rattle.meaning.specs.Sums.{gate, sum, upto, flat}
-use Rattle.meaning.specs.Position.{Position, sharedValues}
+use Rattle.meaning.specs.Position.{Position, shared_values}
 use Rattle.meaning.specs.Seats.{Seating, ValidSeating, count, counts, counted}
-use Rattle.meaning.specs.Panel.{stayLine, move_line, movesFrom, block, sharedShown}
-use Rattle.meaning.specs.ByCounts.{able, stayOf, move_of, allAble, allStay, allMove, choiceBlocks}
-use Rattle.meaning.specs.ByCounts.{takenBlocks, countTaken, stuckBlock, orStuck, countBlocks, countEnabled, countPanel}
-use Rattle.meaning.proofs.Sums.{every_upto, sumBelow}
-use Rattle.meaning.proofs.Counting.{count-le, length-counts}
-use Rattle.meaning.proofs.Bounds.{Few, counts-few, stay-le, move-le, all-able-le, all-stay-le, all-move-le, enabled-le}
-use Rattle.meaning.proofs.Panel.{panel-by-counts}
-use Rattle.panel_wording.specs.PanelText.{numbers, line, told, ending, movesText, staysText, blockText, blocksText, sharedText, panelText, panelOf}
-use Rattle.panel_wording.proofs.Laws.{Joins, moves-join, stays-join}
-use Rattle.panel_wording.specs.PanelRoom.{weightDigits, lineMost, choiceMost, panelRoom}
-use Rattle.panel_said.proofs.Lines.{some, stays, moves, choice-lines, all_lines}
+use Rattle.meaning.specs.Panel.{stay_line, move_line, moves_from, block, shared_shown}
+use Rattle.meaning.specs.ByCounts.{able, stay_of, move_of, all_able, all_stay, all_move, choice_blocks}
+use Rattle.meaning.specs.ByCounts.{taken_blocks, count_taken, stuck_block, or_stuck, count_blocks, count_enabled, count_panel}
+use Rattle.meaning.proofs.Sums.{every_upto, sum_below}
+use Rattle.meaning.proofs.Counting.{count_le, length_counts}
+use Rattle.meaning.proofs.Bounds.{Few, counts_few, stay_le, move_le, all_able_le, all_stay_le, all_move_le, enabled_le}
+use Rattle.meaning.proofs.Panel.{panel_by_counts}
+use Rattle.panel_wording.specs.PanelText.{numbers, line, told, ending, moves_text, stays_text, block_text, blocks_text, shared_text, panel_text, panel_of}
+use Rattle.panel_wording.proofs.Laws.{Joins, moves_join, stays_join}
+use Rattle.panel_wording.specs.PanelRoom.{weight_digits, line_most, choice_most, panel_room}
+use Rattle.panel_said.proofs.Lines.{some, stays, moves, choice_lines, all_lines}
 
 -- ---- lines
 
@@ -37,186 +37,186 @@ use Rattle.panel_said.proofs.Lines.{some, stays, moves, choice-lines, all_lines}
 abbrev Digits : ℕ → ℕ → Type 0
 Digits d v = v < 10 ^ suc d
 
-adds-numbers : (d : ℕ) (l : List ℕ) → Every (Digits d) l → Adds (length l * (2 + d)) (numbers l)
-adds-numbers d [] e = adds-up _ (omega arith) adds_none
-adds-numbers d (v ∷ l) e = adds-up (length (v ∷ l) * (2 + d)) (omega arith) (adds_then (adds_bytes " ") (adds_then (adds-digits d v e.0) (adds-numbers d l e.1)))
+adds_numbers : (d : ℕ) (l : List ℕ) → Every (Digits d) l → Adds (length l * (2 + d)) (numbers l)
+adds_numbers d [] e = adds_up _ (omega arith) adds_none
+adds_numbers d (v ∷ l) e = adds_up (length (v ∷ l) * (2 + d)) (omega arith) (adds_then (adds_bytes " ") (adds_then (adds_digits d v e.0) (adds_numbers d l e.1)))
 
-adds-line : (w : String) (d : ℕ) (l : List ℕ) → Every (Digits d) l → Adds (length (bytes w) + length l * (2 + d) + 1) (line w l)
-adds-line w d l e = adds-up _ (omega arith) (adds_then (adds_bytes w) (adds_then (adds-numbers d l e) (adds_bytes "\n")))
+adds_line : (w : String) (d : ℕ) (l : List ℕ) → Every (Digits d) l → Adds (length (bytes w) + length l * (2 + d) + 1) (line w l)
+adds_line w d l e = adds_up _ (omega arith) (adds_then (adds_bytes w) (adds_then (adds_numbers d l e) (adds_bytes "\n")))
 
 -- a weight that all seats and statements add up to, by its digits behind the first
-abbrev weightsDigits : ℕ
-weightsDigits = weightDigits - 1
+abbrev weights_digits : ℕ
+weights_digits = weight_digits - 1
 
 abbrev Light : ℕ → Type 0
-Light w = Digits weightsDigits w
+Light w = Digits weights_digits w
 
 -- ---- lines of weights, on a card with a shared number or not
 
 module _ (t : Bool) where
-  adds-ending : (h : ℕ) → h ≤ topShared → Adds 3 (λ r. numbers (ending t h) ("\n" ▸ r))
-  adds-ending h l = go t
+  adds_ending : (h : ℕ) → h ≤ top_shared → Adds 3 (λ r. numbers (ending t h) ("\n" ▸ r))
+  adds_ending h l = go t
     where
       go : (t : Bool) → Adds 3 (λ r. numbers (ending t h) ("\n" ▸ r))
-      go true = adds_then (adds_bytes " ") (adds_then (adds-digits 0 h (omega arith)) (adds_bytes "\n"))
-      go false = adds-up 3 (omega arith) (adds_bytes "\n")
+      go true = adds_then (adds_bytes " ") (adds_then (adds_digits 0 h (omega arith)) (adds_bytes "\n"))
+      go false = adds_up 3 (omega arith) (adds_bytes "\n")
 
-  adds-move : (a b h w : ℕ) → a ≤ topState → b ≤ topState → h ≤ topShared → Light w → Adds (gate (not (eqb a b)) (some w) * lineMost) (movesText t (move_line a b h w))
-  adds-move a b h w l m n e = go (not (eqb a b)) (ltb 0 w)
+  adds_move : (a b h w : ℕ) → a ≤ top_state → b ≤ top_state → h ≤ top_shared → Light w → Adds (gate (not (eqb a b)) (some w) * line_most) (moves_text t (move_line a b h w))
+  adds_move a b h w l m n e = go (not (eqb a b)) (ltb 0 w)
     where
-      whole : Adds lineMost (line "move" (a ∷ b ∷ w ∷ ending t h))
-      whole = adds-up lineMost (omega arith)
+      whole : Adds line_most (line "move" (a ∷ b ∷ w ∷ ending t h))
+      whole = adds_up line_most (omega arith)
           (adds_then (adds_bytes "move ")
-          (adds_then (adds-digits 0 a (omega arith))
+          (adds_then (adds_digits 0 a (omega arith))
           (adds_then (adds_bytes " ")
-          (adds_then (adds-digits 0 b (omega arith)) (adds_then (adds_bytes " ") (adds_then (adds-digits weightsDigits w e) (adds-ending h n)))))))
+          (adds_then (adds_digits 0 b (omega arith)) (adds_then (adds_bytes " ") (adds_then (adds_digits weights_digits w e) (adds_ending h n)))))))
 
-      go : (p q : Bool) → Adds (gate p (gate q 1) * lineMost) (movesText t (if p && q then record { old = a; new = b; weight = w; shared = h } ∷ [] else []))
-      go true true = adds-up _ (omega arith) whole
-      go true false = adds-up _ (omega arith) adds_none
-      go false q = adds-up _ (omega arith) adds_none
+      go : (p q : Bool) → Adds (gate p (gate q 1) * line_most) (moves_text t (if p && q then record { old = a; new = b; weight = w; shared = h } ∷ [] else []))
+      go true true = adds_up _ (omega arith) whole
+      go true false = adds_up _ (omega arith) adds_none
+      go false q = adds_up _ (omega arith) adds_none
 
-  stay-line : (h w : ℕ) → h ≤ topShared → Light w → Adds lineMost (line "stay" (w ∷ ending t h))
-  stay-line h w l e = adds-up lineMost (omega arith) (adds_then (adds_bytes "stay ") (adds_then (adds-digits weightsDigits w e) (adds-ending h l)))
+  stay_line_law : (h w : ℕ) → h ≤ top_shared → Light w → Adds line_most (line "stay" (w ∷ ending t h))
+  stay_line_law h w l e = adds_up line_most (omega arith) (adds_then (adds_bytes "stay ") (adds_then (adds_digits weights_digits w e) (adds_ending h l)))
 
-  adds-stay : (h w : ℕ) → h ≤ topShared → Light w → Adds (some w * lineMost) (staysText t (stayLine h w))
-  adds-stay h w l e = go (ltb 0 w)
+  adds_stay : (h w : ℕ) → h ≤ top_shared → Light w → Adds (some w * line_most) (stays_text t (stay_line h w))
+  adds_stay h w l e = go (ltb 0 w)
     where
-      go : (q : Bool) → Adds (gate q 1 * lineMost) (staysText t (if q then record { weight = w; shared = h } ∷ [] else []))
-      go true = adds-up _ (omega arith) (stay-line h w l e)
-      go false = adds-up _ (omega arith) adds_none
+      go : (q : Bool) → Adds (gate q 1 * line_most) (stays_text t (if q then record { weight = w; shared = h } ∷ [] else []))
+      go true = adds_up _ (omega arith) (stay_line_law h w l e)
+      go false = adds_up _ (omega arith) adds_none
 
   -- lists one after the other
-  adds-flat : {A : Type 0} {T : List A → Text} → Joins T → (n m : ℕ) (f : ℕ → List A) (c : ℕ → ℕ) → ((i : ℕ) → i < n → Adds (c i * m) (T (f i))) → Adds (sumBelow n c * m) (T (flat (upto n f)))
-  adds-flat {T = T} j zero m f c h = record { long = λ r. omega (arith, ap (λ (l : List ℕ). length l) (j.nothing r)) }
-  adds-flat {T = T} j (suc n) m f c h =
-      let rest = adds_then (h 0 (omega arith)) (adds-flat j n m (λ i. f (suc i)) (λ i. c (suc i)) (λ i l. h (suc i) (omega arith))) in
+  adds_flat : {A : Type 0} {T : List A → Text} → Joins T → (n m : ℕ) (f : ℕ → List A) (c : ℕ → ℕ) → ((i : ℕ) → i < n → Adds (c i * m) (T (f i))) → Adds (sum_below n c * m) (T (flat (upto n f)))
+  adds_flat {T = T} j zero m f c h = record { long = λ r. omega (arith, ap (λ (l : List ℕ). length l) (j.nothing r)) }
+  adds_flat {T = T} j (suc n) m f c h =
+      let rest = adds_then (h 0 (omega arith)) (adds_flat j n m (λ i. f (suc i)) (λ i. c (suc i)) (λ i l. h (suc i) (omega arith))) in
       record { long = λ r. rw (j.both (f 0) (flat (upto n (λ i. f (suc i)))) r) (omega (arith, rest.long r)) }
 
-  module _ (k values : ℕ) (top : k ≤ topState) (few : values ≤ mostShared) (stay : ℕ → ℕ) (w : ℕ → ℕ → ℕ → ℕ) (light : (h : ℕ) → Light (stay h)) (lights : (a b h : ℕ) → Light (w a b h)) where
-    adds-stays : Adds (stays k values (λ h. some (stay h)) * lineMost) (staysText t (flat (upto values (λ h. stayLine h (stay h)))))
-    adds-stays = adds-flat (stays-join t) values lineMost (λ h. stayLine h (stay h)) (λ h. some (stay h)) (λ h l. adds-stay h (stay h) (omega arith) (light h))
+  module _ (k values : ℕ) (top : k ≤ top_state) (few : values ≤ most_shared) (stay : ℕ → ℕ) (w : ℕ → ℕ → ℕ → ℕ) (light : (h : ℕ) → Light (stay h)) (lights : (a b h : ℕ) → Light (w a b h)) where
+    adds_stays : Adds (stays k values (λ h. some (stay h)) * line_most) (stays_text t (flat (upto values (λ h. stay_line h (stay h)))))
+    adds_stays = adds_flat (stays_join t) values line_most (λ h. stay_line h (stay h)) (λ h. some (stay h)) (λ h l. adds_stay h (stay h) (omega arith) (light h))
 
-    adds-moves : Adds (moves k values (λ a b h. gate (not (eqb a b)) (some (w a b h))) * lineMost) (movesText t (flat (upto (suc k) (λ a. movesFrom k values a (w a)))))
-    adds-moves =
-        adds-flat (moves-join t) (suc k) lineMost (λ a. movesFrom k values a (w a)) (λ a. sumBelow (suc k) (λ b. sumBelow values (λ h. gate (not (eqb a b)) (some (w a b h))))) (λ a i.
-        adds-flat (moves-join t) (suc k) lineMost (λ b. flat (upto values (λ h. move_line a b h (w a b h)))) (λ b. sumBelow values (λ h. gate (not (eqb a b)) (some (w a b h)))) (λ b j.
-        adds-flat (moves-join t) values lineMost (λ h. move_line a b h (w a b h)) (λ h. gate (not (eqb a b)) (some (w a b h))) (λ h l. adds-move a b h (w a b h) (omega arith) (omega arith) (omega arith) (lights a b h))))
+    adds_moves : Adds (moves k values (λ a b h. gate (not (eqb a b)) (some (w a b h))) * line_most) (moves_text t (flat (upto (suc k) (λ a. moves_from k values a (w a)))))
+    adds_moves =
+        adds_flat (moves_join t) (suc k) line_most (λ a. moves_from k values a (w a)) (λ a. sum_below (suc k) (λ b. sum_below values (λ h. gate (not (eqb a b)) (some (w a b h))))) (λ a i.
+        adds_flat (moves_join t) (suc k) line_most (λ b. flat (upto values (λ h. move_line a b h (w a b h)))) (λ b. sum_below values (λ h. gate (not (eqb a b)) (some (w a b h)))) (λ b j.
+        adds_flat (moves_join t) values line_most (λ h. move_line a b h (w a b h)) (λ h. gate (not (eqb a b)) (some (w a b h))) (λ h l. adds_move a b h (w a b h) (omega arith) (omega arith) (omega arith) (lights a b h))))
 
     -- so many lines
     adds_lines : (m : ℕ) → stays k values (λ h. some (stay h)) + moves k values (λ a b h. gate (not (eqb a b)) (some (w a b h))) ≤ m
-        → (q : Option ℕ) → Adds (m * lineMost) (λ r. staysText t (block k values q stay w).stays (movesText t (block k values q stay w).moves r))
+        → (q : Option ℕ) → Adds (m * line_most) (λ r. stays_text t (block k values q stay w).stays (moves_text t (block k values q stay w).moves r))
     unfolding block
-    adds_lines m h q = adds-up (m * lineMost) (many _ _ h) (adds_then adds-stays adds-moves)
+    adds_lines m h q = adds_up (m * line_most) (many _ _ h) (adds_then adds_stays adds_moves)
       where
-        many : (x y : ℕ) → x + y ≤ m → x * lineMost + y * lineMost ≤ m * lineMost
+        many : (x y : ℕ) → x + y ≤ m → x * line_most + y * line_most ≤ m * line_most
         many x y l = omega arith
 
 -- ---- blocks
 
-adds-stuck : (t : Bool) (m : Mode) (g : ℕ) → g ≤ topShared → Adds choiceMost (blockText t (stuckBlock m g))
-unfolding blockText
-adds-stuck t probabilistic g l = adds-up choiceMost (omega arith) (stay-line t g unit l (omega arith))
-adds-stuck t nondeterministic g l = adds-up choiceMost (omega arith) (adds_then (adds-line "choice" 0 (0 ∷ []) (omega arith, tt)) (stay-line t g unit l (omega arith)))
+adds_stuck : (t : Bool) (m : Mode) (g : ℕ) → g ≤ top_shared → Adds choice_most (block_text t (stuck_block m g))
+unfolding block_text
+adds_stuck t probabilistic g l = adds_up choice_most (omega arith) (stay_line_law t g unit l (omega arith))
+adds_stuck t nondeterministic g l = adds_up choice_most (omega arith) (adds_then (adds_line "choice" 0 (0 ∷ []) (omega arith, tt)) (stay_line_law t g unit l (omega arith)))
 
-module _ (t : Bool) (n k values : ℕ) (h : k ≤ topState) (shared : values ≤ mostShared) where
+module _ (t : Bool) (n k values : ℕ) (h : k ≤ top_state) (shared : values ≤ most_shared) where
   -- at a place of two digits
-  adds-choice : (g q : ℕ) (s : Statement) {m : ℕ} → ValidStatement n k m s → q < 100 → Adds choiceMost (blockText t (block k values (some-choice q) (stayOf g s) (move_of g s)))
-  unfolding blockText block
-  adds-choice g q s {m} v l =
-      adds-up choiceMost (omega arith)
-      (adds_then (adds-line "choice" 1 (q ∷ []) (l, tt))
-      (adds_lines t k values h shared (stayOf g s) (move_of g s) (λ i. omega (arith, stay-le n k m g s v i)) (λ a b i. omega (arith, move-le n k m g s v a b i)) mostBranches
-      (le_trans (choice-lines k values g s) v.some.1) (some-choice q)))
+  adds_choice : (g q : ℕ) (s : Statement) {m : ℕ} → ValidStatement n k m s → q < 100 → Adds choice_most (block_text t (block k values (some_choice q) (stay_of g s) (move_of g s)))
+  unfolding block_text block
+  adds_choice g q s {m} v l =
+      adds_up choice_most (omega arith)
+      (adds_then (adds_line "choice" 1 (q ∷ []) (l, tt))
+      (adds_lines t k values h shared (stay_of g s) (move_of g s) (λ i. omega (arith, stay_le n k m g s v i)) (λ a b i. omega (arith, move_le n k m g s v a b i)) most_branches
+      (le_trans (choice_lines k values g s) v.some.1) (some_choice q)))
 
-  adds-choices : (m : ℕ) (v : Position) (q : ℕ) (l : List Statement) → Every (ValidStatement n k m) l → q + length l ≤ 100 → Adds (length l * choiceMost) (blocksText t (choiceBlocks n k values v q l))
-  unfolding choiceBlocks
-  adds-choices m v q [] e r = adds-up _ (omega arith) adds_none
-  adds-choices m v q (s ∷ l) e r = go (ltb 0 (able n v s)) (adds-choice v.shared q s e.0 (omega arith)) (adds-choices m v (suc q) l e.1 (omega arith))
+  adds_choices : (m : ℕ) (v : Position) (q : ℕ) (l : List Statement) → Every (ValidStatement n k m) l → q + length l ≤ 100 → Adds (length l * choice_most) (blocks_text t (choice_blocks n k values v q l))
+  unfolding choice_blocks
+  adds_choices m v q [] e r = adds_up _ (omega arith) adds_none
+  adds_choices m v q (s ∷ l) e r = go (ltb 0 (able n v s)) (adds_choice v.shared q s e.0 (omega arith)) (adds_choices m v (suc q) l e.1 (omega arith))
     where
-      go : (u : Bool) → Adds choiceMost (blockText t (block k values (some-choice q) (stayOf v.shared s) (move_of v.shared s))) → Adds (length l * choiceMost) (blocksText t (choiceBlocks n k values v (suc q) l))
-          → Adds (length (s ∷ l) * choiceMost) (blocksText t ((if u then block k values (some-choice q) (stayOf v.shared s) (move_of v.shared s) ∷ [] else []) ++ choiceBlocks n k values v (suc q) l))
-      go true one rest = adds-up (length (s ∷ l) * choiceMost) (omega arith) (adds_then one rest)
-      go false one rest = adds-up (length (s ∷ l) * choiceMost) (omega arith) rest
+      go : (u : Bool) → Adds choice_most (block_text t (block k values (some_choice q) (stay_of v.shared s) (move_of v.shared s))) → Adds (length l * choice_most) (blocks_text t (choice_blocks n k values v (suc q) l))
+          → Adds (length (s ∷ l) * choice_most) (blocks_text t ((if u then block k values (some_choice q) (stay_of v.shared s) (move_of v.shared s) ∷ [] else []) ++ choice_blocks n k values v (suc q) l))
+      go true one rest = adds_up (length (s ∷ l) * choice_most) (omega arith) (adds_then one rest)
+      go false one rest = adds_up (length (s ∷ l) * choice_most) (omega arith) rest
 
-  module _ (few-seats : n ≤ mostSeats) (v : Position) (low : v.shared ≤ topShared) (few : Few n v.each) (m : ℕ) (l : List Statement) (valid : Every (ValidStatement n k m) l) (some-there : length l ≤ mostStatements) where
-    all-few : allAble n v l * unit ≤ mostSeats * mostStatements * unit
-    all-few = mul-le-mul_right unit (le_trans (all-able-le n v few l) (mul-le-mul few-seats some-there))
+  module _ (few-seats : n ≤ most_seats) (v : Position) (low : v.shared ≤ top_shared) (few : Few n v.each) (m : ℕ) (l : List Statement) (valid : Every (ValidStatement n k m) l) (some-there : length l ≤ most_statements) where
+    all_few : all_able n v l * unit ≤ most_seats * most_statements * unit
+    all_few = mul-le-mul_right unit (le_trans (all_able_le n v few l) (mul-le-mul few-seats some-there))
 
-    branches-few : (l : List Statement) → Every (ValidStatement n k m) l → sum (λ (s : Statement). length s.branches) l ≤ length l * mostBranches
-    branches-few [] e = omega arith
-    branches-few (s ∷ l) e = omega (arith, e.0.some.1, branches-few l e.1)
+    branches_few : (l : List Statement) → Every (ValidStatement n k m) l → sum (λ (s : Statement). length s.branches) l ≤ length l * most_branches
+    branches_few [] e = omega arith
+    branches_few (s ∷ l) e = omega (arith, e.0.some.1, branches_few l e.1)
 
-    adds-weights : Adds (mostStatements * choiceMost) (blockText t (block k values none (allStay n v l) (allMove n v l)))
-    unfolding blockText block
-    adds-weights =
-        adds-up (mostStatements * choiceMost) (omega arith)
-        (adds_lines t k values h shared (allStay n v l) (allMove n v l)
-        (λ i. omega (arith, all-stay-le n v few k m l valid i, all-few)) (λ a b i. omega (arith, all-move-le n v few k m l valid a b i, all-few)) (mostStatements * mostBranches)
-        (le_trans (all_lines k values n v l) (le_trans (branches-few l valid) (mul-le-mul_right mostBranches some-there))) none)
+    adds_weights : Adds (most_statements * choice_most) (block_text t (block k values none (all_stay n v l) (all_move n v l)))
+    unfolding block_text block
+    adds_weights =
+        adds_up (most_statements * choice_most) (omega arith)
+        (adds_lines t k values h shared (all_stay n v l) (all_move n v l)
+        (λ i. omega (arith, all_stay_le n v few k m l valid i, all_few)) (λ a b i. omega (arith, all_move_le n v few k m l valid a b i, all_few)) (most_statements * most_branches)
+        (le_trans (all_lines k values n v l) (le_trans (branches_few l valid) (mul-le-mul_right most_branches some-there))) none)
 
-    adds-taken : (o : Mode) → Adds (mostStatements * choiceMost) (blocksText t (takenBlocks o n k values v l))
-    unfolding takenBlocks
-    adds-taken nondeterministic = adds-up (mostStatements * choiceMost) (omega arith) (adds-choices m v 1 l valid (omega arith))
-    adds-taken probabilistic = adds-weights
+    adds_taken : (o : Mode) → Adds (most_statements * choice_most) (blocks_text t (taken_blocks o n k values v l))
+    unfolding taken_blocks
+    adds_taken nondeterministic = adds_up (most_statements * choice_most) (omega arith) (adds_choices m v 1 l valid (omega arith))
+    adds_taken probabilistic = adds_weights
 
-    adds-blocks : (o : Mode) → Adds (mostStatements * choiceMost) (blocksText t (countBlocks o n k values v l))
-    unfolding countBlocks
-    adds-blocks o = go (countTaken o n v l)
+    adds_blocks : (o : Mode) → Adds (most_statements * choice_most) (blocks_text t (count_blocks o n k values v l))
+    unfolding count_blocks
+    adds_blocks o = go (count_taken o n v l)
       where
-        go : (taken : ℕ) → Adds (mostStatements * choiceMost) (blocksText t (orStuck o v.shared taken (takenBlocks o n k values v l)))
-        go zero = adds-up (mostStatements * choiceMost) (omega arith) (adds-stuck t o v.shared low)
-        go (suc taken) = adds-taken o
+        go : (taken : ℕ) → Adds (most_statements * choice_most) (blocks_text t (or_stuck o v.shared taken (taken_blocks o n k values v l)))
+        go zero = adds_up (most_statements * choice_most) (omega arith) (adds_stuck t o v.shared low)
+        go (suc taken) = adds_taken o
 
 -- ---- the panel
 
-abbrev toldOr : Option ℕ → ℕ
-toldOr none = topShared
-toldOr (some-choice g) = g
+abbrev told_or : Option ℕ → ℕ
+told_or none = top_shared
+told_or (some_choice g) = g
 
-adds-shared : (o : Option ℕ) → ((g : ℕ) → o ≡ some-choice g → g ≤ topShared) → Adds 9 (sharedText o)
-adds-shared none h = adds-up 9 (omega arith) adds_none
-adds-shared (some-choice g) h = adds-up 9 (omega arith) (adds-line "shared" 0 (g ∷ []) (omega (arith, h g refl), tt))
+adds_shared : (o : Option ℕ) → ((g : ℕ) → o ≡ some_choice g → g ≤ top_shared) → Adds 9 (shared_text o)
+adds_shared none h = adds_up 9 (omega arith) adds_none
+adds_shared (some_choice g) h = adds_up 9 (omega arith) (adds_line "shared" 0 (g ∷ []) (omega (arith, h g refl), tt))
 
 module _ (c : Card) (valid : ValidCard c) (x : Seating) (ok : ValidSeating c x) where
   abbrev v : Position
   v = counted c.k x
 
   few : Few c.n v.each
-  few d = rw (← ok.seats) (counts-few c.k x.each ok.states d)
+  few d = rw (← ok.seats) (counts_few c.k x.each ok.states d)
 
-  values-few : (s : Option Shared) → ValidShared s → sharedValues s ≤ mostShared
-  values-few none h = omega arith
-  values-few (some-choice s) h = omega (arith, h.0)
+  values_few : (s : Option Shared) → ValidShared s → shared_values s ≤ most_shared
+  values_few none h = omega arith
+  values_few (some_choice s) h = omega (arith, h.0)
 
-  low : x.shared ≤ topShared
-  low = omega (arith, ok.shared, values-few c.shared valid.shared)
+  low : x.shared ≤ top_shared
+  low = omega (arith, ok.shared, values_few c.shared valid.shared)
 
-  counts-digits : Every (Digits 1) v.each
+  counts_digits : Every (Digits 1) v.each
   unfolding counts
-  counts-digits = every_upto (Digits 1) (suc c.k) (λ d. count d x.each) (λ d l. omega (arith, count-le d x.each, ok.seats, valid.seats-most))
+  counts_digits = every_upto (Digits 1) (suc c.k) (λ d. count d x.each) (λ d l. omega (arith, count_le d x.each, ok.seats, valid.seats_most))
 
-  enabled-digits : Digits 2 (countEnabled c.mode c.n v c.statements)
-  enabled-digits = omega (arith, enabled-le c.n v few valid.seats c.mode c.statements valid.some.0, mul-le-mul valid.seats-most valid.some.1)
+  enabled_digits : Digits 2 (count_enabled c.mode c.n v c.statements)
+  enabled_digits = omega (arith, enabled_le c.n v few valid.seats c.mode c.statements valid.some.0, mul-le-mul valid.seats_most valid.some.1)
 
-  shared-shown : (s : Option Shared) (g : ℕ) → sharedShown s x.shared ≡ some-choice g → g ≤ topShared
-  shared-shown none g e = omega (arith, ap toldOr e)
-  shared-shown (some-choice s) g e = omega (arith, low, ap toldOr e)
+  shared_shown_law : (s : Option Shared) (g : ℕ) → shared_shown s x.shared ≡ some_choice g → g ≤ top_shared
+  shared_shown_law none g e = omega (arith, ap told_or e)
+  shared_shown_law (some_choice s) g e = omega (arith, low, ap told_or e)
 
-  abbrev shownText : List ℕ → List ℕ
-  shownText r = sharedText (sharedShown c.shared x.shared) (blocksText (told (sharedShown c.shared x.shared)) (countBlocks c.mode c.n c.k (sharedValues c.shared) v c.statements) r)
+  abbrev shown_text : List ℕ → List ℕ
+  shown_text r = shared_text (shared_shown c.shared x.shared) (blocks_text (told (shared_shown c.shared x.shared)) (count_blocks c.mode c.n c.k (shared_values c.shared) v c.statements) r)
 
-  adds-panel : Adds panelRoom (λ r. modeText c.mode ("\nseats " ▸ num c.n (line " enabled" (countEnabled c.mode c.n v c.statements ∷ []) (line "counts" v.each (shownText r)))))
-  adds-panel =
-      adds-up panelRoom (omega (arith, length-counts c.k x.each, valid.top))
-      (adds_then (adds-mode c.mode)
+  adds_panel : Adds panel_room (λ r. mode_text c.mode ("\nseats " ▸ num c.n (line " enabled" (count_enabled c.mode c.n v c.statements ∷ []) (line "counts" v.each (shown_text r)))))
+  adds_panel =
+      adds_up panel_room (omega (arith, length_counts c.k x.each, valid.top))
+      (adds_then (adds_mode c.mode)
       (adds_then (adds_bytes "\nseats ")
-      (adds_then (adds-digits 1 c.n (omega (arith, valid.seats-most)))
-      (adds_then (adds-line " enabled" 2 (countEnabled c.mode c.n v c.statements ∷ []) (enabled-digits, tt))
-      (adds_then (adds-line "counts" 1 v.each counts-digits)
-      (adds_then (adds-shared (sharedShown c.shared x.shared) (shared-shown c.shared))
-      (adds-blocks (told (sharedShown c.shared x.shared)) c.n c.k (sharedValues c.shared) valid.top (values-few c.shared valid.shared) valid.seats-most v low few (values_of c.shared) c.statements valid.statements valid.some.1 c.mode)))))))
+      (adds_then (adds_digits 1 c.n (omega (arith, valid.seats_most)))
+      (adds_then (adds_line " enabled" 2 (count_enabled c.mode c.n v c.statements ∷ []) (enabled_digits, tt))
+      (adds_then (adds_line "counts" 1 v.each counts_digits)
+      (adds_then (adds_shared (shared_shown c.shared x.shared) (shared_shown_law c.shared))
+      (adds_blocks (told (shared_shown c.shared x.shared)) c.n c.k (shared_values c.shared) valid.top (values_few c.shared valid.shared) valid.seats_most v low few (values_of c.shared) c.statements valid.statements valid.some.1 c.mode)))))))
 
-  pub panel-fits : length (panelOf c x) ≤ panelRoom
-  unfolding panelOf panelText countPanel
-  panel-fits = rw (panel-by-counts c x ok) (omega (arith, adds-panel.long []))
+  pub panel_fits : length (panel_of c x) ≤ panel_room
+  unfolding panel_of panel_text count_panel
+  panel_fits = rw (panel_by_counts c x ok) (omega (arith, adds_panel.long []))

@@ -6,7 +6,7 @@ use mathlib.Core.Bool.{false}
 use mathlib.Core.Logic.{◌↔◌}
 use mathlib.Core.List.{List, ◌++◌}
 use lib.ListN.{length}
-use Rattle.card.specs.Refusals.{wrongSeats, seatAboveTop, OfCard}
+use Rattle.card.specs.Refusals.{wrong_seats, seat_above_top, OfCard}
 use Rattle.card.specs.Card.{Card}
 use Rattle.reading.specs.Reading.{taken, refused as turned, read_of}
 use Rattle.entry.specs.Said.{refused}
@@ -14,32 +14,32 @@ use Rattle.entry.specs.Numbers.{among}
 use Rattle.entry.specs.Stage.{Stage}
 use Rattle.entry.proofs.Stages.{value, followed, beyond, last}
 use Rattle.entry.proofs.Exactly.{◌↔∙◌, under}
-use Rattle.seating.specs.Judged.{seatsDue, FirstWrong, seatingOf, Seated}
-use Rattle.seating.specs.SeatsSaid.{seatsSaid, seatsNumbers}
-use Rattle.seating.proofs.SeatsStage.{seats-stage, wrong-count, wrong-seat}
-use Rattle.rows.specs.Said.{cardNumbers, Read}
-use Rattle.rows.proofs.Theorems.{card-stage, card-first}
-use Rattle.panel_wording.specs.PanelText.{panelOf}
-use Rattle.panel_said.specs.PanelSaid.{shownSaid, panelSaid}
+use Rattle.seating.specs.Judged.{seats_due, FirstWrong, seating_of, Seated}
+use Rattle.seating.specs.SeatsSaid.{seats_said, seats_numbers}
+use Rattle.seating.proofs.SeatsStage.{seats_stage, wrong_count, wrong_seat}
+use Rattle.rows.specs.Said.{card_numbers, Read}
+use Rattle.rows.proofs.Theorems.{card_stage, card_first}
+use Rattle.panel_wording.specs.PanelText.{panel_of}
+use Rattle.panel_said.specs.PanelSaid.{shown_said, panel_said}
 
 module _ (card seats : List ℕ) where
-  shown : (c : Card) → Stage (shownSaid seats c) seatsNumbers (Seated c seats) (λ _. panelOf c (seatingOf c seats))
-  shown c = value (seats-stage seats c) (λ _. panelOf c (seatingOf c seats))
+  shown : (c : Card) → Stage (shown_said seats c) seats_numbers (Seated c seats) (λ _. panel_of c (seating_of c seats))
+  shown c = value (seats_stage seats c) (λ _. panel_of c (seating_of c seats))
 
-  pub said : Stage (panelSaid card seats) (cardNumbers ++ seatsNumbers) ((w : Read card) × Seated w.0 seats) (λ z. panelOf z.0.0 (seatingOf z.0.0 seats))
-  unfolding panelSaid
-  said = followed (card-stage card) (shownSaid seats) (λ c. (shown c).numbers) (λ w. (shown w.0).found)
+  pub said : Stage (panel_said card seats) (card_numbers ++ seats_numbers) ((w : Read card) × Seated w.0 seats) (λ z. panel_of z.0.0 (seating_of z.0.0 seats))
+  unfolding panel_said
+  said = followed (card_stage card) (shown_said seats) (λ c. (shown c).numbers) (λ w. (shown w.0).found)
 
-  pub said-card : (r p : ℕ) → OfCard r → (panelSaid card seats ≡ refused r p) ↔ (read_of card ≡ turned r p)
-  unfolding panelSaid
-  said-card r p h = card-first card (shownSaid seats) (λ c. (shown c).numbers) r p h refl
+  pub said_card : (r p : ℕ) → OfCard r → (panel_said card seats ≡ refused r p) ↔ (read_of card ≡ turned r p)
+  unfolding panel_said
+  said_card r p h = card_first card (shown_said seats) (λ c. (shown c).numbers) r p h refl
 
-  pub said-seats : (r p : ℕ) → among cardNumbers r ≡ false → (panelSaid card seats ≡ refused r p) ↔ ((w : Read card) × (seatsSaid seats w.0 ≡ refused r p))
-  unfolding panelSaid
-  said-seats r p h = beyond (card-stage card) (shownSaid seats) r p h (λ w. last (seats-stage seats w.0) (λ _. panelOf w.0 (seatingOf w.0 seats)) r p)
+  pub said_seats : (r p : ℕ) → among card_numbers r ≡ false → (panel_said card seats ≡ refused r p) ↔ ((w : Read card) × (seats_said seats w.0 ≡ refused r p))
+  unfolding panel_said
+  said_seats r p h = beyond (card_stage card) (shown_said seats) r p h (λ w. last (seats_stage seats w.0) (λ _. panel_of w.0 (seating_of w.0 seats)) r p)
 
-  pub said-count : (p : ℕ) → (panelSaid card seats ≡ refused wrongSeats p) ↔ ((c : Card) × (read_of card ≡ taken c) × (length seats ≡ seatsDue c → ⊥) × (p ≡ 0))
-  said-count p = said-seats wrongSeats p refl ↔∙ under (λ w. wrong-count seats w.0 p) ↔∙ (λ h. (h.0.0, h.0.1, h.1.0, h.1.1), λ h. ((h.0, h.1), (h.2, h.3)))
+  pub said_count : (p : ℕ) → (panel_said card seats ≡ refused wrong_seats p) ↔ ((c : Card) × (read_of card ≡ taken c) × (length seats ≡ seats_due c → ⊥) × (p ≡ 0))
+  said_count p = said_seats wrong_seats p refl ↔∙ under (λ w. wrong_count seats w.0 p) ↔∙ (λ h. (h.0.0, h.0.1, h.1.0, h.1.1), λ h. ((h.0, h.1), (h.2, h.3)))
 
-  pub said-seat : (p : ℕ) → (panelSaid card seats ≡ refused seatAboveTop p) ↔ ((c : Card) × (read_of card ≡ taken c) × (length seats ≡ seatsDue c) × FirstWrong c seats p)
-  said-seat p = said-seats seatAboveTop p refl ↔∙ under (λ w. wrong-seat seats w.0 p) ↔∙ (λ h. (h.0.0, h.0.1, h.1.0, h.1.1), λ h. ((h.0, h.1), (h.2, h.3)))
+  pub said_seat : (p : ℕ) → (panel_said card seats ≡ refused seat_above_top p) ↔ ((c : Card) × (read_of card ≡ taken c) × (length seats ≡ seats_due c) × FirstWrong c seats p)
+  said_seat p = said_seats seat_above_top p refl ↔∙ under (λ w. wrong_seat seats w.0 p) ↔∙ (λ h. (h.0.0, h.0.1, h.1.0, h.1.1), λ h. ((h.0, h.1), (h.2, h.3)))

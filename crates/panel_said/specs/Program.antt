@@ -1,25 +1,25 @@
 -- What the panel program prints for what it reads ("Texts, byte for byte", the paragraph on the program). Assumes nothing.
 use Rattle.std.specs.Prelude.{ℕ, List, [], ◌∷◌, map, eqb, take}
 use Rattle.card.specs.Text.{if◌then◌else◌}
-use Rattle.panel_said.specs.PanelSaid.{panelSaid}
-pub use Rattle.panel_wording.specs.Lines.{inputBytes, lineEnd, noState, seatOf, printed, refusalMost, Printed}
+use Rattle.panel_said.specs.PanelSaid.{panel_said}
+pub use Rattle.panel_wording.specs.Lines.{input_bytes, line_end, no_state, seat_of, printed, refusal_most, Printed}
 
 -- a line of seats, up to LF; without LF it is all there is
-unfoldable pub seatsLine : List ℕ → List ℕ
-seatsLine [] = []
-seatsLine (b ∷ s) = if eqb b lineEnd then [] else b ∷ seatsLine s
+unfoldable pub seats_line : List ℕ → List ℕ
+seats_line [] = []
+seats_line (b ∷ s) = if eqb b line_end then [] else b ∷ seats_line s
 
 -- then the card; without LF it is empty
-unfoldable pub cardBehind : List ℕ → List ℕ
-cardBehind [] = []
-cardBehind (b ∷ s) = if eqb b lineEnd then s else cardBehind s
+unfoldable pub card_behind : List ℕ → List ℕ
+card_behind [] = []
+card_behind (b ∷ s) = if eqb b line_end then s else card_behind s
 
 -- for an input of at most so many bytes
-unfoldable pub answerTo : List ℕ → List ℕ
-unfolding seatsLine cardBehind
-answerTo s = printed (panelSaid (cardBehind s) (map seatOf (seatsLine s)))
+unfoldable pub answer_to : List ℕ → List ℕ
+unfolding seats_line card_behind
+answer_to s = printed (panel_said (card_behind s) (map seat_of (seats_line s)))
 
 -- what is printed for any input
 unfoldable pub program_of : List ℕ → List ℕ
-unfolding answerTo
-program_of input = answerTo (take inputBytes input)
+unfolding answer_to
+program_of input = answer_to (take input_bytes input)

@@ -2,16 +2,16 @@
 use Prim.Native.Nat.{ℕ, zero, suc}
 use mathlib.Core.Path.{◌≡◌, refl}
 use mathlib.Core.List.{List, [], ◌∷◌}
-use Rattle.panel_wording.specs.PanelText.{line, sharedText}
-use Rattle.panel_wording.specs.PanelIn.{shownIf}
+use Rattle.panel_wording.specs.PanelText.{line, shared_text}
+use Rattle.panel_wording.specs.PanelIn.{shown_if}
 
 module _ (shared g : ℕ) (r : List ℕ) where
-  pub shared-none : shared ≡ 0 → r ≡ sharedText (shownIf shared g) r
-  shared-none e = rw e
+  pub shared_none : shared ≡ 0 → r ≡ shared_text (shown_if shared g) r
+  shared_none e = rw e
 
-  pub shared-some : (shared ≡ 0 → ⊥) → line "shared" (g ∷ []) r ≡ sharedText (shownIf shared g) r
-  shared-some h = go shared h
+  pub shared_some : (shared ≡ 0 → ⊥) → line "shared" (g ∷ []) r ≡ shared_text (shown_if shared g) r
+  shared_some h = go shared h
     where
-      go : (s : ℕ) → (s ≡ 0 → ⊥) → line "shared" (g ∷ []) r ≡ sharedText (shownIf s g) r
+      go : (s : ℕ) → (s ≡ 0 → ⊥) → line "shared" (g ∷ []) r ≡ shared_text (shown_if s g) r
       go zero z = absurd (z refl)
       go (suc most) z = refl

@@ -1,14 +1,14 @@
 // The panel's text ("Texts, byte for byte"; document 02, 2026-10), from the table of its numbers, and how it is stored in a room that it fits into.
 ghost use Rattle.std.specs.Prelude.{◌≡◌, [], ◌∷◌, ◌+◌, ◌≤◌, length, get_or, take};
-ghost use Rattle.card.specs.Limits.{topState};
+ghost use Rattle.card.specs.Limits.{top_state};
 ghost use Rattle.card.specs.Card.{nondeterministic, probabilistic};
 ghost use Rattle.card.specs.Laid.{either};
 ghost use Rattle.room.specs.Room.{Put};
-ghost use Rattle.phrases.specs.Phrases.{◌▸◌, num, modeText};
+ghost use Rattle.phrases.specs.Phrases.{◌▸◌, num, mode_text};
 ghost use Rattle.phrases.specs.Puts.{Puts};
-ghost use Rattle.panel_numbers.specs.Table.{enabledPlace, sharedIn, tablePlaces};
-ghost use Rattle.panel_wording.specs.PanelText.{line, sharedText, panelText};
-ghost use Rattle.panel_wording.specs.PanelIn.{Showing, shownIf, panelIn};
+ghost use Rattle.panel_numbers.specs.Table.{enabled_place, shared_in, table_places};
+ghost use Rattle.panel_wording.specs.PanelText.{line, shared_text, panel_text};
+ghost use Rattle.panel_wording.specs.PanelIn.{Showing, shown_if, panel_in};
 ghost use Rattle.entry.specs.Said.{says as text};
 ghost use Rattle.room.specs.Answer.{Entered};
 ghost use Rattle.panel_wording.specs.PanelRoom.{Printable};
@@ -25,7 +25,7 @@ use weighing::{ENABLED, SHARED, STAYS, TABLE_PLACES};
 
 // The shared number, where it has values at all.
 fn put_shared(room: &mut [u8], at: usize, shared: usize, present: usize) -> usize
-    ensures { Puts room.old room.new at (sharedText (shownIf shared present)) result }
+    ensures { Puts room.old room.new at (shared_text (shown_if shared present)) result }
 {
     if shared == 0 {
         return place(at);
@@ -46,8 +46,8 @@ fn put_counts(room: &mut [u8], at: usize, enabled: usize, states: usize, table: 
 
 // The lines before the weights; the mode by its number in a card's struct.
 fn put_head(room: &mut [u8], at: usize, head: Head, table: &[usize]) -> usize
-    requires { (head.top ≤ topState) × (length table.now ≡ tablePlaces) }
-    ensures { Puts room.old room.new at (λ t. modeText (either nondeterministic probabilistic head.mode) ("\nseats " ▸ num head.seats (line " enabled" (get_or table.now enabledPlace 0 ∷ []) (line "counts" (take (head.top + 1) table.now) (sharedText (shownIf head.shared (sharedIn table.now)) t))))) result }
+    requires { (head.top ≤ top_state) × (length table.now ≡ table_places) }
+    ensures { Puts room.old room.new at (λ t. mode_text (either nondeterministic probabilistic head.mode) ("\nseats " ▸ num head.seats (line " enabled" (get_or table.now enabled_place 0 ∷ []) (line "counts" (take (head.top + 1) table.now) (shared_text (shown_if head.shared (shared_in table.now)) t))))) result }
 {
     let states = head.top + 1;
     let enabled = table[ENABLED];
@@ -70,7 +70,7 @@ fn put_panel<'a>(
     branches: &'a [u32; BRANCH_PLACES],
 ) -> usize
     requires { Showing head table.now rows.now branches.now }
-    ensures { Put room.old room.new at (panelText (panelIn head table.now rows.now branches.now)) result }
+    ensures { Put room.old room.new at (panel_text (panel_in head table.now rows.now branches.now)) result }
 {
     let present = table[SHARED];
     let stay = table[STAYS + present];
@@ -102,7 +102,7 @@ fn measure<'a>(
     branches: &'a [u32; BRANCH_PLACES],
 ) -> usize
     requires { Printable head table.now rows.now branches.now }
-    ensures { result ≡ length (panelText (panelIn head table.now rows.now branches.now)) }
+    ensures { result ≡ length (panel_text (panel_in head table.now rows.now branches.now)) }
 {
     let mut nothing: [u8; 0] = [0; 0];
     put_panel(&mut nothing, 0, head, table, rows, branches)
@@ -118,7 +118,7 @@ pub fn enter_panel<'a>(
     branches: &'a [u32; BRANCH_PLACES],
 ) -> Answer
     requires { Printable head table.now rows.now branches.now }
-    ensures { Entered room.old room.new (text (panelText (panelIn head table.now rows.now branches.now))) result }
+    ensures { Entered room.old room.new (text (panel_text (panel_in head table.now rows.now branches.now))) result }
 {
     if PANEL_ROOM <= room.len() {
         return Answer::Done(put_panel(room, 0, head, table, rows, branches));

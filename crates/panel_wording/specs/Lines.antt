@@ -7,19 +7,19 @@ use Rattle.room.specs.Answer.{Text}
 use Rattle.phrases.specs.Phrases.{◌▸◌, num}
 
 -- bytes behind these are not read
-abbrev pub inputBytes : ℕ
-inputBytes = 65536
+abbrev pub input_bytes : ℕ
+input_bytes = 65536
 
 -- LF
-abbrev pub lineEnd : ℕ
-lineEnd = 10
+abbrev pub line_end : ℕ
+line_end = 10
 
 -- a seat that is no digit is in no card's states
-abbrev pub noState : ℕ
-noState = 255
+abbrev pub no_state : ℕ
+no_state = 255
 
-abbrev pub seatOf : ℕ → ℕ
-seatOf b = if leb (digit 0) b && leb b (digit 9) then b - digit 0 else noState
+abbrev pub seat_of : ℕ → ℕ
+seat_of b = if leb (digit 0) b && leb b (digit 9) then b - digit 0 else no_state
 
 -- a text as it is, a refusal as a line
 abbrev pub printed : Text → List ℕ
@@ -27,11 +27,11 @@ printed (text t) = t
 printed (refused number place) = "refused " ▸ num number (" " ▸ num place ("\n" ▸ []))
 
 -- bytes that are enough for a refusal's line: its number has at most three digits, and its place twenty
-abbrev pub refusalMost : ℕ
-refusalMost = 33
+abbrev pub refusal_most : ℕ
+refusal_most = 33
 
 -- the room `was` became `is`: a text that fits stands at its start, and the bytes behind it are as they were
 pub record Printed (was is t : List ℕ) (long : ℕ) : Type 0 where
   pub fits : length t ≤ length was
-  pub length-is : long ≡ length t
+  pub length_is : long ≡ length t
   pub stands : is ≡ t ++ drop (length t) was

@@ -3,7 +3,7 @@ use Rattle.std.specs.Prelude.{ℕ, Bool, true, false, List, [], ◌∷◌}
 use Prim.Native.String.{String}
 use Rattle.std.proofs.Math.Option.{Option, none, some}
 use Rattle.card.specs.Card.{Card}
-use Rattle.phrases.specs.Phrases.{◌▸◌, num, modeWord}
+use Rattle.phrases.specs.Phrases.{◌▸◌, num, mode_word}
 use Rattle.meaning.specs.Seats.{Seating}
 use Rattle.meaning.specs.Panel.{Move, Stay, Block, Panel, panel}
 
@@ -27,38 +27,38 @@ ending false h = []
 ending true h = h ∷ []
 
 -- old state, new state, weight
-abbrev pub movesText : Bool → List Move → List ℕ → List ℕ
-movesText t [] r = r
-movesText t (m ∷ l) r = line "move" (m.old ∷ m.new ∷ m.weight ∷ ending t m.shared) (movesText t l r)
+abbrev pub moves_text : Bool → List Move → List ℕ → List ℕ
+moves_text t [] r = r
+moves_text t (m ∷ l) r = line "move" (m.old ∷ m.new ∷ m.weight ∷ ending t m.shared) (moves_text t l r)
 
 -- weights of no change
-abbrev pub staysText : Bool → List Stay → List ℕ → List ℕ
-staysText t [] r = r
-staysText t (s ∷ l) r = line "stay" (s.weight ∷ ending t s.shared) (staysText t l r)
+abbrev pub stays_text : Bool → List Stay → List ℕ → List ℕ
+stays_text t [] r = r
+stays_text t (s ∷ l) r = line "stay" (s.weight ∷ ending t s.shared) (stays_text t l r)
 
 -- only on a nondeterministic card: the statement's place
-abbrev pub choiceText : Option ℕ → List ℕ → List ℕ
-choiceText none r = r
-choiceText (some q) r = line "choice" (q ∷ []) r
+abbrev pub choice_text : Option ℕ → List ℕ → List ℕ
+choice_text none r = r
+choice_text (some q) r = line "choice" (q ∷ []) r
 
-unfoldable pub blockText : Bool → Block → List ℕ → List ℕ
-blockText t b r = choiceText b.choice (staysText t b.stays (movesText t b.moves r))
+unfoldable pub block_text : Bool → Block → List ℕ → List ℕ
+block_text t b r = choice_text b.choice (stays_text t b.stays (moves_text t b.moves r))
 
-abbrev pub blocksText : Bool → List Block → List ℕ → List ℕ
-blocksText t [] r = r
-blocksText t (b ∷ l) r = blockText t b (blocksText t l r)
+abbrev pub blocks_text : Bool → List Block → List ℕ → List ℕ
+blocks_text t [] r = r
+blocks_text t (b ∷ l) r = block_text t b (blocks_text t l r)
 
 -- only on a card with a shared number: what it is
-abbrev pub sharedText : Option ℕ → List ℕ → List ℕ
-sharedText none r = r
-sharedText (some g) r = line "shared" (g ∷ []) r
+abbrev pub shared_text : Option ℕ → List ℕ → List ℕ
+shared_text none r = r
+shared_text (some g) r = line "shared" (g ∷ []) r
 
-unfoldable pub panelText : Panel → List ℕ
-unfolding blockText
-panelText p =
-    modeWord p.mode ▸ "\nseats " ▸ num p.seats (line " enabled" (p.enabled ∷ []) (line "counts" p.counts
-    (sharedText p.shared (blocksText (told p.shared) p.blocks []))))
+unfoldable pub panel_text : Panel → List ℕ
+unfolding block_text
+panel_text p =
+    mode_word p.mode ▸ "\nseats " ▸ num p.seats (line " enabled" (p.enabled ∷ []) (line "counts" p.counts
+    (shared_text p.shared (blocks_text (told p.shared) p.blocks []))))
 
-unfoldable pub panelOf : Card → Seating → List ℕ
-unfolding panelText
-panelOf c x = panelText (panel c x)
+unfoldable pub panel_of : Card → Seating → List ℕ
+unfolding panel_text
+panel_of c x = panel_text (panel c x)

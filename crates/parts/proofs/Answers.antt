@@ -6,15 +6,15 @@ use mathlib.Core.Path.{◌≡◌, refl, subst}
 use mathlib.Core.List.{List}
 use mathlib.Core.Option.{Option, none, some}
 use borrow.Author.Tests.{eq-eqb, ne_eqb}
-use Rattle.card.specs.Refusals.{outOfShape}
+use Rattle.card.specs.Refusals.{out_of_shape}
 use Rattle.marks_on_a_card.specs.Marks.{Mark}
 use Rattle.marks_on_a_card.specs.Kinds.{kind}
 use Rattle.marks.specs.declared.Found.{Found}
 use Rattle.marks.specs.declared.Step.{Step}
-use Rattle.reading.specs.Reader.{Place, at, Result, ok, stop, Reader, bind, return, the, ifNext}
+use Rattle.reading.specs.Reader.{Place, at, Result, ok, stop, Reader, bind, return, the, if_next}
 use Rattle.late.specs.State.{After, after, Halted}
 use Rattle.parts.specs.Parts.{from, Answers, Told}
-use Rattle.parts.proofs.Steps.{Next, place-seen, next-seen, Shown, seen}
+use Rattle.parts.proofs.Steps.{Next, place_seen, next_seen, Shown, seen}
 
 module _ {A B : Type 0} (s : List ℕ) (so : A → List ℕ → Type 0) (to : B → List ℕ → Type 0) where
   pub onward : (x : Result A) (f : A → Reader B) (state : List ℕ) (next : ℕ) (r : After) → Answers s so x (after state next) → (next ≡ 0 → ⊥)
@@ -40,22 +40,22 @@ module _ {A B : Type 0} (s : List ℕ) (to : B → List ℕ → Type 0) (f : Mar
       → Answers s to (k a (from s x.next.at n)) r → Answers s to (bind (the f (from s i n)) k) r
   fits i x v n a e k r y = rw (seen f g h s i x v n, e) y
 
-  pub misses : (i : ℕ) (x : Step) → Next s i x → (n : ℕ) → g x.mark ≡ none → (k : A → Reader B) (r : After) → Halted outOfShape x.mark.place r
+  pub misses : (i : ℕ) (x : Step) → Next s i x → (n : ℕ) → g x.mark ≡ none → (k : A → Reader B) (r : After) → Halted out_of_shape x.mark.place r
       → Answers s to (bind (the f (from s i n)) k) r
-  misses i x v n e k r y = rw (seen f g h s i x v n, e, ← place-seen s i x v) y
+  misses i x v n e k r y = rw (seen f g h s i x v n, e, ← place_seen s i x v) y
 
 -- ---- by the next mark
 
 module _ (t : String) (h : Told t) (s : List ℕ) (i : ℕ) (x : Step) (v : Next s i x) where
-  pub if-so : {A : Type 0} → x.mark.kind ≡ kind t → (p q : Reader A) (n : ℕ) → ifNext t p q (from s i n) ≡ p (from s i n)
-  if-so e p q n = rw (next-seen t h s i x v, eq-eqb x.mark.kind (kind t) e)
+  pub if_so : {A : Type 0} → x.mark.kind ≡ kind t → (p q : Reader A) (n : ℕ) → if_next t p q (from s i n) ≡ p (from s i n)
+  if_so e p q n = rw (next_seen t h s i x v, eq-eqb x.mark.kind (kind t) e)
 
-  pub if-not : {A : Type 0} → (x.mark.kind ≡ kind t → ⊥) → (p q : Reader A) (n : ℕ) → ifNext t p q (from s i n) ≡ q (from s i n)
-  if-not e p q n = rw (next-seen t h s i x v, ne_eqb x.mark.kind (kind t) e)
+  pub if_not : {A : Type 0} → (x.mark.kind ≡ kind t → ⊥) → (p q : Reader A) (n : ℕ) → if_next t p q (from s i n) ≡ q (from s i n)
+  if_not e p q n = rw (next_seen t h s i x v, ne_eqb x.mark.kind (kind t) e)
 
 module _ {A : Type 0} (s : List ℕ) (so : A → List ℕ → Type 0) (t : String) (h : Told t) (p q : Reader A) (i : ℕ) (x : Step) (v : Next s i x) (n : ℕ) (r : After) where
-  pub next-is : x.mark.kind ≡ kind t → Answers s so (p (from s i n)) r → Answers s so (ifNext t p q (from s i n)) r
-  next-is e y = rw (if-so t h s i x v e p q n) y
+  pub next_is : x.mark.kind ≡ kind t → Answers s so (p (from s i n)) r → Answers s so (if_next t p q (from s i n)) r
+  next_is e y = rw (if_so t h s i x v e p q n) y
 
-  pub next-is-not : (x.mark.kind ≡ kind t → ⊥) → Answers s so (q (from s i n)) r → Answers s so (ifNext t p q (from s i n)) r
-  next-is-not e y = rw (if-not t h s i x v e p q n) y
+  pub next_is_not : (x.mark.kind ≡ kind t → ⊥) → Answers s so (q (from s i n)) r → Answers s so (if_next t p q (from s i n)) r
+  next_is_not e y = rw (if_not t h s i x v e p q n) y

@@ -11,7 +11,7 @@ use Rattle.reading.specs.Reader.{State, Result, ok, stop, Reader, bind, return}
 use Rattle.reading.specs.Shape.{many}
 use Rattle.parts.specs.Parts.{from, Told}
 use Rattle.parts.proofs.Steps.{Next}
-use Rattle.parts.proofs.Answers.{if-so, if-not}
+use Rattle.parts.proofs.Answers.{if_so, if_not}
 
 -- so many of them at most
 abbrev pub up_to : {A B : Type 0} → String → Reader A → Reader (List A) → (List A → Reader B) → ℕ → Reader B
@@ -44,12 +44,12 @@ module _ {A B : Type 0} (t : String) (one : Reader A) (past : Reader (List A)) (
   module _ (h : Told t) (s : List ℕ) (i : ℕ) (x : Step) (v : Next s i x) where
     pub another : x.mark.kind ≡ kind t → (most n : ℕ) → those (suc most) (from s i n) ≡ bind (one (from s i n)) (λ a s₁. bind (those most s₁) (λ b. return (more a b)))
     another e most n =
-        ap (λ (y : Result (List A)). bind y ends) (if-so t h s i x v e _ (return []) n)
+        ap (λ (y : Result (List A)). bind y ends) (if_so t h s i x v e _ (return []) n)
         ∙ ended (one (from s i n)) most ∙ with_first (one (from s i n)) most
 
     pub too_many : x.mark.kind ≡ kind t → (n : ℕ) → those 0 (from s i n) ≡ bind (past (from s i n)) ends
-    too_many e n = ap (λ (y : Result (List A)). bind y ends) (if-so t h s i x v e past (return []) n)
+    too_many e n = ap (λ (y : Result (List A)). bind y ends) (if_so t h s i x v e past (return []) n)
 
     pub no_other : (x.mark.kind ≡ kind t → ⊥) → (most n : ℕ) → those most (from s i n) ≡ ends [] (from s i n)
-    no_other e zero n = ap (λ (y : Result (List A)). bind y ends) (if-not t h s i x v e past (return []) n)
-    no_other e (suc most) n = ap (λ (y : Result (List A)). bind y ends) (if-not t h s i x v e _ (return []) n)
+    no_other e zero n = ap (λ (y : Result (List A)). bind y ends) (if_not t h s i x v e past (return []) n)
+    no_other e (suc most) n = ap (λ (y : Result (List A)). bind y ends) (if_not t h s i x v e _ (return []) n)

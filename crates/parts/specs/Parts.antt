@@ -2,24 +2,24 @@
 use Rattle.std.specs.Prelude.{ℕ, ◌<◌, ◌≡◌, false, List, [], ◌∷◌, eqb, leb, length}
 use Prim.Native.String.{String}
 use Rattle.card.specs.Limits.{numbers}
-use Rattle.card.specs.Refusals.{aboveTop, notDue}
+use Rattle.card.specs.Refusals.{above_top, not_due}
 use Rattle.marks_on_a_card.specs.Marks.{Mark, place_of}
-use Rattle.marks_on_a_card.specs.Kinds.{kEnd, kSeat, kProcess, kind, kind_of}
-use Rattle.marks.specs.Step.{marksAt}
-use Rattle.reading.specs.Reader.{State, at, Result, ok, stop, is, sign as read_sign, number_of, Numbered, numbered, Item, exactly, seatWord, processWord, line}
+use Rattle.marks_on_a_card.specs.Kinds.{k_end, k_seat, k_process, kind, kind_of}
+use Rattle.marks.specs.Step.{marks_at}
+use Rattle.reading.specs.Reader.{State, at, Result, ok, stop, is, sign as read_sign, number_of, Numbered, numbered, Item, exactly, seat_word, process_word, line}
 use Rattle.reading.specs.Judgements.{Judgement, unless}
-use Rattle.reading.specs.Checks.{judgedState, judgedWords}
-use Rattle.late.specs.Late.{Late, blamed, judgeAll}
-use Rattle.late.specs.State.{Sized, lateIn, valueIn, After, Halted}
+use Rattle.reading.specs.Checks.{judged_state, judged_words}
+use Rattle.late.specs.Late.{Late, blamed, judge_all}
+use Rattle.late.specs.State.{Sized, late_in, value_in, After, Halted}
 
 -- the state of a reader at place i of the card s
 abbrev pub from : List ℕ → ℕ → ℕ → State
-from s i n = at (marksAt 0 s i) n
+from s i n = at (marks_at 0 s i) n
 
 -- it was read, and this is so of it and of the state
 pub record Read {A : Type 0} (s : List ℕ) (so : A → List ℕ → Type 0) (a : A) (behind : State) (r : After) : Type 0 where
   pub went : r.next ≡ 0 → ⊥
-  pub rest : marksAt 0 s r.next ≡ behind.marks
+  pub rest : marks_at 0 s r.next ≡ behind.marks
   pub told : so a r.state
 
 abbrev pub Answers : {A : Type 0} → List ℕ → (A → List ℕ → Type 0) → Result A → After → Type 0
@@ -30,27 +30,27 @@ Answers s so (stop n p) r = Halted n (place_of (length s) p) r
 
 -- what is judged in a part
 abbrev pub Kept : List ℕ → Late → List Judgement → List ℕ → Type 0
-Kept s before js state = lateIn state ≡ judgeAll (length s) js before
+Kept s before js state = late_in state ≡ judge_all (length s) js before
 
 -- its number too
 pub record Went (s : List ℕ) (before : Late) (v : ℕ) (js : List Judgement) (state : List ℕ) : Type 0 where
-  pub value : valueIn state ≡ v
+  pub value : value_in state ≡ v
   pub late : Kept s before js state
 
 -- a state above k, and a word's number that is not due, are late refusals
-abbrev pub stateBy : ℕ → ℕ → ℕ → Late → Late
-stateBy k v p late = blamed (unless (leb v k) aboveTop) p late
+abbrev pub state_by : ℕ → ℕ → ℕ → Late → Late
+state_by k v p late = blamed (unless (leb v k) above_top) p late
 
-abbrev pub wordBy : ℕ → ℕ → ℕ → Late → Late
-wordBy due v p late = blamed (unless (eqb v due) notDue) p late
+abbrev pub word_by : ℕ → ℕ → ℕ → Late → Late
+word_by due v p late = blamed (unless (eqb v due) not_due) p late
 
 abbrev pub NumberRead : List ℕ → ℕ → Late → Result Numbered → After → Type 0
-NumberRead s k before = Answers s (λ x. Went s before x.value (judgedState k x ∷ []))
+NumberRead s k before = Answers s (λ x. Went s before x.value (judged_state k x ∷ []))
 
 -- from place i of the card on, however many guard nodes are left; the state keeps its places
 pub record NumberFrom (s : List ℕ) (i k : ℕ) (before : Late) (r : After) : Type 0 where
   pub answers : (n : ℕ) → NumberRead s k before (numbered number_of (from s i n)) r
-  pub small : (r.next ≡ 0 → ⊥) → valueIn r.state < numbers
+  pub small : (r.next ≡ 0 → ⊥) → value_in r.state < numbers
   pub sized : Sized r.state
 
 -- ---- a sign or keyword
@@ -58,7 +58,7 @@ pub record NumberFrom (s : List ℕ) (i k : ℕ) (before : Late) (r : After) : T
 -- its kind tells it from every other mark and from the end
 pub record Told (t : String) : Type 0 where
   pub mark : (m : Mark) → is t m ≡ eqb (kind_of m) (kind t)
-  pub end : eqb kEnd (kind t) ≡ false
+  pub end : eqb k_end (kind t) ≡ false
 
 -- the state stays as it was
 abbrev pub SignRead : List ℕ → List ℕ → Result (Unit {0}) → After → Type 0
@@ -78,27 +78,27 @@ pub data Due : Type 0 where
 abbrev pub items_in : List Due → List Item
 items_in [] = []
 items_in (sign t ∷ run) = exactly t ∷ items_in run
-items_in (seat i ∷ run) = seatWord ∷ items_in run
-items_in (process i ∷ run) = processWord ∷ items_in run
+items_in (seat i ∷ run) = seat_word ∷ items_in run
+items_in (process i ∷ run) = process_word ∷ items_in run
 
-abbrev pub duesIn : List Due → List ℕ
-duesIn [] = []
-duesIn (sign t ∷ run) = duesIn run
-duesIn (seat i ∷ run) = i ∷ duesIn run
-duesIn (process i ∷ run) = i ∷ duesIn run
+abbrev pub dues_in : List Due → List ℕ
+dues_in [] = []
+dues_in (sign t ∷ run) = dues_in run
+dues_in (seat i ∷ run) = i ∷ dues_in run
+dues_in (process i ∷ run) = i ∷ dues_in run
 
 -- the same in numbers for the code, mark by mark: kinds, and the words' numbers with a 0 for each sign
-abbrev pub kindsIn : List Due → List ℕ
-kindsIn [] = []
-kindsIn (sign t ∷ run) = kind t ∷ kindsIn run
-kindsIn (seat i ∷ run) = kSeat ∷ kindsIn run
-kindsIn (process i ∷ run) = kProcess ∷ kindsIn run
+abbrev pub kinds_in : List Due → List ℕ
+kinds_in [] = []
+kinds_in (sign t ∷ run) = kind t ∷ kinds_in run
+kinds_in (seat i ∷ run) = k_seat ∷ kinds_in run
+kinds_in (process i ∷ run) = k_process ∷ kinds_in run
 
-abbrev pub numbersIn : List Due → List ℕ
-numbersIn [] = []
-numbersIn (sign t ∷ run) = 0 ∷ numbersIn run
-numbersIn (seat i ∷ run) = i ∷ numbersIn run
-numbersIn (process i ∷ run) = i ∷ numbersIn run
+abbrev pub numbers_in : List Due → List ℕ
+numbers_in [] = []
+numbers_in (sign t ∷ run) = 0 ∷ numbers_in run
+numbers_in (seat i ∷ run) = i ∷ numbers_in run
+numbers_in (process i ∷ run) = i ∷ numbers_in run
 
 abbrev pub Sure : List Due → Type 0
 Sure [] = Unit {0}
@@ -107,9 +107,9 @@ Sure (seat i ∷ run) = Sure run
 Sure (process i ∷ run) = Sure run
 
 abbrev pub LineRead : List ℕ → Late → List ℕ → Result (List Numbered) → After → Type 0
-LineRead s before dues = Answers s (λ ws. Kept s before (judgedWords dues ws))
+LineRead s before dues = Answers s (λ ws. Kept s before (judged_words dues ws))
 
 pub record RunFrom (s : List ℕ) (i : ℕ) (kinds dues : List ℕ) (late : Late) (r : After) : Type 0 where
-  pub answers : (run : List Due) → Sure run → kinds ≡ kindsIn run → dues ≡ numbersIn run
-      → (n : ℕ) → LineRead s late (duesIn run) (line (items_in run) (from s i n)) r
+  pub answers : (run : List Due) → Sure run → kinds ≡ kinds_in run → dues ≡ numbers_in run
+      → (n : ℕ) → LineRead s late (dues_in run) (line (items_in run) (from s i n)) r
   pub sized : Sized r.state

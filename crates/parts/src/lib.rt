@@ -1,8 +1,8 @@
 // Parts of a card, read mark by mark from its bytes. A reader takes the place where it begins and the lent state of reading; it hands
 // back the place behind what it read, or 0 where it stopped.
 ghost use Rattle.std.specs.Prelude.{◌≡◌, ◌≤◌, ◌<◌, length};
-ghost use Rattle.late.specs.State.{Sized, lateIn, withLate, after};
-ghost use Rattle.parts.specs.Parts.{wordBy, NumberFrom, SignFrom, RunFrom};
+ghost use Rattle.late.specs.State.{Sized, late_in, with_late, after};
+ghost use Rattle.parts.specs.Parts.{word_by, NumberFrom, SignFrom, RunFrom};
 
 use card::refusals::{NOT_DUE, OUT_OF_SHAPE};
 use due_signs::step_sign;
@@ -14,7 +14,7 @@ use marks_on_a_card::kinds::NUMBER;
 // A word whose number is not the one due is a late refusal.
 fn judge_word(due: usize, number: usize, place: usize, state: &mut [usize; STATE])
     requires { Sized state.old }
-    ensures { state.new ≡ withLate state.old (wordBy due number place (lateIn state.old)) }
+    ensures { state.new ≡ with_late state.old (word_by due number place (late_in state.old)) }
 {
     if number == due {
         return;
@@ -25,7 +25,7 @@ fn judge_word(due: usize, number: usize, place: usize, state: &mut [usize; STATE
 // A state: l, j, d or t, which becomes the value.
 pub fn number(card: &[u8], at: usize, top: usize, state: &mut [usize; STATE]) -> usize
     requires { Sized state.old }
-    ensures { NumberFrom card.now at top (lateIn state.old) (after state.new result) }
+    ensures { NumberFrom card.now at top (late_in state.old) (after state.new result) }
 {
     let step = step_number(card, at);
     let mark = step.mark;
@@ -62,7 +62,7 @@ pub fn run(
 ) -> usize
     requires sized { Sized state.old }
     requires kinds_nonzero { (0 < length kinds.now) × (length kinds.now ≤ length dues.now) }
-    ensures { RunFrom card.now at kinds.now dues.now (lateIn state.old) (after state.new result) }
+    ensures { RunFrom card.now at kinds.now dues.now (late_in state.old) (after state.new result) }
 {
     let mut next = at;
     let mut i = 0;

@@ -8,13 +8,13 @@ use lib.ListN.{length}
 use Rattle.room.specs.Room.{cap}
 pub use Rattle.phrases.specs.Phrases.{Text, counted}
 use Rattle.phrases.specs.Puts.{Puts}
-use Rattle.phrases.proofs.Laws.{puts_then, puts-as, puts_none}
+use Rattle.phrases.proofs.Laws.{puts_then, puts_as, puts_none}
 
 module _ (f : ℕ → Text) where
-  counted-more : (i c : ℕ) (r : List ℕ) → counted f i (suc c) r ≡ counted f i c (f (i + c) r)
+  counted_more : (i c : ℕ) (r : List ℕ) → counted f i (suc c) r ≡ counted f i c (f (i + c) r)
   unfolding counted
-  counted-more i zero r = rw add-zero
-  counted-more i (suc c) r = ap (f i) (counted-more (suc i) c r) ∙ ap (λ (k : ℕ). f i (counted f (suc i) c (f k r))) (omega arith)
+  counted_more i zero r = rw add-zero
+  counted_more i (suc c) r = ap (f i) (counted_more (suc i) c r) ∙ ap (λ (k : ℕ). f i (counted f (suc i) c (f k r))) (omega arith)
 
   -- a loop starts at `place`, adds a piece in each turn, and ends at its bound
   pub counted_start : (i : ℕ) {a : List ℕ} {at r : ℕ} → length a < cap → r ≡ min at cap → Puts a a at (counted f i (i - i)) r
@@ -29,12 +29,12 @@ module _ (f : ℕ → Text) where
       let e : i + 1 - first ≡ suc (i - first) = omega arith in
       let k : first + (i - first) ≡ i = omega arith in
       rw e
-      (puts-as (counted f first (suc (i - first)))
-      (λ t. sym (counted-more first (i - first) t ∙ ap (λ (j : ℕ). counted f first (i - first) (f j t)) k))
+      (puts_as (counted f first (suc (i - first)))
+      (λ t. sym (counted_more first (i - first) t ∙ ap (λ (j : ℕ). counted f first (i - first) (f j t)) k))
       (puts_then p q))
 
-  pub counted-end : (first i bound : ℕ) {g : Text} {a b : List ℕ} {at m : ℕ} → bound ≤ i → i - first ≤ bound - first
+  pub counted_end : (first i bound : ℕ) {g : Text} {a b : List ℕ} {at m : ℕ} → bound ≤ i → i - first ≤ bound - first
       → ((t : List ℕ) → counted f first (bound - first) t ≡ g t) → Puts a b at (counted f first (i - first)) m → Puts a b at g m
-  counted-end first i bound {g} h l e p =
+  counted_end first i bound {g} h l e p =
       let k : i - first ≡ bound - first = omega arith in
-      puts-as g e (rw k at p)
+      puts_as g e (rw k at p)

@@ -10,7 +10,7 @@ use Rattle.card.specs.Text.{bytes, if◌then◌else◌ as choice}
 use Rattle.card.specs.Laid.{either}
 use Rattle.phrases.specs.Phrases.{◌▸◌}
 use Rattle.room.specs.Room.{cap, Put}
-use Rattle.room.proofs.Laws.{put-none, then}
+use Rattle.room.proofs.Laws.{put_none, then}
 use Rattle.phrases.specs.Puts.{Puts}
 
 module _ {a b : List ℕ} {at m : ℕ} where
@@ -27,15 +27,15 @@ module _ {a b : List ℕ} {at m : ℕ} where
       }
 
   -- the same text, said in another way
-  pub puts-as : {f : List ℕ → List ℕ} (g : List ℕ → List ℕ) → ((t : List ℕ) → f t ≡ g t) → Puts a b at f m → Puts a b at g m
-  puts-as g e p = record { put = rw (← e []) p.put; before = λ t. sym (e t) ∙ p.before t ∙ ap (λ (l : List ℕ). l ++ t) (e []) }
+  pub puts_as : {f : List ℕ → List ℕ} (g : List ℕ → List ℕ) → ((t : List ℕ) → f t ≡ g t) → Puts a b at f m → Puts a b at g m
+  puts_as g e p = record { put = rw (← e []) p.put; before = λ t. sym (e t) ∙ p.before t ∙ ap (λ (l : List ℕ). l ++ t) (e []) }
 
 pub puts_none : {a : List ℕ} {at r : ℕ} → length a < cap → r ≡ min at cap → Puts a a at (λ t. t) r
-puts_none h e = record { put = put-none h e; before = λ t. refl }
+puts_none h e = record { put = put_none h e; before = λ t. refl }
 
 -- the text of a choice, by its number
-pub either-text : {A : Type 0} (a b : A) (f : A → String) (v : ℕ) (r : List ℕ) → either (bytes (f a)) (bytes (f b)) v ++ r ≡ f (either a b v) ▸ r
-either-text a b f v r = go (eqb v 0)
+pub either_text : {A : Type 0} (a b : A) (f : A → String) (v : ℕ) (r : List ℕ) → either (bytes (f a)) (bytes (f b)) v ++ r ≡ f (either a b v) ▸ r
+either_text a b f v r = go (eqb v 0)
   where
     go : (t : Bool) → choice t (bytes (f a)) (bytes (f b)) ++ r ≡ bytes (f (choice t a b)) ++ r
     go true = refl

@@ -3,7 +3,7 @@
 use Rattle.std.specs.Prelude.{ℕ, zero, suc, ◌+◌, ◌*◌, ◌/◌, ◌%◌, ◌<◌, ◌≡◌, List, ◌++◌, eqb, leb}
 use Rattle.std.specs.Int.{◌∣◌}
 use Prim.Native.String.{String}
-use Rattle.card.specs.Limits.{numberDigits, unit}
+use Rattle.card.specs.Limits.{number_digits, unit}
 use Rattle.card.specs.Text.{bytes, if◌then◌else◌}
 use Rattle.card.specs.Card.{Mode, nondeterministic, probabilistic}
 use Rattle.card.specs.Weight.{Weight, whole, decimal as point, ratio}
@@ -20,12 +20,12 @@ t ▸ r = bytes t ++ r
 abbrev pub num : ℕ → List ℕ → List ℕ
 num v r = decimal v ++ r
 
-abbrev pub modeWord : Mode → String
-modeWord nondeterministic = "nondeterministic"
-modeWord probabilistic = "probabilistic"
+abbrev pub mode_word : Mode → String
+mode_word nondeterministic = "nondeterministic"
+mode_word probabilistic = "probabilistic"
 
-abbrev pub modeText : Mode → List ℕ → List ℕ
-modeText m r = modeWord m ▸ r
+abbrev pub mode_text : Mode → List ℕ → List ℕ
+mode_text m r = mode_word m ▸ r
 
 -- the text of i, of i + 1 and so on, of so many
 unfoldable pub counted : (ℕ → Text) → ℕ → ℕ → Text
@@ -35,8 +35,8 @@ counted f i (suc c) r = f i (counted f (suc i) c r)
 -- ---- weights, `0`, `1` or a fraction in lowest terms
 
 -- a fraction has two numbers and a sign between them at most
-abbrev pub weightMost : ℕ
-weightMost = 1 + 2 * numberDigits
+abbrev pub weight_most : ℕ
+weight_most = 1 + 2 * number_digits
 
 -- a/b is u units, and no number but 1 divides both
 pub record LowestTerms (u a b : ℕ) : Type 0 where
@@ -64,5 +64,5 @@ spell (whole v) r = num v r
 spell (point v n f) r = r
 spell (ratio a b) r = num a ("/" ▸ num b r)
 
-unfoldable pub weightText : ℕ → List ℕ → List ℕ
-weightText u r = spell (lowest u) r
+unfoldable pub weight_text : ℕ → List ℕ → List ℕ
+weight_text u r = spell (lowest u) r

@@ -3,7 +3,7 @@ ghost use Rattle.std.specs.Prelude.{◌≡◌, ◌++◌, ℕ, ◌<◌, ◌≤◌
 ghost use Rattle.card.specs.Limits.{unit};
 ghost use Rattle.card.specs.Card.{nondeterministic, probabilistic};
 ghost use Rattle.card.specs.Laid.{either};
-ghost use Rattle.phrases.specs.Phrases.{divisor as divisor_of, num, modeText};
+ghost use Rattle.phrases.specs.Phrases.{divisor as divisor_of, num, mode_text};
 ghost use Rattle.phrases.specs.Puts.{Puts};
 
 use card::limits::NUMBER_DIGITS;
@@ -23,7 +23,7 @@ pub fn put_either<'a>(room: &mut [u8], at: usize, choice: usize, s: &'a [u8], t:
 
 // The mode by its number in a card's struct: 0 is nondeterministic.
 pub fn put_mode(room: &mut [u8], at: usize, mode: usize) -> usize
-    ensures { Puts room.old room.new at (modeText (either nondeterministic probabilistic mode)) result }
+    ensures { Puts room.old room.new at (mode_text (either nondeterministic probabilistic mode)) result }
 {
     put_either(room, at, mode, b"nondeterministic", b"probabilistic")
 }

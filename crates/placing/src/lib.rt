@@ -1,13 +1,13 @@
 // A place for a new live card in a deck: its number, the count of live cards and the room are judged, then the deck is tidied and the card put in at its place by number (document 02, 2026-12).
 ghost use Rattle.std.specs.Prelude.{◌≡◌, ◌++◌, ◌≤◌, ◌<◌, length, drop};
-ghost use Rattle.card.specs.Limits.{mostCards, wordNumbers};
+ghost use Rattle.card.specs.Limits.{most_cards, word_numbers};
 ghost use Rattle.deck.specs.Contents.{behind};
-ghost use Rattle.deck.specs.Deck.{heldBy};
-ghost use Rattle.tidying.specs.Tidying.{addedText, placeSaid};
+ghost use Rattle.deck.specs.Deck.{held_by};
+ghost use Rattle.tidying.specs.Tidying.{added_text, place_said};
 ghost use Rattle.placing.specs.Lower.{Spots};
 ghost use Rattle.placing.specs.Inserts.{Insertable};
 ghost use Rattle.deck.specs.Sound.{Head};
-ghost use Rattle.tidying.specs.Tidied.{liveCards};
+ghost use Rattle.tidying.specs.Tidied.{live_cards};
 ghost use Rattle.tidy.specs.Tidies.{Tidied, Measured};
 ghost use Rattle.placing.specs.Free.{LivePlace};
 
@@ -31,7 +31,7 @@ pub struct Spot {
 // Behind all entries with a lower number.
 fn spot_for(deck: &[u8], count: usize, number: usize) -> Spot
     requires count_in_bounds { behind count ≤ length deck.now }
-    requires count_le_most_cards { count ≤ mostCards }
+    requires count_le_most_cards { count ≤ most_cards }
     ensures { Spots deck.now count number result }
 {
     let mut left = count;
@@ -57,7 +57,7 @@ fn spot_for(deck: &[u8], count: usize, number: usize) -> Spot
 // A live card put into a tidy deck at its place by number. Room is made for its entry and its body: what comes behind the new body moves up by the body and the entry, what comes between them by the entry. The offsets come last.
 fn insert_card(deck: &mut [u8], cards: usize, bytes: usize, number: usize, card: &[u8])
     requires { Insertable deck.old cards bytes number card.now }
-    ensures { deck.new ≡ addedText number card.now (heldBy deck.old) ++ drop (length (addedText number card.now (heldBy deck.old))) deck.old }
+    ensures { deck.new ≡ added_text number card.now (held_by deck.old) ++ drop (length (added_text number card.now (held_by deck.old))) deck.old }
 {
     let spot = spot_for(deck, cards, number);
     let row = spot.row;
@@ -92,8 +92,8 @@ fn live_place(deck: &[u8], number: usize) -> usize
 // A sound deck of which `cards` entries are live, with so many bytes; the card is accepted.
 pub fn place_card(deck: &mut [u8], cards: usize, bytes: usize, number: usize, card: &[u8]) -> Answer
     requires measured { Measured deck.old cards bytes }
-    requires number_lt_word_numbers { number < wordNumbers }
-    ensures { Tidied deck.old deck.new (placeSaid deck.old number card.now (liveCards deck.old)) result }
+    requires number_lt_word_numbers { number < word_numbers }
+    ensures { Tidied deck.old deck.new (place_said deck.old number card.now (live_cards deck.old)) result }
 {
     let taken = live_place(deck, number);
     if taken != 0 {

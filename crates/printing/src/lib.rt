@@ -1,7 +1,7 @@
 // Two entries that print a text of a card's bytes: the written card, and the reduced program.
 ghost use Rattle.room.specs.Answer.{Entered};
-ghost use Rattle.texts_said.specs.WriteSaid.{writeSaid};
-ghost use Rattle.texts_said.specs.ReduceSaid.{reduceSaid};
+ghost use Rattle.texts_said.specs.WriteSaid.{write_said};
+ghost use Rattle.texts_said.specs.ReduceSaid.{reduce_said};
 
 use card::Verdict;
 use card::limits::{BRANCH_PLACES, NODE_PLACES, ROW_PLACES};
@@ -12,7 +12,7 @@ use room::Answer;
 
 // The written card: the card is judged first; then its text is stored where it fits.
 pub fn write(card: &[u8], room: &mut [u8]) -> Answer
-    ensures { Entered room.old room.new (writeSaid card.now) result }
+    ensures { Entered room.old room.new (write_said card.now) result }
 {
     let mut rows: [usize; ROW_PLACES] = [0; ROW_PLACES];
     let mut nodes: [u32; NODE_PLACES] = [0; NODE_PLACES];
@@ -27,7 +27,7 @@ pub fn write(card: &[u8], room: &mut [u8]) -> Answer
 
 // The reduced program, in the same way.
 pub fn reduce(card: &[u8], room: &mut [u8]) -> Answer
-    ensures { Entered room.old room.new (reduceSaid card.now) result }
+    ensures { Entered room.old room.new (reduce_said card.now) result }
 {
     let mut rows: [usize; ROW_PLACES] = [0; ROW_PLACES];
     let mut nodes: [u32; NODE_PLACES] = [0; NODE_PLACES];

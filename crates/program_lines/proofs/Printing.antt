@@ -12,11 +12,11 @@ use Rattle.room.specs.Digits.{decimal}
 use Rattle.room.specs.Room.{Put}
 use Rattle.entry.specs.Said.{says as text, refused}
 use Rattle.room.specs.Answer.{Text, Entered}
-use Rattle.room.proofs.Laws.{clip-start}
-use Rattle.room.proofs.Decimal.{decimal-length}
-use Rattle.room.proofs.Entries.{entered-refusal, entered-fits, entered-kept, entered-text}
+use Rattle.room.proofs.Laws.{clip_start}
+use Rattle.room.proofs.Decimal.{decimal_length}
+use Rattle.room.proofs.Entries.{entered_refusal, entered_fits, entered_kept, entered_text}
 use Rattle.phrases.specs.Phrases.{◌▸◌, num}
-use Rattle.panel_wording.specs.Lines.{printed, refusalMost, Printed}
+use Rattle.panel_wording.specs.Lines.{printed, refusal_most, Printed}
 
 done≢refused : {A : Type 0} {long number place : ℕ} → Done long ≡ Refused number place → A
 done≢refused e = let z : ◌≡◌ {A = ℕ} 0 1 = cc in absurd (omega arith)
@@ -26,18 +26,18 @@ abbrev pub Short : ℕ → Text → Type 0
 Short most (text t) = length t ≤ most
 Short most (refused number place) = Unit {0}
 
-pub printed-done : {was is : List ℕ} {said : Text} {a : Answer} {long : ℕ} → Entered was is said a → a ≡ Done long → Printed was is (printed said) long
-printed-done {was} {is} {said} {long = long} e d = of (entered-text (rw d at e))
+pub printed_done : {was is : List ℕ} {said : Text} {a : Answer} {long : ℕ} → Entered was is said a → a ≡ Done long → Printed was is (printed said) long
+printed_done {was} {is} {said} {long = long} e d = of (entered_text (rw d at e))
   where
     of : (t : List ℕ) × (said ≡ text t) × (long ≡ length t) × (long ≤ length was) × (is ≡ t ++ drop long was) → Printed was is (printed said) long
     of (t, says, k, fits, stands) =
-        rw says (record { fits = omega arith; length-is = k; stands = stands ∙ ap (λ (n : ℕ). t ++ drop n was) k })
+        rw says (record { fits = omega arith; length_is = k; stands = stands ∙ ap (λ (n : ℕ). t ++ drop n was) k })
 
 -- a text that is short enough is not refused
-is-refused : {most number place : ℕ} {was is : List ℕ} (said : Text) → Short most said → most ≤ length was → Entered was is said (Refused number place) → said ≡ refused number place
-is-refused (text t) h l e = done≢refused (sym (entered-fits e (omega arith)).0)
-is-refused {number = number} {place = place} (refused k p) h l e =
-    let z : Refused number place ≡ Refused k p = (entered-refusal e).0 in
+is_refused : {most number place : ℕ} {was is : List ℕ} (said : Text) → Short most said → most ≤ length was → Entered was is said (Refused number place) → said ≡ refused number place
+is_refused (text t) h l e = done≢refused (sym (entered_fits e (omega arith)).0)
+is_refused {number = number} {place = place} (refused k p) h l e =
+    let z : Refused number place ≡ Refused k p = (entered_refusal e).0 in
     let a : number ≡ k = cc in
     let b : place ≡ p = cc in
     rw (a, b)
@@ -45,33 +45,33 @@ is-refused {number = number} {place = place} (refused k p) h l e =
 abbrev pub refusal : ℕ → ℕ → List ℕ
 refusal number place = printed (refused number place)
 
-refusal-length : (number place : ℕ) → number < 256 → place < 2 ^ 64 → length (refusal number place) ≤ refusalMost
-refusal-length number place h l =
+refusal_length : (number place : ℕ) → number < 256 → place < 2 ^ 64 → length (refusal number place) ≤ refusal_most
+refusal_length number place h l =
     omega (
       arith,
       length-append (decimal number) (" " ▸ num place ("\n" ▸ [])),
       length-append (decimal place) ("\n" ▸ []),
-      decimal-length 2 number (omega arith),
-      decimal-length 19 place (omega arith),
+      decimal_length 2 number (omega arith),
+      decimal_length 19 place (omega arith),
     )
 
 -- the place behind a refusal's line
-pub refusal-short : {number place r : ℕ} {was is : List ℕ} → number < 256 → place < 2 ^ 64 → Put was is 0 (refusal number place) r → r ≤ refusalMost
-refusal-short {number} {place} h l p = omega (arith, p.next, refusal-length number place h l)
+pub refusal_short : {number place r : ℕ} {was is : List ℕ} → number < 256 → place < 2 ^ 64 → Put was is 0 (refusal number place) r → r ≤ refusal_most
+refusal_short {number} {place} h l p = omega (arith, p.next, refusal_length number place h l)
 
-pub printed-refused : {most number place r : ℕ} {was mid is : List ℕ} {said : Text} {a : Answer} → Short most said → most ≤ length was → refusalMost ≤ most
-    → Entered was mid said a → a ≡ Refused number place → Put mid is 0 (refusal number place) r → r ≤ refusalMost → Printed was is (printed said) r
-printed-refused {most} {number} {place} {r} {was} {mid} {is} {said} h l m entered turned p short =
+pub printed_refused : {most number place r : ℕ} {was mid is : List ℕ} {said : Text} {a : Answer} → Short most said → most ≤ length was → refusal_most ≤ most
+    → Entered was mid said a → a ≡ Refused number place → Put mid is 0 (refusal number place) r → r ≤ refusal_most → Printed was is (printed said) r
+printed_refused {most} {number} {place} {r} {was} {mid} {is} {said} h l m entered turned p short =
     let e : Entered was mid said (Refused number place) = rw turned at entered in
-    let k : said ≡ refused number place = is-refused said h l e in
-    let q : Put was is 0 (refusal number place) r = rw (entered-kept e) at p in
-    let long : length (refusal number place) ≤ refusalMost = omega (arith, q.next) in
-    rw k (record { fits = omega arith; length-is = omega (arith, q.next, q.small); stands = q.wrote ∙ clip-start was (refusal number place) (omega arith) })
+    let k : said ≡ refused number place = is_refused said h l e in
+    let q : Put was is 0 (refusal number place) r = rw (entered_kept e) at p in
+    let long : length (refusal number place) ≤ refusal_most = omega (arith, q.next) in
+    rw k (record { fits = omega arith; length_is = omega (arith, q.next, q.small); stands = q.wrote ∙ clip_start was (refusal number place) (omega arith) })
 
 -- what is printed lies within the room
 module _ {was is t : List ℕ} {long : ℕ} (p : Printed was is t long) where
-  pub printed-within : long ≤ length is
-  printed-within = omega (arith, p.length-is, ap length p.stands, length-append t (drop (length t) was))
+  pub printed_within : long ≤ length is
+  printed_within = omega (arith, p.length_is, ap length p.stands, length-append t (drop (length t) was))
 
-  pub printed-count : long ≡ length (take long is)
-  printed-count = sym (length-take-le long is printed-within)
+  pub printed_count : long ≡ length (take long is)
+  printed_count = sym (length-take-le long is printed_within)

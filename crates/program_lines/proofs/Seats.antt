@@ -10,39 +10,39 @@ use lib.Dec.{leb}
 use lib.ListN.{length, get_or, set, take, drop}
 use Rattle.card.specs.Text.{if◌then◌else◌}
 use Rattle.room.specs.Digits.{digit}
-use Rattle.panel_wording.specs.Lines.{noState, seatOf}
+use Rattle.panel_wording.specs.Lines.{no_state, seat_of}
 
 -- ---- a seat
 
-abbrev seatIf : ℕ → Bool → Bool → ℕ
-seatIf b above below = if above && below then b - digit 0 else noState
+abbrev seat_if : ℕ → Bool → Bool → ℕ
+seat_if b above below = if above && below then b - digit 0 else no_state
 
-not-below : (b : ℕ) (t : Bool) → seatIf b t false ≡ noState
-not-below b true = refl
-not-below b false = refl
+not_below : (b : ℕ) (t : Bool) → seat_if b t false ≡ no_state
+not_below b true = refl
+not_below b false = refl
 
-pub seat-before : (b : ℕ) → b < digit 0 → noState ≡ seatOf b
-seat-before b h = sym (ap (λ (t : Bool). seatIf b t (leb b (digit 9))) (lt-leb (digit 0) b h))
+pub seat_before : (b : ℕ) → b < digit 0 → no_state ≡ seat_of b
+seat_before b h = sym (ap (λ (t : Bool). seat_if b t (leb b (digit 9))) (lt-leb (digit 0) b h))
 
-pub seat-behind : (b : ℕ) → digit 9 < b → noState ≡ seatOf b
-seat-behind b h = sym (ap (seatIf b (leb (digit 0) b)) (lt-leb b (digit 9) h) ∙ not-below b (leb (digit 0) b))
+pub seat_behind : (b : ℕ) → digit 9 < b → no_state ≡ seat_of b
+seat_behind b h = sym (ap (seat_if b (leb (digit 0) b)) (lt-leb b (digit 9) h) ∙ not_below b (leb (digit 0) b))
 
-pub seat-digit : (b : ℕ) → digit 0 ≤ b → b ≤ digit 9 → b - digit 0 ≡ seatOf b
-seat-digit b h l =
-    sym (ap (λ (t : Bool). seatIf b t (leb b (digit 9))) (le-leb (digit 0) b h) ∙ ap (seatIf b true) (le-leb b (digit 9) l))
+pub seat_digit : (b : ℕ) → digit 0 ≤ b → b ≤ digit 9 → b - digit 0 ≡ seat_of b
+seat_digit b h l =
+    sym (ap (λ (t : Bool). seat_if b t (leb b (digit 9))) (le-leb (digit 0) b h) ∙ ap (seat_if b true) (le-leb b (digit 9) l))
 
 -- ---- the seats
 
 -- the first i places have the seats of a line
 abbrev pub sown : List ℕ → List ℕ → ℕ → List ℕ
-sown line was i = map seatOf (take i line) ++ drop i was
+sown line was i = map seat_of (take i line) ++ drop i was
 
-sown-suc : (line was : List ℕ) (i : ℕ) → i < length line → i < length was → set (sown line was i) i (seatOf (get_or line i 0)) ≡ sown line was (suc i)
-sown-suc [] was i h l = absurd (omega arith)
-sown-suc (b ∷ line) [] i h l = absurd (omega arith)
-sown-suc (b ∷ line) (w ∷ was) zero h l = refl
-sown-suc (b ∷ line) (w ∷ was) (suc i) h l = ap (λ (r : List ℕ). seatOf b ∷ r) (sown-suc line was i (omega arith) (omega arith))
+sown_suc : (line was : List ℕ) (i : ℕ) → i < length line → i < length was → set (sown line was i) i (seat_of (get_or line i 0)) ≡ sown line was (suc i)
+sown_suc [] was i h l = absurd (omega arith)
+sown_suc (b ∷ line) [] i h l = absurd (omega arith)
+sown_suc (b ∷ line) (w ∷ was) zero h l = refl
+sown_suc (b ∷ line) (w ∷ was) (suc i) h l = ap (λ (r : List ℕ). seat_of b ∷ r) (sown_suc line was i (omega arith) (omega arith))
 
-pub sown-next : (line was : List ℕ) {is : List ℕ} (i : ℕ) {b : ℕ} → i < length line → i < length was → b ≡ seatOf (get_or line i 0) → is ≡ sown line was i
+pub sown_next : (line was : List ℕ) {is : List ℕ} (i : ℕ) {b : ℕ} → i < length line → i < length was → b ≡ seat_of (get_or line i 0) → is ≡ sown line was i
     → set is i b ≡ sown line was (i + 1)
-sown-next line was i h l e k = rw (e, k, add-one) (sown-suc line was i h l)
+sown_next line was i h l e k = rw (e, k, add-one) (sown_suc line was i h l)

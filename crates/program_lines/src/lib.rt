@@ -2,7 +2,7 @@
 ghost use Rattle.std.specs.Prelude.{◌≡◌, map, ◌++◌, ◌≤◌, min, length, take, drop};
 ghost use Rattle.room.specs.Room.{Put};
 ghost use Rattle.entry.specs.Said.{refused};
-ghost use Rattle.panel_wording.specs.Lines.{seatOf, printed, refusalMost};
+ghost use Rattle.panel_wording.specs.Lines.{seat_of as seat_of_said, printed, refusal_most};
 
 use bytes_as_numbers::wide;
 use put_numbers::put_number;
@@ -11,7 +11,7 @@ use room::{put_byte, put_bytes};
 const NO_STATE: u8 = 255;
 
 fn seat_of(b: u8) -> u8
-    ensures { result ≡ seatOf b }
+    ensures { result ≡ seat_of_said b }
 {
     if b < b'0' {
         return NO_STATE;
@@ -25,7 +25,7 @@ fn seat_of(b: u8) -> u8
 // The first seats of a line, as many as there are places for.
 pub fn put_seats(line: &[u8], seats: &mut [u8]) -> usize
     ensures value { result ≡ min (length line.now) (length seats.old) }
-    ensures seats_after { seats.new ≡ map seatOf (take result line.now) ++ drop result seats.old }
+    ensures seats_after { seats.new ≡ map seat_of_said (take result line.now) ++ drop result seats.old }
 {
     let mut i = 0;
     while i < line.len() {
@@ -40,7 +40,7 @@ pub fn put_seats(line: &[u8], seats: &mut [u8]) -> usize
 
 pub fn put_refusal(room: &mut [u8], number: u8, place: usize) -> usize
     ensures line { Put room.old room.new 0 (printed (refused number place)) result }
-    ensures short { result ≤ refusalMost }
+    ensures short { result ≤ refusal_most }
 {
     let a = put_bytes(room, 0, b"refused ");
     let b = put_number(room, a, wide(number));

@@ -6,116 +6,116 @@ use mathlib.Core.List.{List}
 use native.Mathlib.Decide.{dec_le}
 use native.Mathlib.Omega.{arith}
 use lib.ListN.{length, drop}
-use Rattle.card.specs.Refusals.{malformedDeck, roomTooSmall}
+use Rattle.card.specs.Refusals.{malformed_deck, room_too_small}
 use Rattle.entry.specs.Contract.{InRoom}
 use Rattle.entry.proofs.Exactly.{◌↔∙◌}
-use Rattle.entry.proofs.Entries.{before-room, in-room, enters-unique}
+use Rattle.entry.proofs.Entries.{before_room, in_room_law, enters_unique}
 use Rattle.deck.specs.Contents.{behind}
-use Rattle.deck.proofs.Written.{drop-text}
-use Rattle.deck_written.specs.WriteDeckSaid.{lines, entriesSaid, writeDeckSaid, linesFor}
+use Rattle.deck.proofs.Written.{drop_text}
+use Rattle.deck_written.specs.WriteDeckSaid.{lines, entries_said, write_deck_said, lines_for}
 use Rattle.deck_written.specs.Fine.{Fine, RefusedAt}
-use Rattle.deck_written.proofs.Exactly.{Outcome, written, stopped-at, outcome, refused-exactly, stage}
-use Rattle.deck_written.proofs.Entries.{count-said, bodies-said, deck-contents, deck-long, deck-sound, deck-back}
+use Rattle.deck_written.proofs.Exactly.{Outcome, written, stopped_at, outcome, refused_exactly, stage}
+use Rattle.deck_written.proofs.Entries.{count_said, bodies_said, deck_contents, deck_long, deck_sound, deck_back}
 use Rattle.deck_written.proofs.NoGaps.{no_gaps}
-use Rattle.deck_written.proofs.Offsets.{offsets-unread}
+use Rattle.deck_written.proofs.Offsets.{offsets_unread}
 use Rattle.room.specs.declared.Answer.{Answer}
 use Rattle.room.specs.declared.Answer.TheVariants.{Refused}
-use Rattle.room.specs.Answer.{told, answerNumber, answered, Entered}
-use Rattle.room.proofs.Entries.{told-faithful}
+use Rattle.room.specs.Answer.{told, answer_number, answered, Entered}
+use Rattle.room.proofs.Entries.{told_faithful}
 use Rattle.answers.specs.Numbered.{numbers}
-use Rattle.promises.specs.DeckWriting.{deckFor, WritesDeck, WriteDeckTells, DeckWritten, DeckWriting, DeckWritingEdges}
-use Rattle.entry_promises.proofs.Entries.{in-numbers, done≢refused}
-use Rattle.entry_promises.proofs.ForC.{tells-done, tells-refused, is-refused, number_of, entered}
+use Rattle.promises.specs.DeckWriting.{deck_for, WritesDeck, WriteDeckTells, DeckWritten, DeckWriting, DeckWritingEdges}
+use Rattle.entry_promises.proofs.Entries.{in_numbers, done≢refused}
+use Rattle.entry_promises.proofs.ForC.{tells_done, tells_refused, is_refused, number_of, entered}
 
-module _ (contents bodies : List ℕ) {was is : List ℕ} {a : Answer} (e : Entered was is (writeDeckSaid contents bodies) a) where
-  room : InRoom told (Fine contents bodies) (λ _. deckFor contents bodies) was is a
-  room = in-room told-faithful e (stage contents bodies) refl
+module _ (contents bodies : List ℕ) {was is : List ℕ} {a : Answer} (e : Entered was is (write_deck_said contents bodies) a) where
+  room : InRoom told (Fine contents bodies) (λ _. deck_for contents bodies) was is a
+  room = in_room_law told_faithful e (stage contents bodies) refl
 
-  malformed : (p : ℕ) → (a ≡ Refused malformedDeck p) ↔ RefusedAt contents bodies p
-  malformed p = before-room told-faithful e malformedDeck p refl ↔∙ refused-exactly contents bodies p
+  malformed : (p : ℕ) → (a ≡ Refused malformed_deck p) ↔ RefusedAt contents bodies p
+  malformed p = before_room told_faithful e malformed_deck p refl ↔∙ refused_exactly contents bodies p
 
-  other : (r p : ℕ) → a ≡ Refused r p → (r ≡ malformedDeck) ⊎ (r ≡ roomTooSmall)
+  other : (r p : ℕ) → a ≡ Refused r p → (r ≡ malformed_deck) ⊎ (r ≡ room_too_small)
   other r p h = go (outcome contents bodies)
     where
-      fits : Fine contents bodies → Dec (length (deckFor contents bodies) ≤ length was) → (r ≡ malformedDeck) ⊎ (r ≡ roomTooSmall)
+      fits : Fine contents bodies → Dec (length (deck_for contents bodies) ≤ length was) → (r ≡ malformed_deck) ⊎ (r ≡ room_too_small)
       fits w (yes l) = done≢refused (sym ((room.done _).1 (w, l, refl)) ∙ h)
-      fits w (no l) = inr (ap answerNumber (sym h ∙ (room.small-room _).1 (w, omega arith, refl)))
+      fits w (no l) = inr (ap answer_number (sym h ∙ (room.small_room _).1 (w, omega arith, refl)))
 
-      go : Outcome contents bodies → (r ≡ malformedDeck) ⊎ (r ≡ roomTooSmall)
-      go (written w k) = fits w (dec_le (length (deckFor contents bodies)) (length was))
-      go (stopped-at q w k) = inl (ap answerNumber (sym h ∙ (malformed q).1 w))
+      go : Outcome contents bodies → (r ≡ malformed_deck) ⊎ (r ≡ room_too_small)
+      go (written w k) = fits w (dec_le (length (deck_for contents bodies)) (length was))
+      go (stopped_at q w k) = inl (ap answer_number (sym h ∙ (malformed q).1 w))
 
   writes : WritesDeck contents bodies was is a
   writes = record {
     malformed = malformed;
-    small-room = room.small-room;
+    small_room = room.small_room;
     done = room.done;
     stands = room.stands;
     no_other = other;
     untouched = room.untouched;
-    in-numbers = in-numbers a;
+    in_numbers = in_numbers a;
   }
 
 tells : {contents bodies was is : List ℕ} (a : Answer) → WritesDeck contents bodies was is a → WriteDeckTells contents bodies was is (numbers a)
 tells a h =
     let some : (r p : ℕ) → a ≡ Refused r p → 1 ≤ r = λ r p e. positive r (h.no_other r p e) in
     record {
-      done = λ long. tells-done a some long ↔∙ h.done long;
+      done = λ long. tells_done a some long ↔∙ h.done long;
       stands = h.stands;
-      malformed = λ p. tells-refused a some malformedDeck p (omega arith) ↔∙ h.malformed p;
-      small-room = λ p. tells-refused a some roomTooSmall p (omega arith) ↔∙ h.small-room p;
-      no_other = number_of a some {P = λ r. (r ≡ 0) ⊎ (r ≡ malformedDeck) ⊎ (r ≡ roomTooSmall)} (inl refl) (λ r p e. inr (h.no_other r p e));
-      untouched = λ z. let (r, p, e) = is-refused a some z in h.untouched r p e;
+      malformed = λ p. tells_refused a some malformed_deck p (omega arith) ↔∙ h.malformed p;
+      small_room = λ p. tells_refused a some room_too_small p (omega arith) ↔∙ h.small_room p;
+      no_other = number_of a some {P = λ r. (r ≡ 0) ⊎ (r ≡ malformed_deck) ⊎ (r ≡ room_too_small)} (inl refl) (λ r p e. inr (h.no_other r p e));
+      untouched = λ z. let (r, p, e) = is_refused a some z in h.untouched r p e;
     }
   where
-    positive : (r : ℕ) → (r ≡ malformedDeck) ⊎ (r ≡ roomTooSmall) → 1 ≤ r
+    positive : (r : ℕ) → (r ≡ malformed_deck) ⊎ (r ≡ room_too_small) → 1 ≤ r
     positive r (inl e) = omega (arith, e)
     positive r (inr e) = omega (arith, e)
 
-the-deck : {contents bodies : List ℕ} (h : Fine contents bodies) → DeckWritten contents bodies
-the-deck {contents} {bodies} h =
+the_deck : {contents bodies : List ℕ} (h : Fine contents bodies) → DeckWritten contents bodies
+the_deck {contents} {bodies} h =
     let first : behind h.count ≡ 1 + length contents = omega (arith, h.counted.long) in
-    let count : behind (length (entriesSaid contents bodies)) ≡ 1 + length contents = omega (arith, count-said h, first) in
+    let count : behind (length (entries_said contents bodies)) ≡ 1 + length contents = omega (arith, count_said h, first) in
     record {
-      long = deck-long h;
-      same_lines = deck-contents h ∙ ap (λ (n : ℕ). linesFor n (lines contents)) first;
-      same-bodies = ap (λ (n : ℕ). drop n (deckFor contents bodies)) (sym count) ∙ drop-text (entriesSaid contents bodies) ∙ bodies-said h;
-      no_gaps = no_gaps (entriesSaid contents bodies) (omega (arith, count-said h, h.counted.some));
-      sound = deck-sound h;
-      back = deck-back h;
+      long = deck_long h;
+      same_lines = deck_contents h ∙ ap (λ (n : ℕ). lines_for n (lines contents)) first;
+      same_bodies = ap (λ (n : ℕ). drop n (deck_for contents bodies)) (sym count) ∙ drop_text (entries_said contents bodies) ∙ bodies_said h;
+      no_gaps = no_gaps (entries_said contents bodies) (omega (arith, count_said h, h.counted.some));
+      sound = deck_sound h;
+      back = deck_back h;
     }
 
-pub deck-writing : DeckWriting
-deck-writing = record {
+pub deck_writing : DeckWriting
+deck_writing = record {
   write = λ contents bodies was is a e. writes contents bodies e;
-  write-for-c = λ contents bodies was is a e.
+  write_for_c = λ contents bodies was is a e.
       subst (WriteDeckTells contents bodies was is) (sym e.answers)
-      (tells (answered (writeDeckSaid contents bodies) was) (writes contents bodies (entered (writeDeckSaid contents bodies) e)));
-  written = λ contents bodies h. the-deck h;
-  offsets-unread = λ contents others bodies s was is₁ is₂ a₁ a₂ h k.
-      enters-unique h (subst (λ said. Entered was is₂ said a₂) (sym (offsets-unread contents others bodies s)) k);
-  room-enough = λ contents bodies was is a e l p h.
-      let w = ((room contents bodies e).small-room p).0 h in
-      omega (arith, w.1, deck-long w.0, w.0.fitting.short);
+      (tells (answered (write_deck_said contents bodies) was) (writes contents bodies (entered (write_deck_said contents bodies) e)));
+  written = λ contents bodies h. the_deck h;
+  offsets_unread = λ contents others bodies s was is₁ is₂ a₁ a₂ h k.
+      enters_unique h (subst (λ said. Entered was is₂ said a₂) (sym (offsets_unread contents others bodies s)) k);
+  room_enough = λ contents bodies was is a e l p h.
+      let w = ((room contents bodies e).small_room p).0 h in
+      omega (arith, w.1, deck_long w.0, w.0.fitting.short);
 }
 
-pub deck-writing-edges : DeckWritingEdges
-unfolding writeDeckSaid
-deck-writing-edges = record {
-  one_entry = (refl, refl);
-  exact-room = (refl, refl);
-  room-one-short = (refl, refl);
-  empty-body = (refl, refl);
-  wrong-offset = (refl, refl);
-  no-entry = (refl, refl);
+pub deck_writing_edges : DeckWritingEdges
+unfolding write_deck_said
+deck_writing_edges = record {
+  one_entry_holds = (refl, refl);
+  exact_room = (refl, refl);
+  room_one_short = (refl, refl);
+  empty_body = (refl, refl);
+  wrong_offset = (refl, refl);
+  no_entry = (refl, refl);
   ragged = (refl, refl);
-  entries-65 = (refl, refl);
+  entries_65 = (refl, refl);
   same_number = (refl, refl);
-  number-falls = (refl, refl);
-  wrong-flag = (refl, refl);
-  wrong-zero = (refl, refl);
-  both-wrong = (refl, refl);
-  bodies-long = (refl, refl);
-  bodies-short = (refl, refl);
-  field-first = (refl, refl);
+  number_falls = (refl, refl);
+  wrong_flag = (refl, refl);
+  wrong_zero = (refl, refl);
+  both_wrong = (refl, refl);
+  bodies_long = (refl, refl);
+  bodies_short = (refl, refl);
+  field_first = (refl, refl);
 }

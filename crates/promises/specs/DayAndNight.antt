@@ -2,7 +2,7 @@
 -- the entries make of it stands where each of them is promised (Demands, Questions, FirstMoves, Nights). Assumes nothing.
 use Rattle.std.specs.Prelude.{ℕ, suc, ◌≤◌, ◌≡◌, true, ◌↔◌, List, [], ◌∷◌, ◌++◌}
 use Rattle.std.proofs.Math.Option.{none, some}
-use Rattle.card.specs.Card.{Leaf, sharedIs, Relation, is, isnt, Branch, Statement, Shared, Card}
+use Rattle.card.specs.Card.{Leaf, shared_is, Relation, is, isnt, Branch, Statement, Shared, Card}
 use Rattle.card.specs.Valid.{Every}
 use Rattle.card.specs.Formulas.{EveryAtom}
 use Rattle.reading.specs.Reading.{taken, read_of}
@@ -10,15 +10,15 @@ use Rattle.meaning.specs.Position.{set_to}
 use Rattle.meaning.specs.Seats.{Seating, ValidSeating, holds}
 use Rattle.meaning.specs.Reduced.{reduce}
 use Rattle.meaning.specs.Panel.{panel}
-use Rattle.seating.specs.Judged.{seatsDue, bytes_of}
-use Rattle.asking.specs.Meant.{shared_at, holdsAtom}
-use Rattle.watch_said.specs.WatchSaid.{watchSaid}
+use Rattle.seating.specs.Judged.{seats_due, bytes_of}
+use Rattle.asking.specs.Meant.{shared_at, holds_atom}
+use Rattle.watch_said.specs.WatchSaid.{watch_said}
 use Rattle.night_edges.specs.NightEdges.{ReadingEdges, TextEdges, PanelEdges, OtherEdges}
 
 -- ---- what nothing on a card without the declaration says
 
 abbrev pub NoTest : Leaf → Type 0
-NoTest a = (q : Relation) (v : ℕ) → a ≡ sharedIs q v → ⊥
+NoTest a = (q : Relation) (v : ℕ) → a ≡ shared_is q v → ⊥
 
 pub record Unshared (s : Statement) : Type 0 where
   pub tests : (g : Rattle.card.specs.Card.Guard) → s.guard ≡ some g → EveryAtom NoTest g
@@ -32,21 +32,21 @@ pub record DayAndNight : Type 0 where
   -- the reduced program declares it as the card does
   pub reduced : (c : Card) → (reduce c).shared ≡ c.shared
   -- a test holds exactly where the number is, or is not, what it names; so on cards and in questions
-  pub tested : (x : Seating) (i v : ℕ) → ((holds x i (sharedIs is v) ≡ true) ↔ (x.shared ≡ v)) × ((holds x i (sharedIs isnt v) ≡ true) ↔ (x.shared ≡ v → ⊥))
-  pub asked : (x : Seating) (v : ℕ) → ((holdsAtom x (shared_at is v) ≡ true) ↔ (x.shared ≡ v)) × ((holdsAtom x (shared_at isnt v) ≡ true) ↔ (x.shared ≡ v → ⊥))
+  pub tested : (x : Seating) (i v : ℕ) → ((holds x i (shared_is is v) ≡ true) ↔ (x.shared ≡ v)) × ((holds x i (shared_is isnt v) ≡ true) ↔ (x.shared ≡ v → ⊥))
+  pub asked : (x : Seating) (v : ℕ) → ((holds_atom x (shared_at is v) ≡ true) ↔ (x.shared ≡ v)) × ((holds_atom x (shared_at isnt v) ≡ true) ↔ (x.shared ≡ v → ⊥))
   -- a branch that does not set it leaves it as it is
   pub left : (g : ℕ) → set_to g none ≡ g
   pub made : (g v : ℕ) → set_to g (some v) ≡ v
   -- its byte stands behind the seats
-  pub seats : (c : Card) (x : Seating) → c.shared ≡ none → (seatsDue c ≡ c.n) × (bytes_of c x ≡ x.each)
-  pub seats-and-one : (c : Card) (s : Shared) (x : Seating) → c.shared ≡ some s → (seatsDue c ≡ suc c.n) × (bytes_of c x ≡ x.each ++ x.shared ∷ [])
+  pub seats : (c : Card) (x : Seating) → c.shared ≡ none → (seats_due c ≡ c.n) × (bytes_of c x ≡ x.each)
+  pub seats_and_one : (c : Card) (s : Shared) (x : Seating) → c.shared ≡ some s → (seats_due c ≡ suc c.n) × (bytes_of c x ≡ x.each ++ x.shared ∷ [])
   -- the panel shows it where there is one
   pub shown : (c : Card) (s : Shared) (x : Seating) → c.shared ≡ some s → (panel c x).shared ≡ some x.shared
-  pub not-shown : (c : Card) (x : Seating) → c.shared ≡ none → (panel c x).shared ≡ none
+  pub not_shown : (c : Card) (x : Seating) → c.shared ≡ none → (panel c x).shared ≡ none
   -- a spectator does not: the same seats show the same line, whatever it is
   pub unseen : (card list : List ℕ) (c : Card) → read_of card ≡ taken c → (x y : Seating) → ValidSeating c x → ValidSeating c y → x.each ≡ y.each
-      → watchSaid card (bytes_of c x) list ≡ watchSaid card (bytes_of c y) list
-  pub reading-edges : ReadingEdges
-  pub text-edges : TextEdges
-  pub panel-edges : PanelEdges
-  pub other-edges : OtherEdges
+      → watch_said card (bytes_of c x) list ≡ watch_said card (bytes_of c y) list
+  pub reading_edges : ReadingEdges
+  pub text_edges : TextEdges
+  pub panel_edges : PanelEdges
+  pub other_edges : OtherEdges

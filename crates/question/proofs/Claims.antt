@@ -8,191 +8,191 @@ use native.Mathlib.Omega.{arith}
 use borrow.Author.Tests.{eqb-true, ne_eqb, le-leb}
 use lib.Dec.{eqb, leb}
 use lib.ListN.{length}
-use Rattle.card.specs.Limits.{mostSeats}
-use Rattle.card.specs.Refusals.{aboveTop, notDue}
+use Rattle.card.specs.Limits.{most_seats}
+use Rattle.card.specs.Refusals.{above_top, not_due}
 use Rattle.card.specs.Text.{if◌then◌else◌}
 use Rattle.card.specs.Card.{everyone, group, Formula, atom, neg, and, or}
 use Rattle.card.specs.Formulas.{over}
 use Rattle.marks_on_a_card.specs.Marks.{place_of}
 use Rattle.reading.specs.Group.{Literal}
-use Rattle.reading.specs.Judgements.{has, hasFrom, alike, Verdict, fine, wrong}
-use Rattle.late.specs.Late.{Late, noneYet, upToMost, kindBy, groupBy, grouped as groupedLate}
+use Rattle.reading.specs.Judgements.{has, has_from, alike, Verdict, fine, wrong}
+use Rattle.late.specs.Late.{Late, none_yet, up_to_most, kind_by, group_by, grouped as grouped_late}
 use Rattle.late.specs.Values.{most_of}
 use Rattle.late.specs.Settled.{Refusal, refusal, settled, verdict}
 use Rattle.late.proofs.Symmetric.{and_both}
-use Rattle.late.proofs.Settling.{orNext, or_assoc, Sound, sound-blamed, sound-grouped, settled-fine, settled-blamed, settled-grouped}
-use Rattle.asking.specs.Question.{Item, aGroup, exactlyOne, aTest}
-use Rattle.asking.specs.Meant.{leafFor}
-use Rattle.asking.specs.Asking.{Claim, state, everyone as everyoneOf, exactly, claimAt, due, firstD, claims_of, claims, isEveryone, isTerms, termD, isExactlyOne, fits, firstUnfit, firstRelation, literalD, atomIn, questionIn}
-use Rattle.term_literals.specs.Wanted.{wantOfTerms}
-use Rattle.items.specs.Language.{wantOfAll, judgeClaim, claimAll, itemBy, questions, leavesOf, judgedOf}
+use Rattle.late.proofs.Settling.{or_next, or_assoc, Sound, sound_blamed, sound_grouped, settled_fine, settled_blamed, settled_grouped}
+use Rattle.asking.specs.Question.{Item, a_group, exactly_one, a_test}
+use Rattle.asking.specs.Meant.{leaf_for}
+use Rattle.asking.specs.Asking.{Claim, state, everyone as everyone_of, exactly, claim_at, due, first_d, claims_of, claims, is_everyone, is_terms, term_d, is_exactly_one, fits, first_unfit, first_relation, literal_d, atom_in, question_in}
+use Rattle.term_literals.specs.Wanted.{want_of_terms}
+use Rattle.items.specs.Language.{want_of_all, judge_claim, claim_all, item_by, questions, leaves_of, judged_of}
 
 -- ---- what an item wants is the number of seats for which it is as said
 
 -- m is wanted if it is a number of seats and b holds
-up-to-most : (m n : ℕ) (b c : Bool) → 1 ≤ n → n ≤ mostSeats → (m ≡ n → b ≡ c) → eqb (upToMost m b) n ≡ (eqb m n && c)
-up-to-most m n b c least most h = go (eqb m n) refl b refl
+up_to_most_law : (m n : ℕ) (b c : Bool) → 1 ≤ n → n ≤ most_seats → (m ≡ n → b ≡ c) → eqb (up_to_most m b) n ≡ (eqb m n && c)
+up_to_most_law m n b c least most h = go (eqb m n) refl b refl
   where
-    small : m ≡ n → (leb m mostSeats ≡ true)
-    small e = le-leb m mostSeats (omega (arith, e))
+    small : m ≡ n → (leb m most_seats ≡ true)
+    small e = le-leb m most_seats (omega (arith, e))
 
     none : eqb 0 n ≡ false
     none = ne_eqb 0 n (λ z. omega (arith, z))
 
-    go : (t : Bool) → eqb m n ≡ t → (a : Bool) → b ≡ a → eqb (if leb m mostSeats && a then m else 0) n ≡ (t && c)
+    go : (t : Bool) → eqb m n ≡ t → (a : Bool) → b ≡ a → eqb (if leb m most_seats && a then m else 0) n ≡ (t && c)
     go true e true f = rw (small (eqb-true m n e), e) (sym f ∙ h (eqb-true m n e))
     go true e false f = rw (small (eqb-true m n e), none) (sym f ∙ h (eqb-true m n e))
-    go false e true f = other (leb m mostSeats)
+    go false e true f = other (leb m most_seats)
       where
         other : (u : Bool) → eqb (if u && true then m else 0) n ≡ false
         other true = e
         other false = none
-    go false e false f = other (leb m mostSeats)
+    go false e false f = other (leb m most_seats)
       where
         other : (u : Bool) → eqb (if u && false then m else 0) n ≡ false
         other true = none
         other false = none
 
-module _ (n : ℕ) (least : 1 ≤ n) (most : n ≤ mostSeats) where
-  pub terms-want : (ts : List (List Literal)) → isExactlyOne n ts ≡ eqb (wantOfTerms ts) n
-  terms-want ts = sym (up-to-most (length ts) n (isTerms (length ts) (termD ts) 1 ts) (isTerms n (termD ts) 1 ts) least most (λ e. ap (λ m. isTerms m (termD ts) 1 ts) e))
+module _ (n : ℕ) (least : 1 ≤ n) (most : n ≤ most_seats) where
+  pub terms_want : (ts : List (List Literal)) → is_exactly_one n ts ≡ eqb (want_of_terms ts) n
+  terms_want ts = sym (up_to_most_law (length ts) n (is_terms (length ts) (term_d ts) 1 ts) (is_terms n (term_d ts) 1 ts) least most (λ e. ap (λ m. is_terms m (term_d ts) 1 ts) e))
 
-  none-wanted : eqb 0 n ≡ false
-  none-wanted = ne_eqb 0 n (λ z. omega (arith, z))
+  none_wanted : eqb 0 n ≡ false
+  none_wanted = ne_eqb 0 n (λ z. omega (arith, z))
 
   -- without seat 1 it is none of everyone
-  no-first : (m : ℕ) (ls : List Literal) → 1 ≤ m → has 1 ls ≡ false → hasFrom 1 m ls ≡ false
-  no-first (suc m) ls l e = rw e
+  no_first : (m : ℕ) (ls : List Literal) → 1 ≤ m → has 1 ls ≡ false → has_from 1 m ls ≡ false
+  no_first (suc m) ls l e = rw e
 
   and_none : (a b : Bool) → (a && (b && false)) ≡ false
   and_none true true = refl
   and_none true false = refl
   and_none false b = refl
 
-  pub everyone-want : (ls : List Literal) → isEveryone n ls ≡ eqb (wantOfAll ls) n
-  everyone-want [] = sym none-wanted
-  everyone-want (l ∷ ls) = go (has 1 (l ∷ ls)) refl (alike l ls)
+  pub everyone_want : (ls : List Literal) → is_everyone n ls ≡ eqb (want_of_all ls) n
+  everyone_want [] = sym none_wanted
+  everyone_want (l ∷ ls) = go (has 1 (l ∷ ls)) refl (alike l ls)
     where
       all : List Literal
       all = l ∷ ls
 
       go : (b : Bool) → has 1 all ≡ b → (a : Bool)
-          → (a && (eqb (length all) n && hasFrom 1 n all))
-          ≡ eqb (if b then (if a then (if b then upToMost (length all) (hasFrom 1 (length all) all) else upToMost (suc (length all)) (hasFrom 2 (length all) all)) else 0) else 0) n
-      go true e true = sym (up-to-most (length all) n (hasFrom 1 (length all) all) (hasFrom 1 n all) least most (λ z. ap (λ m. hasFrom 1 m all) z))
-      go true e false = sym none-wanted
-      go false e a = rw (no-first n all least e) (and_none a (eqb (length all) n) ∙ sym none-wanted)
+          → (a && (eqb (length all) n && has_from 1 n all))
+          ≡ eqb (if b then (if a then (if b then up_to_most (length all) (has_from 1 (length all) all) else up_to_most (suc (length all)) (has_from 2 (length all) all)) else 0) else 0) n
+      go true e true = sym (up_to_most_law (length all) n (has_from 1 (length all) all) (has_from 1 n all) least most (λ z. ap (λ m. has_from 1 m all) z))
+      go true e false = sym none_wanted
+      go false e a = rw (no_first n all least e) (and_none a (eqb (length all) n) ∙ sym none_wanted)
 
 -- ---- the first claim that does not fit
 
-module _ (e n : ℕ) (least : 1 ≤ n) (most : n ≤ mostSeats) where
+module _ (e n : ℕ) (least : 1 ≤ n) (most : n ≤ most_seats) where
   abbrev own : Claim → Refusal
-  own c = if fits n c then refusal 0 0 else refusal (due c) (place_of e (claimAt c))
+  own c = if fits n c then refusal 0 0 else refusal (due c) (place_of e (claim_at c))
 
-  sound-claim : (c : Claim) (x : Late) → Sound x → Sound (judgeClaim e c x)
-  sound-claim (state bound v p) x s = sound-blamed (leb v bound) aboveTop (place_of e p) x (λ z. omega arith) s
-  sound-claim (everyoneOf g) x s = sound-grouped (wantOfAll g.literals) (place_of e g.place) x s
-  sound-claim (exactly p ts) x s = sound-grouped (wantOfTerms ts) (place_of e p) x s
+  sound_claim : (c : Claim) (x : Late) → Sound x → Sound (judge_claim e c x)
+  sound_claim (state bound v p) x s = sound_blamed (leb v bound) above_top (place_of e p) x (λ z. omega arith) s
+  sound_claim (everyone_of g) x s = sound_grouped (want_of_all g.literals) (place_of e g.place) x s
+  sound_claim (exactly p ts) x s = sound_grouped (want_of_terms ts) (place_of e p) x s
 
-  settled-want : (x : Late) → Sound x → (m p : ℕ) (b : Bool) → b ≡ eqb m n → settled n (groupedLate m p x) ≡ orNext (settled n x) (if b then refusal 0 0 else refusal notDue p)
-  settled-want x s m p b h = rw h (settled-grouped n x s m p least)
+  settled_want : (x : Late) → Sound x → (m p : ℕ) (b : Bool) → b ≡ eqb m n → settled n (grouped_late m p x) ≡ or_next (settled n x) (if b then refusal 0 0 else refusal not_due p)
+  settled_want x s m p b h = rw h (settled_grouped n x s m p least)
 
-  settled-claim : (c : Claim) (x : Late) → Sound x → settled n (judgeClaim e c x) ≡ orNext (settled n x) (own c)
-  settled-claim (state bound v p) x s = settled-blamed n x s (leb v bound) aboveTop (place_of e p)
-  settled-claim (everyoneOf g) x s = settled-want x s (wantOfAll g.literals) (place_of e g.place) (isEveryone n g.literals) (everyone-want n least most g.literals)
-  settled-claim (exactly p ts) x s = settled-want x s (wantOfTerms ts) (place_of e p) (isExactlyOne n ts) (terms-want n least most ts)
+  settled_claim : (c : Claim) (x : Late) → Sound x → settled n (judge_claim e c x) ≡ or_next (settled n x) (own c)
+  settled_claim (state bound v p) x s = settled_blamed n x s (leb v bound) above_top (place_of e p)
+  settled_claim (everyone_of g) x s = settled_want x s (want_of_all g.literals) (place_of e g.place) (is_everyone n g.literals) (everyone_want n least most g.literals)
+  settled_claim (exactly p ts) x s = settled_want x s (want_of_terms ts) (place_of e p) (is_exactly_one n ts) (terms_want n least most ts)
 
-  some-due : (c : Claim) → due c ≡ 0 → ⊥
-  some-due (state bound v p) z = omega arith
-  some-due (everyoneOf g) z = omega arith
-  some-due (exactly p ts) z = omega arith
+  some_due : (c : Claim) → due c ≡ 0 → ⊥
+  some_due (state bound v p) z = omega arith
+  some_due (everyone_of g) z = omega arith
+  some_due (exactly p ts) z = omega arith
 
-  one_more : (c : Claim) (v : Verdict) → orNext (own c) (verdict e v) ≡ verdict e (if fits n c then v else wrong (due c) (claimAt c))
+  one_more : (c : Claim) (v : Verdict) → or_next (own c) (verdict e v) ≡ verdict e (if fits n c then v else wrong (due c) (claim_at c))
   one_more c v = go (fits n c)
     where
-      go : (b : Bool) → orNext (if b then refusal 0 0 else refusal (due c) (place_of e (claimAt c))) (verdict e v) ≡ verdict e (if b then v else wrong (due c) (claimAt c))
+      go : (b : Bool) → or_next (if b then refusal 0 0 else refusal (due c) (place_of e (claim_at c))) (verdict e v) ≡ verdict e (if b then v else wrong (due c) (claim_at c))
       go true = refl
-      go false = rw (ne_eqb (due c) 0 (some-due c))
+      go false = rw (ne_eqb (due c) 0 (some_due c))
 
-  settled-all : (cs : List Claim) (x : Late) → Sound x → settled n (claimAll e cs x) ≡ orNext (settled n x) (verdict e (firstUnfit n cs))
-  unfolding claimAll
-  settled-all [] x s = settled-fine n x s
-  settled-all (c ∷ cs) x s =
-      settled-all cs (judgeClaim e c x) (sound-claim c x s)
-      ∙ ap (λ a. orNext a (verdict e (firstUnfit n cs))) (settled-claim c x s)
-      ∙ or_assoc (settled n x) (own c) (verdict e (firstUnfit n cs))
-      ∙ ap (orNext (settled n x)) (one_more c (firstUnfit n cs))
+  settled_all : (cs : List Claim) (x : Late) → Sound x → settled n (claim_all e cs x) ≡ or_next (settled n x) (verdict e (first_unfit n cs))
+  unfolding claim_all
+  settled_all [] x s = settled_fine n x s
+  settled_all (c ∷ cs) x s =
+      settled_all cs (judge_claim e c x) (sound_claim c x s)
+      ∙ ap (λ a. or_next a (verdict e (first_unfit n cs))) (settled_claim c x s)
+      ∙ or_assoc (settled n x) (own c) (verdict e (first_unfit n cs))
+      ∙ ap (or_next (settled n x)) (one_more c (first_unfit n cs))
 
-  claim-append : (xs ys : List Claim) (x : Late) → claimAll e (xs ++ ys) x ≡ claimAll e ys (claimAll e xs x)
-  unfolding claimAll
-  claim-append [] ys x = refl
-  claim-append (c ∷ cs) ys x = claim-append cs ys (judgeClaim e c x)
+  claim_append : (xs ys : List Claim) (x : Late) → claim_all e (xs ++ ys) x ≡ claim_all e ys (claim_all e xs x)
+  unfolding claim_all
+  claim_append [] ys x = refl
+  claim_append (c ∷ cs) ys x = claim_append cs ys (judge_claim e c x)
 
   module _ (k v : ℕ) where
-    claims-judged : (g : Formula Item) (x : Late) → judgedOf (questions v) k e g x ≡ claimAll e (claims k (most_of v) g) x
-    claims-judged (atom a) x = refl
-    claims-judged (neg g) x = claims-judged g x
-    claims-judged (and g h) x =
+    claims_judged : (g : Formula Item) (x : Late) → judged_of (questions v) k e g x ≡ claim_all e (claims k (most_of v) g) x
+    claims_judged (atom a) x = refl
+    claims_judged (neg g) x = claims_judged g x
+    claims_judged (and g h) x =
         let gs = claims k (most_of v) g in
         let hs = claims k (most_of v) h in
-        ap (judgedOf (questions v) k e h) (claims-judged g x) ∙ claims-judged h (claimAll e gs x) ∙ sym (claim-append gs hs x)
-    claims-judged (or g h) x =
+        ap (judged_of (questions v) k e h) (claims_judged g x) ∙ claims_judged h (claim_all e gs x) ∙ sym (claim_append gs hs x)
+    claims_judged (or g h) x =
         let gs = claims k (most_of v) g in
         let hs = claims k (most_of v) h in
-        ap (judgedOf (questions v) k e h) (claims-judged g x) ∙ claims-judged h (claimAll e gs x) ∙ sym (claim-append gs hs x)
+        ap (judged_of (questions v) k e h) (claims_judged g x) ∙ claims_judged h (claim_all e gs x) ∙ sym (claim_append gs hs x)
 
     -- what is settled in the end
-    pub settled-question : (g : Formula Item) → settled n (judgedOf (questions v) k e g noneYet) ≡ verdict e (firstUnfit n (claims k (most_of v) g))
-    settled-question g = ap (settled n) (claims-judged g noneYet) ∙ settled-all (claims k (most_of v) g) noneYet (record { none = λ z. refl; unsplit = λ z. refl })
+    pub settled_question : (g : Formula Item) → settled n (judged_of (questions v) k e g none_yet) ≡ verdict e (first_unfit n (claims k (most_of v) g))
+    settled_question g = ap (settled n) (claims_judged g none_yet) ∙ settled_all (claims k (most_of v) g) none_yet (record { none = λ z. refl; unsplit = λ z. refl })
 
   -- a claim that does not fit has a number
-  pub none-unfit : (cs : List Claim) → (verdict e (firstUnfit n cs)).number ≡ 0 → firstUnfit n cs ≡ fine
-  none-unfit [] h = refl
-  none-unfit (c ∷ cs) h = go (fits n c) h (none-unfit cs)
+  pub none_unfit : (cs : List Claim) → (verdict e (first_unfit n cs)).number ≡ 0 → first_unfit n cs ≡ fine
+  none_unfit [] h = refl
+  none_unfit (c ∷ cs) h = go (fits n c) h (none_unfit cs)
     where
-      go : (b : Bool) → (verdict e (if b then firstUnfit n cs else wrong (due c) (claimAt c))).number ≡ 0 → ((verdict e (firstUnfit n cs)).number ≡ 0 → firstUnfit n cs ≡ fine)
-          → (if b then firstUnfit n cs else wrong (due c) (claimAt c)) ≡ fine
+      go : (b : Bool) → (verdict e (if b then first_unfit n cs else wrong (due c) (claim_at c))).number ≡ 0 → ((verdict e (first_unfit n cs)).number ≡ 0 → first_unfit n cs ≡ fine)
+          → (if b then first_unfit n cs else wrong (due c) (claim_at c)) ≡ fine
       go true z more = more z
-      go false z more = absurd (some-due c z)
+      go false z more = absurd (some_due c z)
 
 -- ---- where all fit
 
 module _ (n k v : ℕ) (least : 1 ≤ n) where
-  fine-cons : (c : Claim) (cs : List Claim) → firstUnfit n (c ∷ cs) ≡ fine → (fits n c ≡ true) × (firstUnfit n cs ≡ fine)
-  fine-cons c cs h = go (fits n c) h
+  fine_cons : (c : Claim) (cs : List Claim) → first_unfit n (c ∷ cs) ≡ fine → (fits n c ≡ true) × (first_unfit n cs ≡ fine)
+  fine_cons c cs h = go (fits n c) h
     where
-      go : (b : Bool) → (if b then firstUnfit n cs else wrong (due c) (claimAt c)) ≡ fine → (b ≡ true) × (firstUnfit n cs ≡ fine)
+      go : (b : Bool) → (if b then first_unfit n cs else wrong (due c) (claim_at c)) ≡ fine → (b ≡ true) × (first_unfit n cs ≡ fine)
       go true z = (refl, z)
       go false z = let y : ◌≡◌ {A = ℕ} 0 1 = cc in absurd (omega arith)
 
-  fine-append : (xs ys : List Claim) → firstUnfit n (xs ++ ys) ≡ fine → (firstUnfit n xs ≡ fine) × (firstUnfit n ys ≡ fine)
-  fine-append [] ys h = (refl, h)
-  fine-append (c ∷ cs) ys h =
-      let both = fine-cons c (cs ++ ys) h in
-      let rest = fine-append cs ys both.1 in
+  fine_append : (xs ys : List Claim) → first_unfit n (xs ++ ys) ≡ fine → (first_unfit n xs ≡ fine) × (first_unfit n ys ≡ fine)
+  fine_append [] ys h = (refl, h)
+  fine_append (c ∷ cs) ys h =
+      let both = fine_cons c (cs ++ ys) h in
+      let rest = fine_append cs ys both.1 in
       (rw both.0 rest.0, rest.1)
 
   -- a group of everyone has seat 1
-  first-seat : (m : ℕ) (ls : List Literal) → 1 ≤ m → hasFrom 1 m ls ≡ true → has 1 ls ≡ true
-  first-seat (suc m) ls l h = (and_both (has 1 ls) (hasFrom 2 m ls) h).0
+  first_seat : (m : ℕ) (ls : List Literal) → 1 ≤ m → has_from 1 m ls ≡ true → has 1 ls ≡ true
+  first_seat (suc m) ls l h = (and_both (has 1 ls) (has_from 2 m ls) h).0
 
-  everyone-kind : (l : Literal) (ls : List Literal) → isEveryone n (l ∷ ls) ≡ true → kindBy (l ∷ ls) ≡ everyone
-  everyone-kind l ls h =
-      let once = (and_both (alike l ls) (eqb (length (l ∷ ls)) n && hasFrom 1 n (l ∷ ls)) h).1 in
-      let seats = (and_both (eqb (length (l ∷ ls)) n) (hasFrom 1 n (l ∷ ls)) once).1 in
-      rw (first-seat n (l ∷ ls) least seats) refl
+  everyone_kind : (l : Literal) (ls : List Literal) → is_everyone n (l ∷ ls) ≡ true → kind_by (l ∷ ls) ≡ everyone
+  everyone_kind l ls h =
+      let once = (and_both (alike l ls) (eqb (length (l ∷ ls)) n && has_from 1 n (l ∷ ls)) h).1 in
+      let seats = (and_both (eqb (length (l ∷ ls)) n) (has_from 1 n (l ∷ ls)) once).1 in
+      rw (first_seat n (l ∷ ls) least seats) refl
 
-  item-leaf : (x : Item) → firstUnfit n (claims_of k (most_of v) x) ≡ fine → itemBy x ≡ leafFor (atomIn x)
-  item-leaf (aGroup g) h = go g.literals (fine-cons (everyoneOf g) (firstD k g.literals) h).0
+  item_leaf : (x : Item) → first_unfit n (claims_of k (most_of v) x) ≡ fine → item_by x ≡ leaf_for (atom_in x)
+  item_leaf (a_group g) h = go g.literals (fine_cons (everyone_of g) (first_d k g.literals) h).0
     where
-      go : (ls : List Literal) → isEveryone n ls ≡ true → groupBy g.sign ls ≡ group everyone g.sign (firstRelation ls) (literalD ls)
+      go : (ls : List Literal) → is_everyone n ls ≡ true → group_by g.sign ls ≡ group everyone g.sign (first_relation ls) (literal_d ls)
       go [] z = refl
-      go (l ∷ ls) z = ap (λ kind. group kind g.sign l.relation l.d) (everyone-kind l ls z)
-  item-leaf (exactlyOne p ts) h = refl
-  item-leaf (aTest x) h = refl
+      go (l ∷ ls) z = ap (λ kind. group kind g.sign l.relation l.d) (everyone_kind l ls z)
+  item_leaf (exactly_one p ts) h = refl
+  item_leaf (a_test x) h = refl
 
-  pub same-leaves : (g : Formula Item) → firstUnfit n (claims k (most_of v) g) ≡ fine → leavesOf (questions v) g ≡ over leafFor (questionIn g)
-  same-leaves (atom x) h = ap atom (item-leaf x h)
-  same-leaves (neg g) h = ap neg (same-leaves g h)
-  same-leaves (and g i) h = let both = fine-append (claims k (most_of v) g) (claims k (most_of v) i) h in rw (same-leaves g both.0, same-leaves i both.1)
-  same-leaves (or g i) h = let both = fine-append (claims k (most_of v) g) (claims k (most_of v) i) h in rw (same-leaves g both.0, same-leaves i both.1)
+  pub same_leaves : (g : Formula Item) → first_unfit n (claims k (most_of v) g) ≡ fine → leaves_of (questions v) g ≡ over leaf_for (question_in g)
+  same_leaves (atom x) h = ap atom (item_leaf x h)
+  same_leaves (neg g) h = ap neg (same_leaves g h)
+  same_leaves (and g i) h = let both = fine_append (claims k (most_of v) g) (claims k (most_of v) i) h in rw (same_leaves g both.0, same_leaves i both.1)
+  same_leaves (or g i) h = let both = fine_append (claims k (most_of v) g) (claims k (most_of v) i) h in rw (same_leaves g both.0, same_leaves i both.1)

@@ -7,193 +7,193 @@ use mathlib.Core.Option.{Option, none, some}
 use native.Mathlib.Omega.{arith}
 use borrow.Author.Tests.{le-leb, lt-leb}
 use lib.ListN.{length, get_or}
-use Rattle.card.specs.Limits.{cardBytes, mostSeats, mostNodes, mostDepth}
-use Rattle.card.specs.Refusals.{tooLong, outsideRules, outOfShape}
+use Rattle.card.specs.Limits.{card_bytes, most_seats, most_nodes, most_depth}
+use Rattle.card.specs.Refusals.{too_long, outside_rules, out_of_shape}
 use Rattle.card.specs.Card.{Leaf, Formula}
 use Rattle.card.specs.Valid.{size}
 use Rattle.card.specs.Laid.{below, cells}
 use Rattle.card.specs.Stored.{stored}
-use Rattle.card.proofs.Atoms.{size-over}
+use Rattle.card.proofs.Atoms.{size_over}
 use Rattle.card.proofs.Storing.{size_below}
 use Rattle.marks_on_a_card.specs.Marks.{place_of}
-use Rattle.marks_on_a_card.specs.Kinds.{kEnd}
-use Rattle.marks.specs.Step.{stepAt, marksAt}
+use Rattle.marks_on_a_card.specs.Kinds.{k_end}
+use Rattle.marks.specs.Step.{step_at, marks_at}
 use Rattle.marks.specs.declared.Step.{Step}
-use Rattle.marks.proofs.Next.{marks-whole}
-use Rattle.marks_on_a_card.proofs.KindLaws.{kind-some}
+use Rattle.marks.proofs.Next.{marks_whole}
+use Rattle.marks_on_a_card.proofs.KindLaws.{kind_some}
 use Rattle.reading.specs.Reader.{Place, State, at, Result, ok, stop, bind, return}
 use Rattle.reading.specs.Guard.{expression}
 use Rattle.reading.specs.Judgements.{Verdict, fine, wrong}
-use Rattle.reading.specs.Shape.{ended, theEnd}
-use Rattle.reading.specs.Reading.{firstOutside}
+use Rattle.reading.specs.Shape.{ended, the_end}
+use Rattle.reading.specs.Reading.{first_outside}
 use Rattle.late.specs.Values.{shares, most_of}
-use Rattle.late.specs.Late.{noneYet}
+use Rattle.late.specs.Late.{none_yet}
 use Rattle.late.specs.Settled.{Refusal, settled, verdict}
-use Rattle.late.specs.State.{atStop, atStopPlace, freeIn, lateIn, refusalIn, After, Sized}
-use Rattle.parts.proofs.Steps.{Next, end, one, next-at, place-seen}
+use Rattle.late.specs.State.{at_stop, at_stop_place, free_in, late_in, refusal_in, After, Sized}
+use Rattle.parts.proofs.Steps.{Next, end, one, next_at, place_seen}
 use Rattle.search.specs.Search.{searched}
 use Rattle.search.proofs.Passed.{Held}
-use Rattle.search.proofs.Places.{Reached, reached-first, reached-next, outside_behind}
+use Rattle.search.proofs.Places.{Reached, reached_first, reached_next, outside_behind}
 use Rattle.entry.specs.Said.{Said, refused}
 use Rattle.asking.specs.Question.{Item, asked, question}
 use Rattle.asking.specs.Meant.{Question}
-use Rattle.asking.specs.Asking.{claims, firstUnfit, questionIn, inQuestion, judgedAs, shapedAs, markedAs, questionOf}
-use Rattle.languages.specs.Number.{valuesBy, asksBy}
-use Rattle.items.specs.Language.{Language, questions, languageOf, leavesOf}
-use Rattle.items.proofs.Answers.{question-language}
+use Rattle.asking.specs.Asking.{claims, first_unfit, question_in, in_question, judged_as, shaped_as, marked_as, question_of}
+use Rattle.languages.specs.Number.{values_by, asks_by}
+use Rattle.items.specs.Language.{Language, questions, language_of, leaves_of}
+use Rattle.items.proofs.Answers.{question_language}
 use Rattle.items.specs.GuardRead.{Read, GuardRead}
-use Rattle.items.specs.Pieces.{unaryIn}
-use Rattle.guard.proofs.Building.{still-sized}
-use Rattle.question.specs.QuestionRead.{refusedWith, QuestionRead}
-use Rattle.question.proofs.Claims.{settled-question, none-unfit, same-leaves}
-use Rattle.question.proofs.Passing.{questionP}
+use Rattle.items.specs.Pieces.{unary_in}
+use Rattle.guard.proofs.Building.{still_sized}
+use Rattle.question.specs.QuestionRead.{refused_with, QuestionRead}
+use Rattle.question.proofs.Claims.{settled_question, none_unfit, same_leaves}
+use Rattle.question.proofs.Passing.{question_p}
 
 -- what the code has read, its language told by a number; and the same as a question on a card with so many values
 abbrev ReadHere : List ℕ → ℕ → ℕ → List ℕ → List ℕ → State → After → Type 0
-ReadHere s k l was is b r = GuardRead (languageOf l) s k was is 0 noneYet (expression (unaryIn (languageOf l) mostDepth) b) r
+ReadHere s k l was is b r = GuardRead (language_of l) s k was is 0 none_yet (expression (unary_in (language_of l) most_depth) b) r
 
 abbrev Asks : ℕ → ℕ → Type 0
-Asks v l = (asksBy l ≡ true) × (valuesBy l ≡ v)
+Asks v l = (asks_by l ≡ true) × (values_by l ≡ v)
 
-as-question : (s : List ℕ) (k v l : ℕ) (was is : List ℕ) (b : State) (r : After) → Asks v l → ReadHere s k l was is b r → GuardRead (questions v) s k was is 0 noneYet (asked (shares v) b) r
-as-question s k v l was is b r asks h = subst (λ (L : Language). GuardRead L s k was is 0 noneYet (expression (unaryIn L mostDepth) b) r) (question-language l asks) h
+as_question : (s : List ℕ) (k v l : ℕ) (was is : List ℕ) (b : State) (r : After) → Asks v l → ReadHere s k l was is b r → GuardRead (questions v) s k was is 0 none_yet (asked (shares v) b) r
+as_question s k v l was is b r asks h = subst (λ (L : Language). GuardRead L s k was is 0 none_yet (expression (unary_in L most_depth) b) r) (question_language l asks) h
 
 -- a stop, once what is left was searched for a mark outside the rules
-abbrev orOutside : ℕ → ℕ → Option ℕ → Said Question
-orOutside m q none = refused (inQuestion m) q
-orOutside m q (some o) = refused (inQuestion outsideRules) o
+abbrev or_outside : ℕ → ℕ → Option ℕ → Said Question
+or_outside m q none = refused (in_question m) q
+or_outside m q (some o) = refused (in_question outside_rules) o
 
 module _ (s : List ℕ) (n k v : ℕ) (was is : List ℕ) where
-  pub too_long : cardBytes < length s → QuestionRead (questionOf n k v s) was is (refusedWith (record { number = tooLong; place = 0 }))
-  unfolding questionOf
-  too_long h = rw (lt-leb (length s) cardBytes h) (record { number = refl; place = refl; some = λ z. omega arith })
+  pub too_long_law : card_bytes < length s → QuestionRead (question_of n k v s) was is (refused_with (record { number = too_long; place = 0 }))
+  unfolding question_of
+  too_long_law h = rw (lt-leb (length s) card_bytes h) (record { number = refl; place = refl; some = λ z. omega arith })
 
-  module _ (short : length s ≤ cardBytes) where
+  module _ (short : length s ≤ card_bytes) where
     abbrev shape : Result (Formula Item)
-    shape = question (shares v) (at (marksAt 0 s 0) zero)
+    shape = question (shares v) (at (marks_at 0 s 0) zero)
 
     abbrev begun : State
-    begun = at (marksAt 0 s 0) mostNodes
+    begun = at (marks_at 0 s 0) most_nodes
 
-    read_short : questionOf n k v s ≡ markedAs n k v (length s) (marksAt 0 s 0) (firstOutside (marksAt 0 s 0))
-    unfolding questionOf
-    read_short = rw (le-leb (length s) cardBytes short, ← marks-whole s)
+    read_short : question_of n k v s ≡ marked_as n k v (length s) (marks_at 0 s 0) (first_outside (marks_at 0 s 0))
+    unfolding question_of
+    read_short = rw (le-leb (length s) card_bytes short, ← marks_whole s)
 
-    held : Held (Reached s) (reached-next s) shape
-    held = questionP (Reached s) (reached-next s) (shares v) (at (marksAt 0 s 0) zero) (reached-first s)
+    held : Held (Reached s) (reached_next s) shape
+    held = question_p (Reached s) (reached_next s) (shares v) (at (marks_at 0 s 0) zero) (reached_first s)
 
     -- ---- a stop
 
-    by-search : (m : ℕ) (p : Place) (o : Option ℕ) → shape ≡ stop m p → markedAs n k v (length s) (marksAt 0 s 0) o ≡ orOutside m (place_of (length s) p) o
-    by-search m p none e = ap (shapedAs n k v (length s)) e
-    by-search m p (some q) e = refl
+    by_search : (m : ℕ) (p : Place) (o : Option ℕ) → shape ≡ stop m p → marked_as n k v (length s) (marks_at 0 s 0) o ≡ or_outside m (place_of (length s) p) o
+    by_search m p none e = ap (shaped_as n k v (length s)) e
+    by_search m p (some q) e = refl
 
-    stop-told : (m q : ℕ) (o : Option ℕ) → (m ≡ 0 → ⊥) → QuestionRead (orOutside m q o) was is (refusedWith (searched m q o))
-    stop-told m q none f = record { number = refl; place = refl; some = f }
-    stop-told m q (some o) f = record { number = refl; place = refl; some = λ z. omega arith }
+    stop_told : (m q : ℕ) (o : Option ℕ) → (m ≡ 0 → ⊥) → QuestionRead (or_outside m q o) was is (refused_with (searched m q o))
+    stop_told m q none f = record { number = refl; place = refl; some = f }
+    stop_told m q (some o) f = record { number = refl; place = refl; some = λ z. omega arith }
 
     stopped : (m : ℕ) (p : Place) → shape ≡ stop m p
-        → QuestionRead (questionOf n k v s) was is (refusedWith (searched m (place_of (length s) p) (firstOutside (marksAt 0 s (place_of (length s) p)))))
+        → QuestionRead (question_of n k v s) was is (refused_with (searched m (place_of (length s) p) (first_outside (marks_at 0 s (place_of (length s) p)))))
     stopped m p e =
-        let h : Held (Reached s) (reached-next s) {A = Formula Item} (stop m p) = subst (λ (x : Result (Formula Item)). Held (Reached s) (reached-next s) x) e held in
-        rw (read_short ∙ ap (markedAs n k v (length s) (marksAt 0 s 0)) (outside_behind s p h.0) ∙ by-search m p (firstOutside (marksAt 0 s (place_of (length s) p))) e)
-        (stop-told m (place_of (length s) p) (firstOutside (marksAt 0 s (place_of (length s) p))) h.1)
+        let h : Held (Reached s) (reached_next s) {A = Formula Item} (stop m p) = subst (λ (x : Result (Formula Item)). Held (Reached s) (reached_next s) x) e held in
+        rw (read_short ∙ ap (marked_as n k v (length s) (marks_at 0 s 0)) (outside_behind s p h.0) ∙ by_search m p (first_outside (marks_at 0 s (place_of (length s) p))) e)
+        (stop_told m (place_of (length s) p) (first_outside (marks_at 0 s (place_of (length s) p))) h.1)
 
     -- the formula stopped
     module _ (r : After) (l : ℕ) (asks : Asks v l) (said : ReadHere s k l was is begun r) where
-      h : GuardRead (questions v) s k was is 0 noneYet (asked (shares v) begun) r
-      h = as-question s k v l was is begun r asks said
+      h : GuardRead (questions v) s k was is 0 none_yet (asked (shares v) begun) r
+      h = as_question s k v l was is begun r asks said
 
-      pub sized-still : Sized r.state
-      sized-still = still-sized (questions v) s k was is 0 noneYet (asked (shares v) begun) r h
+      pub sized_still : Sized r.state
+      sized_still = still_sized (questions v) s k was is 0 none_yet (asked (shares v) begun) r h
 
-      pub formula-stops : r.next ≡ 0
-          → QuestionRead (questionOf n k v s) was is (refusedWith (searched (get_or r.state atStop 0) (get_or r.state atStopPlace 0) (firstOutside (marksAt 0 s (get_or r.state atStopPlace 0)))))
-      formula-stops z = go (asked (shares v) begun) refl h
+      pub formula_stops : r.next ≡ 0
+          → QuestionRead (question_of n k v s) was is (refused_with (searched (get_or r.state at_stop 0) (get_or r.state at_stop_place 0) (first_outside (marks_at 0 s (get_or r.state at_stop_place 0)))))
+      formula_stops z = go (asked (shares v) begun) refl h
         where
-          go : (x : Result (Formula Item)) → asked (shares v) begun ≡ x → GuardRead (questions v) s k was is 0 noneYet x r
-              → QuestionRead (questionOf n k v s) was is (refusedWith (searched (get_or r.state atStop 0) (get_or r.state atStopPlace 0) (firstOutside (marksAt 0 s (get_or r.state atStopPlace 0)))))
+          go : (x : Result (Formula Item)) → asked (shares v) begun ≡ x → GuardRead (questions v) s k was is 0 none_yet x r
+              → QuestionRead (question_of n k v s) was is (refused_with (searched (get_or r.state at_stop 0) (get_or r.state at_stop_place 0) (first_outside (marks_at 0 s (get_or r.state at_stop_place 0)))))
           go (ok g b) e y = absurd (y.went z)
           go (stop m p) e y =
-              let a : get_or r.state atStop 0 ≡ m = ap (λ (u : Refusal). u.number) y.refused in
-              let c : get_or r.state atStopPlace 0 ≡ place_of (length s) p = ap (λ (u : Refusal). u.place) y.refused in
-              rw (a, c) (stopped m p (ap (λ y. bind y (λ g s₁. bind (theEnd s₁) (λ _. return g))) e))
+              let a : get_or r.state at_stop 0 ≡ m = ap (λ (u : Refusal). u.number) y.refused in
+              let c : get_or r.state at_stop_place 0 ≡ place_of (length s) p = ap (λ (u : Refusal). u.place) y.refused in
+              rw (a, c) (stopped m p (ap (λ y. bind y (λ g s₁. bind (the_end s₁) (λ _. return g))) e))
 
       module _ (went : r.next ≡ 0 → ⊥) where
         abbrev Reading : Type 0
-        Reading = (g : Formula Item) × ((b : State) × ((asked (shares v) begun ≡ ok g b) × Read (questions v) s k was is 0 noneYet g b r))
+        Reading = (g : Formula Item) × ((b : State) × ((asked (shares v) begun ≡ ok g b) × Read (questions v) s k was is 0 none_yet g b r))
 
         formula : Reading
         formula = go (asked (shares v) begun) refl h
           where
-            go : (x : Result (Formula Item)) → asked (shares v) begun ≡ x → GuardRead (questions v) s k was is 0 noneYet x r → Reading
+            go : (x : Result (Formula Item)) → asked (shares v) begun ≡ x → GuardRead (questions v) s k was is 0 none_yet x r → Reading
             go (ok g b) e y = (g, (b, (e, y)))
             go (stop m p) e y = absurd (went y.none)
 
-        read : Read (questions v) s k was is 0 noneYet formula.0 formula.1.0 r
+        read : Read (questions v) s k was is 0 none_yet formula.0 formula.1.0 r
         read = formula.1.1.1
 
         -- a node stands there
-        pub some-node : 1 ≤ freeIn r.state
-        some-node = omega (arith, read.free, size_below formula.0)
+        pub some_node : 1 ≤ free_in r.state
+        some_node = omega (arith, read.free, size_below formula.0)
 
-        behind : (b : State) → marksAt 0 s r.next ≡ b.marks → (g : Formula Item) → asked (shares v) begun ≡ ok g b
-            → shape ≡ bind (ended (marksAt 0 s r.next) b.nodes) (λ _. return g)
-        behind b e g f = ap (λ y. bind y (λ g s₁. bind (theEnd s₁) (λ _. return g))) f ∙ ap (λ ms. bind (ended ms b.nodes) (λ _. return g)) (sym e)
+        behind : (b : State) → marks_at 0 s r.next ≡ b.marks → (g : Formula Item) → asked (shares v) begun ≡ ok g b
+            → shape ≡ bind (ended (marks_at 0 s r.next) b.nodes) (λ _. return g)
+        behind b e g f = ap (λ y. bind y (λ g s₁. bind (the_end s₁) (λ _. return g))) f ∙ ap (λ ms. bind (ended ms b.nodes) (λ _. return g)) (sym e)
 
         -- something stands behind it
-        pub unended : (x : Step) → x ≡ stepAt s r.next → (x.mark.kind ≡ kEnd → ⊥)
-            → QuestionRead (questionOf n k v s) was is (refusedWith (searched outOfShape x.mark.place (firstOutside (marksAt 0 s x.mark.place))))
-        unended x step z = go x (next-at s r.next x step) z
+        pub unended : (x : Step) → x ≡ step_at s r.next → (x.mark.kind ≡ k_end → ⊥)
+            → QuestionRead (question_of n k v s) was is (refused_with (searched out_of_shape x.mark.place (first_outside (marks_at 0 s x.mark.place))))
+        unended x step z = go x (next_at s r.next x step) z
           where
-            go : (x : Step) → Next s r.next x → (x.mark.kind ≡ kEnd → ⊥)
-                → QuestionRead (questionOf n k v s) was is (refusedWith (searched outOfShape x.mark.place (firstOutside (marksAt 0 s x.mark.place))))
+            go : (x : Step) → Next s r.next x → (x.mark.kind ≡ k_end → ⊥)
+                → QuestionRead (question_of n k v s) was is (refused_with (searched out_of_shape x.mark.place (first_outside (marks_at 0 s x.mark.place))))
             go _ (end e) z = absurd (z refl)
             go y (one m p next l e) z =
-                let q : y.mark.place ≡ place_of (length s) (marksAt 0 s r.next) = place-seen s r.next y (one m p next l e) in
-                let f : shape ≡ stop outOfShape (marksAt 0 s r.next) =
-                behind formula.1.0 read.rest formula.0 formula.1.1.0 ∙ ap (λ ms. bind (ended ms formula.1.0.nodes) (λ _. return formula.0)) e ∙ ap (stop outOfShape) (sym e) in
-                rw q (stopped outOfShape (marksAt 0 s r.next) f)
+                let q : y.mark.place ≡ place_of (length s) (marks_at 0 s r.next) = place_seen s r.next y (one m p next l e) in
+                let f : shape ≡ stop out_of_shape (marks_at 0 s r.next) =
+                behind formula.1.0 read.rest formula.0 formula.1.1.0 ∙ ap (λ ms. bind (ended ms formula.1.0.nodes) (λ _. return formula.0)) e ∙ ap (stop out_of_shape) (sym e) in
+                rw q (stopped out_of_shape (marks_at 0 s r.next) f)
 
         -- nothing does
-        module _ (x : Step) (step : x ≡ stepAt s r.next) (ends : x.mark.kind ≡ kEnd) where
-          at-end : marksAt 0 s r.next ≡ []
-          at-end = go x (next-at s r.next x step) ends
+        module _ (x : Step) (step : x ≡ step_at s r.next) (ends : x.mark.kind ≡ k_end) where
+          at_end : marks_at 0 s r.next ≡ []
+          at_end = go x (next_at s r.next x step) ends
             where
-              go : (x : Step) → Next s r.next x → x.mark.kind ≡ kEnd → marksAt 0 s r.next ≡ []
+              go : (x : Step) → Next s r.next x → x.mark.kind ≡ k_end → marks_at 0 s r.next ≡ []
               go _ (end e) z = e
-              go _ (one m p next l e) z = absurd (kind-some m z)
+              go _ (one m p next l e) z = absurd (kind_some m z)
 
           shaped : shape ≡ ok formula.0 (at [] formula.1.0.nodes)
-          shaped = behind formula.1.0 read.rest formula.0 formula.1.1.0 ∙ ap (λ ms. bind (ended ms formula.1.0.nodes) (λ _. return formula.0)) at-end
+          shaped = behind formula.1.0 read.rest formula.0 formula.1.1.0 ∙ ap (λ ms. bind (ended ms formula.1.0.nodes) (λ _. return formula.0)) at_end
 
-          judged : questionOf n k v s ≡ judgedAs (length s) (questionIn formula.0) (firstUnfit n (claims k (most_of v) formula.0))
+          judged : question_of n k v s ≡ judged_as (length s) (question_in formula.0) (first_unfit n (claims k (most_of v) formula.0))
           judged =
-              let y : Reached s [] = subst (λ (x : Result (Formula Item)). Held (Reached s) (reached-next s) x) shaped held in
-              let o : firstOutside (marksAt 0 s 0) ≡ none = sym y.2 in
-              read_short ∙ ap (markedAs n k v (length s) (marksAt 0 s 0)) o ∙ ap (shapedAs n k v (length s)) shaped
+              let y : Reached s [] = subst (λ (x : Result (Formula Item)). Held (Reached s) (reached_next s) x) shaped held in
+              let o : first_outside (marks_at 0 s 0) ≡ none = sym y.2 in
+              read_short ∙ ap (marked_as n k v (length s) (marks_at 0 s 0)) o ∙ ap (shaped_as n k v (length s)) shaped
 
-          module _ (least : 1 ≤ n) (most : n ≤ mostSeats) (last : List ℕ) (settles : refusalIn last ≡ settled n (lateIn r.state)) where
-            tells : refusalIn last ≡ verdict (length s) (firstUnfit n (claims k (most_of v) formula.0))
-            tells = settles ∙ ap (settled n) read.late ∙ settled-question (length s) n least most k v formula.0
+          module _ (least : 1 ≤ n) (most : n ≤ most_seats) (last : List ℕ) (settles : refusal_in last ≡ settled n (late_in r.state)) where
+            tells : refusal_in last ≡ verdict (length s) (first_unfit n (claims k (most_of v) formula.0))
+            tells = settles ∙ ap (settled n) read.late ∙ settled_question (length s) n least most k v formula.0
 
-            pub broken : (get_or last atStop 0 ≡ 0 → ⊥) → QuestionRead (questionOf n k v s) was is (refusedWith (record { number = get_or last atStop 0; place = get_or last atStopPlace 0 }))
-            broken z = rw judged (go (firstUnfit n (claims k (most_of v) formula.0)) tells)
+            pub broken : (get_or last at_stop 0 ≡ 0 → ⊥) → QuestionRead (question_of n k v s) was is (refused_with (record { number = get_or last at_stop 0; place = get_or last at_stop_place 0 }))
+            broken z = rw judged (go (first_unfit n (claims k (most_of v) formula.0)) tells)
               where
-                go : (w : Verdict) → refusalIn last ≡ verdict (length s) w
-                    → QuestionRead (judgedAs (length s) (questionIn formula.0) w) was is (refusedWith (record { number = get_or last atStop 0; place = get_or last atStopPlace 0 }))
+                go : (w : Verdict) → refusal_in last ≡ verdict (length s) w
+                    → QuestionRead (judged_as (length s) (question_in formula.0) w) was is (refused_with (record { number = get_or last at_stop 0; place = get_or last at_stop_place 0 }))
                 go fine e = absurd (z (ap (λ (u : Refusal). u.number) e))
-                go (wrong m p) e = record { number = ap inQuestion (sym (ap (λ (u : Refusal). u.number) e)); place = ap (λ (u : Refusal). u.place) e; some = z }
+                go (wrong m p) e = record { number = ap in_question (sym (ap (λ (u : Refusal). u.number) e)); place = ap (λ (u : Refusal). u.place) e; some = z }
 
-            pub understood : get_or last atStop 0 ≡ 0 → QuestionRead (questionOf n k v s) was is (record { number = 0; place = 0; root = freeIn r.state - 1 })
+            pub understood : get_or last at_stop 0 ≡ 0 → QuestionRead (question_of n k v s) was is (record { number = 0; place = 0; root = free_in r.state - 1 })
             understood z =
-                let all : firstUnfit n (claims k (most_of v) formula.0) ≡ fine = none-unfit (length s) n least most (claims k (most_of v) formula.0) (sym (ap (λ (u : Refusal). u.number) tells) ∙ z) in
-                let same = same-leaves n k v least formula.0 all in
-                rw (judged ∙ ap (judgedAs (length s) (questionIn formula.0)) all) (record {
+                let all : first_unfit n (claims k (most_of v) formula.0) ≡ fine = none_unfit (length s) n least most (claims k (most_of v) formula.0) (sym (ap (λ (u : Refusal). u.number) tells) ∙ z) in
+                let same = same_leaves n k v least formula.0 all in
+                rw (judged ∙ ap (judged_as (length s) (question_in formula.0)) all) (record {
                   number = refl;
-                  root = root_is (leavesOf (questions v) formula.0) (omega (arith, read.free, size-over (questions v).leaf formula.0)) ∙ ap below same;
+                  root = root_is (leaves_of (questions v) formula.0) (omega (arith, read.free, size_over (questions v).leaf formula.0)) ∙ ap below same;
                   nodes = read.nodes ∙ ap (λ g. stored was 0 (cells g 0)) same;
                 })
               where
-                root_is : (g : Formula Leaf) → freeIn r.state ≡ size g → freeIn r.state - 1 ≡ below g
+                root_is : (g : Formula Leaf) → free_in r.state ≡ size g → free_in r.state - 1 ≡ below g
                 root_is g e = omega (arith, size_below g, e)

@@ -1,9 +1,9 @@
 // A whole question, from its bytes, on a card of so many seats with this top state and so many values of its shared number (document 02, 2026-01
 // and 2026-10).
 ghost use Rattle.std.specs.Prelude.{◌≡◌, ◌≤◌};
-ghost use Rattle.card.specs.Limits.{mostSeats, mostShared};
-ghost use Rattle.asking.specs.Asking.{questionOf};
-ghost use Rattle.question.specs.QuestionRead.{refusedWith, QuestionRead};
+ghost use Rattle.card.specs.Limits.{most_seats, most_shared};
+ghost use Rattle.asking.specs.Asking.{question_of};
+ghost use Rattle.question.specs.QuestionRead.{refused_with, QuestionRead};
 
 use card::limits::{CARD_BYTES, MOST_DEPTH, MOST_NODES, NODE_PLACES};
 use card::refusals::{OUT_OF_SHAPE, TOO_LONG};
@@ -25,7 +25,7 @@ pub struct Understood {
 }
 
 fn refused(due: Due) -> Understood
-    ensures { result ≡ refusedWith due }
+    ensures { result ≡ refused_with due }
 {
     Understood {
         number: due.number,
@@ -42,9 +42,9 @@ pub fn question_into(
     top: usize,
     values: usize,
 ) -> Understood
-    requires le_seats { (1 ≤ seats) × (seats ≤ mostSeats) }
-    requires values_le_most_shared { values ≤ mostShared }
-    ensures { QuestionRead (questionOf seats top values question.now) nodes.old nodes.new result }
+    requires le_seats { (1 ≤ seats) × (seats ≤ most_seats) }
+    requires values_le_most_shared { values ≤ most_shared }
+    ensures { QuestionRead (question_of seats top values question.now) nodes.old nodes.new result }
 {
     if question.len() > CARD_BYTES {
         return refused(Due {

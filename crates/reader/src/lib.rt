@@ -1,7 +1,7 @@
 // A card, from its bytes: what is too long is refused, and all else is read in one pass, its beginning, its statements and its further modules, into lent arrays or as one value.
 ghost use Rattle.std.specs.Prelude.{◌≡◌, ◌≤◌, length};
-ghost use Rattle.card.specs.Limits.{cardBytes};
-ghost use Rattle.card.specs.Lent.{lent, noneLent};
+ghost use Rattle.card.specs.Limits.{card_bytes};
+ghost use Rattle.card.specs.Lent.{lent, none_lent};
 ghost use Rattle.outline.specs.ReadingOf.{ReadsUnder, Reads, ReadsInto};
 
 use branches::Bounds;
@@ -24,8 +24,8 @@ fn read_short(
     nodes: &mut [u32; NODE_PLACES],
     branches: &mut [u32; BRANCH_PLACES],
 ) -> Outline
-    requires card_len_bound { length card.now ≤ cardBytes }
-    requires branches_value { lent rows.old nodes.old branches.old ≡ noneLent }
+    requires card_len_bound { length card.now ≤ card_bytes }
+    requires branches_value { lent rows.old nodes.old branches.old ≡ none_lent }
     ensures { ReadsUnder decimals card.now result (lent rows.new nodes.new branches.new) }
 {
     let mut state: [usize; STATE] = [0; STATE];
@@ -74,7 +74,7 @@ pub fn read_under(
     nodes: &mut [u32; NODE_PLACES],
     branches: &mut [u32; BRANCH_PLACES],
 ) -> Outline
-    requires { lent rows.old nodes.old branches.old ≡ noneLent }
+    requires { lent rows.old nodes.old branches.old ≡ none_lent }
     ensures { ReadsUnder decimals card.now result (lent rows.new nodes.new branches.new) }
 {
     if card.len() > CARD_BYTES {
@@ -93,7 +93,7 @@ pub fn read_into(
     nodes: &mut [u32; NODE_PLACES],
     branches: &mut [u32; BRANCH_PLACES],
 ) -> Outline
-    requires { lent rows.old nodes.old branches.old ≡ noneLent }
+    requires { lent rows.old nodes.old branches.old ≡ none_lent }
     ensures { ReadsInto card.now result (lent rows.new nodes.new branches.new) }
 {
     read_under(card, Weight::DECIMALS, rows, nodes, branches)

@@ -10,50 +10,50 @@ use mathlib.Core.Option.{Option, none, some}
 use native.Mathlib.Omega.{arith}
 use lib.Dec.{eqb, leb}
 use lib.ListN.{length}
-use Rattle.card.specs.Limits.{cardBytes, mostSeats, topState, topShared, mostStatements, mostBranches, mostNodes, mostDepth, unit}
-use Rattle.card.specs.Refusals.{tooLong, outsideRules, pastLimit, aboveTop, notDue, wrongWeight, decimalWeight}
+use Rattle.card.specs.Limits.{card_bytes, most_seats, top_state, top_shared, most_statements, most_branches, most_nodes, most_depth, unit}
+use Rattle.card.specs.Refusals.{too_long, outside_rules, past_limit, above_top, not_due, wrong_weight, decimal_weight}
 use Rattle.card.specs.Text.{if◌then◌else◌}
 use Rattle.card.specs.Card.{Mode, any, all, Formula, atom, neg, and, or, Card}
-use Rattle.card.specs.Weight.{Weight, whole, decimal as point, ratio, unitsOf, Rule, allowed, weightRefusal}
+use Rattle.card.specs.Weight.{Weight, whole, decimal as point, ratio, units_of, Rule, allowed, weight_refusal}
 use Rattle.card.specs.Valid.{Every}
-use Rattle.marks_on_a_card.specs.Marks.{Mark, Placed, placed, marksOf}
-use Rattle.reading.specs.Reader.{Place, State, at, Result, ok, stop, Reader, bind, ◌>>=◌, ◌>>◌, return, refuse, refuseAt, took, the, nextIs, ifNext, sign, number_of, here, Numbered, numbered, spend, nodeAt, node, Item, exactly, seatWord, processWord, line}
-use Rattle.reading.specs.Guard.{is_some, testNext, ifAhead, Read, chain, conjunction, expression, grouped, unary}
-use Rattle.reading.specs.Group.{joint, literal, others, group, Literal, sharedTest, Tested, ofSeats, ofShared, tested}
-use Rattle.reading.specs.Judgements.{Judgement, sum, place_in, symmetric, totalUnits, unless, broken, Verdict, fine, wrong, or_else, firstBroken, firstState, judgedTest, judgedGuard}
-use Rattle.reading.specs.Shape.{BranchShape, StatementShape, Range, mode_of, zero_of, many, weightOf, over, weight, sets, branch, pastBranches, guard, mayHave, statement, copy, top, range, declaration, ended, theEnd, CardShape, modules, body, card}
-use Rattle.reading.specs.Checks.{judgedState, judgedWords, judgedSet, judgedBranch, judgedEach, judgedOr, weightIn, judgedStatement, moduleDues, judgedModules, judgedShared, mostIn, judgedCard, seatsIn, cardIn}
-use Rattle.reading.specs.Reading.{Outcome, taken, refused, firstOutside, judged, shaped, marked, readUnder, Refuses}
+use Rattle.marks_on_a_card.specs.Marks.{Mark, Placed, placed, marks_of}
+use Rattle.reading.specs.Reader.{Place, State, at, Result, ok, stop, Reader, bind, ◌>>=◌, ◌>>◌, return, refuse, refuse_at, took, the, next_is, if_next, sign, number_of, here, Numbered, numbered, spend, node_at, node, Item, exactly, seat_word, process_word, line}
+use Rattle.reading.specs.Guard.{is_some, test_next, if_ahead, Read, chain, conjunction, expression, grouped, unary}
+use Rattle.reading.specs.Group.{joint, literal, others, group, Literal, shared_test, Tested, of_seats, of_shared, tested}
+use Rattle.reading.specs.Judgements.{Judgement, sum, place_in, symmetric, total_units, unless, broken, Verdict, fine, wrong, or_else, first_broken, first_state, judged_test, judged_guard}
+use Rattle.reading.specs.Shape.{BranchShape, StatementShape, Range, mode_of, zero_of, many, weight_of, over, weight, sets, branch, past_branches, guard, may_have, statement, copy, top, range, declaration, ended, the_end, CardShape, modules, body, card}
+use Rattle.reading.specs.Checks.{judged_state, judged_words, judged_set, judged_branch, judged_each, judged_or, weight_in, judged_statement, module_dues, judged_modules, judged_shared, most_in, judged_card, seats_in, card_in}
+use Rattle.reading.specs.Reading.{Outcome, taken, refused, first_outside, judged, shaped, marked, read_under, Refuses}
 
 -- ---- readers
 
 abbrev Small : {A : Type 0} → Result A → Type 0
 Small (ok a s) = Unit {0}
-Small (stop r p) = r ≤ wrongWeight
+Small (stop r p) = r ≤ wrong_weight
 
 record Modest {A : Type 0} (p : Reader A) : Type 0 where
   stops : (s : State) → Small (p s)
 
 module _ {A B : Type 0} where
-  small-bind : (x : Result A) (f : A → Reader B) → Small x → ((a : A) → Modest (f a)) → Small (bind x f)
-  small-bind (ok a s) f h m = (m a).stops s
-  small-bind (stop r p) f h m = h
+  small_bind : (x : Result A) (f : A → Reader B) → Small x → ((a : A) → Modest (f a)) → Small (bind x f)
+  small_bind (ok a s) f h m = (m a).stops s
+  small_bind (stop r p) f h m = h
 
-  then-each : {p : Reader A} {f : A → Reader B} → Modest p → ((a : A) → Modest (f a)) → Modest (p >>= f)
-  then-each {p} {f} h m = record { stops = λ s. small-bind (p s) f (h.stops s) m }
+  then_each : {p : Reader A} {f : A → Reader B} → Modest p → ((a : A) → Modest (f a)) → Modest (p >>= f)
+  then_each {p} {f} h m = record { stops = λ s. small_bind (p s) f (h.stops s) m }
 
   then_one : {p : Reader A} {q : Reader B} → Modest p → Modest q → Modest (p >> q)
-  then_one {p} {q} h m = record { stops = λ s. small-bind (p s) (λ _. q) (h.stops s) (λ a. m) }
+  then_one {p} {q} h m = record { stops = λ s. small_bind (p s) (λ _. q) (h.stops s) (λ a. m) }
 
 module _ {A : Type 0} where
   returns : (a : A) → Modest (return a)
   returns a = record { stops = λ s. tt }
 
-  refuses : (r : ℕ) → r ≤ wrongWeight → Modest {A = A} (refuse r)
+  refuses : (r : ℕ) → r ≤ wrong_weight → Modest {A = A} (refuse r)
   refuses r h = record { stops = λ s. h }
 
-  refuses-at : (r : ℕ) (p : Place) → r ≤ wrongWeight → Modest {A = A} (refuseAt r p)
-  refuses-at r p h = record { stops = λ s. h }
+  refuses_at : (r : ℕ) (p : Place) → r ≤ wrong_weight → Modest {A = A} (refuse_at r p)
+  refuses_at r p h = record { stops = λ s. h }
 
   takes : (f : Mark → Option A) → Modest (the f)
   takes f = record { stops = λ s. go s.marks s.nodes }
@@ -70,11 +70,11 @@ module _ {A : Type 0} where
   either true s h m = h.stops s
   either false s h m = m.stops s
 
-  if-next : {t : String} {p q : Reader A} → Modest p → Modest q → Modest (ifNext t p q)
-  if-next {t} {p} {q} h m = record { stops = λ s. either (nextIs t s.marks) s h m }
+  if_next_law : {t : String} {p q : Reader A} → Modest p → Modest q → Modest (if_next t p q)
+  if_next_law {t} {p} {q} h m = record { stops = λ s. either (next_is t s.marks) s h m }
 
-  if-ahead : (starts : Place → Bool) {p q : Reader A} → Modest p → Modest q → Modest (ifAhead starts p q)
-  if-ahead starts {p} {q} h m = record { stops = λ s. either (starts s.marks) s h m }
+  if_ahead_law : (starts : Place → Bool) {p q : Reader A} → Modest p → Modest q → Modest (if_ahead starts p q)
+  if_ahead_law starts {p} {q} h m = record { stops = λ s. either (starts s.marks) s h m }
 
 signs : (t : String) → Modest (sign t)
 signs t = takes _
@@ -83,151 +83,151 @@ places : Modest here
 places = record { stops = λ s. tt }
 
 numbers : (f : Mark → Option ℕ) → Modest (numbered f)
-numbers f = then-each places (λ p. then-each (takes f) (λ v. returns _))
+numbers f = then_each places (λ p. then_each (takes f) (λ v. returns _))
 
-small-spend : (p ms : Place) (n : ℕ) → Small (spend p ms n)
-small-spend p ms zero = omega arith
-small-spend p ms (suc n) = tt
+small_spend : (p ms : Place) (n : ℕ) → Small (spend p ms n)
+small_spend p ms zero = omega arith
+small_spend p ms (suc n) = tt
 
-nodes-at : (p : Place) → Modest (nodeAt p)
-nodes-at p = record { stops = λ s. small-spend p s.marks s.nodes }
+nodes_at : (p : Place) → Modest (node_at p)
+nodes_at p = record { stops = λ s. small_spend p s.marks s.nodes }
 
 nodes : Modest node
-nodes = record { stops = λ s. small-spend s.marks s.marks s.nodes }
+nodes = record { stops = λ s. small_spend s.marks s.marks s.nodes }
 
 lines : (items : List Item) → Modest (line items)
 lines [] = returns _
 lines (exactly t ∷ items) = then_one (signs t) (lines items)
-lines (seatWord ∷ items) = then-each (numbers _) (λ w. then-each (lines items) (λ ws. returns _))
-lines (processWord ∷ items) = then-each (numbers _) (λ w. then-each (lines items) (λ ws. returns _))
+lines (seat_word ∷ items) = then_each (numbers _) (λ w. then_each (lines items) (λ ws. returns _))
+lines (process_word ∷ items) = then_each (numbers _) (λ w. then_each (lines items) (λ ws. returns _))
 
 -- ---- guards
 
 module _ {A : Type 0} where
   chains : (t : String) (join : Formula A → Formula A → Formula A) {operand : Read A} → Modest operand → (most : ℕ) (g : Formula A)
       → Modest (chain t join operand most g)
-  chains t join o zero g = if-next (refuses pastLimit (omega arith)) (returns g)
+  chains t join o zero g = if_next_law (refuses past_limit (omega arith)) (returns g)
   chains t join o (suc most) g =
-      if-next (then_one nodes (then_one (signs t) (then-each o (λ h. chains t join o most (join g h))))) (returns g)
+      if_next_law (then_one nodes (then_one (signs t) (then_each o (λ h. chains t join o most (join g h))))) (returns g)
 
   conjunctions : {p : Read A} → Modest p → Modest (conjunction p)
-  conjunctions h = then-each h (λ g. chains "&" and h mostNodes g)
+  conjunctions h = then_each h (λ g. chains "&" and h most_nodes g)
 
   expressions : {p : Read A} → Modest p → Modest (expression p)
-  expressions h = then-each (conjunctions h) (λ g. chains "|" or (conjunctions h) mostNodes g)
+  expressions h = then_each (conjunctions h) (λ g. chains "|" or (conjunctions h) most_nodes g)
 
   module _ (one : Place → Reader A) (m : (p : Place) → Modest (one p)) where
     groups : (p : Place) → Modest (grouped one p)
-    groups p = then_one (nodes-at p) (then-each (m p) (λ a. returns _))
+    groups p = then_one (nodes_at p) (then_each (m p) (λ a. returns _))
 
     unaries : (shared : Bool) (depth : ℕ) → Modest (unary shared one depth)
     unaries shared zero =
-        if-next (refuses pastLimit (omega arith))
-        (then-each places (λ p. then_one (signs "(") (if-ahead (testNext shared) (groups p) (refuses-at pastLimit p (omega arith)))))
+        if_next_law (refuses past_limit (omega arith))
+        (then_each places (λ p. then_one (signs "(") (if_ahead_law (test_next shared) (groups p) (refuses_at past_limit p (omega arith)))))
     unaries shared (suc depth) =
-        if-next (then_one nodes (then_one (signs "!") (then-each (unaries shared depth) (λ g. returns _))))
-        (then-each places (λ p. then_one (signs "(")
-        (if-ahead (testNext shared) (groups p) (then-each (expressions (unaries shared depth)) (λ g. then_one (signs ")") (returns g))))))
+        if_next_law (then_one nodes (then_one (signs "!") (then_each (unaries shared depth) (λ g. returns _))))
+        (then_each places (λ p. then_one (signs "(")
+        (if_ahead_law (test_next shared) (groups p) (then_each (expressions (unaries shared depth)) (λ g. then_one (signs ")") (returns g))))))
 
 literals : Modest literal
-literals = then-each (takes _) (λ i. then-each (takes _) (λ q. then-each places (λ p. then-each (takes _) (λ d. returns _))))
+literals = then_each (takes _) (λ i. then_each (takes _) (λ q. then_each places (λ p. then_each (takes _) (λ d. returns _))))
 
-more-literals : (t : String) (most : ℕ) → Modest (others t most)
-more-literals t zero = if-next (refuses pastLimit (omega arith)) (then_one (signs ")") (returns _))
-more-literals t (suc most) =
-    if-next (then_one (signs t) (then-each literals (λ l. then-each (more-literals t most) (λ ls. returns _)))) (then_one (signs ")") (returns _))
+more_literals : (t : String) (most : ℕ) → Modest (others t most)
+more_literals t zero = if_next_law (refuses past_limit (omega arith)) (then_one (signs ")") (returns _))
+more_literals t (suc most) =
+    if_next_law (then_one (signs t) (then_each literals (λ l. then_each (more_literals t most) (λ ls. returns _)))) (then_one (signs ")") (returns _))
 
-whole-groups : (p : Place) → Modest (group p)
-whole-groups p =
-    then-each literals (λ l. then-each places (λ rest. then-each (if-next (returns any) (returns all))
-    (λ s. then-each (more-literals (joint s) (length rest)) (λ ls. returns _))))
+whole_groups : (p : Place) → Modest (group p)
+whole_groups p =
+    then_each literals (λ l. then_each places (λ rest. then_each (if_next_law (returns any) (returns all))
+    (λ s. then_each (more_literals (joint s) (length rest)) (λ ls. returns _))))
 
-shared-tests : Modest sharedTest
-shared-tests = then_one (signs "g") (then-each (takes _) (λ q. then-each (numbers _) (λ v. then_one (signs ")") (returns _))))
+shared_tests : Modest shared_test
+shared_tests = then_one (signs "g") (then_each (takes _) (λ q. then_each (numbers _) (λ v. then_one (signs ")") (returns _))))
 
 tests : (p : Place) → Modest (tested p)
-tests p = if-next (then-each shared-tests (λ x. returns _)) (then-each (whole-groups p) (λ x. returns _))
+tests p = if_next_law (then_each shared_tests (λ x. returns _)) (then_each (whole_groups p) (λ x. returns _))
 
 -- ---- the card
 
 counts : {A : Type 0} (most : ℕ) (t : String) {one : Reader A} {past : Reader (List A)} → Modest one → Modest past → Modest (many most t one past)
-counts zero t o p = if-next p (returns [])
-counts (suc most) t o p = if-next (then-each o (λ x. then-each (counts most t o p) (λ xs. returns _))) (returns [])
+counts zero t o p = if_next_law p (returns [])
+counts (suc most) t o p = if_next_law (then_each o (λ x. then_each (counts most t o p) (λ xs. returns _))) (returns [])
 
 overs : (w : Weight) → Modest (over w)
-overs (whole a) = if-next (then_one (signs "/") (then-each (takes _) (λ b. returns _))) (returns _)
+overs (whole a) = if_next_law (then_one (signs "/") (then_each (takes _) (λ b. returns _))) (returns _)
 overs (point v n f) = returns _
 overs (ratio a b) = returns _
 
 weights : Modest weight
-weights = then-each (takes weightOf) (λ w. overs w)
+weights = then_each (takes weight_of) (λ w. overs w)
 
 settings : (shared : Bool) → Modest (sets shared)
 settings false = returns none
 settings true =
-    if-next (then-each (lines (exactly "&" ∷ exactly "(" ∷ exactly "g" ∷ exactly "'" ∷ exactly "=" ∷ [])) (λ ws.
-    then-each (numbers number_of) (λ v. then_one (signs ")") (returns (some v))))) (returns none)
+    if_next_law (then_each (lines (exactly "&" ∷ exactly "(" ∷ exactly "g" ∷ exactly "'" ∷ exactly "=" ∷ [])) (λ ws.
+    then_each (numbers number_of) (λ v. then_one (signs ")") (returns (some v))))) (returns none)
 
 branches : (shared : Bool) → Modest (branch shared)
 branches shared =
-    then-each places (λ p. then-each weights (λ w. then-each (lines (exactly ":" ∷ exactly "(" ∷ seatWord ∷ exactly "'" ∷ exactly "=" ∷ []))
-    (λ ws. then-each (numbers number_of) (λ t. then_one (signs ")") (then-each (settings shared) (λ v.
+    then_each places (λ p. then_each weights (λ w. then_each (lines (exactly ":" ∷ exactly "(" ∷ seat_word ∷ exactly "'" ∷ exactly "=" ∷ []))
+    (λ ws. then_each (numbers number_of) (λ t. then_one (signs ")") (then_each (settings shared) (λ v.
     returns (record { place = p; weight = w; words = ws; end = t; sets = v })))))))
 
-past-branches : Modest pastBranches
-past-branches = then_one (signs "+") (then-each places (λ p. then-each (takes weightOf) (λ w. refuses-at pastLimit p (omega arith))))
+past_branches_law : Modest past_branches
+past_branches_law = then_one (signs "+") (then_each places (λ p. then_each (takes weight_of) (λ w. refuses_at past_limit p (omega arith))))
 
 guards : (shared : Bool) → Modest (guard shared)
 unfolding guard
-guards shared = if-next (then_one (signs "&") (then-each (conjunctions (unaries tested tests shared mostDepth)) (λ g. returns _))) (returns none)
+guards shared = if_next_law (then_one (signs "&") (then_each (conjunctions (unaries tested tests shared most_depth)) (λ g. returns _))) (returns none)
 
-may-have : (n : ℕ) → Modest (mayHave n)
-may-have n = record { stops = λ s. tt }
+may_have_law : (n : ℕ) → Modest (may_have n)
+may_have_law n = record { stops = λ s. tt }
 
 statements : (shared : Bool) → Modest (statement shared)
 statements shared =
-    then-each (lines (exactly "[" ∷ exactly "]" ∷ seatWord ∷ exactly "=" ∷ [])) (λ ws. then-each (numbers number_of) (λ j.
-    then_one (may-have mostNodes) (then-each (guards shared) (λ g. then_one (signs "->") (then-each (branches shared) (λ b.
-    then-each (counts (mostBranches - 1) "+" (then_one (signs "+") (branches shared)) past-branches) (λ bs.
-    then-each places (λ p. then_one (signs ";") (returns (record { words = ws; own = j; guard = g; branches = b ∷ bs; close = p }))))))))))
+    then_each (lines (exactly "[" ∷ exactly "]" ∷ seat_word ∷ exactly "=" ∷ [])) (λ ws. then_each (numbers number_of) (λ j.
+    then_one (may_have_law most_nodes) (then_each (guards shared) (λ g. then_one (signs "->") (then_each (branches shared) (λ b.
+    then_each (counts (most_branches - 1) "+" (then_one (signs "+") (branches shared)) past_branches_law) (λ bs.
+    then_each places (λ p. then_one (signs ";") (returns (record { words = ws; own = j; guard = g; branches = b ∷ bs; close = p }))))))))))
 
 copies : Modest copy
 copies =
     lines
-    (exactly "module" ∷ processWord ∷ exactly "=" ∷ processWord
-    ∷ exactly "[" ∷ seatWord ∷ exactly "=" ∷ seatWord ∷ exactly "," ∷ seatWord ∷ exactly "=" ∷ seatWord ∷ exactly "]"
+    (exactly "module" ∷ process_word ∷ exactly "=" ∷ process_word
+    ∷ exactly "[" ∷ seat_word ∷ exactly "=" ∷ seat_word ∷ exactly "," ∷ seat_word ∷ exactly "=" ∷ seat_word ∷ exactly "]"
     ∷ exactly "endmodule" ∷ [])
 
 tops : (most : ℕ) → Modest (top most)
-tops most = then-each places (λ p. then-each (takes _) (λ k. record { stops = λ s. either (leb k most) s (returns k) (refuses-at pastLimit p (omega arith)) }))
+tops most = then_each places (λ p. then_each (takes _) (λ k. record { stops = λ s. either (leb k most) s (returns k) (refuses_at past_limit p (omega arith)) }))
 
 ranges : (most : ℕ) → Modest (range most)
 ranges most =
-    then-each (takes zero_of) (λ z. then_one (signs "..") (then-each (tops most) (λ k. then_one (signs "]") (then_one (signs "init")
-    (then-each (numbers number_of) (λ l. then_one (signs ";") (returns (record { top = k; start = l }))))))))
+    then_each (takes zero_of) (λ z. then_one (signs "..") (then_each (tops most) (λ k. then_one (signs "]") (then_one (signs "init")
+    (then_each (numbers number_of) (λ l. then_one (signs ";") (returns (record { top = k; start = l }))))))))
 
 declarations : Modest declaration
-declarations = then-each (lines (exactly "global" ∷ exactly "g" ∷ exactly ":" ∷ exactly "[" ∷ [])) (λ ws. ranges topShared)
+declarations = then_each (lines (exactly "global" ∷ exactly "g" ∷ exactly ":" ∷ exactly "[" ∷ [])) (λ ws. ranges top_shared)
 
-ends : Modest theEnd
+ends : Modest the_end
 ends = record { stops = λ s. go s.marks s.nodes }
   where
     go : (ms : Place) (n : ℕ) → Small (ended ms n)
     go [] n = tt
     go (m ∷ ms) n = omega arith
 
-all-modules : (mode : Mode) (g : Option Range) → Modest (modules mode g)
-all-modules mode g =
-    then-each (lines (exactly "module" ∷ processWord ∷ seatWord ∷ exactly ":" ∷ exactly "[" ∷ [])) (λ ws. then-each (ranges topState) (λ r.
-    then-each (statements (is_some g)) (λ x. then-each (counts (mostStatements - 1) "[" (statements (is_some g)) (refuses pastLimit (omega arith))) (λ xs.
-    then_one (signs "endmodule") (then-each (counts (mostSeats - 1) "module" copies (refuses pastLimit (omega arith))) (λ ms.
+all_modules : (mode : Mode) (g : Option Range) → Modest (modules mode g)
+all_modules mode g =
+    then_each (lines (exactly "module" ∷ process_word ∷ seat_word ∷ exactly ":" ∷ exactly "[" ∷ [])) (λ ws. then_each (ranges top_state) (λ r.
+    then_each (statements (is_some g)) (λ x. then_each (counts (most_statements - 1) "[" (statements (is_some g)) (refuses past_limit (omega arith))) (λ xs.
+    then_one (signs "endmodule") (then_each (counts (most_seats - 1) "module" copies (refuses past_limit (omega arith))) (λ ms.
     returns (record { mode = mode; shared = g; words = ws; k = r.top; l = r.start; statements = x ∷ xs; modules = ms })))))))
 
 bodies : Modest body
-bodies = then-each (takes mode_of) (λ mode. if-next (then-each declarations (λ g. all-modules mode (some g))) (all-modules mode none))
+bodies = then_each (takes mode_of) (λ mode. if_next_law (then_each declarations (λ g. all_modules mode (some g))) (all_modules mode none))
 
 cards : Modest card
-cards = then-each bodies (λ c. then_one ends (returns c))
+cards = then_each bodies (λ c. then_one ends (returns c))
 
 -- ---- judgements, by a rule of a weight
 
@@ -239,111 +239,111 @@ module _ (decimals : Rule) where
   abbrev SmallBroken : Judgement → Type 0
   SmallBroken j = (n : ℕ) → SmallOr (broken n j)
 
-  small-unless : (b : Bool) (r : ℕ) → Refuses decimals r → SmallOr (unless b r)
-  small-unless true r h = tt
-  small-unless false r h = h
+  small_unless : (b : Bool) (r : ℕ) → Refuses decimals r → SmallOr (unless b r)
+  small_unless true r h = tt
+  small_unless false r h = h
 
-  seven : (r : ℕ) → r ≤ wrongWeight → Refuses decimals r
+  seven : (r : ℕ) → r ≤ wrong_weight → Refuses decimals r
   seven r h = go decimals
     where
       go : (b : Bool) → Refuses b r
       go true = h
       go false = inl h
 
-  small-weight : (w : Weight) → Refuses decimals (weightRefusal decimals w)
-  small-weight (whole v) = seven wrongWeight (omega arith)
-  small-weight (point v n f) = go decimals
+  small_weight : (w : Weight) → Refuses decimals (weight_refusal decimals w)
+  small_weight (whole v) = seven wrong_weight (omega arith)
+  small_weight (point v n f) = go decimals
     where
-      go : (b : Bool) → Refuses b (if b then wrongWeight else decimalWeight)
+      go : (b : Bool) → Refuses b (if b then wrong_weight else decimal_weight)
       go true = omega arith
       go false = inr refl
-  small-weight (ratio a b) = seven wrongWeight (omega arith)
+  small_weight (ratio a b) = seven wrong_weight (omega arith)
 
-  every-join : (xs ys : List Judgement) → Every SmallBroken xs → Every SmallBroken ys → Every SmallBroken (xs ++ ys)
-  every-join [] ys h k = k
-  every-join (x ∷ xs) ys h k = (h.0, every-join xs ys h.1 k)
+  every_join : (xs ys : List Judgement) → Every SmallBroken xs → Every SmallBroken ys → Every SmallBroken (xs ++ ys)
+  every_join [] ys h k = k
+  every_join (x ∷ xs) ys h k = (h.0, every_join xs ys h.1 k)
 
-  small-state : (k : ℕ) (x : Numbered) → SmallBroken (judgedState k x)
-  small-state k x n = small-unless (leb x.value k) aboveTop (seven aboveTop (omega arith))
+  small_state : (k : ℕ) (x : Numbered) → SmallBroken (judged_state k x)
+  small_state k x n = small_unless (leb x.value k) above_top (seven above_top (omega arith))
 
-  small-words : (dues : List ℕ) (ws : List Numbered) → Every SmallBroken (judgedWords dues ws)
-  small-words [] [] = tt
-  small-words [] (w ∷ ws) = ((λ n. small-unless (eqb w.value (suc w.value)) notDue (seven notDue (omega arith))), small-words [] ws)
-  small-words (due ∷ dues) [] = tt
-  small-words (due ∷ dues) (w ∷ ws) = ((λ n. small-unless (eqb w.value due) notDue (seven notDue (omega arith))), small-words dues ws)
+  small_words : (dues : List ℕ) (ws : List Numbered) → Every SmallBroken (judged_words dues ws)
+  small_words [] [] = tt
+  small_words [] (w ∷ ws) = ((λ n. small_unless (eqb w.value (suc w.value)) not_due (seven not_due (omega arith))), small_words [] ws)
+  small_words (due ∷ dues) [] = tt
+  small_words (due ∷ dues) (w ∷ ws) = ((λ n. small_unless (eqb w.value due) not_due (seven not_due (omega arith))), small_words dues ws)
 
-  small-first-state : (k : ℕ) (ls : List Literal) → Every SmallBroken (firstState k ls)
-  small-first-state k [] = tt
-  small-first-state k (l ∷ ls) = ((λ n. small-unless (leb l.d k) aboveTop (seven aboveTop (omega arith))), tt)
+  small_first_state : (k : ℕ) (ls : List Literal) → Every SmallBroken (first_state k ls)
+  small_first_state k [] = tt
+  small_first_state k (l ∷ ls) = ((λ n. small_unless (leb l.d k) above_top (seven above_top (omega arith))), tt)
 
-  small-test : (k m : ℕ) (x : Tested) → Every SmallBroken (judgedTest k m x)
-  small-test k m (ofSeats g) = ((λ n. small-unless (symmetric n g.literals) notDue (seven notDue (omega arith))), small-first-state k g.literals)
-  small-test k m (ofShared x) = (small-state m x.value, tt)
+  small_test : (k m : ℕ) (x : Tested) → Every SmallBroken (judged_test k m x)
+  small_test k m (of_seats g) = ((λ n. small_unless (symmetric n g.literals) not_due (seven not_due (omega arith))), small_first_state k g.literals)
+  small_test k m (of_shared x) = (small_state m x.value, tt)
 
-  small-guard : (k m : ℕ) (g : Formula Tested) → Every SmallBroken (judgedGuard k m g)
-  small-guard k m (atom x) = small-test k m x
-  small-guard k m (neg g) = small-guard k m g
-  small-guard k m (and g h) = every-join (judgedGuard k m g) (judgedGuard k m h) (small-guard k m g) (small-guard k m h)
-  small-guard k m (or g h) = every-join (judgedGuard k m g) (judgedGuard k m h) (small-guard k m g) (small-guard k m h)
+  small_guard : (k m : ℕ) (g : Formula Tested) → Every SmallBroken (judged_guard k m g)
+  small_guard k m (atom x) = small_test k m x
+  small_guard k m (neg g) = small_guard k m g
+  small_guard k m (and g h) = every_join (judged_guard k m g) (judged_guard k m h) (small_guard k m g) (small_guard k m h)
+  small_guard k m (or g h) = every_join (judged_guard k m g) (judged_guard k m h) (small_guard k m g) (small_guard k m h)
 
-  small-or : (k m : ℕ) (o : Option (Formula Tested)) → Every SmallBroken (judgedOr k m o)
-  small-or k m none = tt
-  small-or k m (some g) = small-guard k m g
+  small_or : (k m : ℕ) (o : Option (Formula Tested)) → Every SmallBroken (judged_or k m o)
+  small_or k m none = tt
+  small_or k m (some g) = small_guard k m g
 
-  small-each : {A : Type 0} (f : A → List Judgement) → ((x : A) → Every SmallBroken (f x)) → (xs : List A) → Every SmallBroken (judgedEach f xs)
-  small-each f h [] = tt
-  small-each f h (x ∷ xs) = every-join (f x) (judgedEach f xs) (h x) (small-each f h xs)
+  small_each : {A : Type 0} (f : A → List Judgement) → ((x : A) → Every SmallBroken (f x)) → (xs : List A) → Every SmallBroken (judged_each f xs)
+  small_each f h [] = tt
+  small_each f h (x ∷ xs) = every_join (f x) (judged_each f xs) (h x) (small_each f h xs)
 
-  small-set : (m : ℕ) (o : Option Numbered) → Every SmallBroken (judgedSet m o)
-  small-set m none = tt
-  small-set m (some v) = (small-state m v, tt)
+  small_set : (m : ℕ) (o : Option Numbered) → Every SmallBroken (judged_set m o)
+  small_set m none = tt
+  small_set m (some v) = (small_state m v, tt)
 
-  small-branch : (k m : ℕ) (b : BranchShape) → Every SmallBroken (judgedBranch decimals k m b)
-  small-branch k m b = (
-    (λ n. small-unless (allowed decimals b.weight && is_some (unitsOf b.weight)) (weightRefusal decimals b.weight) (small-weight b.weight)),
-    every-join (judgedWords (1 ∷ []) b.words) (judgedState k b.end ∷ judgedSet m b.sets) (small-words (1 ∷ []) b.words) (small-state k b.end, small-set m b.sets),
+  small_branch : (k m : ℕ) (b : BranchShape) → Every SmallBroken (judged_branch decimals k m b)
+  small_branch k m b = (
+    (λ n. small_unless (allowed decimals b.weight && is_some (units_of b.weight)) (weight_refusal decimals b.weight) (small_weight b.weight)),
+    every_join (judged_words (1 ∷ []) b.words) (judged_state k b.end ∷ judged_set m b.sets) (small_words (1 ∷ []) b.words) (small_state k b.end, small_set m b.sets),
   )
 
-  small-statement : (k m : ℕ) (x : StatementShape) → Every SmallBroken (judgedStatement decimals k m x)
-  small-statement k m x =
-      let total : List Judgement = sum (map weightIn x.branches) x.close ∷ [] in
-      let moves = judgedEach (judgedBranch decimals k m) x.branches in
-      every-join (judgedWords (1 ∷ []) x.words) _ (small-words (1 ∷ []) x.words) (
-        small-state k x.own,
-        every-join (judgedOr k m x.guard) (moves ++ total) (small-or k m x.guard)
-            (every-join moves total (small-each (judgedBranch decimals k m) (small-branch k m) x.branches)
-            ((λ n. small-unless (eqb (totalUnits (map weightIn x.branches)) unit) wrongWeight (seven wrongWeight (omega arith))), tt)),
+  small_statement : (k m : ℕ) (x : StatementShape) → Every SmallBroken (judged_statement decimals k m x)
+  small_statement k m x =
+      let total : List Judgement = sum (map weight_in x.branches) x.close ∷ [] in
+      let moves = judged_each (judged_branch decimals k m) x.branches in
+      every_join (judged_words (1 ∷ []) x.words) _ (small_words (1 ∷ []) x.words) (
+        small_state k x.own,
+        every_join (judged_or k m x.guard) (moves ++ total) (small_or k m x.guard)
+            (every_join moves total (small_each (judged_branch decimals k m) (small_branch k m) x.branches)
+            ((λ n. small_unless (eqb (total_units (map weight_in x.branches)) unit) wrong_weight (seven wrong_weight (omega arith))), tt)),
       )
 
-  small-modules : (i : ℕ) (ms : List (List Numbered)) → Every SmallBroken (judgedModules i ms)
-  small-modules i [] = tt
-  small-modules i (m ∷ ms) = every-join (judgedWords (moduleDues i) m) (judgedModules (suc i) ms) (small-words (moduleDues i) m) (small-modules (suc i) ms)
+  small_modules : (i : ℕ) (ms : List (List Numbered)) → Every SmallBroken (judged_modules i ms)
+  small_modules i [] = tt
+  small_modules i (m ∷ ms) = every_join (judged_words (module_dues i) m) (judged_modules (suc i) ms) (small_words (module_dues i) m) (small_modules (suc i) ms)
 
-  small-shared : (g : Option Range) → Every SmallBroken (judgedShared g)
-  small-shared none = tt
-  small-shared (some r) = (small-state r.top r.start, tt)
+  small_shared : (g : Option Range) → Every SmallBroken (judged_shared g)
+  small_shared none = tt
+  small_shared (some r) = (small_state r.top r.start, tt)
 
-  small-card : (c : CardShape) → Every SmallBroken (judgedCard decimals c)
-  small-card c =
-      let m = mostIn c.shared in
-      every-join (judgedShared c.shared) _ (small-shared c.shared)
-      (every-join (judgedWords (1 ∷ 1 ∷ []) c.words) _ (small-words (1 ∷ 1 ∷ []) c.words) (
-        small-state c.k c.l,
-        every-join (judgedEach (judgedStatement decimals c.k m) c.statements) (judgedModules 2 c.modules)
-            (small-each (judgedStatement decimals c.k m) (small-statement c.k m) c.statements) (small-modules 2 c.modules),
+  small_card : (c : CardShape) → Every SmallBroken (judged_card decimals c)
+  small_card c =
+      let m = most_in c.shared in
+      every_join (judged_shared c.shared) _ (small_shared c.shared)
+      (every_join (judged_words (1 ∷ 1 ∷ []) c.words) _ (small_words (1 ∷ 1 ∷ []) c.words) (
+        small_state c.k c.l,
+        every_join (judged_each (judged_statement decimals c.k m) c.statements) (judged_modules 2 c.modules)
+            (small_each (judged_statement decimals c.k m) (small_statement c.k m) c.statements) (small_modules 2 c.modules),
       ))
 
   abbrev SmallVerdict : Verdict → Type 0
   SmallVerdict fine = Unit {0}
   SmallVerdict (wrong r p) = Refuses decimals r
 
-  small-else : (o : Option ℕ) (p : Place) (v : Verdict) → SmallOr o → SmallVerdict v → SmallVerdict (or_else o p v)
-  small-else none p v h k = k
-  small-else (some r) p v h k = h
+  small_else : (o : Option ℕ) (p : Place) (v : Verdict) → SmallOr o → SmallVerdict v → SmallVerdict (or_else o p v)
+  small_else none p v h k = k
+  small_else (some r) p v h k = h
 
-  small-first : (n : ℕ) (js : List Judgement) → Every SmallBroken js → SmallVerdict (firstBroken n js)
-  small-first n [] h = tt
-  small-first n (j ∷ js) h = small-else (broken n j) (place_in j) (firstBroken n js) (h.0 n) (small-first n js h.1)
+  small_first : (n : ℕ) (js : List Judgement) → Every SmallBroken js → SmallVerdict (first_broken n js)
+  small_first n [] h = tt
+  small_first n (j ∷ js) h = small_else (broken n j) (place_in j) (first_broken n js) (h.0 n) (small_first n js h.1)
 
   -- ---- reading
 
@@ -351,25 +351,25 @@ module _ (decimals : Rule) where
   SmallOutcome (taken c) = Unit {0}
   SmallOutcome (refused r p) = Refuses decimals r
 
-  small-judged : (e : ℕ) (c : Card) (v : Verdict) → SmallVerdict v → SmallOutcome (judged e c v)
-  small-judged e c fine h = tt
-  small-judged e c (wrong r p) h = h
+  small_judged : (e : ℕ) (c : Card) (v : Verdict) → SmallVerdict v → SmallOutcome (judged e c v)
+  small_judged e c fine h = tt
+  small_judged e c (wrong r p) h = h
 
-  small-shaped : (e : ℕ) (x : Result CardShape) → Small x → SmallOutcome (shaped decimals e x)
-  small-shaped e (ok c s) h = small-judged e (cardIn c) (firstBroken (seatsIn c) (judgedCard decimals c)) (small-first (seatsIn c) (judgedCard decimals c) (small-card c))
-  small-shaped e (stop r p) h = seven r h
+  small_shaped : (e : ℕ) (x : Result CardShape) → Small x → SmallOutcome (shaped decimals e x)
+  small_shaped e (ok c s) h = small_judged e (card_in c) (first_broken (seats_in c) (judged_card decimals c)) (small_first (seats_in c) (judged_card decimals c) (small_card c))
+  small_shaped e (stop r p) h = seven r h
 
-  small-marked : (e : ℕ) (ms : List Placed) (o : Option ℕ) → SmallOutcome (marked decimals e ms o)
-  small-marked e ms none = small-shaped e (card (at ms zero)) (cards.stops (at ms zero))
-  small-marked e ms (some p) = seven outsideRules (omega arith)
+  small_marked : (e : ℕ) (ms : List Placed) (o : Option ℕ) → SmallOutcome (marked decimals e ms o)
+  small_marked e ms none = small_shaped e (card (at ms zero)) (cards.stops (at ms zero))
+  small_marked e ms (some p) = seven outside_rules (omega arith)
 
-  small-read : (s : List ℕ) → SmallOutcome (readUnder decimals s)
-  unfolding readUnder
-  small-read s = go (leb (length s) cardBytes)
+  small_read : (s : List ℕ) → SmallOutcome (read_under decimals s)
+  unfolding read_under
+  small_read s = go (leb (length s) card_bytes)
     where
-      go : (b : Bool) → SmallOutcome (if b then marked decimals (length s) (marksOf s) (firstOutside (marksOf s)) else refused tooLong 0)
-      go true = small-marked (length s) (marksOf s) (firstOutside (marksOf s))
-      go false = seven tooLong (omega arith)
+      go : (b : Bool) → SmallOutcome (if b then marked decimals (length s) (marks_of s) (first_outside (marks_of s)) else refused too_long 0)
+      go true = small_marked (length s) (marks_of s) (first_outside (marks_of s))
+      go false = seven too_long (omega arith)
 
-  pub read_number : (s : List ℕ) {r p : ℕ} → readUnder decimals s ≡ refused r p → Refuses decimals r
-  read_number s e = subst SmallOutcome e (small-read s)
+  pub read_number : (s : List ℕ) {r p : ℕ} → read_under decimals s ≡ refused r p → Refuses decimals r
+  read_number s e = subst SmallOutcome e (small_read s)

@@ -6,108 +6,108 @@ use Rattle.card.specs.Card.{Formula, Guard, Branch, Statement, Shared, Card}
 use Rattle.card.specs.Weight.{Weight, Rule}
 use Rattle.reading.specs.Reader.{Numbered}
 use Rattle.reading.specs.Group.{Tested}
-use Rattle.reading.specs.Judgements.{Judgement, state, word, weight, sum, unitsIn, judgedGuard, guardIn}
+use Rattle.reading.specs.Judgements.{Judgement, state, word, weight, sum, units_in, judged_guard, guard_in}
 use Rattle.reading.specs.Shape.{BranchShape, StatementShape, Range, CardShape}
 
 -- a state that may be k at most; or what the shared number is, which may be m at most
-abbrev pub judgedState : ℕ → Numbered → Judgement
-judgedState k x = state k x.value x.place
+abbrev pub judged_state : ℕ → Numbered → Judgement
+judged_state k x = state k x.value x.place
 
 -- the words of a run, and the numbers due in them; a word beyond the last of these is not one that is due, so no word goes unjudged
-abbrev pub judgedWords : List ℕ → List Numbered → List Judgement
-judgedWords [] [] = []
-judgedWords [] (w ∷ ws) = word (suc w.value) w.value w.place ∷ judgedWords [] ws
-judgedWords (due ∷ dues) [] = []
-judgedWords (due ∷ dues) (w ∷ ws) = word due w.value w.place ∷ judgedWords dues ws
+abbrev pub judged_words : List ℕ → List Numbered → List Judgement
+judged_words [] [] = []
+judged_words [] (w ∷ ws) = word (suc w.value) w.value w.place ∷ judged_words [] ws
+judged_words (due ∷ dues) [] = []
+judged_words (due ∷ dues) (w ∷ ws) = word due w.value w.place ∷ judged_words dues ws
 
-abbrev pub judgedSet : ℕ → Option Numbered → List Judgement
-judgedSet m none = []
-judgedSet m (some v) = judgedState m v ∷ []
+abbrev pub judged_set : ℕ → Option Numbered → List Judgement
+judged_set m none = []
+judged_set m (some v) = judged_state m v ∷ []
 
 -- its weight by the rule of a weight
-abbrev pub judgedBranch : Rule → ℕ → ℕ → BranchShape → List Judgement
-judgedBranch decimals k m b =
+abbrev pub judged_branch : Rule → ℕ → ℕ → BranchShape → List Judgement
+judged_branch decimals k m b =
     weight decimals b.weight b.place
-    ∷ (judgedWords (1 ∷ []) b.words
-    ++ (judgedState k b.end
-    ∷ judgedSet m b.sets))
+    ∷ (judged_words (1 ∷ []) b.words
+    ++ (judged_state k b.end
+    ∷ judged_set m b.sets))
 
-abbrev pub judgedEach : {A : Type 0} → (A → List Judgement) → List A → List Judgement
-judgedEach f [] = []
-judgedEach f (x ∷ xs) = f x ++ judgedEach f xs
+abbrev pub judged_each : {A : Type 0} → (A → List Judgement) → List A → List Judgement
+judged_each f [] = []
+judged_each f (x ∷ xs) = f x ++ judged_each f xs
 
-abbrev pub judgedOr : ℕ → ℕ → Option (Formula Tested) → List Judgement
-judgedOr k m none = []
-judgedOr k m (some g) = judgedGuard k m g
+abbrev pub judged_or : ℕ → ℕ → Option (Formula Tested) → List Judgement
+judged_or k m none = []
+judged_or k m (some g) = judged_guard k m g
 
-abbrev pub weightIn : BranchShape → Weight
-weightIn b = b.weight
+abbrev pub weight_in : BranchShape → Weight
+weight_in b = b.weight
 
-abbrev pub judgedStatement : Rule → ℕ → ℕ → StatementShape → List Judgement
-judgedStatement decimals k m x =
-    judgedWords (1 ∷ []) x.words
-    ++ (judgedState k x.own
-    ∷ (judgedOr k m x.guard
-    ++ (judgedEach (judgedBranch decimals k m) x.branches
-    ++ (sum (map weightIn x.branches) x.close ∷ []))))
+abbrev pub judged_statement : Rule → ℕ → ℕ → StatementShape → List Judgement
+judged_statement decimals k m x =
+    judged_words (1 ∷ []) x.words
+    ++ (judged_state k x.own
+    ∷ (judged_or k m x.guard
+    ++ (judged_each (judged_branch decimals k m) x.branches
+    ++ (sum (map weight_in x.branches) x.close ∷ []))))
 
 -- module processi = process1 [s1=si, si=s1] endmodule
-abbrev pub moduleDues : ℕ → List ℕ
-moduleDues i = i ∷ 1 ∷ 1 ∷ i ∷ i ∷ 1 ∷ []
+abbrev pub module_dues : ℕ → List ℕ
+module_dues i = i ∷ 1 ∷ 1 ∷ i ∷ i ∷ 1 ∷ []
 
 -- from i on
-abbrev pub judgedModules : ℕ → List (List Numbered) → List Judgement
-judgedModules i [] = []
-judgedModules i (m ∷ ms) = judgedWords (moduleDues i) m ++ judgedModules (suc i) ms
+abbrev pub judged_modules : ℕ → List (List Numbered) → List Judgement
+judged_modules i [] = []
+judged_modules i (m ∷ ms) = judged_words (module_dues i) m ++ judged_modules (suc i) ms
 
 -- what the shared number starts at
-abbrev pub judgedShared : Option Range → List Judgement
-judgedShared none = []
-judgedShared (some r) = judgedState r.top r.start ∷ []
+abbrev pub judged_shared : Option Range → List Judgement
+judged_shared none = []
+judged_shared (some r) = judged_state r.top r.start ∷ []
 
 -- the most that it may be; on a card without one nothing tests or sets it
-abbrev pub mostIn : Option Range → ℕ
-mostIn none = 0
-mostIn (some r) = r.top
+abbrev pub most_in : Option Range → ℕ
+most_in none = 0
+most_in (some r) = r.top
 
-abbrev pub judgedCard : Rule → CardShape → List Judgement
-judgedCard decimals c =
-    judgedShared c.shared
-    ++ (judgedWords (1 ∷ 1 ∷ []) c.words
-    ++ (judgedState c.k c.l
-    ∷ (judgedEach (judgedStatement decimals c.k (mostIn c.shared)) c.statements
-    ++ judgedModules 2 c.modules)))
+abbrev pub judged_card : Rule → CardShape → List Judgement
+judged_card decimals c =
+    judged_shared c.shared
+    ++ (judged_words (1 ∷ 1 ∷ []) c.words
+    ++ (judged_state c.k c.l
+    ∷ (judged_each (judged_statement decimals c.k (most_in c.shared)) c.statements
+    ++ judged_modules 2 c.modules)))
 
 -- ---- the card: what its weights are worth does not hang on the rule
 
-abbrev pub valueOr : Option Numbered → Option ℕ
-valueOr none = none
-valueOr (some v) = some v.value
+abbrev pub value_or : Option Numbered → Option ℕ
+value_or none = none
+value_or (some v) = some v.value
 
-abbrev pub branchIn : BranchShape → Branch
-branchIn b = record { units = unitsIn b.weight; end = b.end.value; sets = valueOr b.sets }
+abbrev pub branch_in : BranchShape → Branch
+branch_in b = record { units = units_in b.weight; end = b.end.value; sets = value_or b.sets }
 
-abbrev pub guardOr : ℕ → Option (Formula Tested) → Option Guard
-guardOr n none = none
-guardOr n (some g) = some (guardIn n g)
+abbrev pub guard_or : ℕ → Option (Formula Tested) → Option Guard
+guard_or n none = none
+guard_or n (some g) = some (guard_in n g)
 
-abbrev pub statementIn : ℕ → StatementShape → Statement
-statementIn n x = record { own = x.own.value; guard = guardOr n x.guard; branches = map branchIn x.branches }
+abbrev pub statement_in : ℕ → StatementShape → Statement
+statement_in n x = record { own = x.own.value; guard = guard_or n x.guard; branches = map branch_in x.branches }
 
 -- n is the number of modules
-abbrev pub seatsIn : CardShape → ℕ
-seatsIn c = suc (length c.modules)
+abbrev pub seats_in : CardShape → ℕ
+seats_in c = suc (length c.modules)
 
-abbrev pub sharedIn : Option Range → Option Shared
-sharedIn none = none
-sharedIn (some r) = some (record { most = r.top; start = r.start.value })
+abbrev pub shared_in : Option Range → Option Shared
+shared_in none = none
+shared_in (some r) = some (record { most = r.top; start = r.start.value })
 
-abbrev pub cardIn : CardShape → Card
-cardIn c = record {
+abbrev pub card_in : CardShape → Card
+card_in c = record {
   mode = c.mode;
-  shared = sharedIn c.shared;
-  n = seatsIn c;
+  shared = shared_in c.shared;
+  n = seats_in c;
   k = c.k;
   l = c.l.value;
-  statements = map (statementIn (seatsIn c)) c.statements;
+  statements = map (statement_in (seats_in c)) c.statements;
 }

@@ -3,10 +3,10 @@ use Rattle.std.specs.Prelude.{ℕ, zero, suc, List, [], ◌∷◌, length}
 use Prim.Native.String.{String}
 use Rattle.std.proofs.Math.Option.{Option, none, some}
 use Rattle.card.specs.Text.{if◌then◌else◌}
-use Rattle.card.specs.Refusals.{pastLimit}
+use Rattle.card.specs.Refusals.{past_limit}
 use Rattle.card.specs.Card.{Sign, all, any, Relation, is as eq, isnt as ne}
 use Rattle.marks_on_a_card.specs.Marks.{Mark}
-use Rattle.reading.specs.Reader.{Place, Reader, ◌>>=◌, ◌>>◌, return, refuse, the, is, ifNext, sign, seatOf, number_of, here, Numbered, numbered}
+use Rattle.reading.specs.Reader.{Place, Reader, ◌>>=◌, ◌>>◌, return, refuse, the, is, if_next, sign, seat_of, number_of, here, Numbered, numbered}
 
 abbrev pub joint : Sign → String
 joint all = "&"
@@ -23,8 +23,8 @@ pub record Literal : Type 0 where
   pub d : ℕ
   pub place : Place
 
-abbrev pub literalOf : ℕ → Relation → ℕ → Place → Literal
-literalOf i q d p = record { seat = i; relation = q; d = d; place = p }
+abbrev pub literal_of : ℕ → Relation → ℕ → Place → Literal
+literal_of i q d p = record { seat = i; relation = q; d = d; place = p }
 
 -- the place is the bracket's
 pub record Literals : Type 0 where
@@ -32,29 +32,29 @@ pub record Literals : Type 0 where
   pub sign : Sign
   pub literals : List Literal
 
-abbrev pub literalsOf : Place → Sign → List Literal → Literals
-literalsOf p s ls = record { place = p; sign = s; literals = ls }
+abbrev pub literals_of : Place → Sign → List Literal → Literals
+literals_of p s ls = record { place = p; sign = s; literals = ls }
 
-abbrev pub relationOf : Mark → Option Relation
-relationOf m = if is "=" m then some eq else (if is "!=" m then some ne else none)
+abbrev pub relation_of : Mark → Option Relation
+relation_of m = if is "=" m then some eq else (if is "!=" m then some ne else none)
 
 abbrev pub literal : Reader Literal
 literal = do
-  i ← the seatOf
-  q ← the relationOf
+  i ← the seat_of
+  q ← the relation_of
   p ← here
   d ← the number_of
-  return (literalOf i q d p)
+  return (literal_of i q d p)
 
 -- behind one of them: others, each after the sign, then the closing bracket; `most` is the number of marks left, and is never met
 abbrev pub joined : {A : Type 0} → Reader A → String → ℕ → Reader (List A)
 joined one t zero =
-    ifNext t (refuse pastLimit)
+    if_next t (refuse past_limit)
     (do
       sign ")"
       return [])
 joined one t (suc most) =
-    ifNext t
+    if_next t
     (do
       sign t
       x ← one
@@ -72,9 +72,9 @@ abbrev pub group : Place → Reader Literals
 group p = do
   l ← literal
   rest ← here
-  s ← ifNext (joint any) (return any) (return all)
+  s ← if_next (joint any) (return any) (return all)
   ls ← others (joint s) (length rest)
-  return (literalsOf p s (l ∷ ls))
+  return (literals_of p s (l ∷ ls))
 
 -- ---- (g=v) or (g!=v), behind the bracket
 
@@ -82,10 +82,10 @@ pub record SharedTest : Type 0 where
   pub relation : Relation
   pub value : Numbered
 
-abbrev pub sharedTest : Reader SharedTest
-sharedTest = do
+abbrev pub shared_test : Reader SharedTest
+shared_test = do
   sign "g"
-  q ← the relationOf
+  q ← the relation_of
   v ← numbered number_of
   sign ")"
   return (record { relation = q; value = v })
@@ -93,9 +93,9 @@ sharedTest = do
 -- ---- what a guard tests
 
 pub data Tested : Type 0 where
-  ofSeats : Literals → Tested
-  ofShared : SharedTest → Tested
+  of_seats : Literals → Tested
+  of_shared : SharedTest → Tested
 
 -- behind the bracket, which is at p
 abbrev pub tested : Place → Reader Tested
-tested p = ifNext "g" (sharedTest >>= λ x. return (ofShared x)) (group p >>= λ x. return (ofSeats x))
+tested p = if_next "g" (shared_test >>= λ x. return (of_shared x)) (group p >>= λ x. return (of_seats x))

@@ -2,7 +2,7 @@
 use Rattle.std.specs.Prelude.{ℕ, zero, suc, Bool, true, false, List, [], ◌∷◌}
 use Prim.Native.String.{String}
 use Rattle.std.proofs.Math.Option.{Option, none, some}
-use Rattle.card.specs.Refusals.{outOfShape, pastLimit}
+use Rattle.card.specs.Refusals.{out_of_shape, past_limit}
 use Rattle.card.specs.Text.{bytes, same, if◌then◌else◌}
 use Rattle.marks_on_a_card.specs.Marks.{Mark, text, seat, process, number, decimal, outside, Placed, placed}
 
@@ -47,16 +47,16 @@ module _ {A : Type 0} where
   refuse r = λ s. stop r s.marks
 
   -- refuse at a place passed before
-  abbrev pub refuseAt : ℕ → Place → Reader A
-  refuseAt r p = λ s. stop r p
+  abbrev pub refuse_at : ℕ → Place → Reader A
+  refuse_at r p = λ s. stop r p
 
   -- the next mark, if it fits; a mark that does not fit, or the end of the card, is out of shape
   abbrev pub took : Option A → Placed → Place → ℕ → Result A
-  took none m ms n = stop outOfShape (m ∷ ms)
+  took none m ms n = stop out_of_shape (m ∷ ms)
   took (some a) m ms n = ok a (at ms n)
 
   abbrev pub first : (Mark → Option A) → Place → ℕ → Result A
-  first f [] n = stop outOfShape []
+  first f [] n = stop out_of_shape []
   first f (placed m p ∷ ms) n = took (f m) (placed m p) ms n
 
   abbrev pub the : (Mark → Option A) → Reader A
@@ -71,13 +71,13 @@ is t (number v) = false
 is t (decimal v n f) = false
 is t outside = false
 
-abbrev pub nextIs : String → Place → Bool
-nextIs t [] = false
-nextIs t (placed m p ∷ ms) = is t m
+abbrev pub next_is : String → Place → Bool
+next_is t [] = false
+next_is t (placed m p ∷ ms) = is t m
 
 -- the one reader if the next mark is this sign or keyword, else the other
-abbrev pub ifNext : {A : Type 0} → String → Reader A → Reader A → Reader A
-ifNext t p q = λ s. (if nextIs t s.marks then p else q) s
+abbrev pub if_next : {A : Type 0} → String → Reader A → Reader A → Reader A
+if_next t p q = λ s. (if next_is t s.marks then p else q) s
 
 abbrev pub given : Bool → Option (Unit {0})
 given true = some tt
@@ -86,21 +86,21 @@ given false = none
 abbrev pub sign : String → Reader (Unit {0})
 sign t = the (λ m. given (is t m))
 
-abbrev pub seatOf : Mark → Option ℕ
-seatOf (text s) = none
-seatOf (seat i) = some i
-seatOf (process i) = none
-seatOf (number v) = none
-seatOf (decimal v n f) = none
-seatOf outside = none
+abbrev pub seat_of : Mark → Option ℕ
+seat_of (text s) = none
+seat_of (seat i) = some i
+seat_of (process i) = none
+seat_of (number v) = none
+seat_of (decimal v n f) = none
+seat_of outside = none
 
-abbrev pub processOf : Mark → Option ℕ
-processOf (text s) = none
-processOf (seat i) = none
-processOf (process i) = some i
-processOf (number v) = none
-processOf (decimal v n f) = none
-processOf outside = none
+abbrev pub process_of : Mark → Option ℕ
+process_of (text s) = none
+process_of (seat i) = none
+process_of (process i) = some i
+process_of (number v) = none
+process_of (decimal v n f) = none
+process_of outside = none
 
 abbrev pub number_of : Mark → Option ℕ
 number_of (text s) = none
@@ -126,11 +126,11 @@ numbered f = do
 
 -- one more guard node, whose mark is at p
 abbrev pub spend : Place → Place → ℕ → Result (Unit {0})
-spend p ms zero = stop pastLimit p
+spend p ms zero = stop past_limit p
 spend p ms (suc n) = ok tt (at ms n)
 
-abbrev pub nodeAt : Place → Reader (Unit {0})
-nodeAt p = λ s. spend p s.marks s.nodes
+abbrev pub node_at : Place → Reader (Unit {0})
+node_at p = λ s. spend p s.marks s.nodes
 
 -- whose mark is the next
 abbrev pub node : Reader (Unit {0})
@@ -140,7 +140,7 @@ node = λ s. spend s.marks s.marks s.nodes
 
 pub data Item : Type 0 where
   exactly : String → Item
-  seatWord processWord : Item
+  seat_word process_word : Item
 
 abbrev pub keep : Numbered → Reader (List Numbered) → Reader (List Numbered)
 keep w rest = do
@@ -151,5 +151,5 @@ keep w rest = do
 abbrev pub line : List Item → Reader (List Numbered)
 line [] = return []
 line (exactly t ∷ items) = sign t >> line items
-line (seatWord ∷ items) = numbered seatOf >>= λ w. keep w (line items)
-line (processWord ∷ items) = numbered processOf >>= λ w. keep w (line items)
+line (seat_word ∷ items) = numbered seat_of >>= λ w. keep w (line items)
+line (process_word ∷ items) = numbered process_of >>= λ w. keep w (line items)

@@ -3,13 +3,13 @@
 use Rattle.std.specs.Prelude.{ℕ, zero, suc, ◌-◌, Bool, true, false, List, [], ◌∷◌, eqb, leb}
 use Prim.Native.String.{String}
 use Rattle.std.proofs.Math.Option.{Option, none, some}
-use Rattle.card.specs.Limits.{mostSeats, topState, topShared, mostStatements, mostBranches, mostNodes, mostDepth}
-use Rattle.card.specs.Refusals.{outOfShape, pastLimit}
+use Rattle.card.specs.Limits.{most_seats, top_state, top_shared, most_statements, most_branches, most_nodes, most_depth}
+use Rattle.card.specs.Refusals.{out_of_shape, past_limit}
 use Rattle.card.specs.Text.{if◌then◌else◌}
 use Rattle.card.specs.Card.{Mode, nondeterministic, probabilistic, Formula}
 use Rattle.card.specs.Weight.{Weight, whole, decimal as point, ratio}
 use Rattle.marks_on_a_card.specs.Marks.{Mark, text, seat, process, number, decimal, outside}
-use Rattle.reading.specs.Reader.{Place, at, Result, ok, stop, Reader, ◌>>=◌, ◌>>◌, return, refuse, refuseAt, the, is, ifNext, sign, number_of, here, Numbered, numbered, exactly, seatWord, processWord, line}
+use Rattle.reading.specs.Reader.{Place, at, Result, ok, stop, Reader, ◌>>=◌, ◌>>◌, return, refuse, refuse_at, the, is, if_next, sign, number_of, here, Numbered, numbered, exactly, seat_word, process_word, line}
 use Rattle.reading.specs.Guard.{is_some, conjunction, unary}
 use Rattle.reading.specs.Group.{Tested, tested}
 
@@ -46,9 +46,9 @@ pub record CardShape : Type 0 where
 -- ---- counted repetition: as often as a thing starts, and then one past the most is refused
 
 abbrev pub many : {A : Type 0} → ℕ → String → Reader A → Reader (List A) → Reader (List A)
-many zero t one past = ifNext t past (return [])
+many zero t one past = if_next t past (return [])
 many (suc most) t one past =
-    ifNext t
+    if_next t
     (do
       x ← one
       xs ← many most t one past
@@ -57,18 +57,18 @@ many (suc most) t one past =
 
 -- ---- branches
 
-abbrev pub weightOf : Mark → Option Weight
-weightOf (text s) = none
-weightOf (seat i) = none
-weightOf (process i) = none
-weightOf (number v) = some (whole v)
-weightOf (decimal v n f) = some (point v n f)
-weightOf outside = none
+abbrev pub weight_of : Mark → Option Weight
+weight_of (text s) = none
+weight_of (seat i) = none
+weight_of (process i) = none
+weight_of (number v) = some (whole v)
+weight_of (decimal v n f) = some (point v n f)
+weight_of outside = none
 
 -- a number, two numbers with `/` between, or a decimal
 abbrev pub over : Weight → Reader Weight
 over (whole a) =
-    ifNext "/"
+    if_next "/"
     (do
       sign "/"
       b ← the number_of
@@ -79,13 +79,13 @@ over (ratio a b) = return (ratio a b)
 
 abbrev pub weight : Reader Weight
 weight = do
-  w ← the weightOf
+  w ← the weight_of
   over w
 
 -- & (g'=v), if it stands there
 abbrev pub setting : Reader (Option Numbered)
 setting =
-    ifNext "&"
+    if_next "&"
     (do
       ws ← line (exactly "&" ∷ exactly "(" ∷ exactly "g" ∷ exactly "'" ∷ exactly "=" ∷ [])
       v ← numbered number_of
@@ -102,67 +102,67 @@ abbrev pub branch : Bool → Reader BranchShape
 branch shared = do
   p ← here
   w ← weight
-  ws ← line (exactly ":" ∷ exactly "(" ∷ seatWord ∷ exactly "'" ∷ exactly "=" ∷ [])
+  ws ← line (exactly ":" ∷ exactly "(" ∷ seat_word ∷ exactly "'" ∷ exactly "=" ∷ [])
   t ← numbered number_of
   sign ")"
   v ← sets shared
   return (record { place = p; weight = w; words = ws; end = t; sets = v })
 
-abbrev pub nextBranch : Bool → Reader BranchShape
-nextBranch shared = sign "+" >> branch shared
+abbrev pub next_branch : Bool → Reader BranchShape
+next_branch shared = sign "+" >> branch shared
 
 -- one branch too many starts with a weight's first mark
-abbrev pub pastBranches : Reader (List BranchShape)
-pastBranches = do
+abbrev pub past_branches : Reader (List BranchShape)
+past_branches = do
   sign "+"
   p ← here
-  w ← the weightOf
-  refuseAt pastLimit p
+  w ← the weight_of
+  refuse_at past_limit p
 
-abbrev pub moreBranches : Bool → ℕ → Reader (List BranchShape)
-moreBranches shared most = many most "+" (nextBranch shared) pastBranches
+abbrev pub more_branches : Bool → ℕ → Reader (List BranchShape)
+more_branches shared most = many most "+" (next_branch shared) past_branches
 
 -- ---- statements
 
 unfoldable pub guard : Bool → Reader (Option (Formula Tested))
 guard shared =
-    ifNext "&"
+    if_next "&"
     (do
       sign "&"
-      g ← conjunction (unary shared tested mostDepth)
+      g ← conjunction (unary shared tested most_depth)
       return (some g))
     (return none)
 
 -- a new statement may have so many nodes
-abbrev pub mayHave : ℕ → Reader (Unit {0})
-mayHave n = λ s. ok tt (at s.marks n)
+abbrev pub may_have : ℕ → Reader (Unit {0})
+may_have n = λ s. ok tt (at s.marks n)
 
 abbrev pub statement : Bool → Reader StatementShape
 statement shared = do
-  ws ← line (exactly "[" ∷ exactly "]" ∷ seatWord ∷ exactly "=" ∷ [])
+  ws ← line (exactly "[" ∷ exactly "]" ∷ seat_word ∷ exactly "=" ∷ [])
   j ← numbered number_of
-  mayHave mostNodes
+  may_have most_nodes
   g ← guard shared
   sign "->"
   b ← branch shared
-  bs ← moreBranches shared (mostBranches - 1)
+  bs ← more_branches shared (most_branches - 1)
   p ← here
   sign ";"
   return (record { words = ws; own = j; guard = g; branches = b ∷ bs; close = p })
 
-abbrev pub moreStatements : Bool → ℕ → Reader (List StatementShape)
-moreStatements shared most = many most "[" (statement shared) (refuse pastLimit)
+abbrev pub more_statements : Bool → ℕ → Reader (List StatementShape)
+more_statements shared most = many most "[" (statement shared) (refuse past_limit)
 
 -- ---- the further modules
 
 abbrev pub copy : Reader (List Numbered)
 copy = line
-    (exactly "module" ∷ processWord ∷ exactly "=" ∷ processWord
-    ∷ exactly "[" ∷ seatWord ∷ exactly "=" ∷ seatWord ∷ exactly "," ∷ seatWord ∷ exactly "=" ∷ seatWord ∷ exactly "]"
+    (exactly "module" ∷ process_word ∷ exactly "=" ∷ process_word
+    ∷ exactly "[" ∷ seat_word ∷ exactly "=" ∷ seat_word ∷ exactly "," ∷ seat_word ∷ exactly "=" ∷ seat_word ∷ exactly "]"
     ∷ exactly "endmodule" ∷ [])
 
-abbrev pub moreModules : ℕ → Reader (List (List Numbered))
-moreModules most = many most "module" copy (refuse pastLimit)
+abbrev pub more_modules : ℕ → Reader (List (List Numbered))
+more_modules most = many most "module" copy (refuse past_limit)
 
 -- ---- the card
 
@@ -170,18 +170,18 @@ abbrev pub mode_of : Mark → Option Mode
 mode_of m = if is "nondeterministic" m then some nondeterministic else (if is "probabilistic" m then some probabilistic else none)
 
 -- only `0` fits before `..`
-abbrev pub onlyZero : Option ℕ → Option ℕ
-onlyZero none = none
-onlyZero (some v) = if eqb v 0 then some v else none
+abbrev pub only_zero : Option ℕ → Option ℕ
+only_zero none = none
+only_zero (some v) = if eqb v 0 then some v else none
 
 abbrev pub zero_of : Mark → Option ℕ
-zero_of m = onlyZero (number_of m)
+zero_of m = only_zero (number_of m)
 
 abbrev pub top : ℕ → Reader ℕ
 top most = do
   p ← here
   k ← the number_of
-  if leb k most then return k else refuseAt pastLimit p
+  if leb k most then return k else refuse_at past_limit p
 
 -- behind its opening bracket
 abbrev pub range : ℕ → Reader Range
@@ -199,30 +199,30 @@ range most = do
 abbrev pub declaration : Reader Range
 declaration = do
   ws ← line (exactly "global" ∷ exactly "g" ∷ exactly ":" ∷ exactly "[" ∷ [])
-  range topShared
+  range top_shared
 
 abbrev pub ended : Place → ℕ → Result (Unit {0})
 ended [] n = ok tt (at [] n)
-ended (m ∷ ms) n = stop outOfShape (m ∷ ms)
+ended (m ∷ ms) n = stop out_of_shape (m ∷ ms)
 
-abbrev pub theEnd : Reader (Unit {0})
-theEnd = λ s. ended s.marks s.nodes
+abbrev pub the_end : Reader (Unit {0})
+the_end = λ s. ended s.marks s.nodes
 
 -- behind the mode, and behind the shared number where one is declared
 abbrev pub modules : Mode → Option Range → Reader CardShape
 modules mode g = do
-  ws ← line (exactly "module" ∷ processWord ∷ seatWord ∷ exactly ":" ∷ exactly "[" ∷ [])
-  r ← range topState
+  ws ← line (exactly "module" ∷ process_word ∷ seat_word ∷ exactly ":" ∷ exactly "[" ∷ [])
+  r ← range top_state
   x ← statement (is_some g)
-  xs ← moreStatements (is_some g) (mostStatements - 1)
+  xs ← more_statements (is_some g) (most_statements - 1)
   sign "endmodule"
-  ms ← moreModules (mostSeats - 1)
+  ms ← more_modules (most_seats - 1)
   return (record { mode = mode; shared = g; words = ws; k = r.top; l = r.start; statements = x ∷ xs; modules = ms })
 
 abbrev pub body : Reader CardShape
 body = do
   mode ← the mode_of
-  ifNext "global"
+  if_next "global"
       (do
         g ← declaration
         modules mode (some g))
@@ -231,5 +231,5 @@ body = do
 abbrev pub card : Reader CardShape
 card = do
   c ← body
-  theEnd
+  the_end
   return c

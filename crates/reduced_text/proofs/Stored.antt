@@ -4,17 +4,17 @@ use mathlib.Core.Path.{sym, subst}
 use native.Mathlib.Omega.{arith}
 use lib.ListN.{length}
 use Rattle.card.specs.Card.{Card}
-use Rattle.card.specs.Lent.{Lent, cardIn, HoldsIn}
+use Rattle.card.specs.Lent.{Lent, card_in, HoldsIn}
 use Rattle.card.specs.declared.Head.{Head}
-use Rattle.card.proofs.HeldIn.{holds-card}
+use Rattle.card.proofs.HeldIn.{holds_card}
 use Rattle.room.specs.Room.{cap}
-use Rattle.texts.specs.ReducedText.{reducedOf}
-use Rattle.texts.specs.Lengths.{reducedRoom}
+use Rattle.texts.specs.ReducedText.{reduced_of}
+use Rattle.texts.specs.Lengths.{reduced_room}
 use Rattle.texts.proofs.ReducedShort.{short}
 
 module _ {h : Head} {x : Lent} (v : HoldsIn h x) where
-  pub held-most : length (reducedOf (cardIn h x)) ≤ reducedRoom
-  held-most = subst (λ (c : Card). length (reducedOf c) ≤ reducedRoom) (sym (holds-card v)) (short v.card v.valid)
+  pub held_most : length (reduced_of (card_in h x)) ≤ reduced_room
+  held_most = subst (λ (c : Card). length (reduced_of c) ≤ reduced_room) (sym (holds_card v)) (short v.card v.valid)
 
-  pub held-cap : length (reducedOf (cardIn h x)) ≤ cap
-  held-cap = omega (arith, held-most)
+  pub held_cap : length (reduced_of (card_in h x)) ≤ cap
+  held_cap = omega (arith, held_most)

@@ -1,15 +1,15 @@
 // The reduced program's text ("Texts, byte for byte", first part), translated and printed in one walk over the card's nodes, and stored in a room where it fits.
 ghost use Rattle.std.specs.Prelude.{◌≡◌, eqb, suc, ◌≤◌};
 ghost use Rattle.meaning.specs.Sums.{gate, upto};
-ghost use Rattle.card.specs.Limits.{topState};
+ghost use Rattle.card.specs.Limits.{top_state};
 ghost use Rattle.card.specs.Card.{nondeterministic, probabilistic};
-ghost use Rattle.card.specs.Laid.{either, sharedOf};
-ghost use Rattle.card.specs.Lent.{lent, cardIn, HoldsIn};
+ghost use Rattle.card.specs.Laid.{either, shared_of};
+ghost use Rattle.card.specs.Lent.{lent, card_in, HoldsIn};
 ghost use Rattle.room.specs.Room.{Put};
-ghost use Rattle.phrases.specs.Phrases.{◌▸◌, modeText};
+ghost use Rattle.phrases.specs.Phrases.{◌▸◌, mode_text};
 ghost use Rattle.phrases.specs.Puts.{Puts};
 ghost use Rattle.texts.specs.Shared.{declaration};
-ghost use Rattle.texts.specs.ReducedText.{counterLine, counters, reducedOf};
+ghost use Rattle.texts.specs.ReducedText.{counter_line, counters, reduced_of};
 ghost use Rattle.room.specs.Answer.{Entered};
 ghost use Rattle.entry.specs.Said.{says as text};
 
@@ -34,7 +34,7 @@ fn start_of(d: usize, seats: usize, start: usize) -> usize
 }
 
 fn put_counter(room: &mut [u8], at: usize, d: usize, seats: usize, start: usize) -> usize
-    ensures { Puts room.old room.new at (counterLine seats d (gate (eqb start d) seats)) result }
+    ensures { Puts room.old room.new at (counter_line seats d (gate (eqb start d) seats)) result }
 {
     let v = start_of(d, seats, start);
     let a = put_numbered(room, at, b"no_", d);
@@ -45,7 +45,7 @@ fn put_counter(room: &mut [u8], at: usize, d: usize, seats: usize, start: usize)
 
 // The counters of states 0 to `top`.
 fn put_counters(room: &mut [u8], at: usize, seats: usize, top: usize, start: usize) -> usize
-    requires { top ≤ topState }
+    requires { top ≤ top_state }
     ensures { Puts room.old room.new at (counters seats 0 (upto (suc top) (λ d. gate (eqb start d) seats))) result }
 {
     let mut to = place(at);
@@ -59,8 +59,8 @@ fn put_counters(room: &mut [u8], at: usize, seats: usize, top: usize, start: usi
 
 // All before the statements.
 fn put_head(room: &mut [u8], at: usize, head: Head) -> usize
-    requires { head.top ≤ topState }
-    ensures { Puts room.old room.new at (λ t. modeText (either nondeterministic probabilistic head.mode) (declaration (sharedOf head.shared head.initial) ("\nmodule generic_process\n" ▸ counters head.seats 0 (upto (suc head.top) (λ d. gate (eqb head.start d) head.seats)) t))) result }
+    requires { head.top ≤ top_state }
+    ensures { Puts room.old room.new at (λ t. mode_text (either nondeterministic probabilistic head.mode) (declaration (shared_of head.shared head.initial) ("\nmodule generic_process\n" ▸ counters head.seats 0 (upto (suc head.top) (λ d. gate (eqb head.start d) head.seats)) t))) result }
 {
     let a = put_mode(room, at, head.mode);
     let b = put_declaration(room, a, head.shared, head.initial);
@@ -77,7 +77,7 @@ fn put_program<'a>(
     branches: &'a [u32],
 ) -> usize
     requires { HoldsIn head (lent rows.now nodes.now branches.now) }
-    ensures { Put room.old room.new 0 (reducedOf (cardIn head (lent rows.now nodes.now branches.now))) result }
+    ensures { Put room.old room.new 0 (reduced_of (card_in head (lent rows.now nodes.now branches.now))) result }
 {
     let a = put_head(room, 0, head);
     let b = put_statements(room, a, head, rows, nodes, branches, REDUCED);
@@ -102,7 +102,7 @@ pub fn reduce_card<'a>(
     branches: &'a [u32; BRANCH_PLACES],
 ) -> Answer
     requires { HoldsIn head (lent rows.now nodes.now branches.now) }
-    ensures { Entered room.old room.new (text (reducedOf (cardIn head (lent rows.now nodes.now branches.now)))) result }
+    ensures { Entered room.old room.new (text (reduced_of (card_in head (lent rows.now nodes.now branches.now)))) result }
 {
     if REDUCED_ROOM <= room.len() {
         return Answer::Done(put_program(room, head, rows, nodes, branches));

@@ -12,50 +12,50 @@ use Rattle.room.specs.Room.{clip, cap, Put}
 
 -- ---- clip
 
-pub clip-none : (room : List ℕ) (at : ℕ) → clip room at [] ≡ room
+pub clip_none : (room : List ℕ) (at : ℕ) → clip room at [] ≡ room
 unfolding clip
-clip-none room at = refl
+clip_none room at = refl
 
-pub clip-one : (room : List ℕ) (at b : ℕ) → clip room at (b ∷ []) ≡ set room at b
+pub clip_one : (room : List ℕ) (at b : ℕ) → clip room at (b ∷ []) ≡ set room at b
 unfolding clip
-clip-one room at b = refl
+clip_one room at b = refl
 
-pub clip-append : (room : List ℕ) (at : ℕ) (s t : List ℕ) → clip room at (s ++ t) ≡ clip (clip room at s) (at + length s) t
+pub clip_append : (room : List ℕ) (at : ℕ) (s t : List ℕ) → clip room at (s ++ t) ≡ clip (clip room at s) (at + length s) t
 unfolding clip
-clip-append room at [] t = rw add-zero
-clip-append room at (b ∷ s) t =
-    clip-append (set room at b) (suc at) s t
+clip_append room at [] t = rw add-zero
+clip_append room at (b ∷ s) t =
+    clip_append (set room at b) (suc at) s t
     ∙ ap (λ (k : ℕ). clip (clip (set room at b) (suc at) s) k t) (omega arith)
 
-clip-sets : (room : List ℕ) (at : ℕ) (s : List ℕ) → clip room at s ≡ sets room at s
+clip_sets : (room : List ℕ) (at : ℕ) (s : List ℕ) → clip room at s ≡ sets room at s
 unfolding clip
-clip-sets room at [] = refl
-clip-sets room at (b ∷ s) = clip-sets (set room at b) (suc at) s
+clip_sets room at [] = refl
+clip_sets room at (b ∷ s) = clip_sets (set room at b) (suc at) s
 
-pub length-clip : (room : List ℕ) (at : ℕ) (s : List ℕ) → length (clip room at s) ≡ length room
-length-clip room at s = ap length (clip-sets room at s) ∙ length-sets room at s
+pub length_clip : (room : List ℕ) (at : ℕ) (s : List ℕ) → length (clip room at s) ≡ length room
+length_clip room at s = ap length (clip_sets room at s) ∙ length-sets room at s
 
 -- past the end of the room nothing is stored
-pub clip-past : (room : List ℕ) (at : ℕ) (s : List ℕ) → length room ≤ at → clip room at s ≡ room
+pub clip_past : (room : List ℕ) (at : ℕ) (s : List ℕ) → length room ≤ at → clip room at s ≡ room
 unfolding clip
-clip-past room at [] h = refl
-clip-past room at (b ∷ s) h = rw (set_out room at b h) (clip-past room (suc at) s (omega arith))
+clip_past room at [] h = refl
+clip_past room at (b ∷ s) h = rw (set_out room at b h) (clip_past room (suc at) s (omega arith))
 
 -- a text that fits stands between what was before it and what was behind it
-pub clip-fits : (room : List ℕ) (at : ℕ) (s : List ℕ) → at + length s ≤ length room
+pub clip_fits : (room : List ℕ) (at : ℕ) (s : List ℕ) → at + length s ≤ length room
     → clip room at s ≡ (take at room ++ s) ++ drop (at + length s) room
-clip-fits room at s h = clip-sets room at s ∙ sets-eq s room at h
+clip_fits room at s h = clip_sets room at s ∙ sets-eq s room at h
 
-pub clip-start : (room s : List ℕ) → length s ≤ length room → clip room 0 s ≡ s ++ drop (length s) room
-clip-start room s h = clip-fits room 0 s (omega arith) ∙ rw zero-add
+pub clip_start : (room s : List ℕ) → length s ≤ length room → clip room 0 s ≡ s ++ drop (length s) room
+clip_start room s h = clip_fits room 0 s (omega arith) ∙ rw zero-add
 
 -- a place that stopped at the cap stores what the place itself would: nothing
-clip-stopped : (room : List ℕ) (at : ℕ) (s : List ℕ) → length room < cap → clip room (min at cap) s ≡ clip room at s
-clip-stopped room at s h = go (dec_le at cap)
+clip_stopped : (room : List ℕ) (at : ℕ) (s : List ℕ) → length room < cap → clip room (min at cap) s ≡ clip room at s
+clip_stopped room at s h = go (dec_le at cap)
   where
     go : Dec (at ≤ cap) → clip room (min at cap) s ≡ clip room at s
     go (yes l) = ap (λ (k : ℕ). clip room k s) (omega arith)
-    go (no g) = clip-past room (min at cap) s (omega arith) ∙ sym (clip-past room at s (omega arith))
+    go (no g) = clip_past room (min at cap) s (omega arith) ∙ sym (clip_past room at s (omega arith))
 
 -- ---- puts
 
@@ -65,7 +65,7 @@ module _ {a b : List ℕ} {at : ℕ} {s : List ℕ} {m : ℕ} where
   then {t = t} p q =
       record {
         small = p.small;
-        wrote = q.wrote ∙ rw (p.next, clip-stopped b (at + length s) t q.small, p.wrote, clip-append);
+        wrote = q.wrote ∙ rw (p.next, clip_stopped b (at + length s) t q.small, p.wrote, clip_append);
         next = omega (arith, p.next, q.next, length-append s t);
       }
 
@@ -74,10 +74,10 @@ module _ {a b : List ℕ} {at : ℕ} {s : List ℕ} {m : ℕ} where
   put_as e p = rw e p
 
   -- the room keeps its length
-  pub put-length : Put a b at s m → length b ≡ length a
-  put-length p = ap length p.wrote ∙ length-clip a at s
+  pub put_length : Put a b at s m → length b ≡ length a
+  put_length p = ap length p.wrote ∙ length_clip a at s
 
 -- no text: the place after it is the one that `place` answers
-pub put-none : {room : List ℕ} {at r : ℕ} → length room < cap → r ≡ min at cap → Put room room at [] r
+pub put_none : {room : List ℕ} {at r : ℕ} → length room < cap → r ≡ min at cap → Put room room at [] r
 unfolding clip
-put-none h e = record { small = h; wrote = refl; next = omega arith }
+put_none h e = record { small = h; wrote = refl; next = omega arith }

@@ -8,7 +8,7 @@ use native.Mathlib.Omega.{arith}
 use lib.ListN.{length, get_or, take, set, length-set, length-take}
 use lib.Seq.{take-nil, take-suc}
 use Rattle.room.specs.Room.{clip, cap, Put}
-use Rattle.room.proofs.Laws.{clip-one, clip-append, clip-past}
+use Rattle.room.proofs.Laws.{clip_one, clip_append, clip_past}
 
 -- a byte within the room
 pub put_in : {room : List ℕ} {at b : ℕ} → length room < cap → at < length room → Put room (set room at b) at (b ∷ []) (at + 1)
@@ -16,27 +16,27 @@ unfolding clip
 put_in h l = record { small = h; wrote = refl; next = omega arith }
 
 -- any text past its end
-pub put-past : {room : List ℕ} {at : ℕ} {s : List ℕ} {r : ℕ} → length room < cap → length room ≤ at → r ≡ min (at + length s) cap
+pub put_past : {room : List ℕ} {at : ℕ} {s : List ℕ} {r : ℕ} → length room < cap → length room ≤ at → r ≡ min (at + length s) cap
     → Put room room at s r
-put-past {room} {at} {s} h l e = record { small = h; wrote = sym (clip-past room at s l); next = e }
+put_past {room} {at} {s} h l e = record { small = h; wrote = sym (clip_past room at s l); next = e }
 
 -- only what the room has places for counts
-clip-take : (room : List ℕ) (at : ℕ) (s : List ℕ) (n : ℕ) → n ≡ min (length s) (length room - at)
+clip_take : (room : List ℕ) (at : ℕ) (s : List ℕ) (n : ℕ) → n ≡ min (length s) (length room - at)
     → clip room at (take n s) ≡ clip room at s
 unfolding clip
-clip-take room at [] n h = rw take-nil
-clip-take room at (b ∷ s) zero h = sym (clip-past room at (b ∷ s) (omega arith))
-clip-take room at (b ∷ s) (suc n) h =
-    clip-take (set room at b) (suc at) s n (omega (arith, length-set room at b))
+clip_take room at [] n h = rw take-nil
+clip_take room at (b ∷ s) zero h = sym (clip_past room at (b ∷ s) (omega arith))
+clip_take room at (b ∷ s) (suc n) h =
+    clip_take (set room at b) (suc at) s n (omega (arith, length-set room at b))
 
 -- a text of which that part is stored
-pub put-part : (n : ℕ) {was is : List ℕ} {at : ℕ} {s : List ℕ} {r : ℕ} → length was < cap → n ≡ min (length s) (length was - at)
+pub put_part : (n : ℕ) {was is : List ℕ} {at : ℕ} {s : List ℕ} {r : ℕ} → length was < cap → n ≡ min (length s) (length was - at)
     → is ≡ clip was at (take n s) → r ≡ min (at + length s) cap → Put was is at s r
-put-part n {was} {is} {at} {s} h e w x = record { small = h; wrote = w ∙ clip-take was at s n e; next = x }
+put_part n {was} {is} {at} {s} h e w x = record { small = h; wrote = w ∙ clip_take was at s n e; next = x }
 
 -- a byte more of such a part
-pub clip-more : (was : List ℕ) {is : List ℕ} (at : ℕ) (s : List ℕ) (i : ℕ) → i < length s → is ≡ clip was at (take i s)
+pub clip_more : (was : List ℕ) {is : List ℕ} (at : ℕ) (s : List ℕ) (i : ℕ) → i < length s → is ≡ clip was at (take i s)
     → set is (at + i) (get_or s i 0) ≡ clip was at (take (i + 1) s)
-clip-more was at s i h e =
+clip_more was at s i h e =
     let there : at + length (take i s) ≡ at + i = omega (arith, length-take i s) in
-    rw (e, add-one, take-suc s i 0 h, clip-append, there, clip-one)
+    rw (e, add-one, take-suc s i 0 h, clip_append, there, clip_one)

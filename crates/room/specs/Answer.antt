@@ -1,7 +1,7 @@
 -- What an entry with a text has to say, its answer, and the lent room afterwards ("Refusal numbers"). Assumes nothing.
 use Rattle.std.specs.Prelude.{ℕ, List}
 use Rattle.entry.specs.Said.{Said, says, refused}
-use Rattle.entry.specs.Contract.{valued, left, Enters, inRoom}
+use Rattle.entry.specs.Contract.{valued, left, Enters, in_room}
 use Rattle.room.specs.declared.Answer.{Answer}
 use Rattle.room.specs.declared.Answer.TheVariants.{Done, Refused}
 
@@ -15,21 +15,21 @@ told (says long) = Done long
 told (refused number place) = Refused number place
 
 -- the number of an answer, 0 if it is no refusal; and the length of the text, or the refusal's place
-abbrev pub answerNumber : Answer → ℕ
-answerNumber (Done long) = 0
-answerNumber (Refused number place) = number
+abbrev pub answer_number : Answer → ℕ
+answer_number (Done long) = 0
+answer_number (Refused number place) = number
 
-abbrev pub answerValue : Answer → ℕ
-answerValue (Done long) = long
-answerValue (Refused number place) = place
+abbrev pub answer_value : Answer → ℕ
+answer_value (Done long) = long
+answer_value (Refused number place) = place
 
 -- the answer of an entry that is lent the room `was`, and the room afterwards
 abbrev pub answered : Text → List ℕ → Answer
-answered said was = told (valued (inRoom was said))
+answered said was = told (valued (in_room was said))
 
-abbrev pub roomAfter : Text → List ℕ → List ℕ
-roomAfter said was = left was (inRoom was said)
+abbrev pub room_after : Text → List ℕ → List ℕ
+room_after said was = left was (in_room was said)
 
 -- what an entry promises: the room `was` became `is`
 abbrev pub Entered : (was is : List ℕ) → Text → Answer → Type 0
-Entered was is said answer = Enters inRoom told was is said answer
+Entered was is said answer = Enters in_room told was is said answer

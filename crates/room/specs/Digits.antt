@@ -8,16 +8,16 @@ abbrev pub digit : ℕ → ℕ
 digit d = 48 + d
 
 -- n in decimal, of which the last so many digits at most
-unfoldable pub lastDigits : ℕ → ℕ → List ℕ
-lastDigits zero n = []
-lastDigits (suc most) n =
-    let longer = lastDigits most (n / 10) ++ (digit (n % 10) ∷ []) in
+unfoldable pub last_digits : ℕ → ℕ → List ℕ
+last_digits zero n = []
+last_digits (suc most) n =
+    let longer = last_digits most (n / 10) ++ (digit (n % 10) ∷ []) in
     if ltb n 10 then digit n ∷ [] else longer
 
 -- all of its digits: there are never more than n + 1
 unfoldable pub decimal : ℕ → List ℕ
-unfolding lastDigits
-decimal n = lastDigits (suc n) n
+unfolding last_digits
+decimal n = last_digits (suc n) n
 
 -- ---- what decimal notation is: digits, one at least, and no zero in front of others
 
@@ -31,9 +31,9 @@ pub record Numeral (s : List ℕ) : Type 0 where
   pub front : 1 < length s → digit 0 < get_or s 0 0
 
 -- the number that digits stand for, after a number that is read already
-unfoldable pub valueFrom : ℕ → List ℕ → ℕ
-valueFrom v [] = v
-valueFrom v (b ∷ s) = valueFrom (v * 10 + (b - digit 0)) s
+unfoldable pub value_from : ℕ → List ℕ → ℕ
+value_from v [] = v
+value_from v (b ∷ s) = value_from (v * 10 + (b - digit 0)) s
 
 abbrev pub value : List ℕ → ℕ
-value s = valueFrom 0 s
+value s = value_from 0 s

@@ -12,13 +12,13 @@ use lib.Dec.{leb}
 use lib.ListN.{length, drop, length-drop, drop_of_length-le}
 use lib.Seq.{drop-drop, drop-length}
 use Rattle.marks_on_a_card.specs.Marks.{Mark, text, seat, process, number, decimal, outside, placed, Start, blank, mark, start_at, emit, marks, place_of}
-use Rattle.marks_on_a_card.specs.Kinds.{kEnd, kOutside, kind_of}
-use Rattle.marks.specs.Step.{stepAt, marksAt}
-use Rattle.marks_on_a_card.proofs.KindLaws.{kind-outside, kind-some}
+use Rattle.marks_on_a_card.specs.Kinds.{k_end, k_outside, kind_of}
+use Rattle.marks.specs.Step.{step_at, marks_at}
+use Rattle.marks_on_a_card.proofs.KindLaws.{kind_outside, kind_some}
 use Rattle.marks.specs.declared.Step.{Step}
 use Rattle.reading.specs.Reader.{Place}
-use Rattle.reading.specs.Reading.{isOutside, firstOutside}
-use Rattle.parts.proofs.Steps.{Next, end, one, next-at}
+use Rattle.reading.specs.Reading.{is_outside, first_outside}
+use Rattle.parts.proofs.Steps.{Next, end, one, next_at}
 
 module _ (s : List ℕ) where
   -- of the bytes x at the end of s, of which k are skipped
@@ -41,7 +41,7 @@ module _ (s : List ℕ) where
       go (blank more) q f = f more (omega arith) shorter
       go (mark m more) q f = rw (e, q)
 
-  pub same_place : (i : ℕ) → marksAt 0 s (place_of (length s) (marksAt 0 s i)) ≡ marksAt 0 s i
+  pub same_place : (i : ℕ) → marks_at 0 s (place_of (length s) (marks_at 0 s i)) ≡ marks_at 0 s i
   same_place i = rw (zero-add (length s)) (again zero (drop i s) (omega (arith, length-drop i s)) (go (leb i (length s)) refl))
     where
       go : (b : Bool) → leb i (length s) ≡ b → drop (length s - length (drop i s)) s ≡ drop i s
@@ -55,39 +55,39 @@ module _ (s : List ℕ) where
 
   -- a place of the card, up to which no mark is outside the rules
   abbrev pub Reached : Place → Type 0
-  Reached p = (i : ℕ) × (marksAt 0 s i ≡ p) × (firstOutside p ≡ firstOutside (marksAt 0 s 0))
+  Reached p = (i : ℕ) × (marks_at 0 s i ≡ p) × (first_outside p ≡ first_outside (marks_at 0 s 0))
 
-  pub reached-first : Reached (marksAt 0 s 0)
-  reached-first = (0, refl, refl)
+  pub reached_first : Reached (marks_at 0 s 0)
+  reached_first = (0, refl, refl)
 
-  pub reached-next : (m : Mark) (q : ℕ) (ms : Place) → isOutside m ≡ false → Reached (placed m q ∷ ms) → Reached ms
-  reached-next m q ms e (i, f, g) = go (stepAt s i) (next-at s i (stepAt s i) refl)
+  pub reached_next : (m : Mark) (q : ℕ) (ms : Place) → is_outside m ≡ false → Reached (placed m q ∷ ms) → Reached ms
+  reached_next m q ms e (i, f, g) = go (step_at s i) (next_at s i (step_at s i) refl)
     where
       go : (x : Step) → Next s i x → Reached ms
       go _ (end h) = let z : ◌≡◌ {A = ℕ} 0 1 = cc (h, f) in absurd (omega arith)
-      go _ (one n p next l h) = let z : marksAt 0 s next ≡ ms = cc (h, f) in (next, z, rw e at g)
+      go _ (one n p next l h) = let z : marks_at 0 s next ≡ ms = cc (h, f) in (next, z, rw e at g)
 
-  pub outside_behind : (p : Place) → Reached p → firstOutside (marksAt 0 s 0) ≡ firstOutside (marksAt 0 s (place_of (length s) p))
-  outside_behind p (i, f, g) = sym g ∙ ap firstOutside (sym (rw f at (same_place i)))
+  pub outside_behind : (p : Place) → Reached p → first_outside (marks_at 0 s 0) ≡ first_outside (marks_at 0 s (place_of (length s) p))
+  outside_behind p (i, f, g) = sym g ∙ ap first_outside (sym (rw f at (same_place i)))
 
 -- ---- the search for a mark outside the rules
 
-none-outside : (s : List ℕ) (i : ℕ) → marksAt 0 s i ≡ [] → firstOutside (marksAt 0 s i) ≡ none
-none-outside s i e = ap firstOutside e
+none_outside : (s : List ℕ) (i : ℕ) → marks_at 0 s i ≡ [] → first_outside (marks_at 0 s i) ≡ none
+none_outside s i e = ap first_outside e
 
-pub search-over : (s : List ℕ) (i : ℕ) → length s ≤ i → firstOutside (marksAt 0 s i) ≡ none
-search-over s i h = rw (drop_of_length-le s h)
+pub search_over : (s : List ℕ) (i : ℕ) → length s ≤ i → first_outside (marks_at 0 s i) ≡ none
+search_over s i h = rw (drop_of_length-le s h)
 
 module _ (s : List ℕ) (i : ℕ) where
-  pub search-end : (x : Step) → Next s i x → x.mark.kind ≡ kEnd → firstOutside (marksAt 0 s i) ≡ none
-  search-end _ (end e) z = none-outside s i e
-  search-end _ (one m p next l e) z = absurd (kind-some m z)
+  pub search_end : (x : Step) → Next s i x → x.mark.kind ≡ k_end → first_outside (marks_at 0 s i) ≡ none
+  search_end _ (end e) z = none_outside s i e
+  search_end _ (one m p next l e) z = absurd (kind_some m z)
 
-  pub search-found : (x : Step) → Next s i x → x.mark.kind ≡ kOutside → firstOutside (marksAt 0 s i) ≡ some x.mark.place
-  search-found _ (end e) z = absurd (omega arith)
-  search-found _ (one m p next l e) z = rw (e, kind-outside m z)
+  pub search_found : (x : Step) → Next s i x → x.mark.kind ≡ k_outside → first_outside (marks_at 0 s i) ≡ some x.mark.place
+  search_found _ (end e) z = absurd (omega arith)
+  search_found _ (one m p next l e) z = rw (e, kind_outside m z)
 
-  inside : (m : Mark) → (kind_of m ≡ kOutside → ⊥) → isOutside m ≡ false
+  inside : (m : Mark) → (kind_of m ≡ k_outside → ⊥) → is_outside m ≡ false
   inside (text t) h = refl
   inside (seat j) h = refl
   inside (process j) h = refl
@@ -96,7 +96,7 @@ module _ (s : List ℕ) (i : ℕ) where
   inside outside h = absurd (h refl)
 
   -- a mark inside the rules: the search goes on behind it, and fewer marks are left
-  pub search-more : (x : Step) → Next s i x → (x.mark.kind ≡ kEnd → ⊥) → (x.mark.kind ≡ kOutside → ⊥)
-      → (firstOutside (marksAt 0 s i) ≡ firstOutside (marksAt 0 s x.next.at)) × (length (marksAt 0 s x.next.at) < length (marksAt 0 s i))
-  search-more _ (end e) z o = absurd (z refl)
-  search-more _ (one m p next l e) z o = (rw (e, inside m o), rw e (omega arith))
+  pub search_more : (x : Step) → Next s i x → (x.mark.kind ≡ k_end → ⊥) → (x.mark.kind ≡ k_outside → ⊥)
+      → (first_outside (marks_at 0 s i) ≡ first_outside (marks_at 0 s x.next.at)) × (length (marks_at 0 s x.next.at) < length (marks_at 0 s i))
+  search_more _ (end e) z o = absurd (z refl)
+  search_more _ (one m p next l e) z o = (rw (e, inside m o), rw e (omega arith))

@@ -2,9 +2,9 @@
 -- Assumes nothing.
 use Rattle.std.specs.Prelude.{ℕ}
 use Rattle.std.proofs.Math.Option.{Option, none, some}
-use Rattle.card.specs.Refusals.{outsideRules}
+use Rattle.card.specs.Refusals.{outside_rules}
 use Rattle.search.specs.declared.Due.{Due}
 
 abbrev pub searched : ℕ → ℕ → Option ℕ → Due
 searched r p none = record { number = r; place = p }
-searched r p (some o) = record { number = outsideRules; place = o }
+searched r p (some o) = record { number = outside_rules; place = o }

@@ -1,8 +1,8 @@
 // What is due where reading stops: the stop itself, unless a mark outside the rules stands there or further on. Cards and questions are
 // searched alike.
 ghost use Rattle.std.specs.Prelude.{◌≡◌};
-ghost use Rattle.marks.specs.Step.{marksAt};
-ghost use Rattle.reading.specs.Reading.{firstOutside};
+ghost use Rattle.marks.specs.Step.{marks_at};
+ghost use Rattle.reading.specs.Reading.{first_outside};
 ghost use Rattle.search.specs.Search.{searched};
 
 use card::refusals::OUTSIDE_RULES;
@@ -18,7 +18,7 @@ pub struct Due {
 
 // A stop at a place, unless a mark outside the rules stands there or further on.
 pub fn search(card: &[u8], stop: usize, place: usize) -> Due
-    ensures { result ≡ searched stop place (firstOutside (marksAt 0 card.now place)) }
+    ensures { result ≡ searched stop place (first_outside (marks_at 0 card.now place)) }
 {
     let mut next = place;
     while next < card.len() {

@@ -5,26 +5,26 @@ use mathlib.Core.Path.{◌≡◌, refl, sym, ap, ap₂, ◌∙◌}
 use mathlib.Core.List.{List}
 use lib.ListN.{take}
 use Rattle.card.specs.Valid.{values_of}
-use Rattle.card.specs.Laid.{sharedOf}
-use Rattle.card.specs.Lent.{Lent, cardIn}
+use Rattle.card.specs.Laid.{shared_of}
+use Rattle.card.specs.Lent.{Lent, card_in}
 use Rattle.card.specs.declared.Head.{Head}
 use Rattle.card.specs.declared.Verdict.{Verdict}
 use Rattle.meaning.specs.Position.{position}
 use Rattle.meaning.specs.Seats.{counts, counted}
-use Rattle.seating.specs.Judged.{judgedSeats, shared_at, seatingOf}
+use Rattle.seating.specs.Judged.{judged_seats, shared_at, seating_of}
 
-pub values-again : (values initial : ℕ) → values_of (sharedOf values initial) ≡ values
-values-again zero initial = refl
-values-again (suc most) initial = refl
+pub values_again : (values initial : ℕ) → values_of (shared_of values initial) ≡ values
+values_again zero initial = refl
+values_again (suc most) initial = refl
 
 module _ (h : Head) (x : Lent) (seats : List ℕ) where
-  pub values-in : values_of (cardIn h x).shared ≡ h.shared
-  values-in = values-again h.shared h.initial
+  pub values_in_law : values_of (card_in h x).shared ≡ h.shared
+  values_in_law = values_again h.shared h.initial
 
-  pub judged-in : {s : Verdict} → s ≡ judgedSeats h.seats h.top h.shared seats
-      → s ≡ judgedSeats (cardIn h x).n (cardIn h x).k (values_of (cardIn h x).shared) seats
-  judged-in e = e ∙ ap (λ (v : ℕ). judgedSeats h.seats h.top v seats) (sym values-in)
+  pub judged_in : {s : Verdict} → s ≡ judged_seats h.seats h.top h.shared seats
+      → s ≡ judged_seats (card_in h x).n (card_in h x).k (values_of (card_in h x).shared) seats
+  judged_in e = e ∙ ap (λ (v : ℕ). judged_seats h.seats h.top v seats) (sym values_in_law)
 
-  pub counted-in : (k : ℕ) {v : List ℕ} {g : ℕ} → v ≡ counts k (take h.seats seats) → g ≡ shared_at h.seats h.shared seats
-      → position v g ≡ counted k (seatingOf (cardIn h x) seats)
-  counted-in k e f = ap₂ position e (f ∙ ap (λ (a : ℕ). shared_at h.seats a seats) (sym values-in))
+  pub counted_in : (k : ℕ) {v : List ℕ} {g : ℕ} → v ≡ counts k (take h.seats seats) → g ≡ shared_at h.seats h.shared seats
+      → position v g ≡ counted k (seating_of (card_in h x) seats)
+  counted_in k e f = ap₂ position e (f ∙ ap (λ (a : ℕ). shared_at h.seats a seats) (sym values_in_law))

@@ -5,7 +5,7 @@ use mathlib.Core.Logic.{◌↔◌, ⊎_elim}
 use mathlib.Core.List.{List}
 use native.Mathlib.Omega.{arith}
 use lib.ListN.{length}
-use Rattle.card.specs.Refusals.{wrongSeats, seatAboveTop}
+use Rattle.card.specs.Refusals.{wrong_seats, seat_above_top}
 use Rattle.card.specs.Card.{Card}
 use Rattle.card.specs.Valid.{values_of}
 use Rattle.entry.specs.Said.{says, refused}
@@ -14,30 +14,30 @@ use Rattle.entry.proofs.Stages.{says≢refused, same_number, same_place}
 use Rattle.entry.proofs.Exactly.{◌↔∙◌}
 use Rattle.card.specs.declared.Verdict.{Verdict}
 use Rattle.card.specs.declared.Verdict.TheVariants.{Taken, Refused}
-use Rattle.seating.specs.Judged.{judgedSeats, seatsDue, FirstWrong, Seated}
-use Rattle.seating.specs.SeatsSaid.{verdictSaid, seatsSaid, seatsNumbers}
-use Rattle.seating.proofs.Judging.{valid-exactly, wrong-seats-exactly, seat-above-exactly, judged-else}
+use Rattle.seating.specs.Judged.{judged_seats, seats_due, FirstWrong, Seated}
+use Rattle.seating.specs.SeatsSaid.{verdict_said, seats_said, seats_numbers}
+use Rattle.seating.proofs.Judging.{valid_exactly, wrong_seats_exactly, seat_above_exactly, judged_else}
 
-pub verdict-refused : (s : Verdict) (r p : ℕ) → (verdictSaid s ≡ refused r p) ↔ (s ≡ Refused r p)
-verdict-refused Taken r p = (λ e. says≢refused e, λ e. let z : ◌≡◌ {A = ℕ} 0 1 = cc in absurd (omega arith))
-verdict-refused (Refused s q) r p = (λ e. rw (same_number e, same_place e), λ e. ap verdictSaid e)
+pub verdict_refused : (s : Verdict) (r p : ℕ) → (verdict_said s ≡ refused r p) ↔ (s ≡ Refused r p)
+verdict_refused Taken r p = (λ e. says≢refused e, λ e. let z : ◌≡◌ {A = ℕ} 0 1 = cc in absurd (omega arith))
+verdict_refused (Refused s q) r p = (λ e. rw (same_number e, same_place e), λ e. ap verdict_said e)
 
-pub verdict-fine : (s : Verdict) (u : Unit {0}) → verdictSaid s ≡ says u → s ≡ Taken
-verdict-fine Taken u e = refl
-verdict-fine (Refused s q) u e = says≢refused (sym e)
+pub verdict_fine : (s : Verdict) (u : Unit {0}) → verdict_said s ≡ says u → s ≡ Taken
+verdict_fine Taken u e = refl
+verdict_fine (Refused s q) u e = says≢refused (sym e)
 
 module _ (seats : List ℕ) (c : Card) where
-  pub seats-stage : Stage (seatsSaid seats c) seatsNumbers (Seated c seats) (λ _. tt)
-  seats-stage = record {
-    numbers = record { number = λ r p e. ⊎_elim (λ k. rw k) (λ k. rw k) (judged-else c.n c.k (values_of c.shared) seats r p ((verdict-refused (judgedSeats c.n c.k (values_of c.shared) seats) r p).0 e)) };
+  pub seats_stage : Stage (seats_said seats c) seats_numbers (Seated c seats) (λ _. tt)
+  seats_stage = record {
+    numbers = record { number = λ r p e. ⊎_elim (λ k. rw k) (λ k. rw k) (judged_else c.n c.k (values_of c.shared) seats r p ((verdict_refused (judged_seats c.n c.k (values_of c.shared) seats) r p).0 e)) };
     found = record {
-      each = λ ok. ap verdictSaid ((valid-exactly c seats).1 ok);
-      only = λ u e. ((valid-exactly c seats).0 (verdict-fine (judgedSeats c.n c.k (values_of c.shared) seats) u e), refl);
+      each = λ ok. ap verdict_said ((valid_exactly c seats).1 ok);
+      only = λ u e. ((valid_exactly c seats).0 (verdict_fine (judged_seats c.n c.k (values_of c.shared) seats) u e), refl);
     };
   }
 
-  pub wrong-count : (p : ℕ) → (seatsSaid seats c ≡ refused wrongSeats p) ↔ ((length seats ≡ seatsDue c → ⊥) × (p ≡ 0))
-  wrong-count p = verdict-refused (judgedSeats c.n c.k (values_of c.shared) seats) wrongSeats p ↔∙ wrong-seats-exactly c.n c.k (values_of c.shared) seats p
+  pub wrong_count : (p : ℕ) → (seats_said seats c ≡ refused wrong_seats p) ↔ ((length seats ≡ seats_due c → ⊥) × (p ≡ 0))
+  wrong_count p = verdict_refused (judged_seats c.n c.k (values_of c.shared) seats) wrong_seats p ↔∙ wrong_seats_exactly c.n c.k (values_of c.shared) seats p
 
-  pub wrong-seat : (p : ℕ) → (seatsSaid seats c ≡ refused seatAboveTop p) ↔ ((length seats ≡ seatsDue c) × FirstWrong c seats p)
-  wrong-seat p = verdict-refused (judgedSeats c.n c.k (values_of c.shared) seats) seatAboveTop p ↔∙ seat-above-exactly c.n c.k (values_of c.shared) seats p
+  pub wrong_seat : (p : ℕ) → (seats_said seats c ≡ refused seat_above_top p) ↔ ((length seats ≡ seats_due c) × FirstWrong c seats p)
+  wrong_seat p = verdict_refused (judged_seats c.n c.k (values_of c.shared) seats) seat_above_top p ↔∙ seat_above_exactly c.n c.k (values_of c.shared) seats p

@@ -2,6 +2,6 @@
 use Rattle.card.specs.declared.Verdict.{Verdict}
 use Rattle.card.specs.declared.Verdict.TheVariants.{Taken, Refused}
 
-abbrev pub firstRefusal : Verdict → Verdict → Verdict
-firstRefusal Taken second = second
-firstRefusal (Refused number place) second = Refused number place
+abbrev pub first_refusal : Verdict → Verdict → Verdict
+first_refusal Taken second = second
+first_refusal (Refused number place) second = Refused number place

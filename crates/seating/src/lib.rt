@@ -1,12 +1,12 @@
 // Seats judged, and counted by their states; of two verdicts the one that is told ("Refusal numbers", "What a card means").
 ghost use Rattle.std.specs.Prelude.{◌≡◌, ltb, take};
-ghost use Rattle.card.specs.Limits.{topState};
-ghost use Rattle.card.specs.Refusals.{seatAboveTop};
-ghost use Rattle.meaning.specs.Seats.{counts as countsOf};
+ghost use Rattle.card.specs.Limits.{top_state};
+ghost use Rattle.card.specs.Refusals.{seat_above_top};
+ghost use Rattle.meaning.specs.Seats.{counts as counts_of};
 ghost use Rattle.card.specs.Text.{if◌then◌else◌};
 ghost use Rattle.card.specs.declared.Verdict.TheVariants.{Taken, Refused};
-ghost use Rattle.seating.specs.Judged.{judgedFrom, judgedSeats, shared_at};
-ghost use Rattle.seating.specs.FirstRefusal.{firstRefusal};
+ghost use Rattle.seating.specs.Judged.{judged_from, judged_seats, shared_at};
+ghost use Rattle.seating.specs.FirstRefusal.{first_refusal as first_refusal_said};
 
 use bytes_as_numbers::wide;
 use card::Verdict;
@@ -22,7 +22,7 @@ fn refusal_at(number: u8, at: usize) -> Verdict
 
 // Is each of them at most `most`? The first above is refused with the number.
 pub fn judge_each(list: &[u8], most: usize, number: u8) -> Verdict
-    ensures { result ≡ judgedFrom number most 0 list.now }
+    ensures { result ≡ judged_from number most 0 list.now }
 {
     let mut i = 0;
     while i < list.len() {
@@ -37,7 +37,7 @@ pub fn judge_each(list: &[u8], most: usize, number: u8) -> Verdict
 
 // Is it one of the values of the shared number, of which there are some?
 fn judge_shared(value: usize, shared: usize, place: usize) -> Verdict
-    ensures { result ≡ (if ltb value shared then Taken else Refused seatAboveTop place) }
+    ensures { result ≡ (if ltb value shared then Taken else Refused seat_above_top place) }
 {
     if value < shared {
         return Verdict::Taken;
@@ -47,7 +47,7 @@ fn judge_shared(value: usize, shared: usize, place: usize) -> Verdict
 
 // Are they seats for a card of n seats and top state `top`, whose shared number has so many values (0: there is none)?
 pub fn judge_seats(seats: &[u8], n: usize, top: usize, shared: usize) -> Verdict
-    ensures { result ≡ judgedSeats n top shared seats.now }
+    ensures { result ≡ judged_seats n top shared seats.now }
 {
     if shared == 0 {
         if seats.len() != n {
@@ -81,7 +81,7 @@ pub fn shared_of(seats: &[u8], n: usize, shared: usize) -> usize
 
 // What is told of two judgements, one after the other: the first, where it refuses.
 pub fn first_refusal(first: Verdict, second: Verdict) -> Verdict
-    ensures { result ≡ firstRefusal first second }
+    ensures { result ≡ first_refusal_said first second }
 {
     let earlier = first;
     let later = second;
@@ -93,7 +93,7 @@ pub fn first_refusal(first: Verdict, second: Verdict) -> Verdict
 
 // How many of the first n seats are in each state that there can be; any other seat is passed over.
 pub fn count_seats(seats: &[u8], n: usize) -> [usize; MOST_STATES]
-    ensures { result ≡ countsOf topState (take n seats.now) }
+    ensures { result ≡ counts_of top_state (take n seats.now) }
 {
     let mut counts: [usize; MOST_STATES] = [0; MOST_STATES];
     let mut i = 0;

@@ -1,8 +1,8 @@
 // Which seats stand among a group's literals.
 ghost use Rattle.std.specs.Prelude.{◌≡◌, suc, ◌+◌, ◌≤◌};
-ghost use Rattle.card.specs.Limits.{mostSeats};
-ghost use Rattle.late.specs.Late.{upToMost};
-ghost use Rattle.seats_seen.specs.SeatsSeen.{noted, seenFrom, oneMore, wantIn, kindIn};
+ghost use Rattle.card.specs.Limits.{most_seats};
+ghost use Rattle.late.specs.Late.{up_to_most};
+ghost use Rattle.seats_seen.specs.SeatsSeen.{noted, seen_from, one_more as one_more_said, want_in, kind_in};
 
 use card::limits::MOST_SEATS;
 
@@ -18,7 +18,7 @@ pub fn note(seen: &mut [u8; SEATS], seat: usize)
 }
 
 pub fn one_more(count: usize) -> usize
-    ensures { result ≡ oneMore count }
+    ensures { result ≡ one_more_said count }
 {
     if MOST_SEATS < count {
         return count;
@@ -27,8 +27,8 @@ pub fn one_more(count: usize) -> usize
 }
 
 fn all_seen(seen: &[u8; SEATS], first: usize, count: usize) -> bool
-    requires { first + count ≤ suc mostSeats }
-    ensures { result ≡ seenFrom seen.now first count }
+    requires { first + count ≤ suc most_seats }
+    ensures { result ≡ seen_from seen.now first count }
 {
     let mut i: usize = 0;
     while i < count {
@@ -42,7 +42,7 @@ fn all_seen(seen: &[u8; SEATS], first: usize, count: usize) -> bool
 
 // The seats 1 to `count`, each of them: so many, or 0.
 pub fn each_once(seen: &[u8; SEATS], count: usize) -> usize
-    ensures { result ≡ upToMost count (seenFrom seen.now 1 count) }
+    ensures { result ≡ up_to_most count (seen_from seen.now 1 count) }
 {
     if MOST_SEATS < count {
         return 0;
@@ -54,7 +54,7 @@ pub fn each_once(seen: &[u8; SEATS], count: usize) -> usize
 }
 
 pub fn want(seen: &[u8; SEATS], count: usize, alike: bool) -> usize
-    ensures { result ≡ wantIn seen.now count alike }
+    ensures { result ≡ want_in seen.now count alike }
 {
     if !alike {
         return 0;
@@ -72,7 +72,7 @@ pub fn want(seen: &[u8; SEATS], count: usize, alike: bool) -> usize
 }
 
 pub fn kind(seen: &[u8; SEATS]) -> usize
-    ensures { result ≡ kindIn seen.now }
+    ensures { result ≡ kind_in seen.now }
 {
     if seen[1] == 0 {
         return 1;

@@ -1,9 +1,9 @@
 // The number that all seats share, put as text: its declaration, a test of it, and what a branch sets it to (document 02, 2026-10).
 ghost use Rattle.std.proofs.Math.Option.{some};
 ghost use Rattle.card.specs.Card.{is, isnt};
-ghost use Rattle.card.specs.Laid.{either, sharedOf};
+ghost use Rattle.card.specs.Laid.{either, shared_of};
 ghost use Rattle.phrases.specs.Puts.{Puts};
-ghost use Rattle.texts.specs.Shared.{declaration, sharedText, setText, setLast};
+ghost use Rattle.texts.specs.Shared.{declaration, shared_text, set_text, set_last};
 
 use phrases::{put_either, put_numbered};
 use put_numbers::put_number;
@@ -11,7 +11,7 @@ use room::{place, put_byte, put_bytes};
 
 // The line that declares it, of so many values, from the end of the mode's line on; nothing where there is no such number.
 pub fn put_declaration(room: &mut [u8], at: usize, values: usize, initial: usize) -> usize
-    ensures { Puts room.old room.new at (declaration (sharedOf values initial)) result }
+    ensures { Puts room.old room.new at (declaration (shared_of values initial)) result }
 {
     if values == 0 {
         return place(at);
@@ -23,7 +23,7 @@ pub fn put_declaration(room: &mut [u8], at: usize, values: usize, initial: usize
 
 // A test, as it stands on the card.
 pub fn put_shared(room: &mut [u8], at: usize, relation: usize, value: usize) -> usize
-    ensures { Puts room.old room.new at (sharedText (either is isnt relation) value) result }
+    ensures { Puts room.old room.new at (shared_text (either is isnt relation) value) result }
 {
     let a = put_either(room, at, relation, b"(g=", b"(g!=");
     let b = put_number(room, a, value);
@@ -32,7 +32,7 @@ pub fn put_shared(room: &mut [u8], at: usize, relation: usize, value: usize) -> 
 
 // What it is set to.
 pub fn put_set(room: &mut [u8], at: usize, value: usize) -> usize
-    ensures { Puts room.old room.new at (setText value) result }
+    ensures { Puts room.old room.new at (set_text value) result }
 {
     let a = put_numbered(room, at, b"(g'=", value);
     put_byte(room, a, b')')
@@ -40,7 +40,7 @@ pub fn put_set(room: &mut [u8], at: usize, value: usize) -> usize
 
 // The same behind what else a branch does.
 pub fn put_set_last(room: &mut [u8], at: usize, value: usize) -> usize
-    ensures { Puts room.old room.new at (setLast (some value)) result }
+    ensures { Puts room.old room.new at (set_last (some value)) result }
 {
     let a = put_bytes(room, at, b" & ");
     put_set(room, a, value)

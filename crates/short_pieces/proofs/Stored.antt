@@ -12,20 +12,20 @@ abbrev pub stored : List ℕ → ℕ → ℕ → List ℕ → List ℕ
 stored room at k [] = room
 stored room at k (b ∷ text) = stored (set room (at + k) b) at (suc k) text
 
-stored-clip : (room : List ℕ) (at k : ℕ) (text : List ℕ) → stored room at k text ≡ clip room (at + k) text
+stored_clip : (room : List ℕ) (at k : ℕ) (text : List ℕ) → stored room at k text ≡ clip room (at + k) text
 unfolding clip
-stored-clip room at k [] = refl
-stored-clip room at k (b ∷ text) =
-    stored-clip (set room (at + k) b) at (suc k) text
+stored_clip room at k [] = refl
+stored_clip room at k (b ∷ text) =
+    stored_clip (set room (at + k) b) at (suc k) text
     ∙ ap (λ (i : ℕ). clip (set room (at + k) b) i text) (omega arith)
 
 -- a first byte at its place, and all others behind it
-pub put-stored : {room : List ℕ} {at b : ℕ} (text : List ℕ) {r : ℕ} → length room < cap → at + suc (length text) ≤ length room → r ≡ at + suc (length text)
+pub put_stored : {room : List ℕ} {at b : ℕ} (text : List ℕ) {r : ℕ} → length room < cap → at + suc (length text) ≤ length room → r ≡ at + suc (length text)
     → Put room (stored (set room at b) at 1 text) at (b ∷ text) r
 unfolding clip
-put-stored {room} {at} {b} text small fits e =
+put_stored {room} {at} {b} text small fits e =
     record {
       small = small;
-      wrote = stored-clip (set room at b) at 1 text ∙ ap (λ (i : ℕ). clip (set room at b) i text) (add-one at);
+      wrote = stored_clip (set room at b) at 1 text ∙ ap (λ (i : ℕ). clip (set room at b) i text) (add-one at);
       next = omega arith;
     }

@@ -5,7 +5,7 @@ use Rattle.card.specs.Card.{Mode, nondeterministic, probabilistic, Card}
 use Rattle.card.specs.Valid.{Every}
 use Rattle.meaning.specs.Seats.{Seating}
 use Rattle.meaning.specs.Panel.{Move, Stay, Block, Panel, panel}
-use Rattle.panel_wording.specs.PanelText.{told, panelText, panelOf}
+use Rattle.panel_wording.specs.PanelText.{told, panel_text, panel_of}
 
 -- a block for each choice, or one block without
 abbrev pub Chosen : Block → Type 0
@@ -31,6 +31,6 @@ pub record Shaped (p : Panel) : Type 0 where
 pub record Telling : Type 0 where
   -- of every card and every seating
   pub shaped : (c : Card) (x : Seating) → Shaped (panel c x)
-  pub tells : (p q : Panel) → Shaped p → Shaped q → panelText p ≡ panelText q → p ≡ q
+  pub tells : (p q : Panel) → Shaped p → Shaped q → panel_text p ≡ panel_text q → p ≡ q
   -- so: mode, seats, enabled, counts, the shared number and blocks
-  pub same-data : (c d : Card) (x y : Seating) → panelOf c x ≡ panelOf d y → panel c x ≡ panel d y
+  pub same_data : (c d : Card) (x y : Seating) → panel_of c x ≡ panel_of d y → panel c x ≡ panel d y

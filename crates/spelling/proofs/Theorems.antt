@@ -7,28 +7,28 @@ use native.Mathlib.Nat.{zero-add, add-zero}
 use native.Mathlib.Omega.{arith}
 use lib.ListN.{length, drop, length-append, length-drop}
 use lib.Seq.{drop-append_seam, drop-drop}
-use Rattle.marks_on_a_card.specs.Marks.{Mark, Placed, placed, marksOf}
+use Rattle.marks_on_a_card.specs.Marks.{Mark, Placed, placed, marks_of}
 use Rattle.spelling.specs.Spells.{Spells}
 use Rattle.spelling.specs.Marked.{Stands, taken, Marked, next, StandsAt}
-use Rattle.spelling.proofs.Lists.{same-front}
-use Rattle.spelling.proofs.Forms.{form, form-some}
-use Rattle.spelling.proofs.Once.{spells-once}
-use Rattle.spelling.proofs.Exact.{marked, marked-only}
+use Rattle.spelling.proofs.Lists.{same_front}
+use Rattle.spelling.proofs.Forms.{form, form_some}
+use Rattle.spelling.proofs.Once.{spells_once}
+use Rattle.spelling.proofs.Exact.{marked, marked_only}
 
-pub exact : (s : List ℕ) (ms : List Placed) → (marksOf s ≡ ms) ↔ Marked 0 s ms
-exact s ms = (λ e. subst (Marked 0 s) e (marked s), marked-only s ms)
+pub exact : (s : List ℕ) (ms : List Placed) → (marks_of s ≡ ms) ↔ Marked 0 s ms
+exact s ms = (λ e. subst (Marked 0 s) e (marked s), marked_only s ms)
 
 pub once : (w : List ℕ) (m n : Mark) → Spells w m → Spells w n → m ≡ n
-once = spells-once
+once = spells_once
 
 -- ---- the marks from one of them on
 
 record Part (a : ℕ) (s : List ℕ) (ms : List Placed) : Type 0 where
   from : ℕ
-  marks-are : Marked (a + from) (drop from s) ms
+  marks_are : Marked (a + from) (drop from s) ms
 
 part : (a : ℕ) (s : List ℕ) (before ms : List Placed) → Marked a s (before ++ ms) → Part a s ms
-part a s [] ms k = record { from = 0; marks-are = rw (add-zero a) k }
+part a s [] ms k = record { from = 0; marks_are = rw (add-zero a) k }
 part a s (x ∷ before) ms (next {g = g} {w = w} {r = r} {m = m} e b st k) =
     let t = taken m w in
     let p = part (a + length g + t) (drop t (w ++ r)) before ms k in
@@ -36,47 +36,47 @@ part a s (x ∷ before) ms (next {g = g} {w = w} {r = r} {m = m} e b st k) =
     let there : drop t (w ++ r) ≡ drop (length g + t) s = ap (drop t) (sym (drop-append_seam g (w ++ r)) ∙ ap (drop (length g)) (sym e)) ∙ drop-drop t (length g) s in
     record {
       from = length g + t + p.from;
-      marks-are = subst (λ (u : List ℕ). Marked (a + (length g + t + p.from)) u ms) (ap (drop p.from) there ∙ drop-drop p.from (length g + t) s) (rw n at p.marks-are);
+      marks_are = subst (λ (u : List ℕ). Marked (a + (length g + t + p.from)) u ms) (ap (drop p.from) there ∙ drop-drop p.from (length g + t) s) (rw n at p.marks_are);
     }
 
 -- the first of some marks, and the second behind it
 module _ (s : List ℕ) where
-  stands-first : (a : ℕ) (m : Mark) (p : ℕ) (after : List Placed) → Marked a (drop a s) (placed m p ∷ after) → StandsAt s p m
-  stands-first a m p after (next {g = g} {w = w} {r = r} e b st k) =
+  stands_first : (a : ℕ) (m : Mark) (p : ℕ) (after : List Placed) → Marked a (drop a s) (placed m p ∷ after) → StandsAt s p m
+  stands_first a m p after (next {g = g} {w = w} {r = r} e b st k) =
       let there : drop (a + length g) s ≡ w ++ r = sym (drop-drop (length g) a s) ∙ ap (drop (length g)) e ∙ drop-append_seam g (w ++ r) in
       record {
         spelt = w;
         rest = r;
-        on-card = omega (arith, length-drop (a + length g) s, ap length there ∙ length-append w r, form-some w (form w m st.spells));
-        from-there = there;
+        on_card = omega (arith, length-drop (a + length g) s, ap length there ∙ length-append w r, form_some w (form w m st.spells));
+        from_there = there;
         stands = st;
       }
 
-  second-place : (a : ℕ) (s : List ℕ) (n : Mark) (q : ℕ) (after : List Placed) → Marked a s (placed n q ∷ after) → a ≤ q
-  second-place a s n q after (next e b st k) = omega arith
+  second_place : (a : ℕ) (s : List ℕ) (n : Mark) (q : ℕ) (after : List Placed) → Marked a s (placed n q ∷ after) → a ≤ q
+  second_place a s n q after (next e b st k) = omega arith
 
-  same-spelt : (x : List ℕ) (w r : List ℕ) (v u : List ℕ) (m : Mark) → x ≡ w ++ r → x ≡ v ++ u → Stands w r m → Stands v u m → w ≡ v
-  same-spelt x w r v u m e f st nd =
+  same_spelt : (x : List ℕ) (w r : List ℕ) (v u : List ℕ) (m : Mark) → x ≡ w ++ r → x ≡ v ++ u → Stands w r m → Stands v u m → w ≡ v
+  same_spelt x w r v u m e f st nd =
       let short : length v ≤ length w = st.longest v u m (sym e ∙ f) nd.spells in
       let long : length w ≤ length v = nd.longest w r m (sym f ∙ e) st.spells in
-      same-front w r v u (sym e ∙ f) (omega arith)
+      same_front w r v u (sym e ∙ f) (omega arith)
 
-  second-behind : (a : ℕ) (m n : Mark) (p q : ℕ) (after : List Placed) → Marked a (drop a s) (placed m p ∷ placed n q ∷ after) → (x : StandsAt s p m) → p + taken m x.spelt ≤ q
-  second-behind a m n p q after (next {g = g} {w = w} {r = r} e b st k) x =
+  second_behind : (a : ℕ) (m n : Mark) (p q : ℕ) (after : List Placed) → Marked a (drop a s) (placed m p ∷ placed n q ∷ after) → (x : StandsAt s p m) → p + taken m x.spelt ≤ q
+  second_behind a m n p q after (next {g = g} {w = w} {r = r} e b st k) x =
       let there : drop (a + length g) s ≡ w ++ r = sym (drop-drop (length g) a s) ∙ ap (drop (length g)) e ∙ drop-append_seam g (w ++ r) in
-      let w-is : w ≡ x.spelt = same-spelt (drop (a + length g) s) w r x.spelt x.rest m there x.from-there st x.stands in
-      omega (arith, ap (taken m) w-is, second-place (a + length g + taken m w) (drop (taken m w) (w ++ r)) n q after k)
+      let w-is : w ≡ x.spelt = same_spelt (drop (a + length g) s) w r x.spelt x.rest m there x.from_there st x.stands in
+      omega (arith, ap (taken m) w-is, second_place (a + length g + taken m w) (drop (taken m w) (w ++ r)) n q after k)
 
 from_zero : (s : List ℕ) (ms : List Placed) (p : Part 0 s ms) → Marked p.from (drop p.from s) ms
-from_zero s ms p = rw (zero-add p.from) at p.marks-are
+from_zero s ms p = rw (zero-add p.from) at p.marks_are
 
-pub stands_at : (s : List ℕ) (before after : List Placed) (m : Mark) (p : ℕ) → marksOf s ≡ before ++ (placed m p ∷ after) → StandsAt s p m
+pub stands_at : (s : List ℕ) (before after : List Placed) (m : Mark) (p : ℕ) → marks_of s ≡ before ++ (placed m p ∷ after) → StandsAt s p m
 stands_at s before after m p e =
     let k = part 0 s before (placed m p ∷ after) (subst (Marked 0 s) e (marked s)) in
-    stands-first s k.from m p after (from_zero s (placed m p ∷ after) k)
+    stands_first s k.from m p after (from_zero s (placed m p ∷ after) k)
 
-pub rises : (s : List ℕ) (before after : List Placed) (m n : Mark) (p q : ℕ) → marksOf s ≡ before ++ (placed m p ∷ placed n q ∷ after)
+pub rises : (s : List ℕ) (before after : List Placed) (m n : Mark) (p q : ℕ) → marks_of s ≡ before ++ (placed m p ∷ placed n q ∷ after)
     → (x : StandsAt s p m) → p + taken m x.spelt ≤ q
 rises s before after m n p q e x =
     let k = part 0 s before (placed m p ∷ placed n q ∷ after) (subst (Marked 0 s) e (marked s)) in
-    second-behind s k.from m n p q after (from_zero s (placed m p ∷ placed n q ∷ after) k) x
+    second_behind s k.from m n p q after (from_zero s (placed m p ∷ placed n q ∷ after) k) x

@@ -1,7 +1,7 @@
 -- Which marks a card has, and where ("Marks on a card"): blanks and comments separate, and the longest fits first. Assumes nothing.
 use Rattle.std.specs.Prelude.{ℕ, ◌+◌, ◌≤◌, ◌<◌, ◌≡◌, true, List, [], ◌∷◌, ◌++◌, length, drop}
 use Rattle.card.specs.Text.{bytes}
-use Rattle.marks_on_a_card.specs.Bytes.{isBlank, notLF, every}
+use Rattle.marks_on_a_card.specs.Bytes.{is_blank, not_lf, every}
 use Rattle.marks_on_a_card.specs.Marks.{Mark, text, seat, process, number, decimal, outside, Placed, placed}
 use Rattle.spelling.specs.Spells.{Spells}
 
@@ -13,8 +13,8 @@ LineOver (b ∷ s) = b ≡ 10
 -- the bytes g, where r follows, are blanks and comments
 pub data Between : List ℕ → List ℕ → Type 0 where
   nothing : {r : List ℕ} → Between [] r
-  blank : {b : ℕ} {g r : List ℕ} → isBlank b ≡ true → Between g r → Between (b ∷ g) r
-  comment : (c : List ℕ) {g r : List ℕ} → every notLF c ≡ true → LineOver (g ++ r) → Between g r → Between (bytes "//" ++ (c ++ g)) r
+  blank : {b : ℕ} {g r : List ℕ} → is_blank b ≡ true → Between g r → Between (b ∷ g) r
+  comment : (c : List ℕ) {g r : List ℕ} → every not_lf c ≡ true → LineOver (g ++ r) → Between g r → Between (bytes "//" ++ (c ++ g)) r
 
 -- no longer beginning of the bytes s than w spells a mark
 abbrev pub Longest : List ℕ → List ℕ → Type 0
@@ -24,7 +24,7 @@ Longest w s = (p q : List ℕ) (m : Mark) → s ≡ p ++ q → Spells p m → le
 pub record Stands (w r : List ℕ) (m : Mark) : Type 0 where
   pub spells : Spells w m
   pub longest : Longest w (w ++ r)
-  pub no-comment : (t : List ℕ) → w ++ r ≡ bytes "//" ++ t → ⊥
+  pub no_comment : (t : List ℕ) → w ++ r ≡ bytes "//" ++ t → ⊥
 
 -- the bytes of a mark, behind which reading goes on. A card is refused at its first mark outside the rules; what is read behind that
 -- mark's first byte is of no account
@@ -48,6 +48,6 @@ pub data Marked : ℕ → List ℕ → List Placed → Type 0 where
 pub record StandsAt (s : List ℕ) (p : ℕ) (m : Mark) : Type 0 where
   pub spelt : List ℕ
   pub rest : List ℕ
-  pub on-card : p < length s
-  pub from-there : drop p s ≡ spelt ++ rest
+  pub on_card : p < length s
+  pub from_there : drop p s ≡ spelt ++ rest
   pub stands : Stands spelt rest m

@@ -1,11 +1,11 @@
 // One statement put as text, in either of the two texts: its row, its first test, and behind it what all its copies have in common.
 ghost use Rattle.std.specs.Prelude.{◌≡◌, ◌<◌};
-ghost use Rattle.card.specs.Limits.{mostStatements};
-ghost use Rattle.card.specs.Laid.{statementOf};
+ghost use Rattle.card.specs.Limits.{most_statements};
+ghost use Rattle.card.specs.Laid.{statement_of};
 ghost use Rattle.card.specs.Rows.{row_of};
 ghost use Rattle.phrases.specs.Phrases.{counted};
 ghost use Rattle.phrases.specs.Puts.{Puts};
-ghost use Rattle.statement_copies.specs.Copies.{firstText, restText, copyText, keptCopy, Fits, KeepsTail};
+ghost use Rattle.statement_copies.specs.Copies.{first_text, rest_text, copy_text, kept_copy, Fits, KeepsTail};
 
 use branch_text::put_branches;
 use card::Statement;
@@ -22,7 +22,7 @@ pub const TAIL_PLACES: usize = 652 + MOST_BRANCHES * WEIGHT_MOST;
 
 // The first test: `s1=own`, or the counter of `own` above m.
 fn put_first(room: &mut [u8], at: usize, m: usize, style: Style) -> usize
-    ensures { Puts room.old room.new at (firstText style m) result }
+    ensures { Puts room.old room.new at (first_text style m) result }
 {
     let own = style.own;
     if style.text == WRITTEN {
@@ -54,7 +54,7 @@ fn put_rest<'a>(
     style: Style,
 ) -> usize
     requires { Fits branches.now x i }
-    ensures { Puts room.old room.new at (restText style (statementOf nodes.now branches.now x i)) result }
+    ensures { Puts room.old room.new at (rest_text style (statement_of nodes.now branches.now x i)) result }
 {
     let from = i * MOST_BRANCHES;
     let to = from + x.branches;
@@ -66,7 +66,7 @@ fn put_rest<'a>(
 
 // Copies that differ in the first test alone.
 fn put_copies(room: &mut [u8], at: usize, rest: &[u8], style: Style) -> usize
-    ensures { Puts room.old room.new at (counted (keptCopy style rest.now) 0 style.copies) result }
+    ensures { Puts room.old room.new at (counted (kept_copy style rest.now) 0 style.copies) result }
 {
     let copies = style.copies;
     let mut to = place(at);
@@ -90,8 +90,8 @@ pub fn put_statement<'a>(
     style: Style,
 ) -> usize
     requires fits { Fits branches.now x i }
-    requires keeps_tail { KeepsTail style (statementOf nodes.now branches.now x i) }
-    ensures { Puts room.old room.new at (counted (copyText style (statementOf nodes.now branches.now x i)) 0 style.copies) result }
+    requires keeps_tail { KeepsTail style (statement_of nodes.now branches.now x i) }
+    ensures { Puts room.old room.new at (counted (copy_text style (statement_of nodes.now branches.now x i)) 0 style.copies) result }
 {
     if style.copies == 1 {
         let a = put_first(room, at, 0, style);
@@ -104,7 +104,7 @@ pub fn put_statement<'a>(
 
 // The row of statement i.
 pub fn row_at(rows: &[usize; ROW_PLACES], i: usize) -> Statement
-    requires { i < mostStatements }
+    requires { i < most_statements }
     ensures { result ≡ row_of rows.now i }
 {
     let from = i * ROW;

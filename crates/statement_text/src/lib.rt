@@ -2,9 +2,9 @@
 ghost use Rattle.std.specs.Prelude.{◌≡◌};
 ghost use Rattle.card.specs.Card.{nondeterministic, probabilistic};
 ghost use Rattle.card.specs.Laid.{either};
-ghost use Rattle.card.specs.Lent.{lent, cardIn, HoldsIn};
+ghost use Rattle.card.specs.Lent.{lent, card_in, HoldsIn};
 ghost use Rattle.phrases.specs.Puts.{Puts};
-ghost use Rattle.statement_text.specs.Statements.{copyNumber, statementsText};
+ghost use Rattle.statement_text.specs.Statements.{copy_number, statements_text};
 
 use card::limits::{NODE_PLACES, ROW_PLACES};
 use card::{Head, NONDETERMINISTIC};
@@ -14,7 +14,7 @@ use statement_copies::{put_statement, row_at};
 
 // How many copies each statement has: one, but on a probabilistic card's reduced program one for each seat.
 fn copies_of(text: usize, mode: usize, seats: usize) -> usize
-    ensures { result ≡ copyNumber text (either nondeterministic probabilistic mode) seats }
+    ensures { result ≡ copy_number text (either nondeterministic probabilistic mode) seats }
 {
     if text == WRITTEN {
         return 1;
@@ -36,7 +36,7 @@ pub fn put_statements<'a>(
     text: usize,
 ) -> usize
     requires { HoldsIn head (lent rows.now nodes.now branches.now) }
-    ensures { Puts room.old room.new at (statementsText text (cardIn head (lent rows.now nodes.now branches.now))) result }
+    ensures { Puts room.old room.new at (statements_text text (card_in head (lent rows.now nodes.now branches.now))) result }
 {
     let seats = head.seats;
     let count = head.count;

@@ -7,43 +7,43 @@ use native.Mathlib.Omega.{arith}
 use lib.ListN.{length, drop}
 use Rattle.card.specs.Text.{bytes}
 use Rattle.marks_on_a_card.specs.Bytes.{in_word, begun}
-use Rattle.marks_on_a_card.specs.Kinds.{kSeat, kind}
-use Rattle.marks.specs.Parts.{bareOf, valuedOf}
+use Rattle.marks_on_a_card.specs.Kinds.{k_seat, kind}
+use Rattle.marks.specs.Parts.{bare_of, valued_of}
 use Rattle.reading.specs.Reader.{line}
-use Rattle.late.specs.State.{Sized, lateIn, after}
-use Rattle.parts.specs.Parts.{from, Due, Sure, items_in, duesIn, kindsIn, numbersIn, LineRead}
+use Rattle.late.specs.State.{Sized, late_in, after}
+use Rattle.parts.specs.Parts.{from, Due, Sure, items_in, dues_in, kinds_in, numbers_in, LineRead}
 use Rattle.statements.specs.StatementHead.{OwnFrom}
-use Rattle.parts.proofs.Steps.{next-at}
+use Rattle.parts.proofs.Steps.{next_at}
 use Rattle.parts.proofs.Lines.{run_end, run_more}
-use Rattle.parts.proofs.Front.{Front, front, sign-by, word-by}
+use Rattle.parts.proofs.Front.{Front, front, sign_by, word_by}
 
 -- before a statement's own state
 module _ (s : List ℕ) (i : ℕ) (e : begun (bytes "]s1=") (drop i s) ≡ true) where
-  own-bracket : Front 93 (bytes "s1=") s i
-  own-bracket = front 93 (bytes "s1=") s i e
+  own_bracket : Front 93 (bytes "s1=") s i
+  own_bracket = front 93 (bytes "s1=") s i e
 
-  own-word : Front 115 (bytes "1=") s (i + 1)
-  own-word = front 115 (bytes "1=") s (i + 1) own-bracket.others
+  own_word : Front 115 (bytes "1=") s (i + 1)
+  own_word = front 115 (bytes "1=") s (i + 1) own_bracket.others
 
-  own-digit : Front 49 (bytes "=") s (i + 1 + 1)
-  own-digit = front 49 (bytes "=") s (i + 1 + 1) own-word.others
+  own_digit : Front 49 (bytes "=") s (i + 1 + 1)
+  own_digit = front 49 (bytes "=") s (i + 1 + 1) own_word.others
 
-  own-equal : Front 61 [] s (i + 1 + 1 + 1)
-  own-equal = front 61 [] s (i + 1 + 1 + 1) own-digit.others
+  own_equal : Front 61 [] s (i + 1 + 1 + 1)
+  own_equal = front 61 [] s (i + 1 + 1 + 1) own_digit.others
 
-  pub own-place : i + 3 < length s
-  own-place = omega (arith, own-equal.place)
+  pub own_place : i + 3 < length s
+  own_place = omega (arith, own_equal.place)
 
-  pub own-passed : (state : List ℕ) → Sized state → OwnFrom s i (lateIn state) (after state (i + 4))
-  own-passed state sized = record { answers = passed; sized = sized }
+  pub own_passed : (state : List ℕ) → Sized state → OwnFrom s i (late_in state) (after state (i + 4))
+  own_passed state sized = record { answers = passed; sized = sized }
     where
-      passed : (run : List Due) → Sure run → kind "]" ∷ kSeat ∷ kind "=" ∷ [] ≡ kindsIn run → 0 ∷ 1 ∷ 0 ∷ [] ≡ numbersIn run → (n : ℕ) → LineRead s (lateIn state) (duesIn run) (line (items_in run) (from s i n)) (after state (i + 4))
+      passed : (run : List Due) → Sure run → kind "]" ∷ k_seat ∷ kind "=" ∷ [] ≡ kinds_in run → 0 ∷ 1 ∷ 0 ∷ [] ≡ numbers_in run → (n : ℕ) → LineRead s (late_in state) (dues_in run) (line (items_in run) (from s i n)) (after state (i + 4))
       passed run h kinds dues n =
           let to : i + 1 + 1 + 1 + 1 ≡ i + 4 = omega arith in
           let p1 = i + 1 in
           let p3 = i + 1 + 1 + 1 in
-          run_end s n (i + 4) (lateIn state) _ []
-          (run_more s n p3 (lateIn state) (bareOf 61 p3 (i + 4)) (next-at s p3 (bareOf 61 p3 (i + 4)) (sym (sign-by s 61 p3 (i + 4) (sym to) refl refl own-equal.place own-equal.byte))) _ (kind "=") [] 0 []
-          (run_more s n p1 (lateIn state) (valuedOf kSeat 1 p1 p3) (next-at s p1 (valuedOf kSeat 1 p1 p3) (sym (word-by s p1 own-word.place own-word.byte own-digit.place own-digit.byte own-equal.place (ap in_word own-equal.byte)))) _ kSeat (kind "=" ∷ []) 1 (0 ∷ [])
-          (run_more s n i (lateIn state) (bareOf 93 i p1) (next-at s i (bareOf 93 i p1) (sym (sign-by s 93 i p1 refl refl refl own-bracket.place own-bracket.byte))) _ (kind "]") (kSeat ∷ kind "=" ∷ []) 0 (1 ∷ 0 ∷ [])
-          (record { rest = run; sure = h; kinds-left = kinds; dues-left = dues; answered = λ r y. y }) refl) refl) refl) (λ z. omega arith) state refl
+          run_end s n (i + 4) (late_in state) _ []
+          (run_more s n p3 (late_in state) (bare_of 61 p3 (i + 4)) (next_at s p3 (bare_of 61 p3 (i + 4)) (sym (sign_by s 61 p3 (i + 4) (sym to) refl refl own_equal.place own_equal.byte))) _ (kind "=") [] 0 []
+          (run_more s n p1 (late_in state) (valued_of k_seat 1 p1 p3) (next_at s p1 (valued_of k_seat 1 p1 p3) (sym (word_by s p1 own_word.place own_word.byte own_digit.place own_digit.byte own_equal.place (ap in_word own_equal.byte)))) _ k_seat (kind "=" ∷ []) 1 (0 ∷ [])
+          (run_more s n i (late_in state) (bare_of 93 i p1) (next_at s i (bare_of 93 i p1) (sym (sign_by s 93 i p1 refl refl refl own_bracket.place own_bracket.byte))) _ (kind "]") (k_seat ∷ kind "=" ∷ []) 0 (1 ∷ 0 ∷ [])
+          (record { rest = run; sure = h; kinds_left = kinds; dues_left = dues; answered = λ r y. y }) refl) refl) refl) (λ z. omega arith) state refl

@@ -5,34 +5,34 @@ use mathlib.Core.List.{List, [], ◌∷◌}
 use mathlib.Core.Option.{Option}
 use native.Mathlib.Omega.{arith}
 use lib.ListN.{length, set}
-use Rattle.card.specs.Limits.{rowNumbers, mostNodes, mostBranches}
+use Rattle.card.specs.Limits.{row_numbers, most_nodes, most_branches}
 use Rattle.card.specs.Card.{Formula}
-use Rattle.card.specs.Laid.{guardSize}
+use Rattle.card.specs.Laid.{guard_size}
 use Rattle.card.specs.Stored.{stored}
 use Rattle.card.specs.Rows.{rows_of}
 use Rattle.card.specs.Lent.{Lent, lent}
-use Rattle.reading.specs.Reader.{Place, State, Result, ok, Reader, bind, return, sign, number_of, Numbered, numbered, Item, exactly, seatWord, line}
+use Rattle.reading.specs.Reader.{Place, State, Result, ok, Reader, bind, return, sign, number_of, Numbered, numbered, Item, exactly, seat_word, line}
 use Rattle.reading.specs.Group.{Tested}
-use Rattle.reading.specs.Shape.{StatementShape, moreBranches, guard}
-use Rattle.reading.specs.Checks.{judgedState, judgedWords, judgedOr}
-use Rattle.late.specs.Late.{Late, judge, judgeAll}
+use Rattle.reading.specs.Shape.{StatementShape, more_branches, guard}
+use Rattle.reading.specs.Checks.{judged_state, judged_words, judged_or}
+use Rattle.late.specs.Late.{Late, judge, judge_all}
 use Rattle.late.specs.Values.{shares, most_of}
-use Rattle.late.specs.State.{lateIn, valueIn, After, after}
-use Rattle.late.proofs.Settling.{judge-append}
+use Rattle.late.specs.State.{late_in, value_in, After, after}
+use Rattle.late.proofs.Settling.{judge_append}
 use Rattle.parts.specs.Parts.{from, Kept, Went, NumberFrom, Sure, LineRead}
 use Rattle.branches.specs.declared.Bounds.{Bounds}
-use Rattle.branches.specs.Branches.{BranchesShape, branchBy, branches, judgedBranches, BranchesFrom}
-use Rattle.statements.specs.StatementHead.{statementDue, OwnFrom, guarded, guardOrBy, GuardedFrom}
-use Rattle.statements.specs.OneStatement.{row_by, statementBy, StatementRead, StatementFrom}
+use Rattle.branches.specs.Branches.{BranchesShape, branch_by, branches, judged_branches, BranchesFrom}
+use Rattle.statements.specs.StatementHead.{statement_due, OwnFrom, guarded, guard_or_by, GuardedFrom}
+use Rattle.statements.specs.OneStatement.{row_by, statement_by, StatementRead, StatementFrom}
 use Rattle.parts.proofs.Steps.{told}
 use Rattle.parts.proofs.Answers.{onward, halted}
 use Rattle.parts.proofs.Lines.{assoc}
 
-pub statement-sure : Sure statementDue
-statement-sure = (told "]" (omega arith), (told "=" (omega arith), tt))
+pub statement_sure : Sure statement_due
+statement_sure = (told "]" (omega arith), (told "=" (omega arith), tt))
 
-abbrev pub statementRest : List Item
-statementRest = exactly "]" ∷ seatWord ∷ exactly "=" ∷ []
+abbrev pub statement_rest : List Item
+statement_rest = exactly "]" ∷ seat_word ∷ exactly "=" ∷ []
 
 abbrev stated : List Numbered → Numbered → Option (Formula Tested) → BranchesShape → StatementShape
 stated ws j g x = record { words = ws; own = j; guard = g; branches = x.branches; close = x.close }
@@ -43,73 +43,73 @@ in_parts : {A B C X Y : Type 0} (x : Result A) (p q : Reader (Unit {0})) (b : Re
     ≡ bind (bind x (λ g s₁. bind (p s₁) (λ u. return g))) (λ g s₁. bind (bind (b s₁) (λ y s₃. bind (more s₃) (λ ys s₄. bind (q s₄) (λ w. return (f y ys s₄.marks))))) (λ z. return (h g z)))
 in_parts x p q b more f h = simp assoc
 
-from-guard : (bounds : Bounds) (ws : List Numbered) (j : Numbered) (s : State)
-    → bind (guard (shares bounds.values) s) (λ g s₁. bind (sign "->" s₁) (λ u s₂. bind (branchBy bounds s₂) (λ b s₃. bind (moreBranches (shares bounds.values) (mostBranches - 1) s₃) (λ bs s₄. bind (sign ";" s₄) (λ w. return (record { words = ws; own = j; guard = g; branches = b ∷ bs; close = s₄.marks }))))))
-    ≡ bind (guarded (shares bounds.values) s) (λ g s₁. bind (branches bounds (mostBranches - 1) s₁) (λ x. return (stated ws j g x)))
-from-guard bounds ws j s =
-    in_parts (guard (shares bounds.values) s) (sign "->") (sign ";") (branchBy bounds) (moreBranches (shares bounds.values) (mostBranches - 1)) (λ b bs p. record { branches = b ∷ bs; close = p }) (stated ws j)
+from_guard : (bounds : Bounds) (ws : List Numbered) (j : Numbered) (s : State)
+    → bind (guard (shares bounds.values) s) (λ g s₁. bind (sign "->" s₁) (λ u s₂. bind (branch_by bounds s₂) (λ b s₃. bind (more_branches (shares bounds.values) (most_branches - 1) s₃) (λ bs s₄. bind (sign ";" s₄) (λ w. return (record { words = ws; own = j; guard = g; branches = b ∷ bs; close = s₄.marks }))))))
+    ≡ bind (guarded (shares bounds.values) s) (λ g s₁. bind (branches bounds (most_branches - 1) s₁) (λ x. return (stated ws j g x)))
+from_guard bounds ws j s =
+    in_parts (guard (shares bounds.values) s) (sign "->") (sign ";") (branch_by bounds) (more_branches (shares bounds.values) (most_branches - 1)) (λ b bs p. record { branches = b ∷ bs; close = p }) (stated ws j)
 
 module _ (bounds : Bounds) (s : List ℕ) (i : ℕ) (before : Late) (was is : Lent) (index : ℕ) where
   abbrev StatementIs : After → Type 0
   StatementIs = StatementFrom bounds s i before was is index
 
   module _ (a : List ℕ) {w : ℕ} (hw : OwnFrom s i before (after a w)) where
-    owned : (n : ℕ) → LineRead s before (1 ∷ []) (line statementRest (from s i n)) (after a w)
-    owned n = hw.answers statementDue statement-sure refl refl n
+    owned : (n : ℕ) → LineRead s before (1 ∷ []) (line statement_rest (from s i n)) (after a w)
+    owned n = hw.answers statement_due statement_sure refl refl n
 
-    pub words-halt : w ≡ 0 → StatementIs (after a 0)
-    words-halt e = record { answers = λ st n b. rw b (halted s _ _ (line statementRest (from s i n)) _ a w (owned n) e); sized = hw.sized }
+    pub words_halt : w ≡ 0 → StatementIs (after a 0)
+    words_halt e = record { answers = λ st n b. rw b (halted s _ _ (line statement_rest (from s i n)) _ a w (owned n) e); sized = hw.sized }
 
-    module _ (ew : w ≡ 0 → ⊥) (c : List ℕ) {j : ℕ} (hj : NumberFrom s w bounds.top (lateIn a) (after c j)) where
-      pub own-halts : j ≡ 0 → StatementIs (after c 0)
-      own-halts e = record {
-        answers = λ st n b. rw b (onward s _ _ (line statementRest (from s i n)) _ a w _ (owned n) ew λ ws m f.
+    module _ (ew : w ≡ 0 → ⊥) (c : List ℕ) {j : ℕ} (hj : NumberFrom s w bounds.top (late_in a) (after c j)) where
+      pub own_halts : j ≡ 0 → StatementIs (after c 0)
+      own_halts e = record {
+        answers = λ st n b. rw b (onward s _ _ (line statement_rest (from s i n)) _ a w _ (owned n) ew λ ws m f.
             halted s _ _ (numbered number_of (from s w m)) _ c j (hj.answers m) e);
         sized = hj.sized;
       }
 
-      module _ (ej : j ≡ 0 → ⊥) (d : List ℕ) {g : ℕ} (hg : GuardedFrom s j bounds.top bounds.values (lateIn c) was.nodes is.nodes (index * mostNodes) (after d g)) where
-        behind-own : (r : After) (st : State) (n : ℕ) → sign "[" st ≡ ok tt (from s i n)
-            → ((ws : List Numbered) (own : Numbered) → Kept s before (judgedWords (1 ∷ []) ws) a → Went s (lateIn a) own.value (judgedState bounds.top own ∷ []) c
-            → StatementRead bounds s before was is index (bind (guarded (shares bounds.values) (from s j mostNodes)) (λ f s₁. bind (branches bounds (mostBranches - 1) s₁) (λ x. return (stated ws own f x)))) r)
-            → StatementRead bounds s before was is index (statementBy bounds st) r
-        behind-own r st n b y = rw b (onward s _ _ (line statementRest (from s i n)) _ a w r (owned n) ew λ ws m f.
+      module _ (ej : j ≡ 0 → ⊥) (d : List ℕ) {g : ℕ} (hg : GuardedFrom s j bounds.top bounds.values (late_in c) was.nodes is.nodes (index * most_nodes) (after d g)) where
+        behind_own : (r : After) (st : State) (n : ℕ) → sign "[" st ≡ ok tt (from s i n)
+            → ((ws : List Numbered) (own : Numbered) → Kept s before (judged_words (1 ∷ []) ws) a → Went s (late_in a) own.value (judged_state bounds.top own ∷ []) c
+            → StatementRead bounds s before was is index (bind (guarded (shares bounds.values) (from s j most_nodes)) (λ f s₁. bind (branches bounds (most_branches - 1) s₁) (λ x. return (stated ws own f x)))) r)
+            → StatementRead bounds s before was is index (statement_by bounds st) r
+        behind_own r st n b y = rw b (onward s _ _ (line statement_rest (from s i n)) _ a w r (owned n) ew λ ws m f.
             onward s _ _ (numbered number_of (from s w m)) _ c j r (hj.answers m) ej λ own m₁ f₁.
-            rw (from-guard bounds ws own (from s j mostNodes)) (y ws own f f₁))
+            rw (from_guard bounds ws own (from s j most_nodes)) (y ws own f f₁))
 
-        pub guard-halts : g ≡ 0 → StatementIs (after d 0)
-        guard-halts e = record { answers = λ st n b. behind-own _ st n b λ ws own f f₁. halted s _ _ (guarded (shares bounds.values) (from s j mostNodes)) _ d g hg.answers e; sized = hg.sized }
+        pub guard_halts : g ≡ 0 → StatementIs (after d 0)
+        guard_halts e = record { answers = λ st n b. behind_own _ st n b λ ws own f f₁. halted s _ _ (guarded (shares bounds.values) (from s j most_nodes)) _ d g hg.answers e; sized = hg.sized }
 
-        module _ (eg : g ≡ 0 → ⊥) (o : List ℕ) {l : ℕ} (hl : BranchesFrom bounds s g (lateIn d) was.branches is.branches (index * mostBranches) (after o l)) where
-          pub branches-halt : l ≡ 0 → StatementIs (after o 0)
-          branches-halt e = record {
-            answers = λ st n b. behind-own _ st n b λ ws own f f₁. onward s _ _ (guarded (shares bounds.values) (from s j mostNodes)) _ d g _ hg.answers eg λ h m f₂.
-                halted s _ _ (branches bounds (mostBranches - 1) (from s g m)) _ o l (hl.answers m) e;
+        module _ (eg : g ≡ 0 → ⊥) (o : List ℕ) {l : ℕ} (hl : BranchesFrom bounds s g (late_in d) was.branches is.branches (index * most_branches) (after o l)) where
+          pub branches_halt : l ≡ 0 → StatementIs (after o 0)
+          branches_halt e = record {
+            answers = λ st n b. behind_own _ st n b λ ws own f f₁. onward s _ _ (guarded (shares bounds.values) (from s j most_nodes)) _ d g _ hg.answers eg λ h m f₂.
+                halted s _ _ (branches bounds (most_branches - 1) (from s g m)) _ o l (hl.answers m) e;
             sized = hl.sized;
           }
 
           -- its row, written number by number
-          row_written : (x : StatementShape) → valueIn c ≡ x.own.value → valueIn d ≡ guardSize (guardOrBy x.guard) → valueIn o ≡ length x.branches
-              → set (set (set was.rows (index * rowNumbers) (valueIn c)) (index * rowNumbers + 1) (valueIn d)) (index * rowNumbers + 2) (valueIn o) ≡ stored was.rows (index * rowNumbers) (rows_of (row_by x ∷ []))
+          row_written : (x : StatementShape) → value_in c ≡ x.own.value → value_in d ≡ guard_size (guard_or_by x.guard) → value_in o ≡ length x.branches
+              → set (set (set was.rows (index * row_numbers) (value_in c)) (index * row_numbers + 1) (value_in d)) (index * row_numbers + 2) (value_in o) ≡ stored was.rows (index * row_numbers) (rows_of (row_by x ∷ []))
           unfolding stored rows_of
           row_written x e f h =
-              let to : index * rowNumbers + 2 ≡ index * rowNumbers + 1 + 1 = omega arith in
+              let to : index * row_numbers + 2 ≡ index * row_numbers + 1 + 1 = omega arith in
               rw (to, e, f, h) refl
 
-          pub statement-read : (l ≡ 0 → ⊥)
-              → is.rows ≡ set (set (set was.rows (index * rowNumbers) (valueIn c)) (index * rowNumbers + 1) (valueIn d)) (index * rowNumbers + 2) (valueIn o)
+          pub statement_read : (l ≡ 0 → ⊥)
+              → is.rows ≡ set (set (set was.rows (index * row_numbers) (value_in c)) (index * row_numbers + 1) (value_in d)) (index * row_numbers + 2) (value_in o)
               → StatementIs (after o l)
-          unfolding judgeAll
-          statement-read e rows = record {
-            answers = λ st n b. behind-own _ st n b λ ws own f f₁. onward s _ _ (guarded (shares bounds.values) (from s j mostNodes)) _ d g _ hg.answers eg λ h m f₂.
-                onward s _ _ (branches bounds (mostBranches - 1) (from s g m)) _ o l _ (hl.answers m) e λ x m₁ f₃.
+          unfolding judge_all
+          statement_read e rows = record {
+            answers = λ st n b. behind_own _ st n b λ ws own f f₁. onward s _ _ (guarded (shares bounds.values) (from s j most_nodes)) _ d g _ hg.answers eg λ h m f₂.
+                onward s _ _ (branches bounds (most_branches - 1) (from s g m)) _ o l _ (hl.answers m) e λ x m₁ f₃.
                 record {
                   went = e;
                   rest = refl;
                   told = record {
                     late = f₃.went.late
-                        ∙ ap (judgeAll (length s) (judgedBranches bounds x)) (f₂.went.late ∙ ap (judgeAll (length s) (judgedOr bounds.top (most_of bounds.values) h)) (f₁.late ∙ ap (judge (length s) (judgedState bounds.top own)) f))
-                        ∙ sym (judge-append (length s) (judgedWords (1 ∷ []) ws) _ before ∙ judge-append (length s) (judgedOr bounds.top (most_of bounds.values) h) (judgedBranches bounds x) _);
+                        ∙ ap (judge_all (length s) (judged_branches bounds x)) (f₂.went.late ∙ ap (judge_all (length s) (judged_or bounds.top (most_of bounds.values) h)) (f₁.late ∙ ap (judge (length s) (judged_state bounds.top own)) f))
+                        ∙ sym (judge_append (length s) (judged_words (1 ∷ []) ws) _ before ∙ judge_append (length s) (judged_or bounds.top (most_of bounds.values) h) (judged_branches bounds x) _);
                     memory = λ q. lent ((rows ∙ row_written (stated ws own h x) f₁.value f₂.went.value f₃.went.value) q) (f₂.array q) (f₃.array q);
                   };
                 };

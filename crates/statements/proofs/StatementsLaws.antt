@@ -6,27 +6,27 @@ use mathlib.Core.Option.{none}
 use native.Mathlib.Nat.{zero-add}
 use native.Mathlib.Omega.{arith}
 use lib.ListN.{length, set}
-use Rattle.card.specs.Limits.{mostStatements}
-use Rattle.card.specs.Refusals.{outOfShape, pastLimit}
+use Rattle.card.specs.Limits.{most_statements}
+use Rattle.card.specs.Refusals.{out_of_shape, past_limit}
 use Rattle.card.specs.Lent.{Lent}
 use Rattle.marks_on_a_card.specs.Marks.{place_of}
 use Rattle.marks_on_a_card.specs.Kinds.{kind}
 use Rattle.marks.specs.declared.Step.{Step}
 use Rattle.reading.specs.Reader.{Place, State, at, Result, ok, stop, Reader, bind, return, refuse, sign}
 use Rattle.reading.specs.Shape.{StatementShape}
-use Rattle.reading.specs.Checks.{judgedEach}
-use Rattle.late.specs.Late.{Late, judgeAll}
-use Rattle.late.specs.State.{atValue, Sized, lateIn, After, after, Halted}
-use Rattle.late.proofs.Settling.{judge-append}
-use Rattle.late.proofs.StateLaws.{set-sized, value_set, late-set}
+use Rattle.reading.specs.Checks.{judged_each}
+use Rattle.late.specs.Late.{Late, judge_all}
+use Rattle.late.specs.State.{at_value, Sized, late_in, After, after, Halted}
+use Rattle.late.proofs.Settling.{judge_append}
+use Rattle.late.proofs.StateLaws.{set_sized, value_set, late_set}
 use Rattle.parts.specs.Parts.{from, Answers, Went, SignRead, SignFrom, Told}
 use Rattle.branches.specs.declared.Bounds.{Bounds}
-use Rattle.statements.specs.OneStatement.{statementBy, judgedBy, StatementRead, StatementFrom}
+use Rattle.statements.specs.OneStatement.{statement_by, judged_by, StatementRead, StatementFrom}
 use Rattle.statements.specs.Statements.{statements, filled, StatementsRead, StatementsFrom}
-use Rattle.parts.proofs.Steps.{Next, place-seen, told}
+use Rattle.parts.proofs.Steps.{Next, place_seen, told}
 use Rattle.parts.proofs.Answers.{onward, halted, made}
 use Rattle.parts.proofs.Counted.{up_to, with_first, another, too_many, no_other}
-use Rattle.parts.proofs.Lines.{sign-took, sign-behind, sign_fits, sign-misses}
+use Rattle.parts.proofs.Lines.{sign_took, sign_behind, sign_fits, sign_misses}
 
 abbrev pub ends : List StatementShape → Reader (List StatementShape)
 ends xs s = bind (sign "endmodule" s) (λ u. return xs)
@@ -50,103 +50,103 @@ keyword = told "endmodule" (omega arith)
 module _ (bounds : Bounds) where
   -- behind a statement
   abbrev pub further : ℕ → Reader (List StatementShape)
-  further = up_to "[" (statementBy bounds) (refuse pastLimit) ends
+  further = up_to "[" (statement_by bounds) (refuse past_limit) ends
 
   -- where a `[` stands: so many statements may still stand there
   abbrev pub rest : ℕ → Reader (List StatementShape)
-  rest zero = λ s. stop pastLimit s.marks
-  rest (suc most) = λ s. bind (statementBy bounds s) (λ x s₁. bind (further most s₁) (λ xs. return (more x xs)))
+  rest zero = λ s. stop past_limit s.marks
+  rest (suc most) = λ s. bind (statement_by bounds s) (λ x s₁. bind (further most s₁) (λ xs. return (more x xs)))
 
-  pub rest-whole : (most : ℕ) (s : State) → statements bounds most s ≡ rest (suc most) s
-  rest-whole most s = with_first "[" (statementBy bounds) (refuse pastLimit) ends more step (statementBy bounds s) most
+  pub rest_whole : (most : ℕ) (s : State) → statements bounds most s ≡ rest (suc most) s
+  rest_whole most s = with_first "[" (statement_by bounds) (refuse past_limit) ends more step (statement_by bounds s) most
 
   at_bracket : (most : ℕ) (s : List ℕ) (i : ℕ) (x : Step) (v : Next s i x) → x.mark.kind ≡ kind "[" → (n : ℕ) → further most (from s i n) ≡ rest most (from s i n)
-  at_bracket zero s i x v e n = too_many "[" (statementBy bounds) (refuse pastLimit) ends more step bracket s i x v e n
-  at_bracket (suc most) s i x v e n = another "[" (statementBy bounds) (refuse pastLimit) ends more step bracket s i x v e most n
+  at_bracket zero s i x v e n = too_many "[" (statement_by bounds) (refuse past_limit) ends more step bracket s i x v e n
+  at_bracket (suc most) s i x v e n = another "[" (statement_by bounds) (refuse past_limit) ends more step bracket s i x v e most n
 
 -- with the statements so far counted in
 pub record Counted (bounds : Bounds) (s : List ℕ) (i : ℕ) (before : Late) (was is : Lent) (xs : List StatementShape) (state : List ℕ) : Type 0 where
-  pub went : Went s before (i + length xs) (judgedEach (judgedBy bounds) xs) state
+  pub went : Went s before (i + length xs) (judged_each (judged_by bounds) xs) state
   pub memory : is ≡ filled i xs was
 
 abbrev pub RestRead : Bounds → List ℕ → ℕ → Late → Lent → Lent → Result (List StatementShape) → After → Type 0
 RestRead bounds s i late was is = Answers s (Counted bounds s i late was is)
 
 -- before the first statement
-pub none-counted : (bounds : Bounds) (s : List ℕ) (late : Late) (was is : Lent) (x : Result (List StatementShape)) (r : After)
+pub none_counted : (bounds : Bounds) (s : List ℕ) (late : Late) (was is : Lent) (x : Result (List StatementShape)) (r : After)
     → RestRead bounds s 0 late was is x r → StatementsRead bounds s late was is x r
-none-counted bounds s late was is (ok xs b) r y =
+none_counted bounds s late was is (ok xs b) r y =
     let z = y.told in
     record { went = y.went; rest = y.rest; told = record { went = record { value = z.went.value ∙ zero-add (length xs); late = z.went.late }; memory = z.memory } }
-none-counted bounds s late was is (stop n p) r y = y
+none_counted bounds s late was is (stop n p) r y = y
 
 -- one statement too many: its bracket stands at `place`
-pub past-statements : (bounds : Bounds) (s : List ℕ) (i : ℕ) (late : Late) (was is : Lent) (st : State) (place : ℕ) (r : After) → place ≡ place_of (length s) st.marks
-    → Halted pastLimit place r → RestRead bounds s i late was is (rest bounds 0 st) r
-past-statements bounds s i late was is st place r e h = rw (← e) h
+pub past_statements : (bounds : Bounds) (s : List ℕ) (i : ℕ) (late : Late) (was is : Lent) (st : State) (place : ℕ) (r : After) → place ≡ place_of (length s) st.marks
+    → Halted past_limit place r → RestRead bounds s i late was is (rest bounds 0 st) r
+past_statements bounds s i late was is st place r e h = rw (← e) h
 
 module _ (bounds : Bounds) (s : List ℕ) (i : ℕ) (late : Late) (was is : Lent) (most : ℕ) (st : State) where
   abbrev RestIs : After → Type 0
   RestIs = RestRead bounds s i late was is (rest bounds (suc most) st)
 
-  module _ (state : List ℕ) (x : ℕ) (now : Lent) (hx : StatementRead bounds s late was now i (statementBy bounds st) (after state x)) where
-    pub statement-stops : x ≡ 0 → RestIs (after state 0)
-    statement-stops e = halted s _ _ (statementBy bounds st) _ state x hx e
+  module _ (state : List ℕ) (x : ℕ) (now : Lent) (hx : StatementRead bounds s late was now i (statement_by bounds st) (after state x)) where
+    pub statement_stops : x ≡ 0 → RestIs (after state 0)
+    statement_stops e = halted s _ _ (statement_by bounds st) _ state x hx e
 
     module _ (e : x ≡ 0 → ⊥) where
-      one-counted : (r : After) → ((m : ℕ) → RestRead bounds s (i + 1) (lateIn state) now is (further bounds most (from s x m)) r) → RestIs r
-      unfolding judgeAll filled
-      one-counted r y = onward s _ _ (statementBy bounds st) _ state x r hx e λ a m g.
+      one_counted : (r : After) → ((m : ℕ) → RestRead bounds s (i + 1) (late_in state) now is (further bounds most (from s x m)) r) → RestIs r
+      unfolding judge_all filled
+      one_counted r y = onward s _ _ (statement_by bounds st) _ state x r hx e λ a m g.
           made s _ _ (further bounds most (from s x m)) (more a) r (y m) λ xs h. record {
             went = record {
               value = omega (arith, h.went.value);
-              late = h.went.late ∙ ap (judgeAll (length s) (judgedEach (judgedBy bounds) xs)) g.late ∙ sym (judge-append (length s) (judgedBy bounds a) (judgedEach (judgedBy bounds) xs) late);
+              late = h.went.late ∙ ap (judge_all (length s) (judged_each (judged_by bounds) xs)) g.late ∙ sym (judge_append (length s) (judged_by bounds a) (judged_each (judged_by bounds) xs) late);
             };
             memory = h.memory ∙ ap (filled (i + 1) xs) g.memory;
           }
 
       module _ (y : Step) (v : Next s x y) where
         pub one_more : y.mark.kind ≡ kind "[" → (r : After)
-            → ((m : ℕ) → RestRead bounds s (i + 1) (lateIn state) now is (rest bounds most (from s x m)) r) → RestIs r
-        one_more f r z = one-counted r λ m. rw (at_bracket bounds most s x y v f m) (z m)
+            → ((m : ℕ) → RestRead bounds s (i + 1) (late_in state) now is (rest bounds most (from s x m)) r) → RestIs r
+        one_more f r z = one_counted r λ m. rw (at_bracket bounds most s x y v f m) (z m)
 
         module _ (d : y.mark.kind ≡ kind "[" → ⊥) where
-          last : (r : After) → ((m : ℕ) → RestRead bounds s (i + 1) (lateIn state) now is (ends [] (from s x m)) r) → RestIs r
-          last r z = one-counted r λ m. rw (no_other "[" (statementBy bounds) (refuse pastLimit) ends more step bracket s x y v d most m) (z m)
+          last : (r : After) → ((m : ℕ) → RestRead bounds s (i + 1) (late_in state) now is (ends [] (from s x m)) r) → RestIs r
+          last r z = one_counted r λ m. rw (no_other "[" (statement_by bounds) (refuse past_limit) ends more step bracket s x y v d most m) (z m)
 
-          pub list-stops : (y.mark.kind ≡ kind "endmodule" → ⊥) → (r : After) → Halted outOfShape y.mark.place r → RestIs r
-          list-stops f r h = last r λ m. sign-misses "endmodule" keyword s x _ y v m _ r f h
+          pub list_stops : (y.mark.kind ≡ kind "endmodule" → ⊥) → (r : After) → Halted out_of_shape y.mark.place r → RestIs r
+          list_stops f r h = last r λ m. sign_misses "endmodule" keyword s x _ y v m _ r f h
 
-          pub list_read : y.mark.kind ≡ kind "endmodule" → is ≡ now → Sized state → RestIs (after (set state atValue (i + 1)) y.next.at)
-          unfolding judgeAll filled
+          pub list_read : y.mark.kind ≡ kind "endmodule" → is ≡ now → Sized state → RestIs (after (set state at_value (i + 1)) y.next.at)
+          unfolding judge_all filled
           list_read f z sized = last _ λ m. sign_fits "endmodule" keyword s x _ y v m _ _ f
               (record {
-                went = sign-behind "endmodule" keyword s x y v f;
+                went = sign_behind "endmodule" keyword s x y v f;
                 rest = refl;
-                told = record { went = record { value = value_set state sized (i + 1) ∙ omega arith; late = late-set state atValue (i + 1) (omega arith) }; memory = z };
+                told = record { went = record { value = value_set state sized (i + 1) ∙ omega arith; late = late_set state at_value (i + 1) (omega arith) }; memory = z };
               })
 
 -- ---- the loop: an answer to what is left answers the whole
 
 -- the first `[` is there, or reading stops before it
-pub open-stops : {bounds : Bounds} {s : List ℕ} {i : ℕ} {was is : Lent} (state now : List ℕ) {o : ℕ} → SignFrom s i (kind "[") state (after now o) → o ≡ 0
-    → StatementsFrom bounds s i (lateIn state) was is (after now 0)
-open-stops {bounds} {s} {i} {was} {is} state now {o} h e = record { answers = λ n. go n (sign "[" (from s i n)) refl (h.answers "[" bracket refl n); sized = h.sized }
+pub open_stops : {bounds : Bounds} {s : List ℕ} {i : ℕ} {was is : Lent} (state now : List ℕ) {o : ℕ} → SignFrom s i (kind "[") state (after now o) → o ≡ 0
+    → StatementsFrom bounds s i (late_in state) was is (after now 0)
+open_stops {bounds} {s} {i} {was} {is} state now {o} h e = record { answers = λ n. go n (sign "[" (from s i n)) refl (h.answers "[" bracket refl n); sized = h.sized }
   where
-    go : (n : ℕ) (y : Result (Unit {0})) → sign "[" (from s i n) ≡ y → SignRead s state y (after now o) → StatementsRead bounds s (lateIn state) was is (statements bounds (mostStatements - 1) (from s i n)) (after now 0)
+    go : (n : ℕ) (y : Result (Unit {0})) → sign "[" (from s i n) ≡ y → SignRead s state y (after now o) → StatementsRead bounds s (late_in state) was is (statements bounds (most_statements - 1) (from s i n)) (after now 0)
     go n (ok u b) q h = absurd (h.went e)
     go n (stop m p) q h = rw q (record { none = refl; refused = h.refused; sized = h.sized })
 
-opened-at : (s : List ℕ) (state now : List ℕ) (x : Result (Unit {0})) (o : ℕ) → SignRead s state x (after now o) → (o ≡ 0 → ⊥) → (m : ℕ) × (x ≡ ok tt (from s o m)) × (now ≡ state)
-opened-at s state now (ok tt b) o h e = (b.nodes, ap (λ (p : Place). ok tt (at p b.nodes)) (sym h.rest), h.told)
-opened-at s state now (stop n p) o h e = absurd (e h.none)
+opened_at : (s : List ℕ) (state now : List ℕ) (x : Result (Unit {0})) (o : ℕ) → SignRead s state x (after now o) → (o ≡ 0 → ⊥) → (m : ℕ) × (x ≡ ok tt (from s o m)) × (now ≡ state)
+opened_at s state now (ok tt b) o h e = (b.nodes, ap (λ (p : Place). ok tt (at p b.nodes)) (sym h.rest), h.told)
+opened_at s state now (stop n p) o h e = absurd (e h.none)
 
 -- behind the first `[` the state is as it was
-pub opened-as : {bounds : Bounds} {s : List ℕ} {i : ℕ} {was is : Lent} {r : After} (state now : List ℕ) {o : ℕ} → SignFrom s i (kind "[") state (after now o) → (o ≡ 0 → ⊥)
-    → StatementsFrom bounds s i (lateIn now) was is r → StatementsFrom bounds s i (lateIn state) was is r
-opened-as {bounds} {s} {i} {was} {is} {r} state now {o} h e y =
-    let b = opened-at s state now (sign "[" (from s i 0)) o (h.answers "[" bracket refl 0) e in
-    subst (λ (x : List ℕ). StatementsFrom bounds s i (lateIn x) was is r) b.2 y
+pub opened_as : {bounds : Bounds} {s : List ℕ} {i : ℕ} {was is : Lent} {r : After} (state now : List ℕ) {o : ℕ} → SignFrom s i (kind "[") state (after now o) → (o ≡ 0 → ⊥)
+    → StatementsFrom bounds s i (late_in now) was is r → StatementsFrom bounds s i (late_in state) was is r
+opened_as {bounds} {s} {i} {was} {is} {r} state now {o} h e y =
+    let b = opened_at s state now (sign "[" (from s i 0)) o (h.answers "[" bracket refl 0) e in
+    subst (λ (x : List ℕ). StatementsFrom bounds s i (late_in x) was is r) b.2 y
 
 -- where a `[` stands right before the cursor; once there is a statement, its place is known
 pub record Bracket (s : List ℕ) (count place next : ℕ) (st : State) : Type 0 where
@@ -155,67 +155,67 @@ pub record Bracket (s : List ℕ) (count place next : ℕ) (st : State) : Type 0
   pub known : 0 < count → place ≡ place_of (length s) st.marks
 
 pub record Going (bounds : Bounds) (s : List ℕ) (before : Late) (was : Lent) (i count place : ℕ) (now : Lent) (next : ℕ) (state : List ℕ) : Type 0 where
-  pub few : count ≤ mostStatements
+  pub few : count ≤ most_statements
   pub sized : Sized state
-  pub whole : (r : After) (is : Lent) → ((st : State) → Bracket s count place next st → RestRead bounds s count (lateIn state) now is (rest bounds (mostStatements - count) st) r)
-      → (n : ℕ) → StatementsRead bounds s before was is (statements bounds (mostStatements - 1) (from s i n)) r
+  pub whole : (r : After) (is : Lent) → ((st : State) → Bracket s count place next st → RestRead bounds s count (late_in state) now is (rest bounds (most_statements - count) st) r)
+      → (n : ℕ) → StatementsRead bounds s before was is (statements bounds (most_statements - 1) (from s i n)) r
 
 pub going_start : {bounds : Bounds} {s : List ℕ} {was : Lent} {i place : ℕ} (state now : List ℕ) {o : ℕ} → SignFrom s i (kind "[") state (after now o) → (o ≡ 0 → ⊥)
-    → Going bounds s (lateIn now) was i 0 place was o now
+    → Going bounds s (late_in now) was i 0 place was o now
 going_start {bounds} {s} {was} {i} {place} state now {o} h e = record {
   few = omega arith;
   sized = h.sized;
   whole = λ r is y n.
-      let b = opened-at s state now (sign "[" (from s i n)) o (h.answers "[" bracket refl n) e in
-      none-counted bounds s (lateIn now) was is (statements bounds (mostStatements - 1) (from s i n)) r
-      (rw (rest-whole bounds (mostStatements - 1) (from s i n)) (y (from s i n) (record { nodes = b.0; there = b.1; known = λ l. omega arith })));
+      let b = opened_at s state now (sign "[" (from s i n)) o (h.answers "[" bracket refl n) e in
+      none_counted bounds s (late_in now) was is (statements bounds (most_statements - 1) (from s i n)) r
+      (rw (rest_whole bounds (most_statements - 1) (from s i n)) (y (from s i n) (record { nodes = b.0; there = b.1; known = λ l. omega arith })));
 }
 
 module _ {bounds : Bounds} {s : List ℕ} {before : Late} {was : Lent} {i count place : ℕ} {now : Lent} {next : ℕ} {state : List ℕ} (g : Going bounds s before was i count place now next state) where
-  module _ (l : count < mostStatements) {new : Lent} (after_one : List ℕ) {x : ℕ} (hx : StatementFrom bounds s next (lateIn state) now new count (after after_one x)) where
-    one_less : mostStatements - count ≡ suc (mostStatements - (count + 1))
+  module _ (l : count < most_statements) {new : Lent} (after_one : List ℕ) {x : ℕ} (hx : StatementFrom bounds s next (late_in state) now new count (after after_one x)) where
+    one_less : most_statements - count ≡ suc (most_statements - (count + 1))
     one_less = omega arith
 
     -- the rest as the reader of one statement and what follows
     opened : (is : Lent) (r : After)
-        → ((st : State) → StatementRead bounds s (lateIn state) now new count (statementBy bounds st) (after after_one x)
-        → RestRead bounds s count (lateIn state) now is (rest bounds (suc (mostStatements - (count + 1))) st) r)
-        → (n : ℕ) → StatementsRead bounds s before was is (statements bounds (mostStatements - 1) (from s i n)) r
+        → ((st : State) → StatementRead bounds s (late_in state) now new count (statement_by bounds st) (after after_one x)
+        → RestRead bounds s count (late_in state) now is (rest bounds (suc (most_statements - (count + 1))) st) r)
+        → (n : ℕ) → StatementsRead bounds s before was is (statements bounds (most_statements - 1) (from s i n)) r
     opened is r y = g.whole r is λ st b. rw one_less (y st (hx.answers st b.nodes b.there))
 
-    pub going-stops : x ≡ 0 → StatementsFrom bounds s i before was new (after after_one 0)
-    going-stops e = record {
-      answers = opened new _ λ st h. statement-stops bounds s count (lateIn state) now new (mostStatements - (count + 1)) st after_one x new h e;
+    pub going_stops : x ≡ 0 → StatementsFrom bounds s i before was new (after after_one 0)
+    going_stops e = record {
+      answers = opened new _ λ st h. statement_stops bounds s count (late_in state) now new (most_statements - (count + 1)) st after_one x new h e;
       sized = hx.sized;
     }
 
     module _ (e : x ≡ 0 → ⊥) {y : Step} (v : Next s x y) where
       module _ (d : y.mark.kind ≡ kind "[" → ⊥) where
-        pub going-unended : (y.mark.kind ≡ kind "endmodule" → ⊥) → {r : After} → Halted outOfShape y.mark.place r → StatementsFrom bounds s i before was new r
-        going-unended f {r} q = record {
-          answers = opened new r λ st h. list-stops bounds s count (lateIn state) now new (mostStatements - (count + 1)) st after_one x new h e y v d f r q;
+        pub going_unended : (y.mark.kind ≡ kind "endmodule" → ⊥) → {r : After} → Halted out_of_shape y.mark.place r → StatementsFrom bounds s i before was new r
+        going_unended f {r} q = record {
+          answers = opened new r λ st h. list_stops bounds s count (late_in state) now new (most_statements - (count + 1)) st after_one x new h e y v d f r q;
           sized = q.sized;
         }
 
-        pub going-ended : y.mark.kind ≡ kind "endmodule" → StatementsFrom bounds s i before was new (after (set after_one atValue (count + 1)) y.next.at)
-        going-ended f = record {
-          answers = opened new _ λ st h. list_read bounds s count (lateIn state) now new (mostStatements - (count + 1)) st after_one x new h e y v d f refl hx.sized;
-          sized = set-sized after_one hx.sized atValue (count + 1);
+        pub going_ended : y.mark.kind ≡ kind "endmodule" → StatementsFrom bounds s i before was new (after (set after_one at_value (count + 1)) y.next.at)
+        going_ended f = record {
+          answers = opened new _ λ st h. list_read bounds s count (late_in state) now new (most_statements - (count + 1)) st after_one x new h e y v d f refl hx.sized;
+          sized = set_sized after_one hx.sized at_value (count + 1);
         }
 
       pub going_more : y.mark.kind ≡ kind "[" → Going bounds s before was i (count + 1) y.mark.place new y.next.at after_one
       going_more f = record {
         few = omega arith;
         sized = hx.sized;
-        whole = λ r is z. opened is r λ st h. one_more bounds s count (lateIn state) now is (mostStatements - (count + 1)) st after_one x new h e y v f r λ m.
-            z (from s x m) (record { nodes = m; there = sign-took "[" bracket s x y v f m; known = λ q. place-seen s x y v });
+        whole = λ r is z. opened is r λ st h. one_more bounds s count (late_in state) now is (most_statements - (count + 1)) st after_one x new h e y v f r λ m.
+            z (from s x m) (record { nodes = m; there = sign_took "[" bracket s x y v f m; known = λ q. place_seen s x y v });
       }
 
   -- one statement too many
-  pub going-past : mostStatements ≤ count → {r : After} → Halted pastLimit place r → StatementsFrom bounds s i before was now r
-  going-past l {r} h = record {
+  pub going_past : most_statements ≤ count → {r : After} → Halted past_limit place r → StatementsFrom bounds s i before was now r
+  going_past l {r} h = record {
     answers = g.whole r now λ st b.
-        let z : mostStatements - count ≡ 0 = omega arith in
-        rw z (past-statements bounds s count (lateIn state) now now st place r (b.known (omega arith)) h);
+        let z : most_statements - count ≡ 0 = omega arith in
+        rw z (past_statements bounds s count (late_in state) now now st place r (b.known (omega arith)) h);
     sized = h.sized;
   }

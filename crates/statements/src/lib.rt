@@ -1,7 +1,7 @@
 // Statements, read from a card's bytes into the card's arrays: `]s1=` before the own state, the guard with the arrow, and the branches.
 ghost use Rattle.std.specs.Prelude.{◌+◌, ◌≤◌, ◌<◌};
-ghost use Rattle.card.specs.Limits.{mostShared, mostNodes, nodePlaces, mostStatements};
-ghost use Rattle.late.specs.State.{Sized, lateIn, after};
+ghost use Rattle.card.specs.Limits.{most_shared, most_nodes, node_places, most_statements};
+ghost use Rattle.late.specs.State.{Sized, late_in, after};
 ghost use Rattle.statements.specs.StatementHead.{OwnFrom, GuardedFrom};
 ghost use Rattle.card.specs.Lent.{lent};
 ghost use Rattle.statements.specs.OneStatement.{StatementFrom};
@@ -34,9 +34,9 @@ fn guarded(
     state: &mut [usize; STATE],
 ) -> usize
     requires sized { Sized state.old }
-    requires most_nodes_bound { used + mostNodes ≤ nodePlaces }
-    requires values_le_most_shared { values ≤ mostShared }
-    ensures { GuardedFrom card.now at top values (lateIn state.old) nodes.old nodes.new used (after state.new result) }
+    requires most_nodes_bound { used + most_nodes ≤ node_places }
+    requires values_le_most_shared { values ≤ most_shared }
+    ensures { GuardedFrom card.now at top values (late_in state.old) nodes.old nodes.new used (after state.new result) }
 {
     let step = step_guard(card, at);
     let mark = step.mark;
@@ -68,7 +68,7 @@ fn guarded(
 // ]s1= mark by mark, unless it stands right there.
 fn owned(card: &[u8], at: usize, state: &mut [usize; STATE]) -> usize
     requires { Sized state.old }
-    ensures { OwnFrom card.now at (lateIn state.old) (after state.new result) }
+    ensures { OwnFrom card.now at (late_in state.old) (after state.new result) }
 {
     if all_here(card, at, b"]s1=") {
         return at + 4;
@@ -90,9 +90,9 @@ fn statement(
     state: &mut [usize; STATE],
 ) -> usize
     requires sized { Sized state.old }
-    requires index_lt_most_statements { index < mostStatements }
-    requires values_le_most_shared { bounds.values ≤ mostShared }
-    ensures { StatementFrom bounds card.now at (lateIn state.old) (lent rows.old nodes.old branches.old) (lent rows.new nodes.new branches.new) index (after state.new result) }
+    requires index_lt_most_statements { index < most_statements }
+    requires values_le_most_shared { bounds.values ≤ most_shared }
+    ensures { StatementFrom bounds card.now at (late_in state.old) (lent rows.old nodes.old branches.old) (lent rows.new nodes.new branches.new) index (after state.new result) }
 {
     let row = index * ROW;
     let words = owned(card, at, state);
@@ -136,8 +136,8 @@ pub fn statements(
     state: &mut [usize; STATE],
 ) -> usize
     requires sized { Sized state.old }
-    requires values_le_most_shared { bounds.values ≤ mostShared }
-    ensures { StatementsFrom bounds card.now at (lateIn state.old) (lent rows.old nodes.old branches.old) (lent rows.new nodes.new branches.new) (after state.new result) }
+    requires values_le_most_shared { bounds.values ≤ most_shared }
+    ensures { StatementsFrom bounds card.now at (late_in state.old) (lent rows.old nodes.old branches.old) (lent rows.new nodes.new branches.new) (after state.new result) }
 {
     let mut next = sign(card, at, SQUARE_OPEN, state);
     if next == 0 {

@@ -1,11 +1,11 @@
 // The weights of a probabilistic card, statement by statement: from one state, in a row, and of no change, in a panel's table.
 ghost use Rattle.std.specs.Prelude.{◌≡◌, ◌<◌, eqb};
-ghost use Rattle.card.specs.Limits.{mostStatements};
+ghost use Rattle.card.specs.Limits.{most_statements};
 ghost use Rattle.card.specs.Card.{nondeterministic, probabilistic};
 ghost use Rattle.card.specs.Laid.{either, zeros};
 ghost use Rattle.card.specs.Rows.{row_of};
 ghost use Rattle.meaning.specs.Sums.{gate};
-ghost use Rattle.panel_numbers.specs.Table.{ableIn, weightPlaces, rowFrom, stays as stays_of, stayed};
+ghost use Rattle.panel_numbers.specs.Table.{able_in, weight_places, row_from, stays as stays_of, stayed};
 ghost use Rattle.panel_numbers.specs.Fitting.{Weighing};
 
 use added_weights::{WEIGHT_PLACES, add_stays, add_weights};
@@ -20,8 +20,8 @@ fn able_from<'a>(
     i: usize,
     old: usize,
 ) -> usize
-    requires { i < mostStatements }
-    ensures { result ≡ gate (eqb (row_of rows.now i).own_val old) (ableIn table.now i) }
+    requires { i < most_statements }
+    ensures { result ≡ gate (eqb (row_of rows.now i).own_val old) (able_in table.now i) }
 {
     if rows[i * ROW] != old {
         return 0;
@@ -38,8 +38,8 @@ pub fn weigh_from<'a>(
     rows: &'a [usize; ROW_PLACES],
     branches: &'a [u32; BRANCH_PLACES],
 )
-    requires { Weighing head rows.now branches.now table.now × (row.old ≡ zeros weightPlaces) }
-    ensures { row.new ≡ rowFrom table.now rows.now branches.now head.count old }
+    requires { Weighing head rows.now branches.now table.now × (row.old ≡ zeros weight_places) }
+    ensures { row.new ≡ row_from table.now rows.now branches.now head.count old }
 {
     let count = head.count;
     let mut i = 0;

@@ -5,34 +5,34 @@ use mathlib.Core.Bool.{Bool, true, false}
 use borrow.Author.Tests.{lt-ltb, le-ltb}
 use lib.Dec.{eqb, ltb}
 use Rattle.card.specs.Text.{if◌then◌else◌}
-use Rattle.card.specs.Card.{everyone, others, all, any, is, isnt, one, sharedIs}
-use Rattle.card.specs.Laid.{either, kindPart, signPart, relationPart, statePart, group_of, leafOf, oneKind, sharedKind}
-use Rattle.card.proofs.Packed.{leaf-group}
-use Rattle.meaning.specs.Reduced.{equalTo, counter, table, counterOf}
-use Rattle.table.specs.Bounds.{boundRow, boundOf}
+use Rattle.card.specs.Card.{everyone, others, all, any, is, isnt, one, shared_is}
+use Rattle.card.specs.Laid.{either, kind_part, sign_part, relation_part, state_part, group_of, leaf_of, one_kind, shared_kind}
+use Rattle.card.proofs.Packed.{leaf_group}
+use Rattle.meaning.specs.Reduced.{equal_to, counter, table, counter_of}
+use Rattle.table.specs.Bounds.{bound_row, bound_of}
 
 -- it is a test of the leaf's state, unless it is one of the shared number
-pub of-state : (n j x : ℕ) → kindPart x < sharedKind → counterOf n j (leafOf x) ≡ counter (statePart x) (boundOf (counterOf n j (leafOf x)))
-unfolding leafOf group_of
-of-state n j x h = rw (lt-ltb (kindPart x) sharedKind h) (go (ltb (kindPart x) oneKind))
+pub of_state : (n j x : ℕ) → kind_part x < shared_kind → counter_of n j (leaf_of x) ≡ counter (state_part x) (bound_of (counter_of n j (leaf_of x)))
+unfolding leaf_of group_of
+of_state n j x h = rw (lt-ltb (kind_part x) shared_kind h) (go (ltb (kind_part x) one_kind))
   where
-    go : (b : Bool) → let c = counterOf n j (if b then group_of x else one (statePart x)) in c ≡ counter (statePart x) (boundOf c)
+    go : (b : Bool) → let c = counter_of n j (if b then group_of x else one (state_part x)) in c ≡ counter (state_part x) (bound_of c)
     go true = refl
     go false = refl
 
 -- exactly one seat, or the shared number
-pub as_one : (n j x : ℕ) {k : ℕ} → k ≡ kindPart x → oneKind ≤ k → boundRow (equalTo 1) ≡ boundRow (boundOf (counterOf n j (leafOf x)))
-unfolding leafOf
-as_one n j x ek h = rw (le-ltb (kindPart x) oneKind (rw ek at h)) (go (ltb (kindPart x) sharedKind))
+pub as_one : (n j x : ℕ) {k : ℕ} → k ≡ kind_part x → one_kind ≤ k → bound_row (equal_to 1) ≡ bound_row (bound_of (counter_of n j (leaf_of x)))
+unfolding leaf_of
+as_one n j x ek h = rw (le-ltb (kind_part x) one_kind (rw ek at h)) (go (ltb (kind_part x) shared_kind))
   where
-    go : (b : Bool) → boundRow (equalTo 1) ≡ boundRow (boundOf (counterOf n j (if b then one (statePart x) else sharedIs (either is isnt (relationPart x)) (statePart x))))
+    go : (b : Bool) → bound_row (equal_to 1) ≡ bound_row (bound_of (counter_of n j (if b then one (state_part x) else shared_is (either is isnt (relation_part x)) (state_part x))))
     go true = refl
     go false = refl
 
 -- the column of the group that is packed in x
-module _ (n j x : ℕ) {k s q d : ℕ} (ek : k ≡ kindPart x) (es : s ≡ signPart x) (eq : q ≡ relationPart x) (ed : d ≡ statePart x) where
-  pub in-column : k < oneKind → {everyone? : Bool} → eqb k 0 ≡ everyone?
-      → boundRow (table n (if everyone? then everyone else others) (eqb j d) (either all any s) (either is isnt q))
-      ≡ boundRow (boundOf (counterOf n j (leafOf x)))
+module _ (n j x : ℕ) {k s q d : ℕ} (ek : k ≡ kind_part x) (es : s ≡ sign_part x) (eq : q ≡ relation_part x) (ed : d ≡ state_part x) where
+  pub in_column : k < one_kind → {everyone? : Bool} → eqb k 0 ≡ everyone?
+      → bound_row (table n (if everyone? then everyone else others) (eqb j d) (either all any s) (either is isnt q))
+      ≡ bound_row (bound_of (counter_of n j (leaf_of x)))
   unfolding group_of
-  in-column h a = rw (leaf-group x (rw ek at h), ← a, ek, es, eq, ed)
+  in_column h a = rw (leaf_group x (rw ek at h), ← a, ek, es, eq, ed)

@@ -1,9 +1,9 @@
 // The table of counter tests ("What a card means", second part), place by place.
 ghost use Rattle.std.specs.Prelude.{◌≡◌, Bool, ◌-◌, eqb};
 ghost use Rattle.card.specs.Card.{everyone, others, all, any, is, isnt};
-ghost use Rattle.card.specs.Laid.{either, leafOf};
-ghost use Rattle.meaning.specs.Reduced.{equalTo, moreThan, lessThan, table, counterOf};
-ghost use Rattle.table.specs.Bounds.{boundRow, boundOf};
+ghost use Rattle.card.specs.Laid.{either, leaf_of};
+ghost use Rattle.meaning.specs.Reduced.{equal_to as equal_to_said, more_than as more_than_said, less_than as less_than_said, table, counter_of};
+ghost use Rattle.table.specs.Bounds.{bound_row, bound_of as bound_of_said};
 
 use packing::{ALL, EVERYONE, IS, OTHERS, kind_of, relation_of, sign_of, state_of};
 
@@ -24,7 +24,7 @@ fn one_less(n: usize) -> usize
 }
 
 fn equal_to(number: usize) -> Bound
-    ensures { result ≡ boundRow (equalTo number) }
+    ensures { result ≡ bound_row (equal_to_said number) }
 {
     Bound {
         sign: b'=',
@@ -33,7 +33,7 @@ fn equal_to(number: usize) -> Bound
 }
 
 fn more_than(number: usize) -> Bound
-    ensures { result ≡ boundRow (moreThan number) }
+    ensures { result ≡ bound_row (more_than_said number) }
 {
     Bound {
         sign: b'>',
@@ -42,7 +42,7 @@ fn more_than(number: usize) -> Bound
 }
 
 fn less_than(number: usize) -> Bound
-    ensures { result ≡ boundRow (lessThan number) }
+    ensures { result ≡ bound_row (less_than_said number) }
 {
     Bound {
         sign: b'<',
@@ -52,7 +52,7 @@ fn less_than(number: usize) -> Bound
 
 // The table of counter tests, place by place: the column of everyone.
 fn everyone_bound(sign: usize, relation: usize, seats: usize) -> Bound
-    ensures { (itself : Bool) → result ≡ boundRow (table seats everyone itself (either all any sign) (either is isnt relation)) }
+    ensures { (itself : Bool) → result ≡ bound_row (table seats everyone itself (either all any sign) (either is isnt relation)) }
 {
     if sign == ALL {
         if relation == IS {
@@ -68,7 +68,7 @@ fn everyone_bound(sign: usize, relation: usize, seats: usize) -> Bound
 
 // And those of others, of n seats: where d is the statement's own state, a seat that takes it counts itself.
 fn others_bound(sign: usize, relation: usize, own: usize, d: usize, n: usize) -> Bound
-    ensures { result ≡ boundRow (table n others (eqb own d) (either all any sign) (either is isnt relation)) }
+    ensures { result ≡ bound_row (table n others (eqb own d) (either all any sign) (either is isnt relation)) }
 {
     if own == d {
         if sign == ALL {
@@ -98,7 +98,7 @@ fn others_bound(sign: usize, relation: usize, own: usize, d: usize, n: usize) ->
 // The test that the leaf in `node` becomes in a statement of local state `own`: a group by the table, exactly one seat as no_d=1. A test of the shared number is of no
 // counter, and its bound is not asked for.
 pub fn bound_of(node: u32, own: usize, seats: usize) -> Bound
-    ensures { result ≡ boundRow (boundOf (counterOf seats own (leafOf node))) }
+    ensures { result ≡ bound_row (bound_of_said (counter_of seats own (leaf_of node))) }
 {
     let kind = kind_of(node);
     let sign = sign_of(node);

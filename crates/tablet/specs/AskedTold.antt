@@ -2,12 +2,12 @@
 use Rattle.std.specs.Prelude.{Bool}
 use Rattle.entry.specs.Said.{Said}
 use Rattle.entries.specs.declared.Asked.{Asked}
-use Rattle.entries.specs.Answered.{asked, askedNumber, askedValue}
+use Rattle.entries.specs.Answered.{asked, asked_number, asked_value}
 use Rattle.answers.specs.declared.OpenPanelAnswer.{OpenPanelAnswer}
 
 -- of a question's answer; 0 and 1 for yes, 0 and 0 for no
-abbrev pub askedNumbers : Asked → OpenPanelAnswer
-askedNumbers a = record { number = askedNumber a; value = askedValue a }
+abbrev pub asked_numbers : Asked → OpenPanelAnswer
+asked_numbers a = record { number = asked_number a; value = asked_value a }
 
-abbrev pub answeredNumbers : Said Bool → OpenPanelAnswer
-answeredNumbers said = askedNumbers (asked said)
+abbrev pub answered_numbers : Said Bool → OpenPanelAnswer
+answered_numbers said = asked_numbers (asked said)

@@ -3,11 +3,11 @@ use Rattle.std.specs.Prelude.{ℕ}
 use Rattle.std.proofs.Math.Option.{Option}
 use Rattle.entry.specs.Said.{Said}
 use Rattle.able_seats.specs.declared.FirstMove.{FirstMove}
-use Rattle.able_seats.specs.Moved.{moved, moveNumber, moveValue}
+use Rattle.able_seats.specs.Moved.{moved, move_number, move_value}
 use Rattle.answers.specs.declared.OpenPanelAnswer.{OpenPanelAnswer}
 
-abbrev pub moveNumbers : FirstMove → OpenPanelAnswer
-moveNumbers a = record { number = moveNumber a; value = moveValue a }
+abbrev pub move_numbers : FirstMove → OpenPanelAnswer
+move_numbers a = record { number = move_number a; value = move_value a }
 
-abbrev pub movedNumbers : Said (Option ℕ) → OpenPanelAnswer
-movedNumbers said = moveNumbers (moved said)
+abbrev pub moved_numbers : Said (Option ℕ) → OpenPanelAnswer
+moved_numbers said = move_numbers (moved said)

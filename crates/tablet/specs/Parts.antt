@@ -2,13 +2,13 @@
 use Rattle.std.specs.Prelude.{ℕ, ◌≡◌, List}
 use Rattle.entry.specs.Said.{Said}
 use Rattle.deck.specs.Lookup.{Part}
-use Rattle.deck_entries.specs.Verdicts.{verdictOf}
+use Rattle.deck_entries.specs.Verdicts.{verdict_of}
 use Rattle.boxes.specs.Boxes.{placed}
-use Rattle.answers.specs.Numbered.{verdictNumbers}
-use Rattle.answers.specs.Stands.{threeOf}
+use Rattle.answers.specs.Numbered.{verdict_numbers}
+use Rattle.answers.specs.Stands.{three_of}
 use Rattle.answers.specs.declared.OpenPanelAnswer.{OpenPanelAnswer}
 
 -- the lent part `was` became `is`: all 0 where it is refused
 pub record PartTold (said : Said Part) (was is : List ℕ) (answer : OpenPanelAnswer) : Type 0 where
-  pub answers : answer ≡ verdictNumbers (verdictOf said)
-  pub leaves : is ≡ threeOf (placed said) was
+  pub answers : answer ≡ verdict_numbers (verdict_of said)
+  pub leaves : is ≡ three_of (placed said) was

@@ -2,10 +2,10 @@
 use Rattle.std.specs.Prelude.{ℕ, List}
 use Rattle.room.specs.Answer.{told}
 use Rattle.entry.specs.Said.{Said}
-use Rattle.entry.specs.Contract.{Ends, Two, Enters, inRows}
+use Rattle.entry.specs.Contract.{Ends, Two, Enters, in_rows}
 use Rattle.answers.specs.declared.OpenPanelAnswer.{OpenPanelAnswer}
 use Rattle.answers.specs.Numbered.{numbers}
 
 -- the rows `was` became `is`
 abbrev pub RowsTold : (was is : Two (List ℕ)) → Said (Ends ℕ (Two (List ℕ))) → OpenPanelAnswer → Type 0
-RowsTold was is said answer = Enters inRows (λ (s : Said ℕ). numbers (told s)) was is said answer
+RowsTold was is said answer = Enters in_rows (λ (s : Said ℕ). numbers (told s)) was is said answer

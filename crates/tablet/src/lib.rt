@@ -1,29 +1,29 @@
 // The entries for C: the same promises, with answers in numbers ("Refusal numbers").
 ghost use Rattle.std.specs.Prelude.{◌≡◌, length};
 ghost use Rattle.reading.specs.Reading.{read_of};
-ghost use Rattle.deck.specs.Contents.{judged as deckJudged};
-ghost use Rattle.deck.specs.Lookup.{located, locatedWith};
-ghost use Rattle.deck_entries.specs.Verdicts.{verdictOf};
-ghost use Rattle.deck_written.specs.WriteDeckSaid.{writeDeckSaid};
-ghost use Rattle.mending.specs.Mending.{mendSaid};
-ghost use Rattle.converting.specs.Converting.{convertSaid};
+ghost use Rattle.deck.specs.Contents.{judged as deck_judged};
+ghost use Rattle.deck.specs.Lookup.{located, located_with};
+ghost use Rattle.deck_entries.specs.Verdicts.{verdict_of};
+ghost use Rattle.deck_written.specs.WriteDeckSaid.{write_deck_said};
+ghost use Rattle.mending.specs.Mending.{mend_said};
+ghost use Rattle.converting.specs.Converting.{convert_said};
 ghost use Rattle.mended_told.specs.LentRooms.{lent, RoomsTold};
-ghost use Rattle.tidying.specs.Tidying.{tidySaid, addSaid};
-ghost use Rattle.texts_said.specs.WriteSaid.{writeSaid};
-ghost use Rattle.texts_said.specs.ReduceSaid.{reduceSaid};
-ghost use Rattle.panel_said.specs.PanelSaid.{panelSaid};
-ghost use Rattle.ask_said.specs.AskSaid.{askSaid};
-ghost use Rattle.watch_said.specs.WatchSaid.{watchSaid};
-ghost use Rattle.move_said.specs.MoveSaid.{moveSaid};
+ghost use Rattle.tidying.specs.Tidying.{tidy_said, add_said};
+ghost use Rattle.texts_said.specs.WriteSaid.{write_said};
+ghost use Rattle.texts_said.specs.ReduceSaid.{reduce_said};
+ghost use Rattle.panel_said.specs.PanelSaid.{panel_said};
+ghost use Rattle.ask_said.specs.AskSaid.{ask_said};
+ghost use Rattle.watch_said.specs.WatchSaid.{watch_said};
+ghost use Rattle.move_said.specs.MoveSaid.{move_said};
 ghost use Rattle.entry.specs.Contract.{two};
-ghost use Rattle.answers.specs.Numbered.{verdictNumbers};
-ghost use Rattle.answers.specs.Aims.{aimBy};
-ghost use Rattle.odds_said.specs.OddsSaid.{oddsSaid};
-ghost use Rattle.tablet.specs.Moves.{moveNumbers, movedNumbers};
+ghost use Rattle.answers.specs.Numbered.{verdict_numbers};
+ghost use Rattle.answers.specs.Aims.{aim_by};
+ghost use Rattle.odds_said.specs.OddsSaid.{odds_said};
+ghost use Rattle.tablet.specs.Moves.{move_numbers, moved_numbers};
 ghost use Rattle.tablet.specs.Rows.{RowsTold};
 ghost use Rattle.tablet.specs.LentDeck.{DeckTold};
 ghost use Rattle.told.specs.Told.{judged, Told};
-ghost use Rattle.tablet.specs.AskedTold.{askedNumbers, answeredNumbers};
+ghost use Rattle.tablet.specs.AskedTold.{asked_numbers, answered_numbers};
 ghost use Rattle.tablet.specs.Parts.{PartTold};
 
 use able_seats::FirstMove;
@@ -43,7 +43,7 @@ use reader::read_into;
 use tidy::tidy;
 
 fn asked_in_numbers(asked: Asked) -> OpenPanelAnswer
-    ensures { result ≡ askedNumbers asked }
+    ensures { result ≡ asked_numbers asked }
 {
     match asked {
         Asked::Yes => {
@@ -83,7 +83,7 @@ pub extern "C" fn open_panel_judge(card: &[u8]) -> OpenPanelAnswer
 // The written card.
 #[unsafe(no_mangle)]
 pub extern "C" fn open_panel_write(card: &[u8], room: &mut [u8]) -> OpenPanelAnswer
-    ensures { Told room.old room.new (writeSaid card.now) result }
+    ensures { Told room.old room.new (write_said card.now) result }
 {
     let answer = write(card, room);
     in_numbers(answer)
@@ -92,7 +92,7 @@ pub extern "C" fn open_panel_write(card: &[u8], room: &mut [u8]) -> OpenPanelAns
 // The reduced program's text.
 #[unsafe(no_mangle)]
 pub extern "C" fn open_panel_reduce(card: &[u8], room: &mut [u8]) -> OpenPanelAnswer
-    ensures { Told room.old room.new (reduceSaid card.now) result }
+    ensures { Told room.old room.new (reduce_said card.now) result }
 {
     let answer = reduce(card, room);
     in_numbers(answer)
@@ -101,7 +101,7 @@ pub extern "C" fn open_panel_reduce(card: &[u8], room: &mut [u8]) -> OpenPanelAn
 // The panel of a card and its seats.
 #[unsafe(no_mangle)]
 pub extern "C" fn open_panel_show(card: &[u8], seats: &[u8], room: &mut [u8]) -> OpenPanelAnswer
-    ensures { Told room.old room.new (panelSaid card.now seats.now) result }
+    ensures { Told room.old room.new (panel_said card.now seats.now) result }
 {
     let answer = panel(card, seats, room);
     in_numbers(answer)
@@ -110,7 +110,7 @@ pub extern "C" fn open_panel_show(card: &[u8], seats: &[u8], room: &mut [u8]) ->
 // Does a question hold at the seats? Yes answers 0 and 1, no 0 and 0.
 #[unsafe(no_mangle)]
 pub extern "C" fn open_panel_ask(card: &[u8], question: &[u8], seats: &[u8]) -> OpenPanelAnswer
-    ensures { result ≡ answeredNumbers (askSaid card.now question.now seats.now) }
+    ensures { result ≡ answered_numbers (ask_said card.now question.now seats.now) }
 {
     let asked = ask(card, question, seats);
     asked_in_numbers(asked)
@@ -119,7 +119,7 @@ pub extern "C" fn open_panel_ask(card: &[u8], question: &[u8], seats: &[u8]) -> 
 // Is it a deck of cards? A deck that is taken answers 0 and 0.
 #[unsafe(no_mangle)]
 pub extern "C" fn open_panel_box_judge(deck: &[u8]) -> OpenPanelAnswer
-    ensures { result ≡ verdictNumbers (verdictOf (deckJudged deck.now)) }
+    ensures { result ≡ verdict_numbers (verdict_of (deck_judged deck.now)) }
 {
     let verdict = judge_deck(deck);
     verdict_in_numbers(verdict)
@@ -146,7 +146,7 @@ pub extern "C" fn open_panel_box_find_with(
     number: u16,
     part: &mut [usize; 3],
 ) -> OpenPanelAnswer
-    ensures { PartTold (locatedWith base.now expansion.now number) part.old part.new result }
+    ensures { PartTold (located_with base.now expansion.now number) part.old part.new result }
 {
     let place = locate_with(base, expansion, number);
     tell_part(place, part)
@@ -159,7 +159,7 @@ pub extern "C" fn open_panel_box_write(
     bodies: &[u8],
     room: &mut [u8],
 ) -> OpenPanelAnswer
-    ensures { Told room.old room.new (writeDeckSaid contents.now bodies.now) result }
+    ensures { Told room.old room.new (write_deck_said contents.now bodies.now) result }
 {
     let answer = write_deck(contents, bodies, room);
     in_numbers(answer)
@@ -173,7 +173,7 @@ pub extern "C" fn open_panel_mend(
     list: &mut [u8],
     list_length: &mut [usize; 1],
 ) -> OpenPanelAnswer
-    ensures { RoomsTold (lent (two room.old list.old) list_length.old) (lent (two room.new list.new) list_length.new) (mendSaid deck.now) result }
+    ensures { RoomsTold (lent (two room.old list.old) list_length.old) (lent (two room.new list.new) list_length.new) (mend_said deck.now) result }
 {
     let mended = mend(deck, room, list);
     tell_mended(mended, list_length)
@@ -182,7 +182,7 @@ pub extern "C" fn open_panel_mend(
 // A box from before decimals were retired, converted: the new deck.
 #[unsafe(no_mangle)]
 pub extern "C" fn open_panel_convert(deck: &[u8], room: &mut [u8]) -> OpenPanelAnswer
-    ensures { Told room.old room.new (convertSaid deck.now) result }
+    ensures { Told room.old room.new (convert_said deck.now) result }
 {
     let answer = convert(deck, room);
     in_numbers(answer)
@@ -191,7 +191,7 @@ pub extern "C" fn open_panel_convert(deck: &[u8], room: &mut [u8]) -> OpenPanelA
 // A box tidied within the lent deck: withdrawn entries dropped, gaps closed, zero bytes behind the new length.
 #[unsafe(no_mangle)]
 pub extern "C" fn open_panel_tidy(deck: &mut [u8]) -> OpenPanelAnswer
-    ensures { DeckTold deck.old deck.new (tidySaid deck.old) result }
+    ensures { DeckTold deck.old deck.new (tidy_said deck.old) result }
 {
     let answer = tidy(deck);
     in_numbers(answer)
@@ -200,7 +200,7 @@ pub extern "C" fn open_panel_tidy(deck: &mut [u8]) -> OpenPanelAnswer
 // A live card added to a box within the lent deck, which is tidied.
 #[unsafe(no_mangle)]
 pub extern "C" fn open_panel_add(deck: &mut [u8], number: u16, card: &[u8]) -> OpenPanelAnswer
-    ensures { DeckTold deck.old deck.new (addSaid deck.old number card.now) result }
+    ensures { DeckTold deck.old deck.new (add_said deck.old number card.now) result }
 {
     let answer = add(deck, number, card);
     in_numbers(answer)
@@ -214,14 +214,14 @@ pub extern "C" fn open_panel_watch(
     classes: &[u8],
     room: &mut [u8],
 ) -> OpenPanelAnswer
-    ensures { Told room.old room.new (watchSaid card.now seats.now classes.now) result }
+    ensures { Told room.old room.new (watch_said card.now seats.now classes.now) result }
 {
     let answer = watch(card, seats, classes, room);
     in_numbers(answer)
 }
 
 fn move_in_numbers(answer: FirstMove) -> OpenPanelAnswer
-    ensures { result ≡ moveNumbers answer }
+    ensures { result ≡ move_numbers answer }
 {
     match answer {
         FirstMove::Statement(place) => {
@@ -248,7 +248,7 @@ fn move_in_numbers(answer: FirstMove) -> OpenPanelAnswer
 // The first statement that some seat may take: its place on the card answers 0 and the place, nobody 0 and 0.
 #[unsafe(no_mangle)]
 pub extern "C" fn open_panel_first_move(card: &[u8], seats: &[u8]) -> OpenPanelAnswer
-    ensures { result ≡ movedNumbers (moveSaid card.now seats.now) }
+    ensures { result ≡ moved_numbers (move_said card.now seats.now) }
 {
     let answer = first_move(card, seats);
     move_in_numbers(answer)
@@ -265,7 +265,7 @@ pub extern "C" fn open_panel_odds(
     first: &mut [u32],
     second: &mut [u32],
 ) -> OpenPanelAnswer
-    ensures { RowsTold (two first.old second.old) (two first.new second.new) (oddsSaid card.now question.now seats.now m (aimBy largest) (length first.old) (length second.old)) result }
+    ensures { RowsTold (two first.old second.old) (two first.new second.new) (odds_said card.now question.now seats.now m (aim_by largest) (length first.old) (length second.old)) result }
 {
     let is_largest = is_largest(largest);
     let answer = odds(card, question, seats, m, is_largest, first, second);

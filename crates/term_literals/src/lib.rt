@@ -1,9 +1,9 @@
 // The literals of a term of an exactly-one, joined by `&`, read from a question's bytes (document 02, 2026-01).
 ghost use Rattle.std.specs.Prelude.{◌≡◌, ◌∷◌, ℕ};
-ghost use Rattle.marks_on_a_card.specs.Marks.{placed, seat as seatWord};
-ghost use Rattle.marks.specs.Step.{marksAt};
+ghost use Rattle.marks_on_a_card.specs.Marks.{placed, seat as seat_word};
+ghost use Rattle.marks.specs.Step.{marks_at};
 ghost use Rattle.reading.specs.Reader.{at as from};
-ghost use Rattle.term_literals.specs.TermRead.{noTerm, literalsOf, TermRead};
+ghost use Rattle.term_literals.specs.TermRead.{no_term as no_term_said, literals_of, TermRead};
 
 use card::refusals::OUT_OF_SHAPE;
 use due_signs::{step_and, step_sign};
@@ -29,7 +29,7 @@ pub struct TermFound {
 }
 
 pub fn no_term(place: usize) -> TermFound
-    ensures { result ≡ noTerm place }
+    ensures { result ≡ no_term_said place }
 {
     TermFound {
         stop: OUT_OF_SHAPE as usize,
@@ -45,7 +45,7 @@ pub fn no_term(place: usize) -> TermFound
 
 // The rest of the i-th term, whose first seat word has the number `seat`; `at` stands behind that word in the part.
 pub fn literals(part: &[u8], at: usize, seat: usize, i: usize) -> TermFound
-    ensures { (o n x : ℕ) → TermRead o part.now at n i (literalsOf (from (placed (seatWord seat) x ∷ marksAt o part.now at) n)) result }
+    ensures { (o n x : ℕ) → TermRead o part.now at n i (literals_of (from (placed (seat_word seat) x ∷ marks_at o part.now at) n)) result }
 {
     let first = literal(part, at);
     if first.stop != 0 {

@@ -4,7 +4,7 @@
 use Rattle.std.specs.Prelude.{ℕ, Bool, true, false, List, [], ◌∷◌}
 use Rattle.std.proofs.Math.Option.{Option, none, some}
 use Rattle.card.specs.Card.{Relation, is, isnt, Formula, atom, neg, and, or, Shared}
-use Rattle.card.specs.Valid.{Level, loose, middle, tight, needsAnd, needsOr}
+use Rattle.card.specs.Valid.{Level, loose, middle, tight, needs_and, needs_or}
 use Rattle.phrases.specs.Phrases.{Text, ◌▸◌, num}
 
 -- ---- formulas
@@ -13,13 +13,13 @@ use Rattle.phrases.specs.Phrases.{Text, ◌▸◌, num}
 pub data Brackets : Type 0 where
   needed always : Brackets
 
-abbrev pub hasAnd : Brackets → Level → Bool
-hasAnd needed v = needsAnd v
-hasAnd always v = true
+abbrev pub has_and : Brackets → Level → Bool
+has_and needed v = needs_and v
+has_and always v = true
 
-abbrev pub hasOr : Brackets → Level → Bool
-hasOr needed v = needsOr v
-hasOr always v = true
+abbrev pub has_or : Brackets → Level → Bool
+has_or needed v = needs_or v
+has_or always v = true
 
 abbrev pub opening : Bool → Text
 opening true r = "(" ▸ r
@@ -30,16 +30,16 @@ closing true r = ")" ▸ r
 closing false r = r
 
 -- a blank on each side of a joining sign
-unfoldable pub formulaText : {A : Type 0} → Brackets → (A → Text) → Level → Formula A → Text
-formulaText k leaf v (atom a) r = leaf a r
-formulaText k leaf v (neg g) r = "!" ▸ formulaText k leaf tight g r
-formulaText k leaf v (and g h) r = opening (hasAnd k v) (formulaText k leaf middle g (" & " ▸ formulaText k leaf tight h (closing (hasAnd k v) r)))
-formulaText k leaf v (or g h) r = opening (hasOr k v) (formulaText k leaf loose g (" | " ▸ formulaText k leaf middle h (closing (hasOr k v) r)))
+unfoldable pub formula_text : {A : Type 0} → Brackets → (A → Text) → Level → Formula A → Text
+formula_text k leaf v (atom a) r = leaf a r
+formula_text k leaf v (neg g) r = "!" ▸ formula_text k leaf tight g r
+formula_text k leaf v (and g h) r = opening (has_and k v) (formula_text k leaf middle g (" & " ▸ formula_text k leaf tight h (closing (has_and k v) r)))
+formula_text k leaf v (or g h) r = opening (has_or k v) (formula_text k leaf loose g (" | " ▸ formula_text k leaf middle h (closing (has_or k v) r)))
 
 -- a guard follows the first test
-abbrev pub formulaOr : {A : Type 0} → Brackets → (A → Text) → Option (Formula A) → Text
-formulaOr k leaf none r = r
-formulaOr k leaf (some g) r = " & " ▸ formulaText k leaf middle g r
+abbrev pub formula_or : {A : Type 0} → Brackets → (A → Text) → Option (Formula A) → Text
+formula_or k leaf none r = r
+formula_or k leaf (some g) r = " & " ▸ formula_text k leaf middle g r
 
 -- ---- branches
 
@@ -54,8 +54,8 @@ summed branch (b ∷ bs) r = branch b (more branch bs r)
 
 -- ---- a statement behind its first test
 
-abbrev pub tailText : {A B : Type 0} → Brackets → (A → Text) → (B → Text) → Option (Formula A) → List B → Text
-tailText k leaf branch g bs r = formulaOr k leaf g (" -> " ▸ summed branch bs (";\n" ▸ r))
+abbrev pub tail_text : {A B : Type 0} → Brackets → (A → Text) → (B → Text) → Option (Formula A) → List B → Text
+tail_text k leaf branch g bs r = formula_or k leaf g (" -> " ▸ summed branch bs (";\n" ▸ r))
 
 -- ---- the shared number
 
@@ -65,15 +65,15 @@ declaration none r = r
 declaration (some s) r = "\nglobal g : [0.." ▸ num s.most ("] init " ▸ num s.start (";" ▸ r))
 
 -- a test of it, as it stands on the card
-abbrev pub sharedText : Relation → ℕ → Text
-sharedText is v r = "(g=" ▸ num v (")" ▸ r)
-sharedText isnt v r = "(g!=" ▸ num v (")" ▸ r)
+abbrev pub shared_text : Relation → ℕ → Text
+shared_text is v r = "(g=" ▸ num v (")" ▸ r)
+shared_text isnt v r = "(g!=" ▸ num v (")" ▸ r)
 
 -- what it is set to
-abbrev pub setText : ℕ → Text
-setText v r = "(g'=" ▸ num v (")" ▸ r)
+abbrev pub set_text : ℕ → Text
+set_text v r = "(g'=" ▸ num v (")" ▸ r)
 
 -- the same, last in a branch that does something else too
-abbrev pub setLast : Option ℕ → Text
-setLast none r = r
-setLast (some v) r = " & " ▸ setText v r
+abbrev pub set_last : Option ℕ → Text
+set_last none r = r
+set_last (some v) r = " & " ▸ set_text v r

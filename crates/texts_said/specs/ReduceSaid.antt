@@ -3,14 +3,14 @@ use Rattle.std.specs.Prelude.{ℕ, List}
 use Rattle.card.specs.Card.{Card}
 use Rattle.entry.specs.Said.{◌>>=◌, return}
 use Rattle.room.specs.Answer.{Text}
-use Rattle.rows.specs.Said.{cardSaid}
-use Rattle.texts.specs.ReducedText.{reducedOf}
+use Rattle.rows.specs.Said.{card_said}
+use Rattle.texts.specs.ReducedText.{reduced_of}
 
 -- of a card that is taken
-abbrev pub reduceCard : Card → Text
-reduceCard c = return (reducedOf c)
+abbrev pub reduce_card : Card → Text
+reduce_card c = return (reduced_of c)
 
-unfoldable pub reduceSaid : List ℕ → Text
-reduceSaid card = do
-  c ← cardSaid card
-  reduceCard c
+unfoldable pub reduce_said : List ℕ → Text
+reduce_said card = do
+  c ← card_said card
+  reduce_card c

@@ -5,53 +5,53 @@ use mathlib.Core.List.{List}
 use native.Mathlib.Omega.{arith}
 use borrow.Author.Tests.{lt-leb}
 use lib.ListN.{length}
-use Rattle.card.specs.Refusals.{noLiveCard}
+use Rattle.card.specs.Refusals.{no_live_card}
 use Rattle.card.specs.declared.Verdict.TheVariants.{Taken, Refused as Judged}
 use Rattle.entry.specs.Said.{Said, says, refused, ◌>>=◌}
 use Rattle.deck.specs.Contents.{judged}
-use Rattle.deck.specs.Deck.{Entry, heldBy, deckText}
+use Rattle.deck.specs.Deck.{Entry, held_by, deck_text}
 use Rattle.deck.specs.Sound.{Sound}
-use Rattle.deck.proofs.Judged.{sound-judged}
-use Rattle.deck.proofs.Kept.{held-said}
-use Rattle.deck_entries.specs.Verdicts.{verdictOf}
-use Rattle.deck_entries.proofs.Laws.{verdict-refused, verdict-fine}
+use Rattle.deck.proofs.Judged.{sound_judged}
+use Rattle.deck.proofs.Kept.{held_said}
+use Rattle.deck_entries.specs.Verdicts.{verdict_of}
+use Rattle.deck_entries.proofs.Laws.{verdict_refused, verdict_fine}
 use Rattle.room.specs.declared.Answer.TheVariants.{Done, Refused}
-use Rattle.tidying.specs.Tidying.{liveSaid, tidySaid, liveEntries}
-use Rattle.tidying.specs.Tidied.{liveCards, lentAfter, Tidiable}
+use Rattle.tidying.specs.Tidying.{live_said, tidy_said, live_entries}
+use Rattle.tidying.specs.Tidied.{live_cards, lent_after, Tidiable}
 use Rattle.gathering.specs.LiveRows.{Measures}
 use Rattle.gathering.specs.declared.Live.{Live}
 use Rattle.tidy.specs.Tidies.{Tidied, Measured}
-use Rattle.tidy.proofs.LiveDeck.{cards-count}
+use Rattle.tidy.proofs.LiveDeck.{cards_count}
 
-pub changed-refused : {was : List ℕ} {said : Said (List ℕ)} {number place : ℕ} → said ≡ refused number place → Tidied was was said (Refused number place)
-changed-refused e = rw e (record { answers = refl; leaves = refl })
+pub changed_refused : {was : List ℕ} {said : Said (List ℕ)} {number place : ℕ} → said ≡ refused number place → Tidied was was said (Refused number place)
+changed_refused e = rw e (record { answers = refl; leaves = refl })
 
-pub changed-done : {was is t : List ℕ} {said : Said (List ℕ)} {n : ℕ} → said ≡ says t → is ≡ lentAfter t was → n ≡ length t → Tidied was is said (Done n)
-changed-done e l k = rw (e, k, l) (record { answers = refl; leaves = refl })
+pub changed_done : {was is t : List ℕ} {said : Said (List ℕ)} {n : ℕ} → said ≡ says t → is ≡ lent_after t was → n ≡ length t → Tidied was is said (Done n)
+changed_done e l k = rw (e, k, l) (record { answers = refl; leaves = refl })
 
 module _ (deck : List ℕ) where
-  pub verdict-sound : verdictOf (judged deck) ≡ Taken → Sound deck
-  verdict-sound e = sound-judged deck (verdict-fine (judged deck) e)
+  pub verdict_sound : verdict_of (judged deck) ≡ Taken → Sound deck
+  verdict_sound e = sound_judged deck (verdict_fine (judged deck) e)
 
   -- the refusals of every entry on live cards
-  pub live-malformed : {r p : ℕ} → verdictOf (judged deck) ≡ Judged r p → liveSaid deck ≡ refused r p
-  live-malformed e = rw (verdict-refused (judged deck) e)
+  pub live_malformed : {r p : ℕ} → verdict_of (judged deck) ≡ Judged r p → live_said deck ≡ refused r p
+  live_malformed e = rw (verdict_refused (judged deck) e)
 
   module _ (s : Sound deck) {live : Live} (m : Measures deck live) where
-    pub measured-live : Measured deck live.cards live.bytes
-    measured-live = record { sound = s; count = m.cards; total = m.bytes }
+    pub measured_live : Measured deck live.cards live.bytes
+    measured_live = record { sound = s; count = m.cards; total = m.bytes }
 
-    count-live : length (liveCards deck) ≡ live.cards
-    count-live = cards-count deck s ∙ sym m.cards
+    count_live : length (live_cards deck) ≡ live.cards
+    count_live = cards_count deck s ∙ sym m.cards
 
-    pub live-none : live.cards ≡ 0 → liveSaid deck ≡ refused noLiveCard 0
-    live-none z =
-        let none : length (liveEntries (heldBy deck)) < 1 = omega (arith, count-live, z) in
-        rw (held-said deck s, lt-leb 1 (length (liveEntries (heldBy deck))) none)
+    pub live_none : live.cards ≡ 0 → live_said deck ≡ refused no_live_card 0
+    live_none z =
+        let none : length (live_entries (held_by deck)) < 1 = omega (arith, count_live, z) in
+        rw (held_said deck s, lt-leb 1 (length (live_entries (held_by deck))) none)
 
-    pub live-some : (live.cards ≡ 0 → ⊥) → Tidiable deck
-    live-some n = record { sound = s; some = omega (arith, count-live, n) }
+    pub live_some : (live.cards ≡ 0 → ⊥) → Tidiable deck
+    live_some n = record { sound = s; some = omega (arith, count_live, n) }
 
-  pub tidy-refused : {r p : ℕ} → liveSaid deck ≡ refused r p → tidySaid deck ≡ refused r p
-  unfolding tidySaid
-  tidy-refused e = ap (λ (x : Said (List Entry)). x >>= (λ (es : List Entry). says (deckText es))) e
+  pub tidy_refused : {r p : ℕ} → live_said deck ≡ refused r p → tidy_said deck ≡ refused r p
+  unfolding tidy_said
+  tidy_refused e = ap (λ (x : Said (List Entry)). x >>= (λ (es : List Entry). says (deck_text es))) e

@@ -1,7 +1,7 @@
 // A box tidied within the lent deck: withdrawn entries dropped, gaps closed (document 02, 2026-12).
 ghost use Rattle.std.specs.Prelude.{◌≡◌};
-ghost use Rattle.tidying.specs.Tidying.{tidySaid};
-ghost use Rattle.tidying.specs.Tidied.{tidyText, lentAfter};
+ghost use Rattle.tidying.specs.Tidying.{tidy_said};
+ghost use Rattle.tidying.specs.Tidied.{tidy_text, lent_after};
 ghost use Rattle.tidy.specs.Tidies.{Tidied, Measured};
 
 use boxes::judge_deck;
@@ -17,7 +17,7 @@ use shifting::clear_from;
 // body moves to its place; then the entries get their offsets.
 pub fn close_up(deck: &mut [u8], cards: usize, bytes: usize)
     requires { Measured deck.old cards bytes }
-    ensures { deck.new ≡ lentAfter (tidyText deck.old) deck.old }
+    ensures { deck.new ≡ lent_after (tidy_text deck.old) deck.old }
 {
     let count = wide(deck[0]);
     let low = COUNT_BYTES + ENTRY_BYTES * cards;
@@ -30,7 +30,7 @@ pub fn close_up(deck: &mut [u8], cards: usize, bytes: usize)
 
 // The deck is judged first, then whether a card is live.
 pub fn tidy(deck: &mut [u8]) -> Answer
-    ensures { Tidied deck.old deck.new (tidySaid deck.old) result }
+    ensures { Tidied deck.old deck.new (tidy_said deck.old) result }
 {
     let judged = judge_deck(deck);
     if let Verdict::Refused(number, place) = judged {

@@ -8,42 +8,42 @@ use native.Mathlib.Nat.{le_trans}
 use native.Mathlib.Omega.{arith}
 use borrow.Author.Tests.{le-leb}
 use lib.ListN.{length, drop, length-append, length-drop, length-map}
-use Rattle.card.specs.Limits.{deckBytes, wordNumbers}
+use Rattle.card.specs.Limits.{deck_bytes, word_numbers}
 use Rattle.card.specs.Valid.{Every}
 use Rattle.entry.specs.Said.{Said, says, ◌>>=◌}
 use Rattle.deck.specs.Contents.{byte}
-use Rattle.deck.specs.Deck.{Entry, heldBy, deckOf, deckText, Writable, Bytes}
+use Rattle.deck.specs.Deck.{Entry, held_by, deck_of, deck_text, Writable, Bytes}
 use Rattle.deck.specs.Lookup.{live_in}
-use Rattle.deck.proofs.Kept.{kept-writable, kept-no-longer, held-said, held-writable, tidy-no-longer}
-use Rattle.deck.proofs.Written.{length-text, text-sound, text-back}
+use Rattle.deck.proofs.Kept.{kept_writable, kept_no_longer, held_said, held_writable, tidy_no_longer}
+use Rattle.deck.proofs.Written.{length_text, text_sound, text_back}
 use Rattle.deck_written.proofs.NoGaps.{no_gaps}
 use Rattle.mending.proofs.Unchanged.{text_same}
-use Rattle.tidying.specs.Tidying.{isLiveEntry, liveEntries, liveSaid, tidySaid, liveCard, withCard}
-use Rattle.tidying.specs.Tidied.{liveCards, tidyText, textWith, zeroed, lentAfter, Tidiable, Addable, Tidy, NewDeck, TidiedDeck, AddedDeck}
-use Rattle.tidying.proofs.Gap.{gap-sound, gap_back}
-use Rattle.tidying.proofs.Live.{kept-pass, kept-all, found-live}
-use Rattle.tidying.proofs.Added.{with-every, with-count, with-bodies, with-rising, at_its_place, finds-new, finds-others}
-use Rattle.tidying.proofs.Free.{live-others}
+use Rattle.tidying.specs.Tidying.{is_live_entry, live_entries, live_said, tidy_said, live_card, with_card}
+use Rattle.tidying.specs.Tidied.{live_cards, tidy_text, text_with, zeroed, lent_after, Tidiable, Addable, Tidy, NewDeck, TidiedDeck, AddedDeck}
+use Rattle.tidying.proofs.Gap.{gap_sound, gap_back}
+use Rattle.tidying.proofs.Live.{kept_pass, kept_all, found_live}
+use Rattle.tidying.proofs.Added.{with_every, with_count, with_bodies, with_rising, at_its_place, finds_new, finds_others}
+use Rattle.tidying.proofs.Free.{live_others}
 
 -- ---- what is said
 
-live-held : (deck : List ℕ) (es : List Entry) → deckOf deck ≡ says es → 1 ≤ length (liveEntries es) → liveSaid deck ≡ says (liveEntries es)
-live-held deck es e l = rw (e, le-leb 1 (length (liveEntries es)) l)
+live_held : (deck : List ℕ) (es : List Entry) → deck_of deck ≡ says es → 1 ≤ length (live_entries es) → live_said deck ≡ says (live_entries es)
+live_held deck es e l = rw (e, le-leb 1 (length (live_entries es)) l)
 
-pub live-says : (deck : List ℕ) → Tidiable deck → liveSaid deck ≡ says (liveCards deck)
-live-says deck t = live-held deck (heldBy deck) (held-said deck t.sound) t.some
+pub live_says : (deck : List ℕ) → Tidiable deck → live_said deck ≡ says (live_cards deck)
+live_says deck t = live_held deck (held_by deck) (held_said deck t.sound) t.some
 
-pub tidy-says : (deck : List ℕ) → Tidiable deck → tidySaid deck ≡ says (tidyText deck)
-unfolding tidySaid
-tidy-says deck t = rw (live-says deck t)
+pub tidy_says : (deck : List ℕ) → Tidiable deck → tidy_said deck ≡ says (tidy_text deck)
+unfolding tidy_said
+tidy_says deck t = rw (live_says deck t)
 
 -- a deck of live cards only
-tidy-live : (deck : List ℕ) (es : List Entry) → deckOf deck ≡ says es → Every (λ (e : Entry). e.live ≡ true) es → 1 ≤ length es → tidySaid deck ≡ says (deckText es)
-unfolding tidySaid
-tidy-live deck es e all l =
-    let same = kept-all isLiveEntry es all in
-    let n : 1 ≤ length (liveEntries es) = omega (arith, ap length same) in
-    ap (λ (x : Said (List Entry)). x >>= (λ (s : List Entry). says (deckText s))) (live-held deck es e n) ∙ ap (λ (s : List Entry). says (deckText s)) same
+tidy_live : (deck : List ℕ) (es : List Entry) → deck_of deck ≡ says es → Every (λ (e : Entry). e.live ≡ true) es → 1 ≤ length es → tidy_said deck ≡ says (deck_text es)
+unfolding tidy_said
+tidy_live deck es e all l =
+    let same = kept_all is_live_entry es all in
+    let n : 1 ≤ length (live_entries es) = omega (arith, ap length same) in
+    ap (λ (x : Said (List Entry)). x >>= (λ (s : List Entry). says (deck_text s))) (live_held deck es e n) ∙ ap (λ (s : List Entry). says (deck_text s)) same
 
 -- ---- the new deck
 
@@ -52,110 +52,110 @@ zeros [] i = refl
 zeros (b ∷ t) zero = refl
 zeros (b ∷ t) (suc i) = zeros t i
 
-zero-behind : (new t : List ℕ) (i : ℕ) → length new ≤ i → byte (new ++ zeroed t) i ≡ 0
-zero-behind [] t i h = zeros t i
-zero-behind (b ∷ new) t zero h = absurd (omega (arith, h))
-zero-behind (b ∷ new) t (suc i) h = zero-behind new t i (omega (arith, h))
+zero_behind : (new t : List ℕ) (i : ℕ) → length new ≤ i → byte (new ++ zeroed t) i ≡ 0
+zero_behind [] t i h = zeros t i
+zero_behind (b ∷ new) t zero h = absurd (omega (arith, h))
+zero_behind (b ∷ new) t (suc i) h = zero_behind new t i (omega (arith, h))
 
-pub length-after : (new was : List ℕ) → length new ≤ length was → length (lentAfter new was) ≡ length was
-length-after new was h =
+pub length_after : (new was : List ℕ) → length new ≤ length was → length (lent_after new was) ≡ length was
+length_after new was h =
     let z : length (zeroed (drop (length new) was)) ≡ length (drop (length new) was) = length-map (drop (length new) was) _ in
     omega (arith, z, length-append new (zeroed (drop (length new) was)), length-drop (length new) was)
 
 -- zero bytes become zero bytes
-zeroed-zeroed : (t : List ℕ) → zeroed (zeroed t) ≡ zeroed t
-zeroed-zeroed [] = refl
-zeroed-zeroed (b ∷ t) = ap (λ (l : List ℕ). 0 ∷ l) (zeroed-zeroed t)
+zeroed_zeroed : (t : List ℕ) → zeroed (zeroed t) ≡ zeroed t
+zeroed_zeroed [] = refl
+zeroed_zeroed (b ∷ t) = ap (λ (l : List ℕ). 0 ∷ l) (zeroed_zeroed t)
 
 drop_past : (s t : List ℕ) → drop (length s) (s ++ t) ≡ t
 drop_past [] t = refl
 drop_past (b ∷ s) t = drop_past s t
 
-after-after : (new was : List ℕ) → lentAfter new (lentAfter new was) ≡ lentAfter new was
-after-after new was =
+after_after : (new was : List ℕ) → lent_after new (lent_after new was) ≡ lent_after new was
+after_after new was =
     let rest = zeroed (drop (length new) was) in
-    ap (λ (l : List ℕ). new ++ zeroed l) (drop_past new rest) ∙ ap (λ (l : List ℕ). new ++ l) (zeroed-zeroed (drop (length new) was))
+    ap (λ (l : List ℕ). new ++ zeroed l) (drop_past new rest) ∙ ap (λ (l : List ℕ). new ++ l) (zeroed_zeroed (drop (length new) was))
 
-new-deck : (was : List ℕ) (es : List Entry) → Writable es → Every (λ (e : Entry). e.live ≡ true) es → length (deckText es) ≤ length was → length was ≤ deckBytes → NewDeck was (deckText es) es
-new-deck was es w all h s =
-    let rest = zeroed (drop (length (deckText es)) was) in
-    let k : length (deckText es ++ rest) ≤ deckBytes = omega (arith, length-after (deckText es) was h) in
+new_deck : (was : List ℕ) (es : List Entry) → Writable es → Every (λ (e : Entry). e.live ≡ true) es → length (deck_text es) ≤ length was → length was ≤ deck_bytes → NewDeck was (deck_text es) es
+new_deck was es w all h s =
+    let rest = zeroed (drop (length (deck_text es)) was) in
+    let k : length (deck_text es ++ rest) ≤ deck_bytes = omega (arith, length_after (deck_text es) was h) in
     record {
       live = all;
       short = h;
-      sound = text-sound es w;
-      noGaps = no_gaps es w.some;
-      holds = text-back es w;
-      room-long = length-after (deckText es) was h;
-      room-zero = λ i l. zero-behind (deckText es) (drop (length (deckText es)) was) i l;
-      room-sound = gap-sound es rest w k;
-      room-holds = gap_back es rest w k;
-      again = tidy-live (deckText es) es (text-back es w) all w.some;
-      room-again = tidy-live (deckText es ++ rest) es (gap_back es rest w k) all w.some;
-      room-same = after-after (deckText es) was;
+      sound = text_sound es w;
+      no_gaps = no_gaps es w.some;
+      holds = text_back es w;
+      room_long = length_after (deck_text es) was h;
+      room_zero = λ i l. zero_behind (deck_text es) (drop (length (deck_text es)) was) i l;
+      room_sound = gap_sound es rest w k;
+      room_holds = gap_back es rest w k;
+      again = tidy_live (deck_text es) es (text_back es w) all w.some;
+      room_again = tidy_live (deck_text es ++ rest) es (gap_back es rest w k) all w.some;
+      room_same = after_after (deck_text es) was;
     }
 
 module _ (deck : List ℕ) (b : Bytes deck) where
   module _ (t : Tidiable deck) where
-    live-writable : Writable (liveCards deck)
-    live-writable = kept-writable isLiveEntry (heldBy deck) (held-writable deck t.sound b) t.some
+    live_writable : Writable (live_cards deck)
+    live_writable = kept_writable is_live_entry (held_by deck) (held_writable deck t.sound b) t.some
 
-    tidy-short : length (tidyText deck) ≤ length deck
-    tidy-short = le_trans (kept-no-longer isLiveEntry (heldBy deck)) (tidy-no-longer deck t.sound)
+    tidy_short : length (tidy_text deck) ≤ length deck
+    tidy_short = le_trans (kept_no_longer is_live_entry (held_by deck)) (tidy_no_longer deck t.sound)
 
-    tidied-new : NewDeck deck (tidyText deck) (liveCards deck)
-    tidied-new = new-deck deck (liveCards deck) live-writable (kept-pass isLiveEntry (heldBy deck)) tidy-short t.sound.head.short
+    tidied_new : NewDeck deck (tidy_text deck) (live_cards deck)
+    tidied_new = new_deck deck (live_cards deck) live_writable (kept_pass is_live_entry (held_by deck)) tidy_short t.sound.head.short
 
-    pub tidied-deck : TidiedDeck deck
-    tidied-deck = record {
-      new = tidied-new;
+    pub tidied_deck : TidiedDeck deck
+    tidied_deck = record {
+      new = tidied_new;
       finds = λ number.
-          ap (λ (x : Said (List Entry)). x >>= live_in number) tidied-new.room-holds
-          ∙ found-live number (heldBy deck)
-          ∙ sym (ap (λ (x : Said (List Entry)). x >>= live_in number) (held-said deck t.sound));
+          ap (λ (x : Said (List Entry)). x >>= live_in number) tidied_new.room_holds
+          ∙ found_live number (held_by deck)
+          ∙ sym (ap (λ (x : Said (List Entry)). x >>= live_in number) (held_said deck t.sound));
     }
 
   -- a deck that is tidy already
-  pub tidy-same : Tidy deck → tidySaid deck ≡ says deck
-  tidy-same t =
-      let some = (held-writable deck t.sound b).some in
-      tidy-live deck (heldBy deck) (held-said deck t.sound) t.live some ∙ ap says (text_same deck t.sound t.noGaps b)
+  pub tidy_same : Tidy deck → tidy_said deck ≡ says deck
+  tidy_same t =
+      let some = (held_writable deck t.sound b).some in
+      tidy_live deck (held_by deck) (held_said deck t.sound) t.live some ∙ ap says (text_same deck t.sound t.no_gaps b)
 
-  module _ (number : ℕ) (card : List ℕ) (n : number < wordNumbers) (a : Addable deck number card) where
+  module _ (number : ℕ) (card : List ℕ) (n : number < word_numbers) (a : Addable deck number card) where
     abbrev entries : List Entry
-    entries = withCard (liveCard number card) (liveCards deck)
+    entries = with_card (live_card number card) (live_cards deck)
 
-    added-writable : Writable entries
-    added-writable =
-        let w = live-writable a.placeable.tidiable in
-        let k = with-count (liveCard number card) (liveCards deck) in
+    added_writable : Writable entries
+    added_writable =
+        let w = live_writable a.placeable.tidiable in
+        let k = with_count (live_card number card) (live_cards deck) in
         record {
           some = omega (arith, k);
           few = omega (arith, k, a.placeable.few);
-          rising = with-rising (liveCard number card) 0 (liveCards deck) (omega arith) n (live-others number deck a.placeable.free) w.rising;
-          short = omega (arith, length-text entries, a.room, a.placeable.tidiable.sound.head.short);
+          rising = with_rising (live_card number card) 0 (live_cards deck) (omega arith) n (live_others number deck a.placeable.free) w.rising;
+          short = omega (arith, length_text entries, a.room, a.placeable.tidiable.sound.head.short);
         }
 
-    added_new : NewDeck deck (textWith deck number card) entries
+    added_new : NewDeck deck (text_with deck number card) entries
     added_new =
-        new-deck deck entries added-writable (with-every (liveCard number card) (λ (e : Entry). e.live ≡ true) (liveCards deck) refl (kept-pass isLiveEntry (heldBy deck))) a.room
+        new_deck deck entries added_writable (with_every (live_card number card) (λ (e : Entry). e.live ≡ true) (live_cards deck) refl (kept_pass is_live_entry (held_by deck))) a.room
         a.placeable.tidiable.sound.head.short
 
-    pub added-deck : AddedDeck deck number card
-    added-deck = record {
+    pub added_deck : AddedDeck deck number card
+    added_deck = record {
       new = added_new;
-      placed = at_its_place (liveCard number card) 0 (liveCards deck) (live-others number deck a.placeable.free) (live-writable a.placeable.tidiable).rising;
-      finds = ap (λ (x : Said (List Entry)). x >>= live_in number) added_new.room-holds ∙ finds-new (liveCard number card) refl (liveCards deck);
+      placed = at_its_place (live_card number card) 0 (live_cards deck) (live_others number deck a.placeable.free) (live_writable a.placeable.tidiable).rising;
+      finds = ap (λ (x : Said (List Entry)). x >>= live_in number) added_new.room_holds ∙ finds_new (live_card number card) refl (live_cards deck);
       others = λ other h.
-          ap (λ (x : Said (List Entry)). x >>= live_in other) added_new.room-holds
-          ∙ finds-others (liveCard number card) other h (liveCards deck)
-          ∙ found-live other (heldBy deck)
-          ∙ sym (ap (λ (x : Said (List Entry)). x >>= live_in other) (held-said deck a.placeable.tidiable.sound));
+          ap (λ (x : Said (List Entry)). x >>= live_in other) added_new.room_holds
+          ∙ finds_others (live_card number card) other h (live_cards deck)
+          ∙ found_live other (held_by deck)
+          ∙ sym (ap (λ (x : Said (List Entry)). x >>= live_in other) (held_said deck a.placeable.tidiable.sound));
     }
 
 -- an entry and the card more than the tidied deck
-pub length-with : (deck : List ℕ) (number : ℕ) (card : List ℕ) → length (textWith deck number card) ≡ length (tidyText deck) + 8 + length card
-length-with deck number card =
-    let new = liveCard number card in
-    let es = liveCards deck in
-    omega (arith, length-text es, length-text (withCard new es), with-count new es, with-bodies new es)
+pub length_with : (deck : List ℕ) (number : ℕ) (card : List ℕ) → length (text_with deck number card) ≡ length (tidy_text deck) + 8 + length card
+length_with deck number card =
+    let new = live_card number card in
+    let es = live_cards deck in
+    omega (arith, length_text es, length_text (with_card new es), with_count new es, with_bodies new es)

@@ -5,72 +5,72 @@ use mathlib.Core.List.{List, [], ◌∷◌, ◌++◌}
 use native.Mathlib.Omega.{arith}
 use lib.ListN.{length, drop, length-drop}
 use lib.Dec.{leb, ltb}
-use Rattle.card.specs.Limits.{mostCards}
-use Rattle.card.specs.Refusals.{roomTooSmall, notAdded}
+use Rattle.card.specs.Limits.{most_cards}
+use Rattle.card.specs.Refusals.{room_too_small, not_added}
 use Rattle.card.specs.Card.{Card}
 use Rattle.entry.specs.Said.{Said, says, ◌>>=◌, ◌>>◌, unless}
-use Rattle.rows.specs.Said.{cardSaid}
-use Rattle.deck.specs.Deck.{Entry, heldBy, Bytes}
+use Rattle.rows.specs.Said.{card_said}
+use Rattle.deck.specs.Deck.{Entry, held_by, Bytes}
 use Rattle.deck.specs.Given.{NoLive}
 use Rattle.deck.proofs.Lookups.{find_none}
-use Rattle.tidying.specs.Tidying.{isLiveEntry, liveEntries, addedText, placeSaid, addSaid}
-use Rattle.tidying.specs.Tidied.{liveCards, tidyText, zeroed, lentAfter, Tidiable, TidiedDeck}
-use Rattle.tidying.proofs.Gap.{gap-held}
-use Rattle.tidying.proofs.Live.{kept-pass, kept-all}
-use Rattle.tidying.proofs.NewDecks.{tidied-deck}
-use Rattle.tidying.proofs.Free.{number-free}
-use Rattle.tidying.proofs.Refusals.{live-stage}
+use Rattle.tidying.specs.Tidying.{is_live_entry, live_entries, added_text, place_said, add_said}
+use Rattle.tidying.specs.Tidied.{live_cards, tidy_text, zeroed, lent_after, Tidiable, TidiedDeck}
+use Rattle.tidying.proofs.Gap.{gap_held}
+use Rattle.tidying.proofs.Live.{kept_pass, kept_all}
+use Rattle.tidying.proofs.NewDecks.{tidied_deck}
+use Rattle.tidying.proofs.Free.{number_free_law}
+use Rattle.tidying.proofs.Refusals.{live_stage}
 
-zeroed-alike : (s t : List ℕ) → length s ≡ length t → zeroed s ≡ zeroed t
-zeroed-alike [] [] h = refl
-zeroed-alike [] (b ∷ t) h = absurd (omega (arith, h))
-zeroed-alike (a ∷ s) [] h = absurd (omega (arith, h))
-zeroed-alike (a ∷ s) (b ∷ t) h = ap (λ (l : List ℕ). 0 ∷ l) (zeroed-alike s t (omega (arith, h)))
+zeroed_alike : (s t : List ℕ) → length s ≡ length t → zeroed s ≡ zeroed t
+zeroed_alike [] [] h = refl
+zeroed_alike [] (b ∷ t) h = absurd (omega (arith, h))
+zeroed_alike (a ∷ s) [] h = absurd (omega (arith, h))
+zeroed_alike (a ∷ s) (b ∷ t) h = ap (λ (l : List ℕ). 0 ∷ l) (zeroed_alike s t (omega (arith, h)))
 
 module _ (deck : List ℕ) (b : Bytes deck) (t : Tidiable deck) where
   abbrev room : List ℕ
-  room = lentAfter (tidyText deck) deck
+  room = lent_after (tidy_text deck) deck
 
   after : TidiedDeck deck
-  after = tidied-deck deck b t
+  after = tidied_deck deck b t
 
-  same_live : liveCards room ≡ liveCards deck
-  same_live = ap liveEntries (gap-held (liveCards deck) (zeroed (drop (length (tidyText deck)) deck))) ∙ kept-all isLiveEntry (liveCards deck) (kept-pass isLiveEntry (heldBy deck))
+  same_live : live_cards room ≡ live_cards deck
+  same_live = ap live_entries (gap_held (live_cards deck) (zeroed (drop (length (tidy_text deck)) deck))) ∙ kept_all is_live_entry (live_cards deck) (kept_pass is_live_entry (held_by deck))
 
-  still-free : (number : ℕ) → NoLive deck number → NoLive room number
-  still-free number h = ((find_none room number 0).0 (after.finds number ∙ (find_none deck number 0).1 (t.sound, h, refl))).1
+  still_free : (number : ℕ) → NoLive deck number → NoLive room number
+  still_free number h = ((find_none room number 0).0 (after.finds number ∙ (find_none deck number 0).1 (t.sound, h, refl))).1
 
-  pub same-room : (new : List ℕ) → lentAfter new room ≡ lentAfter new deck
-  same-room new =
-      let long = after.new.room-long in
+  pub same_room : (new : List ℕ) → lent_after new room ≡ lent_after new deck
+  same_room new =
+      let long = after.new.room_long in
       let alike : length (drop (length new) room) ≡ length (drop (length new) deck) = omega (arith, long, length-drop (length new) room, length-drop (length new) deck) in
-      ap (λ (l : List ℕ). new ++ l) (zeroed-alike (drop (length new) room) (drop (length new) deck) alike)
+      ap (λ (l : List ℕ). new ++ l) (zeroed_alike (drop (length new) room) (drop (length new) deck) alike)
 
 -- what is said behind the number, which is free: by the live cards and the lent length alone
 module _ (number : ℕ) (card : List ℕ) where
-  abbrev byLength : ℕ → List Entry → Said (List ℕ)
-  byLength long es =
-      unless (ltb (length es) mostCards) notAdded 0
-      >> (unless (leb (length (addedText number card es)) long) roomTooSmall (length (addedText number card es)) >> says (addedText number card es))
+  abbrev by_length : ℕ → List Entry → Said (List ℕ)
+  by_length long es =
+      unless (ltb (length es) most_cards) not_added 0
+      >> (unless (leb (length (added_text number card es)) long) room_too_small (length (added_text number card es)) >> says (added_text number card es))
 
-  placed : (deck : List ℕ) (es : List Entry) → NoLive deck number → placeSaid deck number card es ≡ byLength (length deck) es
-  placed deck es h = ap (λ (x : Said (Unit {0})). x >> byLength (length deck) es) (number-free number deck h)
+  placed : (deck : List ℕ) (es : List Entry) → NoLive deck number → place_said deck number card es ≡ by_length (length deck) es
+  placed deck es h = ap (λ (x : Said (Unit {0})). x >> by_length (length deck) es) (number_free_law number deck h)
 
-  said-by : (deck : List ℕ) → Tidiable deck → NoLive deck number → addSaid deck number card ≡ cardSaid card >>= (λ (c : Card). byLength (length deck) (liveCards deck))
-  unfolding addSaid
-  said-by deck t h =
-      ap (λ (x : Said (List Entry)). x >>= (λ (es : List Entry). cardSaid card >>= (λ (c : Card). placeSaid deck number card es))) ((live-stage deck).found.each t)
-      ∙ ap (λ (x : Said (List ℕ)). cardSaid card >>= (λ (c : Card). x)) (placed deck (liveCards deck) h)
+  said_by : (deck : List ℕ) → Tidiable deck → NoLive deck number → add_said deck number card ≡ card_said card >>= (λ (c : Card). by_length (length deck) (live_cards deck))
+  unfolding add_said
+  said_by deck t h =
+      ap (λ (x : Said (List Entry)). x >>= (λ (es : List Entry). card_said card >>= (λ (c : Card). place_said deck number card es))) ((live_stage deck).found.each t)
+      ∙ ap (λ (x : Said (List ℕ)). card_said card >>= (λ (c : Card). x)) (placed deck (live_cards deck) h)
 
 module _ (deck : List ℕ) (b : Bytes deck) (t : Tidiable deck) (number : ℕ) (free : NoLive deck number) (card : List ℕ) where
   abbrev tidied : List ℕ
-  tidied = lentAfter (tidyText deck) deck
+  tidied = lent_after (tidy_text deck) deck
 
-  pub same-said : addSaid tidied number card ≡ addSaid deck number card
-  same-said =
-      let new = (tidied-deck deck b t).new in
+  pub same_said : add_said tidied number card ≡ add_said deck number card
+  same_said =
+      let new = (tidied_deck deck b t).new in
       let count = ap length (same_live deck b t) in
-      said-by number card tidied (record { sound = new.room-sound; some = omega (arith, count, t.some) }) (still-free deck b t number free)
-      ∙ ap (λ (es : List Entry). cardSaid card >>= (λ (c : Card). byLength number card (length tidied) es)) (same_live deck b t)
-      ∙ ap (λ (long : ℕ). cardSaid card >>= (λ (c : Card). byLength number card long (liveCards deck))) new.room-long
-      ∙ sym (said-by number card deck t free)
+      said_by number card tidied (record { sound = new.room_sound; some = omega (arith, count, t.some) }) (still_free deck b t number free)
+      ∙ ap (λ (es : List Entry). card_said card >>= (λ (c : Card). by_length number card (length tidied) es)) (same_live deck b t)
+      ∙ ap (λ (long : ℕ). card_said card >>= (λ (c : Card). by_length number card long (live_cards deck))) new.room_long
+      ∙ sym (said_by number card deck t free)

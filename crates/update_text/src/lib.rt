@@ -1,9 +1,9 @@
 // What a branch does to the counters and to the shared number, put as text: the part of a reduced statement behind its weight.
 ghost use Rattle.std.proofs.Math.Option.{none};
-ghost use Rattle.card.specs.Laid.{setOf};
-ghost use Rattle.meaning.specs.Reduced.{shift, updateOf};
+ghost use Rattle.card.specs.Laid.{set_of};
+ghost use Rattle.meaning.specs.Reduced.{shift, update_of};
 ghost use Rattle.phrases.specs.Puts.{Puts};
-ghost use Rattle.texts.specs.ReducedText.{updateText};
+ghost use Rattle.texts.specs.ReducedText.{update_text};
 
 use phrases::put_numbered;
 use pieces::put_seven;
@@ -13,7 +13,7 @@ use shared_text::{put_set, put_set_last};
 
 // A seat's way from `own` to `end`, as counters lowered and raised: in pieces, where both states have one digit.
 fn put_shift(room: &mut [u8], at: usize, own: usize, end: usize, seats: usize) -> usize
-    ensures { Puts room.old room.new at (updateText (shift own end seats) none) result }
+    ensures { Puts room.old room.new at (update_text (shift own end seats) none) result }
 {
     if own < 10 {
         if end < 10 {
@@ -46,7 +46,7 @@ pub fn put_update(
     seats: usize,
     sets: usize,
 ) -> usize
-    ensures { Puts room.old room.new at (updateText (updateOf seats own end) (setOf sets)) result }
+    ensures { Puts room.old room.new at (update_text (update_of seats own end) (set_of sets)) result }
 {
     if own == end {
         if sets == 0 {

@@ -4,25 +4,25 @@ use Rattle.std.specs.Prelude.{ℕ, List}
 use Rattle.card.specs.Card.{Card}
 use Rattle.entry.specs.Said.{◌>>=◌, ◌>>◌, return}
 use Rattle.room.specs.Answer.{Text}
-use Rattle.seating.specs.Judged.{seatingOf}
-use Rattle.seating.specs.SeatsSaid.{seatsSaid}
-use Rattle.rows.specs.Said.{cardSaid}
-use Rattle.classes.specs.Classes.{watchOf}
-use Rattle.classes.specs.ClassesSaid.{classesSaid}
+use Rattle.seating.specs.Judged.{seating_of}
+use Rattle.seating.specs.SeatsSaid.{seats_said}
+use Rattle.rows.specs.Said.{card_said}
+use Rattle.classes.specs.Classes.{watch_of}
+use Rattle.classes.specs.ClassesSaid.{classes_said}
 
 -- of seats that are a seating
-abbrev pub watchSeated : List ℕ → List ℕ → Card → Text
-watchSeated seats list c = do
-  classesSaid list c
-  return (watchOf list (seatingOf c seats))
+abbrev pub watch_seated : List ℕ → List ℕ → Card → Text
+watch_seated seats list c = do
+  classes_said list c
+  return (watch_of list (seating_of c seats))
 
 -- of a card that is taken
-abbrev pub watchCard : List ℕ → List ℕ → Card → Text
-watchCard seats list c = do
-  seatsSaid seats c
-  watchSeated seats list c
+abbrev pub watch_card : List ℕ → List ℕ → Card → Text
+watch_card seats list c = do
+  seats_said seats c
+  watch_seated seats list c
 
-unfoldable pub watchSaid : (card seats list : List ℕ) → Text
-watchSaid card seats list = do
-  c ← cardSaid card
-  watchCard seats list c
+unfoldable pub watch_said : (card seats list : List ℕ) → Text
+watch_said card seats list = do
+  c ← card_said card
+  watch_card seats list c

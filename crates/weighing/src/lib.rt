@@ -1,11 +1,11 @@
 // The numbers of a panel, from the counts alone, part by part into one table that is lent ("Texts, byte for byte"): each statement's guard
 // is worked out once.
 ghost use Rattle.std.specs.Prelude.{◌≡◌, ◌+◌, ◌≤◌, length, get_or};
-ghost use Rattle.card.specs.Limits.{mostStatements};
+ghost use Rattle.card.specs.Limits.{most_statements};
 ghost use Rattle.card.specs.Card.{nondeterministic, probabilistic};
 ghost use Rattle.card.specs.Laid.{either};
 ghost use Rattle.meaning.specs.Position.{position};
-ghost use Rattle.panel_numbers.specs.Table.{tablePlaces, over, ablesFrom, ableAt, countsAs, takenIn};
+ghost use Rattle.panel_numbers.specs.Table.{table_places, over, ables_from, able_at, counts_as as counts_as_said, taken_in};
 ghost use Rattle.panel_numbers.specs.Fitting.{FewAble};
 
 use able_seats::able;
@@ -28,7 +28,7 @@ pub const TABLE_PLACES: usize = ABLES + MOST_STATEMENTS;
 
 // Numbers one after the other, from a place on.
 pub fn store(table: &mut [usize; TABLE_PLACES], from: usize, numbers: &[usize])
-    requires { from + length numbers.now ≤ tablePlaces }
+    requires { from + length numbers.now ≤ table_places }
     ensures { table.new ≡ over from (length numbers.now) (λ d. get_or numbers.now d 0) table.old }
 {
     let mut d = 0;
@@ -48,8 +48,8 @@ pub fn store_ables<'a>(
     counts: &'a [usize],
     shared: usize,
 )
-    requires { head.count ≤ mostStatements }
-    ensures { table.new ≡ over ablesFrom head.count (ableAt head.seats (position counts.now shared) nodes.now rows.now) table.old }
+    requires { head.count ≤ most_statements }
+    ensures { table.new ≡ over ables_from head.count (able_at head.seats (position counts.now shared) nodes.now rows.now) table.old }
 {
     let n = head.seats;
     let count = head.count;
@@ -73,7 +73,7 @@ pub fn store_ables<'a>(
 
 // What a statement adds to how many can be taken.
 fn counts_as(mode: usize, able: usize) -> usize
-    ensures { result ≡ countsAs (either nondeterministic probabilistic mode) able }
+    ensures { result ≡ counts_as_said (either nondeterministic probabilistic mode) able }
 {
     if mode != NONDETERMINISTIC {
         return able;
@@ -87,7 +87,7 @@ fn counts_as(mode: usize, able: usize) -> usize
 // How many can be taken: pairs of a seat and a statement, or statements.
 pub fn taken_of(mode: usize, table: &[usize; TABLE_PLACES], count: usize) -> usize
     requires { FewAble table.now count }
-    ensures { result ≡ takenIn (either nondeterministic probabilistic mode) table.now count }
+    ensures { result ≡ taken_in (either nondeterministic probabilistic mode) table.now count }
 {
     let mut taken = 0;
     let mut i = 0;

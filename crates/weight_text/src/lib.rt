@@ -1,5 +1,5 @@
 // A weight put as text, in lowest terms ("Texts, byte for byte").
-ghost use Rattle.phrases.specs.Phrases.{weightText};
+ghost use Rattle.phrases.specs.Phrases.{weight_text};
 ghost use Rattle.phrases.specs.Puts.{Puts};
 
 use phrases::divisor;
@@ -9,7 +9,7 @@ use weights::Weight;
 
 // A weight in lowest terms; units beyond the unit are not a weight, and are put as the unit.
 pub fn put_weight(room: &mut [u8], at: usize, units: u32) -> usize
-    ensures { Puts room.old room.new at (weightText units) result }
+    ensures { Puts room.old room.new at (weight_text units) result }
 {
     if units == 0 {
         return put_byte(room, at, b'0');

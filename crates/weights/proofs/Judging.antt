@@ -5,64 +5,64 @@ use mathlib.Core.Option.{none, some}
 use native.Mathlib.Nat.{mul-le-mul_right}
 use native.Mathlib.Omega.{arith}
 use borrow.Author.Tests.{le-leb, lt-leb, eq-eqb, ne_eqb}
-use Rattle.card.specs.Limits.{unit, weightDigits}
-use Rattle.card.specs.Weight.{decimal, ratio, unitsOf}
-use Rattle.card.proofs.Weights.{tens-least, tens-most}
+use Rattle.card.specs.Limits.{unit, weight_digits}
+use Rattle.card.specs.Weight.{decimal, ratio, units_of}
+use Rattle.card.proofs.Weights.{tens_least, tens_most}
 
 -- ---- a decimal; one is what its digits count in
 
-module _ (n : ℕ) {one : ℕ} (is : one ≡ 10 ^ min n weightDigits) where
-  pub one-least : 1 ≤ one
-  one-least = rw is (tens-least (min n weightDigits))
+module _ (n : ℕ) {one : ℕ} (is : one ≡ 10 ^ min n weight_digits) where
+  pub one_least : 1 ≤ one
+  one_least = rw is (tens_least (min n weight_digits))
 
-  pub one-most : one ≤ 10 ^ weightDigits
-  one-most = rw is (tens-most (min n weightDigits) (omega arith))
+  pub one_most : one ≤ 10 ^ weight_digits
+  one_most = rw is (tens_most (min n weight_digits) (omega arith))
 
-  exact : n ≤ weightDigits → 10 ^ n ≡ one
-  exact h = let e : n ≡ min n weightDigits = omega arith in ap (λ (x : ℕ). 10 ^ x) e ∙ sym is
+  exact : n ≤ weight_digits → 10 ^ n ≡ one
+  exact h = let e : n ≡ min n weight_digits = omega arith in ap (λ (x : ℕ). 10 ^ x) e ∙ sym is
 
 module _ (v n f : ℕ) where
-  pub decimal-short : n < 1 → unitsOf (decimal v n f) ≡ none
-  unfolding unitsOf
-  decimal-short h = rw (lt-leb 1 n h)
+  pub decimal_short : n < 1 → units_of (decimal v n f) ≡ none
+  unfolding units_of
+  decimal_short h = rw (lt-leb 1 n h)
 
-  pub decimal-long : 1 ≤ n → weightDigits < n → unitsOf (decimal v n f) ≡ none
-  unfolding unitsOf
-  decimal-long g h = rw (le-leb 1 n g, lt-leb n weightDigits h)
+  pub decimal_long : 1 ≤ n → weight_digits < n → units_of (decimal v n f) ≡ none
+  unfolding units_of
+  decimal_long g h = rw (le-leb 1 n g, lt-leb n weight_digits h)
 
-  module _ (one : ℕ) (is : one ≡ 10 ^ min n weightDigits) (g : 1 ≤ n) (h : n ≤ weightDigits) where
-    pub decimal-over : one < v * one + f → unitsOf (decimal v n f) ≡ none
-    unfolding unitsOf
-    decimal-over k = rw (le-leb 1 n g, le-leb n weightDigits h, exact n is h, lt-leb (v * one + f) one k)
+  module _ (one : ℕ) (is : one ≡ 10 ^ min n weight_digits) (g : 1 ≤ n) (h : n ≤ weight_digits) where
+    pub decimal_over : one < v * one + f → units_of (decimal v n f) ≡ none
+    unfolding units_of
+    decimal_over k = rw (le-leb 1 n g, le-leb n weight_digits h, exact n is h, lt-leb (v * one + f) one k)
 
     -- by what stands before the point, and by what stands behind it
-    pub decimal-over-whole : 1 < v → unitsOf (decimal v n f) ≡ none
-    decimal-over-whole k = decimal-over (omega (arith, one-least n is, mul-le-mul_right one k))
+    pub decimal_over_whole : 1 < v → units_of (decimal v n f) ≡ none
+    decimal_over_whole k = decimal_over (omega (arith, one_least n is, mul-le-mul_right one k))
 
-    pub decimal-over-part : one < f → unitsOf (decimal v n f) ≡ none
-    decimal-over-part k = decimal-over (omega arith)
+    pub decimal_over_part : one < f → units_of (decimal v n f) ≡ none
+    decimal_over_part k = decimal_over (omega arith)
 
-    pub decimal-kept : v * one + f ≤ one → unitsOf (decimal v n f) ≡ some ((v * one + f) * (unit / one))
-    unfolding unitsOf
-    decimal-kept k = rw (le-leb 1 n g, le-leb n weightDigits h, exact n is h, le-leb (v * one + f) one k)
+    pub decimal_kept : v * one + f ≤ one → units_of (decimal v n f) ≡ some ((v * one + f) * (unit / one))
+    unfolding units_of
+    decimal_kept k = rw (le-leb 1 n g, le-leb n weight_digits h, exact n is h, le-leb (v * one + f) one k)
 
 -- ---- a fraction
 
 module _ (a b : ℕ) where
-  pub ratio-zero : b ≡ 0 → unitsOf (ratio a b) ≡ none
-  unfolding unitsOf
-  ratio-zero h = rw (lt-leb 1 b (omega arith))
+  pub ratio_zero : b ≡ 0 → units_of (ratio a b) ≡ none
+  unfolding units_of
+  ratio_zero h = rw (lt-leb 1 b (omega arith))
 
   module _ (g : b ≡ 0 → ⊥) where
-    pub ratio-rest : (unit % b ≡ 0 → ⊥) → unitsOf (ratio a b) ≡ none
-    unfolding unitsOf
-    ratio-rest h = rw (le-leb 1 b (omega arith), ne_eqb (unit % b) 0 h)
+    pub ratio_rest : (unit % b ≡ 0 → ⊥) → units_of (ratio a b) ≡ none
+    unfolding units_of
+    ratio_rest h = rw (le-leb 1 b (omega arith), ne_eqb (unit % b) 0 h)
 
     module _ (h : unit % b ≡ 0) where
-      pub ratio-over : b < a → unitsOf (ratio a b) ≡ none
-      unfolding unitsOf
-      ratio-over k = rw (le-leb 1 b (omega arith), eq-eqb (unit % b) 0 h, lt-leb a b k)
+      pub ratio_over : b < a → units_of (ratio a b) ≡ none
+      unfolding units_of
+      ratio_over k = rw (le-leb 1 b (omega arith), eq-eqb (unit % b) 0 h, lt-leb a b k)
 
-      pub ratio-kept : a ≤ b → unitsOf (ratio a b) ≡ some (a * (unit / b))
-      unfolding unitsOf
-      ratio-kept k = rw (le-leb 1 b (omega arith), eq-eqb (unit % b) 0 h, le-leb a b k)
+      pub ratio_kept : a ≤ b → units_of (ratio a b) ≡ some (a * (unit / b))
+      unfolding units_of
+      ratio_kept k = rw (le-leb 1 b (omega arith), eq-eqb (unit % b) 0 h, le-leb a b k)

@@ -1,9 +1,9 @@
 // A branch's weight in units ("Shape of a card"): the unit is a constant of the type, and a weight is made from what stands on a card,
 // or breaks the rule.
 ghost use Rattle.std.specs.Prelude.{◌≡◌, ◌^◌, min};
-ghost use Rattle.card.specs.Limits.{weightDigits};
-ghost use Rattle.card.specs.Weight.{unitsOf, whole as wholeWeight, decimal as decimalWeight, ratio as ratioWeight};
-ghost use Rattle.weights.specs.Judged.{judgedOf};
+ghost use Rattle.card.specs.Limits.{weight_digits};
+ghost use Rattle.card.specs.Weight.{units_of, whole as whole_weight, decimal as decimal_weight, ratio as ratio_weight};
+ghost use Rattle.weights.specs.Judged.{judged_of};
 
 use card::limits::WEIGHT_DIGITS;
 
@@ -20,7 +20,7 @@ pub enum Judged {
 
 // a decimal's parts of 1, for the digits that a weight may have
 fn parts(n: usize) -> usize
-    ensures { result ≡ 10 ^ min n weightDigits }
+    ensures { result ≡ 10 ^ min n weight_digits }
 {
     let mut p = 1;
     let mut i = 0;
@@ -42,7 +42,7 @@ impl Weight {
 
     // a number alone
     pub fn whole(v: usize) -> Judged
-        ensures { result ≡ judgedOf (unitsOf (wholeWeight v)) }
+        ensures { result ≡ judged_of (units_of (whole_weight v)) }
     {
         if v > 1 {
             return Judged::Broken;
@@ -55,7 +55,7 @@ impl Weight {
 
     // v before the point and n digits behind it, which spell f
     pub fn decimal(v: usize, n: usize, f: usize) -> Judged
-        ensures { result ≡ judgedOf (unitsOf (decimalWeight v n f)) }
+        ensures { result ≡ judged_of (units_of (decimal_weight v n f)) }
     {
         if n < 1 {
             return Judged::Broken;
@@ -82,7 +82,7 @@ impl Weight {
 
     // a/b
     pub fn ratio(a: usize, b: usize) -> Judged
-        ensures { result ≡ judgedOf (unitsOf (ratioWeight a b)) }
+        ensures { result ≡ judged_of (units_of (ratio_weight a b)) }
     {
         let unit = Weight::UNIT as usize;
         if b == 0 {

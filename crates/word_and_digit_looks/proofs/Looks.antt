@@ -10,50 +10,50 @@ use lib.Dec.{leb}
 use lib.ListN.{length, get_or, drop}
 use lib.Seq.{drop-drop, get_or-drop}
 use Rattle.card.specs.Text.{if◌then◌else◌}
-use Rattle.marks_on_a_card.specs.Bytes.{isDigit, begins, begun}
-use Rattle.marks_on_a_card.specs.Quick.{noDigit, oneDigit, bytesAhead}
+use Rattle.marks_on_a_card.specs.Bytes.{is_digit, begins, begun}
+use Rattle.marks_on_a_card.specs.Quick.{no_digit, one_digit, bytes_ahead}
 use Rattle.marks_on_a_card.proofs.Lists.{cases, and_left, and_right}
-use Rattle.marks_on_a_card.proofs.Runs.{begins-at, begins-place, begun-fits}
+use Rattle.marks_on_a_card.proofs.Runs.{begins_at, begins_place, begun_fits}
 
-module _ (t s : List ℕ) (i : ℕ) (e : bytesAhead t s i ≡ true) where
-  pub bytes-stand : begun t (drop i s) ≡ true
-  bytes-stand = and_right (leb i (length s)) (begun t (drop i s)) e
+module _ (t s : List ℕ) (i : ℕ) (e : bytes_ahead t s i ≡ true) where
+  pub bytes_stand : begun t (drop i s) ≡ true
+  bytes_stand = and_right (leb i (length s)) (begun t (drop i s)) e
 
   pub bytes_fit : i + length t ≤ length s
-  bytes_fit = begun-fits t s i (leb-true i (length s) (and_left (leb i (length s)) (begun t (drop i s)) e)) bytes-stand
+  bytes_fit = begun_fits t s i (leb-true i (length s) (and_left (leb i (length s)) (begun t (drop i s)) e)) bytes_stand
 
 module _ (more : ℕ → Bool) (s : List ℕ) (i : ℕ) where
-  pub one-digit-at : oneDigit more (drop i s) ≡ (if begins isDigit (drop i s) && not (begins more (drop (i + 1) s)) then get_or s i 0 - 48 else noDigit)
-  one-digit-at = tests (drop i s) ∙ rw (drop-drop 1 i s, get_or-drop i s 0 0, add-zero i)
+  pub one_digit_at : one_digit more (drop i s) ≡ (if begins is_digit (drop i s) && not (begins more (drop (i + 1) s)) then get_or s i 0 - 48 else no_digit)
+  one_digit_at = tests (drop i s) ∙ rw (drop-drop 1 i s, get_or-drop i s 0 0, add-zero i)
     where
-      tests : (u : List ℕ) → oneDigit more u ≡ (if begins isDigit u && not (begins more (drop 1 u)) then get_or u 0 0 - 48 else noDigit)
+      tests : (u : List ℕ) → one_digit more u ≡ (if begins is_digit u && not (begins more (drop 1 u)) then get_or u 0 0 - 48 else no_digit)
       tests [] = refl
       tests (b ∷ t) = refl
 
-  pub digit-none : begins isDigit (drop i s) ≡ false → oneDigit more (drop i s) ≡ noDigit
-  digit-none e = one-digit-at ∙ rw e
+  pub digit_none : begins is_digit (drop i s) ≡ false → one_digit more (drop i s) ≡ no_digit
+  digit_none e = one_digit_at ∙ rw e
 
-  pub digit-more : begins more (drop (i + 1) s) ≡ true → oneDigit more (drop i s) ≡ noDigit
-  digit-more e = one-digit-at ∙ rw (e, and-false (begins isDigit (drop i s)))
+  pub digit_more : begins more (drop (i + 1) s) ≡ true → one_digit more (drop i s) ≡ no_digit
+  digit_more e = one_digit_at ∙ rw (e, and-false (begins is_digit (drop i s)))
 
-  pub digit-over : begins isDigit (drop i s) ≡ true → begins more (drop (i + 1) s) ≡ false → oneDigit more (drop i s) ≡ get_or s i 0 - 48
-  digit-over d e = one-digit-at ∙ rw (d, e)
+  pub digit_over : begins is_digit (drop i s) ≡ true → begins more (drop (i + 1) s) ≡ false → one_digit more (drop i s) ≡ get_or s i 0 - 48
+  digit_over d e = one_digit_at ∙ rw (d, e)
 
   -- the other way round: what stands there if the look found a digit
-  module _ (v : ℕ) (is : v ≡ oneDigit more (drop i s)) (small : v < noDigit) where
-    both : (begins isDigit (drop i s) && not (begins more (drop (i + 1) s))) ≡ true
-    both = cases (begins isDigit (drop i s) && not (begins more (drop (i + 1) s))) (λ y. y) (λ n. let none : v ≡ noDigit = is ∙ one-digit-at ∙ rw n in absurd (omega arith))
+  module _ (v : ℕ) (is : v ≡ one_digit more (drop i s)) (small : v < no_digit) where
+    both : (begins is_digit (drop i s) && not (begins more (drop (i + 1) s))) ≡ true
+    both = cases (begins is_digit (drop i s) && not (begins more (drop (i + 1) s))) (λ y. y) (λ n. let none : v ≡ no_digit = is ∙ one_digit_at ∙ rw n in absurd (omega arith))
 
-    pub digit-there : begins isDigit (drop i s) ≡ true
-    digit-there = and_left (begins isDigit (drop i s)) (not (begins more (drop (i + 1) s))) both
+    pub digit_there : begins is_digit (drop i s) ≡ true
+    digit_there = and_left (begins is_digit (drop i s)) (not (begins more (drop (i + 1) s))) both
 
-    pub digit-ends : begins more (drop (i + 1) s) ≡ false
-    digit-ends = not-true (begins more (drop (i + 1) s)) (and_right (begins isDigit (drop i s)) (not (begins more (drop (i + 1) s))) both)
+    pub digit_ends : begins more (drop (i + 1) s) ≡ false
+    digit_ends = not-true (begins more (drop (i + 1) s)) (and_right (begins is_digit (drop i s)) (not (begins more (drop (i + 1) s))) both)
 
-    pub digit-is : v ≡ get_or s i 0 - 48
-    digit-is = is ∙ digit-over digit-there digit-ends
+    pub digit_is : v ≡ get_or s i 0 - 48
+    digit_is = is ∙ digit_over digit_there digit_ends
 
-pub digit_low : (s : List ℕ) (i : ℕ) → begins isDigit (drop i s) ≡ true → 48 ≤ get_or s i 0
+pub digit_low : (s : List ℕ) (i : ℕ) → begins is_digit (drop i s) ≡ true → 48 ≤ get_or s i 0
 digit_low s i d =
     let b = get_or s i 0 in
-    leb-true 48 b (and_left (leb 48 b) (leb b 57) (sym (begins-at isDigit s i (begins-place isDigit s i d)) ∙ d))
+    leb-true 48 b (and_left (leb 48 b) (leb b 57) (sym (begins_at is_digit s i (begins_place is_digit s i d)) ∙ d))

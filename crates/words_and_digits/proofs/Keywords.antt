@@ -10,53 +10,53 @@ use lib.Dec.{eqb, leb}
 use lib.ListN.{length, get_or, drop}
 use lib.Seq.{drop-drop}
 use Rattle.card.specs.Text.{same}
-use Rattle.marks_on_a_card.specs.Bytes.{isLetter, in_word, run, begins, every, begun}
-use Rattle.marks_on_a_card.specs.Kinds.{Known, knowns, kindIn, kWord}
-use Rattle.words_and_digits.specs.Begun.{lettered, begunIn}
+use Rattle.marks_on_a_card.specs.Bytes.{is_letter, in_word, run, begins, every, begun}
+use Rattle.marks_on_a_card.specs.Kinds.{Known, knowns, kind_in, k_word}
+use Rattle.words_and_digits.specs.Begun.{lettered, begun_in}
 use Rattle.words_and_digits.specs.declared.Keyword.{Keyword}
-use Rattle.marks_on_a_card.proofs.Lists.{cases, not-both, and_left, and_right, or-true, or_left, or_right}
-use Rattle.marks_on_a_card.proofs.Runs.{eqb-sym, run_on, run-empty, run-begun, same-begun, begun-fits}
-use Rattle.marks_on_a_card.proofs.StartLaws.{letter-in-word}
+use Rattle.marks_on_a_card.proofs.Lists.{cases, not_both, and_left, and_right, or_true, or_left, or_right}
+use Rattle.marks_on_a_card.proofs.Runs.{eqb_sym, run_on, run_empty, run_begun, same_begun, begun_fits}
+use Rattle.marks_on_a_card.proofs.StartLaws.{letter_in_word}
 
 same_length : (w t : List ℕ) → same w t ≡ true → length w ≡ length t
 same_length [] [] e = refl
-same_length [] (b ∷ t) e = not-both false e refl
-same_length (a ∷ w) [] e = not-both false e refl
+same_length [] (b ∷ t) e = not_both false e refl
+same_length (a ∷ w) [] e = not_both false e refl
 same_length (a ∷ w) (b ∷ t) e = ap suc (same_length w t (and_right (eqb a b) (same w t) e))
 
-same-begins : (p : ℕ → Bool) (w t : List ℕ) → same w t ≡ true → begins p w ≡ begins p t
-same-begins p [] [] e = refl
-same-begins p [] (b ∷ t) e = not-both false e refl
-same-begins p (a ∷ w) [] e = not-both false e refl
-same-begins p (a ∷ w) (b ∷ t) e = ap p (eqb-true a b (and_left (eqb a b) (same w t) e))
+same_begins : (p : ℕ → Bool) (w t : List ℕ) → same w t ≡ true → begins p w ≡ begins p t
+same_begins p [] [] e = refl
+same_begins p [] (b ∷ t) e = not_both false e refl
+same_begins p (a ∷ w) [] e = not_both false e refl
+same_begins p (a ∷ w) (b ∷ t) e = ap p (eqb-true a b (and_left (eqb a b) (same w t) e))
 
 -- of a word only the keywords are in question
-pub kind-lettered : (xs : List Known) (w : List ℕ) → begins isLetter w ≡ true → kindIn xs w ≡ kindIn (lettered xs) w
-kind-lettered [] w l = refl
-kind-lettered (x ∷ xs) w l = cases (same w x.spelt)
+pub kind_lettered : (xs : List Known) (w : List ℕ) → begins is_letter w ≡ true → kind_in xs w ≡ kind_in (lettered xs) w
+kind_lettered [] w l = refl
+kind_lettered (x ∷ xs) w l = cases (same w x.spelt)
     (λ e.
-    let b : begins isLetter x.spelt ≡ true = sym (same-begins isLetter w x.spelt e) ∙ l in
+    let b : begins is_letter x.spelt ≡ true = sym (same_begins is_letter w x.spelt e) ∙ l in
     rw (e, b, e))
-    (λ e. rw e (cases (begins isLetter x.spelt) (λ c. rw (c, e) (kind-lettered xs w l)) (λ c. rw c (kind-lettered xs w l))))
+    (λ e. rw e (cases (begins is_letter x.spelt) (λ c. rw (c, e) (kind_lettered xs w l)) (λ c. rw c (kind_lettered xs w l))))
 
-run-some : (p : ℕ → Bool) (s : List ℕ) → begins p s ≡ true → 0 < length (run p s)
-run-some p [] e = not-both false e refl
-run-some p (b ∷ s) e = rw e (omega arith)
+run_some : (p : ℕ → Bool) (s : List ℕ) → begins p s ≡ true → 0 < length (run p s)
+run_some p [] e = not_both false e refl
+run_some p (b ∷ s) e = rw e (omega arith)
 
 -- a run that is t begins with it
-same-begun-by : (p : ℕ → Bool) (t s : List ℕ) → same (run p s) t ≡ true → begun t s ≡ true
-same-begun-by p [] s e = refl
-same-begun-by p (a ∷ t) [] e = not-both false e refl
-same-begun-by p (a ∷ t) (b ∷ s) e = cases (p b)
+same_begun_by : (p : ℕ → Bool) (t s : List ℕ) → same (run p s) t ≡ true → begun t s ≡ true
+same_begun_by p [] s e = refl
+same_begun_by p (a ∷ t) [] e = not_both false e refl
+same_begun_by p (a ∷ t) (b ∷ s) e = cases (p b)
     (λ w.
     let f : (eqb b a && same (run p s) t) ≡ true = rw w at e in
-    rw (eqb-sym a b, and_left (eqb b a) (same (run p s) t) f) (same-begun-by p t s (and_right (eqb b a) (same (run p s) t) f)))
-    (λ w. not-both false (rw w at e) refl)
+    rw (eqb_sym a b, and_left (eqb b a) (same (run p s) t) f) (same_begun_by p t s (and_right (eqb b a) (same (run p s) t) f)))
+    (λ w. not_both false (rw w at e) refl)
 
-first-begun : (t s : List ℕ) → 0 < length t → begun t s ≡ true → get_or t 0 0 ≡ get_or s 0 0
-first-begun [] s h e = absurd (omega arith)
-first-begun (a ∷ t) [] h e = not-both false e refl
-first-begun (a ∷ t) (b ∷ s) h e = cases (eqb a b) (λ f. eqb-true a b f) (λ f. not-both false (rw f at e) refl)
+first_begun : (t s : List ℕ) → 0 < length t → begun t s ≡ true → get_or t 0 0 ≡ get_or s 0 0
+first_begun [] s h e = absurd (omega arith)
+first_begun (a ∷ t) [] h e = not_both false e refl
+first_begun (a ∷ t) (b ∷ s) h e = cases (eqb a b) (λ f. eqb-true a b f) (λ f. not_both false (rw f at e) refl)
 
 -- keywords that are words, and of which those with the same first letter stand from the longest on
 abbrev other : List ℕ → List ℕ → Bool
@@ -73,7 +73,7 @@ fit (x ∷ xs) = (leb 1 (length x.spelt) && every in_word x.spelt) && (apart x.s
 pub record Fit (x : Known) (xs : List Known) : Type 0 where
   pub some_byte : 0 < length x.spelt
   pub a_word : every in_word x.spelt ≡ true
-  pub no-others : apart x.spelt xs ≡ true
+  pub no_others : apart x.spelt xs ≡ true
   pub others : fit xs ≡ true
 
 fits : (x : Known) (xs : List Known) → fit (x ∷ xs) ≡ true → Fit x xs
@@ -83,7 +83,7 @@ fits x xs f =
     record {
       some_byte = leb-true 1 (length x.spelt) (and_left (leb 1 (length x.spelt)) (every in_word x.spelt) p);
       a_word = and_right (leb 1 (length x.spelt)) (every in_word x.spelt) p;
-      no-others = and_left (apart x.spelt xs) (fit xs) q;
+      no_others = and_left (apart x.spelt xs) (fit xs) q;
       others = and_right (apart x.spelt xs) (fit xs) q;
     }
 
@@ -91,84 +91,84 @@ module _ (s : List ℕ) where
   -- the word at the front, which begins with t: longer than t, or t
   module _ (t : List ℕ) (i : every in_word t ≡ true) (e : begun t s ≡ true) where
     more_bytes : begins in_word (drop (length t) s) ≡ true → length t < length (run in_word s)
-    more_bytes b = omega (arith, run-begun in_word t s i e, run-some in_word (drop (length t) s) b)
+    more_bytes b = omega (arith, run_begun in_word t s i e, run_some in_word (drop (length t) s) b)
 
     longer : begins in_word (drop (length t) s) ≡ true → same (run in_word s) t ≡ false
     longer b = cases (same (run in_word s) t) (λ q. absurd (omega (arith, same_length (run in_word s) t q, more_bytes b))) (λ q. q)
 
     ended : begins in_word (drop (length t) s) ≡ false → length (run in_word s) ≡ length t
     ended b =
-        let z : length (run in_word (drop (length t) s)) ≡ 0 = ap length (run-empty in_word (drop (length t) s) b) in
-        omega (arith, run-begun in_word t s i e, z)
+        let z : length (run in_word (drop (length t) s)) ≡ 0 = ap length (run_empty in_word (drop (length t) s) b) in
+        omega (arith, run_begun in_word t s i e, z)
 
   unbegun : (t : List ℕ) → begun t s ≡ false → same (run in_word s) t ≡ false
-  unbegun t g = cases (same (run in_word s) t) (λ y. not-both (begun t s) (same-begun-by in_word t s y) g) (λ y. y)
+  unbegun t g = cases (same (run in_word s) t) (λ y. not_both (begun t s) (same_begun_by in_word t s y) g) (λ y. y)
 
   -- a word longer than t, with its first letter
   none_apart : (t : List ℕ) (xs : List Known) → get_or t 0 0 ≡ get_or s 0 0 → length t < length (run in_word s) → apart t xs ≡ true → fit xs ≡ true
-      → kindIn xs (run in_word s) ≡ kWord
+      → kind_in xs (run in_word s) ≡ k_word
   none_apart t [] q l p f = refl
   none_apart t (y ∷ ys) q l p f =
       let o = fits y ys f in
       cases (same (run in_word s) y.spelt)
       (λ e.
-      let z : get_or y.spelt 0 0 ≡ get_or s 0 0 = first-begun y.spelt s o.some_byte (same-begun-by in_word y.spelt s e) in
+      let z : get_or y.spelt 0 0 ≡ get_or s 0 0 = first_begun y.spelt s o.some_byte (same_begun_by in_word y.spelt s e) in
       let u : not (eqb (get_or t 0 0) (get_or y.spelt 0 0)) ≡ false = ap not (eq-eqb (get_or t 0 0) (get_or y.spelt 0 0) (q ∙ sym z)) in
       let v : leb (length y.spelt) (length t) ≡ true = rw u at (and_left (other t y.spelt) (apart t ys) p) in
       absurd (omega (arith, leb-true (length y.spelt) (length t) v, same_length (run in_word s) y.spelt e)))
       (λ e. rw e (none_apart t ys q l (and_right (other t y.spelt) (apart t ys) p) o.others))
 
-  taken : (x : Known) (xs : List Known) → begun x.spelt s ≡ true → begunIn (x ∷ xs) s ≡ record { kind = x.kind; size = length x.spelt }
+  taken : (x : Known) (xs : List Known) → begun x.spelt s ≡ true → begun_in (x ∷ xs) s ≡ record { kind = x.kind; size = length x.spelt }
   taken x xs g = rw g
 
-  passed : (x : Known) (xs : List Known) → begun x.spelt s ≡ false → begunIn (x ∷ xs) s ≡ begunIn xs s
+  passed : (x : Known) (xs : List Known) → begun x.spelt s ≡ false → begun_in (x ∷ xs) s ≡ begun_in xs s
   passed x xs g = rw g
 
-  kind-ended : (xs : List Known) → fit xs ≡ true → (k : Keyword) → k ≡ begunIn xs s → (k.size ≡ 0 → ⊥) → begins in_word (drop k.size s) ≡ false
-      → (kindIn xs (run in_word s) ≡ k.kind) × (length (run in_word s) ≡ k.size)
-  kind-ended [] f k e n b = absurd (n (ap (λ (x : Keyword). x.size) e))
-  kind-ended (x ∷ xs) f k e n b =
+  kind_ended : (xs : List Known) → fit xs ≡ true → (k : Keyword) → k ≡ begun_in xs s → (k.size ≡ 0 → ⊥) → begins in_word (drop k.size s) ≡ false
+      → (kind_in xs (run in_word s) ≡ k.kind) × (length (run in_word s) ≡ k.size)
+  kind_ended [] f k e n b = absurd (n (ap (λ (x : Keyword). x.size) e))
+  kind_ended (x ∷ xs) f k e n b =
       let o = fits x xs f in
       cases (begun x.spelt s)
       (λ g.
       let z : k.size ≡ length x.spelt = ap (λ (y : Keyword). y.size) (e ∙ taken x xs g) in
       let m : length (run in_word s) ≡ length x.spelt = ended x.spelt o.a_word g (ap (λ (n : ℕ). begins in_word (drop n s)) (sym z) ∙ b) in
-      (rw (same-begun in_word x.spelt s m, g) (sym (ap (λ (y : Keyword). y.kind) (e ∙ taken x xs g))), m ∙ sym z))
+      (rw (same_begun in_word x.spelt s m, g) (sym (ap (λ (y : Keyword). y.kind) (e ∙ taken x xs g))), m ∙ sym z))
       (λ g.
-      let r = kind-ended xs o.others k (e ∙ passed x xs g) n b in
+      let r = kind_ended xs o.others k (e ∙ passed x xs g) n b in
       (rw (unbegun x.spelt g) r.0, r.1))
 
-  kind-other : (xs : List Known) → fit xs ≡ true → (k : Keyword) → k ≡ begunIn xs s → ((k.size ≡ 0 → ⊥) → begins in_word (drop k.size s) ≡ true)
-      → kindIn xs (run in_word s) ≡ kWord
-  kind-other [] f k e b = refl
-  kind-other (x ∷ xs) f k e b =
+  kind_other : (xs : List Known) → fit xs ≡ true → (k : Keyword) → k ≡ begun_in xs s → ((k.size ≡ 0 → ⊥) → begins in_word (drop k.size s) ≡ true)
+      → kind_in xs (run in_word s) ≡ k_word
+  kind_other [] f k e b = refl
+  kind_other (x ∷ xs) f k e b =
       let o = fits x xs f in
       cases (begun x.spelt s)
       (λ g.
       let z : k.size ≡ length x.spelt = ap (λ (y : Keyword). y.size) (e ∙ taken x xs g) in
       let more : begins in_word (drop (length x.spelt) s) ≡ true = ap (λ (n : ℕ). begins in_word (drop n s)) (sym z) ∙ b (λ q. omega (arith, o.some_byte)) in
-      rw (longer x.spelt o.a_word g more) (none_apart x.spelt xs (first-begun x.spelt s o.some_byte g) (more_bytes x.spelt o.a_word g more) o.no-others o.others))
-      (λ g. rw (unbegun x.spelt g) (kind-other xs o.others k (e ∙ passed x xs g) b))
+      rw (longer x.spelt o.a_word g more) (none_apart x.spelt xs (first_begun x.spelt s o.some_byte g) (more_bytes x.spelt o.a_word g more) o.no_others o.others))
+      (λ g. rw (unbegun x.spelt g) (kind_other xs o.others k (e ∙ passed x xs g) b))
 
 module _ (s : List ℕ) (i : ℕ) (h : i < length s) where
-  size_in : (xs : List Known) (k : Keyword) → k ≡ begunIn xs (drop i s) → i + k.size ≤ length s
+  size_in : (xs : List Known) (k : Keyword) → k ≡ begun_in xs (drop i s) → i + k.size ≤ length s
   size_in [] k e = omega (arith, ap (λ (x : Keyword). x.size) e)
   size_in (x ∷ xs) k e = cases (begun x.spelt (drop i s))
-      (λ g. omega (arith, begun-fits x.spelt s i (omega arith) g, ap (λ (y : Keyword). y.size) (e ∙ taken (drop i s) x xs g)))
+      (λ g. omega (arith, begun_fits x.spelt s i (omega arith) g, ap (λ (y : Keyword). y.size) (e ∙ taken (drop i s) x xs g)))
       (λ g. size_in xs k (e ∙ passed (drop i s) x xs g))
 
-  module _ (l : isLetter (get_or s i 0) ≡ true) (k : Keyword) (e : k ≡ begunIn (lettered knowns) (drop i s)) where
-    letters : begins isLetter (run in_word (drop i s)) ≡ true
-    letters = rw (run_on in_word s i h (letter-in-word (get_or s i 0) l)) l
+  module _ (l : is_letter (get_or s i 0) ≡ true) (k : Keyword) (e : k ≡ begun_in (lettered knowns) (drop i s)) where
+    letters : begins is_letter (run in_word (drop i s)) ≡ true
+    letters = rw (run_on in_word s i h (letter_in_word (get_or s i 0) l)) l
 
-    pub keyword-fits : i + k.size ≤ length s
-    keyword-fits = size_in (lettered knowns) k e
+    pub keyword_fits : i + k.size ≤ length s
+    keyword_fits = size_in (lettered knowns) k e
 
-    pub keyword-is : (eqb k.size 0 || begins in_word (drop (i + k.size) s)) ≡ false → (kindIn knowns (run in_word (drop i s)) ≡ k.kind) × (length (run in_word (drop i s)) ≡ k.size)
-    keyword-is b =
-        let r = kind-ended (drop i s) (lettered knowns) refl k e (eqb-false k.size 0 (or_left (eqb k.size 0) (begins in_word (drop (i + k.size) s)) b)) (ap (begins in_word) (drop-drop k.size i s) ∙ or_right (eqb k.size 0) (begins in_word (drop (i + k.size) s)) b) in
-        (kind-lettered knowns (run in_word (drop i s)) letters ∙ r.0, r.1)
+    pub keyword_is : (eqb k.size 0 || begins in_word (drop (i + k.size) s)) ≡ false → (kind_in knowns (run in_word (drop i s)) ≡ k.kind) × (length (run in_word (drop i s)) ≡ k.size)
+    keyword_is b =
+        let r = kind_ended (drop i s) (lettered knowns) refl k e (eqb-false k.size 0 (or_left (eqb k.size 0) (begins in_word (drop (i + k.size) s)) b)) (ap (begins in_word) (drop-drop k.size i s) ∙ or_right (eqb k.size 0) (begins in_word (drop (i + k.size) s)) b) in
+        (kind_lettered knowns (run in_word (drop i s)) letters ∙ r.0, r.1)
 
-    pub keyword-not : (eqb k.size 0 || begins in_word (drop (i + k.size) s)) ≡ true → kindIn knowns (run in_word (drop i s)) ≡ kWord
-    keyword-not b = kind-lettered knowns (run in_word (drop i s)) letters ∙ kind-other (drop i s) (lettered knowns) refl k e (λ n.
-        ap (begins in_word) (drop-drop k.size i s) ∙ or-true (eqb k.size 0) (begins in_word (drop (i + k.size) s)) b (λ q. absurd (n (eqb-true k.size 0 q))) (λ q. q))
+    pub keyword_not : (eqb k.size 0 || begins in_word (drop (i + k.size) s)) ≡ true → kind_in knowns (run in_word (drop i s)) ≡ k_word
+    keyword_not b = kind_lettered knowns (run in_word (drop i s)) letters ∙ kind_other (drop i s) (lettered knowns) refl k e (λ n.
+        ap (begins in_word) (drop-drop k.size i s) ∙ or_true (eqb k.size 0) (begins in_word (drop (i + k.size) s)) b (λ q. absurd (n (eqb-true k.size 0 q))) (λ q. q))

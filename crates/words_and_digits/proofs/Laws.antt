@@ -7,63 +7,63 @@ use mathlib.Core.Option.{some}
 use native.Mathlib.Omega.{arith}
 use lib.ListN.{length, drop}
 use lib.Seq.{drop-drop}
-use Rattle.card.specs.Limits.{wordDigits}
-use Rattle.marks_on_a_card.specs.Bytes.{isDigit, in_word, run, begins, every, after, begun}
-use Rattle.marks_on_a_card.specs.Digits.{plain, heldDigits, Counted}
+use Rattle.card.specs.Limits.{word_digits}
+use Rattle.marks_on_a_card.specs.Bytes.{is_digit, in_word, run, begins, every, after, begun}
+use Rattle.marks_on_a_card.specs.Digits.{plain, held_digits, Counted}
 use Rattle.words_and_digits.specs.Numbered.{Numbered}
 use Rattle.marks_on_a_card.specs.declared.Digits.{Digits}
-use Rattle.marks_on_a_card.proofs.Lists.{cases, not-both}
-use Rattle.marks_on_a_card.proofs.Runs.{run-stops, run-narrow, run-same, after_run, after-not, run-begun}
-use Rattle.marks_on_a_card.proofs.Numbers.{plain-short, plain-digits}
-use Rattle.marks_on_a_card.proofs.StartLaws.{digit-in-word}
+use Rattle.marks_on_a_card.proofs.Lists.{cases, not_both}
+use Rattle.marks_on_a_card.proofs.Runs.{run_stops, run_narrow, run_same, after_run, after_not, run_begun}
+use Rattle.marks_on_a_card.proofs.Numbers.{plain_short, plain_digits}
+use Rattle.marks_on_a_card.proofs.StartLaws.{digit_in_word}
 
 -- the bytes behind a word's beginning are a number exactly if its digits are one and the word ends with them
 module _ (most : ℕ) (r : List ℕ) where
-  word-unplain : plain most (run isDigit r) ≡ false → plain most (run in_word r) ≡ false
-  word-unplain e = cases (plain most (run in_word r))
+  word_unplain : plain most (run is_digit r) ≡ false → plain most (run in_word r) ≡ false
+  word_unplain e = cases (plain most (run in_word r))
       (λ y.
-      let same-run : run isDigit r ≡ run in_word r = run-narrow isDigit in_word digit-in-word r (plain-digits most (run in_word r) y).0 in
-      not-both (plain most (run in_word r)) y (rw (← same-run) e))
+      let same-run : run is_digit r ≡ run in_word r = run_narrow is_digit in_word digit_in_word r (plain_digits most (run in_word r) y).0 in
+      not_both (plain most (run in_word r)) y (rw (← same-run) e))
       (λ n. n)
 
-  word-longer : begins in_word (drop (length (run isDigit r)) r) ≡ true → plain most (run in_word r) ≡ false
-  word-longer e = cases (plain most (run in_word r))
+  word_longer : begins in_word (drop (length (run is_digit r)) r) ≡ true → plain most (run in_word r) ≡ false
+  word_longer e = cases (plain most (run in_word r))
       (λ y.
-      let same-run : run isDigit r ≡ run in_word r = run-narrow isDigit in_word digit-in-word r (plain-digits most (run in_word r) y).0 in
-      not-both (begins in_word (drop (length (run in_word r)) r)) (rw same-run at e) (run-stops in_word r))
+      let same-run : run is_digit r ≡ run in_word r = run_narrow is_digit in_word digit_in_word r (plain_digits most (run in_word r) y).0 in
+      not_both (begins in_word (drop (length (run in_word r)) r)) (rw same-run at e) (run_stops in_word r))
       (λ n. n)
 
 module _ (t s : List ℕ) (i : ℕ) where
-  pub numbered-off : begun t (drop i s) ≡ false → Numbered t (run in_word (drop i s)) (record { count = 0; value = 0 })
-  numbered-off e = record { long = λ n. absurd (n refl); is_one = λ n. absurd (n refl); is_none = λ n f other. rw (after-not in_word t (drop i s) e) }
+  pub numbered_off : begun t (drop i s) ≡ false → Numbered t (run in_word (drop i s)) (record { count = 0; value = 0 })
+  numbered_off e = record { long = λ n. absurd (n refl); is_one = λ n. absurd (n refl); is_none = λ n f other. rw (after_not in_word t (drop i s) e) }
 
   module _ (w : every in_word t ≡ true) (e : begun t (drop i s) ≡ true) where
-    behind-it : after t (run in_word (drop i s)) ≡ some (run in_word (drop (i + length t) s))
-    behind-it = after_run in_word t (drop i s) w e ∙ ap (λ (x : List ℕ). some (run in_word x)) (drop-drop (length t) i s)
+    behind_it : after t (run in_word (drop i s)) ≡ some (run in_word (drop (i + length t) s))
+    behind_it = after_run in_word t (drop i s) w e ∙ ap (λ (x : List ℕ). some (run in_word x)) (drop-drop (length t) i s)
 
-    numbered-no : plain wordDigits (run in_word (drop (i + length t) s)) ≡ false → Numbered t (run in_word (drop i s)) (record { count = 0; value = 0 })
-    numbered-no n = record { long = λ z. absurd (z refl); is_one = λ z. absurd (z refl); is_none = λ z f other. rw (behind-it, n) }
+    numbered_no : plain word_digits (run in_word (drop (i + length t) s)) ≡ false → Numbered t (run in_word (drop i s)) (record { count = 0; value = 0 })
+    numbered_no n = record { long = λ z. absurd (z refl); is_one = λ z. absurd (z refl); is_none = λ z f other. rw (behind_it, n) }
 
-    pub numbered-unplain : plain wordDigits (run isDigit (drop (i + length t) s)) ≡ false → Numbered t (run in_word (drop i s)) (record { count = 0; value = 0 })
-    numbered-unplain n = numbered-no (word-unplain wordDigits (drop (i + length t) s) n)
+    pub numbered_unplain : plain word_digits (run is_digit (drop (i + length t) s)) ≡ false → Numbered t (run in_word (drop i s)) (record { count = 0; value = 0 })
+    numbered_unplain n = numbered_no (word_unplain word_digits (drop (i + length t) s) n)
 
     -- the digits as the code has counted them
     module _ (a : Digits) (counted : Counted (drop (i + length t) s) a) where
-      behind-digits : drop (length (run isDigit (drop (i + length t) s))) (drop (i + length t) s) ≡ drop (i + length t + a.count) s
-      behind-digits = drop-drop (length (run isDigit (drop (i + length t) s))) (i + length t) s ∙ sym (ap (λ n. drop (i + length t + n) s) counted.count-is)
+      behind_digits : drop (length (run is_digit (drop (i + length t) s))) (drop (i + length t) s) ≡ drop (i + length t + a.count) s
+      behind_digits = drop-drop (length (run is_digit (drop (i + length t) s))) (i + length t) s ∙ sym (ap (λ n. drop (i + length t + n) s) counted.count_is)
 
       pub numbered_more : begins in_word (drop (i + length t + a.count) s) ≡ true → Numbered t (run in_word (drop i s)) (record { count = 0; value = 0 })
-      numbered_more b = numbered-no (word-longer wordDigits (drop (i + length t) s) (ap (begins in_word) behind-digits ∙ b))
+      numbered_more b = numbered_no (word_longer word_digits (drop (i + length t) s) (ap (begins in_word) behind_digits ∙ b))
 
-      pub numbered-yes : plain wordDigits (run isDigit (drop (i + length t) s)) ≡ true → begins in_word (drop (i + length t + a.count) s) ≡ false
+      pub numbered_yes : plain word_digits (run is_digit (drop (i + length t) s)) ≡ true → begins in_word (drop (i + length t + a.count) s) ≡ false
           → Numbered t (run in_word (drop i s)) (record { count = length t + a.count; value = a.value })
-      numbered-yes y b =
-          let d = run isDigit (drop (i + length t) s) in
-          let all : run in_word (drop (i + length t) s) ≡ d = run-same isDigit in_word digit-in-word (drop (i + length t) s) (ap (begins in_word) behind-digits ∙ b) in
-          let held : length d ≤ heldDigits = omega (arith, plain-short wordDigits d y) in
-          let size : length (run in_word (drop i s)) ≡ length t + length d = run-begun in_word t (drop i s) w e ∙ ap (λ x. length t + length (run in_word x)) (drop-drop (length t) i s) ∙ ap (λ x. length t + length x) all in
+      numbered_yes y b =
+          let d = run is_digit (drop (i + length t) s) in
+          let all : run in_word (drop (i + length t) s) ≡ d = run_same is_digit in_word digit_in_word (drop (i + length t) s) (ap (begins in_word) behind_digits ∙ b) in
+          let held : length d ≤ held_digits = omega (arith, plain_short word_digits d y) in
+          let size : length (run in_word (drop i s)) ≡ length t + length d = run_begun in_word t (drop i s) w e ∙ ap (λ x. length t + length (run in_word x)) (drop-drop (length t) i s) ∙ ap (λ x. length t + length x) all in
           record {
-            long = λ z. omega (arith, size, counted.count-is);
-            is_one = λ z f other. rw (behind-it, all, y) (ap f (sym (counted.value-is held)));
-            is_none = λ z. absurd (omega (arith, (plain-digits wordDigits d y).1, counted.count-is));
+            long = λ z. omega (arith, size, counted.count_is);
+            is_one = λ z f other. rw (behind_it, all, y) (ap f (sym (counted.value_is held)));
+            is_none = λ z. absurd (omega (arith, (plain_digits word_digits d y).1, counted.count_is));
           }

@@ -1,8 +1,8 @@
 -- The keyword that a text begins with: its kind and its size ("Marks on a card"). Assumes nothing.
 use Rattle.std.specs.Prelude.{ℕ, List, [], ◌∷◌, length}
 use Rattle.card.specs.Text.{if◌then◌else◌}
-use Rattle.marks_on_a_card.specs.Bytes.{begins, isLetter, begun}
-use Rattle.marks_on_a_card.specs.Kinds.{Known, kWord}
+use Rattle.marks_on_a_card.specs.Bytes.{begins, is_letter, begun}
+use Rattle.marks_on_a_card.specs.Kinds.{Known, k_word}
 use Rattle.words_and_digits.specs.declared.Keyword.{Keyword}
 
 -- the keywords among signs and keywords; and the first of some that a text begins with: its kind and its size, 0 for none
@@ -10,8 +10,8 @@ abbrev pub lettered : List Known → List Known
 lettered [] = []
 lettered (x ∷ xs) =
     let more = lettered xs in
-    if begins isLetter x.spelt then x ∷ more else more
+    if begins is_letter x.spelt then x ∷ more else more
 
-abbrev pub begunIn : List Known → List ℕ → Keyword
-begunIn [] s = record { kind = kWord; size = 0 }
-begunIn (x ∷ xs) s = if begun x.spelt s then record { kind = x.kind; size = length x.spelt } else begunIn xs s
+abbrev pub begun_in : List Known → List ℕ → Keyword
+begun_in [] s = record { kind = k_word; size = 0 }
+begun_in (x ∷ xs) s = if begun x.spelt s then record { kind = x.kind; size = length x.spelt } else begun_in xs s

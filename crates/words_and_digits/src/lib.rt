@@ -1,10 +1,10 @@
 // Digits as numbers, seat words, module words and keywords ("Marks on a card").
 ghost use Rattle.std.specs.Prelude.{◌≡◌, true, ◌||◌, length, drop, ◌≤◌, ◌+◌, eqb};
-ghost use Rattle.marks_on_a_card.specs.Bytes.{run, isDigit, in_word, every, begins};
-ghost use Rattle.marks_on_a_card.specs.Digits.{plain, pointed, Counted, grownBy};
+ghost use Rattle.marks_on_a_card.specs.Bytes.{run, is_digit as is_digit_said, in_word, every, begins};
+ghost use Rattle.marks_on_a_card.specs.Digits.{plain, pointed, Counted, grown_by};
 ghost use Rattle.words_and_digits.specs.Numbered.{Numbered};
 ghost use Rattle.marks_on_a_card.specs.Kinds.{knowns};
-ghost use Rattle.words_and_digits.specs.Begun.{lettered, begunIn};
+ghost use Rattle.words_and_digits.specs.Begun.{lettered, begun_in};
 
 use bytes_as_numbers::wide;
 use card::limits::WORD_DIGITS;
@@ -19,8 +19,8 @@ const HELD: usize = 1000000000000000000;
 
 // One digit more, while the number is held.
 fn grown(value: usize, b: u8) -> usize
-    requires { isDigit b ≡ true }
-    ensures { result ≡ grownBy value b }
+    requires { is_digit_said b ≡ true }
+    ensures { result ≡ grown_by value b }
 {
     if value < HELD {
         return value * 10 + wide(b - b'0');
@@ -53,8 +53,8 @@ pub fn digits_from(card: &[u8], from: usize) -> Digits
 
 // So many digits from a place on: are they a number of at most `most` digits?
 pub fn is_plain(card: &[u8], from: usize, count: usize, most: usize) -> bool
-    requires { count ≡ length (run isDigit (drop from card.now)) }
-    ensures { result ≡ plain most (run isDigit (drop from card.now)) }
+    requires { count ≡ length (run is_digit_said (drop from card.now)) }
+    ensures { result ≡ plain most (run is_digit_said (drop from card.now)) }
 {
     if count == 0 {
         return false;
@@ -111,7 +111,7 @@ pub struct Keyword {
 // The keyword that the card goes on with, whatever stands behind it.
 pub fn keyword_begun(card: &[u8], at: usize) -> Keyword
     requires { at ≤ length card.now }
-    ensures { result ≡ begunIn (lettered knowns) (drop at card.now) }
+    ensures { result ≡ begun_in (lettered knowns) (drop at card.now) }
 {
     if begins_at(card, at, b"nondeterministic") {
         return Keyword {

@@ -12,31 +12,31 @@ use borrow.Author.Tests.{eq-eqb, le-leb, lt-ltb, le-ltb, ltb-true, ltb-false, no
 use lib.Dec.{eqb, ltb}
 use lib.ListN.{length, drop, length-append}
 use lib.Seq.{drop-drop}
-use Rattle.card.specs.Limits.{mostSeats, wordDigits}
+use Rattle.card.specs.Limits.{most_seats, word_digits}
 use Rattle.card.specs.Text.{bytes}
-use Rattle.marks_on_a_card.specs.Bytes.{isDigit, isLetter, in_word, isAlone, begins, begun, run, every}
-use Rattle.marks_on_a_card.specs.Digits.{numberSpelt}
-use Rattle.marks_on_a_card.proofs.Lists.{cases, not-both, and_left, and_right}
-use Rattle.marks_on_a_card.proofs.Numbers.{one-digit}
-use Rattle.marks_on_a_card.proofs.Runs.{begins-at, run-empty}
-use Rattle.marks_on_a_card.specs.Kinds.{kSeat, kProcess, kind}
-use Rattle.marks_on_a_card.specs.Marks.{wordMark}
-use Rattle.marks.specs.Step.{stepTo, stepAt}
-use Rattle.marks.specs.Parts.{valuedOf}
+use Rattle.marks_on_a_card.specs.Bytes.{is_digit, is_letter, in_word, is_alone, begins, begun, run, every}
+use Rattle.marks_on_a_card.specs.Digits.{number_spelt}
+use Rattle.marks_on_a_card.proofs.Lists.{cases, not_both, and_left, and_right}
+use Rattle.marks_on_a_card.proofs.Numbers.{one_digit}
+use Rattle.marks_on_a_card.proofs.Runs.{begins_at, run_empty}
+use Rattle.marks_on_a_card.specs.Kinds.{k_seat, k_process, kind}
+use Rattle.marks_on_a_card.specs.Marks.{word_mark}
+use Rattle.marks.specs.Step.{step_to, step_at}
+use Rattle.marks.specs.Parts.{valued_of}
 use Rattle.marks.specs.declared.Step.{Step}
-use Rattle.marks_on_a_card.proofs.StartLaws.{digit-in-word}
-use Rattle.marks_on_a_card.specs.Quick.{bytesAhead, wordAhead}
-use Rattle.looks.proofs.Quick.{past-step}
+use Rattle.marks_on_a_card.proofs.StartLaws.{digit_in_word}
+use Rattle.marks_on_a_card.specs.Quick.{bytes_ahead, word_ahead}
+use Rattle.looks.proofs.Quick.{past_step}
 use Rattle.looks.proofs.Words.{run_of, whole}
-use Rattle.word_and_digit_looks.proofs.Looks.{bytes-stand, bytes_fit}
+use Rattle.word_and_digit_looks.proofs.Looks.{bytes_stand, bytes_fit}
 use Rattle.reading.specs.Reader.{line}
 use Rattle.late.specs.Late.{Late}
-use Rattle.late.specs.State.{Sized, lateIn, After, after}
-use Rattle.parts.specs.Parts.{from, Due, sign, seat, process, items_in, duesIn, kindsIn, numbersIn, wordBy, LineRead}
-use Rattle.parts.proofs.Steps.{next-at}
-use Rattle.parts.proofs.Lines.{Left, run_end, run_more, word-due}
-use Rattle.parts.proofs.Front.{front, sign-by}
-use Rattle.frame.specs.Frame.{moduleDue, gap, copyText, digits, pastWord, pastText, pastCopy, ModuleFrom}
+use Rattle.late.specs.State.{Sized, late_in, After, after}
+use Rattle.parts.specs.Parts.{from, Due, sign, seat, process, items_in, dues_in, kinds_in, numbers_in, word_by, LineRead}
+use Rattle.parts.proofs.Steps.{next_at}
+use Rattle.parts.proofs.Lines.{Left, run_end, run_more, word_due}
+use Rattle.parts.proofs.Front.{front, sign_by}
+use Rattle.frame.specs.Frame.{module_due, gap, copy_text, digits, past_word, past_text, past_copy, ModuleFrom}
 
 -- ---- a text that stands at a place, with no word going on behind it
 
@@ -54,21 +54,21 @@ stands_on (b ∷ t) u s p h =
     rw q (stands_on t u s (p + 1) more)
 
 -- the beginning itself
-begun-part : (t u s : List ℕ) → begun (t ++ u) s ≡ true → begun t s ≡ true
-begun-part [] u s e = refl
-begun-part (b ∷ t) u [] e = e
-begun-part (b ∷ t) u (c ∷ s) e = cases (eqb b c)
+begun_part : (t u s : List ℕ) → begun (t ++ u) s ≡ true → begun t s ≡ true
+begun_part [] u s e = refl
+begun_part (b ∷ t) u [] e = e
+begun_part (b ∷ t) u (c ∷ s) e = cases (eqb b c)
     (λ y.
     let f : begun (t ++ u) s ≡ true = rw y at e in
-    rw y (begun-part t u s f))
-    (λ n. not-both false (rw n at e) refl)
+    rw y (begun_part t u s f))
+    (λ n. not_both false (rw n at e) refl)
 
 -- no word goes on where it begins
 no_word : (u s : List ℕ) (p : ℕ) → begins in_word u ≡ false → Stands u s p → begins in_word (drop p s) ≡ false
 no_word [] s p n h = rw (add-zero p) at h.over
 no_word (c ∷ u) s p n h =
     let f = front c u s p h.here in
-    begins-at in_word s p f.place ∙ ap in_word f.byte ∙ n
+    begins_at in_word s p f.place ∙ ap in_word f.byte ∙ n
 
 -- ---- a mark that stands there
 
@@ -77,78 +77,78 @@ spelt (sign t) = bytes t
 spelt (seat i) = 115 ∷ digits i
 spelt (process i) = bytes "process" ++ digits i
 
-abbrev kindBy : Due → ℕ
-kindBy (sign t) = kind t
-kindBy (seat i) = kSeat
-kindBy (process i) = kProcess
+abbrev kind_by : Due → ℕ
+kind_by (sign t) = kind t
+kind_by (seat i) = k_seat
+kind_by (process i) = k_process
 
-abbrev numberBy : Due → ℕ
-numberBy (sign t) = 0
-numberBy (seat i) = i
-numberBy (process i) = i
+abbrev number_by : Due → ℕ
+number_by (sign t) = 0
+number_by (seat i) = i
+number_by (process i) = i
 
 -- the step finds it before the text u
 abbrev Finds : Due → List ℕ → Type 0
-Finds d u = (s : List ℕ) (p : ℕ) → Stands (spelt d ++ u) s p → stepAt s p ≡ valuedOf (kindBy d) (numberBy d) p (p + length (spelt d))
+Finds d u = (s : List ℕ) (p : ℕ) → Stands (spelt d ++ u) s p → step_at s p ≡ valued_of (kind_by d) (number_by d) p (p + length (spelt d))
 
-sign-found : (t : String) (b : ℕ) (u : List ℕ) → bytes t ≡ b ∷ [] → kind t ≡ b → isAlone b ≡ true → Finds (sign t) u
-sign-found t b u e k y s p h =
+sign_found : (t : String) (b : ℕ) (u : List ℕ) → bytes t ≡ b ∷ [] → kind t ≡ b → is_alone b ≡ true → Finds (sign t) u
+sign_found t b u e k y s p h =
     let there : Stands (b ∷ u) s p = rw e at h in
     let f = front b u s p there.here in
-    rw (k, e) (sign-by s b p (p + 1) refl y (eq-eqb b b refl) f.place f.byte)
+    rw (k, e) (sign_by s b p (p + 1) refl y (eq-eqb b b refl) f.place f.byte)
 
 -- a word of these bytes, which make that mark
-word-found : (d : Due) (b : ℕ) (t u : List ℕ) → spelt d ≡ b ∷ t → isLetter b ≡ true → every in_word (b ∷ t) ≡ true → begins in_word u ≡ false
-    → ((p q : ℕ) → stepTo (wordMark (b ∷ t)) p q ≡ valuedOf (kindBy d) (numberBy d) p q) → Finds d u
-word-found d b t u e l w n made s p h =
+word_found : (d : Due) (b : ℕ) (t u : List ℕ) → spelt d ≡ b ∷ t → is_letter b ≡ true → every in_word (b ∷ t) ≡ true → begins in_word u ≡ false
+    → ((p q : ℕ) → step_to (word_mark (b ∷ t)) p q ≡ valued_of (kind_by d) (number_by d) p q) → Finds d u
+word_found d b t u e l w n made s p h =
     let there : Stands ((b ∷ t) ++ u) s p = rw e at h in
     let place : p < length s = (front b (t ++ u) s p there.here).place in
     let behind : begins in_word (drop (length (b ∷ t)) (drop p s)) ≡ false = ap (begins in_word) (drop-drop (length (b ∷ t)) p s) ∙ no_word u s (p + length (b ∷ t)) n (stands_on (b ∷ t) u s p there) in
     let word : run in_word (drop p s) ≡ b ∷ t =
-    run_of in_word (b ∷ t) (drop p s) w (begun-part (b ∷ t) u (drop p s) there.here)
-    ∙ ap (λ (v : List ℕ). (b ∷ t) ++ v) (run-empty in_word (drop (length (b ∷ t)) (drop p s)) behind) ∙ append-nil (b ∷ t) in
+    run_of in_word (b ∷ t) (drop p s) w (begun_part (b ∷ t) u (drop p s) there.here)
+    ∙ ap (λ (v : List ℕ). (b ∷ t) ++ v) (run_empty in_word (drop (length (b ∷ t)) (drop p s)) behind) ∙ append-nil (b ∷ t) in
     rw e (whole s p b t l place word ∙ made p (p + length (b ∷ t)))
 
 -- a word's number, of one digit or from 10 to 19
 module _ (i : ℕ) (few : i < 20) where
-  digit : (b : ℕ) → 48 ≤ b → b ≤ 57 → isDigit b ≡ true
+  digit : (b : ℕ) → 48 ≤ b → b ≤ 57 → is_digit b ≡ true
   digit b l h = rw (le-leb 48 b l, le-leb b 57 h)
 
-  number-spelt : numberSpelt wordDigits (digits i) ≡ some i
-  number-spelt = cases (ltb i 10)
+  number_spelt_law : number_spelt word_digits (digits i) ≡ some i
+  number_spelt_law = cases (ltb i 10)
       (λ y.
       let small : i < 10 = ltb-true i 10 y in
-      let d : isDigit (48 + i) ≡ true = digit (48 + i) (omega arith) (omega arith) in
+      let d : is_digit (48 + i) ≡ true = digit (48 + i) (omega arith) (omega arith) in
       let v : 0 * 10 + (48 + i - 48) ≡ i = omega arith in
-      rw (y, one-digit wordDigits ((48 + i) ∷ []) (rw d) refl (omega arith)) (ap (λ (x : ℕ). some x) v))
+      rw (y, one_digit word_digits ((48 + i) ∷ []) (rw d) refl (omega arith)) (ap (λ (x : ℕ). some x) v))
       (λ n.
       let large : 10 ≤ i = ltb-false i 10 n in
-      let d : isDigit (38 + i) ≡ true = digit (38 + i) (omega arith) (omega arith) in
+      let d : is_digit (38 + i) ≡ true = digit (38 + i) (omega arith) (omega arith) in
       let v : (0 * 10 + (49 - 48)) * 10 + (38 + i - 48) ≡ i = omega arith in
       rw (n, d) (ap (λ (x : ℕ). some x) v))
 
-  digits-in-word : every in_word (digits i) ≡ true
-  digits-in-word = cases (ltb i 10)
+  digits_in_word : every in_word (digits i) ≡ true
+  digits_in_word = cases (ltb i 10)
       (λ y.
       let small : i < 10 = ltb-true i 10 y in
-      rw (y, digit-in-word (48 + i) (digit (48 + i) (omega arith) (omega arith))))
+      rw (y, digit_in_word (48 + i) (digit (48 + i) (omega arith) (omega arith))))
       (λ n.
       let large : 10 ≤ i = ltb-false i 10 n in
-      rw (n, digit-in-word (38 + i) (digit (38 + i) (omega arith) (omega arith))))
+      rw (n, digit_in_word (38 + i) (digit (38 + i) (omega arith) (omega arith))))
 
-  seat-found : (u : List ℕ) → begins in_word u ≡ false → Finds (seat i) u
-  seat-found u n = word-found (seat i) 115 (digits i) u refl refl digits-in-word n (λ p q. rw number-spelt)
+  seat_found : (u : List ℕ) → begins in_word u ≡ false → Finds (seat i) u
+  seat_found u n = word_found (seat i) 115 (digits i) u refl refl digits_in_word n (λ p q. rw number_spelt_law)
 
-  process-found : (u : List ℕ) → begins in_word u ≡ false → Finds (process i) u
-  process-found u n = word-found (process i) 112 (bytes "rocess" ++ digits i) u refl refl digits-in-word n (λ p q. rw number-spelt)
+  process_found : (u : List ℕ) → begins in_word u ≡ false → Finds (process i) u
+  process_found u n = word_found (process i) 112 (bytes "rocess" ++ digits i) u refl refl digits_in_word n (λ p q. rw number_spelt_law)
 
 -- a blank before it is passed
-past-gap : (b : Bool) (t s : List ℕ) (p : ℕ) → Stands (gap b ++ t) s p → {x : Step} → stepAt s (p + length (gap b)) ≡ x → stepAt s p ≡ x
-past-gap true t s p h f =
+past_gap : (b : Bool) (t s : List ℕ) (p : ℕ) → Stands (gap b ++ t) s p → {x : Step} → step_at s (p + length (gap b)) ≡ x → step_at s p ≡ x
+past_gap true t s p h f =
     let blank = front 32 t s p h.here in
-    let there : begins (eqb 32) (drop p s) ≡ true = begins-at (eqb 32) s p blank.place ∙ ap (eqb 32) blank.byte in
-    sym (past-step s p {r = p + 1} (rw there)) ∙ f
-past-gap false t s p h f = rw (add-zero p) at f
+    let there : begins (eqb 32) (drop p s) ≡ true = begins_at (eqb 32) s p blank.place ∙ ap (eqb 32) blank.byte in
+    sym (past_step s p {r = p + 1} (rw there)) ∙ f
+past_gap false t s p h f = rw (add-zero p) at f
 
 -- ---- a run of them
 
@@ -173,20 +173,20 @@ data Found : List Piece → Type 0 where
 
 module _ (s : List ℕ) (n : ℕ) (late : Late) {whole : After → Type 0} where
   -- a mark more of the run, whose number is due
-  one_more : (p w due place next : ℕ) (kinds dues : List ℕ) → stepAt s p ≡ valuedOf w due place next
+  one_more : (p w due place next : ℕ) (kinds dues : List ℕ) → step_at s p ≡ valued_of w due place next
       → Left s n p late (w ∷ kinds) (due ∷ dues) whole → Left s n next late kinds dues whole
   one_more p w due place next kinds dues e l =
-      let x = valuedOf w due place next in
-      let same : wordBy due due place late ≡ late = sym (word-due due due place late refl) in
-      rw same at (run_more s n p late x (next-at s p x (sym e)) whole w kinds due dues l refl)
+      let x = valued_of w due place next in
+      let same : word_by due due place late ≡ late = sym (word_due due due place late refl) in
+      rw same at (run_more s n p late x (next_at s p x (sym e)) whole w kinds due dues l refl)
 
-  first_of : (p : ℕ) (d : Due) (run : List Due) → Left s n p late (kindsIn (d ∷ run)) (numbersIn (d ∷ run)) whole → Left s n p late (kindBy d ∷ kindsIn run) (numberBy d ∷ numbersIn run) whole
+  first_of : (p : ℕ) (d : Due) (run : List Due) → Left s n p late (kinds_in (d ∷ run)) (numbers_in (d ∷ run)) whole → Left s n p late (kind_by d ∷ kinds_in run) (number_by d ∷ numbers_in run) whole
   first_of p (sign t) run l = l
   first_of p (seat i) run l = l
   first_of p (process i) run l = l
 
   passed : (ms : List Piece) (p : ℕ) → Found ms → Stands (text_of ms) s p
-      → Left s n p late (kindsIn (dues_of ms)) (numbersIn (dues_of ms)) whole → Left s n (p + length (text_of ms)) late [] [] whole
+      → Left s n p late (kinds_in (dues_of ms)) (numbers_in (dues_of ms)) whole → Left s n (p + length (text_of ms)) late [] [] whole
   passed [] p none h l = rw (add-zero p) l
   passed (m ∷ ms) p (first then others) h l =
       let before = gap m.blank in
@@ -194,9 +194,9 @@ module _ (s : List ℕ) (n : ℕ) (late : Late) {whole : After → Type 0} where
       let rest = text_of ms in
       let at-word : Stands (word ++ rest) s (p + length before) = stands_on before (word ++ rest) s p h in
       let at_rest : Stands rest s (p + length before + length word) = stands_on word rest s (p + length before) at-word in
-      let step = past-gap m.blank (word ++ rest) s p h (first s (p + length before) at-word) in
+      let step = past_gap m.blank (word ++ rest) s p h (first s (p + length before) at-word) in
       let to : p + length (before ++ (word ++ rest)) ≡ p + length before + length word + length rest = omega (arith, length-append before (word ++ rest), length-append word rest) in
-      let left = one_more p (kindBy m.mark) (numberBy m.mark) (p + length before) (p + length before + length word) (kindsIn (dues_of ms)) (numbersIn (dues_of ms)) step (first_of p m.mark (dues_of ms) l) in
+      let left = one_more p (kind_by m.mark) (number_by m.mark) (p + length before) (p + length before + length word) (kinds_in (dues_of ms)) (numbers_in (dues_of ms)) step (first_of p m.mark (dues_of ms) l) in
       rw to (passed ms (p + length before + length word) others at_rest left)
 
 -- ---- the module
@@ -218,67 +218,67 @@ module _ (written : Bool) (i : ℕ) (few : i < 20) where
   apart false c u e = e
 
   equal : (u : List ℕ) → Finds (sign "=") u
-  equal u = sign-found "=" 61 u refl refl refl
+  equal u = sign_found "=" 61 u refl refl refl
 
   own : (u : List ℕ) → begins in_word u ≡ false → Finds (seat 1) u
-  own = seat-found 1 (omega arith)
+  own = seat_found 1 (omega arith)
 
   found : Found (pieces written i)
   found =
-      process-found i few _ (apart written 61 _ refl) then equal _ then process-found 1 (omega arith) _ (apart written 91 _ refl)
-      then sign-found "[" 91 _ refl refl refl then own _ refl then equal _ then seat-found i few _ refl
-      then sign-found "," 44 _ refl refl refl then seat-found i few _ refl then equal _ then own _ refl then sign-found "]" 93 _ refl refl refl
-      then word-found (sign "endmodule") 101 (bytes "ndmodule") [] refl refl refl refl (λ p q. refl) then none
+      process_found i few _ (apart written 61 _ refl) then equal _ then process_found 1 (omega arith) _ (apart written 91 _ refl)
+      then sign_found "[" 91 _ refl refl refl then own _ refl then equal _ then seat_found i few _ refl
+      then sign_found "," 44 _ refl refl refl then seat_found i few _ refl then equal _ then own _ refl then sign_found "]" 93 _ refl refl refl
+      then word_found (sign "endmodule") 101 (bytes "ndmodule") [] refl refl refl refl (λ p q. refl) then none
 
 -- where a text stands, the card has room for it
-pub past_fits : (t s : List ℕ) (at : ℕ) → wordAhead t s at ≡ true → at + length t ≤ length s
-past_fits t s at e = bytes_fit t s at (and_left (bytesAhead t s at) (not (begins in_word (drop (at + length t) s))) e)
+pub past_fits : (t s : List ℕ) (at : ℕ) → word_ahead t s at ≡ true → at + length t ≤ length s
+past_fits t s at e = bytes_fit t s at (and_left (bytes_ahead t s at) (not (begins in_word (drop (at + length t) s))) e)
 
 module _ (s : List ℕ) (at i : ℕ) where
-  abbrev written-so : List ℕ → Bool
-  written-so ds = begins (eqb 32) (drop (at + (8 + length ds)) s)
+  abbrev written_so : List ℕ → Bool
+  written_so ds = begins (eqb 32) (drop (at + (8 + length ds)) s)
 
   -- the text that the code looks for
-  looked-for : (ds : List ℕ) → digits i ≡ ds → (b : Bool) → written-so ds ≡ b → pastWord (copyText b ds) s at ≡ pastCopy s at i
-  looked-for ds d b e = ap (λ (a : Bool). pastWord (copyText a ds) s at) (sym e) ∙ ap (pastText s at) (sym d)
+  looked_for : (ds : List ℕ) → digits i ≡ ds → (b : Bool) → written_so ds ≡ b → past_word (copy_text b ds) s at ≡ past_copy s at i
+  looked_for ds d b e = ap (λ (a : Bool). past_word (copy_text a ds) s at) (sym e) ∙ ap (past_text s at) (sym d)
 
-  pub one-digit-copy : i < 10 → (b : Bool) → begins (eqb 32) (drop (at + 9) s) ≡ b → pastWord (copyText b ((48 + i) ∷ [])) s at ≡ pastCopy s at i
-  one-digit-copy h = looked-for ((48 + i) ∷ []) (rw (lt-ltb i 10 h))
+  pub one_digit_copy : i < 10 → (b : Bool) → begins (eqb 32) (drop (at + 9) s) ≡ b → past_word (copy_text b ((48 + i) ∷ [])) s at ≡ past_copy s at i
+  one_digit_copy h = looked_for ((48 + i) ∷ []) (rw (lt-ltb i 10 h))
 
-  pub two-digit-copy : 10 ≤ i → (b : Bool) → begins (eqb 32) (drop (at + 10) s) ≡ b → pastWord (copyText b (49 ∷ (38 + i) ∷ [])) s at ≡ pastCopy s at i
-  two-digit-copy h = looked-for (49 ∷ (38 + i) ∷ []) (rw (le-ltb i 10 h))
+  pub two_digit_copy : 10 ≤ i → (b : Bool) → begins (eqb 32) (drop (at + 10) s) ≡ b → past_word (copy_text b (49 ∷ (38 + i) ∷ [])) s at ≡ past_copy s at i
+  two_digit_copy h = looked_for (49 ∷ (38 + i) ∷ []) (rw (le-ltb i 10 h))
 
   abbrev text : List ℕ
-  text = copyText (written-so (digits i)) (digits i)
+  text = copy_text (written_so (digits i)) (digits i)
 
   -- no text of it is shorter
-  pub too_short : length s < at + 40 → 0 ≡ pastCopy s at i
-  too_short h = cases (wordAhead text s at)
-      (λ y. absurd (omega (arith, h, past_fits text s at y, long (written-so (digits i)))))
+  pub too_short : length s < at + 40 → 0 ≡ past_copy s at i
+  too_short h = cases (word_ahead text s at)
+      (λ y. absurd (omega (arith, h, past_fits text s at y, long (written_so (digits i)))))
       (λ n. rw n)
     where
-      long : (b : Bool) → 40 ≤ length (copyText b (digits i))
+      long : (b : Bool) → 40 ≤ length (copy_text b (digits i))
       long true = cases (ltb i 10) (λ y. rw y (omega arith)) (λ n. rw n (omega arith))
       long false = cases (ltb i 10) (λ y. rw y (omega arith)) (λ n. rw n (omega arith))
 
-  pub copy_passed : i ≤ mostSeats → (next : ℕ) → next ≡ pastCopy s at i → (next ≡ 0 → ⊥) → (state : List ℕ) → Sized state → ModuleFrom s at i (lateIn state) (after state next)
+  pub copy_passed : i ≤ most_seats → (next : ℕ) → next ≡ past_copy s at i → (next ≡ 0 → ⊥) → (state : List ℕ) → Sized state → ModuleFrom s at i (late_in state) (after state next)
   copy_passed few next is there state sized = record {
     answers = λ run h kinds dues n.
-        let late = lateIn state in
-        let start : Left s n at late (kindsIn (moduleDue i)) (numbersIn (moduleDue i)) (LineRead s late (duesIn run) (line (items_in run) (from s at n))) = record { rest = run; sure = h; kinds-left = kinds; dues-left = dues; answered = λ r y. y } in
-        let end = passed s n late (pieces (written-so (digits i)) i) at (found (written-so (digits i)) i (omega arith)) stands start in
+        let late = late_in state in
+        let start : Left s n at late (kinds_in (module_due i)) (numbers_in (module_due i)) (LineRead s late (dues_in run) (line (items_in run) (from s at n))) = record { rest = run; sure = h; kinds_left = kinds; dues_left = dues; answered = λ r y. y } in
+        let end = passed s n late (pieces (written_so (digits i)) i) at (found (written_so (digits i)) i (omega arith)) stands start in
         rw to (run_end s n (at + length text) late _ [] end (λ z. there (to ∙ z)) state refl);
     sized = sized;
   }
     where
-      stood : wordAhead text s at ≡ true
-      stood = cases (wordAhead text s at) (λ y. y) (λ n. absurd (there (is ∙ rw n)))
+      stood : word_ahead text s at ≡ true
+      stood = cases (word_ahead text s at) (λ y. y) (λ n. absurd (there (is ∙ rw n)))
 
       to : next ≡ at + length text
       to = is ∙ rw stood
 
       stands : Stands text s at
       stands = record {
-        here = bytes-stand text s at (and_left (bytesAhead text s at) (not (begins in_word (drop (at + length text) s))) stood);
-        over = not-true (begins in_word (drop (at + length text) s)) (and_right (bytesAhead text s at) (not (begins in_word (drop (at + length text) s))) stood);
+        here = bytes_stand text s at (and_left (bytes_ahead text s at) (not (begins in_word (drop (at + length text) s))) stood);
+        over = not-true (begins in_word (drop (at + length text) s)) (and_right (bytes_ahead text s at) (not (begins in_word (drop (at + length text) s))) stood);
       }

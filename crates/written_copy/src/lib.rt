@@ -1,14 +1,14 @@
 // A further module that stands as a written card has it, or tight, passed in one look at its bytes.
 ghost use Rattle.std.specs.Prelude.{◌≡◌, ◌≤◌};
-ghost use Rattle.card.specs.Limits.{mostSeats};
-ghost use Rattle.frame.specs.Frame.{pastWord, pastCopy};
+ghost use Rattle.card.specs.Limits.{most_seats};
+ghost use Rattle.frame.specs.Frame.{past_word as past_word_said, past_copy as past_copy_said};
 
 use letters::bytes::stands;
 use word_and_digit_looks::word_here;
 
 // The place behind these bytes, where they stand and no word goes on behind them; else 0.
 fn past_word(card: &[u8], at: usize, these: &[u8]) -> usize
-    ensures { result ≡ pastWord these.now card.now at }
+    ensures { result ≡ past_word_said these.now card.now at }
 {
     if word_here(card, at, these) {
         return at + these.len();
@@ -22,8 +22,8 @@ const SHORTEST: usize = 40;
 // The place behind processi = process1 [s1=si, si=s1] endmodule for seat i, where it stands as in a written card or tight; else 0.
 // The byte behind the first word tells which.
 pub fn past_copy(card: &[u8], at: usize, seat: usize) -> usize
-    requires { seat ≤ mostSeats }
-    ensures { result ≡ pastCopy card.now at seat }
+    requires { seat ≤ most_seats }
+    ensures { result ≡ past_copy_said card.now at seat }
 {
     if card.len() < SHORTEST {
         return 0;

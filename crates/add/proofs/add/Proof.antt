@@ -1,7 +1,7 @@
 -- `add::add` meets its contract: the deck, its live cards, the card and its place, in this order. Assumes nothing.
-use Rattle.add.proofs.Adding.{placedFor, add-refused, card-refused, card-taken}
-use Rattle.tidy.proofs.Entering.{changed-refused, verdict-sound, live-malformed, measured-live, live-none, live-some}
-use Rattle.outline.proofs.ReadInto.{arrays-none, refused-said, taken-said}
+use Rattle.add.proofs.Adding.{placed_for, add_refused, card_refused, card_taken}
+use Rattle.tidy.proofs.Entering.{changed_refused, verdict_sound, live_malformed, measured_live, live_none, live_some}
+use Rattle.outline.proofs.ReadInto.{arrays_none, refused_said, taken_said}
 use mathlib.Core.Path.{sym, ◌∙◌}
 use borrow.Author.Rules.{rules}
 use Rattle.add.proofs.add.Statement.{statement}
@@ -22,7 +22,7 @@ returns c =
     let at-judge-deck = at-judged.before.before in
     let start = at-judge-deck.before.before.before.before in
     let deck = start.args.deck.now in
-    changed-refused (add-refused deck start.args.number start.args.card.now (live-malformed deck (sym at-judge-deck.judge-deck.ensures ∙ at-judged.judged.given.1)))
+    changed_refused (add_refused deck start.args.number start.args.card.now (live_malformed deck (sym at-judge-deck.judge-deck.ensures ∙ at-judged.judged.given.1)))
 
 enum_told : tie.Need-enum-told
 enum_told c = search rules
@@ -32,7 +32,7 @@ measure-live-requires c κs =
     let at-enum-told = c.before in
     let at-judge-deck = at-enum-told.before.before in
     let start = at-judge-deck.before.before.before.before in
-    (verdict-sound start.args.deck.now (sym at-judge-deck.judge-deck.ensures ∙ at-enum-told.enum_told.given.1)).head
+    (verdict_sound start.args.deck.now (sym at-judge-deck.judge-deck.ensures ∙ at-enum-told.enum_told.given.1)).head
 
 same-length-2 : tie.Need-same-length-2
 same-length-2 c = search rules
@@ -44,11 +44,11 @@ returns-2 c =
     let at-judge-deck = at-enum-told.before.before in
     let start = at-judge-deck.before.before.before.before in
     let deck = start.args.deck.now in
-    let s = verdict-sound deck (sym at-judge-deck.judge-deck.ensures ∙ at-enum-told.enum_told.given.1) in
-    changed-refused (add-refused deck start.args.number start.args.card.now (live-none deck s at-measure-live.measure-live.ensures c.if1.true))
+    let s = verdict_sound deck (sym at-judge-deck.judge-deck.ensures ∙ at-enum-told.enum_told.given.1) in
+    changed_refused (add_refused deck start.args.number start.args.card.now (live_none deck s at-measure-live.measure-live.ensures c.if1.true))
 
 read-into-requires : tie.Need-read-into-requires
-read-into-requires c κs = arrays-none
+read-into-requires c κs = arrays_none
 
 enum-known-verdict : tie.Need-enum-known-verdict
 enum-known-verdict c = search rules
@@ -66,9 +66,9 @@ returns-3 c =
     let at-judge-deck = at-enum-told.before.before in
     let start = at-judge-deck.before.before.before.before in
     let deck = start.args.deck.now in
-    let s = verdict-sound deck (sym at-judge-deck.judge-deck.ensures ∙ at-enum-told.enum_told.given.1) in
-    let t = live-some deck s at-measure-live.measure-live.ensures at-if1.if1.false in
-    changed-refused (card-refused deck start.args.number start.args.card.now t (refused-said _ at-read-into.read-into.ensures (placedFor deck start.args.number start.args.card.now) at-verdict.verdict.given.1))
+    let s = verdict_sound deck (sym at-judge-deck.judge-deck.ensures ∙ at-enum-told.enum_told.given.1) in
+    let t = live_some deck s at-measure-live.measure-live.ensures at-if1.if1.false in
+    changed_refused (card_refused deck start.args.number start.args.card.now t (refused_said _ at-read-into.read-into.ensures (placed_for deck start.args.number start.args.card.now) at-verdict.verdict.given.1))
 
 enum-told-2 : tie.Need-enum-told-2
 enum-told-2 c = search rules
@@ -80,7 +80,7 @@ place-card-requires c κs =
     let at-judge-deck = at-enum-told.before.before in
     let start = at-judge-deck.before.before.before.before in
     let deck = start.args.deck.now in
-    (measured-live deck (verdict-sound deck (sym at-judge-deck.judge-deck.ensures ∙ at-enum-told.enum_told.given.1)) at-measure-live.measure-live.ensures, search rules)
+    (measured_live deck (verdict_sound deck (sym at-judge-deck.judge-deck.ensures ∙ at-enum-told.enum_told.given.1)) at-measure-live.measure-live.ensures, search rules)
 
 same-length-4 : tie.Need-same-length-4
 same-length-4 c = search rules
@@ -96,9 +96,9 @@ returns-4 c =
     let at-judge-deck = at-enum-told.before.before in
     let start = at-judge-deck.before.before.before.before in
     let deck = start.args.deck.now in
-    let s = verdict-sound deck (sym at-judge-deck.judge-deck.ensures ∙ at-enum-told.enum_told.given.1) in
-    let t = live-some deck s at-measure-live.measure-live.ensures at-if1.if1.false in
-    card-taken deck start.args.number start.args.card.now t (taken-said _ at-read-into.read-into.ensures (placedFor deck start.args.number start.args.card.now) at-enum-told2.enum-told2.given.1) at-place-card.place-card.ensures
+    let s = verdict_sound deck (sym at-judge-deck.judge-deck.ensures ∙ at-enum-told.enum_told.given.1) in
+    let t = live_some deck s at-measure-live.measure-live.ensures at-if1.if1.false in
+    card_taken deck start.args.number start.args.card.now t (taken_said _ at-read-into.read-into.ensures (placed_for deck start.args.number start.args.card.now) at-enum-told2.enum-told2.given.1) at-place-card.place-card.ensures
 
 pub add_spec : {M : Type 1} → statement M
 add_spec =

@@ -1,8 +1,8 @@
 -- `added_weights::add_stays` meets its contract: after j turns the first j branches are added, but for those that lead elsewhere. Assumes nothing.
-use Rattle.panel_numbers.proofs.Raised.{stays-none, stays-next, stays-else, sums_next, sums-still}
+use Rattle.panel_numbers.proofs.Raised.{stays_none, stays_next, stays_else, sums_next, sums_still}
 use Rattle.panel_numbers.specs.Fitting.{heaviest}
-use Rattle.panel_numbers.specs.Table.{branchesIn, addedStays}
-use Rattle.card.specs.Limits.{mostSeats, mostBranches}
+use Rattle.panel_numbers.specs.Table.{branches_in, added_stays}
+use Rattle.card.specs.Limits.{most_seats, most_branches}
 use lib.ListN.{length, get_or}
 use borrow.Author.Rules.{rules}
 use native.Mathlib.Omega.{arith}
@@ -14,7 +14,7 @@ use Rattle.added_weights.proofs.add_stays.Statement.{statement}
 use Rattle.added_weights.proofs.add_stays.Tie as tie
 
 abbrev invariant-loop : tie.invariant-loop
-invariant-loop stays₀ own able shared branches i many from j₀ stays j = (j ≤ many) × (stays ≡ addedStays shared own able (branchesIn branches i j) stays₀) × ((t : ℕ) → get_or stays t 0 ≤ heaviest + j * (mostSeats * 2 ^ 32))
+invariant-loop stays₀ own able shared branches i many from j₀ stays j = (j ≤ many) × (stays ≡ added_stays shared own able (branches_in branches i j) stays₀) × ((t : ℕ) → get_or stays t 0 ≤ heaviest + j * (most_seats * 2 ^ 32))
 
 abbrev decreases-loop : tie.decreases-loop
 decreases-loop stays₀ own able shared branches i many from j₀ stays j = many - j
@@ -23,7 +23,7 @@ mul-from : tie.Need-overflow-mul-from invariant-loop decreases-loop
 mul-from c = omega (arith, c.requires.statement)
 
 loop-holds : tie.Need-loop-init invariant-loop decreases-loop
-loop-holds c = (search rules, stays-none c.args.shared c.args.able c.args.own c.args.stays.now c.requires.long, λ t. omega (arith, c.requires.light t))
+loop-holds c = (search rules, stays_none c.args.shared c.args.able c.args.own c.args.stays.now c.requires.long, λ t. omega (arith, c.requires.light t))
 
 add-branch : tie.Need-overflow-add-branch invariant-loop decreases-loop
 add-branch c =
@@ -90,16 +90,16 @@ loop-again : tie.Need-loop-preserved invariant-loop decreases-loop
 loop-again c =
     let at-loop = c.before.before.before.before in
     let start = at-loop.before in
-    let here : start.args.i * mostBranches + at-loop.loop.j < length start.args.branches.now = omega (arith, start.requires.statement, start.requires.fit, start.requires.there) in
+    let here : start.args.i * most_branches + at-loop.loop.j < length start.args.branches.now = omega (arith, start.requires.statement, start.requires.fit, start.requires.there) in
     ⊎_elim
     (λ w.
     let small : w.3.result ≤ 2 ^ 32 = omega arith in
-    let next = stays-next start.args.shared start.args.able start.args.branches.now start.args.i at-loop.loop.j _ refl here c.before.end_of_lem.ensures.0 w.1.ensures.0 w.3.ensures w.1.ensures.1 start.args.own start.args.stays.now at-loop.loop.invariant.1 w.0.taken in
-    let fits = sums_next at-loop.loop.stays w.1.result (start.args.able * w.3.result) heaviest (mostSeats * 2 ^ 32) at-loop.loop.j at-loop.loop.invariant.2 (mul-le-mul start.requires.few small) in
+    let next = stays_next start.args.shared start.args.able start.args.branches.now start.args.i at-loop.loop.j _ refl here c.before.end_of_lem.ensures.0 w.1.ensures.0 w.3.ensures w.1.ensures.1 start.args.own start.args.stays.now at-loop.loop.invariant.1 w.0.taken in
+    let fits = sums_next at-loop.loop.stays w.1.result (start.args.able * w.3.result) heaviest (most_seats * 2 ^ 32) at-loop.loop.j at-loop.loop.invariant.2 (mul-le-mul start.requires.few small) in
     (search rules, w.4 ∙ next, rw w.4 fits))
     (λ w.
-    let next = stays-else start.args.shared start.args.able start.args.branches.now start.args.i at-loop.loop.j _ refl here c.before.end_of_lem.ensures.0 start.args.own start.args.stays.now at-loop.loop.invariant.1 w.0.left in
-    let fits = sums-still at-loop.loop.stays heaviest (mostSeats * 2 ^ 32) at-loop.loop.j at-loop.loop.invariant.2 in
+    let next = stays_else start.args.shared start.args.able start.args.branches.now start.args.i at-loop.loop.j _ refl here c.before.end_of_lem.ensures.0 start.args.own start.args.stays.now at-loop.loop.invariant.1 w.0.left in
+    let fits = sums_still at-loop.loop.stays heaviest (most_seats * 2 ^ 32) at-loop.loop.j at-loop.loop.invariant.2 in
     (search rules, w.1 ∙ next, rw w.1 fits))
     c.if1.branch
 

@@ -1,8 +1,8 @@
 -- `added_weights::add_weights` meets its contract: after j turns the first j branches are added. A sum fits, since none before was large and a branch adds little. Assumes nothing.
 use Rattle.panel_numbers.proofs.Raised.{added_none, added_next, sums_next}
 use Rattle.panel_numbers.specs.Fitting.{heaviest}
-use Rattle.panel_numbers.specs.Table.{place_of, branchesIn, added}
-use Rattle.card.specs.Limits.{mostSeats}
+use Rattle.panel_numbers.specs.Table.{place_of, branches_in, added}
+use Rattle.card.specs.Limits.{most_seats}
 use lib.ListN.{get_or}
 use borrow.Author.Rules.{rules}
 use native.Mathlib.Omega.{arith}
@@ -13,7 +13,7 @@ use Rattle.added_weights.proofs.add_weights.Statement.{statement}
 use Rattle.added_weights.proofs.add_weights.Tie as tie
 
 abbrev invariant-loop : tie.invariant-loop
-invariant-loop row₀ able shared branches i many from j₀ row j = (j ≤ many) × (row ≡ added shared able (branchesIn branches i j) row₀) × ((t : ℕ) → get_or row t 0 ≤ heaviest + j * (mostSeats * 2 ^ 32))
+invariant-loop row₀ able shared branches i many from j₀ row j = (j ≤ many) × (row ≡ added shared able (branches_in branches i j) row₀) × ((t : ℕ) → get_or row t 0 ≤ heaviest + j * (most_seats * 2 ^ 32))
 
 abbrev decreases-loop : tie.decreases-loop
 decreases-loop row₀ able shared branches i many from j₀ row j = many - j
@@ -102,7 +102,7 @@ loop-again c =
     let small : c.units_of.result ≤ 2 ^ 32 = omega arith in
     let args = start.args in
     let next = added_next args.shared args.able args.branches.now args.i at-loop.loop.j _ refl (omega (arith, start.requires.statement, start.requires.fit, start.requires.there)) at_end_of.end_of_lem.ensures.0 at-becomes.becomes.ensures.0 c.units_of.ensures at-becomes.becomes.ensures.1 at_end_of.end_of_lem.ensures.1 args.row.now at-loop.loop.invariant.1 in
-    let fits = sums_next at-loop.loop.row (place_of at_end_of.end_of_lem.result at-becomes.becomes.result) (args.able * c.units_of.result) heaviest (mostSeats * 2 ^ 32) at-loop.loop.j at-loop.loop.invariant.2 (mul-le-mul start.requires.few small) in
+    let fits = sums_next at-loop.loop.row (place_of at_end_of.end_of_lem.result at-becomes.becomes.result) (args.able * c.units_of.result) heaviest (most_seats * 2 ^ 32) at-loop.loop.j at-loop.loop.invariant.2 (mul-le-mul start.requires.few small) in
     (search rules, next, fits)
 
 returns : tie.Need-returns invariant-loop decreases-loop

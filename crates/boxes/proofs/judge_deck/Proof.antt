@@ -3,7 +3,7 @@ use Prim.Native.Nat.{ℕ, ◌+◌}
 use mathlib.Core.Path.{refl, sym, ap, ap₂, ◌∙◌}
 use native.Mathlib.Omega.{arith}
 use borrow.Author.Rules.{rules}
-use Rattle.boxes.proofs.Laws.{too_long, empty-deck, no-cards, many-cards, cut_short, Going, next-least, next_last, begins, ended, stops, goes_on}
+use Rattle.boxes.proofs.Laws.{too_long, empty_deck, no_cards, many_cards, cut_short, Going, next_least, next_last, begins, ended, stops, goes_on}
 use Rattle.boxes.proofs.judge_deck.Statement.{statement}
 use Rattle.boxes.proofs.judge_deck.Tie as tie
 
@@ -17,7 +17,7 @@ returns : tie.Need-returns invariant-loop decreases-loop
 returns c = too_long c.before.before.args.deck.now c.if1.true
 
 returns-2 : tie.Need-returns-2 invariant-loop decreases-loop
-returns-2 c = empty-deck c.before.before.before.args.deck.now c.if2.true
+returns-2 c = empty_deck c.before.before.before.args.deck.now c.if2.true
 
 shared-slice-read-wide : tie.Need-shared-slice-read-wide invariant-loop decreases-loop
 shared-slice-read-wide c = search rules
@@ -30,7 +30,7 @@ returns-3 c =
     let at_wide = c.before in
     let at-if1 = at_wide.before.before.before in
     let entry = at-if1.before.before in
-    no-cards entry.args.deck.now at-if1.if1.false (sym at_wide.wide.ensures.0 ∙ c.if3.true)
+    no_cards entry.args.deck.now at-if1.if1.false (sym at_wide.wide.ensures.0 ∙ c.if3.true)
 
 returns-4 : tie.Need-returns-4 invariant-loop decreases-loop
 returns-4 c =
@@ -39,7 +39,7 @@ returns-4 c =
     let at-if1 = at_wide.before.before.before in
     let entry = at-if1.before.before in
     let e = at_wide.wide.ensures.0 in
-    many-cards entry.args.deck.now at-if1.if1.false (λ k. at-if3.if3.false (e ∙ k)) (omega (arith, e, c.if4.true))
+    many_cards entry.args.deck.now at-if1.if1.false (λ k. at-if3.if3.false (e ∙ k)) (omega (arith, e, c.if4.true))
 
 mul-if5 : tie.Need-overflow-mul-if5 invariant-loop decreases-loop
 mul-if5 c = omega (arith, c.before.before.wide.ensures.1)
@@ -148,8 +148,8 @@ loop-again c =
     let entry = at-loop.before.before.before.before.before.before.before.before.before in
     let inv = at-loop.loop.invariant in
     record {
-      least-is = ap (λ (n : ℕ). n + 1) at-word-at.word_at.ensures.0 ∙ next-least entry.args.deck.now at-loop.loop.at;
-      last-is = ap₂ (λ (n m : ℕ). n + m) at-word-at2.word-at2.ensures.0 c.word-at3.ensures.0 ∙ next_last entry.args.deck.now at-loop.loop.at;
+      least_is = ap (λ (n : ℕ). n + 1) at-word-at.word_at.ensures.0 ∙ next_least entry.args.deck.now at-loop.loop.at;
+      last_is = ap₂ (λ (n m : ℕ). n + m) at-word-at2.word-at2.ensures.0 c.word-at3.ensures.0 ∙ next_last entry.args.deck.now at-loop.loop.at;
       same = goes_on entry.args.deck.now at-loop.loop.at at-loop.loop.least at-loop.loop.last at-loop.loop.left inv
           at-loop-test.loop-test.true at-judge-row.judge-row.ensures at-enum-told.enum_told.given.1;
       room = omega (arith, inv.room, at-loop-test.loop-test.true);

@@ -2,9 +2,9 @@
 use mathlib.Core.Path.{sym, ◌∙◌}
 use native.Mathlib.Omega.{arith}
 use borrow.Author.Rules.{rules}
-use Rattle.deck.specs.Lookup.{theExpansion}
+use Rattle.deck.specs.Lookup.{the_expansion}
 use Rattle.boxes.proofs.Seeking.{Sought}
-use Rattle.boxes.proofs.Lookup.{taken-head, place-small, with-bad-base, with-bad-expansion, with-expansion, with-base}
+use Rattle.boxes.proofs.Lookup.{taken_head, place_small, with_bad_base, with_bad_expansion, with_expansion, with_base}
 use Rattle.boxes.proofs.locate_with.Statement.{statement}
 use Rattle.boxes.proofs.locate_with.Tie as tie
 
@@ -22,7 +22,7 @@ returns c =
     let at_first = c.before.before in
     let at-judge-deck = at_first.before.before in
     let entry = at-judge-deck.before.before.before in
-    with-bad-base entry.args.base.now entry.args.expansion.now entry.args.number
+    with_bad_base entry.args.base.now entry.args.expansion.now entry.args.number
     (sym at-judge-deck.judge-deck.ensures ∙ at_first.first.given.1) c.nowhere.ensures
 
 enum_told : tie.Need-enum-told
@@ -39,7 +39,7 @@ add-nowhere c =
     let at_second = c.before in
     let at-judge-deck2 = at_second.before.before in
     let entry = at-judge-deck2.before.before.before.before.before.before in
-    let h = place-small entry.args.expansion.now (sym at-judge-deck2.judge-deck2.ensures ∙ at_second.second.given.1) in omega (arith, h)
+    let h = place_small entry.args.expansion.now (sym at-judge-deck2.judge-deck2.ensures ∙ at_second.second.given.1) in omega (arith, h)
 
 nowhere-requires-2 : tie.Need-nowhere-requires-2
 nowhere-requires-2 c κs = search rules
@@ -51,7 +51,7 @@ returns-2 c =
     let at-enum-told = at-judge-deck2.before in
     let at-judge-deck = at-enum-told.before.before in
     let entry = at-judge-deck.before.before.before in
-    with-bad-expansion entry.args.base.now entry.args.expansion.now entry.args.number
+    with_bad_expansion entry.args.base.now entry.args.expansion.now entry.args.number
     (sym at-judge-deck.judge-deck.ensures ∙ at-enum-told.enum_told.given.1)
     (sym at-judge-deck2.judge-deck2.ensures ∙ at_second.second.given.1) c.nowhere2.ensures
 
@@ -64,15 +64,15 @@ seek-requires c κs =
     let at-enum-told = at-judge-deck2.before in
     let at-judge-deck = at-enum-told.before.before in
     let entry = at-judge-deck.before.before.before in
-    let base = taken-head entry.args.base.now (sym at-judge-deck.judge-deck.ensures ∙ at-enum-told.enum_told.given.1) in
-    let expansion = taken-head entry.args.expansion.now (sym at-judge-deck2.judge-deck2.ensures ∙ c.enum-told2.given.1) in
+    let base = taken_head entry.args.base.now (sym at-judge-deck.judge-deck.ensures ∙ at-enum-told.enum_told.given.1) in
+    let expansion = taken_head entry.args.expansion.now (sym at-judge-deck2.judge-deck2.ensures ∙ c.enum-told2.given.1) in
     search (base, expansion)
 
 abbrev begun : tie.After-seek → tie.Start
 begun c = c.before.before.before.before.before.before.before.before.before
 
 -- the card is sought in the expansion before the base
-expansion-first : (c : tie.After-seek) → Sought (begun c).args.expansion.now (begun c).args.number theExpansion c.seek.result
+expansion-first : (c : tie.After-seek) → Sought (begun c).args.expansion.now (begun c).args.number the_expansion c.seek.result
 expansion-first c = c.seek.ensures
 
 enum-known-verdict : tie.Need-enum-known-verdict
@@ -85,8 +85,8 @@ seek-requires-2 c κs =
     let at-enum-told = at-judge-deck2.before in
     let at-judge-deck = at-enum-told.before.before in
     let entry = at-judge-deck.before.before.before in
-    let base = taken-head entry.args.base.now (sym at-judge-deck.judge-deck.ensures ∙ at-enum-told.enum_told.given.1) in
-    let expansion = taken-head entry.args.expansion.now (sym at-judge-deck2.judge-deck2.ensures ∙ at-enum-told2.enum-told2.given.1) in
+    let base = taken_head entry.args.base.now (sym at-judge-deck.judge-deck.ensures ∙ at-enum-told.enum_told.given.1) in
+    let expansion = taken_head entry.args.expansion.now (sym at-judge-deck2.judge-deck2.ensures ∙ at-enum-told2.enum-told2.given.1) in
     search (base, expansion)
 
 returns-3 : tie.Need-returns-3
@@ -98,7 +98,7 @@ returns-3 c =
     let at-enum-told = at-judge-deck2.before in
     let at-judge-deck = at-enum-told.before.before in
     let entry = at-judge-deck.before.before.before in
-    with-base entry.args.base.now entry.args.expansion.now entry.args.number
+    with_base entry.args.base.now entry.args.expansion.now entry.args.number
     (sym at-judge-deck.judge-deck.ensures ∙ at-enum-told.enum_told.given.1)
     (sym at-judge-deck2.judge-deck2.ensures ∙ at-enum-told2.enum-told2.given.1) _ (expansion-first at-seek) at-verdict.verdict.given.1
     c.seek2.ensures
@@ -114,7 +114,7 @@ returns-4 c =
     let at-enum-told = at-judge-deck2.before in
     let at-judge-deck = at-enum-told.before.before in
     let entry = at-judge-deck.before.before.before in
-    with-expansion entry.args.base.now entry.args.expansion.now entry.args.number
+    with_expansion entry.args.base.now entry.args.expansion.now entry.args.number
     (sym at-judge-deck.judge-deck.ensures ∙ at-enum-told.enum_told.given.1)
     (sym at-judge-deck2.judge-deck2.ensures ∙ at-enum-told2.enum-told2.given.1) _ (expansion-first at-seek) c.enum-told3.given.1
 

@@ -2,7 +2,7 @@
 use mathlib.Core.Path.{sym, ◌∙◌}
 use native.Mathlib.Omega.{arith}
 use borrow.Author.Rules.{rules}
-use Rattle.boxes.proofs.Seeking.{Seeking, seek-begins, seek-none, seek_hit, seek-miss}
+use Rattle.boxes.proofs.Seeking.{Seeking, seek_begins, seek_none, seek_hit, seek_miss}
 use Rattle.boxes.proofs.seek.Statement.{statement}
 use Rattle.boxes.proofs.seek.Tie as tie
 
@@ -21,7 +21,7 @@ wide-requires c κs = search rules
 loop-holds : tie.Need-loop-init invariant-loop decreases-loop
 loop-holds c =
     let entry = c.before.before.before in
-    seek-begins entry.args.deck.now entry.args.number _ entry.requires c.wide.ensures.0
+    seek_begins entry.args.deck.now entry.args.number _ entry.requires c.wide.ensures.0
 
 is-live-requires : tie.Need-is-live-requires invariant-loop decreases-loop
 is-live-requires c κs = omega (arith, c.before.loop.invariant.room, c.loop-test.true)
@@ -71,7 +71,7 @@ loop-again c =
     let at-loop-test = at-is-live.before in
     let at-loop = at-loop-test.before in
     let entry = at-loop.before.before.before.before in
-    seek-miss entry.args.deck.now entry.args.number 0 at-loop.loop.left at-loop.loop.at at-loop.loop.invariant
+    seek_miss entry.args.deck.now entry.args.number 0 at-loop.loop.left at-loop.loop.at at-loop.loop.invariant
     at-loop-test.loop-test.true (sym c.if1.false ∙ at-is-live.is_live.ensures)
 
 nowhere-requires : tie.Need-nowhere-requires invariant-loop decreases-loop
@@ -82,7 +82,7 @@ returns-2 c =
     let at-loop-test = c.before in
     let at-loop = at-loop-test.before in
     let entry = at-loop.before.before.before.before in
-    seek-none entry.args.deck.now entry.args.number entry.args.which at-loop.loop.left at-loop.loop.at at-loop.loop.invariant
+    seek_none entry.args.deck.now entry.args.number entry.args.which at-loop.loop.left at-loop.loop.at at-loop.loop.invariant
     at-loop-test.loop-test.false c.nowhere.ensures
 
 pub seek-spec : {M : Type 1} → statement M

@@ -1,6 +1,6 @@
 -- `branch_text::put_branch` meets its contract: its parts, one after the other. Assumes nothing.
-use Rattle.phrases.proofs.Laws.{puts_then, puts-as}
-use Rattle.branch_text.proofs.Laws.{branch-parts}
+use Rattle.phrases.proofs.Laws.{puts_then, puts_as}
+use Rattle.branch_text.proofs.Laws.{branch_parts}
 use borrow.Author.Rules.{rules}
 use Rattle.branch_text.proofs.put_branch.Statement.{statement}
 use Rattle.branch_text.proofs.put_branch.Tie as tie
@@ -31,7 +31,7 @@ returns c =
     let at-set-of = at_end_of.before in
     let at-units-of = at-set-of.before in
     let start = at-units-of.before.before in
-    puts-as _ (branch-parts start.args.style start.args.branch at-units-of.units_of.ensures at-set-of.set-of.ensures.0 at_end_of.end_of_lem.ensures.0) (puts_then at-put-weight.put-weight.ensures at-put-end.put-end.ensures)
+    puts_as _ (branch_parts start.args.style start.args.branch at-units-of.units_of.ensures at-set-of.set-of.ensures.0 at_end_of.end_of_lem.ensures.0) (puts_then at-put-weight.put-weight.ensures at-put-end.put-end.ensures)
 
 pub put-branch-spec : {M : Type 1} → statement M
 put-branch-spec =

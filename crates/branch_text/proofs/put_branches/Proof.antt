@@ -1,7 +1,7 @@
 -- `branch_text::put_branches` meets its contract: none, or the first and then the others. Assumes nothing.
-use Rattle.branch_text.proofs.Laws.{summed-none, summed-some}
-use Rattle.branch_text.specs.Branches.{branchText}
-use Rattle.phrases.proofs.Laws.{puts_then, puts-as, puts_none}
+use Rattle.branch_text.proofs.Laws.{summed_none, summed_some}
+use Rattle.branch_text.specs.Branches.{branch_text}
+use Rattle.phrases.proofs.Laws.{puts_then, puts_as, puts_none}
 use borrow.Author.Rules.{rules}
 use Rattle.branch_text.proofs.put_branches.Statement.{statement}
 use Rattle.branch_text.proofs.put_branches.Tie as tie
@@ -13,7 +13,7 @@ returns : tie.Need-returns
 returns c =
     let at-if1 = c.before in
     let start = at-if1.before.before.before in
-    puts-as _ (summed-none (branchText start.args.style) start.args.branches.now at-if1.if1.true) (puts_none (search rules) c.place.ensures)
+    puts_as _ (summed_none (branch_text start.args.style) start.args.branches.now at-if1.if1.true) (puts_none (search rules) c.place.ensures)
 
 shared-slice-read-put-branch : tie.Need-shared-slice-read-put-branch
 shared-slice-read-put-branch c = search rules
@@ -42,7 +42,7 @@ returns-2 c =
     let at-put-branch = at-put-more.before.before.before.before.before in
     let at-if1 = at-put-branch.before.before.before in
     let start = at-if1.before.before.before in
-    puts-as _ (summed-some (branchText start.args.style) start.args.branches.now at-if1.if1.false) (puts_then at-put-branch.put-branch.ensures at-put-more.put-more.ensures)
+    puts_as _ (summed_some (branch_text start.args.style) start.args.branches.now at-if1.if1.false) (puts_then at-put-branch.put-branch.ensures at-put-more.put-more.ensures)
 
 pub put-branches-spec : {M : Type 1} → statement M
 put-branches-spec = tie.close (tie.spec place-requires

@@ -1,9 +1,9 @@
 -- `branch_text::put_more` meets its contract: one branch more after each turn. Assumes nothing.
-use Rattle.branch_text.proofs.Laws.{someMore, more-next, more-end}
-use Rattle.branch_text.specs.Branches.{branchText}
-use Rattle.phrases.proofs.Laws.{put_first, puts_then, puts-as, puts_none}
+use Rattle.branch_text.proofs.Laws.{some_more, more_next, more_end}
+use Rattle.branch_text.specs.Branches.{branch_text}
+use Rattle.phrases.proofs.Laws.{put_first, puts_then, puts_as, puts_none}
 use Rattle.phrases.specs.Puts.{Puts}
-use Rattle.room.proofs.Laws.{put-length}
+use Rattle.room.proofs.Laws.{put_length}
 use lib.ListN.{length}
 use Prim.Native.Nat.{◌≤◌, ◌-◌}
 use borrow.Author.Rules.{rules}
@@ -11,7 +11,7 @@ use Rattle.branch_text.proofs.put_more.Statement.{statement}
 use Rattle.branch_text.proofs.put_more.Tie as tie
 
 abbrev invariant-loop : tie.invariant-loop
-invariant-loop room₀ at branches style to₀ i₀ t8 room to i = (i ≤ length branches) × Puts room₀ room at (someMore (branchText style) branches i) to
+invariant-loop room₀ at branches style to₀ i₀ t8 room to i = (i ≤ length branches) × Puts room₀ room at (some_more (branch_text style) branches i) to
 
 abbrev decreases-loop : tie.decreases-loop
 decreases-loop room₀ at branches style to₀ i₀ t8 room to i = length branches - i
@@ -50,16 +50,16 @@ loop-again c =
     let at-loop-test = at-put-bytes.before.before.before in
     let at-loop = at-loop-test.before in
     let start = at-loop.before.before.before.before in
-    (search rules, puts-as _ (more-next (branchText start.args.style) start.args.branches.now _ at-loop-test.loop-test.true) (puts_then at-loop.loop.invariant.1 (puts_then (put_first at-put-bytes.put-bytes.ensures) at-put-branch.put-branch.ensures)))
+    (search rules, puts_as _ (more_next (branch_text start.args.style) start.args.branches.now _ at-loop-test.loop-test.true) (puts_then at-loop.loop.invariant.1 (puts_then (put_first at-put-bytes.put-bytes.ensures) at-put-branch.put-branch.ensures)))
 
 same_length : tie.Need-same-length invariant-loop decreases-loop
-same_length c = put-length c.before.loop.invariant.1.put
+same_length c = put_length c.before.loop.invariant.1.put
 
 returns : tie.Need-returns invariant-loop decreases-loop
 returns c =
     let at-loop = c.before in
     let start = at-loop.before.before.before.before in
-    more-end (branchText start.args.style) start.args.branches.now _ c.loop-test.false at-loop.loop.invariant.1
+    more_end (branch_text start.args.style) start.args.branches.now _ c.loop-test.false at-loop.loop.invariant.1
 
 pub put-more-spec : {M : Type 1} → statement M
 put-more-spec = tie.close (tie.spec invariant-loop

@@ -1,6 +1,6 @@
 -- `branch_text::put_seat` meets its contract: by the digits. Assumes nothing.
-use Rattle.phrases.proofs.Laws.{put_first, puts_then, puts-as}
-use Rattle.room.proofs.Decimal.{decimal-one}
+use Rattle.phrases.proofs.Laws.{put_first, puts_then, puts_as}
+use Rattle.room.proofs.Decimal.{decimal_one}
 use borrow.Author.Rules.{rules}
 use Rattle.branch_text.proofs.put_seat.Statement.{statement}
 use Rattle.branch_text.proofs.put_seat.Tie as tie
@@ -26,7 +26,7 @@ returns c =
     let at-put-seven = at-put-byte.before.before.before.before in
     let at-if1 = at-put-seven.before.before in
     let start = at-if1.before.before in
-    puts-as _ (λ t. rw (decimal-one start.args.end at-if1.if1.true))
+    puts_as _ (λ t. rw (decimal_one start.args.end at-if1.if1.true))
     (puts_then (put_first at-put-seven.put-seven.ensures) (put_first at-put-byte.put_byte.ensures))
 
 slice-aggregate-put-numbered : tie.Need-slice-aggregate-put-numbered

@@ -2,7 +2,7 @@
 use lib.ListN.{set}
 use native.Mathlib.Omega.{arith}
 use mathlib.Core.Path.{ap}
-use Rattle.branches.proofs.BranchLaws.{weight-halts, update-halts, end-halts, close-halts, sets-halt, branch_read, weight-few}
+use Rattle.branches.proofs.BranchLaws.{weight_halts, update_halts, end_halts, close_halts, sets_halt, branch_read, weight_few}
 use borrow.Author.Rules.{rules}
 use Rattle.branches.proofs.branch.Statement.{statement}
 use Rattle.branches.proofs.branch.Tie as tie
@@ -11,7 +11,7 @@ weight-requires : tie.Need-weight-requires
 weight-requires c κs = c.before.before.requires.0
 
 returns : tie.Need-returns
-returns c = weight-halts _ _ _ _ _ _ _ _ c.before.weight.ensures c.if1.true
+returns c = weight_halts _ _ _ _ _ _ _ _ c.before.weight.ensures c.if1.true
 
 element-copy-out-units : tie.Need-element-copy-out-units
 element-copy-out-units c = search rules
@@ -24,7 +24,7 @@ returns-2 c =
     let at-updated = c.before in
     let at-if1 = at-updated.before.before.before in
     let at-weight = at-if1.before in
-    update-halts _ _ _ _ _ _ _ _ at-weight.weight.ensures at-if1.if1.false _ at-updated.updated.ensures c.if2.true
+    update_halts _ _ _ _ _ _ _ _ at-weight.weight.ensures at-if1.if1.false _ at-updated.updated.ensures c.if2.true
 
 number-requires : tie.Need-number-requires
 number-requires c κs = c.before.before.updated.ensures.sized
@@ -36,7 +36,7 @@ returns-3 c =
     let at-updated = at-if2.before in
     let at-if1 = at-updated.before.before.before in
     let at-weight = at-if1.before in
-    end-halts _ _ _ _ _ _ _ _ at-weight.weight.ensures at-if1.if1.false _ at-updated.updated.ensures at-if2.if2.false _
+    end_halts _ _ _ _ _ _ _ _ at-weight.weight.ensures at-if1.if1.false _ at-updated.updated.ensures at-if2.if2.false _
     at-number.number.ensures c.if3.true
 
 sign-requires : tie.Need-sign-requires
@@ -51,7 +51,7 @@ returns-4 c =
     let at-updated = at-if2.before in
     let at-if1 = at-updated.before.before.before in
     let at-weight = at-if1.before in
-    close-halts _ _ _ _ _ _ _ _ at-weight.weight.ensures at-if1.if1.false _ at-updated.updated.ensures at-if2.if2.false _
+    close_halts _ _ _ _ _ _ _ _ at-weight.weight.ensures at-if1.if1.false _ at-updated.updated.ensures at-if2.if2.false _
     at-number.number.ensures at-if3.if3.false _ at_sign.sign.ensures c.if4.true
 
 element-copy-out-to : tie.Need-element-copy-out-to
@@ -74,14 +74,14 @@ returns-5 c =
     let at-updated = at-if2.before in
     let at-if1 = at-updated.before.before.before in
     let at-weight = at-if1.before in
-    sets-halt _ _ _ _ _ _ _ _ at-weight.weight.ensures at-if1.if1.false _ at-updated.updated.ensures at-if2.if2.false _
+    sets_halt _ _ _ _ _ _ _ _ at-weight.weight.ensures at-if1.if1.false _ at-updated.updated.ensures at-if2.if2.false _
     at-number.number.ensures at-if3.if3.false _ at_sign.sign.ensures at-if4.if4.false _ at-sets.sets.ensures c.if5.true
 
 cast-pack-branch : tie.Need-overflow-cast-pack-branch
 cast-pack-branch c =
     let at-if1 = c.before.before.before.before.before.before.before.before.before.before.before.before.before.before in
     let at-weight = at-if1.before in
-    omega (arith, weight-few _ at-weight.weight.ensures at-if1.if1.false)
+    omega (arith, weight_few _ at-weight.weight.ensures at-if1.if1.false)
 
 element-copy-out-pack-branch : tie.Need-element-copy-out-pack-branch
 element-copy-out-pack-branch c = search rules

@@ -1,20 +1,20 @@
 -- Invariant: an answer to the branches that are left answers the whole (Going, proofs/BranchLaws.antt). Assumes nothing.
 use Prim.Native.Nat.{◌-◌}
 use native.Mathlib.Omega.{arith}
-use Rattle.card.specs.Limits.{mostBranches}
-use Rattle.late.specs.State.{lateIn}
-use Rattle.parts.proofs.Steps.{next-at}
-use Rattle.branches.proofs.BranchLaws.{Going, going_start, going-stops, going-closed, going_more, going-past, branch-few}
+use Rattle.card.specs.Limits.{most_branches}
+use Rattle.late.specs.State.{late_in}
+use Rattle.parts.proofs.Steps.{next_at}
+use Rattle.branches.proofs.BranchLaws.{Going, going_start, going_stops, going_closed, going_more, going_past, branch_few}
 use borrow.Author.Rules.{rules}
 use Rattle.branches.proofs.branches.Statement.{statement}
 use Rattle.branches.proofs.branches.Tie as tie
 
 abbrev invariant-loop : tie.invariant-loop
 invariant-loop card at bounds array₀ first state₀ next₀ total₀ count₀ array state next total count =
-    Going bounds card first (lateIn state₀) array₀ next₀ count total array next state
+    Going bounds card first (late_in state₀) array₀ next₀ count total array next state
 
 abbrev decreases-loop : tie.decreases-loop
-decreases-loop card at bounds array₀ first state₀ next₀ total₀ count₀ array state next total count = mostBranches - count
+decreases-loop card at bounds array₀ first state₀ next₀ total₀ count₀ array state next total count = most_branches - count
 
 loop-holds : tie.Need-loop-init invariant-loop decreases-loop
 loop-holds c =
@@ -39,7 +39,7 @@ returns c =
     let at-branch = c.before in
     let at-loop-test = at-branch.before.before.before in
     let at-loop = at-loop-test.before in
-    going-stops at-loop.loop.invariant at-loop-test.loop-test.true _ at-branch.branch.ensures c.if1.true
+    going_stops at-loop.loop.invariant at-loop-test.loop-test.true _ at-branch.branch.ensures c.if1.true
 
 add-count : tie.Need-overflow-add-count invariant-loop decreases-loop
 add-count c = omega (arith, c.before.before.before.before.loop-test.true)
@@ -53,7 +53,7 @@ add_total c =
     let at-branch = at-if1.before in
     let at-loop-test = at-branch.before.before.before in
     let at-loop = at-loop-test.before in
-    omega (arith, branch-few _ at-branch.branch.ensures at-if1.if1.false, at-loop.loop.invariant.small, at-loop-test.loop-test.true)
+    omega (arith, branch_few _ at-branch.branch.ensures at-if1.if1.false, at-loop.loop.invariant.small, at-loop-test.loop-test.true)
 
 step-further-requires : tie.Need-step-further-requires invariant-loop decreases-loop
 step-further-requires c κs = search rules
@@ -72,8 +72,8 @@ returns-2 c =
     let at-loop-test = at-branch.before.before.before in
     let at-loop = at-loop-test.before in
     let entry = at-loop.before.before in
-    going-closed at-loop.loop.invariant at-loop-test.loop-test.true _ at-branch.branch.ensures at-if1.if1.false
-    (next-at entry.args.card.now at-branch.branch.result at-step-further.step-further.result at-step-further.step-further.ensures)
+    going_closed at-loop.loop.invariant at-loop-test.loop-test.true _ at-branch.branch.ensures at-if1.if1.false
+    (next_at entry.args.card.now at-branch.branch.result at-step-further.step-further.result at-step-further.step-further.ensures)
     at-if2.if2.true c.closed.ensures
 
 loop-less : tie.Need-loop-smaller invariant-loop decreases-loop
@@ -90,7 +90,7 @@ loop-again c =
     let at-loop = at-loop-test.before in
     let entry = at-loop.before.before in
     going_more at-loop.loop.invariant at-loop-test.loop-test.true _ at-branch.branch.ensures at-if1.if1.false
-    (next-at entry.args.card.now at-branch.branch.result at-step-further.step-further.result at-step-further.step-further.ensures)
+    (next_at entry.args.card.now at-branch.branch.result at-step-further.step-further.result at-step-further.step-further.ensures)
     c.if2.false
 
 step-requires : tie.Need-step-requires invariant-loop decreases-loop
@@ -105,8 +105,8 @@ returns-3 c =
     let at-loop-test = at-step.before in
     let at-loop = at-loop-test.before in
     let entry = at-loop.before.before in
-    going-past at-loop.loop.invariant at-loop-test.loop-test.false
-    (next-at entry.args.card.now at-loop.loop.next at-step.step.result at-step.step.ensures) c.past.ensures
+    going_past at-loop.loop.invariant at-loop-test.loop-test.false
+    (next_at entry.args.card.now at-loop.loop.next at-step.step.result at-step.step.ensures) c.past.ensures
 
 pub branches-spec : {M : Type 1} → statement M
 branches-spec =

@@ -1,5 +1,5 @@
 -- `branches::past` meets its contract: one branch too many is past the limit where it starts with a number, and else a stop. Assumes nothing.
-use Rattle.branches.proofs.BranchLaws.{number_past, decimal-past, none-past}
+use Rattle.branches.proofs.BranchLaws.{number_past, decimal_past, none_past}
 use Rattle.branches.proofs.past.Statement.{statement}
 use Rattle.branches.proofs.past.Tie as tie
 
@@ -19,7 +19,7 @@ returns-2 : tie.Need-returns-2
 returns-2 c =
     let at-if2 = c.before.before in
     let entry = at-if2.before.before.before.before in
-    decimal-past entry.args.mark at-if2.if2.true c.stop2.ensures.0
+    decimal_past entry.args.mark at-if2.if2.true c.stop2.ensures.0
 
 stop-requires-3 : tie.Need-stop-requires-3
 stop-requires-3 c κs = c.before.before.before.before.before.requires
@@ -29,7 +29,7 @@ returns-3 c =
     let at-if2 = c.before.before in
     let at-if1 = at-if2.before.before in
     let entry = at-if1.before.before in
-    none-past entry.args.mark at-if1.if1.false at-if2.if2.false c.stop3.ensures.0
+    none_past entry.args.mark at-if1.if1.false at-if2.if2.false c.stop3.ensures.0
 
 pub past-spec : {M : Type 1} → statement M
 past-spec =

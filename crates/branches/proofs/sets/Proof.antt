@@ -1,5 +1,5 @@
 -- By whether a number is shared (proofs/SettingLaws.antt). Assumes nothing.
-use Rattle.branches.proofs.SettingLaws.{none-shared, shared}
+use Rattle.branches.proofs.SettingLaws.{none_shared, shared}
 use borrow.Author.Rules.{rules}
 use Rattle.branches.proofs.sets.Statement.{statement}
 use Rattle.branches.proofs.sets.Tie as tie
@@ -11,7 +11,7 @@ returns : tie.Need-returns
 returns c =
     let entry = c.before.before in
     let a = entry.args in
-    none-shared _ _ _ c.if1.true entry.requires.1 a.state.now entry.requires.0
+    none_shared _ _ _ c.if1.true entry.requires.1 a.state.now entry.requires.0
 
 sub-most : tie.Need-overflow-sub-most
 sub-most c = search rules

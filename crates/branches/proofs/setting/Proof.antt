@@ -1,7 +1,7 @@
 -- By whether a `&` stands there; then a way out for each part (proofs/SettingLaws.antt). Assumes nothing.
 use native.Mathlib.Omega.{arith}
-use Rattle.parts.proofs.Steps.{next-at}
-use Rattle.branches.proofs.SettingLaws.{none-set, words-halt, value-halts, close-halts, set-read, set-small}
+use Rattle.parts.proofs.Steps.{next_at}
+use Rattle.branches.proofs.SettingLaws.{none_set, words_halt, value_halts, close_halts, set_read, set_small}
 use borrow.Author.Rules.{rules}
 use Rattle.branches.proofs.setting.Statement.{statement}
 use Rattle.branches.proofs.setting.Tie as tie
@@ -17,7 +17,7 @@ returns c =
     let at-step-sign = c.before.before.before in
     let entry = at-step-sign.before.before in
     let a = entry.args in
-    none-set _ _ _ (next-at a.card.now a.at at-step-sign.step-sign.result at-step-sign.step-sign.ensures) c.if1.true
+    none_set _ _ _ (next_at a.card.now a.at at-step-sign.step-sign.result at-step-sign.step-sign.ensures) c.if1.true
     entry.requires.1 a.state.now entry.requires.0
 
 slice-aggregate-run : tie.Need-slice-aggregate-run
@@ -36,7 +36,7 @@ returns-2 c =
     let at-step-sign = at-if1.before.before.before in
     let entry = at-step-sign.before.before in
     let a = entry.args in
-    words-halt _ _ _ (next-at a.card.now a.at at-step-sign.step-sign.result at-step-sign.step-sign.ensures) at-if1.if1.false _ _
+    words_halt _ _ _ (next_at a.card.now a.at at-step-sign.step-sign.result at-step-sign.step-sign.ensures) at-if1.if1.false _ _
     at-run.run.ensures c.if2.true
 
 number-requires : tie.Need-number-requires
@@ -51,7 +51,7 @@ returns-3 c =
     let at-step-sign = at-if1.before.before.before in
     let entry = at-step-sign.before.before in
     let a = entry.args in
-    value-halts _ _ _ (next-at a.card.now a.at at-step-sign.step-sign.result at-step-sign.step-sign.ensures) at-if1.if1.false _ _
+    value_halts _ _ _ (next_at a.card.now a.at at-step-sign.step-sign.result at-step-sign.step-sign.ensures) at-if1.if1.false _ _
     at-run.run.ensures at-if2.if2.false _ at-number.number.ensures c.if3.true
 
 sign-requires : tie.Need-sign-requires
@@ -68,7 +68,7 @@ returns-4 c =
     let at-step-sign = at-if1.before.before.before in
     let entry = at-step-sign.before.before in
     let a = entry.args in
-    close-halts _ _ _ (next-at a.card.now a.at at-step-sign.step-sign.result at-step-sign.step-sign.ensures) at-if1.if1.false _ _
+    close_halts _ _ _ (next_at a.card.now a.at at-step-sign.step-sign.result at-step-sign.step-sign.ensures) at-if1.if1.false _ _
     at-run.run.ensures at-if2.if2.false _ at-number.number.ensures at-if3.if3.false _ at_sign.sign.ensures c.if4.true
 
 element-copy-out-value : tie.Need-element-copy-out-value
@@ -87,7 +87,7 @@ add-state c =
     let entry = at-step-sign.before.before in
     let a = entry.args in
     omega
-    (arith, at-number.number.ensures.small at-if3.if3.false, set-small _ _ _ (next-at a.card.now a.at at-step-sign.step-sign.result at-step-sign.step-sign.ensures) at-if1.if1.false _ _ at-run.run.ensures at-if2.if2.false _ at-number.number.ensures at-if3.if3.false _ at_sign.sign.ensures at-if4.if4.false)
+    (arith, at-number.number.ensures.small at-if3.if3.false, set_small _ _ _ (next_at a.card.now a.at at-step-sign.step-sign.result at-step-sign.step-sign.ensures) at-if1.if1.false _ _ at-run.run.ensures at-if2.if2.false _ at-number.number.ensures at-if3.if3.false _ at_sign.sign.ensures at-if4.if4.false)
 
 element-write-state-2 : tie.Need-element-write-state-2
 element-write-state-2 c = search rules
@@ -104,7 +104,7 @@ returns-5 c =
     let at-step-sign = at-if1.before.before.before in
     let entry = at-step-sign.before.before in
     let a = entry.args in
-    set-read _ _ _ (next-at a.card.now a.at at-step-sign.step-sign.result at-step-sign.step-sign.ensures) at-if1.if1.false _ _
+    set_read _ _ _ (next_at a.card.now a.at at-step-sign.step-sign.result at-step-sign.step-sign.ensures) at-if1.if1.false _ _
     at-run.run.ensures at-if2.if2.false _ at-number.number.ensures at-if3.if3.false _ at_sign.sign.ensures at-if4.if4.false
 
 pub setting-spec : {M : Type 1} → statement M

@@ -2,7 +2,7 @@
 use native.Mathlib.Omega.{arith}
 use Rattle.card.specs.Text.{bytes}
 use Rattle.parts.proofs.Front.{here}
-use Rattle.branches.proofs.Updates.{update-place, update-passed}
+use Rattle.branches.proofs.Updates.{update_place, update_passed}
 use borrow.Author.Rules.{rules}
 use Rattle.branches.proofs.updated.Statement.{statement}
 use Rattle.branches.proofs.updated.Tie as tie
@@ -18,14 +18,14 @@ add-result c =
     let at-all-here = c.before in
     let entry = at-all-here.before.before.before in
     let a = entry.args in
-    omega (arith, update-place a.card.now a.at (here a.card.now a.at (bytes ":(s1'=") at-all-here.All-here.ensures c.if1.true))
+    omega (arith, update_place a.card.now a.at (here a.card.now a.at (bytes ":(s1'=") at-all-here.All-here.ensures c.if1.true))
 
 returns : tie.Need-returns
 returns c =
     let at-all-here = c.before in
     let entry = at-all-here.before.before.before in
     let a = entry.args in
-    update-passed a.card.now a.at (here a.card.now a.at (bytes ":(s1'=") at-all-here.All-here.ensures c.if1.true) a.state.now
+    update_passed a.card.now a.at (here a.card.now a.at (bytes ":(s1'=") at-all-here.All-here.ensures c.if1.true) a.state.now
     entry.requires
 
 slice-aggregate-run : tie.Need-slice-aggregate-run

@@ -1,5 +1,5 @@
 -- `branches::weighed` meets its contract: a weight's units are kept, or its place is blamed. Assumes nothing.
-use Rattle.branches.proofs.BranchLaws.{units-weighed, broken-weighed}
+use Rattle.branches.proofs.BranchLaws.{units_weighed, broken_weighed}
 use borrow.Author.Rules.{rules}
 use Rattle.branches.proofs.weighed.Statement.{statement}
 use Rattle.branches.proofs.weighed.Tie as tie
@@ -26,13 +26,13 @@ returns : tie.Need-returns
 returns c =
     let at-judged = c.before.before in
     let entry = at-judged.before.before in
-    units-weighed entry.args.state.now entry.requires at-judged.judged.given.0.0 at-judged.judged.given.1 c.wide.ensures
+    units_weighed entry.args.state.now entry.requires at-judged.judged.given.0.0 at-judged.judged.given.1 c.wide.ensures
 
 returns-2 : tie.Need-returns-2
 returns-2 c =
     let at-enum-told = c.before.before in
     let entry = at-enum-told.before.before in
-    broken-weighed entry.args.state.now entry.requires at-enum-told.enum_told.given.1 c.blame.ensures
+    broken_weighed entry.args.state.now entry.requires at-enum-told.enum_told.given.1 c.blame.ensures
 
 pub weighed-spec : {M : Type 1} → statement M
 weighed-spec =

@@ -1,6 +1,6 @@
 -- A way out for each kind of weight (proofs/BranchLaws.antt). Assumes nothing.
-use Rattle.parts.proofs.Steps.{next-at}
-use Rattle.branches.proofs.BranchLaws.{formed-sized, decimal-read, weight-stops, whole-read, ratio-stops, ratio-read}
+use Rattle.parts.proofs.Steps.{next_at}
+use Rattle.branches.proofs.BranchLaws.{formed_sized, decimal_read, weight_stops, whole_read, ratio_stops, ratio_read}
 use borrow.Author.Rules.{rules}
 use Rattle.branches.proofs.weight.Statement.{statement}
 use Rattle.branches.proofs.weight.Tie as tie
@@ -22,7 +22,7 @@ weighed-requires c κs =
     let at-if1 = at-judge-form.before.before in
     let at-step-number = at-if1.before.before.before.before in
     let entry = at-step-number.before.before in
-    formed-sized entry.args.state.now entry.requires at-judge-form.judge-form.ensures
+    formed_sized entry.args.state.now entry.requires at-judge-form.judge-form.ensures
 
 returns : tie.Need-returns
 returns c =
@@ -32,7 +32,7 @@ returns c =
     let at-step-number = at-if1.before.before.before.before in
     let entry = at-step-number.before.before in
     let a = entry.args in
-    decimal-read (next-at a.card.now a.at at-step-number.step-number.result at-step-number.step-number.ensures) _
+    decimal_read (next_at a.card.now a.at at-step-number.step-number.result at-step-number.step-number.ensures) _
     c.weighed.ensures a.state.now entry.requires at-judge-form.judge-form.ensures at-if1.if1.true at-decimal.decimal.ensures
 
 stop-requires : tie.Need-stop-requires
@@ -47,7 +47,7 @@ returns-2 c =
     let at-step-number = at-if1.before.before.before.before in
     let entry = at-step-number.before.before in
     let a = entry.args in
-    weight-stops (next-at a.card.now a.at at-step-number.step-number.result at-step-number.step-number.ensures) at-if1.if1.false
+    weight_stops (next_at a.card.now a.at at-step-number.step-number.result at-step-number.step-number.ensures) at-if1.if1.false
     at-if2.if2.true c.stop.ensures.0
 
 step-slash-requires : tie.Need-step-slash-requires
@@ -70,9 +70,9 @@ returns-3 c =
     let at-step-number = at-if2.before.before.before.before.before.before in
     let entry = at-step-number.before.before in
     let a = entry.args in
-    whole-read (next-at a.card.now a.at at-step-number.step-number.result at-step-number.step-number.ensures) a.state.now
+    whole_read (next_at a.card.now a.at at-step-number.step-number.result at-step-number.step-number.ensures) a.state.now
     c.weighed2.ensures at-if2.if2.false
-    (next-at a.card.now at-step-number.step-number.result.next.at at-step-slash.step-slash.result at-step-slash.step-slash.ensures)
+    (next_at a.card.now at-step-number.step-number.result.next.at at-step-slash.step-slash.result at-step-slash.step-slash.ensures)
     at-if3.if3.true at-whole.whole.ensures
 
 step-number-requires-2 : tie.Need-step-number-requires-2
@@ -93,9 +93,9 @@ returns-4 c =
     let at-step-number = at-if2.before.before.before.before.before.before in
     let entry = at-step-number.before.before in
     let a = entry.args in
-    ratio-stops (next-at a.card.now a.at at-step-number.step-number.result at-step-number.step-number.ensures) at-if2.if2.false
-    (next-at a.card.now at-step-number.step-number.result.next.at at-step-slash.step-slash.result at-step-slash.step-slash.ensures)
-    at-if3.if3.false (next-at a.card.now at-step-slash.step-slash.result.next.at at-step-number2.step-number2.result
+    ratio_stops (next_at a.card.now a.at at-step-number.step-number.result at-step-number.step-number.ensures) at-if2.if2.false
+    (next_at a.card.now at-step-number.step-number.result.next.at at-step-slash.step-slash.result at-step-slash.step-slash.ensures)
+    at-if3.if3.false (next_at a.card.now at-step-slash.step-slash.result.next.at at-step-number2.step-number2.result
     at-step-number2.step-number2.ensures) at-if4.if4.true c.stop2.ensures.0
 
 ratio-requires : tie.Need-ratio-requires
@@ -117,10 +117,10 @@ returns-5 c =
     let at-step-number = at-if2.before.before.before.before.before.before in
     let entry = at-step-number.before.before in
     let a = entry.args in
-    ratio-read (next-at a.card.now a.at at-step-number.step-number.result at-step-number.step-number.ensures) a.state.now
+    ratio_read (next_at a.card.now a.at at-step-number.step-number.result at-step-number.step-number.ensures) a.state.now
     c.weighed3.ensures at-if2.if2.false
-    (next-at a.card.now at-step-number.step-number.result.next.at at-step-slash.step-slash.result at-step-slash.step-slash.ensures)
-    at-if3.if3.false (next-at a.card.now at-step-slash.step-slash.result.next.at at-step-number2.step-number2.result
+    (next_at a.card.now at-step-number.step-number.result.next.at at-step-slash.step-slash.result at-step-slash.step-slash.ensures)
+    at-if3.if3.false (next_at a.card.now at-step-slash.step-slash.result.next.at at-step-number2.step-number2.result
     at-step-number2.step-number2.ensures) at-if4.if4.false at-ratio.ratio.ensures
 
 pub weight-spec : {M : Type 1} → statement M

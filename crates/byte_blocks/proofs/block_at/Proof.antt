@@ -1,8 +1,8 @@
 -- `byte_blocks::block_at` meets its contract: one byte more is read after each turn. Assumes nothing.
-use Rattle.byte_blocks.specs.Blocks.{blockBytes}
-use Rattle.byte_blocks.proofs.Blocks.{block_more, block-all}
+use Rattle.byte_blocks.specs.Blocks.{block_bytes}
+use Rattle.byte_blocks.proofs.Blocks.{block_more, block_all}
 use Rattle.room.specs.Room.{clip}
-use Rattle.room.proofs.Laws.{clip-none}
+use Rattle.room.proofs.Laws.{clip_none}
 use lib.ListN.{take, drop}
 use borrow.Author.Rules.{rules}
 use mathlib.Core.Path.{◌≡◌, refl, sym}
@@ -11,13 +11,13 @@ use Rattle.byte_blocks.proofs.block_at.Statement.{statement}
 use Rattle.byte_blocks.proofs.block_at.Tie as tie
 
 abbrev invariant-loop : tie.invariant-loop
-invariant-loop room from block₀ i₀ block i = (i ≤ blockBytes) × (block ≡ clip block₀ 0 (take i (drop from room)))
+invariant-loop room from block₀ i₀ block i = (i ≤ block_bytes) × (block ≡ clip block₀ 0 (take i (drop from room)))
 
 abbrev decreases-loop : tie.decreases-loop
-decreases-loop room from block₀ i₀ block i = blockBytes - i
+decreases-loop room from block₀ i₀ block i = block_bytes - i
 
 loop-holds : tie.Need-loop-init invariant-loop decreases-loop
-loop-holds c = (search rules, sym (clip-none _ 0))
+loop-holds c = (search rules, sym (clip_none _ 0))
 
 add-block : tie.Need-overflow-add-block invariant-loop decreases-loop
 add-block c = search rules
@@ -44,7 +44,7 @@ returns : tie.Need-returns invariant-loop decreases-loop
 returns c =
     let start = c.before.before in
     let turn = c.before.loop in
-    block-all start.args.room.now _ start.args.from blockBytes turn.i start.requires refl turn.invariant.0 (search rules) turn.invariant.1
+    block_all start.args.room.now _ start.args.from block_bytes turn.i start.requires refl turn.invariant.0 (search rules) turn.invariant.1
 
 pub block-at-spec : {M : Type 1} → statement M
 block-at-spec =

@@ -1,8 +1,8 @@
 -- `byte_blocks::blocks_down` meets its contract: one block more after each turn, read behind what has been stored. Assumes nothing.
-use Rattle.byte_blocks.specs.Blocks.{blockBytes}
-use Rattle.byte_blocks.proofs.Blocks.{down-none, down-join}
+use Rattle.byte_blocks.specs.Blocks.{block_bytes}
+use Rattle.byte_blocks.proofs.Blocks.{down_none, down_join}
 use Rattle.room.specs.Room.{clip}
-use Rattle.byte_blocks.proofs.Clips.{clip-long}
+use Rattle.byte_blocks.proofs.Clips.{clip_long}
 use lib.ListN.{length, take, drop}
 use borrow.Author.Rules.{rules}
 use mathlib.Core.Path.{◌≡◌, refl, ◌∙◌}
@@ -19,7 +19,7 @@ decreases-loop room₀ from to size done₀ room done = size - done
 loop-holds : tie.Need-loop-init invariant-loop decreases-loop
 loop-holds c =
     let given = c.before.args in
-    (search rules, refl, down-none given.room.now given.from given.to)
+    (search rules, refl, down_none given.room.now given.from given.to)
 
 sub-loop : tie.Need-overflow-sub-loop invariant-loop decreases-loop
 sub-loop c = search rules
@@ -46,7 +46,7 @@ loop-again c =
     let start = at-loop.before.before in
     let given = start.args in
     let turn = at-loop.loop in
-    (search rules, clip-long _ _ _ moved ∙ turn.invariant.1, down-join given.room.now given.from given.to turn.done blockBytes start.requires.0 (search rules) turn.invariant.2 moved)
+    (search rules, clip_long _ _ _ moved ∙ turn.invariant.1, down_join given.room.now given.from given.to turn.done block_bytes start.requires.0 (search rules) turn.invariant.2 moved)
 
 same_length : tie.Need-same-length invariant-loop decreases-loop
 same_length c = c.before.loop.invariant.1

@@ -1,8 +1,8 @@
 -- `byte_blocks::blocks_up` meets its contract: one block more after each turn, read before what has been stored. Assumes nothing.
-use Rattle.byte_blocks.specs.Blocks.{blockBytes}
-use Rattle.byte_blocks.proofs.Blocks.{up_none, up-join}
+use Rattle.byte_blocks.specs.Blocks.{block_bytes}
+use Rattle.byte_blocks.proofs.Blocks.{up_none, up_join}
 use Rattle.room.specs.Room.{clip}
-use Rattle.byte_blocks.proofs.Clips.{clip-long}
+use Rattle.byte_blocks.proofs.Clips.{clip_long}
 use lib.ListN.{length, take, drop}
 use borrow.Author.Rules.{rules}
 use mathlib.Core.Path.{◌≡◌, refl, ◌∙◌}
@@ -40,8 +40,8 @@ loop-again c =
     let start = at-loop.before.before in
     let given = start.args in
     let turn = at-loop.loop in
-    let joined = up-join given.room.now given.from given.to given.size (turn.left - blockBytes) blockBytes start.requires.0 start.requires.1 turn.invariant.0 (search rules) turn.invariant.2 moved in
-    (search rules, clip-long _ _ _ moved ∙ turn.invariant.1, joined)
+    let joined = up_join given.room.now given.from given.to given.size (turn.left - block_bytes) block_bytes start.requires.0 start.requires.1 turn.invariant.0 (search rules) turn.invariant.2 moved in
+    (search rules, clip_long _ _ _ moved ∙ turn.invariant.1, joined)
 
 same_length : tie.Need-same-length invariant-loop decreases-loop
 same_length c = c.before.loop.invariant.1

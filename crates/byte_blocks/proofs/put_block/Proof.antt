@@ -1,8 +1,8 @@
 -- `byte_blocks::put_block` meets its contract: one byte more is stored after each turn. Assumes nothing.
-use Rattle.byte_blocks.specs.Blocks.{blockBytes}
+use Rattle.byte_blocks.specs.Blocks.{block_bytes}
 use Rattle.room.specs.Room.{clip}
-use Rattle.room.proofs.Laws.{clip-none}
-use Rattle.room.proofs.Stores.{clip-more}
+use Rattle.room.proofs.Laws.{clip_none}
+use Rattle.room.proofs.Stores.{clip_more}
 use lib.ListN.{length, take}
 use lib.Seq.{take_all}
 use borrow.Author.Rules.{rules}
@@ -12,13 +12,13 @@ use Rattle.byte_blocks.proofs.put_block.Statement.{statement}
 use Rattle.byte_blocks.proofs.put_block.Tie as tie
 
 abbrev invariant-loop : tie.invariant-loop
-invariant-loop room₀ to block i₀ room i = (i ≤ blockBytes) × (length room ≡ length room₀) × (room ≡ clip room₀ to (take i block))
+invariant-loop room₀ to block i₀ room i = (i ≤ block_bytes) × (length room ≡ length room₀) × (room ≡ clip room₀ to (take i block))
 
 abbrev decreases-loop : tie.decreases-loop
-decreases-loop room₀ to block i₀ room i = blockBytes - i
+decreases-loop room₀ to block i₀ room i = block_bytes - i
 
 loop-holds : tie.Need-loop-init invariant-loop decreases-loop
-loop-holds c = (search rules, refl, sym (clip-none _ _))
+loop-holds c = (search rules, refl, sym (clip_none _ _))
 
 element-copy-out-room : tie.Need-element-copy-out-room invariant-loop decreases-loop
 element-copy-out-room c = search rules
@@ -40,7 +40,7 @@ loop-again c =
     let at-loop = c.before.before in
     let given = at-loop.before.args in
     let turn = at-loop.loop in
-    (search rules, search rules, clip-more given.room.now given.to given.block.now turn.i (search rules) turn.invariant.2)
+    (search rules, search rules, clip_more given.room.now given.to given.block.now turn.i (search rules) turn.invariant.2)
 
 same_length : tie.Need-same-length invariant-loop decreases-loop
 same_length c = c.before.loop.invariant.1

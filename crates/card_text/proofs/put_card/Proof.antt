@@ -1,7 +1,7 @@
 -- `card_text::put_card` meets its contract: the parts of the card, one after the other. Assumes nothing.
-use Rattle.card_text.proofs.Laws.{write-text}
+use Rattle.card_text.proofs.Laws.{write_text}
 use Rattle.phrases.proofs.Laws.{put_first, puts_then}
-use Rattle.card.specs.Lent.{lent, cardIn}
+use Rattle.card.specs.Lent.{lent, card_in}
 use borrow.Author.Rules.{rules}
 use Rattle.card_text.proofs.put_card.Statement.{statement}
 use Rattle.card_text.proofs.put_card.Tie as tie
@@ -33,7 +33,7 @@ returns c =
     let at-put-statements = at-put-bytes.before.before.before.before.before in
     let at-put-head = at-put-statements.before.before.before.before in
     let start = at-put-head.before.before.before.before in
-    write-text (cardIn start.args.head (lent start.args.rows.now start.args.nodes.now start.args.branches.now))
+    write_text (card_in start.args.head (lent start.args.rows.now start.args.nodes.now start.args.branches.now))
     (puts_then at-put-head.put-head.ensures (puts_then at-put-statements.put-statements.ensures (puts_then (put_first at-put-bytes.put-bytes.ensures) at-put-modules.put-modules.ensures)))
 
 pub put-card-spec : {M : Type 1} → statement M

@@ -1,6 +1,6 @@
 -- `card_text::written_length` meets its contract: a put answers the place behind its text, wherever it is put. Assumes nothing.
-use Rattle.card_text.proofs.Laws.{held-cap}
-use Rattle.room.proofs.Drafts.{drafted-long}
+use Rattle.card_text.proofs.Laws.{held_cap}
+use Rattle.room.proofs.Drafts.{drafted_long}
 use borrow.Author.Rules.{rules}
 use Rattle.card_text.proofs.written_length.Statement.{statement}
 use Rattle.card_text.proofs.written_length.Tie as tie
@@ -15,7 +15,7 @@ returns : tie.Need-returns
 returns c =
     let at-put-card = c.before in
     let start = at-put-card.before.before.before in
-    drafted-long (held-cap start.requires) at-put-card.put-card.ensures
+    drafted_long (held_cap start.requires) at-put-card.put-card.ensures
 
 pub written-length-spec : {M : Type 1} → statement M
 written-length-spec = tie.close (tie.spec slice-aggregate-put-card

@@ -1,5 +1,5 @@
 -- `card_text::written_most` meets its contract: the sum stays small, since seats and statements are few. Assumes nothing.
-use Rattle.texts.specs.Lengths.{statementMost}
+use Rattle.texts.specs.Lengths.{statement_most}
 use native.Mathlib.Omega.{arith}
 use native.Mathlib.Nat.{mul-le-mul_right}
 use borrow.Author.Rules.{rules}
@@ -13,16 +13,16 @@ add-statement : tie.Need-overflow-add-statement
 add-statement c = search rules
 
 mul-result : tie.Need-overflow-mul-result
-mul-result c = omega (arith, mul-le-mul_right (statementMost c.args.seats) c.requires.1, c.requires.0)
+mul-result c = omega (arith, mul-le-mul_right (statement_most c.args.seats) c.requires.1, c.requires.0)
 
 add-result : tie.Need-overflow-add-result
-add-result c = omega (arith, mul-le-mul_right (statementMost c.args.seats) c.requires.1, c.requires.0)
+add-result c = omega (arith, mul-le-mul_right (statement_most c.args.seats) c.requires.1, c.requires.0)
 
 mul-result-2 : tie.Need-overflow-mul-result-2
 mul-result-2 c = search rules
 
 add-result-2 : tie.Need-overflow-add-result-2
-add-result-2 c = omega (arith, mul-le-mul_right (statementMost c.args.seats) c.requires.1, c.requires.0)
+add-result-2 c = omega (arith, mul-le-mul_right (statement_most c.args.seats) c.requires.1, c.requires.0)
 
 returns : tie.Need-returns
 returns c = search rules

@@ -1,6 +1,6 @@
 -- `class_counts::enter_classes` meets its contract: a line that fits is put, and one that does not has told its length. Assumes nothing.
-use Rattle.class_counts.proofs.Laws.{measured, line-put}
-use Rattle.room.proofs.Entries.{entered-short, entered-whole}
+use Rattle.class_counts.proofs.Laws.{measured, line_put}
+use Rattle.room.proofs.Entries.{entered_short, entered_whole}
 use native.Mathlib.Omega.{arith}
 use mathlib.Core.Path.{refl}
 use borrow.Author.Rules.{rules}
@@ -19,7 +19,7 @@ put-line-requires c κs = search rules
 returns : tie.Need-returns
 returns c =
     let start = c.before.before.before.before.before.before.before in
-    entered-short (measured _ c.before.before.put-line.ensures start.requires) refl c.if1.true
+    entered_short (measured _ c.before.before.put-line.ensures start.requires) refl c.if1.true
 
 slice-aggregate-put-line-3 : tie.Need-slice-aggregate-put-line-3
 slice-aggregate-put-line-3 c = search rules
@@ -35,7 +35,7 @@ returns-2 c =
     let at-if1 = c.before.before.before.before.before in
     let at-put-line = at-if1.before.before in
     let start = at-put-line.before.before.before.before.before in
-    entered-whole refl (omega (arith, measured _ at-put-line.put-line.ensures start.requires, at-if1.if1.false)) (line-put _ c.before.before.put-line2.ensures)
+    entered_whole refl (omega (arith, measured _ at-put-line.put-line.ensures start.requires, at-if1.if1.false)) (line_put _ c.before.before.put-line2.ensures)
 
 pub enter-classes-spec : {M : Type 1} → statement M
 enter-classes-spec =

@@ -2,8 +2,8 @@
 use mathlib.Core.Path.{sym, ◌∙◌}
 use native.Mathlib.Omega.{arith}
 use borrow.Author.Rules.{rules}
-use Rattle.room.proofs.Entries.{entered-refused}
-use Rattle.convert.proofs.Storing.{wrong-deck, sound-deck, named, notes-count, notes-fit, notes-ready}
+use Rattle.room.proofs.Entries.{entered_refused}
+use Rattle.convert.proofs.Storing.{wrong_deck, sound_deck, named, notes_count, notes_fit, notes_ready}
 use Rattle.convert.proofs.convert.Statement.{statement}
 use Rattle.convert.proofs.convert.Tie as tie
 
@@ -17,7 +17,7 @@ returns : tie.Need-returns
 returns c =
     let at-judge-deck = c.before.before.before in
     let start = at-judge-deck.before.before.before in
-    entered-refused (wrong-deck start.args.deck.now (sym c.before.number.given.1 ∙ at-judge-deck.judge-deck.ensures))
+    entered_refused (wrong_deck start.args.deck.now (sym c.before.number.given.1 ∙ at-judge-deck.judge-deck.ensures))
 
 enum_told : tie.Need-enum-told
 enum_told c = search rules
@@ -26,7 +26,7 @@ shared-slice-read-wide : tie.Need-shared-slice-read-wide
 shared-slice-read-wide c =
     let at-judge-deck = c.before.before.before in
     let start = at-judge-deck.before.before.before in
-    let s = sound-deck start.args.deck.now (sym c.before.enum_told.given.1 ∙ at-judge-deck.judge-deck.ensures) in
+    let s = sound_deck start.args.deck.now (sym c.before.enum_told.given.1 ∙ at-judge-deck.judge-deck.ensures) in
     omega (arith, s.head.whole)
 
 wide-requires : tie.Need-wide-requires
@@ -37,7 +37,7 @@ notes-into-requires c κs =
     let at-enum-told = c.before.before.before in
     let at-judge-deck = at-enum-told.before.before in
     let start = at-judge-deck.before.before.before in
-    (sound-deck start.args.deck.now (sym at-enum-told.enum_told.given.1 ∙ at-judge-deck.judge-deck.ensures), (c.before.wide.ensures.0, search rules))
+    (sound_deck start.args.deck.now (sym at-enum-told.enum_told.given.1 ∙ at-judge-deck.judge-deck.ensures), (c.before.wide.ensures.0, search rules))
 
 enum-known-number-2 : tie.Need-enum-known-number-2
 enum-known-number-2 c = search rules
@@ -48,8 +48,8 @@ returns-2 c =
     let at-enum-told = at-notes-into.before.before.before.before in
     let at-judge-deck = at-enum-told.before.before in
     let start = at-judge-deck.before.before.before in
-    let s = sound-deck start.args.deck.now (sym at-enum-told.enum_told.given.1 ∙ at-judge-deck.judge-deck.ensures) in
-    entered-refused (named start.args.deck.now s (sym c.before.number2.given.1 ∙ at-notes-into.notes-into.ensures.ends))
+    let s = sound_deck start.args.deck.now (sym at-enum-told.enum_told.given.1 ∙ at-judge-deck.judge-deck.ensures) in
+    entered_refused (named start.args.deck.now s (sym c.before.number2.given.1 ∙ at-notes-into.notes-into.ensures.ends))
 
 enum-known-need : tie.Need-enum-known-need
 enum-known-need c = search rules
@@ -61,8 +61,8 @@ array-share-prefix-notes c =
     let at-enum-told = at_wide.before.before in
     let at-judge-deck = at-enum-told.before.before in
     let start = at-judge-deck.before.before.before in
-    let s = sound-deck start.args.deck.now (sym at-enum-told.enum_told.given.1 ∙ at-judge-deck.judge-deck.ensures) in
-    notes-fit s at_wide.wide.ensures.0 at-notes-into.notes-into.ensures c.before.need.given.1
+    let s = sound_deck start.args.deck.now (sym at-enum-told.enum_told.given.1 ∙ at-judge-deck.judge-deck.ensures) in
+    notes_fit s at_wide.wide.ensures.0 at-notes-into.notes-into.ensures c.before.need.given.1
 
 slice-aggregate-store-new : tie.Need-slice-aggregate-store-new
 slice-aggregate-store-new c =
@@ -71,8 +71,8 @@ slice-aggregate-store-new c =
     let at-enum-told = at_wide.before.before in
     let at-judge-deck = at-enum-told.before.before in
     let start = at-judge-deck.before.before.before in
-    let s = sound-deck start.args.deck.now (sym at-enum-told.enum_told.given.1 ∙ at-judge-deck.judge-deck.ensures) in
-    notes-count s at_wide.wide.ensures.0 at-notes-into.notes-into.ensures c.before.before.need.given.1
+    let s = sound_deck start.args.deck.now (sym at-enum-told.enum_told.given.1 ∙ at-judge-deck.judge-deck.ensures) in
+    notes_count s at_wide.wide.ensures.0 at-notes-into.notes-into.ensures c.before.before.need.given.1
 
 store-new-requires : tie.Need-store-new-requires
 store-new-requires c κs =
@@ -82,8 +82,8 @@ store-new-requires c κs =
     let at-enum-told = at_wide.before.before in
     let at-judge-deck = at-enum-told.before.before in
     let start = at-judge-deck.before.before.before in
-    let s = sound-deck start.args.deck.now (sym at-enum-told.enum_told.given.1 ∙ at-judge-deck.judge-deck.ensures) in
-    (at_wide.wide.ensures.0, notes-ready s at_wide.wide.ensures.0 at-notes-into.notes-into.ensures at-need.need.given.1)
+    let s = sound_deck start.args.deck.now (sym at-enum-told.enum_told.given.1 ∙ at-judge-deck.judge-deck.ensures) in
+    (at_wide.wide.ensures.0, notes_ready s at_wide.wide.ensures.0 at-notes-into.notes-into.ensures at-need.need.given.1)
 
 same_length : tie.Need-same-length
 same_length c = search rules

@@ -1,6 +1,6 @@
 -- `convert::note_of` meets its contract: a withdrawn card has none, and a live one's is the card's. Assumes nothing.
 use borrow.Author.Rules.{rules}
-use Rattle.convert.proofs.Entry.{unread, in-deck, noted}
+use Rattle.convert.proofs.Entry.{unread, in_deck, noted}
 use Rattle.convert.proofs.note_of.Statement.{statement}
 use Rattle.convert.proofs.note_of.Tie as tie
 
@@ -39,7 +39,7 @@ part-note-of-card-start c = search rules
 part-note-of-card-end : tie.Need-slice-bounds-note-of-card-end
 part-note-of-card-end c =
     let start = c.before.before.before.before.before in
-    in-deck start.args.deck.now start.args.from start.requires.1 c.before.word_at.ensures.0 c.word-at2.ensures.0
+    in_deck start.args.deck.now start.args.from start.requires.1 c.before.word_at.ensures.0 c.word-at2.ensures.0
 
 note-of-card-requires : tie.Need-note-of-card-requires
 note-of-card-requires c κs = search rules

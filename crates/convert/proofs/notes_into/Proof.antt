@@ -1,9 +1,9 @@
 -- `convert::notes_into` meets its contract: entry by entry, where notes found so far stand before those that follow (`Going`). Assumes nothing.
 use native.Mathlib.Omega.{arith}
 use Prim.Native.Nat.{◌+◌, ◌-◌, ◌<◌}
-use Rattle.card.specs.Limits.{deckBytes}
+use Rattle.card.specs.Limits.{deck_bytes}
 use Rattle.deck.specs.Contents.{count_of}
-use Rattle.convert.proofs.Walk.{Going, begins, ended, in-contents, right-row, end-small, stopped, goes_on}
+use Rattle.convert.proofs.Walk.{Going, begins, ended, in_contents, right_row, end_small, stopped, goes_on}
 use Rattle.convert.proofs.notes_into.Statement.{statement}
 use Rattle.convert.proofs.notes_into.Tie as tie
 
@@ -26,7 +26,7 @@ note-of-requires : tie.Need-note-of-requires invariant-loop decreases-loop
 note-of-requires c κs =
     let start = c.before.before.before in
     let less : c.before.loop.i < count_of start.args.deck.now = omega (arith, c.loop-test.true, start.requires.1.0) in
-    (in-contents start.args.deck.now start.requires.0 c.before.loop.invariant less, right-row start.args.deck.now start.requires.0 c.before.loop.invariant less)
+    (in_contents start.args.deck.now start.requires.0 c.before.loop.invariant less, right_row start.args.deck.now start.requires.0 c.before.loop.invariant less)
 
 mul-notes : tie.Need-overflow-mul-notes invariant-loop decreases-loop
 mul-notes c =
@@ -42,14 +42,14 @@ new-size-requires : tie.Need-new-size-requires invariant-loop decreases-loop
 new-size-requires c κs =
     let start = c.before.before.before.before in
     let less : c.before.before.loop.i < count_of start.args.deck.now = omega (arith, c.before.loop-test.true, start.requires.1.0) in
-    in-contents start.args.deck.now start.requires.0 c.before.before.loop.invariant less
+    in_contents start.args.deck.now start.requires.0 c.before.before.loop.invariant less
 
 add-end-2 : tie.Need-overflow-add-end-2 invariant-loop decreases-loop
 add-end-2 c =
     let at-loop = c.before.before.before in
     let start = at-loop.before.before in
     let less : at-loop.loop.i < count_of start.args.deck.now = omega (arith, c.before.before.loop-test.true, start.requires.1.0) in
-    let small = end-small start.args.deck.now start.requires.0 at-loop.loop.invariant less c.before.note-of.ensures c.new-size.ensures in
+    let small = end_small start.args.deck.now start.requires.0 at-loop.loop.invariant less c.before.note-of.ensures c.new-size.ensures in
     omega (arith, small)
 
 word-at-requires : tie.Need-word-at-requires invariant-loop decreases-loop
@@ -58,12 +58,12 @@ word-at-requires c κs =
     let at-loop = at-loop-test.before in
     let start = at-loop.before.before in
     let less : at-loop.loop.i < count_of start.args.deck.now = omega (arith, at-loop-test.loop-test.true, start.requires.1.0) in
-    let there = in-contents start.args.deck.now start.requires.0 at-loop.loop.invariant less in
+    let there = in_contents start.args.deck.now start.requires.0 at-loop.loop.invariant less in
     omega (arith, there)
 
 -- it stops only where a body ends past the longest deck
 abbrev Past : Type 0
-Past = (c : tie.Then1 invariant-loop decreases-loop) → deckBytes < c.before.before.before.before.loop.end + c.before.new-size.result
+Past = (c : tie.Then1 invariant-loop decreases-loop) → deck_bytes < c.before.before.before.before.loop.end + c.before.new-size.result
 
 past : Past
 past c = c.if1.true

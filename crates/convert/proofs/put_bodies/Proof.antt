@@ -3,8 +3,8 @@ use native.Mathlib.Omega.{arith}
 use borrow.Author.Rules.{rules}
 use Prim.Native.Nat.{◌-◌}
 use lib.ListN.{length}
-use Rattle.converted_rows.proofs.Left.{in-contents}
-use Rattle.convert.proofs.Bodies.{BodiesLeft, bodies-start, bodies-end, bodies-next, right-row, part-fits}
+use Rattle.converted_rows.proofs.Left.{in_contents}
+use Rattle.convert.proofs.Bodies.{BodiesLeft, bodies_start, bodies_end, bodies_next, right_row, part_fits}
 use Rattle.convert.proofs.put_bodies.Statement.{statement}
 use Rattle.convert.proofs.put_bodies.Tie as tie
 
@@ -20,7 +20,7 @@ place-requires c κs = search rules
 loop-holds : tie.Need-loop-init invariant-loop decreases-loop
 loop-holds c =
     let start = c.before.before.before.before in
-    bodies-start start.args.deck.now start.args.notes.now start.requires.0 (search rules) c.place.ensures start.requires.1
+    bodies_start start.args.deck.now start.args.notes.now start.requires.0 (search rules) c.place.ensures start.requires.1
 
 mul-put-body : tie.Need-overflow-mul-put-body invariant-loop decreases-loop
 mul-put-body c = search rules
@@ -32,7 +32,7 @@ put-body-requires : tie.Need-put-body-requires invariant-loop decreases-loop
 put-body-requires c κs =
     let at-loop = c.before.before.before in
     let start = at-loop.before.before.before.before.before in
-    (in-contents start.requires.0 at-loop.loop.invariant.place c.before.before.loop-test.true, (right-row _ _ start.requires.0 at-loop.loop.invariant c.before.before.loop-test.true, part-fits _ _ start.requires.0 at-loop.loop.invariant c.before.before.loop-test.true))
+    (in_contents start.requires.0 at-loop.loop.invariant.place c.before.before.loop-test.true, (right_row _ _ start.requires.0 at-loop.loop.invariant c.before.before.loop-test.true, part_fits _ _ start.requires.0 at-loop.loop.invariant c.before.before.loop-test.true))
 
 add-from : tie.Need-overflow-add-from invariant-loop decreases-loop
 add-from c =
@@ -55,7 +55,7 @@ loop-again c =
     let at-loop-test = c.before.before.before.before.before in
     let at-loop = at-loop-test.before in
     let start = at-loop.before.before.before.before.before in
-    bodies-next _ _ start.requires.0 at-loop.loop.invariant at-loop-test.loop-test.true c.before.before.put-body.ensures
+    bodies_next _ _ start.requires.0 at-loop.loop.invariant at-loop-test.loop-test.true c.before.before.put-body.ensures
 
 same_length : tie.Need-same-length invariant-loop decreases-loop
 same_length c = c.before.loop.invariant.still.long
@@ -63,7 +63,7 @@ same_length c = c.before.loop.invariant.still.long
 returns : tie.Need-returns invariant-loop decreases-loop
 returns c =
     let start = c.before.before.before.before.before.before in
-    bodies-end _ _ start.requires.0 c.before.loop.invariant c.loop-test.false
+    bodies_end _ _ start.requires.0 c.before.loop.invariant c.loop-test.false
 
 pub put-bodies-spec : {M : Type 1} → statement M
 put-bodies-spec =

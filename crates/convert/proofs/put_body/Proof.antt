@@ -1,6 +1,6 @@
 -- `convert::put_body` meets its contract: by its note it is the part of the deck, or the written form. Assumes nothing.
 use borrow.Author.Rules.{rules}
-use Rattle.convert.proofs.Entry.{in-deck, stays_put, form-put, form-fits}
+use Rattle.convert.proofs.Entry.{in_deck, stays_put, form_put, form_fits}
 use Rattle.convert.proofs.put_body.Statement.{statement}
 use Rattle.convert.proofs.put_body.Tie as tie
 
@@ -29,7 +29,7 @@ part-put-run-end : tie.Need-slice-bounds-put-run-end
 part-put-run-end c =
     let at-word-at = c.before.before.before in
     let start = at-word-at.before.before.before in
-    in-deck start.args.deck.now start.args.from start.requires.1.0 at-word-at.word_at.ensures.0 c.before.before.word-at2.ensures.0
+    in_deck start.args.deck.now start.args.from start.requires.1.0 at-word-at.word_at.ensures.0 c.before.before.word-at2.ensures.0
 
 put-run-requires : tie.Need-put-run-requires
 put-run-requires c κs = search rules
@@ -55,14 +55,14 @@ part-put-written-end : tie.Need-slice-bounds-put-written-end
 part-put-written-end c =
     let at-word-at = c.before.before.before in
     let start = at-word-at.before.before.before in
-    in-deck start.args.deck.now start.args.from start.requires.1.0 at-word-at.word_at.ensures.0 c.before.before.word-at2.ensures.0
+    in_deck start.args.deck.now start.args.from start.requires.1.0 at-word-at.word_at.ensures.0 c.before.before.word-at2.ensures.0
 
 put-written-requires : tie.Need-put-written-requires
 put-written-requires c κs =
     let at-word-at2 = c.before.before.before in
     let at-word-at = at-word-at2.before in
     let start = at-word-at.before.before.before in
-    form-fits start.args.deck.now start.args.from start.requires.1.0 at-word-at.word_at.ensures.0 at-word-at2.word-at2.ensures.0 c.before.before.if1.false start.args.at start.requires.1.1
+    form_fits start.args.deck.now start.args.from start.requires.1.0 at-word-at.word_at.ensures.0 at-word-at2.word-at2.ensures.0 c.before.before.if1.false start.args.at start.requires.1.1
 
 same-length-2 : tie.Need-same-length-2
 same-length-2 c = search rules
@@ -73,7 +73,7 @@ returns-2 c =
     let at-word-at2 = at-if1.before in
     let at-word-at = at-word-at2.before in
     let start = at-word-at.before.before.before in
-    form-put start.args.deck.now start.args.from start.requires.1.0 at-word-at.word_at.ensures.0 at-word-at2.word-at2.ensures.0 at-if1.if1.false c.before.before.Put-written.ensures
+    form_put start.args.deck.now start.args.from start.requires.1.0 at-word-at.word_at.ensures.0 at-word-at2.word-at2.ensures.0 at-if1.if1.false c.before.before.Put-written.ensures
 
 pub put-body-spec : {M : Type 1} → statement M
 put-body-spec =

@@ -1,17 +1,17 @@
 -- `converted_card::put_written` meets its contract: the card in the arrays is put from the place on. Assumes nothing.
 use mathlib.Core.Path.{sym}
-use Rattle.card.proofs.HeldIn.{holds-branches}
-use Rattle.converted_card.proofs.Parts.{form-put, next_small}
+use Rattle.card.proofs.HeldIn.{holds_branches}
+use Rattle.converted_card.proofs.Parts.{form_put, next_small}
 use Rattle.converted_card.proofs.Reading.{taken_in, nothing_written}
-use Rattle.room.proofs.Laws.{put_as, put-none}
-use Rattle.outline.proofs.ReadInto.{arrays-none}
+use Rattle.room.proofs.Laws.{put_as, put_none}
+use Rattle.outline.proofs.ReadInto.{arrays_none}
 use native.Mathlib.Omega.{arith}
 use borrow.Author.Rules.{rules}
 use Rattle.converted_card.proofs.put_written.Statement.{statement}
 use Rattle.converted_card.proofs.put_written.Tie as tie
 
 read-under-requires : tie.Need-read-under-requires
-read-under-requires c κs = arrays-none
+read-under-requires c κs = arrays_none
 
 enum-known-verdict : tie.Need-enum-known-verdict
 enum-known-verdict c = search rules
@@ -22,7 +22,7 @@ place-requires c κs = search rules
 returns : tie.Need-returns
 returns c =
     let at-read-under = c.before.before.before.before in
-    put_as (nothing_written at-read-under.read_under.ensures c.before.before.verdict.given.1) (put-none (search rules) c.place.ensures)
+    put_as (nothing_written at-read-under.read_under.ensures c.before.before.verdict.given.1) (put_none (search rules) c.place.ensures)
 
 enum_told : tie.Need-enum-told
 enum_told c = search rules
@@ -40,7 +40,7 @@ slice-aggregate-put-card : tie.Need-slice-aggregate-put-card
 slice-aggregate-put-card c =
     let at-enum-told = c.before.before.before.before in
     let at-read-under = at-enum-told.before.before in
-    sym (holds-branches (taken_in at-read-under.read_under.ensures at-enum-told.enum_told.given.1).holds)
+    sym (holds_branches (taken_in at-read-under.read_under.ensures at-enum-told.enum_told.given.1).holds)
 
 put-card-requires : tie.Need-put-card-requires
 put-card-requires c κs =
@@ -64,7 +64,7 @@ returns-2 c =
     let at-enum-told = c.before.before.before.before.before.before.before in
     let at-read-under = at-enum-told.before.before in
     let start = at-read-under.before.before.before.before.before.before in
-    form-put at-read-under.read_under.ensures at-enum-told.enum_told.given.1 start.args.room.now start.args.at (search rules) start.requires c.before.before.put-card.ensures
+    form_put at-read-under.read_under.ensures at-enum-told.enum_told.given.1 start.args.room.now start.args.at (search rules) start.requires c.before.before.put-card.ensures
 
 pub put-written-spec : {M : Type 1} → statement M
 put-written-spec =

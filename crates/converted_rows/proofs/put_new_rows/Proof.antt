@@ -1,6 +1,6 @@
 -- `converted_rows::put_new_rows` meets its contract: each turn leaves one entry less to be put. Assumes nothing.
-use Rattle.converted_rows.proofs.Rows.{RowsLeft, rows_start, rows_end, rows_next, fits, offset-short}
-use Rattle.converted_rows.proofs.Left.{in-contents}
+use Rattle.converted_rows.proofs.Rows.{RowsLeft, rows_start, rows_end, rows_next, fits, offset_short}
+use Rattle.converted_rows.proofs.Left.{in_contents}
 use Prim.Native.Nat.{◌-◌}
 use lib.ListN.{length}
 use native.Mathlib.Omega.{arith}
@@ -31,14 +31,14 @@ shared-slice-read-new-size c = search rules
 new-size-requires : tie.Need-new-size-requires invariant-loop decreases-loop
 new-size-requires c κs =
     let start = c.before.before.before.before.before.before.before in
-    in-contents start.requires.0 c.before.before.loop.invariant.place c.before.loop-test.true
+    in_contents start.requires.0 c.before.before.loop.invariant.place c.before.loop-test.true
 
 put-sized-row-requires : tie.Need-put-sized-row-requires invariant-loop decreases-loop
 put-sized-row-requires c κs =
     let at-loop-test = c.before.before.before in
     let at-loop = at-loop-test.before in
     let start = at-loop.before.before.before.before.before in
-    (in-contents start.requires.0 at-loop.loop.invariant.place at-loop-test.loop-test.true, fits _ _ _ start.requires.0 at-loop.loop.invariant at-loop-test.loop-test.true c.before.new-size.ensures)
+    (in_contents start.requires.0 at-loop.loop.invariant.place at-loop-test.loop-test.true, fits _ _ _ start.requires.0 at-loop.loop.invariant at-loop-test.loop-test.true c.before.new-size.ensures)
 
 add-offset : tie.Need-overflow-add-offset invariant-loop decreases-loop
 add-offset c =
@@ -46,7 +46,7 @@ add-offset c =
     let at-loop-test = at-new-size.before.before in
     let at-loop = at-loop-test.before in
     let start = at-loop.before.before.before.before.before in
-    let short = offset-short _ _ _ start.requires.0 at-loop.loop.invariant at-loop-test.loop-test.true at-new-size.new-size.ensures in
+    let short = offset_short _ _ _ start.requires.0 at-loop.loop.invariant at-loop-test.loop-test.true at-new-size.new-size.ensures in
     omega (arith, short)
 
 add-from : tie.Need-overflow-add-from invariant-loop decreases-loop

@@ -1,5 +1,5 @@
 -- `copies::ended` meets its contract: by whether anything stands behind the last module. Assumes nothing.
-use Rattle.copies.proofs.ModuleLaws.{end-stops, end_read}
+use Rattle.copies.proofs.ModuleLaws.{end_stops, end_read}
 use borrow.Author.Rules.{rules}
 use Rattle.copies.proofs.ended.Statement.{statement}
 use Rattle.copies.proofs.ended.Tie as tie
@@ -8,7 +8,7 @@ stop-requires : tie.Need-stop-requires
 stop-requires c κs = c.before.before.before.requires
 
 returns : tie.Need-returns
-returns c = end-stops c.before.before.if1.true c.stop.ensures.0
+returns c = end_stops c.before.before.if1.true c.stop.ensures.0
 
 element-write-state : tie.Need-element-write-state
 element-write-state c = search rules

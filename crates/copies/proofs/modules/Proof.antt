@@ -1,19 +1,19 @@
 -- Invariant: an answer to the modules that are left answers the whole (Going, proofs/ModuleLaws.antt). Assumes nothing.
 use Prim.Native.Nat.{◌-◌}
 use native.Mathlib.Omega.{arith}
-use Rattle.card.specs.Limits.{mostSeats}
-use Rattle.late.specs.State.{lateIn}
-use Rattle.parts.proofs.Steps.{next-at}
-use Rattle.copies.proofs.ModuleLaws.{Going, going_start, going-ended, going-past, going-stops, going_more}
+use Rattle.card.specs.Limits.{most_seats}
+use Rattle.late.specs.State.{late_in}
+use Rattle.parts.proofs.Steps.{next_at}
+use Rattle.copies.proofs.ModuleLaws.{Going, going_start, going_ended, going_past, going_stops, going_more}
 use borrow.Author.Rules.{rules}
 use Rattle.copies.proofs.modules.Statement.{statement}
 use Rattle.copies.proofs.modules.Tie as tie
 
 abbrev invariant-loop : tie.invariant-loop
-invariant-loop card at state₀ next₀ seats₀ state next seats = Going card (lateIn state₀) next₀ seats next state
+invariant-loop card at state₀ next₀ seats₀ state next seats = Going card (late_in state₀) next₀ seats next state
 
 abbrev decreases-loop : tie.decreases-loop
-decreases-loop card at state₀ next₀ seats₀ state next seats = mostSeats - seats
+decreases-loop card at state₀ next₀ seats₀ state next seats = most_seats - seats
 
 loop-holds : tie.Need-loop-init invariant-loop decreases-loop
 loop-holds c =
@@ -34,7 +34,7 @@ returns c =
     let at-step-module = at-if1.before.before.before.before in
     let at-loop = at-step-module.before.before in
     let entry = at-loop.before.before in
-    going-ended at-loop.loop.invariant (next-at entry.args.card.now at-loop.loop.next at-step-module.step-module.result
+    going_ended at-loop.loop.invariant (next_at entry.args.card.now at-loop.loop.next at-step-module.step-module.result
     at-step-module.step-module.ensures) at-if1.if1.true c.ended.ensures
 
 add-seats : tie.Need-overflow-add-seats invariant-loop decreases-loop
@@ -53,7 +53,7 @@ returns-2 c =
     let at-loop-test = at-step-module.before in
     let at-loop = at-loop-test.before in
     let entry = at-loop.before.before in
-    going-stops at-loop.loop.invariant (next-at entry.args.card.now at-loop.loop.next at-step-module.step-module.result
+    going_stops at-loop.loop.invariant (next_at entry.args.card.now at-loop.loop.next at-step-module.step-module.result
     at-step-module.step-module.ensures) at-if1.if1.false at-loop-test.loop-test.true _ at_copy.copy.ensures c.if2.true
 
 loop-less : tie.Need-loop-smaller invariant-loop decreases-loop
@@ -69,7 +69,7 @@ loop-again c =
     let at-loop-test = at-step-module.before in
     let at-loop = at-loop-test.before in
     let entry = at-loop.before.before in
-    going_more at-loop.loop.invariant (next-at entry.args.card.now at-loop.loop.next at-step-module.step-module.result
+    going_more at-loop.loop.invariant (next_at entry.args.card.now at-loop.loop.next at-step-module.step-module.result
     at-step-module.step-module.ensures) at-if1.if1.false at-loop-test.loop-test.true _ at_copy.copy.ensures c.if2.false
 
 step-requires : tie.Need-step-requires invariant-loop decreases-loop
@@ -85,7 +85,7 @@ returns-3 c =
     let at-loop-test = at-step.before in
     let at-loop = at-loop-test.before in
     let entry = at-loop.before.before in
-    going-past at-loop.loop.invariant (next-at entry.args.card.now at-loop.loop.next at-step.step.result at-step.step.ensures)
+    going_past at-loop.loop.invariant (next_at entry.args.card.now at-loop.loop.next at-step.step.result at-step.step.ensures)
     at-if3.if3.true at-loop-test.loop-test.false c.stop.ensures.0
 
 ended-requires-2 : tie.Need-ended-requires-2 invariant-loop decreases-loop
@@ -97,7 +97,7 @@ returns-4 c =
     let at-step = at-if3.before.before.before in
     let at-loop = at-step.before.before in
     let entry = at-loop.before.before in
-    going-ended at-loop.loop.invariant (next-at entry.args.card.now at-loop.loop.next at-step.step.result at-step.step.ensures)
+    going_ended at-loop.loop.invariant (next_at entry.args.card.now at-loop.loop.next at-step.step.result at-step.step.ensures)
     at-if3.if3.false c.ended2.ensures
 
 pub modules-spec : {M : Type 1} → statement M

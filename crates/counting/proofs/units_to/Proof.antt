@@ -5,32 +5,32 @@ use mathlib.Core.Path.{◌≡◌, refl, ◌∙◌}
 use native.Mathlib.Omega.{arith}
 use borrow.Author.Rules.{rules}
 use lib.ListN.{get_or, take, drop, length-drop}
-use Rattle.card.specs.Laid.{branchOf}
-use Rattle.card.specs.Limits.{mostBranches, mostStates}
-use Rattle.panel_numbers.specs.Taking.{unitsToEach}
-use Rattle.counting.proofs.Weighed.{each_none, each_next, each_all, each-end, zeros-small, sums_next}
+use Rattle.card.specs.Laid.{branch_of}
+use Rattle.card.specs.Limits.{most_branches, most_states}
+use Rattle.panel_numbers.specs.Taking.{units_to_each}
+use Rattle.counting.proofs.Weighed.{each_none, each_next, each_all, each_end, zeros_small, sums_next}
 use Rattle.counting.proofs.units_to.Statement.{statement}
 use Rattle.counting.proofs.units_to.Tie as tie
 
 abbrev invariant-loop : tie.invariant-loop
-invariant-loop branches at size units₀ i₀ units i = (i ≤ size) × (i ≤ mostBranches) × (units ≡ unitsToEach (map branchOf (take i (drop at branches)))) × ((t : ℕ) → get_or units t 0 ≤ i * 2 ^ 32)
+invariant-loop branches at size units₀ i₀ units i = (i ≤ size) × (i ≤ most_branches) × (units ≡ units_to_each (map branch_of (take i (drop at branches)))) × ((t : ℕ) → get_or units t 0 ≤ i * 2 ^ 32)
 
 abbrev decreases-loop : tie.decreases-loop
 decreases-loop branches at size units₀ i₀ units i = size - i
 
 loop-holds : tie.Need-loop-init invariant-loop decreases-loop
-loop-holds c = (search rules, search rules, each_none, zeros-small mostStates)
+loop-holds c = (search rules, search rules, each_none, zeros_small most_states)
 
 returns : tie.Need-returns invariant-loop decreases-loop
 returns c =
     let start = c.before.before.before.before in
-    c.before.before.loop.invariant.2 ∙ each-end start.args.branches.now start.args.at c.before.before.loop.i (min start.args.size mostBranches) (omega arith)
+    c.before.before.loop.invariant.2 ∙ each_end start.args.branches.now start.args.at c.before.before.loop.i (min start.args.size most_branches) (omega arith)
 
 returns-2 : tie.Need-returns-2 invariant-loop decreases-loop
 returns-2 c =
     let at-loop = c.before.before.before in
     let start = at-loop.before.before in
-    at-loop.loop.invariant.2 ∙ each_all start.args.branches.now start.args.at at-loop.loop.i (min start.args.size mostBranches) (omega arith) (omega (arith, length-drop start.args.at start.args.branches.now))
+    at-loop.loop.invariant.2 ∙ each_all start.args.branches.now start.args.at at-loop.loop.i (min start.args.size most_branches) (omega arith) (omega (arith, length-drop start.args.at start.args.branches.now))
 
 sub-if3 : tie.Need-overflow-sub-if3 invariant-loop decreases-loop
 sub-if3 c = search rules
@@ -39,7 +39,7 @@ returns-3 : tie.Need-returns-3 invariant-loop decreases-loop
 returns-3 c =
     let at-loop = c.before.before.before.before in
     let start = at-loop.before.before in
-    at-loop.loop.invariant.2 ∙ each_all start.args.branches.now start.args.at at-loop.loop.i (min start.args.size mostBranches) (omega arith) (omega (arith, length-drop start.args.at start.args.branches.now))
+    at-loop.loop.invariant.2 ∙ each_all start.args.branches.now start.args.at at-loop.loop.i (min start.args.size most_branches) (omega arith) (omega (arith, length-drop start.args.at start.args.branches.now))
 
 add-branch : tie.Need-overflow-add-branch invariant-loop decreases-loop
 add-branch c = search rules
@@ -91,7 +91,7 @@ loop-again c =
     (search rules, search rules, more, small)
 
 returns-4 : tie.Need-returns-4 invariant-loop decreases-loop
-returns-4 c = c.before.loop.invariant.2 ∙ each-end c.before.before.before.args.branches.now c.before.before.before.args.at c.before.loop.i (min c.before.before.before.args.size mostBranches) (omega arith)
+returns-4 c = c.before.loop.invariant.2 ∙ each_end c.before.before.before.args.branches.now c.before.before.before.args.at c.before.loop.i (min c.before.before.before.args.size most_branches) (omega arith)
 
 pub units-to-spec : {M : Type 1} → statement M
 units-to-spec =

@@ -1,7 +1,7 @@
 -- `deck_entries::judge_row` meets its contract: test by test, in the order of the fields. Assumes nothing.
 use mathlib.Core.Path.{refl}
 use borrow.Author.Rules.{rules}
-use Rattle.deck_entries.proofs.Laws.{low-number, low-offset, past-deck, wrong-flag, wrong-zero-byte, fine-row}
+use Rattle.deck_entries.proofs.Laws.{low_number, low_offset, past_deck, wrong_flag, wrong_zero_byte, fine_row}
 use Rattle.deck_entries.proofs.judge_row.Statement.{statement}
 use Rattle.deck_entries.proofs.judge_row.Tie as tie
 
@@ -25,7 +25,7 @@ returns c =
     let at-word-at3 = c.before in
     let at-word-at2 = at-word-at3.before in
     let at-word-at = at-word-at2.before in
-    low-number _ _ _ _ at-word-at.word_at.ensures.0 at-word-at2.word-at2.ensures.0 at-word-at3.word-at3.ensures.0 refl refl
+    low_number _ _ _ _ at-word-at.word_at.ensures.0 at-word-at2.word-at2.ensures.0 at-word-at3.word-at3.ensures.0 refl refl
     c.if1.true
 
 add-t10 : tie.Need-overflow-add-t10
@@ -37,7 +37,7 @@ returns-2 c =
     let at-word-at3 = at-if1.before in
     let at-word-at2 = at-word-at3.before in
     let at-word-at = at-word-at2.before in
-    low-offset _ _ _ _ at-word-at.word_at.ensures.0 at-word-at2.word-at2.ensures.0 at-word-at3.word-at3.ensures.0 refl refl
+    low_offset _ _ _ _ at-word-at.word_at.ensures.0 at-word-at2.word-at2.ensures.0 at-word-at3.word-at3.ensures.0 refl refl
     at-if1.if1.false c.if2.true
 
 add-if3 : tie.Need-overflow-add-if3
@@ -53,7 +53,7 @@ returns-3 c =
     let at-word-at3 = at-if1.before in
     let at-word-at2 = at-word-at3.before in
     let at-word-at = at-word-at2.before in
-    past-deck _ _ _ _ at-word-at.word_at.ensures.0 at-word-at2.word-at2.ensures.0 at-word-at3.word-at3.ensures.0 refl refl
+    past_deck _ _ _ _ at-word-at.word_at.ensures.0 at-word-at2.word-at2.ensures.0 at-word-at3.word-at3.ensures.0 refl refl
     at-if1.if1.false at-if2.if2.false c.if3.true
 
 add-if4 : tie.Need-overflow-add-if4
@@ -73,7 +73,7 @@ returns-4 c =
     let at-word-at3 = at-if1.before in
     let at-word-at2 = at-word-at3.before in
     let at-word-at = at-word-at2.before in
-    wrong-flag _ _ _ _ at-word-at.word_at.ensures.0 at-word-at2.word-at2.ensures.0 at-word-at3.word-at3.ensures.0 refl refl
+    wrong_flag _ _ _ _ at-word-at.word_at.ensures.0 at-word-at2.word-at2.ensures.0 at-word-at3.word-at3.ensures.0 refl refl
     at-if1.if1.false at-if2.if2.false at-if3.if3.false c.if4.true
 
 add-if5 : tie.Need-overflow-add-if5
@@ -94,7 +94,7 @@ returns-5 c =
     let at-word-at3 = at-if1.before in
     let at-word-at2 = at-word-at3.before in
     let at-word-at = at-word-at2.before in
-    wrong-zero-byte _ _ _ _ at-word-at.word_at.ensures.0 at-word-at2.word-at2.ensures.0 at-word-at3.word-at3.ensures.0 refl refl
+    wrong_zero_byte _ _ _ _ at-word-at.word_at.ensures.0 at-word-at2.word-at2.ensures.0 at-word-at3.word-at3.ensures.0 refl refl
     at-if1.if1.false at-if2.if2.false at-if3.if3.false at-if4.if4.false c.if5.true
 
 returns-6 : tie.Need-returns-6
@@ -107,7 +107,7 @@ returns-6 c =
     let at-word-at2 = at-word-at3.before in
     let at-word-at = at-word-at2.before in
     let entry = at-word-at.before.before in
-    fine-row entry.args.deck.now entry.args.at entry.args.least entry.args.last at-word-at.word_at.ensures.0
+    fine_row entry.args.deck.now entry.args.at entry.args.least entry.args.last at-word-at.word_at.ensures.0
     at-word-at2.word-at2.ensures.0 at-word-at3.word-at3.ensures.0 refl refl at-if1.if1.false at-if2.if2.false at-if3.if3.false
     at-if4.if4.false c.if5.false
 

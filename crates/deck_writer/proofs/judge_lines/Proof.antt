@@ -3,7 +3,7 @@ use Prim.Native.Nat.{◌+◌}
 use mathlib.Core.Path.{◌≡◌}
 use native.Mathlib.Omega.{arith}
 use Rattle.deck.specs.Contents.{byte}
-use Rattle.deck_writer.proofs.Judging.{Going, begins, ended, not-rising, wrong-flag, wrong-zero, goes_on}
+use Rattle.deck_writer.proofs.Judging.{Going, begins, ended, not_rising, wrong_flag, wrong_zero, goes_on}
 use Rattle.deck_writer.proofs.judge_lines.Statement.{statement}
 use Rattle.deck_writer.proofs.judge_lines.Tie as tie
 
@@ -24,7 +24,7 @@ returns c =
     let at-word-at = c.before in
     let at-loop-test = at-word-at.before in
     let at-loop = at-loop-test.before in
-    not-rising at-loop.loop.invariant at-loop-test.loop-test.true at-word-at.word_at.ensures.0 c.if1.true
+    not_rising at-loop.loop.invariant at-loop-test.loop-test.true at-word-at.word_at.ensures.0 c.if1.true
 
 add-if2 : tie.Need-overflow-add-if2 invariant-loop decreases-loop
 add-if2 c =
@@ -50,7 +50,7 @@ returns-2 c =
     let at-word-at = at-if1.before in
     let at-loop-test = at-word-at.before in
     let at-loop = at-loop-test.before in
-    wrong-flag at-loop.loop.invariant at-loop-test.loop-test.true at-word-at.word_at.ensures.0 at-if1.if1.false c.if2.true
+    wrong_flag at-loop.loop.invariant at-loop-test.loop-test.true at-word-at.word_at.ensures.0 at-if1.if1.false c.if2.true
 
 add-if3 : tie.Need-overflow-add-if3 invariant-loop decreases-loop
 add-if3 c =
@@ -77,7 +77,7 @@ returns-3 c =
     let at-word-at = at-if1.before in
     let at-loop-test = at-word-at.before in
     let at-loop = at-loop-test.before in
-    wrong-zero at-loop.loop.invariant at-loop-test.loop-test.true at-word-at.word_at.ensures.0 at-if1.if1.false at-if2.if2.false c.if3.true
+    wrong_zero at-loop.loop.invariant at-loop-test.loop-test.true at-word-at.word_at.ensures.0 at-if1.if1.false at-if2.if2.false c.if3.true
 
 abbrev turn : tie.Else3 invariant-loop decreases-loop → tie.At-loop invariant-loop decreases-loop
 turn c = c.before.before.before.before.before.before.before

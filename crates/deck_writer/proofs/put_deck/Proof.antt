@@ -1,5 +1,5 @@
 -- `deck_writer::put_deck` meets its contract: count, entries and bodies, one behind the other. Assumes nothing.
-use Rattle.deck_writer.proofs.Putting.{deck-put}
+use Rattle.deck_writer.proofs.Putting.{deck_put}
 use borrow.Author.Rules.{rules}
 use Rattle.deck_writer.proofs.put_deck.Statement.{statement}
 use Rattle.deck_writer.proofs.put_deck.Tie as tie
@@ -24,7 +24,7 @@ returns c =
     let at-put-run = c.before.before in
     let at-put-lines = at-put-run.before.before.before.before in
     let at-put-byte = at-put-lines.before.before.before.before in
-    deck-put at-put-byte.put_byte.ensures at-put-lines.put-lines.ensures at-put-run.put-run.ensures
+    deck_put at-put-byte.put_byte.ensures at-put-lines.put-lines.ensures at-put-run.put-run.ensures
 
 pub put-deck-spec : {M : Type 1} → statement M
 put-deck-spec =

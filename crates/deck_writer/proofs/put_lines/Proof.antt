@@ -2,7 +2,7 @@
 use mathlib.Core.Path.{refl}
 use native.Mathlib.Omega.{arith}
 use borrow.Author.Rules.{rules}
-use Rattle.deck_writer.proofs.Putting.{LinesLeft, lines_start, lines_end, lines_next, first-offset}
+use Rattle.deck_writer.proofs.Putting.{LinesLeft, lines_start, lines_end, lines_next, first_offset}
 use Rattle.deck_writer.proofs.put_lines.Statement.{statement}
 use Rattle.deck_writer.proofs.put_lines.Tie as tie
 
@@ -65,14 +65,14 @@ put-row-requires c κs =
     let at-word-at = at-word-at2.before in
     let at-loop-test = at-word-at.before in
     let at-loop = at-loop-test.before in
-    (at-word-at.word_at.ensures.1, first-offset at-loop.loop.invariant at-loop-test.loop-test.true, at-word-at2.word-at2.ensures.1)
+    (at-word-at.word_at.ensures.1, first_offset at-loop.loop.invariant at-loop-test.loop-test.true, at-word-at2.word-at2.ensures.1)
 
 add-offset : tie.Need-overflow-add-offset invariant-loop decreases-loop
 add-offset c =
     let at-word-at2 = c.before.before.before.before.before.before in
     let at-loop-test = at-word-at2.before.before in
     let at-loop = at-loop-test.before in
-    omega (arith, first-offset at-loop.loop.invariant at-loop-test.loop-test.true, at-word-at2.word-at2.ensures.1)
+    omega (arith, first_offset at-loop.loop.invariant at-loop-test.loop-test.true, at-word-at2.word-at2.ensures.1)
 
 add-from : tie.Need-overflow-add-from invariant-loop decreases-loop
 add-from c =

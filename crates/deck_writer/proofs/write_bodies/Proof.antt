@@ -3,10 +3,10 @@ use Prim.Native.Nat.{ℕ, ◌+◌, ◌≤◌, ◌<◌}
 use mathlib.Core.Path.{◌≡◌}
 use native.Mathlib.Omega.{arith}
 use lib.ListN.{length}
-use Rattle.card.specs.Limits.{deckBytes}
+use Rattle.card.specs.Limits.{deck_bytes}
 use Rattle.deck_writer.specs.Parts.{DeckPut}
-use Rattle.room.proofs.Entries.{entered-refused}
-use Rattle.deck_writer.proofs.Entering.{few-entries, long-is, other_length, too_long, is-fine, small-room, stored}
+use Rattle.room.proofs.Entries.{entered_refused}
+use Rattle.deck_writer.proofs.Entering.{few_entries, long_is, other_length, too_long, is_fine, small_room, stored}
 use borrow.Author.Rules.{rules}
 use Rattle.deck_writer.proofs.write_bodies.Statement.{statement}
 use Rattle.deck_writer.proofs.write_bodies.Tie as tie
@@ -14,7 +14,7 @@ use Rattle.deck_writer.proofs.write_bodies.Tie as tie
 returns : tie.Need-returns
 returns c =
     let start = c.before.before.before.before in
-    entered-refused (other_length start.args.contents.now start.args.bodies.now start.requires (λ e. omega (arith, e, c.if1.true)))
+    entered_refused (other_length start.args.contents.now start.args.bodies.now start.requires (λ e. omega (arith, e, c.if1.true)))
 
 -- it goes on only where the bodies are as long as the lengths say together
 whole : (c : tie.Else1) → let start = c.before.before.before.before in start.args.long ≡ length start.args.bodies.now
@@ -27,10 +27,10 @@ add-first c = search rules
 add-need : tie.Need-overflow-add-need
 add-need c =
     let start = c.before.before.before.before in
-    search (rules, few-entries start.args.contents.now start.args.bodies.now start.requires)
+    search (rules, few_entries start.args.contents.now start.args.bodies.now start.requires)
 
 -- what is held against the most bytes of a deck, and then against the room
-abbrev held : {long : ℕ} → long ≤ deckBytes → ℕ
+abbrev held : {long : ℕ} → long ≤ deck_bytes → ℕ
 held {long} _ = long
 
 abbrev begun : tie.Else2 → tie.Start
@@ -44,21 +44,21 @@ returns-2 : tie.Need-returns-2
 returns-2 c =
     let at-if1 = c.before in
     let start = at-if1.before.before.before.before in
-    entered-refused (too_long start.args.contents.now start.args.bodies.now start.requires (whole at-if1) c.if2.true)
+    entered_refused (too_long start.args.contents.now start.args.bodies.now start.requires (whole at-if1) c.if2.true)
 
 returns-3 : tie.Need-returns-3
 returns-3 c =
     let at-if2 = c.before in
     let at-if1 = at-if2.before in
     let start = at-if1.before.before.before.before in
-    small-room (is-fine start.args.contents.now start.args.bodies.now start.requires (whole at-if1) at-if2.if2.false) (short-room c)
+    small_room (is_fine start.args.contents.now start.args.bodies.now start.requires (whole at-if1) at-if2.if2.false) (short-room c)
 
 put-deck-requires : tie.Need-put-deck-requires
 put-deck-requires c κs =
     let at-if2 = c.before.before in
     let at-if1 = at-if2.before in
     let start = at-if1.before.before.before.before in
-    (few-entries start.args.contents.now start.args.bodies.now start.requires, omega (arith, long-is start.args.contents.now start.args.bodies.now start.requires, whole at-if1, at-if2.if2.false))
+    (few_entries start.args.contents.now start.args.bodies.now start.requires, omega (arith, long_is start.args.contents.now start.args.bodies.now start.requires, whole at-if1, at-if2.if2.false))
 
 abbrev fitting : tie.After-put-deck → tie.Else2
 fitting c = c.before.before.before
@@ -78,7 +78,7 @@ returns-4 c =
     let at-if2 = at-if3.before in
     let at-if1 = at-if2.before in
     let start = at-if1.before.before.before.before in
-    stored (is-fine start.args.contents.now start.args.bodies.now start.requires (whole at-if1) at-if2.if2.false) at-if3.if3.false (no_gap at-put-deck)
+    stored (is_fine start.args.contents.now start.args.bodies.now start.requires (whole at-if1) at-if2.if2.false) at-if3.if3.false (no_gap at-put-deck)
 
 pub write-bodies-spec : {M : Type 1} → statement M
 write-bodies-spec =

@@ -1,7 +1,7 @@
 -- `deck_writer::write_deck` meets its contract: the refusal of the contents is the entry's. Assumes nothing.
 use mathlib.Core.Path.{sym, ◌∙◌}
-use Rattle.room.proofs.Entries.{entered-refused}
-use Rattle.deck_writer.proofs.Entering.{told-refused, told-done, contents-refused}
+use Rattle.room.proofs.Entries.{entered_refused}
+use Rattle.deck_writer.proofs.Entering.{told_refused, told_done, contents_refused}
 use borrow.Author.Rules.{rules}
 use Rattle.deck_writer.proofs.write_deck.Statement.{statement}
 use Rattle.deck_writer.proofs.write_deck.Tie as tie
@@ -17,7 +17,7 @@ returns c =
     let at-number = c.before in
     let at-judge-contents = at-number.before.before in
     let start = at-judge-contents.before.before.before.before in
-    entered-refused (contents-refused start.args.contents.now start.args.bodies.now (told-refused (sym at-judge-contents.judge-contents.ensures ∙ at-number.number.given.1)))
+    entered_refused (contents_refused start.args.contents.now start.args.bodies.now (told_refused (sym at-judge-contents.judge-contents.ensures ∙ at-number.number.given.1)))
 
 enum-known-long : tie.Need-enum-known-long
 enum-known-long c = search rules
@@ -26,7 +26,7 @@ write-bodies-requires : tie.Need-write-bodies-requires
 write-bodies-requires c κs =
     let at_long = c.before.before in
     let at-judge-contents = at_long.before.before in
-    told-done (sym at-judge-contents.judge-contents.ensures ∙ at_long.long.given.1)
+    told_done (sym at-judge-contents.judge-contents.ensures ∙ at_long.long.given.1)
 
 same_length : tie.Need-same-length
 same_length c = search rules

@@ -1,5 +1,5 @@
 -- What the look found is what the step finds (proofs/Quick.antt of looks).
-use Rattle.looks.proofs.Quick.{sign-place, sign-step, past-step}
+use Rattle.looks.proofs.Quick.{sign_place, sign_step, past_step}
 use native.Mathlib.Omega.{arith}
 use mathlib.Core.Path.{sym, ◌∙◌}
 use borrow.Author.Rules.{rules}
@@ -10,13 +10,13 @@ sign-here-requires : tie.Need-sign-here-requires
 sign-here-requires c κs = search rules
 
 add-bare : tie.Need-overflow-add-bare
-add-bare c = omega (arith, sign-place c.before.before.before.args.card.now c.before.before.before.args.at 41 (sym c.before.sign-here.ensures ∙ c.if1.true))
+add-bare c = omega (arith, sign_place c.before.before.before.args.card.now c.before.before.before.args.at 41 (sym c.before.sign-here.ensures ∙ c.if1.true))
 
 bare-requires : tie.Need-bare-requires
 bare-requires c κs = search rules
 
 returns : tie.Need-returns
-returns c = c.bare.ensures ∙ sym (sign-step c.before.before.before.before.args.card.now c.before.before.before.before.args.at 41 (sym c.before.before.sign-here.ensures ∙ c.before.if1.true))
+returns c = c.bare.ensures ∙ sym (sign_step c.before.before.before.before.args.card.now c.before.before.before.before.args.at 41 (sym c.before.before.sign-here.ensures ∙ c.before.if1.true))
 
 past-blank-requires : tie.Need-past-blank-requires
 past-blank-requires c κs = search rules
@@ -25,7 +25,7 @@ sign-here-requires-2 : tie.Need-sign-here-requires-2
 sign-here-requires-2 c κs = search rules
 
 add-bare-2 : tie.Need-overflow-add-bare-2
-add-bare-2 c = omega (arith, sign-place c.before.before.before.before.before.before.args.card.now c.before.before.past-blank.result 41 (sym c.before.sign-here2.ensures ∙ c.if2.true))
+add-bare-2 c = omega (arith, sign_place c.before.before.before.before.before.before.args.card.now c.before.before.past-blank.result 41 (sym c.before.sign-here2.ensures ∙ c.if2.true))
 
 bare-requires-2 : tie.Need-bare-requires-2
 bare-requires-2 c κs = search rules
@@ -35,9 +35,9 @@ returns-2 c =
     let at-past-blank = c.before.before.before in
     let entry = at-past-blank.before.before.before.before in
     c.bare2.ensures ∙ sym
-    (sign-step entry.args.card.now at-past-blank.past-blank.result 41
+    (sign_step entry.args.card.now at-past-blank.past-blank.result 41
     (sym c.before.before.sign-here2.ensures ∙ c.before.if2.true))
-    ∙ past-step entry.args.card.now entry.args.at
+    ∙ past_step entry.args.card.now entry.args.at
     at-past-blank.past-blank.ensures
 
 sign-here-requires-3 : tie.Need-sign-here-requires-3
@@ -47,7 +47,7 @@ add-bare-3 : tie.Need-overflow-add-bare-3
 add-bare-3 c =
     omega (
       arith,
-      sign-place c.before.before.before.before.before.before.before.before.args.card.now c.before.before.before.before.past-blank.result 38
+      sign_place c.before.before.before.before.before.before.before.before.args.card.now c.before.before.before.before.past-blank.result 38
           (sym c.before.sign-here3.ensures ∙ c.if3.true),
     )
 
@@ -59,9 +59,9 @@ returns-3 c =
     let at-past-blank = c.before.before.before.before.before in
     let entry = at-past-blank.before.before.before.before in
     c.bare3.ensures ∙ sym
-    (sign-step entry.args.card.now at-past-blank.past-blank.result 38
+    (sign_step entry.args.card.now at-past-blank.past-blank.result 38
     (sym c.before.before.sign-here3.ensures ∙ c.before.if3.true))
-    ∙ past-step entry.args.card.now entry.args.at
+    ∙ past_step entry.args.card.now entry.args.at
     at-past-blank.past-blank.ensures
 
 sign-here-requires-4 : tie.Need-sign-here-requires-4
@@ -71,7 +71,7 @@ add-bare-4 : tie.Need-overflow-add-bare-4
 add-bare-4 c =
     omega (
       arith,
-      sign-place c.before.before.before.before.before.before.before.before.before.before.args.card.now
+      sign_place c.before.before.before.before.before.before.before.before.before.before.args.card.now
           c.before.before.before.before.before.before.past-blank.result 124 (sym c.before.sign-here4.ensures ∙ c.if4.true),
     )
 
@@ -83,9 +83,9 @@ returns-4 c =
     let at-past-blank = c.before.before.before.before.before.before.before in
     let entry = at-past-blank.before.before.before.before in
     c.bare4.ensures ∙ sym
-    (sign-step entry.args.card.now
+    (sign_step entry.args.card.now
     at-past-blank.past-blank.result 124 (sym c.before.before.sign-here4.ensures ∙ c.before.if4.true))
-    ∙ past-step entry.args.card.now
+    ∙ past_step entry.args.card.now
     entry.args.at at-past-blank.past-blank.ensures
 
 step-arrow-requires : tie.Need-step-arrow-requires
@@ -95,7 +95,7 @@ returns-5 : tie.Need-returns-5
 returns-5 c =
     let at-past-blank = c.before.before.before.before.before.before.before in
     let entry = at-past-blank.before.before.before.before in
-    c.step-arrow.ensures ∙ past-step entry.args.card.now
+    c.step-arrow.ensures ∙ past_step entry.args.card.now
     entry.args.at at-past-blank.past-blank.ensures
 
 pub step-after-spec : {M : Type 1} → statement M

@@ -1,7 +1,7 @@
 -- What the look found is what the step finds (proofs/Quick.antt of looks).
 use mathlib.Core.Path.{sym, ◌∙◌}
 use native.Mathlib.Omega.{arith}
-use Rattle.looks.proofs.Quick.{sign-place, sign-step, past-step}
+use Rattle.looks.proofs.Quick.{sign_place, sign_step, past_step}
 use borrow.Author.Rules.{rules}
 use Rattle.due_signs.proofs.step_closing.Statement.{statement}
 use Rattle.due_signs.proofs.step_closing.Tie as tie
@@ -10,7 +10,7 @@ sign-here-requires : tie.Need-sign-here-requires
 sign-here-requires c κs = search rules
 
 add-bare : tie.Need-overflow-add-bare
-add-bare c = omega (arith, sign-place c.before.before.before.args.card.now c.before.before.before.args.at c.before.before.before.args.kind (sym c.before.sign-here.ensures ∙ c.if1.true))
+add-bare c = omega (arith, sign_place c.before.before.before.args.card.now c.before.before.before.args.at c.before.before.before.args.kind (sym c.before.sign-here.ensures ∙ c.if1.true))
 
 bare-requires : tie.Need-bare-requires
 bare-requires c κs = search rules
@@ -18,7 +18,7 @@ bare-requires c κs = search rules
 returns : tie.Need-returns
 returns c =
     let entry = c.before.before.before.before in
-    c.bare.ensures ∙ sym (sign-step entry.args.card.now entry.args.at entry.args.kind (sym c.before.before.sign-here.ensures ∙ c.before.if1.true))
+    c.bare.ensures ∙ sym (sign_step entry.args.card.now entry.args.at entry.args.kind (sym c.before.before.sign-here.ensures ∙ c.before.if1.true))
 
 past-blank-requires : tie.Need-past-blank-requires
 past-blank-requires c κs = search rules
@@ -31,7 +31,7 @@ add-bare-2 c =
     let entry = c.before.before.before.before.before.before in
     omega (
       arith,
-      sign-place entry.args.card.now c.before.before.past-blank.result entry.args.kind
+      sign_place entry.args.card.now c.before.before.past-blank.result entry.args.kind
           (sym c.before.sign-here2.ensures ∙ c.if2.true),
     )
 
@@ -43,9 +43,9 @@ returns-2 c =
     let at-past-blank = c.before.before.before in
     let entry = at-past-blank.before.before.before.before in
     c.bare2.ensures ∙ sym
-    (sign-step entry.args.card.now at-past-blank.past-blank.result
+    (sign_step entry.args.card.now at-past-blank.past-blank.result
     entry.args.kind (sym c.before.before.sign-here2.ensures ∙ c.before.if2.true))
-    ∙ past-step entry.args.card.now entry.args.at
+    ∙ past_step entry.args.card.now entry.args.at
     at-past-blank.past-blank.ensures
 
 sign-here-requires-3 : tie.Need-sign-here-requires-3
@@ -55,7 +55,7 @@ add-bare-3 : tie.Need-overflow-add-bare-3
 add-bare-3 c =
     omega (
       arith,
-      sign-place c.before.before.before.before.before.before.before.before.args.card.now c.before.before.before.before.past-blank.result 41
+      sign_place c.before.before.before.before.before.before.before.before.args.card.now c.before.before.before.before.past-blank.result 41
           (sym c.before.sign-here3.ensures ∙ c.if3.true),
     )
 
@@ -67,9 +67,9 @@ returns-3 c =
     let at-past-blank = c.before.before.before.before.before in
     let entry = at-past-blank.before.before.before.before in
     c.bare3.ensures ∙ sym
-    (sign-step entry.args.card.now at-past-blank.past-blank.result 41
+    (sign_step entry.args.card.now at-past-blank.past-blank.result 41
     (sym c.before.before.sign-here3.ensures ∙ c.before.if3.true))
-    ∙ past-step entry.args.card.now entry.args.at
+    ∙ past_step entry.args.card.now entry.args.at
     at-past-blank.past-blank.ensures
 
 step-arrow-requires : tie.Need-step-arrow-requires
@@ -79,7 +79,7 @@ returns-4 : tie.Need-returns-4
 returns-4 c =
     let at-past-blank = c.before.before.before.before.before in
     let entry = at-past-blank.before.before.before.before in
-    c.step-arrow.ensures ∙ past-step entry.args.card.now
+    c.step-arrow.ensures ∙ past_step entry.args.card.now
     entry.args.at at-past-blank.past-blank.ensures
 
 pub step-closing-spec : {M : Type 1} → statement M

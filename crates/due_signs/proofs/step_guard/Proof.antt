@@ -1,5 +1,5 @@
 -- What the look found is what the step finds (proofs/Quick.antt of looks).
-use Rattle.looks.proofs.Quick.{sign-place, sign-step, past-step}
+use Rattle.looks.proofs.Quick.{sign_place, sign_step, past_step}
 use native.Mathlib.Omega.{arith}
 use mathlib.Core.Path.{sym, ◌∙◌}
 use borrow.Author.Rules.{rules}
@@ -13,7 +13,7 @@ sign-here-requires : tie.Need-sign-here-requires
 sign-here-requires c κs = search rules
 
 add-bare : tie.Need-overflow-add-bare
-add-bare c = omega (arith, sign-place c.before.before.before.before.args.card.now c.before.before.past-blank.result 38 (sym c.before.sign-here.ensures ∙ c.if1.true))
+add-bare c = omega (arith, sign_place c.before.before.before.before.args.card.now c.before.before.past-blank.result 38 (sym c.before.sign-here.ensures ∙ c.if1.true))
 
 bare-requires : tie.Need-bare-requires
 bare-requires c κs = search rules
@@ -23,9 +23,9 @@ returns c =
     let at-past-blank = c.before.before.before in
     let entry = at-past-blank.before.before in
     c.bare.ensures ∙ sym
-    (sign-step entry.args.card.now at-past-blank.past-blank.result 38
+    (sign_step entry.args.card.now at-past-blank.past-blank.result 38
     (sym c.before.before.sign-here.ensures ∙ c.before.if1.true))
-    ∙ past-step entry.args.card.now entry.args.at
+    ∙ past_step entry.args.card.now entry.args.at
     at-past-blank.past-blank.ensures
 
 step-arrow-requires : tie.Need-step-arrow-requires
@@ -35,7 +35,7 @@ returns-2 : tie.Need-returns-2
 returns-2 c =
     let at-past-blank = c.before.before.before in
     let entry = at-past-blank.before.before in
-    c.step-arrow.ensures ∙ past-step entry.args.card.now entry.args.at at-past-blank.past-blank.ensures
+    c.step-arrow.ensures ∙ past_step entry.args.card.now entry.args.at at-past-blank.past-blank.ensures
 
 pub step-guard-spec : {M : Type 1} → statement M
 step-guard-spec =

@@ -1,6 +1,6 @@
 -- What the look found is what the step finds (proofs/Quick.antt of looks).
-use Rattle.looks.proofs.Quick.{sign-place, sign-step, not_step, past-step}
-use Rattle.marks_on_a_card.proofs.Runs.{begins-place}
+use Rattle.looks.proofs.Quick.{sign_place, sign_step, not_step, past_step}
+use Rattle.marks_on_a_card.proofs.Runs.{begins_place}
 use borrow.Author.Tests.{not-true}
 use lib.Dec.{eqb}
 use native.Mathlib.Omega.{arith}
@@ -13,13 +13,13 @@ sign-here-requires : tie.Need-sign-here-requires
 sign-here-requires c κs = search rules
 
 add-bare : tie.Need-overflow-add-bare
-add-bare c = omega (arith, sign-place c.before.before.before.args.card.now c.before.before.before.args.at 40 (sym c.before.sign-here.ensures ∙ c.if1.true))
+add-bare c = omega (arith, sign_place c.before.before.before.args.card.now c.before.before.before.args.at 40 (sym c.before.sign-here.ensures ∙ c.if1.true))
 
 bare-requires : tie.Need-bare-requires
 bare-requires c κs = search rules
 
 returns : tie.Need-returns
-returns c = c.bare.ensures ∙ sym (sign-step c.before.before.before.before.args.card.now c.before.before.before.before.args.at 40 (sym c.before.before.sign-here.ensures ∙ c.before.if1.true))
+returns c = c.bare.ensures ∙ sym (sign_step c.before.before.before.before.args.card.now c.before.before.before.before.args.at 40 (sym c.before.before.sign-here.ensures ∙ c.before.if1.true))
 
 past-blank-requires : tie.Need-past-blank-requires
 past-blank-requires c κs = search rules
@@ -28,7 +28,7 @@ sign-here-requires-2 : tie.Need-sign-here-requires-2
 sign-here-requires-2 c κs = search rules
 
 add-bare-2 : tie.Need-overflow-add-bare-2
-add-bare-2 c = omega (arith, sign-place c.before.before.before.before.before.before.args.card.now c.before.before.past-blank.result 40 (sym c.before.sign-here2.ensures ∙ c.if2.true))
+add-bare-2 c = omega (arith, sign_place c.before.before.before.before.before.before.args.card.now c.before.before.past-blank.result 40 (sym c.before.sign-here2.ensures ∙ c.if2.true))
 
 bare-requires-2 : tie.Need-bare-requires-2
 bare-requires-2 c κs = search rules
@@ -38,9 +38,9 @@ returns-2 c =
     let at-past-blank = c.before.before.before in
     let entry = at-past-blank.before.before.before.before in
     c.bare2.ensures ∙ sym
-    (sign-step entry.args.card.now at-past-blank.past-blank.result 40
+    (sign_step entry.args.card.now at-past-blank.past-blank.result 40
     (sym c.before.before.sign-here2.ensures ∙ c.before.if2.true))
-    ∙ past-step entry.args.card.now entry.args.at
+    ∙ past_step entry.args.card.now entry.args.at
     at-past-blank.past-blank.ensures
 
 stands-requires : tie.Need-stands-requires
@@ -50,7 +50,7 @@ add-next : tie.Need-overflow-add-next
 add-next c =
     omega (
       arith,
-      begins-place (eqb 33) c.before.before.before.before.before.before.before.before.args.card.now c.before.before.before.before.past-blank.result
+      begins_place (eqb 33) c.before.before.before.before.before.before.before.before.args.card.now c.before.before.before.before.past-blank.result
           (sym c.before.stands.ensures ∙ c.if3.true),
     )
 
@@ -72,7 +72,7 @@ returns-3 c =
     at-past-blank.past-blank.result
     (sym at-stands.stands.ensures ∙ at-if3.if3.true)
     (sym at-stands2.stands2.ensures ∙ not-true at-stands2.stands2.result c.before.if4.true))
-    ∙ past-step entry.args.card.now
+    ∙ past_step entry.args.card.now
     entry.args.at at-past-blank.past-blank.ensures
 
 step-from-requires : tie.Need-step-from-requires
@@ -82,7 +82,7 @@ returns-4 : tie.Need-returns-4
 returns-4 c =
     let at-past-blank = c.before.before.before.before.before in
     let entry = at-past-blank.before.before.before.before in
-    c.step_from.ensures ∙ past-step entry.args.card.now
+    c.step_from.ensures ∙ past_step entry.args.card.now
     entry.args.at at-past-blank.past-blank.ensures
 
 pub step-opening-spec : {M : Type 1} → statement M

@@ -1,7 +1,7 @@
 -- What the look found is what the step finds (proofs/Quick.antt of looks).
 use mathlib.Core.Path.{sym, ◌∙◌}
 use native.Mathlib.Omega.{arith}
-use Rattle.looks.proofs.Quick.{sign-place, sign-step, past-step}
+use Rattle.looks.proofs.Quick.{sign_place, sign_step, past_step}
 use borrow.Author.Rules.{rules}
 use Rattle.due_signs.proofs.step_sign.Statement.{statement}
 use Rattle.due_signs.proofs.step_sign.Tie as tie
@@ -16,7 +16,7 @@ add-bare : tie.Need-overflow-add-bare
 add-bare c =
     omega (
       arith,
-      sign-place c.before.before.before.before.args.card.now c.before.before.past-blank.result c.before.before.before.before.args.kind
+      sign_place c.before.before.before.before.args.card.now c.before.before.past-blank.result c.before.before.before.before.args.kind
           (sym c.before.sign-here.ensures ∙ c.if1.true),
     )
 
@@ -28,9 +28,9 @@ returns c =
     let at-past-blank = c.before.before.before in
     let entry = at-past-blank.before.before in
     c.bare.ensures ∙ sym
-    (sign-step entry.args.card.now at-past-blank.past-blank.result
+    (sign_step entry.args.card.now at-past-blank.past-blank.result
     entry.args.kind (sym c.before.before.sign-here.ensures ∙ c.before.if1.true))
-    ∙ past-step entry.args.card.now entry.args.at
+    ∙ past_step entry.args.card.now entry.args.at
     at-past-blank.past-blank.ensures
 
 step-from-requires : tie.Need-step-from-requires
@@ -40,7 +40,7 @@ returns-2 : tie.Need-returns-2
 returns-2 c =
     let at-past-blank = c.before.before.before in
     let entry = at-past-blank.before.before in
-    c.step_from.ensures ∙ past-step entry.args.card.now entry.args.at at-past-blank.past-blank.ensures
+    c.step_from.ensures ∙ past_step entry.args.card.now entry.args.at at-past-blank.past-blank.ensures
 
 pub step-sign-spec : {M : Type 1} → statement M
 step-sign-spec =

@@ -1,5 +1,5 @@
 -- What the look found is what the step finds (proofs/Quick.antt of looks).
-use Rattle.looks.proofs.Quick.{sign-place, sign-step, past-line-step}
+use Rattle.looks.proofs.Quick.{sign_place, sign_step, past_line_step}
 use mathlib.Core.Path.{sym, ◌∙◌}
 use native.Mathlib.Omega.{arith}
 use borrow.Author.Rules.{rules}
@@ -13,7 +13,7 @@ sign-here-requires : tie.Need-sign-here-requires
 sign-here-requires c κs = search rules
 
 add-bare : tie.Need-overflow-add-bare
-add-bare c = omega (arith, sign-place c.before.before.before.before.args.card.now c.before.before.past-line.result 91 (sym c.before.sign-here.ensures ∙ c.if1.true))
+add-bare c = omega (arith, sign_place c.before.before.before.before.args.card.now c.before.before.past-line.result 91 (sym c.before.sign-here.ensures ∙ c.if1.true))
 
 bare-requires : tie.Need-bare-requires
 bare-requires c κs = search rules
@@ -23,9 +23,9 @@ returns c =
     let at-past-line = c.before.before.before in
     let entry = at-past-line.before.before in
     c.bare.ensures ∙ sym
-    (sign-step entry.args.card.now at-past-line.past-line.result 91
+    (sign_step entry.args.card.now at-past-line.past-line.result 91
     (sym c.before.before.sign-here.ensures ∙ c.before.if1.true))
-    ∙ past-line-step entry.args.card.now entry.args.at
+    ∙ past_line_step entry.args.card.now entry.args.at
     at-past-line.past-line.ensures
 
 step-from-requires : tie.Need-step-from-requires
@@ -35,7 +35,7 @@ returns-2 : tie.Need-returns-2
 returns-2 c =
     let at-past-line = c.before.before.before in
     let entry = at-past-line.before.before in
-    c.step_from.ensures ∙ past-line-step entry.args.card.now entry.args.at at-past-line.past-line.ensures
+    c.step_from.ensures ∙ past_line_step entry.args.card.now entry.args.at at-past-line.past-line.ensures
 
 pub step-square-spec : {M : Type 1} → statement M
 step-square-spec =

@@ -1,6 +1,6 @@
 -- What the look found is what the step finds (proofs/Words.antt of looks).
-use Rattle.looks.proofs.Words.{word_fits, keyword-step}
-use Rattle.looks.proofs.Quick.{past-line-step}
+use Rattle.looks.proofs.Words.{word_fits, keyword_step}
+use Rattle.looks.proofs.Quick.{past_line_step}
 use Rattle.card.specs.Text.{bytes}
 use mathlib.Core.Path.{refl, sym, ◌∙◌}
 use native.Mathlib.Omega.{arith}
@@ -33,9 +33,9 @@ returns c =
     let at-past-line = c.before.before.before.before in
     let entry = at-past-line.before.before in
     c.bare.ensures ∙ sym
-    (keyword-step entry.args.card.now at-past-line.past-line.result 101 (bytes "ndmodule")
+    (keyword_step entry.args.card.now at-past-line.past-line.result 101 (bytes "ndmodule")
     (sym c.before.before.word-here.ensures ∙ c.before.if1.true) refl refl)
-    ∙ past-line-step entry.args.card.now entry.args.at
+    ∙ past_line_step entry.args.card.now entry.args.at
     at-past-line.past-line.ensures
 
 step-from-requires : tie.Need-step-from-requires
@@ -45,7 +45,7 @@ returns-2 : tie.Need-returns-2
 returns-2 c =
     let at-past-line = c.before.before.before.before in
     let entry = at-past-line.before.before in
-    c.step_from.ensures ∙ past-line-step entry.args.card.now entry.args.at
+    c.step_from.ensures ∙ past_line_step entry.args.card.now entry.args.at
     at-past-line.past-line.ensures
 
 pub step-endmodule-spec : {M : Type 1} → statement M

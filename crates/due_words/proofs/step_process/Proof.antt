@@ -1,7 +1,7 @@
 -- What the look found is what the step finds (proofs/Quick.antt of looks).
 use mathlib.Core.Path.{sym, ◌∙◌}
 use native.Mathlib.Omega.{arith}
-use Rattle.looks.proofs.Quick.{process-room, process-step, past-step}
+use Rattle.looks.proofs.Quick.{process_room, process_step, past_step}
 use borrow.Author.Rules.{rules}
 use Rattle.due_words.proofs.step_process.Statement.{statement}
 use Rattle.due_words.proofs.step_process.Tie as tie
@@ -13,7 +13,7 @@ process-here-requires : tie.Need-process-here-requires
 process-here-requires c κs = search rules
 
 add-valued : tie.Need-overflow-add-valued
-add-valued c = omega (arith, process-room c.before.before.before.before.args.card.now c.before.before.past-blank.result c.before.process-here.result c.before.process-here.ensures c.if1.true)
+add-valued c = omega (arith, process_room c.before.before.before.before.args.card.now c.before.before.past-blank.result c.before.process-here.result c.before.process-here.ensures c.if1.true)
 
 valued-requires : tie.Need-valued-requires
 valued-requires c κs = search rules
@@ -24,9 +24,9 @@ returns c =
     let at-past-blank = at-process-here.before in
     let entry = at-past-blank.before.before in
     c.valued.ensures ∙ sym
-    (process-step entry.args.card.now at-past-blank.past-blank.result
+    (process_step entry.args.card.now at-past-blank.past-blank.result
     at-process-here.process-here.result at-process-here.process-here.ensures c.before.if1.true)
-    ∙ past-step entry.args.card.now entry.args.at
+    ∙ past_step entry.args.card.now entry.args.at
     at-past-blank.past-blank.ensures
 
 step-from-requires : tie.Need-step-from-requires
@@ -36,7 +36,7 @@ returns-2 : tie.Need-returns-2
 returns-2 c =
     let at-past-blank = c.before.before.before in
     let entry = at-past-blank.before.before in
-    c.step_from.ensures ∙ past-step entry.args.card.now entry.args.at at-past-blank.past-blank.ensures
+    c.step_from.ensures ∙ past_step entry.args.card.now entry.args.at at-past-blank.past-blank.ensures
 
 pub step-process-spec : {M : Type 1} → statement M
 step-process-spec =

@@ -1,5 +1,5 @@
 -- What the look found is what the step finds (proofs/Quick.antt of looks).
-use Rattle.looks.proofs.Quick.{seat-room, seat-step, teen-room, teen-step, past-step}
+use Rattle.looks.proofs.Quick.{seat_room, seat_step, teen_room, teen_step, past_step}
 use native.Mathlib.Omega.{arith}
 use mathlib.Core.Path.{sym, ◌∙◌}
 use borrow.Author.Rules.{rules}
@@ -13,7 +13,7 @@ add-valued : tie.Need-overflow-add-valued
 add-valued c =
     let at-seat-here = c.before in
     let entry = at-seat-here.before.before in
-    omega (arith, seat-room entry.args.card.now entry.args.at at-seat-here.seat-here.result at-seat-here.seat-here.ensures c.if1.true)
+    omega (arith, seat_room entry.args.card.now entry.args.at at-seat-here.seat-here.result at-seat-here.seat-here.ensures c.if1.true)
 
 valued-requires : tie.Need-valued-requires
 valued-requires c κs = search rules
@@ -22,7 +22,7 @@ returns : tie.Need-returns
 returns c =
     let at-seat-here = c.before.before in
     let entry = at-seat-here.before.before in
-    c.valued.ensures ∙ sym (seat-step entry.args.card.now entry.args.at at-seat-here.seat-here.result at-seat-here.seat-here.ensures c.before.if1.true)
+    c.valued.ensures ∙ sym (seat_step entry.args.card.now entry.args.at at-seat-here.seat-here.result at-seat-here.seat-here.ensures c.before.if1.true)
 
 teen-here-requires : tie.Need-teen-here-requires
 teen-here-requires c κs = search rules
@@ -34,7 +34,7 @@ add-valued-3 : tie.Need-overflow-add-valued-3
 add-valued-3 c =
     let at-teen-here = c.before in
     let entry = at-teen-here.before.before.before.before in
-    omega (arith, teen-room entry.args.card.now entry.args.at at-teen-here.teen-here.result at-teen-here.teen-here.ensures c.if2.true)
+    omega (arith, teen_room entry.args.card.now entry.args.at at-teen-here.teen-here.result at-teen-here.teen-here.ensures c.if2.true)
 
 valued-requires-2 : tie.Need-valued-requires-2
 valued-requires-2 c κs = search rules
@@ -43,7 +43,7 @@ returns-2 : tie.Need-returns-2
 returns-2 c =
     let at-teen-here = c.before.before in
     let entry = at-teen-here.before.before.before.before in
-    c.valued2.ensures ∙ sym (teen-step entry.args.card.now entry.args.at at-teen-here.teen-here.result at-teen-here.teen-here.ensures c.before.if2.true)
+    c.valued2.ensures ∙ sym (teen_step entry.args.card.now entry.args.at at-teen-here.teen-here.result at-teen-here.teen-here.ensures c.before.if2.true)
 
 past-blank-requires : tie.Need-past-blank-requires
 past-blank-requires c κs = search rules
@@ -52,7 +52,7 @@ seat-here-requires-2 : tie.Need-seat-here-requires-2
 seat-here-requires-2 c κs = search rules
 
 add-valued-4 : tie.Need-overflow-add-valued-4
-add-valued-4 c = omega (arith, seat-room c.before.before.before.before.before.before.before.before.args.card.now c.before.before.past-blank.result c.before.seat-here2.result c.before.seat-here2.ensures c.if3.true)
+add-valued-4 c = omega (arith, seat_room c.before.before.before.before.before.before.before.before.args.card.now c.before.before.past-blank.result c.before.seat-here2.result c.before.seat-here2.ensures c.if3.true)
 
 valued-requires-3 : tie.Need-valued-requires-3
 valued-requires-3 c κs = search rules
@@ -62,7 +62,7 @@ returns-3 c =
     let at-seat-here2 = c.before.before in
     let at-past-blank = at-seat-here2.before in
     let entry = at-past-blank.before.before.before.before.before.before in
-    c.valued3.ensures ∙ sym (seat-step entry.args.card.now at-past-blank.past-blank.result at-seat-here2.seat-here2.result at-seat-here2.seat-here2.ensures c.before.if3.true) ∙ past-step entry.args.card.now entry.args.at at-past-blank.past-blank.ensures
+    c.valued3.ensures ∙ sym (seat_step entry.args.card.now at-past-blank.past-blank.result at-seat-here2.seat-here2.result at-seat-here2.seat-here2.ensures c.before.if3.true) ∙ past_step entry.args.card.now entry.args.at at-past-blank.past-blank.ensures
 
 teen-here-requires-2 : tie.Need-teen-here-requires-2
 teen-here-requires-2 c κs = search rules
@@ -75,7 +75,7 @@ add-valued-6 c =
     let at-teen-here2 = c.before in
     let at-past-blank = at-teen-here2.before.before.before in
     let entry = at-past-blank.before.before.before.before.before.before in
-    omega (arith, teen-room entry.args.card.now at-past-blank.past-blank.result at-teen-here2.teen-here2.result at-teen-here2.teen-here2.ensures c.if4.true)
+    omega (arith, teen_room entry.args.card.now at-past-blank.past-blank.result at-teen-here2.teen-here2.result at-teen-here2.teen-here2.ensures c.if4.true)
 
 valued-requires-4 : tie.Need-valued-requires-4
 valued-requires-4 c κs = search rules
@@ -85,7 +85,7 @@ returns-4 c =
     let at-teen-here2 = c.before.before in
     let at-past-blank = at-teen-here2.before.before.before in
     let entry = at-past-blank.before.before.before.before.before.before in
-    c.valued4.ensures ∙ sym (teen-step entry.args.card.now at-past-blank.past-blank.result at-teen-here2.teen-here2.result at-teen-here2.teen-here2.ensures c.before.if4.true) ∙ past-step entry.args.card.now entry.args.at at-past-blank.past-blank.ensures
+    c.valued4.ensures ∙ sym (teen_step entry.args.card.now at-past-blank.past-blank.result at-teen-here2.teen-here2.result at-teen-here2.teen-here2.ensures c.before.if4.true) ∙ past_step entry.args.card.now entry.args.at at-past-blank.past-blank.ensures
 
 step-from-requires : tie.Need-step-from-requires
 step-from-requires c κs = search rules
@@ -94,7 +94,7 @@ returns-5 : tie.Need-returns-5
 returns-5 c =
     let at-past-blank = c.before.before.before.before.before in
     let entry = at-past-blank.before.before.before.before.before.before in
-    c.step_from.ensures ∙ past-step entry.args.card.now entry.args.at at-past-blank.past-blank.ensures
+    c.step_from.ensures ∙ past_step entry.args.card.now entry.args.at at-past-blank.past-blank.ensures
 
 pub step-seat-spec : {M : Type 1} → statement M
 step-seat-spec =

@@ -1,7 +1,7 @@
 -- `entries::ask` meets its contract: the stages in their order, each by the contract of what judges it. Assumes nothing.
-use Rattle.ask_stages.proofs.Entry.{card-refused, seats-fit, few-shared, question-number, question-refused, still-long, seats-refused, answered}
+use Rattle.ask_stages.proofs.Entry.{card_refused, seats_fit, few_shared, question_number, question_refused, still_long, seats_refused, answered}
 use Rattle.entries.specs.Answered.{asked}
-use Rattle.outline.proofs.ReadInto.{arrays-none}
+use Rattle.outline.proofs.ReadInto.{arrays_none}
 use mathlib.Core.List.{[]}
 use mathlib.Core.Path.{sym, ap, ◌∙◌}
 use borrow.Author.Rules.{rules}
@@ -9,13 +9,13 @@ use Rattle.entries.proofs.ask.Statement.{statement}
 use Rattle.entries.proofs.ask.Tie as tie
 
 read-into-requires : tie.Need-read-into-requires
-read-into-requires c κs = arrays-none
+read-into-requires c κs = arrays_none
 
 enum-known-of-card : tie.Need-enum-known-of-card
 enum-known-of-card c = search rules
 
 returns : tie.Need-returns
-returns c = sym (ap asked (card-refused _ _ _ c.before.before.before.before.read-into.ensures c.before.of-card.given.1))
+returns c = sym (ap asked (card_refused _ _ _ c.before.before.before.before.read-into.ensures c.before.of-card.given.1))
 
 enum_told : tie.Need-enum-told
 enum_told c = search rules
@@ -24,17 +24,17 @@ question-into-requires : tie.Need-question-into-requires
 question-into-requires c κs =
     let read = c.before.before.before.before.read-into.ensures in
     let taken = c.before.enum_told.given.1 in
-    (seats-fit _ [] [] read taken, few-shared _ [] [] read taken)
+    (seats_fit _ [] [] read taken, few_shared _ [] [] read taken)
 
 refused-requires : tie.Need-refused-requires
-refused-requires c κs = question-number _ _ [] c.before.before.before.before.before.before.before.read-into.ensures c.before.before.before.before.enum_told.given.1 _ _ c.before.before.question-into.ensures c.if1.true
+refused-requires c κs = question_number _ _ [] c.before.before.before.before.before.before.before.read-into.ensures c.before.before.before.before.enum_told.given.1 _ _ c.before.before.question-into.ensures c.if1.true
 
 returns-2 : tie.Need-returns-2
 returns-2 c =
     let at-question-into = c.before.before.before in
     let at-enum-told = at-question-into.before.before in
     let at-read-into = at-enum-told.before.before.before in
-    c.refused.ensures ∙ sym (ap asked (question-refused _ _ _ at-read-into.read-into.ensures at-enum-told.enum_told.given.1 _ _ at-question-into.question-into.ensures c.before.if1.true))
+    c.refused.ensures ∙ sym (ap asked (question_refused _ _ _ at-read-into.read-into.ensures at-enum-told.enum_told.given.1 _ _ at-question-into.question-into.ensures c.before.if1.true))
 
 judge-seats-requires : tie.Need-judge-seats-requires
 judge-seats-requires c κs = search rules
@@ -49,7 +49,7 @@ returns-3 c =
     let at-question-into = at-if1.before.before in
     let at-enum-told = at-question-into.before.before in
     let at-read-into = at-enum-told.before.before.before in
-    sym (ap asked (seats-refused _ _ _ at-read-into.read-into.ensures at-enum-told.enum_told.given.1 _ _ at-question-into.question-into.ensures at-if1.if1.false at-judge-seats.judge-seats.ensures c.before.of-seats.given.1))
+    sym (ap asked (seats_refused _ _ _ at-read-into.read-into.ensures at-enum-told.enum_told.given.1 _ _ at-question-into.question-into.ensures at-if1.if1.false at-judge-seats.judge-seats.ensures c.before.of-seats.given.1))
 
 enum-told-2 : tie.Need-enum-told-2
 enum-told-2 c = search rules
@@ -66,7 +66,7 @@ slice-aggregate-held c =
     let at-question-into = at-if1.before.before in
     let at-enum-told = at-question-into.before.before in
     let at-read-into = at-enum-told.before.before.before in
-    sym (still-long _ _ [] at-read-into.read-into.ensures at-enum-told.enum_told.given.1 _ _ at-question-into.question-into.ensures at-if1.if1.false)
+    sym (still_long _ _ [] at-read-into.read-into.ensures at-enum-told.enum_told.given.1 _ _ at-question-into.question-into.ensures at-if1.if1.false)
 
 slice-aggregate-held-2 : tie.Need-slice-aggregate-held-2
 slice-aggregate-held-2 c = search rules

@@ -1,14 +1,14 @@
 -- `entries::first_move` meets its contract: the first refusal of card and seats, or what the walk finds. Assumes nothing.
-use Rattle.entries.proofs.MoveStages.{move-refused, few, answered}
+use Rattle.entries.proofs.MoveStages.{move_refused, few, answered}
 use Rattle.able_seats.specs.Moved.{moved}
-use Rattle.outline.proofs.ReadInto.{arrays-none}
+use Rattle.outline.proofs.ReadInto.{arrays_none}
 use mathlib.Core.Path.{sym, ap, ◌∙◌}
 use borrow.Author.Rules.{rules}
 use Rattle.entries.proofs.first_move.Statement.{statement}
 use Rattle.entries.proofs.first_move.Tie as tie
 
 read-into-requires : tie.Need-read-into-requires
-read-into-requires c κs = arrays-none
+read-into-requires c κs = arrays_none
 
 judge-seats-requires : tie.Need-judge-seats-requires
 judge-seats-requires c κs = search rules
@@ -24,7 +24,7 @@ returns c =
     let at-first-refusal = c.before.before.before in
     let at-judge-seats = at-first-refusal.before in
     let at-read-into = at-judge-seats.before.before in
-    sym (ap moved (move-refused _ _ at-read-into.read-into.ensures at-judge-seats.judge-seats.ensures at-first-refusal.first-refusal.ensures c.before.verdict.given.1))
+    sym (ap moved (move_refused _ _ at-read-into.read-into.ensures at-judge-seats.judge-seats.ensures at-first-refusal.first-refusal.ensures c.before.verdict.given.1))
 
 enum_told : tie.Need-enum-told
 enum_told c = search rules

@@ -1,13 +1,13 @@
 -- `entries::watch` meets its contract: the first refusal of card, seats and list, or the line. Assumes nothing.
-use Rattle.entries.proofs.WatchStages.{watch-refused, line-fits, line-said}
-use Rattle.room.proofs.Entries.{entered-refused}
-use Rattle.outline.proofs.ReadInto.{arrays-none}
+use Rattle.entries.proofs.WatchStages.{watch_refused, line_fits, line_said}
+use Rattle.room.proofs.Entries.{entered_refused}
+use Rattle.outline.proofs.ReadInto.{arrays_none}
 use borrow.Author.Rules.{rules}
 use Rattle.entries.proofs.watch.Statement.{statement}
 use Rattle.entries.proofs.watch.Tie as tie
 
 read-into-requires : tie.Need-read-into-requires
-read-into-requires c κs = arrays-none
+read-into-requires c κs = arrays_none
 
 judge-seats-requires : tie.Need-judge-seats-requires
 judge-seats-requires c κs = search rules
@@ -31,7 +31,7 @@ returns c =
     let at-judge-classes = at-first-refusal.before in
     let at-judge-seats = at-judge-classes.before in
     let at-read-into = at-judge-seats.before.before in
-    entered-refused (watch-refused _ _ _ at-read-into.read-into.ensures at-judge-seats.judge-seats.ensures at-first-refusal.first-refusal.ensures
+    entered_refused (watch_refused _ _ _ at-read-into.read-into.ensures at-judge-seats.judge-seats.ensures at-first-refusal.first-refusal.ensures
     at-judge-classes.judge-classes.ensures at-first-refusal2.first-refusal2.ensures c.before.verdict.given.1)
 
 enum_told : tie.Need-enum-told
@@ -51,7 +51,7 @@ enter-classes-requires c κs =
     let at-judge-classes = at-first-refusal.before in
     let at-judge-seats = at-judge-classes.before in
     let at-read-into = at-judge-seats.before.before in
-    line-fits _ _ _ at-read-into.read-into.ensures at-judge-seats.judge-seats.ensures at-first-refusal.first-refusal.ensures at-judge-classes.judge-classes.ensures
+    line_fits _ _ _ at-read-into.read-into.ensures at-judge-seats.judge-seats.ensures at-first-refusal.first-refusal.ensures at-judge-classes.judge-classes.ensures
     at-first-refusal2.first-refusal2.ensures at-enum-told.enum_told.given.1 c.before.before.count-classes.ensures
 
 same_length : tie.Need-same-length
@@ -66,7 +66,7 @@ returns-2 c =
     let at-judge-classes = at-first-refusal.before in
     let at-judge-seats = at-judge-classes.before in
     let at-read-into = at-judge-seats.before.before in
-    rw (line-said _ _ _ at-read-into.read-into.ensures at-judge-seats.judge-seats.ensures at-first-refusal.first-refusal.ensures at-judge-classes.judge-classes.ensures
+    rw (line_said _ _ _ at-read-into.read-into.ensures at-judge-seats.judge-seats.ensures at-first-refusal.first-refusal.ensures at-judge-classes.judge-classes.ensures
     at-first-refusal2.first-refusal2.ensures at-enum-told.enum_told.given.1 at-count-classes.count-classes.ensures)
     at c.before.before.enter-classes.ensures
 

@@ -1,6 +1,6 @@
 -- `finding::tell` meets its contract: two numbers, put one after the other. Assumes nothing.
 use borrow.Author.Rules.{rules}
-use Rattle.finding.proofs.Telling.{tell-refused, tell-taken}
+use Rattle.finding.proofs.Telling.{tell_refused, tell_taken}
 use Rattle.finding.proofs.tell.Statement.{statement}
 use Rattle.finding.proofs.tell.Tie as tie
 
@@ -20,7 +20,7 @@ returns : tie.Need-returns
 returns c =
     let at-verdict = c.before.before in
     let entry = at-verdict.before.before in
-    tell-refused entry.args.numbers.now at-verdict.verdict.given.1 c.wide.ensures.0
+    tell_refused entry.args.numbers.now at-verdict.verdict.given.1 c.wide.ensures.0
 
 enum_told : tie.Need-enum-told
 enum_told c = search rules
@@ -32,7 +32,7 @@ element-write-numbers-4 : tie.Need-element-write-numbers-4
 element-write-numbers-4 c = search rules
 
 returns-2 : tie.Need-returns-2
-returns-2 c = tell-taken c.before.before.args.numbers.now c.enum_told.given.1
+returns-2 c = tell_taken c.before.before.args.numbers.now c.enum_told.given.1
 
 pub tell-spec : {M : Type 1} → statement M
 tell-spec =

@@ -1,5 +1,5 @@
 -- `gathering::gather_bodies` meets its contract: each turn moves one body to where the one before ends, and leaves the others ahead. Assumes nothing.
-use Rattle.gathering.proofs.Bodies.{Gathering, gather_none, gather-all, in-contents, lower, ends, gather-more}
+use Rattle.gathering.proofs.Bodies.{Gathering, gather_none, gather_all, in_contents, lower, ends, gather_more}
 use native.Mathlib.Omega.{arith}
 use borrow.Author.Rules.{rules}
 use Rattle.gathering.proofs.gather_bodies.Statement.{statement}
@@ -28,14 +28,14 @@ word-at-requires c κs =
     let at-loop-test = c.before in
     let at-loop = at-loop-test.before in
     let start = at-loop.before.before in
-    omega (arith, in-contents _ _ at-loop.loop.invariant at-loop-test.loop-test.true, at-loop.loop.invariant.long, start.requires.whole)
+    omega (arith, in_contents _ _ at-loop.loop.invariant at-loop-test.loop-test.true, at-loop.loop.invariant.long, start.requires.whole)
 
 live-size-requires : tie.Need-live-size-requires invariant-loop decreases-loop
 live-size-requires c κs =
     let at-loop-test = c.before.before.before in
     let at-loop = at-loop-test.before in
     let start = at-loop.before.before in
-    omega (arith, in-contents _ _ at-loop.loop.invariant at-loop-test.loop-test.true, at-loop.loop.invariant.long, start.requires.whole)
+    omega (arith, in_contents _ _ at-loop.loop.invariant at-loop-test.loop-test.true, at-loop.loop.invariant.long, start.requires.whole)
 
 move-down-requires : tie.Need-move-down-requires invariant-loop decreases-loop
 move-down-requires c κs =
@@ -75,13 +75,13 @@ loop-again c =
     let at-word-at = at-live-size.before.before in
     let at-loop-test = at-word-at.before.before in
     let at-loop = at-loop-test.before in
-    gather-more _ _ at-loop.loop.invariant at-loop-test.loop-test.true at-word-at.word_at.ensures.0 at-live-size.live-size.ensures.0 at-move-down.move_down.ensures
+    gather_more _ _ at-loop.loop.invariant at-loop-test.loop-test.true at-word-at.word_at.ensures.0 at-live-size.live-size.ensures.0 at-move-down.move_down.ensures
 
 same_length : tie.Need-same-length invariant-loop decreases-loop
 same_length c = c.before.loop.invariant.long
 
 returns : tie.Need-returns invariant-loop decreases-loop
-returns c = gather-all _ _ c.before.loop.invariant c.loop-test.false
+returns c = gather_all _ _ c.before.loop.invariant c.loop-test.false
 
 pub gather-bodies-spec : {M : Type 1} → statement M
 gather-bodies-spec =

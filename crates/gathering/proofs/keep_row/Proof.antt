@@ -1,5 +1,5 @@
 -- `gathering::keep_row` meets its contract: a withdrawn entry leaves nothing, a live one its eight bytes. Assumes nothing.
-use Rattle.gathering.proofs.Keeping.{row-gone, row_kept}
+use Rattle.gathering.proofs.Keeping.{row_gone, row_kept}
 use mathlib.Core.Path.{refl}
 use borrow.Author.Rules.{rules}
 use Rattle.gathering.proofs.keep_row.Statement.{statement}
@@ -14,7 +14,7 @@ slice-read-if1 c = search rules
 returns : tie.Need-returns
 returns c =
     let given = c.before.before.before.args in
-    row-gone given.deck.now given.from refl c.if1.true given.to
+    row_gone given.deck.now given.from refl c.if1.true given.to
 
 move-down-requires : tie.Need-move-down-requires
 move-down-requires c κs = search rules

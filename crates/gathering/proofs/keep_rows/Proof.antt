@@ -1,5 +1,5 @@
 -- `gathering::keep_rows` meets its contract: each turn leaves one entry less to be kept. Assumes nothing.
-use Rattle.gathering.proofs.Keeping.{Keeping, keep-none, keep_all, inside, keep-more}
+use Rattle.gathering.proofs.Keeping.{Keeping, keep_none, keep_all, inside, keep_more}
 use native.Mathlib.Omega.{arith}
 use borrow.Author.Rules.{rules}
 use Rattle.gathering.proofs.keep_rows.Statement.{statement}
@@ -12,7 +12,7 @@ abbrev decreases-loop : tie.decreases-loop
 decreases-loop deck₀ count left₀ from₀ to₀ deck left from to = left
 
 loop-holds : tie.Need-loop-init invariant-loop decreases-loop
-loop-holds c = keep-none c.before.args.deck.now c.before.args.count
+loop-holds c = keep_none c.before.args.deck.now c.before.args.count
 
 keep-row-requires : tie.Need-keep-row-requires invariant-loop decreases-loop
 keep-row-requires c κs =
@@ -35,7 +35,7 @@ loop-again : tie.Need-loop-preserved invariant-loop decreases-loop
 loop-again c =
     let at-keep-row = c.before.before in
     let at-loop-test = at-keep-row.before.before in
-    keep-more _ _ at-loop-test.before.loop.invariant at-loop-test.loop-test.true at-keep-row.keep_row.ensures
+    keep_more _ _ at-loop-test.before.loop.invariant at-loop-test.loop-test.true at-keep-row.keep_row.ensures
 
 same_length : tie.Need-same-length invariant-loop decreases-loop
 same_length c = c.before.loop.invariant.long

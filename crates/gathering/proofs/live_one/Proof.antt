@@ -1,5 +1,5 @@
 -- `gathering::live_one` meets its contract: by the flag. Assumes nothing.
-use Rattle.gathering.proofs.Entries.{one-live, none-live}
+use Rattle.gathering.proofs.Entries.{one_live, none_live}
 use native.Mathlib.Omega.{arith}
 use mathlib.Core.Path.{refl}
 use borrow.Author.Rules.{rules}
@@ -13,10 +13,10 @@ shared-slice-read-if1 : tie.Need-shared-slice-read-if1
 shared-slice-read-if1 c = search rules
 
 returns : tie.Need-returns
-returns c = (one-live c.before.before.args.deck.now c.before.before.args.at refl c.if1.true, omega arith)
+returns c = (one_live c.before.before.args.deck.now c.before.before.args.at refl c.if1.true, omega arith)
 
 returns-2 : tie.Need-returns-2
-returns-2 c = (none-live c.before.before.args.deck.now c.before.before.args.at refl c.if1.false, omega arith)
+returns-2 c = (none_live c.before.before.args.deck.now c.before.before.args.at refl c.if1.false, omega arith)
 
 pub live-one-spec : {M : Type 1} → statement M
 live-one-spec = tie.close (tie.spec add-if1 shared-slice-read-if1 returns returns-2)

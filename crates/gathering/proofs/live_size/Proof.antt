@@ -1,5 +1,5 @@
 -- `gathering::live_size` meets its contract: by the flag. Assumes nothing.
-use Rattle.gathering.proofs.Entries.{size-live, size_none}
+use Rattle.gathering.proofs.Entries.{size_live, size_none}
 use native.Mathlib.Omega.{arith}
 use mathlib.Core.Path.{refl}
 use borrow.Author.Rules.{rules}
@@ -22,7 +22,7 @@ returns : tie.Need-returns
 returns c =
     let at-word-at = c.before.before in
     let start = at-word-at.before.before in
-    (size-live start.args.deck.now start.args.at refl at-word-at.word_at.ensures.0 c.if1.true, at-word-at.word_at.ensures.1)
+    (size_live start.args.deck.now start.args.at refl at-word-at.word_at.ensures.0 c.if1.true, at-word-at.word_at.ensures.1)
 
 returns-2 : tie.Need-returns-2
 returns-2 c =

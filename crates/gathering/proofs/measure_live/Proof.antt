@@ -1,5 +1,5 @@
 -- `gathering::measure_live` meets its contract: those counted and those left are all. Assumes nothing.
-use Rattle.gathering.proofs.Counting.{Counted, counted_none, counted-more, all-cards, all-bytes}
+use Rattle.gathering.proofs.Counting.{Counted, counted_none, counted_more, all_cards, all_bytes}
 use native.Mathlib.Omega.{arith}
 use borrow.Author.Rules.{rules}
 use Rattle.gathering.proofs.measure_live.Statement.{statement}
@@ -24,7 +24,7 @@ live-one-requires : tie.Need-live-one-requires invariant-loop decreases-loop
 live-one-requires c κs = omega (arith, c.before.loop.invariant.place, c.loop-test.true, c.before.before.before.before.before.requires.whole)
 
 add-cards : tie.Need-overflow-add-cards invariant-loop decreases-loop
-add-cards c = omega (arith, c.before.before.loop.invariant.few-cards, c.live-one.ensures.1)
+add-cards c = omega (arith, c.before.before.loop.invariant.few_cards, c.live-one.ensures.1)
 
 live-size-requires : tie.Need-live-size-requires invariant-loop decreases-loop
 live-size-requires c κs =
@@ -54,13 +54,13 @@ loop-again c =
     let at-loop-test = at-live-one.before in
     let at-loop = at-loop-test.before in
     let start = at-loop.before.before.before.before in
-    counted-more start.args.deck.now at-loop.loop.invariant at-loop-test.loop-test.true at-live-one.live-one.ensures c.live-size.ensures
+    counted_more start.args.deck.now at-loop.loop.invariant at-loop-test.loop-test.true at-live-one.live-one.ensures c.live-size.ensures
 
 returns : tie.Need-returns invariant-loop decreases-loop
 returns c =
     let at-loop = c.before in
     let start = at-loop.before.before.before.before in
-    record { cards = all-cards start.args.deck.now at-loop.loop.invariant c.loop-test.false; bytes = all-bytes start.args.deck.now at-loop.loop.invariant c.loop-test.false }
+    record { cards = all_cards start.args.deck.now at-loop.loop.invariant c.loop-test.false; bytes = all_bytes start.args.deck.now at-loop.loop.invariant c.loop-test.false }
 
 pub measure-live-spec : {M : Type 1} → statement M
 measure-live-spec =

@@ -1,5 +1,5 @@
 -- `gathering::put_live_row` meets its contract: a withdrawn entry puts nothing, a live one its eight bytes with the new offset. Assumes nothing.
-use Rattle.gathering.proofs.Rows.{no_row, one-row}
+use Rattle.gathering.proofs.Rows.{no_row, one_row}
 use mathlib.Core.Path.{refl}
 use borrow.Author.Rules.{rules}
 use Rattle.gathering.proofs.put_live_row.Statement.{statement}
@@ -52,7 +52,7 @@ returns-2 c =
     let at-word-at = at-word-at2.before.before in
     let at-if1 = at-word-at.before.before in
     let start = at-if1.before.before.before in
-    one-row start.args.deck.now start.args.from refl at-if1.if1.false start.args.offset at-word-at.word_at.ensures.0 at-word-at2.word-at2.ensures.0 refl at-put-row.put-row.ensures
+    one_row start.args.deck.now start.args.from refl at-if1.if1.false start.args.offset at-word-at.word_at.ensures.0 at-word-at2.word-at2.ensures.0 refl at-put-row.put-row.ensures
 
 pub put-live-row-spec : {M : Type 1} → statement M
 put-live-row-spec =

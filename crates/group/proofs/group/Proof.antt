@@ -1,7 +1,7 @@
 -- Invariant: the group is what the literals so far and the others behind the mark ahead make (Turning). The measure is how many
 -- marks stand behind the mark ahead.
-use Rattle.group.proofs.Groups.{Turning, first-wrong, begins, turn-word, turn_literal, turn_on, turn-less, ends_open, ends-closed}
-use Rattle.marks.specs.Step.{marksAt}
+use Rattle.group.proofs.Groups.{Turning, first_wrong, begins, turn_word, turn_literal, turn_on, turn_less, ends_open, ends_closed}
+use Rattle.marks.specs.Step.{marks_at}
 use lib.ListN.{length}
 use mathlib.Core.Path.{refl}
 use Rattle.group.proofs.group.Statement.{statement}
@@ -11,7 +11,7 @@ abbrev invariant-loop : tie.invariant-loop
 invariant-loop part at seat first ahead₀ any joint seen₀ count₀ alike₀ ahead seen count alike = Turning part at seat first any seen count alike ahead
 
 abbrev decreases-loop : tie.decreases-loop
-decreases-loop part at seat first ahead₀ any joint seen₀ count₀ alike₀ ahead seen count alike = length (marksAt 0 part ahead.next.at)
+decreases-loop part at seat first ahead₀ any joint seen₀ count₀ alike₀ ahead seen count alike = length (marks_at 0 part ahead.next.at)
 
 literal-requires : tie.Need-literal-requires invariant-loop decreases-loop
 literal-requires c κs = tt
@@ -23,7 +23,7 @@ returns : tie.Need-returns invariant-loop decreases-loop
 returns c =
     let at_literal = c.before.before.before in
     let entry = at_literal.before.before in
-    rw c.no-group.ensures (first-wrong entry.args.part.now entry.args.at entry.args.seat at_literal.literal.result at_literal.literal.ensures c.before.if1.true)
+    rw c.no-group.ensures (first_wrong entry.args.part.now entry.args.at entry.args.seat at_literal.literal.result at_literal.literal.ensures c.before.if1.true)
 
 step-joint-requires : tie.Need-step-joint-requires invariant-loop decreases-loop
 step-joint-requires c κs = tt
@@ -60,7 +60,7 @@ returns-2 c =
     let at_literal = at-joint.before.before.before.before.before in
     let entry = at_literal.before.before in
     rw c.no-group2.ensures
-    (turn-word entry.args.part.now entry.args.at entry.args.seat
+    (turn_word entry.args.part.now entry.args.at entry.args.seat
     at_literal.literal.result _ at-joint.joint.result at-joint.joint.ensures
     at-loop.loop.seen at-loop.loop.count at-loop.loop.alike at-loop.loop.ahead at-loop.loop.invariant
     at-if2.if2.true at-step-seat.step-seat.result at-step-seat.step-seat.ensures c.before.if3.true)
@@ -111,7 +111,7 @@ loop-less c =
     let at-joint = at-loop.before.before.before in
     let at_literal = at-joint.before.before.before.before.before in
     let entry = at_literal.before.before in
-    turn-less entry.args.part.now entry.args.at entry.args.seat
+    turn_less entry.args.part.now entry.args.at entry.args.seat
     at_literal.literal.result _ at-joint.joint.result at-joint.joint.ensures
     at-loop.loop.seen at-loop.loop.count at-loop.loop.alike at-loop.loop.ahead at-loop.loop.invariant
     at-if2.if2.true at-step-seat.step-seat.result at-step-seat.step-seat.ensures
@@ -178,7 +178,7 @@ returns-5 c =
     let at-joint = at-loop.before.before.before in
     let at_literal = at-joint.before.before.before.before.before in
     let entry = at_literal.before.before in
-    ends-closed entry.args.part.now entry.args.at entry.args.seat
+    ends_closed entry.args.part.now entry.args.at entry.args.seat
     at_literal.literal.result _ at-joint.joint.result at-joint.joint.ensures
     at-loop.loop.seen at-loop.loop.count at-loop.loop.alike at-loop.loop.ahead at-loop.loop.invariant
     at-if2.if2.false at-if5.if5.false

@@ -1,8 +1,8 @@
 -- `guard_text::put_test` meets its contract: by whether there are nodes; the last is the root. Assumes nothing.
 use native.Mathlib.Omega.{arith}
-use Rattle.phrases.proofs.Laws.{put_first, puts_then, puts-as, puts_none}
-use Rattle.leaf_text.specs.Style.{bracketsOf, leafText}
-use Rattle.guard_text.proofs.Laws.{test-none, test-some}
+use Rattle.phrases.proofs.Laws.{put_first, puts_then, puts_as, puts_none}
+use Rattle.leaf_text.specs.Style.{brackets_of, leaf_text}
+use Rattle.guard_text.proofs.Laws.{test_none, test_some}
 use borrow.Author.Rules.{rules}
 use Rattle.guard_text.proofs.put_test.Statement.{statement}
 use Rattle.guard_text.proofs.put_test.Tie as tie
@@ -13,7 +13,7 @@ place-requires c κs = search rules
 returns : tie.Need-returns
 returns c =
     let a = c.before.before.before.args in
-    puts-as _ (test-none (bracketsOf a.style) (leafText a.style) a.nodes.now a.from a.count c.before.if1.true) (puts_none (search rules) c.place.ensures)
+    puts_as _ (test_none (brackets_of a.style) (leaf_text a.style) a.nodes.now a.from a.count c.before.if1.true) (puts_none (search rules) c.place.ensures)
 
 add-root : tie.Need-overflow-add-root
 add-root c = search rules
@@ -35,7 +35,7 @@ returns-2 c =
     let at-put-three = c.before.before.before.before.before.before in
     let at-if1 = at-put-three.before.before in
     let a = at-if1.before.before.args in
-    puts-as _ (test-some (bracketsOf a.style) (leafText a.style) a.nodes.now a.from a.count _ at-if1.if1.false (omega arith)) (puts_then (put_first at-put-three.put_three.ensures) c.before.before.put-guard.ensures)
+    puts_as _ (test_some (brackets_of a.style) (leaf_text a.style) a.nodes.now a.from a.count _ at-if1.if1.false (omega arith)) (puts_then (put_first at-put-three.put_three.ensures) c.before.before.put-guard.ensures)
 
 pub put-test-spec : {M : Type 1} → statement M
 put-test-spec =

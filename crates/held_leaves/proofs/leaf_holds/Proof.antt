@@ -2,7 +2,7 @@
 -- shared number. Assumes nothing.
 use mathlib.Core.Path.{◌∙◌}
 use native.Mathlib.Omega.{arith}
-use Rattle.held_leaves.proofs.Bounds.{passes-equal, passes-more, passes-less, passes-shared}
+use Rattle.held_leaves.proofs.Bounds.{passes_equal, passes_more, passes_less, passes_shared}
 use borrow.Author.Rules.{rules}
 use Rattle.held_leaves.proofs.leaf_holds.Statement.{statement}
 use Rattle.held_leaves.proofs.leaf_holds.Tie as tie
@@ -16,7 +16,7 @@ shared-holds-requires c κs = search rules
 returns : tie.Need-returns
 returns c =
     let at-if1 = c.before in
-    c.shared-holds.ensures ∙ passes-shared _ _ _ _ (omega (arith, at-if1.if1.true, at-if1.before.kind-of.ensures))
+    c.shared-holds.ensures ∙ passes_shared _ _ _ _ (omega (arith, at-if1.if1.true, at-if1.before.kind-of.ensures))
 
 state-of-requires : tie.Need-state-of-requires
 state-of-requires c κs = search rules
@@ -32,7 +32,7 @@ returns-2 c =
     let at-count-at = c.before.before.before.before in
     let at-state-of = at-count-at.before in
     let at-if1 = at-state-of.before in
-    passes-equal _ _ _ _ (omega (arith, at-if1.if1.false, at-if1.before.kind-of.ensures)) at-state-of.state-of.ensures.0 at-count-at.count_at.ensures
+    passes_equal _ _ _ _ (omega (arith, at-if1.if1.false, at-if1.before.kind-of.ensures)) at-state-of.state-of.ensures.0 at-count-at.count_at.ensures
     c.before.before.before.bound_of.ensures c.before.if2.true
 
 returns-3 : tie.Need-returns-3
@@ -41,7 +41,7 @@ returns-3 c =
     let at-count-at = at-bound-of.before in
     let at-state-of = at-count-at.before in
     let at-if1 = at-state-of.before in
-    passes-more _ _ _ _ (omega (arith, at-if1.if1.false, at-if1.before.kind-of.ensures)) at-state-of.state-of.ensures.0 at-count-at.count_at.ensures
+    passes_more _ _ _ _ (omega (arith, at-if1.if1.false, at-if1.before.kind-of.ensures)) at-state-of.state-of.ensures.0 at-count-at.count_at.ensures
     at-bound-of.bound_of.ensures c.before.if3.true
 
 returns-4 : tie.Need-returns-4
@@ -50,7 +50,7 @@ returns-4 c =
     let at-count-at = at-bound-of.before in
     let at-state-of = at-count-at.before in
     let at-if1 = at-state-of.before in
-    passes-less _ _ _ _ (omega (arith, at-if1.if1.false, at-if1.before.kind-of.ensures)) at-state-of.state-of.ensures.0 at-count-at.count_at.ensures
+    passes_less _ _ _ _ (omega (arith, at-if1.if1.false, at-if1.before.kind-of.ensures)) at-state-of.state-of.ensures.0 at-count-at.count_at.ensures
     at-bound-of.bound_of.ensures c.before.before.before.if2.false c.before.if3.false
 
 pub leaf-holds-spec : {M : Type 1} → statement M

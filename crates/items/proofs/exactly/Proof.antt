@@ -1,7 +1,7 @@
 -- Invariant: the whole is what the terms so far and the others behind the mark ahead make (Turning). The measure is how many marks
 -- stand behind the mark ahead.
-use Rattle.items.proofs.OneLaws.{Turning, first-wrong, begins, turn-wrong, turn_on, turn-less, ends_open, ends-closed}
-use Rattle.marks.specs.Step.{marksAt}
+use Rattle.items.proofs.OneLaws.{Turning, first_wrong, begins, turn_wrong, turn_on, turn_less, ends_open, ends_closed}
+use Rattle.marks.specs.Step.{marks_at}
 use lib.ListN.{length}
 use Rattle.items.proofs.exactly.Statement.{statement}
 use Rattle.items.proofs.exactly.Tie as tie
@@ -10,7 +10,7 @@ abbrev invariant-loop : tie.invariant-loop
 invariant-loop part first ahead₀ count₀ all₀ ahead count all = Turning part first count all ahead
 
 abbrev decreases-loop : tie.decreases-loop
-decreases-loop part first ahead₀ count₀ all₀ ahead count all = length (marksAt 0 part ahead.next.at)
+decreases-loop part first ahead₀ count₀ all₀ ahead count all = length (marks_at 0 part ahead.next.at)
 
 term-requires : tie.Need-term-requires invariant-loop decreases-loop
 term-requires c κs = tt
@@ -23,7 +23,7 @@ returns c =
     let at-if1 = c.before in
     let at-term = at-if1.before.before in
     let entry = at-term.before.before in
-    rw c.no-group.ensures (first-wrong entry.args.part.now at-term.term.result at-term.term.ensures at-if1.if1.true)
+    rw c.no-group.ensures (first_wrong entry.args.part.now at-term.term.result at-term.term.ensures at-if1.if1.true)
 
 step-joint-requires : tie.Need-step-joint-requires invariant-loop decreases-loop
 step-joint-requires c κs = tt
@@ -51,7 +51,7 @@ returns-2 c =
     let at-one-more = at-term2.before in
     let at-if2 = at-one-more.before.before in
     let at-loop = at-if2.before.before in
-    rw c.no-group2.ensures (turn-wrong at-loop.loop.invariant at-if2.if2.true _ at-term2.term2.result at-term2.term2.ensures at-if3.if3.true)
+    rw c.no-group2.ensures (turn_wrong at-loop.loop.invariant at-if2.if2.true _ at-term2.term2.result at-term2.term2.ensures at-if3.if3.true)
 
 agrees-requires : tie.Need-agrees-requires invariant-loop decreases-loop
 agrees-requires c κs = tt
@@ -66,7 +66,7 @@ loop-less c =
     let at-one-more = at-term2.before in
     let at-if2 = at-one-more.before.before in
     let at-loop = at-if2.before.before in
-    turn-less at-loop.loop.invariant at-if2.if2.true _ at-term2.term2.result at-term2.term2.ensures at-if3.if3.false c.step-joint2.result c.step-joint2.ensures
+    turn_less at-loop.loop.invariant at-if2.if2.true _ at-term2.term2.result at-term2.term2.ensures at-if3.if3.false c.step-joint2.result c.step-joint2.ensures
 
 loop-again : tie.Need-loop-preserved invariant-loop decreases-loop
 loop-again c =
@@ -100,7 +100,7 @@ returns-4 c =
     let at-if4 = at-seats-asked.before in
     let at-if2 = at-if4.before.before in
     let at-loop = at-if2.before.before in
-    ends-closed at-loop.loop.invariant at-if2.if2.false at-if4.if4.false at-seats-asked.seats-asked.result c.pack_one.result at-seats-asked.seats-asked.ensures c.pack_one.ensures
+    ends_closed at-loop.loop.invariant at-if2.if2.false at-if4.if4.false at-seats-asked.seats-asked.result c.pack_one.result at-seats-asked.seats-asked.ensures c.pack_one.ensures
 
 pub exactly-spec : {M : Type 1} → statement M
 exactly-spec =

@@ -1,6 +1,6 @@
 -- A seat word, the name of the shared number, an exactly-one, or none; each in the language that the number tells (proofs/Answers.antt). Assumes nothing.
-use Rattle.items.proofs.Answers.{card-group, question-group, either-test, undeclared, card-nothing, question-one, question-nothing, by_flag, by_values}
-use Rattle.languages.specs.Number.{valuesBy, asksBy}
+use Rattle.items.proofs.Answers.{card_group, question_group, either_test, undeclared, card_nothing, question_one, question_nothing, by_flag, by_values}
+use Rattle.languages.specs.Number.{values_by, asks_by}
 use borrow.Author.Tests.{not-true, not-false}
 use Rattle.items.proofs.item.Statement.{statement}
 use Rattle.items.proofs.item.Tie as tie
@@ -22,7 +22,7 @@ returns c =
     let at-is-question = at-step-inner.before in
     let entry = at-is-question.before.before in
     by_flag entry.args.language at-is-question.is-question.result at-is-question.is-question.ensures (rw (not-true at-is-question.is-question.result c.if2.true)
-    (card-group (valuesBy entry.args.language) entry.args.part.now at-step-inner.step-inner.result at-step-inner.step-inner.ensures at-if1.if1.true at-group.group.result at-group.group.ensures))
+    (card_group (values_by entry.args.language) entry.args.part.now at-step-inner.step-inner.result at-step-inner.step-inner.ensures at-if1.if1.true at-group.group.result at-group.group.ensures))
 
 of-all-requires : tie.Need-of-all-requires
 of-all-requires c κs = tt
@@ -36,7 +36,7 @@ returns-2 c =
     let at-is-question = at-step-inner.before in
     let entry = at-is-question.before.before in
     rw c.of-all.ensures (by_flag entry.args.language at-is-question.is-question.result at-is-question.is-question.ensures (rw (not-false at-is-question.is-question.result at-if2.if2.false)
-    (question-group (valuesBy entry.args.language) entry.args.part.now at-step-inner.step-inner.result at-step-inner.step-inner.ensures at-if1.if1.true at-group.group.result at-group.group.ensures)))
+    (question_group (values_by entry.args.language) entry.args.part.now at-step-inner.step-inner.result at-step-inner.step-inner.ensures at-if1.if1.true at-group.group.result at-group.group.ensures)))
 
 values-requires : tie.Need-values-requires
 values-requires c κs = tt
@@ -53,7 +53,7 @@ returns-3 c =
     let at-step-inner = at-if1.before.before in
     let entry = at-step-inner.before.before.before in
     rw c.no-item.ensures (by_values entry.args.language at-values.values.result at-values.values.ensures
-    (undeclared at-values.values.result entry.args.part.now at-step-inner.step-inner.result at-step-inner.step-inner.ensures at-if1.if1.false at-if3.if3.true at-if4.if4.true (asksBy entry.args.language)))
+    (undeclared at-values.values.result entry.args.part.now at-step-inner.step-inner.result at-step-inner.step-inner.ensures at-if1.if1.false at-if3.if3.true at-if4.if4.true (asks_by entry.args.language)))
 
 shared-test-requires : tie.Need-shared-test-requires
 shared-test-requires c κs = tt
@@ -67,7 +67,7 @@ returns-4 c =
     let at-step-inner = at-if1.before.before in
     let entry = at-step-inner.before.before.before in
     by_values entry.args.language at-values.values.result at-values.values.ensures
-    (either-test at-values.values.result entry.args.part.now at-step-inner.step-inner.result at-step-inner.step-inner.ensures at-if1.if1.false at-if3.if3.true at-if4.if4.false c.shared-test.result c.shared-test.ensures (asksBy entry.args.language))
+    (either_test at-values.values.result entry.args.part.now at-step-inner.step-inner.result at-step-inner.step-inner.ensures at-if1.if1.false at-if3.if3.true at-if4.if4.false c.shared-test.result c.shared-test.ensures (asks_by entry.args.language))
 
 twice-requires : tie.Need-twice-requires
 twice-requires c κs = tt
@@ -86,7 +86,7 @@ returns-5 c =
     let at-is-question = at-step-inner.before in
     let entry = at-is-question.before.before in
     by_flag entry.args.language at-is-question.is-question.result at-is-question.is-question.ensures (rw at-if5.if5.true
-    (question-one (valuesBy entry.args.language) entry.args.part.now at-step-inner.step-inner.result at-step-inner.step-inner.ensures at-if1.if1.false at-if3.if3.false at-twice.twice.result at-twice.twice.ensures at-if6.if6.true c.exactly.result c.exactly.ensures))
+    (question_one (values_by entry.args.language) entry.args.part.now at-step-inner.step-inner.result at-step-inner.step-inner.ensures at-if1.if1.false at-if3.if3.false at-twice.twice.result at-twice.twice.ensures at-if6.if6.true c.exactly.result c.exactly.ensures))
 
 no-item-requires-2 : tie.Need-no-item-requires-2
 no-item-requires-2 c κs = tt
@@ -102,7 +102,7 @@ returns-6 c =
     let at-is-question = at-step-inner.before in
     let entry = at-is-question.before.before in
     rw c.no-item2.ensures (by_flag entry.args.language at-is-question.is-question.result at-is-question.is-question.ensures (rw at-if5.if5.true
-    (question-nothing (valuesBy entry.args.language) entry.args.part.now at-step-inner.step-inner.result at-step-inner.step-inner.ensures at-if1.if1.false at-if3.if3.false at-twice.twice.result at-twice.twice.ensures at-if6.if6.false)))
+    (question_nothing (values_by entry.args.language) entry.args.part.now at-step-inner.step-inner.result at-step-inner.step-inner.ensures at-if1.if1.false at-if3.if3.false at-twice.twice.result at-twice.twice.ensures at-if6.if6.false)))
 
 no-item-requires-3 : tie.Need-no-item-requires-3
 no-item-requires-3 c κs = tt
@@ -116,7 +116,7 @@ returns-7 c =
     let at-is-question = at-step-inner.before in
     let entry = at-is-question.before.before in
     rw c.no-item3.ensures (by_flag entry.args.language at-is-question.is-question.result at-is-question.is-question.ensures (rw at-if5.if5.false
-    (card-nothing (valuesBy entry.args.language) entry.args.part.now at-step-inner.step-inner.result at-step-inner.step-inner.ensures at-if1.if1.false at-if3.if3.false)))
+    (card_nothing (values_by entry.args.language) entry.args.part.now at-step-inner.step-inner.result at-step-inner.step-inner.ensures at-if1.if1.false at-if3.if3.false)))
 
 pub item-spec : {M : Type 1} → statement M
 item-spec =

@@ -1,9 +1,9 @@
 -- The literal's answer, and the mark behind it (proofs/Tests.antt). Assumes nothing.
-use Rattle.items.proofs.Tests.{literal-wrong, stays_open, closed}
+use Rattle.items.proofs.Tests.{literal_wrong, stays_open, closed}
 use Prim.Native.Nat.{min}
 use mathlib.Core.Path.{◌≡◌}
 use Rattle.card.specs.Limits.{numbers}
-use Rattle.card.specs.Laid.{sharedKind, packGroup}
+use Rattle.card.specs.Laid.{shared_kind, pack_group}
 use Rattle.items.proofs.shared_test.Statement.{statement}
 use Rattle.items.proofs.shared_test.Tie as tie
 
@@ -18,7 +18,7 @@ returns c =
     let at-if1 = c.before in
     let at_literal = at-if1.before.before in
     let entry = at_literal.before.before in
-    rw c.no-group.ensures (literal-wrong entry.args.part.now entry.args.at at_literal.literal.result at_literal.literal.ensures at-if1.if1.true)
+    rw c.no-group.ensures (literal_wrong entry.args.part.now entry.args.at at_literal.literal.result at_literal.literal.ensures at-if1.if1.true)
 
 step-sign-requires : tie.Need-step-sign-requires
 step-sign-requires c κs = tt
@@ -40,7 +40,7 @@ pack-shared-requires c κs = tt
 
 -- its node tells how the number is tested, and for what
 relation-kept : (c : tie.After-pack-shared)
-    → let tail = c.before.before.before.before.before.before.literal.result in c.pack-shared.result ≡ packGroup sharedKind 0 (min tail.relation 1) (min tail.d numbers)
+    → let tail = c.before.before.before.before.before.before.literal.result in c.pack-shared.result ≡ pack_group shared_kind 0 (min tail.relation 1) (min tail.d numbers)
 relation-kept c = c.pack-shared.ensures
 
 returns-3 : tie.Need-returns-3

@@ -1,5 +1,5 @@
 -- The bracket, the first seat word, and the rest by `literals`.
-use Rattle.term_literals.proofs.TermLaws.{no-open, no-first, term-whole}
+use Rattle.term_literals.proofs.TermLaws.{no_open, no_first, term_whole}
 use borrow.Author.Rules.{rules}
 use Rattle.items.proofs.term.Statement.{statement}
 use Rattle.items.proofs.term.Tie as tie
@@ -15,7 +15,7 @@ returns c =
     let at-if1 = c.before in
     let at-step-sign = at-if1.before.before in
     let entry = at-step-sign.before.before in
-    rw c.no-term.ensures (no-open entry.args.part.now entry.args.at entry.args.i at-step-sign.step-sign.result at-step-sign.step-sign.ensures at-if1.if1.true)
+    rw c.no-term.ensures (no_open entry.args.part.now entry.args.at entry.args.i at-step-sign.step-sign.result at-step-sign.step-sign.ensures at-if1.if1.true)
 
 step-tight-seat-requires : tie.Need-step-tight-seat-requires
 step-tight-seat-requires c κs = search rules
@@ -30,7 +30,7 @@ returns-2 c =
     let at-if1 = at-step-tight-seat.before in
     let at-step-sign = at-if1.before.before in
     let entry = at-step-sign.before.before in
-    rw c.no-term2.ensures (no-first entry.args.part.now entry.args.at entry.args.i at-step-sign.step-sign.result at-step-sign.step-sign.ensures at-if1.if1.false at-step-tight-seat.step-tight-seat.result at-step-tight-seat.step-tight-seat.ensures at-if2.if2.true)
+    rw c.no-term2.ensures (no_first entry.args.part.now entry.args.at entry.args.i at-step-sign.step-sign.result at-step-sign.step-sign.ensures at-if1.if1.false at-step-tight-seat.step-tight-seat.result at-step-tight-seat.step-tight-seat.ensures at-if2.if2.true)
 
 literals-requires : tie.Need-literals-requires
 literals-requires c κs = search rules
@@ -42,7 +42,7 @@ returns-3 c =
     let at-if1 = at-step-tight-seat.before in
     let at-step-sign = at-if1.before.before in
     let entry = at-step-sign.before.before in
-    term-whole entry.args.part.now entry.args.at entry.args.i at-step-sign.step-sign.result at-step-sign.step-sign.ensures at-if1.if1.false at-step-tight-seat.step-tight-seat.result at-step-tight-seat.step-tight-seat.ensures at-if2.if2.false c.literals.result c.literals.ensures
+    term_whole entry.args.part.now entry.args.at entry.args.i at-step-sign.step-sign.result at-step-sign.step-sign.ensures at-if1.if1.false at-step-tight-seat.step-tight-seat.result at-step-tight-seat.step-tight-seat.ensures at-if2.if2.false c.literals.result c.literals.ensures
 
 pub term-spec : {M : Type 1} → statement M
 term-spec =

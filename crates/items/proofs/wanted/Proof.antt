@@ -1,13 +1,13 @@
 -- The definition's test; where no seats are wanted nothing changes. Assumes nothing.
 use borrow.Author.Tests.{eq-eqb, ne_eqb}
-use Rattle.late.proofs.StateLaws.{late-same}
+use Rattle.late.proofs.StateLaws.{late_same}
 use Rattle.items.proofs.wanted.Statement.{statement}
 use Rattle.items.proofs.wanted.Tie as tie
 
 returns : tie.Need-returns
 returns c =
     let entry = c.before in
-    rw (eq-eqb _ _ c.if1.true) (late-same entry.args.state.now entry.requires)
+    rw (eq-eqb _ _ c.if1.true) (late_same entry.args.state.now entry.requires)
 
 grouped-requires : tie.Need-grouped-requires
 grouped-requires c κs = c.before.before.requires

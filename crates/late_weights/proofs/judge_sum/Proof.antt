@@ -1,9 +1,9 @@
 -- By whether the sum is the unit. Assumes nothing.
 use mathlib.Core.Path.{ap, ◌∙◌}
 use native.Mathlib.Omega.{arith}
-use Rattle.late.specs.State.{lateIn, withLate}
-use Rattle.late.proofs.StateLaws.{late-same}
-use Rattle.late_weights.proofs.Laws.{sum-fine, sum-wrong}
+use Rattle.late.specs.State.{late_in, with_late}
+use Rattle.late.proofs.StateLaws.{late_same}
+use Rattle.late_weights.proofs.Laws.{sum_fine, sum_wrong}
 use borrow.Author.Rules.{rules}
 use Rattle.late_weights.proofs.judge_sum.Statement.{statement}
 use Rattle.late_weights.proofs.judge_sum.Tie as tie
@@ -16,8 +16,8 @@ returns c =
     let at_wide = c.before in
     let entry = at_wide.before in
     let a = entry.args in
-    late-same a.state.now entry.requires ∙ ap (withLate a.state.now)
-    (sum-fine a.total a.place (lateIn a.state.now) (omega (arith, c.if1.true, at_wide.wide.ensures)))
+    late_same a.state.now entry.requires ∙ ap (with_late a.state.now)
+    (sum_fine a.total a.place (late_in a.state.now) (omega (arith, c.if1.true, at_wide.wide.ensures)))
 
 blame-requires : tie.Need-blame-requires
 blame-requires c κs = c.before.before.before.requires
@@ -28,8 +28,8 @@ returns-2 c =
     let at_wide = at-if1.before in
     let entry = at_wide.before in
     let a = entry.args in
-    c.blame.ensures ∙ ap (withLate a.state.now)
-    (sum-wrong a.total a.place (lateIn a.state.now) (λ e. omega (arith, e, at-if1.if1.false, at_wide.wide.ensures)))
+    c.blame.ensures ∙ ap (with_late a.state.now)
+    (sum_wrong a.total a.place (late_in a.state.now) (λ e. omega (arith, e, at-if1.if1.false, at_wide.wide.ensures)))
 
 pub judge-sum-spec : {M : Type 1} → statement M
 judge-sum-spec =

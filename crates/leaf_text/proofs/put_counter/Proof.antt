@@ -1,6 +1,6 @@
 -- `leaf_text::put_counter` meets its contract: one put after the other, with the bound by its byte and its number. Assumes nothing.
-use Rattle.leaf_text.proofs.Laws.{counter-text, shared-reduced}
-use Rattle.phrases.proofs.Laws.{put_first, puts_then, puts-as}
+use Rattle.leaf_text.proofs.Laws.{counter_text_law, shared_reduced}
+use Rattle.phrases.proofs.Laws.{put_first, puts_then, puts_as}
 use native.Mathlib.Omega.{arith}
 use borrow.Author.Rules.{rules}
 use Rattle.leaf_text.proofs.put_counter.Statement.{statement}
@@ -29,7 +29,7 @@ returns c =
     let at-state-of = at-if1.before in
     let at-kind-of = at-state-of.before in
     let start = at-kind-of.before.before in
-    puts-as _ (shared-reduced start.args.node start.args.seats at-relation-of.relation-of.ensures.0 at-state-of.state-of.ensures.0 at-kind-of.kind-of.ensures at-if1.if1.true start.args.own) at-put-shared.put-shared.ensures
+    puts_as _ (shared_reduced start.args.node start.args.seats at-relation-of.relation-of.ensures.0 at-state-of.state-of.ensures.0 at-kind-of.kind-of.ensures at-if1.if1.true start.args.own) at-put-shared.put-shared.ensures
 
 bound-of-requires : tie.Need-bound-of-requires
 bound-of-requires c κs = search rules
@@ -61,7 +61,7 @@ returns-2 c =
     let at-if1 = at-bound-of.before in
     let at-state-of = at-if1.before in
     let at-kind-of = at-state-of.before in
-    puts-as _ (counter-text _ _ _ at-kind-of.kind-of.ensures at-if1.if1.false at-state-of.state-of.ensures.0 (omega (arith, at-state-of.state-of.ensures.1)) at-bound-of.bound_of.ensures)
+    puts_as _ (counter_text_law _ _ _ at-kind-of.kind-of.ensures at-if1.if1.false at-state-of.state-of.ensures.0 (omega (arith, at-state-of.state-of.ensures.1)) at-bound-of.bound_of.ensures)
     (puts_then (put_first at-put-six.put_six.ensures) (puts_then (put_first at-put-number.put-number.ensures) (put_first at-put-byte.put_byte.ensures)))
 
 pub put-counter-spec : {M : Type 1} → statement M

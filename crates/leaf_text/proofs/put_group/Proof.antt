@@ -1,6 +1,6 @@
 -- `leaf_text::put_group` meets its contract: the parts of a group, put one after the other; nothing is put of exactly one seat. Assumes nothing.
-use Rattle.leaf_text.proofs.Laws.{group-text, one-text, shared-written}
-use Rattle.phrases.proofs.Laws.{put_first, puts_then, puts-as, puts_none}
+use Rattle.leaf_text.proofs.Laws.{group_text_law, one_text, shared_written}
+use Rattle.phrases.proofs.Laws.{put_first, puts_then, puts_as, puts_none}
 use native.Mathlib.Omega.{arith}
 use mathlib.Core.Path.{refl}
 use borrow.Author.Rules.{rules}
@@ -23,7 +23,7 @@ returns : tie.Need-returns
 returns c =
     let at-if2 = c.before in
     let at-kind-of = at-if2.before.before.before.before in
-    puts-as _ (one-text _ _ at-kind-of.kind-of.ensures at-if2.if2.true) (puts_none (search rules) c.place.ensures)
+    puts_as _ (one_text _ _ at-kind-of.kind-of.ensures at-if2.if2.true) (puts_none (search rules) c.place.ensures)
 
 put-shared-requires : tie.Need-put-shared-requires
 put-shared-requires c κs = search rules
@@ -40,7 +40,7 @@ returns-2 c =
     let at-relation-of = at-state-of.before in
     let at-kind-of = at-relation-of.before in
     let start = at-kind-of.before.before in
-    puts-as _ (shared-written start.args.node start.args.seats at-relation-of.relation-of.ensures.0 at-state-of.state-of.ensures.0 at-kind-of.kind-of.ensures (omega (arith, at-if1.if1.true, at-if2.if2.false))) at-put-shared.put-shared.ensures
+    puts_as _ (shared_written start.args.node start.args.seats at-relation-of.relation-of.ensures.0 at-state-of.state-of.ensures.0 at-kind-of.kind-of.ensures (omega (arith, at-if1.if1.true, at-if2.if2.false))) at-put-shared.put-shared.ensures
 
 sign-of-requires : tie.Need-sign-of-requires
 sign-of-requires c κs = search rules
@@ -70,7 +70,7 @@ returns-3 c =
     let at-state-of = at-if1.before in
     let at-relation-of = at-state-of.before in
     let at-kind-of = at-relation-of.before in
-    puts-as _ (group-text _ _ at-sign-of.sign_of.ensures.0 at-relation-of.relation-of.ensures.0 at-state-of.state-of.ensures.0 at-kind-of.kind-of.ensures at-if1.if1.false refl)
+    puts_as _ (group_text_law _ _ at-sign-of.sign_of.ensures.0 at-relation-of.relation-of.ensures.0 at-state-of.state-of.ensures.0 at-kind-of.kind-of.ensures at-if1.if1.false refl)
     (puts_then at-put-opened.put-opened.ensures (puts_then at-put-literals.put-literals.ensures (put_first at-put-byte.put_byte.ensures)))
 
 pub put-group-spec : {M : Type 1} → statement M

@@ -1,7 +1,7 @@
 -- `leaf_text::put_opened` meets its contract: of one digit each the bytes are the text's, else it is a bracket and then a literal. Assumes
 -- nothing.
-use Rattle.phrases.proofs.Laws.{put_first, puts_then, puts-as}
-use Rattle.leaf_text.proofs.Laws.{opened-is, opened-isnt}
+use Rattle.phrases.proofs.Laws.{put_first, puts_then, puts_as}
+use Rattle.leaf_text.proofs.Laws.{opened_is, opened_isnt}
 use borrow.Author.Rules.{rules}
 use Rattle.leaf_text.proofs.put_opened.Statement.{statement}
 use Rattle.leaf_text.proofs.put_opened.Tie as tie
@@ -27,7 +27,7 @@ same_length c = search rules
 returns : tie.Need-returns
 returns c =
     let a = c.before.before.before.before.before.before.before.before.args in
-    puts-as _ (opened-is a.relation a.state a.seat c.before.before.before.before.before.if2.true c.before.before.before.before.before.before.if1.true c.before.before.before.before.if3.true) (put_first c.before.before.put_five.ensures)
+    puts_as _ (opened_is a.relation a.state a.seat c.before.before.before.before.before.if2.true c.before.before.before.before.before.before.if1.true c.before.before.before.before.if3.true) (put_first c.before.before.put_five.ensures)
 
 put-six-requires : tie.Need-put-six-requires
 put-six-requires c κs = search rules
@@ -38,7 +38,7 @@ same-length-2 c = search rules
 returns-2 : tie.Need-returns-2
 returns-2 c =
     let a = c.before.before.before.before.before.before.before.before.args in
-    puts-as _ (opened-isnt a.relation a.state a.seat c.before.before.before.before.before.if2.true c.before.before.before.before.before.before.if1.true c.before.before.before.before.if3.false) (put_first c.before.before.put_six.ensures)
+    puts_as _ (opened_isnt a.relation a.state a.seat c.before.before.before.before.before.if2.true c.before.before.before.before.before.before.if1.true c.before.before.before.before.if3.false) (put_first c.before.before.put_six.ensures)
 
 put-byte-requires : tie.Need-put-byte-requires
 put-byte-requires c κs = search rules

@@ -1,7 +1,7 @@
 -- The loop's invariant: the line that goes on at `at` ends where the one from the start on does.
 use borrow.Author.Rules.{rules}
-use Rattle.marks_on_a_card.proofs.Runs.{end_on, end-off, end_none}
-use Rattle.marks_on_a_card.specs.Bytes.{runEnd, notLF}
+use Rattle.marks_on_a_card.proofs.Runs.{end_on, end_off, end_none}
+use Rattle.marks_on_a_card.specs.Bytes.{run_end, not_lf}
 use borrow.Author.Tests.{eq-eqb, ne_eqb}
 use lib.ListN.{length}
 use Prim.Native.Nat.{◌-◌}
@@ -11,7 +11,7 @@ use Rattle.line_ends.proofs.line_end.Statement.{statement}
 use Rattle.line_ends.proofs.line_end.Tie as tie
 
 abbrev invariant-loop : tie.invariant-loop
-invariant-loop card from at₀ at = runEnd notLF card from ≡ runEnd notLF card at
+invariant-loop card from at₀ at = run_end not_lf card from ≡ run_end not_lf card at
 
 abbrev decreases-loop : tie.decreases-loop
 decreases-loop card from at₀ at = length card - at
@@ -25,7 +25,7 @@ shared-slice-read-if1 c = search rules
 returns : tie.Need-returns invariant-loop decreases-loop
 returns c =
     sym
-    (c.before.before.before.loop.invariant ∙ end-off notLF c.before.before.before.before.args.card.now c.before.before.before.loop.at
+    (c.before.before.before.loop.invariant ∙ end_off not_lf c.before.before.before.before.args.card.now c.before.before.before.loop.at
     c.before.before.loop-test.true (ap not (eq-eqb _ _ c.if1.true)))
 
 add_at : tie.Need-overflow-add-at invariant-loop decreases-loop
@@ -36,11 +36,11 @@ loop-less c = search rules
 
 loop-again : tie.Need-loop-preserved invariant-loop decreases-loop
 loop-again c =
-    c.before.before.before.loop.invariant ∙ end_on notLF c.before.before.before.before.args.card.now c.before.before.before.loop.at
+    c.before.before.before.loop.invariant ∙ end_on not_lf c.before.before.before.before.args.card.now c.before.before.before.loop.at
     c.before.before.loop-test.true (ap not (ne_eqb _ _ c.if1.false))
 
 returns-2 : tie.Need-returns-2 invariant-loop decreases-loop
-returns-2 c = sym (c.before.loop.invariant ∙ end_none notLF c.before.before.args.card.now c.before.loop.at c.loop-test.false)
+returns-2 c = sym (c.before.loop.invariant ∙ end_none not_lf c.before.before.args.card.now c.before.loop.at c.loop-test.false)
 
 pub line-end-spec : {M : Type 1} → statement M
 line-end-spec =

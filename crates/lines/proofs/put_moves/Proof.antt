@@ -1,12 +1,12 @@
 -- `lines::put_moves` meets its contract: after each turn the moves to one state more are put. Assumes nothing.
 use Rattle.panel_wording.specs.PanelIn.{tells}
-use Rattle.panel_wording.specs.PanelText.{movesText}
-use Rattle.panel_wording.proofs.Moves.{pair_at, pair-at}
-use Rattle.panel_wording.proofs.Laws.{moves-join, lists-start, lists-next, lists-end, one-most}
-use Rattle.room.proofs.Laws.{put-length}
+use Rattle.panel_wording.specs.PanelText.{moves_text}
+use Rattle.panel_wording.proofs.Moves.{pair_at, pair_at_law}
+use Rattle.panel_wording.proofs.Laws.{moves_join, lists_start, lists_next, lists_end, one_most}
+use Rattle.room.proofs.Laws.{put_length}
 use Rattle.phrases.specs.Puts.{Puts}
-use Rattle.phrases.proofs.Laws.{puts-as}
-use Rattle.meaning.specs.Sums.{orOne, upto, flat}
+use Rattle.phrases.proofs.Laws.{puts_as}
+use Rattle.meaning.specs.Sums.{or_one, upto, flat}
 use mathlib.Core.Path.{refl}
 use native.Mathlib.Omega.{arith}
 use borrow.Author.Rules.{rules}
@@ -15,7 +15,7 @@ use Rattle.lines.proofs.put_moves.Statement.{statement}
 use Rattle.lines.proofs.put_moves.Tie as tie
 
 abbrev invariant-loop : tie.invariant-loop
-invariant-loop room₀ at old row top shared values to₀ new₀ room to new = (new ≤ suc top) × Puts room₀ room at (movesText (tells shared) (flat (upto new (pair_at row (orOne shared) old)))) to
+invariant-loop room₀ at old row top shared values to₀ new₀ room to new = (new ≤ suc top) × Puts room₀ room at (moves_text (tells shared) (flat (upto new (pair_at row (or_one shared) old)))) to
 
 abbrev decreases-loop : tie.decreases-loop
 decreases-loop room₀ at old row top shared values to₀ new₀ room to new = suc top - new
@@ -29,7 +29,7 @@ place-requires c κs = search rules
 loop-holds : tie.Need-loop-init invariant-loop decreases-loop
 loop-holds c =
     let start = c.before.before.before.before in
-    (search rules, lists-start (moves-join (tells start.args.shared)) (pair_at start.args.row.now (orOne start.args.shared) start.args.old) (search rules) c.place.ensures)
+    (search rules, lists_start (moves_join (tells start.args.shared)) (pair_at start.args.row.now (or_one start.args.shared) start.args.old) (search rules) c.place.ensures)
 
 mul-from : tie.Need-overflow-mul-from invariant-loop decreases-loop
 mul-from c = search rules
@@ -38,7 +38,7 @@ add-end : tie.Need-overflow-add-end invariant-loop decreases-loop
 add-end c =
     let at-values-of = c.before.before.before in
     let start = at-values-of.before.before.before in
-    omega (arith, one-most start.args.shared start.requires.values, start.requires.top, at-values-of.values_of.ensures)
+    omega (arith, one_most start.args.shared start.requires.values, start.requires.top, at-values-of.values_of.ensures)
 
 mul-put-pair : tie.Need-overflow-mul-put-pair invariant-loop decreases-loop
 mul-put-pair c = search rules
@@ -53,7 +53,7 @@ part-put-pair-end : tie.Need-slice-bounds-put-pair-end invariant-loop decreases-
 part-put-pair-end c =
     let at-values-of = c.before.before.before.before in
     let start = at-values-of.before.before.before in
-    omega (arith, one-most start.args.shared start.requires.values, start.requires.top, start.requires.long, at-values-of.values_of.ensures)
+    omega (arith, one_most start.args.shared start.requires.values, start.requires.top, start.requires.long, at-values-of.values_of.ensures)
 
 put-pair-requires : tie.Need-put-pair-requires invariant-loop decreases-loop
 put-pair-requires c κs = search rules
@@ -69,15 +69,15 @@ loop-again c =
     let at-loop = c.before.before.before.before.before.before in
     let at-values-of = at-loop.before.before in
     let start = at-values-of.before.before.before in
-    (search rules, lists-next (moves-join (tells start.args.shared)) (pair_at start.args.row.now (orOne start.args.shared) start.args.old) at-loop.loop.new at-loop.loop.invariant.1 (puts-as _ (pair-at start.requires start.args.old at-loop.loop.new (search rules) at-values-of.values_of.ensures refl refl) c.before.before.put-pair.ensures))
+    (search rules, lists_next (moves_join (tells start.args.shared)) (pair_at start.args.row.now (or_one start.args.shared) start.args.old) at-loop.loop.new at-loop.loop.invariant.1 (puts_as _ (pair_at_law start.requires start.args.old at-loop.loop.new (search rules) at-values-of.values_of.ensures refl refl) c.before.before.put-pair.ensures))
 
 same_length : tie.Need-same-length invariant-loop decreases-loop
-same_length c = put-length c.before.loop.invariant.1.put
+same_length c = put_length c.before.loop.invariant.1.put
 
 returns : tie.Need-returns invariant-loop decreases-loop
 returns c =
     let start = c.before.before.before.before.before.before in
-    lists-end (moves-join (tells start.args.shared)) (pair_at start.args.row.now (orOne start.args.shared) start.args.old) c.before.loop.new _ c.before.loop.invariant.0 (search rules) c.before.loop.invariant.1
+    lists_end (moves_join (tells start.args.shared)) (pair_at start.args.row.now (or_one start.args.shared) start.args.old) c.before.loop.new _ c.before.loop.invariant.0 (search rules) c.before.loop.invariant.1
 
 pub put-moves-spec : {M : Type 1} → statement M
 put-moves-spec =

@@ -4,8 +4,8 @@ use borrow.Author.Rules.{rules}
 use lib.ListN.{length, take}
 use Rattle.phrases.proofs.Laws.{put_first, puts_then, puts_none}
 use Rattle.phrases.specs.Puts.{Puts}
-use Rattle.room.proofs.Laws.{put-length}
-use Rattle.panel_wording.proofs.Laws.{numbers-next, numbers-end}
+use Rattle.room.proofs.Laws.{put_length}
+use Rattle.panel_wording.proofs.Laws.{numbers_next, numbers_end}
 use Rattle.panel_wording.specs.PanelText.{numbers}
 use Rattle.lines.proofs.put_numbers.Statement.{statement}
 use Rattle.lines.proofs.put_numbers.Tie as tie
@@ -46,15 +46,15 @@ loop-again c =
     let at-loop-test = at-put-byte.before.before in
     let at-loop = at-loop-test.before in
     let start = at-loop.before.before.before.before in
-    (search rules, numbers-next start.args.values.now at-loop.loop.i at-loop-test.loop-test.true at-loop.loop.invariant.1 (puts_then (put_first at-put-byte.put_byte.ensures) (put_first c.before.before.put-number.ensures)))
+    (search rules, numbers_next start.args.values.now at-loop.loop.i at-loop-test.loop-test.true at-loop.loop.invariant.1 (puts_then (put_first at-put-byte.put_byte.ensures) (put_first c.before.before.put-number.ensures)))
 
 same_length : tie.Need-same-length invariant-loop decreases-loop
-same_length c = put-length c.before.loop.invariant.1.put
+same_length c = put_length c.before.loop.invariant.1.put
 
 returns : tie.Need-returns invariant-loop decreases-loop
 returns c =
     let start = c.before.before.before.before.before in
-    numbers-end start.args.values.now _ c.loop-test.false c.before.loop.invariant.1
+    numbers_end start.args.values.now _ c.loop-test.false c.before.loop.invariant.1
 
 pub put-numbers-spec : {M : Type 1} → statement M
 put-numbers-spec =

@@ -1,8 +1,8 @@
 -- `lines::put_pair` meets its contract: after each turn the move of one value more is put. Assumes nothing.
 use Rattle.panel_wording.specs.PanelIn.{tells}
-use Rattle.panel_wording.specs.PanelText.{movesText}
-use Rattle.panel_wording.proofs.Laws.{moves-join, lists-start, lists-next, lists-end}
-use Rattle.room.proofs.Laws.{put-length}
+use Rattle.panel_wording.specs.PanelText.{moves_text}
+use Rattle.panel_wording.proofs.Laws.{moves_join, lists_start, lists_next, lists_end}
+use Rattle.room.proofs.Laws.{put_length}
 use Rattle.phrases.specs.Puts.{Puts}
 use Rattle.meaning.specs.Sums.{upto, flat}
 use Rattle.meaning.specs.Panel.{move_line}
@@ -13,7 +13,7 @@ use Rattle.lines.proofs.put_pair.Statement.{statement}
 use Rattle.lines.proofs.put_pair.Tie as tie
 
 abbrev invariant-loop : tie.invariant-loop
-invariant-loop room₀ at old new weights shared to₀ becomes₀ room to becomes = (becomes ≤ length weights) × Puts room₀ room at (movesText (tells shared) (flat (upto becomes (λ h. move_line old new h (get_or weights h 0))))) to
+invariant-loop room₀ at old new weights shared to₀ becomes₀ room to becomes = (becomes ≤ length weights) × Puts room₀ room at (moves_text (tells shared) (flat (upto becomes (λ h. move_line old new h (get_or weights h 0))))) to
 
 abbrev decreases-loop : tie.decreases-loop
 decreases-loop room₀ at old new weights shared to₀ becomes₀ room to becomes = length weights - becomes
@@ -24,7 +24,7 @@ place-requires c κs = search rules
 loop-holds : tie.Need-loop-init invariant-loop decreases-loop
 loop-holds c =
     let start = c.before.before.before in
-    (search rules, lists-start (moves-join (tells start.args.shared)) (λ h. move_line start.args.old start.args.new h (get_or start.args.weights.now h 0)) (search rules) c.place.ensures)
+    (search rules, lists_start (moves_join (tells start.args.shared)) (λ h. move_line start.args.old start.args.new h (get_or start.args.weights.now h 0)) (search rules) c.place.ensures)
 
 mul-put-move : tie.Need-overflow-mul-put-move invariant-loop decreases-loop
 mul-put-move c = search rules
@@ -45,15 +45,15 @@ loop-again : tie.Need-loop-preserved invariant-loop decreases-loop
 loop-again c =
     let at-loop = c.before.before.before.before.before.before in
     let start = at-loop.before.before.before.before in
-    (search rules, lists-next (moves-join (tells start.args.shared)) (λ h. move_line start.args.old start.args.new h (get_or start.args.weights.now h 0)) at-loop.loop.becomes at-loop.loop.invariant.1 c.before.before.put-move.ensures)
+    (search rules, lists_next (moves_join (tells start.args.shared)) (λ h. move_line start.args.old start.args.new h (get_or start.args.weights.now h 0)) at-loop.loop.becomes at-loop.loop.invariant.1 c.before.before.put-move.ensures)
 
 same_length : tie.Need-same-length invariant-loop decreases-loop
-same_length c = put-length c.before.loop.invariant.1.put
+same_length c = put_length c.before.loop.invariant.1.put
 
 returns : tie.Need-returns invariant-loop decreases-loop
 returns c =
     let start = c.before.before.before.before.before in
-    lists-end (moves-join (tells start.args.shared)) (λ h. move_line start.args.old start.args.new h (get_or start.args.weights.now h 0)) c.before.loop.becomes _ c.before.loop.invariant.0 c.loop-test.false c.before.loop.invariant.1
+    lists_end (moves_join (tells start.args.shared)) (λ h. move_line start.args.old start.args.new h (get_or start.args.weights.now h 0)) c.before.loop.becomes _ c.before.loop.invariant.0 c.loop-test.false c.before.loop.invariant.1
 
 pub put-pair-spec : {M : Type 1} → statement M
 put-pair-spec =

@@ -1,10 +1,10 @@
 -- `literal_text::put_further` meets its contract: where the digits are few the bytes are the text's, else it is a sign and then a literal.
 -- Assumes nothing.
-use Rattle.phrases.proofs.Laws.{put_first, puts_then, puts-as, either-text}
-use Rattle.room.proofs.Decimal.{decimal-one}
+use Rattle.phrases.proofs.Laws.{put_first, puts_then, puts_as, either_text}
+use Rattle.room.proofs.Decimal.{decimal_one}
 use Rattle.card.specs.Card.{all, any}
-use Rattle.texts.specs.Writing.{signText}
-use Rattle.literal_text.proofs.Laws.{decimal-teen, further-is, further-isnt}
+use Rattle.texts.specs.Writing.{sign_text}
+use Rattle.literal_text.proofs.Laws.{decimal_teen, further_is, further_isnt}
 use borrow.Author.Rules.{rules}
 use Rattle.literal_text.proofs.put_further.Statement.{statement}
 use Rattle.literal_text.proofs.put_further.Tie as tie
@@ -37,7 +37,7 @@ returns c =
     let at-joint-of = at-if2.before in
     let at-if1 = at-joint-of.before in
     let a = at-if1.before.before.args in
-    puts-as _ (further-is a.sign a.relation a.state a.seat at-if1.if1.true (decimal-one a.seat at-if2.if2.true) at-joint-of.joint-of.ensures at-if3.if3.true) (put_first c.before.before.put-seven.ensures)
+    puts_as _ (further_is a.sign a.relation a.state a.seat at-if1.if1.true (decimal_one a.seat at-if2.if2.true) at-joint-of.joint-of.ensures at-if3.if3.true) (put_first c.before.before.put-seven.ensures)
 
 put-joined-four-requires : tie.Need-put-joined-four-requires
 put-joined-four-requires c κs = search rules
@@ -52,7 +52,7 @@ returns-2 c =
     let at-joint-of = at-if2.before in
     let at-if1 = at-joint-of.before in
     let a = at-if1.before.before.args in
-    puts-as _ (further-isnt a.sign a.relation a.state a.seat at-if1.if1.true (decimal-one a.seat at-if2.if2.true) at-joint-of.joint-of.ensures at-if3.if3.false) (put_first c.before.before.put-joined-four.ensures)
+    puts_as _ (further_isnt a.sign a.relation a.state a.seat at-if1.if1.true (decimal_one a.seat at-if2.if2.true) at-joint-of.joint-of.ensures at-if3.if3.false) (put_first c.before.before.put-joined-four.ensures)
 
 cast-i-2 : tie.Need-overflow-cast-i-2
 cast-i-2 c = search rules
@@ -74,7 +74,7 @@ returns-3 c =
     let at-joint-of = at-if2.before in
     let at-if1 = at-joint-of.before in
     let a = at-if1.before.before.args in
-    puts-as _ (further-is a.sign a.relation a.state a.seat at-if1.if1.true (decimal-teen a.seat at-if2.if2.false at-if4.if4.true) at-joint-of.joint-of.ensures at-if5.if5.true) (put_first c.before.before.put-joined-four2.ensures)
+    puts_as _ (further_is a.sign a.relation a.state a.seat at-if1.if1.true (decimal_teen a.seat at-if2.if2.false at-if4.if4.true) at-joint-of.joint-of.ensures at-if5.if5.true) (put_first c.before.before.put-joined-four2.ensures)
 
 put-joined-five-requires : tie.Need-put-joined-five-requires
 put-joined-five-requires c κs = search rules
@@ -90,7 +90,7 @@ returns-4 c =
     let at-joint-of = at-if2.before in
     let at-if1 = at-joint-of.before in
     let a = at-if1.before.before.args in
-    puts-as _ (further-isnt a.sign a.relation a.state a.seat at-if1.if1.true (decimal-teen a.seat at-if2.if2.false at-if4.if4.true) at-joint-of.joint-of.ensures at-if5.if5.false) (put_first c.before.before.put-joined-five.ensures)
+    puts_as _ (further_isnt a.sign a.relation a.state a.seat at-if1.if1.true (decimal_teen a.seat at-if2.if2.false at-if4.if4.true) at-joint-of.joint-of.ensures at-if5.if5.false) (put_first c.before.before.put-joined-five.ensures)
 
 slice-aggregate-put-either : tie.Need-slice-aggregate-put-either
 slice-aggregate-put-either c = search rules
@@ -111,7 +111,7 @@ returns-5 : tie.Need-returns-5
 returns-5 c =
     let at-put-either = c.before.before.before.before.before.before in
     let entry = at-put-either.before.before.before.before.before.before in
-    puts_then (puts-as _ (either-text all any signText entry.args.sign) at-put-either.put-either.ensures) c.before.before.put-literal.ensures
+    puts_then (puts_as _ (either_text all any sign_text entry.args.sign) at-put-either.put-either.ensures) c.before.before.put-literal.ensures
 
 pub put-further-spec : {M : Type 1} → statement M
 put-further-spec =

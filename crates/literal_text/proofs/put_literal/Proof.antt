@@ -1,7 +1,7 @@
 -- `literal_text::put_literal` meets its contract: one put after the other, the relation by its number. Assumes nothing.
-use Rattle.texts.specs.Writing.{relationText}
+use Rattle.texts.specs.Writing.{relation_text}
 use Rattle.card.specs.Card.{is, isnt}
-use Rattle.phrases.proofs.Laws.{put_first, puts_then, puts-as, either-text}
+use Rattle.phrases.proofs.Laws.{put_first, puts_then, puts_as, either_text}
 use borrow.Author.Rules.{rules}
 use Rattle.literal_text.proofs.put_literal.Statement.{statement}
 use Rattle.literal_text.proofs.put_literal.Tie as tie
@@ -34,7 +34,7 @@ returns c =
     let at-put-numbered = at-put-either.before.before.before.before.before.before in
     let start = at-put-numbered.before.before.before.before in
     puts_then at-put-numbered.put-numbered.ensures
-    (puts_then (puts-as _ (either-text is isnt relationText start.args.relation) at-put-either.put-either.ensures) (put_first at-put-number.put-number.ensures))
+    (puts_then (puts_as _ (either_text is isnt relation_text start.args.relation) at-put-either.put-either.ensures) (put_first at-put-number.put-number.ensures))
 
 pub put-literal-spec : {M : Type 1} → statement M
 put-literal-spec = tie.close (tie.spec slice-aggregate-put-numbered

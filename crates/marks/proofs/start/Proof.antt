@@ -4,13 +4,13 @@ use mathlib.Core.Path.{sym, ap, ◌∙◌}
 use mathlib.Core.Bool.{not, ◌||◌}
 use lib.Dec.{eqb}
 use lib.ListN.{drop}
-use Rattle.marks.specs.Parts.{bareOf}
+use Rattle.marks.specs.Parts.{bare_of}
 use Rattle.marks.specs.Step.{stepped}
-use Rattle.marks_on_a_card.specs.Bytes.{isDigit, isLetter, isSign}
+use Rattle.marks_on_a_card.specs.Bytes.{is_digit, is_letter, is_sign}
 use Rattle.marks_on_a_card.specs.Marks.{word, numeral, sign, Start}
 use Rattle.marks_on_a_card.proofs.Lists.{and_left}
-use Rattle.marks.proofs.Starts.{alone-step}
-use Rattle.marks_on_a_card.proofs.StartLaws.{letter-starts, digit-starts, sign-starts, sign-kind}
+use Rattle.marks.proofs.Starts.{alone_step}
+use Rattle.marks_on_a_card.proofs.StartLaws.{letter_starts, digit_starts, sign_starts, sign_kind}
 use borrow.Author.Rules.{rules}
 use Rattle.marks.proofs.start.Statement.{statement}
 use Rattle.marks.proofs.start.Tie as tie
@@ -34,8 +34,8 @@ returns c =
     let b = entry.args.b in
     let i = entry.args.at in
     let y = sym at-is-alone.is-alone.ensures ∙ c.before.before.if1.true in
-    λ k. c.bare.ensures ∙ ap (λ (v : ℕ). bareOf v i (i + 1)) (c.before.wide.ensures ∙ sym (sign-kind b (and_left (isSign b) (not (eqb b 33 || eqb b 47)) y))) ∙ sym
-    (alone-step b (drop (i + 1) entry.args.card.now) i k y entry.requires.2)
+    λ k. c.bare.ensures ∙ ap (λ (v : ℕ). bare_of v i (i + 1)) (c.before.wide.ensures ∙ sym (sign_kind b (and_left (is_sign b) (not (eqb b 33 || eqb b 47)) y))) ∙ sym
+    (alone_step b (drop (i + 1) entry.args.card.now) i k y entry.requires.2)
 
 is-digit-requires : tie.Need-is-digit-requires
 is-digit-requires c κs = search rules
@@ -43,7 +43,7 @@ is-digit-requires c κs = search rules
 numeral-requires : tie.Need-numeral-requires
 numeral-requires c κs =
     let entry = c.before.before.before.before.before in
-    (entry.requires.0, ap isDigit (sym entry.requires.1) ∙ sym c.before.is_digit.ensures ∙ c.if2.true)
+    (entry.requires.0, ap is_digit (sym entry.requires.1) ∙ sym c.before.is_digit.ensures ∙ c.if2.true)
 
 returns-2 : tie.Need-returns-2
 returns-2 c =
@@ -52,7 +52,7 @@ returns-2 c =
     let i = entry.args.at in
     let s = drop (i + 1) entry.args.card.now in
     λ k. c.numeral.ensures k ∙ ap (λ (x : ℕ). stepped i (numeral x s) k) (sym entry.requires.1) ∙ ap
-    (λ (x : Start). stepped i x k) (sym (digit-starts b s (sym c.before.before.is_digit.ensures ∙ c.before.if2.true)))
+    (λ (x : Start). stepped i x k) (sym (digit_starts b s (sym c.before.before.is_digit.ensures ∙ c.before.if2.true)))
 
 is-letter-requires : tie.Need-is-letter-requires
 is-letter-requires c κs = search rules
@@ -60,7 +60,7 @@ is-letter-requires c κs = search rules
 word-requires : tie.Need-word-requires
 word-requires c κs = (
   c.before.before.before.before.before.before.before.requires.0,
-  ap isLetter (sym c.before.before.before.before.before.before.before.requires.1) ∙ sym
+  ap is_letter (sym c.before.before.before.before.before.before.before.requires.1) ∙ sym
       c.before.is-letter.ensures ∙ c.if3.true,
 )
 
@@ -71,7 +71,7 @@ returns-3 c =
     let i = entry.args.at in
     let s = drop (i + 1) entry.args.card.now in
     λ k. c.word.ensures k ∙ ap (λ (x : ℕ). stepped i (word x s) k) (sym entry.requires.1) ∙ ap
-    (λ (x : Start). stepped i x k) (sym (letter-starts b s (sym c.before.before.is-letter.ensures ∙ c.before.if3.true)))
+    (λ (x : Start). stepped i x k) (sym (letter_starts b s (sym c.before.before.is-letter.ensures ∙ c.before.if3.true)))
 
 sign-requires : tie.Need-sign-requires
 sign-requires c κs = search rules
@@ -86,7 +86,7 @@ returns-4 c =
     let s = drop (i + 1) entry.args.card.now in
     λ k. c.sign.ensures k ∙ ap (λ (x : Start). stepped i x k)
     (sym
-    (sign-starts b s (sym c.before.before.is-letter.ensures ∙ c.before.if3.false)
+    (sign_starts b s (sym c.before.before.is-letter.ensures ∙ c.before.if3.false)
     (sym at-is-digit.is_digit.ensures ∙ at-if2.if2.false)
     entry.requires.2))
 

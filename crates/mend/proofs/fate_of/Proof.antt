@@ -1,7 +1,7 @@
 -- `mend::fate_of` meets its contract: a rule that the contents show decides; else the flag, and of a live entry the card. Assumes nothing.
 use native.Mathlib.Omega.{arith}
 use borrow.Author.Rules.{rules}
-use Rattle.mend.proofs.Judging.{by-contents, in-deck, withdrawn, accepted-card, refused-card}
+use Rattle.mend.proofs.Judging.{by_contents_law, in_deck, withdrawn, accepted_card, refused_card}
 use Rattle.mend.proofs.fate_of.Statement.{statement}
 use Rattle.mend.proofs.fate_of.Tie as tie
 
@@ -12,7 +12,7 @@ returns : tie.Need-returns
 returns c =
     let at-broken-rule = c.before in
     let entry = at-broken-rule.before.before in
-    by-contents entry.args.deck.now entry.args.at entry.args.least entry.args.last at-broken-rule.broken-rule.ensures c.if1.true
+    by_contents_law entry.args.deck.now entry.args.at entry.args.least entry.args.last at-broken-rule.broken-rule.ensures c.if1.true
 
 add-if2 : tie.Need-overflow-add-if2
 add-if2 c = search rules
@@ -56,7 +56,7 @@ part-accepted-end c =
     let at-if1 = at-if2.before.before in
     let at-broken-rule = at-if1.before in
     let entry = at-broken-rule.before.before in
-    in-deck entry.args.deck.now entry.args.at entry.args.least entry.args.last at-broken-rule.broken-rule.ensures at-if1.if1.false
+    in_deck entry.args.deck.now entry.args.at entry.args.least entry.args.last at-broken-rule.broken-rule.ensures at-if1.if1.false
     at-word-at.word_at.ensures.0 at-word-at2.word-at2.ensures.0
 
 accepted-requires : tie.Need-accepted-requires
@@ -71,7 +71,7 @@ returns-3 c =
     let at-if1 = at-if2.before.before in
     let at-broken-rule = at-if1.before in
     let entry = at-broken-rule.before.before in
-    accepted-card entry.args.deck.now entry.args.at entry.args.least entry.args.last at-broken-rule.broken-rule.ensures at-if1.if1.false
+    accepted_card entry.args.deck.now entry.args.at entry.args.least entry.args.last at-broken-rule.broken-rule.ensures at-if1.if1.false
     at-if2.if2.false at-word-at.word_at.ensures.0 at-word-at2.word-at2.ensures.0 at-accepted.accepted.ensures c.if3.true
 
 returns-4 : tie.Need-returns-4
@@ -83,7 +83,7 @@ returns-4 c =
     let at-if1 = at-if2.before.before in
     let at-broken-rule = at-if1.before in
     let entry = at-broken-rule.before.before in
-    refused-card entry.args.deck.now entry.args.at entry.args.least entry.args.last at-broken-rule.broken-rule.ensures at-if1.if1.false
+    refused_card entry.args.deck.now entry.args.at entry.args.least entry.args.last at-broken-rule.broken-rule.ensures at-if1.if1.false
     at-if2.if2.false at-word-at.word_at.ensures.0 at-word-at2.word-at2.ensures.0 at-accepted.accepted.ensures c.if3.false
 
 pub fate-of-spec : {M : Type 1} → statement M

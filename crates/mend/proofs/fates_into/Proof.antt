@@ -2,7 +2,7 @@
 use Rattle.deck.specs.Contents.{count_of}
 use native.Mathlib.Omega.{arith}
 use Prim.Native.Nat.{◌-◌, ◌<◌}
-use Rattle.mend.proofs.Going.{Going, begins, ended, roomy, in-contents, goes_on}
+use Rattle.mend.proofs.Going.{Going, begins, ended, roomy, in_contents, goes_on}
 use Rattle.mend.proofs.fates_into.Statement.{statement}
 use Rattle.mend.proofs.fates_into.Tie as tie
 
@@ -21,7 +21,7 @@ loop-holds c = begins c.before.before.args.deck.now c.before.before.requires.0 c
 fate-of-requires : tie.Need-fate-of-requires invariant-loop decreases-loop
 fate-of-requires c κs =
     let start = c.before.before.before.before in
-    in-contents start.args.deck.now start.requires.0 c.before.loop.invariant (omega (arith, c.loop-test.true, start.requires.1.0))
+    in_contents start.args.deck.now start.requires.0 c.before.loop.invariant (omega (arith, c.loop-test.true, start.requires.1.0))
 
 mul-fates : tie.Need-overflow-mul-fates invariant-loop decreases-loop
 mul-fates c =
@@ -37,7 +37,7 @@ walked-requires : tie.Need-walked-requires invariant-loop decreases-loop
 walked-requires c κs =
     let start = c.before.before.before.before.before in
     let less : c.before.before.loop.i < count_of start.args.deck.now = omega (arith, c.before.loop-test.true, start.requires.1.0) in
-    (in-contents start.args.deck.now start.requires.0 c.before.before.loop.invariant less, roomy start.args.deck.now start.requires.0 c.before.before.loop.invariant less)
+    (in_contents start.args.deck.now start.requires.0 c.before.before.loop.invariant less, roomy start.args.deck.now start.requires.0 c.before.before.loop.invariant less)
 
 add_at : tie.Need-overflow-add-at invariant-loop decreases-loop
 add_at c =

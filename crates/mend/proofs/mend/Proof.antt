@@ -1,8 +1,8 @@
 -- `mend::mend` meets its contract: head, what is kept, and the rooms, in this order. Assumes nothing.
-use Rattle.mended_rooms.proofs.Entering.{mends-refused}
-use Rattle.mending.proofs.MendStage.{head-wrong}
+use Rattle.mended_rooms.proofs.Entering.{mends_refused}
+use Rattle.mending.proofs.MendStage.{head_wrong}
 use borrow.Author.Rules.{rules}
-use Rattle.mend.proofs.Ready.{fates-count, fates-fit, fates-ready}
+use Rattle.mend.proofs.Ready.{fates_count, fates_fit, fates_ready}
 use Rattle.mend.proofs.mend.Statement.{statement}
 use Rattle.mend.proofs.mend.Tie as tie
 
@@ -12,7 +12,7 @@ head-count-requires c κs = search rules
 returns : tie.Need-returns
 returns c =
     let start = c.before.before.before.before.before in
-    mends-refused start.args.deck.now (head-wrong start.args.deck.now (c.before.head-count.ensures.wrong c.if1.true))
+    mends_refused start.args.deck.now (head_wrong start.args.deck.now (c.before.head-count.ensures.wrong c.if1.true))
 
 fates-into-requires : tie.Need-fates-into-requires
 fates-into-requires c κs = (c.before.before.head-count.ensures.right c.before.if1.false, (c.before.before.head-count.ensures.count c.before.if1.false, search rules))
@@ -20,20 +20,20 @@ fates-into-requires c κs = (c.before.before.head-count.ensures.right c.before.i
 array-share-prefix-fates : tie.Need-array-share-prefix-fates
 array-share-prefix-fates c =
     let at-head-count = c.before.before.before in
-    fates-fit (at-head-count.head-count.ensures.right c.before.before.if1.false) (at-head-count.head-count.ensures.count c.before.before.if1.false) c.fates-into.ensures
+    fates_fit (at-head-count.head-count.ensures.right c.before.before.if1.false) (at-head-count.head-count.ensures.count c.before.before.if1.false) c.fates-into.ensures
 
 slice-aggregate-store-mended : tie.Need-slice-aggregate-store-mended
 slice-aggregate-store-mended c =
     let at-if1 = c.before.before.before in
     let at-head-count = at-if1.before in
-    fates-count (at-head-count.head-count.ensures.right at-if1.if1.false) (at-head-count.head-count.ensures.count at-if1.if1.false) c.before.fates-into.ensures
+    fates_count (at-head-count.head-count.ensures.right at-if1.if1.false) (at-head-count.head-count.ensures.count at-if1.if1.false) c.before.fates-into.ensures
 
 store-mended-requires : tie.Need-store-mended-requires
 store-mended-requires c κs =
     let at-fates-into = c.before.before.before in
     let at-if1 = at-fates-into.before.before in
     let at-head-count = at-if1.before in
-    (fates-ready (at-head-count.head-count.ensures.right at-if1.if1.false) (at-head-count.head-count.ensures.count at-if1.if1.false) at-fates-into.fates-into.ensures, at-fates-into.fates-into.ensures.bytes)
+    (fates_ready (at-head-count.head-count.ensures.right at-if1.if1.false) (at-head-count.head-count.ensures.count at-if1.if1.false) at-fates-into.fates-into.ensures, at-fates-into.fates-into.ensures.bytes)
 
 same_length : tie.Need-same-length
 same_length c = search rules

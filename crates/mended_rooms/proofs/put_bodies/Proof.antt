@@ -3,7 +3,7 @@ use borrow.Author.Rules.{rules}
 use native.Mathlib.Omega.{arith}
 use lib.ListN.{length}
 use Prim.Native.Nat.{◌-◌}
-use Rattle.mended_rooms.proofs.Putting.{BodiesLeft, in-contents, bodies-start, bodies-end, bodies-next, body-inside}
+use Rattle.mended_rooms.proofs.Putting.{BodiesLeft, in_contents, bodies_start, bodies_end, bodies_next, body_inside}
 use Rattle.mended_rooms.proofs.put_bodies.Statement.{statement}
 use Rattle.mended_rooms.proofs.put_bodies.Tie as tie
 
@@ -19,7 +19,7 @@ place-requires c κs = search rules
 loop-holds : tie.Need-loop-init invariant-loop decreases-loop
 loop-holds c =
     let start = c.before.before.before.before in
-    bodies-start start.args.deck.now start.args.fates.now start.requires.0 (search rules) c.place.ensures start.requires.1
+    bodies_start start.args.deck.now start.args.fates.now start.requires.0 (search rules) c.place.ensures start.requires.1
 
 mul-put-kept-body : tie.Need-overflow-mul-put-kept-body invariant-loop decreases-loop
 mul-put-kept-body c = search rules
@@ -31,7 +31,7 @@ put-kept-body-requires : tie.Need-put-kept-body-requires invariant-loop decrease
 put-kept-body-requires c κs =
     let at-loop = c.before.before.before in
     let start = at-loop.before.before.before.before.before in
-    (in-contents _ _ start.requires.0 at-loop.loop.invariant.place c.before.before.loop-test.true, body-inside _ _ start.requires.0 at-loop.loop.invariant c.before.before.loop-test.true)
+    (in_contents _ _ start.requires.0 at-loop.loop.invariant.place c.before.before.loop-test.true, body_inside _ _ start.requires.0 at-loop.loop.invariant c.before.before.loop-test.true)
 
 add-from : tie.Need-overflow-add-from invariant-loop decreases-loop
 add-from c =
@@ -54,7 +54,7 @@ loop-again c =
     let at-loop-test = c.before.before.before.before.before in
     let at-loop = at-loop-test.before in
     let start = at-loop.before.before.before.before.before in
-    bodies-next _ _ start.requires.0 at-loop.loop.invariant at-loop-test.loop-test.true c.before.before.put-kept-body.ensures
+    bodies_next _ _ start.requires.0 at-loop.loop.invariant at-loop-test.loop-test.true c.before.before.put-kept-body.ensures
 
 same_length : tie.Need-same-length invariant-loop decreases-loop
 same_length c = c.before.loop.invariant.still.long
@@ -62,7 +62,7 @@ same_length c = c.before.loop.invariant.still.long
 returns : tie.Need-returns invariant-loop decreases-loop
 returns c =
     let start = c.before.before.before.before.before.before in
-    bodies-end _ _ start.requires.0 c.before.loop.invariant c.loop-test.false
+    bodies_end _ _ start.requires.0 c.before.loop.invariant c.loop-test.false
 
 pub put-bodies-spec : {M : Type 1} → statement M
 put-bodies-spec =

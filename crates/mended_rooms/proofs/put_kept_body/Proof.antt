@@ -1,7 +1,7 @@
 -- `mended_rooms::put_kept_body` meets its contract: one that is dropped puts nothing, else its range of the deck. Assumes nothing.
 use native.Mathlib.Omega.{arith}
 use borrow.Author.Rules.{rules}
-use Rattle.mended_rooms.proofs.Laws.{dropped-body, ends-inside, kept-body}
+use Rattle.mended_rooms.proofs.Laws.{dropped_body, ends_inside, kept_body}
 use Rattle.mended_rooms.proofs.put_kept_body.Statement.{statement}
 use Rattle.mended_rooms.proofs.put_kept_body.Tie as tie
 
@@ -9,7 +9,7 @@ place-requires : tie.Need-place-requires
 place-requires c κs = search rules
 
 returns : tie.Need-returns
-returns c = dropped-body _ _ c.before.if1.true (search rules) c.place.ensures _
+returns c = dropped_body _ _ c.before.if1.true (search rules) c.place.ensures _
 
 add-word-at : tie.Need-overflow-add-word-at
 add-word-at c = search rules
@@ -36,7 +36,7 @@ part-put-run-end : tie.Need-slice-bounds-put-run-end
 part-put-run-end c =
     let at-if1 = c.before.before.before in
     let start = at-if1.before.before.before in
-    ends-inside start.args.deck.now start.args.from at-if1.if1.false c.before.word-at2.ensures.0 c.before.before.word_at.ensures.0 start.requires.1
+    ends_inside start.args.deck.now start.args.from at-if1.if1.false c.before.word-at2.ensures.0 c.before.before.word_at.ensures.0 start.requires.1
 
 put-run-requires : tie.Need-put-run-requires
 put-run-requires c κs = search rules
@@ -50,7 +50,7 @@ returns-2 c =
     let at-word-at = at-word-at2.before in
     let at-if1 = at-word-at.before in
     let start = at-if1.before.before.before in
-    kept-body start.args.deck.now start.args.from at-if1.if1.false at-word-at2.word-at2.ensures.0 at-word-at.word_at.ensures.0 c.before.before.put-run.ensures
+    kept_body start.args.deck.now start.args.from at-if1.if1.false at-word-at2.word-at2.ensures.0 at-word-at.word_at.ensures.0 c.before.before.put-run.ensures
 
 pub put-kept-body-spec : {M : Type 1} → statement M
 put-kept-body-spec =

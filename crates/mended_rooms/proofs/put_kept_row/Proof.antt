@@ -1,7 +1,7 @@
 -- `mended_rooms::put_kept_row` meets its contract: one that is dropped puts nothing, else its eight bytes with the new offset. Assumes nothing.
 use mathlib.Core.Path.{refl}
 use borrow.Author.Rules.{rules}
-use Rattle.mended_rooms.proofs.Laws.{dropped-row, kept_row}
+use Rattle.mended_rooms.proofs.Laws.{dropped_row, kept_row}
 use Rattle.mended_rooms.proofs.put_kept_row.Statement.{statement}
 use Rattle.mended_rooms.proofs.put_kept_row.Tie as tie
 
@@ -9,7 +9,7 @@ place-requires : tie.Need-place-requires
 place-requires c κs = search rules
 
 returns : tie.Need-returns
-returns c = dropped-row _ _ c.before.if1.true (search rules) c.place.ensures _
+returns c = dropped_row _ _ c.before.if1.true (search rules) c.place.ensures _
 
 word-at-requires : tie.Need-word-at-requires
 word-at-requires c κs = search rules

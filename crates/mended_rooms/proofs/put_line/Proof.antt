@@ -1,7 +1,7 @@
 -- `mended_rooms::put_line` meets its contract: one word, or a word and the rule. Assumes nothing.
-use Rattle.phrases.proofs.Laws.{put_first, puts_then, puts-as}
+use Rattle.phrases.proofs.Laws.{put_first, puts_then, puts_as}
 use borrow.Author.Rules.{rules}
-use Rattle.mended_rooms.proofs.Listed.{line_kept, line-dropped}
+use Rattle.mended_rooms.proofs.Listed.{line_kept, line_dropped}
 use Rattle.mended_rooms.proofs.put_line.Statement.{statement}
 use Rattle.mended_rooms.proofs.put_line.Tie as tie
 
@@ -17,7 +17,7 @@ same_length c = search rules
 returns : tie.Need-returns
 returns c =
     let at-if1 = c.before.before.before.before.before in
-    puts-as _ (line_kept _ at-if1.if1.true) (put_first c.before.before.put-bytes.ensures)
+    puts_as _ (line_kept _ at-if1.if1.true) (put_first c.before.before.put-bytes.ensures)
 
 slice-aggregate-put-bytes-2 : tie.Need-slice-aggregate-put-bytes-2
 slice-aggregate-put-bytes-2 c = search rules
@@ -39,7 +39,7 @@ returns-2 c =
     let at-put-number = c.before.before.before.before.before.before in
     let at-put-bytes2 = at-put-number.before.before.before.before in
     let at-if1 = at-put-bytes2.before.before.before in
-    puts-as _ (line-dropped _ at-if1.if1.false) (puts_then (put_first at-put-bytes2.put-bytes2.ensures) (puts_then (put_first at-put-number.put-number.ensures) (put_first c.before.before.put_byte.ensures)))
+    puts_as _ (line_dropped _ at-if1.if1.false) (puts_then (put_first at-put-bytes2.put-bytes2.ensures) (puts_then (put_first at-put-number.put-number.ensures) (put_first c.before.before.put_byte.ensures)))
 
 pub put-line-spec : {M : Type 1} → statement M
 put-line-spec =

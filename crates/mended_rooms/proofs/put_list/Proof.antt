@@ -1,7 +1,7 @@
 -- `mended_rooms::put_list` meets its contract: after i turns the first i lines are put. Assumes nothing.
 use borrow.Author.Rules.{rules}
-use Rattle.mended_rooms.specs.Lines.{linesBy}
-use Rattle.room.proofs.Laws.{put-length}
+use Rattle.mended_rooms.specs.Lines.{lines_by}
+use Rattle.room.proofs.Laws.{put_length}
 use Rattle.phrases.specs.Puts.{Puts}
 use Rattle.phrases.proofs.Laws.{puts_none}
 use lib.ListN.{length, take}
@@ -11,7 +11,7 @@ use Rattle.mended_rooms.proofs.put_list.Statement.{statement}
 use Rattle.mended_rooms.proofs.put_list.Tie as tie
 
 abbrev invariant-loop : tie.invariant-loop
-invariant-loop room₀ fates to₀ i₀ room to i = (i ≤ length fates) × Puts room₀ room 0 (linesBy (take i fates)) to
+invariant-loop room₀ fates to₀ i₀ room to i = (i ≤ length fates) × Puts room₀ room 0 (lines_by (take i fates)) to
 
 abbrev decreases-loop : tie.decreases-loop
 decreases-loop room₀ fates to₀ i₀ room to i = length fates - i
@@ -45,7 +45,7 @@ loop-again c =
     (search rules, lines_next start.args.fates.now at-loop.loop.i at-loop-test.loop-test.true at-loop.loop.invariant.1 c.before.before.put-line.ensures)
 
 same_length : tie.Need-same-length invariant-loop decreases-loop
-same_length c = put-length c.before.loop.invariant.1.put
+same_length c = put_length c.before.loop.invariant.1.put
 
 returns : tie.Need-returns invariant-loop decreases-loop
 returns c =

@@ -3,7 +3,7 @@ use borrow.Author.Rules.{rules}
 use native.Mathlib.Omega.{arith}
 use lib.ListN.{length}
 use Prim.Native.Nat.{◌-◌}
-use Rattle.mended_rooms.proofs.Putting.{RowsLeft, in-contents, rows_start, rows_end, rows_next, offset-small}
+use Rattle.mended_rooms.proofs.Putting.{RowsLeft, in_contents, rows_start, rows_end, rows_next, offset_small}
 use Rattle.mended_rooms.proofs.put_rows.Statement.{statement}
 use Rattle.mended_rooms.proofs.put_rows.Tie as tie
 
@@ -31,7 +31,7 @@ put-kept-row-requires : tie.Need-put-kept-row-requires invariant-loop decreases-
 put-kept-row-requires c κs =
     let at-loop = c.before.before.before in
     let start = at-loop.before.before.before.before.before in
-    (in-contents _ _ start.requires.0 at-loop.loop.invariant.place c.before.before.loop-test.true, offset-small _ _ _ start.requires.0 at-loop.loop.invariant)
+    (in_contents _ _ start.requires.0 at-loop.loop.invariant.place c.before.before.loop-test.true, offset_small _ _ _ start.requires.0 at-loop.loop.invariant)
 
 mul-offset-behind : tie.Need-overflow-mul-offset-behind invariant-loop decreases-loop
 mul-offset-behind c = search rules
@@ -44,7 +44,7 @@ offset-behind-requires c κs =
     let at-loop-test = c.before.before.before.before.before.before in
     let at-loop = at-loop-test.before in
     let start = at-loop.before.before.before.before.before in
-    (in-contents _ _ start.requires.0 at-loop.loop.invariant.place at-loop-test.loop-test.true, offset-small _ _ _ start.requires.0 at-loop.loop.invariant)
+    (in_contents _ _ start.requires.0 at-loop.loop.invariant.place at-loop-test.loop-test.true, offset_small _ _ _ start.requires.0 at-loop.loop.invariant)
 
 add-from : tie.Need-overflow-add-from invariant-loop decreases-loop
 add-from c =

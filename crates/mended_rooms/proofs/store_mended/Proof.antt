@@ -5,14 +5,14 @@ use native.Mathlib.Omega.{arith}
 use lib.ListN.{length}
 use Rattle.deck.specs.Contents.{behind}
 use borrow.Author.Rules.{rules}
-use Rattle.mended_rooms.proofs.Entering.{nothing-kept, need-small, small-room, small-list, both-put}
+use Rattle.mended_rooms.proofs.Entering.{nothing_kept, need_small, small_room, small_list, both_put}
 use Rattle.mended_rooms.proofs.store_mended.Statement.{statement}
 use Rattle.mended_rooms.proofs.store_mended.Tie as tie
 
 returns : tie.Need-returns
 returns c =
     let start = c.before.before.before.before.before in
-    nothing-kept start.requires.0 c.if1.true
+    nothing_kept start.requires.0 c.if1.true
 
 -- it goes on only where a card is kept
 some-kept : (c : tie.Else1) → c.before.before.before.before.before.args.cards ≡ 0 → ⊥
@@ -21,17 +21,17 @@ some-kept c = c.if1.false
 mul-need : tie.Need-overflow-mul-need
 mul-need c =
     let start = c.before.before.before.before.before in
-    omega (arith, need-small start.requires.0 start.requires.1)
+    omega (arith, need_small start.requires.0 start.requires.1)
 
 add-need : tie.Need-overflow-add-need
 add-need c =
     let start = c.before.before.before.before.before in
-    omega (arith, need-small start.requires.0 start.requires.1)
+    omega (arith, need_small start.requires.0 start.requires.1)
 
 add-need-2 : tie.Need-overflow-add-need-2
 add-need-2 c =
     let start = c.before.before.before.before.before in
-    omega (arith, need-small start.requires.0 start.requires.1)
+    omega (arith, need_small start.requires.0 start.requires.1)
 
 slice-aggregate-put-list : tie.Need-slice-aggregate-put-list
 slice-aggregate-put-list c = search rules
@@ -58,7 +58,7 @@ returns-2 : tie.Need-returns-2
 returns-2 c =
     let at-if1 = c.before.before.before.before in
     let start = at-if1.before.before.before.before.before in
-    small-room start.requires.0 start.requires.1 start.args.room.now start.args.list.now (some-kept at-if1) (deck-first c)
+    small_room start.requires.0 start.requires.1 start.args.room.now start.args.list.now (some-kept at-if1) (deck-first c)
 
 returns-3 : tie.Need-returns-3
 returns-3 c =
@@ -66,7 +66,7 @@ returns-3 c =
     let at-if1 = at-put-list.before.before in
     let start = at-if1.before.before.before.before.before in
     let list-long : at-put-list.put-list.result ≤ length start.args.list.now → ⊥ = only-short.1 c c.before.if2.false in
-    small-list start.requires.0 start.requires.1 start.args.room.now start.args.list.now (some-kept at-if1) c.before.if2.false at-put-list.put-list.ensures (omega (arith, list-long))
+    small_list start.requires.0 start.requires.1 start.args.room.now start.args.list.now (some-kept at-if1) c.before.if2.false at-put-list.put-list.ensures (omega (arith, list-long))
 
 put-mended-requires : tie.Need-put-mended-requires
 put-mended-requires c κs =
@@ -90,7 +90,7 @@ returns-4 c =
     let at-put-list = at-if2.before.before in
     let at-if1 = at-put-list.before.before in
     let start = at-if1.before.before.before.before.before in
-    both-put start.requires.0 start.requires.1 start.args.room.now start.args.list.now (some-kept at-if1) at-if2.if2.false at-put-list.put-list.ensures at-if3.if3.false at-put-mended.put-mended.ensures c.before.before.put-list2.ensures
+    both_put start.requires.0 start.requires.1 start.args.room.now start.args.list.now (some-kept at-if1) at-if2.if2.false at-put-list.put-list.ensures at-if3.if3.false at-put-mended.put-mended.ensures c.before.before.put-list2.ensures
 
 pub store-mended-spec : {M : Type 1} → statement M
 store-mended-spec =

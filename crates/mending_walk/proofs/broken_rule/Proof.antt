@@ -5,7 +5,7 @@ use mathlib.Core.Path.{refl}
 use lib.ListN.{length}
 use Rattle.deck.specs.Contents.{byte}
 use borrow.Author.Rules.{rules}
-use Rattle.mending_walk.proofs.Rules.{wrong-flag, wrong-zero-byte, low-number, low-offset, past-deck, no-rule}
+use Rattle.mending_walk.proofs.Rules.{wrong_flag, wrong_zero_byte, low_number, low_offset, past_deck, no_rule}
 use Rattle.mending_walk.proofs.broken_rule.Statement.{statement}
 use Rattle.mending_walk.proofs.broken_rule.Tie as tie
 
@@ -38,7 +38,7 @@ returns c =
     let at-word-at2 = c.before.before.before in
     let at-word-at = at-word-at2.before in
     let start = at-word-at.before.before in
-    wrong-flag start.args.deck.now start.args.at start.args.least start.args.last at-word-at.word_at.ensures.0 at-word-at2.word-at2.ensures.0 c.before.before.word-at3.ensures.0 refl refl c.if1.true
+    wrong_flag start.args.deck.now start.args.at start.args.least start.args.last at-word-at.word_at.ensures.0 at-word-at2.word-at2.ensures.0 c.before.before.word-at3.ensures.0 refl refl c.if1.true
 
 abbrev begun : tie.After-word-at → tie.Start
 begun c = c.before.before
@@ -59,7 +59,7 @@ returns-2 c =
     let at-word-at2 = at-word-at3.before in
     let at-word-at = at-word-at2.before in
     let start = at-word-at.before.before in
-    wrong-zero-byte start.args.deck.now start.args.at start.args.least start.args.last at-word-at.word_at.ensures.0 at-word-at2.word-at2.ensures.0 at-word-at3.word-at3.ensures.0 refl refl (flag-right c.before.before) c.if2.true
+    wrong_zero_byte start.args.deck.now start.args.at start.args.least start.args.last at-word-at.word_at.ensures.0 at-word-at2.word-at2.ensures.0 at-word-at3.word-at3.ensures.0 refl refl (flag-right c.before.before) c.if2.true
 
 abbrev number_read : tie.Else2 → tie.After-word-at
 number_read c = c.before.before.before.before.before.before
@@ -75,7 +75,7 @@ returns-3 c =
     let at-word-at2 = at-word-at3.before in
     let at-word-at = at-word-at2.before in
     let start = at-word-at.before.before in
-    low-number start.args.deck.now start.args.at start.args.least start.args.last at-word-at.word_at.ensures.0 at-word-at2.word-at2.ensures.0 at-word-at3.word-at3.ensures.0 refl refl (flag-right at-if1) c.before.if2.false (number-first c)
+    low_number start.args.deck.now start.args.at start.args.least start.args.last at-word-at.word_at.ensures.0 at-word-at2.word-at2.ensures.0 at-word-at3.word-at3.ensures.0 refl refl (flag-right at-if1) c.before.if2.false (number-first c)
 
 returns-4 : tie.Need-returns-4
 returns-4 c =
@@ -84,7 +84,7 @@ returns-4 c =
     let at-word-at2 = at-word-at3.before in
     let at-word-at = at-word-at2.before in
     let start = at-word-at.before.before in
-    low-offset start.args.deck.now start.args.at start.args.least start.args.last at-word-at.word_at.ensures.0 at-word-at2.word-at2.ensures.0 at-word-at3.word-at3.ensures.0 refl refl (flag-right at-if1) c.before.before.if2.false
+    low_offset start.args.deck.now start.args.at start.args.least start.args.last at-word-at.word_at.ensures.0 at-word-at2.word-at2.ensures.0 at-word-at3.word-at3.ensures.0 refl refl (flag-right at-if1) c.before.before.if2.false
     c.before.if3.false c.if4.true
 
 returns-5 : tie.Need-returns-5
@@ -95,7 +95,7 @@ returns-5 c =
     let at-word-at2 = at-word-at3.before in
     let at-word-at = at-word-at2.before in
     let start = at-word-at.before.before in
-    no-rule start.args.deck.now start.args.at start.args.least start.args.last at-word-at.word_at.ensures.0 at-word-at2.word-at2.ensures.0 at-word-at3.word-at3.ensures.0 refl refl (flag-right at-if1) at-if2.if2.false
+    no_rule start.args.deck.now start.args.at start.args.least start.args.last at-word-at.word_at.ensures.0 at-word-at2.word-at2.ensures.0 at-word-at3.word-at3.ensures.0 refl refl (flag-right at-if1) at-if2.if2.false
     c.before.before.if3.false c.before.if4.false c.if5.true
 
 -- what is said last is said of a body that ends behind the deck
@@ -112,7 +112,7 @@ returns-6 c =
     let at-word-at2 = at-word-at3.before in
     let at-word-at = at-word-at2.before in
     let start = at-word-at.before.before in
-    past-deck start.args.deck.now start.args.at start.args.least start.args.last at-word-at.word_at.ensures.0 at-word-at2.word-at2.ensures.0 at-word-at3.word-at3.ensures.0 refl refl (flag-right at-if1) at-if2.if2.false
+    past_deck start.args.deck.now start.args.at start.args.least start.args.last at-word-at.word_at.ensures.0 at-word-at2.word-at2.ensures.0 at-word-at3.word-at3.ensures.0 refl refl (flag-right at-if1) at-if2.if2.false
     c.before.before.if3.false c.before.if4.false (ends-behind c)
 
 pub broken-rule-spec : {M : Type 1} → statement M

@@ -6,7 +6,7 @@ use borrow.Author.Rules.{rules}
 use lib.ListN.{drop}
 use Rattle.deck.specs.Contents.{row_of}
 use Rattle.mending_walk.specs.declared.Walk.{Walk}
-use Rattle.mending_walk.specs.Walking.{walkedBy}
+use Rattle.mending_walk.specs.Walking.{walked_by}
 use Rattle.mending_walk.proofs.Laws.{stays, moves}
 use Rattle.mending_walk.proofs.walked.Statement.{statement}
 use Rattle.mending_walk.proofs.walked.Tie as tie
@@ -40,7 +40,7 @@ InPart {C} {v} {w} part whole = (c : C) → part (v c) ≡ part (w c)
 
 -- an entry that is dropped
 same : (c : tie.Then1)
-    → let start = c.before.before.before.before.before in start.args.walk ≡ walkedBy start.args.fate (row_of (drop start.args.at start.args.deck.now)) start.args.walk
+    → let start = c.before.before.before.before.before in start.args.walk ≡ walked_by start.args.fate (row_of (drop start.args.at start.args.deck.now)) start.args.walk
 same c =
     let start = c.before.before.before.before.before in
     stays start.args.fate _ start.args.walk c.if1.true

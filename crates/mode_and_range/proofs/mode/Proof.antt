@@ -1,6 +1,6 @@
 -- By the mark that stands there (proofs/Laws.antt). Assumes nothing.
-use Rattle.parts.proofs.Steps.{next-at}
-use Rattle.mode_and_range.proofs.Laws.{mode-first, mode-second, mode-neither}
+use Rattle.parts.proofs.Steps.{next_at}
+use Rattle.mode_and_range.proofs.Laws.{mode_first, mode_second, mode_neither}
 use borrow.Author.Rules.{rules}
 use Rattle.mode_and_range.proofs.mode.Statement.{statement}
 use Rattle.mode_and_range.proofs.mode.Tie as tie
@@ -16,7 +16,7 @@ returns c =
     let at-step = c.before.before.before.before in
     let entry = at-step.before.before in
     let a = entry.args in
-    mode-first (next-at a.card.now a.at at-step.step.result at-step.step.ensures) c.if1.true a.state.now entry.requires
+    mode_first (next_at a.card.now a.at at-step.step.result at-step.step.ensures) c.if1.true a.state.now entry.requires
 
 element-write-state-2 : tie.Need-element-write-state-2
 element-write-state-2 c = search rules
@@ -27,7 +27,7 @@ returns-2 c =
     let at-step = at-if1.before.before.before.before in
     let entry = at-step.before.before in
     let a = entry.args in
-    mode-second (next-at a.card.now a.at at-step.step.result at-step.step.ensures) at-if1.if1.false c.if2.true a.state.now
+    mode_second (next_at a.card.now a.at at-step.step.result at-step.step.ensures) at-if1.if1.false c.if2.true a.state.now
     entry.requires
 
 stop-requires : tie.Need-stop-requires
@@ -42,7 +42,7 @@ returns-3 c =
     let at-step = at-if1.before.before.before.before in
     let entry = at-step.before.before in
     let a = entry.args in
-    mode-neither (next-at a.card.now a.at at-step.step.result at-step.step.ensures) at-if1.if1.false at-if2.if2.false
+    mode_neither (next_at a.card.now a.at at-step.step.result at-step.step.ensures) at-if1.if1.false at-if2.if2.false
     c.stop.ensures.0
 
 pub mode-spec : {M : Type 1} → statement M

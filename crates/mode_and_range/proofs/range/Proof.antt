@@ -1,7 +1,7 @@
 -- A way out for each part, in the order of the parts (proofs/RangeLaws.antt). Assumes nothing.
-use Rattle.mode_and_range.proofs.RangeLaws.{span-halts, square-halts, init-halts, start-halts, semicolon-halts, range-read}
+use Rattle.mode_and_range.proofs.RangeLaws.{span_halts, square_halts, init_halts, start_halts, semicolon_halts, range_read}
 use borrow.Author.Rules.{rules}
-use Rattle.late.specs.State.{lateIn, valueIn, after}
+use Rattle.late.specs.State.{late_in, value_in, after}
 use Rattle.parts.specs.Parts.{NumberFrom}
 use Rattle.mode_and_range.proofs.range.Statement.{statement}
 use Rattle.mode_and_range.proofs.range.Tie as tie
@@ -10,7 +10,7 @@ span-requires : tie.Need-span-requires
 span-requires c κs = c.before.before.requires
 
 returns : tie.Need-returns
-returns c = span-halts _ _ _ _ _ c.before.span.ensures c.if1.true
+returns c = span_halts _ _ _ _ _ c.before.span.ensures c.if1.true
 
 element-copy-out-top : tie.Need-element-copy-out-top
 element-copy-out-top c = search rules
@@ -23,7 +23,7 @@ returns-2 c =
     let at_sign = c.before in
     let at-if1 = at_sign.before.before.before in
     let at-span = at-if1.before in
-    square-halts _ _ _ _ _ at-span.span.ensures at-if1.if1.false _ at_sign.sign.ensures c.if2.true
+    square_halts _ _ _ _ _ at-span.span.ensures at-if1.if1.false _ at_sign.sign.ensures c.if2.true
 
 sign-requires-2 : tie.Need-sign-requires-2
 sign-requires-2 c κs = c.before.before.sign.ensures.sized
@@ -35,7 +35,7 @@ returns-3 c =
     let at_sign = at-if2.before in
     let at-if1 = at_sign.before.before.before in
     let at-span = at-if1.before in
-    init-halts _ _ _ _ _ at-span.span.ensures at-if1.if1.false _ at_sign.sign.ensures at-if2.if2.false _ at-sign2.sign2.ensures
+    init_halts _ _ _ _ _ at-span.span.ensures at-if1.if1.false _ at_sign.sign.ensures at-if2.if2.false _ at-sign2.sign2.ensures
     c.if3.true
 
 number-requires : tie.Need-number-requires
@@ -46,7 +46,7 @@ start-judged : (c : tie.After-number)
     → let at-sign2 = c.before.before.before in
     let at-span = at-sign2.before.before.before.before.before.before.before in
     let card = at-span.before.before.before.args.card.now in
-    NumberFrom card at-sign2.sign2.result (valueIn at-span.span.new.1.1.1.0) (lateIn at-sign2.sign2.new.1.1.1.0) (after c.number.new.1.1.1.0 c.number.result)
+    NumberFrom card at-sign2.sign2.result (value_in at-span.span.new.1.1.1.0) (late_in at-sign2.sign2.new.1.1.1.0) (after c.number.new.1.1.1.0 c.number.result)
 start-judged c = c.number.ensures
 
 returns-4 : tie.Need-returns-4
@@ -58,7 +58,7 @@ returns-4 c =
     let at_sign = at-if2.before in
     let at-if1 = at_sign.before.before.before in
     let at-span = at-if1.before in
-    start-halts _ _ _ _ _ at-span.span.ensures at-if1.if1.false _ at_sign.sign.ensures at-if2.if2.false _ at-sign2.sign2.ensures
+    start_halts _ _ _ _ _ at-span.span.ensures at-if1.if1.false _ at_sign.sign.ensures at-if2.if2.false _ at-sign2.sign2.ensures
     at-if3.if3.false _ (start-judged at-number) c.if4.true
 
 element-copy-out-start : tie.Need-element-copy-out-start
@@ -78,7 +78,7 @@ returns-5 c =
     let at_sign = at-if2.before in
     let at-if1 = at_sign.before.before.before in
     let at-span = at-if1.before in
-    semicolon-halts _ _ _ _ _ at-span.span.ensures at-if1.if1.false _ at_sign.sign.ensures at-if2.if2.false _ at-sign2.sign2.ensures
+    semicolon_halts _ _ _ _ _ at-span.span.ensures at-if1.if1.false _ at_sign.sign.ensures at-if2.if2.false _ at-sign2.sign2.ensures
     at-if3.if3.false _ (start-judged at-number) at-if4.if4.false _ at-sign3.sign3.ensures c.if5.true
 
 keep-requires : tie.Need-keep-requires
@@ -96,7 +96,7 @@ returns-6 c =
     let at_sign = at-if2.before in
     let at-if1 = at_sign.before.before.before in
     let at-span = at-if1.before in
-    range-read _ _ _ _ _ at-span.span.ensures at-if1.if1.false _ at_sign.sign.ensures at-if2.if2.false _ at-sign2.sign2.ensures
+    range_read _ _ _ _ _ at-span.span.ensures at-if1.if1.false _ at_sign.sign.ensures at-if2.if2.false _ at-sign2.sign2.ensures
     at-if3.if3.false _ (start-judged at-number) at-if4.if4.false _ at-sign3.sign3.ensures at-if5.if5.false c.keep.ensures
 
 pub range-spec : {M : Type 1} → statement M

@@ -1,6 +1,6 @@
 -- A way out for each mark, in their order (proofs/Laws.antt). Assumes nothing.
-use Rattle.parts.proofs.Steps.{next-at}
-use Rattle.mode_and_range.proofs.Laws.{zero-misses, dots-miss, top-misses, top-past, top-fits}
+use Rattle.parts.proofs.Steps.{next_at}
+use Rattle.mode_and_range.proofs.Laws.{zero_misses, dots_miss, top_misses, top_past, top_fits}
 use borrow.Author.Rules.{rules}
 use Rattle.mode_and_range.proofs.span.Statement.{statement}
 use Rattle.mode_and_range.proofs.span.Tie as tie
@@ -19,7 +19,7 @@ returns c =
     let at-step-number = at-if1.before.before.before.before in
     let entry = at-step-number.before.before in
     let a = entry.args in
-    zero-misses _ (next-at a.card.now a.at at-step-number.step-number.result at-step-number.step-number.ensures)
+    zero_misses _ (next_at a.card.now a.at at-step-number.step-number.result at-step-number.step-number.ensures)
     (λ e f. at-if1.if1.true e) c.stop.ensures.0
 
 stop-requires-2 : tie.Need-stop-requires-2
@@ -33,7 +33,7 @@ returns-2 c =
     let at-step-number = at-if2.before.before.before.before.before.before in
     let entry = at-step-number.before.before in
     let a = entry.args in
-    zero-misses _ (next-at a.card.now a.at at-step-number.step-number.result at-step-number.step-number.ensures)
+    zero_misses _ (next_at a.card.now a.at at-step-number.step-number.result at-step-number.step-number.ensures)
     (λ e f. at-if2.if2.true f) c.stop2.ensures.0
 
 step-requires : tie.Need-step-requires
@@ -53,8 +53,8 @@ returns-3 c =
     let at-step-number = at-if1.before.before.before.before in
     let entry = at-step-number.before.before in
     let a = entry.args in
-    dots-miss _ (next-at a.card.now a.at at-step-number.step-number.result at-step-number.step-number.ensures) at-if1.if1.false
-    at-if2.if2.false (next-at a.card.now at-step-number.step-number.result.next.at at-step.step.result at-step.step.ensures)
+    dots_miss _ (next_at a.card.now a.at at-step-number.step-number.result at-step-number.step-number.ensures) at-if1.if1.false
+    at-if2.if2.false (next_at a.card.now at-step-number.step-number.result.next.at at-step.step.result at-step.step.ensures)
     at-if3.if3.true c.stop3.ensures.0
 
 step-number-requires-2 : tie.Need-step-number-requires-2
@@ -76,9 +76,9 @@ returns-4 c =
     let at-step-number = at-if1.before.before.before.before in
     let entry = at-step-number.before.before in
     let a = entry.args in
-    top-misses _ (next-at a.card.now a.at at-step-number.step-number.result at-step-number.step-number.ensures) at-if1.if1.false
-    at-if2.if2.false (next-at a.card.now at-step-number.step-number.result.next.at at-step.step.result at-step.step.ensures)
-    at-if3.if3.false (next-at a.card.now at-step.step.result.next.at at-step-number2.step-number2.result
+    top_misses _ (next_at a.card.now a.at at-step-number.step-number.result at-step-number.step-number.ensures) at-if1.if1.false
+    at-if2.if2.false (next_at a.card.now at-step-number.step-number.result.next.at at-step.step.result at-step.step.ensures)
+    at-if3.if3.false (next_at a.card.now at-step.step.result.next.at at-step-number2.step-number2.result
     at-step-number2.step-number2.ensures) at-if4.if4.true c.stop4.ensures.0
 
 stop-requires-5 : tie.Need-stop-requires-5
@@ -98,9 +98,9 @@ returns-5 c =
     let at-step-number = at-if1.before.before.before.before in
     let entry = at-step-number.before.before in
     let a = entry.args in
-    top-past _ (next-at a.card.now a.at at-step-number.step-number.result at-step-number.step-number.ensures) at-if1.if1.false
-    at-if2.if2.false (next-at a.card.now at-step-number.step-number.result.next.at at-step.step.result at-step.step.ensures)
-    at-if3.if3.false (next-at a.card.now at-step.step.result.next.at at-step-number2.step-number2.result
+    top_past _ (next_at a.card.now a.at at-step-number.step-number.result at-step-number.step-number.ensures) at-if1.if1.false
+    at-if2.if2.false (next_at a.card.now at-step-number.step-number.result.next.at at-step.step.result at-step.step.ensures)
+    at-if3.if3.false (next_at a.card.now at-step.step.result.next.at at-step-number2.step-number2.result
     at-step-number2.step-number2.ensures) at-if4.if4.false at-if5.if5.true c.stop5.ensures.0
 
 element-write-state : tie.Need-element-write-state
@@ -117,9 +117,9 @@ returns-6 c =
     let at-step-number = at-if1.before.before.before.before in
     let entry = at-step-number.before.before in
     let a = entry.args in
-    top-fits _ (next-at a.card.now a.at at-step-number.step-number.result at-step-number.step-number.ensures) at-if1.if1.false
-    at-if2.if2.false (next-at a.card.now at-step-number.step-number.result.next.at at-step.step.result at-step.step.ensures)
-    at-if3.if3.false (next-at a.card.now at-step.step.result.next.at at-step-number2.step-number2.result
+    top_fits _ (next_at a.card.now a.at at-step-number.step-number.result at-step-number.step-number.ensures) at-if1.if1.false
+    at-if2.if2.false (next_at a.card.now at-step-number.step-number.result.next.at at-step.step.result at-step.step.ensures)
+    at-if3.if3.false (next_at a.card.now at-step.step.result.next.at at-step-number2.step-number2.result
     at-step-number2.step-number2.ensures) at-if4.if4.false c.if5.false a.state.now entry.requires
 
 pub span-spec : {M : Type 1} → statement M

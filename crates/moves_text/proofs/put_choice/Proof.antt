@@ -1,8 +1,8 @@
 -- `moves_text::put_choice` meets its contract: a statement's moves all start from its own state, and one seat that takes it weighs 1. Assumes nothing.
-use Rattle.phrases.proofs.Laws.{puts_then, puts-as, puts_none}
+use Rattle.phrases.proofs.Laws.{puts_then, puts_as, puts_none}
 use Rattle.card.specs.Rows.{row_of}
-use Rattle.panel_numbers.specs.Table.{ableIn}
-use Rattle.moves_text.proofs.Blocks.{empty-light, raised-row, choice-none, choice-text}
+use Rattle.panel_numbers.specs.Table.{able_in}
+use Rattle.moves_text.proofs.Blocks.{empty_light, raised_row, choice_none, choice_text}
 use native.Mathlib.Omega.{arith}
 use mathlib.Core.Path.{refl, sym}
 use borrow.Author.Rules.{rules}
@@ -24,7 +24,7 @@ place-requires c κs = search rules
 returns : tie.Need-returns
 returns c =
     let start = c.before.before.before.before in
-    puts-as _ (λ t. choice-none start.args.head.top _ _ start.args.i _ _ t start.args.head.shared c.before.if1.true) (puts_none (search rules) c.place.ensures)
+    puts_as _ (λ t. choice_none start.args.head.top _ _ start.args.i _ _ t start.args.head.shared c.before.if1.true) (puts_none (search rules) c.place.ensures)
 
 mul-from : tie.Need-overflow-mul-from
 mul-from c = search rules
@@ -50,7 +50,7 @@ element-copy-out-add-weights-2 c = search rules
 add-weights-requires : tie.Need-add-weights-requires
 add-weights-requires c κs =
     let start = c.before.before.before.before.before.before.before in
-    record { few = omega arith; shared = start.requires.0.weighing.shared; statement = omega (arith, start.requires.0.weighing.able.statements, start.requires.1); fit = (start.requires.0.weighing.fitting.fit.each start.args.i start.requires.1).branches; there = start.requires.0.weighing.fitting.there; light = empty-light; long = refl }
+    record { few = omega arith; shared = start.requires.0.weighing.shared; statement = omega (arith, start.requires.0.weighing.able.statements, start.requires.1); fit = (start.requires.0.weighing.fitting.fit.each start.args.i start.requires.1).branches; there = start.requires.0.weighing.fitting.there; light = empty_light; long = refl }
 
 add-t19 : tie.Need-overflow-add-t19
 add-t19 c = search rules
@@ -67,7 +67,7 @@ put-line-requires c κs = search rules
 slice-aggregate-put-stays : tie.Need-slice-aggregate-put-stays
 slice-aggregate-put-stays c =
     let at-add-weights = c.before.before.before.before.before.before.before.before in
-    sym (raised-row _ _ _ at-add-weights.add-weights.ensures)
+    sym (raised_row _ _ _ at-add-weights.add-weights.ensures)
 
 mul-put-stays : tie.Need-overflow-mul-put-stays
 mul-put-stays c =
@@ -78,18 +78,18 @@ put-stays-requires : tie.Need-put-stays-requires
 put-stays-requires c κs =
     let at-add-weights = c.before.before.before.before.before.before.before.before in
     let start = at-add-weights.before.before.before.before.before.before.before.before in
-    (omega (arith, raised-row _ _ _ at-add-weights.add-weights.ensures, start.requires.0.weighing.fitting.own start.args.i start.requires.1, start.requires.0.weighing.fitting.top), start.requires.0.values)
+    (omega (arith, raised_row _ _ _ at-add-weights.add-weights.ensures, start.requires.0.weighing.fitting.own start.args.i start.requires.1, start.requires.0.weighing.fitting.top), start.requires.0.values)
 
 slice-aggregate-put-moves : tie.Need-slice-aggregate-put-moves
 slice-aggregate-put-moves c =
     let at-add-weights = c.before.before.before.before.before.before.before.before.before.before.before.before.before in
-    sym (raised-row _ _ _ at-add-weights.add-weights.ensures)
+    sym (raised_row _ _ _ at-add-weights.add-weights.ensures)
 
 put-moves-requires : tie.Need-put-moves-requires
 put-moves-requires c κs =
     let at-add-weights = c.before.before.before.before.before.before.before.before.before.before.before.before.before in
     let start = at-add-weights.before.before.before.before.before.before.before.before in
-    record { top = start.requires.0.weighing.fitting.top; values = start.requires.0.values; long = raised-row _ _ _ at-add-weights.add-weights.ensures }
+    record { top = start.requires.0.weighing.fitting.top; values = start.requires.0.values; long = raised_row _ _ _ at-add-weights.add-weights.ensures }
 
 same_length : tie.Need-same-length
 same_length c = search rules
@@ -103,7 +103,7 @@ returns-2 c =
     let start = at-if1.before.before.before in
     let args = start.args in
     let fitting = start.requires.0.weighing.fitting in
-    puts-as _ (λ t. choice-text args.head.top args.head.shared _ args.i (ableIn args.table.now args.i) _ (row_of args.rows.now args.i).branches args.branches.now
+    puts_as _ (λ t. choice_text args.head.top args.head.shared _ args.i (able_in args.table.now args.i) _ (row_of args.rows.now args.i).branches args.branches.now
     at-add-weights.add-weights.ensures fitting.top start.requires.0.values (fitting.own args.i start.requires.1) t at-if1.if1.false refl)
     (puts_then at-put-line.put-line.ensures (puts_then at-put-stays.put-stays.ensures c.before.before.put-moves.ensures))
 

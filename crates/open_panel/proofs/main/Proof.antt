@@ -1,5 +1,5 @@
 -- The program's `main` is safe: what is printed lies within the room. Assumes nothing.
-use Rattle.program_lines.proofs.Printing.{printed-within, printed-count}
+use Rattle.program_lines.proofs.Printing.{printed_within, printed_count}
 use borrow.Author.Rules.{rules}
 use Rattle.open_panel.proofs.main.Statement.{statement}
 use Rattle.open_panel.proofs.main.Tie as tie
@@ -23,10 +23,10 @@ respond-requires : tie.Need-respond-requires
 respond-requires c κs = search rules
 
 array-share-prefix-room : tie.Need-array-share-prefix-room
-array-share-prefix-room c = printed-within c.respond.ensures
+array-share-prefix-room c = printed_within c.respond.ensures
 
 slice-aggregate-write-all : tie.Need-slice-aggregate-write-all
-slice-aggregate-write-all c = printed-count c.before.respond.ensures
+slice-aggregate-write-all c = printed_count c.before.respond.ensures
 
 write-all-requires : tie.Need-write-all-requires
 write-all-requires c κs = search rules

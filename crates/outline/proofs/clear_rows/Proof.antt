@@ -3,7 +3,7 @@ use Prim.Native.Nat.{◌≤◌, ◌-◌}
 use mathlib.Core.Path.{◌≡◌, refl}
 use lib.ListN.{length}
 use borrow.Author.Rules.{rules}
-use Rattle.outline.proofs.Cleared.{cleared, cleared-none, cleared-next, cleared-all}
+use Rattle.outline.proofs.Cleared.{cleared, cleared_none, cleared_next, cleared_all}
 use Rattle.outline.proofs.clear_rows.Statement.{statement}
 use Rattle.outline.proofs.clear_rows.Tie as tie
 
@@ -15,7 +15,7 @@ decreases-loop rows₀ i₀ rows i = length rows₀ - i
 
 -- src/lib.rt:93:5
 loop-holds : tie.Need-loop-init invariant-loop decreases-loop
-loop-holds c = (search rules, refl, cleared-none _)
+loop-holds c = (search rules, refl, cleared_none _)
 
 -- src/lib.rt:94:9
 mul-rows : tie.Need-overflow-mul-rows invariant-loop decreases-loop
@@ -35,7 +35,7 @@ loop-less c = search rules
 
 -- src/lib.rt:93:5
 loop-again : tie.Need-loop-preserved invariant-loop decreases-loop
-loop-again c = (search rules, search rules, cleared-next _ _ (search rules) c.before.loop.invariant.2)
+loop-again c = (search rules, search rules, cleared_next _ _ (search rules) c.before.loop.invariant.2)
 
 -- src/lib.rt:89:1
 same_length : tie.Need-same-length invariant-loop decreases-loop
@@ -43,7 +43,7 @@ same_length c = search rules
 
 -- src/lib.rt:89:1
 returns : tie.Need-returns invariant-loop decreases-loop
-returns c = cleared-all _ _ (search rules) c.before.loop.invariant.2
+returns c = cleared_all _ _ (search rules) c.before.loop.invariant.2
 
 pub clear-rows-spec : {M : Type 1} → statement M
 clear-rows-spec =

@@ -1,5 +1,5 @@
 -- What is settled stands in the state: it is due, or nothing is (proofs/Judging.antt). Assumes nothing.
-use Rattle.outline.proofs.Judging.{due-small, due-refuses, none-due}
+use Rattle.outline.proofs.Judging.{due_small, due_refuses, none_due}
 use borrow.Author.Rules.{rules}
 use Rattle.outline.proofs.judged.Statement.{statement}
 use Rattle.outline.proofs.judged.Tie as tie
@@ -16,16 +16,16 @@ element-copy-out-place c = search rules
 refused-late-requires : tie.Need-refused-late-requires
 refused-late-requires c κs =
     let at-settle = c.before.before.before.before.before.before in
-    due-small at-settle.settle.ensures.0 at-settle.before.before.requires.1
+    due_small at-settle.settle.ensures.0 at-settle.before.before.requires.1
 
 returns : tie.Need-returns
 returns c =
     let at-if1 = c.before.before.before.before in
     let at-settle = at-if1.before.before.before in
-    due-refuses at-settle.settle.ensures.0 at-if1.if1.true c.refused-late.ensures.0 c.refused-late.ensures.1
+    due_refuses at-settle.settle.ensures.0 at-if1.if1.true c.refused-late.ensures.0 c.refused-late.ensures.1
 
 returns-2 : tie.Need-returns-2
-returns-2 c = none-due c.before.before.before.settle.ensures.0 c.if1.false
+returns-2 c = none_due c.before.before.before.settle.ensures.0 c.if1.false
 
 pub judged-spec : {M : Type 1} → statement M
 judged-spec =

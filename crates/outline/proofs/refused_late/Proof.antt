@@ -1,5 +1,5 @@
 -- `outline::refused_late` meets its contract: the arrays are cleared, and the refusal is the one that is due. Assumes nothing.
-use Rattle.outline.proofs.Cleared.{all-cleared}
+use Rattle.outline.proofs.Cleared.{all_cleared}
 use borrow.Author.Rules.{rules}
 use Rattle.outline.proofs.refused_late.Statement.{statement}
 use Rattle.outline.proofs.refused_late.Tie as tie
@@ -22,7 +22,7 @@ returns c =
     let at_clear = at-clear2.before.before in
     let at-clear-rows = at_clear.before.before in (
       c.refused.ensures,
-      all-cleared at-clear-rows.clear-rows.ensures (search rules) at_clear.clear.ensures (search rules)
+      all_cleared at-clear-rows.clear-rows.ensures (search rules) at_clear.clear.ensures (search rules)
           at-clear2.clear2.ensures (search rules),
     )
 

@@ -1,8 +1,8 @@
 -- Invariant: the first statements are those of the rows (Made, proofs/Structs.antt). Assumes nothing.
 use native.Mathlib.Omega.{arith}
 use Prim.Native.Nat.{◌-◌}
-use Rattle.card.specs.Limits.{mostStatements}
-use Rattle.outline.proofs.Structs.{Made, made-start, made-next, made_all}
+use Rattle.card.specs.Limits.{most_statements}
+use Rattle.outline.proofs.Structs.{Made, made_start, made_next, made_all}
 use borrow.Author.Rules.{rules}
 use Rattle.outline.proofs.statements_in.Statement.{statement}
 use Rattle.outline.proofs.statements_in.Tie as tie
@@ -11,13 +11,13 @@ abbrev invariant-loop : tie.invariant-loop
 invariant-loop rows statements₀ i₀ statements i = Made rows statements i
 
 abbrev decreases-loop : tie.decreases-loop
-decreases-loop rows statements₀ i₀ statements i = mostStatements - i
+decreases-loop rows statements₀ i₀ statements i = most_statements - i
 
 no-statement-requires : tie.Need-no-statement-requires invariant-loop decreases-loop
 no-statement-requires c κs = search rules
 
 loop-holds : tie.Need-loop-init invariant-loop decreases-loop
-loop-holds c = made-start
+loop-holds c = made_start
 
 mul-row : tie.Need-overflow-mul-row invariant-loop decreases-loop
 mul-row c = omega (arith, c.loop-test.true)
@@ -62,7 +62,7 @@ loop-again : tie.Need-loop-preserved invariant-loop decreases-loop
 loop-again c =
     let at-loop-test = c.before.before.before in
     let at-loop = at-loop-test.before in
-    made-next at-loop.loop.invariant at-loop-test.loop-test.true
+    made_next at-loop.loop.invariant at-loop-test.loop-test.true
 
 returns : tie.Need-returns invariant-loop decreases-loop
 returns c = made_all c.before.loop.invariant c.loop-test.false

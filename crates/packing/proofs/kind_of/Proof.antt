@@ -1,6 +1,6 @@
 -- `packing::kind_of` meets its contract: it divides as the definition does. Assumes nothing.
 use borrow.Author.Rules.{rules}
-use Rattle.card.specs.Laid.{kindPart}
+use Rattle.card.specs.Laid.{kind_part}
 use Rattle.packing.proofs.kind_of.Statement.{statement}
 use Rattle.packing.proofs.kind_of.Tie as tie
 
@@ -11,7 +11,7 @@ div-result : tie.Need-nonzero-div-result
 div-result c = search rules
 
 returns : tie.Need-returns
-unfolding kindPart
+unfolding kind_part
 returns c = search rules
 
 pub kind-of-spec : {M : Type 1} → statement M

@@ -1,6 +1,6 @@
 -- `packing::pack_branch` meets its contract: the arguments are bounded first, so that no sum or product wraps. Assumes nothing.
 use borrow.Author.Rules.{rules}
-use Rattle.card.specs.Laid.{packBranch}
+use Rattle.card.specs.Laid.{pack_branch}
 use Rattle.packing.proofs.pack_branch.Statement.{statement}
 use Rattle.packing.proofs.pack_branch.Tie as tie
 
@@ -32,7 +32,7 @@ cast-result : tie.Need-overflow-cast-result
 cast-result c = search rules
 
 returns : tie.Need-returns
-unfolding packBranch
+unfolding pack_branch
 returns c = search rules
 
 pub pack-branch-spec : {M : Type 1} → statement M

@@ -1,6 +1,6 @@
 -- `packing::pack_group` meets its contract: the arguments are bounded first, so that no sum or product wraps. Assumes nothing.
 use borrow.Author.Rules.{rules}
-use Rattle.card.specs.Laid.{packGroup}
+use Rattle.card.specs.Laid.{pack_group}
 use Rattle.packing.proofs.pack_group.Statement.{statement}
 use Rattle.packing.proofs.pack_group.Tie as tie
 
@@ -38,7 +38,7 @@ cast-result : tie.Need-overflow-cast-result
 cast-result c = search rules
 
 returns : tie.Need-returns
-unfolding packGroup
+unfolding pack_group
 returns c = search rules
 
 pub pack-group-spec : {M : Type 1} → statement M

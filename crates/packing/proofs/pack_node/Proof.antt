@@ -1,6 +1,6 @@
 -- `packing::pack_node` meets its contract: the arguments are bounded first, so that no sum or product wraps. Assumes nothing.
 use borrow.Author.Rules.{rules}
-use Rattle.card.specs.Laid.{packNode}
+use Rattle.card.specs.Laid.{pack_node}
 use Rattle.packing.proofs.pack_node.Statement.{statement}
 use Rattle.packing.proofs.pack_node.Tie as tie
 
@@ -35,7 +35,7 @@ cast-result : tie.Need-overflow-cast-result
 cast-result c = search rules
 
 returns : tie.Need-returns
-unfolding packNode
+unfolding pack_node
 returns c = search rules
 
 pub pack-node-spec : {M : Type 1} → statement M

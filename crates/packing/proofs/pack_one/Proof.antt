@@ -1,6 +1,6 @@
 -- `packing::pack_one` meets its contract: the state is bounded first, so that no sum wraps. Assumes nothing.
 use borrow.Author.Rules.{rules}
-use Rattle.card.specs.Laid.{packGroup}
+use Rattle.card.specs.Laid.{pack_group}
 use Rattle.packing.proofs.pack_one.Statement.{statement}
 use Rattle.packing.proofs.pack_one.Tie as tie
 
@@ -20,7 +20,7 @@ cast-result : tie.Need-overflow-cast-result
 cast-result c = search rules
 
 returns : tie.Need-returns
-unfolding packGroup
+unfolding pack_group
 returns c = search rules
 
 pub pack-one-spec : {M : Type 1} → statement M

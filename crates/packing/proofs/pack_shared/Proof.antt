@@ -1,6 +1,6 @@
 -- `packing::pack_shared` meets its contract: both arguments are bounded first, so that no sum wraps. Assumes nothing.
 use borrow.Author.Rules.{rules}
-use Rattle.card.specs.Laid.{packNode, packGroup}
+use Rattle.card.specs.Laid.{pack_node, pack_group}
 use Rattle.packing.proofs.pack_shared.Statement.{statement}
 use Rattle.packing.proofs.pack_shared.Tie as tie
 
@@ -29,7 +29,7 @@ cast-result : tie.Need-overflow-cast-result
 cast-result c = search rules
 
 returns : tie.Need-returns
-unfolding packGroup packNode
+unfolding pack_group pack_node
 returns c = search rules
 
 pub pack-shared-spec : {M : Type 1} → statement M

@@ -1,13 +1,13 @@
 -- `panel::panel` meets its contract: the first refusal of card and seats, or the panel that the table holds. Assumes nothing.
 use borrow.Author.Rules.{rules}
-use Rattle.outline.proofs.ReadInto.{arrays-none}
-use Rattle.panel.proofs.Entry.{entry-refused, filling, entry-prints, entry-said}
-use Rattle.room.proofs.Entries.{entered-refused}
+use Rattle.outline.proofs.ReadInto.{arrays_none}
+use Rattle.panel.proofs.Entry.{entry_refused, filling, entry_prints, entry_said}
+use Rattle.room.proofs.Entries.{entered_refused}
 use Rattle.panel.proofs.panel.Statement.{statement}
 use Rattle.panel.proofs.panel.Tie as tie
 
 read-into-requires : tie.Need-read-into-requires
-read-into-requires c κs = arrays-none
+read-into-requires c κs = arrays_none
 
 judge-seats-requires : tie.Need-judge-seats-requires
 judge-seats-requires c κs = search rules
@@ -23,7 +23,7 @@ returns c =
     let at-first-refusal = c.before.before.before in
     let at-judge-seats = at-first-refusal.before in
     let at-read-into = at-judge-seats.before.before in
-    entered-refused (entry-refused _ at-read-into.read-into.ensures _ at-judge-seats.judge-seats.ensures at-first-refusal.first-refusal.ensures c.before.verdict.given.1)
+    entered_refused (entry_refused _ at-read-into.read-into.ensures _ at-judge-seats.judge-seats.ensures at-first-refusal.first-refusal.ensures c.before.verdict.given.1)
 
 enum_told : tie.Need-enum-told
 enum_told c = search rules
@@ -43,7 +43,7 @@ enter-panel-requires c κs =
     let at-first-refusal = at-enum-told.before.before in
     let at-judge-seats = at-first-refusal.before in
     let at-read-into = at-judge-seats.before.before in
-    entry-prints _ at-read-into.read-into.ensures _ at-judge-seats.judge-seats.ensures at-first-refusal.first-refusal.ensures at-enum-told.enum_told.given.1
+    entry_prints _ at-read-into.read-into.ensures _ at-judge-seats.judge-seats.ensures at-first-refusal.first-refusal.ensures at-enum-told.enum_told.given.1
     at_fill_lem.fill.ensures
 
 same_length : tie.Need-same-length
@@ -56,7 +56,7 @@ returns-2 c =
     let at-first-refusal = at-enum-told.before.before in
     let at-judge-seats = at-first-refusal.before in
     let at-read-into = at-judge-seats.before.before in
-    rw (entry-said _ at-read-into.read-into.ensures _ at-judge-seats.judge-seats.ensures at-first-refusal.first-refusal.ensures at-enum-told.enum_told.given.1 at_fill_lem.fill.ensures)
+    rw (entry_said _ at-read-into.read-into.ensures _ at-judge-seats.judge-seats.ensures at-first-refusal.first-refusal.ensures at-enum-told.enum_told.given.1 at_fill_lem.fill.ensures)
     at c.before.before.enter-panel.ensures
 
 pub panel-spec : {M : Type 1} → statement M

@@ -3,8 +3,8 @@ use borrow.Author.Rules.{rules}
 use lib.Seq.{length-take-le}
 use mathlib.Core.Path.{refl, sym}
 use native.Mathlib.Omega.{arith}
-use Rattle.panel_text.proofs.Stored.{entered-small, entered-part}
-use Rattle.room.proofs.Entries.{entered-whole}
+use Rattle.panel_text.proofs.Stored.{entered_small, entered_part}
+use Rattle.room.proofs.Entries.{entered_whole}
 use Rattle.panel_text.proofs.enter_panel.Statement.{statement}
 use Rattle.panel_text.proofs.enter_panel.Tie as tie
 
@@ -18,13 +18,13 @@ returns : tie.Need-returns
 returns c =
     let at-if1 = c.before.before.before.before in
     let start = at-if1.before.before in
-    entered-whole refl (omega (arith, start.requires.short, at-if1.if1.true)) c.before.before.put-panel.ensures
+    entered_whole refl (omega (arith, start.requires.short, at-if1.if1.true)) c.before.before.put-panel.ensures
 
 measure-requires : tie.Need-measure-requires
 measure-requires c κs = c.before.before.requires
 
 returns-2 : tie.Need-returns-2
-returns-2 c = entered-small c.before.measure.ensures c.if2.true
+returns-2 c = entered_small c.before.measure.ensures c.if2.true
 
 slice-relend-prefix-put-panel : tie.Need-slice-relend-prefix-put-panel
 slice-relend-prefix-put-panel c = search rules
@@ -46,7 +46,7 @@ returns-3 : tie.Need-returns-3
 returns-3 c =
     let at-if2 = c.before.before.before.before in
     let at-measure = at-if2.before in
-    entered-part at-measure.measure.ensures refl at-if2.if2.false c.before.before.put-panel2.ensures
+    entered_part at-measure.measure.ensures refl at-if2.if2.false c.before.before.put-panel2.ensures
 
 pub enter-panel-spec : {M : Type 1} → statement M
 enter-panel-spec =

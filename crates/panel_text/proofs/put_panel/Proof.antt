@@ -1,13 +1,13 @@
 -- `panel_text::put_panel` meets its contract: the head, and then what the mode asks for, or the stuck choice. Assumes nothing.
 use Rattle.phrases.proofs.Laws.{puts_then}
-use Rattle.moves_text.proofs.Blocks.{choices-text, stuck-text, weights-text}
+use Rattle.moves_text.proofs.Blocks.{choices_text, stuck_text, weights_text}
 use native.Mathlib.Omega.{arith}
 use borrow.Author.Rules.{rules}
 use mathlib.Core.List.{[], ◌∷◌}
-use Rattle.meaning.specs.Panel.{stayLine}
+use Rattle.meaning.specs.Panel.{stay_line}
 use Rattle.phrases.specs.Puts.{Puts}
-use Rattle.panel_numbers.specs.Table.{sharedIn, stayIn}
-use Rattle.panel_wording.specs.PanelText.{line, staysText}
+use Rattle.panel_numbers.specs.Table.{shared_in, stay_in}
+use Rattle.panel_wording.specs.PanelText.{line, stays_text}
 use Rattle.panel_wording.specs.PanelIn.{tells}
 use Rattle.panel_text.proofs.put_panel.Statement.{statement}
 use Rattle.panel_text.proofs.put_panel.Tie as tie
@@ -48,7 +48,7 @@ returns c =
     let at-if1 = at-put-stays.before.before.before in
     let at-put-head = at-if1.before.before.before.before in
     let start = at-put-head.before.before.before.before.before.before in
-    weights-text start.args.head start.args.table.now start.args.rows.now start.args.branches.now at-if1.if1.true (puts_then at-put-head.put-head.ensures (puts_then at-put-stays.put-stays.ensures c.before.before.put-table.ensures))
+    weights_text start.args.head start.args.table.now start.args.rows.now start.args.branches.now at-if1.if1.true (puts_then at-put-head.put-head.ensures (puts_then at-put-stays.put-stays.ensures c.before.before.put-table.ensures))
 
 put-choices-requires : tie.Need-put-choices-requires
 put-choices-requires c κs =
@@ -64,7 +64,7 @@ returns-2 c =
     let at-if1 = at-if2.before in
     let at-put-head = at-if1.before.before.before.before in
     let start = at-put-head.before.before.before.before.before.before in
-    choices-text start.args.head start.args.table.now start.args.rows.now start.args.branches.now at-if1.if1.false at-if2.if2.true (puts_then at-put-head.put-head.ensures c.before.before.put-choices.ensures)
+    choices_text start.args.head start.args.table.now start.args.rows.now start.args.branches.now at-if1.if1.false at-if2.if2.true (puts_then at-put-head.put-head.ensures c.before.before.put-choices.ensures)
 
 slice-aggregate-put-line : tie.Need-slice-aggregate-put-line
 slice-aggregate-put-line c = search rules
@@ -92,7 +92,7 @@ stuck-stay : (c : tie.After-put-stay)
     → let at-put-line = c.before.before.before.before in
     let start = at-put-line.before.before.before.before.before.before.before.before.before.before.before.before.before.before.before.args in
     let table = start.table.now in
-    Puts at-put-line.put-line.new.0 c.put-stay.new.0 at-put-line.put-line.result (staysText (tells start.head.shared) (stayLine (sharedIn table) (stayIn table (sharedIn table)))) c.put-stay.result
+    Puts at-put-line.put-line.new.0 c.put-stay.new.0 at-put-line.put-line.result (stays_text (tells start.head.shared) (stay_line (shared_in table) (stay_in table (shared_in table)))) c.put-stay.result
 stuck-stay c = c.put-stay.ensures
 
 returns-3 : tie.Need-returns-3
@@ -102,7 +102,7 @@ returns-3 c =
     let at-if1 = at-if2.before in
     let at-put-head = at-if1.before.before.before.before in
     let start = at-put-head.before.before.before.before.before.before in
-    stuck-text start.args.head start.args.table.now start.args.rows.now start.args.branches.now at-if1.if1.false at-if2.if2.false (puts_then at-put-head.put-head.ensures (puts_then (stuck-choice at-put-line) (stuck-stay c.before.before)))
+    stuck_text start.args.head start.args.table.now start.args.rows.now start.args.branches.now at-if1.if1.false at-if2.if2.false (puts_then at-put-head.put-head.ensures (puts_then (stuck-choice at-put-line) (stuck-stay c.before.before)))
 
 pub put-panel-spec : {M : Type 1} → statement M
 put-panel-spec =

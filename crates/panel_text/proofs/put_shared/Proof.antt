@@ -1,6 +1,6 @@
 -- `panel_text::put_shared` meets its contract: a line only where the shared number has values. Assumes nothing.
-use Rattle.panel_text.proofs.Laws.{shared-none, shared-some}
-use Rattle.phrases.proofs.Laws.{puts-as, puts_none}
+use Rattle.panel_text.proofs.Laws.{shared_none, shared_some}
+use Rattle.phrases.proofs.Laws.{puts_as, puts_none}
 use borrow.Author.Rules.{rules}
 use Rattle.panel_text.proofs.put_shared.Statement.{statement}
 use Rattle.panel_text.proofs.put_shared.Tie as tie
@@ -11,7 +11,7 @@ place-requires c κs = search rules
 returns : tie.Need-returns
 returns c =
     let start = c.before.before.before in
-    puts-as _ (λ t. shared-none _ start.args.present t c.before.if1.true) (puts_none (search rules) c.place.ensures)
+    puts_as _ (λ t. shared_none _ start.args.present t c.before.if1.true) (puts_none (search rules) c.place.ensures)
 
 slice-aggregate-put-line : tie.Need-slice-aggregate-put-line
 slice-aggregate-put-line c = search rules
@@ -29,7 +29,7 @@ returns-2 : tie.Need-returns-2
 returns-2 c =
     let at-if1 = c.before.before.before.before.before.before in
     let start = at-if1.before.before in
-    puts-as _ (λ t. shared-some start.args.shared _ t at-if1.if1.false) c.before.before.put-line.ensures
+    puts_as _ (λ t. shared_some start.args.shared _ t at-if1.if1.false) c.before.before.put-line.ensures
 
 pub put-shared-spec : {M : Type 1} → statement M
 put-shared-spec =

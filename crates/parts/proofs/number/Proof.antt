@@ -1,6 +1,6 @@
 -- `parts::number` meets its contract: the step finds a number, which is judged and kept, or stops. Assumes nothing.
-use Rattle.parts.proofs.Lines.{number-stops, number_read}
-use Rattle.parts.proofs.Steps.{next-at, number_small}
+use Rattle.parts.proofs.Lines.{number_stops, number_read}
+use Rattle.parts.proofs.Steps.{next_at, number_small}
 use borrow.Author.Rules.{rules}
 use Rattle.parts.proofs.number.Statement.{statement}
 use Rattle.parts.proofs.number.Tie as tie
@@ -19,7 +19,7 @@ returns c =
     let at-step-number = at-if1.before.before.before.before in
     let entry = at-step-number.before.before in
     let a = entry.args in
-    number-stops (next-at a.card.now a.at at-step-number.step-number.result at-step-number.step-number.ensures) at-if1.if1.true
+    number_stops (next_at a.card.now a.at at-step-number.step-number.result at-step-number.step-number.ensures) at-if1.if1.true
     c.stop.ensures.0
 
 judge-state-requires : tie.Need-judge-state-requires
@@ -36,7 +36,7 @@ returns-2 c =
     let at-step-number = at-if1.before.before.before.before in
     let entry = at-step-number.before.before in
     let a = entry.args in
-    number_read (next-at a.card.now a.at at-step-number.step-number.result at-step-number.step-number.ensures) a.state.now
+    number_read (next_at a.card.now a.at at-step-number.step-number.result at-step-number.step-number.ensures) a.state.now
     at-if1.if1.false (number_small a.card.now a.at at-step-number.step-number.result at-step-number.step-number.ensures at-if1.if1.false)
     entry.requires c.judge-state.ensures
 

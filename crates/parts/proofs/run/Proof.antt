@@ -2,15 +2,15 @@
 use Prim.Native.Nat.{◌-◌}
 use native.Mathlib.Omega.{arith}
 use lib.ListN.{length}
-use Rattle.late.specs.State.{lateIn}
-use Rattle.parts.proofs.Lines.{Going, going_start, going_end, going-stops, going_more}
-use Rattle.parts.proofs.Steps.{next-at}
+use Rattle.late.specs.State.{late_in}
+use Rattle.parts.proofs.Lines.{Going, going_start, going_end, going_stops, going_more}
+use Rattle.parts.proofs.Steps.{next_at}
 use borrow.Author.Rules.{rules}
 use Rattle.parts.proofs.run.Statement.{statement}
 use Rattle.parts.proofs.run.Tie as tie
 
 abbrev invariant-loop : tie.invariant-loop
-invariant-loop card at kinds dues state₀ next₀ i₀ state next i = Going card next₀ kinds dues (lateIn state₀) i next state
+invariant-loop card at kinds dues state₀ next₀ i₀ state next i = Going card next₀ kinds dues (late_in state₀) i next state
 
 abbrev decreases-loop : tie.decreases-loop
 decreases-loop card at kinds dues state₀ next₀ i₀ state next i = length kinds - i
@@ -41,8 +41,8 @@ returns c =
     let at-loop-test = at-step-kind.before.before in
     let at-loop = at-loop-test.before in
     let entry = at-loop.before.before.before.before in
-    going-stops at-loop.loop.invariant at-loop-test.loop-test.true
-    (next-at entry.args.card.now at-loop.loop.next at-step-kind.step-kind.result at-step-kind.step-kind.ensures) at-if1.if1.true
+    going_stops at-loop.loop.invariant at-loop-test.loop-test.true
+    (next_at entry.args.card.now at-loop.loop.next at-step-kind.step-kind.result at-step-kind.step-kind.ensures) at-if1.if1.true
     c.stop.ensures.0
 
 mul-judge-word : tie.Need-overflow-mul-judge-word invariant-loop decreases-loop
@@ -74,7 +74,7 @@ loop-again c =
     let at-loop = at-loop-test.before in
     let entry = at-loop.before.before.before.before in
     going_more at-loop.loop.invariant at-loop-test.loop-test.true
-    (next-at entry.args.card.now at-loop.loop.next at-step-kind.step-kind.result at-step-kind.step-kind.ensures)
+    (next_at entry.args.card.now at-loop.loop.next at-step-kind.step-kind.result at-step-kind.step-kind.ensures)
     (omega (arith, entry.requires.1, at-loop-test.loop-test.true)) at-if1.if1.false at-judge-word.judge-word.ensures
 
 returns-2 : tie.Need-returns-2 invariant-loop decreases-loop

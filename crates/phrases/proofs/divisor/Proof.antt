@@ -1,5 +1,5 @@
 -- `phrases::divisor` meets its contract: a round of the division keeps the greatest common divisor, and the second number falls. Assumes nothing.
-use Rattle.phrases.proofs.Lowest.{round, round-last, divisor-rounds, divisor-positive}
+use Rattle.phrases.proofs.Lowest.{round, round_last, divisor_rounds, divisor_positive}
 use Rattle.phrases.specs.Phrases.{divisor, gcd}
 use mathlib.Core.Path.{◌≡◌, sym, ◌∙◌}
 use native.Mathlib.Omega.{arith}
@@ -17,7 +17,7 @@ decreases-loop units a₀ b₀ a b = b
 
 -- src/lib.rt:31:5
 loop-holds : tie.Need-loop-init invariant-loop decreases-loop
-loop-holds c = divisor-rounds _ c.requires
+loop-holds c = divisor_rounds _ c.requires
 
 -- src/lib.rt:32:20
 rem-rest : tie.Need-nonzero-rem-rest invariant-loop decreases-loop
@@ -33,7 +33,7 @@ loop-again c = c.before.loop.invariant ∙ round _ _ c.loop-test.true
 
 -- src/lib.rt:25:1
 returns : tie.Need-returns invariant-loop decreases-loop
-returns c = let e = sym (c.before.loop.invariant ∙ round-last _ _ c.loop-test.false) in (e, rw e (divisor-positive _ c.before.before.requires))
+returns c = let e = sym (c.before.loop.invariant ∙ round_last _ _ c.loop-test.false) in (e, rw e (divisor_positive _ c.before.before.requires))
 
 pub divisor-spec : {M : Type 1} → statement M
 divisor-spec =

@@ -1,7 +1,7 @@
 -- `phrases::put_mode` meets its contract: the two words are the texts of the choice. Assumes nothing.
-use Rattle.phrases.specs.Phrases.{modeWord}
+use Rattle.phrases.specs.Phrases.{mode_word}
 use Rattle.card.specs.Card.{nondeterministic, probabilistic}
-use Rattle.phrases.proofs.Laws.{puts-as, either-text}
+use Rattle.phrases.proofs.Laws.{puts_as, either_text}
 use borrow.Author.Rules.{rules}
 use Rattle.phrases.proofs.put_mode.Statement.{statement}
 use Rattle.phrases.proofs.put_mode.Tie as tie
@@ -22,7 +22,7 @@ returns : tie.Need-returns
 returns c =
     let at-put-either = c.before.before in
     let start = at-put-either.before.before.before.before.before in
-    puts-as _ (either-text nondeterministic probabilistic modeWord start.args.mode) at-put-either.put-either.ensures
+    puts_as _ (either_text nondeterministic probabilistic mode_word start.args.mode) at-put-either.put-either.ensures
 
 pub put-mode-spec : {M : Type 1} → statement M
 put-mode-spec =

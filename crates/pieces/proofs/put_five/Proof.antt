@@ -1,7 +1,7 @@
 -- `pieces::put_five` meets its contract: where there is place, each byte is stored behind the one before (short_pieces/proofs/Stored.antt). Assumes nothing.
 use lib.ListN.{length-set}
 use native.Mathlib.Omega.{arith}
-use Rattle.short_pieces.proofs.Stored.{put-stored}
+use Rattle.short_pieces.proofs.Stored.{put_stored}
 use borrow.Author.Rules.{rules}
 use Rattle.pieces.proofs.put_five.Statement.{statement}
 use Rattle.pieces.proofs.put_five.Tie as tie
@@ -43,7 +43,7 @@ same_length : tie.Need-same-length
 same_length c = search rules
 
 returns : tie.Need-returns
-returns c = put-stored _ (search rules) (search rules) (search rules)
+returns c = put_stored _ (search rules) (search rules) (search rules)
 
 slice-aggregate-put-run : tie.Need-slice-aggregate-put-run
 slice-aggregate-put-run c = search rules

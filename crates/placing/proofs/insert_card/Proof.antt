@@ -1,5 +1,5 @@
 -- `placing::insert_card` meets its contract: room for both, body, entry, count and offsets, one step after the other. Assumes nothing.
-use Rattle.placing.proofs.Inserted.{body-inside, row_inside, row_before, long1, long4, offsets, long6, inserted}
+use Rattle.placing.proofs.Inserted.{body_inside, row_inside, row_before, long1, long4, offsets, long6, inserted}
 use Prim.Native.Nat.{suc, ◌+◌}
 use mathlib.Core.Path.{◌≡◌}
 use native.Mathlib.Omega.{arith}
@@ -41,22 +41,22 @@ add-move-up : tie.Need-overflow-add-move-up
 add-move-up c =
     let at-spot-for = c.before in
     let start = begun at-spot-for in
-    omega (arith, start.pre.room, start.pre.short, body-inside _ start.pre at-spot-for.spot-for.ensures)
+    omega (arith, start.pre.room, start.pre.short, body_inside _ start.pre at-spot-for.spot-for.ensures)
 
 add-move-up-2 : tie.Need-overflow-add-move-up-2
 add-move-up-2 c =
     let at-spot-for = c.before in
     let start = begun at-spot-for in
-    omega (arith, start.pre.room, start.pre.short, body-inside _ start.pre at-spot-for.spot-for.ensures)
+    omega (arith, start.pre.room, start.pre.short, body_inside _ start.pre at-spot-for.spot-for.ensures)
 
 sub-move-up : tie.Need-overflow-sub-move-up
-sub-move-up c = omega (arith, body-inside _ c.before.before.before.before.before.requires c.before.spot-for.ensures)
+sub-move-up c = omega (arith, body_inside _ c.before.before.before.before.before.requires c.before.spot-for.ensures)
 
 move-up-requires : tie.Need-move-up-requires
 move-up-requires c κs =
     let at-spot-for = c.before in
     let start = begun at-spot-for in
-    (omega arith, omega (arith, start.pre.room, body-inside _ start.pre at-spot-for.spot-for.ensures))
+    (omega arith, omega (arith, start.pre.room, body_inside _ start.pre at-spot-for.spot-for.ensures))
 
 add-move-up-3 : tie.Need-overflow-add-move-up-3
 add-move-up-3 c =
@@ -75,13 +75,13 @@ move-up-requires-2 c κs =
     let at-spot-for = spot-found at-move-up in
     let start = begun at-spot-for in
     let there = at-spot-for.spot-for.ensures in
-    (omega arith, omega (arith, start.pre.room, body-inside _ start.pre there, row_before _ start.pre there, long1 _ start.pre there at-move-up.move_up.ensures))
+    (omega arith, omega (arith, start.pre.room, body_inside _ start.pre there, row_before _ start.pre there, long1 _ start.pre there at-move-up.move_up.ensures))
 
 add-put-run : tie.Need-overflow-add-put-run
 add-put-run c =
     let at-spot-for = spot-found (behind_moved c.before.before.before) in
     let start = begun at-spot-for in
-    omega (arith, start.pre.room, start.pre.short, body-inside _ start.pre at-spot-for.spot-for.ensures)
+    omega (arith, start.pre.room, start.pre.short, body_inside _ start.pre at-spot-for.spot-for.ensures)
 
 put-run-requires : tie.Need-put-run-requires
 put-run-requires c κs = search rules

@@ -1,5 +1,5 @@
 -- `placing::live_place` meets its contract: what is left of the contents decides. Assumes nothing.
-use Rattle.placing.proofs.Seeking.{Seeking, seek-begins, seek-none, seek_hit, seek-miss}
+use Rattle.placing.proofs.Seeking.{Seeking, seek_begins, seek_none, seek_hit, seek_miss}
 use mathlib.Core.Path.{sym, ◌∙◌}
 use native.Mathlib.Omega.{arith}
 use borrow.Author.Rules.{rules}
@@ -19,7 +19,7 @@ wide-requires : tie.Need-wide-requires invariant-loop decreases-loop
 wide-requires c κs = search rules
 
 loop-holds : tie.Need-loop-init invariant-loop decreases-loop
-loop-holds c = seek-begins _ _ c.wide.ensures.0
+loop-holds c = seek_begins _ _ c.wide.ensures.0
 
 is-live-requires : tie.Need-is-live-requires invariant-loop decreases-loop
 is-live-requires c κs = omega (arith, c.before.loop.invariant.place, c.loop-test.true, c.before.before.before.before.before.requires.whole)
@@ -40,10 +40,10 @@ loop-less : tie.Need-loop-smaller invariant-loop decreases-loop
 loop-less c = search rules
 
 loop-again : tie.Need-loop-preserved invariant-loop decreases-loop
-loop-again c = seek-miss _ _ c.before.before.before.loop.invariant c.before.before.loop-test.true (sym c.if1.false ∙ c.before.is_live.ensures)
+loop-again c = seek_miss _ _ c.before.before.before.loop.invariant c.before.before.loop-test.true (sym c.if1.false ∙ c.before.is_live.ensures)
 
 returns-2 : tie.Need-returns-2 invariant-loop decreases-loop
-returns-2 c = seek-none _ _ c.before.loop.invariant c.loop-test.false
+returns-2 c = seek_none _ _ c.before.loop.invariant c.loop-test.false
 
 pub live-place-spec : {M : Type 1} → statement M
 live-place-spec =

@@ -1,9 +1,9 @@
 -- `placing::place_card` meets its contract: number, count and room are judged; then the tidied deck takes the card. Assumes nothing.
-use Rattle.placing.proofs.Placing.{need-is, few_bytes, number-taken, too_many, too_small, place_found, insertable, placed}
-use Rattle.tidy.proofs.Entering.{changed-refused, changed-done}
+use Rattle.placing.proofs.Placing.{need_is, few_bytes, number_taken, too_many, too_small, place_found, insertable, placed}
+use Rattle.tidy.proofs.Entering.{changed_refused, changed_done}
 use Prim.Native.Nat.{◌+◌, ◌<◌}
 use lib.ListN.{length}
-use Rattle.card.specs.Limits.{mostCards}
+use Rattle.card.specs.Limits.{most_cards}
 use Rattle.deck.specs.Contents.{behind}
 use native.Mathlib.Omega.{arith}
 use borrow.Author.Rules.{rules}
@@ -20,7 +20,7 @@ returns : tie.Need-returns
 returns c =
     let at-live-place = c.before in
     let start = at-live-place.before.before.before.before in
-    changed-refused (number-taken start.args.deck.now start.args.number start.args.card.now start.requires.0 (at-live-place.live-place.ensures.taken c.if1.true))
+    changed_refused (number_taken start.args.deck.now start.args.number start.args.card.now start.requires.0 (at-live-place.live-place.ensures.taken c.if1.true))
 
 same-length-2 : tie.Need-same-length-2
 same-length-2 c = search rules
@@ -30,11 +30,11 @@ returns-2 c =
     let at-if1 = c.before in
     let at-live-place = at-if1.before in
     let start = at-live-place.before.before.before.before in
-    changed-refused (too_many start.args.deck.now start.args.number start.args.card.now start.requires.0 (at-live-place.live-place.ensures.free at-if1.if1.false) c.if2.true)
+    changed_refused (too_many start.args.deck.now start.args.number start.args.card.now start.requires.0 (at-live-place.live-place.ensures.free at-if1.if1.false) c.if2.true)
 
 -- another card has its place among those that a deck may hold
 abbrev OneMore : Type 0
-OneMore = (c : tie.Else2) → c.before.before.before.before.before.before.args.cards < mostCards
+OneMore = (c : tie.Else2) → c.before.before.before.before.before.before.args.cards < most_cards
 
 one_more : OneMore
 one_more c = c.if2.false
@@ -79,7 +79,7 @@ says-length one_more short c =
     let at-if1 = at-if2.before in
     let at-live-place = at-if1.before in
     let start = at-live-place.before.before.before.before in
-    changed-refused (too_small start.args.deck.now start.args.number start.args.card.now start.requires.0 (at-live-place.live-place.ensures.free at-if1.if1.false) (one_more at-if2) (short c))
+    changed_refused (too_small start.args.deck.now start.args.number start.args.card.now start.requires.0 (at-live-place.live-place.ensures.free at-if1.if1.false) (one_more at-if2) (short c))
 
 returns-3 : tie.Need-returns-3
 returns-3 = says-length one_more short
@@ -113,10 +113,10 @@ returns-4 c =
     let number = start.args.number in
     let card = start.args.card.now in
     let free = at-live-place.live-place.ensures.free at-if1.if1.false in
-    changed-done
+    changed_done
     (place_found deck number card start.requires.0 free (one_more at-if2) at-if3.if3.false)
     (placed deck number card start.requires.0 at-close-up.close_up.ensures at-if3.if3.false at-insert-card.insert-card.ensures)
-    (need-is deck number card start.requires.0)
+    (need_is deck number card start.requires.0)
 
 pub place-card-spec : {M : Type 1} → statement M
 place-card-spec =

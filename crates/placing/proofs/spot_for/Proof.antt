@@ -1,5 +1,5 @@
 -- `placing::spot_for` meets its contract: entries are passed as long as their numbers are lower. Assumes nothing.
-use Rattle.placing.proofs.Spotting.{Spotting, spot-start, spot-end, spot-here, spot_on}
+use Rattle.placing.proofs.Spotting.{Spotting, spot_start, spot_end, spot_here, spot_on}
 use mathlib.Core.Path.{refl}
 use native.Mathlib.Omega.{arith}
 use borrow.Author.Rules.{rules}
@@ -19,7 +19,7 @@ add_body : tie.Need-overflow-add-body invariant-loop decreases-loop
 add_body c = omega (arith, c.before.requires.1)
 
 loop-holds : tie.Need-loop-init invariant-loop decreases-loop
-loop-holds c = spot-start _ _ _ c.before.requires.1 refl
+loop-holds c = spot_start _ _ _ c.before.requires.1 refl
 
 word-at-requires : tie.Need-word-at-requires invariant-loop decreases-loop
 word-at-requires c κs = omega (arith, c.before.loop.invariant.place, c.loop-test.true, c.before.before.before.requires.0)
@@ -29,7 +29,7 @@ returns c =
     let at-word-at = c.before in
     let at-loop-test = at-word-at.before in
     let at-loop = at-loop-test.before in
-    let found = spot-here _ _ _ at-loop.loop.invariant at-loop-test.loop-test.true at-word-at.word_at.ensures.0 c.if1.true in
+    let found = spot_here _ _ _ at-loop.loop.invariant at-loop-test.loop-test.true at-word-at.word_at.ensures.0 c.if1.true in
     record { row = found.0; body = found.1 }
 
 add-word-at : tie.Need-overflow-add-word-at invariant-loop decreases-loop
@@ -70,7 +70,7 @@ loop-again c =
 
 returns-2 : tie.Need-returns-2 invariant-loop decreases-loop
 returns-2 c =
-    let found = spot-end _ _ _ c.before.loop.invariant c.loop-test.false in
+    let found = spot_end _ _ _ c.before.loop.invariant c.loop-test.false in
     record { row = found.0; body = found.1 }
 
 pub spot-for-spec : {M : Type 1} → statement M

@@ -1,5 +1,5 @@
 -- `program_lines::put_refusal` meets its contract: its puts, one after the other; the line is short, since its numbers are. Assumes nothing.
-use Rattle.program_lines.proofs.Printing.{refusal-short}
+use Rattle.program_lines.proofs.Printing.{refusal_short}
 use Rattle.phrases.proofs.Laws.{put_first, puts_then}
 use borrow.Author.Rules.{rules}
 use Rattle.program_lines.proofs.put_refusal.Statement.{statement}
@@ -42,7 +42,7 @@ returns c =
     (puts_then (put_first (rw at_wide.wide.ensures at at-put-number.put-number.ensures))
     (puts_then (put_first at-put-byte.put_byte.ensures)
     (puts_then (put_first at-put-number2.put-number2.ensures) (put_first c.before.before.put-byte2.ensures)))) in
-    (line.put, refusal-short start.ranges.number.fits start.ranges.place.fits line.put)
+    (line.put, refusal_short start.ranges.number.fits start.ranges.place.fits line.put)
 
 pub put-refusal-spec : {M : Type 1} → statement M
 put-refusal-spec =

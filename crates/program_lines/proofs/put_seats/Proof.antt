@@ -1,5 +1,5 @@
 -- `program_lines::put_seats` meets its contract: after i turns the first i seats are stored. Assumes nothing.
-use Rattle.program_lines.proofs.Seats.{sown, sown-next}
+use Rattle.program_lines.proofs.Seats.{sown, sown_next}
 use lib.ListN.{length}
 use borrow.Author.Rules.{rules}
 use mathlib.Core.Path.{◌≡◌, refl}
@@ -40,7 +40,7 @@ loop-less c = search rules
 loop-again : tie.Need-loop-preserved invariant-loop decreases-loop
 loop-again c =
     let at-loop = c.before.before.before.before in
-    (search rules, search rules, search rules, sown-next _ _ _ c.before.before.before.loop-test.true (search rules) c.seat-of.ensures at-loop.loop.invariant.3)
+    (search rules, search rules, search rules, sown_next _ _ _ c.before.before.before.loop-test.true (search rules) c.seat-of.ensures at-loop.loop.invariant.3)
 
 same-length-2 : tie.Need-same-length-2 invariant-loop decreases-loop
 same-length-2 c = search rules

@@ -1,5 +1,5 @@
 -- `put_numbers::put_number` meets its contract: a number below ten is its one digit. Assumes nothing.
-use Rattle.room.proofs.Decimal.{decimal-one}
+use Rattle.room.proofs.Decimal.{decimal_one}
 use borrow.Author.Rules.{rules}
 use Rattle.put_numbers.proofs.put_number.Statement.{statement}
 use Rattle.put_numbers.proofs.put_number.Tie as tie
@@ -17,7 +17,7 @@ same_length : tie.Need-same-length
 same_length c = search rules
 
 returns : tie.Need-returns
-returns c = rw (decimal-one _ c.before.before.before.before.if1.true) c.before.before.put_byte.ensures
+returns c = rw (decimal_one _ c.before.before.before.before.if1.true) c.before.before.put_byte.ensures
 
 put-long-number-requires : tie.Need-put-long-number-requires
 put-long-number-requires c κs = search rules

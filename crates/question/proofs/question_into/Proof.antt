@@ -1,10 +1,10 @@
 -- One way out for each way in which reading may end (proofs/Whole.antt). Assumes nothing.
 use native.Mathlib.Omega.{arith}
 use mathlib.Core.Path.{◌≡◌}
-use Rattle.marks_on_a_card.specs.Kinds.{kEnd}
+use Rattle.marks_on_a_card.specs.Kinds.{k_end}
 use Rattle.late.specs.Settled.{settled}
-use Rattle.late.specs.State.{after, lateIn, refusalIn}
-use Rattle.question.proofs.Whole.{too_long, formula-stops, sized-still, unended, some-node, broken, understood}
+use Rattle.late.specs.State.{after, late_in, refusal_in}
+use Rattle.question.proofs.Whole.{too_long_law, formula_stops, sized_still, unended, some_node, broken, understood}
 use borrow.Author.Rules.{rules}
 use Rattle.question.proofs.question_into.Statement.{statement}
 use Rattle.question.proofs.question_into.Tie as tie
@@ -19,7 +19,7 @@ returns : tie.Need-returns
 returns c =
     let at-if1 = c.before in
     let entry = at-if1.before.before in
-    rw c.refused.ensures (too_long entry.args.question.now entry.args.seats entry.args.top entry.args.values entry.args.nodes.now entry.args.nodes.now (omega (arith, at-if1.if1.true)))
+    rw c.refused.ensures (too_long_law entry.args.question.now entry.args.seats entry.args.top entry.args.values entry.args.nodes.now entry.args.nodes.now (omega (arith, at-if1.if1.true)))
 
 array-write-state : tie.Need-array-write-state
 array-write-state c = search rules
@@ -51,7 +51,7 @@ returns-2 c =
     let at-if1 = at-language.before in
     let entry = at-if1.before.before in
     rw (c.refused2.ensures, at-search.search.ensures)
-    (formula-stops entry.args.question.now entry.args.seats entry.args.top entry.args.values entry.args.nodes.now at-expression.expression.new.1.1.0 (omega (arith, at-if1.if1.false))
+    (formula_stops entry.args.question.now entry.args.seats entry.args.top entry.args.values entry.args.nodes.now at-expression.expression.new.1.1.0 (omega (arith, at-if1.if1.false))
     (after at-expression.expression.new.1.1.1.0 at-expression.expression.result) at-language.question-language.result at-language.question-language.ensures at-expression.expression.ensures at-if2.if2.true)
 
 step-requires : tie.Need-step-requires
@@ -92,7 +92,7 @@ sub-root c =
     let entry = at-if1.before.before in
     omega (
       arith,
-      some-node entry.args.question.now entry.args.seats entry.args.top entry.args.values entry.args.nodes.now at-expression.expression.new.1.1.0 (omega (arith, at-if1.if1.false))
+      some_node entry.args.question.now entry.args.seats entry.args.top entry.args.values entry.args.nodes.now at-expression.expression.new.1.1.0 (omega (arith, at-if1.if1.false))
           (after at-expression.expression.new.1.1.1.0 at-expression.expression.result) at-language.question-language.result at-language.question-language.ensures at-expression.expression.ensures at-if2.if2.false,
     )
 
@@ -102,11 +102,11 @@ settle-requires c κs =
     let at-language = at-expression.before.before.before in
     let at-if1 = at-language.before in
     let entry = at-if1.before.before in
-    sized-still entry.args.question.now entry.args.seats entry.args.top entry.args.values entry.args.nodes.now at-expression.expression.new.1.1.0 (omega (arith, at-if1.if1.false))
+    sized_still entry.args.question.now entry.args.seats entry.args.top entry.args.values entry.args.nodes.now at-expression.expression.new.1.1.0 (omega (arith, at-if1.if1.false))
     (after at-expression.expression.new.1.1.1.0 at-expression.expression.result) at-language.question-language.result at-language.question-language.ensures at-expression.expression.ensures
 
 -- it goes on only where nothing stands behind the question
-nothing-behind : (c : tie.Else3) → c.before.before.before.step.result.mark.kind ≡ kEnd
+nothing-behind : (c : tie.Else3) → c.before.before.before.step.result.mark.kind ≡ k_end
 nothing-behind c = c.if3.false
 
 abbrev read-before : tie.After-settle → tie.After-expression
@@ -116,7 +116,7 @@ abbrev begun : tie.After-expression → tie.Start
 begun c = c.before.before.before.before.before.before
 
 -- what is kept is held against the number of seats
-settles-for-seats : (c : tie.After-settle) → refusalIn c.settle.new.0 ≡ settled (begun (read-before c)).args.seats (lateIn (read-before c).expression.new.1.1.1.0)
+settles-for-seats : (c : tie.After-settle) → refusal_in c.settle.new.0 ≡ settled (begun (read-before c)).args.seats (late_in (read-before c).expression.new.1.1.1.0)
 settles-for-seats c = c.settle.ensures.0
 
 array-read-t14 : tie.Need-array-read-t14

@@ -1,6 +1,6 @@
 -- A way out for each part of a card, in the order of the parts (proofs/CardLaws.antt). Assumes nothing.
 use mathlib.Core.Path.{refl}
-use Rattle.reader.proofs.CardLaws.{header-stops, statements-stop, modules-stop, late-small, judged-read, searched-number, reads-searched}
+use Rattle.reader.proofs.CardLaws.{header_stops, statements_stop, modules_stop, late_small, judged_read, searched_number, reads_searched}
 use borrow.Author.Rules.{rules}
 use Rattle.reader.proofs.read_short.Statement.{statement}
 use Rattle.reader.proofs.read_short.Tie as tie
@@ -23,7 +23,7 @@ refused-requires c κs =
     let at-header = at-if1.before in
     let entry = at-header.before.before.before in
     let a = entry.args in
-    searched-number (header-stops a.decimals _ entry.requires.0 _ at-header.header.ensures at-if1.if1.true) c.search.ensures
+    searched_number (header_stops a.decimals _ entry.requires.0 _ at-header.header.ensures at-if1.if1.true) c.search.ensures
 
 returns : tie.Need-returns
 returns c =
@@ -31,7 +31,7 @@ returns c =
     let at-if1 = at-search.before in
     let at-header = at-if1.before in
     let entry = at-header.before.before.before in
-    reads-searched (header-stops _ _ entry.requires.0 _ at-header.header.ensures at-if1.if1.true) at-search.search.ensures
+    reads_searched (header_stops _ _ entry.requires.0 _ at-header.header.ensures at-if1.if1.true) at-search.search.ensures
     c.refused.ensures entry.requires.1
 
 array-read-mode : tie.Need-array-read-mode
@@ -69,8 +69,8 @@ stopped-requires c κs =
     let at-header = at-if1.before in
     let entry = at-header.before.before.before in
     let a = entry.args in
-    searched-number
-    (statements-stop a.decimals _ entry.requires.0 _ at-header.header.ensures at-if1.if1.false _ _ _ at-statements.statements.ensures at-if2.if2.true)
+    searched_number
+    (statements_stop a.decimals _ entry.requires.0 _ at-header.header.ensures at-if1.if1.false _ _ _ at-statements.statements.ensures at-if2.if2.true)
     refl
 
 returns-2 : tie.Need-returns-2
@@ -80,8 +80,8 @@ returns-2 c =
     let at-if1 = at-statements.before.before.before.before.before in
     let at-header = at-if1.before in
     let entry = at-header.before.before.before in
-    reads-searched
-    (statements-stop _ _ entry.requires.0 _ at-header.header.ensures at-if1.if1.false _ _ _ at-statements.statements.ensures at-if2.if2.true)
+    reads_searched
+    (statements_stop _ _ entry.requires.0 _ at-header.header.ensures at-if1.if1.false _ _ _ at-statements.statements.ensures at-if2.if2.true)
     refl c.stopped.ensures.0 c.stopped.ensures.1
 
 array-read-count : tie.Need-array-read-count
@@ -109,8 +109,8 @@ stopped-requires-2 c κs =
     let at-header = at-if1.before in
     let entry = at-header.before.before.before in
     let a = entry.args in
-    searched-number
-    (modules-stop a.decimals _ entry.requires.0 _ at-header.header.ensures at-if1.if1.false _ _ _ at-statements.statements.ensures at-if2.if2.false _ at-modules.modules.ensures at-if3.if3.true)
+    searched_number
+    (modules_stop a.decimals _ entry.requires.0 _ at-header.header.ensures at-if1.if1.false _ _ _ at-statements.statements.ensures at-if2.if2.false _ at-modules.modules.ensures at-if3.if3.true)
     refl
 
 returns-3 : tie.Need-returns-3
@@ -122,8 +122,8 @@ returns-3 c =
     let at-if1 = at-statements.before.before.before.before.before in
     let at-header = at-if1.before in
     let entry = at-header.before.before.before in
-    reads-searched
-    (modules-stop _ _ entry.requires.0 _ at-header.header.ensures at-if1.if1.false _ _ _ at-statements.statements.ensures at-if2.if2.false _ at-modules.modules.ensures at-if3.if3.true)
+    reads_searched
+    (modules_stop _ _ entry.requires.0 _ at-header.header.ensures at-if1.if1.false _ _ _ at-statements.statements.ensures at-if2.if2.false _ at-modules.modules.ensures at-if3.if3.true)
     refl c.stopped2.ensures.0 c.stopped2.ensures.1
 
 array-read-seats : tie.Need-array-read-seats
@@ -139,7 +139,7 @@ judged-requires c κs =
     let at-header = at-if1.before in
     let entry = at-header.before.before.before in
     let a = entry.args in
-    (at-modules.modules.ensures.sized, late-small a.decimals _ entry.requires.0 _ at-header.header.ensures at-if1.if1.false _ _ _ at-statements.statements.ensures at-if2.if2.false _ at-modules.modules.ensures at-if3.if3.false)
+    (at-modules.modules.ensures.sized, late_small a.decimals _ entry.requires.0 _ at-header.header.ensures at-if1.if1.false _ _ _ at-statements.statements.ensures at-if2.if2.false _ at-modules.modules.ensures at-if3.if3.false)
 
 returns-4 : tie.Need-returns-4
 returns-4 c =
@@ -150,7 +150,7 @@ returns-4 c =
     let at-if1 = at-statements.before.before.before.before.before in
     let at-header = at-if1.before in
     let entry = at-header.before.before.before in
-    judged-read _ _ entry.requires.0 _ at-header.header.ensures at-if1.if1.false _ _ _ at-statements.statements.ensures at-if2.if2.false
+    judged_read _ _ entry.requires.0 _ at-header.header.ensures at-if1.if1.false _ _ _ at-statements.statements.ensures at-if2.if2.false
     _ at-modules.modules.ensures at-if3.if3.false entry.requires.1 c.judged.ensures
 
 pub read-short-spec : {M : Type 1} → statement M

@@ -1,6 +1,6 @@
 -- Too long, or short enough to be read (card_reader). Assumes nothing.
-use Rattle.reader.proofs.Outcomes.{read-long}
-use Rattle.reader.proofs.CardLaws.{reads-refused}
+use Rattle.reader.proofs.Outcomes.{read_long}
+use Rattle.reader.proofs.CardLaws.{reads_refused}
 use native.Mathlib.Omega.{arith}
 use borrow.Author.Rules.{rules}
 use Rattle.reader.proofs.read_under.Statement.{statement}
@@ -16,7 +16,7 @@ returns : tie.Need-returns
 returns c =
     let at-if1 = c.before in
     let entry = at-if1.before.before in
-    reads-refused (read-long _ _ at-if1.if1.true) c.refused.ensures entry.requires
+    reads_refused (read_long _ _ at-if1.if1.true) c.refused.ensures entry.requires
 
 read-short-requires : tie.Need-read-short-requires
 read-short-requires c κs = (omega (arith, c.before.before.before.if1.false), c.before.before.before.before.before.requires)

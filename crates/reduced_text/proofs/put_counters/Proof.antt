@@ -1,15 +1,15 @@
 -- `reduced_text::put_counters` meets its contract: one counter more after each turn. Assumes nothing.
-use Rattle.reduced_text.proofs.Laws.{nextCounter, counters-all}
-use Rattle.phrases.proofs.Counted.{counted, counted_start, counted_next, counted-end}
+use Rattle.reduced_text.proofs.Laws.{next_counter, counters_all}
+use Rattle.phrases.proofs.Counted.{counted, counted_start, counted_next, counted_end}
 use Rattle.phrases.specs.Puts.{Puts}
-use Rattle.room.proofs.Laws.{put-length}
+use Rattle.room.proofs.Laws.{put_length}
 use Prim.Native.Nat.{◌+◌, ◌≤◌, ◌-◌}
 use borrow.Author.Rules.{rules}
 use Rattle.reduced_text.proofs.put_counters.Statement.{statement}
 use Rattle.reduced_text.proofs.put_counters.Tie as tie
 
 abbrev invariant-loop : tie.invariant-loop
-invariant-loop room₀ at seats top start to₀ d₀ room to d = (d ≤ top + 1) × Puts room₀ room at (counted (nextCounter seats start) 0 (d - 0)) to
+invariant-loop room₀ at seats top start to₀ d₀ room to d = (d ≤ top + 1) × Puts room₀ room at (counted (next_counter seats start) 0 (d - 0)) to
 
 abbrev decreases-loop : tie.decreases-loop
 decreases-loop room₀ at seats top start to₀ d₀ room to d = top + 1 - d
@@ -36,13 +36,13 @@ loop-again c =
     (search rules, counted_next _ 0 _ (search rules) at-loop.loop.invariant.1 at-put-counter.put-counter.ensures)
 
 same_length : tie.Need-same-length invariant-loop decreases-loop
-same_length c = put-length c.before.loop.invariant.1.put
+same_length c = put_length c.before.loop.invariant.1.put
 
 returns : tie.Need-returns invariant-loop decreases-loop
 returns c =
     let at-loop = c.before in
     let start = at-loop.before.before.before in
-    counted-end _ 0 _ (start.args.top + 1) (search rules) (search rules) (counters-all start.args.seats start.args.start start.args.top) at-loop.loop.invariant.1
+    counted_end _ 0 _ (start.args.top + 1) (search rules) (search rules) (counters_all start.args.seats start.args.start start.args.top) at-loop.loop.invariant.1
 
 pub put-counters-spec : {M : Type 1} → statement M
 put-counters-spec = tie.close (tie.spec invariant-loop

@@ -1,8 +1,8 @@
 -- `reduced_text::reduce_card` meets its contract: a text that fits in any case is put at once; else a draft tells its length, and is the text where
 -- it has places for it. Assumes nothing.
-use Rattle.reduced_text.proofs.Stored.{held-most, held-cap}
-use Rattle.room.proofs.Drafts.{drafted-long, drafted-fits, drafted-count, entered-copied}
-use Rattle.room.proofs.Entries.{entered-whole, entered-short, entered-exact}
+use Rattle.reduced_text.proofs.Stored.{held_most, held_cap}
+use Rattle.room.proofs.Drafts.{drafted_long, drafted_fits, drafted_count, entered_copied}
+use Rattle.room.proofs.Entries.{entered_whole, entered_short, entered_exact}
 use mathlib.Core.Path.{refl, sym}
 use native.Mathlib.Omega.{arith}
 use lib.Seq.{length-take-le}
@@ -21,7 +21,7 @@ returns c =
     let at-put-program = c.before.before in
     let at-if1 = at-put-program.before.before.before in
     let start = at-if1.before.before in
-    entered-whole refl (omega (arith, held-most start.requires, at-if1.if1.true)) at-put-program.put-program.ensures
+    entered_whole refl (omega (arith, held_most start.requires, at-if1.if1.true)) at-put-program.put-program.ensures
 
 slice-aggregate-put-program : tie.Need-slice-aggregate-put-program
 slice-aggregate-put-program c = search rules
@@ -33,21 +33,21 @@ returns-2 : tie.Need-returns-2
 returns-2 c =
     let at-put-program2 = c.before.before in
     let start = at-put-program2.before.before.before.before.before in
-    entered-short (drafted-long (held-cap start.requires) at-put-program2.put-program2.ensures) refl c.if2.true
+    entered_short (drafted_long (held_cap start.requires) at-put-program2.put-program2.ensures) refl c.if2.true
 
 array-share-prefix-draft : tie.Need-array-share-prefix-draft
 array-share-prefix-draft c =
     let at-if3 = c.before in
     let at-put-program2 = at-if3.before.before.before in
     let start = at-put-program2.before.before.before.before.before in
-    drafted-fits (held-cap start.requires) at-put-program2.put-program2.ensures at-if3.if3.true
+    drafted_fits (held_cap start.requires) at-put-program2.put-program2.ensures at-if3.if3.true
 
 slice-aggregate-put-run : tie.Need-slice-aggregate-put-run
 slice-aggregate-put-run c =
     let at-if3 = c.before.before in
     let at-put-program2 = at-if3.before.before.before in
     let start = at-put-program2.before.before.before.before.before in
-    drafted-count (held-cap start.requires) at-put-program2.put-program2.ensures at-if3.if3.true
+    drafted_count (held_cap start.requires) at-put-program2.put-program2.ensures at-if3.if3.true
 
 put-run-requires : tie.Need-put-run-requires
 put-run-requires c κs = search rules
@@ -62,7 +62,7 @@ returns-3 c =
     let at-if2 = at-if3.before in
     let at-put-program2 = at-if2.before.before in
     let start = at-put-program2.before.before.before.before.before in
-    entered-copied (held-cap start.requires) at-put-program2.put-program2.ensures at-if3.if3.true refl at-if2.if2.false at-put-run.put-run.ensures
+    entered_copied (held_cap start.requires) at-put-program2.put-program2.ensures at-if3.if3.true refl at-if2.if2.false at-put-run.put-run.ensures
 
 slice-relend-prefix-put-program : tie.Need-slice-relend-prefix-put-program
 slice-relend-prefix-put-program c = search rules
@@ -85,7 +85,7 @@ returns-4 c =
     let at-put-program3 = c.before.before in
     let at-put-program2 = at-put-program3.before.before.before.before.before.before in
     let start = at-put-program2.before.before.before.before.before in
-    entered-exact (drafted-long (held-cap start.requires) at-put-program2.put-program2.ensures) refl (search rules) (search rules) at-put-program3.put-program3.ensures
+    entered_exact (drafted_long (held_cap start.requires) at-put-program2.put-program2.ensures) refl (search rules) (search rules) at-put-program3.put-program3.ensures
 
 pub reduce-card-spec : {M : Type 1} → statement M
 reduce-card-spec = tie.close (tie.spec put-program-requires

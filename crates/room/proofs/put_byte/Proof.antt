@@ -1,7 +1,7 @@
 -- `room::put_byte` meets its contract: a byte within the room is stored, past its end it is only counted. Assumes nothing.
 -- One byte: within the room it is stored, past its end nothing is. Assumes nothing.
 use borrow.Author.Rules.{rules}
-use Rattle.room.proofs.Stores.{put_in, put-past}
+use Rattle.room.proofs.Stores.{put_in, put_past}
 use Rattle.room.proofs.put_byte.Statement.{statement}
 use Rattle.room.proofs.put_byte.Tie as tie
 
@@ -21,7 +21,7 @@ after-requires : tie.Need-after-requires
 after-requires c κs = search rules
 
 returns-2 : tie.Need-returns-2
-returns-2 c = put-past (search rules) c.before.if1.false c.after.ensures
+returns-2 c = put_past (search rules) c.before.if1.false c.after.ensures
 
 pub put-byte-spec : {M : Type 1} → statement M
 put-byte-spec =

@@ -6,8 +6,8 @@ use mathlib.Core.Path.{◌≡◌, refl, sym}
 use borrow.Author.Rules.{rules}
 use lib.ListN.{length, take}
 use Rattle.room.specs.Room.{clip}
-use Rattle.room.proofs.Laws.{clip-none}
-use Rattle.room.proofs.Stores.{clip-more, put-part}
+use Rattle.room.proofs.Laws.{clip_none}
+use Rattle.room.proofs.Stores.{clip_more, put_part}
 use Rattle.room.proofs.put_run.Statement.{statement}
 use Rattle.room.proofs.put_run.Tie as tie
 
@@ -21,7 +21,7 @@ fitting-requires : tie.Need-fitting-requires invariant-loop decreases-loop
 fitting-requires c κs = search rules
 
 loop-holds : tie.Need-loop-init invariant-loop decreases-loop
-loop-holds c = (search rules, refl, sym (clip-none _ _))
+loop-holds c = (search rules, refl, sym (clip_none _ _))
 
 shared-slice-read-room : tie.Need-shared-slice-read-room invariant-loop decreases-loop
 shared-slice-read-room c = search rules
@@ -42,7 +42,7 @@ loop-again : tie.Need-loop-preserved invariant-loop decreases-loop
 loop-again c =
     let start = c.before.before.before.before.before.before.args in
     let turn = c.before.before.loop in
-    (search rules, search rules, clip-more start.room.now start.at start.s.now turn.i (search rules) turn.invariant.2)
+    (search rules, search rules, clip_more start.room.now start.at start.s.now turn.i (search rules) turn.invariant.2)
 
 after-requires : tie.Need-after-requires invariant-loop decreases-loop
 after-requires c κs = search rules
@@ -53,7 +53,7 @@ same_length c = c.before.before.loop.invariant.1
 returns : tie.Need-returns invariant-loop decreases-loop
 returns c =
     let end = c.before.before.loop in
-    put-part end.i (search rules) (search rules) end.invariant.2 (search rules)
+    put_part end.i (search rules) (search rules) end.invariant.2 (search rules)
 
 pub put-run-spec : {M : Type 1} → statement M
 put-run-spec =

@@ -1,6 +1,6 @@
 -- `room::put_whole` meets its contract: one byte more of the text after each turn, each at its place. Assumes nothing.
-use Rattle.room.proofs.Stores.{clip-more, put-part}
-use Rattle.room.proofs.Laws.{clip-none}
+use Rattle.room.proofs.Stores.{clip_more, put_part}
+use Rattle.room.proofs.Laws.{clip_none}
 use Rattle.room.specs.Room.{clip}
 use lib.ListN.{length, take}
 use borrow.Author.Rules.{rules}
@@ -17,7 +17,7 @@ decreases-loop room₀ at s i₀ room i = length s - i
 
 -- src/lib.rt:65:5
 loop-holds : tie.Need-loop-init invariant-loop decreases-loop
-loop-holds c = (search rules, refl, sym (clip-none _ _))
+loop-holds c = (search rules, refl, sym (clip_none _ _))
 
 -- src/lib.rt:66:18
 add-to : tie.Need-overflow-add-to invariant-loop decreases-loop
@@ -44,7 +44,7 @@ loop-again : tie.Need-loop-preserved invariant-loop decreases-loop
 loop-again c =
     let start = c.before.before.before.args in
     let turn = c.before.before.loop in
-    (search rules, search rules, clip-more start.room.now start.at start.s.now turn.i (search rules) turn.invariant.2)
+    (search rules, search rules, clip_more start.room.now start.at start.s.now turn.i (search rules) turn.invariant.2)
 
 -- src/lib.rt:70:5
 add-result : tie.Need-overflow-add-result invariant-loop decreases-loop
@@ -58,7 +58,7 @@ same_length c = c.before.loop.invariant.1
 returns : tie.Need-returns invariant-loop decreases-loop
 returns c =
     let end = c.before.loop in
-    put-part end.i (search rules) (search rules) end.invariant.2 (search rules)
+    put_part end.i (search rules) (search rules) end.invariant.2 (search rules)
 
 pub put-whole-spec : {M : Type 1} → statement M
 put-whole-spec =

@@ -1,9 +1,9 @@
 -- Invariant: the first mark outside the rules from the place on is the first from the cursor on (proofs/Places.antt). Assumes nothing.
-use Rattle.search.proofs.Places.{search-over, search-end, search-found, search-more}
-use Rattle.parts.proofs.Steps.{next-at}
+use Rattle.search.proofs.Places.{search_over, search_end, search_found, search_more}
+use Rattle.parts.proofs.Steps.{next_at}
 use Rattle.search.specs.Search.{searched}
-use Rattle.reading.specs.Reading.{firstOutside}
-use Rattle.marks.specs.Step.{marksAt}
+use Rattle.reading.specs.Reading.{first_outside}
+use Rattle.marks.specs.Step.{marks_at}
 use lib.ListN.{length}
 use borrow.Author.Rules.{rules}
 use mathlib.Core.Path.{◌≡◌, refl, ap, ◌∙◌, sym}
@@ -11,10 +11,10 @@ use Rattle.search.proofs.search.Statement.{statement}
 use Rattle.search.proofs.search.Tie as tie
 
 abbrev invariant-loop : tie.invariant-loop
-invariant-loop card stop place next₀ next = firstOutside (marksAt 0 card place) ≡ firstOutside (marksAt 0 card next)
+invariant-loop card stop place next₀ next = first_outside (marks_at 0 card place) ≡ first_outside (marks_at 0 card next)
 
 abbrev decreases-loop : tie.decreases-loop
-decreases-loop card stop place next₀ next = length (marksAt 0 card next)
+decreases-loop card stop place next₀ next = length (marks_at 0 card next)
 
 loop-holds : tie.Need-loop-init invariant-loop decreases-loop
 loop-holds c = refl
@@ -28,8 +28,8 @@ returns c =
     let at-loop = at-step.before.before in
     let entry = at-loop.before.before in
     let a = entry.args in
-    sym (ap (searched a.stop a.place) (at-loop.loop.invariant ∙ search-end a.card.now at-loop.loop.next at-step.step.result
-    (next-at a.card.now at-loop.loop.next at-step.step.result at-step.step.ensures) c.if1.true))
+    sym (ap (searched a.stop a.place) (at-loop.loop.invariant ∙ search_end a.card.now at-loop.loop.next at-step.step.result
+    (next_at a.card.now at-loop.loop.next at-step.step.result at-step.step.ensures) c.if1.true))
 
 cast-t11 : tie.Need-overflow-cast-t11 invariant-loop decreases-loop
 cast-t11 c = search rules
@@ -40,8 +40,8 @@ returns-2 c =
     let at-loop = at-step.before.before in
     let entry = at-loop.before.before in
     let a = entry.args in
-    sym (ap (searched a.stop a.place) (at-loop.loop.invariant ∙ search-found a.card.now at-loop.loop.next at-step.step.result
-    (next-at a.card.now at-loop.loop.next at-step.step.result at-step.step.ensures) c.if2.true))
+    sym (ap (searched a.stop a.place) (at-loop.loop.invariant ∙ search_found a.card.now at-loop.loop.next at-step.step.result
+    (next_at a.card.now at-loop.loop.next at-step.step.result at-step.step.ensures) c.if2.true))
 
 loop-less : tie.Need-loop-smaller invariant-loop decreases-loop
 loop-less c =
@@ -51,8 +51,8 @@ loop-less c =
     let at-loop = at-step.before.before in
     let entry = at-loop.before.before in
     let a = entry.args in
-    (search-more a.card.now at-loop.loop.next at-step.step.result
-    (next-at a.card.now at-loop.loop.next at-step.step.result at-step.step.ensures) at-if1.if1.false at-if2.if2.false).1
+    (search_more a.card.now at-loop.loop.next at-step.step.result
+    (next_at a.card.now at-loop.loop.next at-step.step.result at-step.step.ensures) at-if1.if1.false at-if2.if2.false).1
 
 loop-again : tie.Need-loop-preserved invariant-loop decreases-loop
 loop-again c =
@@ -62,15 +62,15 @@ loop-again c =
     let at-loop = at-step.before.before in
     let entry = at-loop.before.before in
     let a = entry.args in
-    at-loop.loop.invariant ∙ (search-more a.card.now at-loop.loop.next at-step.step.result
-    (next-at a.card.now at-loop.loop.next at-step.step.result at-step.step.ensures) at-if1.if1.false at-if2.if2.false).0
+    at-loop.loop.invariant ∙ (search_more a.card.now at-loop.loop.next at-step.step.result
+    (next_at a.card.now at-loop.loop.next at-step.step.result at-step.step.ensures) at-if1.if1.false at-if2.if2.false).0
 
 returns-3 : tie.Need-returns-3 invariant-loop decreases-loop
 returns-3 c =
     let at-loop = c.before in
     let entry = at-loop.before.before in
     let a = entry.args in
-    sym (ap (searched a.stop a.place) (at-loop.loop.invariant ∙ search-over a.card.now at-loop.loop.next c.loop-test.false))
+    sym (ap (searched a.stop a.place) (at-loop.loop.invariant ∙ search_over a.card.now at-loop.loop.next c.loop-test.false))
 
 pub search-spec : {M : Type 1} → statement M
 search-spec =

@@ -4,13 +4,13 @@ use mathlib.Core.Path.{◌≡◌, refl, sym, ◌∙◌}
 use native.Mathlib.Omega.{arith}
 use borrow.Author.Rules.{rules}
 use lib.ListN.{length, drop}
-use Rattle.seating.specs.Judged.{judgedFrom}
-use Rattle.seating.proofs.Judging.{judged-above, judged-next, judged-end}
+use Rattle.seating.specs.Judged.{judged_from}
+use Rattle.seating.proofs.Judging.{judged_above, judged_next, judged_end}
 use Rattle.seating.proofs.judge_each.Statement.{statement}
 use Rattle.seating.proofs.judge_each.Tie as tie
 
 abbrev invariant-loop : tie.invariant-loop
-invariant-loop list most number i₀ i = (i ≤ length list) × (judgedFrom number most 0 list ≡ judgedFrom number most i (drop i list))
+invariant-loop list most number i₀ i = (i ≤ length list) × (judged_from number most 0 list ≡ judged_from number most i (drop i list))
 
 abbrev decreases-loop : tie.decreases-loop
 decreases-loop list most number i₀ i = length list - i
@@ -31,7 +31,7 @@ returns : tie.Need-returns invariant-loop decreases-loop
 returns c =
     let at-if1 = c.before in
     let at-loop = at-if1.before.before.before.before in
-    c.refusal-at.ensures ∙ sym (at-loop.loop.invariant.1 ∙ judged-above _ _ _ _ at-if1.before.before.before.loop-test.true (omega (arith, at-if1.before.wide.ensures)))
+    c.refusal-at.ensures ∙ sym (at-loop.loop.invariant.1 ∙ judged_above _ _ _ _ at-if1.before.before.before.loop-test.true (omega (arith, at-if1.before.wide.ensures)))
 
 add-i : tie.Need-overflow-add-i invariant-loop decreases-loop
 add-i c = search rules
@@ -42,10 +42,10 @@ loop-less c = search rules
 loop-again : tie.Need-loop-preserved invariant-loop decreases-loop
 loop-again c =
     let at-loop = c.before.before.before.before in
-    (search rules, at-loop.loop.invariant.1 ∙ judged-next _ _ _ _ c.before.before.before.loop-test.true (omega (arith, c.before.wide.ensures)))
+    (search rules, at-loop.loop.invariant.1 ∙ judged_next _ _ _ _ c.before.before.before.loop-test.true (omega (arith, c.before.wide.ensures)))
 
 returns-2 : tie.Need-returns-2 invariant-loop decreases-loop
-returns-2 c = sym (c.before.loop.invariant.1 ∙ judged-end _ _ _ _ c.loop-test.false)
+returns-2 c = sym (c.before.loop.invariant.1 ∙ judged_end _ _ _ _ c.loop-test.false)
 
 pub judge-each-spec : {M : Type 1} → statement M
 judge-each-spec =

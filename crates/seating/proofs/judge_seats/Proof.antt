@@ -3,24 +3,24 @@ use mathlib.Core.Path.{sym, ap₂, ◌∙◌}
 use native.Mathlib.Omega.{arith}
 use borrow.Author.Rules.{rules}
 use lib.Seq.{length-take-le}
-use Rattle.seating.specs.FirstRefusal.{firstRefusal}
-use Rattle.seating.proofs.Judging.{judged-other, judged-start, judged-behind, other_length}
+use Rattle.seating.specs.FirstRefusal.{first_refusal}
+use Rattle.seating.proofs.Judging.{judged_other, judged_start, judged_behind, other_length}
 use Rattle.seating.proofs.judge_seats.Statement.{statement}
 use Rattle.seating.proofs.judge_seats.Tie as tie
 
 returns : tie.Need-returns
-returns c = rw c.before.if1.true (sym (judged-other _ _ _ 0 c.if2.true))
+returns c = rw c.before.if1.true (sym (judged_other _ _ _ 0 c.if2.true))
 
 judge-each-requires : tie.Need-judge-each-requires
 judge-each-requires c κs = search rules
 
 returns-2 : tie.Need-returns-2
-returns-2 c = rw c.before.before.if1.true (c.judge-each.ensures ∙ sym (judged-start _ _ _ c.before.if2.false))
+returns-2 c = rw c.before.before.if1.true (c.judge-each.ensures ∙ sym (judged_start _ _ _ c.before.if2.false))
 
 returns-3 : tie.Need-returns-3
 returns-3 c =
     let a = c.before.before.before.args in
-    sym (judged-other _ _ _ _ (other_length a.n a.top a.seats.now a.shared c.before.if1.false (λ e. omega (arith, c.if3.true))))
+    sym (judged_other _ _ _ _ (other_length a.n a.top a.seats.now a.shared c.before.if1.false (λ e. omega (arith, c.if3.true))))
 
 sub-if4 : tie.Need-overflow-sub-if4
 sub-if4 c = search rules
@@ -28,7 +28,7 @@ sub-if4 c = search rules
 returns-4 : tie.Need-returns-4
 returns-4 c =
     let a = c.before.before.before.before.args in
-    sym (judged-other _ _ _ _ (other_length a.n a.top a.seats.now a.shared c.before.before.if1.false (λ e. c.if4.true (omega arith))))
+    sym (judged_other _ _ _ _ (other_length a.n a.top a.seats.now a.shared c.before.before.if1.false (λ e. c.if4.true (omega arith))))
 
 slice-aggregate-judge-each : tie.Need-slice-aggregate-judge-each
 slice-aggregate-judge-each c =
@@ -59,8 +59,8 @@ returns-5 c =
     let at-if3 = at-if4.before in
     let at-if1 = at-if3.before in
     c.first-refusal.ensures
-    ∙ ap₂ firstRefusal at-judge-each.judge-each2.ensures (at-judge-shared.judge-shared.ensures ∙ rw at_wide.wide.ensures)
-    ∙ sym (judged-behind _ _ _ (omega (arith, at-if3.if3.false, at-if4.if4.false)) _ at-if1.if1.false)
+    ∙ ap₂ first_refusal at-judge-each.judge-each2.ensures (at-judge-shared.judge-shared.ensures ∙ rw at_wide.wide.ensures)
+    ∙ sym (judged_behind _ _ _ (omega (arith, at-if3.if3.false, at-if4.if4.false)) _ at-if1.if1.false)
 
 pub judge-seats-spec : {M : Type 1} → statement M
 judge-seats-spec =

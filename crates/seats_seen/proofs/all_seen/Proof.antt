@@ -1,6 +1,6 @@
 -- Invariant: the seats still to look at decide. The measure is how many they are.
 use Rattle.seats_seen.proofs.Seats.{seen_start, seen_more, seen_end}
-use Rattle.seats_seen.specs.SeatsSeen.{seenFrom}
+use Rattle.seats_seen.specs.SeatsSeen.{seen_from}
 use Prim.Native.Nat.{◌+◌, ◌-◌}
 use mathlib.Core.Path.{◌≡◌, sym, ◌∙◌}
 use borrow.Author.Tests.{eq-eqb, ne_eqb}
@@ -9,7 +9,7 @@ use Rattle.seats_seen.proofs.all_seen.Statement.{statement}
 use Rattle.seats_seen.proofs.all_seen.Tie as tie
 
 abbrev invariant-loop : tie.invariant-loop
-invariant-loop seen first count i₀ i = seenFrom seen first count ≡ seenFrom seen (first + i) (count - i)
+invariant-loop seen first count i₀ i = seen_from seen first count ≡ seen_from seen (first + i) (count - i)
 
 abbrev decreases-loop : tie.decreases-loop
 decreases-loop seen first count i₀ i = count - i

@@ -1,7 +1,7 @@
 -- By whether the group wants any number of seats.
 use mathlib.Core.Path.{ap, ◌∙◌}
-use Rattle.late.specs.State.{lateIn, withLate}
-use Rattle.late.proofs.Keeping.{grouped-never, grouped-once}
+use Rattle.late.specs.State.{late_in, with_late}
+use Rattle.late.proofs.Keeping.{grouped_never, grouped_once}
 use Rattle.seats_wanted.proofs.grouped.Statement.{statement}
 use Rattle.seats_wanted.proofs.grouped.Tie as tie
 
@@ -11,7 +11,7 @@ blame-requires c κs = c.before.before.requires
 returns : tie.Need-returns
 returns c =
     let a = c.before.before.before.args in
-    c.blame.ensures ∙ ap (withLate a.state.now) (grouped-never a.want a.place (lateIn a.state.now) c.before.before.if1.true)
+    c.blame.ensures ∙ ap (with_late a.state.now) (grouped_never a.want a.place (late_in a.state.now) c.before.before.if1.true)
 
 wants-requires : tie.Need-wants-requires
 wants-requires c κs = c.before.before.requires
@@ -19,7 +19,7 @@ wants-requires c κs = c.before.before.requires
 returns-2 : tie.Need-returns-2
 returns-2 c =
     let a = c.before.before.before.args in
-    c.wants.ensures ∙ ap (withLate a.state.now) (grouped-once a.want a.place (lateIn a.state.now) c.before.before.if1.false)
+    c.wants.ensures ∙ ap (with_late a.state.now) (grouped_once a.want a.place (late_in a.state.now) c.before.before.if1.false)
 
 pub grouped-spec : {M : Type 1} → statement M
 grouped-spec = tie.close (tie.spec blame-requires returns wants-requires returns-2)

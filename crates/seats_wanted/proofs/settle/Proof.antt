@@ -2,8 +2,8 @@
 use mathlib.Core.Path.{refl}
 use mathlib.Core.Logic.{⊎_elim, inl, inr}
 use borrow.Author.Rules.{rules}
-use Rattle.late.specs.State.{lateIn}
-use Rattle.late.proofs.Keeping.{settled-first, settled-second, settled-kept}
+use Rattle.late.specs.State.{late_in}
+use Rattle.late.proofs.Keeping.{settled_first, settled_second, settled_kept}
 use Rattle.late.proofs.StateLaws.{settles}
 use Rattle.seats_wanted.proofs.settle.Statement.{statement}
 use Rattle.seats_wanted.proofs.settle.Tie as tie
@@ -25,7 +25,7 @@ refuse-requires c κs =
 returns : tie.Need-returns
 returns c =
     let e = c.before.before.before.before.before.before.before in
-    settles e.args.state.now e.requires e.args.seats c.refuse.new.0 c.before.wide.ensures (settled-first e.args.seats (lateIn e.args.state.now) c.before.before.before.before.before.if1.true c.before.before.before.before.if2.true) c.refuse.ensures
+    settles e.args.state.now e.requires e.args.seats c.refuse.new.0 c.before.wide.ensures (settled_first e.args.seats (late_in e.args.state.now) c.before.before.before.before.before.if1.true c.before.before.before.before.if2.true) c.refuse.ensures
 
 element-copy-out-if3 : tie.Need-element-copy-out-if3
 element-copy-out-if3 c = search rules
@@ -44,7 +44,7 @@ refuse-requires-2 c κs =
 returns-2 : tie.Need-returns-2
 returns-2 c =
     let e = c.before.before.before.before.before.before.before.before in
-    settles e.args.state.now e.requires e.args.seats c.refuse2.new.0 c.before.wide2.ensures (settled-second e.args.seats (lateIn e.args.state.now) (⊎_elim (λ w. inr w.1.left) (λ w. inl w.left) c.before.before.before.before.before.before.if1.branch) c.before.before.before.before.if3.true) c.refuse2.ensures
+    settles e.args.state.now e.requires e.args.seats c.refuse2.new.0 c.before.wide2.ensures (settled_second e.args.seats (late_in e.args.state.now) (⊎_elim (λ w. inr w.1.left) (λ w. inl w.left) c.before.before.before.before.before.before.if1.branch) c.before.before.before.before.if3.true) c.refuse2.ensures
 
 element-copy-out-number : tie.Need-element-copy-out-number
 element-copy-out-number c = search rules
@@ -60,7 +60,7 @@ refuse-requires-3 c κs =
 returns-3 : tie.Need-returns-3
 returns-3 c =
     let e = c.before.before.before.before.before.before.before.before in
-    settles e.args.state.now e.requires e.args.seats c.refuse3.new.0 refl (settled-kept e.args.seats (lateIn e.args.state.now) (⊎_elim (λ w. inr w.1.left) (λ w. inl w.left) c.before.before.before.before.before.before.if1.branch) c.before.before.before.before.if3.false) c.refuse3.ensures
+    settles e.args.state.now e.requires e.args.seats c.refuse3.new.0 refl (settled_kept e.args.seats (late_in e.args.state.now) (⊎_elim (λ w. inr w.1.left) (λ w. inl w.left) c.before.before.before.before.before.before.if1.branch) c.before.before.before.before.if3.false) c.refuse3.ensures
 
 pub settle-spec : {M : Type 1} → statement M
 settle-spec =

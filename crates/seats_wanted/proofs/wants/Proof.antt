@@ -1,9 +1,9 @@
 -- The first group says how many seats are wanted; of the later ones the first that wants another number is kept.
 use mathlib.Core.Path.{ap, ◌∙◌}
 use borrow.Author.Rules.{rules}
-use Rattle.late.specs.State.{lateIn, withLate}
-use Rattle.late.proofs.Keeping.{wants-known, wants-first, wants-same, wants-later, wants-split}
-use Rattle.late.proofs.StateLaws.{late-same, late-wanted, late-split}
+use Rattle.late.specs.State.{late_in, with_late}
+use Rattle.late.proofs.Keeping.{wants_known, wants_first, wants_same, wants_later, wants_split}
+use Rattle.late.proofs.StateLaws.{late_same, late_wanted, late_split}
 use Rattle.seats_wanted.proofs.wants.Statement.{statement}
 use Rattle.seats_wanted.proofs.wants.Tie as tie
 
@@ -14,7 +14,7 @@ returns : tie.Need-returns
 returns c =
     let e = c.before.before in
     let a = e.args in
-    late-same a.state.now e.requires ∙ ap (withLate a.state.now) (wants-known a.want a.place (lateIn a.state.now) c.if1.true)
+    late_same a.state.now e.requires ∙ ap (with_late a.state.now) (wants_known a.want a.place (late_in a.state.now) c.if1.true)
 
 element-copy-out-if2 : tie.Need-element-copy-out-if2
 element-copy-out-if2 c = search rules
@@ -29,7 +29,7 @@ returns-2 : tie.Need-returns-2
 returns-2 c =
     let e = c.before.before.before.before in
     let a = e.args in
-    late-wanted a.state.now e.requires a.want a.place ∙ ap (withLate a.state.now) (wants-first a.want a.place (lateIn a.state.now) c.before.before.if1.false c.if2.true)
+    late_wanted a.state.now e.requires a.want a.place ∙ ap (with_late a.state.now) (wants_first a.want a.place (late_in a.state.now) c.before.before.if1.false c.if2.true)
 
 element-copy-out-if3 : tie.Need-element-copy-out-if3
 element-copy-out-if3 c = search rules
@@ -38,7 +38,7 @@ returns-3 : tie.Need-returns-3
 returns-3 c =
     let e = c.before.before.before.before.before.before in
     let a = e.args in
-    late-same a.state.now e.requires ∙ ap (withLate a.state.now) (wants-same a.want a.place (lateIn a.state.now) c.before.before.before.before.if1.false c.before.before.if2.false c.if3.true)
+    late_same a.state.now e.requires ∙ ap (with_late a.state.now) (wants_same a.want a.place (late_in a.state.now) c.before.before.before.before.if1.false c.before.before.if2.false c.if3.true)
 
 element-copy-out-if4 : tie.Need-element-copy-out-if4
 element-copy-out-if4 c = search rules
@@ -47,7 +47,7 @@ returns-4 : tie.Need-returns-4
 returns-4 c =
     let e = c.before.before.before.before.before.before.before.before in
     let a = e.args in
-    late-same a.state.now e.requires ∙ ap (withLate a.state.now) (wants-later a.want a.place (lateIn a.state.now) c.before.before.before.before.before.before.if1.false c.before.before.before.before.if2.false c.before.before.if3.false c.if4.true)
+    late_same a.state.now e.requires ∙ ap (with_late a.state.now) (wants_later a.want a.place (late_in a.state.now) c.before.before.before.before.before.before.if1.false c.before.before.before.before.if2.false c.before.before.if3.false c.if4.true)
 
 element-write-state-3 : tie.Need-element-write-state-3
 element-write-state-3 c = search rules
@@ -59,7 +59,7 @@ returns-5 : tie.Need-returns-5
 returns-5 c =
     let e = c.before.before.before.before.before.before.before.before in
     let a = e.args in
-    late-split a.state.now e.requires a.place ∙ ap (withLate a.state.now) (wants-split a.want a.place (lateIn a.state.now) c.before.before.before.before.before.before.if1.false c.before.before.before.before.if2.false c.before.before.if3.false c.if4.false)
+    late_split a.state.now e.requires a.place ∙ ap (with_late a.state.now) (wants_split a.want a.place (late_in a.state.now) c.before.before.before.before.before.before.if1.false c.before.before.before.before.if2.false c.before.before.if3.false c.if4.false)
 
 pub wants-spec : {M : Type 1} → statement M
 wants-spec =

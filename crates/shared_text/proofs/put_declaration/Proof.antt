@@ -1,6 +1,6 @@
 -- `shared_text::put_declaration` meets its contract: nothing where no number is declared, else one put after the other. Assumes nothing.
-use Rattle.shared_text.proofs.Laws.{declaration-none, declaration-some}
-use Rattle.phrases.proofs.Laws.{put_first, puts_then, puts-as, puts_none}
+use Rattle.shared_text.proofs.Laws.{declaration_none, declaration_some}
+use Rattle.phrases.proofs.Laws.{put_first, puts_then, puts_as, puts_none}
 use native.Mathlib.Omega.{arith}
 use borrow.Author.Rules.{rules}
 use Rattle.shared_text.proofs.put_declaration.Statement.{statement}
@@ -13,7 +13,7 @@ returns : tie.Need-returns
 returns c =
     let at-if1 = c.before in
     let start = at-if1.before.before in
-    puts-as _ (declaration-none start.args.values start.args.initial (omega (arith, at-if1.if1.true))) (puts_none (search rules) c.place.ensures)
+    puts_as _ (declaration_none start.args.values start.args.initial (omega (arith, at-if1.if1.true))) (puts_none (search rules) c.place.ensures)
 
 slice-aggregate-put-numbered : tie.Need-slice-aggregate-put-numbered
 slice-aggregate-put-numbered c = search rules
@@ -43,7 +43,7 @@ returns-2 c =
     let at-put-numbered = at-put-numbered2.before.before.before.before.before in
     let at-if1 = at-put-numbered.before.before.before in
     let start = at-if1.before.before in
-    puts-as _ (declaration-some start.args.values start.args.initial (λ e. omega (arith, e, at-if1.if1.false)))
+    puts_as _ (declaration_some start.args.values start.args.initial (λ e. omega (arith, e, at-if1.if1.false)))
     (puts_then at-put-numbered.put-numbered.ensures (puts_then at-put-numbered2.put-numbered2.ensures (put_first at-put-byte.put_byte.ensures)))
 
 pub put-declaration-spec : {M : Type 1} → statement M

@@ -1,6 +1,6 @@
 -- `shared_text::put_shared` meets its contract: the words by the relation, then the value. Assumes nothing.
-use Rattle.shared_text.proofs.Laws.{shared-text}
-use Rattle.phrases.proofs.Laws.{put_first, puts_then, puts-as}
+use Rattle.shared_text.proofs.Laws.{shared_text_law}
+use Rattle.phrases.proofs.Laws.{put_first, puts_then, puts_as}
 use borrow.Author.Rules.{rules}
 use Rattle.shared_text.proofs.put_shared.Statement.{statement}
 use Rattle.shared_text.proofs.put_shared.Tie as tie
@@ -29,7 +29,7 @@ returns c =
     let at-put-number = at-put-byte.before.before.before.before in
     let at-put-either = at-put-number.before.before.before.before in
     let start = at-put-either.before.before.before.before.before in
-    puts-as _ (shared-text start.args.relation start.args.value) (puts_then at-put-either.put-either.ensures (puts_then (put_first at-put-number.put-number.ensures) (put_first at-put-byte.put_byte.ensures)))
+    puts_as _ (shared_text_law start.args.relation start.args.value) (puts_then at-put-either.put-either.ensures (puts_then (put_first at-put-number.put-number.ensures) (put_first at-put-byte.put_byte.ensures)))
 
 pub put-shared-spec : {M : Type 1} → statement M
 put-shared-spec =

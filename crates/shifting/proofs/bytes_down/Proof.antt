@@ -1,6 +1,6 @@
 -- `shifting::bytes_down` meets its contract: one byte more after each turn, read where nothing has been stored yet. Assumes nothing.
-use Rattle.shifting.proofs.Moves.{down-more, down-end}
-use Rattle.room.proofs.Laws.{clip-none}
+use Rattle.shifting.proofs.Moves.{down_more, down_end}
+use Rattle.room.proofs.Laws.{clip_none}
 use Rattle.room.specs.Room.{clip}
 use lib.ListN.{length, take, drop}
 use borrow.Author.Rules.{rules}
@@ -16,7 +16,7 @@ abbrev decreases-loop : tie.decreases-loop
 decreases-loop room₀ from to size i₀ room i = size - i
 
 loop-holds : tie.Need-loop-init invariant-loop decreases-loop
-loop-holds c = (search rules, refl, sym (clip-none _ _))
+loop-holds c = (search rules, refl, sym (clip_none _ _))
 
 add-room : tie.Need-overflow-add-room invariant-loop decreases-loop
 add-room c = search rules
@@ -43,7 +43,7 @@ loop-again c =
     let start = at-loop.before in
     let given = start.args in
     let turn = at-loop.loop in
-    (search rules, search rules, down-more given.room.now given.from given.to given.size turn.i start.requires.0 start.requires.1 at-loop-test.loop-test.true turn.invariant.2)
+    (search rules, search rules, down_more given.room.now given.from given.to given.size turn.i start.requires.0 start.requires.1 at-loop-test.loop-test.true turn.invariant.2)
 
 same_length : tie.Need-same-length invariant-loop decreases-loop
 same_length c = c.before.loop.invariant.1
@@ -52,7 +52,7 @@ returns : tie.Need-returns invariant-loop decreases-loop
 returns c =
     let start = c.before.before.args in
     let turn = c.before.loop in
-    down-end start.room.now start.from start.to start.size turn.i turn.invariant.0 c.loop-test.false turn.invariant.2
+    down_end start.room.now start.from start.to start.size turn.i turn.invariant.0 c.loop-test.false turn.invariant.2
 
 pub bytes-down-spec : {M : Type 1} → statement M
 bytes-down-spec =

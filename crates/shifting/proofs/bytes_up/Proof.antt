@@ -1,5 +1,5 @@
 -- `shifting::bytes_up` meets its contract: one byte less is left after each turn, and read where nothing has been stored yet. Assumes nothing.
-use Rattle.shifting.proofs.Moves.{up_start, up_more, up-end}
+use Rattle.shifting.proofs.Moves.{up_start, up_more, up_end}
 use Rattle.room.specs.Room.{clip}
 use lib.ListN.{length, take, drop}
 use native.Mathlib.Omega.{arith}
@@ -54,7 +54,7 @@ returns : tie.Need-returns invariant-loop decreases-loop
 returns c =
     let start = c.before.before.args in
     let turn = c.before.loop in
-    up-end start.room.now start.from start.to start.size turn.left c.loop-test.false turn.invariant.2
+    up_end start.room.now start.from start.to start.size turn.left c.loop-test.false turn.invariant.2
 
 pub bytes-up-spec : {M : Type 1} → statement M
 bytes-up-spec =

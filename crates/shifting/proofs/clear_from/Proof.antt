@@ -1,5 +1,5 @@
 -- `shifting::clear_from` meets its contract: one zero byte more after each turn. Assumes nothing.
-use Rattle.shifting.proofs.Moves.{clear-start, clear-more, clear-end}
+use Rattle.shifting.proofs.Moves.{clear_start, clear_more, clear_end}
 use Rattle.tidying.specs.Tidied.{zeroed}
 use Rattle.room.specs.Room.{clip}
 use lib.ListN.{length, take, drop}
@@ -16,7 +16,7 @@ abbrev decreases-loop : tie.decreases-loop
 decreases-loop room₀ at long i₀ room i = long - i
 
 loop-holds : tie.Need-loop-init invariant-loop decreases-loop
-loop-holds c = (search rules, refl, clear-start c.args.room.now c.args.at)
+loop-holds c = (search rules, refl, clear_start c.args.room.now c.args.at)
 
 slice-write-room : tie.Need-slice-write-room invariant-loop decreases-loop
 slice-write-room c = search rules
@@ -31,7 +31,7 @@ loop-again : tie.Need-loop-preserved invariant-loop decreases-loop
 loop-again c =
     let start = c.before.before.args in
     let turn = c.before.loop in
-    (search rules, search rules, clear-more start.room.now start.at turn.i turn.invariant.0 (search rules) turn.invariant.2)
+    (search rules, search rules, clear_more start.room.now start.at turn.i turn.invariant.0 (search rules) turn.invariant.2)
 
 same_length : tie.Need-same-length invariant-loop decreases-loop
 same_length c = c.before.loop.invariant.1
@@ -40,7 +40,7 @@ returns : tie.Need-returns invariant-loop decreases-loop
 returns c =
     let start = c.before.before.args in
     let turn = c.before.loop in
-    clear-end start.room.now start.at turn.i (search rules) turn.invariant.2
+    clear_end start.room.now start.at turn.i (search rules) turn.invariant.2
 
 pub clear-from-spec : {M : Type 1} → statement M
 clear-from-spec =

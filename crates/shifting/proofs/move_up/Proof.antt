@@ -1,6 +1,6 @@
 -- `shifting::move_up` meets its contract: the rest before the blocks is read where nothing has been stored yet. Assumes nothing.
 use Rattle.shifting.proofs.Moves.{up_rest}
-use Rattle.byte_blocks.proofs.Clips.{clip-long}
+use Rattle.byte_blocks.proofs.Clips.{clip_long}
 use native.Mathlib.Omega.{arith}
 use borrow.Author.Rules.{rules}
 use mathlib.Core.Path.{◌∙◌}
@@ -14,13 +14,13 @@ bytes-up-requires : tie.Need-bytes-up-requires
 bytes-up-requires c κs =
     let blocks = c.before.before.before.blocks-up.ensures in
     let start = c.before.before.before.before.before.before in
-    (start.requires.0, omega (arith, start.requires.1, blocks.most, clip-long _ _ _ blocks.moved))
+    (start.requires.0, omega (arith, start.requires.1, blocks.most, clip_long _ _ _ blocks.moved))
 
 same_length : tie.Need-same-length
 same_length c =
     let at-bytes-up = c.before.before in
     let blocks = at-bytes-up.before.before.before.before.blocks-up.ensures in
-    clip-long _ _ _ at-bytes-up.bytes_up.ensures ∙ clip-long _ _ _ blocks.moved
+    clip_long _ _ _ at-bytes-up.bytes_up.ensures ∙ clip_long _ _ _ blocks.moved
 
 returns : tie.Need-returns
 returns c =

@@ -1,9 +1,9 @@
 -- `statement_copies::put_copies` meets its contract: one copy more after each turn. Assumes nothing.
-use Rattle.statement_copies.specs.Copies.{keptCopy}
-use Rattle.phrases.proofs.Counted.{counted, counted_start, counted_next, counted-end}
+use Rattle.statement_copies.specs.Copies.{kept_copy}
+use Rattle.phrases.proofs.Counted.{counted, counted_start, counted_next, counted_end}
 use Rattle.phrases.proofs.Laws.{put_first, puts_then}
 use Rattle.phrases.specs.Puts.{Puts}
-use Rattle.room.proofs.Laws.{put-length}
+use Rattle.room.proofs.Laws.{put_length}
 use native.Mathlib.Nat.{sub-zero}
 use Prim.Native.Nat.{◌≤◌, ◌-◌}
 use borrow.Author.Rules.{rules}
@@ -11,7 +11,7 @@ use Rattle.statement_copies.proofs.put_copies.Statement.{statement}
 use Rattle.statement_copies.proofs.put_copies.Tie as tie
 
 abbrev invariant-loop : tie.invariant-loop
-invariant-loop room₀ at rest style copies to₀ m₀ room to m = (m ≤ copies) × Puts room₀ room at (counted (keptCopy style rest) 0 (m - 0)) to
+invariant-loop room₀ at rest style copies to₀ m₀ room to m = (m ≤ copies) × Puts room₀ room at (counted (kept_copy style rest) 0 (m - 0)) to
 
 abbrev decreases-loop : tie.decreases-loop
 decreases-loop room₀ at rest style copies to₀ m₀ room to m = copies - m
@@ -42,13 +42,13 @@ loop-again c =
     (search rules, counted_next _ 0 _ (search rules) at-loop.loop.invariant.1 (puts_then at-put-first.put_first.ensures (put_first at-put-run.put-run.ensures)))
 
 same_length : tie.Need-same-length invariant-loop decreases-loop
-same_length c = put-length c.before.loop.invariant.1.put
+same_length c = put_length c.before.loop.invariant.1.put
 
 returns : tie.Need-returns invariant-loop decreases-loop
 returns c =
     let at-loop = c.before in
     let start = at-loop.before.before.before.before in
-    counted-end _ 0 _ start.args.style.copies c.loop-test.false (search rules) (λ t. rw sub-zero) at-loop.loop.invariant.1
+    counted_end _ 0 _ start.args.style.copies c.loop-test.false (search rules) (λ t. rw sub-zero) at-loop.loop.invariant.1
 
 pub put-copies-spec : {M : Type 1} → statement M
 put-copies-spec = tie.close (tie.spec invariant-loop

@@ -1,7 +1,7 @@
 -- `statement_copies::put_first` meets its contract: by which text it is, and by the digits. Assumes nothing.
 use borrow.Author.Tests.{eq-eqb, ne_eqb}
-use Rattle.room.proofs.Decimal.{decimal-one}
-use Rattle.phrases.proofs.Laws.{put_first, puts_then, puts-as}
+use Rattle.room.proofs.Decimal.{decimal_one}
+use Rattle.phrases.proofs.Laws.{put_first, puts_then, puts_as}
 use borrow.Author.Rules.{rules}
 use Rattle.statement_copies.proofs.put_first.Statement.{statement}
 use Rattle.statement_copies.proofs.put_first.Tie as tie
@@ -23,7 +23,7 @@ returns c =
     let at-if2 = c.before.before.before.before in
     let at-if1 = at-if2.before in
     let entry = at-if1.before.before.before in
-    puts-as _ (λ t. rw (eq-eqb _ 0 at-if1.if1.true, decimal-one entry.args.style.own at-if2.if2.true)) (put_first c.before.before.put-seven.ensures)
+    puts_as _ (λ t. rw (eq-eqb _ 0 at-if1.if1.true, decimal_one entry.args.style.own at-if2.if2.true)) (put_first c.before.before.put-seven.ensures)
 
 slice-aggregate-put-numbered : tie.Need-slice-aggregate-put-numbered
 slice-aggregate-put-numbered c = search rules
@@ -36,7 +36,7 @@ same-length-2 c = search rules
 
 returns-2 : tie.Need-returns-2
 returns-2 c =
-    puts-as _ (λ t. rw (eq-eqb _ 0 c.before.before.before.before.before.before.if1.true)) c.before.before.put-numbered.ensures
+    puts_as _ (λ t. rw (eq-eqb _ 0 c.before.before.before.before.before.before.if1.true)) c.before.before.put-numbered.ensures
 
 cast-d-2 : tie.Need-overflow-cast-d-2
 cast-d-2 c = search rules
@@ -63,7 +63,7 @@ returns-3 c =
     let at-if3 = at-put-above.before.before in
     let at-if1 = at-if3.before in
     let entry = at-if1.before.before.before in
-    puts-as _ (λ t. rw (ne_eqb _ 0 at-if1.if1.false, decimal-one entry.args.style.own at-if3.if3.true))
+    puts_as _ (λ t. rw (ne_eqb _ 0 at-if1.if1.false, decimal_one entry.args.style.own at-if3.if3.true))
     (puts_then (put_first at-put-above.put-above.ensures) (puts_then (put_first at-put-number.put-number.ensures) (put_first c.before.before.put_byte.ensures)))
 
 slice-aggregate-put-numbered-2 : tie.Need-slice-aggregate-put-numbered-2
@@ -89,7 +89,7 @@ returns-4 c =
     let at-put-numbered3 = c.before.before.before.before.before.before in
     let at-put-numbered2 = at-put-numbered3.before.before.before.before.before in
     let at-if1 = at-put-numbered2.before.before.before.before in
-    puts-as _ (λ t. rw (ne_eqb _ 0 at-if1.if1.false)) (puts_then at-put-numbered2.put-numbered2.ensures (puts_then at-put-numbered3.put-numbered3.ensures (put_first c.before.before.put-byte2.ensures)))
+    puts_as _ (λ t. rw (ne_eqb _ 0 at-if1.if1.false)) (puts_then at-put-numbered2.put-numbered2.ensures (puts_then at-put-numbered3.put-numbered3.ensures (put_first c.before.before.put-byte2.ensures)))
 
 pub put-first-spec : {M : Type 1} → statement M
 put-first-spec =

@@ -1,6 +1,6 @@
 -- `statement_copies::put_rest` meets its contract: one put after the other, the branches as a part of the card's. Assumes nothing.
-use Rattle.statement_copies.proofs.Laws.{rest-parts}
-use Rattle.phrases.proofs.Laws.{put_first, puts_then, puts-as}
+use Rattle.statement_copies.proofs.Laws.{rest_parts}
+use Rattle.phrases.proofs.Laws.{put_first, puts_then, puts_as}
 use mathlib.Core.Path.{refl}
 use native.Mathlib.Omega.{arith}
 use borrow.Author.Rules.{rules}
@@ -64,7 +64,7 @@ returns c =
     let at-put-bytes = at-put-branches.before.before.before.before.before in
     let at-put-test = at-put-bytes.before.before.before.before.before in
     let start = at-put-test.before.before.before.before.before in
-    puts-as _ (rest-parts start.args.style start.args.nodes.now start.args.branches.now start.args.x start.args.i refl refl)
+    puts_as _ (rest_parts start.args.style start.args.nodes.now start.args.branches.now start.args.x start.args.i refl refl)
     (puts_then at-put-test.put-test.ensures (puts_then (put_first at-put-bytes.put-bytes.ensures) (puts_then at-put-branches.put-branches.ensures (put_first at-put-bytes2.put-bytes2.ensures))))
 
 pub put-rest-spec : {M : Type 1} → statement M

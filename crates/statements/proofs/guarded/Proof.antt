@@ -1,7 +1,7 @@
 -- A way out where there is no guard, and for each part where there is one (proofs/GuardedLaws.antt). Assumes nothing.
 use mathlib.Core.Path.{refl}
-use Rattle.parts.proofs.Steps.{next-at}
-use Rattle.statements.proofs.GuardedLaws.{none_read, none-stops, guard-ready, left-few, left-sized, some-stops, arrow-stops, some_read}
+use Rattle.parts.proofs.Steps.{next_at}
+use Rattle.statements.proofs.GuardedLaws.{none_read, none_stops, guard_ready, left_few, left_sized, some_stops, arrow_stops, some_read}
 use borrow.Author.Rules.{rules}
 use Rattle.statements.proofs.guarded.Statement.{statement}
 use Rattle.statements.proofs.guarded.Tie as tie
@@ -21,8 +21,8 @@ returns c =
     let at-step-guard = at-if1.before.before.before.before in
     let entry = at-step-guard.before.before in
     let a = entry.args in
-    none-stops _ _ _ _ _ _ _ at-step-guard.step-guard.result
-    (next-at a.card.now a.at at-step-guard.step-guard.result at-step-guard.step-guard.ensures) at-if1.if1.true at-if2.if2.true
+    none_stops _ _ _ _ _ _ _ at-step-guard.step-guard.result
+    (next_at a.card.now a.at at-step-guard.step-guard.result at-step-guard.step-guard.ensures) at-if1.if1.true at-if2.if2.true
     c.stop.ensures.0
 
 element-write-state : tie.Need-element-write-state
@@ -35,7 +35,7 @@ returns-2 c =
     let entry = at-step-guard.before.before in
     let a = entry.args in
     none_read _ _ _ _ _ _ _ at-step-guard.step-guard.result
-    (next-at a.card.now a.at at-step-guard.step-guard.result at-step-guard.step-guard.ensures) at-if1.if1.true c.if2.false refl
+    (next_at a.card.now a.at at-step-guard.step-guard.result at-step-guard.step-guard.ensures) at-if1.if1.true c.if2.false refl
     a.state.now entry.requires.0
 
 element-write-state-2 : tie.Need-element-write-state-2
@@ -51,7 +51,7 @@ conjunction-requires : tie.Need-conjunction-requires
 conjunction-requires c κs =
     let entry = c.before.before.before.before.before.before.before.before.before in
     let a = entry.args in
-    guard-ready a.state.now entry.requires.0 a.used entry.requires.1.0
+    guard_ready a.state.now entry.requires.0 a.used entry.requires.1.0
 
 returns-3 : tie.Need-returns-3
 returns-3 c =
@@ -61,8 +61,8 @@ returns-3 c =
     let at-step-guard = at-if1.before.before.before.before in
     let entry = at-step-guard.before.before in
     let a = entry.args in
-    some-stops _ _ _ _ _ _ _ at-step-guard.step-guard.result
-    (next-at a.card.now a.at at-step-guard.step-guard.result at-step-guard.step-guard.ensures) at-if1.if1.false a.state.now
+    some_stops _ _ _ _ _ _ _ at-step-guard.step-guard.result
+    (next_at a.card.now a.at at-step-guard.step-guard.result at-step-guard.step-guard.ensures) at-if1.if1.false a.state.now
     entry.requires.0 _ at-conjunction.conjunction.result at-language.card-language.result at-language.card-language.ensures at-conjunction.conjunction.ensures c.if3.true
 
 step-arrow-requires : tie.Need-step-arrow-requires
@@ -77,8 +77,8 @@ stop-requires-2 c κs =
     let at-step-guard = at-if1.before.before.before.before in
     let entry = at-step-guard.before.before in
     let a = entry.args in
-    left-sized a.card.now a.top a.values a.at a.nodes.now at-conjunction.conjunction.new.1.1.0 a.used at-step-guard.step-guard.result
-    (next-at a.card.now a.at at-step-guard.step-guard.result at-step-guard.step-guard.ensures) at-if1.if1.false a.state.now
+    left_sized a.card.now a.top a.values a.at a.nodes.now at-conjunction.conjunction.new.1.1.0 a.used at-step-guard.step-guard.result
+    (next_at a.card.now a.at at-step-guard.step-guard.result at-step-guard.step-guard.ensures) at-if1.if1.false a.state.now
     entry.requires.0 at-conjunction.conjunction.new.1.1.1.0 at-conjunction.conjunction.result at-language.card-language.result at-language.card-language.ensures at-conjunction.conjunction.ensures at-if3.if3.false
 
 returns-4 : tie.Need-returns-4
@@ -92,10 +92,10 @@ returns-4 c =
     let at-step-guard = at-if1.before.before.before.before in
     let entry = at-step-guard.before.before in
     let a = entry.args in
-    arrow-stops _ _ _ _ _ _ _ at-step-guard.step-guard.result
-    (next-at a.card.now a.at at-step-guard.step-guard.result at-step-guard.step-guard.ensures) at-if1.if1.false a.state.now
+    arrow_stops _ _ _ _ _ _ _ at-step-guard.step-guard.result
+    (next_at a.card.now a.at at-step-guard.step-guard.result at-step-guard.step-guard.ensures) at-if1.if1.false a.state.now
     entry.requires.0 _ at-conjunction.conjunction.result at-language.card-language.result at-language.card-language.ensures at-conjunction.conjunction.ensures at-if3.if3.false
-    (next-at a.card.now at-conjunction.conjunction.result at-step-arrow.step-arrow.result at-step-arrow.step-arrow.ensures)
+    (next_at a.card.now at-conjunction.conjunction.result at-step-arrow.step-arrow.result at-step-arrow.step-arrow.ensures)
     at-if4.if4.true c.stop2.ensures.0
 
 element-copy-out-state : tie.Need-element-copy-out-state
@@ -110,8 +110,8 @@ sub-state c =
     let at-step-guard = at-if1.before.before.before.before in
     let entry = at-step-guard.before.before in
     let a = entry.args in
-    left-few a.card.now a.top a.values a.at a.nodes.now at-conjunction.conjunction.new.1.1.0 a.used at-step-guard.step-guard.result
-    (next-at a.card.now a.at at-step-guard.step-guard.result at-step-guard.step-guard.ensures) at-if1.if1.false a.state.now
+    left_few a.card.now a.top a.values a.at a.nodes.now at-conjunction.conjunction.new.1.1.0 a.used at-step-guard.step-guard.result
+    (next_at a.card.now a.at at-step-guard.step-guard.result at-step-guard.step-guard.ensures) at-if1.if1.false a.state.now
     entry.requires.0 at-conjunction.conjunction.new.1.1.1.0 at-conjunction.conjunction.result at-language.card-language.result at-language.card-language.ensures at-conjunction.conjunction.ensures at-if3.if3.false
 
 element-write-state-4 : tie.Need-element-write-state-4
@@ -129,9 +129,9 @@ returns-5 c =
     let entry = at-step-guard.before.before in
     let a = entry.args in
     some_read _ _ _ _ _ _ _ at-step-guard.step-guard.result
-    (next-at a.card.now a.at at-step-guard.step-guard.result at-step-guard.step-guard.ensures) at-if1.if1.false a.state.now
+    (next_at a.card.now a.at at-step-guard.step-guard.result at-step-guard.step-guard.ensures) at-if1.if1.false a.state.now
     entry.requires.0 _ at-conjunction.conjunction.result at-language.card-language.result at-language.card-language.ensures at-conjunction.conjunction.ensures at-if3.if3.false
-    (next-at a.card.now at-conjunction.conjunction.result at-step-arrow.step-arrow.result at-step-arrow.step-arrow.ensures)
+    (next_at a.card.now at-conjunction.conjunction.result at-step-arrow.step-arrow.result at-step-arrow.step-arrow.ensures)
     at-if4.if4.false
 
 pub guarded-spec : {M : Type 1} → statement M

@@ -2,7 +2,7 @@
 use native.Mathlib.Omega.{arith}
 use Rattle.card.specs.Text.{bytes}
 use Rattle.parts.proofs.Front.{here}
-use Rattle.statements.proofs.OwnPassed.{own-place, own-passed}
+use Rattle.statements.proofs.OwnPassed.{own_place, own_passed}
 use borrow.Author.Rules.{rules}
 use Rattle.statements.proofs.owned.Statement.{statement}
 use Rattle.statements.proofs.owned.Tie as tie
@@ -18,14 +18,14 @@ add-result c =
     let at-all-here = c.before in
     let entry = at-all-here.before.before.before in
     let a = entry.args in
-    omega (arith, own-place a.card.now a.at (here a.card.now a.at (bytes "]s1=") at-all-here.All-here.ensures c.if1.true))
+    omega (arith, own_place a.card.now a.at (here a.card.now a.at (bytes "]s1=") at-all-here.All-here.ensures c.if1.true))
 
 returns : tie.Need-returns
 returns c =
     let at-all-here = c.before in
     let entry = at-all-here.before.before.before in
     let a = entry.args in
-    own-passed a.card.now a.at (here a.card.now a.at (bytes "]s1=") at-all-here.All-here.ensures c.if1.true) a.state.now
+    own_passed a.card.now a.at (here a.card.now a.at (bytes "]s1=") at-all-here.All-here.ensures c.if1.true) a.state.now
     entry.requires
 
 slice-aggregate-run : tie.Need-slice-aggregate-run

@@ -1,7 +1,7 @@
 -- A way out for each part of a statement, in the order of the parts (proofs/StatementLaws.antt). Assumes nothing.
 use mathlib.Core.Path.{refl}
 use native.Mathlib.Omega.{arith}
-use Rattle.statements.proofs.StatementLaws.{words-halt, own-halts, guard-halts, branches-halt, statement-read}
+use Rattle.statements.proofs.StatementLaws.{words_halt, own_halts, guard_halts, branches_halt, statement_read}
 use Rattle.statements.proofs.statement.Statement.{statement}
 use Rattle.statements.proofs.statement.Tie as tie
 
@@ -12,7 +12,7 @@ owned-requires : tie.Need-owned-requires
 owned-requires c κs = c.before.before.requires.0
 
 returns : tie.Need-returns
-returns c = words-halt _ _ _ _ _ _ _ _ c.before.owned.ensures c.if1.true
+returns c = words_halt _ _ _ _ _ _ _ _ c.before.owned.ensures c.if1.true
 
 number-requires : tie.Need-number-requires
 number-requires c κs = c.before.before.owned.ensures.sized
@@ -22,7 +22,7 @@ returns-2 c =
     let at-number = c.before in
     let at-if1 = at-number.before.before in
     let at-owned = at-if1.before in
-    own-halts _ _ _ _ _ _ _ _ at-owned.owned.ensures at-if1.if1.false _ at-number.number.ensures c.if2.true
+    own_halts _ _ _ _ _ _ _ _ at-owned.owned.ensures at-if1.if1.false _ at-number.number.ensures c.if2.true
 
 element-copy-out-rows : tie.Need-element-copy-out-rows
 element-copy-out-rows c =
@@ -57,7 +57,7 @@ returns-3 c =
     let at-number = at-if2.before in
     let at-if1 = at-number.before.before in
     let at-owned = at-if1.before in
-    guard-halts _ _ _ _ _ _ _ _ at-owned.owned.ensures at-if1.if1.false _ at-number.number.ensures at-if2.if2.false _
+    guard_halts _ _ _ _ _ _ _ _ at-owned.owned.ensures at-if1.if1.false _ at-number.number.ensures at-if2.if2.false _
     at-guarded.guarded.ensures c.if3.true
 
 element-copy-out-rows-2 : tie.Need-element-copy-out-rows-2
@@ -100,7 +100,7 @@ returns-4 c =
     let at-number = at-if2.before in
     let at-if1 = at-number.before.before in
     let at-owned = at-if1.before in
-    branches-halt _ _ _ _ _ _ _ _ at-owned.owned.ensures at-if1.if1.false _ at-number.number.ensures at-if2.if2.false _
+    branches_halt _ _ _ _ _ _ _ _ at-owned.owned.ensures at-if1.if1.false _ at-number.number.ensures at-if2.if2.false _
     at-guarded.guarded.ensures at-if3.if3.false _ at-branches.branches.ensures c.if4.true
 
 element-copy-out-rows-3 : tie.Need-element-copy-out-rows-3
@@ -133,7 +133,7 @@ returns-5 c =
     let at-number = at-if2.before in
     let at-if1 = at-number.before.before in
     let at-owned = at-if1.before in
-    statement-read _ _ _ _ _ _ _ _ at-owned.owned.ensures at-if1.if1.false _ at-number.number.ensures at-if2.if2.false _
+    statement_read _ _ _ _ _ _ _ _ at-owned.owned.ensures at-if1.if1.false _ at-number.number.ensures at-if2.if2.false _
     at-guarded.guarded.ensures at-if3.if3.false _ at-branches.branches.ensures at-if4.if4.false refl
 
 pub statement-spec : {M : Type 1} → statement M

@@ -1,21 +1,21 @@
 -- Invariant: an answer to the statements that are left answers the whole (Going, proofs/StatementsLaws.antt). Assumes nothing.
 use Prim.Native.Nat.{◌-◌}
 use native.Mathlib.Omega.{arith}
-use Rattle.card.specs.Limits.{mostStatements}
+use Rattle.card.specs.Limits.{most_statements}
 use Rattle.card.specs.Lent.{lent}
-use Rattle.late.specs.State.{lateIn}
-use Rattle.parts.proofs.Steps.{next-at}
-use Rattle.statements.proofs.StatementsLaws.{open-stops, Going, going_start, going-stops, going-unended, going-ended, going_more, going-past, opened-as}
+use Rattle.late.specs.State.{late_in}
+use Rattle.parts.proofs.Steps.{next_at}
+use Rattle.statements.proofs.StatementsLaws.{open_stops, Going, going_start, going_stops, going_unended, going_ended, going_more, going_past, opened_as}
 use borrow.Author.Rules.{rules}
 use Rattle.statements.proofs.statements.Statement.{statement}
 use Rattle.statements.proofs.statements.Tie as tie
 
 abbrev invariant-loop : tie.invariant-loop
 invariant-loop card at bounds rows₀ nodes₀ branches₀ state₀ next₀ place₀ count₀ rows nodes branches state next place count =
-    Going bounds card (lateIn state₀) (lent rows₀ nodes₀ branches₀) at count place (lent rows nodes branches) next state
+    Going bounds card (late_in state₀) (lent rows₀ nodes₀ branches₀) at count place (lent rows nodes branches) next state
 
 abbrev decreases-loop : tie.decreases-loop
-decreases-loop card at bounds rows₀ nodes₀ branches₀ state₀ next₀ place₀ count₀ rows nodes branches state next place count = mostStatements - count
+decreases-loop card at bounds rows₀ nodes₀ branches₀ state₀ next₀ place₀ count₀ rows nodes branches state next place count = most_statements - count
 
 sign-requires : tie.Need-sign-requires invariant-loop decreases-loop
 sign-requires c κs = c.before.before.requires.0
@@ -24,7 +24,7 @@ returns : tie.Need-returns invariant-loop decreases-loop
 returns c =
     let at_sign = c.before in
     let entry = at_sign.before.before.before in
-    open-stops entry.args.state.now _ at_sign.sign.ensures c.if1.true
+    open_stops entry.args.state.now _ at_sign.sign.ensures c.if1.true
 
 loop-holds : tie.Need-loop-init invariant-loop decreases-loop
 loop-holds c =
@@ -47,8 +47,8 @@ returns-2 c =
     let at-if1 = at-loop.before in
     let at_sign = at-if1.before in
     let entry = at_sign.before.before.before in
-    opened-as entry.args.state.now _ at_sign.sign.ensures at-if1.if1.false
-    (going-stops at-loop.loop.invariant at-loop-test.loop-test.true _ at-statement.statement.ensures c.if2.true)
+    opened_as entry.args.state.now _ at_sign.sign.ensures at-if1.if1.false
+    (going_stops at-loop.loop.invariant at-loop-test.loop-test.true _ at-statement.statement.ensures c.if2.true)
 
 add-count : tie.Need-overflow-add-count invariant-loop decreases-loop
 add-count c = omega (arith, c.before.before.before.before.before.before.loop-test.true)
@@ -74,9 +74,9 @@ returns-3 c =
     let at_sign = at-if1.before in
     let entry = at_sign.before.before.before in
     let a = entry.args in
-    opened-as a.state.now _ at_sign.sign.ensures at-if1.if1.false
-    (going-unended at-loop.loop.invariant at-loop-test.loop-test.true _ at-statement.statement.ensures at-if2.if2.false
-    (next-at a.card.now at-statement.statement.result at-step-square.step-square.result at-step-square.step-square.ensures)
+    opened_as a.state.now _ at_sign.sign.ensures at-if1.if1.false
+    (going_unended at-loop.loop.invariant at-loop-test.loop-test.true _ at-statement.statement.ensures at-if2.if2.false
+    (next_at a.card.now at-statement.statement.result at-step-square.step-square.result at-step-square.step-square.ensures)
     at-if3.if3.true at-if4.if4.true c.stop.ensures.0)
 
 element-write-state : tie.Need-element-write-state invariant-loop decreases-loop
@@ -94,9 +94,9 @@ returns-4 c =
     let at_sign = at-if1.before in
     let entry = at_sign.before.before.before in
     let a = entry.args in
-    opened-as a.state.now _ at_sign.sign.ensures at-if1.if1.false
-    (going-ended at-loop.loop.invariant at-loop-test.loop-test.true _ at-statement.statement.ensures at-if2.if2.false
-    (next-at a.card.now at-statement.statement.result at-step-square.step-square.result at-step-square.step-square.ensures)
+    opened_as a.state.now _ at_sign.sign.ensures at-if1.if1.false
+    (going_ended at-loop.loop.invariant at-loop-test.loop-test.true _ at-statement.statement.ensures at-if2.if2.false
+    (next_at a.card.now at-statement.statement.result at-step-square.step-square.result at-step-square.step-square.ensures)
     at-if3.if3.true c.if4.false)
 
 loop-less : tie.Need-loop-smaller invariant-loop decreases-loop
@@ -113,7 +113,7 @@ loop-again c =
     let at-loop = at-loop-test.before in
     let entry = at-loop.before.before.before.before.before in
     going_more at-loop.loop.invariant at-loop-test.loop-test.true _ at-statement.statement.ensures at-if2.if2.false
-    (next-at entry.args.card.now at-statement.statement.result at-step-square.step-square.result at-step-square.step-square.ensures)
+    (next_at entry.args.card.now at-statement.statement.result at-step-square.step-square.result at-step-square.step-square.ensures)
     c.if3.false
 
 stop-requires-2 : tie.Need-stop-requires-2 invariant-loop decreases-loop
@@ -126,8 +126,8 @@ returns-5 c =
     let at-if1 = at-loop.before in
     let at_sign = at-if1.before in
     let entry = at_sign.before.before.before in
-    opened-as entry.args.state.now _ at_sign.sign.ensures at-if1.if1.false
-    (going-past at-loop.loop.invariant at-loop-test.loop-test.false c.stop2.ensures.0)
+    opened_as entry.args.state.now _ at_sign.sign.ensures at-if1.if1.false
+    (going_past at-loop.loop.invariant at-loop-test.loop-test.false c.stop2.ensures.0)
 
 pub statements-spec : {M : Type 1} → statement M
 statements-spec =

@@ -1,5 +1,5 @@
 -- `stored_weights::stays_of` meets its contract: after i turns the weights of the first i statements are added. Assumes nothing.
-use Rattle.stored_weights.proofs.Laws.{stays-start, stays-next, stays-still, stays-adding}
+use Rattle.stored_weights.proofs.Laws.{stays_start, stays_next, stays_still, stays_adding}
 use Rattle.panel_numbers.specs.Table.{stays as stays_of}
 use borrow.Author.Rules.{rules}
 use native.Mathlib.Omega.{arith}
@@ -16,7 +16,7 @@ abbrev decreases-loop : tie.decreases-loop
 decreases-loop table rows branches count stays₀ i₀ stays i = count - i
 
 loop-holds : tie.Need-loop-init invariant-loop decreases-loop
-loop-holds c = (search rules, stays-start c.args.table.now c.args.rows.now c.args.branches.now)
+loop-holds c = (search rules, stays_start c.args.table.now c.args.rows.now c.args.branches.now)
 
 add-able : tie.Need-overflow-add-able invariant-loop decreases-loop
 add-able c =
@@ -65,7 +65,7 @@ add-stays-requires c κs =
     let at-loop-test = c.before.before.before.before.before.before in
     let at-loop = at-loop-test.before in
     let start = at-loop.before in
-    stays-adding start.requires at-loop.loop.i at-loop-test.loop-test.true at-loop.loop.invariant.1
+    stays_adding start.requires at-loop.loop.i at-loop-test.loop-test.true at-loop.loop.invariant.1
 
 add-i : tie.Need-overflow-add-i invariant-loop decreases-loop
 add-i c = search rules
@@ -77,8 +77,8 @@ loop-again : tie.Need-loop-preserved invariant-loop decreases-loop
 loop-again c =
     let at-loop = c.before.before.before in
     let start = at-loop.before in
-    let more = stays-next start.args.table.now start.args.rows.now start.args.branches.now at-loop.loop.i at-loop.loop.invariant.1 in
-    (search rules, ⊎_elim (λ w. w.6 ∙ w.5.ensures ∙ more) (λ w. w.1 ∙ stays-still start.args.table.now start.args.rows.now start.args.branches.now at-loop.loop.i w.0.left at-loop.loop.invariant.1) c.if1.branch)
+    let more = stays_next start.args.table.now start.args.rows.now start.args.branches.now at-loop.loop.i at-loop.loop.invariant.1 in
+    (search rules, ⊎_elim (λ w. w.6 ∙ w.5.ensures ∙ more) (λ w. w.1 ∙ stays_still start.args.table.now start.args.rows.now start.args.branches.now at-loop.loop.i w.0.left at-loop.loop.invariant.1) c.if1.branch)
 
 returns : tie.Need-returns invariant-loop decreases-loop
 returns c =

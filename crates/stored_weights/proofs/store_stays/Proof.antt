@@ -1,12 +1,12 @@
 -- `stored_weights::store_stays` meets its contract: nothing on a nondeterministic card, and else the weights of no change one after the other. Assumes nothing.
-use Rattle.stored_weights.proofs.Laws.{stays-long, stored, stored-none}
+use Rattle.stored_weights.proofs.Laws.{stays_long, stored, stored_none}
 use native.Mathlib.Omega.{arith}
 use mathlib.Core.Path.{sym, ◌∙◌}
 use Rattle.stored_weights.proofs.store_stays.Statement.{statement}
 use Rattle.stored_weights.proofs.store_stays.Tie as tie
 
 returns : tie.Need-returns
-returns c = stored-none _ _ _ _ _ c.if1.true
+returns c = stored_none _ _ _ _ _ c.if1.true
 
 stays-of-requires : tie.Need-stays-of-requires
 stays-of-requires c κs =
@@ -16,12 +16,12 @@ stays-of-requires c κs =
 slice-aggregate-store : tie.Need-slice-aggregate-store
 slice-aggregate-store c =
     let at-stays-of = c.before.before in
-    sym (stays-long _ _ _ _ at-stays-of.stays_of.ensures)
+    sym (stays_long _ _ _ _ at-stays-of.stays_of.ensures)
 
 store-requires : tie.Need-store-requires
 store-requires c κs =
     let at-stays-of = c.before.before in
-    omega (arith, stays-long _ _ _ _ at-stays-of.stays_of.ensures)
+    omega (arith, stays_long _ _ _ _ at-stays-of.stays_of.ensures)
 
 returns-2 : tie.Need-returns-2
 returns-2 c =

@@ -1,6 +1,6 @@
 -- `stored_weights::weigh_from` meets its contract: after i turns the row has the weights of the first i statements. Assumes nothing.
-use Rattle.stored_weights.proofs.Laws.{row-start, row_next, row-still, row-adding}
-use Rattle.panel_numbers.specs.Table.{rowFrom}
+use Rattle.stored_weights.proofs.Laws.{row_start, row_next, row_still, row_adding}
+use Rattle.panel_numbers.specs.Table.{row_from}
 use borrow.Author.Rules.{rules}
 use native.Mathlib.Omega.{arith}
 use mathlib.Core.Logic.{⊎_elim}
@@ -10,13 +10,13 @@ use Rattle.stored_weights.proofs.weigh_from.Statement.{statement}
 use Rattle.stored_weights.proofs.weigh_from.Tie as tie
 
 abbrev invariant-loop : tie.invariant-loop
-invariant-loop row₀ old table rows branches count i₀ row i = (i ≤ count) × (row ≡ rowFrom table rows branches i old)
+invariant-loop row₀ old table rows branches count i₀ row i = (i ≤ count) × (row ≡ row_from table rows branches i old)
 
 abbrev decreases-loop : tie.decreases-loop
 decreases-loop row₀ old table rows branches count i₀ row i = count - i
 
 loop-holds : tie.Need-loop-init invariant-loop decreases-loop
-loop-holds c = (search rules, c.requires.1 ∙ row-start c.args.table.now c.args.rows.now c.args.branches.now c.args.old)
+loop-holds c = (search rules, c.requires.1 ∙ row_start c.args.table.now c.args.rows.now c.args.branches.now c.args.old)
 
 able-from-requires : tie.Need-able-from-requires invariant-loop decreases-loop
 able-from-requires c κs =
@@ -50,7 +50,7 @@ add-weights-requires c κs =
     let at-loop-test = at-able-from.before in
     let at-loop = at-loop-test.before in
     let start = at-loop.before in
-    row-adding start.requires.0 at-loop.loop.i at-loop-test.loop-test.true start.args.old at-able-from.able-from.ensures at-loop.loop.invariant.1
+    row_adding start.requires.0 at-loop.loop.i at-loop-test.loop-test.true start.args.old at-able-from.able-from.ensures at-loop.loop.invariant.1
 
 add-i : tie.Need-overflow-add-i invariant-loop decreases-loop
 add-i c = search rules
@@ -63,7 +63,7 @@ loop-again c =
     let at-loop = c.before.before.before in
     let start = at-loop.before in
     let more = row_next start.args.table.now start.args.rows.now start.args.branches.now at-loop.loop.i start.args.old c.before.able-from.ensures at-loop.loop.invariant.1 in
-    (search rules, ⊎_elim (λ w. w.5 ∙ w.4.ensures ∙ more) (λ w. w.1 ∙ row-still start.args.table.now start.args.rows.now start.args.branches.now at-loop.loop.i start.args.old c.before.able-from.ensures w.0.left at-loop.loop.invariant.1) c.if1.branch)
+    (search rules, ⊎_elim (λ w. w.5 ∙ w.4.ensures ∙ more) (λ w. w.1 ∙ row_still start.args.table.now start.args.rows.now start.args.branches.now at-loop.loop.i start.args.old c.before.able-from.ensures w.0.left at-loop.loop.invariant.1) c.if1.branch)
 
 returns : tie.Need-returns invariant-loop decreases-loop
 returns c =

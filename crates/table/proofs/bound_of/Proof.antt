@@ -1,6 +1,6 @@
 -- `table::bound_of` meets its contract: the parts of a packed group lead to its column of the table, and its kind to
 -- exactly one seat. Assumes nothing.
-use Rattle.table.proofs.Laws.{in-column, as_one}
+use Rattle.table.proofs.Laws.{in_column, as_one}
 use borrow.Author.Tests.{eq-eqb, ne_eqb}
 use mathlib.Core.Path.{◌∙◌}
 use borrow.Author.Rules.{rules}
@@ -30,7 +30,7 @@ returns c =
     let at-sign-of = at-relation-of.before in
     let at-kind-of = at-sign-of.before in
     c.everyone-bound.ensures _
-    ∙ in-column _ _ _ at-kind-of.kind-of.ensures at-sign-of.sign_of.ensures.0 at-relation-of.relation-of.ensures.0 at-state-of.state-of.ensures.0
+    ∙ in_column _ _ _ at-kind-of.kind-of.ensures at-sign-of.sign_of.ensures.0 at-relation-of.relation-of.ensures.0 at-state-of.state-of.ensures.0
     (search rules) (eq-eqb _ 0 at-if1.if1.true)
 
 others-bound-requires : tie.Need-others-bound-requires
@@ -45,7 +45,7 @@ returns-2 c =
     let at-sign-of = at-relation-of.before in
     let at-kind-of = at-sign-of.before in
     c.others-bound.ensures
-    ∙ in-column _ _ _ at-kind-of.kind-of.ensures at-sign-of.sign_of.ensures.0 at-relation-of.relation-of.ensures.0 at-state-of.state-of.ensures.0
+    ∙ in_column _ _ _ at-kind-of.kind-of.ensures at-sign-of.sign_of.ensures.0 at-relation-of.relation-of.ensures.0 at-state-of.state-of.ensures.0
     (search rules) (ne_eqb _ 0 at-if1.if1.false)
 
 equal-to-requires : tie.Need-equal-to-requires

@@ -2,8 +2,8 @@
 use Prim.Native.Nat.{ℕ}
 use mathlib.Core.Path.{ap, ◌∙◌}
 use borrow.Author.Tests.{eq-eqb, ne_eqb}
-use Rattle.meaning.specs.Reduced.{equalTo, lessThan}
-use Rattle.table.specs.Bounds.{boundRow}
+use Rattle.meaning.specs.Reduced.{equal_to, less_than}
+use Rattle.table.specs.Bounds.{bound_row}
 use borrow.Author.Rules.{rules}
 use Rattle.table.proofs.others_bound.Statement.{statement}
 use Rattle.table.proofs.others_bound.Tie as tie
@@ -39,7 +39,7 @@ equal-to-requires-3 : tie.Need-equal-to-requires-3
 equal-to-requires-3 c κs = search rules
 
 returns-5 : tie.Need-returns-5
-returns-5 c = rw (ne_eqb _ _ c.before.before.before.before.if1.false, eq-eqb _ 0 c.before.before.if5.true, eq-eqb _ 0 c.before.if6.true) (c.equal-to3.ensures ∙ ap (λ (m : ℕ). boundRow (equalTo m)) c.before.before.before.one_less.ensures)
+returns-5 c = rw (ne_eqb _ _ c.before.before.before.before.if1.false, eq-eqb _ 0 c.before.before.if5.true, eq-eqb _ 0 c.before.if6.true) (c.equal-to3.ensures ∙ ap (λ (m : ℕ). bound_row (equal_to m)) c.before.before.before.one_less.ensures)
 
 equal-to-requires-4 : tie.Need-equal-to-requires-4
 equal-to-requires-4 c κs = search rules
@@ -57,7 +57,7 @@ less-than-requires-2 : tie.Need-less-than-requires-2
 less-than-requires-2 c κs = search rules
 
 returns-8 : tie.Need-returns-8
-returns-8 c = rw (ne_eqb _ _ c.before.before.before.before.if1.false, ne_eqb _ 0 c.before.before.if5.false, ne_eqb _ 0 c.before.if7.false) (c.less-than2.ensures ∙ ap (λ (m : ℕ). boundRow (lessThan m)) c.before.before.before.one_less.ensures)
+returns-8 c = rw (ne_eqb _ _ c.before.before.before.before.if1.false, ne_eqb _ 0 c.before.before.if5.false, ne_eqb _ 0 c.before.if7.false) (c.less-than2.ensures ∙ ap (λ (m : ℕ). bound_row (less_than m)) c.before.before.before.one_less.ensures)
 
 pub others-bound-spec : {M : Type 1} → statement M
 others-bound-spec =

@@ -1,5 +1,5 @@
 -- `tablet::open_panel_mend` meets its contract: what the entry promises, in numbers. Assumes nothing.
-use Rattle.mended_told.proofs.Telling.{mend-told}
+use Rattle.mended_told.proofs.Telling.{mend_told}
 use borrow.Author.Rules.{rules}
 use Rattle.tablet.proofs.open_panel_mend.Statement.{statement}
 use Rattle.tablet.proofs.open_panel_mend.Tie as tie
@@ -20,7 +20,7 @@ returns : tie.Need-returns
 returns c =
     let at-mend = c.before.before.before.before.before.before in
     let start = at-mend.before.before.before.before.before.before in
-    mend-told start.args.deck.now at-mend.mend.ensures c.tell-mended.ensures
+    mend_told start.args.deck.now at-mend.mend.ensures c.tell-mended.ensures
 
 pub open-panel-mend-spec : {M : Type 1} → statement M
 open-panel-mend-spec =

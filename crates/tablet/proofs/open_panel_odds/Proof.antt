@@ -1,8 +1,8 @@
 -- `tablet::open_panel_odds` meets its contract: the entry's answer, in numbers, and the rows as it leaves them. Assumes nothing.
 use lib.ListN.{length}
 use Rattle.evenings.specs.Rounds.{Aim}
-use Rattle.odds_said.specs.OddsSaid.{oddsSaid}
-use Rattle.tablet.proofs.Laws.{odds-told}
+use Rattle.odds_said.specs.OddsSaid.{odds_said}
+use Rattle.tablet.proofs.Laws.{odds_told}
 use borrow.Author.Rules.{rules}
 use Rattle.tablet.proofs.open_panel_odds.Statement.{statement}
 use Rattle.tablet.proofs.open_panel_odds.Tie as tie
@@ -27,7 +27,7 @@ returns c =
     let at-odds = c.before.before.before.before.before in
     let at-aim = at-odds.before.before.before in
     let a = at-aim.before.before.before.before.before.before.args in
-    odds-told (λ (x : Aim). oddsSaid a.card.now a.question.now a.seats.now a.m x (length a.first.now) (length a.second.now))
+    odds_told (λ (x : Aim). odds_said a.card.now a.question.now a.seats.now a.m x (length a.first.now) (length a.second.now))
     at-aim.is-largest.ensures at-odds.odds.ensures c.in-numbers.ensures
 
 pub open-panel-odds-spec : {M : Type 1} → statement M

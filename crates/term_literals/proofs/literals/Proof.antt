@@ -1,7 +1,7 @@
 -- Invariant: the term is what the literals so far and the others behind the mark ahead make (Turning). The measure is how many marks
 -- stand behind the mark ahead.
-use Rattle.term_literals.proofs.TermLaws.{Turning, first-wrong, begins, turn-word, turn_literal, turn_on, turn-less, ends_open, ends-closed}
-use Rattle.marks.specs.Step.{marksAt}
+use Rattle.term_literals.proofs.TermLaws.{Turning, first_wrong, begins, turn_word, turn_literal, turn_on, turn_less, ends_open, ends_closed}
+use Rattle.marks.specs.Step.{marks_at}
 use lib.ListN.{length}
 use Rattle.term_literals.proofs.literals.Statement.{statement}
 use Rattle.term_literals.proofs.literals.Tie as tie
@@ -10,7 +10,7 @@ abbrev invariant-loop : tie.invariant-loop
 invariant-loop part at seat i first d ahead₀ seen₀ count₀ due₀ mixed₀ ahead seen count due mixed = Turning part at seat i first seen count due mixed ahead
 
 abbrev decreases-loop : tie.decreases-loop
-decreases-loop part at seat i first d ahead₀ seen₀ count₀ due₀ mixed₀ ahead seen count due mixed = length (marksAt 0 part ahead.next.at)
+decreases-loop part at seat i first d ahead₀ seen₀ count₀ due₀ mixed₀ ahead seen count due mixed = length (marks_at 0 part ahead.next.at)
 
 literal-requires : tie.Need-literal-requires invariant-loop decreases-loop
 literal-requires c κs = tt
@@ -23,7 +23,7 @@ returns c =
     let at-if1 = c.before in
     let at_literal = at-if1.before.before in
     let entry = at_literal.before.before in
-    rw c.no-term.ensures (first-wrong entry.args.part.now entry.args.at entry.args.seat entry.args.i at_literal.literal.result at_literal.literal.ensures at-if1.if1.true)
+    rw c.no-term.ensures (first_wrong entry.args.part.now entry.args.at entry.args.seat entry.args.i at_literal.literal.result at_literal.literal.ensures at-if1.if1.true)
 
 step-sign-requires : tie.Need-step-sign-requires invariant-loop decreases-loop
 step-sign-requires c κs = tt
@@ -59,7 +59,7 @@ returns-2 c =
     let at-step-tight-seat = at-if3.before.before in
     let at-if2 = at-step-tight-seat.before.before in
     let at-loop = at-if2.before.before in
-    rw c.no-term2.ensures (turn-word at-loop.loop.invariant at-if2.if2.true at-step-tight-seat.step-tight-seat.result at-step-tight-seat.step-tight-seat.ensures at-if3.if3.true)
+    rw c.no-term2.ensures (turn_word at-loop.loop.invariant at-if2.if2.true at-step-tight-seat.step-tight-seat.result at-step-tight-seat.step-tight-seat.ensures at-if3.if3.true)
 
 literal-apart-requires : tie.Need-literal-apart-requires invariant-loop decreases-loop
 literal-apart-requires c κs = tt
@@ -103,7 +103,7 @@ loop-less c =
     let at-step-tight-seat = at-if3.before.before in
     let at-if2 = at-step-tight-seat.before.before in
     let at-loop = at-if2.before.before in
-    turn-less at-loop.loop.invariant at-if2.if2.true at-step-tight-seat.step-tight-seat.result at-step-tight-seat.step-tight-seat.ensures at-if3.if3.false at-literal-apart.literal-apart.result at-literal-apart.literal-apart.ensures at-if4.if4.false c.step-and.result c.step-and.ensures
+    turn_less at-loop.loop.invariant at-if2.if2.true at-step-tight-seat.step-tight-seat.result at-step-tight-seat.step-tight-seat.ensures at-if3.if3.false at-literal-apart.literal-apart.result at-literal-apart.literal-apart.ensures at-if4.if4.false c.step-and.result c.step-and.ensures
 
 loop-again : tie.Need-loop-preserved invariant-loop decreases-loop
 loop-again c =
@@ -144,7 +144,7 @@ returns-5 c =
     let at-if5 = c.before.before in
     let at-if2 = at-if5.before.before in
     let at-loop = at-if2.before.before in
-    ends-closed at-loop.loop.invariant at-if2.if2.false at-if5.if5.false c.each-once.result c.each-once.ensures
+    ends_closed at-loop.loop.invariant at-if2.if2.false at-if5.if5.false c.each-once.result c.each-once.ensures
 
 pub literals-spec : {M : Type 1} → statement M
 literals-spec =

@@ -1,6 +1,6 @@
 -- `tidy::close_up` meets its contract: each step stores a text, and together they are the tidied deck and zero bytes. Assumes nothing.
-use Rattle.tidy.proofs.Closing.{few, few-cards, inside, long1, gatherable, offsets, long4, closed}
-use Rattle.byte_blocks.proofs.Clips.{clip-long}
+use Rattle.tidy.proofs.Closing.{few, few_cards, inside, long1, gatherable, offsets, long4, closed}
+use Rattle.byte_blocks.proofs.Clips.{clip_long}
 use native.Mathlib.Omega.{arith}
 use borrow.Author.Rules.{rules}
 use mathlib.Core.Path.{◌∙◌}
@@ -23,7 +23,7 @@ keep-rows-requires : tie.Need-keep-rows-requires
 keep-rows-requires c κs =
     let at_wide = c.before in
     let start = at_wide.before.before.before in
-    (omega (arith, inside _ start.requires at_wide.wide.ensures.0), few-cards _ start.requires at_wide.wide.ensures.0)
+    (omega (arith, inside _ start.requires at_wide.wide.ensures.0), few_cards _ start.requires at_wide.wide.ensures.0)
 
 cast-deck : tie.Need-overflow-cast-deck
 cast-deck c =
@@ -79,7 +79,7 @@ same_length c =
     let at_wide = at-keep-rows.before.before in
     let start = at_wide.before.before.before in
     let before = long4 _ start.requires at_wide.wide.ensures.0 at-keep-rows.keep-rows.ensures at-gather-bodies.gather-bodies.ensures at-gather-rows.gather-rows.ensures in
-    clip-long _ _ _ at-clear-from.clear-from.ensures ∙ before
+    clip_long _ _ _ at-clear-from.clear-from.ensures ∙ before
 
 returns : tie.Need-returns
 returns c =

@@ -1,7 +1,7 @@
 -- `tidy::tidy` meets its contract: the deck is judged, then its live cards, then it is closed up. Assumes nothing.
-use Rattle.tidy.proofs.Entering.{changed-refused, changed-done, verdict-sound, live-malformed, measured-live, live-none, live-some, tidy-refused}
-use Rattle.tidy.proofs.Closing.{few, few-cards, inside, text-long}
-use Rattle.tidying.proofs.NewDecks.{tidy-says}
+use Rattle.tidy.proofs.Entering.{changed_refused, changed_done, verdict_sound, live_malformed, measured_live, live_none, live_some, tidy_refused}
+use Rattle.tidy.proofs.Closing.{few, few_cards, inside, text_long}
+use Rattle.tidying.proofs.NewDecks.{tidy_says}
 use mathlib.Core.Path.{refl, sym, ◌∙◌}
 use native.Mathlib.Omega.{arith}
 use borrow.Author.Rules.{rules}
@@ -23,7 +23,7 @@ returns c =
     let at-judge-deck = at-judged.before.before in
     let start = at-judge-deck.before.before.before in
     let deck = start.args.deck.now in
-    changed-refused (tidy-refused deck (live-malformed deck (sym at-judge-deck.judge-deck.ensures ∙ at-judged.judged.given.1)))
+    changed_refused (tidy_refused deck (live_malformed deck (sym at-judge-deck.judge-deck.ensures ∙ at-judged.judged.given.1)))
 
 enum_told : tie.Need-enum-told
 enum_told c = search rules
@@ -33,7 +33,7 @@ measure-live-requires c κs =
     let at-enum-told = c.before in
     let at-judge-deck = at-enum-told.before.before in
     let start = at-judge-deck.before.before.before in
-    (verdict-sound start.args.deck.now (sym at-judge-deck.judge-deck.ensures ∙ at-enum-told.enum_told.given.1)).head
+    (verdict_sound start.args.deck.now (sym at-judge-deck.judge-deck.ensures ∙ at-enum-told.enum_told.given.1)).head
 
 same-length-2 : tie.Need-same-length-2
 same-length-2 c = search rules
@@ -45,8 +45,8 @@ returns-2 c =
     let at-judge-deck = at-enum-told.before.before in
     let start = at-judge-deck.before.before.before in
     let deck = start.args.deck.now in
-    let s = verdict-sound deck (sym at-judge-deck.judge-deck.ensures ∙ at-enum-told.enum_told.given.1) in
-    changed-refused (tidy-refused deck (live-none deck s at-measure-live.measure-live.ensures c.if1.true))
+    let s = verdict_sound deck (sym at-judge-deck.judge-deck.ensures ∙ at-enum-told.enum_told.given.1) in
+    changed_refused (tidy_refused deck (live_none deck s at-measure-live.measure-live.ensures c.if1.true))
 
 close-up-requires : tie.Need-close-up-requires
 close-up-requires c κs =
@@ -55,7 +55,7 @@ close-up-requires c κs =
     let at-judge-deck = at-enum-told.before.before in
     let start = at-judge-deck.before.before.before in
     let deck = start.args.deck.now in
-    measured-live deck (verdict-sound deck (sym at-judge-deck.judge-deck.ensures ∙ at-enum-told.enum_told.given.1)) at-measure-live.measure-live.ensures
+    measured_live deck (verdict_sound deck (sym at-judge-deck.judge-deck.ensures ∙ at-enum-told.enum_told.given.1)) at-measure-live.measure-live.ensures
 
 mul-t16 : tie.Need-overflow-mul-t16
 mul-t16 c =
@@ -64,8 +64,8 @@ mul-t16 c =
     let at-judge-deck = at-enum-told.before.before in
     let start = at-judge-deck.before.before.before in
     let deck = start.args.deck.now in
-    let m = measured-live deck (verdict-sound deck (sym at-judge-deck.judge-deck.ensures ∙ at-enum-told.enum_told.given.1)) at-measure-live.measure-live.ensures in
-    omega (arith, few deck m refl, few-cards deck m refl)
+    let m = measured_live deck (verdict_sound deck (sym at-judge-deck.judge-deck.ensures ∙ at-enum-told.enum_told.given.1)) at-measure-live.measure-live.ensures in
+    omega (arith, few deck m refl, few_cards deck m refl)
 
 add-t17 : tie.Need-overflow-add-t17
 add-t17 c =
@@ -74,8 +74,8 @@ add-t17 c =
     let at-judge-deck = at-enum-told.before.before in
     let start = at-judge-deck.before.before.before in
     let deck = start.args.deck.now in
-    let m = measured-live deck (verdict-sound deck (sym at-judge-deck.judge-deck.ensures ∙ at-enum-told.enum_told.given.1)) at-measure-live.measure-live.ensures in
-    omega (arith, few deck m refl, few-cards deck m refl)
+    let m = measured_live deck (verdict_sound deck (sym at-judge-deck.judge-deck.ensures ∙ at-enum-told.enum_told.given.1)) at-measure-live.measure-live.ensures in
+    omega (arith, few deck m refl, few_cards deck m refl)
 
 add-t18 : tie.Need-overflow-add-t18
 add-t18 c =
@@ -84,8 +84,8 @@ add-t18 c =
     let at-judge-deck = at-enum-told.before.before in
     let start = at-judge-deck.before.before.before in
     let deck = start.args.deck.now in
-    let m = measured-live deck (verdict-sound deck (sym at-judge-deck.judge-deck.ensures ∙ at-enum-told.enum_told.given.1)) at-measure-live.measure-live.ensures in
-    omega (arith, few deck m refl, few-cards deck m refl, inside deck m refl, m.sound.head.short)
+    let m = measured_live deck (verdict_sound deck (sym at-judge-deck.judge-deck.ensures ∙ at-enum-told.enum_told.given.1)) at-measure-live.measure-live.ensures in
+    omega (arith, few deck m refl, few_cards deck m refl, inside deck m refl, m.sound.head.short)
 
 same-length-3 : tie.Need-same-length-3
 same-length-3 c = search rules
@@ -99,9 +99,9 @@ returns-3 c =
     let at-judge-deck = at-enum-told.before.before in
     let start = at-judge-deck.before.before.before in
     let deck = start.args.deck.now in
-    let s = verdict-sound deck (sym at-judge-deck.judge-deck.ensures ∙ at-enum-told.enum_told.given.1) in
-    let m = measured-live deck s at-measure-live.measure-live.ensures in
-    changed-done (tidy-says deck (live-some deck s at-measure-live.measure-live.ensures at-if1.if1.false)) at-close-up.close_up.ensures (sym (text-long deck m refl))
+    let s = verdict_sound deck (sym at-judge-deck.judge-deck.ensures ∙ at-enum-told.enum_told.given.1) in
+    let m = measured_live deck s at-measure-live.measure-live.ensures in
+    changed_done (tidy_says deck (live_some deck s at-measure-live.measure-live.ensures at-if1.if1.false)) at-close-up.close_up.ensures (sym (text_long deck m refl))
 
 pub tidy-spec : {M : Type 1} → statement M
 tidy-spec =

@@ -1,7 +1,7 @@
 -- `update_text::put_shift` meets its contract: by the digits, one put after the other. Assumes nothing.
-use Rattle.update_text.proofs.Laws.{shift-digits}
+use Rattle.update_text.proofs.Laws.{shift_digits}
 use mathlib.Core.Path.{◌∙◌}
-use Rattle.phrases.proofs.Laws.{put_first, puts_then, puts-as}
+use Rattle.phrases.proofs.Laws.{put_first, puts_then, puts_as}
 use borrow.Author.Rules.{rules}
 use Rattle.update_text.proofs.put_shift.Statement.{statement}
 use Rattle.update_text.proofs.put_shift.Tie as tie
@@ -66,7 +66,7 @@ returns c =
     let at-if2 = at-put-seven.before.before in
     let at-if1 = at-if2.before in
     let start = at-if1.before.before in
-    puts-as _ (shift-digits start.args.seats start.args.own start.args.end at-if1.if1.true at-if2.if2.true)
+    puts_as _ (shift_digits start.args.seats start.args.own start.args.end at-if1.if1.true at-if2.if2.true)
     (puts_then (put_first at-put-seven.put-seven.ensures) (puts_then (put_first at-put-seven2.put-seven2.ensures) (puts_then (put_first at-put-seven3.put-seven3.ensures)
     (puts_then (put_first at-put-seven4.put-seven4.ensures) (puts_then (put_first at-put-seven5.put-seven5.ensures) (puts_then (put_first at-put-number.put-number.ensures) (put_first at-put-bytes.put-bytes.ensures)))))))
 

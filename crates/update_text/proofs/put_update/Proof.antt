@@ -1,6 +1,6 @@
 -- `update_text::put_update` meets its contract: by whether the branch leads to the own state, and by whether it sets something. Assumes nothing.
-use Rattle.update_text.proofs.Laws.{update-none, update-set, update-shift, update-both}
-use Rattle.phrases.proofs.Laws.{put_first, puts_then, puts-as}
+use Rattle.update_text.proofs.Laws.{update_none, update_set, update_shift, update_both}
+use Rattle.phrases.proofs.Laws.{put_first, puts_then, puts_as}
 use Prim.Native.Nat.{ℕ}
 use mathlib.Core.Path.{◌≡◌}
 use native.Mathlib.Omega.{arith}
@@ -33,7 +33,7 @@ returns c =
     let at-put-bytes = c.before.before in
     let at-if1 = at-put-bytes.before.before.before.before in
     let start = at-if1.before.before in
-    puts-as _ (update-none start.args.seats start.args.own start.args.end start.args.sets (omega (arith, at-if1.if1.true)) (nothing-set at-put-bytes)) (put_first (true-put at-put-bytes))
+    puts_as _ (update_none start.args.seats start.args.own start.args.end start.args.sets (omega (arith, at-if1.if1.true)) (nothing-set at-put-bytes)) (put_first (true-put at-put-bytes))
 
 sub-put-set : tie.Need-overflow-sub-put-set
 sub-put-set c = search rules
@@ -50,7 +50,7 @@ returns-2 c =
     let at-if2 = at-put-set.before.before in
     let at-if1 = at-if2.before in
     let start = at-if1.before.before in
-    puts-as _ (update-set start.args.seats start.args.own start.args.end start.args.sets (omega (arith, at-if1.if1.true)) (λ e. omega (arith, e, at-if2.if2.false))) at-put-set.put-set.ensures
+    puts_as _ (update_set start.args.seats start.args.own start.args.end start.args.sets (omega (arith, at-if1.if1.true)) (λ e. omega (arith, e, at-if2.if2.false))) at-put-set.put-set.ensures
 
 put-shift-requires : tie.Need-put-shift-requires
 put-shift-requires c κs = search rules
@@ -63,7 +63,7 @@ returns-3 c =
     let at-put-shift = c.before.before.before in
     let at-if1 = at-put-shift.before.before in
     let start = at-if1.before.before in
-    puts-as _ (update-shift start.args.seats start.args.own start.args.end start.args.sets (λ e. omega (arith, e, at-if1.if1.false)) (omega (arith, c.if3.true))) at-put-shift.put-shift.ensures
+    puts_as _ (update_shift start.args.seats start.args.own start.args.end start.args.sets (λ e. omega (arith, e, at-if1.if1.false)) (omega (arith, c.if3.true))) at-put-shift.put-shift.ensures
 
 sub-put-set-last : tie.Need-overflow-sub-put-set-last
 sub-put-set-last c = search rules
@@ -81,7 +81,7 @@ returns-4 c =
     let at-put-shift = at-if3.before.before.before in
     let at-if1 = at-put-shift.before.before in
     let start = at-if1.before.before in
-    puts-as _ (update-both start.args.seats start.args.own start.args.end start.args.sets (λ e. omega (arith, e, at-if1.if1.false)) (λ e. omega (arith, e, at-if3.if3.false))) (puts_then at-put-shift.put-shift.ensures at-put-set-last.put-set-last.ensures)
+    puts_as _ (update_both start.args.seats start.args.own start.args.end start.args.sets (λ e. omega (arith, e, at-if1.if1.false)) (λ e. omega (arith, e, at-if3.if3.false))) (puts_then at-put-shift.put-shift.ensures at-put-set-last.put-set-last.ensures)
 
 pub put-update-spec : {M : Type 1} → statement M
 put-update-spec =

@@ -1,6 +1,6 @@
 -- `weighing::store` meets its contract: after d turns the first d numbers are stored. Assumes nothing.
 use Rattle.panel_numbers.specs.Table.{over}
-use Rattle.panel_numbers.proofs.Stored.{over-start, over-next, over-end}
+use Rattle.panel_numbers.proofs.Stored.{over_start, over_next, over_end}
 use mathlib.Core.Path.{◌≡◌, refl, ◌∙◌}
 use lib.ListN.{length, get_or}
 use borrow.Author.Rules.{rules}
@@ -15,7 +15,7 @@ abbrev decreases-loop : tie.decreases-loop
 decreases-loop table₀ from numbers d₀ table d = length numbers - d
 
 loop-holds : tie.Need-loop-init invariant-loop decreases-loop
-loop-holds c = (search rules, over-start c.args.from (λ e. get_or c.args.numbers.now e 0) c.args.table.now)
+loop-holds c = (search rules, over_start c.args.from (λ e. get_or c.args.numbers.now e 0) c.args.table.now)
 
 add_at : tie.Need-overflow-add-at invariant-loop decreases-loop
 add_at c = search rules
@@ -42,12 +42,12 @@ loop-again : tie.Need-loop-preserved invariant-loop decreases-loop
 loop-again c =
     let at-loop = c.before.before in
     let start = at-loop.before in
-    (search rules, over-next start.args.from (λ e. get_or start.args.numbers.now e 0) start.args.table.now at-loop.loop.d at-loop.loop.invariant.1 refl refl)
+    (search rules, over_next start.args.from (λ e. get_or start.args.numbers.now e 0) start.args.table.now at-loop.loop.d at-loop.loop.invariant.1 refl refl)
 
 returns : tie.Need-returns invariant-loop decreases-loop
 returns c =
     let start = c.before.before in
-    c.before.loop.invariant.1 ∙ over-end start.args.from (λ e. get_or start.args.numbers.now e 0) start.args.table.now c.before.loop.d _ c.before.loop.invariant.0 c.loop-test.false
+    c.before.loop.invariant.1 ∙ over_end start.args.from (λ e. get_or start.args.numbers.now e 0) start.args.table.now c.before.loop.d _ c.before.loop.invariant.0 c.loop-test.false
 
 pub store_spec : {M : Type 1} → statement M
 store_spec =

@@ -3,19 +3,19 @@ use Prim.Native.Nat.{◌≤◌, ◌-◌}
 use borrow.Author.Rules.{rules}
 use mathlib.Core.Path.{◌≡◌, refl, ◌∙◌}
 use Rattle.meaning.specs.Position.{position}
-use Rattle.panel_numbers.proofs.Stored.{over-start, over-next, over-end}
-use Rattle.panel_numbers.specs.Table.{over, ablesFrom, ableAt}
+use Rattle.panel_numbers.proofs.Stored.{over_start, over_next, over_end}
+use Rattle.panel_numbers.specs.Table.{over, ables_from, able_at}
 use Rattle.weighing.proofs.store_ables.Statement.{statement}
 use Rattle.weighing.proofs.store_ables.Tie as tie
 
 abbrev invariant-loop : tie.invariant-loop
-invariant-loop table₀ rows nodes counts shared n count i₀ table i = (i ≤ count) × (table ≡ over ablesFrom i (ableAt n (position counts shared) nodes rows) table₀)
+invariant-loop table₀ rows nodes counts shared n count i₀ table i = (i ≤ count) × (table ≡ over ables_from i (able_at n (position counts shared) nodes rows) table₀)
 
 abbrev decreases-loop : tie.decreases-loop
 decreases-loop table₀ rows nodes counts shared n count i₀ table i = count - i
 
 loop-holds : tie.Need-loop-init invariant-loop decreases-loop
-loop-holds c = (search rules, over-start ablesFrom (ableAt c.before.args.head.seats (position c.before.args.counts.now c.before.args.shared) c.before.args.nodes.now c.before.args.rows.now) c.before.args.table.now)
+loop-holds c = (search rules, over_start ables_from (able_at c.before.args.head.seats (position c.before.args.counts.now c.before.args.shared) c.before.args.nodes.now c.before.args.rows.now) c.before.args.table.now)
 
 mul-from : tie.Need-overflow-mul-from invariant-loop decreases-loop
 mul-from c = search rules
@@ -60,13 +60,13 @@ loop-again : tie.Need-loop-preserved invariant-loop decreases-loop
 loop-again c =
     let at-loop = c.before.before.before.before.before in
     let start = at-loop.before.before in
-    (search rules, over-next ablesFrom (ableAt start.args.head.seats (position start.args.counts.now start.args.shared) start.args.nodes.now start.args.rows.now) start.args.table.now at-loop.loop.i at-loop.loop.invariant.1 refl c.able.ensures)
+    (search rules, over_next ables_from (able_at start.args.head.seats (position start.args.counts.now start.args.shared) start.args.nodes.now start.args.rows.now) start.args.table.now at-loop.loop.i at-loop.loop.invariant.1 refl c.able.ensures)
 
 returns : tie.Need-returns invariant-loop decreases-loop
 returns c =
     let at-loop = c.before in
     let entry = at-loop.before.before in
-    at-loop.loop.invariant.1 ∙ over-end ablesFrom (ableAt entry.args.head.seats (position entry.args.counts.now entry.args.shared) entry.args.nodes.now entry.args.rows.now) entry.args.table.now at-loop.loop.i _ at-loop.loop.invariant.0 c.loop-test.false
+    at-loop.loop.invariant.1 ∙ over_end ables_from (able_at entry.args.head.seats (position entry.args.counts.now entry.args.shared) entry.args.nodes.now entry.args.rows.now) entry.args.table.now at-loop.loop.i _ at-loop.loop.invariant.0 c.loop-test.false
 
 pub store-ables-spec : {M : Type 1} → statement M
 store-ables-spec =

@@ -6,13 +6,13 @@ use mathlib.Core.Path.{◌≡◌, ◌∙◌}
 use native.Mathlib.Omega.{arith}
 use Rattle.card.specs.Card.{nondeterministic, probabilistic}
 use Rattle.card.specs.Laid.{either}
-use Rattle.weighing.proofs.Laws.{taken_start, taken_next, taken-end, taken-most, taken_more}
-use Rattle.panel_numbers.specs.Table.{takenIn}
+use Rattle.weighing.proofs.Laws.{taken_start, taken_next, taken_end, taken_most, taken_more}
+use Rattle.panel_numbers.specs.Table.{taken_in}
 use Rattle.weighing.proofs.taken_of.Statement.{statement}
 use Rattle.weighing.proofs.taken_of.Tie as tie
 
 abbrev invariant-loop : tie.invariant-loop
-invariant-loop mode table count taken₀ i₀ taken i = (i ≤ count) × (taken ≡ takenIn (either nondeterministic probabilistic mode) table i)
+invariant-loop mode table count taken₀ i₀ taken i = (i ≤ count) × (taken ≡ taken_in (either nondeterministic probabilistic mode) table i)
 
 abbrev decreases-loop : tie.decreases-loop
 decreases-loop mode table count taken₀ i₀ taken i = count - i
@@ -37,7 +37,7 @@ add-taken c =
     let at-loop = c.before.before.before in
     let start = at-loop.before in
     let mode = either nondeterministic probabilistic start.args.mode in
-    let most = taken-most mode start.args.table.now start.requires at-loop.loop.i at-loop.loop.invariant.0 in
+    let most = taken_most mode start.args.table.now start.requires at-loop.loop.i at-loop.loop.invariant.0 in
     let more = taken_more mode start.args.table.now start.requires at-loop.loop.i c.before.before.loop-test.true in
     omega (arith, at-loop.loop.invariant.1, c.counts-as.ensures, start.requires.statements, most, more)
 
@@ -56,7 +56,7 @@ loop-again c =
     (search rules, taken_next (either nondeterministic probabilistic start.args.mode) start.args.table.now at-loop.loop.i at-loop.loop.invariant.1 c.counts-as.ensures)
 
 returns : tie.Need-returns invariant-loop decreases-loop
-returns c = c.before.loop.invariant.1 ∙ taken-end (either nondeterministic probabilistic c.before.before.args.mode) c.before.before.args.table.now c.before.loop.i _ c.before.loop.invariant.0 c.loop-test.false
+returns c = c.before.loop.invariant.1 ∙ taken_end (either nondeterministic probabilistic c.before.before.args.mode) c.before.before.args.table.now c.before.loop.i _ c.before.loop.invariant.0 c.loop-test.false
 
 pub taken-of-spec : {M : Type 1} → statement M
 taken-of-spec =

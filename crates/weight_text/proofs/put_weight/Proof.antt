@@ -1,6 +1,6 @@
 -- `weight_text::put_weight` meets its contract: nothing, the whole, or a fraction by its two numbers. Assumes nothing.
-use Rattle.phrases.proofs.Lowest.{text-none, text-whole, text-ratio}
-use Rattle.phrases.proofs.Laws.{put_first, puts-as, puts_then}
+use Rattle.phrases.proofs.Lowest.{text_none, text_whole, text_ratio}
+use Rattle.phrases.proofs.Laws.{put_first, puts_as, puts_then}
 use Rattle.card.specs.Limits.{unit}
 use native.Mathlib.Nat.{div-le_self}
 use native.Mathlib.Omega.{arith}
@@ -15,7 +15,7 @@ same_length : tie.Need-same-length
 same_length c = search rules
 
 returns : tie.Need-returns
-returns c = puts-as _ (text-none _ c.before.before.before.before.if1.true) (put_first c.before.before.put_byte.ensures)
+returns c = puts_as _ (text_none _ c.before.before.before.before.if1.true) (put_first c.before.before.put_byte.ensures)
 
 put-byte-requires-2 : tie.Need-put-byte-requires-2
 put-byte-requires-2 c κs = search rules
@@ -24,7 +24,7 @@ same-length-2 : tie.Need-same-length-2
 same-length-2 c = search rules
 
 returns-2 : tie.Need-returns-2
-returns-2 c = puts-as _ (text-whole _ c.before.before.before.before.before.if1.false c.before.before.before.before.if2.true) (put_first c.before.before.put-byte2.ensures)
+returns-2 c = puts_as _ (text_whole _ c.before.before.before.before.before.if1.false c.before.before.before.before.if2.true) (put_first c.before.before.put-byte2.ensures)
 
 divisor-requires : tie.Need-divisor-requires
 divisor-requires c κs = search rules
@@ -63,7 +63,7 @@ returns-3 c =
     let at_divisor = at-put-number.before.before in
     let at-if2 = at_divisor.before in
     let at-if1 = at-if2.before in
-    puts-as _ (text-ratio _ _ at-if1.if1.false at-if2.if2.false at_divisor.divisor.ensures.0) (puts_then (put_first at-put-number.put-number.ensures) (puts_then (put_first at-put-byte3.put-byte3.ensures) (put_first at-put-long-number.put-long-number.ensures)))
+    puts_as _ (text_ratio _ _ at-if1.if1.false at-if2.if2.false at_divisor.divisor.ensures.0) (puts_then (put_first at-put-number.put-number.ensures) (puts_then (put_first at-put-byte3.put-byte3.ensures) (put_first at-put-long-number.put-long-number.ensures)))
 
 pub put-weight-spec : {M : Type 1} → statement M
 put-weight-spec =

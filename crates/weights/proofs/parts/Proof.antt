@@ -5,13 +5,13 @@ use mathlib.Core.Path.{◌≡◌, refl, ap, ◌∙◌}
 use native.Mathlib.Nat.{pow-suc}
 use native.Mathlib.Numerals.{add-one}
 use native.Mathlib.Omega.{arith}
-use Rattle.card.specs.Limits.{weightDigits}
-use Rattle.card.proofs.Weights.{tens-most}
+use Rattle.card.specs.Limits.{weight_digits}
+use Rattle.card.proofs.Weights.{tens_most}
 use Rattle.weights.proofs.parts.Statement.{statement}
 use Rattle.weights.proofs.parts.Tie as tie
 
 abbrev invariant-loop : tie.invariant-loop
-invariant-loop n p₀ i₀ p i = (i ≤ n) × (i ≤ weightDigits) × (p ≡ 10 ^ i)
+invariant-loop n p₀ i₀ p i = (i ≤ n) × (i ≤ weight_digits) × (p ≡ 10 ^ i)
 
 abbrev decreases-loop : tie.decreases-loop
 decreases-loop n p₀ i₀ p i = n - i
@@ -29,7 +29,7 @@ returns : tie.Need-returns invariant-loop decreases-loop
 returns c = there _ c.before.before.loop.i _ (omega arith) c.before.before.loop.invariant.2
 
 mul-p : tie.Need-overflow-mul-p invariant-loop decreases-loop
-mul-p c = omega (arith, tens-most c.before.before.loop.i (omega arith))
+mul-p c = omega (arith, tens_most c.before.before.loop.i (omega arith))
 
 add-i : tie.Need-overflow-add-i invariant-loop decreases-loop
 add-i c = omega arith

@@ -1,8 +1,8 @@
 -- The loop's invariant: the digits passed, and the value kept (`Held`).
 use borrow.Author.Rules.{rules}
 use Rattle.marks_on_a_card.proofs.Numbers.{Held, held_none, held_next, held_all}
-use Rattle.marks_on_a_card.proofs.Runs.{end-off, end_none}
-use Rattle.marks_on_a_card.specs.Bytes.{isDigit}
+use Rattle.marks_on_a_card.proofs.Runs.{end_off, end_none}
+use Rattle.marks_on_a_card.specs.Bytes.{is_digit}
 use borrow.Author.Tests.{not-true, not-false}
 use lib.ListN.{length}
 use native.Mathlib.Omega.{arith}
@@ -37,7 +37,7 @@ returns c =
     let entry = at-loop.before.before in
     held_all entry.args.card.now entry.args.from
     at-loop.loop.at at-loop.loop.value at-loop.loop.invariant
-    (end-off isDigit entry.args.card.now at-loop.loop.at
+    (end_off is_digit entry.args.card.now at-loop.loop.at
     at-loop-test.loop-test.true (sym at-is-digit.is_digit.ensures ∙ not-true at-is-digit.is_digit.result c.if1.true))
 
 grown-requires : tie.Need-grown-requires invariant-loop decreases-loop
@@ -71,7 +71,7 @@ sub-t12 c = omega (arith, c.before.loop.invariant.begun)
 returns-2 : tie.Need-returns-2 invariant-loop decreases-loop
 returns-2 c =
     held_all c.before.before.before.args.card.now c.before.before.before.args.from c.before.loop.at c.before.loop.value c.before.loop.invariant
-    (end_none isDigit c.before.before.before.args.card.now c.before.loop.at c.loop-test.false)
+    (end_none is_digit c.before.before.before.args.card.now c.before.loop.at c.loop-test.false)
 
 pub digits-from-spec : {M : Type 1} → statement M
 digits-from-spec =

@@ -1,7 +1,7 @@
 -- Each exit has its law on runs of digits.
-use Rattle.marks_on_a_card.proofs.Numbers.{plain-none, plain-many, plain-one, plain_more}
+use Rattle.marks_on_a_card.proofs.Numbers.{plain_none, plain_many, plain_one, plain_more}
 use Rattle.marks_on_a_card.proofs.Runs.{run_length}
-use Rattle.marks_on_a_card.specs.Bytes.{isDigit}
+use Rattle.marks_on_a_card.specs.Bytes.{is_digit}
 use lib.Seq.{get_or-drop}
 use lib.ListN.{get_or, drop, length-drop}
 use lib.Dec.{eqb}
@@ -14,16 +14,16 @@ use Rattle.words_and_digits.proofs.is_plain.Statement.{statement}
 use Rattle.words_and_digits.proofs.is_plain.Tie as tie
 
 returns : tie.Need-returns
-returns c = sym (plain-none c.before.args.most (drop c.before.args.from c.before.args.card.now) (omega (arith, c.before.requires)))
+returns c = sym (plain_none c.before.args.most (drop c.before.args.from c.before.args.card.now) (omega (arith, c.before.requires)))
 
 returns-2 : tie.Need-returns-2
-returns-2 c = sym (plain-many c.before.before.args.most (drop c.before.before.args.from c.before.before.args.card.now) (omega (arith, c.before.before.requires)))
+returns-2 c = sym (plain_many c.before.before.args.most (drop c.before.before.args.from c.before.before.args.card.now) (omega (arith, c.before.before.requires)))
 
 returns-3 : tie.Need-returns-3
 returns-3 c =
     let entry = c.before.before.before in
     sym
-    (plain-one entry.args.most (drop entry.args.from entry.args.card.now)
+    (plain_one entry.args.most (drop entry.args.from entry.args.card.now)
     (omega (arith, entry.requires)) (omega arith))
 
 shared-slice-read-result : tie.Need-shared-slice-read-result
@@ -32,7 +32,7 @@ shared-slice-read-result c =
     omega (
       arith,
       entry.requires,
-      run_length isDigit
+      run_length is_digit
           (drop entry.args.from entry.args.card.now),
       length-drop
           entry.args.from entry.args.card.now,

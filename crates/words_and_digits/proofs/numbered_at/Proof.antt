@@ -1,10 +1,10 @@
 -- Each exit has its law (proofs/Laws.antt), over the digits as they were counted.
-use Rattle.words_and_digits.proofs.Laws.{numbered-off, numbered-unplain, numbered_more, numbered-yes}
-use Rattle.marks_on_a_card.proofs.Runs.{begun-fits}
+use Rattle.words_and_digits.proofs.Laws.{numbered_off, numbered_unplain, numbered_more, numbered_yes}
+use Rattle.marks_on_a_card.proofs.Runs.{begun_fits}
 use borrow.Author.Tests.{not-true, not-false}
 use native.Mathlib.Omega.{arith}
 use mathlib.Core.Path.{sym, ◌∙◌}
-use Rattle.marks_on_a_card.proofs.Numbers.{counted-fits}
+use Rattle.marks_on_a_card.proofs.Numbers.{counted_fits}
 use lib.ListN.{length}
 use Prim.Native.Nat.{◌+◌}
 use borrow.Author.Rules.{rules}
@@ -18,7 +18,7 @@ returns : tie.Need-returns
 returns c =
     let at-begins-at = c.before in
     let entry = at-begins-at.before.before.before in
-    numbered-off entry.args.these.now entry.args.card.now entry.args.at
+    numbered_off entry.args.these.now entry.args.card.now entry.args.at
     (sym at-begins-at.begins-at.ensures ∙ not-true at-begins-at.begins-at.result c.if1.true)
 
 add-from : tie.Need-overflow-add-from
@@ -27,7 +27,7 @@ add-from c =
     let entry = at-begins-at.before.before.before in
     omega (
       arith,
-      begun-fits entry.args.these.now entry.args.card.now
+      begun_fits entry.args.these.now entry.args.card.now
           entry.args.at entry.requires.0
           (sym at-begins-at.begins-at.ensures ∙ not-false at-begins-at.begins-at.result c.if1.false),
       entry.well-formed.0,
@@ -37,7 +37,7 @@ digits-from-requires : tie.Need-digits-from-requires
 digits-from-requires c κs = search rules
 
 is-plain-requires : tie.Need-is-plain-requires
-is-plain-requires c κs = c.digits_from.ensures.count-is
+is-plain-requires c κs = c.digits_from.ensures.count_is
 
 returns-2 : tie.Need-returns-2
 returns-2 c =
@@ -45,7 +45,7 @@ returns-2 c =
     let at-if1 = at-is-plain.before.before in
     let at-begins-at = at-if1.before in
     let entry = at-begins-at.before.before.before in
-    numbered-unplain entry.args.these.now
+    numbered_unplain entry.args.these.now
     entry.args.card.now entry.args.at
     entry.requires.1
     (sym at-begins-at.begins-at.ensures ∙ not-false at-begins-at.begins-at.result
@@ -59,14 +59,14 @@ add-word-at c =
     let at-begins-at = at-if1.before in
     let entry = at-begins-at.before.before.before in
     let behind =
-    begun-fits entry.args.these.now
+    begun_fits entry.args.these.now
     entry.args.card.now entry.args.at
     entry.requires.0
     (sym at-begins-at.begins-at.ensures ∙ not-false at-begins-at.begins-at.result
     at-if1.if1.false) in
     omega (
       arith,
-      counted-fits entry.args.card.now
+      counted_fits entry.args.card.now
           (entry.args.at + length entry.args.these.now)
           behind at-digits-from.digits_from.result at-digits-from.digits_from.ensures,
       entry.well-formed.0,
@@ -96,7 +96,7 @@ add-t11 c =
     let at-begins-at = at-if1.before in
     let entry = at-begins-at.before.before.before in
     let behind =
-    begun-fits entry.args.these.now
+    begun_fits entry.args.these.now
     entry.args.card.now
     entry.args.at
     entry.requires.0
@@ -104,7 +104,7 @@ add-t11 c =
     at-if1.if1.false) in
     omega (
       arith,
-      counted-fits entry.args.card.now
+      counted_fits entry.args.card.now
           (entry.args.at + length
           entry.args.these.now)
           behind at-digits-from.digits_from.result at-digits-from.digits_from.ensures,
@@ -118,7 +118,7 @@ returns-4 c =
     let at-if1 = at-digits-from.before in
     let at-begins-at = at-if1.before in
     let entry = at-begins-at.before.before.before in
-    numbered-yes entry.args.these.now
+    numbered_yes entry.args.these.now
     entry.args.card.now
     entry.args.at
     entry.requires.1

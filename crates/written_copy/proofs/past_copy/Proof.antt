@@ -2,7 +2,7 @@
 use mathlib.Core.Path.{sym, ◌∙◌}
 use mathlib.Core.Bool.{true, false}
 use native.Mathlib.Omega.{arith}
-use Rattle.written_copy.proofs.Written.{one-digit-copy, two-digit-copy, too_short}
+use Rattle.written_copy.proofs.Written.{one_digit_copy, two_digit_copy, too_short}
 use borrow.Author.Rules.{rules}
 use Rattle.written_copy.proofs.past_copy.Statement.{statement}
 use Rattle.written_copy.proofs.past_copy.Tie as tie
@@ -54,7 +54,7 @@ returns-3 c =
     let at-stands = at-layout.before in
     let at-digits = at-stands.before in
     let a = at-digits.before.before.before.before.args in
-    c.past_word.ensures ∙ one-digit-copy a.card.now a.at a.seat at-digits.if3.true true (sym at-stands.stands.ensures ∙ at-layout.if4.true)
+    c.past_word.ensures ∙ one_digit_copy a.card.now a.at a.seat at-digits.if3.true true (sym at-stands.stands.ensures ∙ at-layout.if4.true)
 
 array-write-tight : tie.Need-array-write-tight
 array-write-tight c = search rules
@@ -77,7 +77,7 @@ returns-4 c =
     let at-stands = at-layout.before in
     let at-digits = at-stands.before in
     let a = at-digits.before.before.before.before.args in
-    c.past-word2.ensures ∙ one-digit-copy a.card.now a.at a.seat at-digits.if3.true false (sym at-stands.stands.ensures ∙ at-layout.if4.false)
+    c.past-word2.ensures ∙ one_digit_copy a.card.now a.at a.seat at-digits.if3.true false (sym at-stands.stands.ensures ∙ at-layout.if4.false)
 
 cast-i-2 : tie.Need-overflow-cast-i-2
 cast-i-2 c = search rules
@@ -112,7 +112,7 @@ returns-5 c =
     let at-stands = at-layout.before in
     let at-digits = at-stands.before in
     let a = at-digits.before.before.before.before.args in
-    c.past-word3.ensures ∙ two-digit-copy a.card.now a.at a.seat at-digits.if3.false true (sym at-stands.stands2.ensures ∙ at-layout.if5.true)
+    c.past-word3.ensures ∙ two_digit_copy a.card.now a.at a.seat at-digits.if3.false true (sym at-stands.stands2.ensures ∙ at-layout.if5.true)
 
 array-write-tight-4 : tie.Need-array-write-tight-4
 array-write-tight-4 c = search rules
@@ -135,7 +135,7 @@ returns-6 c =
     let at-stands = at-layout.before in
     let at-digits = at-stands.before in
     let a = at-digits.before.before.before.before.args in
-    c.past-word4.ensures ∙ two-digit-copy a.card.now a.at a.seat at-digits.if3.false false (sym at-stands.stands2.ensures ∙ at-layout.if5.false)
+    c.past-word4.ensures ∙ two_digit_copy a.card.now a.at a.seat at-digits.if3.false false (sym at-stands.stands2.ensures ∙ at-layout.if5.false)
 
 pub past-copy-spec : {M : Type 1} → statement M
 past-copy-spec =

@@ -1,6 +1,6 @@
 -- A way out for each part, in the order of the parts (proofs/HeaderLaws.antt). Assumes nothing.
 use native.Mathlib.Omega.{arith}
-use Rattle.frame.proofs.HeaderLaws.{mode-halts, shared-halts, words-halt, range-halts, header_read}
+use Rattle.frame.proofs.HeaderLaws.{mode_halts, shared_halts, words_halt, range_halts, header_read}
 use borrow.Author.Rules.{rules}
 use Rattle.frame.proofs.header.header.Statement.{statement}
 use Rattle.frame.proofs.header.header.Tie as tie
@@ -9,7 +9,7 @@ mode-requires : tie.Need-mode-requires
 mode-requires c κs = c.before.before.requires
 
 returns : tie.Need-returns
-returns c = mode-halts _ _ _ _ c.before.mode.ensures c.if1.true
+returns c = mode_halts _ _ _ _ c.before.mode.ensures c.if1.true
 
 element-copy-out-mode : tie.Need-element-copy-out-mode
 element-copy-out-mode c = search rules
@@ -25,7 +25,7 @@ returns-2 c =
     let at-shared = c.before in
     let at-if1 = at-shared.before.before.before in
     let at-mode = at-if1.before in
-    shared-halts _ _ _ _ at-mode.mode.ensures at-if1.if1.false _ at-shared.shared.ensures c.if2.true
+    shared_halts _ _ _ _ at-mode.mode.ensures at-if1.if1.false _ at-shared.shared.ensures c.if2.true
 
 element-copy-out-values : tie.Need-element-copy-out-values
 element-copy-out-values c = search rules
@@ -51,7 +51,7 @@ returns-3 c =
     let at-shared = at-if2.before in
     let at-if1 = at-shared.before.before.before in
     let at-mode = at-if1.before in
-    words-halt _ _ _ _ at-mode.mode.ensures at-if1.if1.false _ at-shared.shared.ensures at-if2.if2.false _ at-run.run.ensures
+    words_halt _ _ _ _ at-mode.mode.ensures at-if1.if1.false _ at-shared.shared.ensures at-if2.if2.false _ at-run.run.ensures
     c.if3.true
 
 range-requires : tie.Need-range-requires
@@ -66,7 +66,7 @@ returns-4 c =
     let at-shared = at-if2.before in
     let at-if1 = at-shared.before.before.before in
     let at-mode = at-if1.before in
-    range-halts _ _ _ _ at-mode.mode.ensures at-if1.if1.false _ at-shared.shared.ensures at-if2.if2.false _ at-run.run.ensures
+    range_halts _ _ _ _ at-mode.mode.ensures at-if1.if1.false _ at-shared.shared.ensures at-if2.if2.false _ at-run.run.ensures
     at-if3.if3.false _ at-range.range.ensures c.if4.true
 
 element-write-state : tie.Need-element-write-state

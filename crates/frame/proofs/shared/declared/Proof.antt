@@ -4,8 +4,8 @@ use lib.Dec.{eqb}
 use Rattle.marks.specs.declared.Step.{Step}
 use Rattle.marks_on_a_card.specs.Kinds.{kind}
 use Rattle.card.specs.Text.{bytes}
-use Rattle.looks.proofs.Quick.{past-line-step}
-use Rattle.looks.proofs.Words.{keyword-step}
+use Rattle.looks.proofs.Quick.{past_line_step}
+use Rattle.looks.proofs.Words.{keyword_step}
 use borrow.Author.Rules.{rules}
 use Rattle.frame.proofs.shared.declared.Statement.{statement}
 use Rattle.frame.proofs.shared.declared.Tie as tie
@@ -26,7 +26,7 @@ returns c =
     let entry = at-past-line.before.before in
     let a = entry.args in
     ap (λ (x : Step). eqb x.mark.kind (kind "global"))
-    (sym (keyword-step a.card.now at-past-line.past-line.result 109 (bytes "odule") (sym at-word-here.word-here.ensures ∙ c.if1.true) refl refl) ∙ past-line-step a.card.now a.at at-past-line.past-line.ensures)
+    (sym (keyword_step a.card.now at-past-line.past-line.result 109 (bytes "odule") (sym at-word-here.word-here.ensures ∙ c.if1.true) refl refl) ∙ past_line_step a.card.now a.at at-past-line.past-line.ensures)
 
 step-from-requires : tie.Need-step-from-requires
 step-from-requires c κs = search rules
@@ -38,7 +38,7 @@ returns-2 c =
     let entry = at-past-line.before.before in
     let a = entry.args in
     ap (λ (x : Step). eqb x.mark.kind (kind "global"))
-    (at-step-from.step_from.ensures ∙ past-line-step a.card.now a.at at-past-line.past-line.ensures)
+    (at-step-from.step_from.ensures ∙ past_line_step a.card.now a.at at-past-line.past-line.ensures)
 
 pub declared-spec : {M : Type 1} → statement M
 declared-spec =

@@ -1,9 +1,9 @@
 -- By whether a number is declared there; then a way out for each part (proofs/SharedLaws.antt). Assumes nothing.
 use native.Mathlib.Omega.{arith}
 use mathlib.Core.Path.{refl}
-use Rattle.marks.specs.Step.{stepAt}
-use Rattle.parts.proofs.Steps.{next-at}
-use Rattle.frame.proofs.SharedLaws.{not-declared, is_declared, none-shared, words-halt, range-halts, shared-read}
+use Rattle.marks.specs.Step.{step_at}
+use Rattle.parts.proofs.Steps.{next_at}
+use Rattle.frame.proofs.SharedLaws.{not_declared, is_declared, none_shared, words_halt, range_halts, shared_read}
 use borrow.Author.Rules.{rules}
 use Rattle.frame.proofs.shared.shared.Statement.{statement}
 use Rattle.frame.proofs.shared.shared.Tie as tie
@@ -22,8 +22,8 @@ returns c =
     let at-declared = c.before in
     let entry = at-declared.before.before in
     let a = entry.args in
-    none-shared _ _ (next-at a.card.now a.at (stepAt a.card.now a.at) refl)
-    (not-declared _ _ at-declared.declared.ensures c.if1.true) entry.requires.1 a.state.now entry.requires.0
+    none_shared _ _ (next_at a.card.now a.at (step_at a.card.now a.at) refl)
+    (not_declared _ _ at-declared.declared.ensures c.if1.true) entry.requires.1 a.state.now entry.requires.0
 
 slice-aggregate-run : tie.Need-slice-aggregate-run
 slice-aggregate-run c = search rules
@@ -41,7 +41,7 @@ returns-2 c =
     let at-declared = at-if1.before in
     let entry = at-declared.before.before in
     let a = entry.args in
-    words-halt _ _ (next-at a.card.now a.at (stepAt a.card.now a.at) refl)
+    words_halt _ _ (next_at a.card.now a.at (step_at a.card.now a.at) refl)
     (is_declared _ _ at-declared.declared.ensures at-if1.if1.false) _ _ at-run.run.ensures c.if2.true
 
 range-requires : tie.Need-range-requires
@@ -56,7 +56,7 @@ returns-3 c =
     let at-declared = at-if1.before in
     let entry = at-declared.before.before in
     let a = entry.args in
-    range-halts _ _ (next-at a.card.now a.at (stepAt a.card.now a.at) refl)
+    range_halts _ _ (next_at a.card.now a.at (step_at a.card.now a.at) refl)
     (is_declared _ _ at-declared.declared.ensures at-if1.if1.false) _ _ at-run.run.ensures at-if2.if2.false _ at-range.range.ensures
     c.if3.true
 
@@ -88,7 +88,7 @@ returns-4 c =
     let at-declared = at-if1.before in
     let entry = at-declared.before.before in
     let a = entry.args in
-    shared-read _ _ (next-at a.card.now a.at (stepAt a.card.now a.at) refl)
+    shared_read _ _ (next_at a.card.now a.at (step_at a.card.now a.at) refl)
     (is_declared _ _ at-declared.declared.ensures at-if1.if1.false) _ _ at-run.run.ensures at-if2.if2.false _ at-range.range.ensures
     at-if3.if3.false
 

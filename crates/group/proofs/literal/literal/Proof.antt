@@ -1,8 +1,8 @@
 -- The quick way has the two steps by their looks (proofs/Quick.antt of looks).
-use Rattle.group.proofs.Literals.{literal-whole}
-use Rattle.looks.proofs.Quick.{sign-place, sign-step, digit-place, digit-step}
-use Rattle.marks.specs.Parts.{bareOf, valuedOf}
-use Rattle.marks_on_a_card.specs.Kinds.{kNumber}
+use Rattle.group.proofs.Literals.{literal_whole}
+use Rattle.looks.proofs.Quick.{sign_place, sign_step, digit_place, digit_step}
+use Rattle.marks.specs.Parts.{bare_of, valued_of}
+use Rattle.marks_on_a_card.specs.Kinds.{k_number}
 use borrow.Author.Tests.{not-false}
 use native.Mathlib.Omega.{arith}
 use mathlib.Core.Path.{refl, sym, ◌∙◌}
@@ -23,7 +23,7 @@ returns c = search rules
 add-first : tie.Need-overflow-add-first
 add-first c =
     let entry = c.before.before.before in
-    omega (arith, sign-place entry.args.part.now entry.args.at 61 (sym c.before.sign-here.ensures ∙ not-false c.before.sign-here.result c.if1.false))
+    omega (arith, sign_place entry.args.part.now entry.args.at 61 (sym c.before.sign-here.ensures ∙ not-false c.before.sign-here.result c.if1.false))
 
 digit-here-requires : tie.Need-digit-here-requires
 digit-here-requires c κs = search rules
@@ -37,7 +37,7 @@ returns-2 c = search rules
 add-t7 : tie.Need-overflow-add-t7
 add-t7 c =
     let entry = c.before.before.before.before.before in
-    omega (arith, digit-place entry.args.part.now (entry.args.at + 1) c.before.digit-here.result c.before.digit-here.ensures c.if2.false)
+    omega (arith, digit_place entry.args.part.now (entry.args.at + 1) c.before.digit-here.result c.before.digit-here.ensures c.if2.false)
 
 returns-3 : tie.Need-returns-3
 returns-3 c =
@@ -45,9 +45,9 @@ returns-3 c =
     let at-sign-here = at-if1.before in
     let entry = at-sign-here.before.before in
     let place = entry.args.at in
-    let sign = sign-step entry.args.part.now place 61 (sym at-sign-here.sign-here.ensures ∙ not-false at-sign-here.sign-here.result at-if1.if1.false) in
-    let digit = digit-step entry.args.part.now (place + 1) c.before.digit-here.result c.before.digit-here.ensures c.if2.false in
-    literal-whole entry.args.part.now place 0 (bareOf 61 place (place + 1)) (valuedOf kNumber c.before.digit-here.result (place + 1) (place + 1 + 1))
+    let sign = sign_step entry.args.part.now place 61 (sym at-sign-here.sign-here.ensures ∙ not-false at-sign-here.sign-here.result at-if1.if1.false) in
+    let digit = digit_step entry.args.part.now (place + 1) c.before.digit-here.result c.before.digit-here.ensures c.if2.false in
+    literal_whole entry.args.part.now place 0 (bare_of 61 place (place + 1)) (valued_of k_number c.before.digit-here.result (place + 1) (place + 1 + 1))
     (sym sign) (sym digit) refl (λ z. omega arith) refl
 
 pub literal-spec : {M : Type 1} → statement M

@@ -4,11 +4,11 @@ use mathlib.Core.Path.{refl, sym, ◌∙◌}
 use native.Mathlib.Omega.{arith}
 use borrow.Author.Tests.{not-false}
 use lib.Dec.{eqb}
-use Rattle.marks_on_a_card.specs.Kinds.{kNumber}
-use Rattle.marks.specs.Parts.{bareOf, valuedOf}
-use Rattle.marks_on_a_card.proofs.Runs.{begins-place}
-use Rattle.looks.proofs.Quick.{unequal-step, digit-place, digit-step}
-use Rattle.group.proofs.Literals.{literal-whole}
+use Rattle.marks_on_a_card.specs.Kinds.{k_number}
+use Rattle.marks.specs.Parts.{bare_of, valued_of}
+use Rattle.marks_on_a_card.proofs.Runs.{begins_place}
+use Rattle.looks.proofs.Quick.{unequal_step, digit_place, digit_step}
+use Rattle.group.proofs.Literals.{literal_whole}
 use borrow.Author.Rules.{rules}
 use Rattle.group.proofs.literal.literal_apart.Statement.{statement}
 use Rattle.group.proofs.literal.literal_apart.Tie as tie
@@ -25,7 +25,7 @@ returns c = search rules
 add-equal : tie.Need-overflow-add-equal
 add-equal c =
     let a = c.before.before.before.args in
-    omega (arith, begins-place (eqb 33) a.part.now a.at (sym c.before.stands.ensures ∙ not-false c.before.stands.result c.if1.false))
+    omega (arith, begins_place (eqb 33) a.part.now a.at (sym c.before.stands.ensures ∙ not-false c.before.stands.result c.if1.false))
 
 stands-requires-2 : tie.Need-stands-requires-2
 stands-requires-2 c κs = search rules
@@ -39,7 +39,7 @@ returns-2 c = search rules
 add-first : tie.Need-overflow-add-first
 add-first c =
     let a = c.before.before.before.before.before.args in
-    omega (arith, begins-place (eqb 61) a.part.now (a.at + 1) (sym c.before.stands2.ensures ∙ not-false c.before.stands2.result c.if2.false))
+    omega (arith, begins_place (eqb 61) a.part.now (a.at + 1) (sym c.before.stands2.ensures ∙ not-false c.before.stands2.result c.if2.false))
 
 digit-here-requires : tie.Need-digit-here-requires
 digit-here-requires c κs = search rules
@@ -53,7 +53,7 @@ returns-3 c = search rules
 add-t8 : tie.Need-overflow-add-t8
 add-t8 c =
     let a = c.before.before.before.before.before.before.before.args in
-    omega (arith, digit-place a.part.now (a.at + 1 + 1) c.before.digit-here.result c.before.digit-here.ensures c.if3.false)
+    omega (arith, digit_place a.part.now (a.at + 1 + 1) c.before.digit-here.result c.before.digit-here.ensures c.if3.false)
 
 returns-4 : tie.Need-returns-4
 returns-4 c =
@@ -65,11 +65,11 @@ returns-4 c =
     let part = a.part.now in
     let first = a.at + 1 + 1 in
     let d = c.before.digit-here.result in
-    literal-whole a.part.now a.at 1 (bareOf 7 a.at first) (valuedOf kNumber d first (first + 1))
+    literal_whole a.part.now a.at 1 (bare_of 7 a.at first) (valued_of k_number d first (first + 1))
     (sym
-    (unequal-step part a.at (sym at_mark.stands.ensures ∙ not-false at_mark.stands.result at-if1.if1.false)
+    (unequal_step part a.at (sym at_mark.stands.ensures ∙ not-false at_mark.stands.result at-if1.if1.false)
     (sym at-equal.stands2.ensures ∙ not-false at-equal.stands2.result at-if2.if2.false)))
-    (sym (digit-step part first d c.before.digit-here.ensures c.if3.false)) refl (λ z. omega arith) refl
+    (sym (digit_step part first d c.before.digit-here.ensures c.if3.false)) refl (λ z. omega arith) refl
 
 pub literal-apart-spec : {M : Type 1} → statement M
 literal-apart-spec =

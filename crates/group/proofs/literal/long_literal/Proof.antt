@@ -1,5 +1,5 @@
 -- `literal::long_literal` meets its contract: a relation and a number, step by step, or the place of what stands there. Assumes nothing.
-use Rattle.group.proofs.Literals.{literal-sign, literal-number, literal-whole}
+use Rattle.group.proofs.Literals.{literal_sign, literal_number, literal_whole}
 use Rattle.group.proofs.literal.long_literal.Statement.{statement}
 use Rattle.group.proofs.literal.long_literal.Tie as tie
 
@@ -17,7 +17,7 @@ returns c =
     let at-relation = c.before.before in
     let at-step-relation = at-relation.before in
     let entry = at-step-relation.before.before in
-    rw c.no-tail.ensures (literal-sign entry.args.part.now entry.args.at at-relation.relation.result at-step-relation.step-relation.result at-step-relation.step-relation.ensures at-relation.relation.ensures c.before.if1.true)
+    rw c.no-tail.ensures (literal_sign entry.args.part.now entry.args.at at-relation.relation.result at-step-relation.step-relation.result at-step-relation.step-relation.ensures at-relation.relation.ensures c.before.if1.true)
 
 step-number-requires : tie.Need-step-number-requires
 step-number-requires c κs = tt
@@ -32,7 +32,7 @@ returns-2 c =
     let at-relation = at-if1.before in
     let at-step-relation = at-relation.before in
     let entry = at-step-relation.before.before in
-    rw c.no-tail2.ensures (literal-number entry.args.part.now entry.args.at at-relation.relation.result at-step-relation.step-relation.result at-step-number.step-number.result at-step-relation.step-relation.ensures at-step-number.step-number.ensures at-relation.relation.ensures at-if1.if1.false c.before.if2.true)
+    rw c.no-tail2.ensures (literal_number entry.args.part.now entry.args.at at-relation.relation.result at-step-relation.step-relation.result at-step-number.step-number.result at-step-relation.step-relation.ensures at-step-number.step-number.ensures at-relation.relation.ensures at-if1.if1.false c.before.if2.true)
 
 returns-3 : tie.Need-returns-3
 returns-3 c =
@@ -41,7 +41,7 @@ returns-3 c =
     let at-relation = at-if1.before in
     let at-step-relation = at-relation.before in
     let entry = at-step-relation.before.before in
-    literal-whole entry.args.part.now entry.args.at at-relation.relation.result at-step-relation.step-relation.result at-step-number.step-number.result at-step-relation.step-relation.ensures at-step-number.step-number.ensures at-relation.relation.ensures at-if1.if1.false c.if2.false
+    literal_whole entry.args.part.now entry.args.at at-relation.relation.result at-step-relation.step-relation.result at-step-number.step-number.result at-step-relation.step-relation.ensures at-step-number.step-number.ensures at-relation.relation.ensures at-if1.if1.false c.if2.false
 
 pub long-literal-spec : {M : Type 1} → statement M
 long-literal-spec =

@@ -1,6 +1,6 @@
 -- The loop's invariant: what the bytes passed leave to compare decides.
 use borrow.Author.Rules.{rules}
-use Rattle.marks_on_a_card.proofs.Runs.{begun-on, begun-off, begun_all, begun-short}
+use Rattle.marks_on_a_card.proofs.Runs.{begun_on, begun_off, begun_all, begun_short}
 use Rattle.marks_on_a_card.specs.Bytes.{begun}
 use lib.ListN.{length, drop, length-drop}
 use Prim.Native.Nat.{ℕ, ◌+◌, ◌-◌, ◌≤◌}
@@ -20,7 +20,7 @@ sub-if1 : tie.Need-overflow-sub-if1 invariant-loop decreases-loop
 sub-if1 c = search rules
 
 returns : tie.Need-returns invariant-loop decreases-loop
-returns c = sym (begun-short c.before.args.these.now (drop c.before.args.at c.before.args.card.now) (simp length-drop (omega arith)))
+returns c = sym (begun_short c.before.args.these.now (drop c.before.args.at c.before.args.card.now) (simp length-drop (omega arith)))
 
 loop-holds : tie.Need-loop-init invariant-loop decreases-loop
 loop-holds c = (omega arith, omega arith, rw add-zero)
@@ -39,7 +39,7 @@ returns-2 c =
     let at-loop = c.before.before.before.before in
     let entry = at-loop.before.before in
     sym
-    (at-loop.loop.invariant.2 ∙ begun-off entry.args.these.now
+    (at-loop.loop.invariant.2 ∙ begun_off entry.args.these.now
     entry.args.card.now at-loop.loop.i
     (entry.args.at + at-loop.loop.i) (omega arith) (omega arith) c.if2.true)
 
@@ -53,7 +53,7 @@ loop-again : tie.Need-loop-preserved invariant-loop decreases-loop
 loop-again c = (
   omega arith,
   omega arith,
-  c.before.before.before.before.loop.invariant.2 ∙ begun-on c.before.before.before.before.before.before.args.these.now
+  c.before.before.before.before.loop.invariant.2 ∙ begun_on c.before.before.before.before.before.before.args.these.now
       c.before.before.before.before.before.before.args.card.now c.before.before.before.before.loop.i
       (c.before.before.before.before.before.before.args.at + c.before.before.before.before.loop.i) (omega arith) (omega arith) c.if2.false ∙ ap
       (λ (j : ℕ). begun (drop (c.before.before.before.before.loop.i + 1) c.before.before.before.before.before.before.args.these.now)

@@ -3,8 +3,8 @@ use mathlib.Core.Path.{sym, ◌∙◌}
 use mathlib.Core.Bool.{or-false}
 use lib.ListN.{get_or}
 use borrow.Author.Tests.{ne_eqb}
-use Rattle.marks_on_a_card.specs.Bytes.{inNumber}
-use Rattle.marks_on_a_card.proofs.Runs.{begins-at, begins-none}
+use Rattle.marks_on_a_card.specs.Bytes.{in_number}
+use Rattle.marks_on_a_card.proofs.Runs.{begins_at, begins_none}
 use borrow.Author.Rules.{rules}
 use Rattle.letters.proofs.bytes.number_at.Statement.{statement}
 use Rattle.letters.proofs.bytes.number_at.Tie as tie
@@ -13,7 +13,7 @@ shared-slice-read-b : tie.Need-shared-slice-read-b
 shared-slice-read-b c = search rules
 
 returns : tie.Need-returns
-returns c = sym (begins-at inNumber c.before.before.before.before.args.card.now c.before.before.before.before.args.at c.before.before.if1.true ∙ rw c.if2.true)
+returns c = sym (begins_at in_number c.before.before.before.before.args.card.now c.before.before.before.before.args.at c.before.before.if1.true ∙ rw c.if2.true)
 
 is-digit-requires : tie.Need-is-digit-requires
 is-digit-requires c κs = search rules
@@ -23,7 +23,7 @@ returns-2 c =
     let at-if1 = c.before.before.before in
     let entry = at-if1.before.before in
     sym
-    (begins-at inNumber entry.args.card.now entry.args.at
+    (begins_at in_number entry.args.card.now entry.args.at
     at-if1.if1.true ∙ rw (
       ne_eqb (get_or entry.args.card.now entry.args.at 0) 46 c.before.if2.false,
       or-false,
@@ -31,7 +31,7 @@ returns-2 c =
     (sym c.is_digit.ensures))
 
 returns-3 : tie.Need-returns-3
-returns-3 c = sym (begins-none inNumber c.before.before.args.card.now c.before.before.args.at c.if1.false)
+returns-3 c = sym (begins_none in_number c.before.before.args.card.now c.before.before.args.at c.if1.false)
 
 pub number-at-spec : {M : Type 1} → statement M
 number-at-spec =

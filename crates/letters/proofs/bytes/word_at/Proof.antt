@@ -1,5 +1,5 @@
 -- The byte at the place, or the end.
-use Rattle.marks_on_a_card.proofs.Runs.{begins-at, begins-none}
+use Rattle.marks_on_a_card.proofs.Runs.{begins_at, begins_none}
 use Rattle.marks_on_a_card.specs.Bytes.{in_word}
 use mathlib.Core.Path.{sym, ◌∙◌}
 use borrow.Author.Rules.{rules}
@@ -13,10 +13,10 @@ in-word-requires : tie.Need-in-word-requires
 in-word-requires c κs = search rules
 
 returns : tie.Need-returns
-returns c = c.in-word.ensures ∙ sym (begins-at in_word c.before.before.before.before.args.card.now c.before.before.before.before.args.at c.before.before.if1.true)
+returns c = c.in-word.ensures ∙ sym (begins_at in_word c.before.before.before.before.args.card.now c.before.before.before.before.args.at c.before.before.if1.true)
 
 returns-2 : tie.Need-returns-2
-returns-2 c = sym (begins-none in_word c.before.before.args.card.now c.before.before.args.at c.if1.false)
+returns-2 c = sym (begins_none in_word c.before.before.args.card.now c.before.before.args.at c.if1.false)
 
 pub word-at-spec : {M : Type 1} → statement M
 word-at-spec = tie.close (tie.spec shared-slice-read-in-word in-word-requires returns returns-2)

@@ -1,7 +1,7 @@
 -- The loop's invariant: the word that goes on at `at` ends where the one from the start on does.
 use borrow.Author.Rules.{rules}
-use Rattle.marks_on_a_card.proofs.Runs.{end_on, end-off, end_none}
-use Rattle.marks_on_a_card.specs.Bytes.{runEnd, in_word}
+use Rattle.marks_on_a_card.proofs.Runs.{end_on, end_off, end_none}
+use Rattle.marks_on_a_card.specs.Bytes.{run_end, in_word}
 use borrow.Author.Tests.{not-true, not-false}
 use lib.ListN.{length}
 use Prim.Native.Nat.{◌-◌}
@@ -10,7 +10,7 @@ use Rattle.letters.proofs.bytes.word_end.Statement.{statement}
 use Rattle.letters.proofs.bytes.word_end.Tie as tie
 
 abbrev invariant-loop : tie.invariant-loop
-invariant-loop card from at₀ at = runEnd in_word card from ≡ runEnd in_word card at
+invariant-loop card from at₀ at = run_end in_word card from ≡ run_end in_word card at
 
 abbrev decreases-loop : tie.decreases-loop
 decreases-loop card from at₀ at = length card - at
@@ -27,7 +27,7 @@ in-word-requires c κs = search rules
 returns : tie.Need-returns invariant-loop decreases-loop
 returns c =
     sym
-    (c.before.before.before.before.loop.invariant ∙ end-off in_word c.before.before.before.before.before.before.args.card.now
+    (c.before.before.before.before.loop.invariant ∙ end_off in_word c.before.before.before.before.before.before.args.card.now
     c.before.before.before.before.loop.at c.before.before.before.loop-test.true
     (sym c.before.in-word.ensures ∙ not-true c.before.in-word.result c.if1.true))
 

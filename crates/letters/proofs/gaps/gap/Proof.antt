@@ -5,21 +5,21 @@ use native.Mathlib.Omega.{arith}
 use lib.Dec.{eqb}
 use lib.ListN.{drop}
 use borrow.Author.Tests.{ne_eqb}
-use Rattle.marks_on_a_card.proofs.Lists.{and-off}
-use Rattle.marks_on_a_card.proofs.StartLaws.{not-blank, gap-blank, gap-comment, gap-none}
+use Rattle.marks_on_a_card.proofs.Lists.{and_off}
+use Rattle.marks_on_a_card.proofs.StartLaws.{not_blank, gap_blank, gap_comment, gap_none}
 use borrow.Author.Rules.{rules}
 use Rattle.letters.proofs.gaps.gap.Statement.{statement}
 use Rattle.letters.proofs.gaps.gap.Tie as tie
 
 returns : tie.Need-returns
-returns c = sym (gap-blank c.before.before.args.b (drop (c.before.before.args.at + 1) c.before.before.args.card.now) (rw c.if1.true))
+returns c = sym (gap_blank c.before.before.args.b (drop (c.before.before.args.at + 1) c.before.before.args.card.now) (rw c.if1.true))
 
 returns-2 : tie.Need-returns-2
 returns-2 c =
     let entry = c.before.before.before in
     sym
-    (gap-none entry.args.b (drop (entry.args.at + 1) entry.args.card.now)
-    (not-blank entry.args.b (omega arith)) (rw (ne_eqb entry.args.b 47 (λ q. omega arith))))
+    (gap_none entry.args.b (drop (entry.args.at + 1) entry.args.card.now)
+    (not_blank entry.args.b (omega arith)) (rw (ne_eqb entry.args.b 47 (λ q. omega arith))))
 
 add-next : tie.Need-overflow-add-next
 add-next c = search rules
@@ -40,9 +40,9 @@ returns-3 c =
     omega (
       arith,
       c.line-end.ensures,
-      gap-comment entry.args.b
+      gap_comment entry.args.b
           (drop (entry.args.at + 1) entry.args.card.now)
-          (not-blank entry.args.b (omega arith)) at-if3.if3.true
+          (not_blank entry.args.b (omega arith)) at-if3.if3.true
           (sym c.before.before.stands.ensures ∙ c.before.if4.true),
     )
 
@@ -50,18 +50,18 @@ returns-4 : tie.Need-returns-4
 returns-4 c =
     let entry = c.before.before.before.before.before.before in
     sym
-    (gap-none entry.args.b
+    (gap_none entry.args.b
     (drop (entry.args.at + 1) entry.args.card.now)
-    (not-blank entry.args.b (omega arith))
-    (and-off (eqb entry.args.b 47) _ (sym c.before.stands.ensures ∙ c.if4.false)))
+    (not_blank entry.args.b (omega arith))
+    (and_off (eqb entry.args.b 47) _ (sym c.before.stands.ensures ∙ c.if4.false)))
 
 returns-5 : tie.Need-returns-5
 returns-5 c =
     let entry = c.before.before.before.before.before in
     sym
-    (gap-none entry.args.b
+    (gap_none entry.args.b
     (drop (entry.args.at + 1) entry.args.card.now)
-    (not-blank entry.args.b (omega arith))
+    (not_blank entry.args.b (omega arith))
     (rw (ne_eqb entry.args.b 47 c.before.if3.false)))
 
 is-blank-requires : tie.Need-is-blank-requires
@@ -71,7 +71,7 @@ returns-6 : tie.Need-returns-6
 returns-6 c =
     let entry = c.before.before.before.before.before.before.before in
     sym
-    (gap-blank entry.args.b
+    (gap_blank entry.args.b
     (drop (entry.args.at + 1) entry.args.card.now)
     (sym c.before.is-blank.ensures ∙ c.if6.true))
 
@@ -80,7 +80,7 @@ returns-7 c =
     let at-if3 = c.before.before.before in
     let entry = at-if3.before.before.before.before in
     sym
-    (gap-none entry.args.b
+    (gap_none entry.args.b
     (drop (entry.args.at + 1) entry.args.card.now)
     (sym c.before.is-blank.ensures ∙ c.if6.false)
     (rw (ne_eqb entry.args.b 47 at-if3.if3.false)))

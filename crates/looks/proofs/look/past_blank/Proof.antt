@@ -2,7 +2,7 @@
 use native.Mathlib.Omega.{arith}
 use mathlib.Core.Path.{sym, ◌∙◌}
 use lib.Dec.{eqb}
-use Rattle.marks_on_a_card.proofs.Runs.{begins-place}
+use Rattle.marks_on_a_card.proofs.Runs.{begins_place}
 use borrow.Author.Rules.{rules}
 use Rattle.looks.proofs.look.past_blank.Statement.{statement}
 use Rattle.looks.proofs.look.past_blank.Tie as tie
@@ -11,7 +11,7 @@ stands-requires : tie.Need-stands-requires
 stands-requires c κs = search rules
 
 add-result : tie.Need-overflow-add-result
-add-result c = omega (arith, begins-place (eqb 32) c.before.before.before.args.card.now c.before.before.before.args.at (sym c.before.stands.ensures ∙ c.if1.true))
+add-result c = omega (arith, begins_place (eqb 32) c.before.before.before.args.card.now c.before.before.before.args.at (sym c.before.stands.ensures ∙ c.if1.true))
 
 returns : tie.Need-returns
 returns c = rw (sym c.before.stands.ensures ∙ c.if1.true)

@@ -1,5 +1,5 @@
 -- The definition's test.
-use Rattle.marks_on_a_card.proofs.Runs.{begins-place}
+use Rattle.marks_on_a_card.proofs.Runs.{begins_place}
 use lib.Dec.{eqb}
 use mathlib.Core.Path.{sym, ◌∙◌}
 use native.Mathlib.Omega.{arith}
@@ -11,7 +11,7 @@ stands-requires : tie.Need-stands-requires
 stands-requires c κs = search rules
 
 add-result : tie.Need-overflow-add-result
-add-result c = omega (arith, begins-place (eqb 10) c.before.before.before.args.card.now c.before.before.before.args.at (sym c.before.stands.ensures ∙ c.if1.true))
+add-result c = omega (arith, begins_place (eqb 10) c.before.before.before.args.card.now c.before.before.before.args.at (sym c.before.stands.ensures ∙ c.if1.true))
 
 returns : tie.Need-returns
 returns c = rw (sym c.before.stands.ensures ∙ c.if1.true)

@@ -1,5 +1,5 @@
 -- The definition's two tests, or the end.
-use Rattle.looks.proofs.Quick.{sign-none, sign_at}
+use Rattle.looks.proofs.Quick.{sign_none, sign_at}
 use borrow.Author.Tests.{eq-eqb, ne_eqb}
 use lib.ListN.{get_or}
 use mathlib.Core.Path.{sym, ◌∙◌}
@@ -37,7 +37,7 @@ returns-2 c =
     entry.args.kind (λ q. c.if2.false (c.before.wide.ensures ∙ q))))
 
 returns-3 : tie.Need-returns-3
-returns-3 c = sym (sign-none c.before.before.args.kind c.before.before.args.card.now c.before.before.args.at c.if1.false)
+returns-3 c = sym (sign_none c.before.before.args.kind c.before.before.args.card.now c.before.before.args.at c.if1.false)
 
 pub sign-here-spec : {M : Type 1} → statement M
 sign-here-spec =

@@ -5,14 +5,14 @@ use native.Mathlib.Omega.{arith}
 use lib.ListN.{length, get_or, drop, length-drop}
 use borrow.Author.Rules.{rules}
 use Rattle.marks_on_a_card.specs.Marks.{start_at}
-use Rattle.marks.specs.Step.{stepAt}
-use Rattle.marks.proofs.Starts.{step_end, step-mark, step-gap}
-use Rattle.marks_on_a_card.proofs.StartLaws.{gap-fits}
+use Rattle.marks.specs.Step.{step_at}
+use Rattle.marks.proofs.Starts.{step_end_law, step_mark, step_gap}
+use Rattle.marks_on_a_card.proofs.StartLaws.{gap_fits}
 use Rattle.marks.proofs.Cursor.step.Statement.{statement}
 use Rattle.marks.proofs.Cursor.step.Tie as tie
 
 abbrev invariant-loop : tie.invariant-loop
-invariant-loop card at₀ at = stepAt card at₀ ≡ stepAt card at
+invariant-loop card at₀ at = step_at card at₀ ≡ step_at card at
 
 abbrev decreases-loop : tie.decreases-loop
 decreases-loop card at₀ at = length card - at
@@ -33,13 +33,13 @@ returns : tie.Need-returns invariant-loop decreases-loop
 returns c =
     let s = c.before.before.before.before.before.before.before.args.card.now in
     let i = c.before.before.before.before.before.loop.at in
-    step-mark s i c.before.before.before.before.loop-test.true (start_at (get_or s i 0) (drop (i + 1) s)) c.start.result refl c.start.ensures ∙ sym c.before.before.before.before.before.loop.invariant
+    step_mark s i c.before.before.before.before.loop-test.true (start_at (get_or s i 0) (drop (i + 1) s)) c.start.result refl c.start.ensures ∙ sym c.before.before.before.before.before.loop.invariant
 
 add_at : tie.Need-overflow-add-at invariant-loop decreases-loop
 add_at c =
     let s = c.before.before.before.before.before.before.args.card.now in
     let i = c.before.before.before.before.loop.at in
-    omega (arith, c.before.gap.ensures, gap-fits (get_or s i 0) (drop (i + 1) s), length-drop (i + 1) s, c.before.before.before.loop-test.true, c.before.before.before.before.before.before.well-formed.0)
+    omega (arith, c.before.gap.ensures, gap_fits (get_or s i 0) (drop (i + 1) s), length-drop (i + 1) s, c.before.before.before.loop-test.true, c.before.before.before.before.before.before.well-formed.0)
 
 loop-less : tie.Need-loop-smaller invariant-loop decreases-loop
 loop-less c = omega (arith, c.if1.false, c.before.before.before.loop-test.true)
@@ -48,14 +48,14 @@ loop-again : tie.Need-loop-preserved invariant-loop decreases-loop
 loop-again c =
     let s = c.before.before.before.before.before.before.args.card.now in
     let i = c.before.before.before.before.loop.at in
-    c.before.before.before.before.loop.invariant ∙ step-gap s i c.before.before.before.loop-test.true (λ z. c.if1.false (c.before.gap.ensures ∙ z)) ∙ ap
-    (λ (n : ℕ). stepAt s (i + n)) (sym c.before.gap.ensures)
+    c.before.before.before.before.loop.invariant ∙ step_gap s i c.before.before.before.loop-test.true (λ z. c.if1.false (c.before.gap.ensures ∙ z)) ∙ ap
+    (λ (n : ℕ). step_at s (i + n)) (sym c.before.gap.ensures)
 
 bare-requires : tie.Need-bare-requires invariant-loop decreases-loop
 bare-requires c κs = search rules
 
 returns-2 : tie.Need-returns-2 invariant-loop decreases-loop
-returns-2 c = c.bare.ensures ∙ sym (c.before.before.loop.invariant ∙ step_end c.before.before.before.before.args.card.now c.before.before.loop.at c.before.loop-test.false)
+returns-2 c = c.bare.ensures ∙ sym (c.before.before.loop.invariant ∙ step_end_law c.before.before.before.before.args.card.now c.before.before.loop.at c.before.loop-test.false)
 
 pub step_spec : {M : Type 1} → statement M
 step_spec =

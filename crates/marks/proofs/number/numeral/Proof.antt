@@ -1,13 +1,13 @@
 -- Each exit has its law (proofs/Starts.antt), over the digits as they were counted.
-use Rattle.marks.proofs.Starts.{numeral-outside, read_number, read-long, read-decimal}
-use Rattle.marks_on_a_card.proofs.Numbers.{pointed-place, counted-fits}
+use Rattle.marks.proofs.Starts.{numeral_outside, read_number, read_long, read_decimal}
+use Rattle.marks_on_a_card.proofs.Numbers.{pointed_place, counted_fits}
 use borrow.Author.Tests.{not-true, not-false}
 use native.Mathlib.Omega.{arith}
 use mathlib.Core.Path.{◌≡◌, sym, ◌∙◌}
 use lib.ListN.{length, drop}
 use Prim.Native.Nat.{◌+◌, ◌≤◌, ◌<◌}
-use Rattle.card.specs.Limits.{numberDigits, furtherDigits}
-use Rattle.marks_on_a_card.specs.Bytes.{isDigit, run}
+use Rattle.card.specs.Limits.{number_digits, further_digits}
+use Rattle.marks_on_a_card.specs.Bytes.{is_digit, run}
 use Rattle.marks_on_a_card.specs.Digits.{plain}
 use borrow.Author.Rules.{rules}
 use Rattle.marks.proofs.number.numeral.Statement.{statement}
@@ -17,11 +17,11 @@ digits-from-requires : tie.Need-digits-from-requires
 digits-from-requires c κs = search rules
 
 is-plain-requires : tie.Need-is-plain-requires
-is-plain-requires c κs = c.digits_from.ensures.count-is
+is-plain-requires c κs = c.digits_from.ensures.count_is
 
 -- the digits before a point are judged as a number's
 digits-judged : (c : tie.After-is-plain)
-    → let start = c.before.before.before in c.is_plain.result ≡ plain numberDigits (run isDigit (drop start.args.at start.args.card.now))
+    → let start = c.before.before.before in c.is_plain.result ≡ plain number_digits (run is_digit (drop start.args.at start.args.card.now))
 digits-judged c = c.is_plain.ensures
 
 add-bare : tie.Need-overflow-add-bare
@@ -35,7 +35,7 @@ returns c =
     let at-is-plain = c.before.before in
     let entry = at-is-plain.before.before.before in
     λ k. c.bare.ensures ∙ sym
-    (numeral-outside entry.args.card.now entry.args.at
+    (numeral_outside entry.args.card.now entry.args.at
     entry.requires.0 entry.requires.1 k
     (sym (digits-judged at-is-plain) ∙ not-true at-is-plain.is_plain.result c.before.if1.true))
 
@@ -45,7 +45,7 @@ add-point c =
     let entry = at-digits-from.before.before in
     omega (
       arith,
-      counted-fits entry.args.card.now entry.args.at
+      counted_fits entry.args.card.now entry.args.at
           (omega (arith, entry.requires.0)) at-digits-from.digits_from.result at-digits-from.digits_from.ensures,
       entry.well-formed.0,
     )
@@ -78,7 +78,7 @@ add-from c =
     let entry = at-digits-from.before.before in
     omega (
       arith,
-      pointed-place entry.args.card.now
+      pointed_place entry.args.card.now
           (entry.args.at + at-digits-from.digits_from.result.count)
           (sym at-is-pointed.is-pointed.ensures ∙ not-false at-is-pointed.is-pointed.result c.if2.false),
       entry.well-formed.0,
@@ -103,7 +103,7 @@ returns-3 c =
     let at-digits-from = at-is-plain.before in
     let entry = at-digits-from.before.before in
     λ k. c.bare2.ensures ∙ sym
-    (read-long entry.args.card.now
+    (read_long entry.args.card.now
     entry.args.at
     entry.requires.0
     entry.requires.1 k
@@ -116,7 +116,7 @@ returns-3 c =
     c.before.if3.true)
 
 -- a decimal has no more digits behind its point than it may have
-few-further : (c : tie.Else3) → c.before.digits-from2.result.count ≤ furtherDigits
+few-further : (c : tie.Else3) → c.before.digits-from2.result.count ≤ further_digits
 few-further c = c.if3.false
 
 add-t14 : tie.Need-overflow-add-t14
@@ -128,12 +128,12 @@ add-t14 c =
     let point :
     entry.args.at + at-digits-from.digits_from.result.count + 1 <
     length entry.args.card.now =
-    pointed-place entry.args.card.now
+    pointed_place entry.args.card.now
     (entry.args.at + at-digits-from.digits_from.result.count)
     (sym at-is-pointed.is-pointed.ensures ∙ not-false at-is-pointed.is-pointed.result c.before.before.if2.false) in
     omega (
       arith,
-      counted-fits entry.args.card.now
+      counted_fits entry.args.card.now
           (entry.args.at + at-digits-from.digits_from.result.count + 1)
           (omega arith) at-digits-from2.digits-from2.result at-digits-from2.digits-from2.ensures,
       entry.well-formed.0,
@@ -148,7 +148,7 @@ returns-4 c =
     let at-digits-from = at-is-plain.before in
     let entry = at-digits-from.before.before in
     λ k. sym
-    (read-decimal entry.args.card.now
+    (read_decimal entry.args.card.now
     entry.args.at entry.requires.0
     entry.requires.1 k at-digits-from.digits_from.result
     at-digits-from.digits_from.ensures at-digits-from2.digits-from2.result at-digits-from2.digits-from2.ensures

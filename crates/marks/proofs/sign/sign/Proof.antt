@@ -1,7 +1,7 @@
 -- Each exit has its law (proofs/Starts.antt); the kind of a sign of one byte is that byte.
-use Rattle.marks.proofs.Starts.{sign-two, sign-alone, sign-single, sign-one, sign-none}
-use Rattle.marks_on_a_card.proofs.StartLaws.{no_second, sign-second, sign-kind}
-use Rattle.marks.specs.Parts.{bareOf}
+use Rattle.marks.proofs.Starts.{sign_two, sign_alone, sign_single, sign_one, sign_none}
+use Rattle.marks_on_a_card.proofs.StartLaws.{no_second, sign_second, sign_kind}
+use Rattle.marks.specs.Parts.{bare_of}
 use lib.ListN.{drop}
 use mathlib.Core.Path.{refl, sym, ap, ◌∙◌}
 use Prim.Native.Nat.{ℕ, ◌+◌}
@@ -27,7 +27,7 @@ returns c =
     let entry = at-if1.before.before in
     λ k. rw at-if1.if1.true
     (c.bare.ensures ∙ sym
-    (sign-two 33 (drop (entry.args.at + 1) entry.args.card.now)
+    (sign_two 33 (drop (entry.args.at + 1) entry.args.card.now)
     entry.args.at k 61 refl (sym c.before.before.stands.ensures ∙ c.before.if2.true)))
 
 bare-requires-2 : tie.Need-bare-requires-2
@@ -39,9 +39,9 @@ returns-2 c =
     let entry = at-if1.before.before in
     λ k. rw at-if1.if1.true
     (c.bare2.ensures ∙ sym
-    (sign-one 33 (drop (entry.args.at + 1) entry.args.card.now)
+    (sign_one 33 (drop (entry.args.at + 1) entry.args.card.now)
     entry.args.at k
-    (sign-alone 33 (drop (entry.args.at + 1) entry.args.card.now)
+    (sign_alone 33 (drop (entry.args.at + 1) entry.args.card.now)
     entry.args.at k 61 refl (sym c.before.before.stands.ensures ∙ c.before.if2.false))
     refl))
 
@@ -63,8 +63,8 @@ returns-3 c =
     let i = entry.args.at in
     let y = sym at-is-sign.is-sign.ensures ∙ c.before.before.if3.true in
     let s = drop (i + 1) entry.args.card.now in
-    λ k. c.bare3.ensures ∙ ap (λ (v : ℕ). bareOf v i (i + 1)) (c.before.wide.ensures ∙ sym (sign-kind b y)) ∙ sym
-    (sign-one b s i k (sign-single b s i k (sign-second b at-if1.if1.false y)) y)
+    λ k. c.bare3.ensures ∙ ap (λ (v : ℕ). bare_of v i (i + 1)) (c.before.wide.ensures ∙ sym (sign_kind b y)) ∙ sym
+    (sign_one b s i k (sign_single b s i k (sign_second b at-if1.if1.false y)) y)
 
 stands-requires-2 : tie.Need-stands-requires-2
 stands-requires-2 c κs = search rules
@@ -81,7 +81,7 @@ returns-4 c =
     let entry = at-if4.before.before.before.before.before in
     λ k. rw at-if4.if4.true
     (c.bare4.ensures ∙ sym
-    (sign-two 46
+    (sign_two 46
     (drop (entry.args.at + 1)
     entry.args.card.now)
     entry.args.at k 46 refl (sym c.before.before.stands2.ensures ∙ c.before.if5.true)))
@@ -95,11 +95,11 @@ returns-5 c =
     let entry = at-if4.before.before.before.before.before in
     λ k. rw at-if4.if4.true
     (c.bare5.ensures ∙ sym
-    (sign-none 46
+    (sign_none 46
     (drop (entry.args.at + 1)
     entry.args.card.now)
     entry.args.at k
-    (sign-alone 46
+    (sign_alone 46
     (drop (entry.args.at + 1)
     entry.args.card.now)
     entry.args.at k 46 refl (sym c.before.before.stands2.ensures ∙ c.before.if5.false))
@@ -120,7 +120,7 @@ returns-6 c =
     let entry = at-if6.before.before.before.before.before.before in
     λ k. rw at-if6.if6.true
     (c.bare6.ensures ∙ sym
-    (sign-two 45
+    (sign_two 45
     (drop (entry.args.at + 1)
     entry.args.card.now)
     entry.args.at k 62 refl
@@ -135,11 +135,11 @@ returns-7 c =
     let entry = at-if6.before.before.before.before.before.before in
     λ k. rw at-if6.if6.true
     (c.bare7.ensures ∙ sym
-    (sign-none 45
+    (sign_none 45
     (drop (entry.args.at + 1)
     entry.args.card.now)
     entry.args.at k
-    (sign-alone 45
+    (sign_alone 45
     (drop (entry.args.at + 1)
     entry.args.card.now)
     entry.args.at k 62 refl
@@ -156,10 +156,10 @@ returns-8 c =
     let at-if1 = at-is-sign.before in
     let entry = at-if1.before.before in
     λ k. c.bare8.ensures ∙ sym
-    (sign-none entry.args.b
+    (sign_none entry.args.b
     (drop (entry.args.at + 1) entry.args.card.now)
     entry.args.at k
-    (sign-single entry.args.b
+    (sign_single entry.args.b
     (drop (entry.args.at + 1) entry.args.card.now)
     entry.args.at k
     (no_second entry.args.b at-if1.if1.false

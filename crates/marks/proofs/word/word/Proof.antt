@@ -2,8 +2,8 @@
 use mathlib.Core.Path.{refl, sym, ◌∙◌}
 use native.Mathlib.Omega.{arith}
 use Rattle.card.specs.Text.{bytes}
-use Rattle.words_and_digits.proofs.Keywords.{keyword-fits}
-use Rattle.marks.proofs.Words.{numbered-fits, seat-word, process-word, other_word, keyword-word}
+use Rattle.words_and_digits.proofs.Keywords.{keyword_fits}
+use Rattle.marks.proofs.Words.{numbered_fits, seat_word, process_word, other_word, keyword_word}
 use borrow.Author.Rules.{rules}
 use Rattle.marks.proofs.word.word.Statement.{statement}
 use Rattle.marks.proofs.word.word.Tie as tie
@@ -20,7 +20,7 @@ add-valued c =
     let entry = at-numbered-at.before.before.before in
     omega (
       arith,
-      numbered-fits (bytes "s") entry.args.card.now entry.args.at
+      numbered_fits (bytes "s") entry.args.card.now entry.args.at
           (omega (arith, entry.requires.0)) at-numbered-at.numbered-at.result at-numbered-at.numbered-at.ensures c.if1.true,
       entry.well-formed.0,
     )
@@ -32,7 +32,7 @@ returns : tie.Need-returns
 returns c =
     let at-numbered-at = c.before.before in
     let entry = at-numbered-at.before.before.before in
-    seat-word entry.args.card.now entry.args.at
+    seat_word entry.args.card.now entry.args.at
     entry.requires.0 entry.requires.1 at-numbered-at.numbered-at.result
     at-numbered-at.numbered-at.ensures c.before.if1.true c.valued.result c.valued.ensures
 
@@ -48,7 +48,7 @@ add-valued-2 c =
     let entry = at-numbered-at2.before.before.before.before.before.before in
     omega (
       arith,
-      numbered-fits (bytes "process") entry.args.card.now
+      numbered_fits (bytes "process") entry.args.card.now
           entry.args.at (omega (arith, entry.requires.0))
           at-numbered-at2.numbered-at2.result at-numbered-at2.numbered-at2.ensures c.if2.true,
       entry.well-formed.0,
@@ -63,7 +63,7 @@ returns-2 c =
     let at-if1 = at-numbered-at2.before.before in
     let at-numbered-at = at-if1.before in
     let entry = at-numbered-at.before.before.before in
-    process-word entry.args.card.now
+    process_word entry.args.card.now
     entry.args.at entry.requires.0
     entry.requires.1 at-numbered-at.numbered-at.result
     at-numbered-at.numbered-at.ensures at-if1.if1.false at-numbered-at2.numbered-at2.result
@@ -75,7 +75,7 @@ keyword-begun-requires c κs = omega (arith, c.before.before.before.before.befor
 is-other-requires : tie.Need-is-other-requires
 is-other-requires c κs =
     let entry = c.before.before.before.before.before.before.before.before in
-    keyword-fits entry.args.card.now
+    keyword_fits entry.args.card.now
     entry.args.at entry.requires.0
     entry.requires.1 c.keyword-begun.result c.keyword-begun.ensures
 
@@ -113,7 +113,7 @@ add-bare c =
     let entry = at-keyword-begun.before.before.before.before.before.before.before.before in
     omega (
       arith,
-      keyword-fits entry.args.card.now
+      keyword_fits entry.args.card.now
           entry.args.at
           entry.requires.0
           entry.requires.1 at-keyword-begun.keyword-begun.result
@@ -132,7 +132,7 @@ returns-4 c =
     let at-if1 = at-numbered-at2.before.before in
     let at-numbered-at = at-if1.before in
     let entry = at-numbered-at.before.before.before in
-    keyword-word entry.args.card.now
+    keyword_word entry.args.card.now
     entry.args.at
     entry.requires.0
     entry.requires.1

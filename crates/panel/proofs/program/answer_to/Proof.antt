@@ -3,8 +3,8 @@ use borrow.Author.Rules.{rules}
 use lib.Seq.{length-take-le}
 use mathlib.Core.Path.{refl, sym}
 use native.Mathlib.Omega.{arith}
-use Rattle.panel.proofs.SeatsLine.{line-found, found_within}
-use Rattle.panel.proofs.Parts.{handed-count, answer-said, card-from, card-left}
+use Rattle.panel.proofs.SeatsLine.{line_found, found_within}
+use Rattle.panel.proofs.Parts.{handed_count, answer_said, card_from, card_left}
 use Rattle.panel.proofs.program.answer_to.Statement.{statement}
 use Rattle.panel.proofs.program.answer_to.Tie as tie
 
@@ -40,7 +40,7 @@ array-share-prefix-seats c = search rules
 slice-aggregate-print : tie.Need-slice-aggregate-print
 slice-aggregate-print c =
     let at-put-seats = c.before.before.before.before in
-    handed-count _ _ at-put-seats.put-seats.ensures.0 at-put-seats.put-seats.ensures.1
+    handed_count _ _ at-put-seats.put-seats.ensures.0 at-put-seats.put-seats.ensures.1
 
 print-requires : tie.Need-print-requires
 print-requires c κs = search rules
@@ -54,7 +54,7 @@ returns c =
     let at-put-seats = at-if1.before.before in
     let at-line-end = at-put-seats.before.before.before in
     let start = at-line-end.before.before.before in
-    rw (answer-said _ _ _ (line-found start.args.input.now at-line-end.line-end.ensures) (search rules) at-put-seats.put-seats.ensures.0 at-put-seats.put-seats.ensures.1 (card-from _ (line-found start.args.input.now at-line-end.line-end.ensures) at-if1.if1.true refl)) at c.before.before.print.ensures
+    rw (answer_said _ _ _ (line_found start.args.input.now at-line-end.line-end.ensures) (search rules) at-put-seats.put-seats.ensures.0 at-put-seats.put-seats.ensures.1 (card_from _ (line_found start.args.input.now at-line-end.line-end.ensures) at-if1.if1.true refl)) at c.before.before.print.ensures
 
 sub-print-2 : tie.Need-overflow-sub-print-2
 sub-print-2 c =
@@ -80,7 +80,7 @@ array-share-prefix-seats-2 c = search rules
 slice-aggregate-print-2 : tie.Need-slice-aggregate-print-2
 slice-aggregate-print-2 c =
     let at-put-seats = c.before.before.before.before in
-    handed-count _ _ at-put-seats.put-seats.ensures.0 at-put-seats.put-seats.ensures.1
+    handed_count _ _ at-put-seats.put-seats.ensures.0 at-put-seats.put-seats.ensures.1
 
 print-requires-2 : tie.Need-print-requires-2
 print-requires-2 c κs = search rules
@@ -94,7 +94,7 @@ returns-2 c =
     let at-put-seats = at-if1.before.before in
     let at-line-end = at-put-seats.before.before.before in
     let start = at-line-end.before.before.before in
-    rw (answer-said _ _ _ (line-found start.args.input.now at-line-end.line-end.ensures) (search rules) at-put-seats.put-seats.ensures.0 at-put-seats.put-seats.ensures.1 (card-left _ (line-found start.args.input.now at-line-end.line-end.ensures) at-if1.if1.false)) at c.before.before.print2.ensures
+    rw (answer_said _ _ _ (line_found start.args.input.now at-line-end.line-end.ensures) (search rules) at-put-seats.put-seats.ensures.0 at-put-seats.put-seats.ensures.1 (card_left _ (line_found start.args.input.now at-line-end.line-end.ensures) at-if1.if1.false)) at c.before.before.print2.ensures
 
 pub answer-to-spec : {M : Type 1} → statement M
 answer-to-spec =

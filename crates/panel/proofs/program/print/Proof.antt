@@ -1,6 +1,6 @@
 -- `panel::program::print` meets its contract: the panel, or the line of its refusal. Assumes nothing.
-use Rattle.panel.proofs.Parts.{panel-short}
-use Rattle.program_lines.proofs.Printing.{printed-done, printed-refused}
+use Rattle.panel.proofs.Parts.{panel_short}
+use Rattle.program_lines.proofs.Printing.{printed_done, printed_refused}
 use native.Mathlib.Omega.{arith}
 use borrow.Author.Rules.{rules}
 use Rattle.panel.proofs.program.print.Statement.{statement}
@@ -18,7 +18,7 @@ same_length c = search rules
 returns : tie.Need-returns
 returns c =
     let at-panel = c.before.before.before.before.before in
-    printed-done at-panel.panel.ensures c.before.answer.given.1
+    printed_done at-panel.panel.ensures c.before.answer.given.1
 
 enum-known-answer-2 : tie.Need-enum-known-answer-2
 enum-known-answer-2 c = search rules
@@ -34,7 +34,7 @@ returns-2 c =
     let at-answer2 = c.before.before.before.before.before in
     let at-panel = at-answer2.before.before.before.before in
     let start = at-panel.before.before.before.before.before in
-    printed-refused (panel-short _ _) start.requires (omega arith) at-panel.panel.ensures at-answer2.answer2.given.1 c.before.before.put-refusal.ensures.0 c.before.before.put-refusal.ensures.1
+    printed_refused (panel_short _ _) start.requires (omega arith) at-panel.panel.ensures at-answer2.answer2.given.1 c.before.before.put-refusal.ensures.0 c.before.before.put-refusal.ensures.1
 
 pub print-spec : {M : Type 1} → statement M
 print-spec =

@@ -2,7 +2,7 @@
 use mathlib.Core.Path.{sym}
 use lib.Seq.{length-take-le}
 use native.Mathlib.Nat.{le_of_lt}
-use Rattle.panel.proofs.Parts.{program-short, program-long}
+use Rattle.panel.proofs.Parts.{program_short, program_long}
 use borrow.Author.Rules.{rules}
 use Rattle.panel.proofs.program.respond.Statement.{statement}
 use Rattle.panel.proofs.program.respond.Tie as tie
@@ -14,13 +14,13 @@ answer-to-requires : tie.Need-answer-to-requires
 answer-to-requires c κs = search rules
 
 returns : tie.Need-returns
-returns c = rw (program-long _) at c.answer-to.ensures
+returns c = rw (program_long _) at c.answer-to.ensures
 
 answer-to-requires-2 : tie.Need-answer-to-requires-2
 answer-to-requires-2 c κs = search rules
 
 returns-2 : tie.Need-returns-2
-returns-2 c = rw (program-short _ c.before.before.if1.false) at c.answer-to2.ensures
+returns-2 c = rw (program_short _ c.before.before.if1.false) at c.answer-to2.ensures
 
 pub respond-spec : {M : Type 1} → statement M
 respond-spec =

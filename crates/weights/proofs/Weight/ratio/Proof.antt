@@ -5,7 +5,7 @@ use native.Mathlib.Nat.{mul-le-mul_right, mul-div-le}
 use native.Mathlib.Omega.{arith}
 use borrow.Author.Rules.{rules}
 use Rattle.card.specs.Limits.{unit}
-use Rattle.weights.proofs.Judging.{ratio-zero, ratio-rest, ratio-over, ratio-kept}
+use Rattle.weights.proofs.Judging.{ratio_zero, ratio_rest, ratio_over, ratio_kept}
 use Rattle.weights.proofs.Weight.ratio.Statement.{statement}
 use Rattle.weights.proofs.Weight.ratio.Tie as tie
 
@@ -13,17 +13,17 @@ cast-unit : tie.Need-overflow-cast-unit
 cast-unit c = search rules
 
 returns : tie.Need-returns
-returns c = rw (ratio-zero c.before.args.a c.before.args.b c.if1.true)
+returns c = rw (ratio_zero c.before.args.a c.before.args.b c.if1.true)
 
 rem-if2 : tie.Need-nonzero-rem-if2
 rem-if2 c = search rules
 
 returns-2 : tie.Need-returns-2
-returns-2 c = rw (ratio-rest c.before.before.args.a c.before.before.args.b c.before.if1.false c.if2.true)
+returns-2 c = rw (ratio_rest c.before.before.args.a c.before.before.args.b c.before.if1.false c.if2.true)
 
 returns-3 : tie.Need-returns-3
 returns-3 c =
-    rw (ratio-over c.before.before.before.args.a c.before.before.before.args.b c.before.before.if1.false c.before.if2.false c.if3.true)
+    rw (ratio_over c.before.before.before.args.a c.before.before.before.args.b c.before.before.if1.false c.before.if2.false c.if3.true)
 
 div-units : tie.Need-nonzero-div-units
 div-units c = search rules
@@ -40,7 +40,7 @@ cast-t7 c =
 
 returns-4 : tie.Need-returns-4
 returns-4 c =
-    rw (ratio-kept c.before.before.before.args.a c.before.before.before.args.b c.before.before.if1.false c.before.if2.false c.if3.false)
+    rw (ratio_kept c.before.before.before.args.a c.before.before.before.args.b c.before.before.if1.false c.before.if2.false c.if3.false)
 
 pub ratio-spec : {M : Type 1} → statement M
 ratio-spec = tie.close (tie.spec cast-unit returns rem-if2 returns-2 returns-3 div-units mul-units cast-t7 returns-4)

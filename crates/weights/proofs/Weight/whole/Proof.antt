@@ -2,12 +2,12 @@
 use native.Mathlib.Omega.{arith}
 use borrow.Author.Rules.{rules}
 use borrow.Author.Tests.{le-leb, lt-leb}
-use Rattle.card.specs.Weight.{unitsOf}
+use Rattle.card.specs.Weight.{units_of}
 use Rattle.weights.proofs.Weight.whole.Statement.{statement}
 use Rattle.weights.proofs.Weight.whole.Tie as tie
 
 returns : tie.Need-returns
-unfolding unitsOf
+unfolding units_of
 returns c = rw (lt-leb c.before.args.v 1 (omega arith))
 
 cast-units : tie.Need-overflow-cast-units
@@ -20,7 +20,7 @@ cast-t5 : tie.Need-overflow-cast-t5
 cast-t5 c = search rules
 
 returns-2 : tie.Need-returns-2
-unfolding unitsOf
+unfolding units_of
 returns-2 c = rw (le-leb c.before.args.v 1 (omega arith))
 
 pub whole-spec : {M : Type 1} → statement M
