@@ -13,7 +13,7 @@ use Rattle.panel_numbers.specs.Taking.{takers}
 module _ (n : ℕ) (v : Position) (nodes rows : List ℕ) where
   -- how many of n seats, at counts v, may take statement i, counted from 0
   abbrev pub able_row : ℕ → ℕ
-  able_row i = takers n v (row_of rows i).own_val (guard_of nodes (i * most_nodes) (row_of rows i).nodes)
+  able_row i = takers n v (row_of rows i).own (guard_of nodes (i * most_nodes) (row_of rows i).nodes)
 
   -- of so many more statements, from i on, the first that some may take; places count from 1
   unfoldable pub first_row : ℕ → ℕ → Option ℕ

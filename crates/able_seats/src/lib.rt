@@ -1,4 +1,6 @@
 // How many seats may take a statement, at counts ("What a card means"), and the first of a card's statements that one may take (document 02, 2026-07).
+#![tactic(auto)]
+
 ghost use Rattle.std.specs.Prelude.{◌≡◌, ◌+◌, min, ◌≤◌};
 ghost use Rattle.card.specs.Laid.{guard_of};
 ghost use Rattle.meaning.specs.Position.{position};

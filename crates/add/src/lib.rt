@@ -1,4 +1,6 @@
 // A live card added to a box within the lent deck (document 02, 2026-12).
+#![tactic(auto)]
+
 ghost use Rattle.tidying.specs.Tidying.{add_said};
 ghost use Rattle.tidy.specs.Tidies.{Tidied};
 

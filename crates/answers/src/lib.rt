@@ -1,4 +1,6 @@
 // An entry's answer in numbers, for C ("Refusal numbers").
+#![tactic(auto)]
+
 ghost use Rattle.std.specs.Prelude.{◌≡◌};
 ghost use Rattle.evenings.specs.Rounds.{aim_of};
 ghost use Rattle.answers.specs.Numbered.{numbers, verdict_numbers};

@@ -1,1 +1,2 @@
 // Definitions and theorems only: reading a question.
+#![tactic(auto)]

@@ -1,4 +1,6 @@
 // A deck judged by its contents, and cards looked up in a box, alone or with an expansion (document 02, 2026-02). Only the contents are read, and no card.
+#![tactic(auto)]
+
 ghost use Rattle.std.specs.Prelude.{◌≡◌, ◌+◌, ◌≤◌, length, drop};
 ghost use Rattle.deck.specs.Contents.{judged, row_of, contents_of};
 ghost use Rattle.deck_entries.specs.Verdicts.{verdict_of};

@@ -1,4 +1,6 @@
 // A statement's branches put as text, in either of the two texts.
+#![tactic(auto)]
+
 ghost use Rattle.std.specs.Prelude.{map};
 ghost use Rattle.card.specs.Laid.{set_of as set_of_said, branch_of};
 ghost use Rattle.phrases.specs.Phrases.{◌▸◌, num};

@@ -1,4 +1,6 @@
 // Weights and branches, read from a card's bytes into the card's array of branches.
+#![tactic(auto)]
+
 ghost use Rattle.std.specs.Prelude.{◌≡◌, ◌+◌, ◌≤◌, ◌<◌};
 ghost use Rattle.card.specs.Limits.{most_branches, branch_places};
 ghost use Rattle.late.specs.State.{Sized, late_in, after};

@@ -1,4 +1,6 @@
 // Blocks of 32 bytes moved within one lent room, lower or higher (document 02, 2026-12).
+#![tactic(auto)]
+
 ghost use Rattle.std.specs.Prelude.{◌≡◌, ◌+◌, ◌≤◌, length, take, drop};
 ghost use Rattle.room.specs.Room.{clip};
 ghost use Rattle.byte_blocks.specs.Blocks.{block_bytes, BlocksDown, BlocksUp};

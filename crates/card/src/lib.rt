@@ -1,4 +1,6 @@
 // A card that has been read, as the program holds it: statements, flat guard nodes and flat branches in fixed arrays.
+#![tactic(auto)]
+
 pub mod limits;
 pub mod refusals;
 

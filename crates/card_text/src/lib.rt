@@ -1,4 +1,6 @@
 // The written card ("Texts, byte for byte", the paragraph on the written card), of a card that lies in arrays: how long it is, and the text stored in a room where it fits.
+#![tactic(auto)]
+
 ghost use Rattle.std.specs.Prelude.{◌≡◌, length, ◌-◌, ◌≤◌};
 ghost use Rattle.card.specs.Limits.{most_seats, most_statements};
 ghost use Rattle.card.specs.Card.{nondeterministic, probabilistic};

@@ -1,5 +1,7 @@
 // The edges that document 01 has run ("Both sides of the edge"): a card on each side of its limit, and a room on each side of a text's
 // length. What the writer answers is printed, and the file `stdout` fixes it.
+#![tactic(auto)]
+
 ghost use Rattle.io.specs.Counts.{IsPrefixLen};
 
 use libc::STDOUT_FILENO;

@@ -1,4 +1,6 @@
 // A list of the states' classes judged, the seats counted by it, and their line in a room (document 02, 2026-05).
+#![tactic(auto)]
+
 ghost use Rattle.std.specs.Prelude.{◌≡◌, ◌≤◌, length, take};
 ghost use Rattle.entry.specs.Said.{says as text};
 ghost use Rattle.room.specs.Answer.{Entered};

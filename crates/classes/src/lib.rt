@@ -1,1 +1,2 @@
 // Definitions and theorems only: public classes, which a spectator sees.
+#![tactic(auto)]

@@ -1,4 +1,6 @@
 // A box converted: its live cards without decimal weights, in a deck without gaps; or the card that cannot be converted (document 02, 2026-11).
+#![tactic(auto)]
+
 ghost use Rattle.std.specs.Prelude.{◌≡◌, ◌+◌, ◌≤◌, length, drop};
 ghost use Rattle.card.specs.Limits.{entry_bytes, most_cards};
 ghost use Rattle.deck.specs.Contents.{row_of, count_of, contents_of};

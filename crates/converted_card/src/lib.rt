@@ -1,4 +1,6 @@
 // One live card of a box that is converted: what is noted of it, and its written form put into a room (document 02, 2026-11).
+#![tactic(auto)]
+
 ghost use Rattle.std.specs.Prelude.{◌≡◌, true, ◌+◌, ◌≤◌, length};
 ghost use Rattle.reading.specs.Reading.{read_under as read_under_said};
 ghost use Rattle.room.specs.Room.{Put};

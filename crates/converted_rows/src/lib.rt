@@ -1,4 +1,6 @@
 // The contents of a converted deck put into a room, by a note for each entry: 0 if its body stays, else one more than the length of its written form (document 02, 2026-11).
+#![tactic(auto)]
+
 ghost use Rattle.std.specs.Prelude.{◌≡◌, [], ◌+◌, ◌≤◌, ◌<◌, length, drop};
 ghost use Rattle.card.specs.Limits.{entry_bytes, word_numbers};
 ghost use Rattle.deck.specs.Contents.{row_of, contents_of};

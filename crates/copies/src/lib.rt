@@ -1,4 +1,6 @@
 // The further modules of a card, up to its end, read from its bytes.
+#![tactic(auto)]
+
 ghost use Rattle.std.specs.Prelude.{◌≡◌, ◌≤◌};
 ghost use Rattle.card.specs.Limits.{most_seats};
 ghost use Rattle.late.specs.State.{Sized, late_in, after};

@@ -1,4 +1,6 @@
 // Guards held at the counts of a seating, and the units of a statement by where they end ("What a card means").
+#![tactic(auto)]
+
 ghost use Rattle.std.specs.Prelude.{◌≡◌, map, ◌+◌, min, take, drop};
 ghost use Rattle.card.specs.Limits.{most_branches};
 ghost use Rattle.card.specs.Laid.{guard_at, branch_of};

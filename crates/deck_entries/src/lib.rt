@@ -1,4 +1,6 @@
 // An entry of a deck's contents, from its bytes (document 02, 2026-02).
+#![tactic(auto)]
+
 ghost use Rattle.std.specs.Prelude.{◌≡◌, ◌+◌, ◌≤◌, ◌<◌, length, drop};
 ghost use Rattle.card.specs.Limits.{entry_bytes, word_numbers};
 ghost use Rattle.deck.specs.Contents.{word_at, row_of, row_said};

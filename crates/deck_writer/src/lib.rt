@@ -1,4 +1,6 @@
 // A box written from contents and bodies, without gaps: its lines judged, its count, entries and bodies put (document 02, 2026-02). No offset is read, and no card.
+#![tactic(auto)]
+
 ghost use Rattle.std.specs.Prelude.{◌≡◌, ◌*◌, ◌≤◌, ◌+◌, ◌<◌, length, [], ◌∷◌};
 ghost use Rattle.card.specs.Limits.{entry_bytes, most_cards, deck_bytes, word_numbers};
 ghost use Rattle.deck_written.specs.WriteDeckSaid.{lines, sizes, write_deck_said};

@@ -1,6 +1,8 @@
 // A step where it is known which sign is due: a quick look for it, behind one blank at most, and the cursor's step where it does not stand
 // there. The most frequent marks are looked for right at the place first: the processor then goes on behind the mark that it expects, while
 // past a blank or none it would have to wait for the byte.
+#![tactic(auto)]
+
 ghost use Rattle.std.specs.Prelude.{◌≡◌};
 ghost use Rattle.marks.specs.Step.{step_at};
 

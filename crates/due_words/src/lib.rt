@@ -1,4 +1,6 @@
 // A step where a word or a number is due, by looks that go as those for a sign do (due_signs).
+#![tactic(auto)]
+
 ghost use Rattle.std.specs.Prelude.{◌≡◌};
 ghost use Rattle.marks.specs.Step.{step_at};
 

@@ -1,4 +1,6 @@
 // All numbers of a panel that are kept, in one table that is lent ("Texts, byte for byte").
+#![tactic(auto)]
+
 ghost use Rattle.std.specs.Prelude.{◌≡◌, ◌<◌, set};
 ghost use Rattle.card.specs.Limits.{unit};
 ghost use Rattle.card.specs.Lent.{lent};

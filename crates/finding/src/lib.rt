@@ -1,4 +1,6 @@
 // The bytes of a card in a box, alone or with an expansion (document 02, 2026-02).
+#![tactic(auto)]
+
 ghost use Rattle.std.specs.Prelude.{◌≡◌, ◌+◌, ◌≤◌, length, drop, take};
 ghost use Rattle.deck.specs.Lookup.{find as find_said, find_with as find_with_said};
 ghost use Rattle.boxes.specs.Boxes.{told, Found};

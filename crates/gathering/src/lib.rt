@@ -1,4 +1,6 @@
 // The live entries of a deck: what each keeps when the deck is tidied, and all of them gathered, within the deck or at the front of its contents (document 02, 2026-12).
+#![tactic(auto)]
+
 ghost use Rattle.std.specs.Prelude.{◌≡◌, ◌+◌, ◌≤◌, ◌<◌, length, drop};
 ghost use Rattle.card.specs.Limits.{entry_bytes, word_numbers, count_bytes, most_cards};
 ghost use Rattle.deck.specs.Contents.{row_of, behind};

@@ -1,4 +1,6 @@
 // Groups of literals, read from a card's bytes.
+#![tactic(auto)]
+
 pub mod literal;
 
 ghost use Rattle.std.specs.Prelude.{◌≡◌, ◌&&◌, ◌∷◌, ℕ, eqb};

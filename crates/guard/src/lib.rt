@@ -1,5 +1,7 @@
 // Guards of a card, and questions, read from their bytes: the recursion over brackets, `!` and chains. Which of them it is, and how many
 // values the card's shared number has, is told by the number of a language (`languages`); only what a bracket starts hangs on it.
+#![tactic(auto)]
+
 ghost use Rattle.std.specs.Prelude.{true, false};
 ghost use Rattle.marks.specs.Step.{marks_at};
 ghost use Rattle.reading.specs.Reader.{at as from};

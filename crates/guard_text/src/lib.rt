@@ -1,4 +1,6 @@
 // A guard's nodes put as text, in either of the two texts: leaves, `!`, `&` and `|`.
+#![tactic(auto)]
+
 ghost use Rattle.std.specs.Prelude.{◌≡◌, ◌∷◌, ◌+◌, ◌<◌, ◌≤◌, eqb, leb};
 ghost use Rattle.card.specs.Limits.{node_places};
 ghost use Rattle.card.specs.Text.{if◌then◌else◌};

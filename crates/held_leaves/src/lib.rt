@@ -1,4 +1,6 @@
 // A leaf of a guard held at counts: its counter against its bound, or the shared number against its value.
+#![tactic(auto)]
+
 ghost use Rattle.std.specs.Prelude.{◌≡◌, eqb};
 ghost use Rattle.card.specs.Card.{is, isnt};
 ghost use Rattle.card.specs.Laid.{either, leaf_of, relation_part, state_part};

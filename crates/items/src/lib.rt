@@ -1,4 +1,6 @@
 // A guard's items, read from the bytes of a card or a question and kept: what a bracket starts where it starts no expression. That is a group, a test of the shared number, or exactly one seat in a state (document 02, 2026-01 and 2026-10).
+#![tactic(auto)]
+
 ghost use Rattle.std.specs.Prelude.{◌≡◌, ◌+◌, ◌<◌, ℕ, set, ◌∷◌, ◌&&◌, eqb};
 ghost use Rattle.items.specs.GroupsAsked.{of_all};
 ghost use Rattle.card.specs.Limits.{node_places};

@@ -1,4 +1,6 @@
 // Which of the languages of guards is read, as one number: twice how many values the shared number has (0: none is declared), and one more for a question.
+#![tactic(auto)]
+
 ghost use Rattle.std.specs.Prelude.{◌≡◌, true, false, ◌≤◌};
 ghost use Rattle.card.specs.Limits.{most_shared};
 ghost use Rattle.languages.specs.Number.{values_by, asks_by};

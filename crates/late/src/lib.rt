@@ -1,4 +1,6 @@
 // The refusals 5, 6 and 7, kept while a card is read, and the stop.
+#![tactic(auto)]
+
 pub mod state;
 
 ghost use Rattle.std.specs.Prelude.{◌≡◌, leb};

@@ -1,4 +1,6 @@
 // What is judged late of weights: their form, and their sum.
+#![tactic(auto)]
+
 ghost use Rattle.std.specs.Prelude.{◌≡◌};
 ghost use Rattle.late.specs.State.{Sized, late_in, with_late};
 ghost use Rattle.late_weights.specs.LateWeights.{form_by, sum_by};

@@ -1,4 +1,6 @@
 // How a leaf of a guard is put, in the written card and in the reduced program ("Texts, byte for byte").
+#![tactic(auto)]
+
 ghost use Rattle.std.specs.Prelude.{◌-◌};
 ghost use Rattle.card.specs.Card.{all, any, is, isnt};
 ghost use Rattle.card.specs.Laid.{either, leaf_of};

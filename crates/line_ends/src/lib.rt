@@ -1,4 +1,6 @@
 // Where a comment, or a line, ends ("Marks on a card"): at LF, or at the end of the card.
+#![tactic(auto)]
+
 ghost use Rattle.std.specs.Prelude.{◌≡◌};
 ghost use Rattle.marks_on_a_card.specs.Bytes.{not_lf, run_end};
 

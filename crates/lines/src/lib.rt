@@ -1,4 +1,6 @@
 // The panel's lines ("Texts, byte for byte"), one by one.
+#![tactic(auto)]
+
 ghost use Rattle.std.specs.Prelude.{◌≡◌, ◌++◌, ◌+◌, ◌≤◌, length, get_or};
 ghost use Rattle.card.specs.Limits.{most_shared};
 ghost use Rattle.phrases.specs.Phrases.{◌▸◌};

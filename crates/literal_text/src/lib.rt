@@ -1,4 +1,6 @@
 // A literal of a group put as text, alone or behind the sign that joins it to the one before ("Texts, byte for byte").
+#![tactic(auto)]
+
 ghost use Rattle.std.specs.Prelude.{◌≡◌};
 ghost use Rattle.card.specs.Card.{all, any, is, isnt};
 ghost use Rattle.card.specs.Laid.{either};

@@ -1,4 +1,6 @@
 // What a literal says behind its seat word, and whether it is as due in a term of an exactly-one (document 02, 2026-01).
+#![tactic(auto)]
+
 ghost use Rattle.std.specs.Prelude.{◌≡◌, not, ◌&&◌, ◌||◌, eqb};
 ghost use Rattle.literals_due.specs.Due.{due_number};
 

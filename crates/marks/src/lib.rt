@@ -1,4 +1,6 @@
 // A cursor by value over the bytes of a card: its step hands back the next mark and the cursor behind it.
+#![tactic(auto)]
+
 pub mod answer;
 mod number;
 mod sign;

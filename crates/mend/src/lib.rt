@@ -1,4 +1,6 @@
 // A box mended: the entries that obey the rules in a deck without gaps, and a list with a line for each entry (document 02, 2026-09).
+#![tactic(auto)]
+
 ghost use Rattle.std.specs.Prelude.{◌≡◌, ◌+◌, ◌≤◌, length, drop};
 ghost use Rattle.card.specs.Limits.{entry_bytes, most_cards};
 ghost use Rattle.entry.specs.Contract.{two};

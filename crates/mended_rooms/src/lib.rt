@@ -1,4 +1,6 @@
 // A mended deck and its list, put into a room each, all or nothing (document 02, 2026-09).
+#![tactic(auto)]
+
 ghost use Rattle.phrases.specs.Puts.{Puts};
 ghost use Rattle.mended_rooms.specs.Lines.{line_by, lines_by};
 ghost use Rattle.std.specs.Prelude.{◌≡◌, ◌+◌, ◌≤◌, ◌<◌, length, drop, [], map};

@@ -1,4 +1,6 @@
 // What C is told of a mended deck (document 02, 2026-09): no answer has place for two lengths, so the list's stands in a lent number.
+#![tactic(auto)]
+
 ghost use Rattle.mended_told.specs.LentRooms.{Tells};
 
 use answers::OpenPanelAnswer;

@@ -1,4 +1,6 @@
 // What mending sees without reading a card (document 02, 2026-09): the head of a deck, how far it has come from entry to entry, and which rules of the contents an entry breaks.
+#![tactic(auto)]
+
 ghost use Rattle.mending_walk.specs.Headed.{Headed};
 ghost use Rattle.std.specs.Prelude.{◌≡◌, ◌+◌, ◌≤◌, length, drop};
 ghost use Rattle.card.specs.Limits.{entry_bytes, most_cards};

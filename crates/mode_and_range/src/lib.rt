@@ -1,4 +1,6 @@
 // The mode of a card, and a range with its start, read from its bytes.
+#![tactic(auto)]
+
 ghost use Rattle.std.specs.Prelude.{◌≡◌, set};
 ghost use Rattle.late.specs.State.{at_top, at_start, Sized, late_in, after};
 ghost use Rattle.mode_and_range.specs.ModeRange.{ModeFrom, SpanFrom, RangeFrom};

@@ -1,1 +1,2 @@
 // What the entry for the first move has to say of a card's bytes and seats: definitions (specs/) and what is proved of them (proofs/); there is no code here.
+#![tactic(auto)]

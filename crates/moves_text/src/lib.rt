@@ -1,5 +1,7 @@
 // The weights of a panel ("Texts, byte for byte"; document 02, 2026-10): of a nondeterministic card in blocks, a statement each; of a
 // probabilistic card all moves by old state.
+#![tactic(auto)]
+
 ghost use Rattle.std.specs.Prelude.{suc, ◌<◌};
 ghost use Rattle.meaning.specs.Sums.{or_one, upto, flat};
 ghost use Rattle.meaning.specs.Panel.{moves_from};

@@ -1,1 +1,2 @@
 // Is anyone able to move, by seats and by counts: definitions (specs/) and what is proved of them (proofs/); there is no code here.
+#![tactic(auto)]

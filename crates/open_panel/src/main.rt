@@ -1,4 +1,6 @@
 // The panel program: reads standard input, prints the panel or the refusal. All that it prints is `panel::program::respond`'s.
+#![tactic(auto)]
+
 use libc::{STDIN_FILENO, STDOUT_FILENO};
 use panel::program::{OUTPUT_BYTES, respond};
 

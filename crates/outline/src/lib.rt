@@ -1,4 +1,6 @@
 // What reading a card hands back: beside arrays that the caller lends, or as one struct. A refusal leaves the arrays as zeros.
+#![tactic(auto)]
+
 ghost use Rattle.std.specs.Prelude.{◌≡◌, ◌≤◌, length};
 ghost use Rattle.card.specs.Limits.{most_statements};
 ghost use Rattle.card.specs.Laid.{zeros};

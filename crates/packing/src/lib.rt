@@ -1,5 +1,7 @@
 // A node and a branch as one number each ("What the box holds"). A packer takes an argument that is too large as the largest that it
 // takes; a reader of a packed number takes any.
+#![tactic(auto)]
+
 ghost use Rattle.std.specs.Prelude.{◌≡◌, ◌-◌, ◌<◌, min};
 ghost use Rattle.card.specs.Limits.{most_states, set_places, node_places, numbers, unit};
 ghost use Rattle.card.specs.Card.{one};

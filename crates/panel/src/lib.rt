@@ -1,4 +1,6 @@
 // The panel of a card and its seats ("Texts, byte for byte"), computed from the counts alone.
+#![tactic(auto)]
+
 pub mod program;
 
 ghost use Rattle.room.specs.Answer.{Entered};

@@ -36,7 +36,7 @@ pub record Fitting (k : ℕ) (rows branches : List ℕ) (count : ℕ) : Type 0 w
   pub top : k ≤ top_state
   pub fit : FitRows rows count
   pub there : length branches ≡ branch_places
-  pub own : (i : ℕ) → i < count → (row_of rows i).own_val ≤ k
+  pub own : (i : ℕ) → i < count → (row_of rows i).own ≤ k
   pub units : (i : ℕ) → i < count → (g b h : ℕ) → units_into g b h (weighing_row rows branches i).branches ≤ unit
 
 -- and a table that has its ables and the shared number

@@ -59,7 +59,7 @@ total n f = sum (λ w. w) (upto n f)
 
 -- how many of n seats, at counts v, are able to take statement i
 abbrev pub able_at : ℕ → Position → List ℕ → List ℕ → ℕ → ℕ
-able_at n v nodes rows i = takers n v (row_of rows i).own_val (guard_of nodes (i * most_nodes) (row_of rows i).nodes)
+able_at n v nodes rows i = takers n v (row_of rows i).own (guard_of nodes (i * most_nodes) (row_of rows i).nodes)
 
 -- what a statement adds to how many can be taken: pairs, or itself
 abbrev pub counts_as : Mode → ℕ → ℕ
@@ -78,7 +78,7 @@ abbrev pub weighing : List ℕ → ℕ → ℕ → ℕ → Statement
 weighing branches i own many = record { own = own; guard = none; branches = branches_in branches i many }
 
 abbrev pub weighing_row : List ℕ → List ℕ → ℕ → Statement
-weighing_row rows branches i = weighing branches i (row_of rows i).own_val (row_of rows i).branches
+weighing_row rows branches i = weighing branches i (row_of rows i).own (row_of rows i).branches
 
 -- ---- rows of weights
 

@@ -1,4 +1,6 @@
 // The panel's text ("Texts, byte for byte"; document 02, 2026-10), from the table of its numbers, and how it is stored in a room that it fits into.
+#![tactic(auto)]
+
 ghost use Rattle.std.specs.Prelude.{◌≡◌, [], ◌∷◌, ◌+◌, ◌≤◌, length, get_or, take};
 ghost use Rattle.card.specs.Limits.{top_state};
 ghost use Rattle.card.specs.Card.{nondeterministic, probabilistic};

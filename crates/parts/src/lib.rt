@@ -1,5 +1,7 @@
 // Parts of a card, read mark by mark from its bytes. A reader takes the place where it begins and the lent state of reading; it hands
 // back the place behind what it read, or 0 where it stopped.
+#![tactic(auto)]
+
 ghost use Rattle.std.specs.Prelude.{◌≡◌, ◌≤◌, ◌<◌, length};
 ghost use Rattle.late.specs.State.{Sized, late_in, with_late, after};
 ghost use Rattle.parts.specs.Parts.{word_by, NumberFrom, SignFrom, RunFrom};

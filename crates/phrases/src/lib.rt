@@ -1,4 +1,6 @@
 // Texts that several entries print: the mode, and a text with a number behind it; by what a weight is reduced ("Texts, byte for byte").
+#![tactic(auto)]
+
 ghost use Rattle.std.specs.Prelude.{◌≡◌, ◌++◌, ℕ, ◌<◌, ◌≤◌};
 ghost use Rattle.card.specs.Limits.{unit};
 ghost use Rattle.card.specs.Card.{nondeterministic, probabilistic};

@@ -1,6 +1,8 @@
 // Texts of five to seven bytes, and of eight and nine of which some are always the same, handed over one by one as the three of `short_pieces` are: where
 // all fit, each is stored straight from its register. What stands in no guard is put as two where that is enough: in the recursion over a guard two
 // puts for one take more stack.
+#![tactic(auto)]
+
 ghost use Rattle.std.specs.Prelude.{[], ◌∷◌};
 ghost use Rattle.room.specs.Room.{Put};
 

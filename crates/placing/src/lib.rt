@@ -1,4 +1,6 @@
 // A place for a new live card in a deck: its number, the count of live cards and the room are judged, then the deck is tidied and the card put in at its place by number (document 02, 2026-12).
+#![tactic(auto)]
+
 ghost use Rattle.std.specs.Prelude.{◌≡◌, ◌++◌, ◌≤◌, ◌<◌, length, drop};
 ghost use Rattle.card.specs.Limits.{most_cards, word_numbers};
 ghost use Rattle.deck.specs.Contents.{behind};

@@ -1,4 +1,6 @@
 // Two entries that print a text of a card's bytes: the written card, and the reduced program.
+#![tactic(auto)]
+
 ghost use Rattle.room.specs.Answer.{Entered};
 ghost use Rattle.texts_said.specs.WriteSaid.{write_said};
 ghost use Rattle.texts_said.specs.ReduceSaid.{reduce_said};

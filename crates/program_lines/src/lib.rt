@@ -1,4 +1,6 @@
 // What the panel program does with single lines: seats read from one, a refusal put as one ("Texts, byte for byte").
+#![tactic(auto)]
+
 ghost use Rattle.std.specs.Prelude.{◌≡◌, map, ◌++◌, ◌≤◌, min, length, take, drop};
 ghost use Rattle.room.specs.Room.{Put};
 ghost use Rattle.entry.specs.Said.{refused};

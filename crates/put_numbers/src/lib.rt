@@ -1,4 +1,6 @@
 // Numbers in decimal into a lent room.
+#![tactic(auto)]
+
 ghost use Rattle.std.specs.Prelude.{◌≡◌, length};
 ghost use Rattle.room.specs.Room.{Put};
 ghost use Rattle.room.specs.Digits.{decimal};

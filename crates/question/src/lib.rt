@@ -1,5 +1,7 @@
 // A whole question, from its bytes, on a card of so many seats with this top state and so many values of its shared number (document 02, 2026-01
 // and 2026-10).
+#![tactic(auto)]
+
 ghost use Rattle.std.specs.Prelude.{◌≡◌, ◌≤◌};
 ghost use Rattle.card.specs.Limits.{most_seats, most_shared};
 ghost use Rattle.asking.specs.Asking.{question_of};

@@ -1,4 +1,6 @@
 // A card, from its bytes: what is too long is refused, and all else is read in one pass, its beginning, its statements and its further modules, into lent arrays or as one value.
+#![tactic(auto)]
+
 ghost use Rattle.std.specs.Prelude.{◌≡◌, ◌≤◌, length};
 ghost use Rattle.card.specs.Limits.{card_bytes};
 ghost use Rattle.card.specs.Lent.{lent, none_lent};

@@ -1,1 +1,2 @@
 // Definitions and theorems only: what reading a card means.
+#![tactic(auto)]

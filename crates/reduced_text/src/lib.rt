@@ -1,4 +1,6 @@
 // The reduced program's text ("Texts, byte for byte", first part), translated and printed in one walk over the card's nodes, and stored in a room where it fits.
+#![tactic(auto)]
+
 ghost use Rattle.std.specs.Prelude.{◌≡◌, eqb, suc, ◌≤◌};
 ghost use Rattle.meaning.specs.Sums.{gate, upto};
 ghost use Rattle.card.specs.Limits.{top_state};

@@ -1,1 +1,2 @@
 // Definitions and theorems only: a written card, read again.
+#![tactic(auto)]

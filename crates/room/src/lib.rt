@@ -1,4 +1,6 @@
 // Text into a lent room, shared by all entries, and what an entry answers ("Refusal numbers").
+#![tactic(auto)]
+
 ghost use Rattle.std.specs.Prelude.{◌≡◌, [], ◌∷◌, ◌+◌, ◌-◌, ◌≤◌, min, length};
 ghost use Rattle.room.specs.Room.{cap, Put};
 

@@ -1,5 +1,7 @@
 // What is due where reading stops: the stop itself, unless a mark outside the rules stands there or further on. Cards and questions are
 // searched alike.
+#![tactic(auto)]
+
 ghost use Rattle.std.specs.Prelude.{◌≡◌};
 ghost use Rattle.marks.specs.Step.{marks_at};
 ghost use Rattle.reading.specs.Reading.{first_outside};

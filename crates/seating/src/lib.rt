@@ -1,4 +1,6 @@
 // Seats judged, and counted by their states; of two verdicts the one that is told ("Refusal numbers", "What a card means").
+#![tactic(auto)]
+
 ghost use Rattle.std.specs.Prelude.{◌≡◌, ltb, take};
 ghost use Rattle.card.specs.Limits.{top_state};
 ghost use Rattle.card.specs.Refusals.{seat_above_top};

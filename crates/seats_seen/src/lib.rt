@@ -1,4 +1,6 @@
 // Which seats stand among a group's literals.
+#![tactic(auto)]
+
 ghost use Rattle.std.specs.Prelude.{◌≡◌, suc, ◌+◌, ◌≤◌};
 ghost use Rattle.card.specs.Limits.{most_seats};
 ghost use Rattle.late.specs.Late.{up_to_most};

@@ -1,4 +1,6 @@
 // How many seats the groups of a card want; and, once its seats are counted, the first refusal of 5, 6 and 7.
+#![tactic(auto)]
+
 ghost use Rattle.std.specs.Prelude.{◌≡◌};
 ghost use Rattle.late.specs.Late.{wants as wants_at, grouped as grouped_at};
 ghost use Rattle.late.specs.Settled.{settled};

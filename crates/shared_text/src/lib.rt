@@ -1,4 +1,6 @@
 // The number that all seats share, put as text: its declaration, a test of it, and what a branch sets it to (document 02, 2026-10).
+#![tactic(auto)]
+
 ghost use Rattle.std.proofs.Math.Option.{some};
 ghost use Rattle.card.specs.Card.{is, isnt};
 ghost use Rattle.card.specs.Laid.{either, shared_of};

@@ -1,4 +1,6 @@
 // Bytes moved within one lent room, lower or higher, and the end of a room cleared (document 02, 2026-12).
+#![tactic(auto)]
+
 ghost use Rattle.std.specs.Prelude.{◌≡◌, ◌+◌, ◌≤◌, length, take, drop};
 ghost use Rattle.room.specs.Room.{clip};
 ghost use Rattle.tidying.specs.Tidied.{zeroed};

@@ -1,5 +1,7 @@
 // A text of three bytes, handed over one by one: where all fit, each is stored straight from its register. A text that is laid out in
 // memory first would be read back in words that the processor has to wait for.
+#![tactic(auto)]
+
 ghost use Rattle.std.specs.Prelude.{[], ◌∷◌};
 ghost use Rattle.room.specs.Room.{Put};
 

@@ -1,1 +1,2 @@
 // Definitions and theorems only: the lines of a panel are in order, and a panel can be read off its text.
+#![tactic(auto)]

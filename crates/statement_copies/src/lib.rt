@@ -1,4 +1,6 @@
 // One statement put as text, in either of the two texts: its row, its first test, and behind it what all its copies have in common.
+#![tactic(auto)]
+
 ghost use Rattle.std.specs.Prelude.{◌≡◌, ◌<◌};
 ghost use Rattle.card.specs.Limits.{most_statements};
 ghost use Rattle.card.specs.Laid.{statement_of};

@@ -78,5 +78,5 @@ module _ {head : Head} {nodes bs rows : List ℕ} (v : HoldsIn head (lent rows n
     unfolding statement_of
     keeps_at text {c} m k =
         subst (λ (y : StatementRow). KeepsTail (style_of text y.own head.seats c) (statement_of nodes bs y i)) (sym e)
-        (rest_kept head.seats (row_of rows i).own_val (statement_of nodes bs (row_of rows i) i) text c m k
+        (rest_kept head.seats (row_of rows i).own (statement_of nodes bs (row_of rows i) i) text c m k
         (short_rest head.seats head.top values (holds_seats v) (holds_top v) few (statement_of nodes bs (row_of rows i) i) valid_at))

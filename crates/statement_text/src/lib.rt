@@ -1,4 +1,6 @@
 // Statements put as text, in either of the two texts: one after the other, each in as many copies as the text and the mode ask for.
+#![tactic(auto)]
+
 ghost use Rattle.std.specs.Prelude.{◌≡◌};
 ghost use Rattle.card.specs.Card.{nondeterministic, probabilistic};
 ghost use Rattle.card.specs.Laid.{either};

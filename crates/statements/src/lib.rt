@@ -1,4 +1,6 @@
 // Statements, read from a card's bytes into the card's arrays: `]s1=` before the own state, the guard with the arrow, and the branches.
+#![tactic(auto)]
+
 ghost use Rattle.std.specs.Prelude.{◌+◌, ◌≤◌, ◌<◌};
 ghost use Rattle.card.specs.Limits.{most_shared, most_nodes, node_places, most_statements};
 ghost use Rattle.late.specs.State.{Sized, late_in, after};

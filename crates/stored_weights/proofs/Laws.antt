@@ -46,13 +46,13 @@ module _ (table rows branches : List ℕ) where
   abbrev bs : ℕ → List Branch
   bs i = branches_in branches i (row_of rows i).branches
 
-  move_next : (i a b h : ℕ) → move_by table rows branches i a b h + gate (eqb (row_of rows i).own_val a) (able_in table i) * units_into g b h (bs i) ≡ move_by table rows branches (suc i) a b h
+  move_next : (i a b h : ℕ) → move_by table rows branches i a b h + gate (eqb (row_of rows i).own a) (able_in table i) * units_into g b h (bs i) ≡ move_by table rows branches (suc i) a b h
   unfolding move_by move_of
   move_next i a b h =
-      ap (λ (w : ℕ). move_by table rows branches i a b h + w) (sym (gate_out (eqb (row_of rows i).own_val a) (able_in table i) (units_into g b h (bs i))))
+      ap (λ (w : ℕ). move_by table rows branches i a b h + w) (sym (gate_out (eqb (row_of rows i).own a) (able_in table i) (units_into g b h (bs i))))
       ∙ sym (total_suc i (λ j. able_in table j * move_of g (weighing_row rows branches j) a b h))
 
-  stay_next : (i h : ℕ) → stay_by table rows branches i h + able_in table i * units_into g (row_of rows i).own_val h (bs i) ≡ stay_by table rows branches (suc i) h
+  stay_next : (i h : ℕ) → stay_by table rows branches i h + able_in table i * units_into g (row_of rows i).own h (bs i) ≡ stay_by table rows branches (suc i) h
   unfolding stay_by stay_of
   stay_next i h = sym (total_suc i (λ j. able_in table j * stay_of g (weighing_row rows branches j) h))
 
@@ -61,21 +61,21 @@ module _ (table rows branches : List ℕ) where
   unfolding row_from move_by zeros
   row_start a = refl
 
-  pub row_next : (i a : ℕ) {able : ℕ} → able ≡ gate (eqb (row_of rows i).own_val a) (able_in table i) → {is : List ℕ} → is ≡ row_from table rows branches i a
+  pub row_next : (i a : ℕ) {able : ℕ} → able ≡ gate (eqb (row_of rows i).own a) (able_in table i) → {is : List ℕ} → is ≡ row_from table rows branches i a
       → added g able (bs i) is ≡ row_from table rows branches (i + 1) a
   unfolding row_from
   row_next i a e p =
       ap₂ (λ (l : List ℕ) (m : ℕ). added g m (bs i) l) p e
       ∙ raised_next weight_places (by_place (move_by table rows branches i a)) (by_place (move_by table rows branches (suc i) a)) (by_place (λ b h. units_into g b h (bs i)))
-      (gate (eqb (row_of rows i).own_val a) (able_in table i)) (λ q l. move_next i a (q / most_shared) (q % most_shared))
+      (gate (eqb (row_of rows i).own a) (able_in table i)) (λ q l. move_next i a (q / most_shared) (q % most_shared))
       ∙ ap (λ (k : ℕ). row_from table rows branches k a) (sym (add-one i))
 
-  pub row_still : (i a : ℕ) {able : ℕ} → able ≡ gate (eqb (row_of rows i).own_val a) (able_in table i) → able ≡ 0 → {is : List ℕ} → is ≡ row_from table rows branches i a
+  pub row_still : (i a : ℕ) {able : ℕ} → able ≡ gate (eqb (row_of rows i).own a) (able_in table i) → able ≡ 0 → {is : List ℕ} → is ≡ row_from table rows branches i a
       → is ≡ row_from table rows branches (i + 1) a
   unfolding row_from
   row_still i a e z p =
       p
-      ∙ upto_cong weight_places (by_place (move_by table rows branches i a)) (by_place (move_by table rows branches (suc i) a)) (λ q l. none_more (gate (eqb (row_of rows i).own_val a) (able_in table i)) _ (move_next i a (q / most_shared) (q % most_shared)) (sym e ∙ z))
+      ∙ upto_cong weight_places (by_place (move_by table rows branches i a)) (by_place (move_by table rows branches (suc i) a)) (λ q l. none_more (gate (eqb (row_of rows i).own a) (able_in table i)) _ (move_next i a (q / most_shared) (q % most_shared)) (sym e ∙ z))
       ∙ ap (λ (k : ℕ). row_from table rows branches k a) (sym (add-one i))
 
   -- the weights of no change
@@ -83,11 +83,11 @@ module _ (table rows branches : List ℕ) where
   unfolding stays stay_by
   stays_start = refl
 
-  pub stays_next : (i : ℕ) {is : List ℕ} → is ≡ stays table rows branches i → added_stays g (row_of rows i).own_val (able_in table i) (bs i) is ≡ stays table rows branches (i + 1)
+  pub stays_next : (i : ℕ) {is : List ℕ} → is ≡ stays table rows branches i → added_stays g (row_of rows i).own (able_in table i) (bs i) is ≡ stays table rows branches (i + 1)
   unfolding stays
   stays_next i p =
-      ap (added_stays g (row_of rows i).own_val (able_in table i) (bs i)) p
-      ∙ raised_next most_shared (stay_by table rows branches i) (stay_by table rows branches (suc i)) (λ h. units_into g (row_of rows i).own_val h (bs i)) (able_in table i) (λ h l. stay_next i h)
+      ap (added_stays g (row_of rows i).own (able_in table i) (bs i)) p
+      ∙ raised_next most_shared (stay_by table rows branches i) (stay_by table rows branches (suc i)) (λ h. units_into g (row_of rows i).own h (bs i)) (able_in table i) (λ h l. stay_next i h)
       ∙ ap (stays table rows branches) (sym (add-one i))
 
   pub stays_still : (i : ℕ) → able_in table i ≡ 0 → {is : List ℕ} → is ≡ stays table rows branches i → is ≡ stays table rows branches (i + 1)
@@ -122,7 +122,7 @@ module _ {h : Head} {rows branches table : List ℕ} (w : Weighing h rows branch
         arith,
         w.able.statements,
         total_most i (λ j. able_in table j * move_of (shared_in table) (weighing_row rows branches j) a (p / most_shared) (p % most_shared)) (most_seats * unit) (λ j k.
-            mul-le-mul (w.able.seats j (omega arith)) (le_trans (gate_le (eqb (row_of rows j).own_val a) _) (w.fitting.units j (omega arith) (shared_in table) (p / most_shared) (p % most_shared)))),
+            mul-le-mul (w.able.seats j (omega arith)) (le_trans (gate_le (eqb (row_of rows j).own a) _) (w.fitting.units j (omega arith) (shared_in table) (p / most_shared) (p % most_shared)))),
       ))
 
   stays_light : (i : ℕ) → i ≤ h.count → Most heaviest (stays table rows branches i)
@@ -132,14 +132,14 @@ module _ {h : Head} {rows branches table : List ℕ} (w : Weighing h rows branch
         arith,
         w.able.statements,
         total_most i (λ j. able_in table j * stay_of (shared_in table) (weighing_row rows branches j) p) (most_seats * unit) (λ j k.
-            mul-le-mul (w.able.seats j (omega arith)) (w.fitting.units j (omega arith) (shared_in table) (row_of rows j).own_val p)),
+            mul-le-mul (w.able.seats j (omega arith)) (w.fitting.units j (omega arith) (shared_in table) (row_of rows j).own p)),
       ))
 
-  pub row_adding : (i : ℕ) → i < h.count → (a : ℕ) {able : ℕ} → able ≡ gate (eqb (row_of rows i).own_val a) (able_in table i) → {is : List ℕ} → is ≡ row_from table rows branches i a
+  pub row_adding : (i : ℕ) → i < h.count → (a : ℕ) {able : ℕ} → able ≡ gate (eqb (row_of rows i).own a) (able_in table i) → {is : List ℕ} → is ≡ row_from table rows branches i a
       → Adding able (shared_in table) i (row_of rows i).branches branches weight_places is
   unfolding row_from
   row_adding i l a e p = record {
-    few = rw e (le_trans (gate_le (eqb (row_of rows i).own_val a) (able_in table i)) (w.able.seats i l));
+    few = rw e (le_trans (gate_le (eqb (row_of rows i).own a) (able_in table i)) (w.able.seats i l));
     shared = w.shared;
     statement = omega (arith, w.able.statements);
     fit = (w.fitting.fit.each i l).branches;

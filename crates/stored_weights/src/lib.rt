@@ -1,4 +1,6 @@
 // The weights of a probabilistic card, statement by statement: from one state, in a row, and of no change, in a panel's table.
+#![tactic(auto)]
+
 ghost use Rattle.std.specs.Prelude.{◌≡◌, ◌<◌, eqb};
 ghost use Rattle.card.specs.Limits.{most_statements};
 ghost use Rattle.card.specs.Card.{nondeterministic, probabilistic};
@@ -21,7 +23,7 @@ fn able_from<'a>(
     old: usize,
 ) -> usize
     requires { i < most_statements }
-    ensures { result ≡ gate (eqb (row_of rows.now i).own_val old) (able_in table.now i) }
+    ensures { result ≡ gate (eqb (row_of rows.now i).own old) (able_in table.now i) }
 {
     if rows[i * ROW] != old {
         return 0;

@@ -1,4 +1,6 @@
 // The table of counter tests ("What a card means", second part), place by place.
+#![tactic(auto)]
+
 ghost use Rattle.std.specs.Prelude.{◌≡◌, Bool, ◌-◌, eqb};
 ghost use Rattle.card.specs.Card.{everyone, others, all, any, is, isnt};
 ghost use Rattle.card.specs.Laid.{either, leaf_of};

@@ -1,4 +1,6 @@
 // The entries for C: the same promises, with answers in numbers ("Refusal numbers").
+#![tactic(auto)]
+
 ghost use Rattle.std.specs.Prelude.{◌≡◌, length};
 ghost use Rattle.reading.specs.Reading.{read_of};
 ghost use Rattle.deck.specs.Contents.{judged as deck_judged};

@@ -1,4 +1,6 @@
 // The literals of a term of an exactly-one, joined by `&`, read from a question's bytes (document 02, 2026-01).
+#![tactic(auto)]
+
 ghost use Rattle.std.specs.Prelude.{◌≡◌, ◌∷◌, ℕ};
 ghost use Rattle.marks_on_a_card.specs.Marks.{placed, seat as seat_word};
 ghost use Rattle.marks.specs.Step.{marks_at};

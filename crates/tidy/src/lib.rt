@@ -1,4 +1,6 @@
 // A box tidied within the lent deck: withdrawn entries dropped, gaps closed (document 02, 2026-12).
+#![tactic(auto)]
+
 ghost use Rattle.std.specs.Prelude.{◌≡◌};
 ghost use Rattle.tidying.specs.Tidying.{tidy_said};
 ghost use Rattle.tidying.specs.Tidied.{tidy_text, lent_after};

@@ -1,4 +1,6 @@
 // What a branch does to the counters and to the shared number, put as text: the part of a reduced statement behind its weight.
+#![tactic(auto)]
+
 ghost use Rattle.std.proofs.Math.Option.{none};
 ghost use Rattle.card.specs.Laid.{set_of};
 ghost use Rattle.meaning.specs.Reduced.{shift, update_of};

@@ -260,7 +260,7 @@ module _ {h : Head} {x : Lent} {seats : Seating} (v : HoldsIn h x) (ok : ValidSe
       ∙ ap (λ (u : List ℕ). able_at h.seats (position u seats.shared) x.nodes x.rows i) shown_is
 
   pub few_able : FewAble (abled h x seats) h.count
-  few_able = record { statements = holds_count v; seats = λ i l. rw (abled_at i l) (takers_most (row_of x.rows i).own_val _) }
+  few_able = record { statements = holds_count v; seats = λ i l. rw (abled_at i l) (takers_most (row_of x.rows i).own _) }
 
   pub ready : Weighing h x.rows x.branches (enabled_set h x seats)
   ready = record {
@@ -293,10 +293,10 @@ module _ {h : Head} {x : Lent} {seats : Seating} (v : HoldsIn h x) (ok : ValidSe
   }
 
   -- where no seat is in a statement's state none is able to take it
-  pub nobody : (i : ℕ) → i < h.count → get_or (table_of h x seats) (row_of x.rows i).own_val 0 ≡ 0 → able_in (table_of h x seats) i ≡ 0
+  pub nobody : (i : ℕ) → i < h.count → get_or (table_of h x seats) (row_of x.rows i).own 0 ≡ 0 → able_in (table_of h x seats) i ≡ 0
   unfolding takers
   nobody i l z =
-      let own = (row_of x.rows i).own_val in
+      let own = (row_of x.rows i).own in
       let none-there : no_of (counts h.top seats.each) own ≡ 0 = sym (count_at own (omega (arith, (fitting v).own i l))) ∙ z in
       table_able i l ∙ rw none-there (gate_zero (held_or h.seats own (seen h.top seats) (guard_of x.nodes (i * most_nodes) (row_of x.rows i).nodes)))
 

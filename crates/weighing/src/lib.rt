@@ -1,5 +1,7 @@
 // The numbers of a panel, from the counts alone, part by part into one table that is lent ("Texts, byte for byte"): each statement's guard
 // is worked out once.
+#![tactic(auto)]
+
 ghost use Rattle.std.specs.Prelude.{◌≡◌, ◌+◌, ◌≤◌, length, get_or};
 ghost use Rattle.card.specs.Limits.{most_statements};
 ghost use Rattle.card.specs.Card.{nondeterministic, probabilistic};

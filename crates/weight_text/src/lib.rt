@@ -1,4 +1,6 @@
 // A weight put as text, in lowest terms ("Texts, byte for byte").
+#![tactic(auto)]
+
 ghost use Rattle.phrases.specs.Phrases.{weight_text};
 ghost use Rattle.phrases.specs.Puts.{Puts};
 

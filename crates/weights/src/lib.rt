@@ -1,5 +1,7 @@
 // A branch's weight in units ("Shape of a card"): the unit is a constant of the type, and a weight is made from what stands on a card,
 // or breaks the rule.
+#![tactic(auto)]
+
 ghost use Rattle.std.specs.Prelude.{◌≡◌, ◌^◌, min};
 ghost use Rattle.card.specs.Limits.{weight_digits};
 ghost use Rattle.card.specs.Weight.{units_of, whole as whole_weight, decimal as decimal_weight, ratio as ratio_weight};

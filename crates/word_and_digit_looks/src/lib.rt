@@ -1,4 +1,6 @@
 // Quick looks for bytes that are handed over, alone or as a whole word, and for a number of one digit: do they stand right at a place?
+#![tactic(auto)]
+
 ghost use Rattle.std.specs.Prelude.{◌≡◌, drop};
 ghost use Rattle.marks_on_a_card.specs.Quick.{digit_ahead, bytes_ahead, word_ahead};
 

@@ -1,4 +1,6 @@
 // Digits as numbers, seat words, module words and keywords ("Marks on a card").
+#![tactic(auto)]
+
 ghost use Rattle.std.specs.Prelude.{◌≡◌, true, ◌||◌, length, drop, ◌≤◌, ◌+◌, eqb};
 ghost use Rattle.marks_on_a_card.specs.Bytes.{run, is_digit as is_digit_said, in_word, every, begins};
 ghost use Rattle.marks_on_a_card.specs.Digits.{plain, pointed, Counted, grown_by};

@@ -1,4 +1,6 @@
 // A further module that stands as a written card has it, or tight, passed in one look at its bytes.
+#![tactic(auto)]
+
 ghost use Rattle.std.specs.Prelude.{◌≡◌, ◌≤◌};
 ghost use Rattle.card.specs.Limits.{most_seats};
 ghost use Rattle.frame.specs.Frame.{past_word as past_word_said, past_copy as past_copy_said};
