@@ -1,0 +1,87 @@
+-- `convert::notes_into` meets its contract: entry by entry, where notes found so far stand before those that follow (`Going`). Assumes nothing.
+use native.Mathlib.Omega.{arith}
+use Prim.Native.Nat.{◌+◌, ◌<◌}
+use Rattle.card.specs.Limits.{deck_bytes}
+use Rattle.deck.specs.Contents.{count_of}
+use Rattle.convert.proofs.Walk.{begins, ended, in_contents, right_row, end_small, stopped, goes_on}
+use Rattle.convert.proofs.notes_into.Goals as goal
+
+-- it stops only where a body ends past the longest deck
+abbrev Past : Type 0
+Past = (c : goal.Then-end-gt-DECK_BYTES) → deck_bytes < c.loop-i.end + c.new_size-end.result
+
+past : Past
+past c = c.if1.true
+
+-- where it stops for that, it names the card by its number
+names-card : Past → goal.returns-then-end-gt-DECK_BYTES
+names-card past c =
+    let at-note-of = c.before.before.before in
+    let at-loop-test = at-note-of.before in
+    let at-loop = at-loop-test.before in
+    let start = at-loop.before.before in
+    let less : at-loop.loop.i < count_of start.args.deck.now = omega (arith, at-loop-test.loop-test.true, start.requires.1.0) in
+    stopped start.args.deck.now start.requires.0 at-loop.loop.invariant less at-note-of.note-of.ensures c.before.before.new-size.ensures (past c.before) c.word_at.ensures.0
+
+pub overflow_mul-end : goal.overflow_mul-end
+overflow_mul-end c = omega (arith, c.requires.sound.head.few, c.requires.count_value)
+
+pub overflow_add-end : goal.overflow_add-end
+overflow_add-end c = omega (arith, c.requires.sound.head.few, c.requires.count_value)
+
+pub loop-i-init : goal.loop-i-init
+loop-i-init c = begins c.args.deck.now c.requires.sound c.args.notes.now c.requires.count_value
+
+pub note_of-note-requires : goal.note_of-note-requires
+note_of-note-requires c =
+    let less : c.loop-i.i < count_of c.args.deck.now = omega (arith, c.loop-i-test.true, c.requires.count_value) in
+    record { entry_bytes_in_bounds = in_contents c.args.deck.now c.requires.sound c.loop-i.invariant less; right_row = right_row c.args.deck.now c.requires.sound c.loop-i.invariant less }
+
+pub offset_bounds-notes-i : goal.offset_bounds-notes-i
+offset_bounds-notes-i c =
+    omega (arith, c.loop-i-test.true, c.requires.sound.head.few, c.requires.count_value)
+
+pub bounds-notes-i : goal.bounds-notes-i
+bounds-notes-i c =
+    omega (arith, c.loop-i-test.true, c.requires.sound.head.few, c.requires.count_value)
+
+pub new_size-end-requires : goal.new_size-end-requires
+new_size-end-requires c =
+    let less : c.loop-i.i < count_of c.args.deck.now = omega (arith, c.loop-i-test.true, c.requires.count_value) in
+    in_contents c.args.deck.now c.requires.sound c.loop-i.invariant less
+
+pub overflow_add-end-in-loop-i : goal.overflow_add-end-in-loop-i
+overflow_add-end-in-loop-i c =
+    let less : c.loop-i.i < count_of c.args.deck.now = omega (arith, c.loop-i-test.true, c.requires.count_value) in
+    let small = end_small c.args.deck.now c.requires.sound c.loop-i.invariant less c.note_of-note.ensures c.new_size-end.ensures in
+    omega (arith, small)
+
+pub word_at-number-requires : goal.word_at-number-requires
+word_at-number-requires c =
+    let less : c.loop-i.i < count_of c.args.deck.now = omega (arith, c.loop-i-test.true, c.requires.count_value) in
+    let there = in_contents c.args.deck.now c.requires.sound c.loop-i.invariant less in
+    omega (arith, there)
+
+pub returns-then-end-gt-DECK_BYTES : goal.returns-then-end-gt-DECK_BYTES
+returns-then-end-gt-DECK_BYTES = names-card past
+
+pub overflow_add-from : goal.overflow_add-from
+overflow_add-from c =
+    omega (arith, c.loop-i.invariant.place.at, c.loop-i-test.true, c.requires.sound.head.few, c.requires.count_value)
+
+pub overflow_add-i : goal.overflow_add-i
+overflow_add-i c =
+    omega (arith, c.loop-i-test.true, c.requires.sound.head.few, c.requires.count_value)
+
+pub loop-i-smaller : goal.loop-i-smaller
+loop-i-smaller c =
+    omega (arith, c.loop-i-test.true)
+
+pub loop-i-preserved : goal.loop-i-preserved
+loop-i-preserved c =
+    let less : c.loop-i.i < count_of c.args.deck.now = omega (arith, c.loop-i-test.true, c.requires.count_value) in
+    goes_on c.args.deck.now c.requires.sound c.loop-i.invariant less c.note_of-note.ensures c.new_size-end.ensures c.if-end-gt-DECK_BYTES.false (omega (arith, less, c.requires.sound.head.few, c.requires.notes_len))
+
+pub returns : goal.returns
+returns c =
+    ended c.args.deck.now c.requires.sound c.loop-i.invariant (omega (arith, c.loop-i-test.false, c.requires.count_value))

@@ -1,0 +1,102 @@
+-- Each exit has its law (proofs/Starts.antt), over the digits as they were counted.
+use Rattle.marks.proofs.Starts.{numeral_outside, read_number, read_long, read_decimal}
+use Rattle.marks_on_a_card.proofs.Numbers.{pointed_place, counted_fits}
+use borrow.Author.Tests.{not-false}
+use native.Mathlib.Omega.{arith}
+use mathlib.Core.Path.{◌≡◌, sym, ◌∙◌}
+use lib.ListN.{length, drop}
+use Prim.Native.Nat.{◌+◌, ◌≤◌, ◌<◌}
+use Rattle.card.specs.Limits.{number_digits, further_digits}
+use Rattle.marks_on_a_card.specs.Bytes.{is_digit, run}
+use Rattle.marks_on_a_card.specs.Digits.{plain}
+use Rattle.marks.proofs.number.numeral.Goals as goal
+
+-- the digits before a point are judged as a number's
+digits-judged : (c : goal.After-is_plain)
+    → c.is_plain.result ≡ plain number_digits (run is_digit (drop c.args.at c.args.card.now))
+digits-judged c = c.is_plain.ensures
+
+-- a decimal has no more digits behind its point than it may have
+few-further : (c : goal.Else-more-gt-FURTHER_DIGITS) → c.digits_from-f.result.count ≤ further_digits
+few-further c = c.if-more-gt-FURTHER_DIGITS.false
+
+pub is_plain-requires : goal.is_plain-requires
+is_plain-requires c = c.digits_from-d.ensures.count_is
+
+pub returns-then-not-is_plain : goal.returns-then-not-is_plain
+returns-then-not-is_plain c =
+    λ k. c.bare.ensures ∙ sym
+    (numeral_outside c.args.card.now c.args.at
+    c.requires.0 c.requires.1 k
+    (sym (digits-judged c.before.before) ∙ c.if-not-is_plain.true))
+
+pub overflow_add-point : goal.overflow_add-point
+overflow_add-point c =
+    omega (
+      arith,
+      counted_fits c.args.card.now c.args.at
+          (omega (arith, c.requires.0)) c.digits_from-d.result c.digits_from-d.ensures,
+      c.well_formed.0,
+    )
+
+pub returns-then-not-is_pointed : goal.returns-then-not-is_pointed
+returns-then-not-is_pointed c =
+    λ k. c.valued.ensures ∙ sym
+    (read_number c.args.card.now c.args.at
+    c.requires.0 c.requires.1 k
+    c.digits_from-d.result c.digits_from-d.ensures
+    (sym (digits-judged c.before.before.before.before) ∙ not-false c.is_plain.result
+    c.if-not-is_plain.false)
+    (sym c.is_pointed.ensures ∙ c.if-not-is_pointed.true))
+
+pub overflow_add-from : goal.overflow_add-from
+overflow_add-from c =
+    omega (
+      arith,
+      pointed_place c.args.card.now
+          (c.args.at + c.digits_from-d.result.count)
+          (sym c.is_pointed.ensures ∙ c.if-not-is_pointed.false),
+      c.well_formed.0,
+    )
+
+pub returns-then-more-gt-FURTHER_DIGITS : goal.returns-then-more-gt-FURTHER_DIGITS
+returns-then-more-gt-FURTHER_DIGITS c =
+    λ k. c.bare-then-more-gt-FURTHER_DIGITS.ensures ∙ sym
+    (read_long c.args.card.now
+    c.args.at
+    c.requires.0
+    c.requires.1 k
+    c.digits_from-d.result c.digits_from-d.ensures
+    c.digits_from-f.result c.digits_from-f.ensures
+    (sym (digits-judged c.before.before.before.before.before.before) ∙ not-false c.is_plain.result
+    c.if-not-is_plain.false)
+    (sym c.is_pointed.ensures ∙ not-false c.is_pointed.result
+    c.if-not-is_pointed.false)
+    c.if-more-gt-FURTHER_DIGITS.true)
+
+pub overflow_add-result : goal.overflow_add-result
+overflow_add-result c =
+    let point :
+    c.args.at + c.digits_from-d.result.count + 1 <
+    length c.args.card.now =
+    pointed_place c.args.card.now
+    (c.args.at + c.digits_from-d.result.count)
+    (sym c.is_pointed.ensures ∙ c.if-not-is_pointed.false) in
+    omega (
+      arith,
+      counted_fits c.args.card.now
+          (c.args.at + c.digits_from-d.result.count + 1)
+          (omega arith) c.digits_from-f.result c.digits_from-f.ensures,
+      c.well_formed.0,
+    )
+
+pub returns : goal.returns
+returns c =
+    λ k. sym
+    (read_decimal c.args.card.now
+    c.args.at c.requires.0
+    c.requires.1 k c.digits_from-d.result
+    c.digits_from-d.ensures c.digits_from-f.result c.digits_from-f.ensures
+    (sym (digits-judged c.before.before.before.before.before) ∙ not-false c.is_plain.result
+    c.if-not-is_plain.false)
+    (sym c.is_pointed.ensures ∙ c.if-not-is_pointed.false) (few-further c))

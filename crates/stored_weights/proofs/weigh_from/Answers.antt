@@ -1,0 +1,39 @@
+-- `stored_weights::weigh_from` meets its contract: after i turns the row has the weights of the first i statements. Assumes nothing.
+use Rattle.stored_weights.proofs.Laws.{row_start, row_next, row_still, row_adding}
+use borrow.Author.Rules.{rules}
+use native.Mathlib.Omega.{arith}
+use mathlib.Core.Logic.{⊎_elim}
+use mathlib.Core.Path.{◌≡◌, ◌∙◌}
+use Rattle.stored_weights.proofs.weigh_from.Goals as goal
+
+pub loop-i-init : goal.loop-i-init
+loop-i-init c = (search rules, c.requires.1 ∙ row_start c.args.table.now c.args.rows.now c.args.branches.now c.args.old)
+
+pub able_from-able-requires : goal.able_from-able-requires
+able_from-able-requires c =
+    omega (arith, c.requires.0.able.statements)
+
+pub overflow_mul-many : goal.overflow_mul-many
+overflow_mul-many c =
+    omega (arith, c.requires.0.able.statements)
+
+pub overflow_add-many : goal.overflow_add-many
+overflow_add-many c =
+    omega (arith, c.requires.0.able.statements)
+
+pub bounds-rows-i : goal.bounds-rows-i
+bounds-rows-i c =
+    omega (arith, c.requires.0.able.statements)
+
+pub add_weights-requires : goal.add_weights-requires
+add_weights-requires c =
+    row_adding c.requires.0 c.loop-i.i c.loop-i-test.true c.args.old c.able_from-able.ensures c.loop-i.invariant.1
+
+pub loop-i-preserved : goal.loop-i-preserved
+loop-i-preserved c =
+    let more = row_next c.args.table.now c.args.rows.now c.args.branches.now c.loop-i.i c.args.old c.able_from-able.ensures c.loop-i.invariant.1 in
+    (search rules, ⊎_elim (λ w. w.5 ∙ w.4.ensures ∙ more) (λ w. w.1 ∙ row_still c.args.table.now c.args.rows.now c.args.branches.now c.loop-i.i c.args.old c.able_from-able.ensures w.0.left c.loop-i.invariant.1) c.if-able-ne0.branch)
+
+pub returns : goal.returns
+returns c =
+    let all : c.loop-i.i ≡ c.args.head.count = omega (arith, c.loop-i.invariant.0, c.loop-i-test.false) in rw all at c.loop-i.invariant.1
