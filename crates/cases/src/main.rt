@@ -2,12 +2,13 @@
 // length. What the writer answers is printed, and the file `stdout` fixes it.
 #![tactic(auto)]
 
-ghost use Rattle.io.specs.Counts.{IsPrefixLen};
+ghost use Rattle.std.specs.Prelude.{◌≤◌, length};
 
-use libc::STDOUT_FILENO;
 use printing::write;
 use put_numbers::put_number;
 use room::{Answer, put_bytes};
+use std::io;
+use std::io::Write;
 
 // Longer than each card below and its written form.
 const SPACE: usize = 2_048;
@@ -39,7 +40,7 @@ fn put_modules(card: &mut [u8], from: usize, modules: usize) -> usize {
 
 // A text's length, where it fitted: 0 where not.
 fn whole(text: &[u8], end: usize) -> usize
-    ensures { IsPrefixLen result text.now }
+    ensures { result ≤ length text.now }
 {
     if text.len() < end {
         return 0;
@@ -49,7 +50,7 @@ fn whole(text: &[u8], end: usize) -> usize
 
 // A card of so many modules, with this top state and guard, and its length.
 fn lay(card: &mut [u8], modules: usize, top: usize, guard: &[u8]) -> usize
-    ensures { IsPrefixLen result card.new }
+    ensures { result ≤ length card.new }
 {
     let a = put_bytes(card, 0, b"probabilistic\nmodule process1\ns1 : [0..");
     let b = put_number(card, a, top);
@@ -60,9 +61,13 @@ fn lay(card: &mut [u8], modules: usize, top: usize, guard: &[u8]) -> usize
     whole(card, end)
 }
 
-fn numbered(text: &[u8], n: usize) {
-    io::write_all(STDOUT_FILENO, text);
-    io::print_decimal(STDOUT_FILENO, n as u64);
+fn print(rt: &HostRuntime, text: &[u8]) -> io::Result<()> {
+    io::writer(rt).write_all(text)
+}
+
+fn numbered(rt: &HostRuntime, text: &[u8], n: usize) -> io::Result<()> {
+    print(rt, text)?;
+    print!(rt; "{n}")
 }
 
 fn wide(number: u8) -> usize {
@@ -70,49 +75,49 @@ fn wide(number: u8) -> usize {
 }
 
 // The line of an answer.
-fn say(name: &[u8], answer: Answer) {
-    io::write_all(STDOUT_FILENO, name);
+fn say(rt: &HostRuntime, name: &[u8], answer: Answer) -> io::Result<()> {
+    print(rt, name)?;
     match answer {
         Answer::Done(long) => {
-            numbered(b": written, ", long);
+            numbered(rt, b": written, ", long)?;
         }
         Answer::Refused(number, place) => {
-            numbered(b": refused ", wide(number));
-            numbered(b" ", place);
+            numbered(rt, b": refused ", wide(number))?;
+            numbered(rt, b" ", place)?;
         }
     }
-    io::write_all(STDOUT_FILENO, b"\n");
+    print(rt, b"\n")
 }
 
 // A card laid so, in room enough.
-fn edge(name: &[u8], modules: usize, top: usize, guard: &[u8]) {
+fn edge(rt: &HostRuntime, name: &[u8], modules: usize, top: usize, guard: &[u8]) -> io::Result<()> {
     let mut card: [u8; SPACE] = [b' '; SPACE];
     let long = lay(&mut card, modules, top, guard);
     let mut room: [u8; SPACE] = [b'.'; SPACE];
-    say(name, write(&card[..long], &mut room));
+    say(rt, name, write(&card[..long], &mut room))
 }
 
 // The plain card in a room that just fits it and in one a byte short, and what the room holds then.
-fn rooms() {
+fn rooms(rt: &HostRuntime) -> io::Result<()> {
     let mut card: [u8; PLAIN] = [b' '; PLAIN];
     let long = lay(&mut card, 1, 0, b"");
     let mut fits: [u8; PLAIN] = [b'.'; PLAIN];
-    say(b"a room that fits", write(&card[..long], &mut fits));
-    io::write_all(STDOUT_FILENO, &fits);
+    say(rt, b"a room that fits", write(&card[..long], &mut fits))?;
+    print(rt, &fits)?;
     let mut short: [u8; PLAIN - 1] = [b'.'; PLAIN - 1];
-    say(b"one byte short", write(&card[..long], &mut short));
-    io::write_all(STDOUT_FILENO, &short);
-    io::write_all(STDOUT_FILENO, b"\n");
+    say(rt, b"one byte short", write(&card[..long], &mut short))?;
+    print(rt, &short)?;
+    print(rt, b"\n")
 }
 
-fn main() {
+fn main(rt: HostRuntime) -> io::Result<()> {
     let mut room: [u8; SPACE] = [b'.'; SPACE];
-    say(b"no card", write(b"", &mut room));
-    edge(b"16 modules", 16, 0, b"");
-    edge(b"17 modules", 17, 0, b"");
-    edge(b"top state 7", 1, 7, b"");
-    edge(b"top state 8", 1, 8, b"");
-    edge(b"depth 8", 1, 0, b" & !(!(!(!((s1=0)))))");
-    edge(b"depth 9", 1, 0, b" & !!(!(!(!((s1=0)))))");
-    rooms();
+    say(&rt, b"no card", write(b"", &mut room))?;
+    edge(&rt, b"16 modules", 16, 0, b"")?;
+    edge(&rt, b"17 modules", 17, 0, b"")?;
+    edge(&rt, b"top state 7", 1, 7, b"")?;
+    edge(&rt, b"top state 8", 1, 8, b"")?;
+    edge(&rt, b"depth 8", 1, 0, b" & !(!(!(!((s1=0)))))")?;
+    edge(&rt, b"depth 9", 1, 0, b" & !!(!(!(!((s1=0)))))")?;
+    rooms(&rt)
 }

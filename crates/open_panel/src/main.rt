@@ -1,13 +1,16 @@
 // The panel program: reads standard input, prints the panel or the refusal. All that it prints is `panel::program::respond`'s.
 #![tactic(auto)]
 
-use libc::{STDIN_FILENO, STDOUT_FILENO};
-use panel::program::{OUTPUT_BYTES, respond};
+use panel::program::{INPUT_BYTES, OUTPUT_BYTES, respond};
+use std::io;
+use std::io::{Read, Write};
 
-fn main() {
-    let mut input = io::large_buffer();
-    let n = io::read_full(STDIN_FILENO, &mut input);
+fn main(rt: HostRuntime) -> io::Result<()> {
+    let mut input = Vec::new(rt.alloc());
+    rt.reader()
+        .take(INPUT_BYTES as u64)
+        .read_to_end(&mut input)?;
     let mut room: [u8; OUTPUT_BYTES] = [0; OUTPUT_BYTES];
-    let long = respond(&input[..n], &mut room);
-    io::write_all(STDOUT_FILENO, &room[..long]);
+    let long = respond(&input, &mut room);
+    io::writer(&rt).write_all(&room[..long])
 }
