@@ -1,4 +1,4 @@
-// The entries for C: the same promises, with answers in numbers ("Refusal numbers").
+// The entries for C: the same promises, with answers in numbers ("Refusal numbers"). `tablet_c` exports them.
 #![tactic(auto)]
 
 ghost use Rattle.std.specs.Prelude.{◌≡◌, length};
@@ -70,8 +70,7 @@ fn asked_in_numbers(asked: Asked) -> OpenPanelAnswer
 }
 
 // Is it a card? A card that is taken answers 0 and 0.
-#[unsafe(no_mangle)]
-pub extern "C" fn open_panel_judge(card: &[u8]) -> OpenPanelAnswer
+pub fn open_panel_judge(card: &[u8]) -> OpenPanelAnswer
     ensures { result ≡ judged (read_of card.now) }
 {
     let mut rows: [usize; ROW_PLACES] = [0; ROW_PLACES];
@@ -83,8 +82,7 @@ pub extern "C" fn open_panel_judge(card: &[u8]) -> OpenPanelAnswer
 }
 
 // The written card.
-#[unsafe(no_mangle)]
-pub extern "C" fn open_panel_write(card: &[u8], room: &mut [u8]) -> OpenPanelAnswer
+pub fn open_panel_write(card: &[u8], room: &mut [u8]) -> OpenPanelAnswer
     ensures { Told room.old room.new (write_said card.now) result }
 {
     let answer = write(card, room);
@@ -92,8 +90,7 @@ pub extern "C" fn open_panel_write(card: &[u8], room: &mut [u8]) -> OpenPanelAns
 }
 
 // The reduced program's text.
-#[unsafe(no_mangle)]
-pub extern "C" fn open_panel_reduce(card: &[u8], room: &mut [u8]) -> OpenPanelAnswer
+pub fn open_panel_reduce(card: &[u8], room: &mut [u8]) -> OpenPanelAnswer
     ensures { Told room.old room.new (reduce_said card.now) result }
 {
     let answer = reduce(card, room);
@@ -101,8 +98,7 @@ pub extern "C" fn open_panel_reduce(card: &[u8], room: &mut [u8]) -> OpenPanelAn
 }
 
 // The panel of a card and its seats.
-#[unsafe(no_mangle)]
-pub extern "C" fn open_panel_show(card: &[u8], seats: &[u8], room: &mut [u8]) -> OpenPanelAnswer
+pub fn open_panel_show(card: &[u8], seats: &[u8], room: &mut [u8]) -> OpenPanelAnswer
     ensures { Told room.old room.new (panel_said card.now seats.now) result }
 {
     let answer = panel(card, seats, room);
@@ -110,8 +106,7 @@ pub extern "C" fn open_panel_show(card: &[u8], seats: &[u8], room: &mut [u8]) ->
 }
 
 // Does a question hold at the seats? Yes answers 0 and 1, no 0 and 0.
-#[unsafe(no_mangle)]
-pub extern "C" fn open_panel_ask(card: &[u8], question: &[u8], seats: &[u8]) -> OpenPanelAnswer
+pub fn open_panel_ask(card: &[u8], question: &[u8], seats: &[u8]) -> OpenPanelAnswer
     ensures { result ≡ answered_numbers (ask_said card.now question.now seats.now) }
 {
     let asked = ask(card, question, seats);
@@ -119,8 +114,7 @@ pub extern "C" fn open_panel_ask(card: &[u8], question: &[u8], seats: &[u8]) -> 
 }
 
 // Is it a deck of cards? A deck that is taken answers 0 and 0.
-#[unsafe(no_mangle)]
-pub extern "C" fn open_panel_box_judge(deck: &[u8]) -> OpenPanelAnswer
+pub fn open_panel_box_judge(deck: &[u8]) -> OpenPanelAnswer
     ensures { result ≡ verdict_numbers (verdict_of (deck_judged deck.now)) }
 {
     let verdict = judge_deck(deck);
@@ -128,12 +122,7 @@ pub extern "C" fn open_panel_box_judge(deck: &[u8]) -> OpenPanelAnswer
 }
 
 // Where a box has the card of a number. Where it has none the part is all 0.
-#[unsafe(no_mangle)]
-pub extern "C" fn open_panel_box_find(
-    deck: &[u8],
-    number: u16,
-    part: &mut [usize; 3],
-) -> OpenPanelAnswer
+pub fn open_panel_box_find(deck: &[u8], number: u16, part: &mut [usize; 3]) -> OpenPanelAnswer
     ensures { PartTold (located deck.now number) part.old part.new result }
 {
     let place = locate(deck, number);
@@ -141,8 +130,7 @@ pub extern "C" fn open_panel_box_find(
 }
 
 // The same in a box with an expansion.
-#[unsafe(no_mangle)]
-pub extern "C" fn open_panel_box_find_with(
+pub fn open_panel_box_find_with(
     base: &[u8],
     expansion: &[u8],
     number: u16,
@@ -155,12 +143,7 @@ pub extern "C" fn open_panel_box_find_with(
 }
 
 // A box without gaps, from contents without a count byte and the bodies joined.
-#[unsafe(no_mangle)]
-pub extern "C" fn open_panel_box_write(
-    contents: &[u8],
-    bodies: &[u8],
-    room: &mut [u8],
-) -> OpenPanelAnswer
+pub fn open_panel_box_write(contents: &[u8], bodies: &[u8], room: &mut [u8]) -> OpenPanelAnswer
     ensures { Told room.old room.new (write_deck_said contents.now bodies.now) result }
 {
     let answer = write_deck(contents, bodies, room);
@@ -168,8 +151,7 @@ pub extern "C" fn open_panel_box_write(
 }
 
 // A damaged box mended: the new deck, and a list with a line for each entry, whose length goes into the lent number.
-#[unsafe(no_mangle)]
-pub extern "C" fn open_panel_mend(
+pub fn open_panel_mend(
     deck: &[u8],
     room: &mut [u8],
     list: &mut [u8],
@@ -182,8 +164,7 @@ pub extern "C" fn open_panel_mend(
 }
 
 // A box from before decimals were retired, converted: the new deck.
-#[unsafe(no_mangle)]
-pub extern "C" fn open_panel_convert(deck: &[u8], room: &mut [u8]) -> OpenPanelAnswer
+pub fn open_panel_convert(deck: &[u8], room: &mut [u8]) -> OpenPanelAnswer
     ensures { Told room.old room.new (convert_said deck.now) result }
 {
     let answer = convert(deck, room);
@@ -191,8 +172,7 @@ pub extern "C" fn open_panel_convert(deck: &[u8], room: &mut [u8]) -> OpenPanelA
 }
 
 // A box tidied within the lent deck: withdrawn entries dropped, gaps closed, zero bytes behind the new length.
-#[unsafe(no_mangle)]
-pub extern "C" fn open_panel_tidy(deck: &mut [u8]) -> OpenPanelAnswer
+pub fn open_panel_tidy(deck: &mut [u8]) -> OpenPanelAnswer
     ensures { DeckTold deck.old deck.new (tidy_said deck.old) result }
 {
     let answer = tidy(deck);
@@ -200,8 +180,7 @@ pub extern "C" fn open_panel_tidy(deck: &mut [u8]) -> OpenPanelAnswer
 }
 
 // A live card added to a box within the lent deck, which is tidied.
-#[unsafe(no_mangle)]
-pub extern "C" fn open_panel_add(deck: &mut [u8], number: u16, card: &[u8]) -> OpenPanelAnswer
+pub fn open_panel_add(deck: &mut [u8], number: u16, card: &[u8]) -> OpenPanelAnswer
     ensures { DeckTold deck.old deck.new (add_said deck.old number card.now) result }
 {
     let answer = add(deck, number, card);
@@ -209,8 +188,7 @@ pub extern "C" fn open_panel_add(deck: &mut [u8], number: u16, card: &[u8]) -> O
 }
 
 // The line of class counts for a spectator, by a list of the states' classes.
-#[unsafe(no_mangle)]
-pub extern "C" fn open_panel_watch(
+pub fn open_panel_watch(
     card: &[u8],
     seats: &[u8],
     classes: &[u8],
@@ -248,8 +226,7 @@ fn move_in_numbers(answer: FirstMove) -> OpenPanelAnswer
 }
 
 // The first statement that some seat may take: its place on the card answers 0 and the place, nobody 0 and 0.
-#[unsafe(no_mangle)]
-pub extern "C" fn open_panel_first_move(card: &[u8], seats: &[u8]) -> OpenPanelAnswer
+pub fn open_panel_first_move(card: &[u8], seats: &[u8]) -> OpenPanelAnswer
     ensures { result ≡ moved_numbers (move_said card.now seats.now) }
 {
     let answer = first_move(card, seats);
@@ -257,8 +234,7 @@ pub extern "C" fn open_panel_first_move(card: &[u8], seats: &[u8]) -> OpenPanelA
 }
 
 // The chance that a question becomes true within m steps, in millionths; the rows hold round m and the round before it.
-#[unsafe(no_mangle)]
-pub extern "C" fn open_panel_odds(
+pub fn open_panel_odds(
     card: &[u8],
     question: &[u8],
     seats: &[u8],
