@@ -1,6 +1,5 @@
 -- `seating::count_seats` meets its contract: after i turns the array has the counts of the first i seats. Assumes nothing.
 use Prim.Native.Nat.{◌<◌}
-use mathlib.Core.Logic.{⊎_elim}
 use mathlib.Core.Path.{◌≡◌, ap, ◌∙◌}
 use native.Mathlib.Omega.{arith}
 use borrow.Author.Rules.{rules}
@@ -9,6 +8,7 @@ use Rattle.card.specs.Limits.{top_state}
 use Rattle.meaning.specs.Seats.{counts as counts_of}
 use Rattle.seating.proofs.Counted.{counts_none, counts_most, counts_next, counts_over, counts_all}
 use Rattle.seating.proofs.count_seats.Goals as goal
+use Rattle.seating.proofs.count_seats.Goals.{then-state-lt-MOST_STATES, else-state-lt-MOST_STATES}
 
 pub loop-i-init : goal.loop-i-init
 loop-i-init c = (search rules, (search rules, counts_none))
@@ -25,8 +25,16 @@ pub loop-i-preserved : goal.loop-i-preserved
 loop-i-preserved c =
     let here : c.loop-i.i < length c.args.seats.now = omega (arith, c.if-seats-i.false) in
     let within = counts_next top_state c.args.seats.now c.loop-i.i here in
-    let over = counts_over top_state c.args.seats.now c.loop-i.i here in
-    (search rules, (search rules, ⊎_elim (λ w. w.1 ∙ rw (c.loop-i.invariant.1.1, c.wide-state.ensures) (within (omega (arith, w.0.taken, c.wide-state.ensures)))) (λ w. w.1 ∙ c.loop-i.invariant.1.1 ∙ over (omega (arith, w.0.left, c.wide-state.ensures))) c.if-state-lt-MOST_STATES.branch))
+    let over = counts_over top_state c.args.seats.now c.loop-i.i here in (
+      search rules,
+      (
+        search rules,
+        elim c.if-state-lt-MOST_STATES.branch [
+          | then-state-lt-MOST_STATES w ↦ w.counts-is ∙ rw (c.loop-i.invariant.1.1, c.wide-state.ensures) (within (omega (arith, w.if-state-lt-MOST_STATES.true, c.wide-state.ensures)))
+          | else-state-lt-MOST_STATES w ↦ w.counts-is ∙ c.loop-i.invariant.1.1 ∙ over (omega (arith, w.if-state-lt-MOST_STATES.false, c.wide-state.ensures))
+        ],
+      ),
+    )
 
 pub returns : goal.returns
 returns c =
