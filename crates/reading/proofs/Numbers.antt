@@ -70,8 +70,8 @@ module _ {A : Type 0} where
   either true s h m = h.stops s
   either false s h m = m.stops s
 
-  if_next_law : {t : String} {p q : Reader A} → Modest p → Modest q → Modest (if_next t p q)
-  if_next_law {t} {p} {q} h m = record { stops = λ s. either (next_is t s.marks) s h m }
+  if_next_law : (t : String) {p q : Reader A} → Modest p → Modest q → Modest (if_next t p q)
+  if_next_law t {p} {q} h m = record { stops = λ s. either (next_is t s.marks) s h m }
 
   if_ahead_law : (starts : Place → Bool) {p q : Reader A} → Modest p → Modest q → Modest (if_ahead starts p q)
   if_ahead_law starts {p} {q} h m = record { stops = λ s. either (starts s.marks) s h m }
@@ -106,9 +106,9 @@ lines (process_word ∷ items) = then_each (numbers _) (λ w. then_each (lines i
 module _ {A : Type 0} where
   chains : (t : String) (join : Formula A → Formula A → Formula A) {operand : Read A} → Modest operand → (most : ℕ) (g : Formula A)
       → Modest (chain t join operand most g)
-  chains t join o zero g = if_next_law (refuses past_limit (omega arith)) (returns g)
+  chains t join o zero g = if_next_law _ (refuses past_limit (omega arith)) (returns g)
   chains t join o (suc most) g =
-      if_next_law (then_one nodes (then_one (signs t) (then_each o (λ h. chains t join o most (join g h))))) (returns g)
+      if_next_law _ (then_one nodes (then_one (signs t) (then_each o (λ h. chains t join o most (join g h))))) (returns g)
 
   conjunctions : {p : Read A} → Modest p → Modest (conjunction p)
   conjunctions h = then_each h (λ g. chains "&" and h most_nodes g)
@@ -122,10 +122,10 @@ module _ {A : Type 0} where
 
     unaries : (shared : Bool) (depth : ℕ) → Modest (unary shared one depth)
     unaries shared zero =
-        if_next_law (refuses past_limit (omega arith))
+        if_next_law "!" (refuses past_limit (omega arith))
         (then_each places (λ p. then_one (signs "(") (if_ahead_law (test_next shared) (groups p) (refuses_at past_limit p (omega arith)))))
     unaries shared (suc depth) =
-        if_next_law (then_one nodes (then_one (signs "!") (then_each (unaries shared depth) (λ g. returns _))))
+        if_next_law "!" (then_one nodes (then_one (signs "!") (then_each (unaries shared depth) (λ g. returns _))))
         (then_each places (λ p. then_one (signs "(")
         (if_ahead_law (test_next shared) (groups p) (then_each (expressions (unaries shared depth)) (λ g. then_one (signs ")") (returns g))))))
 
@@ -133,29 +133,29 @@ literals : Modest literal
 literals = then_each (takes _) (λ i. then_each (takes _) (λ q. then_each places (λ p. then_each (takes _) (λ d. returns _))))
 
 more_literals : (t : String) (most : ℕ) → Modest (others t most)
-more_literals t zero = if_next_law (refuses past_limit (omega arith)) (then_one (signs ")") (returns _))
+more_literals t zero = if_next_law _ (refuses past_limit (omega arith)) (then_one (signs ")") (returns _))
 more_literals t (suc most) =
-    if_next_law (then_one (signs t) (then_each literals (λ l. then_each (more_literals t most) (λ ls. returns _)))) (then_one (signs ")") (returns _))
+    if_next_law _ (then_one (signs t) (then_each literals (λ l. then_each (more_literals t most) (λ ls. returns _)))) (then_one (signs ")") (returns _))
 
 whole_groups : (p : Place) → Modest (group p)
 whole_groups p =
-    then_each literals (λ l. then_each places (λ rest. then_each (if_next_law (returns any) (returns all))
+    then_each literals (λ l. then_each places (λ rest. then_each (if_next_law (joint any) (returns any) (returns all))
     (λ s. then_each (more_literals (joint s) (length rest)) (λ ls. returns _))))
 
 shared_tests : Modest shared_test
 shared_tests = then_one (signs "g") (then_each (takes _) (λ q. then_each (numbers _) (λ v. then_one (signs ")") (returns _))))
 
 tests : (p : Place) → Modest (tested p)
-tests p = if_next_law (then_each shared_tests (λ x. returns _)) (then_each (whole_groups p) (λ x. returns _))
+tests p = if_next_law "g" (then_each shared_tests (λ x. returns _)) (then_each (whole_groups p) (λ x. returns _))
 
 -- ---- the card
 
 counts : {A : Type 0} (most : ℕ) (t : String) {one : Reader A} {past : Reader (List A)} → Modest one → Modest past → Modest (many most t one past)
-counts zero t o p = if_next_law p (returns [])
-counts (suc most) t o p = if_next_law (then_each o (λ x. then_each (counts most t o p) (λ xs. returns _))) (returns [])
+counts zero t o p = if_next_law _ p (returns [])
+counts (suc most) t o p = if_next_law _ (then_each o (λ x. then_each (counts most t o p) (λ xs. returns _))) (returns [])
 
 overs : (w : Weight) → Modest (over w)
-overs (whole a) = if_next_law (then_one (signs "/") (then_each (takes _) (λ b. returns _))) (returns _)
+overs (whole a) = if_next_law "/" (then_one (signs "/") (then_each (takes number_of) (λ b. returns _))) (returns _)
 overs (point v n f) = returns _
 overs (ratio a b) = returns _
 
@@ -165,7 +165,7 @@ weights = then_each (takes weight_of) (λ w. overs w)
 settings : (shared : Bool) → Modest (sets shared)
 settings false = returns none
 settings true =
-    if_next_law (then_each (lines (exactly "&" ∷ exactly "(" ∷ exactly "g" ∷ exactly "'" ∷ exactly "=" ∷ [])) (λ ws.
+    if_next_law "&" (then_each (lines (exactly "&" ∷ exactly "(" ∷ exactly "g" ∷ exactly "'" ∷ exactly "=" ∷ [])) (λ ws.
     then_each (numbers number_of) (λ v. then_one (signs ")") (returns (some v))))) (returns none)
 
 branches : (shared : Bool) → Modest (branch shared)
@@ -179,7 +179,7 @@ past_branches_law = then_one (signs "+") (then_each places (λ p. then_each (tak
 
 guards : (shared : Bool) → Modest (guard shared)
 unfolding guard
-guards shared = if_next_law (then_one (signs "&") (then_each (conjunctions (unaries tested tests shared most_depth)) (λ g. returns _))) (returns none)
+guards shared = if_next_law "&" (then_one (signs "&") (then_each (conjunctions (unaries tested tests shared most_depth)) (λ g. returns _))) (returns none)
 
 may_have_law : (n : ℕ) → Modest (may_have n)
 may_have_law n = record { stops = λ s. tt }
@@ -224,7 +224,7 @@ all_modules mode g =
     returns (record { mode = mode; shared = g; words = ws; k = r.top; l = r.start; statements = x ∷ xs; modules = ms })))))))
 
 bodies : Modest body
-bodies = then_each (takes mode_of) (λ mode. if_next_law (then_each declarations (λ g. all_modules mode (some g))) (all_modules mode none))
+bodies = then_each (takes mode_of) (λ mode. if_next_law "global" (then_each declarations (λ g. all_modules mode (some g))) (all_modules mode none))
 
 cards : Modest card
 cards = then_each bodies (λ c. then_one ends (returns c))

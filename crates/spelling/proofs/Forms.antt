@@ -29,9 +29,9 @@ abbrev pub each : (List ℕ → Bool) → List String → Bool
 each f [] = true
 each f (t ∷ ts) = f (bytes t) && each f ts
 
-pub of_each : (f : List ℕ → Bool) (ts : List String) (w : List ℕ) → each f ts ≡ true → OneOf w ts → f w ≡ true
-of_each f ts w e (this {t = t} {ts = us} q) = rw q (and_left (f (bytes t)) (each f us) e)
-of_each f ts w e (later {t = t} {ts = us} o) = of_each f us w (and_right (f (bytes t)) (each f us) e) o
+pub of_each : (f : List ℕ → Bool) (w : List ℕ) (ts : List String) → each f ts ≡ true → OneOf w ts → f w ≡ true
+of_each f w ts e (this {t = t} {ts = us} q) = rw q (and_left (f (bytes t)) (each f us) e)
+of_each f w ts e (later {t = t} {ts = us} o) = of_each f w us (and_right (f (bytes t)) (each f us) e) o
 
 abbrev among : List ℕ → List String → Bool
 among w [] = false
@@ -61,7 +61,7 @@ pub sign_one : (a : ℕ) → is_sign a ≡ true → OneOf (a ∷ []) signs
 sign_one a e = among_one (a ∷ []) signs (of_bytes (λ b. among (b ∷ []) signs) (bytes "[]:;=!&|()+',/") a refl e)
 
 pub one_sign : (a : ℕ) → OneOf (a ∷ []) signs → is_sign a ≡ true
-one_sign a o = of_each signed signs (a ∷ []) refl o
+one_sign a o = of_each signed (a ∷ []) signs refl o
 
 sign_apart : (a : ℕ) → is_sign a ≡ true → apart a ≡ true
 sign_apart a e = of_bytes apart (bytes "[]:;=!&|()+',/") a refl e
@@ -119,7 +119,7 @@ stray_form : (b : ℕ) → Stray b → Form (b ∷ [])
 stray_form b s = of_one {b = b} (rw (s.no_blank, s.no_letter, s.no_digit))
 
 pub form : (w : List ℕ) (m : Mark) → Spells w m → Form w
-form w m (sign o) = sign_form w (of_each signed signs w refl o)
+form w m (sign o) = sign_form w (of_each signed w signs refl o)
 form w m (seat_word {i = i} (s, e, n)) = rw e (of_word (word refl (number_word s i n.numeral)))
 form w m (module_word {i = i} (s, e, n)) = rw e (of_word (word refl (number_word s i n.numeral)))
 form w m (other_word o a b) = of_word o

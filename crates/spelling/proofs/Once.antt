@@ -13,7 +13,7 @@ use Rattle.card.specs.Limits.{number_digits, further_digits, word_digits}
 use Rattle.card.specs.Text.{bytes, same}
 use Rattle.marks_on_a_card.specs.Bytes.{is_digit, in_word, is_sign, begins, every, after}
 use Rattle.marks_on_a_card.specs.Digits.{number_spelt, pointed}
-use Rattle.marks_on_a_card.specs.Marks.{Mark, text, seat, process, number, decimal, outside, second, Start, blank, mark, made, numbered, numeral_mark, numeral, sign1, sign2, start_at}
+use Rattle.marks_on_a_card.specs.Marks.{Mark, text, seat, process, number, decimal, outside, second, Start, blank, mark, made, numbered, numeral_mark, sign1, sign2, start_at}
 use Rattle.marks_on_a_card.proofs.Lists.{cases, not_both, and_left, and_right}
 use Rattle.marks_on_a_card.proofs.KindLaws.{same_eq}
 use Rattle.marks_on_a_card.proofs.StartLaws.{letter_starts, digit_starts}
@@ -50,7 +50,7 @@ is_itself w (decimal v n f) e = not_both false e refl
 is_itself w outside e = not_both false e refl
 
 sign_read : (w : List ℕ) → OneOf w signs → mark_of w ≡ text w
-sign_read w o = is_itself w (mark_of w) (of_each (λ v. itself v (mark_of v)) signs w refl o)
+sign_read w o = is_itself w (mark_of w) (of_each (λ v. itself v (mark_of v)) w signs refl o)
 
 -- ---- words
 

@@ -27,16 +27,33 @@ record Part (a : ℕ) (s : List ℕ) (ms : List Placed) : Type 0 where
   from : ℕ
   marks_are : Marked (a + from) (drop from s) ms
 
+-- the place behind the first of some marks
+record Behind (a : ℕ) (s : List ℕ) (rest : List Placed) : Type 0 where
+  by : ℕ
+  left : List ℕ
+  left_is : left ≡ drop by s
+  marks_are : Marked (a + by) left rest
+
+behind : (a : ℕ) (s : List ℕ) (x : Placed) (rest : List Placed) → Marked a s (x ∷ rest) → Behind a s rest
+behind a s x rest (next {g = g} {w = w} {r = r} {m = m} e b st k) =
+    let t = taken m w in
+    let n : a + length g + t ≡ a + (length g + t) = omega arith in
+    record {
+      by = length g + t;
+      left = drop t (w ++ r);
+      left_is = ap (drop t) (sym (drop-append_seam g (w ++ r)) ∙ ap (drop (length g)) (sym e)) ∙ drop-drop t (length g) s;
+      marks_are = rw n at k;
+    }
+
 part : (a : ℕ) (s : List ℕ) (before ms : List Placed) → Marked a s (before ++ ms) → Part a s ms
 part a s [] ms k = record { from = 0; marks_are = rw (add-zero a) k }
-part a s (x ∷ before) ms (next {g = g} {w = w} {r = r} {m = m} e b st k) =
-    let t = taken m w in
-    let p = part (a + length g + t) (drop t (w ++ r)) before ms k in
-    let n : a + length g + t + p.from ≡ a + (length g + t + p.from) = omega arith in
-    let there : drop t (w ++ r) ≡ drop (length g + t) s = ap (drop t) (sym (drop-append_seam g (w ++ r)) ∙ ap (drop (length g)) (sym e)) ∙ drop-drop t (length g) s in
+part a s (x ∷ before) ms k =
+    let h = behind a s x (before ++ ms) k in
+    let p = part (a + h.by) h.left before ms h.marks_are in
+    let n : a + h.by + p.from ≡ a + (h.by + p.from) = omega arith in
     record {
-      from = length g + t + p.from;
-      marks_are = subst (λ (u : List ℕ). Marked (a + (length g + t + p.from)) u ms) (ap (drop p.from) there ∙ drop-drop p.from (length g + t) s) (rw n at p.marks_are);
+      from = h.by + p.from;
+      marks_are = subst (λ (u : List ℕ). Marked (a + (h.by + p.from)) u ms) (ap (drop p.from) h.left_is ∙ drop-drop p.from h.by s) (rw n at p.marks_are);
     }
 
 -- the first of some marks, and the second behind it

@@ -37,6 +37,5 @@ returns c =
     c.wide.ensures ∙ sym
     (digit_over in_number c.args.card.now
     c.args.at
-    (sym c.digit_at.ensures ∙ not-false c.digit_at.result
-    c.if-not-digit_at.false)
+    (sym c.digit_at.ensures ∙ c.if-not-digit_at.false)
     (sym c.number_at.ensures ∙ c.if-number_at.false))

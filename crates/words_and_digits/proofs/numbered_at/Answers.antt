@@ -32,8 +32,7 @@ returns-then-not-is_plain c =
     numbered_unplain c.args.these.now
     c.args.card.now c.args.at
     c.requires.1
-    (sym c.begins_at.ensures ∙ not-false c.begins_at.result
-    c.if-not-begins_at.false)
+    (sym c.begins_at.ensures ∙ c.if-not-begins_at.false)
     (sym c.is_plain.ensures ∙ c.if-not-is_plain.true)
 
 pub overflow_add-from-2 : goal.overflow_add-from-2
@@ -42,8 +41,7 @@ overflow_add-from-2 c =
     begun_fits c.args.these.now
     c.args.card.now c.args.at
     c.requires.0
-    (sym c.begins_at.ensures ∙ not-false c.begins_at.result
-    c.if-not-begins_at.false) in
+    (sym c.begins_at.ensures ∙ c.if-not-begins_at.false) in
     omega (
       arith,
       counted_fits c.args.card.now
@@ -58,8 +56,7 @@ returns-then-word_at c =
     c.args.card.now
     c.args.at
     c.requires.1
-    (sym c.begins_at.ensures ∙ not-false c.begins_at.result
-    c.if-not-begins_at.false)
+    (sym c.begins_at.ensures ∙ c.if-not-begins_at.false)
     c.digits_from-d.result c.digits_from-d.ensures (sym c.word_at.ensures ∙ c.if-word_at.true)
 
 pub overflow_add-result : goal.overflow_add-result
@@ -69,8 +66,7 @@ overflow_add-result c =
     c.args.card.now
     c.args.at
     c.requires.0
-    (sym c.begins_at.ensures ∙ not-false c.begins_at.result
-    c.if-not-begins_at.false) in
+    (sym c.begins_at.ensures ∙ c.if-not-begins_at.false) in
     omega (
       arith,
       counted_fits c.args.card.now
@@ -86,8 +82,7 @@ returns c =
     c.args.card.now
     c.args.at
     c.requires.1
-    (sym c.begins_at.ensures ∙ not-false c.begins_at.result
-    c.if-not-begins_at.false)
+    (sym c.begins_at.ensures ∙ c.if-not-begins_at.false)
     c.digits_from-d.result c.digits_from-d.ensures
     (sym c.is_plain.ensures ∙ c.if-not-is_plain.false)
     (sym c.word_at.ensures ∙ c.if-word_at.false)

@@ -45,8 +45,7 @@ returns-then-not-is_pointed c =
     (read_number c.args.card.now c.args.at
     c.requires.0 c.requires.1 k
     c.digits_from-d.result c.digits_from-d.ensures
-    (sym (digits-judged c.before.before.before.before) ∙ not-false c.is_plain.result
-    c.if-not-is_plain.false)
+    (sym (digits-judged c.before.before.before.before) ∙ c.if-not-is_plain.false)
     (sym c.is_pointed.ensures ∙ c.if-not-is_pointed.true))
 
 pub overflow_add-from : goal.overflow_add-from
@@ -68,10 +67,8 @@ returns-then-more-gt-FURTHER_DIGITS c =
     c.requires.1 k
     c.digits_from-d.result c.digits_from-d.ensures
     c.digits_from-f.result c.digits_from-f.ensures
-    (sym (digits-judged c.before.before.before.before.before.before) ∙ not-false c.is_plain.result
-    c.if-not-is_plain.false)
-    (sym c.is_pointed.ensures ∙ not-false c.is_pointed.result
-    c.if-not-is_pointed.false)
+    (sym (digits-judged c.before.before.before.before.before.before) ∙ c.if-not-is_plain.false)
+    (sym c.is_pointed.ensures ∙ c.if-not-is_pointed.false)
     c.if-more-gt-FURTHER_DIGITS.true)
 
 pub overflow_add-result : goal.overflow_add-result
@@ -97,6 +94,5 @@ returns c =
     c.args.at c.requires.0
     c.requires.1 k c.digits_from-d.result
     c.digits_from-d.ensures c.digits_from-f.result c.digits_from-f.ensures
-    (sym (digits-judged c.before.before.before.before.before) ∙ not-false c.is_plain.result
-    c.if-not-is_plain.false)
+    (sym (digits-judged c.before.before.before.before.before) ∙ c.if-not-is_plain.false)
     (sym c.is_pointed.ensures ∙ c.if-not-is_pointed.false) (few-further c))
