@@ -4,25 +4,21 @@ use mathlib.Core.Path.{◌≡◌}
 use native.Mathlib.Omega.{arith}
 use Rattle.deck.specs.Contents.{byte}
 use Rattle.deck_writer.proofs.Judging.{begins, ended, not_rising, wrong_flag, wrong_zero, goes_on}
+use Rattle.deck_writer.proofs.judge_lines.Goals.{Else-contents-at-ne0}
 use Rattle.deck_writer.proofs.judge_lines.Goals as goal
 
 -- it goes on only behind an entry whose last byte is 0
 abbrev ZeroByte : Type 0
-ZeroByte = (c : goal.Else-contents-at-ne0) → byte c.args.contents.now (c.loop-left.at + 7) ≡ 0
+ZeroByte = (c : Else-contents-at-ne0) → byte c.args.contents.now (c.loop-left.at + 7) ≡ 0
 
 zero-byte : ZeroByte
-zero-byte c = c.if3.false
+zero-byte c = c.if-contents-at-ne0.false
 
 -- and then judges the next one, which has a higher number
 next-above : ZeroByte → goal.loop-left-preserved
 next-above zero-byte c =
-    let at-if3 = c.before in
-    let at-if2 = at-if3.before.before in
-    let at-if1 = at-if2.before.before in
-    let at-word-at = at-if1.before in
-    let at-loop-test = at-word-at.before in
-    let at-loop = at-loop-test.before in
-    goes_on at-loop.loop.invariant at-loop-test.loop-test.true at-word-at.word_at.ensures.0 at-if1.if1.false at-if2.if2.false (zero-byte at-if3) c.word-at2.ensures.0 c.word-at2.ensures.1
+    goes_on c.loop-left.invariant c.loop-left-test.true c.word_at-number.ensures.0 c.if-number-least.false c.if-contents-at-gt1.false
+    (zero-byte (goal.at.loop-left-preserved c).Else-contents-at-ne0) c.word_at-size.ensures.0 c.word_at-size.ensures.1
 
 pub loop-left-init : goal.loop-left-init
 loop-left-init c = begins c.args.contents.now c.requires

@@ -1,4 +1,5 @@
 -- `mending_walk::walked` meets its contract: an entry that is kept moves the walk, one that is dropped does not. Assumes nothing.
+use Prim.Native.Nat.{ℕ}
 use mathlib.Core.Path.{◌≡◌, ap}
 use native.Mathlib.Omega.{arith}
 use lib.ListN.{drop}
@@ -6,14 +7,15 @@ use Rattle.deck.specs.Contents.{row_of}
 use Rattle.mending_walk.specs.declared.Walk.{Walk}
 use Rattle.mending_walk.specs.Walking.{walked_by}
 use Rattle.mending_walk.proofs.Laws.{stays, moves}
+use Rattle.mending_walk.proofs.walked.Goals.{Then-fate-ne0}
 use Rattle.mending_walk.proofs.walked.Goals as goal
 
-InPart {C} {v} {w} part whole = (c : C) → part (v c) ≡ part (w c)
-
+-- an equation between walks that is needed, in one part of them
+abbrev InPart : {C : Type 0} {v w : C → Walk} → (Walk → ℕ) → (((c : C) → v c ≡ w c) → Type 0) → Type 0
 InPart {C} {v} {w} part whole = (c : C) → part (v c) ≡ part (w c)
 
 -- an entry that is dropped
-same : (c : goal.Then-fate-ne0)
+same : (c : Then-fate-ne0)
     → c.args.walk ≡ walked_by c.args.fate (row_of (drop c.args.at c.args.deck.now)) c.args.walk
 same c =
     stays c.args.fate _ c.args.walk c.if-fate-ne0.true
