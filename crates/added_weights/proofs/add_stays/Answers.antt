@@ -6,10 +6,10 @@ use lib.ListN.{length}
 use borrow.Author.Rules.{rules}
 use native.Mathlib.Omega.{arith}
 use native.Mathlib.Nat.{mul-le-mul}
-use mathlib.Core.Logic.{⊎_elim}
 use mathlib.Core.Path.{◌≡◌, refl, ◌∙◌}
 use Prim.Native.Nat.{◌≤◌, ◌<◌, ◌+◌, ◌*◌, ◌^◌}
 use Rattle.added_weights.proofs.add_stays.Goals as goal
+use Rattle.added_weights.proofs.add_stays.Goals.{then-end_of-own, else-end_of-own}
 
 pub overflow_mul-from : goal.overflow_mul-from
 overflow_mul-from c = omega (arith, c.requires.statement)
@@ -49,17 +49,17 @@ bounds-stays-to-then-end_of-own c =
 pub loop-j-preserved : goal.loop-j-preserved
 loop-j-preserved c =
     let here : c.args.i * most_branches + c.loop-j.j < length c.args.branches.now = omega (arith, c.requires.statement, c.requires.fit, c.requires.there) in
-    ⊎_elim
-    (λ w.
-    let small : w.3.result ≤ 2 ^ 32 = omega arith in
-    let next = stays_next c.args.shared c.args.able c.args.branches.now c.args.i c.loop-j.j _ refl here c.end_of.ensures.part w.1.ensures.0 w.3.ensures w.1.ensures.1 c.args.own c.args.stays.now c.loop-j.invariant.1 w.0.taken in
-    let fits = sums_next c.loop-j.stays w.1.result (c.args.able * w.3.result) heaviest (most_seats * 2 ^ 32) c.loop-j.j c.loop-j.invariant.2 (mul-le-mul c.requires.few small) in
-    (search rules, w.4 ∙ next, rw w.4 fits))
-    (λ w.
-    let next = stays_else c.args.shared c.args.able c.args.branches.now c.args.i c.loop-j.j _ refl here c.end_of.ensures.part c.args.own c.args.stays.now c.loop-j.invariant.1 w.0.left in
-    let fits = sums_still c.loop-j.stays heaviest (most_seats * 2 ^ 32) c.loop-j.j c.loop-j.invariant.2 in
-    (search rules, w.1 ∙ next, rw w.1 fits))
-    c.if-end_of-own.branch
+    elim c.if-end_of-own.branch [
+      | then-end_of-own w ↦
+          let small : w.units_of.result ≤ 2 ^ 32 = omega arith in
+          let next = stays_next c.args.shared c.args.able c.args.branches.now c.args.i c.loop-j.j _ refl here c.end_of.ensures.part w.becomes-to.ensures.is w.units_of.ensures w.becomes-to.ensures.small c.args.own c.args.stays.now c.loop-j.invariant.1 w.if-end_of-own.true in
+          let fits = sums_next c.loop-j.stays w.becomes-to.result (c.args.able * w.units_of.result) heaviest (most_seats * 2 ^ 32) c.loop-j.j c.loop-j.invariant.2 (mul-le-mul c.requires.few small) in
+          (search rules, w.stays-is ∙ next, rw w.stays-is fits)
+      | else-end_of-own w ↦
+          let next = stays_else c.args.shared c.args.able c.args.branches.now c.args.i c.loop-j.j _ refl here c.end_of.ensures.part c.args.own c.args.stays.now c.loop-j.invariant.1 w.if-end_of-own.false in
+          let fits = sums_still c.loop-j.stays heaviest (most_seats * 2 ^ 32) c.loop-j.j c.loop-j.invariant.2 in
+          (search rules, w.stays-is ∙ next, rw w.stays-is fits)
+    ]
 
 pub returns : goal.returns
 returns c =
