@@ -7,7 +7,7 @@ use native.Mathlib.Numerals.{add-one}
 use native.Mathlib.Omega.{arith}
 use borrow.Author.Tests.{lt-ltb, le-ltb}
 use lib.Dec.{ltb}
-use Rattle.card.specs.Text.{if◌then◌else◌}
+use Rattle.card.specs.Text.{when◌then◌else◌}
 use Rattle.card.specs.Laid.{statement_of, statements_of}
 use Rattle.card.specs.Rows.{rows_from}
 use Rattle.meaning.specs.Position.{Position}
@@ -17,7 +17,7 @@ use Rattle.moving.specs.FirstMove.{first_at}
 use Rattle.able_seats.specs.FirstRow.{able_row, first_row}
 
 module _ (n : ℕ) (v : Position) (nodes rows : List ℕ) where
-  row_step : (i more : ℕ) → first_row n v nodes rows i (suc more) ≡ (if ltb 0 (able_row n v nodes rows i) then some (suc i) else first_row n v nodes rows (suc i) more)
+  row_step : (i more : ℕ) → first_row n v nodes rows i (suc more) ≡ (when ltb 0 (able_row n v nodes rows i) then some (suc i) else first_row n v nodes rows (suc i) more)
   unfolding first_row
   row_step i more = refl
 
@@ -51,4 +51,4 @@ module _ (n : ℕ) (v : Position) (nodes rows : List ℕ) where
   pub rows_walk : (branches : List ℕ) (i more : ℕ) → first_at n v (suc i) (statements_of nodes branches (rows_from rows i more) i) ≡ first_row n v nodes rows i more
   unfolding first_at statements_of statement_of able takers first_row
   rows_walk branches i zero = refl
-  rows_walk branches i (suc more) = ap (λ (r : Option ℕ). if ltb 0 (able_row n v nodes rows i) then some (suc i) else r) (rows_walk branches (suc i) more)
+  rows_walk branches i (suc more) = ap (λ (r : Option ℕ). when ltb 0 (able_row n v nodes rows i) then some (suc i) else r) (rows_walk branches (suc i) more)

@@ -4,7 +4,7 @@ use Rattle.std.specs.Prelude.{List}
 use Rattle.std.proofs.Math.Option.{Option, none, some}
 use Rattle.std.proofs.Math.Dec.{ltb}
 use Rattle.card.specs.Limits.{most_nodes}
-use Rattle.card.specs.Text.{if◌then◌else◌}
+use Rattle.card.specs.Text.{when◌then◌else◌}
 use Rattle.card.specs.Laid.{guard_of}
 use Rattle.card.specs.Rows.{row_of}
 use Rattle.meaning.specs.Position.{Position}
@@ -19,4 +19,4 @@ module _ (n : ℕ) (v : Position) (nodes rows : List ℕ) where
   unfoldable pub first_row : ℕ → ℕ → Option ℕ
   unfolding takers
   first_row i zero = none
-  first_row i (suc more) = if ltb 0 (able_row i) then some (suc i) else first_row (suc i) more
+  first_row i (suc more) = when ltb 0 (able_row i) then some (suc i) else first_row (suc i) more

@@ -10,7 +10,7 @@ use native.Mathlib.Decide.{dec_le}
 use lib.Dec.{eqb, eqb-suc-suc, eqb-suc-zero, eqb-zero-suc}
 use borrow.Author.Tests.{eqb-true, eq-eqb}
 use lib.ListN.{length}
-use Rattle.card.specs.Text.{if◌then◌else◌}
+use Rattle.card.specs.Text.{when◌then◌else◌}
 use Rattle.card.specs.Card.{Sign, all, any, Relation, is, isnt, Formula, atom, neg, and, or}
 use Rattle.card.specs.Valid.{Every}
 use Rattle.late.specs.Values.{most_of}
@@ -93,7 +93,7 @@ named_in : (i : ℕ) (ls : List Literal) → 1 ≤ times_in i ls → (l : Litera
 named_in i [] h = absurd (omega arith)
 named_in i (l ∷ ls) h = go (eqb l.seat i) refl h (named_in i ls)
   where
-    go : (b : Bool) → eqb l.seat i ≡ b → 1 ≤ (if b then 1 else 0) + times_in i ls
+    go : (b : Bool) → eqb l.seat i ≡ b → 1 ≤ (when b then 1 else 0) + times_in i ls
         → (1 ≤ times_in i ls → (m : Literal) × In m ls × (m.seat ≡ i)) → (m : Literal) × In m (l ∷ ls) × (m.seat ≡ i)
     go true e h k = (l, first, eqb-true l.seat i e)
     go false e h k = let (m, j, z) = k (omega arith) in (m, later j, z)
@@ -170,7 +170,7 @@ group_holds n x e s (l ∷ ls) h =
 
 -- the relation due to seat j in term i, both from 0
 abbrev due_at : ℕ → ℕ → Relation
-due_at i j = if eqb j i then is else isnt
+due_at i j = when eqb j i then is else isnt
 
 abbrev in_term : ℕ → List ℕ → ℕ → ℕ → Bool
 in_term d x i j = literal (due_at i j) (eqb (state x j) d)
@@ -184,12 +184,12 @@ alone_order : (d : ℕ) (x : List ℕ) (i : ℕ) → i < length x → in_order_o
 alone_order d [] i l = absurd (omega arith)
 alone_order d (a ∷ x) zero l =
     ap (λ (f : ℕ → Bool). eqb a d && in_order_of all (length x) f)
-    (fun_ext (λ j. ap (λ (b : Bool). literal (if b then is else isnt) (eqb (state x j) d)) (eqb-suc-zero j)))
+    (fun_ext (λ j. ap (λ (b : Bool). literal (when b then is else isnt) (eqb (state x j) d)) (eqb-suc-zero j)))
     ∙ ap (λ (b : Bool). eqb a d && b) (joined_order all isnt d x)
 alone_order d (a ∷ x) (suc i) l =
-    ap (λ (b : Bool). literal (if b then is else isnt) (eqb a d) && in_order_of all (length x) (λ j. in_term d (a ∷ x) (suc i) (suc j))) (eqb-zero-suc i)
+    ap (λ (b : Bool). literal (when b then is else isnt) (eqb a d) && in_order_of all (length x) (λ j. in_term d (a ∷ x) (suc i) (suc j))) (eqb-zero-suc i)
     ∙ ap (λ (f : ℕ → Bool). not (eqb a d) && in_order_of all (length x) f)
-    (fun_ext (λ j. ap (λ (b : Bool). literal (if b then is else isnt) (eqb (state x j) d)) (eqb-suc-suc j i)))
+    (fun_ext (λ j. ap (λ (b : Bool). literal (when b then is else isnt) (eqb (state x j) d)) (eqb-suc-suc j i)))
     ∙ ap (λ (b : Bool). not (eqb a d) && b) (alone_order d x i (omega arith))
     ∙ and_swap (not (eqb a d)) (eqb (state x i) d) (joined all isnt d (without x i))
 
@@ -206,8 +206,8 @@ module _ (n d : ℕ) (x : Seating) (seats : length x.each ≡ n) where
       each : (m : Literal) → In m t → 1 ≤ m.seat → literal_holds x m ≡ in_term d x.each i (m.seat - 1)
       each m j a =
           same_literal x m (due_at i (m.seat - 1)) d
-          (of_every (λ (y : Literal). y.relation ≡ (if eqb y.seat (suc i) then is else isnt)) t h.relations m j
-          ∙ ap (λ (b : Bool). if b then is else isnt) (seat_from_0 m.seat i a))
+          (of_every (λ (y : Literal). y.relation ≡ (when eqb y.seat (suc i) then is else isnt)) t h.relations m j
+          ∙ ap (λ (b : Bool). when b then is else isnt) (seat_from_0 m.seat i a))
           (of_every (λ (y : Literal). y.d ≡ d) t h.ds m j)
 
   terms_hold : (i : ℕ) (ts : List (List Literal)) → i + length ts ≡ n → Terms n d (suc i) ts → (f : ℕ → Bool) → ((j : ℕ) → f j ≡ alone d x.each (i + j))

@@ -4,7 +4,7 @@ use mathlib.Core.Path.{◌≡◌, refl, sym, ap, ◌∙◌, subst}
 use mathlib.Core.Bool.{Bool, true, false, false≢true}
 use mathlib.Core.List.{List, [], ◌∷◌, ◌++◌, append_assoc}
 use native.Mathlib.Omega.{arith}
-use Rattle.card.specs.Text.{if◌then◌else◌}
+use Rattle.card.specs.Text.{when◌then◌else◌}
 use Rattle.card.specs.Card.{Sign, all, any, Formula}
 use Rattle.card.specs.Valid.{Every}
 use Rattle.marks_on_a_card.specs.Marks.{seat, number, Placed, placed, place_of}
@@ -89,7 +89,7 @@ along_later a e m q r (x ∷ cs) (u, o, t, z, i, k) h c (later y) =
 module _ (n : ℕ) where
   -- what is first unfit at a claim x before others cs, by its test
   abbrev Found : Bool → Claim → List Claim → Verdict
-  Found b x cs = if b then first_unfit n cs else wrong (due x) (claim_at x)
+  Found b x cs = when b then first_unfit n cs else wrong (due x) (claim_at x)
 
   pub none_unfit : (cs : List Claim) → first_unfit n cs ≡ fine → Every (KeptIn n) cs
   none_unfit [] z = tt

@@ -8,7 +8,7 @@ use native.Mathlib.Omega.{arith}
 use lib.ListN.{length, length-append}
 use Rattle.card.specs.Limits.{most_nodes}
 use Rattle.card.specs.Refusals.{out_of_shape, past_limit}
-use Rattle.card.specs.Text.{bytes, same, if◌then◌else◌}
+use Rattle.card.specs.Text.{bytes, same, when◌then◌else◌}
 use Rattle.card.specs.Card.{all, any, Relation, is as eq, isnt as ne, Formula, atom, and, or}
 use Rattle.marks_on_a_card.specs.Marks.{Mark, text, seat, number, Placed, placed}
 use Rattle.reading.specs.Reader.{Place, State, at, Result, ok, stop, Reader, ◌>>=◌, return, is, next_is, if_next, sign, here}
@@ -259,7 +259,7 @@ seats_start shared ms e z = ap (λ (b : Bool). b || twice_next ms) (sym (test_se
 placed_same : (m : Placed) (s : State) → item (m ∷ s.marks) s ≡ if_next "g" read_test (λ s. read_seats (m ∷ s.marks) s) s
 placed_same m s = go (next_is "g" s.marks)
   where
-    go : (b : Bool) → (if b then read_test else read_seats (m ∷ s.marks)) s ≡ (if b then read_test else (λ s. read_seats (m ∷ s.marks) s)) s
+    go : (b : Bool) → (when b then read_test else read_seats (m ∷ s.marks)) s ≡ (when b then read_test else (λ s. read_seats (m ∷ s.marks) s)) s
     go true = refl
     go false = refl
 

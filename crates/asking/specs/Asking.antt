@@ -4,7 +4,7 @@ use Rattle.std.specs.Prelude.{ℕ, zero, suc, ◌+◌, ◌≤◌, ◌<◌, ◌�
 use Rattle.std.proofs.Math.Option.{Option, none, some}
 use Rattle.card.specs.Limits.{card_bytes}
 use Rattle.card.specs.Refusals.{too_long, outside_rules, above_top, not_due}
-use Rattle.card.specs.Text.{if◌then◌else◌}
+use Rattle.card.specs.Text.{when◌then◌else◌}
 use Rattle.card.specs.Card.{Relation, is as eq, isnt as ne, Formula}
 use Rattle.card.specs.Formulas.{over, each_atom}
 use Rattle.card.specs.Valid.{Every}
@@ -68,7 +68,7 @@ pub record Everyone (n : ℕ) (ls : List Literal) : Type 0 where
 
 -- in the i-th term seat i is d, and all others are not
 abbrev pub due_relation : ℕ → Literal → Relation
-due_relation i l = if eqb l.seat i then eq else ne
+due_relation i l = when eqb l.seat i then eq else ne
 
 pub record Term (n d i : ℕ) (ls : List Literal) : Type 0 where
   pub ds : Every (λ l. l.d ≡ d) ls
@@ -123,7 +123,7 @@ fits n (exactly p ts) = is_exactly_one n ts
 -- the first that does not fit
 abbrev pub first_unfit : ℕ → List Claim → Verdict
 first_unfit n [] = fine
-first_unfit n (c ∷ cs) = if fits n c then first_unfit n cs else wrong (due c) (claim_at c)
+first_unfit n (c ∷ cs) = when fits n c then first_unfit n cs else wrong (due c) (claim_at c)
 
 -- ---- the question itself, once nothing is broken
 
@@ -159,7 +159,7 @@ marked_as n k values e ms (some p) = refused (in_question outside_rules) p
 
 unfoldable pub question_of : ℕ → ℕ → ℕ → List ℕ → Said Question
 question_of n k values s =
-    if leb (length s) card_bytes then marked_as n k values (length s) (marks_of s) (first_outside (marks_of s)) else refused (in_question too_long) 0
+    when leb (length s) card_bytes then marked_as n k values (length s) (marks_of s) (first_outside (marks_of s)) else refused (in_question too_long) 0
 
 -- ---- what it is to be taken, and each refusal
 

@@ -10,7 +10,7 @@ use lib.ListN.{length, drop}
 use lib.Seq.{drop-drop}
 use Rattle.entry.specs.Said.{Said, ◌>>◌}
 use Rattle.card.specs.Limits.{deck_bytes, most_cards}
-use Rattle.card.specs.Text.{if◌then◌else◌}
+use Rattle.card.specs.Text.{when◌then◌else◌}
 use Rattle.card.specs.Refusals.{malformed_deck}
 use Rattle.card.specs.declared.Verdict.{Verdict}
 use Rattle.card.specs.declared.Verdict.TheVariants.{Taken, Refused}
@@ -57,10 +57,10 @@ empty_deck (b ∷ deck) h = absurd (omega arith)
 module _ (deck : List ℕ) (at : ℕ) where
   -- the least number and the least offset that the entry at a place may have: behind those of the entry before it
   abbrev pub least_at : ℕ
-  least_at = if eqb at 1 then 0 else word_at deck (at - 8) + 1
+  least_at = when eqb at 1 then 0 else word_at deck (at - 8) + 1
 
   abbrev pub last_at : ℕ
-  last_at = if eqb at 1 then behind (count_of deck) else word_at deck (at - 6) + word_at deck (at - 4)
+  last_at = when eqb at 1 then behind (count_of deck) else word_at deck (at - 6) + word_at deck (at - 4)
 
 module _ (deck : List ℕ) (at : ℕ) where
   later : eqb (at + 8) 1 ≡ false
@@ -69,13 +69,13 @@ module _ (deck : List ℕ) (at : ℕ) where
   pub next_least : word_at deck at + 1 ≡ least_at deck (at + 8)
   next_least =
       let back : at ≡ at + 8 - 8 = omega arith in
-      ap (λ (n : ℕ). word_at deck n + 1) back ∙ ap (λ (b : Bool). if b then 0 else word_at deck (at + 8 - 8) + 1) (sym later)
+      ap (λ (n : ℕ). word_at deck n + 1) back ∙ ap (λ (b : Bool). when b then 0 else word_at deck (at + 8 - 8) + 1) (sym later)
 
   pub next_last : word_at deck (at + 2) + word_at deck (at + 4) ≡ last_at deck (at + 8)
   next_last =
       let offset : at + 2 ≡ at + 8 - 6 = omega arith in
       let size : at + 4 ≡ at + 8 - 4 = omega arith in
-      ap₂ (λ (n m : ℕ). word_at deck n + word_at deck m) offset size ∙ ap (λ (b : Bool). if b then behind (count_of deck) else word_at deck (at + 8 - 6) + word_at deck (at + 8 - 4)) (sym later)
+      ap₂ (λ (n m : ℕ). word_at deck n + word_at deck m) offset size ∙ ap (λ (b : Bool). when b then behind (count_of deck) else word_at deck (at + 8 - 6) + word_at deck (at + 8 - 4)) (sym later)
 
 pub record Going (deck : List ℕ) (left at least last : ℕ) : Type 0 where
   pub least_is : least ≡ least_at deck at

@@ -8,7 +8,7 @@ use lib.ListN.{length, drop}
 use lib.Seq.{drop-drop}
 use Rattle.card.specs.Limits.{deck_bytes}
 use Rattle.card.specs.Refusals.{no_live_card}
-use Rattle.card.specs.Text.{if◌then◌else◌}
+use Rattle.card.specs.Text.{when◌then◌else◌}
 use Rattle.card.specs.declared.Verdict.TheVariants.{Taken}
 use Rattle.entry.specs.Said.{Said, says, refused, saying}
 use Rattle.deck.specs.Contents.{word_at, Row, row_of, rows_of, count_of, contents_of}
@@ -36,16 +36,16 @@ module _ (deck : List ℕ) (number which left at : ℕ) (s : Seeking deck number
   seek_none e f = f ∙ sym (ap (λ (x : Said Row). placed (saying (part_for which) x)) (s.same ∙ ap (λ (k : ℕ). live_row number (rows_of k (drop at deck))) e))
 
   step : (k : ℕ) → (k ≡ 0 → ⊥) → live_row number (rows_of k (drop at deck))
-      ≡ (if is_live number (row_of (drop at deck)) then says (row_of (drop at deck)) else live_row number (rows_of (k - 1) (drop 8 (drop at deck))))
+      ≡ (when is_live number (row_of (drop at deck)) then says (row_of (drop at deck)) else live_row number (rows_of (k - 1) (drop 8 (drop at deck))))
   step zero h = absurd (h refl)
   step (suc k) h = let p : suc k - 1 ≡ k = omega arith in rw p
 
   module _ (some : left ≡ 0 → ⊥) where
     here : (b : Bool) → b ≡ is_live number (row_of (drop at deck))
-        → live_row number (contents_of deck) ≡ (if b then says (row_of (drop at deck)) else live_row number (rows_of (left - 1) (drop 8 (drop at deck))))
+        → live_row number (contents_of deck) ≡ (when b then says (row_of (drop at deck)) else live_row number (rows_of (left - 1) (drop 8 (drop at deck))))
     here b h =
         s.same ∙ step left some
-        ∙ ap (λ (x : Bool). if x then says (row_of (drop at deck)) else live_row number (rows_of (left - 1) (drop 8 (drop at deck)))) (sym h)
+        ∙ ap (λ (x : Bool). when x then says (row_of (drop at deck)) else live_row number (rows_of (left - 1) (drop 8 (drop at deck)))) (sym h)
 
     pub seek_hit : true ≡ is_live number (row_of (drop at deck)) → (o z : ℕ) → o ≡ word_at deck (at + 2) → z ≡ word_at deck (at + 4)
         → Sought deck number which (record { verdict = Taken; which = which; offset = o; size = z })

@@ -12,7 +12,7 @@ use lib.Dec.{eqb}
 use lib.ListN.{length, set}
 use Rattle.card.specs.Limits.{most_branches, numbers, unit}
 use Rattle.card.specs.Refusals.{out_of_shape, past_limit, wrong_weight, decimal_weight}
-use Rattle.card.specs.Text.{if◌then◌else◌}
+use Rattle.card.specs.Text.{when◌then◌else◌}
 use Rattle.card.specs.Laid.{pack_branch}
 use Rattle.card.specs.Stored.{stored}
 use Rattle.card.specs.Weight.{Weight, whole, decimal as point, ratio, units_of, Rule}
@@ -89,12 +89,12 @@ blamed_twice : (b : Bool) (p : ℕ) (x : Late) → blamed (unless b wrong_weight
 blamed_twice true p x = refl
 blamed_twice false p x = go (eqb x.number 0) refl
   where
-    go : (t : Bool) → eqb x.number 0 ≡ t → blame wrong_weight p (if t then record { number = decimal_weight; place = p; want = x.want; first = x.first; split = x.split; second = x.second } else x) ≡ (if t then record { number = decimal_weight; place = p; want = x.want; first = x.first; split = x.split; second = x.second } else x)
+    go : (t : Bool) → eqb x.number 0 ≡ t → blame wrong_weight p (when t then record { number = decimal_weight; place = p; want = x.want; first = x.first; split = x.split; second = x.second } else x) ≡ (when t then record { number = decimal_weight; place = p; want = x.want; first = x.first; split = x.split; second = x.second } else x)
     go true e = refl
     go false e = rw e
 
 form_first : (decimals : Rule) (o : Option ℕ) (p : ℕ) (mid before : Late) → mid ≡ form_by decimals p before
-    → weight_by o p mid ≡ blamed (unless (decimals && is_some o) (if decimals then wrong_weight else decimal_weight)) p before
+    → weight_by o p mid ≡ blamed (unless (decimals && is_some o) (when decimals then wrong_weight else decimal_weight)) p before
 form_first true o p mid before e = ap (weight_by o p) e
 form_first false o p mid before e = ap (weight_by o p) e ∙ blamed_twice (is_some o) p before
 

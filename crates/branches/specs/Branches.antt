@@ -3,7 +3,7 @@ use Rattle.std.specs.Prelude.{ℕ, ◌-◌, min, ◌≡◌, ◌||◌, List, [], 
 use Rattle.std.proofs.Math.Option.{Option}
 use Rattle.card.specs.Limits.{most_branches, numbers, unit}
 use Rattle.card.specs.Refusals.{out_of_shape, past_limit, wrong_weight}
-use Rattle.card.specs.Text.{if◌then◌else◌}
+use Rattle.card.specs.Text.{when◌then◌else◌}
 use Rattle.card.specs.Laid.{pack_branch, set_number}
 use Rattle.card.specs.Stored.{stored}
 use Rattle.card.specs.Weight.{Weight, Rule}
@@ -119,7 +119,7 @@ pub record ClosedBy (m : Found) (next count total : ℕ) (late : Late) (r : Afte
 
 -- by the mark where one branch too many begins
 abbrev pub PastBy : Found → After → Type 0
-PastBy m r = Halted (if eqb m.kind k_number || eqb m.kind k_decimal then past_limit else out_of_shape) m.place r
+PastBy m r = Halted (when eqb m.kind k_number || eqb m.kind k_decimal then past_limit else out_of_shape) m.place r
 
 pub record BranchesIn (bounds : Bounds) (s : List ℕ) (before : Late) (was is : List ℕ) (first : ℕ) (x : BranchesShape) (state : List ℕ) : Type 0 where
   pub went : Went s before (length x.branches) (judged_branches bounds x) state

@@ -3,7 +3,7 @@
 use Rattle.std.specs.Prelude.{ℕ, zero, suc, ◌+◌, ◌-◌, ◌*◌, ◌/◌, ◌%◌, min, List, [], ◌∷◌, ◌++◌, map, eqb, ltb, length, get_or, take, drop}
 use Rattle.std.proofs.Math.Option.{Option, none, some}
 use Rattle.card.specs.Limits.{most_states, most_statements, most_branches, most_nodes, node_places, branch_places, set_places}
-use Rattle.card.specs.Text.{if◌then◌else◌}
+use Rattle.card.specs.Text.{when◌then◌else◌}
 use Rattle.card.specs.Card.{Mode, nondeterministic, probabilistic, Kind, everyone, others, Sign, all, any, Relation, is, isnt, Leaf, group, one, shared_is, Formula, atom, neg, and, or, Guard, Branch, Statement, Shared, Card}
 use Rattle.card.specs.Valid.{size, values_of}
 use Rattle.card.specs.declared.Statement.{Statement as StatementRow}
@@ -36,7 +36,7 @@ relation_number isnt = 1
 
 -- the second for any number but 0
 abbrev pub either : {A : Type 0} → A → A → ℕ → A
-either a b v = if eqb v 0 then a else b
+either a b v = when eqb v 0 then a else b
 
 -- ---- a node and a branch as one number
 
@@ -94,8 +94,8 @@ leaf_number (shared_is q v) = pack_group shared_kind 0 (relation_number q) v
 unfoldable pub leaf_of : ℕ → Leaf
 unfolding group_of
 leaf_of x =
-    if ltb (kind_part x) one_kind then group_of x
-    else (if ltb (kind_part x) shared_kind then one (state_part x)
+    when ltb (kind_part x) one_kind then group_of x
+    else (when ltb (kind_part x) shared_kind then one (state_part x)
     else shared_is (either is isnt (relation_part x)) (state_part x))
 
 -- what is set, as a number: 0 for nothing
@@ -231,9 +231,9 @@ blank = record {
 unfoldable pub node_of : ℕ → Guard → Guard → Guard
 unfolding leaf_of op_of
 node_of x g h =
-    if eqb (op_of x) op_leaf then atom (leaf_of x)
-    else (if eqb (op_of x) op_not then neg g
-    else (if eqb (op_of x) op_and then and g h
+    when eqb (op_of x) op_leaf then atom (leaf_of x)
+    else (when eqb (op_of x) op_not then neg g
+    else (when eqb (op_of x) op_and then and g h
     else or g h))
 
 -- the guard whose root is node n: node numbers fall from parent to child, and one that does not is read as the highest that does;
@@ -243,7 +243,7 @@ unfolding node_of leaf_of left_of right_of
 guard_from zero nodes n = atom (leaf_of (get_or nodes n 0))
 guard_from (suc fuel) nodes n =
     let x = get_or nodes n 0 in
-    if eqb n 0 then atom (leaf_of x)
+    when eqb n 0 then atom (leaf_of x)
     else node_of x (guard_from fuel nodes (min (left_of x) (n - 1))) (guard_from fuel nodes (min (right_of x) (n - 1)))
 
 unfoldable pub guard_at : List ℕ → ℕ → Guard

@@ -5,7 +5,7 @@ use Rattle.std.specs.Int.{◌∣◌}
 use Rattle.std.proofs.Math.Option.{Option, none, some}
 use Rattle.card.specs.Limits.{unit, weight_digits}
 use Rattle.card.specs.Refusals.{wrong_weight, decimal_weight}
-use Rattle.card.specs.Text.{if◌then◌else◌}
+use Rattle.card.specs.Text.{when◌then◌else◌}
 
 pub data Weight : Type 0 where
   whole : ℕ → Weight  -- 1
@@ -52,4 +52,4 @@ allowed decimals (ratio a b) = true
 
 -- the refusal that is due where it may not, or where it may and has no worth
 abbrev pub weight_refusal : Rule → Weight → ℕ
-weight_refusal decimals w = if allowed decimals w then wrong_weight else decimal_weight
+weight_refusal decimals w = when allowed decimals w then wrong_weight else decimal_weight

@@ -10,7 +10,7 @@ use lib.Dec.{eqb, leb}
 use lib.ListN.{length}
 use Rattle.card.specs.Limits.{card_bytes, unit}
 use Rattle.card.specs.Refusals.{too_long, above_top, not_due, wrong_weight, decimal_weight}
-use Rattle.card.specs.Text.{if◌then◌else◌}
+use Rattle.card.specs.Text.{when◌then◌else◌}
 use Rattle.card.specs.Card.{Card}
 use Rattle.card.specs.Weight.{units_of, Rule, allowed, weight_refusal}
 use Rattle.marks_on_a_card.specs.Marks.{Placed, marks_of}
@@ -32,7 +32,7 @@ some_unless : (b : Bool) (r : ℕ) → 1 ≤ r → SomeNumber (unless b r)
 some_unless true r h = tt
 some_unless false r h = h
 
-weight_some : (b : Bool) → 1 ≤ (if b then wrong_weight else decimal_weight)
+weight_some : (b : Bool) → 1 ≤ (when b then wrong_weight else decimal_weight)
 weight_some true = omega arith
 weight_some false = omega arith
 
@@ -81,7 +81,7 @@ some_read : (decimals : Rule) (s : List ℕ) → SomeOutcome (read_under decimal
 unfolding read_under
 some_read decimals s = go (leb (length s) card_bytes)
   where
-    go : (b : Bool) → SomeOutcome (if b then marked decimals (length s) (marks_of s) (first_outside (marks_of s)) else refused too_long 0)
+    go : (b : Bool) → SomeOutcome (when b then marked decimals (length s) (marks_of s) (first_outside (marks_of s)) else refused too_long 0)
     go true = some_marked decimals (length s) (marks_of s) (first_outside (marks_of s))
     go false = omega arith
 

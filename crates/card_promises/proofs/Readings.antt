@@ -7,7 +7,7 @@ use mathlib.Core.List.{List}
 use mathlib.Core.Option.{none, some}
 use native.Mathlib.Omega.{arith}
 use Rattle.card.specs.Weight.{card_rule}
-use Rattle.card.specs.Text.{if◌then◌else◌}
+use Rattle.card.specs.Text.{when◌then◌else◌}
 use Rattle.card.specs.Card.{everyone, others}
 use Rattle.reading.specs.Group.{Literal}
 use Rattle.reading.specs.Judgements.{once, kind_of}
@@ -19,12 +19,12 @@ use Rattle.card_promises.proofs.CardMarks.{taken_marks}
 use Rattle.card_promises.proofs.Numbers.{number_some}
 use Rattle.card_promises.specs.Readings.{Readings}
 
-is_everyone : (a b : Bool) → (if a then some everyone else (if b then some others else none)) ≡ some everyone → a ≡ true
+is_everyone : (a b : Bool) → (when a then some everyone else (when b then some others else none)) ≡ some everyone → a ≡ true
 is_everyone true b e = refl
 is_everyone false true e = let z : ◌≡◌ {A = ℕ} 0 1 = cc in absurd (omega arith)
 is_everyone false false e = let z : ◌≡◌ {A = ℕ} 0 1 = cc in absurd (omega arith)
 
-is_others : (a b : Bool) → (if a then some everyone else (if b then some others else none)) ≡ some others → b ≡ true
+is_others : (a b : Bool) → (when a then some everyone else (when b then some others else none)) ≡ some others → b ≡ true
 is_others true b e = let z : ◌≡◌ {A = ℕ} 0 1 = cc in absurd (omega arith)
 is_others false true e = refl
 is_others false false e = let z : ◌≡◌ {A = ℕ} 0 1 = cc in absurd (omega arith)

@@ -5,7 +5,7 @@ use mathlib.Core.Bool.{Bool, true, false}
 use mathlib.Core.List.{List, [], ◌∷◌, map}
 use mathlib.Core.Option.{Option, none, some}
 use native.Mathlib.Omega.{arith}
-use Rattle.card.specs.Text.{if◌then◌else◌}
+use Rattle.card.specs.Text.{when◌then◌else◌}
 use Rattle.card.specs.Card.{Mode, nondeterministic, probabilistic, Branch, Statement, Card}
 use Rattle.card.specs.Valid.{Every, values_of, ValidSet, ValidBranch, ValidStatement, ValidCard}
 use Rattle.meaning.specs.Sums.{flat, or_one}
@@ -55,7 +55,7 @@ module _ (n k values : ℕ) (v : Position) (w : v.shared < or_one values) where
   unfolding reduced_turns_by
   turns_within r h = go (can_take v r)
     where
-      go : (b : Bool) → Every (Every Next) (if b then reduced_turn v r ∷ [] else [])
+      go : (b : Bool) → Every (Every Next) (when b then reduced_turn v r ∷ [] else [])
       go true = (h, tt)
       go false = tt
 

@@ -9,7 +9,7 @@ use lib.Dec.{leb}
 use lib.ListN.{length}
 use Rattle.card.specs.Card.{Card}
 use Rattle.card.specs.Limits.{card_bytes}
-use Rattle.card.specs.Text.{if◌then◌else◌}
+use Rattle.card.specs.Text.{when◌then◌else◌}
 use Rattle.card.specs.Weight.{Rule}
 use Rattle.card.specs.Lent.{Lent, none_lent, card_in, HoldsIn}
 use Rattle.card.specs.declared.Verdict.TheVariants.{Taken, Refused}
@@ -89,13 +89,13 @@ module _ (s : List ℕ) where
       long_is : long ≡ length (write_of (taken_in k w).card)
       long_is = e ∙ ap length (sym (form_of k w)) ∙ ap (λ (o : Outcome). length (written_of o)) (taken_in k w).reads
 
-      by_length : note ≡ (if leb long card_bytes then suc long else no_note)
+      by_length : note ≡ (when leb long card_bytes then suc long else no_note)
       by_length =
           let t = taken_in k w in
-          (λ i. note_by true (t.reads i) (turned_down h v i)) ∙ ap (λ (m : ℕ). if leb m card_bytes then suc m else no_note) (sym long_is)
+          (λ i. note_by true (t.reads i) (turned_down h v i)) ∙ ap (λ (m : ℕ). when leb m card_bytes then suc m else no_note) (sym long_is)
 
       pub note_long : card_bytes < long → no_note ≡ note
-      note_long l = sym (by_length ∙ ap (λ (b : Bool). if b then suc long else no_note) (lt-leb long card_bytes l))
+      note_long l = sym (by_length ∙ ap (λ (b : Bool). when b then suc long else no_note) (lt-leb long card_bytes l))
 
       pub note_written : long ≤ card_bytes → long + 1 ≡ note
-      note_written l = let one : suc long ≡ long + 1 = omega arith in sym (by_length ∙ ap (λ (b : Bool). if b then suc long else no_note) (le-leb long card_bytes l) ∙ one)
+      note_written l = let one : suc long ≡ long + 1 = omega arith in sym (by_length ∙ ap (λ (b : Bool). when b then suc long else no_note) (le-leb long card_bytes l) ∙ one)

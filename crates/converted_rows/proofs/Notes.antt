@@ -9,7 +9,7 @@ use lib.Dec.{leb}
 use lib.ListN.{length, length-append}
 use Rattle.card.specs.Refusals.{not_converted}
 use Rattle.card.specs.Limits.{card_bytes, deck_bytes, word_numbers}
-use Rattle.card.specs.Text.{if◌then◌else◌}
+use Rattle.card.specs.Text.{when◌then◌else◌}
 use Rattle.card.specs.Card.{Card}
 use Rattle.entry.specs.Said.{says, refused, ◌>>◌, unless}
 use Rattle.deck.specs.Deck.{Entry, bodies}
@@ -27,11 +27,11 @@ module _ (e : Entry) where
   by : {b : Bool} {o n : Outcome} → e.live ≡ b → read_under old_rule e.body ≡ o → read_under new_rule e.body ≡ n → note_of e ≡ note_by b o n
   by l o n = λ i. note_by (l i) (o i) (n i)
 
-  written_note : (c : Card) → length (write_of c) ≤ card_bytes → (if leb (length (write_of c)) card_bytes then suc (length (write_of c)) else no_note) ≡ suc (length (write_of c))
-  written_note c h = ap (λ (b : Bool). if b then suc (length (write_of c)) else no_note) (le-leb (length (write_of c)) card_bytes h)
+  written_note : (c : Card) → length (write_of c) ≤ card_bytes → (when leb (length (write_of c)) card_bytes then suc (length (write_of c)) else no_note) ≡ suc (length (write_of c))
+  written_note c h = ap (λ (b : Bool). when b then suc (length (write_of c)) else no_note) (le-leb (length (write_of c)) card_bytes h)
 
-  long_note : (c : Card) → card_bytes < length (write_of c) → (if leb (length (write_of c)) card_bytes then suc (length (write_of c)) else no_note) ≡ no_note
-  long_note c h = ap (λ (b : Bool). if b then suc (length (write_of c)) else no_note) (lt-leb (length (write_of c)) card_bytes h)
+  long_note : (c : Card) → card_bytes < length (write_of c) → (when leb (length (write_of c)) card_bytes then suc (length (write_of c)) else no_note) ≡ no_note
+  long_note c h = ap (λ (b : Bool). when b then suc (length (write_of c)) else no_note) (lt-leb (length (write_of c)) card_bytes h)
 
   pub body_noted_law : {body : List ℕ} → NewBody e body → body ≡ body_noted (note_of e) e.body
   body_noted_law (withdrawn l) = ap (λ (k : ℕ). body_noted k e.body) (sym (by l refl refl))
@@ -77,6 +77,6 @@ note_most true (turned r p) new = omega arith
 note_most true (taken c) (taken d) = omega arith
 note_most true (taken c) (turned r p) = go (leb (length (write_of c)) card_bytes) refl
   where
-    go : (b : Bool) → leb (length (write_of c)) card_bytes ≡ b → (if b then suc (length (write_of c)) else no_note) ≤ no_note
+    go : (b : Bool) → leb (length (write_of c)) card_bytes ≡ b → (when b then suc (length (write_of c)) else no_note) ≤ no_note
     go true e = let l = leb-true (length (write_of c)) card_bytes e in omega (arith, l)
     go false e = omega arith

@@ -2,7 +2,7 @@
 use Rattle.std.specs.Prelude.{ℕ, zero, suc, ◌+◌, Bool, true, false, List, [], ◌∷◌, ◌++◌, leb, length}
 use Rattle.card.specs.Refusals.{not_converted}
 use Rattle.card.specs.Limits.{card_bytes, deck_bytes}
-use Rattle.card.specs.Text.{if◌then◌else◌}
+use Rattle.card.specs.Text.{when◌then◌else◌}
 use Rattle.entry.specs.Said.{Said, says, ◌>>=◌, ◌>>◌, unless}
 use Rattle.deck.specs.Contents.{Row}
 use Rattle.deck.specs.Deck.{Entry, body_of}
@@ -19,7 +19,7 @@ abbrev pub note_by : (live : Bool) (old new : Outcome) → ℕ
 note_by false old new = 0
 note_by true (turned r p) new = no_note
 note_by true (taken c) (taken d) = 0
-note_by true (taken c) (turned r p) = if leb (length (write_of c)) card_bytes then suc (length (write_of c)) else no_note
+note_by true (taken c) (turned r p) = when leb (length (write_of c)) card_bytes then suc (length (write_of c)) else no_note
 
 abbrev pub note_of : Entry → ℕ
 note_of e = note_by e.live (read_under old_rule e.body) (read_under new_rule e.body)

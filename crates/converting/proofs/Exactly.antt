@@ -11,7 +11,7 @@ use lib.Dec.{leb}
 use lib.ListN.{length, length-map}
 use Rattle.card.specs.Limits.{deck_bytes}
 use Rattle.card.specs.Refusals.{malformed_deck, not_converted}
-use Rattle.card.specs.Text.{if◌then◌else◌}
+use Rattle.card.specs.Text.{when◌then◌else◌}
 use Rattle.entry.specs.Said.{Said, says, refused, ◌>>=◌, ◌>>◌, unless}
 use Rattle.entry.specs.Numbers.{only, among, ◌to◌}
 use Rattle.entry.specs.Stage.{Stage}
@@ -99,7 +99,7 @@ module _ {at : ℕ} {es : List Entry} where
 only_number : (n r : ℕ) → among (only n) r ≡ true → r ≡ n
 only_number n r = go (leb n r) refl (leb r n) refl
   where
-    go : (a : Bool) → leb n r ≡ a → (b : Bool) → leb r n ≡ b → (if a && b then true else false) ≡ true → r ≡ n
+    go : (a : Bool) → leb n r ≡ a → (b : Bool) → leb r n ≡ b → (when a && b then true else false) ≡ true → r ≡ n
     go true p true q h = let l = leb-true n r p in let m = leb-true r n q in omega (arith, l, m)
     go true p false q h = absurd (false≢true h)
     go false p b q h = absurd (false≢true h)

@@ -11,7 +11,7 @@ use lib.ListN.{length}
 use Rattle.card.specs.Limits.{card_bytes}
 use Rattle.card.specs.Refusals.{too_long, decimal_weight}
 use Rattle.card.specs.Card.{Card}
-use Rattle.card.specs.Text.{if◌then◌else◌}
+use Rattle.card.specs.Text.{when◌then◌else◌}
 use Rattle.card.specs.Valid.{Every}
 use Rattle.card.specs.Weight.{Weight, whole, decimal, ratio, Rule, allowed}
 use Rattle.marks_on_a_card.specs.Marks.{Placed, marks_of}
@@ -160,7 +160,7 @@ pub decimal_only : (s : List ℕ) (c : Card) (r p : ℕ) → read_under true s �
 unfolding read_under
 decimal_only s c r p h k = go (leb (length s) card_bytes) h k
   where
-    go : (b : Bool) → if b then marked true (length s) (marks_of s) (first_outside (marks_of s)) else refused too_long 0 ≡ taken c
-        → if b then marked false (length s) (marks_of s) (first_outside (marks_of s)) else refused too_long 0 ≡ refused r p → r ≡ decimal_weight
+    go : (b : Bool) → when b then marked true (length s) (marks_of s) (first_outside (marks_of s)) else refused too_long 0 ≡ taken c
+        → when b then marked false (length s) (marks_of s) (first_outside (marks_of s)) else refused too_long 0 ≡ refused r p → r ≡ decimal_weight
     go true h k = marked_only (length s) (marks_of s) (first_outside (marks_of s)) h k
     go false h k = taken≢refused (sym h)

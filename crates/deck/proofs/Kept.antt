@@ -8,7 +8,7 @@ use native.Mathlib.Omega.{arith}
 use lib.ListN.{length, drop, length-append, length-drop}
 use lib.Seq.{length-take-le}
 use Rattle.card.specs.Limits.{deck_bytes}
-use Rattle.card.specs.Text.{if◌then◌else◌}
+use Rattle.card.specs.Text.{when◌then◌else◌}
 use Rattle.card.specs.Valid.{Every}
 use Rattle.entry.specs.Said.{Said, says, ◌>>=◌}
 use Rattle.deck.specs.Contents.{byte, Row, end_of, row_of, rows_of, count_of, entries_from, behind}
@@ -29,7 +29,7 @@ module _ (f : Entry → Bool) where
   kept_rising least [] h = tt
   kept_rising least (e ∷ es) h = go (f e) (kept_rising (suc e.number) es h.2)
     where
-      go : (b : Bool) → Rising (suc e.number) (kept f es) → Rising least (if b then e ∷ kept f es else kept f es)
+      go : (b : Bool) → Rising (suc e.number) (kept f es) → Rising least (when b then e ∷ kept f es else kept f es)
       go true r = (h.0, h.1, r)
       go false r = rising_from least (suc e.number) (kept f es) (omega (arith, h.0)) r
 
@@ -37,7 +37,7 @@ module _ (f : Entry → Bool) where
   kept_few [] = omega arith
   kept_few (e ∷ es) = go (f e) (kept_few es)
     where
-      go : (b : Bool) → length (kept f es) ≤ length es → length (if b then e ∷ kept f es else kept f es) ≤ suc (length es)
+      go : (b : Bool) → length (kept f es) ≤ length es → length (when b then e ∷ kept f es else kept f es) ≤ suc (length es)
       go true r = omega arith
       go false r = omega arith
 
@@ -46,7 +46,7 @@ module _ (f : Entry → Bool) where
   kept_short (e ∷ es) = go (f e) (kept_short es)
     where
       go : (b : Bool) → length (bodies (kept f es)) ≤ length (bodies es)
-          → length (bodies (if b then e ∷ kept f es else kept f es)) ≤ length (e.body ++ bodies es)
+          → length (bodies (when b then e ∷ kept f es else kept f es)) ≤ length (e.body ++ bodies es)
       go true r = omega (arith, length-append e.body (bodies es), length-append e.body (bodies (kept f es)))
       go false r = omega (arith, length-append e.body (bodies es))
 

@@ -9,7 +9,7 @@ use lib.Dec.{eqb}
 use borrow.Author.Tests.{eqb-true, eq-eqb}
 use lib.ListN.{drop}
 use Rattle.card.specs.Refusals.{no_live_card}
-use Rattle.card.specs.Text.{if◌then◌else◌}
+use Rattle.card.specs.Text.{when◌then◌else◌}
 use Rattle.entry.specs.Said.{Said, says, refused, saying}
 use Rattle.entry.proofs.Stages.{says≢refused, same_said, same_number, same_place}
 use Rattle.deck.specs.Contents.{Row, row_of, rows_of, count_of, contents_of, entries_from}
@@ -44,7 +44,7 @@ found_live number zero t r e = says≢refused (sym e)
 found_live number (suc c) t r e = go (found_live number c (drop 8 t) r) (is_live number (row_of t)) refl e
   where
     go : (live_row number (rows_of c (drop 8 t)) ≡ says r → (i : ℕ) × LiveIn number c (drop 8 t) i × (r ≡ row_at (drop 8 t) i))
-        → (b : Bool) → is_live number (row_of t) ≡ b → (if b then says (row_of t) else live_row number (rows_of c (drop 8 t))) ≡ says r
+        → (b : Bool) → is_live number (row_of t) ≡ b → (when b then says (row_of t) else live_row number (rows_of c (drop 8 t))) ≡ says r
         → (i : ℕ) × LiveIn number (suc c) t i × (r ≡ row_at t i)
     go rest true k e = let (n, l) = is_live_law number (row_of t) k in (0, record { inside = omega arith; named = n; live = l }, sym (same_said e))
     go rest false k e = let (i, l, at) = rest e in (suc i, record { inside = omega (arith, l.inside); named = l.named; live = l.live }, at)
@@ -60,7 +60,7 @@ found_none number (suc c) t r p e = go (found_none number c (drop 8 t) r p) (is_
     none k h (suc i) l = h i (record { inside = omega (arith, l.inside); named = l.named; live = l.live })
 
     go : (live_row number (rows_of c (drop 8 t)) ≡ refused r p → (r ≡ no_live_card) × (p ≡ 0) × ((i : ℕ) → LiveIn number c (drop 8 t) i → ⊥))
-        → (b : Bool) → is_live number (row_of t) ≡ b → (if b then says (row_of t) else live_row number (rows_of c (drop 8 t))) ≡ refused r p
+        → (b : Bool) → is_live number (row_of t) ≡ b → (when b then says (row_of t) else live_row number (rows_of c (drop 8 t))) ≡ refused r p
         → (r ≡ no_live_card) × (p ≡ 0) × ((i : ℕ) → LiveIn number (suc c) t i → ⊥)
     go rest true k e = says≢refused e
     go rest false k e = let (a, b, h) = rest e in (a, b, none k h)

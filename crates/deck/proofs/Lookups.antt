@@ -9,7 +9,7 @@ use lib.Dec.{eqb}
 use lib.ListN.{length}
 use Rattle.card.specs.Limits.{expansion_from}
 use Rattle.card.specs.Refusals.{malformed_deck, no_live_card}
-use Rattle.card.specs.Text.{if◌then◌else◌}
+use Rattle.card.specs.Text.{when◌then◌else◌}
 use Rattle.entry.specs.Said.{Said, says, refused, ◌>>=◌, ◌>>◌, saying, placed_from}
 use Rattle.entry.proofs.Exactly.{◌↔∙◌}
 use Rattle.entry.proofs.Stages.{says≢refused, same_said, same_number, same_place}
@@ -353,6 +353,6 @@ module _ (base expansion : List ℕ) (number : ℕ) where
 
   -- a part lies inside the deck that holds it
   pub gives_inside : BothSound base expansion → {p : Part} → Gives base expansion number p
-      → p.offset + p.size ≤ length (if eqb p.which the_expansion then expansion else base)
+      → p.offset + p.size ≤ length (when eqb p.which the_expansion then expansion else base)
   gives_inside s (from_expansion i l) = (s.1.each i l.inside).ends
   gives_inside s (from_base h i l) = (s.0.each i l.inside).ends

@@ -1,7 +1,7 @@
 -- A deck as a list of entries: taken out of its bytes, and written without gaps (document 02, 2026-02). Assumes nothing.
 use Rattle.std.specs.Prelude.{ℕ, suc, ◌+◌, ◌/◌, ◌%◌, ◌<◌, ◌≤◌, Bool, true, false, List, [], ◌∷◌, ◌++◌, map, eqb, length, take, drop}
 use Rattle.card.specs.Limits.{deck_bytes, most_cards, word_numbers}
-use Rattle.card.specs.Text.{if◌then◌else◌}
+use Rattle.card.specs.Text.{when◌then◌else◌}
 use Rattle.card.specs.Valid.{Every}
 use Rattle.entry.specs.Said.{Said, ◌>>=◌, ◌>>◌, return}
 use Rattle.deck.specs.Contents.{byte_values, Row, behind, contents_of, rows_in}
@@ -97,4 +97,4 @@ BytesBody e = Bytes e.body
 -- the entries that are kept, in their order
 abbrev pub kept : (Entry → Bool) → List Entry → List Entry
 kept f [] = []
-kept f (e ∷ es) = if f e then e ∷ kept f es else kept f es
+kept f (e ∷ es) = when f e then e ∷ kept f es else kept f es

@@ -2,7 +2,7 @@
 use Rattle.std.specs.Prelude.{ℕ, Bool, ◌&&◌, List, [], ◌∷◌, eqb, take, drop}
 use Rattle.card.specs.Limits.{expansion_from}
 use Rattle.card.specs.Refusals.{no_live_card}
-use Rattle.card.specs.Text.{if◌then◌else◌}
+use Rattle.card.specs.Text.{when◌then◌else◌}
 use Rattle.entry.specs.Said.{Said, says, refused, ◌>>=◌, ◌>>◌, saying, placed_from}
 use Rattle.deck.specs.Contents.{Row, rows_in}
 use Rattle.deck.specs.Deck.{Entry, live_of, deck_of}
@@ -17,7 +17,7 @@ or_else (refused number place) y = y
 -- the live card of this number
 abbrev pub live_in : ℕ → List Entry → Said (List ℕ)
 live_in number [] = refused no_live_card 0
-live_in number (e ∷ es) = if eqb e.number number && e.live then says e.body else live_in number es
+live_in number (e ∷ es) = when eqb e.number number && e.live then says e.body else live_in number es
 
 abbrev pub find : List ℕ → ℕ → Said (List ℕ)
 find deck number = do
@@ -52,7 +52,7 @@ is_live number r = eqb r.number number && live_of r
 
 abbrev pub live_row : ℕ → List Row → Said Row
 live_row number [] = refused no_live_card 0
-live_row number (r ∷ rs) = if is_live number r then says r else live_row number rs
+live_row number (r ∷ rs) = when is_live number r then says r else live_row number rs
 
 abbrev pub located : List ℕ → ℕ → Said Part
 located deck number = do
@@ -67,4 +67,4 @@ located_with base expansion number = do
 
 -- the bytes of a part
 abbrev pub part_bytes : (base expansion : List ℕ) → Part → List ℕ
-part_bytes base expansion p = take p.size (drop p.offset (if eqb p.which the_expansion then expansion else base))
+part_bytes base expansion p = take p.size (drop p.offset (when eqb p.which the_expansion then expansion else base))

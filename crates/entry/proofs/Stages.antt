@@ -9,7 +9,7 @@ use mathlib.Core.List.{[], ◌∷◌, ◌++◌}
 use native.Mathlib.Omega.{arith}
 use lib.Dec.{leb, ltb}
 use borrow.Author.Tests.{le-leb, lt-leb, leb-true, ltb-true}
-use Rattle.card.specs.Text.{if◌then◌else◌}
+use Rattle.card.specs.Text.{when◌then◌else◌}
 use Rattle.entry.specs.Said.{Said, says, refused, ◌>>=◌, unless, said_number, beside_of}
 use Rattle.entry.specs.Stage.{Passes, Stage}
 use Rattle.entry.proofs.Exactly.{◌↔∙◌, under}
@@ -145,11 +145,11 @@ clear_out s (t ∷ ms) r h e =
     rw (past_out s t r h a) (clear_out s ms r h b)
 
 module _ {C : Type 0} where
-  by_test : (b c : Bool) → (b ≡ true → C) → (c ≡ true → C) → if b then true else c ≡ true → C
+  by_test : (b c : Bool) → (b ≡ true → C) → (c ≡ true → C) → when b then true else c ≡ true → C
   by_test true c f g e = f refl
   by_test false c f g e = g e
 
-else_true : (b c : Bool) → c ≡ true → if b then true else c ≡ true
+else_true : (b c : Bool) → c ≡ true → when b then true else c ≡ true
 else_true true c e = refl
 else_true false c e = e
 

@@ -1,6 +1,6 @@
 -- Which refusal numbers a stage may give, as spans of numbers; whether two stages' numbers are apart is computed. Assumes nothing.
 use Rattle.std.specs.Prelude.{ℕ, ◌≡◌, Bool, true, false, ◌&&◌, List, [], ◌∷◌, leb, ltb}
-use Rattle.card.specs.Text.{if◌then◌else◌}
+use Rattle.card.specs.Text.{when◌then◌else◌}
 use Rattle.entry.specs.Said.{Said, refused}
 
 pub record Span : Type 0 where
@@ -23,11 +23,11 @@ inside s r = leb s.from r && leb r s.to
 
 abbrev pub among : Numbers → ℕ → Bool
 among [] r = false
-among (s ∷ ns) r = if inside s r then true else among ns r
+among (s ∷ ns) r = when inside s r then true else among ns r
 
 -- no number is in both
 abbrev pub past : Span → Span → Bool
-past s t = if ltb s.to t.from then true else ltb t.to s.from
+past s t = when ltb s.to t.from then true else ltb t.to s.from
 
 abbrev pub clear : Span → Numbers → Bool
 clear s [] = true

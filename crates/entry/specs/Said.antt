@@ -1,7 +1,7 @@
 -- What an entry has to say: something, or a refusal with its number and place. A `do` block is an entry's stages in the order in which
 -- they are judged; the first refusal is the entry's ("Refusal numbers"). Assumes nothing.
 use Rattle.std.specs.Prelude.{ℕ, ◌+◌, Bool}
-use Rattle.card.specs.Text.{if◌then◌else◌}
+use Rattle.card.specs.Text.{when◌then◌else◌}
 
 pub data Said (A : Type 0) : Type 0 where
   says : A → Said A
@@ -21,7 +21,7 @@ return a = says a
 
 -- a stage that only judges
 abbrev pub unless : Bool → ℕ → ℕ → Said (Unit {0})
-unless fine number place = if fine then says tt else refused number place
+unless fine number place = when fine then says tt else refused number place
 
 module _ {A B : Type 0} where
   -- something else is said of it

@@ -2,7 +2,7 @@
 use Rattle.std.specs.Prelude.{ℕ, suc, ◌+◌, ◌-◌, ◌≤◌, ◌≡◌, Bool, true, false, List, [], ◌∷◌, ◌++◌, eqb, ltb, length, get_or, drop}
 use Rattle.std.proofs.Math.Option.{Option, none, some}
 use Rattle.card.specs.Limits.{most_seats, top_state, most_shared}
-use Rattle.card.specs.Text.{bytes, if◌then◌else◌}
+use Rattle.card.specs.Text.{bytes, when◌then◌else◌}
 use Rattle.card.specs.Refusals.{out_of_shape}
 use Rattle.card.specs.Card.{Mode}
 use Rattle.card.specs.Laid.{mode_number}
@@ -105,11 +105,11 @@ copy_text written ds =
 
 -- the digits of a number below 20
 abbrev pub digits : ℕ → List ℕ
-digits i = if ltb i 10 then (48 + i) ∷ [] else 49 ∷ (38 + i) ∷ []
+digits i = when ltb i 10 then (48 + i) ∷ [] else 49 ∷ (38 + i) ∷ []
 
 -- the place behind a text behind which no word goes on; 0 where it does not stand
 abbrev pub past_word : List ℕ → List ℕ → ℕ → ℕ
-past_word t s at = if word_ahead t s at then at + length t else 0
+past_word t s at = when word_ahead t s at then at + length t else 0
 
 -- the same for a further module: the byte behind its first word tells how it is written
 abbrev pub past_text : List ℕ → ℕ → List ℕ → ℕ

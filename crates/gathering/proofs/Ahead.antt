@@ -6,7 +6,7 @@ use mathlib.Core.List.{List, [], ◌∷◌}
 use native.Mathlib.Omega.{arith}
 use lib.ListN.{length, take, drop, get_or}
 use lib.Seq.{get_or-take, drop-drop}
-use Rattle.card.specs.Text.{if◌then◌else◌}
+use Rattle.card.specs.Text.{when◌then◌else◌}
 use Rattle.deck.specs.Contents.{byte, word_at, Row, row_of, rows_of, end_of, count_of, entries_from, behind, contents_of}
 use Rattle.deck.specs.Deck.{live_of}
 use Rattle.deck.specs.Sound.{Sound}
@@ -32,7 +32,7 @@ ahead_sound deck s = ahead_rows (length deck) (count_of deck) 0 (behind (count_o
 pub size_most : (r : Row) → live_size r ≤ r.size
 size_most r = go (live_of r)
   where
-    go : (b : Bool) → (if b then r.size else 0) ≤ r.size
+    go : (b : Bool) → (when b then r.size else 0) ≤ r.size
     go true = omega arith
     go false = omega arith
 

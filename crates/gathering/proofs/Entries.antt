@@ -7,7 +7,7 @@ use native.Mathlib.Omega.{arith}
 use borrow.Author.Tests.{eq-eqb, ne_eqb}
 use lib.ListN.{length, take, drop}
 use lib.Seq.{drop-drop}
-use Rattle.card.specs.Text.{if◌then◌else◌}
+use Rattle.card.specs.Text.{when◌then◌else◌}
 use Rattle.deck.specs.Contents.{byte, word_at, Row, row_of, rows_of}
 use Rattle.deck.specs.Deck.{Entry, live_of, entry_of, bodies}
 use Rattle.deck_entries.proofs.Laws.{row_there}
@@ -28,14 +28,14 @@ module _ (r : Row) (rs : List Row) where
   pub live_count : length (live_rows (r ∷ rs)) ≡ live_one r + length (live_rows rs)
   live_count = go (live_of r)
     where
-      go : (b : Bool) → length (if b then r ∷ live_rows rs else live_rows rs) ≡ (if b then 1 else 0) + length (live_rows rs)
+      go : (b : Bool) → length (when b then r ∷ live_rows rs else live_rows rs) ≡ (when b then 1 else 0) + length (live_rows rs)
       go true = omega arith
       go false = omega arith
 
   pub live_sizes : sizes (live_rows (r ∷ rs)) ≡ live_size r + sizes (live_rows rs)
   live_sizes = go (live_of r)
     where
-      go : (b : Bool) → sizes (if b then r ∷ live_rows rs else live_rows rs) ≡ (if b then r.size else 0) + sizes (live_rows rs)
+      go : (b : Bool) → sizes (when b then r ∷ live_rows rs else live_rows rs) ≡ (when b then r.size else 0) + sizes (live_rows rs)
       go true = refl
       go false = omega arith
 
@@ -43,8 +43,8 @@ module _ (r : Row) (rs : List Row) where
   pub live_bodies : (deck : List ℕ) → bodies (map (entry_of deck) (live_rows (r ∷ rs))) ≡ take (live_size r) (drop r.offset deck) ++ bodies (map (entry_of deck) (live_rows rs))
   live_bodies deck = go (live_of r)
     where
-      go : (b : Bool) → bodies (map (entry_of deck) (if b then r ∷ live_rows rs else live_rows rs))
-          ≡ take (if b then r.size else 0) (drop r.offset deck) ++ bodies (map (entry_of deck) (live_rows rs))
+      go : (b : Bool) → bodies (map (entry_of deck) (when b then r ∷ live_rows rs else live_rows rs))
+          ≡ take (when b then r.size else 0) (drop r.offset deck) ++ bodies (map (entry_of deck) (live_rows rs))
       go true = refl
       go false = refl
 
@@ -54,7 +54,7 @@ live_held deck [] = refl
 live_held deck (r ∷ rs) = go (live_of r) (live_held deck rs)
   where
     go : (b : Bool) → live_entries (map (entry_of deck) rs) ≡ map (entry_of deck) (live_rows rs)
-        → (if b then entry_of deck r ∷ live_entries (map (entry_of deck) rs) else live_entries (map (entry_of deck) rs)) ≡ map (entry_of deck) (if b then r ∷ live_rows rs else live_rows rs)
+        → (when b then entry_of deck r ∷ live_entries (map (entry_of deck) rs) else live_entries (map (entry_of deck) rs)) ≡ map (entry_of deck) (when b then r ∷ live_rows rs else live_rows rs)
     go true e = ap (λ (l : List Entry). entry_of deck r ∷ l) e
     go false e = e
 

@@ -7,7 +7,7 @@ use native.Mathlib.Omega.{arith}
 use borrow.Author.Tests.{eq-eqb, ne_eqb}
 use lib.ListN.{length, take, drop, length-take, length-drop}
 use lib.Seq.{drop-drop}
-use Rattle.card.specs.Text.{if◌then◌else◌}
+use Rattle.card.specs.Text.{when◌then◌else◌}
 use Rattle.deck.specs.Contents.{byte, Row, row_of, behind}
 use Rattle.deck.specs.Deck.{live_of}
 use Rattle.deck_entries.proofs.Laws.{row_there}
@@ -43,7 +43,7 @@ module _ (deck : List ℕ) (from : ℕ) {f : ℕ} (ef : f ≡ byte deck (from + 
 row_most : (t : List ℕ) → length (kept_row t) ≤ 8
 row_most t = go (live_of (row_of t))
   where
-    go : (b : Bool) → length (if b then take 8 t else []) ≤ 8
+    go : (b : Bool) → length (when b then take 8 t else []) ≤ 8
     go true = omega (arith, length-take 8 t)
     go false = omega arith
 

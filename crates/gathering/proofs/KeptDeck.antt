@@ -6,7 +6,7 @@ use mathlib.Core.List.{List, [], ◌∷◌, ◌++◌, append_assoc, map}
 use native.Mathlib.Omega.{arith}
 use lib.ListN.{length, take, drop, length-take, length-drop, length-append}
 use lib.Seq.{drop_at, take_at}
-use Rattle.card.specs.Text.{if◌then◌else◌}
+use Rattle.card.specs.Text.{when◌then◌else◌}
 use Rattle.deck.specs.Contents.{Row, row_of, rows_of, end_of}
 use Rattle.deck.specs.Deck.{live_of, entry_of, bodies}
 use Rattle.gathering.specs.LiveRows.{live_rows}
@@ -32,7 +32,7 @@ kept_long zero t h = refl
 kept_long (suc count) t h = go (live_of (row_of t)) (kept_long count (drop 8 t) (omega (arith, length-drop 8 t)))
   where
     go : (b : Bool) → length (kept_rows count (drop 8 t)) ≡ 8 * length (live_rows (rows_of count (drop 8 t)))
-        → length ((if b then take 8 t else []) ++ kept_rows count (drop 8 t)) ≡ 8 * length (if b then row_of t ∷ live_rows (rows_of count (drop 8 t)) else live_rows (rows_of count (drop 8 t)))
+        → length ((when b then take 8 t else []) ++ kept_rows count (drop 8 t)) ≡ 8 * length (when b then row_of t ∷ live_rows (rows_of count (drop 8 t)) else live_rows (rows_of count (drop 8 t)))
     go true e = omega (arith, e, length-append (take 8 t) (kept_rows count (drop 8 t)), length-take 8 t)
     go false e = e
 
@@ -47,7 +47,7 @@ kept_rows_law (suc count) t u h = go (live_of (row_of t)) (kept_rows_law count (
     later = live_rows (rows_of count (drop 8 t))
 
     go : (b : Bool) → rows_of (length later) (rest ++ u) ≡ later
-        → rows_of (length (if b then row_of t ∷ later else later)) (((if b then take 8 t else []) ++ rest) ++ u) ≡ (if b then row_of t ∷ later else later)
+        → rows_of (length (when b then row_of t ∷ later else later)) (((when b then take 8 t else []) ++ rest) ++ u) ≡ (when b then row_of t ∷ later else later)
     go true e =
         ap (rows_of (suc (length later))) (append_assoc (take 8 t) rest u)
         ∙ ap (λ (r : Row). r ∷ rows_of (length later) (drop 8 (take 8 t ++ (rest ++ u)))) (row_first t (rest ++ u) (omega arith))
@@ -59,7 +59,7 @@ pub live_again : (rs : List Row) → live_rows (live_rows rs) ≡ live_rows rs
 live_again [] = refl
 live_again (r ∷ rs) = go (live_of r) refl (live_again rs)
   where
-    go : (b : Bool) → live_of r ≡ b → live_rows (live_rows rs) ≡ live_rows rs → live_rows (if b then r ∷ live_rows rs else live_rows rs) ≡ (if b then r ∷ live_rows rs else live_rows rs)
+    go : (b : Bool) → live_of r ≡ b → live_rows (live_rows rs) ≡ live_rows rs → live_rows (when b then r ∷ live_rows rs else live_rows rs) ≡ (when b then r ∷ live_rows rs else live_rows rs)
     go true e h = rw e (ap (λ (l : List Row). r ∷ l) h)
     go false e h = h
 
@@ -69,7 +69,7 @@ pub ahead_kept : (long to : ℕ) (rs : List Row) → Ahead long to rs → Ahead 
 ahead_kept long to [] h = h
 ahead_kept long to (r ∷ rs) h = go (live_of r) (ahead_kept long (end_of r) rs h.2)
   where
-    go : (b : Bool) → Ahead long (end_of r) (live_rows rs) → Ahead long to (if b then r ∷ live_rows rs else live_rows rs)
+    go : (b : Bool) → Ahead long (end_of r) (live_rows rs) → Ahead long to (when b then r ∷ live_rows rs else live_rows rs)
     go true more = (h.0, h.1, more)
     go false more = ahead_from long to (end_of r) (live_rows rs) (omega (arith, h.0)) more
 

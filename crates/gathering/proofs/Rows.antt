@@ -7,7 +7,7 @@ use native.Mathlib.Omega.{arith}
 use native.Mathlib.Nat.{add-zero}
 use borrow.Author.Tests.{eq-eqb, ne_eqb}
 use lib.ListN.{length, drop}
-use Rattle.card.specs.Text.{if◌then◌else◌}
+use Rattle.card.specs.Text.{when◌then◌else◌}
 use Rattle.deck.specs.Contents.{byte, word_at, Row, row_of, rows_of, behind}
 use Rattle.deck.specs.Deck.{live_of, row_text, rows_text}
 use Rattle.deck_entries.proofs.Laws.{row_with, row_there}
@@ -45,15 +45,15 @@ module _ (deck : List ℕ) (from : ℕ) {f : ℕ} (ef : f ≡ byte deck (from + 
 rows_on : (r : Row) (rs : List Row) (offset : ℕ) → rows_stay offset (r ∷ rs) ≡ row_stays offset r ++ rows_stay (offset + live_size r) rs
 rows_on r rs offset = go (live_of r)
   where
-    go : (b : Bool) → rows_text (lines_for offset (if b then r ∷ live_rows rs else live_rows rs)) []
-        ≡ (if b then row_text (line_for offset r) [] else []) ++ rows_stay (offset + (if b then r.size else 0)) rs
+    go : (b : Bool) → rows_text (lines_for offset (when b then r ∷ live_rows rs else live_rows rs)) []
+        ≡ (when b then row_text (line_for offset r) [] else []) ++ rows_stay (offset + (when b then r.size else 0)) rs
     go true = refl
     go false = ap (λ (n : ℕ). rows_stay n rs) (sym (add-zero offset))
 
 row_most : (r : Row) (offset : ℕ) → length (row_stays offset r) ≤ 8
 row_most r offset = go (live_of r)
   where
-    go : (b : Bool) → length (if b then row_text (line_for offset r) [] else []) ≤ 8
+    go : (b : Bool) → length (when b then row_text (line_for offset r) [] else []) ≤ 8
     go true = omega arith
     go false = omega arith
 

@@ -1,6 +1,6 @@
 -- The live entries of a deck's contents, and what each keeps: a withdrawn one nothing. Assumes nothing.
 use Rattle.std.specs.Prelude.{ℕ, ◌≡◌, List, [], ◌∷◌, length}
-use Rattle.card.specs.Text.{if◌then◌else◌}
+use Rattle.card.specs.Text.{when◌then◌else◌}
 use Rattle.deck.specs.Contents.{Row, contents_of}
 use Rattle.deck.specs.Deck.{live_of}
 use Rattle.deck_written.specs.WriteDeckSaid.{sizes}
@@ -8,14 +8,14 @@ use Rattle.gathering.specs.declared.Live.{Live}
 
 abbrev pub live_rows : List Row → List Row
 live_rows [] = []
-live_rows (r ∷ rs) = if live_of r then r ∷ live_rows rs else live_rows rs
+live_rows (r ∷ rs) = when live_of r then r ∷ live_rows rs else live_rows rs
 
 -- how many cards stay, and how many bytes of the body
 abbrev pub live_one : Row → ℕ
-live_one r = if live_of r then 1 else 0
+live_one r = when live_of r then 1 else 0
 
 abbrev pub live_size : Row → ℕ
-live_size r = if live_of r then r.size else 0
+live_size r = when live_of r then r.size else 0
 
 pub record Measures (deck : List ℕ) (r : Live) : Type 0 where
   pub cards : r.cards ≡ length (live_rows (contents_of deck))

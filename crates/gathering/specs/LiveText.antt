@@ -1,7 +1,7 @@
 -- The live entries of a deck's contents as they stand in a tidied deck: their eight bytes, and their bodies. Assumes nothing.
 use Rattle.std.specs.Prelude.{ℕ, ◌+◌, ◌≤◌, List, [], ◌∷◌, map, length, drop}
 use Rattle.card.specs.Limits.{deck_bytes, count_bytes, most_cards}
-use Rattle.card.specs.Text.{if◌then◌else◌}
+use Rattle.card.specs.Text.{when◌then◌else◌}
 use Rattle.deck.specs.Contents.{Row, rows_of, end_of, behind}
 use Rattle.deck.specs.Deck.{live_of, entry_of, row_text, rows_text, bodies}
 use Rattle.deck_written.specs.WriteDeckSaid.{line_for, lines_for, sizes}
@@ -9,7 +9,7 @@ use Rattle.gathering.specs.LiveRows.{live_rows}
 
 -- an entry with its body at `offset`; a withdrawn one leaves nothing
 abbrev pub row_stays : (offset : ℕ) → Row → List ℕ
-row_stays offset r = if live_of r then row_text (line_for offset r) [] else []
+row_stays offset r = when live_of r then row_text (line_for offset r) [] else []
 
 -- so many entries from the first on
 abbrev pub rows_in : (count : ℕ) (deck : List ℕ) → List Row

@@ -12,7 +12,7 @@ use borrow.Author.Tests.{eqb-true}
 use lib.ListN.{length, length-append}
 use Rattle.card.specs.Limits.{most_seats, top_state, top_shared, most_statements, most_branches, most_nodes, most_depth}
 use Rattle.card.specs.Refusals.{out_of_shape, past_limit}
-use Rattle.card.specs.Text.{bytes, same, if◌then◌else◌}
+use Rattle.card.specs.Text.{bytes, same, when◌then◌else◌}
 use Rattle.card.specs.Card.{Mode, nondeterministic, probabilistic, Sign, all, any, Relation, is as eq, isnt as ne, Formula, atom, neg, and, or}
 use Rattle.card.specs.Weight.{Weight, whole, decimal as point, ratio}
 use Rattle.marks_on_a_card.specs.Marks.{Mark, text, seat, process, number, decimal, outside, Placed, placed}
@@ -57,7 +57,7 @@ number→eq outside i e = none≢some e
 relation→eq : (m : Mark) (q : Relation) → relation_of m ≡ some q → m ≡ text (bytes (relation q))
 relation→eq m q e = go (is "=" m) (is "!=" m) refl refl e
   where
-    go : (a b : Bool) → is "=" m ≡ a → is "!=" m ≡ b → (if a then some eq else (if b then some ne else none)) ≡ some q → m ≡ text (bytes (relation q))
+    go : (a b : Bool) → is "=" m ≡ a → is "!=" m ≡ b → (when a then some eq else (when b then some ne else none)) ≡ some q → m ≡ text (bytes (relation q))
     go true b p _ e = let z : eq ≡ q = cc in rw (← z) (is→eq "=" m p)
     go false true _ p e = let z : ne ≡ q = cc in rw (← z) (is→eq "!=" m p)
     go false false _ _ e = none≢some e
@@ -66,7 +66,7 @@ mode→eq : (m : Mark) (d : Mode) → mode_of m ≡ some d → m ≡ text (bytes
 mode→eq m d e = go (is "nondeterministic" m) (is "probabilistic" m) refl refl e
   where
     go : (a b : Bool) → is "nondeterministic" m ≡ a → is "probabilistic" m ≡ b
-        → (if a then some nondeterministic else (if b then some probabilistic else none)) ≡ some d → m ≡ text (bytes (mode_word d))
+        → (when a then some nondeterministic else (when b then some probabilistic else none)) ≡ some d → m ≡ text (bytes (mode_word d))
     go true b p _ e = let z : nondeterministic ≡ d = cc in rw (← z) (is→eq "nondeterministic" m p)
     go false true _ p e = let z : probabilistic ≡ d = cc in rw (← z) (is→eq "probabilistic" m p)
     go false false _ _ e = none≢some e
@@ -149,7 +149,7 @@ bind_same : {A B : Type 0} (x : Result A) (f g : A → Reader B) → ((a : A) (s
 bind_same (ok a s) f g h = h a s refl
 bind_same (stop n r) f g h = refl
 
-if_same : {A : Type 0} (b : Bool) (p q r : Reader A) (s : State) → p s ≡ q s → (if b then p else r) s ≡ (if b then q else r) s
+if_same : {A : Type 0} (b : Bool) (p q r : Reader A) (s : State) → p s ≡ q s → (when b then p else r) s ≡ (when b then q else r) s
 if_same true p q r s e = e
 if_same false p q r s e = refl
 
@@ -241,8 +241,8 @@ told p l = do
 told_signed : (p : Place) (l : Literal) (s : State) → told p l s ≡ signed p l s
 told_signed p l s = go (next_is (joint any) s.marks)
   where
-    go : (b : Bool) → bind ((if b then return any else return all) s) (λ j. others (joint j) (length s.marks) >>= λ ls. return (literals_of p j (l ∷ ls)))
-        ≡ (if b then joined_here read_literal any >>= (λ ls. return (literals_of p any (l ∷ ls))) else (joined_here read_literal all >>= λ ls. return (literals_of p all (l ∷ ls)))) s
+    go : (b : Bool) → bind ((when b then return any else return all) s) (λ j. others (joint j) (length s.marks) >>= λ ls. return (literals_of p j (l ∷ ls)))
+        ≡ (when b then joined_here read_literal any >>= (λ ls. return (literals_of p any (l ∷ ls))) else (joined_here read_literal all >>= λ ls. return (literals_of p all (l ∷ ls)))) s
     go true = refl
     go false = refl
 
@@ -771,12 +771,12 @@ more_modules_t = limited_t (LineSaid module_run) "module" refl copy (line_t modu
 -- ---- ranges
 
 abbrev limited : ℕ → Place → ℕ → Reader ℕ
-limited most p k = if leb k most then return k else refuse_at past_limit p
+limited most p k = when leb k most then return k else refuse_at past_limit p
 
 zero→eq : (m : Mark) (v : ℕ) → zero_of m ≡ some v → m ≡ number 0
 zero→eq m v e = go (number_of m) refl e
   where
-    only : (w : ℕ) (b : Bool) → eqb w 0 ≡ b → (if b then some w else none) ≡ some v → number_of m ≡ some w → m ≡ number 0
+    only : (w : ℕ) (b : Bool) → eqb w 0 ≡ b → (when b then some w else none) ≡ some v → number_of m ≡ some w → m ≡ number 0
     only w true y e i = number→eq m 0 (i ∙ ap some (eqb-true w 0 y))
     only w false y e i = none≢some e
 
@@ -814,7 +814,7 @@ module _ {Look : Type 0} {look : Place → Look} where
   }
     where
       passes : (m : Mark) (a k : ℕ) (b : Bool) (s s₁ : State) (d : ℕ) → leb k most ≡ b
-          → (if b then return k else refuse_at past_limit (placed m a ∷ s.marks)) s ≡ ok d s₁
+          → (when b then return k else refuse_at past_limit (placed m a ∷ s.marks)) s ≡ ok d s₁
           → Passed free Nil (λ s. limited most (placed m a ∷ s.marks) k s) s d s₁
       passes m a k true s s₁ d y e = record {
         pre = [];
@@ -825,7 +825,7 @@ module _ {Look : Type 0} {look : Place → Look} where
       passes m a k false s s₁ d y e = stop≢ok e
 
       stops : (m : Mark) (a k : ℕ) → number_of m ≡ some k → (b : Bool) (s : State) (n : ℕ) (r : Place) → leb k most ≡ b
-          → (if b then return k else refuse_at past_limit (placed m a ∷ s.marks)) s ≡ stop n r
+          → (when b then return k else refuse_at past_limit (placed m a ∷ s.marks)) s ≡ stop n r
           → Stopped look Nil (λ s. limited most (placed m a ∷ s.marks) k s) s n r
           ⊎ Refused look Nil (λ s. limited most (placed m a ∷ s.marks) k s) (placed m a) s.marks s.nodes n r
       stops m a k i true s n r y e = ok≢stop e

@@ -13,7 +13,7 @@ use borrow.Author.Tests.{le-leb, lt-leb}
 use lib.ListN.{length}
 use Rattle.card.specs.Limits.{card_bytes}
 use Rattle.card.specs.Refusals.{too_long, outside_rules, out_of_shape, past_limit, above_top, not_due, wrong_weight, decimal_weight}
-use Rattle.card.specs.Text.{if◌then◌else◌}
+use Rattle.card.specs.Text.{when◌then◌else◌}
 use Rattle.card.specs.Card.{Card}
 use Rattle.card.specs.Weight.{Rule, allowed}
 use Rattle.marks_on_a_card.specs.Marks.{Mark, text, seat, process, number, decimal, outside, Placed, placed, marks_of, place_of}
@@ -59,7 +59,7 @@ pub none_outside : (ms : List Placed) → first_outside ms ≡ none → Inside m
 none_outside [] e = tt
 none_outside (placed m p ∷ ms) e = go (is_outside m) refl e (none_outside ms)
   where
-    go : (b : Bool) → is_outside m ≡ b → (if b then some p else first_outside ms) ≡ none → (first_outside ms ≡ none → Inside ms) → Inside (placed m p ∷ ms)
+    go : (b : Bool) → is_outside m ≡ b → (when b then some p else first_outside ms) ≡ none → (first_outside ms ≡ none → Inside ms) → Inside (placed m p ∷ ms)
     go true y e f = none≢some (sym e)
     go false y e f = (inside_not m y, f e)
 
@@ -71,7 +71,7 @@ pub first_outside_law : (ms : List Placed) (p : ℕ) → first_outside ms ≡ so
 first_outside_law [] p e = none≢some e
 first_outside_law (placed m q ∷ ms) p e = go (is_outside m) refl e (first_outside_law ms p)
   where
-    go : (b : Bool) → is_outside m ≡ b → (if b then some q else first_outside ms) ≡ some p
+    go : (b : Bool) → is_outside m ≡ b → (when b then some q else first_outside ms) ≡ some p
         → (first_outside ms ≡ some p → (pre post : List Placed) × (ms ≡ pre ++ (placed outside p ∷ post)) × Inside pre)
         → (pre post : List Placed) × (placed m q ∷ ms ≡ pre ++ (placed outside p ∷ post)) × Inside pre
     go true y e f = let z : q ≡ p = cc in ([], ms, cc (outside_true m y), tt)
@@ -159,7 +159,7 @@ late_number (word d w p) = omega arith
 late_number (one_group g) = omega arith
 late_number (weight decimals w p) = go (allowed decimals w)
   where
-    go : (b : Bool) → above_top ≤ (if b then wrong_weight else decimal_weight)
+    go : (b : Bool) → above_top ≤ (when b then wrong_weight else decimal_weight)
     go true = omega arith
     go false = omega arith
 late_number (sum ws p) = omega arith

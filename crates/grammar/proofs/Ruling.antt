@@ -8,7 +8,7 @@ use lib.Dec.{eqb, leb}
 use borrow.Author.Tests.{leb-true, le-leb, eqb-true, eq-eqb}
 use Rattle.card.specs.Limits.{unit}
 use Rattle.card.specs.Refusals.{above_top, not_due, wrong_weight, decimal_weight}
-use Rattle.card.specs.Text.{if◌then◌else◌}
+use Rattle.card.specs.Text.{when◌then◌else◌}
 use Rattle.card.specs.Weight.{Weight, Worth, units_of, allowed, weight_refusal}
 use Rattle.card.proofs.Laws.{units_worth}
 use Rattle.reading.specs.Guard.{is_some}
@@ -45,14 +45,14 @@ breaks n (word due was p) h = other h
 breaks n (one_group g) h = uneven h
 breaks n (weight decimals w p) h = go (allowed decimals w) refl
   where
-    go : (b : Bool) → allowed decimals w ≡ b → Breaks n (if b then wrong_weight else decimal_weight) (weight decimals w p)
+    go : (b : Bool) → allowed decimals w ≡ b → Breaks n (when b then wrong_weight else decimal_weight) (weight decimals w p)
     go true e = worthless e (λ u x. h (e, (u, x)))
     go false e = retired e
 breaks n (sum ws p) h = unequal h
 
 -- by whether a weight's form may stand there
 abbrev by_form : Bool → ℕ
-by_form b = if b then wrong_weight else decimal_weight
+by_form b = when b then wrong_weight else decimal_weight
 
 true≢ : {b : Bool} → b ≡ false → b ≡ true → ⊥
 true≢ e h = false≢true (sym e ∙ h)

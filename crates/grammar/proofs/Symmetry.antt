@@ -11,7 +11,7 @@ use native.Mathlib.Decide.{dec_le, dec_lt}
 use lib.Dec.{eqb}
 use borrow.Author.Tests.{eqb-true, eqb-false, eq-eqb}
 use lib.ListN.{length}
-use Rattle.card.specs.Text.{if◌then◌else◌}
+use Rattle.card.specs.Text.{when◌then◌else◌}
 use Rattle.card.specs.Card.{everyone, others, Relation, is, isnt}
 use Rattle.card.specs.Valid.{Every}
 use Rattle.reading.specs.Guard.{is_some}
@@ -49,14 +49,14 @@ all_alike l (x ∷ ls) p q = rw (p.0, same_relation_law l.relation, eq-eqb l.d x
 -- does v lie among the c seats from i on? 1 or 0
 hits : ℕ → ℕ → ℕ → ℕ
 hits i zero v = 0
-hits i (suc c) v = (if eqb v i then 1 else 0) + hits (suc i) c v
+hits i (suc c) v = (when eqb v i then 1 else 0) + hits (suc i) c v
 
 -- literals that name one of them
 named : ℕ → ℕ → List Literal → ℕ
 named i zero ls = 0
 named i (suc c) ls = times_in i ls + named (suc i) c ls
 
-one_or_none : (v i : ℕ) (C : Type 0) → (v ≡ i → ◌≡◌ {A = ℕ} (if eqb v i then 1 else 0) 1 → C) → ((v ≡ i → ⊥) → ◌≡◌ {A = ℕ} (if eqb v i then 1 else 0) 0 → C) → C
+one_or_none : (v i : ℕ) (C : Type 0) → (v ≡ i → ◌≡◌ {A = ℕ} (when eqb v i then 1 else 0) 1 → C) → ((v ≡ i → ⊥) → ◌≡◌ {A = ℕ} (when eqb v i then 1 else 0) 0 → C) → C
 one_or_none v i C f g = go (eqb v i) refl
   where
     go : (b : Bool) → eqb v i ≡ b → C
@@ -125,7 +125,7 @@ times_has : (i : ℕ) (ls : List Literal) → 1 ≤ times_in i ls → has i ls �
 times_has i [] h = absurd (omega arith)
 times_has i (l ∷ ls) h = go (eqb l.seat i) h (times_has i ls)
   where
-    go : (b : Bool) → 1 ≤ (if b then 1 else 0) + times_in i ls → (1 ≤ times_in i ls → has i ls ≡ true) → (b || has i ls) ≡ true
+    go : (b : Bool) → 1 ≤ (when b then 1 else 0) + times_in i ls → (1 ≤ times_in i ls → has i ls ≡ true) → (b || has i ls) ≡ true
     go true h k = refl
     go false h k = k (omega arith)
 
@@ -211,12 +211,12 @@ module _ (a c n : ℕ) (last : a + c ≡ max a (suc n)) where
   pub is_once : (ls : List Literal) → OnceEach a n ls → once a c ls ≡ true
   is_once ls o = each_once_true a c ls (λ j h k. o.once j h (omega arith)) (λ j l. o.only j (above j l))
 
-kind_some : (a b : Bool) → is_some (if a then some everyone else (if b then some others else none)) ≡ true → (a ≡ true) ⊎ (b ≡ true)
+kind_some : (a b : Bool) → is_some (when a then some everyone else (when b then some others else none)) ≡ true → (a ≡ true) ⊎ (b ≡ true)
 kind_some true b e = inl refl
 kind_some false true e = inr refl
 kind_some false false e = absurd (false≢true e)
 
-some_kind : (a b : Bool) → (a ≡ true) ⊎ (b ≡ true) → is_some (if a then some everyone else (if b then some others else none)) ≡ true
+some_kind : (a b : Bool) → (a ≡ true) ⊎ (b ≡ true) → is_some (when a then some everyone else (when b then some others else none)) ≡ true
 some_kind true b e = refl
 some_kind false true e = refl
 some_kind false false (inl e) = absurd (false≢true e)

@@ -9,7 +9,7 @@ use lib.Dec.{eqb}
 use borrow.Author.Tests.{eqb-true}
 use lib.ListN.{length, length-map}
 use Rattle.card.specs.Limits.{unit}
-use Rattle.card.specs.Text.{if◌then◌else◌}
+use Rattle.card.specs.Text.{when◌then◌else◌}
 use Rattle.card.specs.Card.{Kind, everyone, others, Sign, all, any, group, Formula, atom, neg, and, or, Card}
 use Rattle.card.specs.Weight.{Weight, units_of, Rule}
 use Rattle.card.proofs.Laws.{units_most as weight_most}
@@ -46,7 +46,7 @@ enough s kind n ls f e = go (once 1 n ls) (once 2 (n - 1) ls) refl refl e
     second all l f z = rw (← z) (omega arith)
     second any l f z = rw (← z) (omega arith)
 
-    go : (a b : Bool) → once 1 n ls ≡ a → once 2 (n - 1) ls ≡ b → (if a then some everyone else (if b then some others else none)) ≡ some kind → Enough s kind n
+    go : (a b : Bool) → once 1 n ls ≡ a → once 2 (n - 1) ls ≡ b → (when a then some everyone else (when b then some others else none)) ≡ some kind → Enough s kind n
     go true b p q e = first s (count 1 n p) f cc
     go false true p q e = second s (count 2 (n - 1) q) f cc
     go false false p q e = none≢some e

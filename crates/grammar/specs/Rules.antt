@@ -3,7 +3,7 @@
 use Rattle.std.specs.Prelude.{ℕ, ◌+◌, ◌≤◌, ◌<◌, ◌≡◌, ◌⊎◌, true, false, List, [], ◌∷◌, length, eqb}
 use Rattle.card.specs.Limits.{unit}
 use Rattle.card.specs.Refusals.{above_top, not_due, wrong_weight, decimal_weight}
-use Rattle.card.specs.Text.{if◌then◌else◌}
+use Rattle.card.specs.Text.{when◌then◌else◌}
 use Rattle.card.specs.Card.{Relation}
 use Rattle.card.specs.Weight.{Weight, Worth, Rule, allowed}
 use Rattle.card.specs.Valid.{Every}
@@ -16,7 +16,7 @@ use Rattle.reading.specs.Judgements.{Judgement, state, word, one_group, weight, 
 -- how many literals of the list name the seat i
 abbrev pub times_in : ℕ → List Literal → ℕ
 times_in i [] = 0
-times_in i (l ∷ ls) = (if eqb l.seat i then 1 else 0) + times_in i ls
+times_in i (l ∷ ls) = (when eqb l.seat i then 1 else 0) + times_in i ls
 
 -- the seats a to n once each, and no others
 pub record OnceEach (a n : ℕ) (ls : List Literal) : Type 0 where

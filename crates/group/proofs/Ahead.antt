@@ -11,7 +11,7 @@ use lib.Dec.{eqb}
 use lib.ListN.{length}
 use Rattle.card.specs.Limits.{numbers}
 use Rattle.card.specs.Refusals.{out_of_shape}
-use Rattle.card.specs.Text.{if◌then◌else◌}
+use Rattle.card.specs.Text.{when◌then◌else◌}
 use Rattle.card.specs.Card.{is as eq, isnt as ne}
 use Rattle.marks_on_a_card.specs.Marks.{Mark, placed, place_of}
 use Rattle.marks_on_a_card.specs.Kinds.{k_end, k_seat, k_number, kind, kind_of, value_of}
@@ -26,7 +26,7 @@ use Rattle.group.proofs.Signs.{Known, is_kind, valued, seat_kind, number_kind, r
 
 -- a value and the marks behind the step; or the mark does not fit
 abbrev pub found_or : {A : Type 0} → Bool → A → ℕ → List ℕ → Step → Place → ℕ → Result A
-found_or b a o s x ms n = if b then ok a (at (marks_at o s x.next.at) n) else stop out_of_shape ms
+found_or b a o s x ms n = when b then ok a (at (marks_at o s x.next.at) n) else stop out_of_shape ms
 
 -- where the step's kind is v
 module _ {A : Type 0} (a : A) (o : ℕ) (s : List ℕ) (x : Step) (ms : Place) (n v : ℕ) where
@@ -50,7 +50,7 @@ module _ (o : ℕ) (s : List ℕ) where
     sign_next x ms n over = rw (end_kind (kind t) (omega (arith, known.above)))
     sign_next x ms n (met m p next small l h) = rw (is_kind t m known) (go (eqb (kind_of m) (kind t)))
       where
-        go : (b : Bool) → took (given b) (placed m (o + p)) (marks_at o s next) n ≡ (if b then ok tt (at (marks_at o s next) n) else stop out_of_shape (placed m (o + p) ∷ marks_at o s next))
+        go : (b : Bool) → took (given b) (placed m (o + p)) (marks_at o s next) n ≡ (when b then ok tt (at (marks_at o s next) n) else stop out_of_shape (placed m (o + p) ∷ marks_at o s next))
         go true = refl
         go false = refl
 
@@ -60,7 +60,7 @@ module _ (o : ℕ) (s : List ℕ) where
     value_next x ms n over = rw (end_kind v some)
     value_next x ms n (met m p next small l h) = rw (by m) (go (eqb (kind_of m) v))
       where
-        go : (b : Bool) → took (valued b m) (placed m (o + p)) (marks_at o s next) n ≡ (if b then ok (value_of m) (at (marks_at o s next) n) else stop out_of_shape (placed m (o + p) ∷ marks_at o s next))
+        go : (b : Bool) → took (valued b m) (placed m (o + p)) (marks_at o s next) n ≡ (when b then ok (value_of m) (at (marks_at o s next) n) else stop out_of_shape (placed m (o + p) ∷ marks_at o s next))
         go true = refl
         go false = refl
 
@@ -79,12 +79,12 @@ module _ (o : ℕ) (s : List ℕ) where
   the_number = value_next number_of k_number (omega arith) number_kind
 
   pub the_relation : (x : Step) (ms : Place) (n : ℕ) → Meet o s x ms
-      → the relation_of (at ms n) ≡ (if eqb x.mark.kind (kind "=") then ok eq (at (marks_at o s x.next.at) n) else found_or (eqb x.mark.kind (kind "!=")) ne o s x ms n)
+      → the relation_of (at ms n) ≡ (when eqb x.mark.kind (kind "=") then ok eq (at (marks_at o s x.next.at) n) else found_or (eqb x.mark.kind (kind "!=")) ne o s x ms n)
   the_relation x ms n over = refl
   the_relation x ms n (met m p next small l h) = rw (relation_kind m) (go (eqb (kind_of m) (kind "=")) (eqb (kind_of m) (kind "!=")))
     where
-      go : (a b : Bool) → took (if a then some eq else (if b then some ne else none)) (placed m (o + p)) (marks_at o s next) n
-          ≡ (if a then ok eq (at (marks_at o s next) n) else (if b then ok ne (at (marks_at o s next) n) else stop out_of_shape (placed m (o + p) ∷ marks_at o s next)))
+      go : (a b : Bool) → took (when a then some eq else (when b then some ne else none)) (placed m (o + p)) (marks_at o s next) n
+          ≡ (when a then ok eq (at (marks_at o s next) n) else (when b then ok ne (at (marks_at o s next) n) else stop out_of_shape (placed m (o + p) ∷ marks_at o s next)))
       go true b = refl
       go false true = refl
       go false false = refl

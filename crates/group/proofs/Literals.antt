@@ -8,7 +8,7 @@ use native.Mathlib.Omega.{arith}
 use borrow.Author.Tests.{eqb-true}
 use lib.Dec.{eqb}
 use Rattle.card.specs.Refusals.{out_of_shape}
-use Rattle.card.specs.Text.{if◌then◌else◌}
+use Rattle.card.specs.Text.{when◌then◌else◌}
 use Rattle.card.specs.Card.{Relation, is as eq, isnt as ne}
 use Rattle.card.specs.Laid.{relation_number, either}
 use Rattle.marks_on_a_card.specs.Marks.{placed, seat}
@@ -34,8 +34,8 @@ module _ (o : ℕ) (s : List ℕ) (i n : ℕ) where
   no_sign : relation_by sign.mark.kind ≡ no_relation → the relation_of (at (marks_at o s i) n) ≡ stop out_of_shape (marks_at o s i)
   no_sign h = the_relation o s sign (marks_at o s i) n (meet o s i) ∙ go (eqb sign.mark.kind (kind "=")) (eqb sign.mark.kind (kind "!=")) h
     where
-      go : (a b : Bool) → (if a then relation_number eq else (if b then relation_number ne else no_relation)) ≡ no_relation
-          → (if a then ok eq (at (marks_at o s sign.next.at) n) else (if b then ok ne (at (marks_at o s sign.next.at) n) else stop out_of_shape (marks_at o s i))) ≡ stop out_of_shape (marks_at o s i)
+      go : (a b : Bool) → (when a then relation_number eq else (when b then relation_number ne else no_relation)) ≡ no_relation
+          → (when a then ok eq (at (marks_at o s sign.next.at) n) else (when b then ok ne (at (marks_at o s sign.next.at) n) else stop out_of_shape (marks_at o s i))) ≡ stop out_of_shape (marks_at o s i)
       go true b e = absurd (omega arith)
       go false true e = absurd (omega arith)
       go false false e = refl
@@ -50,7 +50,7 @@ module _ (o : ℕ) (s : List ℕ) (i n : ℕ) where
   related v e h = go (eqb sign.mark.kind (kind "=")) refl (eqb sign.mark.kind (kind "!=")) refl e
     where
       go : (a : Bool) → eqb sign.mark.kind (kind "=") ≡ a → (b : Bool) → eqb sign.mark.kind (kind "!=") ≡ b
-          → v ≡ (if a then relation_number eq else (if b then relation_number ne else no_relation)) → Related v
+          → v ≡ (when a then relation_number eq else (when b then relation_number ne else no_relation)) → Related v
       go true p b q e = rw e (record {
         number = refl;
         found = the_relation o s sign (marks_at o s i) n (meet o s i) ∙ rw p;

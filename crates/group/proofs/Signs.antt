@@ -8,7 +8,7 @@ use mathlib.Core.Option.{Option, none, some}
 use native.Mathlib.Omega.{arith}
 use borrow.Author.Tests.{eqb-true, eqb-false}
 use lib.Dec.{eqb}
-use Rattle.card.specs.Text.{bytes, same, if◌then◌else◌}
+use Rattle.card.specs.Text.{bytes, same, when◌then◌else◌}
 use Rattle.card.specs.Card.{is as eq, isnt as ne}
 use Rattle.marks_on_a_card.specs.Marks.{Mark, text, seat, process, number, decimal, outside}
 use Rattle.marks_on_a_card.specs.Kinds.{k_word, k_seat, k_number, knowns, kind, kind_of, value_of}
@@ -46,7 +46,7 @@ is_kind t m h = by_test (is t m) m (kind t) (λ e. ap (is t) (kind_is t (kind t)
 
 -- a mark's number, if its kind has one
 abbrev pub valued : Bool → Mark → Option ℕ
-valued b m = if b then some (value_of m) else none
+valued b m = when b then some (value_of m) else none
 
 by_kind : (f : Mark → Option ℕ) (v : ℕ) → ((m : Mark) → kind_of m ≡ v → f m ≡ some (value_of m)) → ((m : Mark) → (kind_of m ≡ v → ⊥) → f m ≡ none) → (m : Mark) → f m ≡ valued (eqb (kind_of m) v) m
 by_kind f v to from m = go (eqb (kind_of m) v) refl
@@ -85,5 +85,5 @@ equals = record { above = omega arith; alone = refl; same = refl }
 differs : Known "!="
 differs = record { above = omega arith; alone = refl; same = refl }
 
-pub relation_kind : (m : Mark) → relation_of m ≡ (if eqb (kind_of m) (kind "=") then some eq else (if eqb (kind_of m) (kind "!=") then some ne else none))
+pub relation_kind : (m : Mark) → relation_of m ≡ (when eqb (kind_of m) (kind "=") then some eq else (when eqb (kind_of m) (kind "!=") then some ne else none))
 relation_kind m = rw (is_kind "=" m equals, is_kind "!=" m differs)

@@ -1,7 +1,7 @@
 -- What the code keeps of a group's literals while it reads them ("Shape of a card"). Assumes nothing.
 use Rattle.std.specs.Prelude.{ℕ, ◌+◌, ◌≤◌, ◌<◌, ◌≡◌, Bool, true, false, List, eqb, length}
 use Rattle.card.specs.Limits.{numbers}
-use Rattle.card.specs.Text.{if◌then◌else◌}
+use Rattle.card.specs.Text.{when◌then◌else◌}
 use Rattle.card.specs.Card.{Sign, all, any, is, isnt}
 use Rattle.card.specs.Laid.{relation_number}
 use Rattle.marks_on_a_card.specs.Marks.{place_of}
@@ -19,7 +19,7 @@ abbrev pub no_relation : ℕ
 no_relation = 2
 
 abbrev pub relation_by : ℕ → ℕ
-relation_by v = if eqb v (kind "=") then relation_number is else (if eqb v (kind "!=") then relation_number isnt else no_relation)
+relation_by v = when eqb v (kind "=") then relation_number is else (when eqb v (kind "!=") then relation_number isnt else no_relation)
 
 -- from behind its seat word on, whose number is i
 

@@ -8,7 +8,7 @@ use mathlib.Core.Option.{Option, none, some}
 use native.Mathlib.Omega.{arith}
 use lib.ListN.{length}
 use Rattle.card.specs.Limits.{most_nodes}
-use Rattle.card.specs.Text.{if◌then◌else◌}
+use Rattle.card.specs.Text.{when◌then◌else◌}
 use Rattle.card.specs.Card.{all, any, Formula, atom, neg, and, or}
 use Rattle.card.specs.Valid.{size}
 use Rattle.marks_on_a_card.specs.Marks.{Mark, Placed, placed}
@@ -49,7 +49,7 @@ module _ {A : Type 0} where
   if_keeps : (t : String) (p q : Reader A) → Keeps p → Keeps q → Keeps (if_next t p q)
   if_keeps t p q h k s = go (next_is t s.marks)
     where
-      go : (b : Bool) → Each (Left s.nodes) ((if b then p else q) s)
+      go : (b : Bool) → Each (Left s.nodes) ((when b then p else q) s)
       go true = h s
       go false = k s
 
@@ -137,7 +137,7 @@ item_keeps p =
     words : Keeps (if_seat (group p >>= λ x. return (a_group x)) (exactly p))
     words s = go (seat_next s.marks)
       where
-        go : (b : Bool) → Each (Left s.nodes) ((if b then (group p >>= λ x. return (a_group x)) else exactly p) s)
+        go : (b : Bool) → Each (Left s.nodes) ((when b then (group p >>= λ x. return (a_group x)) else exactly p) s)
         go true = bind_keeps (group p) (λ x. return (a_group x)) (group_keeps p) (λ x s. refl) s
         go false = exactly_keeps p s
 
@@ -160,14 +160,14 @@ module _ {A : Type 0} where
   if_ends : (n : ℕ) (t : String) (p q : Reader (Formula A)) (s : State) → Ends n (p s) → Ends n (q s) → Ends n (if_next t p q s)
   if_ends n t p q s h k = go (next_is t s.marks)
     where
-      go : (b : Bool) → Ends n ((if b then p else q) s)
+      go : (b : Bool) → Ends n ((when b then p else q) s)
       go true = h
       go false = k
 
   ahead_ends : (n : ℕ) (starts : Place → Bool) (p q : Reader (Formula A)) (s : State) → Ends n (p s) → Ends n (q s) → Ends n (if_ahead starts p q s)
   ahead_ends n starts p q s h k = go (starts s.marks)
     where
-      go : (b : Bool) → Ends n ((if b then p else q) s)
+      go : (b : Bool) → Ends n ((when b then p else q) s)
       go true = h
       go false = k
 

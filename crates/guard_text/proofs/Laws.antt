@@ -9,7 +9,7 @@ use native.Mathlib.Omega.{arith}
 use borrow.Author.Tests.{le-leb, eq-eqb, ne_eqb, eqb-true, eqb-false}
 use lib.Dec.{eqb, leb}
 use lib.ListN.{get_or}
-use Rattle.card.specs.Text.{if◌then◌else◌}
+use Rattle.card.specs.Text.{when◌then◌else◌}
 use Rattle.card.specs.Card.{all, any, Leaf}
 use Rattle.card.specs.Valid.{middle, needs_and, needs_or}
 use Rattle.card.specs.Laid.{sign_number, either, op_leaf, op_not, op_and, op_of, left_of, right_of, leaf_of, guard_at, guard_of}
@@ -34,17 +34,17 @@ needs_or_law (suc (suc v)) = sym (le-leb 1 (suc (suc v)) (omega arith))
 
 -- where all joined nodes have brackets, each has them as where it stands tight
 module _ (level : ℕ) where
-  has_and_law : (t : Bool) → has_and (if t then needed else always) (level_of level) ≡ leb 2 (if t then level else tight_number)
+  has_and_law : (t : Bool) → has_and (when t then needed else always) (level_of level) ≡ leb 2 (when t then level else tight_number)
   has_and_law true = needs_and_law level
   has_and_law false = refl
 
-  has_or_law : (t : Bool) → has_or (if t then needed else always) (level_of level) ≡ leb 1 (if t then level else tight_number)
+  has_or_law : (t : Bool) → has_or (when t then needed else always) (level_of level) ≡ leb 1 (when t then level else tight_number)
   has_or_law true = needs_or_law level
   has_or_law false = refl
 
 -- a bracket by its byte
 abbrev pub bracket_if : Bool → ℕ → Text
-bracket_if b x r = if b then x ∷ r else r
+bracket_if b x r = when b then x ∷ r else r
 
 opens : (b : Bool) (r : List ℕ) → bracket_if b 40 r ≡ opening b r
 opens true r = refl
@@ -56,7 +56,7 @@ closes false r = refl
 
 -- ---- the operator of node m, at which x stands, where node 0 is read as a leaf
 
-module _ (m x : ℕ) {op : ℕ} (o : op ≡ (if eqb m 0 then op_leaf else op_of x)) (g : op ≡ op_leaf → ⊥) where
+module _ (m x : ℕ) {op : ℕ} (o : op ≡ (when eqb m 0 then op_leaf else op_of x)) (g : op ≡ op_leaf → ⊥) where
   pub joined_above : m ≡ 0 → ⊥
   joined_above z = g (o ∙ rw (eq-eqb m 0 z))
 
@@ -84,7 +84,7 @@ module _ (text : ℕ) (leaf : Leaf → Text) (v : ℕ) (nodes : List ℕ) (m x :
     unfolding formula_text
     text_leaf e r = rw (guard_at_leaf nodes m x at (inl (sym o ∙ e)))
 
-  module _ {op : ℕ} (o : op ≡ (if eqb m 0 then op_leaf else op_of x)) where
+  module _ {op : ℕ} (o : op ≡ (when eqb m 0 then op_leaf else op_of x)) where
     pub text_at_leaf : op ≡ op_leaf → Here (leaf (leaf_of x))
     text_at_leaf e = go (eqb m 0) refl
       where
@@ -114,7 +114,7 @@ module _ (text : ℕ) (leaf : Leaf → Text) (v : ℕ) (nodes : List ℕ) (m x :
           unfolding formula_text
           text_or c d e r = rw (guard_at_or nodes m x at h (λ z. c (o ∙ z)) (λ z. d (o ∙ z)) (λ z. e (o ∙ z)), has_or_law v (eqb text 0), k, opens, closes, l, g)
 
-          pub text_joined : {s : ℕ} → (op ≡ op_leaf → ⊥) → (op ≡ op_not → ⊥) → s ≡ (if eqb op op_and then sign_number all else sign_number any) → Here (joined s b)
+          pub text_joined : {s : ℕ} → (op ≡ op_leaf → ⊥) → (op ≡ op_not → ⊥) → s ≡ (when eqb op op_and then sign_number all else sign_number any) → Here (joined s b)
           text_joined {s} c d e = go (eqb op op_and) refl
             where
               go : (t : Bool) → eqb op op_and ≡ t → Here (joined s b)

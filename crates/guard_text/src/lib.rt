@@ -3,7 +3,7 @@
 
 ghost use Rattle.std.specs.Prelude.{◌≡◌, ◌∷◌, ◌+◌, ◌<◌, ◌≤◌, eqb, leb};
 ghost use Rattle.card.specs.Limits.{node_places};
-ghost use Rattle.card.specs.Text.{if◌then◌else◌};
+ghost use Rattle.card.specs.Text.{when◌then◌else◌};
 ghost use Rattle.card.specs.Card.{all, any};
 ghost use Rattle.card.specs.Laid.{sign_number, op_leaf, op_and, op_of, either, guard_at, guard_of};
 ghost use Rattle.phrases.specs.Puts.{Puts};
@@ -36,7 +36,7 @@ fn bracket_level(level: usize, text: usize) -> usize
 
 // A bracket, where the level is `least` or tighter.
 fn put_bracket(room: &mut [u8], at: usize, bracket: u8, level: usize, least: usize) -> usize
-    ensures { Puts room.old room.new at (λ t. if leb least level then bracket ∷ t else t) result }
+    ensures { Puts room.old room.new at (λ t. when leb least level then bracket ∷ t else t) result }
 {
     if least <= level {
         return put_byte(room, at, bracket);
@@ -46,7 +46,7 @@ fn put_bracket(room: &mut [u8], at: usize, bracket: u8, level: usize, least: usi
 
 // The sign of a joined node, by its operator.
 fn sign_between(op: usize) -> usize
-    ensures sign { result ≡ (if eqb op op_and then sign_number all else sign_number any) }
+    ensures sign { result ≡ (when eqb op op_and then sign_number all else sign_number any) }
     ensures small { result < 2 }
 {
     if op == AND {
@@ -57,7 +57,7 @@ fn sign_between(op: usize) -> usize
 
 // The operator of node n, where `x` stands: node 0 is read as a leaf.
 fn operator_at(x: u32, n: usize) -> usize
-    ensures { result ≡ (if eqb n 0 then op_leaf else op_of x) }
+    ensures { result ≡ (when eqb n 0 then op_leaf else op_of x) }
 {
     if n == 0 {
         return LEAF;

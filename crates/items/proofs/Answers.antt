@@ -9,7 +9,7 @@ use borrow.Author.Tests.{eq-eqb, ne_eqb}
 use lib.Dec.{eqb, leb}
 use lib.ListN.{length}
 use Rattle.card.specs.Refusals.{above_top}
-use Rattle.card.specs.Text.{if◌then◌else◌}
+use Rattle.card.specs.Text.{when◌then◌else◌}
 use Rattle.card.specs.Card.{Kind, everyone, others, Formula, atom, neg, and, or}
 use Rattle.card.specs.Laid.{kind_number, shared_kind}
 use Rattle.marks_on_a_card.specs.Marks.{placed, seat, place_of}
@@ -146,7 +146,7 @@ test_inside s (stop m q) r h = record {
 has_kind : (ls : List Literal) → eqb (kind_number (kind_by ls)) 0 ≡ has 1 ls
 has_kind ls = go (has 1 ls)
   where
-    go : (b : Bool) → eqb (kind_number (if b then everyone else others)) 0 ≡ b
+    go : (b : Bool) → eqb (kind_number (when b then everyone else others)) 0 ≡ b
     go true = refl
     go false = refl
 
@@ -179,7 +179,7 @@ module _ (v o : ℕ) (s : List ℕ) (n : ℕ) (p : Place) where
   group_asked : (y : Result Literals) (r : Grouped) → GroupRead o s n p y r → ItemRead (questions v) o s n p (bind y as_group) (of_all r)
   group_asked (ok a b) r h = go (eqb r.kind 0) (ap (λ k. eqb k 0) h.kind ∙ has_kind a.literals)
     where
-      go : (c : Bool) → c ≡ has 1 a.literals → ReadItem (questions v) o s n p (a_group a) b (if c then r else unwanted r)
+      go : (c : Bool) → c ≡ has 1 a.literals → ReadItem (questions v) o s n p (a_group a) b (when c then r else unwanted r)
       go true e = record { went = h.went; rest = h.rest; left = h.left; past = h.past; node = h.node; judged = wanting a b r h r.want (rw (← e) (sym h.want)) }
       go false e = record { went = h.went; rest = h.rest; left = h.left; past = h.past; node = h.node; judged = wanting a b r h 0 (rw (← e) refl) }
   group_asked (stop m q) r h = rw h.answer (record { number = h.number; answer = refl; place = h.place; within = h.within })
@@ -215,7 +215,7 @@ one_inside s (stop m q) r h = record {
 of_all_inside : (s : List ℕ) (r : Grouped) → Inside s r → Inside s (of_all r)
 of_all_inside s r h = go (eqb r.kind 0)
   where
-    go : (b : Bool) → Inside s (if b then r else unwanted r)
+    go : (b : Bool) → Inside s (when b then r else unwanted r)
     go true = h
     go false = record { place = h.place; next = h.next; first = h.first }
 

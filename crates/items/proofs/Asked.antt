@@ -3,12 +3,12 @@ use mathlib.Core.Path.{◌≡◌}
 use mathlib.Core.Bool.{Bool, true, false}
 use borrow.Author.Tests.{eq-eqb, ne_eqb}
 use lib.Dec.{eqb}
-use Rattle.card.specs.Text.{if◌then◌else◌}
+use Rattle.card.specs.Text.{when◌then◌else◌}
 use Rattle.group.specs.declared.Grouped.{Grouped}
 use Rattle.items.specs.GroupsAsked.{unwanted, of_all}
 
 -- what the code makes of a group in a question
-chosen : (b c : Bool) (x y : Grouped) → b ≡ c → (if c then x else y) ≡ (if b then x else y)
+chosen : (b c : Bool) (x y : Grouped) → b ≡ c → (when c then x else y) ≡ (when b then x else y)
 chosen b c x y e = rw e
 
 pub all_wanted : (g : Grouped) → g.kind ≡ 0 → g ≡ of_all g

@@ -8,7 +8,7 @@ use native.Mathlib.Omega.{arith}
 use lib.Dec.{eqb}
 use lib.ListN.{length, length-append}
 use Rattle.card.specs.Limits.{most_seats, numbers}
-use Rattle.card.specs.Text.{if◌then◌else◌}
+use Rattle.card.specs.Text.{when◌then◌else◌}
 use Rattle.card.specs.Card.{any, one}
 use Rattle.card.specs.Laid.{one_kind, leaf_number}
 use Rattle.card.proofs.Packed.{packed_one}
@@ -197,7 +197,7 @@ module _ (s : List ℕ) (first : TermFound) (count : ℕ) (all : Bool) (c : ℕ)
           within = place_within o s (step_at s c) (marks_at o s c) (meet o s c);
         })
 
-    closes : (step_at s c).mark.kind ≡ kind ")" → (w node : ℕ) → w ≡ (if all && eqb count first.seats then count else 0) → node ≡ leaf_number (one (min first.d numbers))
+    closes : (step_at s c).mark.kind ≡ kind ")" → (w node : ℕ) → w ≡ (when all && eqb count first.seats then count else 0) → node ≡ leaf_number (one (min first.d numbers))
         → OneRead o s n p (whole s o n p) (record { stop = 0; place = 0; next = (step_at s c).next.at; want = w; kind = one_kind; node = node; d = first.d; first = first.first })
     closes h w node we ne =
         one_as o s n p _
@@ -271,7 +271,7 @@ module _ {s : List ℕ} {first : TermFound} {count : ℕ} {all : Bool} {ahead : 
     pub ends_open : (ahead.mark.kind ≡ kind ")" → ⊥) → Answers s (no_group ahead.mark.place)
     ends_open h o n p = rw t.step (stays_open s first count all t.c o n p (t.so o n p) other_there (rw t.step at h))
 
-    pub ends_closed : ahead.mark.kind ≡ kind ")" → (w node : ℕ) → w ≡ (if all && eqb count first.seats then count else 0) → node ≡ leaf_number (one (min first.d numbers))
+    pub ends_closed : ahead.mark.kind ≡ kind ")" → (w node : ℕ) → w ≡ (when all && eqb count first.seats then count else 0) → node ≡ leaf_number (one (min first.d numbers))
         → Answers s (record { stop = 0; place = 0; next = ahead.next.at; want = w; kind = one_kind; node = node; d = first.d; first = first.first })
     ends_closed h w node we ne o n p = rw t.step (closes s first count all t.c o n p (t.so o n p) other_there (rw t.step at h) w node we ne)
 

@@ -2,7 +2,7 @@
 use Rattle.std.specs.Prelude.{ℕ, ◌+◌, ◌-◌, ◌≤◌, ◌<◌, ◌^◌, ◌≡◌, List, eqb, leb, set}
 use Rattle.card.specs.Limits.{node_places, most_nodes}
 use Rattle.card.specs.Refusals.{out_of_shape, past_limit, above_top}
-use Rattle.card.specs.Text.{if◌then◌else◌}
+use Rattle.card.specs.Text.{when◌then◌else◌}
 use Rattle.card.specs.Laid.{shared_kind}
 use Rattle.reading.specs.Judgements.{unless}
 use Rattle.group.specs.declared.Grouped.{Grouped}
@@ -23,10 +23,10 @@ pub record Placed (q : ℕ) (g : Grouped) : Type 0 where
 
 -- what an item's kind decides: a test of the shared number wants no seats, and what stands in it may be that number's most, not the top state
 abbrev pub wanted_by : ℕ → ℕ → ℕ → Late → Late
-wanted_by kind want p x = if eqb kind shared_kind then x else grouped want p x
+wanted_by kind want p x = when eqb kind shared_kind then x else grouped want p x
 
 abbrev pub bound_by : ℕ → ℕ → ℕ → ℕ
-bound_by most kind k = if eqb kind shared_kind then most else k
+bound_by most kind k = when eqb kind shared_kind then most else k
 
 -- the state behind an item: one node fewer is left, one more is stored, and the item is judged
 pub record Judged (state : List ℕ) (due : Late) (is : List ℕ) : Type 0 where

@@ -2,7 +2,7 @@
 -- (document 02, 2026-10; 0 where none is declared). Assumes nothing.
 use Rattle.std.specs.Prelude.{ℕ, Bool, true, false, List, [], ◌∷◌, leb}
 use Rattle.card.specs.Refusals.{above_top}
-use Rattle.card.specs.Text.{if◌then◌else◌}
+use Rattle.card.specs.Text.{when◌then◌else◌}
 use Rattle.card.specs.Card.{Leaf, one, shared_is, Formula, atom, neg, and, or, Guard}
 use Rattle.card.specs.Formulas.{over}
 use Rattle.marks_on_a_card.specs.Marks.{place_of}
@@ -42,7 +42,7 @@ cards values = record {
 
 -- how many seats a group of everyone wants; one of the others is symmetric for no question
 abbrev pub want_of_all : List Literal → ℕ
-want_of_all ls = if has 1 ls then want_of ls else 0
+want_of_all ls = when has 1 ls then want_of ls else 0
 
 abbrev pub judge_claim : ℕ → Claim → Late → Late
 judge_claim e (state most v p) x = blamed (unless (leb v most) above_top) (place_of e p) x

@@ -13,7 +13,7 @@ ghost use Rattle.reading.specs.Group.{shared_test as shared_test_said};
 ghost use Rattle.items.specs.SharedRead.{TestRead};
 ghost use Rattle.asking.specs.Question.{term as term_of, twice_next, exactly as exactly_of};
 ghost use Rattle.term_literals.specs.TermRead.{TermRead};
-ghost use Rattle.card.specs.Text.{if◌then◌else◌};
+ghost use Rattle.card.specs.Text.{when◌then◌else◌};
 ghost use Rattle.items.specs.OneRead.{OneRead};
 ghost use Rattle.items.specs.Language.{language_of};
 ghost use Rattle.items.specs.Items.{ItemAt, nothing};
@@ -169,7 +169,7 @@ fn agrees(all: bool, first: TermFound, more: TermFound) -> bool
 
 // As many seats as terms, if each term has each of them once.
 fn seats_asked(all: bool, seats: usize, count: usize) -> usize
-    ensures { result ≡ (if all && eqb count seats then count else 0) }
+    ensures { result ≡ (when all && eqb count seats then count else 0) }
 {
     if !all {
         return 0;

@@ -10,7 +10,7 @@ use borrow.Author.Tests.{eqb-true, eqb-false, eq-eqb, ne_eqb}
 use lib.Dec.{eqb, leb}
 use Rattle.card.specs.Limits.{most_seats, unit}
 use Rattle.card.specs.Refusals.{above_top, not_due, wrong_weight, decimal_weight}
-use Rattle.card.specs.Text.{if◌then◌else◌}
+use Rattle.card.specs.Text.{when◌then◌else◌}
 use Rattle.card.specs.Card.{Sign, group, Formula, atom, neg, and, or}
 use Rattle.card.specs.Weight.{units_of, allowed, weight_refusal}
 use Rattle.marks_on_a_card.specs.Marks.{place_of}
@@ -31,12 +31,12 @@ judge_append e (j ∷ js) ys x = judge_append e js ys (judge e j x)
 -- ---- the first of two refusals
 
 abbrev pub or_next : Refusal → Refusal → Refusal
-or_next a b = if eqb a.number 0 then b else a
+or_next a b = when eqb a.number 0 then b else a
 
 pub or_assoc : (a b c : Refusal) → or_next (or_next a b) c ≡ or_next a (or_next b c)
 or_assoc a b c = go (eqb a.number 0) refl
   where
-    go : (t : Bool) → eqb a.number 0 ≡ t → or_next (if t then b else a) c ≡ (if t then or_next b c else a)
+    go : (t : Bool) → eqb a.number 0 ≡ t → or_next (when t then b else a) c ≡ (when t then or_next b c else a)
     go true e = refl
     go false e = rw e
 
@@ -53,7 +53,7 @@ module _ (r p : ℕ) (x : Late) where
   sound_blame : (r ≡ 0 → ⊥) → Sound x → Sound (blame r p x)
   sound_blame f s = go (eqb x.number 0)
     where
-      go : (t : Bool) → Sound (if t then record { number = r; place = p; want = x.want; first = x.first; split = x.split; second = x.second } else x)
+      go : (t : Bool) → Sound (when t then record { number = r; place = p; want = x.want; first = x.first; split = x.split; second = x.second } else x)
       go true = record { none = λ e. absurd (f e); unsplit = s.unsplit }
       go false = s
 
@@ -62,7 +62,7 @@ module _ (m p : ℕ) (x : Late) where
   sound_wants f s = go (eqb x.number 0) refl (eqb x.want 0) refl (eqb x.want m) (eqb x.split 0)
     where
       go : (t : Bool) → eqb x.number 0 ≡ t → (u : Bool) → eqb x.want 0 ≡ u → (v w : Bool)
-          → Sound (if t then (if u then record { number = 0; place = x.place; want = m; first = p; split = x.split; second = x.second } else (if v then x else (if w then split_at p x else x))) else x)
+          → Sound (when t then (when u then record { number = 0; place = x.place; want = m; first = p; split = x.split; second = x.second } else (when v then x else (when w then split_at p x else x))) else x)
       go true e true h v w = record { none = λ z. s.none (eqb-true x.number 0 e); unsplit = λ z. absurd (f z) }
       go true e false h true w = s
       go true e false h false true = record { none = s.none; unsplit = λ z. absurd (eqb-false x.want 0 h z) }
@@ -72,7 +72,7 @@ module _ (m p : ℕ) (x : Late) where
   pub sound_grouped : Sound x → Sound (grouped m p x)
   sound_grouped s = go (eqb m 0) refl
     where
-      go : (t : Bool) → eqb m 0 ≡ t → Sound (if t then blame not_due p x else wants m p x)
+      go : (t : Bool) → eqb m 0 ≡ t → Sound (when t then blame not_due p x else wants m p x)
       go true e = sound_blame not_due p x (λ z. omega arith) s
       go false e = sound_wants (eqb-false m 0 e) s
 
@@ -81,7 +81,7 @@ sound_blamed true r p x f s = s
 sound_blamed false r p x f s = sound_blame r p x f s
 
 -- a weight is refused with a number, whatever the rule
-weight_refusal_law : (b : Bool) → (if b then wrong_weight else decimal_weight) ≡ 0 → ⊥
+weight_refusal_law : (b : Bool) → (when b then wrong_weight else decimal_weight) ≡ 0 → ⊥
 weight_refusal_law true z = omega arith
 weight_refusal_law false z = omega arith
 
@@ -96,7 +96,7 @@ sound_judge e (sum ws p) x s = sound_blamed (eqb (total_units ws) unit) wrong_we
 
 -- a refusal of a group goes before whatever else is kept
 abbrev groups_first : Bool → Bool → ℕ → ℕ → Refusal → Refusal
-groups_first b c p q v = if b then refusal not_due p else (if c then refusal not_due q else v)
+groups_first b c p q v = when b then refusal not_due p else (when c then refusal not_due q else v)
 
 kept_on : (b c : Bool) (p q : ℕ) (v w : Refusal) → eqb v.number 0 ≡ false → groups_first b c p q v ≡ or_next (groups_first b c p q v) w
 kept_on true c p q v w e = refl
@@ -122,7 +122,7 @@ module _ (n : ℕ) (x : Late) where
   settled_blame r p = go (eqb x.number 0) refl
     where
       go : (t : Bool) → eqb x.number 0 ≡ t
-          → settled n (if t then record { number = r; place = p; want = x.want; first = x.first; split = x.split; second = x.second } else x) ≡ or_next (settled n x) (refusal r p)
+          → settled n (when t then record { number = r; place = p; want = x.want; first = x.first; split = x.split; second = x.second } else x) ≡ or_next (settled n x) (refusal r p)
       go true e = taken_next wrong_first wrong_second x.first x.second kept (refusal r p) e
       go false e = kept_on wrong_first wrong_second x.first x.second kept (refusal r p) e
 
@@ -137,15 +137,15 @@ module _ (n : ℕ) (x : Late) where
             ∙ taken_next wrong_first wrong_second x.first x.second kept (refusal 0 0) e
         go false e = kept_on wrong_first wrong_second x.first x.second kept (refusal 0 0) e
 
-    pub settled_blamed : (b : Bool) (r p : ℕ) → settled n (blamed (unless b r) p x) ≡ or_next (settled n x) (if b then refusal 0 0 else refusal r p)
+    pub settled_blamed : (b : Bool) (r p : ℕ) → settled n (blamed (unless b r) p x) ≡ or_next (settled n x) (when b then refusal 0 0 else refusal r p)
     settled_blamed true r p = settled_fine
     settled_blamed false r p = settled_blame r p
 
     module _ (m p : ℕ) where
       abbrev own : Refusal
-      own = if eqb m n then refusal 0 0 else refusal not_due p
+      own = when eqb m n then refusal 0 0 else refusal not_due p
 
-      first_wants : (b : Bool) → x.place ≡ 0 → (if not b then refusal not_due p else refusal 0 x.place) ≡ (if b then refusal 0 0 else refusal not_due p)
+      first_wants : (b : Bool) → x.place ≡ 0 → (when not b then refusal not_due p else refusal 0 x.place) ≡ (when b then refusal 0 0 else refusal not_due p)
       first_wants true z = ap (refusal 0) z
       first_wants false z = refl
 
@@ -168,7 +168,7 @@ module _ (n : ℕ) (x : Late) where
           bad i k = rw (ne_eqb m n (λ z. eqb-false x.want m i (eqb-true x.want n k ∙ sym z)))
 
           go : (t : Bool) → eqb x.number 0 ≡ t → (u : Bool) → eqb x.want 0 ≡ u → (v : Bool) → eqb x.want m ≡ v → (w : Bool) → eqb x.split 0 ≡ w
-              → settled n (if t then (if u then record { number = 0; place = x.place; want = m; first = p; split = x.split; second = x.second } else (if v then x else (if w then split_at p x else x))) else x)
+              → settled n (when t then (when u then record { number = 0; place = x.place; want = m; first = p; split = x.split; second = x.second } else (when v then x else (when w then split_at p x else x))) else x)
               ≡ or_next (settled n x) own
           go true e true h v i w j = rw (h, eq-eqb x.split 0 (s.unsplit (eqb-true x.want 0 h)), ne_eqb m 0 f, e) (first_wants (eqb m n) (s.none (eqb-true x.number 0 e)))
           go true e false h true i w j = later_wants x h (λ k. refl) (λ k. rw (right i k) settled_fine)
@@ -179,7 +179,7 @@ module _ (n : ℕ) (x : Late) where
       pub settled_grouped : 1 ≤ n → settled n (grouped m p x) ≡ or_next (settled n x) own
       settled_grouped least = go (eqb m 0) refl
         where
-          go : (t : Bool) → eqb m 0 ≡ t → settled n (if t then blame not_due p x else wants m p x) ≡ or_next (settled n x) own
+          go : (t : Bool) → eqb m 0 ≡ t → settled n (when t then blame not_due p x else wants m p x) ≡ or_next (settled n x) own
           go true e = rw (ne_eqb m n (λ z. omega (arith, eqb-true m 0 e))) (settled_blame not_due p)
           go false e = settled_wants (eqb-false m 0 e)
 
@@ -187,7 +187,7 @@ module _ (e n : ℕ) (least : 1 ≤ n) (most : n ≤ most_seats) where
   abbrev one : Judgement → Refusal
   one j = verdict e (or_else (broken n j) (place_in j) fine)
 
-  one_test : (b : Bool) (r : ℕ) (j : Judgement) → broken n j ≡ unless b r → (if b then refusal 0 0 else refusal r (place_of e (place_in j))) ≡ one j
+  one_test : (b : Bool) (r : ℕ) (j : Judgement) → broken n j ≡ unless b r → (when b then refusal 0 0 else refusal r (place_of e (place_in j))) ≡ one j
   one_test true r j h = rw h
   one_test false r j h = rw h
 

@@ -10,7 +10,7 @@ use borrow.Author.Tests.{eqb-true, eqb-false, eq-eqb, ne_eqb, le-leb}
 use lib.Dec.{eqb, leb}
 use lib.ListN.{length}
 use Rattle.card.specs.Limits.{most_seats}
-use Rattle.card.specs.Text.{if◌then◌else◌}
+use Rattle.card.specs.Text.{when◌then◌else◌}
 use Rattle.card.specs.Card.{Kind, everyone, others}
 use Rattle.reading.specs.Guard.{is_some}
 use Rattle.reading.specs.Group.{Literal}
@@ -37,7 +37,7 @@ or_second false b e = e
 
 without : ℕ → List Literal → List Literal
 without i [] = []
-without i (l ∷ ls) = if eqb l.seat i then ls else l ∷ without i ls
+without i (l ∷ ls) = when eqb l.seat i then ls else l ∷ without i ls
 
 without_length : (i : ℕ) (ls : List Literal) → has i ls ≡ true → suc (length (without i ls)) ≡ length ls
 unfolding without
@@ -45,7 +45,7 @@ without_length i [] h = let z : ◌≡◌ {A = ℕ} 0 1 = cc in absurd (omega ar
 without_length i (l ∷ ls) h = go (eqb l.seat i) refl (without_length i ls)
   where
     go : (b : Bool) → eqb l.seat i ≡ b → (has i ls ≡ true → suc (length (without i ls)) ≡ length ls)
-        → suc (length (if b then ls else l ∷ without i ls)) ≡ suc (length ls)
+        → suc (length (when b then ls else l ∷ without i ls)) ≡ suc (length ls)
     go true e less = refl
     go false e less = omega (arith, less (or_right _ _ e h))
 
@@ -55,7 +55,7 @@ without_has i j [] n h = h
 without_has i j (l ∷ ls) n h = go (eqb l.seat i) (eqb l.seat j) refl refl (without_has i j ls n)
   where
     go : (a b : Bool) → eqb l.seat i ≡ a → eqb l.seat j ≡ b → (has j ls ≡ true → has j (without i ls) ≡ true)
-        → has j (if a then ls else l ∷ without i ls) ≡ true
+        → has j (when a then ls else l ∷ without i ls) ≡ true
     go true true e f there = absurd (n (sym (eqb-true l.seat i e) ∙ eqb-true l.seat j f))
     go true false e f there = or_right (eqb l.seat j) (has j ls) f h
     go false true e f there = or_first (eqb l.seat j) (has j (without i ls)) f
@@ -77,7 +77,7 @@ crowded j i (suc c) ls l h f =
 -- ---- the kind of a group, by its seat 1
 
 abbrev only : Bool → Kind → Option Kind
-only b kind = if b then some kind else none
+only b kind = when b then some kind else none
 
 module _ (n : ℕ) (l : Literal) (ls : List Literal) where
   abbrev group : List Literal
@@ -99,10 +99,10 @@ module _ (n : ℕ) (l : Literal) (ls : List Literal) where
       go zero = rw (ne_eqb (length group) 0 (λ e. omega arith))
       go (suc m) = rw h (and-false (eqb (length group) (suc m)))
 
-  pub kind_known : kind_of n group ≡ (if has 1 group then only (once 1 n group) everyone else only (once 2 (n - 1) group) others)
+  pub kind_known : kind_of n group ≡ (when has 1 group then only (once 1 n group) everyone else only (once 2 (n - 1) group) others)
   kind_known = go (has 1 group) refl
     where
-      go : (b : Bool) → has 1 group ≡ b → kind_of n group ≡ (if b then only (once 1 n group) everyone else only (once 2 (n - 1) group) others)
+      go : (b : Bool) → has 1 group ≡ b → kind_of n group ≡ (when b then only (once 1 n group) everyone else only (once 2 (n - 1) group) others)
       go true e = rw (not_others e)
       go false e = rw (not_everyone e)
 
@@ -116,11 +116,11 @@ wanted count c m n b least most to from = go (eqb count c) refl
     nothing : eqb 0 n ≡ false
     nothing = ne_eqb 0 n (λ e. omega arith)
 
-    right : (d : Bool) → m ≡ n → d ≡ eqb (if leb m most_seats && d then m else 0) n
+    right : (d : Bool) → m ≡ n → d ≡ eqb (when leb m most_seats && d then m else 0) n
     right true e = rw (le-leb m most_seats (omega arith)) (sym (eq-eqb m n e))
     right false e = rw (le-leb m most_seats (omega arith)) (sym nothing)
 
-    either : (d : Bool) → (m ≡ n → ⊥) → false ≡ eqb (if d then m else 0) n
+    either : (d : Bool) → (m ≡ n → ⊥) → false ≡ eqb (when d then m else 0) n
     either true f = sym (ne_eqb m n f)
     either false f = sym nothing
 
@@ -139,14 +139,14 @@ symmetric_want n (l ∷ ls) least most = go (alike l ls) (has 1 g) refl
     g : List Literal
     g = l ∷ ls
 
-    by_one : (b c d : Bool) → is_some (if b then only c everyone else only d others) ≡ (if b then c else d)
+    by_one : (b c d : Bool) → is_some (when b then only c everyone else only d others) ≡ (when b then c else d)
     by_one true c d = some_only c everyone
     by_one false c d = some_only d others
 
-    some_kind : (b : Bool) → has 1 g ≡ b → is_some (kind_of n g) ≡ (if b then once 1 n g else once 2 (n - 1) g)
-    some_kind b e = ap is_some (kind_known n l ls) ∙ by_one (has 1 g) (once 1 n g) (once 2 (n - 1) g) ∙ ap (λ c. if c then once 1 n g else once 2 (n - 1) g) e
+    some_kind : (b : Bool) → has 1 g ≡ b → is_some (kind_of n g) ≡ (when b then once 1 n g else once 2 (n - 1) g)
+    some_kind b e = ap is_some (kind_known n l ls) ∙ by_one (has 1 g) (once 1 n g) (once 2 (n - 1) g) ∙ ap (λ c. when c then once 1 n g else once 2 (n - 1) g) e
 
-    go : (a b : Bool) → has 1 g ≡ b → (a && is_some (kind_of n g)) ≡ eqb (if a then (if b then up_to_most (length g) (has_from 1 (length g) g) else up_to_most (suc (length g)) (has_from 2 (length g) g)) else 0) n
+    go : (a b : Bool) → has 1 g ≡ b → (a && is_some (kind_of n g)) ≡ eqb (when a then (when b then up_to_most (length g) (has_from 1 (length g) g) else up_to_most (suc (length g)) (has_from 2 (length g) g)) else 0) n
     go false b e = sym (ne_eqb 0 n (λ e. omega arith))
     go true true e = some_kind true e ∙ wanted (length g) n (length g) n (λ c. has_from 1 c g) least most (λ s. s) (λ s. s)
     go true false e = some_kind false e ∙ wanted (length g) (n - 1) (suc (length g)) n (λ c. has_from 2 c g) least most (λ s. omega arith) (λ s. omega arith)
@@ -163,7 +163,7 @@ symmetric_kind n l ls h = go (has 1 g) refl (rw (kind_known n l ls) at (and_both
     always true kind e = refl
     always false kind e = let z : ◌≡◌ {A = ℕ} 0 1 = cc in absurd (omega arith)
 
-    go : (b : Bool) → has 1 g ≡ b → is_some (if has 1 g then only (once 1 n g) everyone else only (once 2 (n - 1) g) others) ≡ true
+    go : (b : Bool) → has 1 g ≡ b → is_some (when has 1 g then only (once 1 n g) everyone else only (once 2 (n - 1) g) others) ≡ true
         → kind_by g ≡ or_everyone (kind_of n g)
     go true e s = rw (kind_known n l ls, e) (always (once 1 n g) everyone (rw e at s))
     go false e s = rw (kind_known n l ls, e) (always (once 2 (n - 1) g) others (rw e at s))

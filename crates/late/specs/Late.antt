@@ -5,7 +5,7 @@ use Rattle.std.specs.Prelude.{ℕ, suc, Bool, ◌&&◌, List, [], ◌∷◌, eqb
 use Rattle.std.proofs.Math.Option.{Option, none, some}
 use Rattle.card.specs.Limits.{most_seats}
 use Rattle.card.specs.Refusals.{not_due}
-use Rattle.card.specs.Text.{if◌then◌else◌}
+use Rattle.card.specs.Text.{when◌then◌else◌}
 use Rattle.card.specs.Card.{Kind, everyone, others, Sign, Leaf, group, shared_is, is, Formula, Guard}
 use Rattle.card.specs.Formulas.{over}
 use Rattle.marks_on_a_card.specs.Marks.{place_of}
@@ -15,20 +15,20 @@ use Rattle.reading.specs.Judgements.{Judgement, state, word, one_group, weight, 
 -- ---- how many seats a group wants: its seats are 1 to m, or 2 to m, once each; 0 where it is symmetric for no card
 
 abbrev pub up_to_most : ℕ → Bool → ℕ
-up_to_most m b = if leb m most_seats && b then m else 0
+up_to_most m b = when leb m most_seats && b then m else 0
 
 abbrev pub want_of : List Literal → ℕ
 want_of [] = 0
 want_of (l ∷ ls) =
-    if alike l ls
-    then (if has 1 (l ∷ ls)
+    when alike l ls
+    then (when has 1 (l ∷ ls)
     then up_to_most (length (l ∷ ls)) (has_from 1 (length (l ∷ ls)) (l ∷ ls))
     else up_to_most (suc (length (l ∷ ls))) (has_from 2 (length (l ∷ ls)) (l ∷ ls)))
     else 0
 
 -- the group that it is then
 abbrev pub kind_by : List Literal → Kind
-kind_by ls = if has 1 ls then everyone else others
+kind_by ls = when has 1 ls then everyone else others
 
 abbrev pub group_by : Sign → List Literal → Leaf
 group_by s [] = group everyone s is 0
@@ -58,7 +58,7 @@ none_yet = record { number = 0; place = 0; want = 0; first = 0; split = 0; secon
 
 -- a refusal that does not hang on the number of seats
 abbrev pub blame : ℕ → ℕ → Late → Late
-blame r p x = if eqb x.number 0 then record { number = r; place = p; want = x.want; first = x.first; split = x.split; second = x.second } else x
+blame r p x = when eqb x.number 0 then record { number = r; place = p; want = x.want; first = x.first; split = x.split; second = x.second } else x
 
 -- the first group says how many seats are wanted; the first that wants another number is wrong if that is right
 abbrev pub split_at : ℕ → Late → Late
@@ -66,14 +66,14 @@ split_at p x = record { number = x.number; place = x.place; want = x.want; first
 
 abbrev pub wants : ℕ → ℕ → Late → Late
 wants m p x =
-    if eqb x.number 0
-    then (if eqb x.want 0
+    when eqb x.number 0
+    then (when eqb x.want 0
     then record { number = 0; place = x.place; want = m; first = p; split = x.split; second = x.second }
-    else (if eqb x.want m then x else (if eqb x.split 0 then split_at p x else x)))
+    else (when eqb x.want m then x else (when eqb x.split 0 then split_at p x else x)))
     else x
 
 abbrev pub grouped : ℕ → ℕ → Late → Late
-grouped m p x = if eqb m 0 then blame not_due p x else wants m p x
+grouped m p x = when eqb m 0 then blame not_due p x else wants m p x
 
 abbrev pub blamed : Option ℕ → ℕ → Late → Late
 blamed none p x = x

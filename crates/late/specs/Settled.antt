@@ -1,7 +1,7 @@
 -- The first refusal of 5, 6 and 7, once the modules are counted ("Refusal numbers"). Assumes nothing.
 use Rattle.std.specs.Prelude.{ℕ, not, ◌&&◌, eqb}
 use Rattle.card.specs.Refusals.{not_due}
-use Rattle.card.specs.Text.{if◌then◌else◌}
+use Rattle.card.specs.Text.{when◌then◌else◌}
 use Rattle.marks_on_a_card.specs.Marks.{place_of}
 use Rattle.reading.specs.Judgements.{Verdict, fine, wrong}
 use Rattle.late.specs.Late.{Late}
@@ -17,8 +17,8 @@ refusal r p = record { number = r; place = p }
 -- on a card of n seats: the first group, if it wants another number; else the first that wants another number than the first does
 abbrev pub settled : ℕ → Late → Refusal
 settled n x =
-    if not (eqb x.want 0) && not (eqb x.want n) then refusal not_due x.first
-    else (if not (eqb x.split 0) then refusal not_due x.second
+    when not (eqb x.want 0) && not (eqb x.want n) then refusal not_due x.first
+    else (when not (eqb x.split 0) then refusal not_due x.second
     else refusal x.number x.place)
 
 -- a verdict in numbers, on a card that ends at place e; 0 where nothing is broken

@@ -7,7 +7,7 @@ use mathlib.Core.List.{List, [], ◌∷◌, ◌++◌}
 use native.Mathlib.Omega.{arith}
 use borrow.Author.Tests.{eq-eqb, ne_eqb}
 use lib.Dec.{eqb}
-use Rattle.card.specs.Text.{if◌then◌else◌}
+use Rattle.card.specs.Text.{when◌then◌else◌}
 use Rattle.card.specs.Card.{all, any, is, isnt}
 use Rattle.card.specs.Laid.{either}
 use Rattle.room.specs.Digits.{digit, decimal}
@@ -23,7 +23,7 @@ decimal_teen n l h =
     decimal_more n l ∙ rw (tens, units, decimal_one 1 (omega arith))
 
 -- a sign, byte for byte
-signed : (t : Bool) (r : List ℕ) → 32 ∷ (if t then 38 else 124) ∷ 32 ∷ r ≡ sign_text (if t then all else any) ▸ r
+signed : (t : Bool) (r : List ℕ) → 32 ∷ (when t then 38 else 124) ∷ 32 ∷ r ≡ sign_text (when t then all else any) ▸ r
 signed true r = refl
 signed false r = refl
 

@@ -12,7 +12,7 @@ use lib.Dec.{eqb}
 use lib.ListN.{length, get_or, drop, drop_of_length-le}
 use lib.Seq.{drop-drop}
 use Rattle.card.specs.Limits.{word_digits}
-use Rattle.card.specs.Text.{bytes, if◌then◌else◌}
+use Rattle.card.specs.Text.{bytes, when◌then◌else◌}
 use Rattle.marks_on_a_card.specs.Bytes.{is_digit, is_letter, is_blank, is_sign, in_word, begins, run, every, begun, is_alone, in_number}
 use Rattle.marks_on_a_card.specs.Digits.{plain}
 use Rattle.marks_on_a_card.specs.Marks.{start_at, word_mark, gap_of}
@@ -44,7 +44,7 @@ module _ (s : List ℕ) (i : ℕ) where
   pub seat_begun : begins (eqb 115) (drop i s) ≡ true → seat_ahead (drop i s) ≡ last_digit (drop (i + 1) s)
   seat_begun e = rw (e, drop-drop 1 i s)
 
-  pub seat_at : i < length s → seat_ahead (drop i s) ≡ (if eqb (get_or s i 0) 115 && begins is_digit (drop (i + 1) s) && not (begins in_word (drop (i + 1 + 1) s)) then get_or s (i + 1) 0 - 48 else no_digit)
+  pub seat_at : i < length s → seat_ahead (drop i s) ≡ (when eqb (get_or s i 0) 115 && begins is_digit (drop (i + 1) s) && not (begins in_word (drop (i + 1 + 1) s)) then get_or s (i + 1) 0 - 48 else no_digit)
   seat_at h = cases (begins (eqb 115) (drop i s))
       (λ e.
       let q : eqb (get_or s i 0) 115 ≡ true = eqb_sym (get_or s i 0) 115 ∙ sym (begins_at (eqb 115) s i h) ∙ e in

@@ -12,7 +12,7 @@ use borrow.Author.Tests.{leb-true, leb-false}
 use lib.ListN.{length, drop, length-drop, drop_of_length-le}
 use lib.Seq.{drop-drop, drop-length}
 use Rattle.card.specs.Limits.{further_digits, number_digits}
-use Rattle.card.specs.Text.{if◌then◌else◌}
+use Rattle.card.specs.Text.{when◌then◌else◌}
 use Rattle.marks_on_a_card.specs.Bytes.{not_lf, run, begins, is_digit, in_word, is_letter, is_blank, is_sign}
 use Rattle.marks_on_a_card.specs.Digits.{number_spelt, pointed}
 use Rattle.marks_on_a_card.specs.Marks.{Mark, text, number, decimal, outside, Placed, placed, second, Start, blank, mark, decimal_mark, numeral_mark, numeral, word, sign1, sign2, sign, comment, start_at, emit, marks, marks_of}
@@ -35,7 +35,7 @@ begins_some p (b ∷ s) e = omega arith
 Fits : List ℕ → Start → Type 0
 Fits s x = more_of x ≤ length s
 
-choose : (s : List ℕ) (b : Bool) (x y : Start) → (b ≡ true → Fits s x) → (b ≡ false → Fits s y) → Fits s (if b then x else y)
+choose : (s : List ℕ) (b : Bool) (x y : Start) → (b ≡ true → Fits s x) → (b ≡ false → Fits s y) → Fits s (when b then x else y)
 choose s true x y p q = p refl
 choose s false x y p q = q refl
 
@@ -54,7 +54,7 @@ sign_fits : (a : ℕ) (s : List ℕ) → Fits s (sign a s)
 unfolding Fits more_of
 sign_fits a s = two (second a)
   where
-    one : (b : Bool) → Fits s (if b then mark (text (a ∷ [])) 0 else mark outside 0)
+    one : (b : Bool) → Fits s (when b then mark (text (a ∷ [])) 0 else mark outside 0)
     one true = omega arith
     one false = omega arith
 

@@ -11,7 +11,7 @@ use native.Mathlib.Omega.{arith}
 use borrow.Author.Tests.{eqb-true, eq-eqb, leb-true}
 use lib.Dec.{eqb, leb}
 use lib.ListN.{length}
-use Rattle.card.specs.Text.{bytes, same, if◌then◌else◌}
+use Rattle.card.specs.Text.{bytes, same, when◌then◌else◌}
 use Rattle.marks_on_a_card.specs.Marks.{Mark, text, seat, process, number, decimal, outside}
 use Rattle.marks_on_a_card.specs.Kinds.{k_end, k_outside, k_number, k_decimal, k_seat, k_process, k_word, Known, knowns, kind_in, kind, kind_of, value_of, digits_of, further_of}
 use Rattle.marks_on_a_card.proofs.Lists.{and_left, and_right}
@@ -27,18 +27,18 @@ abbrev pub spellings : ℕ → List Known → List (List ℕ)
 spellings v [] = []
 spellings v (x ∷ xs) =
     let more = spellings v xs in
-    if eqb x.kind v then x.spelt ∷ more else more
+    when eqb x.kind v then x.spelt ∷ more else more
 
 -- a text of that kind is one of them
 among : (v : ℕ) (xs : List Known) (s : List ℕ) → v ≢ k_word → kind_in xs s ≡ v → Memᴰ s (spellings v xs)
 among v [] s h e = absurd (h (sym e))
 among v (x ∷ xs) s h e = go (same s x.spelt) refl e (among v xs s h)
   where
-    later : (b : Bool) → Memᴰ s (spellings v xs) → Memᴰ s (if b then x.spelt ∷ spellings v xs else spellings v xs)
+    later : (b : Bool) → Memᴰ s (spellings v xs) → Memᴰ s (when b then x.spelt ∷ spellings v xs else spellings v xs)
     later true m = Memᴰ.tail m
     later false m = m
 
-    go : (b : Bool) → same s x.spelt ≡ b → (if b then x.kind else kind_in xs s) ≡ v → (kind_in xs s ≡ v → Memᴰ s (spellings v xs)) → Memᴰ s (spellings v (x ∷ xs))
+    go : (b : Bool) → same s x.spelt ≡ b → (when b then x.kind else kind_in xs s) ≡ v → (kind_in xs s ≡ v → Memᴰ s (spellings v xs)) → Memᴰ s (spellings v (x ∷ xs))
     go true q e f = rw (eq-eqb x.kind v e) (Memᴰ.head (same_eq s x.spelt q))
     go false q e f = later (eqb x.kind v) (f e)
 
@@ -52,7 +52,7 @@ unfolding all_above
 above [] s e = omega arith
 above (x ∷ xs) s e = go (same s x.spelt) (and_left (leb k_word x.kind) (all_above xs) e) (above xs s (and_right (leb k_word x.kind) (all_above xs) e))
   where
-    go : (b : Bool) → leb k_word x.kind ≡ true → k_word ≤ kind_in xs s → k_word ≤ (if b then x.kind else kind_in xs s)
+    go : (b : Bool) → leb k_word x.kind ≡ true → k_word ≤ kind_in xs s → k_word ≤ (when b then x.kind else kind_in xs s)
     go true p r = leb-true k_word x.kind p
     go false p r = r
 
@@ -82,7 +82,7 @@ one_per_law all (x ∷ xs) e s v h q =
     let one = eqb (length (spellings x.kind all)) 1 in
     go (same s x.spelt) (and_left one (one_per all xs) e) (one_per_law all xs (and_right one (one_per all xs) e) s v h) q
   where
-    go : (b : Bool) → eqb (length (spellings x.kind all)) 1 ≡ true → (kind_in xs s ≡ v → length (spellings v all) ≡ 1) → (if b then x.kind else kind_in xs s) ≡ v → length (spellings v all) ≡ 1
+    go : (b : Bool) → eqb (length (spellings x.kind all)) 1 ≡ true → (kind_in xs s ≡ v → length (spellings v all) ≡ 1) → (when b then x.kind else kind_in xs s) ≡ v → length (spellings v all) ≡ 1
     go true p f q = rw (← q) (eqb-true (length (spellings x.kind all)) 1 p)
     go false p f q = f q
 

@@ -9,7 +9,7 @@ use lib.Dec.{eqb, leb}
 use lib.ListN.{length, drop}
 use borrow.Author.Tests.{lt-leb, leb-true, eqb-true, eq-eqb, ne_eqb}
 use Rattle.card.specs.Limits.{number_digits, further_digits}
-use Rattle.card.specs.Text.{bytes, if◌then◌else◌}
+use Rattle.card.specs.Text.{bytes, when◌then◌else◌}
 use Rattle.marks_on_a_card.specs.Bytes.{within, is_digit, is_letter, in_word, is_blank, is_sign, one_of, not_lf, run, begins, every}
 use Rattle.marks_on_a_card.specs.Digits.{value_from, number_spelt, pointed}
 use Rattle.marks_on_a_card.specs.Marks.{text, number, decimal, outside, second, Start, mark, word, decimal_mark, numeral_mark, numeral, sign1, sign2, sign, start_at, gap_of, marks}
@@ -67,7 +67,7 @@ digit_starts b s e =
     rw (not_blank b (omega arith), ne_eqb b 47 (λ q. omega arith), lt-leb 65 b (omega arith), lt-leb 97 b (omega arith), e)
 
 -- a mark starts at each byte that is neither blank nor begins a comment
-gap_pick : (t : Bool) (x y : Start) → gap_of x ≡ 0 → gap_of y ≡ 0 → gap_of (if t then x else y) ≡ 0
+gap_pick : (t : Bool) (x y : Start) → gap_of x ≡ 0 → gap_of y ≡ 0 → gap_of (when t then x else y) ≡ 0
 gap_pick true x y p q = p
 gap_pick false x y p q = q
 
@@ -83,9 +83,9 @@ sign_gap a none s = gap_pick (is_sign a) (mark (text (a ∷ [])) 0) (mark outsid
 sign_gap a (some b) s =
     gap_pick (begins (eqb b) s) (mark (text (a ∷ b ∷ [])) 1) (sign1 a) refl (gap_pick (is_sign a) (mark (text (a ∷ [])) 0) (mark outside 0) refl refl)
 
-mark_gap : (b : ℕ) (s : List ℕ) → gap_of (if is_letter b then word b s else (if is_digit b then numeral b s else sign b s)) ≡ 0
+mark_gap : (b : ℕ) (s : List ℕ) → gap_of (when is_letter b then word b s else (when is_digit b then numeral b s else sign b s)) ≡ 0
 mark_gap b s =
-    gap_pick (is_letter b) (word b s) (if is_digit b then numeral b s else sign b s) refl
+    gap_pick (is_letter b) (word b s) (when is_digit b then numeral b s else sign b s) refl
     (gap_pick (is_digit b) (numeral b s) (sign b s)
     (numeral_gap (number_spelt number_digits (b ∷ run is_digit s)) (length (run is_digit s)) (drop (length (run is_digit s)) s))
     (sign_gap b (second b) s))

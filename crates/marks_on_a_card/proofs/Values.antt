@@ -10,7 +10,7 @@ use borrow.Author.Tests.{leb-true}
 use lib.Dec.{eqb, leb}
 use lib.ListN.{length, drop}
 use Rattle.card.specs.Limits.{number_digits, further_digits, word_digits}
-use Rattle.card.specs.Text.{bytes, if◌then◌else◌}
+use Rattle.card.specs.Text.{bytes, when◌then◌else◌}
 use Rattle.marks_on_a_card.specs.Bytes.{is_digit, is_letter, is_blank, is_sign, in_word, run, begins, every, after}
 use Rattle.marks_on_a_card.specs.Digits.{value_from, plain, number_spelt, pointed}
 use Rattle.marks_on_a_card.proofs.Lists.{and_left, and_right}
@@ -44,7 +44,7 @@ plain_below most s e = omega (arith, value_below 0 s (plain_digits most s e).0, 
 number_below : (most : ℕ) (s : List ℕ) (v : ℕ) → number_spelt most s ≡ some v → v < 10 ^ most
 number_below most s v e = go (plain most s) refl e
   where
-    go : (b : Bool) → plain most s ≡ b → (if b then some (value_from 0 s) else none) ≡ some v → v < 10 ^ most
+    go : (b : Bool) → plain most s ≡ b → (when b then some (value_from 0 s) else none) ≡ some v → v < 10 ^ most
     go true q e = let z : value_from 0 s ≡ v = cc in rw (← z) (plain_below most s q)
     go false q e = let z : ◌≡◌ {A = ℕ} 0 1 = cc in absurd (omega arith)
 
@@ -54,7 +54,7 @@ abbrev pub SmallStart : Start → Type 0
 SmallStart (blank more) = Unit {0}
 SmallStart (mark m more) = Small m
 
-choose : (b : Bool) (x y : Start) → SmallStart x → SmallStart y → SmallStart (if b then x else y)
+choose : (b : Bool) (x y : Start) → SmallStart x → SmallStart y → SmallStart (when b then x else y)
 choose true x y p q = p
 choose false x y p q = q
 
@@ -69,7 +69,7 @@ numbered_small f h (some s) other k = go (number_spelt word_digits s) refl
 decimal_small : (v more : ℕ) (f : List ℕ) → v < 10 ^ number_digits → every is_digit f ≡ true → SmallStart (decimal_mark v more f)
 decimal_small v more f h d = go (leb (length f) further_digits) refl
   where
-    go : (b : Bool) → leb (length f) further_digits ≡ b → SmallStart (if b then mark (decimal v (length f) (value_from 0 f)) (more + 1 + length f) else mark outside 0)
+    go : (b : Bool) → leb (length f) further_digits ≡ b → SmallStart (when b then mark (decimal v (length f) (value_from 0 f)) (more + 1 + length f) else mark outside 0)
     go true e = (h, leb-true (length f) further_digits e, omega (arith, value_below 0 f d))
     go false e = tt
 

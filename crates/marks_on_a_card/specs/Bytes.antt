@@ -1,7 +1,7 @@
 -- Classes of bytes, runs of them, and what a text begins with ("Marks on a card"). Assumes nothing.
 use Rattle.std.specs.Prelude.{ℕ, ◌+◌, Bool, true, false, not, ◌&&◌, ◌||◌, List, [], ◌∷◌, eqb, leb, length, drop}
 use Rattle.std.proofs.Math.Option.{Option, none, some}
-use Rattle.card.specs.Text.{bytes, if◌then◌else◌}
+use Rattle.card.specs.Text.{bytes, when◌then◌else◌}
 
 abbrev pub within : ℕ → ℕ → ℕ → Bool
 within a z b = leb a b && leb b z
@@ -41,7 +41,7 @@ abbrev pub run : (ℕ → Bool) → List ℕ → List ℕ
 run p [] = []
 run p (b ∷ s) =
     let t = b ∷ run p s in
-    if p b then t else []
+    when p b then t else []
 
 -- does the text begin with a byte that passes the test?
 abbrev pub begins : (ℕ → Bool) → List ℕ → Bool
@@ -56,7 +56,7 @@ every p (b ∷ s) = p b && every p s
 abbrev pub after : List ℕ → List ℕ → Option (List ℕ)
 after [] s = some s
 after (a ∷ t) [] = none
-after (a ∷ t) (b ∷ s) = if eqb a b then after t s else none
+after (a ∷ t) (b ∷ s) = when eqb a b then after t s else none
 
 -- the place behind the bytes from i on that pass a test
 abbrev pub run_end : (ℕ → Bool) → List ℕ → ℕ → ℕ

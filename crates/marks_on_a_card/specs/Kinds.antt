@@ -1,7 +1,7 @@
 -- The kinds of marks as numbers, for the code, and the numbers in a mark. A sign of one byte has that byte for its kind. Assumes nothing.
 use Rattle.std.specs.Prelude.{ℕ, List, [], ◌∷◌}
 use Prim.Native.String.{String}
-use Rattle.card.specs.Text.{bytes, same, if◌then◌else◌}
+use Rattle.card.specs.Text.{bytes, same, when◌then◌else◌}
 use Rattle.marks_on_a_card.specs.Marks.{Mark, text, seat, process, number, decimal, outside}
 
 abbrev pub k_end : ℕ
@@ -45,7 +45,7 @@ knowns =
 
 abbrev pub kind_in : List Known → List ℕ → ℕ
 kind_in [] s = k_word
-kind_in (x ∷ xs) s = if same s x.spelt then x.kind else kind_in xs s
+kind_in (x ∷ xs) s = when same s x.spelt then x.kind else kind_in xs s
 
 -- the kind of a sign or keyword, by its text
 abbrev pub kind : String → ℕ

@@ -2,7 +2,7 @@
 use Rattle.std.specs.Prelude.{ℕ, zero, suc, ◌+◌, ◌-◌, ◌&&◌, List, [], ◌∷◌, eqb, leb, length, drop}
 use Rattle.std.proofs.Math.Option.{Option, none, some}
 use Rattle.card.specs.Limits.{number_digits, further_digits, word_digits}
-use Rattle.card.specs.Text.{bytes, if◌then◌else◌}
+use Rattle.card.specs.Text.{bytes, when◌then◌else◌}
 use Rattle.marks_on_a_card.specs.Bytes.{is_digit, is_letter, in_word, is_blank, is_sign, not_lf, run, begins, after}
 use Rattle.marks_on_a_card.specs.Digits.{value_from, number_spelt, pointed}
 
@@ -38,25 +38,25 @@ abbrev pub word : ℕ → List ℕ → Start
 word b s = let t = run in_word s in mark (word_mark (b ∷ t)) (length t)
 
 abbrev pub decimal_mark : ℕ → ℕ → List ℕ → Start
-decimal_mark v more f = if leb (length f) further_digits then mark (decimal v (length f) (value_from 0 f)) (more + 1 + length f) else mark outside 0
+decimal_mark v more f = when leb (length f) further_digits then mark (decimal v (length f) (value_from 0 f)) (more + 1 + length f) else mark outside 0
 
 abbrev pub numeral_mark : Option ℕ → ℕ → List ℕ → Start
 numeral_mark none more z = mark outside 0
-numeral_mark (some v) more z = if pointed z then decimal_mark v more (run is_digit (drop 1 z)) else mark (number v) more
+numeral_mark (some v) more z = when pointed z then decimal_mark v more (run is_digit (drop 1 z)) else mark (number v) more
 
 abbrev pub numeral : ℕ → List ℕ → Start
 numeral b s = let t = run is_digit s in numeral_mark (number_spelt number_digits (b ∷ t)) (length t) (drop (length t) s)
 
 -- the second byte of `..`, `->`, `!=`
 abbrev pub second : ℕ → Option ℕ
-second a = if eqb a 46 then some 46 else (if eqb a 45 then some 62 else (if eqb a 33 then some 61 else none))
+second a = when eqb a 46 then some 46 else (when eqb a 45 then some 62 else (when eqb a 33 then some 61 else none))
 
 abbrev pub sign1 : ℕ → Start
-sign1 a = if is_sign a then mark (text (a ∷ [])) 0 else mark outside 0
+sign1 a = when is_sign a then mark (text (a ∷ [])) 0 else mark outside 0
 
 abbrev pub sign2 : ℕ → Option ℕ → List ℕ → Start
 sign2 a none s = sign1 a
-sign2 a (some b) s = if begins (eqb b) s then mark (text (a ∷ b ∷ [])) 1 else sign1 a
+sign2 a (some b) s = when begins (eqb b) s then mark (text (a ∷ b ∷ [])) 1 else sign1 a
 
 abbrev pub sign : ℕ → List ℕ → Start
 sign a s = sign2 a (second a) s
@@ -66,10 +66,10 @@ comment s = blank (length (run not_lf s))
 
 abbrev pub start_at : ℕ → List ℕ → Start
 start_at b s =
-    if is_blank b then blank 0
-    else (if eqb b 47 && begins (eqb 47) s then comment s
-    else (if is_letter b then word b s
-    else (if is_digit b then numeral b s
+    when is_blank b then blank 0
+    else (when eqb b 47 && begins (eqb 47) s then comment s
+    else (when is_letter b then word b s
+    else (when is_digit b then numeral b s
     else sign b s)))
 
 -- how many bytes a blank or a comment takes; none where a mark starts

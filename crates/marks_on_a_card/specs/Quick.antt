@@ -1,6 +1,6 @@
 -- Marks that stand right at the front of a text, told from their first bytes. Assumes nothing.
 use Rattle.std.specs.Prelude.{ℕ, ◌+◌, ◌-◌, Bool, false, not, ◌&&◌, List, [], ◌∷◌, eqb, leb, length, drop}
-use Rattle.card.specs.Text.{bytes, if◌then◌else◌}
+use Rattle.card.specs.Text.{bytes, when◌then◌else◌}
 use Rattle.marks_on_a_card.specs.Bytes.{is_digit, in_word, begins, is_alone, in_number, begun}
 
 -- a sign of one kind that begins no other mark
@@ -14,7 +14,7 @@ no_digit = 10
 
 abbrev pub one_digit : (ℕ → Bool) → List ℕ → ℕ
 one_digit more [] = no_digit
-one_digit more (b ∷ s) = if is_digit b && not (begins more s) then b - 48 else no_digit
+one_digit more (b ∷ s) = when is_digit b && not (begins more s) then b - 48 else no_digit
 
 -- the number with one digit; the digit that ends a word
 abbrev pub digit_ahead : List ℕ → ℕ
@@ -25,15 +25,15 @@ last_digit = one_digit in_word
 
 -- the number of the seat word with one digit
 abbrev pub seat_ahead : List ℕ → ℕ
-seat_ahead s = if begins (eqb 115) s then last_digit (drop 1 s) else no_digit
+seat_ahead s = when begins (eqb 115) s then last_digit (drop 1 s) else no_digit
 
 -- the place behind one blank, where one stands
 abbrev pub past_blank : List ℕ → ℕ → ℕ
-past_blank s i = if begins (eqb 32) (drop i s) then i + 1 else i
+past_blank s i = when begins (eqb 32) (drop i s) then i + 1 else i
 
 -- the same, or the place behind the end of a line
 abbrev pub past_line : List ℕ → ℕ → ℕ
-past_line s i = if begins (eqb 10) (drop i s) then i + 1 else past_blank s i
+past_line s i = when begins (eqb 10) (drop i s) then i + 1 else past_blank s i
 
 -- these bytes at a place
 abbrev pub bytes_ahead : List ℕ → List ℕ → ℕ → Bool
@@ -45,8 +45,8 @@ word_ahead t s i = bytes_ahead t s i && not (begins in_word (drop (i + length t)
 
 -- the number of the module word with one digit
 abbrev pub process_ahead : List ℕ → ℕ → ℕ
-process_ahead s i = if bytes_ahead (bytes "process") s i then last_digit (drop (i + 7) s) else no_digit
+process_ahead s i = when bytes_ahead (bytes "process") s i then last_digit (drop (i + 7) s) else no_digit
 
 -- the second digit of the seat word from s10 to s19
 abbrev pub teen_ahead : List ℕ → ℕ → ℕ
-teen_ahead s i = if bytes_ahead (bytes "s1") s i then last_digit (drop (i + 2) s) else no_digit
+teen_ahead s i = when bytes_ahead (bytes "s1") s i then last_digit (drop (i + 2) s) else no_digit

@@ -10,7 +10,7 @@ use borrow.Author.Tests.{eqb-true, eqb-false, eq-eqb, ne_eqb, lt-ltb}
 use lib.Dec.{eqb, ltb}
 use lib.ListN.{length, set}
 use Rattle.card.specs.Limits.{unit}
-use Rattle.card.specs.Text.{same, if◌then◌else◌}
+use Rattle.card.specs.Text.{same, when◌then◌else◌}
 use Rattle.card.specs.Valid.{Every, values_of, ValidSet, ValidBranch, ValidStatement, ValidCard}
 use Rattle.card.specs.Card.{Mode, nondeterministic, probabilistic, Branch, Statement, Shared, Card}
 use Rattle.meaning.specs.Sums.{gate, sum, upto, flat}
@@ -43,12 +43,12 @@ still_weight h (suc w) = rw (lt-ltb 0 (suc w) (omega arith)) (omega arith)
 line_weight : (a b h w : ℕ) → sum move_weight (move_line a b h w) ≡ gate (not (eqb a b)) w
 line_weight a b h zero = go (not (eqb a b))
   where
-    go : (t : Bool) → sum move_weight (if t && ltb 0 0 then record { old = a; new = b; weight = 0; shared = h } ∷ [] else []) ≡ gate t 0
+    go : (t : Bool) → sum move_weight (when t && ltb 0 0 then record { old = a; new = b; weight = 0; shared = h } ∷ [] else []) ≡ gate t 0
     go true = refl
     go false = refl
 line_weight a b h (suc w) = rw (lt-ltb 0 (suc w) (omega arith)) (go (not (eqb a b)))
   where
-    go : (t : Bool) → sum move_weight (if t && true then record { old = a; new = b; weight = suc w; shared = h } ∷ [] else []) ≡ gate t (suc w)
+    go : (t : Bool) → sum move_weight (when t && true then record { old = a; new = b; weight = suc w; shared = h } ∷ [] else []) ≡ gate t (suc w)
     go true = omega arith
     go false = refl
 

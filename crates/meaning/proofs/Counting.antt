@@ -12,7 +12,7 @@ use borrow.Author.Tests.{eqb-true, eqb-false, eq-eqb, ne_eqb}
 use lib.Dec.{eqb}
 use lib.ListN.{length, set, replicate, length-set, get_or-eq_default}
 use lib.Seq.{ext_get_or, get_or-set_same, get_or-set_other}
-use Rattle.card.specs.Text.{if◌then◌else◌}
+use Rattle.card.specs.Text.{when◌then◌else◌}
 use Rattle.card.specs.Valid.{Every}
 use Rattle.meaning.specs.Sums.{gate}
 use Rattle.meaning.specs.Seats.{state, without, count, counts}
@@ -137,7 +137,7 @@ module _ (k : ℕ) (x : List ℕ) (w : Within k x) (i : ℕ) (l : i < length x) 
   pub moved_counts : counts k (set x i t) ≡ updated (counts k x) (update_of (length x) j t)
   moved_counts = go (eqb j t) refl
     where
-      go : (b : Bool) → eqb j t ≡ b → counts k (set x i t) ≡ updated (counts k x) (if b then keep else shift j t (length x))
+      go : (b : Bool) → eqb j t ≡ b → counts k (set x i t) ≡ updated (counts k x) (when b then keep else shift j t (length x))
       go true e = are_counts k (set x i t) (counts k x) (length_counts k x) λ d h. rw (no_count k x w d, count_set d x i t l, was d, eqb-true j t e)
       go false e = are_counts k (set x i t) (updated (counts k x) (shift j t (length x))) (simp (length-set, length_counts k x))
           λ d h. shifted d h (eqb-false j t e) (ℕ_discrete d t) (ℕ_discrete d j)

@@ -10,7 +10,7 @@ use native.Mathlib.Omega.{arith}
 use borrow.Author.Tests.{ltb-true, lt-ltb, eq-eqb}
 use lib.Dec.{ltb}
 use lib.ListN.{length, replicate}
-use Rattle.card.specs.Text.{if◌then◌else◌}
+use Rattle.card.specs.Text.{when◌then◌else◌}
 use Rattle.card.specs.Card.{Mode, nondeterministic, probabilistic, Statement, Card}
 use Rattle.card.specs.Valid.{Every}
 use Rattle.meaning.specs.Sums.{gate, sum, upto, flat}
@@ -61,7 +61,7 @@ turn_sum : (F : Turn Position → ℕ) (v : Position) (r : Reduced) → sum F (r
 unfolding reduced_turns_by
 turn_sum F v r = go (can_take v r)
   where
-    go : (b : Bool) → sum F (if b then reduced_turn v r ∷ [] else []) ≡ gate b (F (reduced_turn v r))
+    go : (b : Bool) → sum F (when b then reduced_turn v r ∷ [] else []) ≡ gate b (F (reduced_turn v r))
     go true = omega arith
     go false = refl
 
@@ -128,7 +128,7 @@ module _ (k : ℕ) (x : Seating) (w : Within k x.each) where
       go : (m : List (Turn Seating)) (b : Bool) → turns_by s x ≡ m → can_take v (copy (length x.each) s 0) ≡ b → Every (Taker s x) m
           → OneForOne (SameChoice (counted k)) (choices_from (suc q) l x) (choices_of (reduced_turns_by v) (suc q) rest)
           → OneForOne (SameChoice (counted k)) (choice q m ++ choices_from (suc q) l x)
-          (choice q (if b then reduced_turn v (copy (length x.each) s 0) ∷ [] else []) ++ choices_of (reduced_turns_by v) (suc q) rest)
+          (choice q (when b then reduced_turn v (copy (length x.each) s 0) ∷ [] else []) ++ choices_of (reduced_turns_by v) (suc q) rest)
       go [] true p e h r = let (i, l, may) = (matches k x w s).taken.1 e in absurd (true≢false (sym may ∙ no_taker s x p i l))
       go [] false p e h r = r
       go (t ∷ m) true p e h r = (

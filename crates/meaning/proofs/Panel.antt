@@ -13,7 +13,7 @@ use borrow.Author.Tests.{eqb-true, eqb-false, eq-eqb, ne_eqb, lt-ltb}
 use lib.Dec.{eqb, ltb, eqb-zero-suc, eqb-suc-suc, eqb-suc-zero}
 use lib.ListN.{length, set, length-map}
 use Rattle.card.specs.Limits.{unit}
-use Rattle.card.specs.Text.{same, if◌then◌else◌}
+use Rattle.card.specs.Text.{same, when◌then◌else◌}
 use Rattle.card.specs.Valid.{Every}
 use Rattle.card.specs.Card.{Mode, nondeterministic, probabilistic, Branch, Statement, Card}
 use Rattle.meaning.specs.Sums.{gate, or_one, sum, upto, flat}
@@ -83,7 +83,7 @@ flat_empty (suc n) f h = rw (h 0) (flat_empty n (λ i. f (suc i)) (λ i. h (suc 
 pub no_line : (a b h w : ℕ) → w ≡ 0 → move_line a b h w ≡ []
 no_line a b h w e = rw e (go (not (eqb a b)) (record { old = a; new = b; weight = 0; shared = h } ∷ []))
   where
-    go : (t : Bool) (l : List Move) → (if t && false then l else []) ≡ []
+    go : (t : Bool) (l : List Move) → (when t && false then l else []) ≡ []
     go true l = refl
     go false l = refl
 
@@ -187,7 +187,7 @@ abbrev shown : ℕ → ℕ → Seating → Choice Seating → Block
 shown k values x c = block_of k values (some c.place) x (one_of c.turns)
 
 abbrev shown_at : ℕ → ℕ → ℕ → Position → ℕ → Statement → List Block
-shown_at n k values v q s = if ltb 0 (able n v s) then block k values (some q) (stay_of v.shared s) (move_of v.shared s) ∷ [] else []
+shown_at n k values v q s = when ltb 0 (able n v s) then block k values (some q) (stay_of v.shared s) (move_of v.shared s) ∷ [] else []
 
 module _ (k values : ℕ) (x : Seating) (w : Within k x.each) where
   choice_by_counts : (q : ℕ) (s : Statement) → map (shown k values x) (choice q (turns_by s x)) ≡ shown_at (length x.each) k values (counted k x) q s
@@ -211,7 +211,7 @@ module _ (k values : ℕ) (x : Seating) (w : Within k x.each) where
   blocks_length q (s ∷ l) = go (ltb 0 (able (length x.each) (counted k x) s)) (blocks_length (suc q) l)
     where
       go : (t : Bool) → length (choice_blocks (length x.each) k values (counted k x) (suc q) l) ≡ sum (λ s. gate (ltb 0 (able (length x.each) (counted k x) s)) 1) l
-          → length ((if t then block k values (some q) (stay_of x.shared s) (move_of x.shared s) ∷ [] else []) ++ choice_blocks (length x.each) k values (counted k x) (suc q) l)
+          → length ((when t then block k values (some q) (stay_of x.shared s) (move_of x.shared s) ∷ [] else []) ++ choice_blocks (length x.each) k values (counted k x) (suc q) l)
           ≡ gate t 1 + sum (λ s. gate (ltb 0 (able (length x.each) (counted k x) s)) 1) l
       go true h = omega arith
       go false h = omega arith

@@ -6,7 +6,7 @@ use mathlib.Core.Logic.{◌↔◌}
 use mathlib.Core.Bool.{Bool, true, false, true≢false}
 use mathlib.Core.List.{List, [], ◌∷◌, ◌++◌, map, cons≢nil}
 use native.Mathlib.Nat.{not-suc-le-zero, le_of_suc-le-suc}
-use Rattle.card.specs.Text.{if◌then◌else◌}
+use Rattle.card.specs.Text.{when◌then◌else◌}
 use lib.ListN.{length}
 use Rattle.card.specs.Valid.{Every}
 use Rattle.card.specs.Card.{Statement, Card}
@@ -26,12 +26,12 @@ none_below : {A : Type 0} (p : A → Bool) (n : ℕ) (f : ℕ → A) → those p
 none_below p zero f e i l = absurd (not-suc-le-zero l)
 none_below p (suc n) f e zero l = go (p (f zero)) refl e
   where
-    go : (b : Bool) → p (f zero) ≡ b → (if b then f zero ∷ [] else []) ++ those p (upto n (λ j. f (suc j))) ≡ [] → p (f zero) ≡ false
+    go : (b : Bool) → p (f zero) ≡ b → (when b then f zero ∷ [] else []) ++ those p (upto n (λ j. f (suc j))) ≡ [] → p (f zero) ≡ false
     go true h e = absurd (cons≢nil e)
     go false h e = h
 none_below p (suc n) f e (suc i) l = go (p (f zero)) e (λ r. none_below p n (λ j. f (suc j)) r i (le_of_suc-le-suc l))
   where
-    go : (b : Bool) → (if b then f zero ∷ [] else []) ++ those p (upto n (λ j. f (suc j))) ≡ []
+    go : (b : Bool) → (when b then f zero ∷ [] else []) ++ those p (upto n (λ j. f (suc j))) ≡ []
         → (those p (upto n (λ j. f (suc j))) ≡ [] → p (f (suc i)) ≡ false) → p (f (suc i)) ≡ false
     go true e h = absurd (cons≢nil e)
     go false e h = h e
@@ -90,7 +90,7 @@ no_copy : (v : Position) (r : Reduced) → (can_take v r ≡ false) ↔ (reduced
 unfolding reduced_turns_by
 no_copy v r = go (can_take v r)
   where
-    go : (b : Bool) → (b ≡ false) ↔ ((if b then reduced_turn v r ∷ [] else []) ≡ [])
+    go : (b : Bool) → (b ≡ false) ↔ ((when b then reduced_turn v r ∷ [] else []) ≡ [])
     go true = (λ e. absurd (true≢false e), λ e. absurd (cons≢nil e))
     go false = (λ e. refl, λ e. refl)
 

@@ -6,7 +6,7 @@ use mathlib.Core.Bool.{Bool, true, false}
 use mathlib.Core.List.{List, [], ◌∷◌, map}
 use native.Mathlib.Omega.{arith}
 use lib.ListN.{length}
-use Rattle.card.specs.Text.{if◌then◌else◌}
+use Rattle.card.specs.Text.{when◌then◌else◌}
 use Rattle.card.specs.Card.{Mode, nondeterministic, probabilistic, Branch, Statement, Card}
 use Rattle.card.specs.Valid.{Every, total, ValidStatement, ValidCard}
 use Rattle.meaning.specs.Sums.{sum}
@@ -47,7 +47,7 @@ once_full : (u : Position) (r : Reduced) → Full (reduced_turn u r) → Every F
 unfolding reduced_turns_by
 once_full u r f = go (can_take u r)
   where
-    go : (b : Bool) → Every Full (if b then reduced_turn u r ∷ [] else [])
+    go : (b : Bool) → Every Full (when b then reduced_turn u r ∷ [] else [])
     go true = (f, tt)
     go false = tt
 

@@ -6,7 +6,7 @@ use mathlib.Core.List.{List, [], ◌∷◌, map}
 use native.Mathlib.Omega.{arith}
 use lib.Dec.{eqb}
 use lib.ListN.{set}
-use Rattle.card.specs.Text.{if◌then◌else◌}
+use Rattle.card.specs.Text.{when◌then◌else◌}
 use Rattle.card.specs.Card.{Mode, nondeterministic, probabilistic, Branch, Statement, Card}
 use Rattle.card.specs.Valid.{Every}
 use Rattle.meaning.specs.Sums.{flat}
@@ -34,7 +34,7 @@ no_few n (b ∷ v) (suc d) w = no_few n v d w.1
 updated_few : (n j t : ℕ) (v : List ℕ) → Few n v → Few n (updated v (update_of n j t))
 updated_few n j t v w = go (eqb j t)
   where
-    go : (b : Bool) → Few n (updated v (if b then keep else shift j t n))
+    go : (b : Bool) → Few n (updated v (when b then keep else shift j t n))
     go true = w
     go false = set_few n (set v j (no_of v j - 1)) t (raised n (no_of v t)) (set_few n v j (no_of v j - 1) w (omega (arith, no_few n v j w))) (omega arith)
 
@@ -71,7 +71,7 @@ turns_few : (n : ℕ) (v : Position) (r : Reduced) → Steady n v r → Every (E
 unfolding reduced_turns_by
 turns_few n v r h = go (can_take v r)
   where
-    go : (b : Bool) → Every (Every (Next n)) (if b then reduced_turn v r ∷ [] else [])
+    go : (b : Bool) → Every (Every (Next n)) (when b then reduced_turn v r ∷ [] else [])
     go true = (h, tt)
     go false = tt
 

@@ -2,7 +2,7 @@
 use Rattle.std.specs.Prelude.{ℕ, zero, suc, ◌*◌, Bool, ◌&&◌, List, [], ◌∷◌, ◌++◌, eqb, ltb}
 use Rattle.std.proofs.Math.Option.{Option, none, some}
 use Rattle.card.specs.Limits.{unit}
-use Rattle.card.specs.Text.{if◌then◌else◌}
+use Rattle.card.specs.Text.{when◌then◌else◌}
 use Rattle.card.specs.Card.{Mode, nondeterministic, probabilistic, Guard, Branch, Statement, Card}
 use Rattle.meaning.specs.Sums.{gate, or_one, sum}
 use Rattle.meaning.specs.Formulas.{value, value_or}
@@ -60,7 +60,7 @@ unfoldable pub choice_blocks : ℕ → ℕ → ℕ → Position → ℕ → List
 unfolding able block stay_of move_of
 choice_blocks n k values v q [] = []
 choice_blocks n k values v q (s ∷ l) =
-    (if ltb 0 (able n v s) then block k values (some q) (stay_of v.shared s) (move_of v.shared s) ∷ [] else []) ++ choice_blocks n k values v (suc q) l
+    (when ltb 0 (able n v s) then block k values (some q) (stay_of v.shared s) (move_of v.shared s) ∷ [] else []) ++ choice_blocks n k values v (suc q) l
 
 -- ---- what can be taken
 

@@ -2,7 +2,7 @@
 use Rattle.std.specs.Prelude.{ℕ, suc, ◌+◌, ◌*◌, Bool, false, not, ◌&&◌, ◌||◌, List, [], ◌∷◌, map, eqb, ltb, length}
 use Rattle.std.proofs.Math.Option.{Option, none, some}
 use Rattle.card.specs.Limits.{unit}
-use Rattle.card.specs.Text.{same, if◌then◌else◌}
+use Rattle.card.specs.Text.{same, when◌then◌else◌}
 use Rattle.card.specs.Card.{Mode, nondeterministic, probabilistic, Shared, Card}
 use Rattle.meaning.specs.Sums.{sum, upto, flat}
 use Rattle.meaning.specs.Position.{shared_values}
@@ -52,11 +52,11 @@ due nondeterministic enabled = unit
 
 -- none where the weight is 0
 abbrev pub stay_line : ℕ → ℕ → List Stay
-stay_line h w = if ltb 0 w then record { weight = w; shared = h } ∷ [] else []
+stay_line h w = when ltb 0 w then record { weight = w; shared = h } ∷ [] else []
 
 -- none where no seat changes or the weight is 0
 abbrev pub move_line : ℕ → ℕ → ℕ → ℕ → List Move
-move_line a b h w = if not (eqb a b) && ltb 0 w then record { old = a; new = b; weight = w; shared = h } ∷ [] else []
+move_line a b h w = when not (eqb a b) && ltb 0 w then record { old = a; new = b; weight = w; shared = h } ∷ [] else []
 
 -- from state a, by new state, then by what the shared number becomes, of which there are so many values
 abbrev pub moves_from : ℕ → ℕ → ℕ → (ℕ → ℕ → ℕ) → List Move

@@ -1,7 +1,7 @@
 -- The reduced program, and what it means, by counts ("What a card means", second part; document 02, 2026-10). Assumes nothing.
 use Rattle.std.specs.Prelude.{ℕ, suc, ◌+◌, ◌-◌, min, ◌≡◌, Bool, true, false, ◌&&◌, List, [], ◌∷◌, map, eqb, ltb, get_or, set}
 use Rattle.std.proofs.Math.Option.{Option}
-use Rattle.card.specs.Text.{if◌then◌else◌}
+use Rattle.card.specs.Text.{when◌then◌else◌}
 use Rattle.card.specs.Card.{Mode, nondeterministic, probabilistic, Kind, everyone, others, Sign, all, any, Relation, is, isnt}
 use Rattle.card.specs.Card.{Leaf, group, one, shared_is, Formula, Guard, Branch, Statement, Shared, Card}
 use Rattle.card.specs.Formulas.{over_or}
@@ -81,7 +81,7 @@ test_of n j g = over_or (counter_of n j) g
 
 -- a branch to t
 abbrev pub update_of : ℕ → ℕ → ℕ → Update
-update_of n j t = if eqb j t then keep else shift j t n
+update_of n j t = when eqb j t then keep else shift j t n
 
 -- the statement with the first test no_j>m
 unfoldable pub copy : ℕ → Statement → ℕ → Reduced
@@ -138,7 +138,7 @@ reduced_turn v r = map (λ (o : Outcome). record { units = o.units; next = posit
 -- the one turn of a statement that can be taken
 unfoldable pub reduced_turns_by : Position → Reduced → List (Turn Position)
 unfolding can_take reduced_turn
-reduced_turns_by v r = if can_take v r then reduced_turn v r ∷ [] else []
+reduced_turns_by v r = when can_take v r then reduced_turn v r ∷ [] else []
 
 -- all that can happen at counts v, by place in the program
 unfoldable pub reduced_choices : Program → Position → List (Choice Position)

@@ -1,6 +1,6 @@
 -- Lists that are made and summed. Assumes nothing.
 use Rattle.std.specs.Prelude.{ℕ, zero, suc, ◌+◌, Bool, true, false, List, [], ◌∷◌, ◌++◌}
-use Rattle.card.specs.Text.{if◌then◌else◌}
+use Rattle.card.specs.Text.{when◌then◌else◌}
 
 -- w where the test holds, and 0 where it does not
 abbrev pub gate : Bool → ℕ → ℕ
@@ -25,7 +25,7 @@ upto (suc n) f = f zero ∷ upto n (λ i. f (suc i))
 -- those of a list that pass a test, in its order
 abbrev pub those : {A : Type 0} → (A → Bool) → List A → List A
 those p [] = []
-those p (a ∷ l) = (if p a then a ∷ [] else []) ++ those p l
+those p (a ∷ l) = (when p a then a ∷ [] else []) ++ those p l
 
 -- lists, one after the other
 abbrev pub flat : {A : Type 0} → List (List A) → List A

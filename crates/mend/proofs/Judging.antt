@@ -6,7 +6,7 @@ use mathlib.Core.List.{List}
 use native.Mathlib.Omega.{arith}
 use borrow.Author.Tests.{eq-eqb, ne_eqb}
 use lib.ListN.{length, take, drop}
-use Rattle.card.specs.Text.{if◌then◌else◌}
+use Rattle.card.specs.Text.{when◌then◌else◌}
 use Rattle.deck.specs.Contents.{word_at, byte, Row, row_of}
 use Rattle.deck.specs.Deck.{live_of, body_of}
 use Rattle.deck.proofs.Judged.{RowRight}
@@ -20,9 +20,9 @@ module _ (long least last : ℕ) (r : Row) where
   pub broken_same : (f : Fate) → (rule_of (by_contents long least last r kept) ≡ 0 → ⊥) → rule_of (by_contents long least last r f) ≡ rule_of (by_contents long least last r kept)
   broken_same f = go (flags_right r) (number_rises least r) (range_lies long last r)
     where
-      go : (a b c : Bool) → (rule_of (if a then if b then if c then kept else dropped 3 else dropped 2 else dropped 1) ≡ 0 → ⊥)
-          → rule_of (if a then if b then if c then f else dropped 3 else dropped 2 else dropped 1)
-          ≡ rule_of (if a then if b then if c then kept else dropped 3 else dropped 2 else dropped 1)
+      go : (a b c : Bool) → (rule_of (when a then when b then when c then kept else dropped 3 else dropped 2 else dropped 1) ≡ 0 → ⊥)
+          → rule_of (when a then when b then when c then f else dropped 3 else dropped 2 else dropped 1)
+          ≡ rule_of (when a then when b then when c then kept else dropped 3 else dropped 2 else dropped 1)
       go true true true h = absurd (h refl)
       go true true false h = refl
       go true false c h = refl
@@ -31,8 +31,8 @@ module _ (long least last : ℕ) (r : Row) where
   pub none_broken : (f : Fate) → rule_of (by_contents long least last r kept) ≡ 0 → by_contents long least last r f ≡ f
   none_broken f = go (flags_right r) (number_rises least r) (range_lies long last r)
     where
-      go : (a b c : Bool) → rule_of (if a then if b then if c then kept else dropped 3 else dropped 2 else dropped 1) ≡ 0
-          → (if a then if b then if c then f else dropped 3 else dropped 2 else dropped 1) ≡ f
+      go : (a b c : Bool) → rule_of (when a then when b then when c then kept else dropped 3 else dropped 2 else dropped 1) ≡ 0
+          → (when a then when b then when c then f else dropped 3 else dropped 2 else dropped 1) ≡ f
       go true true true h = refl
       go true true false h = absurd (omega (arith, h))
       go true false c h = absurd (omega (arith, h))
@@ -81,14 +81,14 @@ module _ (deck : List ℕ) (at least last : ℕ) where
       body_is : body_of deck row ≡ take s (drop o deck)
       body_is = rw (offset_is eo es, size_is eo es)
 
-      fate_of_card : fate ≡ rule_of (if is_taken (read_of (take s (drop o deck))) then kept else dropped 4)
+      fate_of_card : fate ≡ rule_of (when is_taken (read_of (take s (drop o deck))) then kept else dropped 4)
       fate_of_card = by_card_law ∙ rw (is_live, body_is)
 
       -- what is said of the card, a part of the deck from o to o + s
-      told : {a : Bool} → a ≡ is_taken (read_of (take (o + s - o) (drop o deck))) → fate ≡ rule_of (if a then kept else dropped 4)
+      told : {a : Bool} → a ≡ is_taken (read_of (take (o + s - o) (drop o deck))) → fate ≡ rule_of (when a then kept else dropped 4)
       told h =
           let e : o + s - o ≡ s = omega arith in
-          fate_of_card ∙ ap (λ (b : Bool). rule_of (if b then kept else dropped 4)) (sym (h ∙ ap (λ (n : ℕ). is_taken (read_of (take n (drop o deck)))) e))
+          fate_of_card ∙ ap (λ (b : Bool). rule_of (when b then kept else dropped 4)) (sym (h ∙ ap (λ (n : ℕ). is_taken (read_of (take n (drop o deck)))) e))
 
       pub accepted_card : {a : Bool} → a ≡ is_taken (read_of (take (o + s - o) (drop o deck))) → a ≡ true → 0 ≡ fate
       accepted_card h t = sym (told h ∙ rw t)

@@ -5,7 +5,7 @@ use mathlib.Core.Bool.{Bool, true, false}
 use mathlib.Core.List.{List, [], ◌∷◌}
 use native.Mathlib.Omega.{arith}
 use lib.ListN.{length}
-use Rattle.card.specs.Text.{if◌then◌else◌}
+use Rattle.card.specs.Text.{when◌then◌else◌}
 use Rattle.deck.specs.Contents.{Row, count_of, entries_from, behind, contents_of}
 use Rattle.deck_written.proofs.Entries.{length_rows}
 use Rattle.mending.specs.Mending.{flags_right, number_rises, range_lies, card_right, Fate, kept, dropped, fate_of, least_behind, last_behind, fates_from, fates_in, rule_of}
@@ -15,7 +15,7 @@ module _ (deck : List ℕ) (least last : ℕ) (r : Row) where
   pub by_fate : (P : Fate → Type 0) → P kept → ((rule : ℕ) → rule < 4 → P (dropped (suc rule))) → P (fate_of deck least last r)
   by_fate P k d = go (flags_right r) (number_rises least r) (range_lies (length deck) last r) (card_right deck r)
     where
-      go : (a b c e : Bool) → P (if a then if b then if c then if e then kept else dropped 4 else dropped 3 else dropped 2 else dropped 1)
+      go : (a b c e : Bool) → P (when a then when b then when c then when e then kept else dropped 4 else dropped 3 else dropped 2 else dropped 1)
       go true true true true = k
       go true true true false = d 3 (omega arith)
       go true true false e = d 2 (omega arith)

@@ -7,7 +7,7 @@ use native.Mathlib.Omega.{arith}
 use lib.ListN.{length, drop}
 use borrow.Author.Tests.{le-leb, eqb-true, eq-eqb}
 use Rattle.card.specs.Card.{Card}
-use Rattle.card.specs.Text.{if◌then◌else◌}
+use Rattle.card.specs.Text.{when◌then◌else◌}
 use Rattle.deck.specs.Contents.{Row, end_of, row_of, rows_of, count_of, entries_from, behind, contents_of}
 use Rattle.deck.specs.Deck.{live_of, body_of, entry_of, held_by}
 use Rattle.deck.specs.Sound.{row_at, Sound}
@@ -28,7 +28,7 @@ module _ (deck : List ℕ) where
   pub card_right_law : (r : Row) → (r.flag ≡ 1 → (c : Card) × (read_of (body_of deck r) ≡ taken c)) → card_right deck r ≡ true
   card_right_law r h = go (live_of r) (λ e. h (eqb-true r.flag 1 e))
     where
-      go : (b : Bool) → (b ≡ true → (c : Card) × (read_of (body_of deck r) ≡ taken c)) → (if b then is_taken (read_of (body_of deck r)) else true) ≡ true
+      go : (b : Bool) → (b ≡ true → (c : Card) × (read_of (body_of deck r) ≡ taken c)) → (when b then is_taken (read_of (body_of deck r)) else true) ≡ true
       go true g = let (c, e) = g refl in ap is_taken e
       go false g = refl
 

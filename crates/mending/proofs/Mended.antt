@@ -9,7 +9,7 @@ use lib.Dec.{eqb, leb}
 use lib.ListN.{length, drop, length-append}
 use borrow.Author.Tests.{leb-true, eqb-true}
 use Rattle.card.specs.Card.{Card}
-use Rattle.card.specs.Text.{if◌then◌else◌}
+use Rattle.card.specs.Text.{when◌then◌else◌}
 use Rattle.card.specs.Valid.{Every}
 use Rattle.deck.specs.Contents.{Row, end_of, row_of, rows_of, count_of, entries_from, behind}
 use Rattle.deck.specs.Deck.{Entry, body_of, entry_of, bodies, Rising, Writable, Bytes}
@@ -28,7 +28,7 @@ is_kept kept = true
 is_kept (dropped rule) = false
 
 -- kept behind a rule
-kept_behind : (b : Bool) (x : Fate) (rule : ℕ) → (if b then x else dropped rule) ≡ kept → (b ≡ true) × (x ≡ kept)
+kept_behind : (b : Bool) (x : Fate) (rule : ℕ) → (when b then x else dropped rule) ≡ kept → (b ≡ true) × (x ≡ kept)
 kept_behind true x rule e = (refl, e)
 kept_behind false x rule e = absurd (true≢false (sym (ap is_kept e)))
 
@@ -82,7 +82,7 @@ module _ (deck : List ℕ) where
       go more (dropped rule) e = more least last
 
   pub live_taken : (r : Row) → card_right deck r ≡ true → LiveTaken (entry_of deck r)
-  live_taken r h live = taken_of (read_of (body_of deck r)) (ap (λ (b : Bool). if b then is_taken (read_of (body_of deck r)) else true) (sym live) ∙ h)
+  live_taken r h live = taken_of (read_of (body_of deck r)) (ap (λ (b : Bool). when b then is_taken (read_of (body_of deck r)) else true) (sym live) ∙ h)
 
   -- the entries kept among so many
   abbrev kept_from : (least last : ℕ) → List Row → List Entry

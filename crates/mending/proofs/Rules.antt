@@ -7,7 +7,7 @@ use mathlib.Core.List.{List, [], ◌∷◌}
 use lib.Dec.{eqb, leb}
 use lib.ListN.{length}
 use borrow.Author.Tests.{le-leb, leb-true, eq-eqb, eqb-true}
-use Rattle.card.specs.Text.{if◌then◌else◌}
+use Rattle.card.specs.Text.{when◌then◌else◌}
 use Rattle.deck.specs.Contents.{Row, end_of, count_of, behind, contents_of}
 use Rattle.deck.proofs.Judged.{flag_small, flag_either}
 use Rattle.mending.specs.Mending.{flags_right, number_rises, range_lies, card_right, Fate, kept, dropped, fate_of, least_behind, last_behind, fates_from, fates_in}
@@ -38,7 +38,7 @@ module _ (deck : List ℕ) (least last : ℕ) (r : Row) where
 
   -- by the tests, one after the other
   by_tests : (a b c d : Bool) → flags_right r ≡ a → number_rises least r ≡ b → range_lies (length deck) last r ≡ c → card_right deck r ≡ d
-      → Judged deck least last r (if a then if b then if c then if d then kept else dropped 4 else dropped 3 else dropped 2 else dropped 1)
+      → Judged deck least last r (when a then when b then when c then when d then kept else dropped 4 else dropped 3 else dropped 2 else dropped 1)
   by_tests false b c d ea eb ec ed = one (λ h. true≢false (sym (flags_exactly.1 h) ∙ ea))
   by_tests true false c d ea eb ec ed = two (flags_exactly.0 ea) (λ h. true≢false (sym (number_exactly.1 h) ∙ eb))
   by_tests true true false d ea eb ec ed = three (flags_exactly.0 ea) (number_exactly.0 eb) (λ h. true≢false (sym (range_exactly.1 h) ∙ ec))

@@ -3,7 +3,7 @@
 use Rattle.std.specs.Prelude.{ℕ, suc, ◌*◌, Bool, true, false, ◌&&◌, List, [], ◌∷◌, map, eqb, leb, length}
 use Rattle.card.specs.Limits.{most_cards}
 use Rattle.card.specs.Refusals.{malformed_deck}
-use Rattle.card.specs.Text.{if◌then◌else◌}
+use Rattle.card.specs.Text.{when◌then◌else◌}
 use Rattle.entry.specs.Said.{Said, ◌>>=◌, ◌>>◌, return, unless}
 use Rattle.entry.specs.Contract.{Two, two}
 use Rattle.deck.specs.Contents.{Row, end_of, count_of, behind, contents_of, head_said}
@@ -31,7 +31,7 @@ is_taken (taken c) = true
 is_taken (refused number place) = false
 
 abbrev pub card_right : (deck : List ℕ) → Row → Bool
-card_right deck r = if live_of r then is_taken (read_of (body_of deck r)) else true
+card_right deck r = when live_of r then is_taken (read_of (body_of deck r)) else true
 
 -- ---- what becomes of an entry
 
@@ -42,10 +42,10 @@ pub data Fate : Type 0 where
 -- the first rule broken decides: those that the contents alone show, and what a fourth one says
 abbrev pub by_contents : (long least last : ℕ) → Row → (by_card : Fate) → Fate
 by_contents long least last r by_card =
-    if flags_right r then if number_rises least r then if range_lies long last r then by_card else dropped 3 else dropped 2 else dropped 1
+    when flags_right r then when number_rises least r then when range_lies long last r then by_card else dropped 3 else dropped 2 else dropped 1
 
 abbrev pub by_card : (deck : List ℕ) → Row → Fate
-by_card deck r = if card_right deck r then kept else dropped 4
+by_card deck r = when card_right deck r then kept else dropped 4
 
 abbrev pub fate_of : (deck : List ℕ) (least last : ℕ) → Row → Fate
 fate_of deck least last r = by_contents (length deck) least last r (by_card deck r)

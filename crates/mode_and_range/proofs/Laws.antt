@@ -9,7 +9,7 @@ use borrow.Author.Tests.{eq-eqb, ne_eqb, eqb-true, le-leb, lt-leb}
 use lib.Dec.{eqb, leb}
 use lib.ListN.{set}
 use Rattle.card.specs.Refusals.{out_of_shape, past_limit}
-use Rattle.card.specs.Text.{if◌then◌else◌}
+use Rattle.card.specs.Text.{when◌then◌else◌}
 use Rattle.card.specs.Card.{Mode, nondeterministic, probabilistic}
 use Rattle.card.specs.Laid.{mode_number}
 use Rattle.marks_on_a_card.specs.Kinds.{k_end, k_number, kind}
@@ -59,7 +59,7 @@ dots = told ".." (omega arith)
 
 module _ (most : ℕ) {s : List ℕ} {i : ℕ} {x : Step} (v : Next s i x) where
   -- only 0 stands before the dots
-  zero_by : (b : Bool) → eqb x.mark.kind k_number ≡ b → (x.mark.kind ≡ k_number → x.mark.value ≡ 0 → ⊥) → only_zero (if b then some x.mark.value else none) ≡ none
+  zero_by : (b : Bool) → eqb x.mark.kind k_number ≡ b → (x.mark.kind ≡ k_number → x.mark.value ≡ 0 → ⊥) → only_zero (when b then some x.mark.value else none) ≡ none
   zero_by true e h = rw (ne_eqb x.mark.value 0 (h (eqb-true _ _ e)))
   zero_by false e h = refl
 
@@ -94,7 +94,7 @@ module _ (most : ℕ) {s : List ℕ} {i : ℕ} {x : Step} (v : Next s i x) where
 
       module _ (g : z.mark.kind ≡ k_number) where
         number_there : (before : Late) (r : After) (n : ℕ)
-            → SpanRead s before ((if leb z.mark.value most then return z.mark.value else refuse_at past_limit (marks_at 0 s y.next.at)) (from s z.next.at n)) r
+            → SpanRead s before ((when leb z.mark.value most then return z.mark.value else refuse_at past_limit (marks_at 0 s y.next.at)) (from s z.next.at n)) r
             → SpanRead s before (span most (from s i n)) r
         number_there before r n h = behind_dots before r n (fits s _ number_of (value_by k_number) number_shown y.next.at z w n z.mark.value (rw (eq-eqb _ _ g)) _ r h)
 

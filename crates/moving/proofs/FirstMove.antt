@@ -9,7 +9,7 @@ use borrow.Author.Tests.{lt-ltb}
 use lib.Dec.{ltb}
 use native.Mathlib.Omega.{arith}
 use lib.ListN.{length}
-use Rattle.card.specs.Text.{if◌then◌else◌}
+use Rattle.card.specs.Text.{when◌then◌else◌}
 use Rattle.card.specs.Card.{Statement, Card}
 use Rattle.meaning.specs.Position.{Position}
 use Rattle.meaning.specs.Steps.{Turn}
@@ -30,7 +30,7 @@ module _ (k : ℕ) (x : Seating) (w : Within k x.each) where
   walks_alike q (s ∷ l) = go (turns_by s x) (turns_length k x w s) (walks_alike (suc q) l)
     where
       go : (m : List (Turn Seating)) → length m ≡ able (length x.each) (counted k x) s → first_of (choices_from (suc q) l x) ≡ first_at (length x.each) (counted k x) (suc q) l
-          → first_of (choice q m ++ choices_from (suc q) l x) ≡ (if ltb 0 (able (length x.each) (counted k x) s) then some q else first_at (length x.each) (counted k x) (suc q) l)
+          → first_of (choice q m ++ choices_from (suc q) l x) ≡ (when ltb 0 (able (length x.each) (counted k x) s) then some q else first_at (length x.each) (counted k x) (suc q) l)
       go [] e h = rw (← e) h
       go (t ∷ m) e h = let some-able : 0 < able (length x.each) (counted k x) s = omega arith in rw (lt-ltb 0 (able (length x.each) (counted k x) s) some-able)
 
@@ -51,7 +51,7 @@ unfolding first_at
 rest_unread n v p q [] m e = let z : ◌≡◌ {A = ℕ} 0 1 = cc in absurd (omega arith)
 rest_unread n v p q (s ∷ l) m e = go (ltb 0 (able n v s)) e (rest_unread n v (suc p) q l m)
   where
-    go : (b : Bool) → (if b then some p else first_at n v (suc p) l) ≡ some q → (first_at n v (suc p) l ≡ some q → first_at n v (suc p) (l ++ m) ≡ some q)
-        → (if b then some p else first_at n v (suc p) (l ++ m)) ≡ some q
+    go : (b : Bool) → (when b then some p else first_at n v (suc p) l) ≡ some q → (first_at n v (suc p) l ≡ some q → first_at n v (suc p) (l ++ m) ≡ some q)
+        → (when b then some p else first_at n v (suc p) (l ++ m)) ≡ some q
     go true e h = e
     go false e h = h e

@@ -2,7 +2,7 @@
 -- by counts, as a program finds it. Assumes nothing.
 use Rattle.std.specs.Prelude.{ℕ, suc, List, [], ◌∷◌, ltb}
 use Rattle.std.proofs.Math.Option.{Option, none, some}
-use Rattle.card.specs.Text.{if◌then◌else◌}
+use Rattle.card.specs.Text.{when◌then◌else◌}
 use Rattle.card.specs.Card.{Statement, Card}
 use Rattle.meaning.specs.Position.{Position}
 use Rattle.meaning.specs.Choices.{Choice, choices_of}
@@ -27,4 +27,4 @@ first_move c x = first_of (choices_from 1 c.statements x)
 unfoldable pub first_at : ℕ → Position → ℕ → List Statement → Option ℕ
 unfolding able
 first_at n v q [] = none
-first_at n v q (s ∷ l) = if ltb 0 (able n v s) then some q else first_at n v (suc q) l
+first_at n v q (s ∷ l) = when ltb 0 (able n v s) then some q else first_at n v (suc q) l

@@ -13,7 +13,7 @@ use lib.ListN.{length, take, drop, length-drop, length-map}
 use lib.Seq.{length-take-le, take_all, take_at}
 use Rattle.card.specs.Limits.{most_seats}
 use Rattle.card.specs.Refusals.{wrong_seats}
-use Rattle.card.specs.Text.{if◌then◌else◌}
+use Rattle.card.specs.Text.{when◌then◌else◌}
 use Rattle.card.specs.Card.{Card}
 use Rattle.card.specs.Weight.{card_rule}
 use Rattle.reading.specs.Reading.{Outcome, taken, refused as turned, read_of}
@@ -48,14 +48,14 @@ unfolding seats_line
 line_part [] = refl
 line_part (b ∷ s) =
     by_byte
-    (λ (x : Bool). take (length (if x then [] else b ∷ seats_line s)) (b ∷ s) ≡ (if x then [] else b ∷ seats_line s)) b
+    (λ (x : Bool). take (length (when x then [] else b ∷ seats_line s)) (b ∷ s) ≡ (when x then [] else b ∷ seats_line s)) b
     (λ e. refl) (λ e. ap (λ (l : List ℕ). b ∷ l) (line_part s))
 
 card_suc : (s : List ℕ) → length (seats_line s) < length s → drop (suc (length (seats_line s))) s ≡ card_behind s
 unfolding seats_line card_behind
 card_suc [] h = absurd (omega arith)
 card_suc (b ∷ s) h =
-    by_byte (λ (x : Bool). length (if x then [] else b ∷ seats_line s) < suc (length s) → drop (suc (length (if x then [] else b ∷ seats_line s))) (b ∷ s) ≡ (if x then s else card_behind s)) b
+    by_byte (λ (x : Bool). length (when x then [] else b ∷ seats_line s) < suc (length s) → drop (suc (length (when x then [] else b ∷ seats_line s))) (b ∷ s) ≡ (when x then s else card_behind s)) b
     (λ e l. refl) (λ e l. card_suc s (omega arith)) h
 
 pub card_part : (s : List ℕ) {end : ℕ} → end ≡ length (seats_line s) → end < length s → drop (end + 1) s ≡ card_behind s
@@ -65,7 +65,7 @@ pub card_none : (s : List ℕ) {end : ℕ} → end ≡ length (seats_line s) →
 unfolding seats_line card_behind
 card_none [] e h = refl
 card_none (b ∷ s) {end} e h =
-    by_byte (λ (x : Bool). end ≡ length (if x then [] else b ∷ seats_line s) → [] ≡ (if x then s else card_behind s)) b
+    by_byte (λ (x : Bool). end ≡ length (when x then [] else b ∷ seats_line s) → [] ≡ (when x then s else card_behind s)) b
     (λ k l. absurd (omega arith)) (λ k l. card_none s refl (omega arith)) e
 
 -- ---- the seats

@@ -7,7 +7,7 @@ use native.Mathlib.Nat.{zero-add}
 use native.Mathlib.Omega.{arith}
 use lib.Dec.{eqb}
 use lib.ListN.{length}
-use Rattle.card.specs.Text.{if◌then◌else◌}
+use Rattle.card.specs.Text.{when◌then◌else◌}
 use Rattle.marks_on_a_card.specs.Bytes.{not_lf, run, run_end}
 use Rattle.panel_said.specs.Program.{line_end, seats_line}
 
@@ -16,7 +16,7 @@ unfolding seats_line
 run_line [] = refl
 run_line (b ∷ s) = go (eqb b line_end) (run_line s)
   where
-    go : (x : Bool) → run not_lf s ≡ seats_line s → (if not x then b ∷ run not_lf s else []) ≡ (if x then [] else b ∷ seats_line s)
+    go : (x : Bool) → run not_lf s ≡ seats_line s → (when not x then b ∷ run not_lf s else []) ≡ (when x then [] else b ∷ seats_line s)
     go true e = refl
     go false e = ap (λ (l : List ℕ). b ∷ l) e
 
@@ -29,7 +29,7 @@ unfolding seats_line
 line_within [] = omega arith
 line_within (b ∷ s) = go (eqb b line_end) (line_within s)
   where
-    go : (x : Bool) → length (seats_line s) ≤ length s → length (if x then [] else b ∷ seats_line s) ≤ suc (length s)
+    go : (x : Bool) → length (seats_line s) ≤ length s → length (when x then [] else b ∷ seats_line s) ≤ suc (length s)
     go true h = omega arith
     go false h = omega arith
 

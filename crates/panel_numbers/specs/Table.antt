@@ -7,7 +7,7 @@ use Rattle.std.proofs.Math.Option.{none}
 use Rattle.std.proofs.Math.Dec.{eqb}
 use Rattle.std.proofs.Math.ListN.{get_or, set}
 use Rattle.card.specs.Limits.{top_state, most_states, most_shared, most_statements, most_nodes, most_branches, unit}
-use Rattle.card.specs.Text.{if◌then◌else◌}
+use Rattle.card.specs.Text.{when◌then◌else◌}
 use Rattle.card.specs.Card.{Mode, nondeterministic, probabilistic, Branch, Statement}
 use Rattle.card.specs.Laid.{either, zeros, guard_of, branch_of}
 use Rattle.card.specs.Rows.{row_of}
@@ -173,4 +173,4 @@ module _ (h : Head) (x : Lent) (seats : Seating) where
 
   unfoldable pub table_of : List ℕ
   unfolding taken stuck_table moving_table
-  table_of = if eqb taken 0 then stuck_table else moving_table
+  table_of = when eqb taken 0 then stuck_table else moving_table

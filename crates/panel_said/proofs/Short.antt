@@ -10,7 +10,7 @@ use native.Mathlib.Omega.{arith}
 use lib.Dec.{eqb, ltb}
 use lib.ListN.{length}
 use Rattle.card.specs.Limits.{most_seats, top_state, top_shared, most_shared, most_statements, most_branches, unit}
-use Rattle.card.specs.Text.{bytes, if◌then◌else◌}
+use Rattle.card.specs.Text.{bytes, when◌then◌else◌}
 use Rattle.card.specs.Card.{Mode, nondeterministic, probabilistic, Statement, Shared, Card}
 use Rattle.card.specs.Valid.{Every, values_of, ValidStatement, ValidShared, ValidCard}
 use Rattle.phrases.specs.Phrases.{◌▸◌, num, mode_text}
@@ -71,7 +71,7 @@ module _ (t : Bool) where
           (adds_then (adds_bytes " ")
           (adds_then (adds_digits 0 b (omega arith)) (adds_then (adds_bytes " ") (adds_then (adds_digits weights_digits w e) (adds_ending h n)))))))
 
-      go : (p q : Bool) → Adds (gate p (gate q 1) * line_most) (moves_text t (if p && q then record { old = a; new = b; weight = w; shared = h } ∷ [] else []))
+      go : (p q : Bool) → Adds (gate p (gate q 1) * line_most) (moves_text t (when p && q then record { old = a; new = b; weight = w; shared = h } ∷ [] else []))
       go true true = adds_up _ (omega arith) whole
       go true false = adds_up _ (omega arith) adds_none
       go false q = adds_up _ (omega arith) adds_none
@@ -82,7 +82,7 @@ module _ (t : Bool) where
   adds_stay : (h w : ℕ) → h ≤ top_shared → Light w → Adds (some w * line_most) (stays_text t (stay_line h w))
   adds_stay h w l e = go (ltb 0 w)
     where
-      go : (q : Bool) → Adds (gate q 1 * line_most) (stays_text t (if q then record { weight = w; shared = h } ∷ [] else []))
+      go : (q : Bool) → Adds (gate q 1 * line_most) (stays_text t (when q then record { weight = w; shared = h } ∷ [] else []))
       go true = adds_up _ (omega arith) (stay_line_law h w l e)
       go false = adds_up _ (omega arith) adds_none
 
@@ -135,7 +135,7 @@ module _ (t : Bool) (n k values : ℕ) (h : k ≤ top_state) (shared : values �
   adds_choices m v q (s ∷ l) e r = go (ltb 0 (able n v s)) (adds_choice v.shared q s e.0 (omega arith)) (adds_choices m v (suc q) l e.1 (omega arith))
     where
       go : (u : Bool) → Adds choice_most (block_text t (block k values (some_choice q) (stay_of v.shared s) (move_of v.shared s))) → Adds (length l * choice_most) (blocks_text t (choice_blocks n k values v (suc q) l))
-          → Adds (length (s ∷ l) * choice_most) (blocks_text t ((if u then block k values (some_choice q) (stay_of v.shared s) (move_of v.shared s) ∷ [] else []) ++ choice_blocks n k values v (suc q) l))
+          → Adds (length (s ∷ l) * choice_most) (blocks_text t ((when u then block k values (some_choice q) (stay_of v.shared s) (move_of v.shared s) ∷ [] else []) ++ choice_blocks n k values v (suc q) l))
       go true one rest = adds_up (length (s ∷ l) * choice_most) (omega arith) (adds_then one rest)
       go false one rest = adds_up (length (s ∷ l) * choice_most) (omega arith) rest
 

@@ -1,6 +1,6 @@
 -- What of the input is read, the seats of a line, and what is printed for an answer ("Texts, byte for byte", the paragraph on the program). Assumes nothing.
 use Rattle.std.specs.Prelude.{ℕ, ◌-◌, ◌≤◌, ◌≡◌, ◌&&◌, List, [], ◌++◌, leb, length, drop}
-use Rattle.card.specs.Text.{if◌then◌else◌}
+use Rattle.card.specs.Text.{when◌then◌else◌}
 use Rattle.room.specs.Digits.{digit}
 use Rattle.entry.specs.Said.{says as text, refused}
 use Rattle.room.specs.Answer.{Text}
@@ -19,7 +19,7 @@ abbrev pub no_state : ℕ
 no_state = 255
 
 abbrev pub seat_of : ℕ → ℕ
-seat_of b = if leb (digit 0) b && leb b (digit 9) then b - digit 0 else no_state
+seat_of b = when leb (digit 0) b && leb b (digit 9) then b - digit 0 else no_state
 
 -- a text as it is, a refusal as a line
 abbrev pub printed : Text → List ℕ

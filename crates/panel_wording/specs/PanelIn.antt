@@ -2,7 +2,7 @@
 use Rattle.std.specs.Prelude.{ℕ, zero, suc, ◌+◌, ◌≤◌, ◌≡◌, Bool, true, false, List, [], ◌∷◌, eqb, ltb, length, get_or, take}
 use Rattle.std.proofs.Math.Option.{Option, none, some}
 use Rattle.card.specs.Limits.{top_state, most_shared}
-use Rattle.card.specs.Text.{if◌then◌else◌}
+use Rattle.card.specs.Text.{when◌then◌else◌}
 use Rattle.card.specs.Card.{Mode, nondeterministic, probabilistic, Statement}
 use Rattle.card.specs.declared.Head.{Head}
 use Rattle.meaning.specs.Sums.{or_one, upto, flat}
@@ -34,7 +34,7 @@ tells (suc most) = true
 -- the block of statement i, if so many as are able are any; the shared number is g and has so many values
 unfoldable pub choice_if : ℕ → ℕ → ℕ → ℕ → ℕ → Statement → List Block
 unfolding block stay_of move_of
-choice_if k values g i able s = if ltb 0 able then block k values (some (suc i)) (stay_of g s) (move_of g s) ∷ [] else []
+choice_if k values g i able s = when ltb 0 able then block k values (some (suc i)) (stay_of g s) (move_of g s) ∷ [] else []
 
 abbrev pub choice_at : ℕ → ℕ → List ℕ → List ℕ → List ℕ → ℕ → List Block
 choice_at k values table rows branches i = choice_if k values (shared_in table) i (able_in table i) (weighing_row rows branches i)
@@ -44,7 +44,7 @@ choices_in k values table rows branches count = flat (upto count (choice_at k va
 
 -- the table of a nondeterministic card has a weight of no change only where no choice can be taken: it stands at place 0
 abbrev pub choices_or : ℕ → ℕ → List Block → List Block
-choices_or g stay l = if eqb stay 0 then l else record { choice = some 0; stays = record { weight = stay; shared = g } ∷ []; moves = [] } ∷ []
+choices_or g stay l = when eqb stay 0 then l else record { choice = some 0; stays = record { weight = stay; shared = g } ∷ []; moves = [] } ∷ []
 
 abbrev pub blocks_in : Mode → ℕ → ℕ → List ℕ → List ℕ → List ℕ → ℕ → List Block
 blocks_in nondeterministic k values table rows branches count = choices_or (shared_in table) (stay_in table (shared_in table)) (choices_in k values table rows branches count)

@@ -13,7 +13,7 @@ use lib.Dec.{eqb}
 use lib.ListN.{length}
 use Rattle.card.specs.Limits.{numbers}
 use Rattle.card.specs.Refusals.{out_of_shape}
-use Rattle.card.specs.Text.{bytes, if◌then◌else◌}
+use Rattle.card.specs.Text.{bytes, when◌then◌else◌}
 use Rattle.card.specs.Weight.{Weight, whole, decimal as point}
 use Rattle.card.specs.Card.{Mode, nondeterministic, probabilistic}
 use Rattle.marks_on_a_card.specs.Marks.{Mark, text, seat, process, number, decimal, outside, Placed, placed, place_of}
@@ -102,7 +102,7 @@ pub sign_shown : (t : String) → Told t → Shown (λ m. given (is t m)) (sign_
 sign_shown t h = record { by_numbers = λ m p. ap given (h.mark m); not_the_end = λ e. ap given h.end }
 
 abbrev pub value_by : ℕ → Found → Option ℕ
-value_by v y = if eqb y.kind v then some y.value else none
+value_by v y = when eqb y.kind v then some y.value else none
 
 -- a sign or a word is of none of the other kinds
 no_text : (s : List ℕ) (v : ℕ) (f : Mark → Mark) → ((m : Mark) → kind_of m ≡ v → m ≡ f m) → (text s ≡ f (text s) → ⊥) → eqb (kind_in knowns s) v ≡ false
@@ -148,7 +148,7 @@ pub zero_shown : Shown zero_of (λ y. only_zero (value_by k_number y))
 zero_shown = record { by_numbers = λ m p. ap only_zero (number_by m p); not_the_end = λ e. refl }
 
 abbrev pub weight_by : Found → Option Weight
-weight_by y = if eqb y.kind k_number then some (whole y.value) else (if eqb y.kind k_decimal then some (point y.value y.digits y.further) else none)
+weight_by y = when eqb y.kind k_number then some (whole y.value) else (when eqb y.kind k_decimal then some (point y.value y.digits y.further) else none)
 
 pub weight_shown : Shown weight_of weight_by
 weight_shown = record { by_numbers = go; not_the_end = λ e. refl }
@@ -162,7 +162,7 @@ weight_shown = record { by_numbers = go; not_the_end = λ e. refl }
     go outside p = refl
 
 abbrev pub mode_by : Found → Option Mode
-mode_by y = if eqb y.kind (kind "nondeterministic") then some nondeterministic else (if eqb y.kind (kind "probabilistic") then some probabilistic else none)
+mode_by y = when eqb y.kind (kind "nondeterministic") then some nondeterministic else (when eqb y.kind (kind "probabilistic") then some probabilistic else none)
 
 pub mode_shown : Shown mode_of mode_by
 mode_shown = record { by_numbers = λ m p. rw ((told "nondeterministic" (omega arith)).mark m, (told "probabilistic" (omega arith)).mark m); not_the_end = λ e. refl }

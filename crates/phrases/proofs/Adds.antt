@@ -10,7 +10,7 @@ use borrow.Author.Tests.{leb-false}
 use lib.Dec.{eqb, leb}
 use lib.ListN.{length, length-append}
 use Rattle.card.specs.Limits.{most_seats, top_state, number_digits, numbers, unit}
-use Rattle.card.specs.Text.{bytes, if◌then◌else◌}
+use Rattle.card.specs.Text.{bytes, when◌then◌else◌}
 use Rattle.card.specs.Card.{Mode, nondeterministic, probabilistic}
 use Rattle.card.specs.Weight.{Weight, whole}
 use Rattle.room.specs.Digits.{decimal}
@@ -48,7 +48,7 @@ pub adds_seats : (v : ℕ) → v ≤ most_seats → Adds 2 (num v)
 adds_seats v h = adds_digits 1 v (omega arith)
 
 pub adds_choice : (b : Bool) (x y : Weight) → (b ≡ true → Adds weight_most (spell x)) → (b ≡ false → Adds weight_most (spell y))
-    → Adds weight_most (spell (if b then x else y))
+    → Adds weight_most (spell (when b then x else y))
 adds_choice true x y p q = p refl
 adds_choice false x y p q = q refl
 

@@ -6,7 +6,7 @@ use Prim.Native.String.{String}
 use mathlib.Core.List.{List, [], ◌++◌, append_assoc, append-nil}
 use lib.Dec.{eqb}
 use lib.ListN.{length}
-use Rattle.card.specs.Text.{bytes, if◌then◌else◌ as choice}
+use Rattle.card.specs.Text.{bytes, when◌then◌else◌ as choice}
 use Rattle.card.specs.Laid.{either}
 use Rattle.phrases.specs.Phrases.{◌▸◌}
 use Rattle.room.specs.Room.{cap, Put}

@@ -4,7 +4,7 @@ use Rattle.std.specs.Prelude.{ℕ, zero, suc, ◌+◌, ◌*◌, ◌/◌, ◌%◌
 use Rattle.std.specs.Int.{◌∣◌}
 use Prim.Native.String.{String}
 use Rattle.card.specs.Limits.{number_digits, unit}
-use Rattle.card.specs.Text.{bytes, if◌then◌else◌}
+use Rattle.card.specs.Text.{bytes, when◌then◌else◌}
 use Rattle.card.specs.Card.{Mode, nondeterministic, probabilistic}
 use Rattle.card.specs.Weight.{Weight, whole, decimal as point, ratio}
 use Rattle.room.specs.Digits.{decimal}
@@ -49,14 +49,14 @@ unfoldable pub gcd : ℕ → ℕ → ℕ → ℕ
 gcd zero a b = a
 gcd (suc rounds) a b =
     let more = gcd rounds b (a % b) in
-    if eqb b 0 then a else more
+    when eqb b 0 then a else more
 
 unfoldable pub divisor : ℕ → ℕ
 divisor u = gcd (suc unit) unit u
 
 -- no weight has more units than the unit
 abbrev pub lowest : ℕ → Weight
-lowest u = if eqb u 0 then whole 0 else (if leb unit u then whole 1 else ratio (u / divisor u) (unit / divisor u))
+lowest u = when eqb u 0 then whole 0 else (when leb unit u then whole 1 else ratio (u / divisor u) (unit / divisor u))
 
 -- a weight as it stands, but no decimal: none is written
 abbrev pub spell : Weight → List ℕ → List ℕ

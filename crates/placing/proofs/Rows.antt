@@ -7,7 +7,7 @@ use native.Mathlib.Omega.{arith}
 use borrow.Author.Tests.{eq-eqb}
 use lib.Dec.{ltb}
 use lib.ListN.{length, length-append}
-use Rattle.card.specs.Text.{if◌then◌else◌}
+use Rattle.card.specs.Text.{when◌then◌else◌}
 use Rattle.card.specs.Valid.{Every}
 use Rattle.deck.specs.Contents.{Row}
 use Rattle.deck.specs.Deck.{Entry, flag_of, row_for, rows_for, row_text, rows_text, bodies}
@@ -86,17 +86,17 @@ bodies_append (e ∷ es) fs = ap (λ (t : List ℕ). e.body ++ t) (bodies_append
 module _ (new : Entry) where
   abbrev pub lower : List Entry → List Entry
   lower [] = []
-  lower (e ∷ es) = if ltb e.number new.number then e ∷ lower es else []
+  lower (e ∷ es) = when ltb e.number new.number then e ∷ lower es else []
 
   abbrev pub higher : List Entry → List Entry
   higher [] = []
-  higher (e ∷ es) = if ltb e.number new.number then higher es else e ∷ es
+  higher (e ∷ es) = when ltb e.number new.number then higher es else e ∷ es
 
   pub split : (es : List Entry) → es ≡ lower es ++ higher es
   split [] = refl
   split (e ∷ es) = go (ltb e.number new.number) (split es)
     where
-      go : (b : Bool) → es ≡ lower es ++ higher es → e ∷ es ≡ (if b then e ∷ lower es else []) ++ (if b then higher es else e ∷ es)
+      go : (b : Bool) → es ≡ lower es ++ higher es → e ∷ es ≡ (when b then e ∷ lower es else []) ++ (when b then higher es else e ∷ es)
       go true h = ap (λ (l : List Entry). e ∷ l) h
       go false h = refl
 
@@ -105,7 +105,7 @@ module _ (new : Entry) where
   with_split (e ∷ es) = go (ltb e.number new.number) (with_split es)
     where
       go : (b : Bool) → with_card new es ≡ lower es ++ new ∷ higher es
-          → (if b then e ∷ with_card new es else new ∷ e ∷ es) ≡ (if b then e ∷ lower es else []) ++ new ∷ (if b then higher es else e ∷ es)
+          → (when b then e ∷ with_card new es else new ∷ e ∷ es) ≡ (when b then e ∷ lower es else []) ++ new ∷ (when b then higher es else e ∷ es)
       go true h = ap (λ (l : List Entry). e ∷ l) h
       go false h = refl
 
@@ -115,6 +115,6 @@ module _ (new : Entry) where
   lower_rows_law at (e ∷ es) = go (ltb e.number new.number) (lower_rows_law (at + length e.body) es)
     where
       go : (b : Bool) → lower_rows new.number (rows_for (at + length e.body) es) ≡ rows_for (at + length e.body) (lower es)
-          → (if b then row_for at e ∷ lower_rows new.number (rows_for (at + length e.body) es) else []) ≡ rows_for at (if b then e ∷ lower es else [])
+          → (when b then row_for at e ∷ lower_rows new.number (rows_for (at + length e.body) es) else []) ≡ rows_for at (when b then e ∷ lower es else [])
       go true h = ap (λ (l : List Row). row_for at e ∷ l) h
       go false h = refl

@@ -6,7 +6,7 @@ use mathlib.Core.List.{List}
 use native.Mathlib.Omega.{arith}
 use lib.ListN.{drop}
 use Rattle.card.specs.Refusals.{not_added}
-use Rattle.card.specs.Text.{if◌then◌else◌}
+use Rattle.card.specs.Text.{when◌then◌else◌}
 use Rattle.entry.specs.Said.{refused}
 use Rattle.deck.specs.Contents.{Row, row_of, rows_of, count_of, behind, contents_of}
 use Rattle.deck.specs.Lookup.{is_live}
@@ -32,11 +32,11 @@ module _ (deck : List ℕ) (number : ℕ) where
       rest = rows_of (left - 1) (drop (at + 8) deck)
 
       here : (b : Bool) → b ≡ is_live number (row_of (drop at deck))
-          → number_free number 1 (contents_of deck) ≡ (if b then refused not_added at else number_free number (at + 8) rest)
+          → number_free number 1 (contents_of deck) ≡ (when b then refused not_added at else number_free number (at + 8) rest)
       here b e =
           s.same
           ∙ ap (number_free number at) (first_row deck left at h)
-          ∙ ap (λ (x : Bool). if x then refused not_added at else number_free number (at + 8) rest) (sym e)
+          ∙ ap (λ (x : Bool). when x then refused not_added at else number_free number (at + 8) rest) (sym e)
 
       pub seek_hit : true ≡ is_live number (row_of (drop at deck)) → LivePlace deck number at
       seek_hit e = record { free = λ z. absurd (omega (arith, z, s.some)); taken = λ _. here true e }

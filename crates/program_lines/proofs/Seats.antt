@@ -8,14 +8,14 @@ use native.Mathlib.Omega.{arith}
 use borrow.Author.Tests.{le-leb, lt-leb}
 use lib.Dec.{leb}
 use lib.ListN.{length, get_or, set, take, drop}
-use Rattle.card.specs.Text.{if◌then◌else◌}
+use Rattle.card.specs.Text.{when◌then◌else◌}
 use Rattle.room.specs.Digits.{digit}
 use Rattle.panel_wording.specs.Lines.{no_state, seat_of}
 
 -- ---- a seat
 
 abbrev seat_if : ℕ → Bool → Bool → ℕ
-seat_if b above below = if above && below then b - digit 0 else no_state
+seat_if b above below = when above && below then b - digit 0 else no_state
 
 not_below : (b : ℕ) (t : Bool) → seat_if b t false ≡ no_state
 not_below b true = refl

@@ -2,7 +2,7 @@
 -- the right of an `↔` are in `deck/specs/Sound.antt` and `deck/specs/Given.antt`. Each statement on an entry begins with the promise that its code
 -- is proved to keep. Assumes nothing.
 use Rattle.std.specs.Prelude.{ℕ, ◌+◌, ◌≤◌, ◌<◌, ◌≡◌, ◌↔◌, ◌⊎◌, List, [], ◌∷◌, eqb, length}
-use Rattle.card.specs.Text.{if◌then◌else◌}
+use Rattle.card.specs.Text.{when◌then◌else◌}
 use Rattle.card.specs.Refusals.{malformed_deck, no_live_card}
 use Rattle.card.specs.declared.Verdict.{Verdict}
 use Rattle.card.specs.declared.Verdict.TheVariants.{Taken, Refused}
@@ -59,7 +59,7 @@ pub record LookupsWith : Type 0 where
   pub no_other : (base expansion : List ℕ) (number r p : ℕ) → find_with base expansion number ≡ refused r p → (r ≡ malformed_deck) ⊎ (r ≡ no_live_card)
   -- the part lies inside the deck that holds it
   pub inside : (base expansion : List ℕ) (number : ℕ) → BothSound base expansion → (p : Part) → Gives base expansion number p
-      → p.offset + p.size ≤ length (if eqb p.which the_expansion then expansion else base)
+      → p.offset + p.size ≤ length (when eqb p.which the_expansion then expansion else base)
   -- where a card stands is told by the contents alone
   pub contents_only : (base base' expansion expansion' : List ℕ) → SameContents base base' → SameContents expansion expansion' → (number : ℕ)
       → located_with base expansion number ≡ located_with base' expansion' number

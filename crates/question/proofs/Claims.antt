@@ -10,7 +10,7 @@ use lib.Dec.{eqb, leb}
 use lib.ListN.{length}
 use Rattle.card.specs.Limits.{most_seats}
 use Rattle.card.specs.Refusals.{above_top, not_due}
-use Rattle.card.specs.Text.{if◌then◌else◌}
+use Rattle.card.specs.Text.{when◌then◌else◌}
 use Rattle.card.specs.Card.{everyone, group, Formula, atom, neg, and, or}
 use Rattle.card.specs.Formulas.{over}
 use Rattle.marks_on_a_card.specs.Marks.{place_of}
@@ -39,17 +39,17 @@ up_to_most_law m n b c least most h = go (eqb m n) refl b refl
     none : eqb 0 n ≡ false
     none = ne_eqb 0 n (λ z. omega (arith, z))
 
-    go : (t : Bool) → eqb m n ≡ t → (a : Bool) → b ≡ a → eqb (if leb m most_seats && a then m else 0) n ≡ (t && c)
+    go : (t : Bool) → eqb m n ≡ t → (a : Bool) → b ≡ a → eqb (when leb m most_seats && a then m else 0) n ≡ (t && c)
     go true e true f = rw (small (eqb-true m n e), e) (sym f ∙ h (eqb-true m n e))
     go true e false f = rw (small (eqb-true m n e), none) (sym f ∙ h (eqb-true m n e))
     go false e true f = other (leb m most_seats)
       where
-        other : (u : Bool) → eqb (if u && true then m else 0) n ≡ false
+        other : (u : Bool) → eqb (when u && true then m else 0) n ≡ false
         other true = e
         other false = none
     go false e false f = other (leb m most_seats)
       where
-        other : (u : Bool) → eqb (if u && false then m else 0) n ≡ false
+        other : (u : Bool) → eqb (when u && false then m else 0) n ≡ false
         other true = none
         other false = none
 
@@ -78,7 +78,7 @@ module _ (n : ℕ) (least : 1 ≤ n) (most : n ≤ most_seats) where
 
       go : (b : Bool) → has 1 all ≡ b → (a : Bool)
           → (a && (eqb (length all) n && has_from 1 n all))
-          ≡ eqb (if b then (if a then (if b then up_to_most (length all) (has_from 1 (length all) all) else up_to_most (suc (length all)) (has_from 2 (length all) all)) else 0) else 0) n
+          ≡ eqb (when b then (when a then (when b then up_to_most (length all) (has_from 1 (length all) all) else up_to_most (suc (length all)) (has_from 2 (length all) all)) else 0) else 0) n
       go true e true = sym (up_to_most_law (length all) n (has_from 1 (length all) all) (has_from 1 n all) least most (λ z. ap (λ m. has_from 1 m all) z))
       go true e false = sym none_wanted
       go false e a = rw (no_first n all least e) (and_none a (eqb (length all) n) ∙ sym none_wanted)
@@ -87,14 +87,14 @@ module _ (n : ℕ) (least : 1 ≤ n) (most : n ≤ most_seats) where
 
 module _ (e n : ℕ) (least : 1 ≤ n) (most : n ≤ most_seats) where
   abbrev own : Claim → Refusal
-  own c = if fits n c then refusal 0 0 else refusal (due c) (place_of e (claim_at c))
+  own c = when fits n c then refusal 0 0 else refusal (due c) (place_of e (claim_at c))
 
   sound_claim : (c : Claim) (x : Late) → Sound x → Sound (judge_claim e c x)
   sound_claim (state bound v p) x s = sound_blamed (leb v bound) above_top (place_of e p) x (λ z. omega arith) s
   sound_claim (everyone_of g) x s = sound_grouped (want_of_all g.literals) (place_of e g.place) x s
   sound_claim (exactly p ts) x s = sound_grouped (want_of_terms ts) (place_of e p) x s
 
-  settled_want : (x : Late) → Sound x → (m p : ℕ) (b : Bool) → b ≡ eqb m n → settled n (grouped_late m p x) ≡ or_next (settled n x) (if b then refusal 0 0 else refusal not_due p)
+  settled_want : (x : Late) → Sound x → (m p : ℕ) (b : Bool) → b ≡ eqb m n → settled n (grouped_late m p x) ≡ or_next (settled n x) (when b then refusal 0 0 else refusal not_due p)
   settled_want x s m p b h = rw h (settled_grouped n x s m p least)
 
   settled_claim : (c : Claim) (x : Late) → Sound x → settled n (judge_claim e c x) ≡ or_next (settled n x) (own c)
@@ -107,10 +107,10 @@ module _ (e n : ℕ) (least : 1 ≤ n) (most : n ≤ most_seats) where
   some_due (everyone_of g) z = omega arith
   some_due (exactly p ts) z = omega arith
 
-  one_more : (c : Claim) (v : Verdict) → or_next (own c) (verdict e v) ≡ verdict e (if fits n c then v else wrong (due c) (claim_at c))
+  one_more : (c : Claim) (v : Verdict) → or_next (own c) (verdict e v) ≡ verdict e (when fits n c then v else wrong (due c) (claim_at c))
   one_more c v = go (fits n c)
     where
-      go : (b : Bool) → or_next (if b then refusal 0 0 else refusal (due c) (place_of e (claim_at c))) (verdict e v) ≡ verdict e (if b then v else wrong (due c) (claim_at c))
+      go : (b : Bool) → or_next (when b then refusal 0 0 else refusal (due c) (place_of e (claim_at c))) (verdict e v) ≡ verdict e (when b then v else wrong (due c) (claim_at c))
       go true = refl
       go false = rw (ne_eqb (due c) 0 (some_due c))
 
@@ -150,8 +150,8 @@ module _ (e n : ℕ) (least : 1 ≤ n) (most : n ≤ most_seats) where
   none_unfit [] h = refl
   none_unfit (c ∷ cs) h = go (fits n c) h (none_unfit cs)
     where
-      go : (b : Bool) → (verdict e (if b then first_unfit n cs else wrong (due c) (claim_at c))).number ≡ 0 → ((verdict e (first_unfit n cs)).number ≡ 0 → first_unfit n cs ≡ fine)
-          → (if b then first_unfit n cs else wrong (due c) (claim_at c)) ≡ fine
+      go : (b : Bool) → (verdict e (when b then first_unfit n cs else wrong (due c) (claim_at c))).number ≡ 0 → ((verdict e (first_unfit n cs)).number ≡ 0 → first_unfit n cs ≡ fine)
+          → (when b then first_unfit n cs else wrong (due c) (claim_at c)) ≡ fine
       go true z more = more z
       go false z more = absurd (some_due c z)
 
@@ -161,7 +161,7 @@ module _ (n k v : ℕ) (least : 1 ≤ n) where
   fine_cons : (c : Claim) (cs : List Claim) → first_unfit n (c ∷ cs) ≡ fine → (fits n c ≡ true) × (first_unfit n cs ≡ fine)
   fine_cons c cs h = go (fits n c) h
     where
-      go : (b : Bool) → (if b then first_unfit n cs else wrong (due c) (claim_at c)) ≡ fine → (b ≡ true) × (first_unfit n cs ≡ fine)
+      go : (b : Bool) → (when b then first_unfit n cs else wrong (due c) (claim_at c)) ≡ fine → (b ≡ true) × (first_unfit n cs ≡ fine)
       go true z = (refl, z)
       go false z = let y : ◌≡◌ {A = ℕ} 0 1 = cc in absurd (omega arith)
 

@@ -11,7 +11,7 @@ use lib.ListN.{length, get_or, length-map}
 use Rattle.card.specs.Limits.{card_bytes, top_state, most_statements, most_seats, unit}
 use Rattle.card.specs.Refusals.{above_top, not_due, wrong_weight, decimal_weight}
 use Rattle.card.specs.Card.{Mode, Card}
-use Rattle.card.specs.Text.{if◌then◌else◌}
+use Rattle.card.specs.Text.{when◌then◌else◌}
 use Rattle.card.specs.Weight.{units_of, Rule, allowed, weight_refusal}
 use Rattle.card.specs.Valid.{values_of}
 use Rattle.card.specs.Laid.{mode_number, start_of}
@@ -59,7 +59,7 @@ shape_of h xs ms = record { mode = h.mode; shared = h.shared; words = h.words; k
 sharing_then : {A : Type 0} (f : Option Range → Reader A) (s : State) → if_next "global" (declaration >>= λ g. f (some g)) (f none) s ≡ bind (sharing s) f
 sharing_then f s = go (next_is "global" s.marks)
   where
-    go : (b : Bool) → (if b then (declaration >>= λ g. f (some g)) else f none) s ≡ bind ((if b then (declaration >>= λ x. return (some x)) else return none) s) f
+    go : (b : Bool) → (when b then (declaration >>= λ g. f (some g)) else f none) s ≡ bind ((when b then (declaration >>= λ x. return (some x)) else return none) s) f
     go true = sym (assoc (declaration s) (λ x. return (some x)) f)
     go false = refl
 
@@ -114,7 +114,7 @@ unless_number : (b : Bool) (a r : ℕ) → (a ≡ 0 → ⊥) → unless b a ≡ 
 unless_number true a r f e z = none≢some e
 unless_number false a r f e z = let y : a ≡ r = cc in f (y ∙ z)
 
-weight_refusal_law : (b : Bool) → (if b then wrong_weight else decimal_weight) ≡ 0 → ⊥
+weight_refusal_law : (b : Bool) → (when b then wrong_weight else decimal_weight) ≡ 0 → ⊥
 weight_refusal_law true z = omega arith
 weight_refusal_law false z = omega arith
 

@@ -12,7 +12,7 @@ use lib.Dec.{eqb, leb}
 use lib.ListN.{length}
 use Rattle.card.specs.Limits.{card_bytes, most_seats, top_state, top_shared, most_statements, most_branches, most_nodes, most_depth, unit}
 use Rattle.card.specs.Refusals.{too_long, outside_rules, past_limit, above_top, not_due, wrong_weight, decimal_weight}
-use Rattle.card.specs.Text.{if◌then◌else◌}
+use Rattle.card.specs.Text.{when◌then◌else◌}
 use Rattle.card.specs.Card.{Mode, any, all, Formula, atom, neg, and, or, Card}
 use Rattle.card.specs.Weight.{Weight, whole, decimal as point, ratio, units_of, Rule, allowed, weight_refusal}
 use Rattle.card.specs.Valid.{Every}
@@ -66,7 +66,7 @@ module _ {A : Type 0} where
       go [] n = omega arith
       go (placed m p ∷ ms) n = one (f m) (placed m p) ms n
 
-  either : {p q : Reader A} (b : Bool) (s : State) → Modest p → Modest q → Small ((if b then p else q) s)
+  either : {p q : Reader A} (b : Bool) (s : State) → Modest p → Modest q → Small ((when b then p else q) s)
   either true s h m = h.stops s
   either false s h m = m.stops s
 
@@ -254,7 +254,7 @@ module _ (decimals : Rule) where
   small_weight (whole v) = seven wrong_weight (omega arith)
   small_weight (point v n f) = go decimals
     where
-      go : (b : Bool) → Refuses b (if b then wrong_weight else decimal_weight)
+      go : (b : Bool) → Refuses b (when b then wrong_weight else decimal_weight)
       go true = omega arith
       go false = inr refl
   small_weight (ratio a b) = seven wrong_weight (omega arith)
@@ -367,7 +367,7 @@ module _ (decimals : Rule) where
   unfolding read_under
   small_read s = go (leb (length s) card_bytes)
     where
-      go : (b : Bool) → SmallOutcome (if b then marked decimals (length s) (marks_of s) (first_outside (marks_of s)) else refused too_long 0)
+      go : (b : Bool) → SmallOutcome (when b then marked decimals (length s) (marks_of s) (first_outside (marks_of s)) else refused too_long 0)
       go true = small_marked (length s) (marks_of s) (first_outside (marks_of s))
       go false = seven too_long (omega arith)
 

@@ -9,7 +9,7 @@ use mathlib.Core.Option.{Option, none, some}
 use native.Mathlib.Omega.{arith}
 use lib.Dec.{eqb}
 use borrow.Author.Tests.{eqb-true, eq-eqb}
-use Rattle.card.specs.Text.{bytes, same, if◌then◌else◌}
+use Rattle.card.specs.Text.{bytes, same, when◌then◌else◌}
 use Rattle.marks_on_a_card.specs.Marks.{Mark, text, seat, process, number, decimal, outside, placed}
 use Rattle.reading.specs.Reader.{Place, State, Result, ok, stop, Reader, bind, took, the, is, given, sign}
 
@@ -66,7 +66,7 @@ module _ {A B : Type 0} where
 
 -- one of two readers came through
 pub chose : {A : Type 0} (b : Bool) (p q : Reader A) (s s₁ : State) (a : A) (C : Type 0) → (b ≡ true → p s ≡ ok a s₁ → C) → (b ≡ false → q s ≡ ok a s₁ → C)
-    → (if b then p else q) s ≡ ok a s₁ → C
+    → (when b then p else q) s ≡ ok a s₁ → C
 chose true p q s s₁ a C f g e = f refl e
 chose false p q s s₁ a C f g e = g refl e
 

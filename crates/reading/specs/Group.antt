@@ -2,7 +2,7 @@
 use Rattle.std.specs.Prelude.{ℕ, zero, suc, List, [], ◌∷◌, length}
 use Prim.Native.String.{String}
 use Rattle.std.proofs.Math.Option.{Option, none, some}
-use Rattle.card.specs.Text.{if◌then◌else◌}
+use Rattle.card.specs.Text.{when◌then◌else◌}
 use Rattle.card.specs.Refusals.{past_limit}
 use Rattle.card.specs.Card.{Sign, all, any, Relation, is as eq, isnt as ne}
 use Rattle.marks_on_a_card.specs.Marks.{Mark}
@@ -36,7 +36,7 @@ abbrev pub literals_of : Place → Sign → List Literal → Literals
 literals_of p s ls = record { place = p; sign = s; literals = ls }
 
 abbrev pub relation_of : Mark → Option Relation
-relation_of m = if is "=" m then some eq else (if is "!=" m then some ne else none)
+relation_of m = when is "=" m then some eq else (when is "!=" m then some ne else none)
 
 abbrev pub literal : Reader Literal
 literal = do

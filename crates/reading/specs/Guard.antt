@@ -4,7 +4,7 @@ use Prim.Native.String.{String}
 use Rattle.std.proofs.Math.Option.{Option, none, some}
 use Rattle.card.specs.Limits.{most_nodes}
 use Rattle.card.specs.Refusals.{past_limit}
-use Rattle.card.specs.Text.{if◌then◌else◌}
+use Rattle.card.specs.Text.{when◌then◌else◌}
 use Rattle.card.specs.Card.{Formula, atom, neg, and, or}
 use Rattle.marks_on_a_card.specs.Marks.{placed}
 use Rattle.reading.specs.Reader.{Place, Reader, ◌>>=◌, ◌>>◌, return, refuse, refuse_at, next_is, if_next, sign, seat_of, here, node_at, node}
@@ -24,7 +24,7 @@ test_next shared ms = seat_next ms || (shared && next_is "g" ms)
 
 -- the one reader if what is looked for follows, else the other
 abbrev pub if_ahead : {A : Type 0} → (Place → Bool) → Reader A → Reader A → Reader A
-if_ahead starts p q = λ s. (if starts s.marks then p else q) s
+if_ahead starts p q = λ s. (when starts s.marks then p else q) s
 
 abbrev pub if_seat : {A : Type 0} → Reader A → Reader A → Reader A
 if_seat p q = if_ahead seat_next p q

@@ -3,7 +3,7 @@ use Rattle.std.specs.Prelude.{ℕ, zero, suc, ◌+◌, ◌-◌, Bool, true, fals
 use Rattle.std.proofs.Math.Option.{Option, none, some}
 use Rattle.card.specs.Limits.{unit}
 use Rattle.card.specs.Refusals.{above_top, not_due, wrong_weight}
-use Rattle.card.specs.Text.{if◌then◌else◌}
+use Rattle.card.specs.Text.{when◌then◌else◌}
 use Rattle.card.specs.Card.{Kind, everyone, others, Sign, Relation, is, isnt, Leaf, group, shared_is, Formula, Guard}
 use Rattle.card.specs.Formulas.{over, each_atom}
 use Rattle.card.specs.Weight.{Weight, units_of, Rule, allowed, weight_refusal}
@@ -28,7 +28,7 @@ once i c ls = eqb (length ls) c && has_from i c ls
 
 -- seats 1 to n once each, or 2 to n once each
 abbrev pub kind_of : ℕ → List Literal → Option Kind
-kind_of n ls = if once 1 n ls then some everyone else (if once 2 (n - 1) ls then some others else none)
+kind_of n ls = when once 1 n ls then some everyone else (when once 2 (n - 1) ls then some others else none)
 
 abbrev pub same_relation : Relation → Relation → Bool
 same_relation is is = true

@@ -3,7 +3,7 @@ use Rattle.std.specs.Prelude.{ℕ, zero, suc, Bool, true, false, List, [], ◌�
 use Prim.Native.String.{String}
 use Rattle.std.proofs.Math.Option.{Option, none, some}
 use Rattle.card.specs.Refusals.{out_of_shape, past_limit}
-use Rattle.card.specs.Text.{bytes, same, if◌then◌else◌}
+use Rattle.card.specs.Text.{bytes, same, when◌then◌else◌}
 use Rattle.marks_on_a_card.specs.Marks.{Mark, text, seat, process, number, decimal, outside, Placed, placed}
 
 -- a place on the card, as the marks from there on
@@ -77,7 +77,7 @@ next_is t (placed m p ∷ ms) = is t m
 
 -- the one reader if the next mark is this sign or keyword, else the other
 abbrev pub if_next : {A : Type 0} → String → Reader A → Reader A → Reader A
-if_next t p q = λ s. (if next_is t s.marks then p else q) s
+if_next t p q = λ s. (when next_is t s.marks then p else q) s
 
 abbrev pub given : Bool → Option (Unit {0})
 given true = some tt

@@ -3,7 +3,7 @@ use Rattle.std.specs.Prelude.{ℕ, zero, ◌≤◌, Bool, true, false, List, [],
 use Rattle.std.proofs.Math.Option.{Option, none, some}
 use Rattle.card.specs.Limits.{card_bytes}
 use Rattle.card.specs.Refusals.{too_long, outside_rules, wrong_weight, OfCard}
-use Rattle.card.specs.Text.{if◌then◌else◌}
+use Rattle.card.specs.Text.{when◌then◌else◌}
 use Rattle.card.specs.Card.{Card}
 use Rattle.card.specs.Weight.{Rule, card_rule}
 use Rattle.marks_on_a_card.specs.Marks.{Mark, text, seat, process, number, decimal, outside, Placed, placed, marks_of, place_of}
@@ -27,7 +27,7 @@ is_outside outside = true
 
 abbrev pub first_outside : List Placed → Option ℕ
 first_outside [] = none
-first_outside (placed m p ∷ ms) = if is_outside m then some p else first_outside ms
+first_outside (placed m p ∷ ms) = when is_outside m then some p else first_outside ms
 
 -- e is the card's length
 abbrev pub judged : ℕ → Card → Verdict → Outcome
@@ -45,7 +45,7 @@ marked decimals e ms (some p) = refused outside_rules p
 -- under a rule of a weight
 unfoldable pub read_under : Rule → List ℕ → Outcome
 unfolding guard
-read_under decimals s = if leb (length s) card_bytes then marked decimals (length s) (marks_of s) (first_outside (marks_of s)) else refused too_long 0
+read_under decimals s = when leb (length s) card_bytes then marked decimals (length s) (marks_of s) (first_outside (marks_of s)) else refused too_long 0
 
 -- the numbers that it may refuse with
 abbrev pub Refuses : Rule → ℕ → Type 0

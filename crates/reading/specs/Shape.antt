@@ -5,7 +5,7 @@ use Prim.Native.String.{String}
 use Rattle.std.proofs.Math.Option.{Option, none, some}
 use Rattle.card.specs.Limits.{most_seats, top_state, top_shared, most_statements, most_branches, most_nodes, most_depth}
 use Rattle.card.specs.Refusals.{out_of_shape, past_limit}
-use Rattle.card.specs.Text.{if◌then◌else◌}
+use Rattle.card.specs.Text.{when◌then◌else◌}
 use Rattle.card.specs.Card.{Mode, nondeterministic, probabilistic, Formula}
 use Rattle.card.specs.Weight.{Weight, whole, decimal as point, ratio}
 use Rattle.marks_on_a_card.specs.Marks.{Mark, text, seat, process, number, decimal, outside}
@@ -167,12 +167,12 @@ more_modules most = many most "module" copy (refuse past_limit)
 -- ---- the card
 
 abbrev pub mode_of : Mark → Option Mode
-mode_of m = if is "nondeterministic" m then some nondeterministic else (if is "probabilistic" m then some probabilistic else none)
+mode_of m = when is "nondeterministic" m then some nondeterministic else (when is "probabilistic" m then some probabilistic else none)
 
 -- only `0` fits before `..`
 abbrev pub only_zero : Option ℕ → Option ℕ
 only_zero none = none
-only_zero (some v) = if eqb v 0 then some v else none
+only_zero (some v) = when eqb v 0 then some v else none
 
 abbrev pub zero_of : Mark → Option ℕ
 zero_of m = only_zero (number_of m)
@@ -181,7 +181,7 @@ abbrev pub top : ℕ → Reader ℕ
 top most = do
   p ← here
   k ← the number_of
-  if leb k most then return k else refuse_at past_limit p
+  when leb k most then return k else refuse_at past_limit p
 
 -- behind its opening bracket
 abbrev pub range : ℕ → Reader Range

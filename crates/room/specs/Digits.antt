@@ -1,7 +1,7 @@
 -- A number in decimal. That it is the only way to write the number with digits and without a zero in front is proved in
 -- proofs/Decimal.antt. Assumes nothing.
 use Rattle.std.specs.Prelude.{ℕ, zero, suc, ◌+◌, ◌-◌, ◌*◌, ◌/◌, ◌%◌, ◌≤◌, ◌<◌, List, [], ◌∷◌, ◌++◌, ltb, length, get_or}
-use Rattle.card.specs.Text.{if◌then◌else◌}
+use Rattle.card.specs.Text.{when◌then◌else◌}
 
 -- the byte of a digit
 abbrev pub digit : ℕ → ℕ
@@ -12,7 +12,7 @@ unfoldable pub last_digits : ℕ → ℕ → List ℕ
 last_digits zero n = []
 last_digits (suc most) n =
     let longer = last_digits most (n / 10) ++ (digit (n % 10) ∷ []) in
-    if ltb n 10 then digit n ∷ [] else longer
+    when ltb n 10 then digit n ∷ [] else longer
 
 -- all of its digits: there are never more than n + 1
 unfoldable pub decimal : ℕ → List ℕ

@@ -12,7 +12,7 @@ use lib.Dec.{leb}
 use lib.ListN.{length}
 use Rattle.card.specs.Limits.{most_seats, top_state, top_shared, most_statements, most_branches, most_nodes, most_depth}
 use Rattle.card.specs.Refusals.{past_limit}
-use Rattle.card.specs.Text.{if◌then◌else◌}
+use Rattle.card.specs.Text.{when◌then◌else◌}
 use Rattle.card.specs.Card.{Mode, Formula, and, or, any, all}
 use Rattle.card.specs.Weight.{Weight, whole, decimal as point, ratio}
 use Rattle.marks_on_a_card.specs.Marks.{Mark, text, seat, process, number, decimal, outside, placed}
@@ -63,7 +63,7 @@ module _ (P : Place → Type 0) (pass : (m : Mark) (q : ℕ) (ms : Place) → is
   numbered_p : (f : Mark → Option ℕ) → f outside ≡ none → Safe (numbered f)
   numbered_p f e s h = and_then (the f s) _ (the_p f e s h) λ v s₁ h₁. h₁
 
-  pub choice : {A : Type 0} (b : Bool) (p q : Reader A) → Safe p → Safe q → Safe (if b then p else q)
+  pub choice : {A : Type 0} (b : Bool) (p q : Reader A) → Safe p → Safe q → Safe (when b then p else q)
   choice true p q x y = x
   choice false p q x y = y
 

@@ -14,7 +14,7 @@ use lib.ListN.{length, get_or, take, drop, length-take, drop_of_length-le}
 use lib.Seq.{drop-cons, get_or-take}
 use mathlib.Core.Option.{Option, none, some}
 use Rattle.card.specs.Card.{Shared, Card}
-use Rattle.card.specs.Text.{if◌then◌else◌}
+use Rattle.card.specs.Text.{when◌then◌else◌}
 use Rattle.card.specs.Valid.{Every, values_of}
 use Rattle.card.specs.Refusals.{wrong_seats, seat_above_top}
 use Rattle.card.specs.Verdict.{verdict_number, verdict_place}
@@ -289,7 +289,7 @@ module _ (n k : ℕ) (x : List ℕ) (long : length x ≡ suc n) where
       (λ u d. absurd (omega (arith, u p (omega (arith, seats_there)), seat_at p l)))
 
   pub judged_behind : (values : ℕ) → (values ≡ 0 → ⊥)
-      → judged_seats n k values x ≡ first_refusal (judged_from seat_above_top k 0 (take n x)) (if ltb (get_or x n 0) values then Taken else Refused seat_above_top n)
+      → judged_seats n k values x ≡ first_refusal (judged_from seat_above_top k 0 (take n x)) (when ltb (get_or x n 0) values then Taken else Refused seat_above_top n)
   judged_behind zero there-is = absurd (there-is refl)
   judged_behind (suc m) there-is = judged_by_law n k (suc m) x
       (λ g e. absurd (g long))
@@ -302,7 +302,7 @@ module _ (n k : ℕ) (x : List ℕ) (long : length x ≡ suc n) where
       ))
     where
       over : (p : ℕ) → FirstOver (most_at n k (suc m)) x p → judged_seats n k (suc m) x ≡ Refused seat_above_top p → Dec (p < n)
-          → judged_seats n k (suc m) x ≡ first_refusal (judged_from seat_above_top k 0 (take n x)) (if ltb (get_or x n 0) (suc m) then Taken else Refused seat_above_top n)
+          → judged_seats n k (suc m) x ≡ first_refusal (judged_from seat_above_top k 0 (take n x)) (when ltb (get_or x n 0) (suc m) then Taken else Refused seat_above_top n)
       over p f e (yes l) = e ∙ sym (
           rw (one_over p l (rw (seat_bound n k x (suc m) p l) at f.above) (λ i h. rw (seat_bound n k x (suc m) i (omega arith)) at (f.first i h)))
           )

@@ -2,7 +2,7 @@
 -- a seating. Where a card has a shared number its value stands behind the seats (document 02, 2026-10). Assumes nothing.
 use Rattle.std.specs.Prelude.{ℕ, zero, suc, ◌-◌, ◌≤◌, ◌<◌, ◌≡◌, List, [], ◌∷◌, ◌++◌, eqb, ltb, length, get_or, take}
 use Rattle.std.proofs.Math.Option.{Option, none, some}
-use Rattle.card.specs.Text.{if◌then◌else◌}
+use Rattle.card.specs.Text.{when◌then◌else◌}
 use Rattle.card.specs.Refusals.{wrong_seats, seat_above_top}
 use Rattle.card.specs.Card.{Shared, Card}
 use Rattle.card.specs.Valid.{values_of}
@@ -18,7 +18,7 @@ unfoldable pub judged_by : ℕ → (ℕ → ℕ) → ℕ → List ℕ → Verdic
 judged_by number most p [] = Taken
 judged_by number most p (a ∷ x) =
     let rest = judged_by number most (suc p) x in
-    if ltb (most p) a then Refused number p else rest
+    when ltb (most p) a then Refused number p else rest
 
 -- the same for all places
 abbrev pub judged_from : ℕ → ℕ → ℕ → List ℕ → Verdict
@@ -26,7 +26,7 @@ judged_from number k p x = judged_by number (λ i. k) p x
 
 -- n are due, each 0 to k; another length is judged as is said
 abbrev pub judged_list : ℕ → ℕ → Verdict → ℕ → List ℕ → Verdict
-judged_list n k wrong number x = if eqb (length x) n then judged_from number k 0 x else wrong
+judged_list n k wrong number x = when eqb (length x) n then judged_from number k 0 x else wrong
 
 -- p is the first place with a number above what may stand there
 pub record FirstOver (most : ℕ → ℕ) (x : List ℕ) (p : ℕ) : Type 0 where
@@ -46,12 +46,12 @@ bytes_due n (suc most) = suc n
 
 -- what may stand at a place: a seat's state, or behind the seats the shared number
 abbrev pub most_at : ℕ → ℕ → ℕ → ℕ → ℕ
-most_at n k values i = if ltb i n then k else values - 1
+most_at n k values i = when ltb i n then k else values - 1
 
 -- as many as are due, then each
 unfoldable pub judged_seats : ℕ → ℕ → ℕ → List ℕ → Verdict
 unfolding judged_by
-judged_seats n k values x = if eqb (length x) (bytes_due n values) then judged_by seat_above_top (most_at n k values) 0 x else Refused wrong_seats 0
+judged_seats n k values x = when eqb (length x) (bytes_due n values) then judged_by seat_above_top (most_at n k values) 0 x else Refused wrong_seats 0
 
 -- the value that stands behind the seats, or 0
 abbrev pub shared_at : ℕ → ℕ → List ℕ → ℕ

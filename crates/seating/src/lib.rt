@@ -5,7 +5,7 @@ ghost use Rattle.std.specs.Prelude.{◌≡◌, ltb, take};
 ghost use Rattle.card.specs.Limits.{top_state};
 ghost use Rattle.card.specs.Refusals.{seat_above_top};
 ghost use Rattle.meaning.specs.Seats.{counts as counts_of};
-ghost use Rattle.card.specs.Text.{if◌then◌else◌};
+ghost use Rattle.card.specs.Text.{when◌then◌else◌};
 ghost use Rattle.card.specs.declared.Verdict.TheVariants.{Taken, Refused};
 ghost use Rattle.seating.specs.Judged.{judged_from, judged_seats, shared_at};
 ghost use Rattle.seating.specs.FirstRefusal.{first_refusal as first_refusal_said};
@@ -39,7 +39,7 @@ pub fn judge_each(list: &[u8], most: usize, number: u8) -> Verdict
 
 // Is it one of the values of the shared number, of which there are some?
 fn judge_shared(value: usize, shared: usize, place: usize) -> Verdict
-    ensures { result ≡ (if ltb value shared then Taken else Refused seat_above_top place) }
+    ensures { result ≡ (when ltb value shared then Taken else Refused seat_above_top place) }
 {
     if value < shared {
         return Verdict::Taken;

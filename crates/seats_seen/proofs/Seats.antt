@@ -11,7 +11,7 @@ use lib.Dec.{eqb, leb}
 use lib.ListN.{length, get_or, set, replicate, length-set, length-append}
 use lib.Seq.{get_or-set_same, get_or-set_other}
 use Rattle.card.specs.Limits.{most_seats}
-use Rattle.card.specs.Text.{if◌then◌else◌}
+use Rattle.card.specs.Text.{when◌then◌else◌}
 use Rattle.card.specs.Card.{everyone, others, Relation, is, isnt}
 use Rattle.card.specs.Laid.{kind_number, relation_number}
 use Rattle.reading.specs.Group.{Literal}
@@ -95,7 +95,7 @@ has_more i (x ∷ ls) l = rw (has_more i ls l) (sym (or_assoc (eqb x.seat i) (ha
 noted_long : (seen : List ℕ) (v : ℕ) → length (noted seen v) ≡ length seen
 noted_long seen v = go (leb v most_seats)
   where
-    go : (b : Bool) → length (if b then set seen v 1 else seen) ≡ length seen
+    go : (b : Bool) → length (when b then set seen v 1 else seen) ≡ length seen
     go true = length-set seen v 1
     go false = refl
 
@@ -103,7 +103,7 @@ noted_long seen v = go (leb v most_seats)
 noted_at : (seen : List ℕ) (v i : ℕ) → length seen ≡ suc most_seats → i ≤ most_seats → not (eqb (get_or (noted seen v) i 0) 0) ≡ (not (eqb (get_or seen i 0) 0) || eqb v i)
 noted_at seen v i long h = go (leb v most_seats) refl (eqb v i) refl
   where
-    go : (b : Bool) → leb v most_seats ≡ b → (c : Bool) → eqb v i ≡ c → not (eqb (get_or (if b then set seen v 1 else seen) i 0) 0) ≡ (not (eqb (get_or seen i 0) 0) || c)
+    go : (b : Bool) → leb v most_seats ≡ b → (c : Bool) → eqb v i ≡ c → not (eqb (get_or (when b then set seen v 1 else seen) i 0) 0) ≡ (not (eqb (get_or seen i 0) 0) || c)
     go true e true f = rw (← eqb-true v i f, get_or-set_same seen v 1 0 (omega (arith, leb-true v most_seats e))) (sym (or_true (not (eqb (get_or seen v 0) 0))))
     go true e false f = rw (get_or-set_other seen v i 1 0 (λ z. eqb-false v i f (sym z))) (sym (or_false (not (eqb (get_or seen i 0) 0))))
     go false e true f = absurd (omega (arith, leb-false v most_seats e, eqb-true v i f))
@@ -132,7 +132,7 @@ seen_first v l e = seen_more_seats (no_seats (suc most_seats)) v [] l refl e (λ
 pub one_counted : {A : Type 0} (count : ℕ) (ls : List A) (l : A) → count ≡ min (length ls) (suc most_seats) → one_more count ≡ min (length (ls ++ (l ∷ []))) (suc most_seats)
 one_counted {A} count ls l e = go (leb count most_seats) refl
   where
-    go : (b : Bool) → leb count most_seats ≡ b → (if b then suc count else count) ≡ min (length (ls ++ (l ∷ []))) (suc most_seats)
+    go : (b : Bool) → leb count most_seats ≡ b → (when b then suc count else count) ≡ min (length (ls ++ (l ∷ []))) (suc most_seats)
     go true h = omega (arith, leb-true count most_seats h, length-append ls (l ∷ []))
     go false h = omega (arith, leb-false count most_seats h, length-append ls (l ∷ []))
 
@@ -176,7 +176,7 @@ module _ (seen : List ℕ) (count : ℕ) (l : Literal) (ls : List Literal) (s : 
   pub kind_seen : kind_in seen ≡ kind_number (kind_by group)
   kind_seen = rw (s 1 (omega arith)) (go (eqb (get_or seen 1 0) 0))
     where
-      go : (b : Bool) → (if b then kind_number others else kind_number everyone) ≡ kind_number (if not b then everyone else others)
+      go : (b : Bool) → (when b then kind_number others else kind_number everyone) ≡ kind_number (when not b then everyone else others)
       go true = refl
       go false = refl
 
@@ -184,7 +184,7 @@ module _ (seen : List ℕ) (count : ℕ) (l : Literal) (ls : List Literal) (s : 
   up_to : (m k : ℕ) (b c : Bool) → (leb m most_seats ≡ true → (m ≡ k) × (b ≡ c)) → (leb m most_seats ≡ false → most_seats < k) → up_to_most m b ≡ up_to_most k c
   up_to m k b c few many = go (leb m most_seats) refl
     where
-      go : (t : Bool) → leb m most_seats ≡ t → (if t && b then m else 0) ≡ up_to_most k c
+      go : (t : Bool) → leb m most_seats ≡ t → (when t && b then m else 0) ≡ up_to_most k c
       go true e = let both = few e in rw (← both.0, ← both.1, e)
       go false e = rw (lt-leb k most_seats (many e))
 
@@ -199,8 +199,8 @@ module _ (seen : List ℕ) (count : ℕ) (l : Literal) (ls : List Literal) (s : 
   want_seen same e = rw e (go (alike l ls) (has 1 group) (eqb (get_or seen 1 0) 0) (s 1 (omega arith)))
     where
       go : (a h z : Bool) → h ≡ not z
-          → (if a then (if z then up_to_most (suc count) (seen_from seen 2 count) else up_to_most count (seen_from seen 1 count)) else 0)
-          ≡ (if a then (if h then up_to_most (length group) (has_from 1 (length group) group) else up_to_most (suc (length group)) (has_from 2 (length group) group)) else 0)
+          → (when a then (when z then up_to_most (suc count) (seen_from seen 2 count) else up_to_most count (seen_from seen 1 count)) else 0)
+          ≡ (when a then (when h then up_to_most (length group) (has_from 1 (length group) group) else up_to_most (suc (length group)) (has_from 2 (length group) group)) else 0)
       go true h true f = rw f (up_to (suc count) (suc (length group)) (seen_from seen 2 count) (has_from 2 (length group) group)
           (λ t. let c : count ≡ length group = omega (arith, leb-true (suc count) most_seats t) in (ap suc c, sym (from_seen 2 count (omega (arith, leb-true (suc count) most_seats t))) ∙ ap (λ k. has_from 2 k group) c))
           (λ t. omega (arith, leb-false (suc count) most_seats t)))

@@ -5,7 +5,7 @@ use mathlib.Core.Bool.{Bool, true, false}
 use mathlib.Core.List.{List, ◌++◌}
 use native.Mathlib.Omega.{arith}
 use lib.Dec.{eqb}
-use Rattle.card.specs.Text.{bytes, if◌then◌else◌}
+use Rattle.card.specs.Text.{bytes, when◌then◌else◌}
 use Rattle.card.specs.Card.{is, isnt}
 use Rattle.card.specs.Laid.{either, shared_of}
 use Rattle.phrases.specs.Phrases.{◌▸◌, num}
@@ -22,6 +22,6 @@ declaration_some (suc most) initial h r = let e : suc most - 1 ≡ most = omega 
 pub shared_text_law : (relation value : ℕ) (r : List ℕ) → either (bytes "(g=") (bytes "(g!=") relation ++ num value (")" ▸ r) ≡ shared_text (either is isnt relation) value r
 shared_text_law relation value r = go (eqb relation 0)
   where
-    go : (t : Bool) → (if t then bytes "(g=" else bytes "(g!=") ++ num value (")" ▸ r) ≡ shared_text (if t then is else isnt) value r
+    go : (t : Bool) → (when t then bytes "(g=" else bytes "(g!=") ++ num value (")" ▸ r) ≡ shared_text (when t then is else isnt) value r
     go true = refl
     go false = refl

@@ -8,7 +8,7 @@ use mathlib.Core.List.{List, [], ◌∷◌, ◌++◌, map}
 use mathlib.Core.Option.{Option, none, some}
 use native.Mathlib.Omega.{arith}
 use lib.Dec.{eqb, ltb}
-use Rattle.card.specs.Text.{if◌then◌else◌}
+use Rattle.card.specs.Text.{when◌then◌else◌}
 use Rattle.card.specs.Card.{Mode, nondeterministic, probabilistic, Statement}
 use Rattle.card.specs.Valid.{Every}
 use Rattle.meaning.specs.Sums.{upto, flat}
@@ -51,14 +51,14 @@ stays_rise : (values : ℕ) (w : ℕ → ℕ) → Rising StayBefore (flat (upto 
 stays_rise values w = rising_flat StayBefore values (λ h. stay_line h (w h)) (λ h. alone h (w h) (ltb 0 (w h)))
     (λ i j l. every_line i (w i) _ (λ s e. every_line j (w j) _ (λ t f. omega arith)))
   where
-    alone : (h v : ℕ) (t : Bool) → Rising StayBefore (if t then record { weight = v; shared = h } ∷ [] else [])
+    alone : (h v : ℕ) (t : Bool) → Rising StayBefore (when t then record { weight = v; shared = h } ∷ [] else [])
     alone h v true = (tt, tt)
     alone h v false = tt
 
     every_line : (h v : ℕ) (P : Stay → Type 0) → ((s : Stay) → s.shared ≡ h → P s) → Every P (stay_line h v)
     every_line h v P q = go (ltb 0 v)
       where
-        go : (t : Bool) → Every P (if t then record { weight = v; shared = h } ∷ [] else [])
+        go : (t : Bool) → Every P (when t then record { weight = v; shared = h } ∷ [] else [])
         go true = (q (record { weight = v; shared = h }) refl, tt)
         go false = tt
 
@@ -69,14 +69,14 @@ module _ (P : Move → Type 0) (a b h w : ℕ) where
   line_is : ((m : Move) → m.old ≡ a → m.new ≡ b → m.shared ≡ h → P m) → Every P (move_line a b h w)
   line_is q = go (not (eqb a b) && ltb 0 w)
     where
-      go : (t : Bool) → Every P (if t then record { old = a; new = b; weight = w; shared = h } ∷ [] else [])
+      go : (t : Bool) → Every P (when t then record { old = a; new = b; weight = w; shared = h } ∷ [] else [])
       go true = (q (record { old = a; new = b; weight = w; shared = h }) refl refl refl, tt)
       go false = tt
 
 line_rises : (a b h w : ℕ) → Rising Before (move_line a b h w)
 line_rises a b h w = go (not (eqb a b) && ltb 0 w)
   where
-    go : (t : Bool) → Rising Before (if t then record { old = a; new = b; weight = w; shared = h } ∷ [] else [])
+    go : (t : Bool) → Rising Before (when t then record { old = a; new = b; weight = w; shared = h } ∷ [] else [])
     go true = (tt, tt)
     go false = tt
 

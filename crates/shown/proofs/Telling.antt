@@ -8,7 +8,7 @@ use mathlib.Core.List.{List, [], ◌∷◌, ◌++◌, map}
 use mathlib.Core.Option.{Option, none, some}
 use native.Mathlib.Omega.{arith}
 use lib.Dec.{eqb, ltb}
-use Rattle.card.specs.Text.{bytes, if◌then◌else◌}
+use Rattle.card.specs.Text.{bytes, when◌then◌else◌}
 use Rattle.card.specs.Card.{Mode, nondeterministic, probabilistic, Shared, Card}
 use Rattle.card.specs.Valid.{Every}
 use Rattle.room.specs.Digits.{digit, decimal, AllDigits}
@@ -248,14 +248,14 @@ module _ (t : Bool) (values : ℕ) (low : (h : ℕ) → h < values → Quiet t h
   quiet_stay : (h w : ℕ) → h < values → Every (λ (s : Stay). Quiet t s.shared) (stay_line h w)
   quiet_stay h w l = go (ltb 0 w)
     where
-      go : (u : Bool) → Every (λ (s : Stay). Quiet t s.shared) (if u then record { weight = w; shared = h } ∷ [] else [])
+      go : (u : Bool) → Every (λ (s : Stay). Quiet t s.shared) (when u then record { weight = w; shared = h } ∷ [] else [])
       go true = (low h l, tt)
       go false = tt
 
   quiet_move : (a b h w : ℕ) → h < values → Every (λ (m : Move). Quiet t m.shared) (move_line a b h w)
   quiet_move a b h w l = go (not (eqb a b) && ltb 0 w)
     where
-      go : (u : Bool) → Every (λ (m : Move). Quiet t m.shared) (if u then record { old = a; new = b; weight = w; shared = h } ∷ [] else [])
+      go : (u : Bool) → Every (λ (m : Move). Quiet t m.shared) (when u then record { old = a; new = b; weight = w; shared = h } ∷ [] else [])
       go true = (low h l, tt)
       go false = tt
 

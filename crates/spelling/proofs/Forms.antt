@@ -11,7 +11,7 @@ use borrow.Author.Tests.{eqb-true, eq-eqb, leb-true, not-true}
 use lib.Dec.{eqb, leb}
 use lib.ListN.{length, drop, length-append}
 use lib.Seq.{drop-append_seam}
-use Rattle.card.specs.Text.{bytes, same, if◌then◌else◌}
+use Rattle.card.specs.Text.{bytes, same, when◌then◌else◌}
 use Rattle.marks_on_a_card.specs.Bytes.{within, is_digit, is_letter, in_word, is_blank, is_sign, run, begins, every}
 use Rattle.marks_on_a_card.specs.Digits.{pointed}
 use Rattle.marks_on_a_card.specs.Marks.{Mark, second}
@@ -171,7 +171,7 @@ letter_reach b t p q l e (of_two {a = a} {b = c} two) = not_both (is_letter b) l
 
 -- the bytes of the numeral in front: its digits, and a point with digits behind it
 abbrev pub point_reach : List ℕ → ℕ
-point_reach z = if pointed z then suc (length (run is_digit (drop 1 z))) else 0
+point_reach z = when pointed z then suc (length (run is_digit (drop 1 z))) else 0
 
 abbrev pub numeral_reach : List ℕ → ℕ
 numeral_reach x = length (run is_digit x) + point_reach (drop (length (run is_digit x)) x)

@@ -11,7 +11,7 @@ use borrow.Author.Tests.{eqb-true, leb-true, leb-false, not-false}
 use lib.Dec.{eqb, leb}
 use lib.ListN.{length, drop, length-append}
 use Rattle.card.specs.Limits.{number_digits, further_digits, word_digits}
-use Rattle.card.specs.Text.{bytes, if◌then◌else◌}
+use Rattle.card.specs.Text.{bytes, when◌then◌else◌}
 use Rattle.marks_on_a_card.specs.Bytes.{is_digit, is_letter, in_word, is_blank, is_sign, not_lf, run, begins, every, after}
 use Rattle.marks_on_a_card.specs.Digits.{value_from, number_spelt, pointed}
 use Rattle.marks_on_a_card.specs.Marks.{Mark, text, seat, process, number, decimal, outside, second, Start, blank, mark, made, numbered, word_mark, word, decimal_mark, numeral_mark, numeral, sign1, sign2, sign, comment, start_at}
@@ -49,7 +49,7 @@ abbrev pub Right : List ℕ → Start → Type 0
 Right s (blank more) = Skipped s more
 Right s (mark m more) = Found s m more
 
-pick : (s : List ℕ) (b : Bool) (x y : Start) → (b ≡ true → Right s x) → (b ≡ false → Right s y) → Right s (if b then x else y)
+pick : (s : List ℕ) (b : Bool) (x y : Start) → (b ≡ true → Right s x) → (b ≡ false → Right s y) → Right s (when b then x else y)
 pick s true x y p q = p refl
 pick s false x y p q = q refl
 

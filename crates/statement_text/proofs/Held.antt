@@ -9,7 +9,7 @@ use native.Mathlib.Omega.{arith}
 use lib.Dec.{eqb}
 use lib.ListN.{length}
 use Rattle.card.specs.Limits.{most_shared}
-use Rattle.card.specs.Text.{if◌then◌else◌}
+use Rattle.card.specs.Text.{when◌then◌else◌}
 use Rattle.card.specs.Card.{Statement, Card}
 use Rattle.card.specs.Valid.{Every, values_of, ValidStatement}
 use Rattle.card.specs.Laid.{either, shared_of, statement_of, statements_of}
@@ -44,8 +44,8 @@ module _ (nodes bs rows : List ℕ) (P : Statement → Type 0) where
 module _ (n own : ℕ) (s : Statement) where
   abbrev rest_by : Bool → Text
   rest_by written r =
-      tail_text (if written then needed else always) (λ a t. if written then group_text n a t else counter_text (counter_of n own a) t)
-      (λ b t. weight_text b.units (if written then ":(s1'=" ▸ num b.end (")" ▸ set_last b.sets t) else ":" ▸ update_text (update_of n own b.end) b.sets t)) s.guard
+      tail_text (when written then needed else always) (λ a t. when written then group_text n a t else counter_text (counter_of n own a) t)
+      (λ b t. weight_text b.units (when written then ":(s1'=" ▸ num b.end (")" ▸ set_last b.sets t) else ":" ▸ update_text (update_of n own b.end) b.sets t)) s.guard
       s.branches r
 
   rest_kept : (text c m : ℕ) → c ≡ either 1 m text → length (rest_by false []) ≤ tail_places → KeepsTail (style_of text own n c) s

@@ -9,7 +9,7 @@ use borrow.Author.Tests.{eqb-true, eqb-false, leb-true, leb-false, eq-eqb, ne_eq
 use lib.Dec.{eqb, leb}
 use lib.ListN.{length}
 use Rattle.card.specs.Limits.{most_seats}
-use Rattle.card.specs.Text.{if◌then◌else◌}
+use Rattle.card.specs.Text.{when◌then◌else◌}
 use Rattle.card.specs.Card.{Relation, is as eq, isnt as ne}
 use Rattle.card.specs.Laid.{relation_number}
 use Rattle.reading.specs.Group.{Literal}
@@ -37,7 +37,7 @@ due_more : (d i : ℕ) (ls : List Literal) (l : Literal) → each_due d i (ls ++
 due_more d i [] l = and_true (is_due d i l)
 due_more d i (x ∷ ls) l = ap (λ b. is_due d i x && b) (due_more d i ls l) ∙ sym (and_assoc (is_due d i x) (each_due d i ls) (is_due d i l))
 
-relation_number_law : (q : Relation) (b : Bool) → eqb (relation_number q) (if b then relation_number eq else relation_number ne) ≡ same_relation (if b then eq else ne) q
+relation_number_law : (q : Relation) (b : Bool) → eqb (relation_number q) (when b then relation_number eq else relation_number ne) ≡ same_relation (when b then eq else ne) q
 relation_number_law eq true = refl
 relation_number_law eq false = refl
 relation_number_law ne true = refl
@@ -103,7 +103,7 @@ once_seats n ls least most = wanted (length ls) n (length ls) n (λ c. has_from 
 seats_few : (ls : List Literal) → seats_of ls ≤ most_seats
 seats_few ls = go (leb (length ls) most_seats) refl (has_from 1 (length ls) ls)
   where
-    go : (a : Bool) → leb (length ls) most_seats ≡ a → (b : Bool) → (if a && b then length ls else 0) ≤ most_seats
+    go : (a : Bool) → leb (length ls) most_seats ≡ a → (b : Bool) → (when a && b then length ls else 0) ≤ most_seats
     go true e true = leb-true (length ls) most_seats e
     go true e false = omega arith
     go false e b = omega arith
@@ -145,13 +145,13 @@ module _ (all : Bool) (count seats : ℕ) (t : List Literal) (ts : List (List Li
   m = length (t ∷ ts)
 
   abbrev all_want : ℕ → ℕ
-  all_want w = if all && eqb count seats then w else 0
+  all_want w = when all && eqb count seats then w else 0
 
   -- another number of seats than of terms
   unlike : (count ≡ seats → ⊥) → all_want count ≡ 0
   unlike f = rw (ne_eqb count seats f, and-false all)
 
-  few : m ≤ most_seats → (b : Bool) → eqb m seats ≡ b → all_want count ≡ (if is_terms m (literal_d t) 1 (t ∷ ts) then m else 0)
+  few : m ≤ most_seats → (b : Bool) → eqb m seats ≡ b → all_want count ≡ (when is_terms m (literal_d t) 1 (t ∷ ts) then m else 0)
   few h true e =
       let c : count ≡ m = omega arith in
       let s : m ≡ seats = eqb-true m seats e in
@@ -163,6 +163,6 @@ module _ (all : Bool) (count seats : ℕ) (t : List Literal) (ts : List (List Li
   pub want_so : all_want count ≡ want_of_terms (t ∷ ts)
   want_so = go (leb m most_seats) refl
     where
-      go : (b : Bool) → leb m most_seats ≡ b → all_want count ≡ (if b && is_terms m (literal_d t) 1 (t ∷ ts) then m else 0)
+      go : (b : Bool) → leb m most_seats ≡ b → all_want count ≡ (when b && is_terms m (literal_d t) 1 (t ∷ ts) then m else 0)
       go true e = few (leb-true m most_seats e) (eqb m seats) refl
       go false e = unlike (λ z. omega (arith, leb-false m most_seats e, few_seats seats t se))

@@ -9,7 +9,7 @@ use native.Mathlib.Omega.{arith}
 use lib.Dec.{eqb}
 use lib.ListN.{length}
 use Rattle.card.specs.Limits.{most_seats, top_state, most_shared}
-use Rattle.card.specs.Text.{if◌then◌else◌}
+use Rattle.card.specs.Text.{when◌then◌else◌}
 use Rattle.card.specs.Card.{Mode, nondeterministic, probabilistic, Kind, everyone, others, Sign, all, any, Relation, is, isnt, Leaf, group, one, shared_is, Branch, Statement, Card}
 use Rattle.card.specs.Valid.{Every, values_of, ValidLeaf, ValidSet, ValidBranch, ValidStatement, ValidCard}
 use Rattle.card.proofs.Held.{few_values}
@@ -63,7 +63,7 @@ module _ (n k values j : ℕ) (h : n ≤ most_seats) (l : k ≤ top_state) (m : 
   -- ---- branches
 
   adds_choice : (b : Bool) (x y : Update) (s : Option ℕ) → Adds update_most (update_text x s) → Adds update_most (update_text y s)
-      → Adds update_most (update_text (if b then x else y) s)
+      → Adds update_most (update_text (when b then x else y) s)
   adds_choice true x y s p q = p
   adds_choice false x y s p q = q
 

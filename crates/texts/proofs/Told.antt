@@ -12,7 +12,7 @@ use borrow.Author.Tests.{le-leb}
 use lib.Dec.{eqb, leb}
 use lib.ListN.{length, get_or, drop}
 use Rattle.card.specs.Limits.{unit}
-use Rattle.card.specs.Text.{if◌then◌else◌}
+use Rattle.card.specs.Text.{when◌then◌else◌}
 use Rattle.card.specs.Card.{Mode, nondeterministic, probabilistic, Relation, is, isnt, atom, neg, and, or, Shared}
 use Rattle.card.specs.Valid.{Level, loose, middle, tight, Every}
 use Rattle.card.specs.Weight.{Weight, whole, decimal as point, ratio, units_of}
@@ -182,7 +182,7 @@ Plain (ratio a b) = Unit {0}
 lowest_plain : (u : ℕ) → Plain (lowest u)
 lowest_plain u = go (eqb u 0) (leb unit u) (u / divisor u) (unit / divisor u)
   where
-    go : (a b : Bool) (x y : ℕ) → Plain (if a then whole 0 else (if b then whole 1 else ratio x y))
+    go : (a b : Bool) (x y : ℕ) → Plain (when a then whole 0 else (when b then whole 1 else ratio x y))
     go true b x y = tt
     go false true x y = tt
     go false false x y = tt

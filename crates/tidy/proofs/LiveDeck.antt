@@ -5,7 +5,7 @@ use mathlib.Core.Bool.{Bool, true, false}
 use mathlib.Core.List.{List, [], ◌∷◌, ◌++◌, map}
 use native.Mathlib.Omega.{arith}
 use lib.ListN.{length, drop, length-map}
-use Rattle.card.specs.Text.{if◌then◌else◌}
+use Rattle.card.specs.Text.{when◌then◌else◌}
 use Rattle.card.specs.Valid.{Every}
 use Rattle.deck.specs.Contents.{Row, row_of, rows_of, end_of, count_of, entries_from, behind, contents_of}
 use Rattle.deck.specs.Deck.{live_of, entry_of, rows_for, rows_text, bodies, deck_text}
@@ -26,7 +26,7 @@ pub live_few : (rs : List Row) → length (live_rows rs) ≤ length rs
 live_few [] = omega arith
 live_few (r ∷ rs) = go (live_of r) (live_few rs)
   where
-    go : (b : Bool) → length (live_rows rs) ≤ length rs → length (if b then r ∷ live_rows rs else live_rows rs) ≤ suc (length rs)
+    go : (b : Bool) → length (live_rows rs) ≤ length rs → length (when b then r ∷ live_rows rs else live_rows rs) ≤ suc (length rs)
     go true h = omega arith
     go false h = omega arith
 
@@ -46,7 +46,7 @@ module _ (deck : List ℕ) where
   right_rows (suc c) least last t s =
       go (live_of (row_of t)) (right_rows c (suc (row_of t).number) (end_of (row_of t)) (drop 8 t) (sound_rest (length deck) c least last t s))
     where
-      go : (b : Bool) → Every (KeptRow deck) (live_rows (rows_of c (drop 8 t))) → Every (KeptRow deck) (if b then row_of t ∷ live_rows (rows_of c (drop 8 t)) else live_rows (rows_of c (drop 8 t)))
+      go : (b : Bool) → Every (KeptRow deck) (live_rows (rows_of c (drop 8 t))) → Every (KeptRow deck) (when b then row_of t ∷ live_rows (rows_of c (drop 8 t)) else live_rows (rows_of c (drop 8 t)))
       go true more = let q = s.each 0 (omega arith) in (record { ends = q.ends; flag = q.flag; zero_byte = q.zero_byte }, more)
       go false more = more
 

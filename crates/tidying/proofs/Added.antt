@@ -9,7 +9,7 @@ use borrow.Author.Tests.{ltb-true, ltb-false, eq-eqb, ne_eqb}
 use lib.Dec.{ltb, eqb}
 use lib.ListN.{length, length-append}
 use Rattle.card.specs.Limits.{word_numbers}
-use Rattle.card.specs.Text.{if◌then◌else◌}
+use Rattle.card.specs.Text.{when◌then◌else◌}
 use Rattle.card.specs.Valid.{Every}
 use Rattle.entry.specs.Said.{says}
 use Rattle.deck.specs.Deck.{Entry, bodies, Rising}
@@ -30,7 +30,7 @@ module _ (new : Entry) where
     with_every [] p h = (p, tt)
     with_every (e ∷ es) p h = go (ltb e.number new.number) (with_every es p h.1)
       where
-        go : (b : Bool) → Every P (with_card new es) → Every P (if b then e ∷ with_card new es else new ∷ e ∷ es)
+        go : (b : Bool) → Every P (with_card new es) → Every P (when b then e ∷ with_card new es else new ∷ e ∷ es)
         go true r = (h.0, r)
         go false r = (p, (h.0, h.1))
 
@@ -38,7 +38,7 @@ module _ (new : Entry) where
   with_count [] = refl
   with_count (e ∷ es) = go (ltb e.number new.number) (with_count es)
     where
-      go : (b : Bool) → length (with_card new es) ≡ suc (length es) → length (if b then e ∷ with_card new es else new ∷ e ∷ es) ≡ suc (suc (length es))
+      go : (b : Bool) → length (with_card new es) ≡ suc (length es) → length (when b then e ∷ with_card new es else new ∷ e ∷ es) ≡ suc (suc (length es))
       go true r = ap suc r
       go false r = refl
 
@@ -47,7 +47,7 @@ module _ (new : Entry) where
   with_bodies (e ∷ es) = go (ltb e.number new.number) (with_bodies es)
     where
       go : (b : Bool) → length (bodies (with_card new es)) ≡ length new.body + length (bodies es)
-          → length (bodies (if b then e ∷ with_card new es else new ∷ e ∷ es)) ≡ length new.body + length (e.body ++ bodies es)
+          → length (bodies (when b then e ∷ with_card new es else new ∷ e ∷ es)) ≡ length new.body + length (e.body ++ bodies es)
       go true r = omega (arith, r, length-append e.body (bodies (with_card new es)), length-append e.body (bodies es))
       go false r = length-append new.body (e.body ++ bodies es)
 
@@ -56,7 +56,7 @@ module _ (new : Entry) where
   with_rising least (e ∷ es) l s o h = go (ltb e.number new.number) refl (λ m. with_rising (suc e.number) es m s o.1 h.2)
     where
       go : (b : Bool) → ltb e.number new.number ≡ b → (e.number < new.number → Rising (suc e.number) (with_card new es))
-          → Rising least (if b then e ∷ with_card new es else new ∷ e ∷ es)
+          → Rising least (when b then e ∷ with_card new es else new ∷ e ∷ es)
       go true k r = (h.0, h.1, r (ltb-true e.number new.number k))
       go false k r =
           let m = ltb-false e.number new.number k in
@@ -73,7 +73,7 @@ module _ (new : Entry) where
   at_its_place least (e ∷ es) o h = go (ltb e.number new.number) refl (at_its_place (suc e.number) es o.1 h.2)
     where
       go : (b : Bool) → ltb e.number new.number ≡ b → AtItsPlace new es (with_card new es)
-          → AtItsPlace new (e ∷ es) (if b then e ∷ with_card new es else new ∷ e ∷ es)
+          → AtItsPlace new (e ∷ es) (when b then e ∷ with_card new es else new ∷ e ∷ es)
       go true k r = record {
         before = e ∷ r.before;
         behind = r.behind;
@@ -91,7 +91,7 @@ module _ (new : Entry) where
   finds_new live (e ∷ es) = go (ltb e.number new.number) refl (finds_new live es)
     where
       go : (b : Bool) → ltb e.number new.number ≡ b → live_in new.number (with_card new es) ≡ says new.body
-          → live_in new.number (if b then e ∷ with_card new es else new ∷ e ∷ es) ≡ says new.body
+          → live_in new.number (when b then e ∷ with_card new es else new ∷ e ∷ es) ≡ says new.body
       go true k r = let m = ltb-true e.number new.number k in rw (ne_eqb e.number new.number (omega arith)) r
       go false k r = rw (eq-eqb new.number new.number refl, live)
 
@@ -100,7 +100,7 @@ module _ (new : Entry) where
   finds_others other n (e ∷ es) = go (ltb e.number new.number) (eqb e.number other && e.live) refl (finds_others other n es)
     where
       go : (b a : Bool) → eqb e.number other && e.live ≡ a → live_in other (with_card new es) ≡ live_in other es
-          → live_in other (if b then e ∷ with_card new es else new ∷ e ∷ es) ≡ (if a then says e.body else live_in other es)
+          → live_in other (when b then e ∷ with_card new es else new ∷ e ∷ es) ≡ (when a then says e.body else live_in other es)
       go true true k r = rw k
       go true false k r = rw k r
       go false a k r = rw (ne_eqb new.number other (λ q. n (sym q)), k)

@@ -8,7 +8,7 @@ use borrow.Author.Tests.{eqb-true, eqb-false, eq-eqb}
 use lib.Dec.{eqb}
 use lib.ListN.{drop}
 use Rattle.card.specs.Refusals.{not_added}
-use Rattle.card.specs.Text.{if◌then◌else◌}
+use Rattle.card.specs.Text.{when◌then◌else◌}
 use Rattle.card.specs.Valid.{Every}
 use Rattle.entry.specs.Said.{says, refused}
 use Rattle.entry.proofs.Stages.{says≢refused}
@@ -26,8 +26,8 @@ module _ (number : ℕ) where
   free_row at [] e = refl
   free_row at (row ∷ rows) {r} {p} e = go (is_live number row) (λ h. free_row (at + 8) rows h) e
     where
-      go : (b : Bool) → (live_row number rows ≡ refused r p → number_free number (at + 8) rows ≡ says tt) → (if b then says row else live_row number rows) ≡ refused r p
-          → (if b then refused not_added at else number_free number (at + 8) rows) ≡ says tt
+      go : (b : Bool) → (live_row number rows ≡ refused r p → number_free number (at + 8) rows ≡ says tt) → (when b then says row else live_row number rows) ≡ refused r p
+          → (when b then refused not_added at else number_free number (at + 8) rows) ≡ says tt
       go true rest h = says≢refused h
       go false rest h = rest h
 
@@ -39,8 +39,8 @@ module _ (number : ℕ) where
   others_row deck (row ∷ rows) {r} {p} e = go (eqb row.number number) (live_of row) refl (λ h. others_row deck rows h) e
     where
       go : (a b : Bool) → eqb row.number number ≡ a → (live_row number rows ≡ refused r p → Others (live_entries (map (entry_of deck) rows)))
-          → (if a && b then says row else live_row number rows) ≡ refused r p
-          → Others (if b then entry_of deck row ∷ live_entries (map (entry_of deck) rows) else live_entries (map (entry_of deck) rows))
+          → (when a && b then says row else live_row number rows) ≡ refused r p
+          → Others (when b then entry_of deck row ∷ live_entries (map (entry_of deck) rows) else live_entries (map (entry_of deck) rows))
       go true true k rest h = says≢refused h
       go true false k rest h = rest h
       go false true k rest h = (eqb-false row.number number k, rest h)

@@ -4,7 +4,7 @@ use mathlib.Core.Path.{◌≡◌, refl, ap}
 use mathlib.Core.Bool.{Bool, true, false, ◌&&◌}
 use mathlib.Core.List.{List, [], ◌∷◌}
 use lib.Dec.{eqb}
-use Rattle.card.specs.Text.{if◌then◌else◌}
+use Rattle.card.specs.Text.{when◌then◌else◌}
 use Rattle.card.specs.Valid.{Every}
 use Rattle.entry.specs.Said.{says}
 use Rattle.deck.specs.Deck.{Entry, kept}
@@ -20,7 +20,7 @@ module _ (f : Entry → Bool) where
   kept_pass [] = tt
   kept_pass (e ∷ es) = go (f e) refl (kept_pass es)
     where
-      go : (b : Bool) → f e ≡ b → Every Passing (kept f es) → Every Passing (if b then e ∷ kept f es else kept f es)
+      go : (b : Bool) → f e ≡ b → Every Passing (kept f es) → Every Passing (when b then e ∷ kept f es else kept f es)
       go true h r = (h, r)
       go false h r = r
 
@@ -34,7 +34,7 @@ found_live number [] = refl
 found_live number (e ∷ es) = go (eqb e.number number) e.live refl refl (found_live number es)
   where
     go : (a b : Bool) → eqb e.number number ≡ a → e.live ≡ b → live_in number (live_entries es) ≡ live_in number es
-        → live_in number (if b then e ∷ live_entries es else live_entries es) ≡ (if a && b then says e.body else live_in number es)
+        → live_in number (when b then e ∷ live_entries es else live_entries es) ≡ (when a && b then says e.body else live_in number es)
     go true true h k r = rw (h, k)
     go true false h k r = r
     go false true h k r = rw h r

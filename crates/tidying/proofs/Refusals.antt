@@ -12,7 +12,7 @@ use lib.ListN.{length}
 use Rattle.card.specs.Card.{Card}
 use Rattle.card.specs.Limits.{most_cards}
 use Rattle.card.specs.Refusals.{malformed_deck, no_live_card, room_too_small, not_added, OfCard}
-use Rattle.card.specs.Text.{if◌then◌else◌}
+use Rattle.card.specs.Text.{when◌then◌else◌}
 use Rattle.card.specs.Valid.{Every}
 use Rattle.entry.specs.Said.{Said, says, refused, ◌>>=◌, ◌>>◌, unless, saying}
 use Rattle.entry.specs.Contract.{fits}
@@ -72,7 +72,7 @@ module _ (deck : List ℕ) where
 listed : (a : ℕ) (ns : Numbers) (r : ℕ) → among (only a ++ ns) r ≡ true → (r ≡ a) ⊎ (among ns r ≡ true)
 listed a ns r h = go (leb a r) (leb r a) refl refl h
   where
-    go : (b c : Bool) → leb a r ≡ b → leb r a ≡ c → (if b && c then true else among ns r) ≡ true → (r ≡ a) ⊎ (among ns r ≡ true)
+    go : (b c : Bool) → leb a r ≡ b → leb r a ≡ c → (when b && c then true else among ns r) ≡ true → (r ≡ a) ⊎ (among ns r ≡ true)
     go true true k l e = inl (omega (arith, leb-true a r k, leb-true r a l))
     go true false k l e = inr e
     go false c k l e = inr e
@@ -159,7 +159,7 @@ rows_numbers : (number at : ℕ) (rs : List Row) → Among (only not_added) (num
 rows_numbers number at [] = record { number = λ r p e. says≢refused e }
 rows_numbers number at (r ∷ rs) = go (is_live number r) (rows_numbers number (at + 8) rs)
   where
-    go : (b : Bool) → Among (only not_added) (number_free number (at + 8) rs) → Among (only not_added) (if b then refused not_added at else number_free number (at + 8) rs)
+    go : (b : Bool) → Among (only not_added) (number_free number (at + 8) rs) → Among (only not_added) (when b then refused not_added at else number_free number (at + 8) rs)
     go true h = among_refused not_added at
     go false h = h
 

@@ -3,7 +3,7 @@
 use Rattle.std.specs.Prelude.{ℕ, ◌+◌, Bool, true, List, [], ◌∷◌, leb, ltb, length}
 use Rattle.card.specs.Limits.{most_cards, count_bytes, entry_bytes}
 use Rattle.card.specs.Refusals.{no_live_card, not_added}
-use Rattle.card.specs.Text.{if◌then◌else◌}
+use Rattle.card.specs.Text.{when◌then◌else◌}
 use Rattle.entry.specs.Said.{Said, says, refused, ◌>>=◌, ◌>>◌, return, unless}
 use Rattle.entry.specs.Contract.{fits}
 use Rattle.deck.specs.Contents.{Row, contents_of}
@@ -40,12 +40,12 @@ live_card number card = record { number = number; live = true; body = card }
 -- at its place by number: behind all lower ones
 abbrev pub with_card : Entry → List Entry → List Entry
 with_card new [] = new ∷ []
-with_card new (e ∷ es) = if ltb e.number new.number then e ∷ with_card new es else new ∷ e ∷ es
+with_card new (e ∷ es) = when ltb e.number new.number then e ∷ with_card new es else new ∷ e ∷ es
 
 -- 19 at the first byte of a live entry with this number; the entries start at `at`
 abbrev pub number_free : (number at : ℕ) → List Row → Said (Unit {0})
 number_free number at [] = says tt
-number_free number at (r ∷ rs) = if is_live number r then refused not_added at else number_free number (at + entry_bytes) rs
+number_free number at (r ∷ rs) = when is_live number r then refused not_added at else number_free number (at + entry_bytes) rs
 
 -- the live cards and the new one, written without gaps
 abbrev pub added_text : (number : ℕ) (card : List ℕ) → List Entry → List ℕ

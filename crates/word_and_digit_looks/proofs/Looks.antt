@@ -9,7 +9,7 @@ use borrow.Author.Tests.{leb-true, not-true}
 use lib.Dec.{leb}
 use lib.ListN.{length, get_or, drop}
 use lib.Seq.{drop-drop, get_or-drop}
-use Rattle.card.specs.Text.{if◌then◌else◌}
+use Rattle.card.specs.Text.{when◌then◌else◌}
 use Rattle.marks_on_a_card.specs.Bytes.{is_digit, begins, begun}
 use Rattle.marks_on_a_card.specs.Quick.{no_digit, one_digit, bytes_ahead}
 use Rattle.marks_on_a_card.proofs.Lists.{cases, and_left, and_right}
@@ -23,10 +23,10 @@ module _ (t s : List ℕ) (i : ℕ) (e : bytes_ahead t s i ≡ true) where
   bytes_fit = begun_fits t s i (leb-true i (length s) (and_left (leb i (length s)) (begun t (drop i s)) e)) bytes_stand
 
 module _ (more : ℕ → Bool) (s : List ℕ) (i : ℕ) where
-  pub one_digit_at : one_digit more (drop i s) ≡ (if begins is_digit (drop i s) && not (begins more (drop (i + 1) s)) then get_or s i 0 - 48 else no_digit)
+  pub one_digit_at : one_digit more (drop i s) ≡ (when begins is_digit (drop i s) && not (begins more (drop (i + 1) s)) then get_or s i 0 - 48 else no_digit)
   one_digit_at = tests (drop i s) ∙ rw (drop-drop 1 i s, get_or-drop i s 0 0, add-zero i)
     where
-      tests : (u : List ℕ) → one_digit more u ≡ (if begins is_digit u && not (begins more (drop 1 u)) then get_or u 0 0 - 48 else no_digit)
+      tests : (u : List ℕ) → one_digit more u ≡ (when begins is_digit u && not (begins more (drop 1 u)) then get_or u 0 0 - 48 else no_digit)
       tests [] = refl
       tests (b ∷ t) = refl
 

@@ -1,6 +1,6 @@
 -- The keyword that a text begins with: its kind and its size ("Marks on a card"). Assumes nothing.
 use Rattle.std.specs.Prelude.{ℕ, List, [], ◌∷◌, length}
-use Rattle.card.specs.Text.{if◌then◌else◌}
+use Rattle.card.specs.Text.{when◌then◌else◌}
 use Rattle.marks_on_a_card.specs.Bytes.{begins, is_letter, begun}
 use Rattle.marks_on_a_card.specs.Kinds.{Known, k_word}
 use Rattle.words_and_digits.specs.declared.Keyword.{Keyword}
@@ -10,8 +10,8 @@ abbrev pub lettered : List Known → List Known
 lettered [] = []
 lettered (x ∷ xs) =
     let more = lettered xs in
-    if begins is_letter x.spelt then x ∷ more else more
+    when begins is_letter x.spelt then x ∷ more else more
 
 abbrev pub begun_in : List Known → List ℕ → Keyword
 begun_in [] s = record { kind = k_word; size = 0 }
-begun_in (x ∷ xs) s = if begun x.spelt s then record { kind = x.kind; size = length x.spelt } else begun_in xs s
+begun_in (x ∷ xs) s = when begun x.spelt s then record { kind = x.kind; size = length x.spelt } else begun_in xs s
