@@ -2,9 +2,9 @@
 use Rattle.stored_weights.proofs.Laws.{stays_start, stays_next, stays_still, stays_adding}
 use borrow.Author.Rules.{rules}
 use native.Mathlib.Omega.{arith}
-use mathlib.Core.Logic.{⊎_elim}
 use mathlib.Core.Path.{◌≡◌, ◌∙◌}
 use Rattle.stored_weights.proofs.stays_of.Goals as goal
+use Rattle.stored_weights.proofs.stays_of.Goals.{then-able-ne0, else-able-ne0}
 
 pub loop-i-init : goal.loop-i-init
 loop-i-init c = (search rules, stays_start c.args.table.now c.args.rows.now c.args.branches.now)
@@ -39,8 +39,13 @@ add_stays-requires c =
 
 pub loop-i-preserved : goal.loop-i-preserved
 loop-i-preserved c =
-    let more = stays_next c.args.table.now c.args.rows.now c.args.branches.now c.loop-i.i c.loop-i.invariant.1 in
-    (search rules, ⊎_elim (λ w. w.6 ∙ w.5.ensures ∙ more) (λ w. w.1 ∙ stays_still c.args.table.now c.args.rows.now c.args.branches.now c.loop-i.i w.0.left c.loop-i.invariant.1) c.if-able-ne0.branch)
+    let more = stays_next c.args.table.now c.args.rows.now c.args.branches.now c.loop-i.i c.loop-i.invariant.1 in (
+      search rules,
+      elim c.if-able-ne0.branch [
+        | then-able-ne0 w ↦ w.stays-is ∙ w.add_stays.ensures ∙ more
+        | else-able-ne0 w ↦ w.stays-is ∙ stays_still c.args.table.now c.args.rows.now c.args.branches.now c.loop-i.i w.if-able-ne0.false c.loop-i.invariant.1
+      ],
+    )
 
 pub returns : goal.returns
 returns c =

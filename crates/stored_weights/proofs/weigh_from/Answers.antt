@@ -2,9 +2,9 @@
 use Rattle.stored_weights.proofs.Laws.{row_start, row_next, row_still, row_adding}
 use borrow.Author.Rules.{rules}
 use native.Mathlib.Omega.{arith}
-use mathlib.Core.Logic.{⊎_elim}
 use mathlib.Core.Path.{◌≡◌, ◌∙◌}
 use Rattle.stored_weights.proofs.weigh_from.Goals as goal
+use Rattle.stored_weights.proofs.weigh_from.Goals.{then-able-ne0, else-able-ne0}
 
 pub loop-i-init : goal.loop-i-init
 loop-i-init c = (search rules, c.requires.1 ∙ row_start c.args.table.now c.args.rows.now c.args.branches.now c.args.old)
@@ -31,8 +31,13 @@ add_weights-requires c =
 
 pub loop-i-preserved : goal.loop-i-preserved
 loop-i-preserved c =
-    let more = row_next c.args.table.now c.args.rows.now c.args.branches.now c.loop-i.i c.args.old c.able_from-able.ensures c.loop-i.invariant.1 in
-    (search rules, ⊎_elim (λ w. w.5 ∙ w.4.ensures ∙ more) (λ w. w.1 ∙ row_still c.args.table.now c.args.rows.now c.args.branches.now c.loop-i.i c.args.old c.able_from-able.ensures w.0.left c.loop-i.invariant.1) c.if-able-ne0.branch)
+    let more = row_next c.args.table.now c.args.rows.now c.args.branches.now c.loop-i.i c.args.old c.able_from-able.ensures c.loop-i.invariant.1 in (
+      search rules,
+      elim c.if-able-ne0.branch [
+        | then-able-ne0 w ↦ w.row-is ∙ w.add_weights.ensures ∙ more
+        | else-able-ne0 w ↦ w.row-is ∙ row_still c.args.table.now c.args.rows.now c.args.branches.now c.loop-i.i c.args.old c.able_from-able.ensures w.if-able-ne0.false c.loop-i.invariant.1
+      ],
+    )
 
 pub returns : goal.returns
 returns c =
