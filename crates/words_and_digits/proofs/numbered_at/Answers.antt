@@ -1,7 +1,6 @@
 -- Each exit has its law (proofs/Laws.antt), over the digits as they were counted.
 use Rattle.words_and_digits.proofs.Laws.{numbered_off, numbered_unplain, numbered_more, numbered_yes}
 use Rattle.marks_on_a_card.proofs.Runs.{begun_fits}
-use borrow.Author.Tests.{not-false}
 use native.Mathlib.Omega.{arith}
 use mathlib.Core.Path.{sym, ◌∙◌}
 use Rattle.marks_on_a_card.proofs.Numbers.{counted_fits}

@@ -1,7 +1,6 @@
 -- Each exit has its law (proofs/Starts.antt), over the digits as they were counted.
 use Rattle.marks.proofs.Starts.{numeral_outside, read_number, read_long, read_decimal}
 use Rattle.marks_on_a_card.proofs.Numbers.{pointed_place, counted_fits}
-use borrow.Author.Tests.{not-false}
 use native.Mathlib.Omega.{arith}
 use mathlib.Core.Path.{◌≡◌, sym, ◌∙◌}
 use lib.ListN.{length, drop}
@@ -9,15 +8,16 @@ use Prim.Native.Nat.{◌+◌, ◌≤◌, ◌<◌}
 use Rattle.card.specs.Limits.{number_digits, further_digits}
 use Rattle.marks_on_a_card.specs.Bytes.{is_digit, run}
 use Rattle.marks_on_a_card.specs.Digits.{plain}
+use Rattle.marks.proofs.number.numeral.Goals.{After-is_plain, Else-more-gt-FURTHER_DIGITS}
 use Rattle.marks.proofs.number.numeral.Goals as goal
 
 -- the digits before a point are judged as a number's
-digits-judged : (c : goal.After-is_plain)
+digits-judged : (c : After-is_plain)
     → c.is_plain.result ≡ plain number_digits (run is_digit (drop c.args.at c.args.card.now))
 digits-judged c = c.is_plain.ensures
 
 -- a decimal has no more digits behind its point than it may have
-few-further : (c : goal.Else-more-gt-FURTHER_DIGITS) → c.digits_from-f.result.count ≤ further_digits
+few-further : (c : Else-more-gt-FURTHER_DIGITS) → c.digits_from-f.result.count ≤ further_digits
 few-further c = c.if-more-gt-FURTHER_DIGITS.false
 
 pub is_plain-requires : goal.is_plain-requires
@@ -28,7 +28,7 @@ returns-then-not-is_plain c =
     λ k. c.bare.ensures ∙ sym
     (numeral_outside c.args.card.now c.args.at
     c.requires.0 c.requires.1 k
-    (sym (digits-judged c.before.before) ∙ c.if-not-is_plain.true))
+    (sym (digits-judged (goal.at.returns-then-not-is_plain c).After-is_plain) ∙ c.if-not-is_plain.true))
 
 pub overflow_add-point : goal.overflow_add-point
 overflow_add-point c =
@@ -45,7 +45,7 @@ returns-then-not-is_pointed c =
     (read_number c.args.card.now c.args.at
     c.requires.0 c.requires.1 k
     c.digits_from-d.result c.digits_from-d.ensures
-    (sym (digits-judged c.before.before.before.before) ∙ c.if-not-is_plain.false)
+    (sym (digits-judged (goal.at.returns-then-not-is_pointed c).After-is_plain) ∙ c.if-not-is_plain.false)
     (sym c.is_pointed.ensures ∙ c.if-not-is_pointed.true))
 
 pub overflow_add-from : goal.overflow_add-from
@@ -67,7 +67,7 @@ returns-then-more-gt-FURTHER_DIGITS c =
     c.requires.1 k
     c.digits_from-d.result c.digits_from-d.ensures
     c.digits_from-f.result c.digits_from-f.ensures
-    (sym (digits-judged c.before.before.before.before.before.before) ∙ c.if-not-is_plain.false)
+    (sym (digits-judged (goal.at.returns-then-more-gt-FURTHER_DIGITS c).After-is_plain) ∙ c.if-not-is_plain.false)
     (sym c.is_pointed.ensures ∙ c.if-not-is_pointed.false)
     c.if-more-gt-FURTHER_DIGITS.true)
 
@@ -94,5 +94,5 @@ returns c =
     c.args.at c.requires.0
     c.requires.1 k c.digits_from-d.result
     c.digits_from-d.ensures c.digits_from-f.result c.digits_from-f.ensures
-    (sym (digits-judged c.before.before.before.before.before) ∙ c.if-not-is_plain.false)
+    (sym (digits-judged (goal.at.returns c).After-is_plain) ∙ c.if-not-is_plain.false)
     (sym c.is_pointed.ensures ∙ c.if-not-is_pointed.false) (few-further c))
