@@ -4,11 +4,11 @@ use native.Mathlib.Omega.{arith}
 use Rattle.deck.specs.Lookup.{the_expansion}
 use Rattle.boxes.proofs.Seeking.{Sought}
 use Rattle.boxes.proofs.Lookup.{taken_head, place_small, with_bad_base, with_bad_expansion, with_expansion, with_base}
-use Rattle.boxes.proofs.locate_with.Goals.{After-seek}
+use Rattle.boxes.proofs.locate_with.Goals.{After-seek-there}
 use Rattle.boxes.proofs.locate_with.Goals as goal
 
 -- the card is sought in the expansion before the base
-expansion-first : (c : After-seek) → Sought c.args.expansion.now c.args.number the_expansion c.seek-there.result
+expansion-first : (c : After-seek-there) → Sought c.args.expansion.now c.args.number the_expansion c.seek-there.result
 expansion-first c = c.seek-there.ensures
 
 pub returns-in-Refused : goal.returns-in-Refused
@@ -42,11 +42,11 @@ pub returns-in-Refused-verdict : goal.returns-in-Refused-verdict
 returns-in-Refused-verdict c =
     with_base c.args.base.now c.args.expansion.now c.args.number
     (sym c.judge_deck-first.ensures ∙ c.in_default.is)
-    (sym c.judge_deck-second.ensures ∙ c.in_default-second.is) _ (expansion-first (goal.at.returns-in-Refused-verdict c).After-seek) c.in-Refused-verdict.is
+    (sym c.judge_deck-second.ensures ∙ c.in_default-second.is) _ (expansion-first (goal.at.returns-in-Refused-verdict c).After-seek-there) c.in-Refused-verdict.is
     c.seek.ensures
 
 pub returns : goal.returns
 returns c =
     with_expansion c.args.base.now c.args.expansion.now c.args.number
     (sym c.judge_deck-first.ensures ∙ c.in_default.is)
-    (sym c.judge_deck-second.ensures ∙ c.in_default-second.is) _ (expansion-first (goal.at.returns c).After-seek) c.in_default-verdict.is
+    (sym c.judge_deck-second.ensures ∙ c.in_default-second.is) _ (expansion-first (goal.at.returns c).After-seek-there) c.in_default-verdict.is
