@@ -1,16 +1,58 @@
-# What the scripts share, for bash to read in with `root` set to the project's folder: where the kit is, how a program for x86-64 is run,
-# and whether something has to be made anew.
-kit=$(cd "$(dirname "$(rt doc)")/.." && pwd -P)
+# What the scripts share, for bash to read in with `root` set to the project's folder: where the kit is, whether something has to be made anew, and how the kit's compiler
+# builds a crate.
+kit=$(dirname "$(rt doc)")
+tools=$kit/toolchain
 machine=$(uname -m)
-tools=$kit/on/$machine/toolchain
 
-# As rt runs a program: under the kit's loader and C library, and where the processor is another than x86-64 by the kit's emulator.
-run_x86_64=("$tools/lib/ld-linux-x86-64.so.2" --library-path "$tools/lib")
-[ ! -x "$tools/bin/qemu-x86_64" ] || run_x86_64=("$tools/bin/qemu-x86_64" "${run_x86_64[@]}")
+# made_of [CRATE]: by which kit, and a checksum of the crate and of all crates below it, or of all crates
+made_of() { echo "$(rt version), sources $("$root/bin/sources" "$@")"; }
 
-# changed FILE: has a crate changed since the file was made?
-changed() {
-    [ ! -e "$1" ] || [ "$(find "$root/crates" "$root/crates.txt" -newer "$1" -print -quit)" ]
+# note FILE CRATE: the file was made of the crate as it stands
+note() { made_of "$2" >"$1.made-of"; }
+
+# changed FILE CRATE: has the crate, a crate below it or the kit changed since the file was made?
+changed() { [ ! -e "$1" ] || [ "$(cat "$1.made-of" 2>/dev/null)" != "$(made_of "$2")" ]; }
+
+# below CRATE: the names of the crates below it
+below() { "$root/bin/crates" "$1" | sed 's/[ :].*//' | { grep -vx "$1" || true; }; }
+
+# left_by_ci: did `rt ci` prove these very sources here? `.ci/run` notes that in target/proved.
+left_by_ci() {
+    [ -n "${left-}" ] || { [ "$(cat "$root/target/proved" 2>/dev/null)" = "$(made_of)" ] && left=1 || left=0; }
+    [ "$left" -eq 1 ]
+}
+
+# libraries CRATE..: those below the crates are in crates/*/out, proved. What `rt ci` left serves, where none of it is of another run, which rt marks by a stamp; or else rt
+# proves what is not proved yet.
+libraries() {
+    local name whole=1
+    left_by_ci || whole=0
+    for name in $(for name; do below "$name"; done | sort -u); do
+        [ -d "$root/crates/$name/out/rlib/$name.rlib" ] && [ ! -e "$root/crates/$name/out/rlib/stamp" ] || whole=0
+    done
+    if [ $whole -eq 1 ]; then
+        return 0
+    elif [ $# -eq 1 ]; then
+        (cd "$root/crates/$1" && rt check)
+    else
+        (cd "$root" && rt all check)
+    fi
+}
+
+# words_for CRATE: leaves in `words` those by which the kit's prover and compiler find what the crate stands on, when they are run in the crate's folder
+words_for() {
+    local name
+    words=(--crate-name "$1" --antt-project "$kit/rattle/logic/antt-project.json" --logic-built "$kit/logic_built" --extern "std=$kit/rlibs/std.rlib" -L "dependency=$kit/rlibs")
+    for name in $(sed -nE "s/^$1( staticlib)?: *//p" "$root/crates.txt"); do words+=(--extern "$name=../$name/out/rlib/$name.rlib"); done
+    for name in $(below "$1"); do words+=(-L "dependency=../$name/out/rlib"); done
+}
+
+# built CRATE TOOLCHAIN OUT WORDS..: proves the crate over the libraries below it, and has the kit's compiler make OUT of it
+built() {
+    local words
+    words_for "$1"
+    mkdir -p "$root/crates/$1/out/incremental"
+    (cd "$root/crates/$1" && "$kit/bin/rattle" build "${words[@]}" --incremental out/incremental --jobs 2 --toolchain "$2" -o "$3" "${@:4}")
 }
 
 # without_kit FILE: its bytes, without what names the kit that made it: the sum of the kit's logic, which its compiler writes into all that it makes, and the id that its

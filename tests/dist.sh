@@ -7,14 +7,15 @@ root=$PWD
 . bin/kit.sh
 bin/dist target/dist
 
-# twice OBJECT..: the steps behind the module, done again elsewhere, give the same bytes
+# the steps behind what the kit's compiler makes, done again elsewhere, give the same bytes
 again=$(mktemp -d)
 trap 'rm -rf "$again"' EXIT
 mkdir -p "$again/target/library"
 cp -r bin include c js crates.txt "$again/"
-cp -r --preserve=timestamps crates "$again/"
-cp target/library/module.bc "$again/target/library/"
-cp -r target/staticlib "$again/target/"
+# without what the kit keeps there
+tar --exclude='crates/*/out' -cf - crates | tar -xf - -C "$again"
+for folder in x86_64-linux aarch64-linux; do mkdir "$again/target/library/$folder" && cp target/library/$folder/libtablet_c.a{,.made-of} "$again/target/library/$folder/"; done
+cp target/library/x86_64-linux/module.bc "$again/target/library/x86_64-linux/"
 "$again/bin/library" >/dev/null
 for folder in x86_64-linux aarch64-linux wasm32; do
     for made in target/dist/$folder/*; do

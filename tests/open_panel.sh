@@ -10,8 +10,10 @@ bin/dist target/dist
 made=$(mktemp -d)
 trap 'rm -rf "$made"' EXIT
 copy=$made/copy
-mkdir -p "$copy" "$made/plain" "$made/kit" "$made/system"/{lib64,lib/x86_64-linux-gnu}
-cp -r bin crates crates.txt "$copy/"
+mkdir -p "$copy" "$made/plain" "$made/kit/bin"
+cp -r bin crates.txt "$copy/"
+# without what the kit keeps there
+tar --exclude='crates/*/out' -cf - crates | tar -xf - -C "$copy"
 cp -r target/dist "$copy/dist"
 ln -s "$copy/bin/open_panel" "$made/link"
 runs=0
@@ -25,24 +27,28 @@ hold() {
 # shown WHAT: card A's panel, by the link, with nothing said beside
 shown() { hold "$1" "$("$made/link" <examples/card-a 2>&1)" "$(cat examples/card-a.panel)"; }
 
-# a system with what the script uses and no kit; for x86-64 programs an emulator, where they need one
-for command in bash env sed awk grep find xargs sort cat dirname readlink uname sha256sum tail tee mkdir touch cp; do ln -s "$(command -v $command)" "$made/plain/"; done
-if [ "$machine" != x86_64 ]; then
-    ln -s "$tools/bin/qemu-x86_64" "$made/plain/"
-    cp "$tools/lib/ld-linux-x86-64.so.2" "$made/system/lib64/"
-    cp "$tools/lib/libc.so.6" "$made/system/lib/x86_64-linux-gnu/"
-    export OPEN_PANEL_SYSROOT=$made/system
-fi
-# a kit whose check of a crate is quick
-cat >"$made/kit/rt" <<SH
+# a system with what the script uses and no kit
+for command in bash env sed awk grep find xargs sort cat dirname readlink uname sha256sum tail tee mkdir touch cp wc; do ln -s "$(command -v $command)" "$made/plain/"; done
+# a kit whose check of a crate is quick, and whose compiler and linker make what dist/ has
+cat >"$made/kit/bin/rt" <<SH
 #!/bin/sh
 case \$1 in
-    check) echo "modules loaded"; echo "rt: card proved (1 s)"; [ ! -e "$made/fails" ] || exit 1
-        mkdir -p target/bin && cp dist/x86_64-linux/open_panel target/bin/ ;;
+    doc) echo "$made/kit/START-HERE.md" ;;
+    check) echo "fn card::f: proved"; echo "crate card: modules loaded=0 checked=1"; [ ! -e "$made/fails" ] || exit 1 ;;
     *) exec "$(command -v rt)" "\$@" ;;
 esac
 SH
-chmod +x "$made/kit/rt"
+cat >"$made/kit/bin/rattle" <<'SH'
+#!/bin/sh
+while [ "$1" != -o ]; do shift; done
+echo object >"$2"
+SH
+cat >"$made/kit/bin/rattle-link" <<SH
+#!/bin/sh
+while [ "\$1" != -o ]; do shift; done
+cp "$copy/dist/x86_64-linux/open_panel" "\$2"
+SH
+chmod +x "$made/kit/bin"/*
 
 shown 'the kept program'
 path=$PATH
@@ -56,15 +62,15 @@ if said=$("$made/link" <examples/card-a 2>&1); then echo "open_panel: changed so
 PATH=$path
 hold 'changed, without the kit' "$said" "open_panel: the sources are not those of the program in dist/, and to build it Rattle's kit (rt) is needed"
 
-PATH=$made/kit:$path
+PATH=$made/kit/bin:$path
 touch "$made/fails"
 if said=$("$made/link" <examples/card-a 2>&1); then echo "open_panel: it could not be built, and it runs" && exit 1; fi
 hold 'a build that fails' "$(grep -c 'it could not be built' <<<"$said")" 1
 rm "$made/fails"
 hold 'built' "$("$made/link" <examples/card-a 2>"$made/said")" "$(cat examples/card-a.panel)"
 hold 'what is said first' "$(grep -c '^open_panel: .*\(proved and built now\|minutes\)' "$made/said")" 2
-hold 'a line for each crate' "$(grep -v '^open_panel: ' "$made/said")" 'rt: card proved (1 s)'
-hold 'the rest' "$(head -n 1 "$copy/target/open_panel.log")" 'modules loaded'
+hold 'a line for each crate' "$(grep -v '^open_panel: ' "$made/said")" 'card checked'
+hold 'the rest' "$(head -n 1 "$copy/target/open_panel.log")" 'fn card::f: proved'
 shown 'the built program, again'
 PATH=$path
 

@@ -7,7 +7,7 @@ root=$PWD
 . bin/kit.sh
 . tests/c/build.sh
 bin/library >/dev/null
-: | bin/open_panel >/dev/null
+program=$(bin/program)
 . rust/library.sh
 cargo build --manifest-path rust/Cargo.toml --release --offline --quiet --package vectors
 
@@ -64,5 +64,5 @@ else
 fi
 
 echo "vectors: panel program"
-held base panel program "${run_x86_64[@]}" target/bin/open_panel
-held fractions fractions-panel program "${run_x86_64[@]}" target/bin/open_panel
+held base panel program "$program"
+held fractions fractions-panel program "$program"

@@ -5,7 +5,7 @@ words=(-Wall -Wextra -pedantic -Werror -std=c99 -D_POSIX_C_SOURCE=200809L -O1 "-
 # runnable TARGET: can a program for it be linked and run here? Where not, it says why.
 runnable() {
     case $1 in
-        "$machine-linux" | x86_64-linux) return 0 ;;
+        "$machine-linux") return 0 ;;
         aarch64-linux)
             if command -v aarch64-linux-gnu-gcc >/dev/null && command -v qemu-aarch64 >/dev/null; then return 0; fi
             echo "$1: left out, as there is no aarch64-linux-gnu-gcc or no qemu-aarch64 here"
@@ -24,16 +24,6 @@ linked() {
     run=("$made")
     case $1 in
         "$machine-linux") cc "${words[@]}" "$source" "$library" -Wl,-rpath,"$folder" -o "$made" ;;
-        x86_64-linux)
-            # with the kit's C library, under the kit's emulator: on the plain processor the C library copies memory without string
-            # instructions, which an emulator does byte by byte
-            "$tools/bin/clang" --target=x86_64-linux-gnu "${words[@]}" -fPIE \
-                -isystem "$(cc -print-file-name=include)" -isystem "/usr/include/$(cc -dumpmachine)" -c "$source" -o "$made.o"
-            "$tools/bin/ld.lld" -pie -rpath "$folder" --dynamic-linker /lib64/ld-linux-x86-64.so.2 -o "$made" \
-                "$tools"/lib/{Scrt1.o,crti.o,crtbeginS.o} "$made.o" "$library" \
-                "$tools"/lib/{libc.so.6,libc_nonshared.a,libgcc.a,crtendS.o,crtn.o}
-            run=("${run_x86_64[0]}" -cpu qemu64 "${run_x86_64[@]:1}" "$made")
-            ;;
         aarch64-linux)
             if [ $kind = a ]; then
                 aarch64-linux-gnu-gcc -static "${words[@]}" "$source" "$library" -o "$made"
