@@ -47,8 +47,8 @@ named=$(awk '
             } else {
                 was_edit = 0
                 if (word ~ /^[A-Za-z0-9_]+(::[A-Za-z0-9_]+)+$/) say("code", word)
-                else if (word ~ /^[a-z][A-Za-z0-9-]+ : [A-Z][A-Za-z0-9-]+$/) say("statement", word)
-                else if (word ~ /^[A-Z][A-Za-z0-9-]*\.[a-z][a-z0-9-]*$/ && word !~ /\.(antt|md|rt)$/) say("field", word)
+                else if (word ~ /^[a-z][A-Za-z0-9_-]+ : [A-Z][A-Za-z0-9_-]+$/) say("statement", word)
+                else if (word ~ /^[A-Z][A-Za-z0-9-]*\.[a-z][a-z0-9_-]*$/ && word !~ /\.(antt|md|rt)$/) say("field", word)
                 else if (word ~ /^target\//) continue
                 else if (word ~ /^[A-Za-z0-9_.-]+(\/[A-Za-z0-9_.-]+)*\/?$/ && word ~ /[A-Za-z_.-][A-Za-z_-]/ &&
                     (word ~ /\// || word ~ /[a-z]\.(antt|rt|edit|rs|toml|sh|mjs|c|h|md|txt|cases|expected|index)$/)) say("path", word)
@@ -57,7 +57,7 @@ named=$(awk '
         }
     }' "${pages[@]}")
 
-files=$(find . \( -path ./target -o -path ./.git -o -path ./rust/target \) -prune -o -print)
+files=$(find . \( -path ./target -o -path ./.git -o -path ./rust/target -o -path './crates/*/out' \) -prune -o -print)
 looked=0
 missing=0
 
@@ -99,7 +99,7 @@ while IFS=$'\t' read -r kind page line word; do
     fi
 done <<<"$named"
 
-if ! diff <(sed -n 's/^\([a-z_]*\):.*/\1/p' crates.txt | sort) \
+if ! diff <(sed -nE 's/^([a-z_]*)( staticlib)?:.*/\1/p' crates.txt | sort) \
     <(awk -F'`' '/^\| Crate \|/ { rows = 1 } rows && !/^\|/ { rows = 0 } rows && NF > 1 { print $2 }' README.md | sort); then
     echo "README.md: the table of crates (>) is not crates.txt (<)"
     missing=$((missing + 1))

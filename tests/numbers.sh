@@ -6,10 +6,10 @@ cd "$(dirname "${BASH_SOURCE[0]}")/.."
 seen=0
 wrong=0
 
-# proved NAME: the number that the promises give the name, by computation
+# proved NAME: the number that the promises give the name, which may stand there as seat_count or seatCount, by computation
 proved() {
     local given
-    given=$(sed -n "s/^  pub [a-z0-9-]* : $1 ≡ \([0-9]*\)$/\1/p" crates/card_promises/specs/Figures.antt)
+    given=$(sed -nE "s/^  pub [A-Za-z0-9_-]+ : ($1|$(sed -E 's/_([a-z])/\U\1/g' <<<"$1")) ≡ ([0-9]*)$/\2/p" crates/card_promises/specs/Figures.antt)
     [[ $given =~ ^[0-9]+$ ]] || { echo "numbers: the promises give $1 no number, or two" >&2 && return 1; }
     echo "$given"
 }
@@ -49,50 +49,50 @@ stack() {
     fi
 }
 
-number CARD_BYTES cardBytes
-number QUESTION_BYTES cardBytes
-number DECK_BYTES deckBytes
-number DECK_CARDS mostCards
-number SEATS mostSeats
-number TOP_STATE topState
-number TOP_CLASS topClass
+number CARD_BYTES card_bytes
+number QUESTION_BYTES card_bytes
+number DECK_BYTES deck_bytes
+number DECK_CARDS most_cards
+number SEATS most_seats
+number TOP_STATE top_state
+number TOP_CLASS top_class
 number UNIT unit
-number ODDS_ROW mostVectors
-number ODDS_STEPS mostNights
+number ODDS_ROW most_vectors
+number ODDS_STEPS most_nights
 number CERTAIN million
-number WRITE_ROOM writtenRoom
-number REDUCE_ROOM reducedRoom
-number SHOW_ROOM panelRoom
-number WATCH_ROOM classesRoom
-number LIST_ROOM listRoom
+number WRITE_ROOM written_room
+number REDUCE_ROOM reduced_room
+number SHOW_ROOM panel_room
+number WATCH_ROOM classes_room
+number LIST_ROOM list_room
 
-refusal LONG Long tooLong
-refusal MARK Mark outsideRules
-refusal SHAPE Shape outOfShape
-refusal LIMIT Limit pastLimit
-refusal STATE State aboveTop
-refusal WORD Word notDue
-refusal WEIGHT Weight wrongWeight
-refusal SEAT_COUNT SeatCount wrongSeats
-refusal SEAT_STATE SeatState seatAboveTop
-refusal ROOM Room roomTooSmall
-refusal DECK Deck malformedDeck
-refusal NO_CARD NoLiveCard noLiveCard
-refusal CLASSES Classes wrongClasses
-refusal VECTORS Vectors tooManyVectors
-refusal STEPS Steps tooManyNights
-refusal ROWS Row wrongRow
-refusal DECIMAL Decimal decimalWeight
-refusal NOT_CONVERTED NotConverted notConverted
-refusal NOT_ADDED NotAdded notAdded
+refusal LONG Long too_long
+refusal MARK Mark outside_rules
+refusal SHAPE Shape out_of_shape
+refusal LIMIT Limit past_limit
+refusal STATE State above_top
+refusal WORD Word not_due
+refusal WEIGHT Weight wrong_weight
+refusal SEAT_COUNT SeatCount wrong_seats
+refusal SEAT_STATE SeatState seat_above_top
+refusal ROOM Room room_too_small
+refusal DECK Deck malformed_deck
+refusal NO_CARD NoLiveCard no_live_card
+refusal CLASSES Classes wrong_classes
+refusal VECTORS Vectors too_many_vectors
+refusal STEPS Steps too_many_nights
+refusal ROWS Row wrong_row
+refusal DECIMAL Decimal decimal_weight
+refusal NOT_CONVERTED NotConverted not_converted
+refusal NOT_ADDED NotAdded not_added
 
 # a question's numbers
-refusal QUESTION_LONG QuestionLong 'inQuestion tooLong'
-refusal QUESTION_MARK QuestionMark 'inQuestion outsideRules'
-refusal QUESTION_SHAPE QuestionShape 'inQuestion outOfShape'
-refusal QUESTION_LIMIT QuestionLimit 'inQuestion pastLimit'
-refusal QUESTION_STATE QuestionState 'inQuestion aboveTop'
-refusal QUESTION_GROUP QuestionGroup 'inQuestion notDue'
+refusal QUESTION_LONG QuestionLong 'in_question too_long'
+refusal QUESTION_MARK QuestionMark 'in_question outside_rules'
+refusal QUESTION_SHAPE QuestionShape 'in_question out_of_shape'
+refusal QUESTION_LIMIT QuestionLimit 'in_question past_limit'
+refusal QUESTION_STATE QuestionState 'in_question above_top'
+refusal QUESTION_GROUP QuestionGroup 'in_question not_due'
 
 # the stack, for every entry of the header
 stack JUDGE JUDGE
