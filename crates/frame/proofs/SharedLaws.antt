@@ -1,7 +1,7 @@
 -- The shared number: nothing where none is declared, and else its words, its range, and the two numbers written. Assumes nothing.
 use Prim.Native.Nat.{ℕ, suc, ◌+◌}
 use mathlib.Core.Path.{◌≡◌, refl, sym, ap, ◌∙◌, subst}
-use mathlib.Core.Bool.{Bool, true, false, not}
+use mathlib.Core.Bool.{Bool, true, false}
 use mathlib.Core.List.{List}
 use mathlib.Core.Option.{none, some}
 use native.Mathlib.Numerals.{add-one}
@@ -46,13 +46,13 @@ module _ (was : List ℕ) (sized : Sized was) (m v : ℕ) where
   written_sized = set_sized (set was at_shared m) one at_initial v
 
 -- by the look for the keyword
-pub not_declared : (b : Bool) (k : ℕ) → b ≡ eqb k (kind "global") → not b ≡ true → k ≡ kind "global" → ⊥
-not_declared true k e f = let z : ◌≡◌ {A = ℕ} 0 1 = cc in absurd (omega arith)
+pub not_declared : (b : Bool) (k : ℕ) → b ≡ eqb k (kind "global") → b ≡ false → k ≡ kind "global" → ⊥
+not_declared true k e f = cc
 not_declared false k e f = eqb-false k (kind "global") (sym e)
 
-pub is_declared : (b : Bool) (k : ℕ) → b ≡ eqb k (kind "global") → not b ≡ false → k ≡ kind "global"
+pub is_declared : (b : Bool) (k : ℕ) → b ≡ eqb k (kind "global") → b ≡ true → k ≡ kind "global"
 is_declared true k e f = eqb-true k (kind "global") (sym e)
-is_declared false k e f = let z : ◌≡◌ {A = ℕ} 0 1 = cc in absurd (omega arith)
+is_declared false k e f = cc
 
 global : Told "global"
 global = told "global" (omega arith)

@@ -155,7 +155,8 @@ module _ (all : Bool) (count seats : ℕ) (t : List Literal) (ts : List (List Li
   few h true e =
       let c : count ≡ m = omega arith in
       let s : m ≡ seats = eqb-true m seats e in
-      rw (c, e, and_true all, agreed h (omega (arith, s)), ← s)
+      rw (c, e, and_true all)
+      (ap (λ b. when b then m else 0) (agreed h (omega (arith, s)) ∙ ap (λ n. is_terms n (literal_d t) 1 (t ∷ ts)) (sym s)))
   few h false e =
       unlike (λ z. eqb-false m seats e (omega arith))
       ∙ rw (once_seats m t (omega arith) h, ← se, ne_eqb seats m (λ z. eqb-false m seats e (sym z)), and-false (each_due (literal_d t) 1 t))

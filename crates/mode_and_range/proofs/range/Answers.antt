@@ -5,8 +5,8 @@ use Rattle.parts.specs.Parts.{NumberFrom}
 use Rattle.mode_and_range.proofs.range.Goals as goal
 
 -- what a range starts at is judged by its top, as it was read
-start-judged : (c : goal.After-number-last)
-    → 
+start-judged : (c : goal.Then-last-eq0)
+    →
     let card = c.args.card.now in
     NumberFrom card c.sign-init.result (value_in c.span-values.new.state) (late_in c.sign-init.new.state) (after c.number-last.new.state c.number-last.result)
 start-judged c = c.number-last.ensures
@@ -38,7 +38,7 @@ number-last-requires c = c.sign-init.ensures.sized
 pub returns-then-last-eq0 : goal.returns-then-last-eq0
 returns-then-last-eq0 c =
     start_halts _ _ _ _ _ c.span-values.ensures c.if-values-eq0.false _ c.sign-close.ensures c.if-close-eq0.false _ c.sign-init.ensures
-    c.if-init-eq0.false _ (start-judged c.before) c.if-last-eq0.true
+    c.if-init-eq0.false _ (start-judged c) c.if-last-eq0.true
 
 pub sign-end-requires : goal.sign-end-requires
 sign-end-requires c = c.number-last.ensures.sized
@@ -46,9 +46,9 @@ sign-end-requires c = c.number-last.ensures.sized
 pub returns-then-end-eq0 : goal.returns-then-end-eq0
 returns-then-end-eq0 c =
     semicolon_halts _ _ _ _ _ c.span-values.ensures c.if-values-eq0.false _ c.sign-close.ensures c.if-close-eq0.false _ c.sign-init.ensures
-    c.if-init-eq0.false _ (start-judged c.before.before.before.before.before) c.if-last-eq0.false _ c.sign-end.ensures c.if-end-eq0.true
+    c.if-init-eq0.false _ c.number-last.ensures c.if-last-eq0.false _ c.sign-end.ensures c.if-end-eq0.true
 
 pub returns : goal.returns
 returns c =
     range_read _ _ _ _ _ c.span-values.ensures c.if-values-eq0.false _ c.sign-close.ensures c.if-close-eq0.false _ c.sign-init.ensures
-    c.if-init-eq0.false _ (start-judged c.before.before.before.before.before.before.before) c.if-last-eq0.false _ c.sign-end.ensures c.if-end-eq0.false c.keep.ensures
+    c.if-init-eq0.false _ c.number-last.ensures c.if-last-eq0.false _ c.sign-end.ensures c.if-end-eq0.false c.keep.ensures
