@@ -6,7 +6,6 @@ use Rattle.counting.proofs.Table.{held_leaf, held_not, held_and, held_not_and, h
 use Rattle.counting.proofs.held.Reads as held
 use Rattle.counting.proofs.+held.Goals as goal
 
-
 pub returns-then-root-eq0 : goal.returns-then-root-eq0
 returns-then-root-eq0 t c = c.leaf_holds.ensures ∙ held_leaf _ _ _ _ _ _ c.number_at-node.ensures (inr c.if-root-eq0.true)
 

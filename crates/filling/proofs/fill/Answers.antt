@@ -12,7 +12,7 @@ use Rattle.filling.proofs.fill.Goals as goal
 
 -- where none can be taken, the stuck weight is stored as that of no change
 stuck-stored : (c : goal.After-store_stuck)
-    → 
+    →
     let shared = c.shared_of-shared.result in
     c.store_stuck.new.table ≡ set (set c.store_ables.new.table enabled_place 1) (stays_from + shared) c.stuck_weight-weight.result
 stuck-stored c = c.store_stuck.ensures

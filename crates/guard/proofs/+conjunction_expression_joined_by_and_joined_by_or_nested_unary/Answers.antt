@@ -51,6 +51,7 @@ pub conjunction-returns : goal.conjunction-returns
 conjunction-returns t c =
     let a = c.args in
     c.joined_by_and.ensures a.nodes.now (free_in a.state.now) (late_in a.state.now) (unary_in (language_of a.language) a.depth (at (marks_at 0 a.card.now a.at) (left_in a.state.now))) c.unary-first.ensures
+
 -- The readers of a guard call each other, with a measure of eight steps for each bracket, `!` and node left. A chain's invariant:
 -- the guard is what was read so far and the chain behind it make (Chaining); its measure is how many nodes are left. Assumes nothing.
 
@@ -82,6 +83,7 @@ pub expression-returns : goal.expression-returns
 expression-returns t c =
     let a = c.args in
     c.joined_by_or.ensures a.nodes.now (free_in a.state.now) (late_in a.state.now) (grammar.conjunction (unary_in (language_of a.language) a.depth) (at (marks_at 0 a.card.now a.at) (left_in a.state.now))) c.conjunction-first.ensures
+
 -- The readers of a guard call each other, with a measure of eight steps for each bracket, `!` and node left. A chain's invariant:
 -- the guard is what was read so far and the chain behind it make (Chaining); its measure is how many nodes are left. Assumes nothing.
 
@@ -164,6 +166,7 @@ joined_by_and-loop-next-preserved t c =
 
 pub joined_by_and-returns : goal.joined_by_and-returns
 joined_by_and-returns t c = absurd (c.loop-next.invariant.begun.some c.loop-next-test.false)
+
 -- The readers of a guard call each other, with a measure of eight steps for each bracket, `!` and node left. A chain's invariant:
 -- the guard is what was read so far and the chain behind it make (Chaining); its measure is how many nodes are left. Assumes nothing.
 
@@ -246,6 +249,7 @@ joined_by_or-loop-next-preserved t c =
 
 pub joined_by_or-returns : goal.joined_by_or-returns
 joined_by_or-returns t c = absurd (c.loop-next.invariant.begun.some c.loop-next-test.false)
+
 -- The readers of a guard call each other, with a measure of eight steps for each bracket, `!` and node left. A chain's invariant:
 -- the guard is what was read so far and the chain behind it make (Chaining); its measure is how many nodes are left. Assumes nothing.
 
@@ -372,6 +376,7 @@ nested-returns t c =
     c.if-s-ne-NOT.false c.if-depth-eq0-2.false c.if-left-eq0.false mid g _
     (read_spending (language_of a.language) a.state.now a.card.now a.top a.nodes.now mid (unary_in (language_of a.language) (a.depth - 1)) (marks_at 0 a.card.now c.step_opening-s.result.next.at) g c.requires.0.sized c.unary-next.ensures)
     (not_well (language_of a.language) mid g c.pack_node.result c.if-next-eq0.false fits c.pack_node.ensures))
+
 -- The readers of a guard call each other, with a measure of eight steps for each bracket, `!` and node left. A chain's invariant:
 -- the guard is what was read so far and the chain behind it make (Chaining); its measure is how many nodes are left. Assumes nothing.
 

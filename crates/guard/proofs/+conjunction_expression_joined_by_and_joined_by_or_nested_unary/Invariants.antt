@@ -9,19 +9,15 @@ use Prim.Native.Nat.{◌+◌, ◌*◌}
 use Rattle.guard.proofs.+conjunction_expression_joined_by_and_joined_by_or_nested_unary.Given as goal
 
 abbrev pub invariant-joined_by_and-loop-next : goal.invariant-joined_by_and-loop-next
-
 invariant-joined_by_and-loop-next l = Chaining (language_of l.language) (keeping l.language) l.card l.top l.initial.nodes l.nodes l.depth false (after l.initial.state l.first) (after l.state l.next)
 
 abbrev pub decreases-joined_by_and-loop-next : goal.decreases-joined_by_and-loop-next
-
 decreases-joined_by_and-loop-next l = left_in l.state
 
 abbrev pub invariant-joined_by_or-loop-next : goal.invariant-joined_by_or-loop-next
-
 invariant-joined_by_or-loop-next l = Chaining (language_of l.language) (keeping l.language) l.card l.top l.initial.nodes l.nodes l.depth true (after l.initial.state l.first) (after l.state l.next)
 
 abbrev pub decreases-joined_by_or-loop-next : goal.decreases-joined_by_or-loop-next
-
 decreases-joined_by_or-loop-next l = left_in l.state
 
 abbrev pub decreases-conjunction : goal.decreases-conjunction

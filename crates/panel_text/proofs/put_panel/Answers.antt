@@ -19,7 +19,7 @@ stuck-choice c = c.put_line-b.ensures
 
 -- and its weight of no change is the table's
 stuck-stay : (c : goal.After-put_stay)
-    → 
+    →
     let start = c.args in
     let table = start.table.now in
     Puts c.put_line-b.new.room c.put_stay.new.room c.put_line-b.result (stays_text (tells start.head.shared) (stay_line (shared_in table) (stay_in table (shared_in table)))) c.put_stay.result

@@ -23,12 +23,11 @@ put_statement-to-requires c =
     record { fits = fits_at c.requires c.loop-i-test.true c.row_at-x.ensures; keeps_tail = keeps_at c.requires c.loop-i-test.true c.row_at-x.ensures c.args.text _ c.copies_of-copies.ensures }
 
 pub loop-i-preserved : goal.loop-i-preserved
-loop-i-preserved c =
-    (
-      search rules,
-      counted_next _ 0 _ (search rules) c.loop-i.invariant.1
-          (puts_as _ (next_is c.args.text c.args.head.seats c.copies_of-copies.result c.args.nodes.now c.args.branches.now c.args.rows.now _ c.row_at-x.ensures) c.put_statement-to.ensures),
-    )
+loop-i-preserved c = (
+  search rules,
+  counted_next _ 0 _ (search rules) c.loop-i.invariant.1
+      (puts_as _ (next_is c.args.text c.args.head.seats c.copies_of-copies.result c.args.nodes.now c.args.branches.now c.args.rows.now _ c.row_at-x.ensures) c.put_statement-to.ensures),
+)
 
 pub shape_of-room : goal.shape_of-room
 shape_of-room c = put_length c.loop-i.invariant.1.put
