@@ -1,7 +1,6 @@
 -- Each way out has its law (proofs/Looks.antt).
 use mathlib.Core.Path.{sym, ◌∙◌}
 use native.Mathlib.Omega.{arith}
-use borrow.Author.Tests.{not-false}
 use Rattle.marks_on_a_card.specs.Bytes.{in_number, is_digit}
 use Rattle.marks_on_a_card.proofs.Runs.{begins_place}
 use Rattle.word_and_digit_looks.proofs.Looks.{digit_none, digit_low, digit_more, digit_over}

@@ -1,7 +1,6 @@
 -- Each way out has its law (proofs/Looks.antt of word_and_digit_looks).
 use mathlib.Core.Path.{sym, ◌∙◌}
 use native.Mathlib.Omega.{arith}
-use borrow.Author.Tests.{not-false}
 use Rattle.marks_on_a_card.specs.Bytes.{is_digit, in_word}
 use Rattle.marks_on_a_card.proofs.Runs.{begins_place}
 use Rattle.word_and_digit_looks.proofs.Looks.{digit_none, digit_low, digit_more, digit_over}
