@@ -2,23 +2,25 @@
 use Rattle.update_text.proofs.Laws.{update_none, update_set, update_shift, update_both}
 use Rattle.phrases.proofs.Laws.{put_first, puts_then, puts_as}
 use Prim.Native.Nat.{ℕ}
+use mathlib.Core.Path.{◌≡◌}
 use native.Mathlib.Omega.{arith}
 use Rattle.card.specs.Text.{bytes}
 use Rattle.room.specs.Room.{Put}
 use Rattle.update_text.proofs.put_update.Goals as goal
+use Rattle.update_text.proofs.put_update.Goals.{After-put_bytes}
 
 -- nothing is set where `true` stands,
-nothing-set : (c : goal.After-put_bytes) → ◌≡◌ {A = ℕ} c.args.sets 0
+nothing-set : (c : After-put_bytes) → ◌≡◌ {A = ℕ} c.args.sets 0
 nothing-set c = c.if-sets-eq0.true
 
 -- and that word it is
-true-put : (c : goal.After-put_bytes)
+true-put : (c : After-put_bytes)
     → let start = c.args in Put start.room.now c.put_bytes.new.room start.at (bytes "true") c.put_bytes.result
 true-put c = c.put_bytes.ensures
 
 pub returns-then-sets-eq0 : goal.returns-then-sets-eq0
 returns-then-sets-eq0 c =
-    puts_as _ (update_none c.args.seats c.args.own c.args.end c.args.sets (omega (arith, c.if-own-end.true)) (nothing-set c.before.before)) (put_first (true-put c.before.before))
+    puts_as _ (update_none c.args.seats c.args.own c.args.end c.args.sets (omega (arith, c.if-own-end.true)) (nothing-set c.before.before.before)) (put_first (true-put c.before.before.before))
 
 pub returns-then-own-end : goal.returns-then-own-end
 returns-then-own-end c =
