@@ -24,9 +24,9 @@ short-room : (c : Then-room-need) → length c.args.room.now < held c.if-need-gt
 short-room c = c.if-room-need.true
 
 -- the first body stands right behind the contents
-no_gap : (c : After-put_deck) →
+no-gap : (c : After-put_deck) →
     DeckPut c.args.room.now c.put_deck.new.room c.args.contents.now c.args.bodies.now (1 + length c.args.contents.now) c.put_deck.result
-no_gap c = c.put_deck.ensures
+no-gap c = c.put_deck.ensures
 
 pub returns-then-long-bodies : goal.returns-then-long-bodies
 returns-then-long-bodies c =
@@ -51,4 +51,4 @@ put_deck-requires c =
 
 pub returns : goal.returns
 returns c =
-    stored (is_fine c.args.contents.now c.args.bodies.now c.requires (whole (goal.at.returns c).Else-long-bodies) c.if-need-gt-DECK_BYTES.false) c.if-room-need.false (no_gap (goal.at.returns c).After-put_deck)
+    stored (is_fine c.args.contents.now c.args.bodies.now c.requires (whole (goal.at.returns c).Else-long-bodies) c.if-need-gt-DECK_BYTES.false) c.if-room-need.false (no-gap (goal.at.returns c).After-put_deck)

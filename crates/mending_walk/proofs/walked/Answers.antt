@@ -20,8 +20,8 @@ same : (c : Then-fate-ne0)
 same c =
     stays c.args.fate _ c.args.walk c.if-fate-ne0.true
 
-least_stays : InPart (λ (w : Walk). w.least) (λ (whole : goal.returns-then-fate-ne0). Unit)
-least_stays c = ap (λ (w : Walk). w.least) (same c)
+least-stays : InPart (λ (w : Walk). w.least) (λ (whole : goal.returns-then-fate-ne0). Unit)
+least-stays c = ap (λ (w : Walk). w.least) (same c)
 
 last-stays : InPart (λ (w : Walk). w.last) (λ (whole : goal.returns-then-fate-ne0). Unit)
 last-stays c = ap (λ (w : Walk). w.last) (same c)
@@ -43,7 +43,7 @@ pub overflow_add-end : goal.overflow_add-end
 overflow_add-end c = omega (arith, c.word_at-offset.ensures.1, c.word_at-size.ensures.1)
 
 pub returns-then-fate-ne0 : goal.returns-then-fate-ne0
-returns-then-fate-ne0 c = λ i. record { least = least_stays c i; last = last-stays c i; cards = (same c i).cards; bytes = (same c i).bytes }
+returns-then-fate-ne0 c = λ i. record { least = least-stays c i; last = last-stays c i; cards = (same c i).cards; bytes = (same c i).bytes }
 
 pub returns : goal.returns
 returns c =
