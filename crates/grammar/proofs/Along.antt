@@ -12,7 +12,7 @@ use Rattle.card.specs.Valid.{Every}
 use Rattle.marks_on_a_card.specs.Marks.{seat, process, number, decimal, Placed, placed, place_of}
 use Rattle.reading.specs.Reader.{Place, Numbered, Item}
 use Rattle.reading.specs.Group.{joint, relation, Literal, Literals, literals_of, SharedTest, Tested}
-use Rattle.reading.specs.Judgements.{Judgement, state, word, one_group, weight, sum, place_in, broken, fine, wrong, first_broken, judged_group, judged_test, judged_guard}
+use Rattle.reading.specs.Judgements.{Judgement, state, word, one_group, weight, sum, place_in, fine, wrong, first_broken, judged_group, judged_test, judged_guard}
 use Rattle.reading.specs.Shape.{BranchShape, StatementShape, Range, CardShape}
 use Rattle.reading.specs.Checks.{judged_state, judged_words, judged_set, judged_branch, judged_each, judged_or, weight_in, judged_statement, module_dues, judged_modules, judged_shared, most_in, judged_card}
 use Rattle.grammar.specs.Grammar.{Said, sign_at, LineSaid, ended, fixed, a_seat, a_process, module_run, ManySaid, done, again, LiteralSaid, literal, OthersSaid, close, next, GroupSaid, conjoined, disjoined, SharedTestSaid, shared_test, TestedSaid, test_seats, test_shared, Part, joining, GuardSaid, grouped, negated, bracketed, single, further}
@@ -258,13 +258,14 @@ wrong_place e = cc
 -- behind a mark all places are later
 along_later : (a e : ℕ) (m : Placed) (q r : Place) (js : List Judgement) → Judging q js r → Rises a e (m ∷ q) → (j : Judgement) → In j js
     → place_of e (m ∷ q) < place_of e (place_in j)
-along_later a e m q r (j ∷ js) (u, o, t, z, i, k) h _ first = rw i (later_place a e m u (o ∷ t) (subst (λ x. Rises a e (m ∷ x)) z h))
+along_later a e m q r [] _ h j y = elim y [ ]
+along_later a e m q r (j ∷ js) (u, o, t, z, i, k) h _ first = rw (i, z) (later_place a e m u (o ∷ t) (subst (λ x. Rises a e (m ∷ x)) z h))
 along_later a e m q r (x ∷ js) (u, o, t, z, i, k) h j (later y) =
     let h₁ = subst (λ x. Rises a e (m ∷ x)) z h in
     let l : place_of e (m ∷ (u ++ (o ∷ t))) < place_of e (o ∷ t) = later_place a e m u (o ∷ t) h₁ in
     let (b, _, p) = rises_part a e (m ∷ u) (o ∷ t) h₁ in
     let l₁ = along_later b e o t r js k p j y in
-    omega arith
+    omega (arith, ap (λ (x : Place). place_of e (m ∷ x)) z)
 
 module _ (n e : ℕ) where
   -- the first that is broken, of a list along the text
@@ -302,6 +303,7 @@ module _ (n e : ℕ) where
 
   pub broken_first : (ms r : Place) (a : ℕ) (js : List Judgement) → Judging ms js r → Rises a e ms → (j : Judgement) → In j js → (Kept n j → ⊥)
       → ((i : Judgement) → In i js → place_of e (place_in i) < place_of e (place_in j) → Kept n i) → first_broken n js ≡ wrong (refusal_of j) (place_in j)
+  broken_first ms r a [] _ h j y c f = elim y [ ]
   broken_first ms r a (x ∷ js) (u, m, q, y, o, l) h _ first c f = go (ruled n x)
     where
       go : Ruled n x → first_broken n (x ∷ js) ≡ wrong (refusal_of x) (place_in x)

@@ -12,7 +12,7 @@ use borrow.Author.Tests.{eqb-true}
 use lib.ListN.{length, length-append}
 use Rattle.card.specs.Limits.{most_seats, top_state, top_shared, most_statements, most_branches, most_nodes, most_depth}
 use Rattle.card.specs.Refusals.{out_of_shape, past_limit}
-use Rattle.card.specs.Text.{bytes, same, when◌then◌else◌}
+use Rattle.card.specs.Text.{bytes, when◌then◌else◌}
 use Rattle.card.specs.Card.{Mode, nondeterministic, probabilistic, Sign, all, any, Relation, is as eq, isnt as ne, Formula, atom, neg, and, or}
 use Rattle.card.specs.Weight.{Weight, whole, decimal as point, ratio}
 use Rattle.marks_on_a_card.specs.Marks.{Mark, text, seat, process, number, decimal, outside, Placed, placed}

@@ -4,12 +4,13 @@
 use Prim.Native.Nat.{ℕ, zero}
 use mathlib.Core.Path.{◌≡◌, refl, sym, ap, ◌∙◌, subst}
 use mathlib.Core.Logic.{◌⊎◌, inl, inr}
+use mathlib.Core.Bool.{true}
 use mathlib.Core.List.{List, [], ◌∷◌, ◌++◌, append_assoc, append_cancel_right, append-nil, nil≢cons, head-eq_of_cons-eq, tail-eq_of_cons-eq, head?}
 use native.Mathlib.Omega.{arith}
 use Rattle.card.specs.Refusals.{out_of_shape, past_limit}
 use Rattle.card.specs.Valid.{Every}
-use Rattle.marks_on_a_card.specs.Marks.{Placed}
-use Rattle.reading.specs.Reader.{Place, State, at, Result, ok, stop, Reader}
+use Rattle.marks_on_a_card.specs.Marks.{Placed, placed}
+use Rattle.reading.specs.Reader.{Place, State, at, Result, ok, stop, Reader, next_is}
 use Rattle.grammar.specs.Counted.{Counted, Within, Past, FirstPast}
 use Rattle.grammar.specs.Verdicts.{CompletableIn, HopelessIn, UnfitIn, PastIn}
 use Rattle.reading.proofs.Through.{stop≢ok, ok_value}
@@ -40,6 +41,10 @@ past_place : (cs : List Counted) (p q : Place) → FirstPast cs p → FirstPast 
 past_place cs p q f g =
     let e = one_first f.before g.before f.first g.first f.after g.after (sym f.split ∙ g.split) f.within g.within f.past g.past in
     sym f.place ∙ ap (λ (c : Counted). c.place) e ∙ g.place
+
+-- whether a sign stands first hangs on no mark behind it
+opens_alike : (m : Placed) (x y : Place) → next_is "(" (m ∷ x) ≡ true → next_is "(" (m ∷ y) ≡ true
+opens_alike (placed k p) x y e = e
 
 -- ---- over a language, what is looked for behind the brackets of some marks, its reader, and what its limits count
 
@@ -129,7 +134,7 @@ module _ {C Look : Type 0} (look : Place → Place → Look) (read : Reader C) (
       let h = stops (p.before ++ (p.mark ∷ p.other)) past_limit (p.mark ∷ p.other) e in
       let z : h.pre ≡ p.before = append_cancel_right h.pre p.before (p.mark ∷ p.other) (sym h.split) in
       let f : look ms ≡ look (p.before ++ (p.mark ∷ p.other)) = ap look p.split ∙ alike p.before p.mark p.after p.other e in
-      rw (p.split, p.place) (rw z at (h.same (p.mark ∷ p.after) (refl, λ _ y. sym (subst (λ (g : Place → Look). g p.after ≡ g p.other) f (p.starts y)))))
+      rw (p.split, p.place) (rw z at (h.same (p.mark ∷ p.after) (refl, λ _ y. sym (subst (λ (g : Place → Look). g p.after ≡ g p.other) f (p.starts (opens_alike p.mark p.other p.after y))))))
 
   -- ---- stopped by a mark that does not fit
 

@@ -9,7 +9,7 @@ use mathlib.Core.Bool.{Bool, true, false, false≢true}
 use mathlib.Core.List.{[], ◌∷◌, ◌++◌, append_assoc, append_cancel_right, head?}
 use mathlib.Core.Option.{Option, none, some}
 use Rattle.card.specs.Refusals.{out_of_shape, past_limit}
-use Rattle.card.specs.Text.{bytes, same, when◌then◌else◌}
+use Rattle.card.specs.Text.{bytes, when◌then◌else◌}
 use Rattle.marks_on_a_card.specs.Marks.{Mark, text, Placed, placed}
 use Rattle.reading.specs.Reader.{Place, State, at, Result, ok, stop, Reader, bind, ◌>>=◌, return, refuse, took, the, is, next_is, if_next, given, sign, here, node}
 use Rattle.reading.specs.Guard.{seat_next, test_next}
