@@ -58,6 +58,8 @@ module _ {A : Type 0} (f : A → Bool) where
       go false z e h = let (c, i, y) = h e in (c, later i, y)
 
   settles : (s : Sign) (l : List A) (a : A) → In a l → f a ≡ decisive s → together s f l ≡ decisive s
+  settles all [] a i e = elim i [ ]
+  settles any [] a i e = elim i [ ]
   settles all (_ ∷ l) a first e = rw e
   settles any (_ ∷ l) a first e = rw e
   settles all (b ∷ l) a (later i) e = rw (settles all l a i e) (and_none (f b))
@@ -76,6 +78,7 @@ both_ways false false false f g = refl
 -- ---- what is in a list
 
 of_every : {A : Type 0} (P : A → Type 0) (l : List A) → Every P l → (a : A) → In a l → P a
+of_every P [] h a i = elim i [ ]
 of_every P (_ ∷ l) h a first = h.0
 of_every P (b ∷ l) h a (later i) = of_every P l h.1 a i
 
@@ -85,6 +88,7 @@ upto_in (suc n) f zero l = first
 upto_in (suc n) f (suc i) l = later (upto_in n (λ i. f (suc i)) i (omega arith))
 
 in_upto : {A : Type 0} (n : ℕ) (f : ℕ → A) (a : A) → In a (upto n f) → (i : ℕ) × (i < n) × (a ≡ f i)
+in_upto zero f a i = elim i [ ]
 in_upto (suc n) f _ first = (0, omega arith, refl)
 in_upto (suc n) f a (later h) = let (i, l, e) = in_upto n (λ i. f (suc i)) a h in (suc i, omega arith, e)
 
@@ -99,6 +103,7 @@ named_in i (l ∷ ls) h = go (eqb l.seat i) refl h (named_in i ls)
     go false e h k = let (m, j, z) = k (omega arith) in (m, later j, z)
 
 in_named : (l : Literal) (ls : List Literal) → In l ls → 1 ≤ times_in l.seat ls
+in_named l [] i = elim i [ ]
 in_named l (_ ∷ ls) first = rw (eq-eqb l.seat l.seat refl) (omega arith)
 in_named l (m ∷ ls) (later i) = omega (arith, in_named l ls i)
 

@@ -78,13 +78,14 @@ wrong_place e = cc
 -- behind a mark all places are later
 along_later : (a e : ℕ) (m : Placed) (q r : Place) (cs : List Claim) → Claiming q cs r → Rises a e (m ∷ q) → (c : Claim) → In c cs
     → place_of e (m ∷ q) < place_of e (claim_at c)
-along_later a e m q r (c ∷ cs) (u, o, t, z, i, k) h _ first = rw i (later_place a e m u (o ∷ t) (subst (λ x. Rises a e (m ∷ x)) z h))
+along_later a e m q r [] _ h c i = elim i [ ]
+along_later a e m q r (c ∷ cs) (u, o, t, z, i, k) h _ first = rw (z, i) (later_place a e m u (o ∷ t) (subst (λ x. Rises a e (m ∷ x)) z h))
 along_later a e m q r (x ∷ cs) (u, o, t, z, i, k) h c (later y) =
     let h₁ = subst (λ x. Rises a e (m ∷ x)) z h in
     let l : place_of e (m ∷ (u ++ (o ∷ t))) < place_of e (o ∷ t) = later_place a e m u (o ∷ t) h₁ in
     let (b, _, p) = rises_part a e (m ∷ u) (o ∷ t) h₁ in
     let l₁ = along_later b e o t r cs k p c y in
-    omega arith
+    rw z (omega arith)
 
 module _ (n : ℕ) where
   -- what is first unfit at a claim x before others cs, by its test
@@ -138,6 +139,7 @@ module _ (n : ℕ) where
 
     pub unfit_first : (ms r : Place) (a : ℕ) (cs : List Claim) → Claiming ms cs r → Rises a e ms → (c : Claim) → In c cs → (KeptIn n c → ⊥)
         → ((i : Claim) → In i cs → place_of e (claim_at i) < place_of e (claim_at c) → KeptIn n i) → first_unfit n cs ≡ wrong (due c) (claim_at c)
+    unfit_first ms r a [] _ h j i c f = elim i [ ]
     unfit_first ms r a (x ∷ cs) (u, m, q, y, o, l) h _ first c f = go (fits n x) refl
       where
         go : (b : Bool) → fits n x ≡ b → Found b x cs ≡ wrong (due x) (claim_at x)

@@ -1,13 +1,13 @@
 -- Worked questions on a card of two seats with top state 1; and why it is not enough to look at what a bracket itself starts. Assumes nothing.
 use Prim.Native.Nat.{zero}
 use mathlib.Core.Path.{◌≡◌, refl, sym, ap, ◌∙◌}
-use mathlib.Core.Bool.{Bool}
+use mathlib.Core.Bool.{Bool, true}
 use mathlib.Core.List.{◌∷◌, ◌++◌, append_cancel_right, head-eq_of_cons-eq, tail-eq_of_cons-eq}
 use Rattle.card.specs.Refusals.{past_limit}
 use Rattle.card.specs.Text.{bytes}
 use Rattle.card.specs.Card.{all, is, isnt, atom, neg, and}
-use Rattle.marks_on_a_card.specs.Marks.{Placed}
-use Rattle.reading.specs.Reader.{Place, at, stop}
+use Rattle.marks_on_a_card.specs.Marks.{Placed, placed}
+use Rattle.reading.specs.Reader.{Place, at, stop, next_is}
 use Rattle.grammar.specs.Verdicts.{PastIn}
 use Rattle.asking.specs.Question.{mixed_next, item_next, question, QuestionSaid, counted_question, QuestionPast}
 use Rattle.asking.specs.Meant.{of_all, one_in, shared_at}
@@ -67,6 +67,10 @@ test_unshared : question_of 2 1 0 (bytes "(g=1)") ≡ refused 23 1
 unfolding question_of mixed_next
 test_unshared = refl
 
+-- what stands behind a mark tells nothing of it
+same_mark : (m : Placed) (x y : Place) → next_is "(" (m ∷ x) ≡ true → next_is "(" (m ∷ y) ≡ true
+same_mark (placed t p) x y e = e
+
 -- if only what the bracket itself starts had to agree, a question that is past a limit at a bracket would be so after other marks too
 pub too_weak : (shared : Bool) (pre : Place) (m : Placed) (x y : Place) → question shared (at (pre ++ (m ∷ y)) zero) ≡ stop past_limit (m ∷ y) → item_next shared x ≡ item_next shared y
     → PastIn (QuestionSaid shared) counted_question (item_next shared) (pre ++ (m ∷ x)) (m ∷ x)
@@ -84,7 +88,7 @@ too_weak shared pre m x y e h = go ((question_past shared (pre ++ (m ∷ y)) (m 
           split = ap (λ z. z ++ (m ∷ x)) q ∙ ap (λ z. p.before ++ (z ∷ x)) i;
           place = ap (λ z. z ∷ x) i;
           other = p.other;
-          starts = λ k. h ∙ ap (item_next shared) j ∙ sight_starts shared p.after p.other (p.starts k);
+          starts = λ k. h ∙ ap (item_next shared) j ∙ sight_starts shared p.after p.other (p.starts (same_mark p.mark x p.after k));
           shape = p.shape;
           said = p.said;
           past = p.past;

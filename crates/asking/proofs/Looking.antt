@@ -97,6 +97,7 @@ among_later ne eq qs e = e
 among_later ne ne qs e = refl
 
 occurs_among : (q : Relation) (ls : List Literal) → Occurs q ls → among q (relations ls) ≡ true
+occurs_among q [] (l, i, e) = elim i [ ]
 occurs_among q (_ ∷ ls) (l, first, e) = ap (λ (p : Relation). among q (p ∷ relations ls)) e ∙ among_itself q (relations ls)
 occurs_among q (l ∷ ls) (m, later i, e) = among_later q l.relation (relations ls) (occurs_among q ls (m, i, e))
 

@@ -1,15 +1,21 @@
 -- By each of its tests.
-use mathlib.Core.Bool.{and-false}
-use mathlib.Core.Path.{sym}
+use mathlib.Core.Bool.{Bool, true, false, ◌&&◌, and-false}
+use mathlib.Core.Path.{◌≡◌, sym}
 use borrow.Author.Tests.{eq-eqb, ne_eqb}
 use Rattle.items.proofs.agrees.Goals as goal
+
+second_fails : (a b x : Bool) → b ≡ false → false ≡ (a && (b && x))
+second_fails a b x e = rw e (sym (and-false a))
+
+three_hold : (a b d x : Bool) → a ≡ true → b ≡ true → d ≡ true → x ≡ (a && (b && (d && x)))
+three_hold a b d x ea eb ed = rw (ea, eb, ed)
 
 pub returns-then-not-all : goal.returns-then-not-all
 returns-then-not-all c = rw c.if-not-all.true
 
 pub returns-then-not-more : goal.returns-then-not-more
 returns-then-not-more c =
-    rw c.if-not-more.true (sym (and-false c.args.all))
+    second_fails c.args.all c.args.more.due _ c.if-not-more.true
 
 pub returns-then-more-first : goal.returns-then-more-first
 returns-then-more-first c =
@@ -17,4 +23,4 @@ returns-then-more-first c =
 
 pub returns : goal.returns
 returns c =
-    rw (c.if-not-all.false, c.if-not-more.false, eq-eqb _ _ c.if-more-first.false)
+    three_hold c.args.all c.args.more.due _ _ c.if-not-all.false c.if-not-more.false (eq-eqb _ _ c.if-more-first.false)

@@ -9,7 +9,7 @@ use Rattle.items.proofs.Opening.{step_within, part_is, part_placed, no_bracket, 
 use Rattle.items.proofs.keep_item.Goals as goal
 
 -- the most that the item's number may be, by its kind
-most-by-kind : (c : goal.After-bound-most) → c.bound-most.result ≡ bound_by (language_of c.args.language).most c.item-g.result.kind c.args.top
+most-by-kind : (c : goal.After-lay) → c.bound-most.result ≡ bound_by (language_of c.args.language).most c.item-g.result.kind c.args.top
 most-by-kind c = c.bound-most.ensures
 
 pub returns-then-s-ne-ROUND_OPEN : goal.returns-then-s-ne-ROUND_OPEN
@@ -52,4 +52,4 @@ returns c =
     let l = step_within card a.at s c.step_opening-s.ensures in
     item_kept (language_of a.language) card a.at a.top a.nodes.now a.state.now s c.step_opening-s.ensures l
     (take (length card - s.next.at) (drop s.next.at card)) (part_is card s.next.at l) c.item-g.result c.item-g.ensures
-    c.if-s-ne-ROUND_OPEN.false c.if-g-eq-NO_ITEM.false _ _ _ c.bound-most.result (most-by-kind c.before.before.before) c.lay.ensures
+    c.if-s-ne-ROUND_OPEN.false c.if-g-eq-NO_ITEM.false _ _ _ c.bound-most.result (most-by-kind c) c.lay.ensures

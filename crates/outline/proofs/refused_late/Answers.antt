@@ -4,8 +4,7 @@ use borrow.Author.Rules.{rules}
 use Rattle.outline.proofs.refused_late.Goals as goal
 
 pub returns : goal.returns
-returns c = (
-  c.refused.ensures,
-  all_cleared c.clear_rows.ensures (search rules) c.clear.ensures (search rules)
-      c.clear-2.ensures (search rules),
-)
+returns c = record {
+  outline = c.refused.ensures;
+  memory = all_cleared c.clear_rows.ensures (search rules) c.clear.ensures (search rules) c.clear-2.ensures (search rules);
+}
