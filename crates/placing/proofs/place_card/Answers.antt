@@ -7,30 +7,28 @@ use Rattle.card.specs.Limits.{most_cards}
 use Rattle.deck.specs.Contents.{behind}
 use native.Mathlib.Omega.{arith}
 use borrow.Author.Rules.{rules}
+use Rattle.placing.proofs.place_card.Goals.{Else-cards-ge-MOST_CARDS, Then-deck-need}
 use Rattle.placing.proofs.place_card.Goals as goal
 
 -- another card has its place among those that a deck may hold
 abbrev OneMore : Type 0
-OneMore = (c : goal.Else-cards-ge-MOST_CARDS) → c.args.cards < most_cards
+OneMore = (c : Else-cards-ge-MOST_CARDS) → c.args.cards < most_cards
 
-one_more : OneMore
-one_more c = c.if2.false
+one-more : OneMore
+one-more c = c.if-cards-ge-MOST_CARDS.false
 
 -- the room is refused only where it is shorter than the new deck
 abbrev Short : Type 0
-Short = (c : goal.Then-deck-need) → length c.args.deck.now < behind (c.args.cards + 1) + c.args.bytes + length c.args.card.now
+Short = (c : Then-deck-need) → length c.args.deck.now < behind (c.args.cards + 1) + c.args.bytes + length c.args.card.now
 
 short : Short
-short c = c.if3.true
+short c = c.if-deck-need.true
 
 -- and then with the length that it should have
 says-length : OneMore → Short → goal.returns-then-deck-need
-says-length one_more short c =
-    let at-if2 = c.before in
-    let at-if1 = at-if2.before in
-    let at-live-place = at-if1.before in
-    let start = at-live-place.before.before.before.before in
-    changed_refused (too_small start.args.deck.now start.args.number start.args.card.now start.requires.0 (at-live-place.live-place.ensures.free at-if1.if1.false) (one_more at-if2) (short c))
+says-length one-more short c =
+    changed_refused (too_small c.args.deck.now c.args.number c.args.card.now c.requires.measured (c.live_place-taken.ensures.free c.if-taken-ne0.false)
+    (one-more (goal.at.returns-then-deck-need c).Else-cards-ge-MOST_CARDS) (short (goal.at.returns-then-deck-need c).Then-deck-need))
 
 pub live_place-taken-requires : goal.live_place-taken-requires
 live_place-taken-requires c = c.requires.measured.sound.head
@@ -62,7 +60,7 @@ overflow_add-need-4 c =
     search rules
 
 pub returns-then-deck-need : goal.returns-then-deck-need
-returns-then-deck-need = says-length one_more short
+returns-then-deck-need = says-length one-more short
 
 pub close_up-requires : goal.close_up-requires
 close_up-requires c =
@@ -70,7 +68,7 @@ close_up-requires c =
 
 pub insert_card-requires : goal.insert_card-requires
 insert_card-requires c =
-    insertable c.args.deck.now c.args.number c.args.card.now c.requires.measured c.close_up.ensures c.requires.number_lt_word_numbers (one_more c.before.before.before.before.before.before) c.if-deck-need.false
+    insertable c.args.deck.now c.args.number c.args.card.now c.requires.measured c.close_up.ensures c.requires.number_lt_word_numbers (one-more (goal.at.insert_card-requires c).Else-cards-ge-MOST_CARDS) c.if-deck-need.false
 
 pub returns : goal.returns
 returns c =
@@ -79,6 +77,6 @@ returns c =
     let card = c.args.card.now in
     let free = c.live_place-taken.ensures.free c.if-taken-ne0.false in
     changed_done
-    (place_found deck number card c.requires.measured free (one_more c.before.before.before.before.before.before.before.before.before) c.if-deck-need.false)
+    (place_found deck number card c.requires.measured free (one-more (goal.at.returns c).Else-cards-ge-MOST_CARDS) c.if-deck-need.false)
     (placed deck number card c.requires.measured c.close_up.ensures c.if-deck-need.false c.insert_card.ensures)
     (need_is deck number card c.requires.measured)
