@@ -6,9 +6,10 @@ use Rattle.phrases.specs.Puts.{Puts}
 use Rattle.panel_wording.specs.PanelText.{line}
 use borrow.Author.Rules.{rules}
 use Rattle.lines.proofs.put_move.Goals as goal
+use Rattle.lines.proofs.put_move.Goals.{After-put_line}
 
 -- the old state stands before the new one
-old-first : (c : goal.After-put_line)
+old-first : (c : After-put_line)
     → let start = c.args in Puts start.room.now c.put_line.new.room start.at (line "move" (start.old ∷ start.new ∷ start.weight ∷ [])) c.put_line.result
 old-first c = c.put_line.ensures
 
@@ -22,7 +23,7 @@ returns-then-weight-eq0 c =
 
 pub returns-then-shared-eq0 : goal.returns-then-shared-eq0
 returns-then-shared-eq0 c =
-    puts_as _ (λ t. move_bare _ _ _ c.args.becomes _ t c.if-old-new.false c.if-weight-eq0.false c.if-shared-eq0.true) (old-first c.before.before)
+    puts_as _ (λ t. move_bare _ _ _ c.args.becomes _ t c.if-old-new.false c.if-weight-eq0.false c.if-shared-eq0.true) (old-first (goal.at.returns-then-shared-eq0 c).After-put_line)
 
 pub returns : goal.returns
 returns c =
