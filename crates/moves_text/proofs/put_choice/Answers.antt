@@ -8,9 +8,6 @@ use mathlib.Core.Path.{refl}
 use borrow.Author.Rules.{rules}
 use Rattle.moves_text.proofs.put_choice.Goals as goal
 
-add-t19 : goal.overflow-add-t19
-add-t19 c = search rules
-
 pub returns-then-table-i-eq0 : goal.returns-then-table-i-eq0
 returns-then-table-i-eq0 c =
     puts_as _ (λ t. choice_none c.args.head.top _ _ c.args.i _ _ t c.args.head.shared c.if-table-i-eq0.true) (puts_none (search rules) c.place.ensures)

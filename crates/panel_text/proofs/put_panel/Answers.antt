@@ -10,17 +10,17 @@ use Rattle.panel_numbers.specs.Table.{shared_in, stay_in}
 use Rattle.panel_wording.specs.PanelText.{line, stays_text}
 use Rattle.panel_wording.specs.PanelIn.{tells}
 use Rattle.panel_text.proofs.put_panel.Goals as goal
+use Rattle.panel_text.proofs.put_panel.Goals.{After-put_line-b, After-put_stay}
 
 -- the stuck choice is choice 0
-stuck-choice : (c : goal.After-put_line-b)
+stuck-choice : (c : After-put_line-b)
     → let head = c.put_head-a in
-    Puts head.new.0 c.put_line-b.new.room head.result (line "choice" (0 ∷ [])) c.put_line-b.result
+    Puts head.new.room c.put_line-b.new.room head.result (line "choice" (0 ∷ [])) c.put_line-b.result
 stuck-choice c = c.put_line-b.ensures
 
 -- and its weight of no change is the table's
-stuck-stay : (c : goal.After-put_stay)
-    →
-    let start = c.args in
+stuck-stay : (c : After-put_stay)
+    → let start = c.args in
     let table = start.table.now in
     Puts c.put_line-b.new.room c.put_stay.new.room c.put_line-b.result (stays_text (tells start.head.shared) (stay_line (shared_in table) (stay_in table (shared_in table)))) c.put_stay.result
 stuck-stay c = c.put_stay.ensures
@@ -60,4 +60,4 @@ returns-then-stay-eq0 c =
 
 pub returns : goal.returns
 returns c =
-    stuck_text c.args.head c.args.table.now c.args.rows.now c.args.branches.now c.if-head-ne-NONDETERMINISTIC.false c.if-stay-eq0.false (puts_then c.put_head-a.ensures (puts_then (stuck-choice c.before.before.before.before.before.before) (stuck-stay c.before.before)))
+    stuck_text c.args.head c.args.table.now c.args.rows.now c.args.branches.now c.if-head-ne-NONDETERMINISTIC.false c.if-stay-eq0.false (puts_then c.put_head-a.ensures (puts_then (stuck-choice (goal.at.returns c).After-put_line-b) (stuck-stay (goal.at.returns c).After-put_stay)))
