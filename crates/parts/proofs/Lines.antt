@@ -5,7 +5,7 @@ use Prim.Native.String.{String}
 use mathlib.Core.Path.{◌≡◌, refl, sym, ap, ◌∙◌}
 use mathlib.Core.Bool.{true, false}
 use mathlib.Core.List.{List, [], ◌∷◌}
-use mathlib.Core.Option.{Option, none}
+use mathlib.Core.Option.{Option}
 use native.Mathlib.Numerals.{add-one}
 use native.Mathlib.Omega.{arith}
 use borrow.Author.Tests.{eq-eqb, ne_eqb}
@@ -18,8 +18,7 @@ use Rattle.marks_on_a_card.specs.Marks.{Mark, text, seat as seat_mark, process a
 use Rattle.marks_on_a_card.specs.Kinds.{k_end, k_number, k_seat, k_process, kind, value_of}
 use Rattle.marks_on_a_card.proofs.Lists.{not_both}
 use Rattle.marks.specs.declared.Step.{Step}
-use Rattle.reading.specs.Reader.{State, at, Result, ok, stop, Reader, bind, the, is, given, sign as read_sign, seat_of, process_of, number_of, Numbered, numbered, keep, line}
-use Rattle.reading.specs.Judgements.{word}
+use Rattle.reading.specs.Reader.{State, Result, ok, stop, Reader, bind, the, is, given, sign as read_sign, seat_of, process_of, number_of, Numbered, numbered, keep, line}
 use Rattle.reading.specs.Checks.{judged_words}
 use Rattle.late.specs.Late.{Late, blame, judge_all}
 use Rattle.late.specs.State.{at_value, Sized, late_in, value_in, with_late, After, after, Halted}

@@ -13,7 +13,7 @@ use lib.ListN.{length}
 use Rattle.card.specs.Limits.{number_digits, word_digits, most_nodes}
 use Rattle.card.specs.Card.{Kind, everyone, others, Sign, all, any, Relation, is, isnt, Leaf, group, one, shared_is, atom}
 use Rattle.card.specs.Valid.{first_seat, Enough, ValidLeaf, Every}
-use Rattle.marks_on_a_card.specs.Marks.{seat, number, placed, marks}
+use Rattle.marks_on_a_card.specs.Marks.{number, placed, marks}
 use Rattle.reading.specs.Reader.{Place}
 use Rattle.reading.specs.Group.{relation, Literal, literal_of, literals_of, Tested, of_seats, of_shared}
 use Rattle.reading.specs.Guard.{is_some}

@@ -1,5 +1,5 @@
 -- Written branches and statements are said by the grammar, keep the rules and the limits, and are the branches and statements.
-use Prim.Native.Nat.{ℕ, suc, ◌+◌, ◌-◌, ◌/◌, ◌^◌, ◌≤◌, ◌<◌}
+use Prim.Native.Nat.{ℕ, suc, ◌+◌, ◌-◌, ◌^◌, ◌≤◌, ◌<◌}
 use mathlib.Core.Path.{◌≡◌, refl, sym, ap, ap₂, ◌∙◌, subst}
 use mathlib.Core.Bool.{Bool, true, false, ◌&&◌}
 use mathlib.Core.List.{List, [], ◌∷◌, ◌++◌, map}
@@ -20,7 +20,7 @@ use Rattle.reading.specs.Reader.{Place, Numbered, Item}
 use Rattle.reading.specs.Guard.{is_some}
 use Rattle.card.specs.Refusals.{wrong_weight}
 use Rattle.reading.specs.Group.{Tested}
-use Rattle.reading.specs.Judgements.{weight, unless, units_in, or_zero, total_units}
+use Rattle.reading.specs.Judgements.{unless, units_in, or_zero, total_units}
 use Rattle.reading.specs.Shape.{BranchShape, StatementShape, Range}
 use Rattle.reading.specs.Checks.{judged_words, judged_set, judged_branch, judged_each, judged_or, judged_statement, weight_in, value_or, branch_in, guard_or as guard_in', statement_in, most_in}
 use Rattle.grammar.specs.Grammar.{sign_at, valued, joined_by, LineSaid, ended, fixed, a_seat, statement_run, branch_run, set_run, ManySaid, done, again, RestSaid, nothing, guarded, WeightSaid, a_number, a_ratio, SetSaid, keeps, sets_to, BranchSaid, branch, PlusSaid, plus, StatementSaid, statement}
