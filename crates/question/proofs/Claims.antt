@@ -1,6 +1,6 @@
 -- What is kept while a question is read is its first claim that does not fit: settling after one claim more is settling before it or else
 -- that claim's own refusal. Where all fit, the leaves among the nodes are the question's. Assumes nothing.
-use Prim.Native.Nat.{ℕ, suc, ◌≤◌}
+use Prim.Native.Nat.{ℕ, zero, suc, ◌≤◌}
 use mathlib.Core.Path.{◌≡◌, refl, sym, ap, ◌∙◌}
 use mathlib.Core.Bool.{Bool, true, false, ◌&&◌}
 use mathlib.Core.List.{List, [], ◌∷◌, ◌++◌}
@@ -62,6 +62,7 @@ module _ (n : ℕ) (least : 1 ≤ n) (most : n ≤ most_seats) where
 
   -- without seat 1 it is none of everyone
   no_first : (m : ℕ) (ls : List Literal) → 1 ≤ m → has 1 ls ≡ false → has_from 1 m ls ≡ false
+  no_first zero ls l e = absurd (omega arith)
   no_first (suc m) ls l e = rw e
 
   and_none : (a b : Bool) → (a && (b && false)) ≡ false
@@ -174,6 +175,7 @@ module _ (n k v : ℕ) (least : 1 ≤ n) where
 
   -- a group of everyone has seat 1
   first_seat : (m : ℕ) (ls : List Literal) → 1 ≤ m → has_from 1 m ls ≡ true → has 1 ls ≡ true
+  first_seat zero ls l h = absurd (omega arith)
   first_seat (suc m) ls l h = (and_both (has 1 ls) (has_from 2 m ls) h).0
 
   everyone_kind : (l : Literal) (ls : List Literal) → is_everyone n (l ∷ ls) ≡ true → kind_by (l ∷ ls) ≡ everyone

@@ -8,11 +8,11 @@ use Rattle.question.proofs.Whole.{too_long_law, formula_stops, sized_still, unen
 use Rattle.question.proofs.question_into.Goals as goal
 
 -- it goes on only where nothing stands behind the question
-nothing-behind : (c : goal.Else-mark-ne-END) → c.step-step.result.mark.kind ≡ k_end
+nothing-behind : (c : goal.Else-due-ne0) → c.step-step.result.mark.kind ≡ k_end
 nothing-behind c = c.if-mark-ne-END.false
 
 -- what is kept is held against the number of seats
-settles-for-seats : (c : goal.After-settle) → refusal_in c.settle.new.state ≡ settled c.args.seats (late_in c.expression-next.new.state)
+settles-for-seats : (c : goal.Else-due-ne0) → refusal_in c.settle.new.state ≡ settled c.args.seats (late_in c.expression-next.new.state)
 settles-for-seats c = c.settle.ensures.refused
 
 pub returns-then-question-gt-CARD_BYTES : goal.returns-then-question-gt-CARD_BYTES
@@ -48,11 +48,11 @@ pub returns-then-due-ne0 : goal.returns-then-due-ne0
 returns-then-due-ne0 c =
     rw c.refused-then-due-ne0.ensures
     (broken c.args.question.now c.args.seats c.args.top c.args.values c.args.nodes.now c.expression-next.new.nodes (omega (arith, c.if-question-gt-CARD_BYTES.false))
-    (after c.expression-next.new.state c.expression-next.result) c.question_language-language.result (c.question_language-language.ensures.asks, c.question_language-language.ensures.values) c.expression-next.ensures c.if-next-eq0.false c.step-step.result c.step-step.ensures (nothing-behind c.before.before.before.before.before)
-    c.requires.le_seats.0 c.requires.le_seats.1 c.settle.new.state (settles-for-seats c.before.before.before) c.if-due-ne0.true)
+    (after c.expression-next.new.state c.expression-next.result) c.question_language-language.result (c.question_language-language.ensures.asks, c.question_language-language.ensures.values) c.expression-next.ensures c.if-next-eq0.false c.step-step.result c.step-step.ensures c.if-mark-ne-END.false
+    c.requires.le_seats.0 c.requires.le_seats.1 c.settle.new.state c.settle.ensures.refused c.if-due-ne0.true)
 
 pub returns : goal.returns
 returns c =
     understood c.args.question.now c.args.seats c.args.top c.args.values c.args.nodes.now c.expression-next.new.nodes (omega (arith, c.if-question-gt-CARD_BYTES.false))
-    (after c.expression-next.new.state c.expression-next.result) c.question_language-language.result (c.question_language-language.ensures.asks, c.question_language-language.ensures.values) c.expression-next.ensures c.if-next-eq0.false c.step-step.result c.step-step.ensures (nothing-behind c.before.before.before.before)
-    c.requires.le_seats.0 c.requires.le_seats.1 c.settle.new.state (settles-for-seats c.before.before) c.if-due-ne0.false
+    (after c.expression-next.new.state c.expression-next.result) c.question_language-language.result (c.question_language-language.ensures.asks, c.question_language-language.ensures.values) c.expression-next.ensures c.if-next-eq0.false c.step-step.result c.step-step.ensures (nothing-behind c)
+    c.requires.le_seats.0 c.requires.le_seats.1 c.settle.new.state (settles-for-seats c) c.if-due-ne0.false
