@@ -1,7 +1,7 @@
 -- By each of its tests.
 use mathlib.Core.Bool.{Bool, true, false, ◌&&◌, and-false}
 use mathlib.Core.Path.{◌≡◌, sym}
-use borrow.Author.Tests.{eq-eqb, ne_eqb}
+use borrow.Author.Tests.{eq-eqb, ne_eqb, not-true, not-false}
 use Rattle.items.proofs.agrees.Goals as goal
 
 second_fails : (a b x : Bool) → b ≡ false → false ≡ (a && (b && x))
@@ -15,7 +15,7 @@ returns-then-not-all c = rw c.if-not-all.true
 
 pub returns-then-not-more : goal.returns-then-not-more
 returns-then-not-more c =
-    second_fails c.args.all c.args.more.due _ c.if-not-more.true
+    second_fails c.args.all c.args.more.due _ (not-true c.args.more.due c.if-not-more.true)
 
 pub returns-then-more-first : goal.returns-then-more-first
 returns-then-more-first c =
@@ -23,4 +23,4 @@ returns-then-more-first c =
 
 pub returns : goal.returns
 returns c =
-    three_hold c.args.all c.args.more.due _ _ c.if-not-all.false c.if-not-more.false (eq-eqb _ _ c.if-more-first.false)
+    three_hold c.args.all c.args.more.due _ _ c.if-not-all.false (not-false c.args.more.due c.if-not-more.false) (eq-eqb _ _ c.if-more-first.false)
