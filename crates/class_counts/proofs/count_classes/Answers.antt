@@ -28,7 +28,7 @@ loop-i-preserved c =
     let is = c.class_of-class.ensures ∙ ap (class_of c.args.classes.now) c.wide-state.ensures in
     let within = classes_next _ _ _ here c.loop-i.invariant.1.1 is in
     let over = classes_over _ _ _ here c.loop-i.invariant.1.1 is in
-    (search rules, (search rules, elim c.if-class-lt-PUBLIC_CLASSES.branch [ then-class-lt-PUBLIC_CLASSES w ↦ w.counts-is ∙ within w.if-class-lt-PUBLIC_CLASSES.true | else-class-lt-PUBLIC_CLASSES w ↦ w.counts-is ∙ over w.if-class-lt-PUBLIC_CLASSES.false ]))
+    (search rules, (search rules, elim c.if-class-lt-PUBLIC_CLASSES.branch [ then-class-lt-PUBLIC_CLASSES w ↦ w.counts-is ∙ within (omega (arith, w.if-class-lt-PUBLIC_CLASSES.true)) | else-class-lt-PUBLIC_CLASSES w ↦ w.counts-is ∙ over (omega (arith, w.if-class-lt-PUBLIC_CLASSES.false)) ]))
 
 pub returns : goal.returns
 returns c =
