@@ -5,7 +5,7 @@ tools=$kit/toolchain
 machine=$(uname -m)
 
 # made_of [CRATE]: by which kit, and a checksum of the crate and of all crates below it, or of all crates
-made_of() { echo "$(rt version), sources $("$root/bin/sources" "$@")"; }
+made_of() { echo "$(cat "$kit/KIT-ID"), sources $("$root/bin/sources" "$@")"; }
 
 # note FILE CRATE: the file was made of the crate as it stands
 note() { made_of "$2" >"$1.made-of"; }

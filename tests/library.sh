@@ -18,7 +18,8 @@ functions=$(grep -oE '\bopen_panel_[a-z_0-9]+\(' include/open_panel.h | tr -d '(
 entries=$(bin/entries | sed 's/ .*//; s/^/open_panel_/' | sort | xargs)
 same 'functions of crate tablet_c' "$(sed -n 's/^pub extern "C" fn \([a-z_0-9]*\).*/\1/p' crates/tablet_c/src/*.rt | sort | xargs)" "$entries"
 # each of them promises what the function of \`tablet\` does that it calls, word for word
-heads() { sed 's/^pub extern "C" fn /pub fn /' crates/"$1"/src/*.rt | awk '/^pub fn open_panel_/ { on = 1 } on && /^\{/ { on = 0; print "" } on'; }
+heads() { awk '/^pub (extern "C" )?fn open_panel_/ { on = 1; head = "" } on && /^\{/ { on = 0; print head } on { head = head " " $0 }' crates/"$1"/src/*.rt | sed 's/ extern "C"//; s/  */ /g; s/( /(/; s/, )/)/'; }
+[ "$(heads tablet | wc -l)" -eq "$(wc -w <<<"$entries")" ]
 diff <(heads tablet) <(heads tablet_c) || { echo "library: the exports of tablet_c (>) do not promise what the functions of tablet (<) do" && exit 1; }
 same 'functions of the C file' "$(sed -n 's/^[a-z].*\b\(open_panel_[a-z_]*\)(.*{$/\1/p' c/open_panel_words.c | sort | xargs)" \
     "$(comm -23 <(tr ' ' '\n' <<<"$functions") <(tr ' ' '\n' <<<"$entries") | xargs)"

@@ -49,6 +49,7 @@ while [ "\$1" != -o ]; do shift; done
 cp "$copy/dist/x86_64-linux/open_panel" "\$2"
 SH
 chmod +x "$made/kit/bin"/*
+cp "$kit/KIT-ID" "$made/kit/"
 
 shown 'the kept program'
 path=$PATH
