@@ -6,22 +6,20 @@ use Rattle.card.proofs.HeldIn.{holds_branches}
 use Rattle.converted_card.proofs.Reading.{taken_in, left_none, note_stays, note_none, note_long, note_written}
 use Rattle.outline.proofs.ReadInto.{arrays_none}
 use native.Mathlib.Omega.{arith}
+use Rattle.converted_card.proofs.note_of_card.Goals.{Then-long-gt-CARD_BYTES}
 use Rattle.converted_card.proofs.note_of_card.Goals as goal
 
 -- only a written form past a card's limit has no note
 abbrev OnlyLong : Type 0
-OnlyLong = (c : goal.Then-long-gt-CARD_BYTES) → card_bytes < c.written_length-long.result
+OnlyLong = (c : Then-long-gt-CARD_BYTES) → card_bytes < c.written_length-long.result
 
 only-long : OnlyLong
-only-long c = c.if1.true
+only-long c = c.if-long-gt-CARD_BYTES.true
 
 none-past : OnlyLong → goal.returns-then-long-gt-CARD_BYTES
 none-past only-long c =
-    let at-enum-told3 = c.before.before.before.before.before in
-    let at-read-under2 = at-enum-told3.before.before in
-    let at-enum-told2 = at-read-under2.before.before.before.before in
-    let at-read-under = at-enum-told2.before.before in
-    note_long _ at-read-under.read_under.ensures at-enum-told2.enum-told2.given.1 at-read-under2.read-under2.ensures at-enum-told3.enum-told3.given.1 c.before.written-length.ensures (only-long c)
+    note_long _ c.read_under-new.ensures c.in_default.is c.read_under-old.ensures c.in_default-verdict.is c.written_length-long.ensures
+    (only-long (goal.at.returns-then-long-gt-CARD_BYTES c).Then-long-gt-CARD_BYTES)
 
 pub read_under-new-requires : goal.read_under-new-requires
 read_under-new-requires c = arrays_none
