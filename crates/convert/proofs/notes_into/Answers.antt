@@ -4,24 +4,22 @@ use Prim.Native.Nat.{◌+◌, ◌<◌}
 use Rattle.card.specs.Limits.{deck_bytes}
 use Rattle.deck.specs.Contents.{count_of}
 use Rattle.convert.proofs.Walk.{begins, ended, in_contents, right_row, end_small, stopped, goes_on}
+use Rattle.convert.proofs.notes_into.Goals.{Then-end-gt-DECK_BYTES}
 use Rattle.convert.proofs.notes_into.Goals as goal
 
 -- it stops only where a body ends past the longest deck
 abbrev Past : Type 0
-Past = (c : goal.Then-end-gt-DECK_BYTES) → deck_bytes < c.loop-i.end + c.new_size-end.result
+Past = (c : Then-end-gt-DECK_BYTES) → deck_bytes < c.loop-i.end + c.new_size-end.result
 
 past : Past
-past c = c.if1.true
+past c = c.if-end-gt-DECK_BYTES.true
 
 -- where it stops for that, it names the card by its number
 names-card : Past → goal.returns-then-end-gt-DECK_BYTES
 names-card past c =
-    let at-note-of = c.before.before.before in
-    let at-loop-test = at-note-of.before in
-    let at-loop = at-loop-test.before in
-    let start = at-loop.before.before in
-    let less : at-loop.loop.i < count_of start.args.deck.now = omega (arith, at-loop-test.loop-test.true, start.requires.1.0) in
-    stopped start.args.deck.now start.requires.0 at-loop.loop.invariant less at-note-of.note-of.ensures c.before.before.new-size.ensures (past c.before) c.word_at.ensures.0
+    let less : c.loop-i.i < count_of c.args.deck.now = omega (arith, c.loop-i-test.true, c.requires.count_value) in
+    stopped c.args.deck.now c.requires.sound c.loop-i.invariant less c.note_of-note.ensures c.new_size-end.ensures
+    (past (goal.at.returns-then-end-gt-DECK_BYTES c).Then-end-gt-DECK_BYTES) c.word_at-number.ensures.0
 
 pub overflow_mul-end : goal.overflow_mul-end
 overflow_mul-end c = omega (arith, c.requires.sound.head.few, c.requires.count_value)
