@@ -232,6 +232,7 @@ first_found : {ms : Place} {p : ℕ} (d : FirstDecimal ms p) → found ms ≡ wr
 first_found {p = p} d = ap found d.split ∙ passed d.before (placed (decimal d.v d.n d.f) p ∷ d.after) d.earlier
 
 in_none : {m : Placed} (ms : Place) → In m ms → ms ≡ [] → ⊥
+in_none {m = m} [] i e = elim i [ ]
 in_none (x ∷ ms) first e = let z : ◌≡◌ {A = ℕ} 0 1 = cc in omega arith
 in_none (x ∷ ms) (later i) e = let z : ◌≡◌ {A = ℕ} 0 1 = cc in omega arith
 
