@@ -7,7 +7,6 @@ use native.Mathlib.Omega.{arith}
 use mathlib.Core.Path.{◌≡◌, ap, ◌∙◌}
 use Prim.Native.Nat.{◌<◌}
 use Rattle.class_counts.proofs.count_classes.Goals as goal
-use Rattle.class_counts.proofs.count_classes.Goals.{then-class-lt-PUBLIC_CLASSES, else-class-lt-PUBLIC_CLASSES}
 
 pub loop-i-init : goal.loop-i-init
 loop-i-init c = (search rules, (search rules, classes_none _))
@@ -28,7 +27,7 @@ loop-i-preserved c =
     let is = c.class_of-class.ensures ∙ ap (class_of c.args.classes.now) c.wide-state.ensures in
     let within = classes_next _ _ _ here c.loop-i.invariant.1.1 is in
     let over = classes_over _ _ _ here c.loop-i.invariant.1.1 is in
-    (search rules, (search rules, elim c.if-class-lt-PUBLIC_CLASSES.branch [ then-class-lt-PUBLIC_CLASSES w ↦ w.counts-is ∙ within (omega (arith, w.if-class-lt-PUBLIC_CLASSES.true)) | else-class-lt-PUBLIC_CLASSES w ↦ w.counts-is ∙ over (omega (arith, w.if-class-lt-PUBLIC_CLASSES.false)) ]))
+    (search rules, (search rules, grind (arith, within, over)))
 
 pub returns : goal.returns
 returns c =

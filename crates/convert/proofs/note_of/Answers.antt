@@ -1,4 +1,5 @@
 -- `convert::note_of` meets its contract: a withdrawn card has none, and a live one's is the card's. Assumes nothing.
+use native.Mathlib.Omega.{arith}
 use Rattle.convert.proofs.Entry.{unread, in_deck, noted}
 use Rattle.convert.proofs.note_of.Goals as goal
 
@@ -12,4 +13,4 @@ slice_bounds-note_of_card-end c =
 
 pub returns : goal.returns
 returns c =
-    noted c.args.deck.now c.args.from c.requires.right_row c.word_at-offset.ensures.0 c.word_at-size.ensures.0 c.if-deck-from-eq0.false c.note_of_card.ensures
+    noted c.args.deck.now c.args.from c.requires.right_row c.word_at-offset.ensures.0 c.word_at-size.ensures.0 (λ z. omega arith) c.note_of_card.ensures

@@ -22,9 +22,9 @@ slice_bounds-accepted-end c =
 pub returns-then-accepted : goal.returns-then-accepted
 returns-then-accepted c =
     accepted_card c.args.deck.now c.args.at c.args.least c.args.last c.broken_rule-rule.ensures c.if-rule-ne0.false
-    c.if-deck-at-eq0.false c.word_at-offset.ensures.0 c.word_at-size.ensures.0 c.accepted.ensures c.if-accepted.true
+    (λ z. omega arith) c.word_at-offset.ensures.0 c.word_at-size.ensures.0 c.accepted.ensures c.if-accepted.true
 
 pub returns : goal.returns
 returns c =
     refused_card c.args.deck.now c.args.at c.args.least c.args.last c.broken_rule-rule.ensures c.if-rule-ne0.false
-    c.if-deck-at-eq0.false c.word_at-offset.ensures.0 c.word_at-size.ensures.0 c.accepted.ensures c.if-accepted.false
+    (λ z. omega arith) c.word_at-offset.ensures.0 c.word_at-size.ensures.0 c.accepted.ensures c.if-accepted.false

@@ -48,8 +48,8 @@ returns-then-room-need c =
 
 pub returns-then-list-lines : goal.returns-then-list-lines
 returns-then-list-lines c =
-    let list-long : c.put_list-lines.result ≤ length c.args.list.now → ⊥ = only-short.1 (goal.at.returns-then-list-lines c).Then-list-lines c.if-room-need.false in
-    small_list c.requires.fates c.requires.bytes_value c.args.room.now c.args.list.now (some-kept (goal.at.returns-then-list-lines c).Else-cards-eq0) c.if-room-need.false c.put_list-lines.ensures (omega (arith, list-long))
+    let list-long : c.put_list-lines.result ≤ length c.args.list.now → ⊥ = only-short.1 (goal.at.returns-then-list-lines c).Then-list-lines (omega arith) in
+    small_list c.requires.fates c.requires.bytes_value c.args.room.now c.args.list.now (some-kept (goal.at.returns-then-list-lines c).Else-cards-eq0) (omega arith) c.put_list-lines.ensures (omega (arith, list-long))
 
 pub put_mended-deck_length-requires : goal.put_mended-deck_length-requires
 put_mended-deck_length-requires c =

@@ -3,14 +3,9 @@ use Prim.Native.Nat.{◌+◌, ◌≤◌, ◌<◌}
 use native.Mathlib.Omega.{arith}
 use mathlib.Core.Path.{refl}
 use lib.ListN.{length}
-use Rattle.deck.specs.Contents.{byte}
 use Rattle.mending_walk.proofs.Rules.{wrong_flag, wrong_zero_byte, low_number, low_offset, past_deck, no_rule}
-use Rattle.mending_walk.proofs.broken_rule.Goals.{Else-deck-at-gt1, Else-end-deck, Then-number-least}
+use Rattle.mending_walk.proofs.broken_rule.Goals.{Else-end-deck, Then-number-least}
 use Rattle.mending_walk.proofs.broken_rule.Goals as goal
-
--- behind rule 1 the flag is one of the two
-flag-right : (c : Else-deck-at-gt1) → byte c.args.deck.now (c.args.at + 6) ≤ 1
-flag-right c = c.if-deck-at-gt1.false
 
 -- rule 2 comes before rule 3
 number-first : (c : Then-number-least) → c.word_at-number.result < c.args.least
@@ -31,23 +26,23 @@ returns-then-deck-at-gt1 c =
 
 pub returns-then-deck-at-ne0 : goal.returns-then-deck-at-ne0
 returns-then-deck-at-ne0 c =
-    wrong_zero_byte c.args.deck.now c.args.at c.args.least c.args.last c.word_at-number.ensures.0 c.word_at-offset.ensures.0 c.word_at-size.ensures.0 refl refl (flag-right (goal.at.returns-then-deck-at-ne0 c).Else-deck-at-gt1) c.if-deck-at-ne0.true
+    wrong_zero_byte c.args.deck.now c.args.at c.args.least c.args.last c.word_at-number.ensures.0 c.word_at-offset.ensures.0 c.word_at-size.ensures.0 refl refl (omega arith) c.if-deck-at-ne0.true
 
 pub returns-then-number-least : goal.returns-then-number-least
 returns-then-number-least c =
-    low_number c.args.deck.now c.args.at c.args.least c.args.last c.word_at-number.ensures.0 c.word_at-offset.ensures.0 c.word_at-size.ensures.0 refl refl (flag-right (goal.at.returns-then-number-least c).Else-deck-at-gt1) c.if-deck-at-ne0.false (number-first (goal.at.returns-then-number-least c).Then-number-least)
+    low_number c.args.deck.now c.args.at c.args.least c.args.last c.word_at-number.ensures.0 c.word_at-offset.ensures.0 c.word_at-size.ensures.0 refl refl (omega arith) c.if-deck-at-ne0.false (number-first (goal.at.returns-then-number-least c).Then-number-least)
 
 pub returns-then-offset-last : goal.returns-then-offset-last
 returns-then-offset-last c =
-    low_offset c.args.deck.now c.args.at c.args.least c.args.last c.word_at-number.ensures.0 c.word_at-offset.ensures.0 c.word_at-size.ensures.0 refl refl (flag-right (goal.at.returns-then-offset-last c).Else-deck-at-gt1) c.if-deck-at-ne0.false
-    c.if-number-least.false c.if-offset-last.true
+    low_offset c.args.deck.now c.args.at c.args.least c.args.last c.word_at-number.ensures.0 c.word_at-offset.ensures.0 c.word_at-size.ensures.0 refl refl (omega arith) c.if-deck-at-ne0.false
+    (omega arith) c.if-offset-last.true
 
 pub returns-then-end-deck : goal.returns-then-end-deck
 returns-then-end-deck c =
-    no_rule c.args.deck.now c.args.at c.args.least c.args.last c.word_at-number.ensures.0 c.word_at-offset.ensures.0 c.word_at-size.ensures.0 refl refl (flag-right (goal.at.returns-then-end-deck c).Else-deck-at-gt1) c.if-deck-at-ne0.false
-    c.if-number-least.false c.if-offset-last.false c.if-end-deck.true
+    no_rule c.args.deck.now c.args.at c.args.least c.args.last c.word_at-number.ensures.0 c.word_at-offset.ensures.0 c.word_at-size.ensures.0 refl refl (omega arith) c.if-deck-at-ne0.false
+    (omega arith) (omega arith) c.if-end-deck.true
 
 pub returns : goal.returns
 returns c =
-    past_deck c.args.deck.now c.args.at c.args.least c.args.last c.word_at-number.ensures.0 c.word_at-offset.ensures.0 c.word_at-size.ensures.0 refl refl (flag-right (goal.at.returns c).Else-deck-at-gt1) c.if-deck-at-ne0.false
-    c.if-number-least.false c.if-offset-last.false (ends-behind (goal.at.returns c).Else-end-deck)
+    past_deck c.args.deck.now c.args.at c.args.least c.args.last c.word_at-number.ensures.0 c.word_at-offset.ensures.0 c.word_at-size.ensures.0 refl refl (omega arith) c.if-deck-at-ne0.false
+    (omega arith) (omega arith) (ends-behind (goal.at.returns c).Else-end-deck)

@@ -10,4 +10,4 @@ pub returns-then-b-gt57 : goal.returns-then-b-gt57
 returns-then-b-gt57 c = seat_behind _ c.if-b-gt57.true
 
 pub returns : goal.returns
-returns c = seat_digit _ (omega (arith, c.if-b-lt48.false)) (omega (arith, c.if-b-gt57.false))
+returns c = seat_digit _ (omega (arith, c.if-b-lt48.false)) (omega arith)

@@ -20,16 +20,16 @@ true-put c = c.put_bytes.ensures
 
 pub returns-then-sets-eq0 : goal.returns-then-sets-eq0
 returns-then-sets-eq0 c =
-    puts_as _ (update_none c.args.seats c.args.own c.args.end c.args.sets (omega (arith, c.if-own-end.true)) (nothing-set c.before.before.before)) (put_first (true-put c.before.before.before))
+    puts_as _ (update_none c.args.seats c.args.own c.args.end c.args.sets (omega arith) (nothing-set c.before.before.before)) (put_first (true-put c.before.before.before))
 
 pub returns-then-own-end : goal.returns-then-own-end
 returns-then-own-end c =
-    puts_as _ (update_set c.args.seats c.args.own c.args.end c.args.sets (omega (arith, c.if-own-end.true)) (λ e. omega (arith, e, c.if-sets-eq0.false))) c.put_set.ensures
+    puts_as _ (update_set c.args.seats c.args.own c.args.end c.args.sets (omega arith) (λ e. omega arith)) c.put_set.ensures
 
 pub returns-then-sets-eq0-2 : goal.returns-then-sets-eq0-2
 returns-then-sets-eq0-2 c =
-    puts_as _ (update_shift c.args.seats c.args.own c.args.end c.args.sets (λ e. omega (arith, e, c.if-own-end.false)) (omega (arith, c.if-sets-eq0-2.true))) c.put_shift-a.ensures
+    puts_as _ (update_shift c.args.seats c.args.own c.args.end c.args.sets (λ e. omega arith) (omega arith)) c.put_shift-a.ensures
 
 pub returns : goal.returns
 returns c =
-    puts_as _ (update_both c.args.seats c.args.own c.args.end c.args.sets (λ e. omega (arith, e, c.if-own-end.false)) (λ e. omega (arith, e, c.if-sets-eq0-2.false))) (puts_then c.put_shift-a.ensures c.put_set_last.ensures)
+    puts_as _ (update_both c.args.seats c.args.own c.args.end c.args.sets (λ e. omega arith) (λ e. omega arith)) (puts_then c.put_shift-a.ensures c.put_set_last.ensures)
