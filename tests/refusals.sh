@@ -24,6 +24,13 @@ jobs=$(awk -v most="$(nproc)" '/^MemAvailable:/ { n = int($2 / 2500000); print n
 printf '%s\n' crates/*/must-fail/*.edit | xargs -P "$jobs" -I {} bash -c 'edit=$1 && crate=${edit#crates/} && crate=${crate%%/*} && to=$2/$crate/${edit##*/} && mkdir -p "${to%/*}" &&
     if bin/refused "$crate" "$edit" >"$to.part" 2>"$to.log"; then mv "$to.part" "$to"; fi' refused {} "$said"
 
+# refused_alone PLACE: the version is refused there where it is tried without the others of its edit, one of which may rename the step at which this one is refused
+refused_alone() {
+    local alone=$said/$crate/$name.edit
+    awk -v name="$name:" '/^# [a-z0-9_]+: / { on = $2 == name } on' "$edit" >"$alone"
+    bin/refused "$crate" "$alone" 2>/dev/null </dev/null | grep -qxF -e "$1"
+}
+
 declare -A named
 # ends: a version is over; it has a fact, and an edit that changes something
 ends() {
@@ -53,7 +60,8 @@ for edit in crates/*/must-fail/*.edit; do
                     complain "$edit: two versions are to be refused at $place"
                 places="$places|$place|"
                 without=''
-                grep -qxF -e "$place" "$facts" || { echo "$edit: $name is not refused at $place" && elsewhere=$((elsewhere + 1)) missed=1; }
+                grep -qxF -e "$place" "$facts" || refused_alone "$place" ||
+                    { echo "$edit: $name is not refused at $place" && elsewhere=$((elsewhere + 1)) missed=1; }
                 ;;
             '#'*)
                 [[ $line =~ ^#\ ([a-z][a-z0-9_]*):\  ]] || { complain "$edit: neither a version nor a fact: $line" && continue; }
