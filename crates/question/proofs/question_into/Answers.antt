@@ -9,7 +9,7 @@ use Rattle.question.proofs.question_into.Goals as goal
 
 -- it goes on only where nothing stands behind the question
 nothing-behind : (c : goal.Else-due-ne0) → c.step-step.result.mark.kind ≡ k_end
-nothing-behind c = c.if-mark-ne-END.false
+nothing-behind c = omega arith
 
 -- what is kept is held against the number of seats
 settles-for-seats : (c : goal.Else-due-ne0) → refusal_in c.settle.new.state ≡ settled c.args.seats (late_in c.expression-next.new.state)
@@ -48,7 +48,7 @@ pub returns-then-due-ne0 : goal.returns-then-due-ne0
 returns-then-due-ne0 c =
     rw c.refused-then-due-ne0.ensures
     (broken c.args.question.now c.args.seats c.args.top c.args.values c.args.nodes.now c.expression-next.new.nodes (omega (arith, c.if-question-gt-CARD_BYTES.false))
-    (after c.expression-next.new.state c.expression-next.result) c.question_language-language.result (c.question_language-language.ensures.asks, c.question_language-language.ensures.values) c.expression-next.ensures c.if-next-eq0.false c.step-step.result c.step-step.ensures c.if-mark-ne-END.false
+    (after c.expression-next.new.state c.expression-next.result) c.question_language-language.result (c.question_language-language.ensures.asks, c.question_language-language.ensures.values) c.expression-next.ensures c.if-next-eq0.false c.step-step.result c.step-step.ensures (omega arith)
     c.requires.le_seats.0 c.requires.le_seats.1 c.settle.new.state c.settle.ensures.refused c.if-due-ne0.true)
 
 pub returns : goal.returns
