@@ -1,12 +1,14 @@
 #!/usr/bin/env python3
 """Brings the repository's own definitions, lemmas, record fields and constructors to the spelling of today's Rattle.
 
-usage: python3 tools/respell-names.py            at the top of the repository; a second run changes nothing
+usage: python3 tools/respell-names.py            at the top of the repository, once, right behind
+                                                 the kit's script (a second run then changes nothing)
        python3 tools/respell-names.py --look     writes nothing, and prints the names that would fall together
 
 Functions, lemmas, fields and constructors are in snake case, types stay in upper camel case,
 and a prime is an apostrophe.
 Names of Rust code, of the libraries and of what the prover makes (behind `tie.`, step fields) stay.
+It is for the tree that the kit's script left: run on answers by goal, it would rename goals that the check makes.
 """
 
 import collections
