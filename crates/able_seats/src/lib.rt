@@ -6,9 +6,8 @@ ghost use Rattle.card.specs.Laid.{guard_of};
 ghost use Rattle.meaning.specs.Position.{position};
 ghost use Rattle.panel_numbers.specs.Taking.{takers};
 ghost use Rattle.card.specs.Limits.{most_statements};
-ghost use Rattle.entry.specs.Said.{says};
 ghost use Rattle.able_seats.specs.FirstRow.{first_row};
-ghost use Rattle.able_seats.specs.Moved.{moved};
+ghost use Rattle.able_seats.specs.Moved.{place_of};
 
 use card::Head;
 use card::limits::{MOST_NODES, NODE_PLACES, ROW, ROW_PLACES};
@@ -19,13 +18,7 @@ use held_leaves::count_at;
 fn place_behind(len: usize, at: usize, more: usize) -> usize
     ensures { min result len ≡ min (at + more) len }
 {
-    if len <= at {
-        return len;
-    }
-    if len - at <= more {
-        return len;
-    }
-    at + more
+    at.saturating_add(more)
 }
 
 // How many of n seats may take a statement of local state `own` whose guard has `size` nodes from `at` on (0: no guard).
@@ -54,44 +47,31 @@ pub fn able(
     no_own
 }
 
-// A statement by its place on the card, from 1.
-#[derive(Clone, Copy)]
-pub enum FirstMove {
-    Statement(usize),
-    Nobody,
-    Refused(u8, usize),
-}
-
-// The first statement that some seat may take, at counts and the shared number beside them; those behind it are not looked at.
+// The first statement that some seat may take, by its place on the card from 1, at counts and the shared number beside them; those behind it are not looked at.
 pub fn first_able<'a>(
     head: Head,
     rows: &'a [usize; ROW_PLACES],
     nodes: &'a [u32; NODE_PLACES],
     counts: &'a [usize],
     shared: usize,
-) -> FirstMove
+) -> Option<usize>
     requires { head.count ≤ most_statements }
-    ensures { result ≡ moved (says (first_row head.seats (position counts.now shared) nodes.now rows.now 0 head.count)) }
+    ensures { result ≡ place_of (first_row head.seats (position counts.now shared) nodes.now rows.now 0 head.count) }
 {
-    let n = head.seats;
-    let count = head.count;
-    let mut i = 0;
-    while i < count {
+    for i in 0..head.count {
         let from = i * ROW;
         let able = able(
             nodes,
             i * MOST_NODES,
             rows[from + 1],
             rows[from],
-            n,
+            head.seats,
             counts,
             shared,
         );
         if able != 0 {
-            let place = i + 1;
-            return FirstMove::Statement(place);
+            return Some(i + 1);
         }
-        i += 1;
     }
-    FirstMove::Nobody
+    None
 }

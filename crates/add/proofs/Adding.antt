@@ -6,7 +6,7 @@ use Rattle.card.specs.Card.{Card}
 use Rattle.entry.specs.Said.{Said, refused, ◌>>=◌}
 use Rattle.deck.specs.Deck.{Entry}
 use Rattle.rows.specs.Said.{card_said}
-use Rattle.room.specs.declared.Answer.{Answer}
+use Rattle.room.specs.Answer.{Answer}
 use Rattle.tidying.specs.Tidying.{live_said, place_said, add_said}
 use Rattle.tidying.specs.Tidied.{live_cards, Tidiable}
 use Rattle.tidying.proofs.NewDecks.{live_says}

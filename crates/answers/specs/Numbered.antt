@@ -1,11 +1,14 @@
 -- An answer and a verdict in the two numbers that C is told ("Refusal numbers"). Assumes nothing.
-use Rattle.card.specs.Verdict.{verdict_number, verdict_place}
-use Rattle.card.specs.declared.Verdict.{Verdict}
-use Rattle.room.specs.declared.Answer.{Answer}
-use Rattle.room.specs.Answer.{answer_number, answer_value}
+use Rattle.card.specs.declared.Refusal.{Refusal}
+use Rattle.card.specs.Verdict.{Verdict, verdict_number, verdict_place}
+use Rattle.room.specs.Answer.{Answer, answer_number, answer_value}
 use Rattle.answers.specs.declared.OpenPanelAnswer.{OpenPanelAnswer}
 
--- the two numbers of an answer
+-- the two numbers of a refusal
+abbrev pub refusal_numbers : Refusal → OpenPanelAnswer
+refusal_numbers e = record { number = e.number; value = e.place }
+
+-- of an answer
 abbrev pub numbers : Answer → OpenPanelAnswer
 numbers a = record { number = answer_number a; value = answer_value a }
 

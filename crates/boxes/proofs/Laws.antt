@@ -1,137 +1,104 @@
 -- A deck's contents judged from entry to entry. Assumes nothing.
 use Prim.Native.Nat.{ℕ, zero, suc, ◌+◌, ◌-◌, ◌*◌, ◌≤◌, ◌<◌}
 use mathlib.Core.Path.{◌≡◌, refl, sym, ap, ap₂, ◌∙◌}
-use mathlib.Core.Bool.{Bool, true, false}
-use mathlib.Core.List.{List, [], ◌∷◌}
+use mathlib.Core.List.{List}
 use native.Mathlib.Omega.{arith}
-use lib.Dec.{leb, eqb}
-use borrow.Author.Tests.{le-leb, lt-leb, ne_eqb}
+use borrow.Author.Tests.{le-leb, lt-leb}
 use lib.ListN.{length, drop}
 use lib.Seq.{drop-drop}
 use Rattle.entry.specs.Said.{Said, ◌>>◌}
 use Rattle.card.specs.Limits.{deck_bytes, most_cards}
-use Rattle.card.specs.Text.{when◌then◌else◌}
 use Rattle.card.specs.Refusals.{malformed_deck}
-use Rattle.card.specs.declared.Verdict.{Verdict}
-use Rattle.card.specs.declared.Verdict.TheVariants.{Taken, Refused}
-use Rattle.deck.specs.Contents.{word_at, byte, Row, end_of, row_of, rows_of, count_of, behind, contents_of, row_said, rows_said, judged}
+use Rattle.std.specs.Prelude.{Err}
+use Rattle.card.specs.declared.Refusal.{Refusal}
+use Rattle.card.specs.Verdict.{Taken, Refused}
+use Rattle.deck.specs.Contents.{Row, end_of, row_of, rows_of, count_of, behind, contents_of, row_said, rows_said, judged}
 use Rattle.deck_entries.specs.Verdicts.{verdict_of}
-use Rattle.deck_entries.proofs.Laws.{verdict_refused, verdict_fine, as_told, row_with, row_there}
+use Rattle.deck_entries.specs.Rows.{row_by}
+use Rattle.deck_entries.specs.declared.Entry.{Entry}
+use Rattle.deck_entries.proofs.Laws.{verdict_refused, verdict_fine, as_told}
+use Rattle.std.proofs.Common.{add-one}
 
 -- ---- the deck: its head
 
+module _ (deck : List ℕ) (a : length deck ≤ deck_bytes) where
+  pub no_cards : count_of deck ≡ 0 → Refused malformed_deck 0 ≡ verdict_of (judged deck)
+  no_cards h =
+      let k = lt-leb 1 (count_of deck) (omega (arith, h)) in
+      rw (le-leb (length deck) deck_bytes a, k)
+
+  module _ (b : count_of deck ≡ 0 → ⊥) where
+    some_cards : 1 ≤ count_of deck
+    some_cards = omega (arith, b)
+
+    pub many_cards : most_cards < count_of deck → Refused malformed_deck 0 ≡ verdict_of (judged deck)
+    many_cards h = rw (le-leb (length deck) deck_bytes a, le-leb 1 (count_of deck) some_cards, lt-leb (count_of deck) most_cards h)
+
+    module _ (c : count_of deck ≤ most_cards) where
+      pub cut_short : length deck < behind (count_of deck) → Refused malformed_deck 0 ≡ verdict_of (judged deck)
+      cut_short h =
+          let k = lt-leb (behind (count_of deck)) (length deck) h in
+          rw (le-leb (length deck) deck_bytes a, le-leb 1 (count_of deck) some_cards, le-leb (count_of deck) most_cards c, k)
+
+      pub head_fine : behind (count_of deck) ≤ length deck → judged deck ≡ rows_said (length deck) 1 0 (behind (count_of deck)) (contents_of deck)
+      head_fine h =
+          let k = le-leb (behind (count_of deck)) (length deck) h in
+          rw (le-leb (length deck) deck_bytes a, le-leb 1 (count_of deck) some_cards, le-leb (count_of deck) most_cards c, k)
+
+-- ---- from entry to entry: what is judged still, where so many of `count` entries are judged
+
 module _ (deck : List ℕ) where
-  pub too_long : deck_bytes < length deck → Refused malformed_deck 0 ≡ verdict_of (judged deck)
-  too_long h = rw (lt-leb (length deck) deck_bytes h)
+  -- entry i, where it stands
+  abbrev pub place : ℕ → ℕ
+  place i = 1 + 8 * i
 
-  module _ (a : length deck ≤ deck_bytes) where
-    pub no_cards : count_of deck ≡ 0 → Refused malformed_deck 0 ≡ verdict_of (judged deck)
-    no_cards h =
-        let k : leb 1 (count_of deck) ≡ _ = lt-leb 1 (count_of deck) (omega (arith, h)) in
-        rw (le-leb (length deck) deck_bytes a, k)
+  abbrev pub entry : ℕ → Row
+  entry i = row_of (drop (place i) deck)
 
-    module _ (b : count_of deck ≡ 0 → ⊥) where
-      some_cards : 1 ≤ count_of deck
-      some_cards = omega (arith, b)
+  -- the least number and the least offset that entry i may have: behind those of the entry before it
+  abbrev pub least_of : ℕ → ℕ
+  least_of zero = 0
+  least_of (suc i) = suc (entry i).number
 
-      pub many_cards : most_cards < count_of deck → Refused malformed_deck 0 ≡ verdict_of (judged deck)
-      many_cards h = rw (le-leb (length deck) deck_bytes a, le-leb 1 (count_of deck) some_cards, lt-leb (count_of deck) most_cards h)
+  abbrev pub last_of : ℕ → ℕ
+  last_of zero = behind (count_of deck)
+  last_of (suc i) = end_of (entry i)
 
-      module _ (c : count_of deck ≤ most_cards) where
-        pub cut_short : length deck < behind (count_of deck) → Refused malformed_deck 0 ≡ verdict_of (judged deck)
-        cut_short h =
-            let k = lt-leb (behind (count_of deck)) (length deck) h in
-            rw (le-leb (length deck) deck_bytes a, le-leb 1 (count_of deck) some_cards, le-leb (count_of deck) most_cards c, k)
+  abbrev pub ahead : (count i : ℕ) → Said (Unit {0})
+  ahead count i = rows_said (length deck) (place i) (least_of i) (last_of i) (rows_of (count - i) (drop (place i) deck))
 
-        pub head_fine : behind (count_of deck) ≤ length deck → judged deck ≡ rows_said (length deck) 1 0 (behind (count_of deck)) (contents_of deck)
-        head_fine h =
-            let k = le-leb (behind (count_of deck)) (length deck) h in
-            rw (le-leb (length deck) deck_bytes a, le-leb 1 (count_of deck) some_cards, le-leb (count_of deck) most_cards c, k)
+pub record Going (deck : List ℕ) (count i least last : ℕ) : Type 0 where
+  pub least_is : least ≡ least_of deck i
+  pub last_is : last ≡ last_of deck i
+  pub same : judged deck ≡ ahead deck count i
+  pub room : behind count ≤ length deck
 
-pub empty_deck : (deck : List ℕ) → length deck ≡ 0 → Refused malformed_deck 0 ≡ verdict_of (judged deck)
-empty_deck [] h = refl
-empty_deck (b ∷ deck) h = absurd (omega arith)
+module _ (deck : List ℕ) (count i : ℕ) (inside : i < count) where
+  -- entry i is judged, and then those behind it
+  pub next : ahead deck count i ≡ (row_said (length deck) (place deck i) (least_of deck i) (last_of deck i) (entry deck i) >> ahead deck count (suc i))
+  next =
+      let more : count - i ≡ suc (count - suc i) = omega arith in
+      let far : place deck i + 8 ≡ place deck (suc i) = omega arith in
+      rw (more, drop-drop 8 (place deck i) deck, far) refl
 
--- ---- from entry to entry: what is judged still, with so many entries left
+  module _ {least last : ℕ} {x : Entry} (g : Going deck count i least last) (e : row_by x ≡ row_of (drop (1 + 8 * i) deck)) where
+    abbrev said : Said (Unit {0})
+    said = row_said (length deck) (1 + 8 * i) least last (row_by x)
 
-module _ (deck : List ℕ) (at : ℕ) where
-  -- the least number and the least offset that the entry at a place may have: behind those of the entry before it
-  abbrev pub least_at : ℕ
-  least_at = when eqb at 1 then 0 else word_at deck (at - 8) + 1
+    judges : judged deck ≡ (said >> ahead deck count (suc i))
+    judges =
+        g.same ∙ next
+        ∙ ap (λ (r : Row). row_said (length deck) (1 + 8 * i) (least_of deck i) (last_of deck i) r >> ahead deck count (suc i)) (sym e)
+        ∙ ap₂ (λ (n o : ℕ). row_said (length deck) (1 + 8 * i) n o (row_by x) >> ahead deck count (suc i)) (sym g.least_is) (sym g.last_is)
 
-  abbrev pub last_at : ℕ
-  last_at = when eqb at 1 then behind (count_of deck) else word_at deck (at - 6) + word_at deck (at - 4)
+    pub stops : {r : Refusal} → Err r ≡ verdict_of said → Err r ≡ verdict_of (judged deck)
+    stops t = as_told judges (rw (verdict_refused said (sym t)) refl)
 
-module _ (deck : List ℕ) (at : ℕ) where
-  later : eqb (at + 8) 1 ≡ false
-  later = ne_eqb (at + 8) 1 (λ e. omega arith)
+    pub least_next : x.number + 1 ≡ least_of deck (i + 1)
+    least_next = rw (add-one i) (add-one x.number ∙ ap (λ (r : Row). suc r.number) e)
 
-  pub next_least : word_at deck at + 1 ≡ least_at deck (at + 8)
-  next_least =
-      let back : at ≡ at + 8 - 8 = omega arith in
-      ap (λ (n : ℕ). word_at deck n + 1) back ∙ ap (λ (b : Bool). when b then 0 else word_at deck (at + 8 - 8) + 1) (sym later)
+    pub last_next : end_of (row_by x) ≡ last_of deck (i + 1)
+    last_next = rw (add-one i) (ap end_of e)
 
-  pub next_last : word_at deck (at + 2) + word_at deck (at + 4) ≡ last_at deck (at + 8)
-  next_last =
-      let offset : at + 2 ≡ at + 8 - 6 = omega arith in
-      let size : at + 4 ≡ at + 8 - 4 = omega arith in
-      ap₂ (λ (n m : ℕ). word_at deck n + word_at deck m) offset size ∙ ap (λ (b : Bool). when b then behind (count_of deck) else word_at deck (at + 8 - 6) + word_at deck (at + 8 - 4)) (sym later)
-
-pub record Going (deck : List ℕ) (left at least last : ℕ) : Type 0 where
-  pub least_is : least ≡ least_at deck at
-  pub last_is : last ≡ last_at deck at
-  pub same : judged deck ≡ rows_said (length deck) at (least_at deck at) (last_at deck at) (rows_of left (drop at deck))
-  pub room : at + 8 * left ≤ length deck
-  pub short : length deck ≤ deck_bytes
-
-pub begins : (deck : List ℕ) (c : ℕ) → c ≡ count_of deck → length deck ≤ deck_bytes → (c ≡ 0 → ⊥) → c ≤ most_cards → 1 + 8 * c ≤ length deck
-    → Going deck c 1 0 (1 + 8 * c)
-begins deck c e a b m h = rw e (record {
-  least_is = refl;
-  last_is = refl;
-  same = head_fine deck a (λ k. b (e ∙ k)) (omega (arith, e)) (omega (arith, e));
-  room = omega (arith, e);
-  short = a;
-})
-
-judges : (deck : List ℕ) (left at least last : ℕ) → Going deck left at least last → judged deck ≡ rows_said (length deck) at least last (rows_of left (drop at deck))
-judges deck left at least last g =
-    g.same
-    ∙ ap (λ (n : ℕ). rows_said (length deck) at n (last_at deck at) (rows_of left (drop at deck))) (sym g.least_is)
-    ∙ ap (λ (n : ℕ). rows_said (length deck) at least n (rows_of left (drop at deck))) (sym g.last_is)
-
-pub ended : (deck : List ℕ) (left at least last : ℕ) → Going deck left at least last → left ≡ 0 → Taken ≡ verdict_of (judged deck)
-ended deck left at least last g e = sym (ap verdict_of (judges deck left at least last g ∙ ap (λ (k : ℕ). rows_said (length deck) at least last (rows_of k (drop at deck))) e))
-
-module _ (deck : List ℕ) (at least last : ℕ) where
-  rows_step : (left : ℕ) → (left ≡ 0 → ⊥) → rows_said (length deck) at least last (rows_of left (drop at deck))
-      ≡ row_said (length deck) at least last (row_of (drop at deck))
-      >> rows_said (length deck) (at + 8) (suc (row_of (drop at deck)).number) (end_of (row_of (drop at deck))) (rows_of (left - 1) (drop 8 (drop at deck)))
-  rows_step zero h = absurd (h refl)
-  rows_step (suc left) h = let p : suc left - 1 ≡ left = omega arith in rw p
-
-  module _ (left : ℕ) (g : Going deck left at least last) (some : left ≡ 0 → ⊥) where
-    pub stops : {v : Verdict} {r p : ℕ} → v ≡ verdict_of (row_said (length deck) at least last (row_of (drop at deck))) → v ≡ Refused r p
-        → Refused r p ≡ verdict_of (judged deck)
-    stops e v = as_told (judges deck left at least last g ∙ rows_step left some) (rw (verdict_refused (row_said (length deck) at least last (row_of (drop at deck))) (sym e ∙ v)))
-
-    pub goes_on : {v : Verdict} → v ≡ verdict_of (row_said (length deck) at least last (row_of (drop at deck))) → v ≡ Taken
-        → judged deck ≡ rows_said (length deck) (at + 8) (least_at deck (at + 8)) (last_at deck (at + 8)) (rows_of (left - 1) (drop (at + 8) deck))
-    goes_on k v = judges deck left at least last g ∙ rows_step left some ∙ onto
-      where
-        row : row_of (drop at deck) ≡ row_with (word_at deck at) (word_at deck (at + 2)) (word_at deck (at + 4)) (byte deck (at + 6)) (byte deck (at + 7))
-        row = row_there deck at least last refl refl refl refl refl
-
-        above : suc (word_at deck at) ≡ least_at deck (at + 8)
-        above = let p : suc (word_at deck at) ≡ word_at deck at + 1 = omega arith in p ∙ next_least deck at
-
-        onto : row_said (length deck) at least last (row_of (drop at deck))
-            >> rows_said (length deck) (at + 8) (suc (row_of (drop at deck)).number) (end_of (row_of (drop at deck))) (rows_of (left - 1) (drop 8 (drop at deck)))
-            ≡ rows_said (length deck) (at + 8) (least_at deck (at + 8)) (last_at deck (at + 8)) (rows_of (left - 1) (drop (at + 8) deck))
-        onto =
-            ap (λ (x : Said (Unit {0})). x
-            >> rows_said (length deck) (at + 8) (suc (row_of (drop at deck)).number) (end_of (row_of (drop at deck))) (rows_of (left - 1) (drop 8 (drop at deck))))
-            (verdict_fine (row_said (length deck) at least last (row_of (drop at deck))) (sym k ∙ v))
-            ∙ ap (λ (x : Row). rows_said (length deck) (at + 8) (suc x.number) (end_of x) (rows_of (left - 1) (drop 8 (drop at deck)))) row
-            ∙ ap₂ (λ (n o : ℕ). rows_said (length deck) (at + 8) n o (rows_of (left - 1) (drop 8 (drop at deck)))) above (next_last deck at)
-            ∙ ap (λ (t : List ℕ). rows_said (length deck) (at + 8) (least_at deck (at + 8)) (last_at deck (at + 8)) (rows_of (left - 1) t)) (drop-drop 8 at deck)
+    pub goes_on : Taken ≡ verdict_of said → judged deck ≡ ahead deck count (i + 1)
+    goes_on t = rw (add-one i) (judges ∙ ap (λ (y : Said (Unit {0})). y >> ahead deck count (suc i)) (verdict_fine said (sym t)))

@@ -1,4 +1,3 @@
 pub mod Laws
-pub mod Live
 pub mod Seeking
 pub mod Lookup

@@ -1,18 +1,16 @@
 -- Where a card stands, and what a lookup hands back, in the code's values (document 02, 2026-02). Assumes nothing.
-use Rattle.std.specs.Prelude.{ℕ, ◌≡◌, List, set}
-use Rattle.card.specs.Verdict.{verdict_number, verdict_place}
-use Rattle.card.specs.declared.Verdict.{Verdict}
-use Rattle.card.specs.declared.Verdict.TheVariants.{Taken, Refused}
+use Rattle.std.specs.Prelude.{ℕ, ◌≡◌, List, set, Result, Ok}
+use Rattle.card.specs.declared.Refusal.{Refusal}
+use Rattle.card.specs.Verdict.{Verdict, Refused, verdict_number, verdict_place}
 use Rattle.deck_entries.specs.Verdicts.{verdict_of}
 use Rattle.entry.specs.Said.{Said, says, refused}
 use Rattle.entry.specs.Contract.{part_of}
 use Rattle.deck.specs.Lookup.{Part}
 use Rattle.boxes.specs.declared.Place.{Place}
 
--- all 0 where it is refused
-abbrev pub placed : Said Part → Place
-placed (says p) = record { verdict = Taken; which = p.which; offset = p.offset; size = p.size }
-placed (refused number place) = record { verdict = Refused number place; which = 0; offset = 0; size = 0 }
+abbrev pub placed : Said Part → Result Place Refusal
+placed (says p) = Ok (record { which = p.which; offset = p.offset; size = p.size })
+placed (refused number place) = Refused number place
 
 -- a lent array whose first two numbers become a verdict's, 0 and 0 where nothing is refused
 abbrev pub told : Verdict → List ℕ → List ℕ

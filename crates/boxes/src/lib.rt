@@ -6,55 +6,36 @@ ghost use Rattle.deck.specs.Contents.{judged, row_of, contents_of};
 ghost use Rattle.deck_entries.specs.Verdicts.{verdict_of};
 ghost use Rattle.card.specs.Limits.{entry_bytes};
 ghost use Rattle.deck.specs.Lookup.{is_live as is_live_said, part_for, live_row, located, located_with};
-ghost use Rattle.entry.specs.Said.{refused, saying};
+ghost use Rattle.entry.specs.Said.{saying};
 ghost use Rattle.deck.specs.Sound.{Head};
 ghost use Rattle.boxes.specs.Boxes.{placed};
 
-use card::Verdict;
-use card::limits::{
-    COUNT_BYTES, DECK_BYTES, ENTRY_BYTES, EXPANSION_FROM, FLAG_AT, MOST_CARDS, OFFSET_AT, SIZE_AT,
-};
-use card::refusals::{MALFORMED_DECK, NO_LIVE_CARD};
-use deck_entries::{judge_row, wide, word_at};
+use card::Refusal;
+use card::limits::{COUNT_BYTES, DECK_BYTES, ENTRY_BYTES, EXPANSION_FROM, MOST_CARDS};
+use card::refusals::NO_LIVE_CARD;
+use deck_entries::{Entry, malformed};
 
 // Is it a deck? The first wrong field in the order of the bytes decides.
-pub fn judge_deck(deck: &[u8]) -> Verdict
+pub fn judge_deck(deck: &[u8]) -> Result<(), Refusal>
     ensures { result ≡ verdict_of (judged deck.now) }
 {
-    if DECK_BYTES < deck.len() {
-        return Verdict::Refused(MALFORMED_DECK, 0);
+    if DECK_BYTES < deck.len() || deck.len() == 0 {
+        return Err(malformed(0));
     }
-    if deck.len() == 0 {
-        return Verdict::Refused(MALFORMED_DECK, 0);
+    let count = deck[0] as usize;
+    if count == 0 || MOST_CARDS < count || deck.len() < COUNT_BYTES + ENTRY_BYTES * count {
+        return Err(malformed(0));
     }
-    let count = wide(deck[0]);
-    if count == 0 {
-        return Verdict::Refused(MALFORMED_DECK, 0);
-    }
-    if MOST_CARDS < count {
-        return Verdict::Refused(MALFORMED_DECK, 0);
-    }
-    if deck.len() < COUNT_BYTES + ENTRY_BYTES * count {
-        return Verdict::Refused(MALFORMED_DECK, 0);
-    }
-    let mut left = count;
-    let mut at: usize = COUNT_BYTES;
     let mut least: usize = 0;
     let mut last = COUNT_BYTES + ENTRY_BYTES * count;
-    while left != 0 {
-        let row = judge_row(deck, at, least, last);
-        if let Verdict::Refused(number, place) = row {
-            return Verdict::Refused(number, place);
-        }
-        let number = word_at(deck, at);
-        let offset = word_at(deck, at + OFFSET_AT);
-        let size = word_at(deck, at + SIZE_AT);
-        least = number + 1;
-        last = offset + size;
-        at = at + ENTRY_BYTES;
-        left = left - 1;
+    for i in 0..count {
+        let at = COUNT_BYTES + ENTRY_BYTES * i;
+        let entry = Entry::at(deck, at);
+        entry.judge(deck.len(), at, least, last)?;
+        least = entry.number as usize + 1;
+        last = entry.end();
     }
-    Verdict::Taken
+    Ok(())
 }
 
 // Is the entry at a place live, and has it this number?
@@ -62,17 +43,13 @@ pub fn is_live(deck: &[u8], at: usize, number: usize) -> bool
     requires { at + entry_bytes ≤ length deck.now }
     ensures { result ≡ is_live_said number (row_of (drop at deck.now)) }
 {
-    let named = word_at(deck, at);
-    if named != number {
-        return false;
-    }
-    deck[at + FLAG_AT] == 1
+    let entry = Entry::at(deck, at);
+    entry.number as usize == number && entry.flag == 1
 }
 
-// Where a card stands: 0 in the base or 1 in the expansion, its first byte there, and how many bytes. All 0 where it is refused.
+// Where a card stands: 0 in the base or 1 in the expansion (C gets the number as it is), its first byte there, and how many bytes.
 #[derive(Clone, Copy)]
 pub struct Place {
-    pub verdict: Verdict,
     pub which: usize,
     pub offset: usize,
     pub size: usize,
@@ -82,71 +59,50 @@ const BASE: usize = 0;
 
 pub const EXPANSION: usize = 1;
 
-fn nowhere(number: u8, place: usize) -> Place
-    ensures { result ≡ placed (refused number place) }
-{
-    Place {
-        verdict: Verdict::Refused(number, place),
-        which: 0,
-        offset: 0,
-        size: 0,
-    }
-}
-
 // The live card of a number, entry by entry, in a deck that is taken.
-fn seek(deck: &[u8], number: usize, which: usize) -> Place
+fn seek(deck: &[u8], number: usize, which: usize) -> Result<Place, Refusal>
     requires { Head deck.now }
     ensures { result ≡ placed (saying (part_for which) (live_row number (contents_of deck.now))) }
 {
-    let count = wide(deck[0]);
-    let mut left = count;
-    let mut at: usize = COUNT_BYTES;
-    while left != 0 {
+    for i in 0..deck[0] as usize {
+        let at = COUNT_BYTES + ENTRY_BYTES * i;
         if is_live(deck, at, number) {
-            let offset = word_at(deck, at + OFFSET_AT);
-            let size = word_at(deck, at + SIZE_AT);
-            return Place {
-                verdict: Verdict::Taken,
-                which: which,
-                offset: offset,
-                size: size,
-            };
+            let entry = Entry::at(deck, at);
+            return Ok(Place {
+                which,
+                offset: entry.offset as usize,
+                size: entry.size as usize,
+            });
         }
-        at = at + ENTRY_BYTES;
-        left = left - 1;
     }
-    nowhere(NO_LIVE_CARD, 0)
+    Err(Refusal {
+        number: NO_LIVE_CARD,
+        place: 0,
+    })
 }
 
 // Where a box has a card; or 11, or 12.
-pub fn locate(deck: &[u8], number: u16) -> Place
+pub fn locate(deck: &[u8], number: u16) -> Result<Place, Refusal>
     ensures { result ≡ placed (located deck.now number) }
 {
-    let judged = judge_deck(deck);
-    if let Verdict::Refused(wrong, place) = judged {
-        return nowhere(wrong, place);
-    }
-    let wanted = number as usize;
-    seek(deck, wanted, BASE)
+    judge_deck(deck)?;
+    seek(deck, number as usize, BASE)
 }
 
 // Where a box with an expansion has a card; or 11, the base judged first, or 12.
-pub fn locate_with(base: &[u8], expansion: &[u8], number: u16) -> Place
+pub fn locate_with(base: &[u8], expansion: &[u8], number: u16) -> Result<Place, Refusal>
     ensures { result ≡ placed (located_with base.now expansion.now number) }
 {
-    let first = judge_deck(base);
-    if let Verdict::Refused(wrong, place) = first {
-        return nowhere(wrong, place);
-    }
-    let second = judge_deck(expansion);
-    if let Verdict::Refused(wrong, place) = second {
-        return nowhere(wrong, place + EXPANSION_FROM);
+    judge_deck(base)?;
+    if let Err(refusal) = judge_deck(expansion) {
+        return Err(Refusal {
+            number: refusal.number,
+            place: refusal.place + EXPANSION_FROM,
+        });
     }
     let wanted = number as usize;
-    let there = seek(expansion, wanted, EXPANSION);
-    let verdict = there.verdict;
-    if let Verdict::Refused(wrong, place) = verdict {
-        return seek(base, wanted, BASE);
+    match seek(expansion, wanted, EXPANSION) {
+        Ok(place) => Ok(place),
+        Err(_) => seek(base, wanted, BASE),
     }
-    there
 }

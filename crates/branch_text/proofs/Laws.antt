@@ -6,7 +6,6 @@ use mathlib.Core.List.{List, [], ◌∷◌, ◌++◌, map}
 use mathlib.Core.Option.{some}
 use native.Mathlib.Numerals.{add-one}
 use native.Mathlib.Omega.{arith}
-use borrow.Author.Tests.{eq-eqb, ne_eqb}
 use lib.ListN.{length, get_or, take, drop}
 use lib.Seq.{take-suc, take_all}
 use Rattle.card.specs.Card.{Branch}
@@ -16,10 +15,11 @@ use Rattle.phrases.specs.Phrases.{Text, ◌▸◌, num, weight_text}
 use Rattle.phrases.specs.Puts.{Puts}
 use Rattle.texts.specs.Shared.{more, summed, set_last}
 use Rattle.texts.specs.ReducedText.{update_text}
-use Rattle.leaf_text.specs.declared.Style.{Style}
+use Rattle.leaf_text.specs.declared.style.Form.TheVariants.{Written, Reduced}
+use Rattle.leaf_text.specs.Style.{Look}
 use Rattle.branch_text.specs.Branches.{end_text, branch_text}
 
-pub branch_parts : (s : Style) (x : ℕ) {u g e : ℕ} → u ≡ units_part x → g ≡ set_part x → e ≡ end_part x → (r : List ℕ)
+pub branch_parts : (s : Look) (x : ℕ) {u g e : ℕ} → u ≡ units_part x → g ≡ set_part x → e ≡ end_part x → (r : List ℕ)
     → weight_text u (end_text s e (set_of g) r) ≡ branch_text s (branch_of x) r
 unfolding branch_of
 branch_parts s x h j k r = rw (h, j, k)
@@ -29,15 +29,12 @@ sets_some : (sets : ℕ) → (sets ≡ 0 → ⊥) → (r : List ℕ) → set_las
 sets_some zero h r = absurd (h refl)
 sets_some (suc v) h r = let e : suc v - 1 ≡ v = omega arith in rw e
 
-module _ (s : Style) (e sets : ℕ) where
-  pub written_bare : s.text ≡ 0 → sets ≡ 0 → (r : List ℕ) → ":(s1'=" ▸ num e (")" ▸ r) ≡ end_text s e (set_of sets) r
-  written_bare h k r = rw (eq-eqb s.text 0 h, k)
+module _ (s : Look) (e sets : ℕ) where
+  pub written_set : s.form ≡ Written → (sets ≡ 0 → ⊥) → (r : List ℕ) → ":(s1'=" ▸ num e (")" ▸ set_last (some (sets - 1)) r) ≡ end_text s e (set_of sets) r
+  written_set h k r = rw (h, sets_some sets k r)
 
-  pub written_set : s.text ≡ 0 → (sets ≡ 0 → ⊥) → (r : List ℕ) → ":(s1'=" ▸ num e (")" ▸ set_last (some (sets - 1)) r) ≡ end_text s e (set_of sets) r
-  written_set h k r = rw (eq-eqb s.text 0 h, sets_some sets k r)
-
-  pub reduced_end : (s.text ≡ 0 → ⊥) → (r : List ℕ) → ":" ▸ update_text (update_of s.seats s.own e) (set_of sets) r ≡ end_text s e (set_of sets) r
-  reduced_end h r = rw (ne_eqb s.text 0 h)
+  pub reduced_end : s.form ≡ Reduced → (r : List ℕ) → ":" ▸ update_text (update_of s.seats s.own e) (set_of sets) r ≡ end_text s e (set_of sets) r
+  reduced_end h r = rw h
 
 -- ---- several branches
 
@@ -60,20 +57,20 @@ module _ (branch : Branch → Text) where
     pub more_end : (i : ℕ) {a b : List ℕ} {at m : ℕ} → length xs ≤ i → Puts a b at (some_more i) m → Puts a b at (more branch (map branch_of xs)) m
     more_end i h p = rw (take_all i xs h) at p
 
-    pub summed_none : length xs ≡ 0 → (r : List ℕ) → r ≡ summed branch (map branch_of xs) r
+    pub summed_none : length xs < 1 → (r : List ℕ) → r ≡ summed branch (map branch_of xs) r
     summed_none e r = go xs e
       where
-        go : (ys : List ℕ) → length ys ≡ 0 → r ≡ summed branch (map branch_of ys) r
+        go : (ys : List ℕ) → length ys < 1 → r ≡ summed branch (map branch_of ys) r
         go [] h = refl
         go (y ∷ ys) h = absurd (omega arith)
 
-    pub summed_some : (length xs ≡ 0 → ⊥) → (r : List ℕ)
+    pub summed_some : 1 ≤ length xs → (r : List ℕ)
         → branch (branch_of (get_or xs 0 0)) (more branch (map branch_of (take (length xs - 1) (drop 1 xs))) r) ≡ summed branch (map branch_of xs) r
     summed_some h r = go xs h
       where
-        go : (ys : List ℕ) → (length ys ≡ 0 → ⊥)
+        go : (ys : List ℕ) → 1 ≤ length ys
             → branch (branch_of (get_or ys 0 0)) (more branch (map branch_of (take (length ys - 1) (drop 1 ys))) r) ≡ summed branch (map branch_of ys) r
-        go [] k = absurd (k refl)
+        go [] k = absurd (omega arith)
         go (y ∷ ys) k =
             let e : length ys ≤ suc (length ys) - 1 = omega arith in
             rw (take_all (suc (length ys) - 1) ys e)

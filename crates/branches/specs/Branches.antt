@@ -1,5 +1,5 @@
 -- What reading a weight, a branch, and the branches of a statement leaves behind it. Assumes nothing.
-use Rattle.std.specs.Prelude.{ℕ, ◌-◌, min, ◌≡◌, ◌||◌, List, [], ◌∷◌, ◌++◌, map, eqb, length, set}
+use Rattle.std.specs.Prelude.{ℕ, ◌-◌, min, ◌≡◌, ◌||◌, List, [], ◌∷◌, ◌++◌, map, eqb, length, set, Ok}
 use Rattle.std.proofs.Math.Option.{Option}
 use Rattle.card.specs.Limits.{most_branches, numbers, unit}
 use Rattle.card.specs.Refusals.{out_of_shape, past_limit, wrong_weight}
@@ -7,8 +7,7 @@ use Rattle.card.specs.Text.{when◌then◌else◌}
 use Rattle.card.specs.Laid.{pack_branch, set_number}
 use Rattle.card.specs.Stored.{stored}
 use Rattle.card.specs.Weight.{Weight, Rule}
-use Rattle.weights.specs.Judged.{judged_of}
-use Rattle.weights.specs.declared.Judged.{Judged}
+use Rattle.weights.specs.Judged.{Judged, judged_of}
 use Rattle.marks_on_a_card.specs.Kinds.{k_number, k_decimal, kind}
 use Rattle.marks.specs.declared.Found.{Found}
 use Rattle.marks.specs.Step.{marks_at}
@@ -19,10 +18,12 @@ use Rattle.reading.specs.Shape.{BranchShape, weight as read_weight, setting, set
 use Rattle.reading.specs.Checks.{weight_in, value_or, judged_set, judged_branch, judged_each}
 use Rattle.late.specs.Late.{Late, blamed}
 use Rattle.late.specs.Values.{shares, most_of}
-use Rattle.late.specs.State.{Sized, late_in, value_in, After, Halted}
+use Rattle.late.specs.declared.state.State.{State as Carried}
+use Rattle.late.specs.Settled.{Refusal, refusal}
+use Rattle.late.specs.State.{late_in, value_in, After, Halted}
 use Rattle.late_weights.specs.LateWeights.{sum_by}
 use Rattle.branches.specs.declared.Bounds.{Bounds}
-use Rattle.parts.specs.Parts.{from, Answers, Went, Due, sign as due, seat, kinds_in, numbers_in, RunFrom}
+use Rattle.parts.specs.Parts.{from, Answers, Went, Due, sign as due, seat, marks_due, RunFrom}
 
 -- ---- a weight, by the rule of a weight: its units, or 0 and a late refusal where it is worth nothing
 
@@ -30,17 +31,15 @@ abbrev pub weight_by : Option ℕ → ℕ → Late → Late
 weight_by o p late = blamed (unless (is_some o) wrong_weight) p late
 
 -- what was judged, told in the state
-pub record Weighed (judged : Judged) (p : ℕ) (was is : List ℕ) : Type 0 where
+pub record Weighed (judged : Judged) (p : ℕ) (was is : Carried) : Type 0 where
   pub value : (o : Option ℕ) → judged ≡ judged_of o → value_in is ≡ or_zero o
   pub late : (o : Option ℕ) → judged ≡ judged_of o → late_in is ≡ weight_by o p (late_in was)
-  pub sized : Sized is
 
 abbrev pub WeightRead : Rule → List ℕ → Late → Place → Result Weight → After → Type 0
 WeightRead decimals s before p = Answers s (λ w. Went s before (units_in w) (weight decimals w p ∷ []))
 
 pub record WeightFrom (decimals : Rule) (s : List ℕ) (i : ℕ) (before : Late) (r : After) : Type 0 where
   pub answers : (n : ℕ) → WeightRead decimals s before (marks_at 0 s i) (read_weight (from s i n)) r
-  pub sized : Sized r.state
 
 -- ---- between a branch's weight and its state
 
@@ -48,7 +47,7 @@ abbrev pub update_due : List Due
 update_due = due ":" ∷ due "(" ∷ seat 1 ∷ due "'" ∷ due "=" ∷ []
 
 abbrev pub UpdateFrom : List ℕ → ℕ → Late → After → Type 0
-UpdateFrom s i late r = RunFrom s i (kinds_in update_due) (numbers_in update_due) late r
+UpdateFrom s i late r = RunFrom s i (marks_due update_due) late r
 
 -- ---- what a branch makes of the shared number (document 02, 2026-10): in numbers one more than it, and 0 for nothing
 
@@ -63,12 +62,10 @@ SetRead s most before = Answers s (λ v. Went s before (set_in v) (judged_set mo
 
 pub record SettingFrom (s : List ℕ) (i most : ℕ) (before : Late) (r : After) : Type 0 where
   pub answers : (n : ℕ) → SetRead s most before (setting (from s i n)) r
-  pub sized : Sized r.state
 
 -- where a number of so many values is shared
 pub record SetsFrom (s : List ℕ) (i values : ℕ) (before : Late) (r : After) : Type 0 where
   pub answers : (n : ℕ) → SetRead s (most_of values) before (sets (shares values) (from s i n)) r
-  pub sized : Sized r.state
 
 -- ---- a branch, in the array as the packer makes it
 
@@ -82,7 +79,7 @@ branch_by bounds = branch (shares bounds.values)
 abbrev pub judged_by : Bounds → BranchShape → List Judgement
 judged_by bounds b = judged_branch bounds.decimals bounds.top (most_of bounds.values) b
 
-pub record Branched (bounds : Bounds) (s : List ℕ) (before : Late) (was is : List ℕ) (place : ℕ) (b : BranchShape) (state : List ℕ) : Type 0 where
+pub record Branched (bounds : Bounds) (s : List ℕ) (before : Late) (was is : List ℕ) (place : ℕ) (b : BranchShape) (state : Carried) : Type 0 where
   pub went : Went s before (units_in b.weight) (judged_by bounds b) state
   pub array : is ≡ set was place (packed_in b)
 
@@ -91,7 +88,6 @@ BranchRead bounds s before was is place = Answers s (Branched bounds s before wa
 
 pub record BranchFrom (bounds : Bounds) (s : List ℕ) (i : ℕ) (before : Late) (was is : List ℕ) (place : ℕ) (r : After) : Type 0 where
   pub answers : (n : ℕ) → BranchRead bounds s before was is place (branch_by bounds (from s i n)) r
-  pub sized : Sized r.state
 
 -- ---- the branches of a statement, with the `;`
 
@@ -113,15 +109,14 @@ judged_branches bounds x = judged_each (judged_by bounds) x.branches ++ (sum (ma
 
 -- by the mark behind the last branch
 pub record ClosedBy (m : Found) (next count total : ℕ) (late : Late) (r : After) : Type 0 where
-  pub closes : m.kind ≡ kind ";" → (r.next ≡ next) × (value_in r.state ≡ count) × (late_in r.state ≡ sum_by total m.place late)
+  pub closes : m.kind ≡ kind ";" → (r.next ≡ Ok next) × (value_in r.state ≡ count) × (late_in r.state ≡ sum_by total m.place late)
   pub stops : (m.kind ≡ kind ";" → ⊥) → Halted out_of_shape m.place r
-  pub sized : Sized r.state
 
 -- by the mark where one branch too many begins
-abbrev pub PastBy : Found → After → Type 0
-PastBy m r = Halted (when eqb m.kind k_number || eqb m.kind k_decimal then past_limit else out_of_shape) m.place r
+abbrev pub past_by : Found → Refusal
+past_by m = refusal (when eqb m.kind k_number || eqb m.kind k_decimal then past_limit else out_of_shape) m.place
 
-pub record BranchesIn (bounds : Bounds) (s : List ℕ) (before : Late) (was is : List ℕ) (first : ℕ) (x : BranchesShape) (state : List ℕ) : Type 0 where
+pub record BranchesIn (bounds : Bounds) (s : List ℕ) (before : Late) (was is : List ℕ) (first : ℕ) (x : BranchesShape) (state : Carried) : Type 0 where
   pub went : Went s before (length x.branches) (judged_branches bounds x) state
   pub array : is ≡ stored was first (map packed_in x.branches)
 
@@ -130,4 +125,3 @@ BranchesRead bounds s before was is first = Answers s (BranchesIn bounds s befor
 
 pub record BranchesFrom (bounds : Bounds) (s : List ℕ) (i : ℕ) (before : Late) (was is : List ℕ) (first : ℕ) (r : After) : Type 0 where
   pub answers : (n : ℕ) → BranchesRead bounds s before was is first (branches bounds (most_branches - 1) (from s i n)) r
-  pub sized : Sized r.state

@@ -41,9 +41,9 @@ module _ (was : List ℕ) (from to : ℕ) where
   down_none = sym (clip_none was to)
 
   -- n bytes more
-  pub down_join : {is now : List ℕ} (i n : ℕ) → to ≤ from → from + i ≤ length was → is ≡ clip was to (take i (drop from was))
-      → now ≡ clip is (to + i) (take n (drop (from + i) is)) → now ≡ clip was to (take (i + n) (drop from was))
-  down_join {is} {now} i n t l e f =
+  pub down_join : {is now : List ℕ} (i n : ℕ) {all : ℕ} → to ≤ from → from + i ≤ length was → all ≡ i + n → is ≡ clip was to (take i (drop from was))
+      → now ≡ clip is (to + i) (take n (drop (from + i) is)) → now ≡ clip was to (take all (drop from was))
+  down_join {is} {now} i n t l a e f =
       let first = take i (drop from was) in
       let long : length first ≡ i = omega (arith, length-take i (drop from was), length-drop from was) in
       let read-there : take n (drop (from + i) is) ≡ take n (drop i (drop from was))
@@ -56,6 +56,7 @@ module _ (was : List ℕ) (from to : ℕ) where
       ∙ ap (λ (k : ℕ). clip (clip was to first) (to + k) (take n (drop i (drop from was)))) (sym long)
       ∙ sym (clip_append was to first (take n (drop i (drop from was))))
       ∙ ap (clip was to) (sym (take-add i n (drop from was)))
+      ∙ ap (λ (k : ℕ). clip was to (take k (drop from was))) (sym a)
 
 -- ---- upwards
 
@@ -71,10 +72,10 @@ module _ (was : List ℕ) (from to size : ℕ) where
   abbrev moved : List ℕ
   moved = take size (drop from was)
 
-  pub up_none : was ≡ clip was (to + size) (drop size moved)
-  up_none =
-      let h : length moved ≤ size = omega (arith, length-take size (drop from was)) in
-      sym (ap (clip was (to + size)) (drop_of_length-le moved h) ∙ clip_none was (to + size))
+  pub up_none : {all : ℕ} → all ≡ size → was ≡ clip was (to + all) (drop all moved)
+  up_none {all} e =
+      let h : length moved ≤ all = omega (arith, length-take size (drop from was)) in
+      sym (ap (clip was (to + all)) (drop_of_length-le moved h) ∙ clip_none was (to + all))
 
   -- n bytes more, of so many that are left with them
   pub up_join : {is now : List ℕ} (left n : ℕ) {all : ℕ} → from ≤ to → to + size ≤ length was → all ≤ size → all ≡ left + n → is ≡ clip was (to + all) (drop all moved)

@@ -13,3 +13,4 @@ pub mod Sized
 pub mod Rows
 pub mod HeldIn
 pub mod Examples
+pub mod Verdicts

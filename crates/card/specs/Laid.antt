@@ -209,22 +209,6 @@ laid c = record {
   branches = padded branch_places (rows most_branches branch_row 0 c.statements);
 }
 
--- what stands in the struct where there is no card
-unfoldable pub blank : CardRow
-unfolding statement_rows padded
-blank = record {
-  mode = 0;
-  shared = 0;
-  initial = 0;
-  seats = 0;
-  top = 0;
-  start = 0;
-  count = 0;
-  statements = statement_rows most_statements [];
-  nodes = padded node_places [];
-  branches = padded branch_places [];
-}
-
 -- ---- and back, whatever numbers stand in the arrays
 
 -- a node from its number and its children

@@ -16,13 +16,10 @@ pub record Lent : Type 0 where
 abbrev pub lent : List ℕ → List ℕ → List ℕ → Lent
 lent rows nodes branches = record { rows = rows; nodes = nodes; branches = branches }
 
--- ---- from the card to its head and the arrays; zeros where there is none
+-- ---- from the card to its head and the arrays; zeros in these where there is none
 
 abbrev pub head_of : Card → Head
 head_of c = record { mode = mode_number c.mode; shared = values_of c.shared; initial = start_of c.shared; seats = c.n; top = c.k; start = c.l; count = length c.statements }
-
-abbrev pub no_head : Head
-no_head = record { mode = 0; shared = 0; initial = 0; seats = 0; top = 0; start = 0; count = 0 }
 
 abbrev pub lent_of : Card → Lent
 lent_of c = lent (rows_of (laid c).statements) (laid c).nodes (laid c).branches

@@ -49,11 +49,11 @@ pub struct Head {
     pub count: usize,
 }
 
-// Taken, or refused with a number and a place ("Refusal numbers").
+// Why something is refused: the number by which the document and C know it, and its place ("Refusal numbers").
 #[derive(Clone, Copy)]
-pub enum Verdict {
-    Taken,
-    Refused(u8, usize),
+pub struct Refusal {
+    pub number: u8,
+    pub place: usize,
 }
 
 // What stands there where there is no statement.
@@ -71,8 +71,5 @@ pub fn no_statement() -> Statement
 pub fn number_at(array: &[u32], i: usize) -> u32
     ensures { result ≡ get_or array.now i 0 }
 {
-    if i < array.len() {
-        return array[i];
-    }
-    0
+    array.get(i).copied().unwrap_or(0)
 }

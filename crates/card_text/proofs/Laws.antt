@@ -17,6 +17,7 @@ use Rattle.phrases.specs.Puts.{Puts}
 use Rattle.texts.specs.Writing.{module_text, modules, write_of}
 use Rattle.texts.specs.Lengths.{written_most}
 use Rattle.texts.proofs.WrittenShort.{written_short, written_cap, room_cap}
+use Rattle.leaf_text.specs.declared.style.Form.TheVariants.{Written}
 use Rattle.statement_text.specs.Statements.{statements_text}
 use Rattle.statement_text.proofs.Both.{written_each}
 use Rattle.card_text.specs.Parts.{head_text}
@@ -30,7 +31,7 @@ modules_counted i zero r = refl
 modules_counted i (suc c) r = rw (add-one, modules_counted (suc i) c r)
 
 pub write_text : (c : Card) {a b : List ℕ} {m : ℕ}
-    → Puts a b 0 (λ r. head_text c.mode c.shared c.k c.l (statements_text 0 c ("endmodule\n" ▸ modules 1 (c.n - 1) r))) m → Put a b 0 (write_of c) m
+    → Puts a b 0 (λ r. head_text c.mode c.shared c.k c.l (statements_text Written c ("endmodule\n" ▸ modules 1 (c.n - 1) r))) m → Put a b 0 (write_of c) m
 unfolding write_of
 write_text c p =
     put_as (ap (head_text c.mode c.shared c.k c.l) (sym (written_each c.mode c.n c.statements ("endmodule\n" ▸ modules 1 (c.n - 1) [])))) p.put

@@ -1,7 +1,7 @@
 // The written card ("Texts, byte for byte", the paragraph on the written card), of a card that lies in arrays: how long it is, and the text stored in a room where it fits.
 #![tactic(auto)]
 
-ghost use Rattle.std.specs.Prelude.{◌≡◌, length, ◌-◌, ◌≤◌};
+ghost use Rattle.std.specs.Prelude.{◌≡◌, length, ◌-◌, ◌≤◌, ◌<◌};
 ghost use Rattle.card.specs.Limits.{most_seats, most_statements};
 ghost use Rattle.card.specs.Card.{nondeterministic, probabilistic};
 ghost use Rattle.card.specs.Laid.{either, shared_of};
@@ -14,33 +14,44 @@ ghost use Rattle.card_text.specs.Parts.{head_text};
 ghost use Rattle.room.specs.Answer.{Entered};
 ghost use Rattle.entry.specs.Said.{says as text};
 
-use card::Head;
 use card::limits::{BRANCH_PLACES, MOST_BRANCHES, NODE_PLACES, ROW_PLACES};
 use card::refusals::ROOM_TOO_SMALL;
-use leaf_text::WRITTEN;
+use card::{Head, Refusal};
+use leaf_text::style::Form;
 use phrases::{WEIGHT_MOST, put_mode, put_numbered};
-use room::{Answer, place, put_bytes};
+use room::{place, put_bytes, put_filled};
 use shared_text::put_declaration;
 use statement_text::put_statements;
 
+// A module of seats 2 to 16.
 fn put_module(room: &mut [u8], at: usize, seat: usize) -> usize
+    requires { seat < 20 }
     ensures { Puts room.old room.new at (module_text seat) result }
 {
-    let a = put_numbered(room, at, b"module process", seat);
-    let b = put_numbered(room, a, b" = process1 [s1=s", seat);
-    let c = put_numbered(room, b, b", s", seat);
-    put_bytes(room, c, b"=s1] endmodule\n")
+    if seat < 10 {
+        let i = b'0' + seat as u8;
+        let mut line: [u8; 52] = *b"module process0 = process1 [s1=s0, s0=s1] endmodule\n";
+        line[14] = i;
+        line[32] = i;
+        line[36] = i;
+        return put_filled(room, at, line);
+    }
+    let i = b'0' + (seat - 10) as u8;
+    let mut line: [u8; 55] = *b"module process10 = process1 [s1=s10, s10=s1] endmodule\n";
+    line[15] = i;
+    line[34] = i;
+    line[39] = i;
+    put_filled(room, at, line)
 }
 
 // The modules behind the first.
 fn put_modules(room: &mut [u8], at: usize, seats: usize) -> usize
+    requires { seats < 20 }
     ensures { Puts room.old room.new at (modules 1 (seats - 1)) result }
 {
     let mut to = place(at);
-    let mut i = 1;
-    while i < seats {
-        i += 1;
-        to = put_module(room, to, i);
+    for i in 1..seats {
+        to = put_module(room, to, i + 1);
     }
     to
 }
@@ -68,7 +79,7 @@ pub fn put_card<'a>(
     ensures { Put room.old room.new 0 (write_of (card_in head (lent rows.now nodes.now branches.now))) result }
 {
     let a = put_head(room, 0, head);
-    let b = put_statements(room, a, head, rows, nodes, branches, WRITTEN);
+    let b = put_statements(room, a, head, rows, nodes, branches, Form::Written);
     let c = put_bytes(room, b, b"endmodule\n");
     put_modules(room, c, head.seats)
 }
@@ -114,17 +125,20 @@ pub fn write_card<'a>(
     rows: &'a [usize; ROW_PLACES],
     nodes: &'a [u32; NODE_PLACES],
     branches: &'a [u32; BRANCH_PLACES],
-) -> Answer
+) -> Result<usize, Refusal>
     requires { HoldsIn head (lent rows.now nodes.now branches.now) }
     ensures { Entered room.old room.new (text (write_of (card_in head (lent rows.now nodes.now branches.now)))) result }
 {
     let most = written_most(head.seats, head.count);
     if most <= room.len() {
-        return Answer::Done(put_card(room, head, rows, nodes, branches));
+        return Ok(put_card(room, head, rows, nodes, branches));
     }
     let need = written_length(head, rows, nodes, branches);
     if room.len() < need {
-        return Answer::Refused(ROOM_TOO_SMALL, need);
+        return Err(Refusal {
+            number: ROOM_TOO_SMALL,
+            place: need,
+        });
     }
-    Answer::Done(put_card(&mut room[..need], head, rows, nodes, branches))
+    Ok(put_card(&mut room[..need], head, rows, nodes, branches))
 }

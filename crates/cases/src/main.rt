@@ -4,9 +4,10 @@
 
 ghost use Rattle.std.specs.Prelude.{◌≤◌, length};
 
+use card::Refusal;
 use printing::write;
 use put_numbers::put_number;
-use room::{Answer, put_bytes};
+use room::put_bytes;
 use std::io;
 use std::io::Write;
 
@@ -30,10 +31,8 @@ fn put_module(card: &mut [u8], at: usize, seat: usize) -> usize {
 // The modules behind the first.
 fn put_modules(card: &mut [u8], from: usize, modules: usize) -> usize {
     let mut at = from;
-    let mut seat = 1;
-    while seat < modules {
-        seat += 1;
-        at = put_module(card, at, seat);
+    for seat in 1..modules {
+        at = put_module(card, at, seat + 1);
     }
     at
 }
@@ -42,10 +41,7 @@ fn put_modules(card: &mut [u8], from: usize, modules: usize) -> usize {
 fn whole(text: &[u8], end: usize) -> usize
     ensures { result ≤ length text.now }
 {
-    if text.len() < end {
-        return 0;
-    }
-    end
+    if text.len() < end { 0 } else { end }
 }
 
 // A card of so many modules, with this top state and guard, and its length.
@@ -70,20 +66,16 @@ fn numbered(rt: &HostRuntime, text: &[u8], n: usize) -> io::Result<()> {
     print!(rt; "{n}")
 }
 
-fn wide(number: u8) -> usize {
-    number as usize
-}
-
 // The line of an answer.
-fn say(rt: &HostRuntime, name: &[u8], answer: Answer) -> io::Result<()> {
+fn say(rt: &HostRuntime, name: &[u8], answer: Result<usize, Refusal>) -> io::Result<()> {
     print(rt, name)?;
     match answer {
-        Answer::Done(long) => {
+        Ok(long) => {
             numbered(rt, b": written, ", long)?;
         }
-        Answer::Refused(number, place) => {
-            numbered(rt, b": refused ", wide(number))?;
-            numbered(rt, b" ", place)?;
+        Err(refusal) => {
+            numbered(rt, b": refused ", usize::from(refusal.number))?;
+            numbered(rt, b" ", refusal.place)?;
         }
     }
     print(rt, b"\n")

@@ -7,7 +7,7 @@ use borrow.Author.Tests.{eq-eqb, ne_eqb}
 use lib.ListN.{length}
 use Rattle.card.specs.Limits.{top_class}
 use Rattle.card.specs.Refusals.{wrong_classes}
-use Rattle.card.specs.declared.Verdict.TheVariants.{Refused}
+use Rattle.card.specs.Verdict.{Refused}
 use Rattle.room.specs.Room.{Put}
 use Rattle.phrases.specs.Puts.{Puts}
 use Rattle.panel_wording.specs.PanelText.{line}

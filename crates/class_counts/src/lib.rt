@@ -8,16 +8,14 @@ ghost use Rattle.classes.specs.Classes.{class_of as class_of_said, class_counts,
 ghost use Rattle.classes.specs.ClassesSaid.{judged_classes};
 ghost use Rattle.classes.specs.ClassesRoom.{classes_room};
 
-use bytes_as_numbers::wide;
-use card::Verdict;
+use card::Refusal;
 use card::limits::{PUBLIC_CLASSES, TOP_CLASS};
 use card::refusals::{ROOM_TOO_SMALL, WRONG_CLASSES};
 use lines::put_line;
-use room::Answer;
 use seating::judge_each;
 
 // Is it a list for a card of top state `top`?
-pub fn judge_classes(classes: &[u8], top: usize) -> Verdict
+pub fn judge_classes(classes: &[u8], top: usize) -> Result<(), Refusal>
     ensures { result ≡ judged_classes top classes.now }
 {
     if top < classes.len() {
@@ -25,17 +23,17 @@ pub fn judge_classes(classes: &[u8], top: usize) -> Verdict
             return judge_each(classes, TOP_CLASS, WRONG_CLASSES);
         }
     }
-    Verdict::Refused(WRONG_CLASSES, classes.len())
+    Err(Refusal {
+        number: WRONG_CLASSES,
+        place: classes.len(),
+    })
 }
 
 // The class of a state, or 0 where the list has none for it.
 fn class_of(classes: &[u8], state: usize) -> usize
     ensures { result ≡ class_of_said classes.now state }
 {
-    if state < classes.len() {
-        return wide(classes[state]);
-    }
-    0
+    classes.get(state).copied().map_or(0, usize::from)
 }
 
 // How many of the first n seats are in each class; a class above the top is passed over.
@@ -43,30 +41,29 @@ pub fn count_classes(seats: &[u8], n: usize, classes: &[u8]) -> [usize; PUBLIC_C
     ensures { result ≡ class_counts classes.now (take n seats.now) }
 {
     let mut counts: [usize; PUBLIC_CLASSES] = [0; PUBLIC_CLASSES];
-    let mut i = 0;
-    while i < n {
-        if seats.len() <= i {
-            return counts;
-        }
-        let state = wide(seats[i]);
+    let counted = &seats[..n.min(seats.len())];
+    for seat in counted {
+        let state = usize::from(*seat);
         let class = class_of(classes, state);
         if class < PUBLIC_CLASSES {
-            counts[class] = counts[class] + 1;
+            counts[class] += 1;
         }
-        i += 1;
     }
     counts
 }
 
 // The line of some class counts: put into a room of no bytes it tells its length, and then it is stored where it fits.
-pub fn enter_classes(room: &mut [u8], counts: &[usize]) -> Answer
+pub fn enter_classes(room: &mut [u8], counts: &[usize]) -> Result<usize, Refusal>
     requires { length (classes_text counts.now) ≤ classes_room }
     ensures { Entered room.old room.new (text (classes_text counts.now)) result }
 {
     let mut nothing: [u8; 0] = [0; 0];
     let need = put_line(&mut nothing, 0, b"classes", counts);
     if room.len() < need {
-        return Answer::Refused(ROOM_TOO_SMALL, need);
+        return Err(Refusal {
+            number: ROOM_TOO_SMALL,
+            place: need,
+        });
     }
-    Answer::Done(put_line(room, 0, b"classes", counts))
+    Ok(put_line(room, 0, b"classes", counts))
 }

@@ -8,7 +8,7 @@ use lib.ListN.{length}
 use Rattle.card.specs.Limits.{top_class}
 use Rattle.card.specs.Refusals.{wrong_classes}
 use Rattle.card.specs.Card.{Card}
-use Rattle.card.specs.declared.Verdict.TheVariants.{Taken, Refused}
+use Rattle.card.specs.Verdict.{Taken, Refused}
 use Rattle.entry.specs.Said.{refused}
 use Rattle.entry.specs.Stage.{Stage}
 use Rattle.entry.proofs.Exactly.{◌↔∙◌}

@@ -3,8 +3,8 @@ use Rattle.std.specs.Prelude.{ℕ, suc, ◌≡◌, ◌⊎◌, List, length}
 use Rattle.card.specs.Limits.{top_class}
 use Rattle.card.specs.Refusals.{wrong_classes}
 use Rattle.card.specs.Card.{Card}
-use Rattle.card.specs.declared.Verdict.{Verdict}
-use Rattle.card.specs.declared.Verdict.TheVariants.{Refused}
+use Rattle.card.specs.Verdict.{Verdict}
+use Rattle.card.specs.Verdict.{Refused}
 use Rattle.entry.specs.Said.{Said}
 use Rattle.entry.specs.Numbers.{Numbers, only}
 use Rattle.seating.specs.Judged.{judged_by, judged_list, FirstAbove}

@@ -6,7 +6,7 @@ use native.Mathlib.Omega.{arith}
 use lib.ListN.{length, take, drop, length-map, length-take}
 use lib.Seq.{take_at}
 use Rattle.card.specs.Refusals.{room_too_small}
-use Rattle.card.specs.declared.Verdict.TheVariants.{Taken, Refused as Wrong}
+use Rattle.card.specs.Verdict.{Taken, Refused as Wrong}
 use Rattle.entry.specs.Said.{Said, says, refused, ◌>>=◌, ◌>>◌}
 use Rattle.entry.proofs.Stages.{says≢refused, same_said, same_number, same_place}
 use Rattle.deck.specs.Contents.{Row, byte, count_of, behind, contents_of, judged}
@@ -17,8 +17,8 @@ use Rattle.deck.proofs.Written.{length_text, length_rows, length_for}
 use Rattle.deck_entries.specs.Verdicts.{verdict_of}
 use Rattle.deck_entries.proofs.Laws.{verdict_refused, verdict_fine}
 use Rattle.deck_writer.proofs.Putting.{rows_before}
-use Rattle.room.specs.declared.Answer.{Answer}
-use Rattle.room.specs.declared.Answer.TheVariants.{Done, Refused}
+use Rattle.room.specs.Answer.{Answer}
+use Rattle.room.specs.Answer.{Done, Refused}
 use Rattle.room.specs.Room.{Put}
 use Rattle.room.specs.Answer.{told, Entered}
 use Rattle.room.proofs.Laws.{then, put_as, put_length}

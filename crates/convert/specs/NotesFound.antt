@@ -2,8 +2,8 @@
 use Rattle.std.specs.Prelude.{ℕ, ◌≡◌, List, map, ◌++◌, drop}
 use Rattle.deck.specs.Contents.{count_of, behind}
 use Rattle.deck.specs.Deck.{held_by}
-use Rattle.room.specs.declared.Answer.{Answer}
-use Rattle.room.specs.declared.Answer.TheVariants.{Done}
+use Rattle.room.specs.Answer.{Answer}
+use Rattle.room.specs.Answer.{Done}
 use Rattle.room.specs.Answer.{told}
 use Rattle.converted_rows.specs.Notes.{note_of, end_said}
 

@@ -1,4 +1,5 @@
-// A box converted: its live cards without decimal weights, in a deck without gaps; or the card that cannot be converted (document 02, 2026-11).
+// A box converted: its live cards without decimal weights, in a deck without gaps; or the card that cannot be
+// converted (document 02, 2026-11).
 #![tactic(auto)]
 
 ghost use Rattle.std.specs.Prelude.{◌≡◌, ◌+◌, ◌≤◌, length, drop};
@@ -16,13 +17,13 @@ ghost use Rattle.converted_rows.specs.Noted.{Each};
 ghost use Rattle.convert.specs.Ready.{BodiesFit, Ready};
 
 use boxes::judge_deck;
-use card::Verdict;
+use card::Refusal;
 use card::limits::{COUNT_BYTES, DECK_BYTES, ENTRY_BYTES, FLAG_AT, MOST_CARDS, OFFSET_AT, SIZE_AT};
 use card::refusals::{NOT_CONVERTED, ROOM_TOO_SMALL};
 use converted_card::{note_of_card, put_written};
 use converted_rows::{new_size, put_new_rows};
-use deck_entries::{wide, word_at};
-use room::{Answer, place, put_byte, put_run};
+use deck_entries::word_at;
+use room::{place, put_byte, put_run};
 
 // The note of the entry at a place; a withdrawn card is not read.
 fn note_of(deck: &[u8], from: usize) -> usize
@@ -39,28 +40,29 @@ fn note_of(deck: &[u8], from: usize) -> usize
     note_of_card(&deck[offset..end])
 }
 
-// A note for each of the `count` entries, and where the last body ends; or the number of the first card that cannot be converted.
-fn notes_into(deck: &[u8], count: usize, notes: &mut [usize; MOST_CARDS]) -> Answer
+// A note for each of the `count` entries, and where the last body ends; or the number of the first card that cannot be
+// converted.
+fn notes_into(deck: &[u8], count: usize, notes: &mut [usize; MOST_CARDS]) -> Result<usize, Refusal>
     requires sound { Sound deck.now }
     requires count_value { count ≡ count_of deck.now }
     requires notes_len { length notes.old ≡ most_cards }
     ensures { NotesFound deck.now notes.old notes.new result }
 {
-    let mut i: usize = 0;
-    let mut from: usize = COUNT_BYTES;
     let mut end = COUNT_BYTES + ENTRY_BYTES * count;
-    while i < count {
+    for i in 0..count {
+        let from = COUNT_BYTES + ENTRY_BYTES * i;
         let note = note_of(deck, from);
         notes[i] = note;
-        end = end + new_size(deck, from, note);
+        end += new_size(deck, from, note);
         if DECK_BYTES < end {
             let number = word_at(deck, from);
-            return Answer::Refused(NOT_CONVERTED, number);
+            return Err(Refusal {
+                number: NOT_CONVERTED,
+                place: number,
+            });
         }
-        from = from + ENTRY_BYTES;
-        i = i + 1;
     }
-    Answer::Done(end)
+    Ok(end)
 }
 
 // The new body of the entry at a place, where the room has bytes for it.
@@ -85,47 +87,44 @@ fn put_bodies(room: &mut [u8], at: usize, deck: &[u8], notes: &[usize]) -> usize
     requires bodies_fit { BodiesFit deck.now notes.now at room.old }
     ensures { Put room.old room.new at (bodies_noted deck.now notes.now (contents_of deck.now)) result }
 {
-    let mut i: usize = 0;
-    let mut from: usize = COUNT_BYTES;
     let mut to = place(at);
-    while i < notes.len() {
-        to = put_body(room, to, deck, from, notes[i]);
-        from = from + ENTRY_BYTES;
-        i = i + 1;
+    for (i, note) in notes.iter().enumerate() {
+        to = put_body(room, to, deck, COUNT_BYTES + ENTRY_BYTES * i, *note);
     }
     to
 }
 
 // The new deck of `count` cards, which ends at `need`: the room is judged before anything is put.
-fn store_new(deck: &[u8], count: usize, notes: &[usize], need: usize, room: &mut [u8]) -> Answer
+fn store_new(
+    deck: &[u8],
+    count: usize,
+    notes: &[usize],
+    need: usize,
+    room: &mut [u8],
+) -> Result<usize, Refusal>
     requires count_value { count ≡ count_of deck.now }
     requires ready { Ready deck.now notes.now need }
     ensures { Entered room.old room.new (convert_said deck.now) result }
 {
     if room.len() < need {
-        return Answer::Refused(ROOM_TOO_SMALL, need);
+        return Err(Refusal {
+            number: ROOM_TOO_SMALL,
+            place: need,
+        });
     }
     let first = COUNT_BYTES + ENTRY_BYTES * count;
     let a = put_byte(room, 0, deck[0]);
     let b = put_new_rows(room, a, deck, notes, first);
-    Answer::Done(put_bodies(room, b, deck, notes))
+    Ok(put_bodies(room, b, deck, notes))
 }
 
 // The deck is judged first, then each card in the order of the contents, then the room.
-pub fn convert(deck: &[u8], room: &mut [u8]) -> Answer
+pub fn convert(deck: &[u8], room: &mut [u8]) -> Result<usize, Refusal>
     ensures { Entered room.old room.new (convert_said deck.now) result }
 {
-    if let Verdict::Refused(number, place) = judge_deck(deck) {
-        return Answer::Refused(number, place);
-    }
-    let count = wide(deck[0]);
+    judge_deck(deck)?;
+    let count = deck[0] as usize;
     let mut notes: [usize; MOST_CARDS] = [0; MOST_CARDS];
-    match notes_into(deck, count, &mut notes) {
-        Answer::Refused(number, place) => {
-            return Answer::Refused(number, place);
-        }
-        Answer::Done(need) => {
-            return store_new(deck, count, &notes[..count], need, room);
-        }
-    }
+    let need = notes_into(deck, count, &mut notes)?;
+    store_new(deck, count, &notes[..count], need, room)
 }

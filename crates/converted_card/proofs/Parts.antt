@@ -8,9 +8,9 @@ use lib.Seq.{drop-drop, take_all}
 use Rattle.room.specs.Room.{clip, cap, Put}
 use Rattle.room.proofs.Laws.{clip_fits, clip_start, put_as}
 use Rattle.card.specs.Lent.{Lent, card_in}
-use Rattle.card.specs.declared.Verdict.TheVariants.{Taken}
-use Rattle.outline.specs.ReadingOf.{ReadsUnder}
-use Rattle.outline.specs.declared.Outline.{Outline}
+use Rattle.card.specs.declared.Head.{Head}
+use Rattle.std.specs.Prelude.{Ok}
+use Rattle.outline.specs.ReadingOf.{Outline, ReadsUnder}
 use Rattle.reading.specs.Reading.{read_under}
 use Rattle.texts.specs.Writing.{write_of}
 use Rattle.converting.specs.Converting.{old_rule}
@@ -38,9 +38,9 @@ put_from room at {ys} {t} small h p =
     }
 
 -- so a card in the arrays is put as the written form of its bytes
-module _ {s : List ℕ} {r : Outline} {x : Lent} (k : ReadsUnder old_rule s r x) (v : r.verdict ≡ Taken) (room : List ℕ) (at : ℕ) {ys : List ℕ} {m : ℕ} (small : length room < cap)
-    (h : at + length (written_of (read_under old_rule s)) ≤ length room) (p : Put (take (length room - at) (drop at room)) ys 0 (write_of (card_in r.head x)) m) where
-  pub form_fits : at + length (write_of (card_in r.head x)) ≤ length room
+module _ {s : List ℕ} {r : Outline} {head : Head} {x : Lent} (k : ReadsUnder old_rule s r x) (v : r ≡ Ok head) (room : List ℕ) (at : ℕ) {ys : List ℕ} {m : ℕ} (small : length room < cap)
+    (h : at + length (written_of (read_under old_rule s)) ≤ length room) (p : Put (take (length room - at) (drop at room)) ys 0 (write_of (card_in head x)) m) where
+  pub form_fits : at + length (write_of (card_in head x)) ≤ length room
   form_fits = omega (arith, h, ap length (form_of k v))
 
   pub form_put : Put room (take at room ++ (ys ++ drop (length room - at) (drop at room))) at (written_of (read_under old_rule s)) (at + m)

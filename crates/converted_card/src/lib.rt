@@ -1,4 +1,5 @@
-// One live card of a box that is converted: what is noted of it, and its written form put into a room (document 02, 2026-11).
+// One live card of a box that is converted: what is noted of it, and its written form put into a room (document 02,
+// 2026-11).
 #![tactic(auto)]
 
 ghost use Rattle.std.specs.Prelude.{◌≡◌, true, ◌+◌, ◌≤◌, length};
@@ -7,7 +8,6 @@ ghost use Rattle.room.specs.Room.{Put};
 ghost use Rattle.converting.specs.Converting.{old_rule, new_rule};
 ghost use Rattle.converted_rows.specs.Notes.{note_by, written_of};
 
-use card::Verdict;
 use card::limits::{BRANCH_PLACES, CARD_BYTES, DECK_BYTES, NODE_PLACES, ROW_PLACES};
 use card_text::{put_card, written_length};
 use reader::read_under;
@@ -27,17 +27,13 @@ pub fn note_of_card(card: &[u8]) -> usize
     let mut rows: [usize; ROW_PLACES] = [0; ROW_PLACES];
     let mut nodes: [u32; NODE_PLACES] = [0; NODE_PLACES];
     let mut branches: [u32; BRANCH_PLACES] = [0; BRANCH_PLACES];
-    let new = read_under(card, Weight::DECIMALS, &mut rows, &mut nodes, &mut branches);
-    let new_verdict = new.verdict;
-    if let Verdict::Taken = new_verdict {
+    if read_under(card, Weight::DECIMALS, &mut rows, &mut nodes, &mut branches).is_ok() {
         return 0;
     }
-    let old = read_under(card, OLD_RULE, &mut rows, &mut nodes, &mut branches);
-    let verdict = old.verdict;
-    if let Verdict::Refused(number, place) = verdict {
+    let Ok(head) = read_under(card, OLD_RULE, &mut rows, &mut nodes, &mut branches) else {
         return NO_NOTE;
-    }
-    let long = written_length(old.head, &rows, &nodes, &branches);
+    };
+    let long = written_length(head, &rows, &nodes, &branches);
     if CARD_BYTES < long {
         return NO_NOTE;
     }
@@ -52,12 +48,9 @@ pub fn put_written(room: &mut [u8], at: usize, card: &[u8]) -> usize
     let mut rows: [usize; ROW_PLACES] = [0; ROW_PLACES];
     let mut nodes: [u32; NODE_PLACES] = [0; NODE_PLACES];
     let mut branches: [u32; BRANCH_PLACES] = [0; BRANCH_PLACES];
-    let outline = read_under(card, OLD_RULE, &mut rows, &mut nodes, &mut branches);
-    let verdict = outline.verdict;
-    if let Verdict::Refused(number, which) = verdict {
-        return place(at);
+    if let Ok(head) = read_under(card, OLD_RULE, &mut rows, &mut nodes, &mut branches) {
+        let long = put_card(&mut room[at..], head, &rows, &nodes, &branches);
+        return at + long;
     }
-    let end = room.len();
-    let long = put_card(&mut room[at..end], outline.head, &rows, &nodes, &branches);
-    at + long
+    place(at)
 }

@@ -1,4 +1,5 @@
-// The contents of a converted deck put into a room, by a note for each entry: 0 if its body stays, else one more than the length of its written form (document 02, 2026-11).
+// The contents of a converted deck put into a room, by a note for each entry: 0 if its body stays, else one more than
+// the length of its written form (document 02, 2026-11).
 #![tactic(auto)]
 
 ghost use Rattle.std.specs.Prelude.{◌≡◌, [], ◌+◌, ◌≤◌, ◌<◌, length, drop};
@@ -49,16 +50,13 @@ pub fn put_new_rows(room: &mut [u8], at: usize, deck: &[u8], notes: &[usize], fi
     requires sizes_fit { SizesFit deck.now notes.now first }
     ensures { Put room.old room.new at (rows_text (rows_noted notes.now first (contents_of deck.now)) []) result }
 {
-    let mut i: usize = 0;
-    let mut from: usize = COUNT_BYTES;
     let mut offset = first;
     let mut to = place(at);
-    while i < notes.len() {
-        let size = new_size(deck, from, notes[i]);
+    for (i, note) in notes.iter().enumerate() {
+        let from = COUNT_BYTES + ENTRY_BYTES * i;
+        let size = new_size(deck, from, *note);
         to = put_sized_row(room, to, deck, from, offset, size);
-        offset = offset + size;
-        from = from + ENTRY_BYTES;
-        i = i + 1;
+        offset += size;
     }
     to
 }

@@ -2,13 +2,12 @@
 use Prim.Native.Nat.{ℕ, zero, suc, ◌+◌, ◌*◌, ◌≤◌, ◌<◌}
 use mathlib.Core.Path.{◌≡◌, refl, sym, ◌∙◌}
 use mathlib.Core.List.{List, [], ◌∷◌, ◌++◌, map}
-use native.Mathlib.Numerals.{add-one}
 use native.Mathlib.Decide.{ℕ_discrete, dec_lt}
 use native.Mathlib.Omega.{arith}
 use borrow.Author.Tests.{eq-eqb, ne_eqb}
 use lib.Dec.{eqb}
-use lib.ListN.{length, get_or, take, drop, set, replicate, length-set, length-drop}
-use lib.Seq.{get_or-set_same, get_or-set_other, get_or-drop, set_out, take-suc, take_all, ext_get_or}
+use lib.ListN.{length, get_or, set, replicate, length-set}
+use lib.Seq.{get_or-set_same, get_or-set_other, set_out, ext_get_or}
 use Rattle.card.specs.Limits.{most_states}
 use Rattle.card.specs.Card.{Branch}
 use Rattle.card.specs.Laid.{branch_of, units_part, set_of, set_part, end_part}
@@ -52,28 +51,13 @@ each_more l b h =
         rw (each_at (l ++ b ∷ []) t m, units_more t l b, get_or-set_other v b.end t (get_or v b.end 0 + b.units) 0 e, each_at l t m, ne_eqb b.end t (λ z. e (sym z)))
         (omega arith)
 
--- ---- branches in an array, from `at` on
-
-module _ (branches : List ℕ) (at i : ℕ) where
-  -- the next of them is x
-  pub each_next : (x : ℕ) {end units : ℕ} → x ≡ get_or branches (at + i) 0 → at + i < length branches → end ≡ end_part x → units ≡ units_part x → end < most_states
-      → {v : List ℕ} → v ≡ units_to_each (map branch_of (take i (drop at branches)))
-      → set v end (get_or v end 0 + units) ≡ units_to_each (map branch_of (take (i + 1) (drop at branches)))
-  unfolding branch_of
-  each_next x {end} {units} is l e f h {v} p =
-      let here : i < length (drop at branches) = rw length-drop (omega arith) in
-      let b : Branch = record { units = units_part x; end = end_part x; sets = set_of (set_part x) } in
-      rw (p, add-one i, take-suc (drop at branches) i 0 here, get_or-drop at branches i 0, ← is, map_append branch_of (take i (drop at branches)) (x ∷ []), e, f)
-      (each_more (map branch_of (take i (drop at branches))) b (rw (← e) h))
-
-  -- and there is none
-  pub each_all : (size : ℕ) → i ≤ size → length (drop at branches) ≤ i
-      → units_to_each (map branch_of (take i (drop at branches))) ≡ units_to_each (map branch_of (take size (drop at branches)))
-  each_all size h l = rw (take_all i (drop at branches) l, take_all size (drop at branches) (omega arith))
-
-  -- and they are all that were asked for
-  pub each_end : (size : ℕ) → i ≡ size → units_to_each (map branch_of (take i (drop at branches))) ≡ units_to_each (map branch_of (take size (drop at branches)))
-  each_end size e = rw e
+-- the next branch is packed in x
+pub each_next : (xs : List ℕ) (x : ℕ) {end units : ℕ} → end ≡ end_part x → units ≡ units_part x → end < most_states → {v : List ℕ} → v ≡ units_to_each (map branch_of xs)
+    → set v end (get_or v end 0 + units) ≡ units_to_each (map branch_of (xs ++ x ∷ []))
+unfolding branch_of
+each_next xs x e f h p =
+    let b : Branch = record { units = units_part x; end = end_part x; sets = set_of (set_part x) } in
+    rw (p, map_append branch_of xs (x ∷ []), e, f) (each_more (map branch_of xs) b (rw (← e) h))
 
 -- ---- sums that fit
 

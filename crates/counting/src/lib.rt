@@ -37,15 +37,9 @@ pub fn held(
         return !left;
     }
     if op == AND {
-        if left {
-            return held(nodes, right_of(node, root), own, n, counts, shared);
-        }
-        return false;
+        return left && held(nodes, right_of(node, root), own, n, counts, shared);
     }
-    if left {
-        return true;
-    }
-    held(nodes, right_of(node, root), own, n, counts, shared)
+    left || held(nodes, right_of(node, root), own, n, counts, shared)
 }
 
 // The units of `size` branches from `at` on, by where they end; no statement has more than MOST_BRANCHES.
@@ -53,21 +47,9 @@ pub fn units_to(branches: &[u32], at: usize, size: usize) -> [usize; MOST_STATES
     ensures { result ≡ units_to_each (map branch_of (take (min size most_branches) (drop at branches.now))) }
 {
     let mut units: [usize; MOST_STATES] = [0; MOST_STATES];
-    let mut i = 0;
-    while i < size {
-        if MOST_BRANCHES <= i {
-            return units;
-        }
-        if branches.len() <= at {
-            return units;
-        }
-        if branches.len() - at <= i {
-            return units;
-        }
-        let branch = branches[at + i];
-        let end = end_of(branch);
-        units[end] = units[end] + units_of(branch) as usize;
-        i += 1;
+    let from_there = &branches[at.min(branches.len())..];
+    for branch in from_there.iter().take(size.min(MOST_BRANCHES)) {
+        units[end_of(*branch)] += units_of(*branch) as usize;
     }
     units
 }

@@ -16,7 +16,7 @@ use Rattle.deck_written.specs.WriteDeckSaid.{count_in, lines, count_said, lines_
 use Rattle.deck_written.specs.Fine.{Count, Fine}
 use Rattle.deck_written.proofs.Exactly.{count_right, fields_right, said_fine}
 use Rattle.deck_written.proofs.Entries.{deck_long}
-use Rattle.room.specs.declared.Answer.TheVariants.{Done, Refused}
+use Rattle.room.specs.Answer.{Done, Refused}
 use Rattle.room.specs.Answer.{told, Entered}
 use Rattle.room.proofs.Entries.{told_faithful, entered_short, entered_whole}
 use Rattle.deck_writer.specs.Measured.{measured, contents_said}

@@ -1,13 +1,12 @@
 -- The deck put part by part: each entry leaves the others still to be put, and count, entries and bodies one behind the other are the deck's text.
 -- Assumes nothing.
-use Prim.Native.Nat.{ℕ, zero, suc, ◌+◌, ◌-◌, ◌*◌, ◌/◌, ◌≤◌, ◌<◌, min}
+use Prim.Native.Nat.{ℕ, suc, ◌+◌, ◌-◌, ◌*◌, ◌/◌, ◌≤◌, ◌<◌, min}
 use mathlib.Core.Path.{◌≡◌, refl, sym, ap, ◌∙◌}
 use mathlib.Core.List.{List, [], ◌∷◌, ◌++◌}
 use native.Mathlib.Omega.{arith}
 use lib.ListN.{length, drop, length-append}
 use lib.Seq.{drop-drop}
-use Rattle.card.specs.Limits.{word_numbers}
-use Rattle.deck.specs.Contents.{word_at, byte, Row, row_of, rows_of, behind}
+use Rattle.deck.specs.Contents.{Row, row_of, rows_of, behind}
 use Rattle.deck.specs.Deck.{rows_for, row_text, rows_text, bodies, deck_text}
 use Rattle.deck_written.specs.WriteDeckSaid.{count_in, lines, sizes, entries_said, lines_for}
 use Rattle.deck_written.specs.Fine.{Fine}
@@ -16,71 +15,54 @@ use Rattle.deck_written.proofs.Entries.{length_rows, count_said, bodies_said, ro
 use Rattle.room.specs.Room.{clip, cap, Put}
 use Rattle.room.proofs.Laws.{clip_append, then, put_as}
 use Rattle.deck_writer.specs.Measured.{row_with}
-use Rattle.deck_writer.proofs.Judging.{row_is}
+use Rattle.std.proofs.Common.{add-one}
+use native.Mathlib.Numerals.{unary_clauses}
+use Rattle.deck_entries.specs.Rows.{row_by}
+use Rattle.deck_entries.specs.declared.Entry.{Entry}
 use Rattle.deck_writer.specs.Parts.{lines_text, DeckPut}
 use Rattle.deck_writer.proofs.Still.{Still, still_all, still_none, still_less}
 
 -- ---- what is still to be put
 
--- the entries from `from` on, so many, the first body at `offset`
-abbrev pub left_text : (contents : List ℕ) (left from offset : ℕ) → List ℕ
-left_text contents left from offset = rows_text (lines_for offset (rows_of left (drop from contents))) []
+module _ (contents : List ℕ) where
+  -- the entries from entry i on
+  abbrev pub lines_from : ℕ → List Row
+  lines_from i = rows_of (count_in contents - i) (drop (8 * i) contents)
 
-pub record LinesLeft (was is contents : List ℕ) (first at left from offset to : ℕ) : Type 0 where
-  pub still : Still was is at (lines_text first contents) (left_text contents left from offset) to
-  pub inside : from + 8 * left ≤ length contents
-  pub short : offset + sizes (rows_of left (drop from contents)) ≤ 65535
+  -- their text, where the first body of them is at `offset`
+  abbrev pub left_text : (i offset : ℕ) → List ℕ
+  left_text i offset = rows_text (lines_for offset (lines_from i)) []
+
+pub record LinesLeft (was is contents : List ℕ) (first at i offset to : ℕ) : Type 0 where
+  pub still : Still was is at (lines_text first contents) (left_text contents i offset) to
+  pub short : offset + sizes (lines_from contents i) ≤ 65535
 
 pub lines_start : {was : List ℕ} {at to : ℕ} (contents : List ℕ) (first : ℕ) → length was < cap → to ≡ min at cap → first + sizes (lines contents) ≤ 65535
-    → LinesLeft was was contents first at (length contents / 8) 0 first to
-lines_start {was} {at} {to} contents first s e h = record { still = still_all (lines_text first contents) s e; inside = omega arith; short = h }
+    → LinesLeft was was contents first at 0 first to
+lines_start {was} {at} {to} contents first s e h = record { still = simp unary_clauses (still_all (lines_text first contents) s e); short = simp unary_clauses h }
 
-module _ {was is contents : List ℕ} {first at left from offset to : ℕ} (s : LinesLeft was is contents first at left from offset to) where
-  pub lines_end : left ≡ 0 → Put was is at (lines_text first contents) to
-  lines_end e = still_none s.still (ap (λ (k : ℕ). left_text contents k from offset) e)
+module _ {was is contents : List ℕ} {first at i offset to : ℕ} (s : LinesLeft was is contents first at i offset to) where
+  pub lines_end : count_in contents ≤ i → Put was is at (lines_text first contents) to
+  lines_end h =
+      let none_left : count_in contents - i ≡ 0 = omega arith in
+      still_none s.still (ap (λ (k : ℕ). rows_text (lines_for offset (rows_of k (drop (8 * i) contents))) []) none_left)
 
-  module _ (some : left ≡ 0 → ⊥) where
-    abbrev row : Row
-    row = row_of (drop from contents)
+  module _ (inside : i < count_in contents) {x : Entry} (e : row_by x ≡ row_of (drop (8 * i) contents)) where
+    first_left : lines_from contents i ≡ row_by x ∷ lines_from contents (suc i)
+    first_left =
+        let more : count_in contents - i ≡ suc (count_in contents - suc i) = omega arith in
+        let far : 8 * i + 8 ≡ 8 * suc i = omega arith in
+        ap (λ (k : ℕ). rows_of k (drop (8 * i) contents)) more
+        ∙ ap (λ (r : Row). r ∷ rows_of (count_in contents - suc i) (drop 8 (drop (8 * i) contents))) (sym e)
+        ∙ ap (λ (t : List ℕ). row_by x ∷ rows_of (count_in contents - suc i) t) (drop-drop 8 (8 * i) contents)
+        ∙ ap (λ (k : ℕ). row_by x ∷ rows_of (count_in contents - suc i) (drop k contents)) far
 
-    abbrev rest : List Row
-    rest = rows_of (left - 1) (drop 8 (drop from contents))
-
-    first_left : (n : ℕ) → (n ≡ 0 → ⊥) → rows_of n (drop from contents) ≡ row ∷ rows_of (n - 1) (drop 8 (drop from contents))
-    first_left zero h = absurd (h refl)
-    first_left (suc n) h = let p : suc n - 1 ≡ n = omega arith in rw p
-
-    pub first_offset : offset < word_numbers
-    first_offset = omega (arith, s.short)
-
-    module _ {n z f o : ℕ} (en : n ≡ word_at contents from) (ez : z ≡ word_at contents (from + 4)) (ef : f ≡ byte contents (from + 6)) (eo : o ≡ byte contents (from + 7)) where
-      sized : row.size ≡ z
-      sized = ap (λ (r : Row). r.size) (row_is contents from) ∙ sym ez
-
-      same_row : row_with n offset z f o ≡ row_with row.number offset row.size row.flag row.zero_byte
-      same_row =
-          let there : row_with n offset z f o ≡ row_with (word_at contents from) offset (word_at contents (from + 4)) (byte contents (from + 6)) (byte contents (from + 7)) = rw (en, ez, ef, eo) in
-          there ∙ sym (ap (λ (r : Row). row_with r.number offset r.size r.flag r.zero_byte) (row_is contents from))
-
-      left_sizes : sizes (rows_of left (drop from contents)) ≡ z + sizes rest
-      left_sizes = ap sizes (first_left left some) ∙ ap (λ (k : ℕ). k + sizes rest) sized
-
-      behind_8 : rest ≡ rows_of (left - 1) (drop (from + 8) contents)
-      behind_8 = ap (rows_of (left - 1)) (drop-drop 8 from contents)
-
-      left_text_law : left_text contents left from offset ≡ row_text (row_with n offset z f o) [] ++ left_text contents (left - 1) (from + 8) (offset + z)
-      left_text_law =
-          ap (λ (rs : List Row). rows_text (lines_for offset rs) []) (first_left left some)
-          ∙ ap (λ (r : Row). row_text r (rows_text (lines_for (offset + row.size) rest) [])) (sym same_row)
-          ∙ ap (λ (k : ℕ). row_text (row_with n offset z f o) (rows_text (lines_for (offset + k) rest) [])) sized
-          ∙ ap (λ (rs : List Row). row_text (row_with n offset z f o) (rows_text (lines_for (offset + z) rs) [])) behind_8
-
-      pub lines_next : {b : List ℕ} {m : ℕ} → Put is b to (row_text (row_with n offset z f o) []) m → LinesLeft was b contents first at (left - 1) (from + 8) (offset + z) m
-      lines_next p = record {
-        still = still_less s.still (left_text contents (left - 1) (from + 8) (offset + z)) left_text_law p;
-        inside = omega (arith, s.inside, some);
-        short = omega (arith, s.short, left_sizes, ap sizes behind_8);
-      }
+    pub lines_next : {b : List ℕ} {m : ℕ} → Put is b to (row_text (row_with x.number offset x.size x.flag x.zero) []) m
+        → LinesLeft was b contents first at (i + 1) (offset + x.size) m
+    lines_next p = rw (add-one i) (record {
+      still = still_less s.still (left_text contents (suc i) (offset + x.size)) (ap (λ (rs : List Row). rows_text (lines_for offset rs) []) first_left) p;
+      short = omega (arith, s.short, ap sizes first_left);
+    })
 
 -- ---- the deck
 

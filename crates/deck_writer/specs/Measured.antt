@@ -1,6 +1,6 @@
 -- How the code hands over what it judges: the bodies' length together, and an entry by its fields. Assumes nothing.
 use Rattle.std.specs.Prelude.{ℕ, ◌+◌, List}
-use Rattle.entry.specs.Said.{Said, ◌>>=◌, ◌>>◌, return}
+use Rattle.entry.specs.Said.{Said, ◌>>◌, return}
 use Rattle.deck.specs.Contents.{Row}
 use Rattle.deck_written.specs.WriteDeckSaid.{lines, count_said, lines_said, sizes}
 

@@ -3,7 +3,9 @@
 
 ghost use Rattle.std.specs.Prelude.{◌≡◌, ◌*◌, ◌≤◌, ◌+◌, ◌<◌, length, [], ◌∷◌};
 ghost use Rattle.card.specs.Limits.{entry_bytes, most_cards, deck_bytes, word_numbers};
-ghost use Rattle.deck_written.specs.WriteDeckSaid.{lines, sizes, write_deck_said};
+ghost use Rattle.deck_written.specs.WriteDeckSaid.{lines, line_said, sizes, write_deck_said};
+ghost use Rattle.deck_entries.specs.Rows.{row_by};
+ghost use Rattle.deck_entries.specs.Verdicts.{verdict_of};
 ghost use Rattle.room.specs.Answer.{told, Entered};
 ghost use Rattle.deck_writer.specs.Measured.{measured, contents_said, row_with};
 ghost use Rattle.deck.specs.Deck.{low, high, row_text};
@@ -11,54 +13,55 @@ ghost use Rattle.room.specs.Room.{Put};
 ghost use Rattle.deck_writer.specs.Parts.{lines_text, DeckPut};
 ghost use Rattle.entry.specs.Said.{says};
 
-use card::limits::{
-    COUNT_BYTES, DECK_BYTES, ENTRY_BYTES, FLAG_AT, MOST_CARDS, SIZE_AT, ZERO_BYTE_AT,
-};
-use card::refusals::{MALFORMED_DECK, ROOM_TOO_SMALL};
-use deck_entries::{BYTE_VALUES, word_at};
-use room::{Answer, place, put_byte, put_run};
+use card::Refusal;
+use card::limits::{COUNT_BYTES, DECK_BYTES, ENTRY_BYTES, FLAG_AT, MOST_CARDS, ZERO_BYTE_AT};
+use card::refusals::ROOM_TOO_SMALL;
+use deck_entries::{BYTE_VALUES, Entry, malformed};
+use room::{place, put_byte, put_run};
+
+// An entry that starts at `at`: its number is at least `least`. Its offset is not looked at.
+fn judge_line(entry: Entry, at: usize, least: usize) -> Result<(), Refusal>
+    requires { at + entry_bytes ≤ entry_bytes * most_cards }
+    ensures { result ≡ verdict_of (line_said at least (row_by entry)) }
+{
+    if (entry.number as usize) < least {
+        return Err(malformed(at));
+    }
+    if 1 < entry.flag {
+        return Err(malformed(at + FLAG_AT));
+    }
+    if entry.zero != 0 {
+        return Err(malformed(at + ZERO_BYTE_AT));
+    }
+    Ok(())
+}
 
 // The entries one behind the other: how long their bodies are together, or 11 at the first wrong field.
-fn judge_lines(contents: &[u8]) -> Answer
+fn judge_lines(contents: &[u8]) -> Result<usize, Refusal>
     requires { length contents.now ≤ entry_bytes * most_cards }
     ensures { result ≡ told (measured 0 0 0 (lines contents.now)) }
 {
-    let mut left = contents.len() / ENTRY_BYTES;
-    let mut at: usize = 0;
     let mut least: usize = 0;
     let mut long: usize = 0;
-    while left != 0 {
-        let number = word_at(contents, at);
-        if number < least {
-            return Answer::Refused(MALFORMED_DECK, at);
-        }
-        if 1 < contents[at + FLAG_AT] {
-            return Answer::Refused(MALFORMED_DECK, at + FLAG_AT);
-        }
-        if contents[at + ZERO_BYTE_AT] != 0 {
-            return Answer::Refused(MALFORMED_DECK, at + ZERO_BYTE_AT);
-        }
-        let size = word_at(contents, at + SIZE_AT);
-        least = number + 1;
-        long = long + size;
-        at = at + ENTRY_BYTES;
-        left = left - 1;
+    for i in 0..contents.len() / ENTRY_BYTES {
+        let at = ENTRY_BYTES * i;
+        let entry = Entry::at(contents, at);
+        judge_line(entry, at, least)?;
+        least = entry.number as usize + 1;
+        long += entry.size as usize;
     }
-    Answer::Done(long)
+    Ok(long)
 }
 
 // Contents that a deck is to be written from: the count first, then the entries.
-fn judge_contents(contents: &[u8]) -> Answer
+fn judge_contents(contents: &[u8]) -> Result<usize, Refusal>
     ensures { result ≡ told (contents_said contents.now) }
 {
-    if contents.len() % ENTRY_BYTES != 0 {
-        return Answer::Refused(MALFORMED_DECK, contents.len());
-    }
-    if contents.len() == 0 {
-        return Answer::Refused(MALFORMED_DECK, contents.len());
-    }
-    if ENTRY_BYTES * MOST_CARDS < contents.len() {
-        return Answer::Refused(MALFORMED_DECK, contents.len());
+    if contents.len() % ENTRY_BYTES != 0
+        || contents.len() == 0
+        || ENTRY_BYTES * MOST_CARDS < contents.len()
+    {
+        return Err(malformed(contents.len()));
     }
     judge_lines(contents)
 }
@@ -72,7 +75,7 @@ fn put_word(room: &mut [u8], at: usize, n: usize) -> usize
     put_byte(room, a, (n / BYTE_VALUES) as u8)
 }
 
-// The eight bytes of an entry.
+// The eight bytes of an entry. By its fields, not as a struct: crates above call it with fields that they have reckoned.
 pub fn put_row(
     room: &mut [u8],
     at: usize,
@@ -97,19 +100,20 @@ fn put_lines(room: &mut [u8], at: usize, contents: &[u8], first: usize) -> usize
     requires { first + sizes (lines contents.now) ≤ deck_bytes }
     ensures { Put room.old room.new at (lines_text first contents.now) result }
 {
-    let mut left = contents.len() / ENTRY_BYTES;
-    let mut from: usize = 0;
     let mut offset = first;
     let mut to = place(at);
-    while left != 0 {
-        let number = word_at(contents, from);
-        let size = word_at(contents, from + SIZE_AT);
-        let flag = contents[from + FLAG_AT];
-        let zero = contents[from + ZERO_BYTE_AT];
-        to = put_row(room, to, number, offset, size, flag, zero);
-        offset = offset + size;
-        from = from + ENTRY_BYTES;
-        left = left - 1;
+    for i in 0..contents.len() / ENTRY_BYTES {
+        let entry = Entry::at(contents, ENTRY_BYTES * i);
+        to = put_row(
+            room,
+            to,
+            entry.number as usize,
+            offset,
+            entry.size as usize,
+            entry.flag,
+            entry.zero,
+        );
+        offset += entry.size as usize;
     }
     to
 }
@@ -126,34 +130,36 @@ fn put_deck(room: &mut [u8], contents: &[u8], bodies: &[u8], first: usize) -> us
 }
 
 // Contents that were judged: do the bodies fit to them, and the deck into the room?
-fn write_bodies(contents: &[u8], bodies: &[u8], long: usize, room: &mut [u8]) -> Answer
+fn write_bodies(
+    contents: &[u8],
+    bodies: &[u8],
+    long: usize,
+    room: &mut [u8],
+) -> Result<usize, Refusal>
     requires { contents_said contents.now ≡ says long }
     ensures { Entered room.old room.new (write_deck_said contents.now bodies.now) result }
 {
     if long != bodies.len() {
-        return Answer::Refused(MALFORMED_DECK, contents.len());
+        return Err(malformed(contents.len()));
     }
     let first = COUNT_BYTES + contents.len();
     let need = first + bodies.len();
     if DECK_BYTES < need {
-        return Answer::Refused(MALFORMED_DECK, contents.len());
+        return Err(malformed(contents.len()));
     }
     if room.len() < need {
-        return Answer::Refused(ROOM_TOO_SMALL, need);
+        return Err(Refusal {
+            number: ROOM_TOO_SMALL,
+            place: need,
+        });
     }
-    Answer::Done(put_deck(room, contents, bodies, first))
+    Ok(put_deck(room, contents, bodies, first))
 }
 
 // The contents are judged first, the bodies behind them, and the room last.
-pub fn write_deck(contents: &[u8], bodies: &[u8], room: &mut [u8]) -> Answer
+pub fn write_deck(contents: &[u8], bodies: &[u8], room: &mut [u8]) -> Result<usize, Refusal>
     ensures { Entered room.old room.new (write_deck_said contents.now bodies.now) result }
 {
-    match judge_contents(contents) {
-        Answer::Refused(number, place) => {
-            return Answer::Refused(number, place);
-        }
-        Answer::Done(long) => {
-            return write_bodies(contents, bodies, long, room);
-        }
-    }
+    let long = judge_contents(contents)?;
+    write_bodies(contents, bodies, long, room)
 }

@@ -1,7 +1,7 @@
 // A step where it is known which sign is due: a quick look for it, behind one blank at most, and the cursor's step where it does not stand
 // there. The most frequent marks are looked for right at the place first: the processor then goes on behind the mark that it expects, while
 // past a blank or none it would have to wait for the byte.
-#![tactic(auto)]
+#![tactic(auto, using(looks::proofs::Quick::sign_looks))]
 
 ghost use Rattle.std.specs.Prelude.{◌≡◌};
 ghost use Rattle.marks.specs.Step.{step_at};
@@ -19,10 +19,7 @@ use marks_on_a_card::kinds::{
 pub fn step_from(card: &[u8], at: usize) -> Step
     ensures { result ≡ step_at card.now at }
 {
-    let cursor = Cursor { at };
-    let step = cursor.step(card);
-    let mark = step.mark;
-    let next = step.next;
+    let Step { mark, next } = Cursor { at }.step(card);
     Step { mark, next }
 }
 
@@ -112,11 +109,8 @@ pub fn step_relation(card: &[u8], at: usize) -> Step
     if sign_here(card, from, EQUAL) {
         return bare(EQUAL, from, from + 1);
     }
-    if stands(card, from, b'!') {
-        let next = from + 1;
-        if stands(card, next, b'=') {
-            return bare(NOT_EQUAL, from, next + 1);
-        }
+    if stands(card, from, b'!') && stands(card, from + 1, b'=') {
+        return bare(NOT_EQUAL, from, from + 2);
     }
     step_from(card, from)
 }
@@ -143,11 +137,8 @@ pub fn step_opening(card: &[u8], at: usize) -> Step
     if sign_here(card, from, ROUND_OPEN) {
         return bare(ROUND_OPEN, from, from + 1);
     }
-    if stands(card, from, b'!') {
-        let next = from + 1;
-        if !stands(card, next, b'=') {
-            return bare(NOT, from, next);
-        }
+    if stands(card, from, b'!') && !stands(card, from + 1, b'=') {
+        return bare(NOT, from, from + 1);
     }
     step_from(card, from)
 }
@@ -168,11 +159,8 @@ pub fn step_slash(card: &[u8], at: usize) -> Step
     ensures { result ≡ step_at card.now at }
 {
     let from = past_blank(card, at);
-    if stands(card, from, b'/') {
-        let next = from + 1;
-        if !stands(card, next, b'/') {
-            return bare(SLASH, from, next);
-        }
+    if stands(card, from, b'/') && !stands(card, from + 1, b'/') {
+        return bare(SLASH, from, from + 1);
     }
     step_sign(card, from, COLON)
 }
@@ -193,11 +181,8 @@ pub fn step_arrow(card: &[u8], at: usize) -> Step
     ensures { result ≡ step_at card.now at }
 {
     let from = past_blank(card, at);
-    if stands(card, from, b'-') {
-        let next = from + 1;
-        if stands(card, next, b'>') {
-            return bare(ARROW, from, next + 1);
-        }
+    if stands(card, from, b'-') && stands(card, from + 1, b'>') {
+        return bare(ARROW, from, from + 2);
     }
     step_from(card, from)
 }

@@ -1,5 +1,5 @@
 // A step where a word or a number is due, by looks that go as those for a sign do (due_signs).
-#![tactic(auto)]
+#![tactic(auto, using(looks::proofs::Quick::word_looks))]
 
 ghost use Rattle.std.specs.Prelude.{◌≡◌};
 ghost use Rattle.marks.specs.Step.{step_at};
@@ -9,19 +9,17 @@ use looks::look::{past_blank, past_line, process_here, seat_here, teen_here};
 use marks::Step;
 use marks::answer::{bare, valued};
 use marks_on_a_card::kinds::{ENDMODULE, MODULE, NUMBER, PROCESS, SEAT};
-use word_and_digit_looks::{NO_DIGIT, digit_here, word_here};
+use word_and_digit_looks::{digit_here, word_here};
 
 // A number.
 pub fn step_number(card: &[u8], at: usize) -> Step
     ensures { result ≡ step_at card.now at }
 {
-    let tight = digit_here(card, at);
-    if tight < NO_DIGIT {
+    if let Some(tight) = digit_here(card, at) {
         return valued(NUMBER, tight, at, at + 1);
     }
     let from = past_blank(card, at);
-    let value = digit_here(card, from);
-    if value < NO_DIGIT {
+    if let Some(value) = digit_here(card, from) {
         return valued(NUMBER, value, from, from + 1);
     }
     step_from(card, from)
@@ -31,21 +29,17 @@ pub fn step_number(card: &[u8], at: usize) -> Step
 pub fn step_seat(card: &[u8], at: usize) -> Step
     ensures { result ≡ step_at card.now at }
 {
-    let tight = seat_here(card, at);
-    if tight < NO_DIGIT {
+    if let Some(tight) = seat_here(card, at) {
         return valued(SEAT, tight, at, at + 2);
     }
-    let teen = teen_here(card, at);
-    if teen < NO_DIGIT {
+    if let Some(teen) = teen_here(card, at) {
         return valued(SEAT, 10 + teen, at, at + 3);
     }
     let from = past_blank(card, at);
-    let value = seat_here(card, from);
-    if value < NO_DIGIT {
+    if let Some(value) = seat_here(card, from) {
         return valued(SEAT, value, from, from + 2);
     }
-    let units = teen_here(card, from);
-    if units < NO_DIGIT {
+    if let Some(units) = teen_here(card, from) {
         return valued(SEAT, 10 + units, from, from + 3);
     }
     step_from(card, from)
@@ -55,12 +49,10 @@ pub fn step_seat(card: &[u8], at: usize) -> Step
 pub fn step_tight_seat(card: &[u8], at: usize) -> Step
     ensures { result ≡ step_at card.now at }
 {
-    let value = seat_here(card, at);
-    if value < NO_DIGIT {
+    if let Some(value) = seat_here(card, at) {
         return valued(SEAT, value, at, at + 2);
     }
-    let units = teen_here(card, at);
-    if units < NO_DIGIT {
+    if let Some(units) = teen_here(card, at) {
         return valued(SEAT, 10 + units, at, at + 3);
     }
     step_from(card, at)
@@ -71,8 +63,7 @@ fn step_short_seat(card: &[u8], at: usize) -> Step
     ensures { result ≡ step_at card.now at }
 {
     let from = past_blank(card, at);
-    let value = seat_here(card, from);
-    if value < NO_DIGIT {
+    if let Some(value) = seat_here(card, from) {
         return valued(SEAT, value, from, from + 2);
     }
     step_from(card, from)
@@ -82,13 +73,11 @@ fn step_short_seat(card: &[u8], at: usize) -> Step
 pub fn step_inner(card: &[u8], at: usize) -> Step
     ensures { result ≡ step_at card.now at }
 {
-    let tight = seat_here(card, at);
-    if tight < NO_DIGIT {
+    if let Some(tight) = seat_here(card, at) {
         return valued(SEAT, tight, at, at + 2);
     }
     let from = past_blank(card, at);
-    let value = seat_here(card, from);
-    if value < NO_DIGIT {
+    if let Some(value) = seat_here(card, from) {
         return valued(SEAT, value, from, from + 2);
     }
     step_opening(card, from)
@@ -121,8 +110,7 @@ pub fn step_process(card: &[u8], at: usize) -> Step
     ensures { result ≡ step_at card.now at }
 {
     let from = past_blank(card, at);
-    let value = process_here(card, from);
-    if value < NO_DIGIT {
+    if let Some(value) = process_here(card, from) {
         return valued(PROCESS, value, from, from + 8);
     }
     step_from(card, from)
@@ -132,14 +120,10 @@ pub fn step_process(card: &[u8], at: usize) -> Step
 pub fn step_kind(card: &[u8], at: usize, kind: usize) -> Step
     ensures { result ≡ step_at card.now at }
 {
-    if kind == SEAT {
-        return step_short_seat(card, at);
+    match kind {
+        SEAT => step_short_seat(card, at),
+        PROCESS => step_process(card, at),
+        ENDMODULE => step_endmodule(card, at),
+        _ => step_sign(card, at, kind),
     }
-    if kind == PROCESS {
-        return step_process(card, at);
-    }
-    if kind == ENDMODULE {
-        return step_endmodule(card, at);
-    }
-    step_sign(card, at, kind)
 }

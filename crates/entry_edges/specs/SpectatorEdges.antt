@@ -4,7 +4,7 @@ use Rattle.card.specs.Text.{bytes}
 use Rattle.card.specs.Card.{probabilistic}
 use Rattle.entry.specs.Said.{says as text, refused}
 use Rattle.room.specs.Answer.{Text, answered, room_after}
-use Rattle.room.specs.declared.Answer.TheVariants.{Done, Refused}
+use Rattle.room.specs.Answer.{Done, Refused}
 use Rattle.watch_said.specs.WatchSaid.{watch_said}
 use Rattle.edges.specs.Edges.{text_a, head, modules_from}
 

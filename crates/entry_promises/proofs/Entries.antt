@@ -12,9 +12,8 @@ use Rattle.card.specs.Card.{Card}
 use Rattle.reading.specs.Reading.{Outcome, taken, refused, read_of}
 use Rattle.grammar.proofs.Theorems.{read_valid}
 use Rattle.reading.proofs.Numbers.{read_number}
-use Rattle.outline.specs.declared.Reading.{Reading}
-use Rattle.outline.specs.declared.Outline.{Outline}
-use Rattle.card.specs.Verdict.{verdict_number, verdict_place}
+use Rattle.outline.specs.ReadingOf.{Reading, Outline}
+use Rattle.card.specs.Verdict.{verdict_in, verdict_number, verdict_place}
 use Rattle.outline.specs.ReadingOf.{reading_of, outline_of, memory_of}
 use Rattle.entry.specs.Said.{says, ◌>>=◌}
 use Rattle.entry.specs.Numbers.{only}
@@ -22,8 +21,8 @@ use Rattle.entry.specs.Contract.{InRoom}
 use Rattle.entry.proofs.Stages.{among_says, value}
 use Rattle.entry.proofs.Exactly.{◌↔∙◌}
 use Rattle.entry.proofs.Entries.{enters_unique, before_room, in_room_law}
-use Rattle.room.specs.declared.Answer.{Answer}
-use Rattle.room.specs.declared.Answer.TheVariants.{Done, Refused}
+use Rattle.room.specs.Answer.{Answer}
+use Rattle.room.specs.Answer.{Done, Refused}
 use Rattle.room.specs.Answer.{told, answer_number, answer_value, Entered}
 use Rattle.room.proofs.Entries.{told_faithful}
 use Rattle.seating.specs.Judged.{seating_of, Seated}
@@ -49,19 +48,19 @@ in_numbers a = record { refusal = λ number place e. (ap answer_number e, ap ans
 pub done≢refused : {A : Type 0} {long r p : ℕ} → Done long ≡ Refused r p → A
 done≢refused e = let z : ◌≡◌ {A = ℕ} 0 1 = cc in absurd (omega arith)
 
-reads_number : (o : Outcome) → verdict_number (reading_of o).verdict ≡ outcome_number o
+reads_number : (o : Outcome) → verdict_number (verdict_in (reading_of o)) ≡ outcome_number o
 reads_number (taken c) = refl
 reads_number (refused number place) = refl
 
-reads_place : (o : Outcome) → verdict_place (reading_of o).verdict ≡ outcome_place o
+reads_place : (o : Outcome) → verdict_place (verdict_in (reading_of o)) ≡ outcome_place o
 reads_place (taken c) = refl
 reads_place (refused number place) = refl
 
-outline_number : (o : Outcome) → verdict_number (outline_of o).verdict ≡ outcome_number o
+outline_number : (o : Outcome) → verdict_number (verdict_in (outline_of o)) ≡ outcome_number o
 outline_number (taken c) = refl
 outline_number (refused number place) = refl
 
-outline_place : (o : Outcome) → verdict_place (outline_of o).verdict ≡ outcome_place o
+outline_place : (o : Outcome) → verdict_place (verdict_in (outline_of o)) ≡ outcome_place o
 outline_place (taken c) = refl
 outline_place (refused number place) = refl
 
@@ -164,15 +163,15 @@ unique = record {
 pub demand1 : Demand1
 demand1 = record {
   read = λ card x h. (
-    ap (λ (y : Reading). verdict_number y.verdict) h.reading ∙ reads_number (read_of card),
-    ap (λ (y : Reading). verdict_place y.verdict) h.reading ∙ reads_place (read_of card),
-    ap (λ (y : Reading). y.card) h.reading,
+    ap (λ (y : Reading). verdict_number (verdict_in y)) h.reading ∙ reads_number (read_of card),
+    ap (λ (y : Reading). verdict_place (verdict_in y)) h.reading ∙ reads_place (read_of card),
+    h.reading,
   );
   read_into = λ card x m h. (
-    ap (λ (y : Outline). verdict_number y.verdict) h.outline ∙ outline_number (read_of card),
-    ap (λ (y : Outline). verdict_place y.verdict) h.outline ∙ outline_place (read_of card),
-    λ c e. (ap (λ (y : Outline). y.head) (h.outline ∙ ap outline_of e), h.memory ∙ ap memory_of e),
-    λ r p e. (ap (λ (y : Outline). y.head) (h.outline ∙ ap outline_of e), h.memory ∙ ap memory_of e),
+    ap (λ (y : Outline). verdict_number (verdict_in y)) h.outline ∙ outline_number (read_of card),
+    ap (λ (y : Outline). verdict_place (verdict_in y)) h.outline ∙ outline_place (read_of card),
+    λ c e. (h.outline ∙ ap outline_of e, h.memory ∙ ap memory_of e),
+    λ r p e. (h.outline ∙ ap outline_of e, h.memory ∙ ap memory_of e),
   );
   program = λ input was is long p. (p.stands, p.length_is);
   responds = responds;

@@ -12,8 +12,9 @@ use Rattle.reading.specs.Reading.{Outcome, taken, refused, read_of}
 use Rattle.reading.proofs.Numbers.{read_number}
 use Rattle.entry.proofs.Exactly.{◌↔∙◌}
 use Rattle.entry.proofs.Entries.{enters_unique}
-use Rattle.room.specs.declared.Answer.{Answer}
-use Rattle.room.specs.declared.Answer.TheVariants.{Done, Refused}
+use Rattle.room.specs.Answer.{Answer}
+use Rattle.std.specs.Prelude.{Ok, Err}
+use Rattle.room.specs.Answer.{Done, Refused}
 use Rattle.room.specs.Answer.{Text, answer_number, answer_value, answered, Entered}
 use Rattle.texts.specs.Writing.{write_of}
 use Rattle.texts_said.specs.WriteSaid.{write_said}
@@ -35,30 +36,30 @@ module _ (a : Answer) (some : (number place : ℕ) → a ≡ Refused number plac
   tells_done long = (forth a some, λ e. (ap answer_number e, ap answer_value e))
     where
       forth : (a : Answer) → ((number place : ℕ) → a ≡ Refused number place → 1 ≤ number) → Answers (numbers a) 0 long → a ≡ Done long
-      forth (Done l) h e = ap Done e.1
-      forth (Refused n p) h e = absurd (omega (arith, e.0, h n p refl))
+      forth (Ok l) h e = ap Done e.1
+      forth (Err x) h e = absurd (omega (arith, e.0, h x.number x.place refl))
 
   pub tells_refused : (number place : ℕ) → 1 ≤ number → Answers (numbers a) number place ↔ (a ≡ Refused number place)
   tells_refused number place l = (forth a, λ e. (ap answer_number e, ap answer_value e))
     where
       forth : (a : Answer) → Answers (numbers a) number place → a ≡ Refused number place
-      forth (Done long) e = absurd (omega (arith, e.0))
-      forth (Refused n p) e = rw (e.0, e.1)
+      forth (Ok long) e = absurd (omega (arith, e.0))
+      forth (Err x) e = λ i. Refused (e.0 i) (e.1 i)
 
   -- a number that is not 0 is a refusal's
   pub is_refused : (answer_number a ≡ 0 → ⊥) → (number : ℕ) × (place : ℕ) × (a ≡ Refused number place)
   is_refused h = go a h
     where
       go : (a : Answer) → (answer_number a ≡ 0 → ⊥) → (number : ℕ) × (place : ℕ) × (a ≡ Refused number place)
-      go (Done long) h = absurd (h refl)
-      go (Refused n p) h = (n, p, refl)
+      go (Ok long) h = absurd (h refl)
+      go (Err x) h = (x.number, x.place, refl)
 
   pub number_of : {P : ℕ → Type 0} → P 0 → ((number place : ℕ) → a ≡ Refused number place → P number) → P (answer_number a)
   number_of {P} z h = go a h
     where
       go : (a : Answer) → ((number place : ℕ) → a ≡ Refused number place → P number) → P (answer_number a)
-      go (Done long) h = z
-      go (Refused n p) h = h n p refl
+      go (Ok long) h = z
+      go (Err x) h = h x.number x.place refl
 
 -- ---- the entries
 

@@ -18,8 +18,8 @@ use Rattle.entry.specs.Said.{says as text, ◌>>◌, return}
 use Rattle.entry.specs.Contract.{onto}
 use Rattle.entry.proofs.Exactly.{◌↔∙◌}
 use Rattle.entry.proofs.Entries.{enters_unique}
-use Rattle.room.specs.declared.Answer.{Answer}
-use Rattle.room.specs.declared.Answer.TheVariants.{Refused}
+use Rattle.room.specs.Answer.{Answer}
+use Rattle.room.specs.Answer.{Refused}
 use Rattle.room.specs.Answer.{Text, told, answered, Entered}
 use Rattle.room.proofs.Entries.{told_faithful}
 use Rattle.seating.specs.Judged.{seating_of, bytes_of}

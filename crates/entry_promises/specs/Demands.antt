@@ -15,7 +15,7 @@ use Rattle.meaning.specs.Demand.{same_position, Agrees}
 use Rattle.meaning.specs.Panel.{panel}
 use Rattle.seating.specs.Judged.{Seated, seating_of, bytes_of}
 use Rattle.reading.specs.Reading.{taken, read_of}
-use Rattle.room.specs.declared.Answer.{Answer}
+use Rattle.room.specs.Answer.{Answer}
 use Rattle.entry.specs.Said.{says as text}
 use Rattle.room.specs.Answer.{Entered}
 use Rattle.texts.specs.Writing.{write_of}

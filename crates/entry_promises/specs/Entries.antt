@@ -1,18 +1,16 @@
 -- Demand 1: what each entry answers for a card and a room, and what stands in the room afterwards ("Refusal numbers"). Each statement begins
 -- with the promise that the entry's code is proved to keep: the room `was` became `is`, and `a` is its answer. Assumes nothing.
-use Rattle.std.specs.Prelude.{ℕ, ◌≤◌, ◌<◌, ◌≡◌, ◌↔◌, ◌⊎◌, List, [], ◌∷◌, ◌++◌, map, length, take, drop}
+use Rattle.std.specs.Prelude.{ℕ, ◌≤◌, ◌<◌, ◌≡◌, ◌↔◌, ◌⊎◌, List, [], ◌∷◌, ◌++◌, map, length, take, drop, Ok}
 use Rattle.card.specs.Text.{bytes}
 use Rattle.card.specs.Refusals.{wrong_seats, seat_above_top, room_too_small, OfCard, decimal_weight}
 use Rattle.card.specs.Card.{Card}
 use Rattle.card.specs.Valid.{Every, ValidCard}
 use Rattle.reading.specs.Reading.{Outcome, taken, refused, read_of}
-use Rattle.outline.specs.declared.Reading.{Reading}
-use Rattle.outline.specs.declared.Outline.{Outline}
-use Rattle.card.specs.Lent.{Lent, head_of, lent_of, no_head, none_lent}
-use Rattle.card.specs.Verdict.{verdict_number, verdict_place}
-use Rattle.outline.specs.ReadingOf.{reading_of, Reads, ReadsInto}
-use Rattle.room.specs.declared.Answer.{Answer}
-use Rattle.room.specs.declared.Answer.TheVariants.{Done, Refused}
+use Rattle.card.specs.Lent.{Lent, head_of, lent_of, none_lent}
+use Rattle.card.specs.Verdict.{verdict_in, verdict_number, verdict_place}
+use Rattle.outline.specs.ReadingOf.{Reading, Outline, reading_of, Reads, ReadsInto}
+use Rattle.room.specs.Answer.{Answer}
+use Rattle.room.specs.Answer.{Done, Refused}
 use Rattle.room.specs.Digits.{digit, decimal}
 use Rattle.entry.specs.Said.{refused as refusal}
 use Rattle.room.specs.Answer.{Text, answer_number, answer_value, Entered}
@@ -131,12 +129,12 @@ pub data Response (input : List ℕ) : Type 0 where
 pub record Demand1 : Type 0 where
   -- the reader: its verdict in numbers, and the struct that it hands back
   pub read : (card : List ℕ) (x : Reading) → Reads card x
-      → (verdict_number x.verdict ≡ outcome_number (read_of card)) × (verdict_place x.verdict ≡ outcome_place (read_of card)) × (x.card ≡ (reading_of (read_of card)).card)
-  -- into lent arrays: the same verdict, and the card that is taken beside its head, or zeros in all of them
+      → (verdict_number (verdict_in x) ≡ outcome_number (read_of card)) × (verdict_place (verdict_in x) ≡ outcome_place (read_of card)) × (x ≡ reading_of (read_of card))
+  -- into lent arrays: the same verdict, and the card that is taken beside its head, or zeros in all arrays
   pub read_into : (card : List ℕ) (x : Outline) (m : Lent) → ReadsInto card x m
-      → (verdict_number x.verdict ≡ outcome_number (read_of card)) × (verdict_place x.verdict ≡ outcome_place (read_of card))
-      × ((c : Card) → read_of card ≡ taken c → (x.head ≡ head_of c) × (m ≡ lent_of c))
-      × ((number place : ℕ) → read_of card ≡ refused number place → (x.head ≡ no_head) × (m ≡ none_lent))
+      → (verdict_number (verdict_in x) ≡ outcome_number (read_of card)) × (verdict_place (verdict_in x) ≡ outcome_place (read_of card))
+      × ((c : Card) → read_of card ≡ taken c → (x ≡ Ok (head_of c)) × (m ≡ lent_of c))
+      × ((number place : ℕ) → read_of card ≡ refused number place → (x ≡ Refused number place) × (m ≡ none_lent))
   pub write : (card was is : List ℕ) (a : Answer) → Entered was is (write_said card) a → Prints write_of card was is a
   pub reduce : (card was is : List ℕ) (a : Answer) → Entered was is (reduce_said card) a → Prints reduced_of card was is a
   pub panel : (card seats was is : List ℕ) (a : Answer) → Entered was is (panel_said card seats) a → Shows card seats was is a

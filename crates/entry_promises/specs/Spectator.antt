@@ -10,7 +10,7 @@ use Rattle.meaning.specs.Sums.{sum}
 use Rattle.meaning.specs.Seats.{Seating, ValidSeating, counts}
 use Rattle.entry.specs.Said.{says as text}
 use Rattle.entry.specs.Contract.{onto}
-use Rattle.room.specs.declared.Answer.{Answer}
+use Rattle.room.specs.Answer.{Answer}
 use Rattle.room.specs.Answer.{told, Entered}
 use Rattle.seating.specs.Judged.{seats_due, FirstWrong, Seated, bytes_of}
 use Rattle.rows.specs.Said.{Read}

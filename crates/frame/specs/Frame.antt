@@ -1,5 +1,5 @@
 -- What reading the beginning of a card, up to its statements, and its further modules, up to its end, leaves behind it. Assumes nothing.
-use Rattle.std.specs.Prelude.{ℕ, suc, ◌+◌, ◌-◌, ◌≤◌, ◌≡◌, Bool, true, false, List, [], ◌∷◌, ◌++◌, eqb, ltb, length, get_or, drop}
+use Rattle.std.specs.Prelude.{ℕ, suc, ◌+◌, ◌-◌, ◌≤◌, ◌≡◌, Bool, true, false, List, [], ◌∷◌, ◌++◌, Option as Maybe, Some, None, eqb, ltb, length, drop, Ok, OnOk}
 use Rattle.std.proofs.Math.Option.{Option, none, some}
 use Rattle.card.specs.Limits.{most_seats, top_state, most_shared}
 use Rattle.card.specs.Text.{bytes, when◌then◌else◌}
@@ -16,9 +16,10 @@ use Rattle.reading.specs.Shape.{Range, mode_of, range, declaration, more_modules
 use Rattle.reading.specs.Checks.{judged_state, judged_words, judged_modules, judged_shared}
 use Rattle.late.specs.Late.{Late}
 use Rattle.late.specs.Values.{values_in, initial_in}
-use Rattle.late.specs.State.{at_mode, at_top, at_start, at_shared, at_initial, Sized, After, Halted}
+use Rattle.late.specs.declared.state.State.{State as Carried}
+use Rattle.late.specs.State.{After, Halted}
 use Rattle.mode_and_range.specs.ModeRange.{Valued}
-use Rattle.parts.specs.Parts.{from, Answers, Kept, Went, Due, sign as due, seat, process, items_in, kinds_in, numbers_in, RunFrom}
+use Rattle.parts.specs.Parts.{from, Answers, Kept, Went, Due, sign as due, seat, process, items_in, marks_due, RunFrom}
 
 -- ---- the shared number, where one is declared behind the mode (document 02, 2026-10)
 
@@ -29,9 +30,9 @@ shared_due = due "global" ∷ due "g" ∷ due ":" ∷ due "[" ∷ []
 abbrev pub sharing : Reader (Option Range)
 sharing = if_next "global" (declaration >>= λ x. return (some x)) (return none)
 
-pub record SharedIn (s : List ℕ) (before : Late) (g : Option Range) (state : List ℕ) : Type 0 where
-  pub values : get_or state at_shared 0 ≡ values_in g
-  pub initial : get_or state at_initial 0 ≡ initial_in g
+pub record SharedIn (s : List ℕ) (before : Late) (g : Option Range) (state : Carried) : Type 0 where
+  pub values : state.shared ≡ values_in g
+  pub initial : state.initial ≡ initial_in g
   pub late : Kept s before (judged_shared g) state
 
 abbrev pub SharedRead : List ℕ → Late → Result (Option Range) → After → Type 0
@@ -39,8 +40,7 @@ SharedRead s before = Answers s (SharedIn s before)
 
 pub record SharedFrom (s : List ℕ) (i : ℕ) (before : Late) (r : After) : Type 0 where
   pub answers : (n : ℕ) → SharedRead s before (sharing (from s i n)) r
-  pub within : (r.next ≡ 0 → ⊥) → get_or r.state at_shared 0 ≤ most_shared
-  pub sized : Sized r.state
+  pub within : OnOk r.next (r.state.shared ≤ most_shared)
 
 -- ---- the beginning
 
@@ -68,12 +68,12 @@ judged_header h =
     ++ (judged_words (1 ∷ 1 ∷ []) h.words
     ++ (judged_state h.states.top h.states.start ∷ []))
 
-pub record HeaderIn (s : List ℕ) (before : Late) (h : HeaderShape) (state : List ℕ) : Type 0 where
-  pub mode : get_or state at_mode 0 ≡ mode_number h.mode
-  pub values : get_or state at_shared 0 ≡ values_in h.shared
-  pub initial : get_or state at_initial 0 ≡ initial_in h.shared
-  pub top : get_or state at_top 0 ≡ h.states.top
-  pub start : get_or state at_start 0 ≡ h.states.start.value
+pub record HeaderIn (s : List ℕ) (before : Late) (h : HeaderShape) (state : Carried) : Type 0 where
+  pub mode : state.mode ≡ mode_number h.mode
+  pub values : state.shared ≡ values_in h.shared
+  pub initial : state.initial ≡ initial_in h.shared
+  pub top : state.top ≡ h.states.top
+  pub start : state.start ≡ h.states.start.value
   pub late : Kept s before (judged_header h) state
 
 abbrev pub HeaderRead : List ℕ → Late → Result HeaderShape → After → Type 0
@@ -81,8 +81,7 @@ HeaderRead s before = Answers s (HeaderIn s before)
 
 pub record HeaderFrom (s : List ℕ) (i : ℕ) (before : Late) (r : After) : Type 0 where
   pub answers : (n : ℕ) → HeaderRead s before (header (from s i n)) r
-  pub within : (r.next ≡ 0 → ⊥) → get_or r.state at_shared 0 ≤ most_shared
-  pub sized : Sized r.state
+  pub within : OnOk r.next (r.state.shared ≤ most_shared)
 
 -- ---- a further module for seat i, behind its keyword
 
@@ -107,27 +106,26 @@ copy_text written ds =
 abbrev pub digits : ℕ → List ℕ
 digits i = when ltb i 10 then (48 + i) ∷ [] else 49 ∷ (38 + i) ∷ []
 
--- the place behind a text behind which no word goes on; 0 where it does not stand
-abbrev pub past_word : List ℕ → List ℕ → ℕ → ℕ
-past_word t s at = when word_ahead t s at then at + length t else 0
+-- the place behind a text behind which no word goes on, where it stands
+abbrev pub past_word : List ℕ → List ℕ → ℕ → Maybe ℕ
+past_word t s at = when word_ahead t s at then Some (at + length t) else None
 
 -- the same for a further module: the byte behind its first word tells how it is written
-abbrev pub past_text : List ℕ → ℕ → List ℕ → ℕ
+abbrev pub past_text : List ℕ → ℕ → List ℕ → Maybe ℕ
 past_text s at ds = past_word (copy_text (begins (eqb 32) (drop (at + (8 + length ds)) s)) ds) s at
 
-abbrev pub past_copy : List ℕ → ℕ → ℕ → ℕ
+abbrev pub past_copy : List ℕ → ℕ → ℕ → Maybe ℕ
 past_copy s at i = past_text s at (digits i)
 
 abbrev pub ModuleFrom : List ℕ → ℕ → ℕ → Late → After → Type 0
-ModuleFrom s at i late r = RunFrom s at (kinds_in (module_due i)) (numbers_in (module_due i)) late r
+ModuleFrom s at i late r = RunFrom s at (marks_due (module_due i)) late r
 
 -- ---- the further modules: the number is that of the seats
 
 -- by the mark behind the last module
 pub record EndedBy (m : Found) (at seats : ℕ) (late : Late) (r : After) : Type 0 where
-  pub ends : m.kind ≡ k_end → (r.next ≡ at) × Valued late seats r.state
+  pub ends : m.kind ≡ k_end → (r.next ≡ Ok at) × Valued late seats r.state
   pub stops : (m.kind ≡ k_end → ⊥) → Halted out_of_shape m.place r
-  pub sized : Sized r.state
 
 abbrev pub modules : Reader (List (List Numbered))
 modules = do
@@ -140,4 +138,3 @@ ModulesRead s before = Answers s (λ ms. Went s before (suc (length ms)) (judged
 
 pub record ModulesFrom (s : List ℕ) (i : ℕ) (before : Late) (r : After) : Type 0 where
   pub answers : (n : ℕ) → ModulesRead s before (modules (from s i n)) r
-  pub sized : Sized r.state

@@ -2,12 +2,13 @@
 ghost use Rattle.std.specs.Prelude.{◌≡◌, eqb};
 ghost use Rattle.marks_on_a_card.specs.Kinds.{kind};
 ghost use Rattle.marks.specs.Step.{step_at};
-ghost use Rattle.late.specs.State.{Sized, late_in, after};
+ghost use Rattle.late.specs.State.{late_in, after};
 ghost use Rattle.frame.specs.Frame.{SharedFrom};
 
+use card::Refusal;
 use card::limits::TOP_SHARED;
 use due_signs::step_from;
-use late::state::{INITIAL, SHARED, START, STATE, TOP};
+use late::state::State;
 use looks::look::past_line;
 use marks_on_a_card::kinds::{COLON, GLOBAL, SHARED as G, SQUARE_OPEN};
 use mode_and_range::range;
@@ -26,31 +27,20 @@ fn declared(card: &[u8], at: usize) -> bool
     step.mark.kind == GLOBAL
 }
 
-// global g : [0..m] init v; if it stands there. How many values the number has and what it starts at go to their places; 0 and 0 where
-// none is declared.
-pub fn shared(card: &[u8], at: usize, state: &mut [usize; STATE]) -> usize
-    requires sized { Sized state.old }
-    requires fact { at ≡ 0 → ⊥ }
+// global g : [0..m] init v; if it stands there. How many values the number has and what it starts at go to their places;
+// 0 and 0 where none is declared.
+pub fn shared(card: &[u8], at: usize, state: &mut State) -> Result<usize, Refusal>
     ensures { SharedFrom card.now at (late_in state.old) (after state.new result) }
 {
     if !declared(card, at) {
-        state[SHARED] = 0;
-        state[INITIAL] = 0;
-        return at;
+        state.shared = 0;
+        state.initial = 0;
+        return Ok(at);
     }
-    let kinds = [GLOBAL, G, COLON, SQUARE_OPEN];
-    let dues = [0, 0, 0, 0];
-    let words = run(card, at, &kinds, &dues, state);
-    if words == 0 {
-        return 0;
-    }
-    let end = range(card, words, TOP_SHARED, state);
-    if end == 0 {
-        return 0;
-    }
-    let most = state[TOP];
-    let start = state[START];
-    state[SHARED] = most + 1;
-    state[INITIAL] = start;
-    end
+    let dues = [(GLOBAL, 0), (G, 0), (COLON, 0), (SQUARE_OPEN, 0)];
+    let words = run(card, at, &dues, state)?;
+    let end = range(card, words, TOP_SHARED, state)?;
+    state.shared = state.top + 1;
+    state.initial = state.start;
+    Ok(end)
 }

@@ -1,52 +1,59 @@
 -- The live entries counted one behind the other: those counted and those left are all. Assumes nothing.
-use Prim.Native.Nat.{ℕ, ◌+◌, ◌-◌, ◌*◌, ◌≤◌, ◌<◌}
+use Prim.Native.Nat.{ℕ, ◌+◌, ◌*◌, ◌≤◌, ◌<◌}
 use mathlib.Core.Path.{◌≡◌, ap, ◌∙◌}
-use mathlib.Core.List.{List}
+use mathlib.Core.Bool.{false}
+use mathlib.Core.List.{List, ◌∷◌}
 use native.Mathlib.Omega.{arith}
 use lib.ListN.{length, drop}
-use Rattle.deck.specs.Contents.{Row, row_of, rows_of, count_of, behind, contents_of}
-use Rattle.deck.specs.Sound.{Head}
+use Rattle.deck.specs.Contents.{Row, row_of, count_of, contents_of}
+use Rattle.deck.specs.Deck.{live_of}
 use Rattle.deck_written.specs.WriteDeckSaid.{sizes}
-use Rattle.gathering.specs.LiveRows.{live_rows, live_one, live_size}
-use Rattle.gathering.proofs.Entries.{first_row, live_count, live_sizes}
+use Rattle.gathering.specs.LiveRows.{live_rows, IsLive, Measures}
+use Rattle.gathering.specs.declared.Live.{Live}
+use Rattle.gathering.proofs.Entries.{rows_from, all_rows, no_rows, next_row, live_first, live_others}
 
 module _ (deck : List ℕ) where
-  -- so many entries are left, from `at` on
-  pub record Counted (left at cards bytes : ℕ) : Type 0 where
-    pub place : at + 8 * left ≡ behind (count_of deck)
-    pub all_of_cards : cards + length (live_rows (rows_of left (drop at deck))) ≡ length (live_rows (contents_of deck))
-    pub all_of_bytes : bytes + sizes (live_rows (rows_of left (drop at deck))) ≡ sizes (live_rows (contents_of deck))
-    pub few_cards : cards + left ≤ 64
-    pub few_bytes : bytes + 65536 * left ≤ 65536 * 64
+  abbrev left : ℕ → List Row
+  left i = live_rows (rows_from deck (count_of deck) i)
 
-  pub counted_none : Head deck → {left : ℕ} → left ≡ count_of deck → Counted left 1 0 0
-  counted_none h {left} e = record {
-    place = omega (arith, e);
-    all_of_cards = omega (arith, ap (λ (n : ℕ). length (live_rows (rows_of n (drop 1 deck)))) e);
-    all_of_bytes = omega (arith, ap (λ (n : ℕ). sizes (live_rows (rows_of n (drop 1 deck)))) e);
-    few_cards = omega (arith, e, h.few);
-    few_bytes = omega (arith, e, h.few);
-  }
+  -- the first i entries are counted
+  pub record Counted (i : ℕ) (live : Live) : Type 0 where
+    pub all_of_cards : live.cards + length (left i) ≡ length (live_rows (contents_of deck))
+    pub all_of_bytes : live.bytes + sizes (left i) ≡ sizes (live_rows (contents_of deck))
+    pub few_cards : live.cards ≤ i
+    pub few_bytes : live.bytes ≤ 65536 * i
 
-  module _ {left at cards bytes : ℕ} (s : Counted left at cards bytes) where
-    pub counted_more : (left ≡ 0 → ⊥) → {one size : ℕ} → (one ≡ live_one (row_of (drop at deck))) × (one ≤ 1) → (size ≡ live_size (row_of (drop at deck))) × (size < 65536)
-        → Counted (left - 1) (at + 8) (cards + one) (bytes + size)
-    counted_more h {one} {size} a b =
-        let e = first_row deck left at h in
-        let rest = rows_of (left - 1) (drop (at + 8) deck) in
-        let c = ap (λ (rs : List Row). length (live_rows rs)) e ∙ live_count (row_of (drop at deck)) rest in
-        let z = ap (λ (rs : List Row). sizes (live_rows rs)) e ∙ live_sizes (row_of (drop at deck)) rest in
-        record {
-          place = omega (arith, s.place);
-          all_of_cards = omega (arith, s.all_of_cards, c, a.0);
-          all_of_bytes = omega (arith, s.all_of_bytes, z, b.0);
-          few_cards = omega (arith, s.few_cards, a.1);
-          few_bytes = omega (arith, s.few_bytes, b.1);
-        }
+  pub counted_none : Counted 0 (record { cards = 0; bytes = 0 })
+  counted_none =
+      let e = ap live_rows (all_rows deck (count_of deck)) in
+      record { all_of_cards = omega (arith, ap length e); all_of_bytes = omega (arith, ap sizes e); few_cards = omega arith; few_bytes = omega arith }
 
-    module _ (h : left ≡ 0) where
-      pub all_cards : cards ≡ length (live_rows (contents_of deck))
-      all_cards = omega (arith, s.all_of_cards, ap (λ (n : ℕ). length (live_rows (rows_of n (drop at deck)))) h)
+  module _ {i : ℕ} {live : Live} (s : Counted i live) where
+    pub counted_all : count_of deck ≤ i → Measures deck live
+    counted_all h =
+        let e = ap live_rows (no_rows deck (count_of deck) i h) in
+        record { cards = omega (arith, s.all_of_cards, ap length e); bytes = omega (arith, s.all_of_bytes, ap sizes e) }
 
-      pub all_bytes : bytes ≡ sizes (live_rows (contents_of deck))
-      all_bytes = omega (arith, s.all_of_bytes, ap (λ (n : ℕ). sizes (live_rows (rows_of n (drop at deck)))) h)
+    module _ (h : i < count_of deck) where
+      abbrev row : Row
+      row = row_of (drop (1 + 8 * i) deck)
+
+      pub counted_live : {size : ℕ} → IsLive row size → Counted (i + 1) (record { cards = live.cards + 1; bytes = live.bytes + size })
+      counted_live l =
+          let e : left i ≡ row ∷ left (i + 1) = ap live_rows (next_row deck (count_of deck) i h) ∙ live_first row (rows_from deck (count_of deck) (i + 1)) l.live in
+          record {
+            all_of_cards = omega (arith, s.all_of_cards, ap length e);
+            all_of_bytes = omega (arith, s.all_of_bytes, ap sizes e, l.same);
+            few_cards = omega (arith, s.few_cards);
+            few_bytes = omega (arith, s.few_bytes, l.short);
+          }
+
+      pub counted_withdrawn : live_of row ≡ false → Counted (i + 1) live
+      counted_withdrawn n =
+          let e : left i ≡ left (i + 1) = ap live_rows (next_row deck (count_of deck) i h) ∙ live_others row (rows_from deck (count_of deck) (i + 1)) n in
+          record {
+            all_of_cards = omega (arith, s.all_of_cards, ap length e);
+            all_of_bytes = omega (arith, s.all_of_bytes, ap sizes e);
+            few_cards = omega (arith, s.few_cards);
+            few_bytes = omega (arith, s.few_bytes);
+          }

@@ -1,36 +1,46 @@
 -- An entry and those behind it, by the bytes where they stand. Assumes nothing.
-use Prim.Native.Nat.{ℕ, zero, suc, ◌+◌, ◌-◌}
+use Prim.Native.Nat.{ℕ, suc, ◌+◌, ◌-◌, ◌*◌, ◌≤◌, ◌<◌}
 use mathlib.Core.Path.{◌≡◌, refl, sym, ap, ◌∙◌}
 use mathlib.Core.Bool.{Bool, true, false}
-use mathlib.Core.List.{List, [], ◌∷◌, ◌++◌, map}
+use mathlib.Core.List.{List, [], ◌∷◌, map}
 use native.Mathlib.Omega.{arith}
 use borrow.Author.Tests.{eq-eqb, ne_eqb}
-use lib.ListN.{length, take, drop}
+use lib.ListN.{drop}
 use lib.Seq.{drop-drop}
 use Rattle.card.specs.Text.{when◌then◌else◌}
 use Rattle.deck.specs.Contents.{byte, word_at, Row, row_of, rows_of}
-use Rattle.deck.specs.Deck.{Entry, live_of, entry_of, bodies}
+use Rattle.deck.specs.Deck.{Entry, live_of, entry_of}
 use Rattle.deck_entries.proofs.Laws.{row_there}
 use Rattle.deck_written.specs.WriteDeckSaid.{sizes}
 use Rattle.tidying.specs.Tidying.{live_entries}
-use Rattle.gathering.specs.LiveRows.{live_rows, live_one, live_size}
+use Rattle.gathering.specs.LiveRows.{live_rows, live_size, IsLive}
 
--- so many entries from a place on, of which there is one at least
-pub first_row : (deck : List ℕ) (left at : ℕ) → (left ≡ 0 → ⊥) → rows_of left (drop at deck) ≡ row_of (drop at deck) ∷ rows_of (left - 1) (drop (at + 8) deck)
-first_row deck zero at h = absurd (h refl)
-first_row deck (suc left) at h =
-    let p : suc left - 1 ≡ left = omega arith in
-    rw p (ap (λ (t : List ℕ). row_of (drop at deck) ∷ rows_of left t) (drop-drop 8 at deck))
+-- of so many entries those from the i-th on
+abbrev pub rows_from : (deck : List ℕ) (count i : ℕ) → List Row
+rows_from deck count i = rows_of (count - i) (drop (1 + 8 * i) deck)
+
+pub all_rows : (deck : List ℕ) (count : ℕ) → rows_from deck count 0 ≡ rows_of count (drop 1 deck)
+all_rows deck count = let z : count - 0 ≡ count = omega arith in ap (λ (n : ℕ). rows_of n (drop 1 deck)) z
+
+pub no_rows : (deck : List ℕ) (count i : ℕ) → count ≤ i → rows_from deck count i ≡ []
+no_rows deck count i h = let z : count - i ≡ 0 = omega arith in ap (λ (n : ℕ). rows_of n (drop (1 + 8 * i) deck)) z
+
+pub next_row : (deck : List ℕ) (count i : ℕ) → i < count → rows_from deck count i ≡ row_of (drop (1 + 8 * i) deck) ∷ rows_from deck count (i + 1)
+next_row deck count i h =
+    let r = row_of (drop (1 + 8 * i) deck) in
+    let one : count - i ≡ suc (count - (i + 1)) = omega arith in
+    let on : 1 + 8 * i + 8 ≡ 1 + 8 * (i + 1) = omega arith in
+    ap (λ (n : ℕ). rows_of n (drop (1 + 8 * i) deck)) one
+    ∙ ap (λ (t : List ℕ). r ∷ rows_of (count - (i + 1)) t) (drop-drop 8 (1 + 8 * i) deck ∙ ap (λ (n : ℕ). drop n deck) on)
 
 -- ---- the live ones of them
 
 module _ (r : Row) (rs : List Row) where
-  pub live_count : length (live_rows (r ∷ rs)) ≡ live_one r + length (live_rows rs)
-  live_count = go (live_of r)
-    where
-      go : (b : Bool) → length (when b then r ∷ live_rows rs else live_rows rs) ≡ (when b then 1 else 0) + length (live_rows rs)
-      go true = omega arith
-      go false = omega arith
+  pub live_first : live_of r ≡ true → live_rows (r ∷ rs) ≡ r ∷ live_rows rs
+  live_first e = rw e
+
+  pub live_others : live_of r ≡ false → live_rows (r ∷ rs) ≡ live_rows rs
+  live_others e = rw e
 
   pub live_sizes : sizes (live_rows (r ∷ rs)) ≡ live_size r + sizes (live_rows rs)
   live_sizes = go (live_of r)
@@ -38,15 +48,6 @@ module _ (r : Row) (rs : List Row) where
       go : (b : Bool) → sizes (when b then r ∷ live_rows rs else live_rows rs) ≡ (when b then r.size else 0) + sizes (live_rows rs)
       go true = refl
       go false = omega arith
-
-  -- its body, and theirs
-  pub live_bodies : (deck : List ℕ) → bodies (map (entry_of deck) (live_rows (r ∷ rs))) ≡ take (live_size r) (drop r.offset deck) ++ bodies (map (entry_of deck) (live_rows rs))
-  live_bodies deck = go (live_of r)
-    where
-      go : (b : Bool) → bodies (map (entry_of deck) (when b then r ∷ live_rows rs else live_rows rs))
-          ≡ take (when b then r.size else 0) (drop r.offset deck) ++ bodies (map (entry_of deck) (live_rows rs))
-      go true = refl
-      go false = refl
 
 -- the live entries are those of the live rows
 pub live_held : (deck : List ℕ) (rows : List Row) → live_entries (map (entry_of deck) rows) ≡ map (entry_of deck) (live_rows rows)
@@ -67,14 +68,12 @@ module _ (deck : List ℕ) (at : ℕ) {f : ℕ} (ef : f ≡ byte deck (at + 6)) 
   flag_there : row.flag ≡ f
   flag_there = ap (λ (r : Row). r.flag) (row_there deck at 0 0 refl refl refl ef refl)
 
-  pub one_live : f ≡ 1 → 1 ≡ live_one row
-  one_live h = rw (eq-eqb row.flag 1 (flag_there ∙ h))
+  pub live_there : f ≡ 1 → {size : ℕ} → (size ≡ word_at deck (at + 4)) × (size < 65536) → IsLive row size
+  live_there h e = record {
+    live = eq-eqb row.flag 1 (flag_there ∙ h);
+    same = sym (ap (λ (r : Row). r.size) (row_there deck at 0 0 refl refl e.0 refl refl));
+    short = e.1;
+  }
 
-  pub none_live : (f ≡ 1 → ⊥) → 0 ≡ live_one row
-  none_live h = rw (ne_eqb row.flag 1 (λ e. h (sym flag_there ∙ e)))
-
-  pub size_live : {s : ℕ} → s ≡ word_at deck (at + 4) → f ≡ 1 → s ≡ live_size row
-  size_live es h = rw (eq-eqb row.flag 1 (flag_there ∙ h)) (sym (ap (λ (r : Row). r.size) (row_there deck at 0 0 refl refl es refl refl)))
-
-  pub size_none : (f ≡ 1 → ⊥) → 0 ≡ live_size row
-  size_none h = rw (ne_eqb row.flag 1 (λ e. h (sym flag_there ∙ e)))
+  pub none_there : (f ≡ 1 → ⊥) → live_of row ≡ false
+  none_there h = ne_eqb row.flag 1 (λ e. h (sym flag_there ∙ e))

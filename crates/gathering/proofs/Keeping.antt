@@ -1,5 +1,5 @@
 -- Entries kept one behind the other: what is stored lies before every entry that is still to be read. Assumes nothing.
-use Prim.Native.Nat.{ℕ, zero, suc, ◌+◌, ◌-◌, ◌*◌, ◌≤◌}
+use Prim.Native.Nat.{ℕ, suc, ◌+◌, ◌-◌, ◌*◌, ◌≤◌, ◌<◌}
 use mathlib.Core.Path.{◌≡◌, refl, sym, ap, ◌∙◌}
 use mathlib.Core.Bool.{Bool, true, false}
 use mathlib.Core.List.{List, [], ◌++◌}
@@ -8,7 +8,7 @@ use borrow.Author.Tests.{eq-eqb, ne_eqb}
 use lib.ListN.{length, take, drop, length-take, length-drop}
 use lib.Seq.{drop-drop}
 use Rattle.card.specs.Text.{when◌then◌else◌}
-use Rattle.deck.specs.Contents.{byte, Row, row_of, behind}
+use Rattle.deck.specs.Contents.{byte, Row, row_of}
 use Rattle.deck.specs.Deck.{live_of}
 use Rattle.deck_entries.proofs.Laws.{row_there}
 use Rattle.room.specs.Room.{clip}
@@ -47,51 +47,56 @@ row_most t = go (live_of (row_of t))
     go true = omega (arith, length-take 8 t)
     go false = omega arith
 
-first_kept : (was : List ℕ) (left from : ℕ) → (left ≡ 0 → ⊥) → kept_rows left (drop from was) ≡ kept_row (drop from was) ++ kept_rows (left - 1) (drop (from + 8) was)
-first_kept was zero from h = absurd (h refl)
-first_kept was (suc left) from h =
-    let p : suc left - 1 ≡ left = omega arith in
-    rw p (ap (λ (t : List ℕ). kept_row (drop from was) ++ kept_rows left t) (drop-drop 8 from was))
+-- of so many entries those from the i-th on
+abbrev kept_from : (was : List ℕ) (count i : ℕ) → List ℕ
+kept_from was count i = kept_rows (count - i) (drop (1 + 8 * i) was)
+
+first_kept : (was : List ℕ) (count i : ℕ) → i < count → kept_from was count i ≡ kept_row (drop (1 + 8 * i) was) ++ kept_from was count (i + 1)
+first_kept was count i h =
+    let row = kept_row (drop (1 + 8 * i) was) in
+    let one : count - i ≡ suc (count - (i + 1)) = omega arith in
+    let on : 1 + 8 * i + 8 ≡ 1 + 8 * (i + 1) = omega arith in
+    ap (λ (n : ℕ). kept_rows n (drop (1 + 8 * i) was)) one
+    ∙ ap (λ (t : List ℕ). row ++ kept_rows (count - (i + 1)) t) (drop-drop 8 (1 + 8 * i) was ∙ ap (λ (n : ℕ). drop n was) on)
 
 module _ (was : List ℕ) (count : ℕ) where
   abbrev all : List ℕ
   all = clip was 1 (kept_rows count (drop 1 was))
 
-  -- so many entries are left, from `from` on, and the next one goes to `to`
-  pub record Keeping (is : List ℕ) (left from to : ℕ) : Type 0 where
-    pub place : from + 8 * left ≡ behind count
-    pub low : to ≤ from
+  -- the i-th entry is next, and it goes to `to`
+  pub record Keeping (is : List ℕ) (i to : ℕ) : Type 0 where
+    pub low : to ≤ 1 + 8 * i
     pub long : length is ≡ length was
-    pub back : drop from is ≡ drop from was
-    pub completes : clip is to (kept_rows left (drop from was)) ≡ all
+    pub back : drop (1 + 8 * i) is ≡ drop (1 + 8 * i) was
+    pub completes : clip is to (kept_from was count i) ≡ all
 
-  pub keep_none : Keeping was count 1 1
-  keep_none = record { place = omega arith; low = omega arith; long = refl; back = refl; completes = refl }
+  pub keep_none : Keeping was 0 1
+  keep_none =
+      let z : count - 0 ≡ count = omega arith in
+      record { low = omega arith; long = refl; back = refl; completes = ap (λ (n : ℕ). clip was 1 (kept_rows n (drop 1 was))) z }
 
-  module _ {is : List ℕ} {left from to : ℕ} (s : Keeping is left from to) where
-    pub keep_all : left ≡ 0 → is ≡ all
-    keep_all h = sym (clip_none is to) ∙ ap (λ (n : ℕ). clip is to (kept_rows n (drop from was))) (sym h) ∙ s.completes
+  module _ {is : List ℕ} {i to : ℕ} (s : Keeping is i to) where
+    pub keep_all : count ≤ i → is ≡ all
+    keep_all h =
+        let z : 0 ≡ count - i = omega arith in
+        sym (clip_none is to) ∙ ap (λ (n : ℕ). clip is to (kept_rows n (drop (1 + 8 * i) was))) z ∙ s.completes
 
-    module _ (h : left ≡ 0 → ⊥) where
-      pub inside : behind count ≤ length was → from + 8 ≤ length is
-      inside l = omega (arith, s.place, s.long)
-
-      pub keep_more : {now : List ℕ} {p : ℕ} → (now ≡ clip is to (kept_row (drop from is))) × (p ≡ to + length (kept_row (drop from is))) → Keeping now (left - 1) (from + 8) p
-      keep_more {now} {p} (e, f) =
-          let row = kept_row (drop from was) in
-          let same : kept_row (drop from is) ≡ row = ap kept_row s.back in
-          let there : now ≡ clip is to row = e ∙ ap (clip is to) same in
-          let next : p ≡ to + length row = f ∙ ap (λ (t : List ℕ). to + length t) same in
-          let most = row_most (drop from was) in
-          record {
-            place = omega (arith, s.place);
-            low = omega (arith, next, most, s.low);
-            long = ap length there ∙ length_clip is to row ∙ s.long;
-            back = ap (drop (from + 8)) there ∙ drop_behind is to row (from + 8) (omega (arith, most, s.low)) ∙ same_later from (from + 8) is was (omega arith) s.back;
-            completes =
-                ap (λ (w : List ℕ). clip w p (kept_rows (left - 1) (drop (from + 8) was))) there
-                ∙ ap (λ (n : ℕ). clip (clip is to row) n (kept_rows (left - 1) (drop (from + 8) was))) next
-                ∙ sym (clip_append is to row (kept_rows (left - 1) (drop (from + 8) was)))
-                ∙ ap (clip is to) (sym (first_kept was left from h))
-                ∙ s.completes;
-          }
+    pub keep_more : i < count → {now : List ℕ} {p : ℕ} → (now ≡ clip is to (kept_row (drop (1 + 8 * i) is))) × (p ≡ to + length (kept_row (drop (1 + 8 * i) is))) → Keeping now (i + 1) p
+    keep_more h {now} {p} (e, f) =
+        let next = 1 + 8 * (i + 1) in
+        let row = kept_row (drop (1 + 8 * i) was) in
+        let same : kept_row (drop (1 + 8 * i) is) ≡ row = ap kept_row s.back in
+        let there : now ≡ clip is to row = e ∙ ap (clip is to) same in
+        let place : p ≡ to + length row = f ∙ ap (λ (t : List ℕ). to + length t) same in
+        let most = row_most (drop (1 + 8 * i) was) in
+        record {
+          low = omega (arith, place, most, s.low);
+          long = ap length there ∙ length_clip is to row ∙ s.long;
+          back = ap (drop next) there ∙ drop_behind is to row next (omega (arith, most, s.low)) ∙ same_later (1 + 8 * i) next is was (omega arith) s.back;
+          completes =
+              ap (λ (w : List ℕ). clip w p (kept_from was count (i + 1))) there
+              ∙ ap (λ (n : ℕ). clip (clip is to row) n (kept_from was count (i + 1))) place
+              ∙ sym (clip_append is to row (kept_from was count (i + 1)))
+              ∙ ap (clip is to) (sym (first_kept was count i h))
+              ∙ s.completes;
+        }

@@ -1,5 +1,6 @@
 -- The live entries of a deck's contents, and what each keeps: a withdrawn one nothing. Assumes nothing.
-use Rattle.std.specs.Prelude.{ℕ, ◌≡◌, List, [], ◌∷◌, length}
+use Rattle.std.specs.Prelude.{ℕ, ◌<◌, ◌≡◌, true, false, Option, MatchOption, List, [], ◌∷◌, length}
+use Rattle.card.specs.Limits.{word_numbers}
 use Rattle.card.specs.Text.{when◌then◌else◌}
 use Rattle.deck.specs.Contents.{Row, contents_of}
 use Rattle.deck.specs.Deck.{live_of}
@@ -10,12 +11,18 @@ abbrev pub live_rows : List Row → List Row
 live_rows [] = []
 live_rows (r ∷ rs) = when live_of r then r ∷ live_rows rs else live_rows rs
 
--- how many cards stay, and how many bytes of the body
-abbrev pub live_one : Row → ℕ
-live_one r = when live_of r then 1 else 0
-
+-- how many bytes of the body stay
 abbrev pub live_size : Row → ℕ
 live_size r = when live_of r then r.size else 0
+
+-- what is read of an entry: the length of its body, if it is live
+pub record IsLive (r : Row) (size : ℕ) : Type 0 where
+  pub live : live_of r ≡ true
+  pub same : size ≡ r.size
+  pub short : size < word_numbers
+
+abbrev pub LiveSize : Row → Option ℕ → Type 0
+LiveSize r size = MatchOption size (live_of r ≡ false) (IsLive r)
 
 pub record Measures (deck : List ℕ) (r : Live) : Type 0 where
   pub cards : r.cards ≡ length (live_rows (contents_of deck))

@@ -24,12 +24,14 @@ use Rattle.reading.specs.Judgements.{state, alike}
 use Rattle.group.specs.declared.Grouped.{Grouped}
 use Rattle.literals_due.specs.declared.Tail.{Tail}
 use Rattle.late.specs.Late.{kind_by}
-use Rattle.group.specs.GroupRead.{no_group, StoppedGroup, GroupRead}
+use Rattle.std.specs.Prelude.{Result as Answer, Ok, Err}
+use Rattle.group.specs.Found.{Stopped, Found}
+use Rattle.group.specs.GroupRead.{ReadGroup, GroupRead, InPart}
 use Rattle.seats_seen.specs.SeatsSeen.{noted, one_more, want_in, kind_in}
-use Rattle.group.specs.LiteralRead.{ReadLiteral, StoppedLiteral, LiteralRead, sign_in}
+use Rattle.group.specs.LiteralRead.{ReadLiteral, LiteralRead, sign_in}
 use Rattle.group.proofs.Signs.{Known}
 use Rattle.group.proofs.Ahead.{unfit, next_is_law, the_seat, place_next, place_within, next_within, next_past, one_less}
-use Rattle.group.proofs.Literals.{Reads}
+use Rattle.group.proofs.Literals.{Reads, stops_here}
 use Rattle.group.proofs.Joined.{Joining, one_stops, one_read, not_closed, closed}
 use Rattle.seats_seen.proofs.Seats.{no_seats, Seen, seen_first, seen_more_seats, long_more, one_counted, alike_so, kind_seen, want_seen}
 
@@ -53,16 +55,22 @@ behind_first_law p l b false e = rw e
 opened : (p : Place) (s : State) → group p s ≡ bind (literal s) (behind_first p)
 opened p s = refl
 
--- ---- a literal that was read, or not
+-- ---- what was read, or not
 
-module _ (o : ℕ) (s : List ℕ) (from n i : ℕ) (t : Tail) {C : Type 0} where
-  pub read_well : (x : Result Literal) → LiteralRead o s from n i x t → t.stop ≡ 0 → ((l : Literal) (b : State) → x ≡ ok l b → ReadLiteral o s from n i l b t → C) → C
-  read_well (ok l b) h z k = k l b refl h
-  read_well (stop m q) h z k = absurd (omega (arith, z, ap (λ (u : Tail). u.stop) h.answer))
+module _ {A B : Type 0} (Read : A → State → B → Type 0) (o : ℕ) (s : List ℕ) where
+  pub found_as : {x y : Result A} (r : Answer B ℕ) → x ≡ y → Found Read o s y r → Found Read o s x r
+  found_as r e h = rw e h
 
-  pub read_wrong : (x : Result Literal) → LiteralRead o s from n i x t → (t.stop ≡ 0 → ⊥) → ((m : ℕ) (q : Place) → x ≡ stop m q → StoppedLiteral o s m q t → C) → C
-  read_wrong (ok l b) h z k = absurd (z h.went)
-  read_wrong (stop m q) h z k = k m q refl h
+  pub stops_as : {x : Result A} {m : ℕ} {q : Place} (r : ℕ) → x ≡ stop m q → Stopped o s m q r → Found Read o s x (Err r)
+  stops_as r e h = rw e h
+
+  pub read_well : {C : Type 0} (x : Result A) (r : B) → Found Read o s x (Ok r) → ((a : A) (b : State) → x ≡ ok a b → Read a b r → C) → C
+  read_well (ok a b) r h k = k a b refl h
+  read_well (stop m q) r h k = absurd h
+
+  pub read_wrong : {C : Type 0} (x : Result A) (r : ℕ) → Found Read o s x (Err r) → ((m : ℕ) (q : Place) → x ≡ stop m q → Stopped o s m q r → C) → C
+  read_wrong (ok a b) r h k = absurd h
+  read_wrong (stop m q) r h k = k m q refl h
 
 -- the same from its seat word on, by the steps of the code
 pub seat_marks : (o : ℕ) (s : List ℕ) (x : Step) (ms : Place) → Meet o s x ms → x.mark.kind ≡ k_seat → ms ≡ placed (seat x.mark.value) (o + x.mark.place) ∷ marks_at o s x.next.at
@@ -78,14 +86,8 @@ module _ (o : ℕ) (s : List ℕ) (n c : ℕ) where
       ap (λ y. bind y (λ j b. bind (the relation_of b) (λ q d. bind (the number_of d) (λ v. return (literal_of j q v d.marks)))))
       (the_seat o s word_at (marks_at o s c) n (meet o s c) ∙ unfit word_at.mark.value o s word_at (marks_at o s c) n k_seat h)
 
-  pub worded : word_at.mark.kind ≡ k_seat → (t : Tail) → Reads s word_at.next.at t → LiteralRead o s word_at.next.at n word_at.mark.value (literal (at (marks_at o s c) n)) t
+  pub worded : word_at.mark.kind ≡ k_seat → (t : Answer Tail ℕ) → Reads s word_at.next.at t → LiteralRead o s word_at.next.at n word_at.mark.value (literal (at (marks_at o s c) n)) t
   worded h t reads = rw (seat_marks o s word_at (marks_at o s c) (meet o s c) h) (reads o n word_at.mark.value (o + word_at.mark.place))
-
-group_as : (o : ℕ) (s : List ℕ) (n : ℕ) (p : Place) {x y : Result Literals} (r : Grouped) → x ≡ y → GroupRead o s n p y r → GroupRead o s n p x r
-group_as o s n p r e h = rw e h
-
-no_group_law : (o : ℕ) (s : List ℕ) (n : ℕ) (p : Place) (m : ℕ) (q : Place) (t : Tail) → StoppedLiteral o s m q t → GroupRead o s n p (stop m q) (no_group t.place)
-no_group_law o s n p m q t h = record { number = h.number; answer = refl; place = h.place; within = h.within }
 
 -- ---- so far
 
@@ -106,18 +108,18 @@ pub record SoFar (s : List ℕ) (from i : ℕ) (first : Tail) (a : Bool) (seen :
   pub counted : count ≡ min (length (head ∷ more)) (suc most_seats)
   pub alikes : same ≡ alike head more
 
-module _ (s : List ℕ) (from i : ℕ) (first : Tail) (reads : Reads s from first) where
+module _ (s : List ℕ) (from i : ℕ) where
   -- the first literal was not read
-  pub first_wrong : (first.stop ≡ 0 → ⊥) → (o n x : ℕ) (p : Place) → GroupRead o s n p (whole s from i o n x p) (no_group first.place)
-  first_wrong z o n x p =
-      read_wrong o s from n i first (literal (at (placed (seat i) x ∷ marks_at o s from) n)) (reads o n i x) z
-      (λ m q e h. group_as o s n p (no_group first.place) (ap (λ y. bind y (behind_first p)) e) (no_group_law o s n p m q first h))
+  pub first_wrong : (r : ℕ) → Reads s from (Err r) → (o n x : ℕ) (p : Place) → GroupRead o s n p (whole s from i o n x p) (Err r)
+  first_wrong r reads o n x p =
+      read_wrong (ReadLiteral o s from n i) o s (literal (at (placed (seat i) x ∷ marks_at o s from) n)) r (reads o n i x)
+      (λ m q e h. stops_as (ReadGroup o s n p) o s r (ap (λ y. bind y (behind_first p)) e) h)
 
   -- it was, and the mark ahead says what joins the others
-  pub first_read : first.stop ≡ 0 → (a : Bool) (ahead : Step) → ahead ≡ step_at s first.next → a ≡ eqb ahead.mark.kind (kind (joint any))
+  pub first_read : (first : Tail) → Reads s from (Ok first) → (a : Bool) (ahead : Step) → ahead ≡ step_at s first.next → a ≡ eqb ahead.mark.kind (kind (joint any))
       → (seen : List ℕ) → seen ≡ noted (no_seats (suc most_seats)) i → (o n x : ℕ) (p : Place) → SoFar s from i first a seen 1 true first.next o n x p
-  first_read z a ahead step e seen f o n x p =
-      read_well o s from n i first (literal (at (placed (seat i) x ∷ marks_at o s from) n)) (reads o n i x) z
+  first_read first reads a ahead step e seen f o n x p =
+      read_well (ReadLiteral o s from n i) o s (literal (at (placed (seat i) x ∷ marks_at o s from) n)) first (reads o n i x)
       (λ l b g h. record {
         head = l;
         more = [];
@@ -155,15 +157,6 @@ packed k g q d kind sign relation e ke ge qe de l =
     rw (ke, ge, qe, de)
     (packed_group (kind_number kind) (sign_number sign) (relation_number relation) e (kind_small kind) (sign_small sign) (relation_small relation) (omega arith))
 
--- the group stops where the mark ahead does not fit
-stops_here : (o : ℕ) (s : List ℕ) (n : ℕ) (p : Place) (c : ℕ) → GroupRead o s n p (stop out_of_shape (marks_at o s c)) (no_group (step_at s c).mark.place)
-stops_here o s n p c = record {
-  number = refl;
-  answer = refl;
-  place = place_next o s (step_at s c) (marks_at o s c) (meet o s c);
-  within = place_within o s (step_at s c) (marks_at o s c) (meet o s c);
-}
-
 module _ (s : List ℕ) (from i : ℕ) (first : Tail) (a : Bool) (seen : List ℕ) (count : ℕ) (same : Bool) (c : ℕ) where
   module _ (joined : (step_at s c).mark.kind ≡ kind (joint (sign_in a))) (o n x : ℕ) (p : Place) (so : SoFar s from i first a seen count same c o n x p) where
     abbrev next : ℕ
@@ -172,24 +165,24 @@ module _ (s : List ℕ) (from i : ℕ) (first : Tail) (a : Bool) (seen : List �
     abbrev word : Step
     word = step_at s next
 
-    no_seat : (word.mark.kind ≡ k_seat → ⊥) → GroupRead o s n p (whole s from i o n x p) (no_group word.mark.place)
+    no_seat : (word.mark.kind ≡ k_seat → ⊥) → GroupRead o s n p (whole s from i o n x p) (Err word.mark.place)
     no_seat h =
-        group_as o s n p (no_group word.mark.place)
+        stops_as (ReadGroup o s n p) o s word.mark.place
         (one_stops literal (joint (sign_in a)) (as_group p (sign_in a)) (joint_known a) (whole s from i o n x p) o s n (so.head ∷ so.more) c so.joining joined out_of_shape (marks_at o s next) (no_word o s n next h))
-        (stops_here o s n p next)
+        (stops_here o s next)
 
-    module _ (h : word.mark.kind ≡ k_seat) (more : Tail) (reads : Reads s word.next.at more) where
-      no_literal : (more.stop ≡ 0 → ⊥) → GroupRead o s n p (whole s from i o n x p) (no_group more.place)
-      no_literal z =
-          read_wrong o s word.next.at n word.mark.value more (literal (at (marks_at o s next) n)) (worded o s n next h more reads) z
-          (λ m q e w. group_as o s n p (no_group more.place)
+    module _ (h : word.mark.kind ≡ k_seat) where
+      no_literal : (r : ℕ) → Reads s word.next.at (Err r) → GroupRead o s n p (whole s from i o n x p) (Err r)
+      no_literal r reads =
+          read_wrong (ReadLiteral o s word.next.at n word.mark.value) o s (literal (at (marks_at o s next) n)) r (worded o s n next h (Err r) reads)
+          (λ m q e w. stops_as (ReadGroup o s n p) o s r
           (one_stops literal (joint (sign_in a)) (as_group p (sign_in a)) (joint_known a) (whole s from i o n x p) o s n (so.head ∷ so.more) c so.joining joined m q e)
-          (no_group_law o s n p m q more w))
+          w)
 
-      one_further : more.stop ≡ 0 → length seen ≡ suc most_seats
+      one_further : (more : Tail) → Reads s word.next.at (Ok more) → length seen ≡ suc most_seats
           → SoFar s from i first a (noted seen word.mark.value) (one_more count) (same && (eqb first.relation more.relation && eqb first.d more.d)) more.next o n x p
-      one_further z long =
-          read_well o s word.next.at n word.mark.value more (literal (at (marks_at o s next) n)) (worded o s n next h more reads) z
+      one_further more reads long =
+          read_well (ReadLiteral o s word.next.at n word.mark.value) o s (literal (at (marks_at o s next) n)) more (worded o s n next h (Ok more) reads)
           (λ l b g r. record {
             head = so.head;
             more = so.more ++ (l ∷ []);
@@ -206,21 +199,19 @@ module _ (s : List ℕ) (from i : ℕ) (first : Tail) (a : Bool) (seen : List �
   -- ---- the end: another mark than the sign
 
   module _ (other : (step_at s c).mark.kind ≡ kind (joint (sign_in a)) → ⊥) (o n x : ℕ) (p : Place) (so : SoFar s from i first a seen count same c o n x p) where
-    stays_open : ((step_at s c).mark.kind ≡ kind ")" → ⊥) → GroupRead o s n p (whole s from i o n x p) (no_group (step_at s c).mark.place)
+    stays_open : ((step_at s c).mark.kind ≡ kind ")" → ⊥) → GroupRead o s n p (whole s from i o n x p) (Err (step_at s c).mark.place)
     stays_open h =
-        group_as o s n p (no_group (step_at s c).mark.place)
+        stops_as (ReadGroup o s n p) o s (step_at s c).mark.place
         (not_closed literal (joint (sign_in a)) (as_group p (sign_in a)) (joint_known a) (whole s from i o n x p) o s n (so.head ∷ so.more) c so.joining other h)
-        (stops_here o s n p c)
+        (stops_here o s c)
 
     closes : (step_at s c).mark.kind ≡ kind ")" → (w node k g : ℕ) → w ≡ want_in seen count same → k ≡ kind_in seen → g ≡ sign_number (sign_in a)
         → node ≡ pack_group (min k 1) (min g 1) (min first.relation 1) (min first.d numbers)
-        → GroupRead o s n p (whole s from i o n x p) (record { stop = 0; place = 0; next = (step_at s c).next.at; want = w; kind = k; node = node; d = first.d; first = first.first })
+        → GroupRead o s n p (whole s from i o n x p) (Ok (record { next = (step_at s c).next.at; want = w; kind = k; node = node; d = first.d; first = first.first }))
     closes h w node k g we ke ge pe =
-        group_as o s n p _
+        found_as (ReadGroup o s n p) o s _
         (closed literal (joint (sign_in a)) (as_group p (sign_in a)) (joint_known a) (whole s from i o n x p) o s n (so.head ∷ so.more) c so.joining other h)
         (record {
-          went = refl;
-          place = refl;
           rest = refl;
           left = refl;
           bracket = refl;
@@ -250,17 +241,17 @@ pub record Turning (s : List ℕ) (from i : ℕ) (first : Tail) (a : Bool) (seen
   pub long : length seen ≡ suc most_seats
   pub so : (o n x : ℕ) (p : Place) → SoFar s from i first a seen count same c o n x p
 
-abbrev pub Answers : List ℕ → ℕ → ℕ → Grouped → Type 0
+abbrev pub Answers : List ℕ → ℕ → ℕ → Answer Grouped ℕ → Type 0
 Answers s from i r = (o n x : ℕ) (p : Place) → GroupRead o s n p (whole s from i o n x p) r
 
 module _ (s : List ℕ) (from i : ℕ) (first : Tail) (a : Bool) (j : ℕ) (sign : j ≡ kind (joint (sign_in a))) where
-  pub begins : Reads s from first → first.stop ≡ 0 → (ahead : Step) → ahead ≡ step_at s first.next → a ≡ eqb ahead.mark.kind (kind (joint any))
+  pub begins : Reads s from (Ok first) → (ahead : Step) → ahead ≡ step_at s first.next → a ≡ eqb ahead.mark.kind (kind (joint any))
       → (seen : List ℕ) → seen ≡ noted (no_seats (suc most_seats)) i → Turning s from i first a seen 1 true ahead
-  begins reads z ahead step e seen f = record {
+  begins reads ahead step e seen f = record {
     c = first.next;
     step = step;
     long = ap length f ∙ long_more (no_seats (suc most_seats)) i refl;
-    so = first_read s from i first reads z a ahead step e seen f;
+    so = first_read s from i first reads a ahead step e seen f;
   }
 
   module _ (seen : List ℕ) (count : ℕ) (same : Bool) (ahead : Step) (t : Turning s from i first a seen count same ahead) where
@@ -271,33 +262,35 @@ module _ (s : List ℕ) (from i : ℕ) (first : Tail) (a : Bool) (j : ℕ) (sign
       word_there : word ≡ step_at s (step_at s t.c).next.at
       word_there = found ∙ ap (λ (u : Step). step_at s u.next.at) t.step
 
-      pub turn_word : (word.mark.kind ≡ k_seat → ⊥) → Answers s from i (no_group word.mark.place)
+      pub turn_word : (word.mark.kind ≡ k_seat → ⊥) → Answers s from i (Err word.mark.place)
       turn_word h o n x p = rw word_there (no_seat s from i first a seen count same t.c joined_there o n x p (t.so o n x p) (rw word_there at h))
 
-      module _ (h : word.mark.kind ≡ k_seat) (more : Tail) (reads : Reads s word.next.at more) where
+      module _ (h : word.mark.kind ≡ k_seat) where
         seat_there : (step_at s (step_at s t.c).next.at).mark.kind ≡ k_seat
         seat_there = ap (λ (u : Step). u.mark.kind) (sym word_there) ∙ h
 
-        reads_there : Reads s (step_at s (step_at s t.c).next.at).next.at more
-        reads_there = rw word_there at reads
+        reads_there : (r : Answer Tail ℕ) → Reads s word.next.at r → Reads s (step_at s (step_at s t.c).next.at).next.at r
+        reads_there r reads = rw word_there at reads
 
-        pub turn_literal : (more.stop ≡ 0 → ⊥) → Answers s from i (no_group more.place)
-        turn_literal z o n x p = no_literal s from i first a seen count same t.c joined_there o n x p (t.so o n x p) seat_there more reads_there z
+        pub turn_literal : (r : ℕ) → Reads s word.next.at (Err r) → Answers s from i (Err r)
+        turn_literal r reads o n x p = no_literal s from i first a seen count same t.c joined_there o n x p (t.so o n x p) seat_there r (reads_there (Err r) reads)
 
-        module _ (z : more.stop ≡ 0) (last : Step) (step : last ≡ step_at s more.next) where
+        module _ (more : Tail) (reads : Reads s word.next.at (Ok more)) (last : Step) (step : last ≡ step_at s more.next) where
           pub turn_on : (seen2 : List ℕ) → seen2 ≡ noted seen word.mark.value → (count2 : ℕ) → count2 ≡ one_more count → (same2 : Bool) → same2 ≡ (same && (eqb first.relation more.relation && eqb first.d more.d))
               → Turning s from i first a seen2 count2 same2 last
           turn_on seen2 e count2 f same2 g = rw (e, f, g) (record {
             c = more.next;
             step = step;
             long = long_more seen word.mark.value t.long;
-            so = λ o n x p. rw (ap (λ (u : Step). u.mark.value) word_there) (one_further s from i first a seen count same t.c joined_there o n x p (t.so o n x p) seat_there more reads_there z t.long);
+            so = λ o n x p.
+                rw (ap (λ (u : Step). u.mark.value) word_there)
+                (one_further s from i first a seen count same t.c joined_there o n x p (t.so o n x p) seat_there more (reads_there (Ok more) reads) t.long);
           })
 
           -- fewer marks are left
           pub turn_less : length (marks_at 0 s last.next.at) < length (marks_at 0 s ahead.next.at)
           turn_less =
-              read_well 0 s word.next.at 0 word.mark.value more (literal (at (placed (seat word.mark.value) 0 ∷ marks_at 0 s word.next.at) 0)) (reads 0 0 word.mark.value 0) z
+              read_well (ReadLiteral 0 s word.next.at 0 word.mark.value) 0 s (literal (at (placed (seat word.mark.value) 0 ∷ marks_at 0 s word.next.at) 0)) more (reads 0 0 word.mark.value 0)
               (λ l b g r. omega (arith, r.fewer, behind_word, behind_last))
             where
               behind_word : suc (length (marks_at 0 s word.next.at)) ≡ length (marks_at 0 s ahead.next.at)
@@ -310,31 +303,21 @@ module _ (s : List ℕ) (from i : ℕ) (first : Tail) (a : Bool) (j : ℕ) (sign
       other_there : (step_at s t.c).mark.kind ≡ kind (joint (sign_in a)) → ⊥
       other_there e = other (ap (λ (u : Step). u.mark.kind) t.step ∙ e ∙ sym sign)
 
-      pub ends_open : (ahead.mark.kind ≡ kind ")" → ⊥) → Answers s from i (no_group ahead.mark.place)
+      pub ends_open : (ahead.mark.kind ≡ kind ")" → ⊥) → Answers s from i (Err ahead.mark.place)
       ends_open h o n x p = rw t.step (stays_open s from i first a seen count same t.c other_there o n x p (t.so o n x p) (rw t.step at h))
 
       pub ends_closed : ahead.mark.kind ≡ kind ")" → (w node k g : ℕ) → w ≡ want_in seen count same → k ≡ kind_in seen → g ≡ sign_number (sign_in a)
           → node ≡ pack_group (min k 1) (min g 1) (min first.relation 1) (min first.d numbers)
-          → Answers s from i (record { stop = 0; place = 0; next = ahead.next.at; want = w; kind = k; node = node; d = first.d; first = first.first })
+          → Answers s from i (Ok (record { next = ahead.next.at; want = w; kind = k; node = node; d = first.d; first = first.first }))
       ends_closed h w node k g we ke ge pe o n x p = rw t.step (closes s from i first a seen count same t.c other_there o n x p (t.so o n x p) (rw t.step at h) w node k g we ke ge pe)
 
 -- ---- the places in an answer lie in the part
 
-pub record Inside (s : List ℕ) (r : Grouped) : Type 0 where
-  pub place : r.place ≤ length s
-  pub next : r.next ≤ length s
-  pub first : r.first ≤ length s
+inside_answer : (o : ℕ) (s : List ℕ) (n : ℕ) (p : Place) (x : Result Literals) (r : Answer Grouped ℕ) → GroupRead o s n p x r → InPart s r
+inside_answer o s n p (ok g b) (Ok r) h = record { next = h.next_within; first = h.first_within }
+inside_answer o s n p (ok g b) (Err r) h = absurd h
+inside_answer o s n p (stop m q) (Ok r) h = absurd h
+inside_answer o s n p (stop m q) (Err r) h = h.within
 
-pub stopped_inside : (o : ℕ) (s : List ℕ) (m : ℕ) (q : Place) (r : Grouped) → StoppedGroup o s m q r → Inside s r
-stopped_inside o s m q r h = record {
-  place = h.within;
-  next = omega (arith, ap (λ (u : Grouped). u.next) h.answer);
-  first = omega (arith, ap (λ (u : Grouped). u.first) h.answer);
-}
-
-inside_answer : (o : ℕ) (s : List ℕ) (n : ℕ) (p : Place) (x : Result Literals) (r : Grouped) → GroupRead o s n p x r → Inside s r
-inside_answer o s n p (ok g b) r h = record { place = omega (arith, h.place); next = h.next_within; first = h.first_within }
-inside_answer o s n p (stop m q) r h = stopped_inside o s m q r h
-
-pub inside : (s : List ℕ) (from i : ℕ) (r : Grouped) → Answers s from i r → Inside s r
+pub inside : (s : List ℕ) (from i : ℕ) (r : Answer Grouped ℕ) → Answers s from i r → InPart s r
 inside s from i r h = inside_answer 0 s 0 [] (whole s from i 0 0 0 []) r (h 0 0 0 [])

@@ -19,7 +19,9 @@ use Rattle.marks.proofs.Next.{meet}
 use Rattle.reading.specs.Reader.{at, Result, ok, stop, bind, return, the, number_of}
 use Rattle.reading.specs.Group.{Literal, literal_of, relation_of, literal}
 use Rattle.literals_due.specs.declared.Tail.{Tail}
-use Rattle.group.specs.LiteralRead.{no_relation, relation_by, no_tail, LiteralRead}
+use Rattle.std.specs.Prelude.{Option, Some, None, Result as Answer, Ok, Err}
+use Rattle.group.specs.Found.{Stopped}
+use Rattle.group.specs.LiteralRead.{relation_by, LiteralRead}
 use Rattle.group.proofs.Ahead.{fits, unfit, the_number, the_relation, place_next, place_within, one_less, number_small}
 
 -- ---- the relation
@@ -31,13 +33,13 @@ module _ (o : ℕ) (s : List ℕ) (i n : ℕ) where
   abbrev sign : Step
   sign = step_at s i
 
-  no_sign : relation_by sign.mark.kind ≡ no_relation → the relation_of (at (marks_at o s i) n) ≡ stop out_of_shape (marks_at o s i)
+  no_sign : relation_by sign.mark.kind ≡ None → the relation_of (at (marks_at o s i) n) ≡ stop out_of_shape (marks_at o s i)
   no_sign h = the_relation o s sign (marks_at o s i) n (meet o s i) ∙ go (eqb sign.mark.kind (kind "=")) (eqb sign.mark.kind (kind "!=")) h
     where
-      go : (a b : Bool) → (when a then relation_number eq else (when b then relation_number ne else no_relation)) ≡ no_relation
+      go : (a b : Bool) → (when a then Some (relation_number eq) else (when b then Some (relation_number ne) else None)) ≡ None
           → (when a then ok eq (at (marks_at o s sign.next.at) n) else (when b then ok ne (at (marks_at o s sign.next.at) n) else stop out_of_shape (marks_at o s i))) ≡ stop out_of_shape (marks_at o s i)
-      go true b e = absurd (omega arith)
-      go false true e = absurd (omega arith)
+      go true b e = absurd cc
+      go false true e = absurd cc
       go false false e = refl
 
   -- the relation that its number says, and more marks than behind it
@@ -46,46 +48,46 @@ module _ (o : ℕ) (s : List ℕ) (i n : ℕ) where
     found : the relation_of (at (marks_at o s i) n) ≡ ok (relation_in v) (at (marks_at o s sign.next.at) n)
     kind : sign.mark.kind ≡ k_end → ⊥
 
-  related : (v : ℕ) → v ≡ relation_by sign.mark.kind → (v ≡ no_relation → ⊥) → Related v
-  related v e h = go (eqb sign.mark.kind (kind "=")) refl (eqb sign.mark.kind (kind "!=")) refl e
+  related : (v : ℕ) → relation_by sign.mark.kind ≡ Some v → Related v
+  related v e = go (eqb sign.mark.kind (kind "=")) refl (eqb sign.mark.kind (kind "!=")) refl e
     where
       go : (a : Bool) → eqb sign.mark.kind (kind "=") ≡ a → (b : Bool) → eqb sign.mark.kind (kind "!=") ≡ b
-          → v ≡ (when a then relation_number eq else (when b then relation_number ne else no_relation)) → Related v
-      go true p b q e = rw e (record {
+          → (when a then Some (relation_number eq) else (when b then Some (relation_number ne) else None)) ≡ Some v → Related v
+      go true p b q e = let f : v ≡ relation_number eq = cc in rw f (record {
         number = refl;
         found = the_relation o s sign (marks_at o s i) n (meet o s i) ∙ rw p;
         kind = λ z. omega (arith, eqb-true sign.mark.kind (kind "=") p);
       })
-      go false p true q e = rw e (record {
+      go false p true q e = let f : v ≡ relation_number ne = cc in rw f (record {
         number = refl;
         found = the_relation o s sign (marks_at o s i) n (meet o s i) ∙ rw (p, q);
         kind = λ z. omega (arith, eqb-true sign.mark.kind (kind "!=") q);
       })
-      go false p false q e = absurd (h e)
+      go false p false q e = absurd cc
 
 -- ---- the literal
 
-abbrev pub Reads : List ℕ → ℕ → Tail → Type 0
+abbrev pub Reads : List ℕ → ℕ → Answer Tail ℕ → Type 0
 Reads s from t = (o n i x : ℕ) → LiteralRead o s from n i (literal (at (placed (seat i) x ∷ marks_at o s from) n)) t
 
-module _ (s : List ℕ) (from : ℕ) (r : ℕ) (rel : r ≡ relation_by (step_at s from).mark.kind) where
-  read_as : (o n i : ℕ) {a b : Result Literal} (t : Tail) → a ≡ b → LiteralRead o s from n i b t → LiteralRead o s from n i a t
+-- a part is out of shape where the mark ahead does not fit
+pub stops_here : (o : ℕ) (s : List ℕ) (c : ℕ) → Stopped o s out_of_shape (marks_at o s c) (step_at s c).mark.place
+stops_here o s c = record {
+  number = refl;
+  place = place_next o s (step_at s c) (marks_at o s c) (meet o s c);
+  within = place_within o s (step_at s c) (marks_at o s c) (meet o s c);
+}
+
+module _ (s : List ℕ) (from : ℕ) where
+  read_as : (o n i : ℕ) {a b : Result Literal} (t : Answer Tail ℕ) → a ≡ b → LiteralRead o s from n i b t → LiteralRead o s from n i a t
   read_as o n i t e h = rw e h
 
-  stopped : (o n i j : ℕ) → LiteralRead o s from n i (stop out_of_shape (marks_at o s j)) (no_tail (step_at s j).mark.place)
-  stopped o n i j = record {
-    number = refl;
-    answer = refl;
-    place = place_next o s (step_at s j) (marks_at o s j) (meet o s j);
-    within = place_within o s (step_at s j) (marks_at o s j) (meet o s j);
-  }
+  no_relation : relation_by (step_at s from).mark.kind ≡ None → Reads s from (Err (step_at s from).mark.place)
+  no_relation h o n i x =
+      read_as o n i (Err (step_at s from).mark.place) (ap (λ y. bind y (λ q b. bind (the number_of b) (λ d. return (literal_of i q d b.marks)))) (no_sign o s from n h))
+      (stops_here o s from)
 
-  no_relation_law : r ≡ no_relation → Reads s from (no_tail (step_at s from).mark.place)
-  no_relation_law h o n i x =
-      read_as o n i (no_tail (step_at s from).mark.place) (ap (λ y. bind y (λ q b. bind (the number_of b) (λ d. return (literal_of i q d b.marks)))) (no_sign o s from n (sym rel ∙ h)))
-      (stopped o n i from)
-
-  module _ (some : r ≡ no_relation → ⊥) where
+  module _ (r : ℕ) (rel : relation_by (step_at s from).mark.kind ≡ Some r) where
     abbrev behind : ℕ
     behind = (step_at s from).next.at
 
@@ -93,39 +95,38 @@ module _ (s : List ℕ) (from : ℕ) (r : ℕ) (rel : r ≡ relation_by (step_at
     number = step_at s behind
 
     behind_sign : (o n i x : ℕ) → literal (at (placed (seat i) x ∷ marks_at o s from) n) ≡ bind (the number_of (at (marks_at o s behind) n)) (λ d. return (literal_of i (relation_in r) d (marks_at o s behind)))
-    behind_sign o n i x = ap (λ y. bind y (λ q b. bind (the number_of b) (λ d. return (literal_of i q d b.marks)))) (related o s from n r rel some).found
+    behind_sign o n i x = ap (λ y. bind y (λ q b. bind (the number_of b) (λ d. return (literal_of i q d b.marks)))) (related o s from n r rel).found
 
-    no_number : (number.mark.kind ≡ k_number → ⊥) → Reads s from (no_tail number.mark.place)
+    no_number : (number.mark.kind ≡ k_number → ⊥) → Reads s from (Err number.mark.place)
     no_number h o n i x =
-        read_as o n i (no_tail number.mark.place)
+        read_as o n i (Err number.mark.place)
         (behind_sign o n i x ∙ ap (λ y. bind y (λ d. return (literal_of i (relation_in r) d (marks_at o s behind)))) (the_number o s number (marks_at o s behind) n (meet o s behind) ∙ unfit number.mark.value o s number (marks_at o s behind) n k_number h))
-        (stopped o n i behind)
+        (stops_here o s behind)
 
-    whole : number.mark.kind ≡ k_number → Reads s from (record { stop = 0; place = 0; next = number.next.at; relation = r; d = number.mark.value; first = number.mark.place })
+    whole : number.mark.kind ≡ k_number → Reads s from (Ok (record { next = number.next.at; relation = r; d = number.mark.value; first = number.mark.place }))
     whole h o n i x =
         read_as o n i _
         (behind_sign o n i x ∙ ap (λ y. bind y (λ d. return (literal_of i (relation_in r) d (marks_at o s behind)))) (the_number o s number (marks_at o s behind) n (meet o s behind) ∙ fits number.mark.value o s number (marks_at o s behind) n k_number h))
         (record {
-          went = refl;
           rest = refl;
           seat = refl;
-          relation = (related o s from n r rel some).number;
+          relation = (related o s from n r rel).number;
           d = refl;
           small = number_small o s number (marks_at o s behind) (meet o s behind) h;
           first = place_next o s number (marks_at o s behind) (meet o s behind);
           first_within = place_within o s number (marks_at o s behind) (meet o s behind);
-          fewer = omega (arith, one_less o s (step_at s from) (marks_at o s from) (meet o s from) (related o s from n r rel some).kind, one_less o s number (marks_at o s behind) (meet o s behind) (λ z. omega arith));
+          fewer = omega (arith, one_less o s (step_at s from) (marks_at o s from) (meet o s from) (related o s from n r rel).kind, one_less o s number (marks_at o s behind) (meet o s behind) (λ z. omega arith));
         })
 
 -- the same of what the code has: a and b are its steps
-module _ (s : List ℕ) (from r : ℕ) where
-  pub literal_sign : (a : Step) → a ≡ step_at s from → r ≡ relation_by a.mark.kind → r ≡ no_relation → Reads s from (no_tail a.mark.place)
-  literal_sign a e = rw e (no_relation_law s from r)
+module _ (s : List ℕ) (from : ℕ) where
+  pub literal_sign : (a : Step) → a ≡ step_at s from → relation_by a.mark.kind ≡ None → Reads s from (Err a.mark.place)
+  literal_sign a e = rw e (no_relation s from)
 
-  pub literal_number : (a b : Step) → a ≡ step_at s from → b ≡ step_at s a.next.at → r ≡ relation_by a.mark.kind → (r ≡ no_relation → ⊥)
-      → (b.mark.kind ≡ k_number → ⊥) → Reads s from (no_tail b.mark.place)
-  literal_number a b e = rw e (λ f. rw f (no_number s from r))
+  pub literal_number : (r : ℕ) (a b : Step) → a ≡ step_at s from → b ≡ step_at s a.next.at → relation_by a.mark.kind ≡ Some r
+      → (b.mark.kind ≡ k_number → ⊥) → Reads s from (Err b.mark.place)
+  literal_number r a b e = rw e (λ f. rw f (no_number s from r))
 
-  pub literal_whole : (a b : Step) → a ≡ step_at s from → b ≡ step_at s a.next.at → r ≡ relation_by a.mark.kind → (r ≡ no_relation → ⊥)
-      → b.mark.kind ≡ k_number → Reads s from (record { stop = 0; place = 0; next = b.next.at; relation = r; d = b.mark.value; first = b.mark.place })
-  literal_whole a b e = rw e (λ f. rw f (whole s from r))
+  pub literal_whole : (r : ℕ) (a b : Step) → a ≡ step_at s from → b ≡ step_at s a.next.at → relation_by a.mark.kind ≡ Some r
+      → b.mark.kind ≡ k_number → Reads s from (Ok (record { next = b.next.at; relation = r; d = b.mark.value; first = b.mark.place }))
+  literal_whole r a b e = rw e (λ f. rw f (whole s from r))

@@ -1,23 +1,18 @@
 -- What the code hands back for what reading a group finds ("Shape of a card"). A group is read from a part of the card that begins
 -- at place o of it; the places in the answer are the part's own. Assumes nothing.
-use Rattle.std.specs.Prelude.{ℕ, ◌+◌, ◌≤◌, ◌≡◌, List, [], ◌∷◌, length}
-use Rattle.card.specs.Refusals.{out_of_shape}
+use Rattle.std.specs.Prelude.{ℕ, ◌+◌, ◌≤◌, ◌≡◌, List, [], ◌∷◌, length, Result as Answer, Ok, Err}
 use Rattle.card.specs.Laid.{kind_number, leaf_number}
 use Rattle.marks_on_a_card.specs.Marks.{place_of}
 use Rattle.marks.specs.Step.{marks_at}
-use Rattle.reading.specs.Reader.{Place, State, Result, ok, stop}
+use Rattle.reading.specs.Reader.{Place, State, Result}
 use Rattle.reading.specs.Group.{Literals}
 use Rattle.reading.specs.Judgements.{state, first_state}
 use Rattle.group.specs.declared.Grouped.{Grouped}
+use Rattle.group.specs.Found.{Found}
 use Rattle.late.specs.Late.{want_of, kind_by, group_by}
-
-abbrev pub no_group : ℕ → Grouped
-no_group p = record { stop = out_of_shape; place = p; next = 0; want = 0; kind = 0; node = 0; d = 0; first = 0 }
 
 -- with n nodes left, and the bracket at p
 pub record ReadGroup (o : ℕ) (s : List ℕ) (n : ℕ) (p : Place) (g : Literals) (behind : State) (r : Grouped) : Type 0 where
-  pub went : r.stop ≡ 0
-  pub place : r.place ≡ 0
   pub rest : marks_at o s r.next ≡ behind.marks
   pub left : behind.nodes ≡ n
   pub bracket : g.place ≡ p
@@ -32,12 +27,15 @@ pub record ReadGroup (o : ℕ) (s : List ℕ) (n : ℕ) (p : Place) (g : Literal
   pub next_within : r.next ≤ length s
   pub first_within : r.first ≤ length s
 
-pub record StoppedGroup (o : ℕ) (s : List ℕ) (m : ℕ) (q : Place) (r : Grouped) : Type 0 where
-  pub number : m ≡ out_of_shape
-  pub answer : r ≡ no_group r.place
-  pub place : place_of (o + length s) q ≡ o + r.place
-  pub within : r.place ≤ length s
+abbrev pub GroupRead : ℕ → List ℕ → ℕ → Place → Result Literals → Answer Grouped ℕ → Type 0
+GroupRead o s n p = Found (ReadGroup o s n p) o s
 
-abbrev pub GroupRead : ℕ → List ℕ → ℕ → Place → Result Literals → Grouped → Type 0
-GroupRead o s n p (ok g behind) r = ReadGroup o s n p g behind r
-GroupRead o s n p (stop m q) r = StoppedGroup o s m q r
+-- ---- the places in an answer lie in the part
+
+pub record Inside (s : List ℕ) (r : Grouped) : Type 0 where
+  pub next : r.next ≤ length s
+  pub first : r.first ≤ length s
+
+abbrev pub InPart : List ℕ → Answer Grouped ℕ → Type 0
+InPart s (Ok r) = Inside s r
+InPart s (Err r) = r ≤ length s

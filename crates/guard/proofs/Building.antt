@@ -14,14 +14,15 @@ use Rattle.card.specs.Stored.{stored}
 use Rattle.card.proofs.Atoms.{size_over}
 use Rattle.card.proofs.Packed.{packed_node}
 use Rattle.card.proofs.Storing.{size_below, stored_not, stored_and, stored_or}
-use Rattle.reading.specs.Reader.{Place, State, at, Result, ok, stop, Reader, bind}
+use Rattle.reading.specs.Reader.{State, Result, ok, stop, Reader, bind}
 use Rattle.late.specs.Late.{Late}
-use Rattle.late.specs.State.{at_left, at_free, Sized, left_in, free_in, late_in, After, after}
-use Rattle.late.proofs.StateLaws.{set_sized, left_set, free_left, free_set, left_free, late_set}
+use Rattle.std.specs.Prelude.{Ok, Err}
+use Rattle.card.specs.declared.Refusal.{Refusal}
+use Rattle.late.specs.declared.state.State.{State as Carried}
+use Rattle.late.specs.State.{left_in, free_in, late_in, After, after}
 use Rattle.items.specs.Language.{Language, leaves_of, judged_of}
-use Rattle.items.specs.KeptItems.{Ready}
+use Rattle.items.specs.KeptItems.{Ready, spending, grown}
 use Rattle.items.specs.Items.{operator_of}
-use Rattle.items.proofs.Keeping.{spending, grown}
 use Rattle.items.specs.GuardRead.{Read, GuardRead}
 use Rattle.items.specs.Pieces.{join_of, then_not, Onward}
 use Rattle.items.proofs.Opening.{read_as}
@@ -30,12 +31,8 @@ set_same : {a b : List ℕ} {i j v w : ℕ} → a ≡ b → i ≡ j → v ≡ w 
 set_same e f h = rw (e, f, h)
 
 -- one node fewer is left
-pub spending_ready : (state : List ℕ) → Ready state → (left_in state ≡ 0 → ⊥) → Ready (spending state)
-spending_ready state ready some = record {
-  sized = set_sized state ready.sized at_left (left_in state - 1);
-  fits = omega (arith, left_set state ready.sized (left_in state - 1), free_left state (left_in state - 1), ready.fits);
-  most = omega (arith, left_set state ready.sized (left_in state - 1), ready.most);
-}
+pub spending_ready : (state : Carried) → Ready state → (left_in state ≡ 0 → ⊥) → Ready (spending state)
+spending_ready state ready some = record { fits = omega (arith, ready.fits); most = omega (arith, ready.most) }
 
 module _ (L : Language) where
   -- what the items are among the nodes changes no numbers of nodes
@@ -45,31 +42,17 @@ module _ (L : Language) where
   -- ---- refusals
 
   -- where a guard was not read the whole is not, whatever stands in the array
-  pub goes_wrong : (s : List ℕ) (k : ℕ) (was mid : List ℕ) (used : ℕ) (before : Late) (was2 is : List ℕ) (used2 : ℕ) (before2 : Late) (g : After)
-      (f : Formula L.Item → Reader (Formula L.Item)) (x : Result (Formula L.Item)) → GuardRead L s k was mid used before x g → g.next ≡ 0
-      → GuardRead L s k was2 is used2 before2 (bind x f) (after g.state 0)
-  goes_wrong s k was mid used before was2 is used2 before2 g f (ok h b) e z = absurd (e.went z)
-  goes_wrong s k was mid used before was2 is used2 before2 g f (stop r p) e z = record { none = refl; refused = e.refused; sized = e.sized }
+  pub goes_wrong : (s : List ℕ) (k : ℕ) (was mid : List ℕ) (used : ℕ) (before : Late) (was2 is : List ℕ) (used2 : ℕ) (before2 : Late) (st : Carried) (e : Refusal)
+      (f : Formula L.Item → Reader (Formula L.Item)) (x : Result (Formula L.Item)) → GuardRead L s k was mid used before x (after st (Err e))
+      → GuardRead L s k was2 is used2 before2 (bind x f) (after st (Err e))
+  goes_wrong s k was mid used before was2 is used2 before2 st e f (ok h b) d = absurd d.rest
+  goes_wrong s k was mid used before was2 is used2 before2 st e f (stop r p) d = record { refused = d.refused }
 
   -- a guard that was read
-  pub went_well : {C : Type 0} (s : List ℕ) (k : ℕ) (was mid : List ℕ) (used : ℕ) (before : Late) (g : After) (x : Result (Formula L.Item)) → GuardRead L s k was mid used before x g
-      → (g.next ≡ 0 → ⊥) → ((h : Formula L.Item) (b : State) → x ≡ ok h b → Read L s k was mid used before h b g → C) → C
-  went_well s k was mid used before g (ok h b) e z c = c h b refl e
-  went_well s k was mid used before g (stop n p) e z c = absurd (z e.none)
-
-  pub still_sized : (s : List ℕ) (k : ℕ) (was is : List ℕ) (used : ℕ) (before : Late) (x : Result (Formula L.Item)) (r : After) → GuardRead L s k was is used before x r → Sized r.state
-  still_sized s k was is used before (ok g b) r h = h.sized
-  still_sized s k was is used before (stop m p) r h = h.sized
-
-  module _ (state : List ℕ) where
-    -- what was read with one node fewer left, in the numbers of before
-    pub read_spending : (s : List ℕ) (k : ℕ) (was is : List ℕ) (p : Reader (Formula L.Item)) (ms : Place) (r : After) → Sized state
-        → GuardRead L s k was is (free_in (spending state)) (late_in (spending state)) (p (at ms (left_in (spending state)))) r → GuardRead L s k was is (free_in state) (late_in state) (p (at ms (left_in state - 1))) r
-    read_spending s k was is p ms r sized h =
-        like (left_set state sized (left_in state - 1)) (free_left state (left_in state - 1)) (late_set state at_left (left_in state - 1) (omega arith)) h
-      where
-        like : {i j m n : ℕ} {x y : Late} → i ≡ j → m ≡ n → x ≡ y → GuardRead L s k was is m x (p (at ms i)) r → GuardRead L s k was is n y (p (at ms j)) r
-        like e f l h = rw (← e, ← f, ← l) h
+  pub went_well : {C : Type 0} (s : List ℕ) (k : ℕ) (was mid : List ℕ) (used : ℕ) (before : Late) (st : Carried) (i : ℕ) (x : Result (Formula L.Item))
+      → GuardRead L s k was mid used before x (after st (Ok i)) → ((h : Formula L.Item) (b : State) → x ≡ ok h b → Read L s k was mid used before h b (after st (Ok i)) → C) → C
+  went_well s k was mid used before st i (ok h b) d c = c h b refl d
+  went_well s k was mid used before st i (stop n p) d c = let e = d.refused in absurd cc
 
   -- ---- nodes
 
@@ -85,16 +68,14 @@ module _ (L : Language) where
         → v ≡ pack_node (min op_not op_or) (min (free_in g.state - 1) (node_places - 1)) (min 0 (node_places - 1)) → Read L s k was mid used before f b g
         → Read L s k was (set mid (free_in g.state) v) used before (neg f) b (after (grown g.state) g.next)
     negated v f b l e d = record {
-      went = d.went;
       rest = d.rest;
-      free = free_set g.state d.sized (free_in g.state + 1) ∙ omega (arith, d.free);
-      left = left_free g.state (free_in g.state + 1) ∙ d.left;
-      late = late_set g.state at_free (free_in g.state + 1) (omega arith) ∙ d.late;
+      free = omega (arith, d.free);
+      left = d.left;
+      late = d.late;
       nodes =
           set_same d.nodes (next_by used (free_in g.state) f d.free)
           (e ∙ packed_node op_not (free_in g.state - 1) 0 (omega arith) (omega arith) (omega arith) ∙ ap (λ r. pack_node op_not r 0) (root_by used (free_in g.state) f d.free))
           ∙ sym (stored_not was used (leaves_of L f));
-      sized = set_sized g.state d.sized at_free (free_in g.state + 1);
     }
 
     module _ (now : List ℕ) (h : After) (f i : Formula L.Item) (b c : State) (d : Read L s k was mid used before f b g) (n : Read L s k mid now (free_in g.state) (late_in g.state) i c h) where
@@ -122,13 +103,11 @@ module _ (L : Language) where
           → set now (free_in h.state) v ≡ stored was used (cells (leaves_of L j) used)
           → Read L s k was (set now (free_in h.state) v) used before j c (after (grown h.state) h.next)
       grows j v e judged nodes = record {
-        went = n.went;
         rest = n.rest;
-        free = free_set h.state n.sized (free_in h.state + 1) ∙ omega (arith, d.free, n.free, e);
-        left = left_free h.state (free_in h.state + 1) ∙ n.left;
-        late = late_set h.state at_free (free_in h.state + 1) (omega arith) ∙ n.late ∙ both_late ∙ judged;
+        free = omega (arith, d.free, n.free, e);
+        left = n.left;
+        late = n.late ∙ both_late ∙ judged;
         nodes = nodes;
-        sized = set_sized h.state n.sized at_free (free_in h.state + 1);
       }
 
       pub joined : (a : Bool) (v : ℕ) → free_in g.state ≤ node_places → free_in h.state ≤ node_places
@@ -139,13 +118,12 @@ module _ (L : Language) where
 
   -- ---- what the code does with them
 
-  module _ (mid : List ℕ) (g : After) where
-    pub not_well : (v : ℕ) → (g.next ≡ 0 → ⊥) → free_in g.state < node_places → v ≡ pack_node (min op_not op_or) (min (free_in g.state - 1) (node_places - 1)) (min 0 (node_places - 1))
-        → (s : List ℕ) (k : ℕ) → Onward L s k mid (set mid (free_in g.state) v) g then_not (after (grown g.state) g.next)
-    not_well v z l pack s k was used before x e =
-        went_well s k was mid used before g x e z
-        (λ h b i d. read_as L s k was (set mid (free_in g.state) v) used before (after (grown g.state) g.next) (ap (λ y. bind y then_not) i)
-        (negated s k was mid used before g v h b l pack d))
+  pub not_well : (mid : List ℕ) (st : Carried) (i v : ℕ) → free_in st < node_places → v ≡ pack_node (min op_not op_or) (min (free_in st - 1) (node_places - 1)) (min 0 (node_places - 1))
+      → (s : List ℕ) (k : ℕ) → Onward L s k mid (set mid (free_in st) v) (after st (Ok i)) then_not (after (grown st) (Ok i))
+  not_well mid st i v l pack s k was used before x e =
+      went_well s k was mid used before st i x e
+      (λ h b i₁ d. read_as L s k was (set mid (free_in st) v) used before (after (grown st) (Ok i)) (ap (λ y. bind y then_not) i₁)
+      (negated s k was mid used before (after st (Ok i)) v h b l pack d))
 
-    pub goes_on_wrong : (f : Formula L.Item → Reader (Formula L.Item)) → g.next ≡ 0 → (s : List ℕ) (k : ℕ) → Onward L s k mid mid g f (after g.state 0)
-    goes_on_wrong f z s k was used before x e = goes_wrong s k was mid used before was mid used before g f x e z
+  pub goes_on_wrong : (mid : List ℕ) (st : Carried) (e : Refusal) (f : Formula L.Item → Reader (Formula L.Item)) (s : List ℕ) (k : ℕ) → Onward L s k mid mid (after st (Err e)) f (after st (Err e))
+  goes_on_wrong mid st e f s k was used before x d = goes_wrong s k was mid used before was mid used before st e f x d

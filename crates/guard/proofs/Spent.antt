@@ -17,7 +17,7 @@ use Rattle.reading.specs.Reader.{Place, State, at, Result, ok, stop, Reader, bin
 use Rattle.reading.specs.Guard.{seat_next, if_seat, if_ahead, chain, conjunction, expression, grouped}
 use Rattle.reading.specs.Group.{literal_of, literals_of, relation_of, literal, joint, joined, others, group, shared_test, of_seats, of_shared, tested}
 use Rattle.asking.specs.Question.{a_group, a_test, exactly_one, term, exactly, item}
-use Rattle.languages.specs.Number.{values_by, asks_by}
+use Rattle.languages.specs.declared.Language.{Language as Spoken}
 use Rattle.items.specs.Language.{Language, language_by, language_of}
 use Rattle.items.specs.Pieces.{unary_in}
 
@@ -208,10 +208,10 @@ module _ {A : Type 0} where
 abbrev pub Keeping : Language → Type 0
 Keeping L = (p : Place) → Keeps (L.item p)
 
-pub keeping : (language : ℕ) → Keeping (language_of language)
-keeping language = go (asks_by language)
+pub keeping : (l : Spoken) → Keeping (language_of l)
+keeping l = go l.question
   where
-    go : (b : Bool) → Keeping (language_by b (values_by language))
+    go : (b : Bool) → Keeping (language_by b l.values)
     go false = tested_keeps
     go true = item_keeps
 

@@ -13,13 +13,13 @@ use Rattle.marks_on_a_card.specs.Marks.{place_of}
 use Rattle.marks_on_a_card.specs.Kinds.{kind}
 use Rattle.marks.specs.Step.{step_at, marks_at}
 use Rattle.marks.specs.declared.Step.{Step}
-use Rattle.marks.proofs.Next.{meet}
 use Rattle.reading.specs.Reader.{Place, State, at, Result, ok, stop, bind, ◌>>=◌, ◌>>◌, return, refuse_at, sign, spend}
 use Rattle.reading.specs.Guard.{expression, grouped}
 use Rattle.late.specs.Late.{Late}
+use Rattle.std.specs.Prelude.{Ok}
+use Rattle.late.specs.declared.state.State.{State as Carried}
 use Rattle.late.specs.State.{left_in, free_in, late_in, After, after, Halted}
 use Rattle.group.proofs.Signs.{Known}
-use Rattle.group.proofs.Ahead.{next_past}
 use Rattle.items.specs.Language.{Language}
 use Rattle.items.specs.GuardRead.{GuardRead}
 use Rattle.items.specs.Pieces.{unary_in, then_not, then_close, Onward, NoItem}
@@ -41,33 +41,25 @@ module _ (L : Language) where
   -- ---- the closing bracket
 
   -- behind what was read so far, at the place q and the nodes left
-  module _ (s : List ℕ) (g : After) (z : g.next ≡ 0 → ⊥) (a : Step) (step : a ≡ step_at s g.next) where
-    closing : (f : Formula L.Item) (b : State) (x : Result (Formula L.Item)) → x ≡ ok f b → marks_at 0 s g.next ≡ b.marks
-        → bind x then_close ≡ bind (sign ")" (at (marks_at 0 s g.next) b.nodes)) (λ _. return f)
-    closing f b x i rest = ap (λ y. bind y then_close) i ∙ ap (λ y. bind (sign ")" y) (λ _. return f)) (state_is b (marks_at 0 s g.next) b.nodes rest refl)
+  module _ (s : List ℕ) (st : Carried) (i : ℕ) (a : Step) (step : a ≡ step_at s i) where
+    closing : (f : Formula L.Item) (b : State) (x : Result (Formula L.Item)) → x ≡ ok f b → marks_at 0 s i ≡ b.marks
+        → bind x then_close ≡ bind (sign ")" (at (marks_at 0 s i) b.nodes)) (λ _. return f)
+    closing f b x e rest = ap (λ y. bind y then_close) e ∙ ap (λ y. bind (sign ")" y) (λ _. return f)) (state_is b (marks_at 0 s i) b.nodes rest refl)
 
-    pub close_wrong : (a.mark.kind ≡ kind ")" → ⊥) → (r : After) → Halted out_of_shape a.mark.place r → (k : ℕ) (nodes : List ℕ) → Onward L s k nodes nodes g then_close r
+    pub close_wrong : (a.mark.kind ≡ kind ")" → ⊥) → (r : After) → Halted out_of_shape a.mark.place r → (k : ℕ) (nodes : List ℕ) → Onward L s k nodes nodes (after st (Ok i)) then_close r
     close_wrong h r halted k nodes was used before x e =
-        went_well L s k was nodes used before g x e z
-        (λ f b i d. read_as L s k was nodes used before r
-        (closing f b x i d.rest ∙ ap (λ y. bind y (λ _. return f)) (sign_unfit ")" close_known s g.next b.nodes (λ u. h (ap (λ (m : Step). m.mark.kind) step ∙ u))))
-        (halted_at s g.next out_of_shape r (rw step at halted)))
+        went_well L s k was nodes used before st i x e
+        (λ f b j d. read_as L s k was nodes used before r
+        (closing f b x j d.rest ∙ ap (λ y. bind y (λ _. return f)) (sign_unfit ")" close_known s i b.nodes (λ u. h (ap (λ (m : Step). m.mark.kind) step ∙ u))))
+        (halted_at s i out_of_shape r (rw step at halted)))
 
-    pub close_well : a.mark.kind ≡ kind ")" → (k : ℕ) (nodes : List ℕ) → Onward L s k nodes nodes g then_close (after g.state a.next.at)
+    pub close_well : a.mark.kind ≡ kind ")" → (k : ℕ) (nodes : List ℕ) → Onward L s k nodes nodes (after st (Ok i)) then_close (after st (Ok a.next.at))
     close_well h k nodes was used before x e =
-        went_well L s k was nodes used before g x e z
-        (λ f b i d. read_as L s k was nodes used before (after g.state a.next.at)
-        (closing f b x i d.rest ∙ ap (λ y. bind y (λ _. return f)) (sign_fits ")" close_known s g.next b.nodes (ap (λ (m : Step). m.mark.kind) (sym step) ∙ h)
+        went_well L s k was nodes used before st i x e
+        (λ f b j d. read_as L s k was nodes used before (after st (Ok a.next.at))
+        (closing f b x j d.rest ∙ ap (λ y. bind y (λ _. return f)) (sign_fits ")" close_known s i b.nodes (ap (λ (m : Step). m.mark.kind) (sym step) ∙ h)
         ∙ ap (λ (m : Step). ok tt (at (marks_at 0 s m.next.at) b.nodes)) (sym step)))
-        (record {
-          went = λ n. next_past 0 s (step_at s g.next) (marks_at 0 s g.next) (meet 0 s g.next) (λ y. omega (arith, h, ap (λ (m : Step). m.mark.kind) step)) (ap (λ (m : Step). m.next.at) (sym step) ∙ n);
-          rest = refl;
-          free = d.free;
-          left = d.left;
-          late = d.late;
-          nodes = d.nodes;
-          sized = d.sized;
-        }))
+        (record { rest = refl; free = d.free; left = d.left; late = d.late; nodes = d.nodes }))
 
   -- ---- a unary
 
@@ -165,7 +157,7 @@ module _ (L : Language) where
           (onward s k was used before (unary_in L (depth - 1) (at (marks_at 0 s a.next.at) (left - 1))) d)
 
   -- what was read from arrays that are as they were
-  pub read_from : (s : List ℕ) (i k depth : ℕ) (was mid is state behind : List ℕ) (r : After) → mid ≡ was → behind ≡ state
+  pub read_from : (s : List ℕ) (i k depth : ℕ) (was mid is : List ℕ) (state behind : Carried) (r : After) → mid ≡ was → behind ≡ state
       → GuardRead L s k mid is (free_in behind) (late_in behind) (unary_in L depth (at (marks_at 0 s i) (left_in behind))) r
       → GuardRead L s k was is (free_in state) (late_in state) (unary_in L depth (at (marks_at 0 s i) (left_in state))) r
   read_from s i k depth was mid is state behind r e f d = rw (← e, ← f) d

@@ -17,6 +17,9 @@ use Rattle.card.proofs.Laws.{guard_at_leaf, guard_at_not, guard_at_and, guard_at
 use Rattle.phrases.specs.Phrases.{Text, ◌▸◌}
 use Rattle.texts.specs.Shared.{Brackets, needed, always, has_and, has_or, opening, closing, formula_text, formula_or}
 use Rattle.texts.specs.Writing.{sign_text}
+use Rattle.leaf_text.specs.declared.style.Form.{Form}
+use Rattle.leaf_text.specs.declared.style.Form.TheVariants.{Written, Reduced}
+use Rattle.leaf_text.specs.Style.{by_form}
 use Rattle.guard_text.specs.Levels.{tight_number, level_of}
 
 -- ---- brackets
@@ -34,13 +37,13 @@ needs_or_law (suc (suc v)) = sym (le-leb 1 (suc (suc v)) (omega arith))
 
 -- where all joined nodes have brackets, each has them as where it stands tight
 module _ (level : ℕ) where
-  has_and_law : (t : Bool) → has_and (when t then needed else always) (level_of level) ≡ leb 2 (when t then level else tight_number)
-  has_and_law true = needs_and_law level
-  has_and_law false = refl
+  has_and_law : (f : Form) → has_and (by_form needed always f) (level_of level) ≡ leb 2 (by_form level tight_number f)
+  has_and_law Written = needs_and_law level
+  has_and_law Reduced = refl
 
-  has_or_law : (t : Bool) → has_or (when t then needed else always) (level_of level) ≡ leb 1 (when t then level else tight_number)
-  has_or_law true = needs_or_law level
-  has_or_law false = refl
+  has_or_law : (f : Form) → has_or (by_form needed always f) (level_of level) ≡ leb 1 (by_form level tight_number f)
+  has_or_law Written = needs_or_law level
+  has_or_law Reduced = refl
 
 -- a bracket by its byte
 abbrev pub bracket_if : Bool → ℕ → Text
@@ -63,11 +66,11 @@ module _ (m x : ℕ) {op : ℕ} (o : op ≡ (when eqb m 0 then op_leaf else op_o
   pub joined_op : op ≡ op_of x
   joined_op = o ∙ rw (ne_eqb m 0 joined_above)
 
--- ---- and its text; `text` is 0 for the written card
+-- ---- and its text
 
-module _ (text : ℕ) (leaf : Leaf → Text) (v : ℕ) (nodes : List ℕ) (m x : ℕ) (at : x ≡ get_or nodes m 0) where
+module _ (form : Form) (leaf : Leaf → Text) (v : ℕ) (nodes : List ℕ) (m x : ℕ) (at : x ≡ get_or nodes m 0) where
   abbrev brackets : Brackets
-  brackets = either needed always text
+  brackets = by_form needed always form
 
   abbrev part : ℕ → ℕ → Text
   part level i = formula_text brackets leaf (level_of level) (guard_at nodes i)
@@ -99,7 +102,7 @@ module _ (text : ℕ) (leaf : Leaf → Text) (v : ℕ) (nodes : List ℕ) (m x :
       text_not e r = rw (guard_at_not nodes m x at h (sym o ∙ e), l)
 
       -- `&` and `|` alike: the level from which on the node has brackets is its right part's, and the left part's is one below
-      module _ {w : ℕ} (k : w ≡ either v tight_number text) where
+      module _ {w : ℕ} (k : w ≡ by_form v tight_number form) where
         abbrev joined : ℕ → ℕ → Text
         joined s b r =
             bracket_if (leb (2 - s) w) 40
@@ -108,11 +111,11 @@ module _ (text : ℕ) (leaf : Leaf → Text) (v : ℕ) (nodes : List ℕ) (m x :
         module _ {b : ℕ} (g : b ≡ min (right_of x) (m - 1)) where
           text_and : op ≡ op_and → Here (joined 0 b)
           unfolding formula_text
-          text_and e r = rw (guard_at_and nodes m x at h (sym o ∙ e), has_and_law v (eqb text 0), k, opens, closes, l, g)
+          text_and e r = rw (guard_at_and nodes m x at h (sym o ∙ e), has_and_law v form, k, opens, closes, l, g)
 
           text_or : (op ≡ op_leaf → ⊥) → (op ≡ op_not → ⊥) → (op ≡ op_and → ⊥) → Here (joined 1 b)
           unfolding formula_text
-          text_or c d e r = rw (guard_at_or nodes m x at h (λ z. c (o ∙ z)) (λ z. d (o ∙ z)) (λ z. e (o ∙ z)), has_or_law v (eqb text 0), k, opens, closes, l, g)
+          text_or c d e r = rw (guard_at_or nodes m x at h (λ z. c (o ∙ z)) (λ z. d (o ∙ z)) (λ z. e (o ∙ z)), has_or_law v form, k, opens, closes, l, g)
 
           pub text_joined : {s : ℕ} → (op ≡ op_leaf → ⊥) → (op ≡ op_not → ⊥) → s ≡ (when eqb op op_and then sign_number all else sign_number any) → Here (joined s b)
           text_joined {s} c d e = go (eqb op op_and) refl

@@ -8,30 +8,30 @@ ghost use Rattle.card.specs.Card.{all, any};
 ghost use Rattle.card.specs.Laid.{sign_number, op_leaf, op_and, op_of, either, guard_at, guard_of};
 ghost use Rattle.phrases.specs.Puts.{Puts};
 ghost use Rattle.texts.specs.Shared.{formula_text, formula_or};
-ghost use Rattle.leaf_text.specs.Style.{style_of, brackets_of, leaf_text as leaf_text_said};
+ghost use Rattle.leaf_text.specs.Style.{looks, look, by_form, brackets_of, leaf_text as leaf_text_said};
 ghost use Rattle.guard_text.specs.Levels.{tight_number, level_of};
 
 use card::limits::NODE_PLACES;
 use card::number_at;
-use leaf_text::{Style, WRITTEN, put_leaf};
+use leaf_text::put_leaf;
+use leaf_text::style::{Form, Style};
 use literal_text::joint_of;
 use packing::{ALL, AND, ANY, LEAF, NOT, left_of, op_of, right_of};
-use room::{place, put_byte};
-use short_pieces::put_three;
+use room::{place, put_byte, put_filled};
 
-// Where a part of a guard stands; 0 is loose.
+// Where a part of a guard stands, 0 is loose: numbers, since the level of a joined node's parts is reckoned from its sign.
 const MIDDLE: usize = 1;
 
 const TIGHT: usize = 2;
 
 // The level by which a part has brackets: in the reduced text always, as where it stands tight.
-fn bracket_level(level: usize, text: usize) -> usize
-    ensures { result ≡ either level tight_number text }
+fn bracket_level(level: usize, form: Form) -> usize
+    ensures { result ≡ by_form level tight_number form }
 {
-    if text == WRITTEN {
-        return level;
+    match form {
+        Form::Written => level,
+        Form::Reduced => TIGHT,
     }
-    TIGHT
 }
 
 // A bracket, where the level is `least` or tighter.
@@ -49,23 +49,17 @@ fn sign_between(op: usize) -> usize
     ensures sign { result ≡ (when eqb op op_and then sign_number all else sign_number any) }
     ensures small { result < 2 }
 {
-    if op == AND {
-        return ALL;
-    }
-    ANY
+    if op == AND { ALL } else { ANY }
 }
 
 // The operator of node n, where `x` stands: node 0 is read as a leaf.
 fn operator_at(x: u32, n: usize) -> usize
     ensures { result ≡ (when eqb n 0 then op_leaf else op_of x) }
 {
-    if n == 0 {
-        return LEAF;
-    }
-    op_of(x)
+    if n == 0 { LEAF } else { op_of(x) }
 }
 
-// The guard whose root is node `n`, by the card's own nodes: a child's number is below its parent's. The style is handed on in numbers, not as
+// The guard whose root is node `n`, by the card's own nodes: a child's number is below its parent's. The style is handed on in parts, not as
 // a struct, which would be copied for each node.
 fn put_guard(
     room: &mut [u8],
@@ -73,38 +67,31 @@ fn put_guard(
     nodes: &[u32; NODE_PLACES],
     n: usize,
     level: usize,
-    text: usize,
+    form: Form,
     own: usize,
     seats: usize,
 ) -> usize
-    ensures { Puts room.old room.new at (formula_text (brackets_of (style_of text own seats 1)) (leaf_text_said (style_of text own seats 1)) (level_of level) (guard_at nodes.now n)) result }
+    ensures { Puts room.old room.new at (formula_text (brackets_of (looks form own seats)) (leaf_text_said (looks form own seats)) (level_of level) (guard_at nodes.now n)) result }
 {
     let x = number_at(nodes, n);
     let op = operator_at(x, n);
     if op == LEAF {
-        let style = Style {
-            text: text,
-            own: own,
-            seats: seats,
-            copies: 1,
-        };
-        return put_leaf(room, at, x, style);
+        return put_leaf(room, at, x, form, own, seats);
     }
     let left = left_of(x, n);
     if op == NOT {
         let a = put_byte(room, at, b'!');
-        return put_guard(room, a, nodes, left, TIGHT, text, own, seats);
+        return put_guard(room, a, nodes, left, TIGHT, form, own, seats);
     }
     let right = right_of(x, n);
     let sign = sign_between(op);
-    let joint = joint_of(sign);
-    let stands = bracket_level(level, text);
+    let stands = bracket_level(level, form);
     // `&` has brackets of its own where it stands tight, `|` in the middle too; its own sign may stand left of it without
     let least = TIGHT - sign;
     let a = put_bracket(room, at, b'(', stands, least);
-    let b = put_guard(room, a, nodes, left, least - 1, text, own, seats);
-    let c = put_three(room, b, b' ', joint, b' ');
-    let d = put_guard(room, c, nodes, right, least, text, own, seats);
+    let b = put_guard(room, a, nodes, left, least - 1, form, own, seats);
+    let c = put_filled(room, b, [b' ', joint_of(sign), b' ']);
+    let d = put_guard(room, c, nodes, right, least, form, own, seats);
     put_bracket(room, d, b')', stands, least)
 }
 
@@ -118,20 +105,20 @@ pub fn put_test(
     style: Style,
 ) -> usize
     requires { from + count ≤ node_places }
-    ensures { Puts room.old room.new at (formula_or (brackets_of style) (leaf_text_said style) (guard_of nodes.now from count)) result }
+    ensures { Puts room.old room.new at (formula_or (brackets_of (look style)) (leaf_text_said (look style)) (guard_of nodes.now from count)) result }
 {
     if count == 0 {
         return place(at);
     }
     let root = from + count - 1;
-    let a = put_three(room, at, b' ', b'&', b' ');
+    let a = put_filled(room, at, *b" & ");
     put_guard(
         room,
         a,
         nodes,
         root,
         MIDDLE,
-        style.text,
+        style.form,
         style.own,
         style.seats,
     )

@@ -15,10 +15,7 @@ use table::bound_of;
 pub fn count_at(counts: &[usize], d: usize) -> usize
     ensures { result ≡ no_of counts.now d }
 {
-    if d < counts.len() {
-        return counts[d];
-    }
-    0
+    counts.get(d).copied().unwrap_or(0)
 }
 
 // A test of the shared number.

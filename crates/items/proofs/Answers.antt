@@ -1,7 +1,7 @@
 -- A group that was read is an item of a card's language and, as one of everyone, of a question's; an exactly-one is one of a question's; a test
 -- of the shared number is one of both, where such a number is declared; and where none of these starts no item does. Assumes nothing.
 use Prim.Native.Nat.{ℕ, zero, suc, ◌+◌, ◌-◌}
-use mathlib.Core.Path.{◌≡◌, refl, sym, ap, ap₂, ◌∙◌, subst}
+use mathlib.Core.Path.{◌≡◌, refl, sym, ap, ap₂, ◌∙◌}
 use mathlib.Core.Bool.{Bool, true, false, ◌&&◌, ◌||◌}
 use mathlib.Core.List.{List, [], ◌∷◌}
 use native.Mathlib.Omega.{arith}
@@ -38,13 +38,15 @@ use Rattle.asking.specs.Asking.{state as claimed, everyone as everyone_of, first
 use Rattle.items.specs.OneRead.{ReadOne, OneRead}
 use Rattle.term_literals.specs.Wanted.{want_of_terms}
 use Rattle.items.specs.Language.{Language, cards, judged_of, want_of_all, claim_all, questions, language_by, language_of}
-use Rattle.languages.specs.Number.{values_by, asks_by}
+use Rattle.languages.specs.declared.Language.{Language as Spoken}
+use Rattle.std.specs.Prelude.{Option, Some, None, Result as Answer, Ok, Err, IsOkAnd, MatchResult}
+use Rattle.group.specs.GroupRead.{Inside, InPart}
 use Rattle.items.specs.GroupsAsked.{unwanted, of_all}
 use Rattle.items.specs.SharedRead.{ReadTest, TestRead}
-use Rattle.items.specs.Items.{Inside, ReadItem, ItemRead, ItemIf, ItemAt, nothing}
+use Rattle.items.specs.Items.{ReadItem, ItemRead, ItemIf, ItemAt}
 
 -- whether an item starts
-pub item_if : (L : Language) (o : ℕ) (s : List ℕ) (n : ℕ) (p : Place) (r : Grouped) (a b : Bool) → a ≡ b → ItemIf L o s n p b r → ItemIf L o s n p a r
+pub item_if : (L : Language) (o : ℕ) (s : List ℕ) (n : ℕ) (p : Place) (r : Option (Answer Grouped ℕ)) (a b : Bool) → a ≡ b → ItemIf L o s n p b r → ItemIf L o s n p a r
 item_if L o s n p r a b e h = rw e h
 
 judged_group_law : (e k : ℕ) (a : Literals) (d : ℕ) (m : Place) (before : Late) → first_state k a.literals ≡ state k d m ∷ []
@@ -79,9 +81,8 @@ plain o s n p a b r h = ap (λ k. eqb k shared_kind) h.kind ∙ group_kind (kind
 abbrev as_seats : Literals → Reader Tested
 as_seats x = return (of_seats x)
 
-group_item : (v o : ℕ) (s : List ℕ) (n : ℕ) (p : Place) (y : Result Literals) (r : Grouped) → GroupRead o s n p y r → ItemRead (cards v) o s n p (bind y as_seats) r
-group_item v o s n p (ok a b) r h = record {
-  went = h.went;
+group_item : (v o : ℕ) (s : List ℕ) (n : ℕ) (p : Place) (y : Result Literals) (r : Answer Grouped ℕ) → GroupRead o s n p y r → ItemRead (cards v) o s n p (bind y as_seats) r
+group_item v o s n p (ok a b) (Ok r) h = record {
   rest = h.rest;
   left = h.left;
   past = h.past;
@@ -92,7 +93,9 @@ group_item v o s n p (ok a b) r h = record {
       h.first (sym h.want) (ap (place_of (o + length s)) h.bracket)
       ∙ by_kind (most_of v) r.d k (o + r.first) r.want (place_of (o + length s) p) r.kind x (plain o s n p a b r h);
 }
-group_item v o s n p (stop m q) r h = h
+group_item v o s n p (ok a b) (Err e) h = h
+group_item v o s n p (stop m q) (Ok r) h = h
+group_item v o s n p (stop m q) (Err e) h = h
 
 -- what is judged of a card's guard, as its list of judgements
 pub card_judged : (v k e : ℕ) (g : Formula Tested) (x : Late) → judged_of (cards v) k e g x ≡ judge_all e (judged_guard k (most_of v) g) x
@@ -123,23 +126,25 @@ module _ (v o : ℕ) (s : List ℕ) (n : ℕ) (p : Place) where
       as_shared_law (most_of v) r.d k (place_of (o + length s) x.value.place) (o + r.first) r.want (place_of (o + length s) p) r.kind x.value.value y
       h.kind h.d h.first
 
-  test_item : (y : Result SharedTest) (r : Grouped) → TestRead o s n y r → ItemRead (cards v) o s n p (bind y as_shared) r
+  test_item : (y : Result SharedTest) (r : Answer Grouped ℕ) → TestRead o s n y r → ItemRead (cards v) o s n p (bind y as_shared) r
   unfolding judge_all
-  test_item (ok x b) r h = record { went = h.went; rest = h.rest; left = h.left; past = h.past; node = h.node; judged = test_judged x b r h }
-  test_item (stop m q) r h = h
+  test_item (ok x b) (Ok r) h = record { rest = h.rest; left = h.left; past = h.past; node = h.node; judged = test_judged x b r h }
+  test_item (ok x b) (Err e) h = h
+  test_item (stop m q) (Ok r) h = h
+  test_item (stop m q) (Err e) h = h
 
-  test_asked : (y : Result SharedTest) (r : Grouped) → TestRead o s n y r → ItemRead (questions v) o s n p (bind y as_test) r
+  test_asked : (y : Result SharedTest) (r : Answer Grouped ℕ) → TestRead o s n y r → ItemRead (questions v) o s n p (bind y as_test) r
   unfolding claim_all
-  test_asked (ok x b) r h = record { went = h.went; rest = h.rest; left = h.left; past = h.past; node = h.node; judged = test_judged x b r h }
-  test_asked (stop m q) r h = h
+  test_asked (ok x b) (Ok r) h = record { rest = h.rest; left = h.left; past = h.past; node = h.node; judged = test_judged x b r h }
+  test_asked (ok x b) (Err e) h = h
+  test_asked (stop m q) (Ok r) h = h
+  test_asked (stop m q) (Err e) h = h
 
-test_inside : (s : List ℕ) (y : Result SharedTest) (r : Grouped) → TestRead 0 s 0 y r → Inside s r
-test_inside s (ok x b) r h = record { place = omega (arith, h.place); next = h.next_within; first = h.first_within }
-test_inside s (stop m q) r h = record {
-  place = h.within;
-  next = omega (arith, ap (λ (u : Grouped). u.next) h.answer);
-  first = omega (arith, ap (λ (u : Grouped). u.first) h.answer);
-}
+test_inside : (s : List ℕ) (y : Result SharedTest) (r : Answer Grouped ℕ) → TestRead 0 s 0 y r → InPart s r
+test_inside s (ok x b) (Ok r) h = record { next = h.next_within; first = h.first_within }
+test_inside s (ok x b) (Err e) h = absurd h
+test_inside s (stop m q) (Ok r) h = absurd h
+test_inside s (stop m q) (Err e) h = h.within
 
 -- ---- a question's items
 
@@ -165,6 +170,16 @@ claimed_group e k m₁ a d m before h = ap (λ js. claim_all e (everyone_of a �
 abbrev as_group : Literals → Reader Item
 as_group x = return (a_group x)
 
+-- a group in a question
+abbrev pub all_of : Answer Grouped ℕ → Answer Grouped ℕ
+all_of (Ok r) = Ok (of_all r)
+all_of (Err e) = Err e
+
+pub mapped : (g r : Answer Grouped ℕ) → MatchResult g (λ x. IsOkAnd r (λ y. y ≡ of_all x)) (λ e. r ≡ Err e) → r ≡ all_of g
+mapped (Ok x) (Ok y) h = ap Ok h
+mapped (Ok x) (Err e) h = absurd h
+mapped (Err e) r h = h
+
 module _ (v o : ℕ) (s : List ℕ) (n : ℕ) (p : Place) where
   -- whatever number of seats is told
   wanting : (a : Literals) (b : State) (r : Grouped) → ReadGroup o s n p a b r → (m : ℕ) → want_of_all a.literals ≡ m → (k : ℕ) (x : Late)
@@ -176,13 +191,15 @@ module _ (v o : ℕ) (s : List ℕ) (n : ℕ) (p : Place) where
       h.first w (ap (place_of (o + length s)) h.bracket)
       ∙ by_kind (most_of v) r.d k (o + r.first) m (place_of (o + length s) p) r.kind x (plain o s n p a b r h)
 
-  group_asked : (y : Result Literals) (r : Grouped) → GroupRead o s n p y r → ItemRead (questions v) o s n p (bind y as_group) (of_all r)
-  group_asked (ok a b) r h = go (eqb r.kind 0) (ap (λ k. eqb k 0) h.kind ∙ has_kind a.literals)
+  group_asked : (y : Result Literals) (r : Answer Grouped ℕ) → GroupRead o s n p y r → ItemRead (questions v) o s n p (bind y as_group) (all_of r)
+  group_asked (ok a b) (Ok r) h = go (eqb r.kind 0) (ap (λ k. eqb k 0) h.kind ∙ has_kind a.literals)
     where
       go : (c : Bool) → c ≡ has 1 a.literals → ReadItem (questions v) o s n p (a_group a) b (when c then r else unwanted r)
-      go true e = record { went = h.went; rest = h.rest; left = h.left; past = h.past; node = h.node; judged = wanting a b r h r.want (rw (← e) (sym h.want)) }
-      go false e = record { went = h.went; rest = h.rest; left = h.left; past = h.past; node = h.node; judged = wanting a b r h 0 (rw (← e) refl) }
-  group_asked (stop m q) r h = rw h.answer (record { number = h.number; answer = refl; place = h.place; within = h.within })
+      go true e = record { rest = h.rest; left = h.left; past = h.past; node = h.node; judged = wanting a b r h r.want (rw (← e) (sym h.want)) }
+      go false e = record { rest = h.rest; left = h.left; past = h.past; node = h.node; judged = wanting a b r h 0 (rw (← e) refl) }
+  group_asked (ok a b) (Err e) h = h
+  group_asked (stop m q) (Ok r) h = h
+  group_asked (stop m q) (Err e) h = h
 
   one_judged : (x : Item) (b : State) (r : Grouped) (h : ReadOne o s n p x b r) (k : ℕ) (y : Late)
       → (questions v).judged k (o + length s) (exactly_one p ((h.head ∷ h.more) ∷ h.later)) y
@@ -193,39 +210,36 @@ module _ (v o : ℕ) (s : List ℕ) (n : ℕ) (p : Place) where
       (sym h.d) h.first (sym h.want)
       ∙ by_kind (most_of v) r.d k (o + r.first) r.want (place_of (o + length s) p) r.kind y (ap (λ k. eqb k shared_kind) h.kind)
 
-  one_asked : (y : Result Item) (r : Grouped) → OneRead o s n p y r → ItemRead (questions v) o s n p y r
-  one_asked (ok x b) r h = rw h.item (record {
-    went = h.went;
+  one_asked : (y : Result Item) (r : Answer Grouped ℕ) → OneRead o s n p y r → ItemRead (questions v) o s n p y r
+  one_asked (ok x b) (Ok r) h = rw h.item (record {
     rest = h.rest;
     left = h.left;
     past = h.past;
     node = h.node;
     judged = one_judged x b r h;
   })
-  one_asked (stop m q) r h = h
+  one_asked (ok x b) (Err e) h = h
+  one_asked (stop m q) (Ok r) h = h
+  one_asked (stop m q) (Err e) h = h
 
-one_inside : (s : List ℕ) (y : Result Item) (r : Grouped) → OneRead 0 s 0 [] y r → Inside s r
-one_inside s (ok x b) r h = record { place = omega (arith, h.place); next = h.next_within; first = h.first_within }
-one_inside s (stop m q) r h = record {
-  place = h.within;
-  next = omega (arith, ap (λ (u : Grouped). u.next) h.answer);
-  first = omega (arith, ap (λ (u : Grouped). u.first) h.answer);
-}
+one_inside : (s : List ℕ) (y : Result Item) (r : Answer Grouped ℕ) → OneRead 0 s 0 [] y r → InPart s r
+one_inside s (ok x b) (Ok r) h = record { next = h.next_within; first = h.first_within }
+one_inside s (ok x b) (Err e) h = absurd h
+one_inside s (stop m q) (Ok r) h = absurd h
+one_inside s (stop m q) (Err e) h = h.within
 
-of_all_inside : (s : List ℕ) (r : Grouped) → Inside s r → Inside s (of_all r)
-of_all_inside s r h = go (eqb r.kind 0)
+of_all_inside : (s : List ℕ) (r : Answer Grouped ℕ) → InPart s r → InPart s (all_of r)
+of_all_inside s (Ok r) h = go (eqb r.kind 0)
   where
     go : (b : Bool) → Inside s (when b then r else unwanted r)
     go true = h
-    go false = record { place = h.place; next = h.next; first = h.first }
+    go false = record { next = h.next; first = h.first }
+of_all_inside s (Err e) h = h
 
 -- ---- as the code finds them
 
 number_known : Known "g"
 number_known = record { above = omega arith; alone = refl; same = refl }
-
-nowhere : (s : List ℕ) → Inside s nothing
-nowhere s = record { place = omega arith; next = omega arith; first = omega arith }
 
 -- by how many values the shared number has
 shares_some : (v : ℕ) → (v ≡ 0 → ⊥) → shares v ≡ true
@@ -258,7 +272,7 @@ module _ (v : ℕ) (s : List ℕ) (w : Step) (step : w ≡ step_at s 0) where
 
   -- ---- a seat word
 
-  module _ (h : w.mark.kind ≡ k_seat) (g : Grouped) (answers : Answers s w.next.at w.mark.value g) where
+  module _ (h : w.mark.kind ≡ k_seat) (g : Answer Grouped ℕ) (answers : Answers s w.next.at w.mark.value g) where
     seat_there : (o : ℕ) → seat_next (marks_at o s 0) ≡ true
     seat_there o = seat_as o ∙ eq-eqb w.mark.kind k_seat h
 
@@ -271,22 +285,22 @@ module _ (v : ℕ) (s : List ℕ) (w : Step) (step : w ≡ step_at s 0) where
         begins : marks_at o s 0 ≡ placed (seat w.mark.value) (o + w.mark.place) ∷ marks_at o s w.next.at
         begins = rw step (seat_marks o s (step_at s 0) (marks_at o s 0) (meet o s 0) (kind_there ∙ h))
 
-    within : Inside s g
-    within = let i = inside s w.next.at w.mark.value g answers in record { place = i.place; next = i.next; first = i.first }
+    within : InPart s g
+    within = inside s w.next.at w.mark.value g answers
 
     starting : (o : ℕ) → (test_next (shares v) (marks_at o s 0) ≡ true) × (item_next (shares v) (marks_at o s 0) ≡ true)
     starting o = starts_seat (shares v) (seat_next (marks_at o s 0)) (next_is "g" (marks_at o s 0)) (twice_next (marks_at o s 0)) (seat_there o)
 
-    pub card_group : ItemAt (cards v) s g
+    pub card_group : ItemAt (cards v) s (Some g)
     card_group = record {
-      read = λ o n p. item_if (cards v) o s n p g (test_next (shares v) (marks_at o s 0)) true (starting o).0
+      read = λ o n p. item_if (cards v) o s n p (Some g) (test_next (shares v) (marks_at o s 0)) true (starting o).0
           (rw (no_number o) (group_item v o s n p (group p (at (marks_at o s 0) n)) g (reads o n p)));
       inside = within;
     }
 
-    pub question_group : ItemAt (questions v) s (of_all g)
+    pub question_group : ItemAt (questions v) s (Some (all_of g))
     question_group = record {
-      read = λ o n p. item_if (questions v) o s n p (of_all g) (item_next (shares v) (marks_at o s 0)) true (starting o).1
+      read = λ o n p. item_if (questions v) o s n p (Some (all_of g)) (item_next (shares v) (marks_at o s 0)) true (starting o).1
           (rw (no_number o, seat_there o) (group_asked v o s n p (group p (at (marks_at o s 0) n)) g (reads o n p)));
       inside = of_all_inside s g within;
     }
@@ -311,45 +325,45 @@ module _ (v : ℕ) (s : List ℕ) (w : Step) (step : w ≡ step_at s 0) where
       no_twice : (o : ℕ) → twice_next (marks_at o s 0) ≡ false
       no_twice o = let (x, e) = begins o in rw e refl
 
-      module _ (some : v ≡ 0 → ⊥) (g : Grouped) (answers : (o n x : ℕ) → TestRead o s n (shared_test (at (sign_at "g" x ∷ marks_at o s w.next.at) n)) g) where
+      module _ (some : v ≡ 0 → ⊥) (g : Answer Grouped ℕ) (answers : (o n x : ℕ) → TestRead o s n (shared_test (at (sign_at "g" x ∷ marks_at o s w.next.at) n)) g) where
         tests : (o n : ℕ) → TestRead o s n (shared_test (at (marks_at o s 0) n)) g
         tests o n = let (x, e) = begins o in rw e (answers o n x)
 
-        within_test : Inside s g
+        within_test : InPart s g
         within_test = test_inside s (shared_test (at (marks_at 0 s 0) 0)) g (tests 0 0)
 
         starting_test : (o : ℕ) → (test_next (shares v) (marks_at o s 0) ≡ true) × (item_next (shares v) (marks_at o s 0) ≡ true)
         starting_test o = starts_test (shares v) (seat_next (marks_at o s 0)) (next_is "g" (marks_at o s 0)) (twice_next (marks_at o s 0)) (shares_some v some) (no_seat o) (number_there o)
 
-        card_test : ItemAt (cards v) s g
+        card_test : ItemAt (cards v) s (Some g)
         card_test = record {
-          read = λ o n p. item_if (cards v) o s n p g (test_next (shares v) (marks_at o s 0)) true (starting_test o).0
+          read = λ o n p. item_if (cards v) o s n p (Some g) (test_next (shares v) (marks_at o s 0)) true (starting_test o).0
               (rw (number_there o) (test_item v o s n p (shared_test (at (marks_at o s 0) n)) g (tests o n)));
           inside = within_test;
         }
 
-        question_test : ItemAt (questions v) s g
+        question_test : ItemAt (questions v) s (Some g)
         question_test = record {
-          read = λ o n p. item_if (questions v) o s n p g (item_next (shares v) (marks_at o s 0)) true (starting_test o).1
+          read = λ o n p. item_if (questions v) o s n p (Some g) (item_next (shares v) (marks_at o s 0)) true (starting_test o).1
               (rw (number_there o) (test_asked v o s n p (shared_test (at (marks_at o s 0) n)) g (tests o n)));
           inside = within_test;
         }
 
-        pub either_test : (asks : Bool) → ItemAt (language_by asks v) s g
+        pub either_test : (asks : Bool) → ItemAt (language_by asks v) s (Some g)
         either_test false = card_test
         either_test true = question_test
 
-      pub undeclared : v ≡ 0 → (asks : Bool) → ItemAt (language_by asks v) s nothing
+      pub undeclared : v ≡ 0 → (asks : Bool) → ItemAt (language_by asks v) s None
       undeclared z asks = go asks
         where
           none_starts : (o : ℕ) → (test_next (shares v) (marks_at o s 0) ≡ false) × (item_next (shares v) (marks_at o s 0) ≡ twice_next (marks_at o s 0))
           none_starts o = starts_none (shares v) (seat_next (marks_at o s 0)) (next_is "g" (marks_at o s 0)) (twice_next (marks_at o s 0)) (no_seat o) (ap (λ b. b && next_is "g" (marks_at o s 0)) (shares_none v z))
 
-          go : (asks : Bool) → ItemAt (language_by asks v) s nothing
-          go false = record { read = λ o n p. item_if (cards v) o s n p nothing (test_next (shares v) (marks_at o s 0)) false (none_starts o).0 refl; inside = nowhere s }
+          go : (asks : Bool) → ItemAt (language_by asks v) s None
+          go false = record { read = λ o n p. item_if (cards v) o s n p None (test_next (shares v) (marks_at o s 0)) false (none_starts o).0 tt; inside = tt }
           go true = record {
-            read = λ o n p. item_if (questions v) o s n p nothing (item_next (shares v) (marks_at o s 0)) false ((none_starts o).1 ∙ no_twice o) refl;
-            inside = nowhere s;
+            read = λ o n p. item_if (questions v) o s n p None (item_next (shares v) (marks_at o s 0)) false ((none_starts o).1 ∙ no_twice o) tt;
+            inside = tt;
           }
 
     -- ---- neither
@@ -364,54 +378,46 @@ module _ (v : ℕ) (s : List ℕ) (w : Step) (step : w ≡ step_at s 0) where
       neither : (o : ℕ) → (test_next (shares v) (marks_at o s 0) ≡ false) × (item_next (shares v) (marks_at o s 0) ≡ twice_next (marks_at o s 0))
       neither o = starts_none (shares v) (seat_next (marks_at o s 0)) (next_is "g" (marks_at o s 0)) (twice_next (marks_at o s 0)) (no_seat o) (number_nowhere o)
 
-      pub card_nothing : ItemAt (cards v) s nothing
-      card_nothing = record { read = λ o n p. item_if (cards v) o s n p nothing (test_next (shares v) (marks_at o s 0)) false (neither o).0 refl; inside = nowhere s }
+      pub card_nothing : ItemAt (cards v) s None
+      card_nothing = record { read = λ o n p. item_if (cards v) o s n p None (test_next (shares v) (marks_at o s 0)) false (neither o).0 tt; inside = tt }
 
       module _ (t : Bool) (looks : (o : ℕ) → t ≡ twice_next (marks_at o s 0)) where
-        pub question_one : t ≡ true → (g : Grouped) → ((o n : ℕ) (p : Place) → OneRead o s n p (exactly_of p (at (marks_at o s 0) n)) g) → ItemAt (questions v) s g
+        pub question_one : t ≡ true → (g : Answer Grouped ℕ) → ((o n : ℕ) (p : Place) → OneRead o s n p (exactly_of p (at (marks_at o s 0) n)) g) → ItemAt (questions v) s (Some g)
         question_one e g answers = record {
-          read = λ o n p. item_if (questions v) o s n p g (item_next (shares v) (marks_at o s 0)) true ((neither o).1 ∙ sym (looks o) ∙ e)
+          read = λ o n p. item_if (questions v) o s n p (Some g) (item_next (shares v) (marks_at o s 0)) true ((neither o).1 ∙ sym (looks o) ∙ e)
               (rw (number_as o ∙ ne_eqb w.mark.kind (kind "g") h, no_seat o) (one_asked v o s n p (exactly_of p (at (marks_at o s 0) n)) g (answers o n p)));
           inside = one_inside s (exactly_of [] (at (marks_at 0 s 0) 0)) g (answers 0 0 []);
         }
 
-        pub question_nothing : t ≡ false → ItemAt (questions v) s nothing
+        pub question_nothing : t ≡ false → ItemAt (questions v) s None
         question_nothing e = record {
-          read = λ o n p. item_if (questions v) o s n p nothing (item_next (shares v) (marks_at o s 0)) false ((neither o).1 ∙ sym (looks o) ∙ e) refl;
-          inside = nowhere s;
+          read = λ o n p. item_if (questions v) o s n p None (item_next (shares v) (marks_at o s 0)) false ((neither o).1 ∙ sym (looks o) ∙ e) tt;
+          inside = tt;
         }
 
--- ---- by the number of the language
+-- ---- in the language that is told
 
-module _ {s : List ℕ} {g : Grouped} (language : ℕ) where
-  pub by_flag : (b : Bool) → b ≡ asks_by language → ItemAt (language_by b (values_by language)) s g → ItemAt (language_of language) s g
-  by_flag b e h = subst (λ (z : Bool). ItemAt (language_by z (values_by language)) s g) e h
+module _ {s : List ℕ} {g : Option (Answer Grouped ℕ)} (l : Spoken) where
+  pub of_card : l.question ≡ false → ItemAt (cards l.values) s g → ItemAt (language_of l) s g
+  of_card e h = rw e h
 
-  pub by_values : (v : ℕ) → v ≡ values_by language → ItemAt (language_by (asks_by language) v) s g → ItemAt (language_of language) s g
-  by_values v e h = subst (λ (z : ℕ). ItemAt (language_by (asks_by language) z) s g) e h
+  pub of_question : l.question ≡ true → ItemAt (questions l.values) s g → ItemAt (language_of l) s g
+  of_question e h = rw e h
 
-pub most_by : (b : Bool) (v : ℕ) → (language_by b v).most ≡ most_of v
-most_by false v = refl
-most_by true v = refl
-
-pub most_none : (language v : ℕ) → v ≡ values_by language → v ≡ 0 → 0 ≡ (language_of language).most
-most_none language v e z = go (values_by language) (sym e ∙ z) ∙ sym (most_by (asks_by language) (values_by language))
+-- the most that the shared number may be
+pub most_told : (l : Spoken) → (language_of l).most ≡ l.values - 1
+most_told l = go l.question l.values
   where
-    go : (w : ℕ) → w ≡ 0 → 0 ≡ most_of w
-    go zero h = refl
-    go (suc m) h = absurd (omega arith)
-
-pub most_some : (language v : ℕ) → v ≡ values_by language → (v ≡ 0 → ⊥) → v - 1 ≡ (language_of language).most
-most_some language v e z = ap (λ w. w - 1) e ∙ go (values_by language) (λ h. z (e ∙ h)) ∙ sym (most_by (asks_by language) (values_by language))
-  where
-    go : (w : ℕ) → (w ≡ 0 → ⊥) → w - 1 ≡ most_of w
-    go zero h = absurd (h refl)
-    go (suc m) h = omega arith
+    go : (b : Bool) (v : ℕ) → (language_by b v).most ≡ v - 1
+    go false zero = refl
+    go false (suc m) = omega arith
+    go true zero = refl
+    go true (suc m) = omega arith
 
 -- a card's language, and a question's on it
-module _ (language : ℕ) {v : ℕ} where
-  pub card_language : (asks_by language ≡ false) × (values_by language ≡ v) → language_of language ≡ cards v
+module _ (l : Spoken) {v : ℕ} where
+  pub card_language : (l.question ≡ false) × (l.values ≡ v) → language_of l ≡ cards v
   card_language t = ap₂ language_by t.0 t.1
 
-  pub question_language : (asks_by language ≡ true) × (values_by language ≡ v) → language_of language ≡ questions v
+  pub question_language : (l.question ≡ true) × (l.values ≡ v) → language_of l ≡ questions v
   question_language t = ap₂ language_by t.0 t.1

@@ -1,5 +1,4 @@
 pub mod Asked
-pub mod Keeping
 pub mod Tests
 pub mod OneLaws
 pub mod Answers

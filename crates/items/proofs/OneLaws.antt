@@ -20,19 +20,20 @@ use Rattle.reading.specs.Reader.{Place, State, at, Result, ok, stop, Reader, bin
 use Rattle.reading.specs.Group.{Literal, joint, joined}
 use Rattle.grammar.proofs.Steady.{ok≢stop}
 use Rattle.group.specs.declared.Grouped.{Grouped}
-use Rattle.group.specs.GroupRead.{no_group}
+use Rattle.std.specs.Prelude.{Result as Answer, Ok, Err}
 use Rattle.seats_seen.specs.SeatsSeen.{one_more}
-use Rattle.group.proofs.Ahead.{place_next, place_within, next_within, next_past}
+use Rattle.group.proofs.Ahead.{next_within, next_past}
 use Rattle.seats_seen.proofs.Seats.{one_counted}
 use Rattle.group.proofs.Joined.{Joining, one_stops, one_read, not_closed, closed}
-use Rattle.group.proofs.Groups.{joint_known, next_fewer, Inside, stopped_inside}
+use Rattle.group.proofs.Groups.{joint_known, found_as, stops_as, read_wrong, next_fewer}
+use Rattle.group.proofs.Literals.{stops_here}
 use Rattle.asking.specs.Question.{Item, exactly_one, relations, both, twice_next, term, exactly, TermSaid}
 use Rattle.asking.specs.Asking.{is_terms}
 use Rattle.asking.proofs.Seen.{term_seen}
 use Rattle.asking.proofs.Looking.{twice_there, term_reads, term_t}
 use Rattle.term_literals.specs.declared.TermFound.{TermFound}
-use Rattle.term_literals.specs.TermRead.{ReadTerm, StoppedTerm, TermRead}
-use Rattle.items.specs.OneRead.{OneRead}
+use Rattle.term_literals.specs.TermRead.{ReadTerm, TermOf, TermRead}
+use Rattle.items.specs.OneRead.{ReadOne, OneRead}
 use Rattle.term_literals.proofs.TermLists.{few_seats, term_first, terms_so, want_so}
 use Rattle.term_literals.proofs.TermLaws.{Terms}
 
@@ -71,33 +72,27 @@ twice_term ms n = go (term (at ms n)) refl
         seen_read ms w.pre s.marks n ls (w.said s.marks).0 s w.split (w.said s.marks).1 e
     go (stop m q) e = seen_stopped ms n m q e
 
-pub looks_twice : (s : List ℕ) (t : TermFound) → Terms s 0 1 t → (o : ℕ) → t.mixed ≡ twice_next (marks_at o s 0)
-looks_twice s t h o = go (term (at (marks_at o s 0) 0)) (h o 0) ∙ sym (twice_term (marks_at o s 0) 0)
+abbrev mixed_in : Answer TermFound ℕ → Bool
+mixed_in (Ok t) = t.mixed
+mixed_in (Err r) = false
+
+pub looks_twice : (s : List ℕ) (t : Answer TermFound ℕ) → Terms s 0 1 t → (o : ℕ) → mixed_in t ≡ twice_next (marks_at o s 0)
+looks_twice s t h o = go (term (at (marks_at o s 0) 0)) t (h o 0) ∙ sym (twice_term (marks_at o s 0) 0)
   where
-    go : (x : Result (List Literal)) → TermRead o s 0 0 1 x t → t.mixed ≡ mixed_term x
-    go (ok [] b) r = absurd r
-    go (ok (l ∷ ls) b) r = r.mixed
-    go (stop m q) r = ap (λ (u : TermFound). u.mixed) r.answer
+    go : (x : Result (List Literal)) (t : Answer TermFound ℕ) → TermRead o s 0 0 1 x t → mixed_in t ≡ mixed_term x
+    go (ok [] b) (Ok t) r = absurd r
+    go (ok (l ∷ ls) b) (Ok t) r = r.mixed
+    go (ok ls b) (Err e) r = absurd r
+    go (stop m q) (Ok t) r = absurd r
+    go (stop m q) (Err e) r = refl
 
--- ---- a term that was read, or not
+-- ---- a term that was read
 
-module _ (o : ℕ) (s : List ℕ) (from n i : ℕ) (t : TermFound) {C : Type 0} where
-  read_well : (x : Result (List Literal)) → TermRead o s from n i x t → t.stop ≡ 0
-      → ((l : Literal) (ls : List Literal) (b : State) → x ≡ ok (l ∷ ls) b → ReadTerm o s from n i l ls b t → C) → C
-  read_well (ok [] b) h z k = absurd h
-  read_well (ok (l ∷ ls) b) h z k = k l ls b refl h
-  read_well (stop m q) h z k = absurd (omega (arith, z, ap (λ (u : TermFound). u.stop) h.answer))
-
-  read_wrong : (x : Result (List Literal)) → TermRead o s from n i x t → (t.stop ≡ 0 → ⊥) → ((m : ℕ) (q : Place) → x ≡ stop m q → StoppedTerm o s m q t → C) → C
-  read_wrong (ok [] b) h z k = absurd h
-  read_wrong (ok (l ∷ ls) b) h z k = absurd (z h.went)
-  read_wrong (stop m q) h z k = k m q refl h
-
-one_as : (o : ℕ) (s : List ℕ) (n : ℕ) (p : Place) {x y : Result Item} (r : Grouped) → x ≡ y → OneRead o s n p y r → OneRead o s n p x r
-one_as o s n p r e h = rw e h
-
-no_one : (o : ℕ) (s : List ℕ) (n : ℕ) (p : Place) (m : ℕ) (q : Place) (t : TermFound) → StoppedTerm o s m q t → OneRead o s n p (stop m q) (no_group t.place)
-no_one o s n p m q t h = record { number = h.number; answer = refl; place = h.place; within = h.within }
+read_well : (o : ℕ) (s : List ℕ) (from n i : ℕ) {C : Type 0} (x : Result (List Literal)) (t : TermFound) → TermRead o s from n i x (Ok t)
+    → ((l : Literal) (ls : List Literal) (b : State) → x ≡ ok (l ∷ ls) b → ReadTerm o s from n i l ls b t → C) → C
+read_well o s from n i (ok [] b) t h k = absurd h
+read_well o s from n i (ok (l ∷ ls) b) t h k = k l ls b refl h
+read_well o s from n i (stop m q) t h k = absurd h
 
 -- ---- so far
 
@@ -121,16 +116,16 @@ pub record SoFar (s : List ℕ) (first : TermFound) (count : ℕ) (all : Bool) (
   pub counted : count ≡ min (length ((head ∷ more) ∷ later)) (suc most_seats)
   pub agreed : length ((head ∷ more) ∷ later) ≤ most_seats → 1 ≤ first.seats → all ≡ is_terms first.seats head.d 1 ((head ∷ more) ∷ later)
 
-module _ (s : List ℕ) (first : TermFound) (reads : Terms s 0 1 first) where
+module _ (s : List ℕ) where
   -- the first term was not read
-  pub first_wrong : (first.stop ≡ 0 → ⊥) → (o n : ℕ) (p : Place) → OneRead o s n p (whole s o n p) (no_group first.place)
-  first_wrong z o n p =
-      read_wrong o s 0 n 1 first (term (at (marks_at o s 0) n)) (reads o n) z
-      (λ m q e h. one_as o s n p (no_group first.place) (ap (λ y. bind y (behind_first p)) e) (no_one o s n p m q first h))
+  pub first_wrong : (r : ℕ) → Terms s 0 1 (Err r) → (o n : ℕ) (p : Place) → OneRead o s n p (whole s o n p) (Err r)
+  first_wrong r reads o n p =
+      read_wrong (TermOf o s 0 n 1) o s (term (at (marks_at o s 0) n)) r (reads o n)
+      (λ m q e h. stops_as (ReadOne o s n p) o s r (ap (λ y. bind y (behind_first p)) e) h)
 
-  first_read : first.stop ≡ 0 → (o n : ℕ) (p : Place) → SoFar s first 1 first.due first.next o n p
-  first_read z o n p =
-      read_well o s 0 n 1 first (term (at (marks_at o s 0) n)) (reads o n) z
+  first_read : (first : TermFound) → Terms s 0 1 (Ok first) → (o n : ℕ) (p : Place) → SoFar s first 1 first.due first.next o n p
+  first_read first reads o n p =
+      read_well o s 0 n 1 (term (at (marks_at o s 0) n)) first (reads o n)
       (λ l ls b g h. record {
         head = l;
         more = ls;
@@ -153,20 +148,20 @@ module _ (s : List ℕ) (first : TermFound) (count : ℕ) (all : Bool) (c : ℕ)
   abbrev next : ℕ
   next = (step_at s c).next.at
 
-  module _ (joined-here : (step_at s c).mark.kind ≡ kind (joint any)) (i : ℕ) (more : TermFound) (reads : Terms s next i more) where
-    no_more : (more.stop ≡ 0 → ⊥) → OneRead o s n p (whole s o n p) (no_group more.place)
-    no_more z =
-        read_wrong o s next n i more (term (at (marks_at o s next) n)) (reads o n) z
-        (λ m q e h. one_as o s n p (no_group more.place)
+  module _ (joined-here : (step_at s c).mark.kind ≡ kind (joint any)) (i : ℕ) where
+    no_more : (r : ℕ) → Terms s next i (Err r) → OneRead o s n p (whole s o n p) (Err r)
+    no_more r reads =
+        read_wrong (TermOf o s next n i) o s (term (at (marks_at o s next) n)) r (reads o n)
+        (λ m q e h. stops_as (ReadOne o s n p) o s r
         (one_stops term (joint any) (as_item p) (joint_known true) (whole s o n p) o s n terms c so.joining joined-here m q e)
-        (no_one o s n p m q more h))
+        h)
 
-    abbrev goes_on : ℕ → Bool
-    goes_on d = all && (more.due && (eqb more.d d && eqb more.seats first.seats))
+    abbrev goes_on : TermFound → ℕ → Bool
+    goes_on more d = all && (more.due && (eqb more.d d && eqb more.seats first.seats))
 
-    one_further : i ≡ one_more count → more.stop ≡ 0 → SoFar s first (one_more count) (goes_on first.d) more.next o n p
-    one_further number z =
-        read_well o s next n i more (term (at (marks_at o s next) n)) (reads o n) z
+    one_further : (more : TermFound) → Terms s next i (Ok more) → i ≡ one_more count → SoFar s first (one_more count) (goes_on more first.d) more.next o n p
+    one_further more reads number =
+        read_well o s next n i (term (at (marks_at o s next) n)) more (reads o n)
         (λ l ls b g r. record {
           head = so.head;
           more = so.more;
@@ -180,31 +175,24 @@ module _ (s : List ℕ) (first : TermFound) (count : ℕ) (all : Bool) (c : ℕ)
           agreed = λ few least.
               let long = length-append terms ((l ∷ ls) ∷ []) in
               let nth = one_counted count terms (l ∷ ls) so.counted in
-              ap goes_on so.read.d
+              ap (goes_on more) so.read.d
               ∙ terms_so first.seats least (few_seats first.seats (so.head ∷ so.more) so.read.seats) all more.due so.head.d i more.d more.seats terms l ls
               (so.agreed (omega (arith, long)) least) r.due r.d r.seats (omega (arith, long, nth));
         })
 
   module _ (other : (step_at s c).mark.kind ≡ kind (joint any) → ⊥) where
-    stays_open : ((step_at s c).mark.kind ≡ kind ")" → ⊥) → OneRead o s n p (whole s o n p) (no_group (step_at s c).mark.place)
+    stays_open : ((step_at s c).mark.kind ≡ kind ")" → ⊥) → OneRead o s n p (whole s o n p) (Err (step_at s c).mark.place)
     stays_open h =
-        one_as o s n p (no_group (step_at s c).mark.place)
+        stops_as (ReadOne o s n p) o s (step_at s c).mark.place
         (not_closed term (joint any) (as_item p) (joint_known true) (whole s o n p) o s n terms c so.joining other h)
-        (record {
-          number = refl;
-          answer = refl;
-          place = place_next o s (step_at s c) (marks_at o s c) (meet o s c);
-          within = place_within o s (step_at s c) (marks_at o s c) (meet o s c);
-        })
+        (stops_here o s c)
 
     closes : (step_at s c).mark.kind ≡ kind ")" → (w node : ℕ) → w ≡ (when all && eqb count first.seats then count else 0) → node ≡ leaf_number (one (min first.d numbers))
-        → OneRead o s n p (whole s o n p) (record { stop = 0; place = 0; next = (step_at s c).next.at; want = w; kind = one_kind; node = node; d = first.d; first = first.first })
+        → OneRead o s n p (whole s o n p) (Ok (record { next = (step_at s c).next.at; want = w; kind = one_kind; node = node; d = first.d; first = first.first }))
     closes h w node we ne =
-        one_as o s n p _
+        found_as (ReadOne o s n p) o s _
         (closed term (joint any) (as_item p) (joint_known true) (whole s o n p) o s n terms c so.joining other h)
         (record {
-          went = refl;
-          place = refl;
           rest = refl;
           left = refl;
           head = so.head;
@@ -228,37 +216,37 @@ pub record Turning (s : List ℕ) (first : TermFound) (count : ℕ) (all : Bool)
   pub step : ahead ≡ step_at s c
   pub so : (o n : ℕ) (p : Place) → SoFar s first count all c o n p
 
-abbrev pub Answers : List ℕ → Grouped → Type 0
+abbrev pub Answers : List ℕ → Answer Grouped ℕ → Type 0
 Answers s r = (o n : ℕ) (p : Place) → OneRead o s n p (whole s o n p) r
 
 module _ (s : List ℕ) (first : TermFound) where
-  pub begins : Terms s 0 1 first → first.stop ≡ 0 → (ahead : Step) → ahead ≡ step_at s first.next → Turning s first 1 first.due ahead
-  begins reads z ahead step = record { c = first.next; step = step; so = first_read s first reads z }
+  pub begins : Terms s 0 1 (Ok first) → (ahead : Step) → ahead ≡ step_at s first.next → Turning s first 1 first.due ahead
+  begins reads ahead step = record { c = first.next; step = step; so = first_read s first reads }
 
 module _ {s : List ℕ} {first : TermFound} {count : ℕ} {all : Bool} {ahead : Step} (t : Turning s first count all ahead) where
-  module _ (joined-here : ahead.mark.kind ≡ kind (joint any)) (i : ℕ) (more : TermFound) (reads : Terms s ahead.next.at i more) where
+  module _ (joined-here : ahead.mark.kind ≡ kind (joint any)) (i : ℕ) where
     joined_there : (step_at s t.c).mark.kind ≡ kind (joint any)
     joined_there = ap (λ (u : Step). u.mark.kind) (sym t.step) ∙ joined-here
 
-    reads_there : Terms s (step_at s t.c).next.at i more
-    reads_there = rw t.step at reads
+    reads_there : (r : Answer TermFound ℕ) → Terms s ahead.next.at i r → Terms s (step_at s t.c).next.at i r
+    reads_there r reads = rw t.step at reads
 
-    pub turn_wrong : (more.stop ≡ 0 → ⊥) → Answers s (no_group more.place)
-    turn_wrong z o n p = no_more s first count all t.c o n p (t.so o n p) joined_there i more reads_there z
+    pub turn_wrong : (r : ℕ) → Terms s ahead.next.at i (Err r) → Answers s (Err r)
+    turn_wrong r reads o n p = no_more s first count all t.c o n p (t.so o n p) joined_there i r (reads_there (Err r) reads)
 
-    module _ (z : more.stop ≡ 0) (last : Step) (step : last ≡ step_at s more.next) where
+    module _ (more : TermFound) (reads : Terms s ahead.next.at i (Ok more)) (last : Step) (step : last ≡ step_at s more.next) where
       pub turn_on : i ≡ one_more count → (count2 : ℕ) → count2 ≡ one_more count → (all2 : Bool) → all2 ≡ (all && (more.due && (eqb more.d first.d && eqb more.seats first.seats)))
           → Turning s first count2 all2 last
       turn_on number count2 e all2 f = rw (e, f) (record {
         c = more.next;
         step = step;
-        so = λ o n p. one_further s first count all t.c o n p (t.so o n p) joined_there i more reads_there number z;
+        so = λ o n p. one_further s first count all t.c o n p (t.so o n p) joined_there i more (reads_there (Ok more) reads) number;
       })
 
       -- fewer marks are left
       pub turn_less : length (marks_at 0 s last.next.at) < length (marks_at 0 s ahead.next.at)
       turn_less =
-          read_well 0 s ahead.next.at 0 i more (term (at (marks_at 0 s ahead.next.at) 0)) (reads 0 0) z
+          read_well 0 s ahead.next.at 0 i (term (at (marks_at 0 s ahead.next.at) 0)) more (reads 0 0)
           (λ l ls b g r. omega (arith, r.fewer, behind_last))
         where
           behind_last : length (marks_at 0 s last.next.at) ≤ length (marks_at 0 s more.next)
@@ -268,18 +256,9 @@ module _ {s : List ℕ} {first : TermFound} {count : ℕ} {all : Bool} {ahead : 
     other_there : (step_at s t.c).mark.kind ≡ kind (joint any) → ⊥
     other_there e = other (ap (λ (u : Step). u.mark.kind) t.step ∙ e)
 
-    pub ends_open : (ahead.mark.kind ≡ kind ")" → ⊥) → Answers s (no_group ahead.mark.place)
+    pub ends_open : (ahead.mark.kind ≡ kind ")" → ⊥) → Answers s (Err ahead.mark.place)
     ends_open h o n p = rw t.step (stays_open s first count all t.c o n p (t.so o n p) other_there (rw t.step at h))
 
     pub ends_closed : ahead.mark.kind ≡ kind ")" → (w node : ℕ) → w ≡ (when all && eqb count first.seats then count else 0) → node ≡ leaf_number (one (min first.d numbers))
-        → Answers s (record { stop = 0; place = 0; next = ahead.next.at; want = w; kind = one_kind; node = node; d = first.d; first = first.first })
+        → Answers s (Ok (record { next = ahead.next.at; want = w; kind = one_kind; node = node; d = first.d; first = first.first }))
     ends_closed h w node we ne o n p = rw t.step (closes s first count all t.c o n p (t.so o n p) other_there (rw t.step at h) w node we ne)
-
--- ---- the places in an answer lie in the part
-
-inside_answer : (o : ℕ) (s : List ℕ) (n : ℕ) (p : Place) (x : Result Item) (r : Grouped) → OneRead o s n p x r → Inside s r
-inside_answer o s n p (ok x b) r h = record { place = omega (arith, h.place); next = h.next_within; first = h.first_within }
-inside_answer o s n p (stop m q) r h = stopped_inside o s m q r h
-
-pub inside : (s : List ℕ) (r : Grouped) → Answers s r → Inside s r
-inside s r h = inside_answer 0 s 0 [] (whole s 0 0 []) r (h 0 0 [])

@@ -2,7 +2,8 @@
 -- Assumes nothing.
 use Prim.Native.Nat.{ℕ, zero, suc, ◌+◌, ◌-◌, ◌≤◌, ◌<◌}
 use Prim.Native.String.{String}
-use mathlib.Core.Path.{◌≡◌, refl, sym, ap, ◌∙◌}
+use mathlib.Core.Path.{◌≡◌, refl, sym, ap, ◌∙◌, subst}
+use Rattle.group.specs.Found.{Found}
 use mathlib.Core.Bool.{Bool, true, false}
 use mathlib.Core.List.{List}
 use native.Mathlib.Nat.{zero-add, add-zero}
@@ -25,14 +26,16 @@ use Rattle.reading.specs.Guard.{if_ahead, expression, grouped}
 use Rattle.reading.specs.Judgements.{unless}
 use Rattle.group.specs.declared.Grouped.{Grouped}
 use Rattle.late.specs.Late.{Late, blamed}
-use Rattle.late.specs.State.{left_in, free_in, late_in, After, after}
+use Rattle.late.specs.State.{left_in, free_in, late_in, After, after, Halted}
+use Rattle.late.specs.declared.state.State.{State as Carried}
 use Rattle.group.proofs.Signs.{Known}
-use Rattle.group.proofs.Ahead.{fits, unfit, next_is_law, sign_next, place_next, next_within, next_past}
+use Rattle.group.proofs.Ahead.{fits, unfit, next_is_law, sign_next, place_next, next_within}
 use Rattle.items.specs.Language.{Language}
-use Rattle.items.specs.KeptItems.{wanted_by, bound_by, LaidAt}
-use Rattle.items.specs.Items.{Inside, ReadItem, ItemRead, no_item, ItemIf, ItemAt}
-use Rattle.items.specs.GuardRead.{Read, GuardRead}
-use Rattle.items.specs.Pieces.{Guards, unary_in, then_close, NoItem, ItemKept}
+use Rattle.items.specs.KeptItems.{wanted_by, bound_by, Kept}
+use Rattle.items.specs.Items.{ReadItem, ItemRead, ItemIf, ItemAt}
+use Rattle.std.specs.Prelude.{Some, None, Result as Answer, Ok, Err}
+use Rattle.items.specs.GuardRead.{GuardRead}
+use Rattle.items.specs.Pieces.{Guards, unary_in, then_close, NoItem}
 
 -- ---- marks of the whole card
 
@@ -110,49 +113,51 @@ module _ (L : Language) where
   abbrev bound_of : Grouped → ℕ → ℕ
   bound_of g k = bound_by L.most g.kind k
 
-  -- the item of the answer g behind its bracket: read from the part of the card s from place q on
-  module _ (s : List ℕ) (q p k : ℕ) (l : q ≤ length s) (was is state : List ℕ) (g : Grouped) (r : After) (laid : LaidAt g q p (bound_of g k) was is state r) (bracket : Place) (place : place_of (length s) bracket ≡ p) where
-    abbrev Lays : Type 0
-    Lays = GuardRead L s k was is (free_in state) (late_in state) (grouped L.item bracket (at (marks_at 0 s q) (left_in state))) r
+  -- an item behind its bracket: read from the part of the card s from place q on
+  module _ (s : List ℕ) (q p k : ℕ) (l : q ≤ length s) (was is : List ℕ) (state : Carried) (bracket : Place) (place : place_of (length s) bracket ≡ p) where
+    abbrev Lays : After → Type 0
+    Lays r = GuardRead L s k was is (free_in state) (late_in state) (grouped L.item bracket (at (marks_at 0 s q) (left_in state))) r
 
     -- where it was read: the answer's places are the card's
     long : q + length (drop q s) ≡ length s
     long = omega (arith, length-drop q s)
 
-    read_well : (a : L.Item) (b : State) → (left_in state ≡ 0 → ⊥) → ReadItem L q (drop q s) (left_in state - 1) bracket a b g → Read L s k was is (free_in state) (late_in state) (atom a) b r
-    read_well a b some h =
-        let kept = laid.well some h.went in
-        record {
-          went = λ n. h.past (omega (arith, kept.next));
-          rest = ap (marks_at 0 s) kept.next ∙ sym (part_of_card q s g.next l) ∙ h.rest;
-          free = kept.judged.free;
-          left = kept.judged.left ∙ sym h.left;
-          late =
-              kept.judged.late
-              ∙ ap (λ n. blamed (unless (leb g.d (bound_of g k)) above_top) (q + g.first) (wanted_by g.kind g.want n (late_in state))) (sym place ∙ ap (λ e. place_of e bracket) (sym long))
-              ∙ sym (h.judged k (late_in state))
-              ∙ ap (λ e. L.judged k e a (late_in state)) long;
-          nodes = kept.nodes ∙ ap (set was (free_in state)) h.node ∙ sym (stored_leaf was (free_in state) (L.leaf a));
-          sized = kept.judged.sized;
-        }
+    -- no node is left for it
+    laid_full : (r : After) → left_in state ≡ 0 → Halted past_limit p r → Lays r
+    laid_full r e h =
+        read_as s k was is (free_in state) (late_in state) r (none_left bracket (marks_at 0 s q) (left_in state) (L.item bracket >>= then_atom) e)
+        (rw place h)
 
-    item_laid : ((n : ℕ) → ItemRead L q (drop q s) n bracket (L.item bracket (at (marks_at 0 s q) n)) g) → Lays
-    item_laid reads = go (left_in state) refl
-      where
-        some_left : (left_in state ≡ 0 → ⊥) → (y : Result L.Item) → ItemRead L q (drop q s) (left_in state - 1) bracket y g → GuardRead L s k was is (free_in state) (late_in state) (bind y then_atom) r
-        some_left some (ok a b) h = read_well a b some h
-        some_left some (stop m ms) h =
-            rw (h.number, ap (λ e. place_of e ms) (sym long) ∙ h.place)
-            (laid.wrong some (λ z. omega (arith, z, ap (λ (u : Grouped). u.stop) h.answer)))
+    module _ (some : left_in state ≡ 0 → ⊥) where
+      some_left : (r : After) → GuardRead L s k was is (free_in state) (late_in state) (bind (L.item bracket (at (marks_at 0 s q) (left_in state - 1))) then_atom) r → Lays r
+      some_left r h = read_as s k was is (free_in state) (late_in state) r (spent bracket (marks_at 0 s q) (left_in state) (L.item bracket >>= then_atom) some) h
 
-        go : (n : ℕ) → left_in state ≡ n → Lays
-        go zero e =
-            read_as s k was is (free_in state) (late_in state) r (none_left bracket (marks_at 0 s q) (left_in state) (L.item bracket >>= then_atom) e)
-            (rw place (laid.full e))
-        go (suc m) e =
-            let some : left_in state ≡ 0 → ⊥ = λ z. omega (arith, e, z) in
-            read_as s k was is (free_in state) (late_in state) r (spent bracket (marks_at 0 s q) (left_in state) (L.item bracket >>= then_atom) some)
-            (some_left some (L.item bracket (at (marks_at 0 s q) (left_in state - 1))) (reads (left_in state - 1)))
+      -- it is out of shape
+      laid_wrong : (r : After) (e : ℕ) → ItemRead L q (drop q s) (left_in state - 1) bracket (L.item bracket (at (marks_at 0 s q) (left_in state - 1))) (Err e) → Halted out_of_shape (q + e) r → Lays r
+      laid_wrong r e h halted = some_left r (go (L.item bracket (at (marks_at 0 s q) (left_in state - 1))) h)
+        where
+          go : (y : Result L.Item) → ItemRead L q (drop q s) (left_in state - 1) bracket y (Err e) → GuardRead L s k was is (free_in state) (late_in state) (bind y then_atom) r
+          go (ok a b) h = absurd h
+          go (stop m ms) h = rw (h.number, ap (λ e. place_of e ms) (sym long) ∙ h.place) halted
+
+      -- it is kept
+      laid_well : (g : Grouped) → ItemRead L q (drop q s) (left_in state - 1) bracket (L.item bracket (at (marks_at 0 s q) (left_in state - 1))) (Ok g)
+          → (behind : Carried) → Kept g q p (bound_of g k) was is state behind → Lays (after behind (Ok (q + g.next)))
+      laid_well g h behind kept = some_left (after behind (Ok (q + g.next))) (go (L.item bracket (at (marks_at 0 s q) (left_in state - 1))) h)
+        where
+          go : (y : Result L.Item) → ItemRead L q (drop q s) (left_in state - 1) bracket y (Ok g) → GuardRead L s k was is (free_in state) (late_in state) (bind y then_atom) (after behind (Ok (q + g.next)))
+          go (ok a b) h = record {
+            rest = sym (part_of_card q s g.next l) ∙ h.rest;
+            free = kept.judged.free;
+            left = kept.judged.left ∙ sym h.left;
+            late =
+                kept.judged.late
+                ∙ ap (λ n. blamed (unless (leb g.d (bound_of g k)) above_top) (q + g.first) (wanted_by g.kind g.want n (late_in state))) (sym place ∙ ap (λ e. place_of e bracket) (sym long))
+                ∙ sym (h.judged k (late_in state))
+                ∙ ap (λ e. L.judged k e a (late_in state)) long;
+            nodes = kept.nodes ∙ ap (set was (free_in state)) h.node ∙ sym (stored_leaf was (free_in state) (L.leaf a));
+          }
+          go (stop m ms) h = absurd h
 
   -- ---- a unary
 
@@ -183,76 +188,34 @@ module _ (L : Language) where
     bracket_item zero h = ahead_yes (grouped L.item p) (refuse_at past_limit p) behind L.starts h
     bracket_item (suc d) h = ahead_yes (grouped L.item p) (expression (unary_in L d) >>= then_close) behind L.starts h
 
-  item_some : (o : ℕ) (s : List ℕ) (n : ℕ) (p : Place) (y : Result L.Item) (g : Grouped) → ItemRead L o s n p y g → g.stop ≡ no_item → ⊥
-  item_some o s n p (ok a b) g h e = omega (arith, h.went, e)
-  item_some o s n p (stop m ms) g h e = omega (arith, e, ap (λ (u : Grouped). u.stop) h.answer)
-
   -- what the code found behind a bracket, in the part that it lent
-  module _ (s : List ℕ) (q : ℕ) (l : q ≤ length s) (g : Grouped) (found : ItemAt L (drop q s) g) where
-    rest_marks : marks_at q (drop q s) 0 ≡ marks_at 0 s q
-    rest_marks = part_of_card q s 0 l ∙ ap (marks_at 0 s) (add-zero q)
+  module _ (s : List ℕ) (q : ℕ) (l : q ≤ length s) (part : List ℕ) (same : part ≡ drop q s) where
+    rest_marks : marks_at q part 0 ≡ marks_at 0 s q
+    rest_marks = ap (λ t. marks_at q t 0) same ∙ part_of_card q s 0 l ∙ ap (marks_at 0 s) (add-zero q)
 
-    starts_as : L.starts (marks_at q (drop q s) 0) ≡ L.starts (marks_at 0 s q)
-    starts_as = ap L.starts rest_marks
+    module _ (r : Answer Grouped ℕ) (found : ItemAt L part (Some r)) where
+      pub item_starts : L.starts (marks_at 0 s q) ≡ true
+      item_starts = sym (ap L.starts rest_marks) ∙ go (L.starts (marks_at q part 0)) (found.read q 0 (marks_at 0 s q))
+        where
+          go : (b : Bool) → ItemIf L q part 0 (marks_at 0 s q) b (Some r) → b ≡ true
+          go true h = refl
+          go false h = absurd h
 
-    if_starts : (b : Bool) → L.starts (marks_at 0 s q) ≡ b → (n : ℕ) (p : Place) → ItemIf L q (drop q s) n p b g
-    if_starts b e n p = go (L.starts (marks_at q (drop q s) 0)) (starts_as ∙ e) (found.read q n p)
+      pub item_reads : (n : ℕ) (p : Place) → ItemRead L q (drop q s) n p (L.item p (at (marks_at 0 s q) n)) r
+      item_reads n p =
+          subst (λ (t : List ℕ). Found (ReadItem L q t n p) q t (L.item p (at (marks_at 0 s q) n)) r) same
+          (subst (λ (m : Place). ItemRead L q part n p (L.item p (at m n)) r) rest_marks (go (L.starts (marks_at q part 0)) (found.read q n p)))
+        where
+          go : (b : Bool) → ItemIf L q part n p b (Some r) → ItemRead L q part n p (L.item p (at (marks_at q part 0) n)) r
+          go true h = h
+          go false h = absurd h
+
+    pub item_none : ItemAt L part None → L.starts (marks_at 0 s q) ≡ false
+    item_none found = sym (ap L.starts rest_marks) ∙ go (L.starts (marks_at q part 0)) (found.read q 0 (marks_at 0 s q))
       where
-        go : (a : Bool) → a ≡ b → ItemIf L q (drop q s) n p a g → ItemIf L q (drop q s) n p b g
-        go a e h = rw e at h
-
-    item_starts : (g.stop ≡ no_item → ⊥) → L.starts (marks_at 0 s q) ≡ true
-    item_starts h = go (L.starts (marks_at 0 s q)) (λ b e. if_starts b e 0 (marks_at 0 s q))
-      where
-        go : (b : Bool) → ((c : Bool) → b ≡ c → ItemIf L q (drop q s) 0 (marks_at 0 s q) c g) → b ≡ true
-        go true f = refl
-        go false f = absurd (h (f false refl))
-
-    item_none : g.stop ≡ no_item → L.starts (marks_at 0 s q) ≡ false
-    item_none h = go (L.starts (marks_at 0 s q)) (λ b e. if_starts b e 0 (marks_at 0 s q))
-      where
-        go : (b : Bool) → ((c : Bool) → b ≡ c → ItemIf L q (drop q s) 0 (marks_at 0 s q) c g) → b ≡ false
-        go true f = absurd (item_some q (drop q s) 0 (marks_at 0 s q) (L.item (marks_at 0 s q) (at (marks_at q (drop q s) 0) 0)) g (f true refl) h)
-        go false f = refl
-
-    item_reads : (g.stop ≡ no_item → ⊥) → (p : Place) (n : ℕ) → ItemRead L q (drop q s) n p (L.item p (at (marks_at 0 s q) n)) g
-    item_reads h p n = rw (← rest_marks) (if_starts true (item_starts h) n p)
-
-    past_of : (n : ℕ) (p : Place) (y : Result L.Item) → ItemRead L q (drop q s) n p y g → g.stop ≡ 0 → g.next ≡ 0 → ⊥
-    past_of n p (ok a b) h e z = h.past z
-    past_of n p (stop m ms) h e z = omega (arith, e, ap (λ (u : Grouped). u.stop) h.answer)
-
-    -- the next place is none of the numbers that stand for no item and for a stop
-    laid_past : (g.stop ≡ no_item → ⊥) → (q ≡ 0 → ⊥) → (p k : ℕ) (was is state : List ℕ) (r : After) → LaidAt g q p k was is state r → r.next ≡ no_item → ⊥
-    laid_past h some p k was is state r laid e = go (left_in state) refl g.stop refl
-      where
-        nonzero : (n : ℕ) → (n ≡ 0 → ⊥) → 1 ≤ n
-        nonzero zero f = absurd (f refl)
-        nonzero (suc n) f = omega arith
-
-        go : (n : ℕ) → left_in state ≡ n → (m : ℕ) → g.stop ≡ m → ⊥
-        go zero f m i = omega (arith, e, (laid.full f).none)
-        go (suc n) f (suc m) i = omega (arith, e, (laid.wrong (λ z. omega (arith, f, z)) (λ z. omega (arith, i, z))).none)
-        go (suc n) f zero i =
-            past_of 0 (marks_at 0 s q) (L.item (marks_at 0 s q) (at (marks_at 0 s q) 0)) (item_reads h (marks_at 0 s q) 0) i
-            (omega (arith, e, (laid.well (λ z. omega (arith, f, z)) i).next, nonzero q some))
-
-  -- what the code found in the part that it lent
-  module _ (s : List ℕ) (q : ℕ) (l : q ≤ length s) (part : List ℕ) (same : part ≡ drop q s) (g : Grouped) (item : ItemAt L part g) where
-    found : ItemAt L (drop q s) g
-    found = rw same at item
-
-    bracket_items : (g.stop ≡ no_item → ⊥) → (p depth k : ℕ) (was is state : List ℕ) (r : After) → LaidAt g q p (bound_of g k) was is state r
-        → Bracketed s q p (left_in state) depth k was is (free_in state) (late_in state) r
-    bracket_items h p depth k was is state r laid bracket e =
-        read_as s k was is (free_in state) (late_in state) r (bracket_item s q (left_in state) bracket depth (item_starts s q l g found h))
-        (item_laid s q p k l was is state g r laid bracket e (item_reads s q l g found h bracket))
-
-    past_item : (g.stop ≡ no_item → ⊥) → (q ≡ 0 → ⊥) → (p k : ℕ) (was is state : List ℕ) (r : After) → LaidAt g q p k was is state r → r.next ≡ no_item → ⊥
-    past_item = laid_past s q l g found
-
-    starts_none : g.stop ≡ no_item → L.starts (marks_at 0 s q) ≡ false
-    starts_none = item_none s q l g found
+        go : (b : Bool) → ItemIf L q part 0 (marks_at 0 s q) b None → b ≡ false
+        go true h = absurd h
+        go false h = refl
 
   -- ---- a unary, as the code has it
 
@@ -268,27 +231,44 @@ module _ (L : Language) where
 
   -- ---- an item, as the code keeps it
 
-  module _ (s : List ℕ) (i k : ℕ) (was state : List ℕ) (a : Step) (step : a ≡ step_at s i) where
-    -- nothing has changed
-    unchanged : NoItem L s i → ItemKept L s i k was was state state no_item
-    unchanged h = record { some = λ z. absurd (z refl); none = λ _. (refl, refl, h) }
+  module _ (s : List ℕ) (i k : ℕ) (was is : List ℕ) (state : Carried) (a : Step) (step : a ≡ step_at s i) where
+    pub no_bracket : (a.mark.kind ≡ kind "(" → ⊥) → NoItem L s i
+    no_bracket h e = absurd (h (ap (λ (u : Step). u.mark.kind) step ∙ e))
 
-    pub no_bracket : (a.mark.kind ≡ kind "(" → ⊥) → ItemKept L s i k was was state state no_item
-    no_bracket h = unchanged (λ e. absurd (h (ap (λ (u : Step). u.mark.kind) step ∙ e)))
+    module _ (l : a.next.at ≤ length s) (part : List ℕ) (same : part ≡ drop a.next.at s) where
+      pub no_item : ItemAt L part None → NoItem L s i
+      no_item found e = ap (λ (u : Step). L.starts (marks_at 0 s u.next.at)) (sym step) ∙ item_none s a.next.at l part same found
 
-    module _ (l : a.next.at ≤ length s) (part : List ℕ) (same : part ≡ drop a.next.at s) (g : Grouped) (item : ItemAt L part g) where
-      pub no_item_law : g.stop ≡ no_item → ItemKept L s i k was was state state no_item
-      no_item_law h = unchanged (λ e. ap (λ (u : Step). L.starts (marks_at 0 s u.next.at)) (sym step) ∙ starts_none s a.next.at l part same g item h)
+      module _ (opens : a.mark.kind ≡ kind "(") (depth : ℕ) where
+        abbrev Unary : After → Type 0
+        Unary r = GuardRead L s k was is (free_in state) (late_in state) (unary_in L depth (at (marks_at 0 s i) (left_in state))) r
 
-      pub item_kept : a.mark.kind ≡ kind "(" → (g.stop ≡ no_item → ⊥) → (is behind : List ℕ) (r m : ℕ) → m ≡ bound_of g k → LaidAt g a.next.at a.mark.place m was is state (after behind r)
-          → ItemKept L s i k was is state behind r
-      item_kept opens h is behind r m most laid = record {
-        some = λ _ depth. reads_bracket s i (left_in state) depth k was is (free_in state) (late_in state) a step opens (after behind r)
-            (bracket_items s a.next.at l part same g item h a.mark.place depth k was is state (after behind r) (rw most at laid));
-        none = λ e. absurd (past_item s a.next.at l part same g item h
-            (λ z. next_past 0 s (step_at s i) (marks_at 0 s i) (meet 0 s i) (λ y. omega (arith, opens, ap (λ (m : Step). m.mark.kind) step, y)) (ap (λ (m : Step). m.next.at) (sym step) ∙ z))
-            a.mark.place m was is state (after behind r) laid e);
-      }
+        as_item : (r : After) → L.starts (marks_at 0 s a.next.at) ≡ true
+            → ((bracket : Place) → place_of (length s) bracket ≡ a.mark.place → GuardRead L s k was is (free_in state) (late_in state) (grouped L.item bracket (at (marks_at 0 s a.next.at) (left_in state))) r)
+            → Unary r
+        as_item r starts laid =
+            reads_bracket s i (left_in state) depth k was is (free_in state) (late_in state) a step opens r
+            (λ bracket e. read_as s k was is (free_in state) (late_in state) r (bracket_item s a.next.at (left_in state) bracket depth starts) (laid bracket e))
+
+        pub item_full : (r : After) (g : Answer Grouped ℕ) → ItemAt L part (Some g) → left_in state ≡ 0 → Halted past_limit a.mark.place r → Unary r
+        item_full r g found e h =
+            as_item r (item_starts s a.next.at l part same g found)
+            (λ bracket place. laid_full s a.next.at a.mark.place k l was is state bracket place r e h)
+
+        pub item_wrong : (r : After) (e : ℕ) → ItemAt L part (Some (Err e)) → (left_in state ≡ 0 → ⊥) → Halted out_of_shape (a.next.at + e) r → Unary r
+        item_wrong r e found some h =
+            as_item r (item_starts s a.next.at l part same (Err e) found)
+            (λ bracket place.
+            laid_wrong s a.next.at a.mark.place k l was is state bracket place some r e
+            (item_reads s a.next.at l part same (Err e) found (left_in state - 1) bracket) h)
+
+        pub item_kept : (g : Grouped) → ItemAt L part (Some (Ok g)) → (left_in state ≡ 0 → ⊥) → (m : ℕ) → m ≡ bound_of g k
+            → (behind : Carried) → Kept g a.next.at a.mark.place m was is state behind → Unary (after behind (Ok (a.next.at + g.next)))
+        item_kept g found some m most behind h =
+            as_item (after behind (Ok (a.next.at + g.next))) (item_starts s a.next.at l part same (Ok g) found)
+            (λ bracket place.
+            laid_well s a.next.at a.mark.place k l was is state bracket place some g
+            (item_reads s a.next.at l part same (Ok g) found (left_in state - 1) bracket) behind (rw most at h))
 
 -- ---- what the code's calls ask
 
@@ -301,5 +281,5 @@ module _ (s : List ℕ) (q : ℕ) (l : q ≤ length s) where
   part_is = take_all (length s - q) (drop q s) (omega (arith, length-drop q s))
 
   -- so that none of the answer's places goes past it
-  pub part_placed : (m : ℕ) → length s < m → (g : Grouped) → Inside (take (length s - q) (drop q s)) g → (q + g.place < m) × (q + g.next < m) × (q + g.first < m)
-  part_placed m h g i = let e = ap length part_is ∙ length-drop q s in (omega (arith, e, i.place), omega (arith, e, i.next), omega (arith, e, i.first))
+  pub part_placed : (m n : ℕ) → length s < m → n ≤ length (take (length s - q) (drop q s)) → q + n < m
+  part_placed m n h i = omega (arith, ap length part_is ∙ length-drop q s)

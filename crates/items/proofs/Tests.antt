@@ -17,12 +17,13 @@ use Rattle.reading.specs.Reader.{Place, State, at, Result, ok, stop, Reader, bin
 use Rattle.reading.specs.Group.{Literal, relation_of, literal, SharedTest, shared_test}
 use Rattle.grammar.specs.Grammar.{sign_at, valued}
 use Rattle.group.specs.declared.Grouped.{Grouped}
-use Rattle.group.specs.GroupRead.{no_group, StoppedGroup}
-use Rattle.group.specs.LiteralRead.{ReadLiteral, StoppedLiteral, LiteralRead}
+use Rattle.std.specs.Prelude.{Result as Answer, Ok, Err}
+use Rattle.group.specs.LiteralRead.{ReadLiteral, LiteralRead}
 use Rattle.group.proofs.Signs.{Known}
-use Rattle.group.proofs.Ahead.{fits, unfit, sign_next, place_next, place_within, next_within, next_past}
-use Rattle.group.proofs.Literals.{Reads}
-use Rattle.items.specs.SharedRead.{TestRead}
+use Rattle.group.proofs.Ahead.{fits, unfit, sign_next, next_within, next_past}
+use Rattle.group.proofs.Literals.{Reads, stops_here}
+use Rattle.group.proofs.Groups.{found_as}
+use Rattle.items.specs.SharedRead.{ReadTest, TestRead}
 
 close_known : Known ")"
 close_known = record { above = omega arith; alone = refl; same = refl }
@@ -46,58 +47,45 @@ by_literal ms n x i y = related (the relation_of (at ms n))
     related (ok q s) = numbered q s.marks (the number_of s)
     related (stop m r) = refl
 
-test_as : (o : ℕ) (s : List ℕ) (n : ℕ) (r : Grouped) {x y : Result SharedTest} → x ≡ y → TestRead o s n y r → TestRead o s n x r
-test_as o s n r e h = rw e h
-
-no_test : (o : ℕ) (s : List ℕ) (m : ℕ) (q : Place) (t : Tail) → StoppedLiteral o s m q t → StoppedGroup o s m q (no_group t.place)
-no_test o s m q t h = record { number = h.number; answer = refl; place = h.place; within = h.within }
-
 relation_small : (q : Relation) → min (relation_number q) 1 ≡ relation_number q
 relation_small is = refl
 relation_small isnt = refl
 
 -- ---- as the code finds it
 
-abbrev pub Answers : List ℕ → ℕ → Grouped → Type 0
+abbrev pub Answers : List ℕ → ℕ → Answer Grouped ℕ → Type 0
 Answers s from r = (o n x : ℕ) → TestRead o s n (shared_test (at (sign_at "g" x ∷ marks_at o s from) n)) r
 
-module _ (s : List ℕ) (from : ℕ) (t : Tail) (reads : Reads s from t) where
-  pub literal_wrong : (t.stop ≡ 0 → ⊥) → Answers s from (no_group t.place)
-  literal_wrong z o n x =
-      test_as o s n _ (by_literal (marks_at o s from) n x 0 0) (go (literal (at (placed (seat 0) 0 ∷ marks_at o s from) n)) (reads o n 0 0))
+module _ (s : List ℕ) (from : ℕ) where
+  pub literal_wrong : (e : ℕ) → Reads s from (Err e) → Answers s from (Err e)
+  literal_wrong e reads o n x =
+      found_as (ReadTest o s n) o s (Err e) (by_literal (marks_at o s from) n x 0 0) (go (literal (at (placed (seat 0) 0 ∷ marks_at o s from) n)) (reads o n 0 0))
     where
-      go : (y : Result Literal) → LiteralRead o s from n 0 y t → TestRead o s n (bind y closes) (no_group t.place)
-      go (ok l b) h = absurd (z h.went)
-      go (stop m q) h = no_test o s m q t h
+      go : (y : Result Literal) → LiteralRead o s from n 0 y (Err e) → TestRead o s n (bind y closes) (Err e)
+      go (ok l b) h = absurd h
+      go (stop m q) h = h
 
-  module _ (z : t.stop ≡ 0) (c : Step) (step : c ≡ step_at s t.next) where
-    behind : (r : Grouped) → ((o n : ℕ) (l : Literal) (b : State) → ReadLiteral o s from n 0 l b t → TestRead o s n (closes l (at (marks_at o s t.next) n)) r) → Answers s from r
+  module _ (t : Tail) (reads : Reads s from (Ok t)) (c : Step) (step : c ≡ step_at s t.next) where
+    behind : (r : Answer Grouped ℕ) → ((o n : ℕ) (l : Literal) (b : State) → ReadLiteral o s from n 0 l b t → TestRead o s n (closes l (at (marks_at o s t.next) n)) r) → Answers s from r
     behind r k o n x =
-        test_as o s n r (by_literal (marks_at o s from) n x 0 0) (go (literal (at (placed (seat 0) 0 ∷ marks_at o s from) n)) (reads o n 0 0))
+        found_as (ReadTest o s n) o s r (by_literal (marks_at o s from) n x 0 0) (go (literal (at (placed (seat 0) 0 ∷ marks_at o s from) n)) (reads o n 0 0))
       where
-        go : (y : Result Literal) → LiteralRead o s from n 0 y t → TestRead o s n (bind y closes) r
-        go (ok l b) h = test_as o s n r (ap (closes l) h.rest) (k o n l b h)
-        go (stop m q) h = absurd (omega (arith, z, ap (λ (u : Tail). u.stop) h.answer))
+        go : (y : Result Literal) → LiteralRead o s from n 0 y (Ok t) → TestRead o s n (bind y closes) r
+        go (ok l b) h = found_as (ReadTest o s n) o s r (ap (closes l) h.rest) (k o n l b h)
+        go (stop m q) h = absurd h
 
-    pub stays_open : (c.mark.kind ≡ kind ")" → ⊥) → Answers s from (no_group c.mark.place)
-    stays_open h = rw step (behind (no_group (step_at s t.next).mark.place) λ o n l b r.
+    pub stays_open : (c.mark.kind ≡ kind ")" → ⊥) → Answers s from (Err c.mark.place)
+    stays_open h = rw step (behind (Err (step_at s t.next).mark.place) λ o n l b r.
         let i = meet o s t.next in
         let e = sign_next o s ")" close_known (step_at s t.next) (marks_at o s t.next) n i ∙ unfit tt o s (step_at s t.next) (marks_at o s t.next) n (kind ")") (rw step at h) in
-        rw e (record {
-          number = refl;
-          answer = refl;
-          place = place_next o s (step_at s t.next) (marks_at o s t.next) i;
-          within = place_within o s (step_at s t.next) (marks_at o s t.next) i;
-        }))
+        rw e (stops_here o s t.next))
 
     pub closed : c.mark.kind ≡ kind ")" → (node : ℕ) → node ≡ pack_group shared_kind 0 (min t.relation 1) (min t.d numbers)
-        → Answers s from (record { stop = 0; place = 0; next = c.next.at; want = 0; kind = shared_kind; node = node; d = t.d; first = t.first })
+        → Answers s from (Ok (record { next = c.next.at; want = 0; kind = shared_kind; node = node; d = t.d; first = t.first }))
     closed h node packed = rw step (behind _ λ o n l b r.
         let i = meet o s t.next in
         let e = sign_next o s ")" close_known (step_at s t.next) (marks_at o s t.next) n i ∙ fits tt o s (step_at s t.next) (marks_at o s t.next) n (kind ")") (rw step at h) in
         rw e (record {
-          went = refl;
-          place = refl;
           rest = refl;
           left = refl;
           kind = refl;

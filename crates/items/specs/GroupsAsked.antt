@@ -7,7 +7,7 @@ use Rattle.group.specs.declared.Grouped.{Grouped}
 
 -- a group, with a want only if it is one of everyone
 abbrev pub unwanted : Grouped → Grouped
-unwanted g = record { stop = g.stop; place = g.place; next = g.next; want = 0; kind = g.kind; node = g.node; d = g.d; first = g.first }
+unwanted g = record { next = g.next; want = 0; kind = g.kind; node = g.node; d = g.d; first = g.first }
 
 abbrev pub of_all : Grouped → Grouped
 of_all g = when eqb g.kind (kind_number everyone) then g else unwanted g

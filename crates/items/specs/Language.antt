@@ -6,7 +6,7 @@ use Rattle.card.specs.Text.{when◌then◌else◌}
 use Rattle.card.specs.Card.{Leaf, one, shared_is, Formula, atom, neg, and, or, Guard}
 use Rattle.card.specs.Formulas.{over}
 use Rattle.marks_on_a_card.specs.Marks.{place_of}
-use Rattle.languages.specs.Number.{values_by, asks_by}
+use Rattle.languages.specs.declared.Language.{Language as Spoken}
 use Rattle.reading.specs.Reader.{Place, Reader}
 use Rattle.reading.specs.Guard.{test_next}
 use Rattle.reading.specs.Group.{Literal, Tested, tested}
@@ -68,14 +68,14 @@ questions values = record {
   judged = λ k e x. claim_all e (claims_of k (most_of values) x);
 }
 
--- ---- by the code's number
+-- ---- as the code tells it
 
 abbrev pub language_by : Bool → ℕ → Language
 language_by false values = cards values
 language_by true values = questions values
 
-abbrev pub language_of : ℕ → Language
-language_of language = language_by (asks_by language) (values_by language)
+abbrev pub language_of : Spoken → Language
+language_of l = language_by l.question l.values
 
 -- ---- a formula of any language
 

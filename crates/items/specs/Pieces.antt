@@ -1,5 +1,6 @@
 -- What the pieces of the guard reader promise each other: each goes on from what another has read. Assumes nothing.
-use Rattle.std.specs.Prelude.{ℕ, ◌<◌, ◌≡◌, Bool, true, false, List}
+use Rattle.std.specs.Prelude.{ℕ, ◌<◌, ◌≡◌, Bool, true, false, List, Ok, Err}
+use Rattle.items.specs.declared.Ahead.{Ahead}
 use Prim.Native.String.{String}
 use Rattle.card.specs.Limits.{most_nodes}
 use Rattle.card.specs.Card.{Formula, neg, and, or}
@@ -9,21 +10,20 @@ use Rattle.reading.specs.Reader.{at as from, Result, Reader, bind, ◌>>◌, ret
 use Rattle.reading.specs.Guard.{chain, conjunction, unary_by}
 use Rattle.reading.specs.Group.{joint}
 use Rattle.late.specs.Late.{Late}
+use Rattle.late.specs.declared.state.State.{State as Carried}
 use Rattle.late.specs.State.{left_in, free_in, late_in, After, after}
 use Rattle.group.specs.LiteralRead.{sign_in}
 use Rattle.items.specs.Language.{Language}
 use Rattle.items.specs.KeptItems.{Ready}
-use Rattle.items.specs.Items.{no_item}
 use Rattle.items.specs.GuardRead.{GuardRead}
 
 abbrev pub joiner : Bool → String
 joiner b = joint (sign_in b)
 
--- something was read, its nodes are stored, and there is room for what may follow
-pub record Begun (r : After) : Type 0 where
-  pub ready : Ready r.state
-  pub some : r.next ≡ 0 → ⊥
-  pub stored : 0 < free_in r.state
+-- something was read: its nodes are stored, and there is room for what may follow
+pub record Begun (state : Carried) : Type 0 where
+  pub ready : Ready state
+  pub stored : 0 < free_in state
 
 module _ {A : Type 0} where
   abbrev pub join_of : Bool → Formula A → Formula A → Formula A
@@ -63,6 +63,7 @@ module _ (L : Language) where
   NoItem s i = (step_at s i).mark.kind ≡ kind "(" → L.starts (marks_at 0 s (step_at s i).next.at) ≡ false
 
   -- an item that starts there is a unary, however many brackets may still be opened; where none does nothing changes
-  pub record ItemKept (s : List ℕ) (i k : ℕ) (was is state behind : List ℕ) (r : ℕ) : Type 0 where
-    pub some : (r ≡ no_item → ⊥) → (depth : ℕ) → GuardRead L s k was is (free_in state) (late_in state) (unary_in depth (from (marks_at 0 s i) (left_in state))) (after behind r)
-    pub none : r ≡ no_item → (is ≡ was) × (behind ≡ state) × NoItem s i
+  abbrev pub ItemKept : List ℕ → ℕ → ℕ → List ℕ → List ℕ → Carried → Carried → Ahead → Type 0
+  ItemKept s i k was is state behind (Ahead.Kept r) = (depth : ℕ) → GuardRead L s k was is (free_in state) (late_in state) (unary_in depth (from (marks_at 0 s i) (left_in state))) (after behind (Ok r))
+  ItemKept s i k was is state behind Ahead.NoItem = (is ≡ was) × (behind ≡ state) × NoItem s i
+  ItemKept s i k was is state behind Ahead.Stopped = (depth : ℕ) → GuardRead L s k was is (free_in state) (late_in state) (unary_in depth (from (marks_at 0 s i) (left_in state))) (after behind (Err behind.stop))

@@ -1,19 +1,17 @@
 -- What the code hands back for what reading a test of the shared number finds (document 02, 2026-10), from behind its bracket on. It is read from
 -- a part of the card that begins at place o of it; the places in the answer are the part's own. Assumes nothing.
-use Rattle.std.specs.Prelude.{ℕ, ◌+◌, ◌≤◌, ◌≡◌, List, length}
+use Rattle.std.specs.Prelude.{ℕ, ◌+◌, ◌≤◌, ◌≡◌, List, length, Result as Answer}
 use Rattle.card.specs.Card.{shared_is}
 use Rattle.card.specs.Laid.{shared_kind, leaf_number}
 use Rattle.marks_on_a_card.specs.Marks.{place_of}
 use Rattle.marks.specs.Step.{marks_at}
-use Rattle.reading.specs.Reader.{State, Result, ok, stop}
+use Rattle.reading.specs.Reader.{State, Result}
 use Rattle.reading.specs.Group.{SharedTest}
 use Rattle.group.specs.declared.Grouped.{Grouped}
-use Rattle.group.specs.GroupRead.{StoppedGroup}
+use Rattle.group.specs.Found.{Found}
 
 -- with n nodes left
 pub record ReadTest (o : ℕ) (s : List ℕ) (n : ℕ) (x : SharedTest) (behind : State) (r : Grouped) : Type 0 where
-  pub went : r.stop ≡ 0
-  pub place : r.place ≡ 0
   pub rest : marks_at o s r.next ≡ behind.marks
   pub left : behind.nodes ≡ n
   pub kind : r.kind ≡ shared_kind
@@ -25,6 +23,5 @@ pub record ReadTest (o : ℕ) (s : List ℕ) (n : ℕ) (x : SharedTest) (behind 
   pub next_within : r.next ≤ length s
   pub first_within : r.first ≤ length s
 
-abbrev pub TestRead : ℕ → List ℕ → ℕ → Result SharedTest → Grouped → Type 0
-TestRead o s n (ok x behind) r = ReadTest o s n x behind r
-TestRead o s n (stop m q) r = StoppedGroup o s m q r
+abbrev pub TestRead : ℕ → List ℕ → ℕ → Result SharedTest → Answer Grouped ℕ → Type 0
+TestRead o s n = Found (ReadTest o s n) o s

@@ -1,36 +1,33 @@
-// Which of the languages of guards is read, as one number: twice how many values the shared number has (0: none is declared), and one more for a question.
+// Which of the languages of guards is read: how many values the shared number has (0: none is declared), and whether
+// a question is read.
 #![tactic(auto)]
 
-ghost use Rattle.std.specs.Prelude.{◌≡◌, true, false, ◌≤◌};
-ghost use Rattle.card.specs.Limits.{most_shared};
-ghost use Rattle.languages.specs.Number.{values_by, asks_by};
+ghost use Rattle.std.specs.Prelude.{◌≡◌, true, false};
+
+#[derive(Clone, Copy)]
+pub struct Language {
+    pub values: usize,
+    pub question: bool,
+}
 
 // A card's, on which the shared number has so many values.
-pub fn card_language(values: usize) -> usize
-    requires { values ≤ most_shared }
-    ensures asks { asks_by result ≡ false }
-    ensures values { values_by result ≡ values }
+pub fn card_language(values: usize) -> Language
+    ensures asks { result.question ≡ false }
+    ensures values { result.values ≡ values }
 {
-    values * 2
+    Language {
+        values,
+        question: false,
+    }
 }
 
 // A question's on such a card.
-pub fn question_language(values: usize) -> usize
-    requires { values ≤ most_shared }
-    ensures asks { asks_by result ≡ true }
-    ensures values { values_by result ≡ values }
+pub fn question_language(values: usize) -> Language
+    ensures asks { result.question ≡ true }
+    ensures values { result.values ≡ values }
 {
-    card_language(values) + 1
-}
-
-pub fn values(language: usize) -> usize
-    ensures { result ≡ values_by language }
-{
-    language / 2
-}
-
-pub fn is_question(language: usize) -> bool
-    ensures { result ≡ asks_by language }
-{
-    language % 2 == 1
+    Language {
+        question: true,
+        ..card_language(values)
+    }
 }

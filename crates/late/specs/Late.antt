@@ -1,8 +1,8 @@
 -- The refusals 5, 6 and 7 on the way: reading goes on after the first of them, since a 3 or 4 further on goes before it, and whether
--- a group is symmetric is known only once the modules are counted. So the first refusal so far is kept in numbers, and how many
+-- a group is symmetric is known only once the modules are counted. So the first refusal so far is kept, and how many
 -- seats the groups before it want. Assumes nothing.
-use Rattle.std.specs.Prelude.{ℕ, suc, Bool, ◌&&◌, List, [], ◌∷◌, eqb, leb, length}
-use Rattle.std.proofs.Math.Option.{Option, none, some}
+use Rattle.std.specs.Prelude.{ℕ, suc, Bool, ◌&&◌, List, [], ◌∷◌, eqb, leb, length, Some, None, is_some}
+use Rattle.std.proofs.Math.Option.{Option as Maybe, none, some}
 use Rattle.card.specs.Limits.{most_seats}
 use Rattle.card.specs.Refusals.{not_due}
 use Rattle.card.specs.Text.{when◌then◌else◌}
@@ -10,6 +10,10 @@ use Rattle.card.specs.Card.{Kind, everyone, others, Sign, Leaf, group, shared_is
 use Rattle.card.specs.Formulas.{over}
 use Rattle.marks_on_a_card.specs.Marks.{place_of}
 use Rattle.reading.specs.Group.{Literal, Tested, of_seats, of_shared}
+use Rattle.std.specs.Prelude.{Option}
+use Rattle.std.specs.Option.{option_or}
+use Rattle.late.specs.declared.state.Groups.{Groups}
+use Rattle.late.specs.declared.state.Late.{Late as LateRow}
 use Rattle.reading.specs.Judgements.{Judgement, state, word, one_group, weight, sum, has, has_from, alike, broken}
 
 -- ---- how many seats a group wants: its seats are 1 to m, or 2 to m, once each; 0 where it is symmetric for no card
@@ -41,41 +45,30 @@ leaf_by (of_shared x) = shared_is x.relation x.value.value
 abbrev pub guard_by : Formula Tested → Guard
 guard_by g = over leaf_by g
 
--- ---- what is kept
+-- ---- what is kept: the first refusal so far that hangs on no number of seats, and the groups before it (src/state.rt)
 
--- The first refusal so far (0: none) and its place; how many seats the first group before it wants (0: no group yet), and its
--- bracket; whether a later group wants another number, and the first such group's bracket.
-pub record Late : Type 0 where
-  pub number : ℕ
-  pub place : ℕ
-  pub want : ℕ
-  pub first : ℕ
-  pub split : ℕ
-  pub second : ℕ
+abbrev pub Late : Type 0
+Late = LateRow
 
 abbrev pub none_yet : Late
-none_yet = record { number = 0; place = 0; want = 0; first = 0; split = 0; second = 0 }
+none_yet = record { refusal = None; groups = None }
 
 -- a refusal that does not hang on the number of seats
 abbrev pub blame : ℕ → ℕ → Late → Late
-blame r p x = when eqb x.number 0 then record { number = r; place = p; want = x.want; first = x.first; split = x.split; second = x.second } else x
+blame r p x = record x { refusal = option_or x.refusal (Some (record { number = r; place = p })) }
 
 -- the first group says how many seats are wanted; the first that wants another number is wrong if that is right
-abbrev pub split_at : ℕ → Late → Late
-split_at p x = record { number = x.number; place = x.place; want = x.want; first = x.first; split = 1; second = p }
+abbrev pub with_group : ℕ → ℕ → Option Groups → Groups
+with_group m p None = record { want = m; first = p; second = None }
+with_group m p (Some g) = when eqb g.want m then g else record g { second = option_or g.second (Some p) }
 
 abbrev pub wants : ℕ → ℕ → Late → Late
-wants m p x =
-    when eqb x.number 0
-    then (when eqb x.want 0
-    then record { number = 0; place = x.place; want = m; first = p; split = x.split; second = x.second }
-    else (when eqb x.want m then x else (when eqb x.split 0 then split_at p x else x)))
-    else x
+wants m p x = when is_some x.refusal then x else record x { groups = Some (with_group m p x.groups) }
 
 abbrev pub grouped : ℕ → ℕ → Late → Late
 grouped m p x = when eqb m 0 then blame not_due p x else wants m p x
 
-abbrev pub blamed : Option ℕ → ℕ → Late → Late
+abbrev pub blamed : Maybe ℕ → ℕ → Late → Late
 blamed none p x = x
 blamed (some r) p x = blame r p x
 

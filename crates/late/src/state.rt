@@ -1,43 +1,43 @@
-// The state of reading a card, which the readers lend each other as one array of numbers; specs/State.antt has the same places for the
-// contracts.
+// The state of reading a card, which the readers lend each other.
+use card::Refusal;
 
-// The first refusal of 5, 6 and 7 so far (0: none) and its place.
-pub const LATE: usize = 0;
+// The groups that are each symmetric for one number of seats only: how many the first of them wants, and its bracket;
+// and the bracket of the first that wants another number.
+#[derive(Clone, Copy)]
+pub struct Groups {
+    pub want: usize,
+    pub first: usize,
+    pub second: Option<usize>,
+}
 
-pub const LATE_PLACE: usize = 1;
+// The first refusal of 5, 6 and 7 so far that does not hang on the number of seats, and the groups before it.
+#[derive(Clone, Copy)]
+pub struct Late {
+    pub refusal: Option<Refusal>,
+    pub groups: Option<Groups>,
+}
 
-// How many seats the first group before it wants (0: no group yet), and its bracket.
-pub const WANT: usize = 2;
+// The reader of a guard stopped, and the refusal stands in the lent state: so its answer fits two registers, and a
+// bracket takes less stack than with the refusal in it.
+#[derive(Clone, Copy)]
+pub struct Stopped;
 
-pub const FIRST: usize = 3;
-
-// Whether a later group wants another number, and the first such group's bracket.
-pub const SPLIT: usize = 4;
-
-pub const SECOND: usize = 5;
-
-// The refusal that reading stopped with, and its place.
-pub const STOP: usize = 6;
-
-pub const STOP_PLACE: usize = 7;
-
-// How many nodes the guard may still have, and where the next one is stored.
-pub const LEFT: usize = 8;
-
-pub const FREE: usize = 9;
-
-// What a part of the card hands back, and what its beginning does.
-pub const VALUE: usize = 10;
-
-pub const MODE: usize = 11;
-
-pub const TOP: usize = 12;
-
-pub const START: usize = 13;
-
-// How many values the shared number has (0: none is declared), and what it starts at.
-pub const SHARED: usize = 14;
-
-pub const INITIAL: usize = 15;
-
-pub const STATE: usize = 16;
+#[derive(Clone, Copy)]
+pub struct State {
+    // what is judged late
+    pub late: Late,
+    // the refusal of a guard whose reader has stopped; of another nothing asks for it
+    pub stop: Refusal,
+    // how many nodes the guard may still have, and where the next one is stored
+    pub left: usize,
+    pub free: usize,
+    // what a part of the card hands back
+    pub value: usize,
+    // what the card's beginning says, or a range in it
+    pub mode: usize,
+    pub top: usize,
+    pub start: usize,
+    // how many values the shared number has (0: none is declared), and what it starts at
+    pub shared: usize,
+    pub initial: usize,
+}

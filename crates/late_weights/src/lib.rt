@@ -2,14 +2,15 @@
 #![tactic(auto)]
 
 ghost use Rattle.std.specs.Prelude.{◌≡◌};
-ghost use Rattle.late.specs.State.{Sized, late_in, with_late};
+ghost use Rattle.late.specs.State.{late_in, with_late};
 ghost use Rattle.late_weights.specs.LateWeights.{form_by, sum_by};
 
 use card::refusals::{DECIMAL_WEIGHT, WRONG_WEIGHT};
 use late::blame;
-use late::state::STATE;
+use late::state::State;
 use weights::Weight;
 
+// By hand: a usize need not hold 32 bits, so the library has no From for that.
 pub fn wide(x: u32) -> usize
     ensures { result ≡ x }
 {
@@ -17,23 +18,19 @@ pub fn wide(x: u32) -> usize
 }
 
 // A decimal is a late refusal where none may be a weight.
-pub fn judge_form(decimals: bool, place: usize, state: &mut [usize; STATE])
-    requires { Sized state.old }
+pub fn judge_form(decimals: bool, place: usize, state: &mut State)
     ensures { state.new ≡ with_late state.old (form_by decimals place (late_in state.old)) }
 {
-    if decimals {
-        return;
+    if !decimals {
+        blame(state, DECIMAL_WEIGHT, place);
     }
-    blame(state, DECIMAL_WEIGHT, place);
 }
 
 // A sum of units that is not the unit is one too.
-pub fn judge_sum(total: usize, place: usize, state: &mut [usize; STATE])
-    requires { Sized state.old }
+pub fn judge_sum(total: usize, place: usize, state: &mut State)
     ensures { state.new ≡ with_late state.old (sum_by total place (late_in state.old)) }
 {
-    if total == wide(Weight::UNIT) {
-        return;
+    if total != wide(Weight::UNIT) {
+        blame(state, WRONG_WEIGHT, place);
     }
-    blame(state, WRONG_WEIGHT, place);
 }

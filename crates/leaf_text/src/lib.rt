@@ -1,7 +1,7 @@
 // How a leaf of a guard is put, in the written card and in the reduced program ("Texts, byte for byte").
 #![tactic(auto)]
 
-ghost use Rattle.std.specs.Prelude.{◌-◌};
+ghost use Rattle.std.specs.Prelude.{◌-◌, ◌<◌};
 ghost use Rattle.card.specs.Card.{all, any, is, isnt};
 ghost use Rattle.card.specs.Laid.{either, leaf_of};
 ghost use Rattle.meaning.specs.Reduced.{counter_of};
@@ -9,29 +9,17 @@ ghost use Rattle.phrases.specs.Phrases.{◌▸◌};
 ghost use Rattle.phrases.specs.Puts.{Puts};
 ghost use Rattle.texts.specs.Writing.{literal, literals, group_text};
 ghost use Rattle.texts.specs.ReducedText.{counter_text};
-ghost use Rattle.leaf_text.specs.Style.{leaf_text};
+ghost use Rattle.leaf_text.specs.Style.{looks, leaf_text};
 
-use literal_text::{put_further, put_literal};
+use crate::style::Form;
+use literal_text::put_further;
 use packing::{IS, ONE, SHARED, kind_of, relation_of, sign_of, state_of};
-use pieces::{put_five, put_six};
 use put_numbers::put_number;
-use room::{place, put_byte};
+use room::{place, put_byte, put_filled};
 use shared_text::put_shared;
 use table::bound_of;
 
-// which of the two texts
-pub const WRITTEN: usize = 0;
-
-pub const REDUCED: usize = 1;
-
-// How a statement is put: in which text, with which local state, for how many seats, and in how many copies.
-#[derive(Clone, Copy)]
-pub struct Style {
-    pub text: usize,
-    pub own: usize,
-    pub seats: usize,
-    pub copies: usize,
-}
+pub mod style;
 
 // The literals of a group behind its first.
 fn put_literals(
@@ -46,30 +34,29 @@ fn put_literals(
     ensures { Puts room.old room.new at (literals (either all any sign) (either is isnt relation) state first (seats - first)) result }
 {
     let mut to = place(at);
-    let mut i = first;
-    while i < seats {
-        i += 1;
-        to = put_further(room, to, sign, relation, state, i);
+    for i in first..seats {
+        to = put_further(room, to, sign, relation, state, i + 1);
     }
     to
 }
 
-// The bracket of a group and its first literal: as one piece, of one digit each.
+// The bracket of a group and its first literal.
 fn put_opened(room: &mut [u8], at: usize, relation: usize, state: usize, seat: usize) -> usize
+    requires { (seat < 10) × (state < 10) }
     ensures { Puts room.old room.new at (λ t. "(" ▸ literal (either is isnt relation) state seat t) result }
 {
-    if seat < 10 {
-        if state < 10 {
-            let i = b'0' + seat as u8;
-            let d = b'0' + state as u8;
-            if relation == IS {
-                return put_five(room, at, b'(', b's', i, b'=', d);
-            }
-            return put_six(room, at, b'(', b's', i, b'!', b'=', d);
-        }
+    let i = b'0' + seat as u8;
+    let d = b'0' + state as u8;
+    if relation == IS {
+        let mut equal: [u8; 5] = *b"(s0=0";
+        equal[2] = i;
+        equal[4] = d;
+        return put_filled(room, at, equal);
     }
-    let a = put_byte(room, at, b'(');
-    put_literal(room, a, relation, state, seat)
+    let mut other: [u8; 6] = *b"(s0!=0";
+    other[2] = i;
+    other[5] = d;
+    put_filled(room, at, other)
 }
 
 // A group as its literals, and a test of the shared number as it stands; of exactly one seat nothing, for no card has it.
@@ -103,17 +90,26 @@ fn put_counter(room: &mut [u8], at: usize, node: u32, own: usize, seats: usize) 
         return put_shared(room, at, relation, d);
     }
     let bound = bound_of(node, own, seats);
-    let name = b'0' + d as u8;
-    let a = put_six(room, at, b'(', b'n', b'o', b'_', name, bound.sign);
+    let mut test: [u8; 6] = *b"(no_0=";
+    test[4] = b'0' + d as u8;
+    test[5] = bound.sign;
+    let a = put_filled(room, at, test);
     let b = put_number(room, a, bound.number);
     put_byte(room, b, b')')
 }
 
-pub fn put_leaf(room: &mut [u8], at: usize, node: u32, style: Style) -> usize
-    ensures { Puts room.old room.new at (leaf_text style (leaf_of node)) result }
+pub fn put_leaf(
+    room: &mut [u8],
+    at: usize,
+    node: u32,
+    form: Form,
+    own: usize,
+    seats: usize,
+) -> usize
+    ensures { Puts room.old room.new at (leaf_text (looks form own seats) (leaf_of node)) result }
 {
-    if style.text == WRITTEN {
-        return put_group(room, at, node, style.seats);
+    match form {
+        Form::Written => put_group(room, at, node, seats),
+        Form::Reduced => put_counter(room, at, node, own, seats),
     }
-    put_counter(room, at, node, style.own, style.seats)
 }

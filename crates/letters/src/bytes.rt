@@ -1,77 +1,43 @@
 // Classes of bytes, and runs of them ("Marks on a card").
 ghost use Rattle.std.specs.Prelude.{◌≡◌, ◌≤◌, length, drop, eqb};
-ghost use Rattle.marks_on_a_card.specs.Bytes.{is_digit as is_digit_said, is_letter as is_letter_said, in_word, is_blank as is_blank_said, is_sign as is_sign_said, one_of, begins, is_alone as is_alone_said, in_number, run_end, begun};
+ghost use Rattle.marks_on_a_card.specs.Bytes.{is_digit as is_digit_said, is_letter as is_letter_said, in_word, is_blank as is_blank_said, is_sign as is_sign_said, begins, is_alone as is_alone_said, in_number, run_end, begun};
 
 pub fn is_digit(b: u8) -> bool
     ensures { result ≡ is_digit_said b }
 {
-    b'0' <= b && b <= b'9'
+    b.is_ascii_digit()
 }
 
 pub fn is_letter(b: u8) -> bool
     ensures { result ≡ is_letter_said b }
 {
-    if b < b'A' {
-        return false;
-    }
-    if b < b'a' {
-        return b <= b'Z';
-    }
-    b <= b'z'
+    b.is_ascii_alphabetic()
 }
 
+// Mostly a sign is asked for, which stands below the letters: two tests.
 pub fn in_word(b: u8) -> bool
     ensures { result ≡ in_word b }
 {
     if b < b'A' {
         return is_digit(b);
     }
-    if b == b'_' {
-        return true;
-    }
-    is_letter(b)
-}
-
-fn one_of(b: u8, these: &[u8]) -> bool
-    ensures { result ≡ one_of these.now b }
-{
-    let mut i = 0;
-    while i < these.len() {
-        if b == these[i] {
-            return true;
-        }
-        i += 1;
-    }
-    false
+    b == b'_' || is_letter(b)
 }
 
 pub fn is_blank(b: u8) -> bool
     ensures { result ≡ is_blank_said b }
 {
-    one_of(b, b" \t\r\n")
+    matches!(b, b' ' | b'\t' | b'\r' | b'\n')
 }
 
-// One test of a machine word, where `one_of` would compare fourteen times.
+// One of `[]:;=!&|()+',/`, by one test of a machine word.
 pub fn is_sign(b: u8) -> bool
     ensures { result ≡ is_sign_said b }
 {
-    match b {
-        b'['
-        | b']'
-        | b':'
-        | b';'
-        | b'='
-        | b'!'
-        | b'&'
-        | b'|'
-        | b'('
-        | b')'
-        | b'+'
-        | b'\''
-        | b','
-        | b'/' => true,
-        _ => false,
-    }
+    matches!(
+        b,
+        b'!' | b'&'..=b')' | b'+' | b',' | b'/' | b':' | b';' | b'=' | b'[' | b']' | b'|'
+    )
 }
 
 // A sign that begins no other mark; the most frequent bytes take the fewest tests.
@@ -106,59 +72,42 @@ pub fn is_alone(b: u8) -> bool
 pub fn stands(card: &[u8], at: usize, b: u8) -> bool
     ensures { result ≡ begins (eqb b) (drop at card.now) }
 {
-    if at < card.len() {
-        return b == card[at];
-    }
-    false
+    at < card.len() && b == card[at]
 }
 
 // Does a word go on at a place?
 pub fn word_at(card: &[u8], at: usize) -> bool
     ensures { result ≡ begins in_word (drop at card.now) }
 {
-    if at < card.len() {
-        return in_word(card[at]);
-    }
-    false
+    at < card.len() && in_word(card[at])
 }
 
 pub fn digit_at(card: &[u8], at: usize) -> bool
     ensures { result ≡ begins is_digit_said (drop at card.now) }
 {
-    if at < card.len() {
-        return is_digit(card[at]);
-    }
-    false
+    at < card.len() && is_digit(card[at])
 }
 
 // Does a number go on at a place, with a digit or a point?
 pub fn number_at(card: &[u8], at: usize) -> bool
     ensures { result ≡ begins in_number (drop at card.now) }
 {
-    if at < card.len() {
-        let b = card[at];
-        if b == b'.' {
-            return true;
-        }
-        return is_digit(b);
-    }
-    false
+    at < card.len() && (card[at] == b'.' || is_digit(card[at]))
 }
 
 pub fn word_end(card: &[u8], from: usize) -> usize
     ensures { result ≡ run_end in_word card.now from }
 {
-    let mut at = from;
-    while at < card.len() {
+    for at in from..card.len() {
         if !in_word(card[at]) {
             return at;
         }
-        at += 1;
     }
-    at
+    from.max(card.len())
 }
 
-// Does the card go on with these bytes?
+// Does the card go on with these bytes? By a loop: the bytes are known where it is called, so the compiler tests a few
+// words, where the library's `starts_with` is a call of a comparison for any length.
 pub fn begins_at(card: &[u8], at: usize, these: &[u8]) -> bool
     requires { at ≤ length card.now }
     ensures { result ≡ begun these.now (drop at card.now) }
@@ -166,12 +115,10 @@ pub fn begins_at(card: &[u8], at: usize, these: &[u8]) -> bool
     if card.len() - at < these.len() {
         return false;
     }
-    let mut i = 0;
-    while i < these.len() {
+    for i in 0..these.len() {
         if card[at + i] != these[i] {
             return false;
         }
-        i += 1;
     }
     true
 }

@@ -7,12 +7,10 @@ ghost use Rattle.marks_on_a_card.specs.Bytes.{not_lf, run_end};
 pub fn line_end(card: &[u8], from: usize) -> usize
     ensures { result ≡ run_end not_lf card.now from }
 {
-    let mut at = from;
-    while at < card.len() {
+    for at in from..card.len() {
         if card[at] == b'\n' {
             return at;
         }
-        at += 1;
     }
-    at
+    from.max(card.len())
 }

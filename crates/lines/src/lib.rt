@@ -20,11 +20,9 @@ fn put_numbers(room: &mut [u8], at: usize, values: &[usize]) -> usize
     ensures { Puts room.old room.new at (numbers values.now) result }
 {
     let mut to = place(at);
-    let mut i = 0;
-    while i < values.len() {
+    for value in values {
         let a = put_byte(room, to, b' ');
-        to = put_number(room, a, values[i]);
-        i += 1;
+        to = put_number(room, a, *value);
     }
     to
 }
@@ -36,16 +34,6 @@ pub fn put_line<'a>(room: &mut [u8], at: usize, word: &'a [u8], values: &'a [usi
     let a = put_bytes(room, at, word);
     let b = put_numbers(room, a, values);
     put_byte(room, b, b'\n')
-}
-
-// How many values the shared number takes: one where there is none.
-fn values_of(shared: usize) -> usize
-    ensures { result ≡ or_one shared }
-{
-    if shared == 0 {
-        return 1;
-    }
-    shared
 }
 
 // A weight of no change, and what the shared number becomes with it (document 02, 2026-10), where it has values at all.
@@ -68,12 +56,9 @@ pub fn put_stays(room: &mut [u8], at: usize, weights: &[usize], from: usize, sha
     requires { (from + most_shared ≤ length weights.now) × (shared ≤ most_shared) }
     ensures { Puts room.old room.new at (stays_text (tells shared) (flat (upto (or_one shared) (λ h. stay_line h (get_or weights.now (from + h) 0))))) result }
 {
-    let values = values_of(shared);
     let mut to = place(at);
-    let mut becomes = 0;
-    while becomes < values {
+    for becomes in 0..shared.max(1) {
         to = put_stay(room, to, weights[from + becomes], becomes, shared);
-        becomes += 1;
     }
     to
 }
@@ -115,10 +100,8 @@ fn put_pair(
     ensures { Puts room.old room.new at (moves_text (tells shared) (flat (upto (length weights.now) (λ h. move_line old new h (get_or weights.now h 0))))) result }
 {
     let mut to = place(at);
-    let mut becomes = 0;
-    while becomes < weights.len() {
-        to = put_move(room, to, old, new, weights[becomes], becomes, shared);
-        becomes += 1;
+    for (becomes, weight) in weights.iter().enumerate() {
+        to = put_move(room, to, old, new, *weight, becomes, shared);
     }
     to
 }
@@ -135,14 +118,11 @@ pub fn put_moves(
     requires { Row top shared row.now }
     ensures { Puts room.old room.new at (moves_text (tells shared) (moves_from top (or_one shared) old (weight_in row.now))) result }
 {
-    let values = values_of(shared);
     let mut to = place(at);
-    let mut new = 0;
-    while new <= top {
+    for new in 0..top + 1 {
         let from = new * MOST_SHARED;
-        let end = from + values;
+        let end = from + shared.max(1);
         to = put_pair(room, to, old, new, &row[from..end], shared);
-        new += 1;
     }
     to
 }

@@ -6,12 +6,9 @@ ghost use Rattle.literals_due.specs.Due.{due_number};
 
 use packing::{IS, ISNT};
 
-// What stands behind a seat word: stop 0, the next cursor, the relation, d and where d stands; or the number of a refusal and its
-// place.
+// What stands behind a seat word: the next cursor, the relation, d and where d stands.
 #[derive(Clone, Copy)]
 pub struct Tail {
-    pub stop: usize,
-    pub place: usize,
     pub next: usize,
     pub relation: usize,
     pub d: usize,
@@ -22,31 +19,19 @@ pub struct Tail {
 pub fn relation_due(i: usize, seat: usize) -> usize
     ensures { result ≡ due_number i seat }
 {
-    if seat == i {
-        return IS;
-    }
-    ISNT
+    if seat == i { IS } else { ISNT }
 }
 
 // One literal more, against this d and the relation that is due.
 pub fn as_due(due: bool, d: usize, relation: usize, t: Tail) -> bool
     ensures { result ≡ (due && (eqb t.d d && eqb t.relation relation)) }
 {
-    if !due {
-        return false;
-    }
-    if t.d != d {
-        return false;
-    }
-    t.relation == relation
+    due && t.d == d && t.relation == relation
 }
 
 // One literal's relation more, against the first one's.
 pub fn mixes(mixed: bool, first: usize, more: usize) -> bool
     ensures { result ≡ (mixed || not (eqb first more)) }
 {
-    if mixed {
-        return true;
-    }
-    first != more
+    mixed || first != more
 }

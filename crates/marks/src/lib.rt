@@ -12,7 +12,6 @@ ghost use Rattle.marks.specs.Step.{stepped, step_at};
 ghost use Rattle.marks.specs.declared.Step as steps;
 
 use answer::bare;
-use bytes_as_numbers::wide;
 use letters::bytes::{is_alone, is_digit, is_letter};
 use letters::gaps::gap;
 use marks_on_a_card::kinds::END;
@@ -48,8 +47,7 @@ fn start(card: &[u8], at: usize, b: u8) -> Step
     ensures { (k : ℕ → steps.Step) → result ≡ stepped at (start_at b (drop (at + 1) card.now)) k }
 {
     if is_alone(b) {
-        let kind = wide(b);
-        return bare(kind, at, at + 1);
+        return bare(usize::from(b), at, at + 1);
     }
     if is_digit(b) {
         return numeral(card, at);
@@ -72,6 +70,7 @@ impl Cursor {
         ensures { result ≡ step_at card.now self.at }
     {
         let mut at = self.at;
+        // how far a turn goes is told by the blank or the comment that stands there
         while at < card.len() {
             let b = card[at];
             let n = gap(card, at, b);

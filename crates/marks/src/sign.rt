@@ -6,9 +6,8 @@ ghost use Rattle.marks.specs.declared.Step as step;
 
 use crate::Step;
 use crate::answer::bare;
-use bytes_as_numbers::wide;
 use letters::bytes::{is_sign, stands};
-use marks_on_a_card::kinds::{ARROW, DOTS, NOT, NOT_EQUAL, OUTSIDE};
+use marks_on_a_card::kinds::{ARROW, DOTS, NOT_EQUAL, OUTSIDE};
 
 // The mark that starts with the byte b at a place, which is no letter and no digit.
 pub fn sign(card: &[u8], at: usize, b: u8) -> Step
@@ -16,26 +15,11 @@ pub fn sign(card: &[u8], at: usize, b: u8) -> Step
     ensures { (k : ℕ → step.Step) → result ≡ stepped at (sign_of b (drop (at + 1) card.now)) k }
 {
     let next = at + 1;
-    if b == b'!' {
-        if stands(card, next, b'=') {
-            return bare(NOT_EQUAL, at, next + 1);
-        }
-        return bare(NOT, at, next);
+    match b {
+        b'!' if stands(card, next, b'=') => bare(NOT_EQUAL, at, next + 1),
+        b'.' if stands(card, next, b'.') => bare(DOTS, at, next + 1),
+        b'-' if stands(card, next, b'>') => bare(ARROW, at, next + 1),
+        _ if is_sign(b) => bare(usize::from(b), at, next),
+        _ => bare(OUTSIDE, at, next),
     }
-    if is_sign(b) {
-        return bare(wide(b), at, next);
-    }
-    if b == b'.' {
-        if stands(card, next, b'.') {
-            return bare(DOTS, at, next + 1);
-        }
-        return bare(OUTSIDE, at, next);
-    }
-    if b == b'-' {
-        if stands(card, next, b'>') {
-            return bare(ARROW, at, next + 1);
-        }
-        return bare(OUTSIDE, at, next);
-    }
-    bare(OUTSIDE, at, next)
 }

@@ -7,30 +7,26 @@ ghost use Rattle.marks.specs.declared.Step as step;
 
 use crate::Step;
 use crate::answer::{bare, valued};
-use letters::bytes::word_end;
+use letters::bytes::{word_at, word_end};
 use marks_on_a_card::kinds::{PROCESS, SEAT, WORD};
-use words_and_digits::{is_other, keyword_begun, numbered_at};
+use words_and_digits::{keyword_begun, numbered_at};
 
 // The mark that starts with the letter at a place.
 pub fn word(card: &[u8], at: usize) -> Step
     requires { (at < length card.now) × (is_letter (get_or card.now at 0) ≡ true) }
     ensures { (k : ℕ → step.Step) → result ≡ stepped at (word_of (get_or card.now at 0) (drop (at + 1) card.now)) k }
 {
-    let s = numbered_at(card, at, b"s");
-    let seat = s.count;
-    if seat != 0 {
-        return valued(SEAT, s.value, at, at + seat);
+    if let Some(seat) = numbered_at(card, at, b"s") {
+        return valued(SEAT, seat.value, at, at + seat.count);
     }
-    let p = numbered_at(card, at, b"process");
-    let process = p.count;
-    if process != 0 {
-        return valued(PROCESS, p.value, at, at + process);
+    if let Some(process) = numbered_at(card, at, b"process") {
+        return valued(PROCESS, process.value, at, at + process.count);
     }
-    let known = keyword_begun(card, at);
-    let size = known.size;
-    if is_other(card, at, size) {
-        let end = word_end(card, at);
-        return bare(WORD, at, end);
+    if let Some(known) = keyword_begun(card, at) {
+        let end = at + known.size;
+        if !word_at(card, end) {
+            return bare(known.kind, at, end);
+        }
     }
-    bare(known.kind, at, at + size)
+    bare(WORD, at, word_end(card, at))
 }

@@ -1,26 +1,21 @@
 -- Runs of digits: when they are a number, and that the value kept while they are read is theirs, as long as they are few enough to be held.
 use Prim.Native.Nat.{ℕ, suc, ◌+◌, ◌-◌, ◌*◌, ◌^◌, ◌≤◌, ◌<◌}
-use mathlib.Core.Path.{◌≡◌, refl, sym, ap, ◌∙◌}
-use mathlib.Core.Bool.{true, false, not, ◌&&◌, ◌||◌, and-false, or-true, or-false, and-true}
+use mathlib.Core.Path.{◌≡◌, refl, ap, ◌∙◌}
+use mathlib.Core.Bool.{true, false, not, ◌&&◌, ◌||◌, or-true, or-false, and-true}
 use mathlib.Core.List.{List, [], ◌∷◌}
 use native.Mathlib.Decide.{dec_lt}
 use native.Mathlib.Nat.{pow-suc, pow-le-pow_right}
 use native.Mathlib.Omega.{arith}
 use lib.Dec.{eqb, leb, ltb}
-use lib.ListN.{length, get_or, drop, length-drop, drop_of_length-le}
-use borrow.Author.Tests.{le-leb, lt-leb, leb-true, ltb-false}
+use lib.ListN.{length, get_or, drop, drop_of_length-le}
+use borrow.Author.Tests.{le-leb, leb-true, ltb-false}
 use Rattle.card.specs.Text.{same}
 use Rattle.marks_on_a_card.specs.Bytes.{is_digit, run, begins, every, run_end}
-use Rattle.marks_on_a_card.specs.Digits.{value_from, plain, pointed, held_digits, grown_by, Counted}
-use Rattle.marks_on_a_card.specs.declared.Digits.{Digits}
-use Rattle.marks_on_a_card.proofs.Lists.{cases, not_both, and_left, and_right, drop_at, none_left}
-use Rattle.marks_on_a_card.proofs.Runs.{run_on, run_length, run_passes, run_first, end_on, eqb_sym, begins_place}
+use Rattle.marks_on_a_card.specs.Digits.{value_from, plain, pointed, held_digits, grown_by}
+use Rattle.marks_on_a_card.proofs.Lists.{cases, not_both, and_left, and_right, drop_at}
+use Rattle.marks_on_a_card.proofs.Runs.{run_on, run_passes, run_first, end_on, eqb_sym}
 
 -- ---- when digits are a number
-
-plain_long : (most : ℕ) (ds : List ℕ) → most < length ds → plain most ds ≡ false
-plain_long most [] h = refl
-plain_long most (b ∷ ds) h = rw (lt-leb (length (b ∷ ds)) most h) (and-false (every is_digit (b ∷ ds) && (not (eqb b 48) || same ds [])))
 
 pub one_digit : (most : ℕ) (ds : List ℕ) → every is_digit ds ≡ true → length ds ≡ 1 → 1 ≤ most → plain most ds ≡ true
 one_digit most [] e n h = absurd (omega arith)
@@ -33,12 +28,6 @@ more_digits most (b ∷ []) e n h = absurd (omega arith)
 more_digits most (b ∷ c ∷ ds) e n h = rw (e, le-leb (length (b ∷ c ∷ ds)) most h, or-false (not (eqb b 48))) (and-true _)
 
 module _ (most : ℕ) (s : List ℕ) where
-  pub plain_none : length (run is_digit s) ≡ 0 → plain most (run is_digit s) ≡ false
-  plain_none h = rw (none_left (run is_digit s) h)
-
-  pub plain_many : most < length (run is_digit s) → plain most (run is_digit s) ≡ false
-  plain_many h = plain_long most (run is_digit s) h
-
   pub plain_one : length (run is_digit s) ≡ 1 → 1 ≤ most → plain most (run is_digit s) ≡ true
   plain_one n h = one_digit most (run is_digit s) (run_passes is_digit s) n h
 
@@ -73,11 +62,6 @@ pub record Held (s : List ℕ) (from i value : ℕ) : Type 0 where
   pub small : i - from ≤ held_digits → value < 10 ^ (i - from)
   pub value_is : i - from ≤ held_digits → value_from 0 (run is_digit (drop from s)) ≡ value_from value (run is_digit (drop i s))
 
-pub held_none : (s : List ℕ) (from : ℕ) → Held s from from 0
-held_none s from =
-    let z : from - from ≡ 0 = omega arith in
-    record { begun = omega arith; ends = refl; small = λ h. rw z (omega arith); value_is = λ h. refl }
-
 module _ (s : List ℕ) (from i value : ℕ) (h : i < length s) (d : is_digit (get_or s i 0) ≡ true) (held : Held s from i value) where
   next : i + 1 - from ≡ suc (i - from)
   next = omega (arith, held.begun)
@@ -102,17 +86,3 @@ module _ (s : List ℕ) (from i value : ℕ) (h : i < length s) (d : is_digit (g
 
   pub held_next : Held s from (i + 1) (grown_by value (get_or s i 0))
   held_next = cases (ltb value (10 ^ held_digits)) (λ e. rw e held_more) (λ e. rw e (held_full (ltb-false value (10 ^ held_digits) e)))
-
-pub held_all : (s : List ℕ) (from i value : ℕ) → Held s from i value → run_end is_digit s i ≡ i → Counted (drop from s) (record { count = i - from; value = value })
-held_all s from i value held done =
-    let n : length (run is_digit (drop from s)) ≡ i - from = omega (arith, held.ends, held.begun) in
-    let none : run is_digit (drop i s) ≡ [] = none_left (run is_digit (drop i s)) (omega arith) in
-    record { count_is = sym n; value_is = λ l. sym (held.value_is (omega arith) ∙ ap (value_from value) none) }
-
--- ---- the digits and the point lie within the text
-
-pub counted_fits : (s : List ℕ) (i : ℕ) → i ≤ length s → (d : Digits) → Counted (drop i s) d → i + d.count ≤ length s
-counted_fits s i h d counted = omega (arith, counted.count_is, run_length is_digit (drop i s), length-drop i s)
-
-pub pointed_place : (s : List ℕ) (i : ℕ) → pointed (drop i s) ≡ true → i + 1 < length s
-pointed_place s i e = begins_place is_digit s (i + 1) (and_right (begins (eqb 46) (drop i s)) (begins is_digit (drop (i + 1) s)) (sym (pointed_at s i) ∙ e))

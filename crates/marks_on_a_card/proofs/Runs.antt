@@ -1,59 +1,30 @@
 -- Runs of bytes from a place on, and whether the bytes from a place on begin with others: one byte more, or the end.
 use Prim.Native.Nat.{ℕ, ◌+◌, ◌≤◌, ◌<◌}
 use mathlib.Core.Path.{◌≡◌, refl, sym, ap}
-use mathlib.Core.Bool.{Bool, true, false, ◌&&◌, ◌||◌}
+use mathlib.Core.Bool.{Bool, true, false, ◌&&◌}
 use mathlib.Core.List.{List, [], ◌∷◌}
 use mathlib.Core.Option.{none, some}
 use native.Mathlib.Decide.{dec_lt}
-use native.Mathlib.Nat.{add-zero}
 use native.Mathlib.Omega.{arith}
 use lib.Dec.{eqb}
 use lib.ListN.{length, get_or, drop, length-drop, drop_of_length-le}
 use borrow.Author.Tests.{eq-eqb, ne_eqb, eqb-true, eqb-false}
 use Rattle.card.specs.Text.{same}
-use Rattle.marks_on_a_card.specs.Bytes.{run, begins, every, after, one_of, run_end, begun}
+use Rattle.marks_on_a_card.specs.Bytes.{run, begins, every, after, run_end, begun}
 use Rattle.marks_on_a_card.proofs.Lists.{none_left, cases, not_both, and_left, and_right, drop_at}
 
 module _ (p : ℕ → Bool) (s : List ℕ) (i : ℕ) where
   pub run_on : i < length s → p (get_or s i 0) ≡ true → run p (drop i s) ≡ get_or s i 0 ∷ run p (drop (i + 1) s)
   run_on h e = rw (drop_at s i h, e)
 
-  pub run_off : i < length s → p (get_or s i 0) ≡ false → run p (drop i s) ≡ []
-  run_off h e = rw (drop_at s i h, e)
-
-  pub run_none : length s ≤ i → run p (drop i s) ≡ []
-  run_none h = rw (drop_of_length-le s h)
-
   pub end_on : i < length s → p (get_or s i 0) ≡ true → run_end p s i ≡ run_end p s (i + 1)
   end_on h e = rw (run_on h e) (omega arith)
-
-  pub end_off : i < length s → p (get_or s i 0) ≡ false → run_end p s i ≡ i
-  end_off h e = rw (run_off h e) (add-zero i)
-
-  pub end_none : length s ≤ i → run_end p s i ≡ i
-  end_none h = rw (run_none h) (add-zero i)
 
   pub begins_at : i < length s → begins p (drop i s) ≡ p (get_or s i 0)
   begins_at h = rw (drop_at s i h)
 
   pub begins_none : length s ≤ i → begins p (drop i s) ≡ false
   begins_none h = rw (drop_of_length-le s h)
-
-pub one_of_at : (s : List ℕ) (i b : ℕ) → i < length s → one_of (drop i s) b ≡ (eqb b (get_or s i 0) || one_of (drop (i + 1) s) b)
-one_of_at s i b h = rw (drop_at s i h)
-
-pub one_of_none : (s : List ℕ) (i b : ℕ) → length s ≤ i → one_of (drop i s) b ≡ false
-one_of_none s i b h = rw (drop_of_length-le s h)
-
-module _ (t s : List ℕ) (i j : ℕ) where
-  pub begun_on : i < length t → j < length s → get_or s j 0 ≡ get_or t i 0 → begun (drop i t) (drop j s) ≡ begun (drop (i + 1) t) (drop (j + 1) s)
-  begun_on h g e = rw (drop_at t i h, drop_at s j g, eq-eqb (get_or t i 0) (get_or s j 0) (sym e))
-
-  pub begun_off : i < length t → j < length s → (get_or s j 0 ≡ get_or t i 0 → ⊥) → begun (drop i t) (drop j s) ≡ false
-  begun_off h g e = rw (drop_at t i h, drop_at s j g, ne_eqb (get_or t i 0) (get_or s j 0) (λ q. e (sym q)))
-
-  pub begun_all : length t ≤ i → begun (drop i t) (drop j s) ≡ true
-  begun_all h = rw (drop_of_length-le t h)
 
 pub begun_short : (t s : List ℕ) → length s < length t → begun t s ≡ false
 begun_short [] s h = absurd (omega arith)

@@ -7,7 +7,7 @@ use mathlib.Core.Option.{Option, none, some}
 use native.Mathlib.Omega.{arith}
 use lib.Dec.{eqb, leb}
 use lib.ListN.{length, drop}
-use borrow.Author.Tests.{lt-leb, leb-true, eqb-true, eq-eqb, ne_eqb}
+use borrow.Author.Tests.{lt-leb, leb-true, eqb-true, ne_eqb}
 use Rattle.card.specs.Limits.{number_digits, further_digits}
 use Rattle.card.specs.Text.{bytes, when◌then◌else◌}
 use Rattle.marks_on_a_card.specs.Bytes.{within, is_digit, is_letter, in_word, is_blank, is_sign, one_of, not_lf, run, begins, every}
@@ -93,9 +93,6 @@ mark_gap b s =
 module _ (b : ℕ) (s : List ℕ) where
   pub gap_blank : is_blank b ≡ true → gap_of (start_at b s) ≡ 1
   gap_blank e = rw e
-
-  pub gap_comment : is_blank b ≡ false → b ≡ 47 → begins (eqb 47) s ≡ true → gap_of (start_at b s) ≡ suc (length (run not_lf s))
-  gap_comment e q c = rw (e, eq-eqb b 47 q, c)
 
   pub gap_none : is_blank b ≡ false → (eqb b 47 && begins (eqb 47) s) ≡ false → gap_of (start_at b s) ≡ 0
   gap_none e c = rw (e, c) (mark_gap b s)

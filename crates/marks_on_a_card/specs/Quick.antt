@@ -1,5 +1,5 @@
 -- Marks that stand right at the front of a text, told from their first bytes. Assumes nothing.
-use Rattle.std.specs.Prelude.{ℕ, ◌+◌, ◌-◌, Bool, false, not, ◌&&◌, List, [], ◌∷◌, eqb, leb, length, drop}
+use Rattle.std.specs.Prelude.{ℕ, ◌+◌, ◌-◌, Bool, false, not, ◌&&◌, List, [], ◌∷◌, Option, Some, None, eqb, leb, length, drop}
 use Rattle.card.specs.Text.{bytes, when◌then◌else◌}
 use Rattle.marks_on_a_card.specs.Bytes.{is_digit, in_word, begins, is_alone, in_number, begun}
 
@@ -8,24 +8,21 @@ abbrev pub sign_ahead : ℕ → List ℕ → Bool
 sign_ahead kind [] = false
 sign_ahead kind (b ∷ s) = eqb b kind && is_alone b
 
--- the number of one digit behind which no byte of a kind stands; where there is none, no digit has that number
-abbrev pub no_digit : ℕ
-no_digit = 10
-
-abbrev pub one_digit : (ℕ → Bool) → List ℕ → ℕ
-one_digit more [] = no_digit
-one_digit more (b ∷ s) = when is_digit b && not (begins more s) then b - 48 else no_digit
+-- the number of one digit behind which no byte of a kind stands
+abbrev pub one_digit : (ℕ → Bool) → List ℕ → Option ℕ
+one_digit more [] = None
+one_digit more (b ∷ s) = when is_digit b && not (begins more s) then Some (b - 48) else None
 
 -- the number with one digit; the digit that ends a word
-abbrev pub digit_ahead : List ℕ → ℕ
+abbrev pub digit_ahead : List ℕ → Option ℕ
 digit_ahead = one_digit in_number
 
-abbrev pub last_digit : List ℕ → ℕ
+abbrev pub last_digit : List ℕ → Option ℕ
 last_digit = one_digit in_word
 
 -- the number of the seat word with one digit
-abbrev pub seat_ahead : List ℕ → ℕ
-seat_ahead s = when begins (eqb 115) s then last_digit (drop 1 s) else no_digit
+abbrev pub seat_ahead : List ℕ → Option ℕ
+seat_ahead s = when begins (eqb 115) s then last_digit (drop 1 s) else None
 
 -- the place behind one blank, where one stands
 abbrev pub past_blank : List ℕ → ℕ → ℕ
@@ -43,10 +40,14 @@ bytes_ahead t s i = leb i (length s) && begun t (drop i s)
 abbrev pub word_ahead : List ℕ → List ℕ → ℕ → Bool
 word_ahead t s i = bytes_ahead t s i && not (begins in_word (drop (i + length t) s))
 
+-- the number of the one digit that ends a word behind these bytes
+abbrev pub digit_behind : List ℕ → List ℕ → ℕ → Option ℕ
+digit_behind t s i = when bytes_ahead t s i then last_digit (drop (i + length t) s) else None
+
 -- the number of the module word with one digit
-abbrev pub process_ahead : List ℕ → ℕ → ℕ
-process_ahead s i = when bytes_ahead (bytes "process") s i then last_digit (drop (i + 7) s) else no_digit
+abbrev pub process_ahead : List ℕ → ℕ → Option ℕ
+process_ahead = digit_behind (bytes "process")
 
 -- the second digit of the seat word from s10 to s19
-abbrev pub teen_ahead : List ℕ → ℕ → ℕ
-teen_ahead s i = when bytes_ahead (bytes "s1") s i then last_digit (drop (i + 2) s) else no_digit
+abbrev pub teen_ahead : List ℕ → ℕ → Option ℕ
+teen_ahead = digit_behind (bytes "s1")

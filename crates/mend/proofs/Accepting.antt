@@ -1,30 +1,16 @@
--- The reader's verdict tells whether the card is taken. Assumes nothing.
+-- The reader's answer tells whether the card is taken. Assumes nothing.
 use Prim.Native.Nat.{ℕ}
-use mathlib.Core.Path.{◌≡◌, refl, sym, ap, ◌∙◌}
-use mathlib.Core.Bool.{true, false}
+use mathlib.Core.Path.{◌≡◌, refl, ap, ◌∙◌}
 use mathlib.Core.List.{List}
+use Rattle.std.specs.Result.{is_ok}
 use Rattle.card.specs.Lent.{Lent}
-use Rattle.card.specs.declared.Verdict.TheVariants.{Taken, Refused}
 use Rattle.reading.specs.Reading.{Outcome, taken, refused, read_of}
-use Rattle.outline.specs.ReadingOf.{outline_of, ReadsInto}
-use Rattle.outline.specs.declared.Outline.{Outline}
-use Rattle.outline.proofs.ReadInto.{taken≢refused}
+use Rattle.outline.specs.ReadingOf.{Outline, outline_of, ReadsInto}
 use Rattle.mending.specs.Mending.{is_taken}
 
-module _ (s : List ℕ) {r : Outline} {x : Lent} (h : ReadsInto s r x) where
-  verdict_is : {o : Outcome} → read_of s ≡ o → r.verdict ≡ (outline_of o).verdict
-  verdict_is e = ap (λ (y : Outline). y.verdict) h.outline ∙ ap (λ (o : Outcome). (outline_of o).verdict) e
-
-  pub not_taken : {number place : ℕ} → r.verdict ≡ Refused number place → false ≡ is_taken (read_of s)
-  not_taken {number} {place} v = go (read_of s) refl
-    where
-      go : (o : Outcome) → read_of s ≡ o → false ≡ is_taken (read_of s)
-      go (taken c) e = taken≢refused (sym (verdict_is e) ∙ v)
-      go (refused n p) e = rw e
-
-  pub is_taken_law : r.verdict ≡ Taken → true ≡ is_taken (read_of s)
-  is_taken_law v = go (read_of s) refl
-    where
-      go : (o : Outcome) → read_of s ≡ o → true ≡ is_taken (read_of s)
-      go (taken c) e = rw e
-      go (refused n p) e = taken≢refused (sym v ∙ verdict_is e)
+pub is_taken_law : (s : List ℕ) {r : Outline} {x : Lent} → ReadsInto s r x → is_ok r ≡ is_taken (read_of s)
+is_taken_law s h = ap is_ok h.outline ∙ go (read_of s)
+  where
+    go : (o : Outcome) → is_ok (outline_of o) ≡ is_taken o
+    go (taken c) = refl
+    go (refused n p) = refl

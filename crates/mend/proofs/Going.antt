@@ -16,6 +16,8 @@ use Rattle.mending.proofs.Mended.{is_kept, kept_right}
 use Rattle.mending_walk.specs.declared.Walk.{Walk}
 use Rattle.mending_walk.specs.Walking.{walk_before, walked_by, Roomy}
 use Rattle.mending_walk.proofs.Laws.{stays}
+use Rattle.deck_entries.specs.Rows.{row_by}
+use Rattle.deck_entries.specs.declared.Entry.{Entry as Fields}
 use Rattle.mend.specs.Fated.{Fated}
 
 abbrev kept_from : (deck : List ℕ) (least last : ℕ) → List Row → List Entry
@@ -182,3 +184,11 @@ module _ (deck : List ℕ) (h : Head deck) where
           go : (f : Fate) → fate_of deck w.least w.last r ≡ f → Going deck was (set is i k) (i + 1) (at + 8) v
           go kept ef = kept_on ef
           go (dropped rule) ef = dropped_on rule ef
+
+  -- the same by the fields of the entry
+  pub on : {was is : List ℕ} {i k : ℕ} {w v : Walk} {x : Fields} → Going deck was is i (1 + 8 * i) w → i < count_of deck → row_by x ≡ row_of (drop (1 + 8 * i) deck)
+      → k ≡ rule_of (fate_of deck w.least w.last (row_by x)) → v ≡ walked_by k (row_by x) w → i < length was
+      → Going deck was (set is i k) (i + 1) (1 + 8 * (i + 1)) v
+  on {was} {is} {i} {k} {w} {v} g l x e s room =
+      let far : 1 + 8 * (i + 1) ≡ 1 + 8 * i + 8 = omega arith in
+      rw far (goes_on g l (e ∙ ap (λ (r : Row). rule_of (fate_of deck w.least w.last r)) x) (s ∙ ap (λ (r : Row). walked_by k r w) x) room)

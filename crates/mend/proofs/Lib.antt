@@ -1,4 +1,2 @@
 mod Accepting
-mod Judging
 mod Going
-mod Ready

@@ -18,7 +18,7 @@ use Rattle.mending.proofs.MendStage.{none_kept, some_kept_law}
 use Rattle.mended_rooms.specs.Lines.{lines_by}
 use Rattle.mended_rooms.proofs.Listed.{listed_by, list_short}
 use Rattle.mended_rooms.specs.KeptBy.{Fates}
-use Rattle.mended_rooms.specs.declared.Mended.TheVariants.{Done, Refused}
+use Rattle.mended_rooms.specs.Mends.{Done, Refused}
 use Rattle.mended_rooms.specs.Mends.{Mends}
 
 pub mends_refused : {was : Two (List ℕ)} (deck : List ℕ) {number place : ℕ} → mend_said deck ≡ refused number place → Mends was was deck (Refused number place)

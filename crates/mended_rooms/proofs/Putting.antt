@@ -10,6 +10,8 @@ use Rattle.card.specs.Valid.{Every}
 use Rattle.deck.specs.Contents.{Row, row_of, rows_of, count_of, entries_from, end_of}
 use Rattle.deck.specs.Deck.{entry_of, rows_text, bodies}
 use Rattle.deck_written.specs.WriteDeckSaid.{sizes, lines_for}
+use Rattle.deck_entries.specs.Rows.{row_by as fields_of}
+use Rattle.deck_entries.specs.declared.Entry.{Entry}
 use Rattle.room.specs.Room.{cap, Put}
 use Rattle.deck_writer.proofs.Still.{Still, still_all, still_none, still_less}
 use Rattle.mended_rooms.specs.Parts.{row_by, body_by, behind_by}
@@ -129,6 +131,12 @@ module _ (deck fates : List ℕ) (first : ℕ) where
               short = omega (arith, g.short, ap sizes parts, sizes_on (fate_at fates i) (row_from deck from) (fates_behind fates i) (rows_behind deck i from) offset, e);
             }
 
+        -- the same by the fields of the entry
+        pub rows_on_entry : {x : Entry} {b : List ℕ} {m o : ℕ} → fields_of x ≡ row_of (drop from deck) → Put is b to (row_by (fate_at fates i) (fields_of x) offset) m
+            → o ≡ behind_by (fate_at fates i) (fields_of x) offset → RowsLeft was b at (i + 1) (from + 8) o m
+        rows_on_entry {x} {b} {m} {o} f p e =
+            rows_next (subst (λ (r : Row). Put is b to (row_by (fate_at fates i) r offset) m) f p) (e ∙ ap (λ (r : Row). behind_by (fate_at fates i) r offset) f)
+
 -- ---- bodies
 
 module _ (deck fates : List ℕ) where
@@ -172,3 +180,10 @@ module _ (deck fates : List ℕ) where
               p;
           inside = every_rest Inside (fate_at fates i) (row_from deck from) (fates_behind fates i) (rows_behind deck i from) inside_split;
         }
+
+        -- the same by the fields of the entry
+        pub inside_entry : {x : Entry} → fields_of x ≡ row_of (drop from deck) → (fate_at fates i) ≡ 0 → end_of (fields_of x) ≤ length deck
+        inside_entry f e = subst (λ (r : Row). end_of r ≤ length deck) (sym f) (body_inside e)
+
+        pub bodies_on_entry : {x : Entry} {b : List ℕ} {m : ℕ} → fields_of x ≡ row_of (drop from deck) → Put is b to (body_by deck (fate_at fates i) (fields_of x)) m → BodiesLeft was b at (i + 1) (from + 8) m
+        bodies_on_entry {x} {b} {m} f p = bodies_next (subst (λ (r : Row). Put is b to (body_by deck (fate_at fates i) r) m) f p)

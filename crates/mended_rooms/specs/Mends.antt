@@ -1,10 +1,16 @@
 -- What mending answers: the lengths of the new deck and of the list, or a refusal; and what it promises of both rooms. Assumes nothing.
-use Rattle.std.specs.Prelude.{ℕ, List}
+use Rattle.std.specs.Prelude.{ℕ, List, Result, Ok}
+use Rattle.card.specs.declared.Refusal.{Refusal}
+pub use Rattle.card.specs.Verdict.{Refused}
 use Rattle.entry.specs.Said.{Said, says, refused}
 use Rattle.entry.specs.Contract.{Enters, Two, in_rooms}
 use Rattle.mending.specs.Mending.{mend_said}
-use Rattle.mended_rooms.specs.declared.Mended.{Mended}
-use Rattle.mended_rooms.specs.declared.Mended.TheVariants.{Done, Refused}
+
+abbrev pub Mended : Type 0
+Mended = Result (ℕ × ℕ) Refusal
+
+abbrev pub Done : ℕ → ℕ → Mended
+Done deck list = Ok (deck, list)
 
 abbrev pub told : Said (Two ℕ) → Mended
 told (says long) = Done long.first long.second

@@ -3,9 +3,10 @@
 
 ghost use Rattle.phrases.specs.Puts.{Puts};
 ghost use Rattle.mended_rooms.specs.Lines.{line_by, lines_by};
-ghost use Rattle.std.specs.Prelude.{◌≡◌, ◌+◌, ◌≤◌, ◌<◌, length, drop, [], map};
-ghost use Rattle.card.specs.Limits.{entry_bytes, word_numbers};
-ghost use Rattle.deck.specs.Contents.{row_of, end_of};
+ghost use Rattle.std.specs.Prelude.{◌≡◌, ◌≤◌, ◌<◌, length, [], map};
+ghost use Rattle.card.specs.Limits.{word_numbers};
+ghost use Rattle.deck_entries.specs.Rows.{row_by as fields_of};
+ghost use Rattle.deck.specs.Contents.{end_of};
 ghost use Rattle.room.specs.Room.{Put};
 ghost use Rattle.mended_rooms.specs.Parts.{row_by, body_by, behind_by};
 ghost use Rattle.deck.specs.Deck.{entry_of, rows_text, bodies, deck_text};
@@ -15,9 +16,10 @@ ghost use Rattle.mended_rooms.specs.KeptBy.{rows_kept, Each, OffsetsFit, BodiesI
 ghost use Rattle.entry.specs.Contract.{two};
 ghost use Rattle.mended_rooms.specs.Mends.{Mends};
 
-use card::limits::{COUNT_BYTES, ENTRY_BYTES, FLAG_AT, OFFSET_AT, SIZE_AT, ZERO_BYTE_AT};
-use card::refusals::{MALFORMED_DECK, ROOM_TOO_SMALL};
-use deck_entries::word_at;
+use card::Refusal;
+use card::limits::{COUNT_BYTES, ENTRY_BYTES};
+use card::refusals::ROOM_TOO_SMALL;
+use deck_entries::{Entry, malformed};
 use deck_writer::put_row;
 use put_numbers::put_number;
 use room::{place, put_byte, put_bytes, put_run};
@@ -39,61 +41,46 @@ fn put_list(room: &mut [u8], fates: &[usize]) -> usize
     ensures { Puts room.old room.new 0 (lines_by fates.now) result }
 {
     let mut to = place(0);
-    let mut i = 0;
-    while i < fates.len() {
-        to = put_line(room, to, fates[i]);
-        i += 1;
+    for &fate in fates {
+        to = put_line(room, to, fate);
     }
     to
 }
 
-// Where the next body starts, behind the entry at a place.
-fn offset_behind(deck: &[u8], from: usize, fate: usize, offset: usize) -> usize
-    requires entry_bytes_in_bounds { from + entry_bytes ≤ length deck.now }
-    requires offset_lt_word_numbers { offset < word_numbers }
-    ensures { result ≡ behind_by fate (row_of (drop from deck.now)) offset }
+// Where the next body starts, behind an entry.
+fn offset_behind(entry: Entry, fate: usize, offset: usize) -> usize
+    requires { offset < word_numbers }
+    ensures { result ≡ behind_by fate (fields_of entry) offset }
 {
     if fate != 0 {
         return offset;
     }
-    offset + word_at(deck, from + SIZE_AT)
+    offset + entry.size as usize
 }
 
-// The entry at a place, with its body at `offset`; one that is dropped puts nothing.
-fn put_kept_row(
-    room: &mut [u8],
-    at: usize,
-    deck: &[u8],
-    from: usize,
-    fate: usize,
-    offset: usize,
-) -> usize
-    requires entry_bytes_in_bounds { from + entry_bytes ≤ length deck.now }
-    requires offset_lt_word_numbers { offset < word_numbers }
-    ensures { Put room.old room.new at (row_by fate (row_of (drop from deck.now)) offset) result }
+// An entry, with its body at `offset`; one that is dropped puts nothing.
+fn put_kept_row(room: &mut [u8], at: usize, entry: Entry, fate: usize, offset: usize) -> usize
+    requires { offset < word_numbers }
+    ensures { Put room.old room.new at (row_by fate (fields_of entry) offset) result }
 {
     if fate != 0 {
         return place(at);
     }
-    let number = word_at(deck, from);
-    let size = word_at(deck, from + SIZE_AT);
-    let flag = deck[from + FLAG_AT];
-    let zero = deck[from + ZERO_BYTE_AT];
-    put_row(room, at, number, offset, size, flag, zero)
+    let number = entry.number as usize;
+    let size = entry.size as usize;
+    put_row(room, at, number, offset, size, entry.flag, entry.zero)
 }
 
-// The body of the entry at a place: of one that is kept it lies in the deck, and one that is dropped puts nothing.
-fn put_kept_body(room: &mut [u8], at: usize, deck: &[u8], from: usize, fate: usize) -> usize
-    requires entry_bytes_in_bounds { from + entry_bytes ≤ length deck.now }
-    requires deck_in_bounds { fate ≡ 0 → end_of (row_of (drop from deck.now)) ≤ length deck.now }
-    ensures { Put room.old room.new at (body_by deck.now fate (row_of (drop from deck.now))) result }
+// The body of an entry: of one that is kept it lies in the deck, and one that is dropped puts nothing.
+fn put_kept_body(room: &mut [u8], at: usize, deck: &[u8], entry: Entry, fate: usize) -> usize
+    requires { fate ≡ 0 → end_of (fields_of entry) ≤ length deck.now }
+    ensures { Put room.old room.new at (body_by deck.now fate (fields_of entry)) result }
 {
     if fate != 0 {
         return place(at);
     }
-    let offset = word_at(deck, from + OFFSET_AT);
-    let size = word_at(deck, from + SIZE_AT);
-    let end = offset + size;
+    let offset = entry.offset as usize;
+    let end = entry.end();
     put_run(room, at, &deck[offset..end])
 }
 
@@ -103,15 +90,12 @@ fn put_rows(room: &mut [u8], at: usize, deck: &[u8], fates: &[usize], first: usi
     requires offsets_fit { OffsetsFit deck.now fates.now first }
     ensures { Put room.old room.new at (rows_text (lines_for first (rows_kept deck.now fates.now)) []) result }
 {
-    let mut i: usize = 0;
-    let mut from: usize = COUNT_BYTES;
     let mut offset = first;
     let mut to = place(at);
-    while i < fates.len() {
-        to = put_kept_row(room, to, deck, from, fates[i], offset);
-        offset = offset_behind(deck, from, fates[i], offset);
-        from = from + ENTRY_BYTES;
-        i = i + 1;
+    for (i, &fate) in fates.iter().enumerate() {
+        let entry = Entry::at(deck, COUNT_BYTES + ENTRY_BYTES * i);
+        to = put_kept_row(room, to, entry, fate, offset);
+        offset = offset_behind(entry, fate, offset);
     }
     to
 }
@@ -122,13 +106,10 @@ fn put_bodies(room: &mut [u8], at: usize, deck: &[u8], fates: &[usize]) -> usize
     requires bodies_inside { BodiesInside deck.now fates.now }
     ensures { Put room.old room.new at (bodies (map (entry_of deck.now) (rows_kept deck.now fates.now))) result }
 {
-    let mut i: usize = 0;
-    let mut from: usize = COUNT_BYTES;
     let mut to = place(at);
-    while i < fates.len() {
-        to = put_kept_body(room, to, deck, from, fates[i]);
-        from = from + ENTRY_BYTES;
-        i = i + 1;
+    for (i, &fate) in fates.iter().enumerate() {
+        let entry = Entry::at(deck, COUNT_BYTES + ENTRY_BYTES * i);
+        to = put_kept_body(room, to, deck, entry, fate);
     }
     to
 }
@@ -144,14 +125,7 @@ fn put_mended(room: &mut [u8], deck: &[u8], fates: &[usize], cards: usize) -> us
     put_bodies(room, b, deck, fates)
 }
 
-// The lengths of the deck and of the list; or a refusal's number and place.
-#[derive(Clone, Copy)]
-pub enum Mended {
-    Done(usize, usize),
-    Refused(u8, usize),
-}
-
-// By the entries' fates: `cards` are kept, with so many bytes. The deck's room is judged before the list's, and nothing is put before both are.
+// The lengths of the deck and of the list, by the entries' fates: `cards` are kept, with so many bytes. The deck's room is judged before the list's, and nothing is put before both are.
 pub fn store_mended(
     deck: &[u8],
     fates: &[usize],
@@ -159,24 +133,30 @@ pub fn store_mended(
     bytes: usize,
     room: &mut [u8],
     list: &mut [u8],
-) -> Mended
+) -> Result<(usize, usize), Refusal>
     requires fates { Fates deck.now fates.now cards }
     requires bytes_value { bytes ≡ length (bodies (kept_in deck.now)) }
     ensures { Mends (two room.old list.old) (two room.new list.new) deck.now result }
 {
     if cards == 0 {
-        return Mended::Refused(MALFORMED_DECK, 0);
+        return Err(malformed(0));
     }
     let need = COUNT_BYTES + ENTRY_BYTES * cards + bytes;
     let mut nothing: [u8; 0] = [0; 0];
     let lines = put_list(&mut nothing, fates);
     if room.len() < need {
-        return Mended::Refused(ROOM_TOO_SMALL, need);
+        return Err(Refusal {
+            number: ROOM_TOO_SMALL,
+            place: need,
+        });
     }
     if list.len() < lines {
-        return Mended::Refused(ROOM_TOO_SMALL, lines);
+        return Err(Refusal {
+            number: ROOM_TOO_SMALL,
+            place: lines,
+        });
     }
     let deck_length = put_mended(room, deck, fates, cards);
     let list_length = put_list(list, fates);
-    Mended::Done(deck_length, list_length)
+    Ok((deck_length, list_length))
 }

@@ -7,16 +7,8 @@ use Rattle.entry.specs.Said.{Said, says, refused}
 use Rattle.entry.specs.Contract.{Ends, valued, left, Two, in_rooms}
 use Rattle.answers.specs.declared.OpenPanelAnswer.{OpenPanelAnswer}
 use Rattle.mending.specs.Mending.{mend_said}
-use Rattle.mended_rooms.specs.declared.Mended.{Mended}
-use Rattle.mended_rooms.specs.declared.Mended.TheVariants.{Done, Refused}
-use Rattle.mended_rooms.specs.Mends.{told, Mends}
+use Rattle.mended_rooms.specs.Mends.{Mended, Done, Refused, told, Mends}
 use Rattle.mended_told.specs.LentRooms.{mended_numbers, list_length, Tells, LentRooms, lent, RoomsTold}
-
-pub done_told : {m : Mended} {was : List ℕ} {a b : ℕ} → m ≡ Done a b → Tells m was (list_length (Done a b) was) (mended_numbers (Done a b))
-done_told e = rw e (record { answers = refl; leaves = refl })
-
-pub refused_told : {m : Mended} {was : List ℕ} {number place : ℕ} → m ≡ Refused number place → Tells m was was (mended_numbers (Refused number place))
-refused_told e = rw e (record { answers = refl; leaves = refl })
 
 pub mend_told : {was is : Two (List ℕ)} (deck : List ℕ) {m : Mended} {length length' : List ℕ} {answer : OpenPanelAnswer}
     → Mends was is deck m → Tells m length length' answer → RoomsTold (lent was length) (lent is length') (mend_said deck) answer

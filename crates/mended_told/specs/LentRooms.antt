@@ -1,22 +1,21 @@
 -- What C is told of a mended deck (document 02, 2026-09): 0 and the deck's length, or a refusal's number and place; the list's length goes into a lent number, which a refusal leaves as it was. Assumes nothing.
-use Rattle.std.specs.Prelude.{ℕ, ◌≡◌, List, set}
+use Rattle.std.specs.Prelude.{ℕ, ◌≡◌, List, set, Ok, Err}
 use Rattle.entry.specs.Said.{Said, ◌>>=◌, return}
 use Rattle.entry.specs.Contract.{Ends, Enters, Two, in_rooms}
 use Rattle.room.specs.Answer.{told}
 use Rattle.answers.specs.Numbered.{numbers}
 use Rattle.answers.specs.declared.OpenPanelAnswer.{OpenPanelAnswer}
-use Rattle.mended_rooms.specs.declared.Mended.{Mended}
-use Rattle.mended_rooms.specs.declared.Mended.TheVariants.{Done, Refused}
+use Rattle.mended_rooms.specs.Mends.{Mended}
 
 -- ---- an answer in numbers
 
 abbrev pub mended_numbers : Mended → OpenPanelAnswer
-mended_numbers (Done deck list) = record { number = 0; value = deck }
-mended_numbers (Refused number place) = record { number = number; value = place }
+mended_numbers (Ok long) = record { number = 0; value = long.0 }
+mended_numbers (Err e) = record { number = e.number; value = e.place }
 
 abbrev pub list_length : Mended → List ℕ → List ℕ
-list_length (Done deck list) was = set was 0 list
-list_length (Refused number place) was = was
+list_length (Ok long) was = set was 0 long.1
+list_length (Err e) was = was
 
 pub record Tells (m : Mended) (was is : List ℕ) (answer : OpenPanelAnswer) : Type 0 where
   pub answers : answer ≡ mended_numbers m

@@ -4,25 +4,23 @@
 ghost use Rattle.mended_told.specs.LentRooms.{Tells};
 
 use answers::OpenPanelAnswer;
-use mended_rooms::Mended;
+use card::Refusal;
 
 // A refusal leaves the lent number as it was.
-pub fn tell_mended(mended: Mended, list_length: &mut [usize; 1]) -> OpenPanelAnswer
+pub fn tell_mended(
+    mended: Result<(usize, usize), Refusal>,
+    list_length: &mut [usize; 1],
+) -> OpenPanelAnswer
     ensures { Tells mended list_length.old list_length.new result }
 {
     match mended {
-        Mended::Done(deck, list) => {
+        Ok((deck, list)) => {
             list_length[0] = list;
-            return OpenPanelAnswer {
+            OpenPanelAnswer {
                 number: 0,
                 value: deck,
-            };
+            }
         }
-        Mended::Refused(number, place) => {
-            return OpenPanelAnswer {
-                number: number,
-                value: place,
-            };
-        }
+        Err(refusal) => OpenPanelAnswer::from(refusal),
     }
 }

@@ -7,6 +7,7 @@ use mathlib.Core.List.{List, ◌++◌}
 use mathlib.Core.Option.{Option, none, some}
 use native.Mathlib.Omega.{arith}
 use Rattle.card.specs.Refusals.{wrong_seats, seat_above_top}
+use Rattle.card.proofs.Verdicts.{refused_number, refused_place}
 use Rattle.card.specs.Card.{Card}
 use Rattle.entry.specs.Said.{Said, says, refused}
 use Rattle.entry.specs.Contract.{Enters, lent_nothing, Faithful}
@@ -64,7 +65,4 @@ moved_faithful (says none) (says none) e = refl
 moved_faithful (says none) (refused r p) e = let z : ◌≡◌ {A = ℕ} 0 1 = cc in absurd (omega arith)
 moved_faithful (refused r p) (says (some b)) e = let z : ◌≡◌ {A = ℕ} 0 1 = cc in absurd (omega arith)
 moved_faithful (refused r p) (says none) e = let z : ◌≡◌ {A = ℕ} 0 1 = cc in absurd (omega arith)
-moved_faithful (refused r p) (refused s q) e =
-    let a : r ≡ s = cc in
-    let b : p ≡ q = cc in
-    rw (a, b)
+moved_faithful (refused r p) (refused s q) e = rw (refused_number e, refused_place e)

@@ -56,12 +56,9 @@ pub fn put_choices<'a>(
     requires { Showing head table.now rows.now branches.now }
     ensures { Puts room.old room.new at (blocks_text (tells head.shared) (choices_in head.top (or_one head.shared) table.now rows.now branches.now head.count)) result }
 {
-    let count = head.count;
     let mut to = place(at);
-    let mut i = 0;
-    while i < count {
+    for i in 0..head.count {
         to = put_choice(room, to, head, i, table, rows, branches);
-        i += 1;
     }
     to
 }
@@ -96,12 +93,9 @@ pub fn put_table<'a>(
     requires { Showing head table.now rows.now branches.now }
     ensures { Puts room.old room.new at (moves_text (tells head.shared) (flat (upto (suc head.top) (λ a. moves_from head.top (or_one head.shared) a (move_by table.now rows.now branches.now head.count a))))) result }
 {
-    let top = head.top;
     let mut to = place(at);
-    let mut old = 0;
-    while old <= top {
+    for old in 0..head.top + 1 {
         to = put_from(room, to, old, head, table, rows, branches);
-        old += 1;
     }
     to
 }

@@ -1,4 +1,3 @@
-pub mod Cleared
 pub mod Judging
 pub mod Structs
 pub mod ReadInto

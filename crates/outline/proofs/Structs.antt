@@ -5,20 +5,19 @@ use mathlib.Core.List.{List}
 use native.Mathlib.Decide.{dec_lt}
 use native.Mathlib.Nat.{zero-add}
 use native.Mathlib.Omega.{arith}
+use Rattle.std.specs.Prelude.{Ok, Err}
 use lib.ListN.{length, get_or, set, replicate, length-set}
 use lib.Seq.{take_all, get_or-set_same, get_or-set_other}
 use Rattle.card.specs.Limits.{most_statements}
 use Rattle.card.specs.Card.{Card}
-use Rattle.card.specs.Laid.{no_statement, zeros, padded, statement_rows, laid, blank}
+use Rattle.card.specs.Laid.{no_statement, laid}
 use Rattle.card.specs.Rows.{row_of, rows_of, rows_from}
 use Rattle.card.specs.Lent.{Lent}
 use Rattle.card.specs.declared.Statement.{Statement}
 use Rattle.card.proofs.Rows.{rows_list, rows_taken}
 use Rattle.card.proofs.Sized.{statements_long}
 use Rattle.reading.specs.Reading.{Outcome, taken, refused, read_of}
-use Rattle.outline.specs.declared.Reading.{Reading}
-use Rattle.outline.specs.declared.Outline.{Outline}
-use Rattle.outline.specs.ReadingOf.{reading_of, Reads, outline_of, memory_of, ReadsInto}
+use Rattle.outline.specs.ReadingOf.{Reading, Outline, reading_of, Reads, outline_of, memory_of, ReadsInto}
 
 -- the first i statements are those of the rows
 pub record Made (rows : List ℕ) (xs : List Statement) (i : ℕ) : Type 0 where
@@ -46,21 +45,19 @@ made_all {rows} {xs} {i} m h =
 -- ---- the whole
 
 abbrev pub whole_of : Outline → Lent → Reading
-whole_of r x = record {
-  verdict = r.verdict;
-  card = record {
-    mode = r.head.mode;
-    shared = r.head.shared;
-    initial = r.head.initial;
-    seats = r.head.seats;
-    top = r.head.top;
-    start = r.head.start;
-    count = r.head.count;
-    statements = rows_from x.rows 0 most_statements;
-    nodes = x.nodes;
-    branches = x.branches;
-  };
-}
+whole_of (Ok head) x = Ok (record {
+  mode = head.mode;
+  shared = head.shared;
+  initial = head.initial;
+  seats = head.seats;
+  top = head.top;
+  start = head.start;
+  count = head.count;
+  statements = rows_from x.rows 0 most_statements;
+  nodes = x.nodes;
+  branches = x.branches;
+})
+whole_of (Err e) x = Err e
 
 -- all statements come back from their rows
 statements_back : (c : Card) → rows_from (rows_of (laid c).statements) 0 most_statements ≡ (laid c).statements
@@ -70,29 +67,22 @@ statements_back c =
 
 whole_taken : (c : Card) → whole_of (outline_of (taken c)) (memory_of (taken c)) ≡ reading_of (taken c)
 unfolding laid
-whole_taken c = ap (λ (xs : List Statement). record {
-  verdict = (reading_of (taken c)).verdict;
-  card = record {
-    mode = (laid c).mode;
-    shared = (laid c).shared;
-    initial = (laid c).initial;
-    seats = (laid c).seats;
-    top = (laid c).top;
-    start = (laid c).start;
-    count = (laid c).count;
-    statements = xs;
-    nodes = (laid c).nodes;
-    branches = (laid c).branches;
-  };
-}) (statements_back c)
-
-whole_refused : (n p : ℕ) → whole_of (outline_of (refused n p)) (memory_of (refused n p)) ≡ reading_of (refused n p)
-unfolding blank statement_rows zeros padded
-whole_refused n p = refl
+whole_taken c = ap (λ (xs : List Statement). Ok (record {
+  mode = (laid c).mode;
+  shared = (laid c).shared;
+  initial = (laid c).initial;
+  seats = (laid c).seats;
+  top = (laid c).top;
+  start = (laid c).start;
+  count = (laid c).count;
+  statements = xs;
+  nodes = (laid c).nodes;
+  branches = (laid c).branches;
+})) (statements_back c)
 
 whole_of_law : (o : Outcome) → whole_of (outline_of o) (memory_of o) ≡ reading_of o
 whole_of_law (taken c) = whole_taken c
-whole_of_law (refused n p) = whole_refused n p
+whole_of_law (refused n p) = refl
 
 pub reads_whole : {s : List ℕ} {r : Outline} {x : Lent} → ReadsInto s r x → Reads s (whole_of r x)
 reads_whole {s} {r} {x} h = record {

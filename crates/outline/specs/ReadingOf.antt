@@ -1,18 +1,26 @@
--- What the reader hands back for every outcome: the card that was taken, as a struct or in lent arrays, or zeros. Assumes nothing.
-use Rattle.std.specs.Prelude.{ℕ, ◌≡◌, List}
+-- What the reader hands back for every outcome: the card that was taken, as a struct, or its head beside lent arrays, or why it is refused;
+-- the arrays are zeros then. Assumes nothing.
+use Rattle.std.specs.Prelude.{ℕ, ◌≡◌, List, Result, Ok}
 use Rattle.card.specs.Card.{Card}
 use Rattle.card.specs.Weight.{Rule, card_rule}
 use Rattle.card.specs.Valid.{ValidCard}
-use Rattle.card.specs.Laid.{laid, blank}
+use Rattle.card.specs.Laid.{laid}
 use Rattle.reading.specs.Reading.{Outcome, taken, refused, read_under, read_of}
-use Rattle.card.specs.Lent.{Lent, head_of, no_head, lent_of, none_lent}
-use Rattle.card.specs.declared.Verdict.TheVariants.{Taken, Refused}
-use Rattle.outline.specs.declared.Reading.{Reading}
-use Rattle.outline.specs.declared.Outline.{Outline}
+use Rattle.card.specs.Lent.{Lent, head_of, lent_of, none_lent}
+use Rattle.card.specs.Verdict.{Refused}
+use Rattle.card.specs.declared.Card.{Card as CardLaid}
+use Rattle.card.specs.declared.Head.{Head}
+use Rattle.card.specs.declared.Refusal.{Refusal}
+
+abbrev pub Reading : Type 0
+Reading = Result CardLaid Refusal
+
+abbrev pub Outline : Type 0
+Outline = Result Head Refusal
 
 abbrev pub reading_of : Outcome → Reading
-reading_of (taken c) = record { verdict = Taken; card = laid c }
-reading_of (refused r p) = record { verdict = Refused r p; card = blank }
+reading_of (taken c) = Ok (laid c)
+reading_of (refused r p) = Refused r p
 
 -- the contract: one equation, and what is taken is valid
 pub record Reads (bytes : List ℕ) (r : Reading) : Type 0 where
@@ -22,8 +30,8 @@ pub record Reads (bytes : List ℕ) (r : Reading) : Type 0 where
 -- ---- the same in lent arrays
 
 abbrev pub outline_of : Outcome → Outline
-outline_of (taken c) = record { verdict = Taken; head = head_of c }
-outline_of (refused r p) = record { verdict = Refused r p; head = no_head }
+outline_of (taken c) = Ok (head_of c)
+outline_of (refused r p) = Refused r p
 
 abbrev pub memory_of : Outcome → Lent
 memory_of (taken c) = lent_of c

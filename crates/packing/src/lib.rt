@@ -1,6 +1,6 @@
 // A node and a branch as one number each ("What the box holds"). A packer takes an argument that is too large as the largest that it
 // takes; a reader of a packed number takes any.
-#![tactic(auto)]
+#![tactic(auto, unfolding(card::specs::Laid::pack_node, card::specs::Laid::pack_group, card::specs::Laid::pack_branch, card::specs::Laid::op_of, card::specs::Laid::left_of, card::specs::Laid::right_of, card::specs::Laid::kind_part, card::specs::Laid::sign_part, card::specs::Laid::relation_part, card::specs::Laid::state_part, card::specs::Laid::units_part, card::specs::Laid::set_part, card::specs::Laid::end_part))]
 
 ghost use Rattle.std.specs.Prelude.{◌≡◌, ◌-◌, ◌<◌, min};
 ghost use Rattle.card.specs.Limits.{most_states, set_places, node_places, numbers, unit};
@@ -40,32 +40,22 @@ pub const ISNT: usize = 1;
 // a branch's units stand above what it sets and its end
 const BELOW_UNITS: usize = SET_PLACES * MOST_STATES;
 
-// the smaller of the two
-fn at_most(x: usize, most: usize) -> usize
-    ensures { result ≡ min x most }
-{
-    if x < most {
-        return x;
-    }
-    most
-}
-
 pub fn pack_node(op: usize, left: usize, right: usize) -> u32
     ensures { result ≡ pack_node_said (min op op_or) (min left (node_places - 1)) (min right (node_places - 1)) }
 {
-    let op = at_most(op, OR);
-    let left = at_most(left, NODE_PLACES - 1);
-    let right = at_most(right, NODE_PLACES - 1);
+    let op = op.min(OR);
+    let left = left.min(NODE_PLACES - 1);
+    let right = right.min(NODE_PLACES - 1);
     ((op * NODE_PLACES + left) * NODE_PLACES + right) as u32
 }
 
 pub fn pack_group(kind: usize, sign: usize, relation: usize, d: usize) -> u32
     ensures { result ≡ pack_group_said (min kind 1) (min sign 1) (min relation 1) (min d numbers) }
 {
-    let kind = at_most(kind, OTHERS);
-    let sign = at_most(sign, ANY);
-    let relation = at_most(relation, ISNT);
-    let d = at_most(d, NUMBERS);
+    let kind = kind.min(OTHERS);
+    let sign = sign.min(ANY);
+    let relation = relation.min(ISNT);
+    let d = d.min(NUMBERS);
     (((kind * 2 + sign) * 2 + relation) * MOST_STATES + d) as u32
 }
 
@@ -73,7 +63,7 @@ pub fn pack_group(kind: usize, sign: usize, relation: usize, d: usize) -> u32
 pub fn pack_one(d: usize) -> u32
     ensures { result ≡ leaf_number (one (min d numbers)) }
 {
-    let d = at_most(d, NUMBERS);
+    let d = d.min(NUMBERS);
     (ONE * (4 * MOST_STATES) + d) as u32
 }
 
@@ -81,8 +71,8 @@ pub fn pack_one(d: usize) -> u32
 pub fn pack_shared(relation: usize, value: usize) -> u32
     ensures { result ≡ pack_group_said shared_kind 0 (min relation 1) (min value numbers) }
 {
-    let relation = at_most(relation, ISNT);
-    let value = at_most(value, NUMBERS);
+    let relation = relation.min(ISNT);
+    let value = value.min(NUMBERS);
     (SHARED * (4 * MOST_STATES) + (relation * MOST_STATES + value)) as u32
 }
 
@@ -90,9 +80,9 @@ pub fn pack_shared(relation: usize, value: usize) -> u32
 pub fn pack_branch(units: u32, sets: usize, end: usize) -> u32
     ensures { result ≡ pack_branch_said (min units unit) (min sets numbers) (min end numbers) }
 {
-    let units = at_most(units as usize, Weight::UNIT as usize);
-    let sets = at_most(sets, NUMBERS);
-    let end = at_most(end, NUMBERS);
+    let units = units.min(Weight::UNIT) as usize;
+    let sets = sets.min(NUMBERS);
+    let end = end.min(NUMBERS);
     (units * BELOW_UNITS + (sets * MOST_STATES + end)) as u32
 }
 
@@ -108,20 +98,14 @@ pub fn left_of(node: u32, n: usize) -> usize
     ensures child { result ≡ min (left_of node) (n - 1) }
     ensures below { (n ≡ 0 → ⊥) → result < n }
 {
-    if n == 0 {
-        return 0;
-    }
-    at_most((node as usize) / NODE_PLACES % NODE_PLACES, n - 1)
+    ((node as usize) / NODE_PLACES % NODE_PLACES).min(n.saturating_sub(1))
 }
 
 pub fn right_of(node: u32, n: usize) -> usize
     ensures child { result ≡ min (right_of_said node) (n - 1) }
     ensures below { (n ≡ 0 → ⊥) → result < n }
 {
-    if n == 0 {
-        return 0;
-    }
-    at_most((node as usize) % NODE_PLACES, n - 1)
+    ((node as usize) % NODE_PLACES).min(n.saturating_sub(1))
 }
 
 pub fn kind_of(node: u32) -> usize

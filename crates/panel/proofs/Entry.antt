@@ -1,12 +1,13 @@
 -- What the panel entry says, stage by stage: the card's refusal, the seats', or the panel that its table holds. Assumes nothing.
 use Prim.Native.Nat.{ℕ}
-use mathlib.Core.Path.{◌≡◌, sym, ap, subst, ◌∙◌}
+use mathlib.Core.Path.{◌≡◌, refl, sym, ap, subst, ◌∙◌}
 use mathlib.Core.List.{List}
 use lib.ListN.{replicate}
 use Rattle.card.specs.Valid.{values_of, ValidCard}
 use Rattle.card.specs.Lent.{Lent, card_in, HoldsIn}
-use Rattle.card.specs.declared.Verdict.{Verdict}
-use Rattle.card.specs.declared.Verdict.TheVariants.{Taken, Refused}
+use Rattle.std.specs.Prelude.{Ok, Err}
+use Rattle.card.specs.Verdict.{Verdict, Taken}
+use Rattle.card.specs.declared.Refusal.{Refusal}
 use Rattle.card.specs.declared.Head.{Head}
 use Rattle.card.proofs.Filling.{zeros_repeat}
 use Rattle.card.proofs.HeldIn.{holds_card}
@@ -14,11 +15,8 @@ use Rattle.entry.specs.Said.{says as text, refused}
 use Rattle.meaning.specs.Seats.{Seating, ValidSeating}
 use Rattle.meaning.specs.Panel.{panel}
 use Rattle.seating.specs.Judged.{judged_seats, seating_in, seating_of}
-use Rattle.seating.specs.FirstRefusal.{first_refusal}
 use Rattle.seating.proofs.Judging.{valid_exactly}
 use Rattle.seating.proofs.Heads.{values_in_law, judged_in}
-use Rattle.seating.proofs.FirstRefusal.{both_taken, first_told}
-use Rattle.outline.specs.declared.Outline.{Outline}
 use Rattle.outline.specs.ReadingOf.{ReadsInto}
 use Rattle.outline.proofs.ReadInto.{taken_holds, refused_said, taken_said}
 use Rattle.panel_numbers.specs.Table.{table_places, table_of}
@@ -49,45 +47,45 @@ module _ {h : Head} {x : Lent} {seats : Seating} (v : HoldsIn h x) (ok : ValidSe
 
 -- ---- the card's judgement and the seats'
 
--- the arrays that are lent to the reader
-module _ (s : List ℕ) {r : Outline} {x : Lent} (h : ReadsInto s r x) (seats : List ℕ) {j : Verdict} (e : j ≡ judged_seats r.head.seats r.head.top r.head.shared seats)
-    {told : Verdict} (f : told ≡ first_refusal r.verdict j) where
-  judged : j ≡ judged_seats r.head.seats r.head.top (values_of (card_in r.head x).shared) seats
-  judged = judged_in r.head x seats e
-
-  -- the seating that the bytes are, by the head
-  abbrev the_seats : Seating
-  the_seats = seating_in r.head.seats r.head.shared seats
-
-  same_seats : seating_of (card_in r.head x) seats ≡ the_seats
-  same_seats = ap (λ (m : ℕ). seating_in r.head.seats m seats) (values_in_law r.head x seats)
-
-  pub entry_refused : {number place : ℕ} → told ≡ Refused number place → panel_said s seats ≡ refused number place
+module _ (s seats : List ℕ) where
+  -- the card is refused
+  pub card_refused : {e : Refusal} {x : Lent} → ReadsInto s (Err e) x → panel_said s seats ≡ refused e.number e.place
   unfolding panel_said
-  entry_refused k =
-      first_told r.verdict j (sym f ∙ k)
-      (refused_said s h (shown_said seats))
-      (λ taken l. sym (taken_said s h (shown_said seats) taken) ∙ rw (← judged, l))
+  card_refused h = refused_said s h (shown_said seats) refl
 
-  module _ (fine : told ≡ Taken) where
-    both : (r.verdict ≡ Taken) × (j ≡ Taken)
-    both = both_taken r.verdict j (sym f ∙ fine)
+  -- it is taken
+  module _ {head : Head} {x : Lent} (h : ReadsInto s (Ok head) x) where
+    judged : {j : Verdict} → j ≡ judged_seats head.seats head.top head.shared seats → j ≡ judged_seats head.seats head.top (values_of (card_in head x).shared) seats
+    judged e = judged_in head x seats e
 
-    holds : HoldsIn r.head x
-    holds = taken_holds s h both.0
+    -- the seats are refused
+    pub seats_refused : {d : Refusal} → Err d ≡ judged_seats head.seats head.top head.shared seats → panel_said s seats ≡ refused d.number d.place
+    unfolding panel_said
+    seats_refused e = sym (taken_said s h (shown_said seats) refl) ∙ rw (← judged e)
 
-    seating : ValidSeating (card_in r.head x) the_seats
-    seating = subst (ValidSeating (card_in r.head x)) same_seats ((valid_exactly (card_in r.head x) seats).0 (sym judged ∙ both.1)).valid
+    -- the seating that the bytes are, by the head
+    abbrev the_seats : Seating
+    the_seats = seating_in head.seats head.shared seats
 
-    pub filling : Filling (replicate table_places 0) r.head x the_seats
-    filling = record { empty = sym (zeros_repeat table_places); holds = holds; seating = seating }
+    same_seats : seating_of (card_in head x) seats ≡ the_seats
+    same_seats = ap (λ (m : ℕ). seating_in head.seats m seats) (values_in_law head x seats)
 
-    module _ {table : List ℕ} (filled : table ≡ table_of r.head x the_seats) where
-      pub entry_prints : Printable r.head table x.rows x.branches
-      entry_prints = printable holds seating filled
+    module _ (fine : Taken ≡ judged_seats head.seats head.top head.shared seats) where
+      holds : HoldsIn head x
+      holds = taken_holds s h refl
 
-      pub entry_said : text (panel_text (panel_in r.head table x.rows x.branches)) ≡ panel_said s seats
-      unfolding panel_said
-      entry_said =
-          let a : text (panel_of (card_in r.head x) (seating_of (card_in r.head x) seats)) ≡ shown_said seats (card_in r.head x) = rw (← judged, both.1) in
-          ap (λ (t : List ℕ). text t) (sym (shown_text holds seating filled)) ∙ ap (λ (y : Seating). text (panel_of (card_in r.head x) y)) (sym same_seats) ∙ a ∙ taken_said s h (shown_said seats) both.0
+      seating : ValidSeating (card_in head x) the_seats
+      seating = subst (ValidSeating (card_in head x)) same_seats ((valid_exactly (card_in head x) seats).0 (sym (judged fine))).valid
+
+      pub filling : Filling (replicate table_places 0) head x the_seats
+      filling = record { empty = sym (zeros_repeat table_places); holds = holds; seating = seating }
+
+      module _ {table : List ℕ} (filled : table ≡ table_of head x the_seats) where
+        pub entry_prints : Printable head table x.rows x.branches
+        entry_prints = printable holds seating filled
+
+        pub entry_said : text (panel_text (panel_in head table x.rows x.branches)) ≡ panel_said s seats
+        unfolding panel_said
+        entry_said =
+            let a : text (panel_of (card_in head x) (seating_of (card_in head x) seats)) ≡ shown_said seats (card_in head x) = rw (← judged fine) in
+            ap (λ (t : List ℕ). text t) (sym (shown_text holds seating filled)) ∙ ap (λ (y : Seating). text (panel_of (card_in head x) y)) (sym same_seats) ∙ a ∙ taken_said s h (shown_said seats) refl

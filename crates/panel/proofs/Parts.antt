@@ -18,8 +18,8 @@ use Rattle.card.specs.Card.{Card}
 use Rattle.card.specs.Weight.{card_rule}
 use Rattle.reading.specs.Reading.{Outcome, taken, refused as turned, read_of}
 use Rattle.entry.specs.Said.{◌>>=◌, ◌>>◌, return}
-use Rattle.card.specs.declared.Verdict.{Verdict}
-use Rattle.card.specs.declared.Verdict.TheVariants.{Taken, Refused}
+use Rattle.std.specs.Prelude.{Ok, Err}
+use Rattle.card.specs.Verdict.{Verdict, Refused}
 use Rattle.card.specs.Valid.{values_of}
 use Rattle.seating.specs.Judged.{bytes_due, judged_seats, seating_of}
 use Rattle.rows.specs.Said.{outcome_said}
@@ -119,8 +119,8 @@ unfolding panel_said
 panel_short card seats = go (read_of card) refl
   where
     by_seats : (c : Card) → read_of card ≡ taken c → (s : Verdict) → judged_seats c.n c.k (values_of c.shared) seats ≡ s → Short panel_room (verdict_said s >> return (panel_of c (seating_of c seats)))
-    by_seats c e Taken j = panel_fits c (read_valid card_rule card c e) (seating_of c seats) ((valid_exactly c seats).0 j).valid
-    by_seats c e (Refused number place) j = tt
+    by_seats c e (Ok u) j = panel_fits c (read_valid card_rule card c e) (seating_of c seats) ((valid_exactly c seats).0 j).valid
+    by_seats c e (Err d) j = tt
 
     go : (o : Outcome) → read_of card ≡ o → Short panel_room (outcome_said o >>= shown_said seats)
     go (taken c) e = by_seats c e (judged_seats c.n c.k (values_of c.shared) seats) refl

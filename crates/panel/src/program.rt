@@ -9,7 +9,6 @@ use card::limits::MOST_SEATS;
 use line_ends::line_end;
 use panel_text::PANEL_ROOM;
 use program_lines::{put_refusal, put_seats};
-use room::Answer;
 
 // Bytes behind these are not read.
 pub const INPUT_BYTES: usize = 65536;
@@ -25,14 +24,9 @@ fn print<'a>(card: &'a [u8], seats: &'a [u8], room: &mut [u8]) -> usize
     requires { panel_room ≤ length room.old }
     ensures { Printed room.old room.new (printed (panel_said card.now seats.now)) result }
 {
-    let answer = panel(card, seats, room);
-    match answer {
-        Answer::Done(long) => {
-            return long;
-        }
-        Answer::Refused(number, place) => {
-            return put_refusal(room, number, place);
-        }
+    match panel(card, seats, room) {
+        Ok(long) => long,
+        Err(refusal) => put_refusal(room, refusal.number, refusal.place),
     }
 }
 

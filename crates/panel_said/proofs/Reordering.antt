@@ -12,7 +12,7 @@ use Rattle.card.specs.Refusals.{wrong_seats, seat_above_top}
 use Rattle.card.specs.Card.{Shared, Card}
 use Rattle.card.specs.Valid.{values_of}
 use Rattle.reading.specs.Reading.{Outcome, taken, refused as turned, read_of}
-use Rattle.room.specs.declared.Answer.{Answer}
+use Rattle.room.specs.Answer.{Answer}
 use Rattle.entry.specs.Said.{says as text, refused}
 use Rattle.room.specs.Answer.{Text, answer_number, answered, room_after, Entered}
 use Rattle.meaning.specs.Position.{position}
@@ -21,8 +21,9 @@ use Rattle.meaning.specs.Panel.{Panel}
 use Rattle.meaning.specs.Reordered.{Swapped, done, keep, swap, then, Reordered}
 use Rattle.meaning.proofs.Reorder.{reordered_length, reordered_valid, reordered_panel}
 use Rattle.meaning.proofs.Panel.{equal_counts}
-use Rattle.card.specs.declared.Verdict.{Verdict}
-use Rattle.card.specs.declared.Verdict.TheVariants.{Taken, Refused}
+use Rattle.card.specs.Verdict.{Verdict}
+use Rattle.std.specs.Prelude.{Ok, Err}
+use Rattle.card.specs.Verdict.{Taken, Refused}
 use Rattle.seating.specs.Judged.{bytes_due, judged_seats, seating_in, seating_of, Seated, bytes_of}
 use Rattle.seating.proofs.Judging.{valid_exactly, wrong_seats_exactly, seat_above_exactly, judged_else}
 use Rattle.seating.proofs.Bytes.{bytes_back, bytes_seated}
@@ -104,12 +105,18 @@ module _ (card : List ℕ) {c : Card} (h : read_of card ≡ taken c) where
         said_refused x j ∙ sym (said_refused y j')
 
     above_alike : (p : ℕ) → judged_seats c.n c.k (values_of c.shared) x ≡ Refused seat_above_top p → (s : Verdict) → judged_seats c.n c.k (values_of c.shared) y ≡ s → SaidAlike card x y
-    above_alike p j Taken k =
+    above_alike p j (Ok u) k =
         let ok = also_seated c (other_way c r) ((valid_exactly c y).0 k) in
         let z : ◌≡◌ {A = ℕ} 0 1 = cc ((valid_exactly c x).1 ok) in
         absurd (omega arith)
-    above_alike p j (Refused number q) k = ⊎_elim other nine (judged_else c.n c.k (values_of c.shared) y number q k)
+    above_alike p j (Err e) k = ⊎_elim other nine (judged_else c.n c.k (values_of c.shared) y number q k)
       where
+        number : ℕ
+        number = e.number
+
+        q : ℕ
+        q = e.place
+
         other : number ≡ wrong_seats → SaidAlike card x y
         other e =
             let n = ((seat_above_exactly c.n c.k (values_of c.shared) x p).0 j).0 in
@@ -119,11 +126,11 @@ module _ (card : List ℕ) {c : Card} (h : read_of card ≡ taken c) where
         nine e = inr (p, q, said_refused x j, said_refused y (k ∙ ap (λ (m : ℕ). Refused m q) e))
 
     seats_alike : (s : Verdict) → judged_seats c.n c.k (values_of c.shared) x ≡ s → SaidAlike card x y
-    seats_alike Taken j = inl (fine_alike ((valid_exactly c x).0 j))
-    seats_alike (Refused number p) j = ⊎_elim
-        (λ e. inl (wrong_alike p (j ∙ ap (λ (m : ℕ). Refused m p) e)))
-        (λ e. above_alike p (j ∙ ap (λ (m : ℕ). Refused m p) e) (judged_seats c.n c.k (values_of c.shared) y) refl)
-        (judged_else c.n c.k (values_of c.shared) x number p j)
+    seats_alike (Ok u) j = inl (fine_alike ((valid_exactly c x).0 j))
+    seats_alike (Err r) j = ⊎_elim
+        (λ e. inl (wrong_alike r.place (j ∙ ap (λ (m : ℕ). Refused m r.place) e)))
+        (λ e. above_alike r.place (j ∙ ap (λ (m : ℕ). Refused m r.place) e) (judged_seats c.n c.k (values_of c.shared) y) refl)
+        (judged_else c.n c.k (values_of c.shared) x r.number r.place j)
 
 module _ (card : List ℕ) {x y : List ℕ} (r : ReorderedOn card x y) where
   pub said_alike : SaidAlike card x y

@@ -7,7 +7,7 @@ use Rattle.meaning.specs.Reordered.{Swapped}
 use Rattle.reading.specs.Reading.{taken, read_of}
 use Rattle.entry.specs.Said.{refused}
 use Rattle.room.specs.Answer.{answer_number}
-use Rattle.room.specs.declared.Answer.{Answer}
+use Rattle.room.specs.Answer.{Answer}
 use Rattle.panel_said.specs.PanelSaid.{panel_said}
 
 -- the bytes of the seats, and those behind them: all are seats where no number is shared, else the first n (document 02, 2026-10)

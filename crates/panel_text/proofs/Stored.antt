@@ -10,7 +10,7 @@ use Rattle.card.specs.Refusals.{room_too_small}
 use Rattle.entry.specs.Said.{says as text}
 use Rattle.room.specs.Room.{Put}
 use Rattle.room.specs.Answer.{Entered}
-use Rattle.room.specs.declared.Answer.TheVariants.{Done, Refused as Turned}
+use Rattle.room.specs.Answer.{Done, Refused as Turned}
 use Rattle.room.proofs.Laws.{clip_start}
 
 module _ {was t : List ℕ} {need : ℕ} (same : need ≡ length t) where

@@ -17,12 +17,12 @@ ghost use Rattle.panel_wording.specs.PanelRoom.{Printable};
 
 use card::limits::{BRANCH_PLACES, MOST_BRANCHES, MOST_STATEMENTS, ROW_PLACES};
 use card::refusals::ROOM_TOO_SMALL;
-use card::{Head, NONDETERMINISTIC};
+use card::{Head, NONDETERMINISTIC, Refusal};
 use lines::{put_line, put_stay, put_stays};
 use moves_text::{put_choices, put_table};
 use phrases::put_mode;
 use put_numbers::put_number;
-use room::{Answer, place, put_bytes};
+use room::{place, put_bytes};
 use weighing::{ENABLED, SHARED, STAYS, TABLE_PLACES};
 
 // The shared number, where it has values at all.
@@ -118,17 +118,20 @@ pub fn enter_panel<'a>(
     table: &'a [usize; TABLE_PLACES],
     rows: &'a [usize; ROW_PLACES],
     branches: &'a [u32; BRANCH_PLACES],
-) -> Answer
+) -> Result<usize, Refusal>
     requires { Printable head table.now rows.now branches.now }
     ensures { Entered room.old room.new (text (panel_text (panel_in head table.now rows.now branches.now))) result }
 {
     if PANEL_ROOM <= room.len() {
-        return Answer::Done(put_panel(room, 0, head, table, rows, branches));
+        return Ok(put_panel(room, 0, head, table, rows, branches));
     }
     let need = measure(head, table, rows, branches);
     if room.len() < need {
-        return Answer::Refused(ROOM_TOO_SMALL, need);
+        return Err(Refusal {
+            number: ROOM_TOO_SMALL,
+            place: need,
+        });
     }
     let part = need;
-    Answer::Done(put_panel(&mut room[..part], 0, head, table, rows, branches))
+    Ok(put_panel(&mut room[..part], 0, head, table, rows, branches))
 }

@@ -12,6 +12,7 @@ use Rattle.marks_on_a_card.specs.Bytes.{is_digit, in_word, begins, is_alone, beg
 use Rattle.marks_on_a_card.specs.Kinds.{k_seat}
 use Rattle.marks.specs.Step.{step_at}
 use Rattle.marks.specs.Parts.{bare_of, valued_of}
+use Rattle.std.specs.Prelude.{Some}
 use Rattle.marks_on_a_card.specs.Quick.{seat_ahead}
 use Rattle.marks_on_a_card.proofs.Lists.{cases, not_both, and_right, drop_at}
 use Rattle.marks_on_a_card.proofs.Runs.{begins_at}
@@ -51,6 +52,6 @@ pub word_by : (s : List ℕ) (i : ℕ) → i < length s → get_or s i 0 ≡ 115
 word_by s i h e g d l w =
     let digit : begins is_digit (drop (i + 1) s) ≡ true = begins_at is_digit s (i + 1) g ∙ rw d in
     let over : begins in_word (drop (i + 1 + 1) s) ≡ false = begins_at in_word s (i + 1 + 1) l ∙ w in
-    let v : seat_ahead (drop i s) ≡ 1 = seat_at s i h ∙ rw (e, digit, over, d) in
+    let v : seat_ahead (drop i s) ≡ Some 1 = seat_at s i h ∙ rw (e, digit, over, d) in
     let to : i + 1 + 1 ≡ i + 2 = omega arith in
-    rw to (seat_step s i 1 (sym v) (omega arith))
+    rw to (seat_step s i 1 (sym v))

@@ -3,29 +3,29 @@
 use Prim.Native.Nat.{ℕ, suc, ◌+◌, ◌≤◌, ◌<◌}
 use Prim.Native.String.{String}
 use mathlib.Core.Path.{◌≡◌, refl, sym, ap, ◌∙◌}
-use mathlib.Core.Bool.{true, false}
+use mathlib.Core.Bool.{true}
 use mathlib.Core.List.{List, [], ◌∷◌}
 use mathlib.Core.Option.{Option}
 use native.Mathlib.Numerals.{add-one}
 use native.Mathlib.Omega.{arith}
 use borrow.Author.Tests.{eq-eqb, ne_eqb}
-use lib.Dec.{eqb}
-use lib.ListN.{length, get_or, set, drop, drop_of_length-le}
+use lib.ListN.{length, get_or, drop, drop_of_length-le}
+use Rattle.std.specs.Prelude.{Ok, Err}
 use lib.Seq.{drop-cons}
 use Rattle.card.specs.Limits.{numbers}
-use Rattle.card.specs.Refusals.{out_of_shape, not_due}
+use Rattle.card.specs.Refusals.{out_of_shape}
 use Rattle.marks_on_a_card.specs.Marks.{Mark, text, seat as seat_mark, process as process_mark, number, decimal, outside}
-use Rattle.marks_on_a_card.specs.Kinds.{k_end, k_number, k_seat, k_process, kind, value_of}
-use Rattle.marks_on_a_card.proofs.Lists.{not_both}
+use Rattle.marks_on_a_card.specs.Kinds.{k_number, k_seat, k_process, kind, value_of}
 use Rattle.marks.specs.declared.Step.{Step}
 use Rattle.reading.specs.Reader.{State, Result, ok, stop, Reader, bind, the, is, given, sign as read_sign, seat_of, process_of, number_of, Numbered, numbered, keep, line}
 use Rattle.reading.specs.Checks.{judged_words}
-use Rattle.late.specs.Late.{Late, blame, judge_all}
-use Rattle.late.specs.State.{at_value, Sized, late_in, value_in, with_late, After, after, Halted}
-use Rattle.late.proofs.StateLaws.{late_sized, set_sized, value_set, late_set}
-use Rattle.parts.specs.Parts.{from, Answers, state_by, word_by, SignFrom, NumberFrom, RunFrom, Told, Due, sign, seat, process, items_in, dues_in, kinds_in, numbers_in, Sure, LineRead}
-use Rattle.parts.proofs.Steps.{Next, end, one, place_seen, behind, Shown, seen, value_by, sign_by, sign_shown, seat_shown, process_shown, number_shown}
-use Rattle.parts.proofs.Answers.{made, fits, misses}
+use Rattle.late.specs.Late.{Late, judge_all}
+use Rattle.late.specs.declared.state.State.{State as Carried}
+use Rattle.late.specs.Settled.{refusal}
+use Rattle.late.specs.State.{late_in, with_late, After, after, Halted}
+use Rattle.parts.specs.Parts.{from, Answers, state_by, word_by, SignFrom, NumberFrom, RunFrom, Told, Due, sign, seat, process, items_in, dues_in, marks_due, Sure, LineRead}
+use Rattle.parts.proofs.Steps.{Next, end, one, place_seen, Shown, seen, value_by, sign_by, sign_shown, seat_shown, process_shown, number_shown}
+use Rattle.parts.proofs.Answers.{stopped, made, fits, misses}
 
 -- ---- how readers go together
 
@@ -36,48 +36,27 @@ module _ {A B C : Type 0} where
 
 -- ---- a number
 
-number_no_end : {j : ℕ} → j ≡ k_number → j ≡ k_end → ⊥
-number_no_end a b = omega (arith, a, b)
-
--- what is judged late is kept, then the value is written
-module _ (was : List ℕ) {is : List ℕ} {late : Late} (sized : Sized was) (e : is ≡ with_late was late) (v : ℕ) where
-  is_sized : Sized is
-  is_sized = ap length e ∙ late_sized was sized late
-
-  pub valued : value_in (set is at_value v) ≡ v
-  valued = value_set is is_sized v
-
-  pub valued_late : late_in (set is at_value v) ≡ late
-  valued_late = late_set is at_value v (omega arith) ∙ ap late_in e
-
-  pub valued_sized : Sized (set is at_value v)
-  valued_sized = set_sized is is_sized at_value v
-
 module _ {s : List ℕ} {k i : ℕ} {x : Step} (v : Next s i x) where
-  pub number_stops : {before : Late} {r : After} → (x.mark.kind ≡ k_number → ⊥) → Halted out_of_shape x.mark.place r → NumberFrom s i k before r
-  number_stops e h = record { answers = λ n. misses s _ number_of (value_by k_number) number_shown i x v n (rw (ne_eqb _ _ e)) _ _ h; small = λ z. absurd (z h.none); sized = h.sized }
+  pub number_stops : {before : Late} (state : Carried) → (x.mark.kind ≡ k_number → ⊥) → NumberFrom s i k before (after state (Err (refusal out_of_shape x.mark.place)))
+  number_stops state e = record { answers = λ n. misses s _ number_of (value_by k_number) number_shown i x v n (rw (ne_eqb _ _ e)) _ _ (stopped state); small = tt }
 
-  pub number_read : (was : List ℕ) {is : List ℕ} → x.mark.kind ≡ k_number → x.mark.value < numbers → Sized was → is ≡ with_late was (state_by k x.mark.value x.mark.place (late_in was))
-      → NumberFrom s i k (late_in was) (after (set is at_value x.mark.value) x.next.at)
+  -- what is judged late is kept, then the value is written
+  pub number_read : (was : Carried) {is : Carried} → x.mark.kind ≡ k_number → x.mark.value < numbers → is ≡ with_late was (state_by k x.mark.value x.mark.place (late_in was))
+      → NumberFrom s i k (late_in was) (after (record is { value = x.mark.value }) (Ok x.next.at))
   unfolding judge_all
-  number_read was e few sized h = record {
+  number_read was e few h = record {
     answers = λ n. fits s _ number_of (value_by k_number) number_shown i x v n x.mark.value (rw (eq-eqb _ _ e)) _ _
         (record {
-          went = behind s i x v (number_no_end e);
           rest = refl;
-          told = record { value = valued was sized h x.mark.value; late = valued_late was sized h x.mark.value ∙ ap (λ (p : ℕ). state_by k x.mark.value p (late_in was)) (place_seen s i x v) };
+          told = record { value = refl; late = ap late_in h ∙ ap (λ (p : ℕ). state_by k x.mark.value p (late_in was)) (place_seen s i x v) };
         });
-    small = λ z. omega (arith, valued was sized h x.mark.value, few);
-    sized = valued_sized was sized h x.mark.value;
+    small = few;
   }
 
 -- ---- a word's number
 
 pub word_due : (due v p : ℕ) (late : Late) → v ≡ due → late ≡ word_by due v p late
 word_due due v p late e = rw (eq-eqb _ _ e)
-
-pub word_not_due : (due v p : ℕ) (late : Late) → (v ≡ due → ⊥) → blame not_due p late ≡ word_by due v p late
-word_not_due due v p late e = rw (ne_eqb _ _ e)
 
 -- ---- a sign
 
@@ -97,13 +76,7 @@ module _ (t : String) (h : Told t) (s : List ℕ) (i : ℕ) where
   pub sign_took : (x : Step) → Next s i x → x.mark.kind ≡ kind t → (n : ℕ) → read_sign t (from s i n) ≡ ok tt (from s x.next.at n)
   sign_took x v e n = seen (λ m. given (is t m)) (sign_by t) (sign_shown t h) s i x v n ∙ rw (eq-eqb x.mark.kind (kind t) e)
 
-  pub sign_behind : (x : Step) → Next s i x → x.mark.kind ≡ kind t → x.next.at ≡ 0 → ⊥
-  sign_behind x v e = behind s i x v λ z. no_end h.end (sym z ∙ e)
-    where
-      no_end : eqb k_end (kind t) ≡ false → k_end ≡ kind t → ⊥
-      no_end a b = not_both (eqb k_end (kind t)) (eq-eqb k_end (kind t) b) a
-
-  module _ {B : Type 0} (to : B → List ℕ → Type 0) (x : Step) (v : Next s i x) (n : ℕ) (f : Unit {0} → Reader B) (r : After) where
+  module _ {B : Type 0} (to : B → Carried → Type 0) (x : Step) (v : Next s i x) (n : ℕ) (f : Unit {0} → Reader B) (r : After) where
     pub sign_fits : x.mark.kind ≡ kind t → Answers s to (f tt (from s x.next.at n)) r → Answers s to (bind (read_sign t (from s i n)) f) r
     sign_fits e y = fits s to (λ m. given (is t m)) (sign_by t) (sign_shown t h) i x v n tt (ap given (eq-eqb _ _ e)) f r y
 
@@ -111,40 +84,46 @@ module _ (t : String) (h : Told t) (s : List ℕ) (i : ℕ) where
     sign_misses e y = misses s to (λ m. given (is t m)) (sign_by t) (sign_shown t h) i x v n (ap given (ne_eqb _ _ e)) f r y
 
 -- whichever sign the kind tells
-module _ {s : List ℕ} {i j : ℕ} {was : List ℕ} {x : Step} (v : Next s i x) where
-  pub sign_read : x.mark.kind ≡ j → Sized was → SignFrom s i j was (after was x.next.at)
-  sign_read e sized = record {
-    answers = λ t h f n. rw (sign_took t h s i x v (e ∙ f) n) (record { went = sign_behind t h s i x v (e ∙ f); rest = refl; told = refl });
-    sized = sized;
-  }
+module _ {s : List ℕ} {i j : ℕ} {x : Step} (v : Next s i x) where
+  pub sign_read : x.mark.kind ≡ j → SignFrom s i j (Ok x.next.at)
+  sign_read e = record { answers = λ t h f n was. rw (sign_took t h s i x v (e ∙ f) n) (record { rest = refl; told = refl }) }
 
-  pub sign_stops : {r : After} → (x.mark.kind ≡ j → ⊥) → Halted out_of_shape x.mark.place r → SignFrom s i j was r
-  sign_stops e y = record {
-    answers = λ t h f n. rw (seen (λ m. given (is t m)) (sign_by t) (sign_shown t h) s i x v n, ne_eqb x.mark.kind (kind t) (λ z. e (z ∙ sym f)), ← place_seen s i x v) y;
-    sized = y.sized;
+  pub sign_stops : (x.mark.kind ≡ j → ⊥) → SignFrom s i j (Err (refusal out_of_shape x.mark.place))
+  sign_stops e = record {
+    answers = λ t h f n was. rw (seen (λ m. given (is t m)) (sign_by t) (sign_shown t h) s i x v n, ne_eqb x.mark.kind (kind t) (λ z. e (z ∙ sym f)), ← place_seen s i x v) (stopped was);
   }
 
 -- ---- a run
 
-nothing : {B : Type 0} {a : ℕ} {l : List ℕ} → [] ≡ a ∷ l → B
+nothing : {B : Type 0} {a : ℕ × ℕ} {l : List (ℕ × ℕ)} → [] ≡ a ∷ l → B
 nothing e = let z : ◌≡◌ {A = ℕ} 0 1 = cc in absurd (omega arith)
 
--- what is left of a run, whose kinds and numbers these are: an answer to it, from a cursor on, answers the whole
-pub record Left (s : List ℕ) (n next : ℕ) (late : Late) (kinds dues : List ℕ) (whole : After → Type 0) : Type 0 where
+-- the first mark and the others
+pub record Same (w v due is : ℕ) (dues rest : List (ℕ × ℕ)) : Type 0 where
+  pub kind : w ≡ v
+  pub number : due ≡ is
+  pub others : dues ≡ rest
+
+same : {w v due is : ℕ} {dues rest : List (ℕ × ℕ)} → (w, due) ∷ dues ≡ (v, is) ∷ rest → Same w v due is dues rest
+same {w} {v} {due} {is} e =
+    let f : ◌≡◌ {A = ℕ × ℕ} (w, due) (v, is) = cc in
+    record { kind = ap (λ (p : ℕ × ℕ). p.0) f; number = ap (λ (p : ℕ × ℕ). p.1) f; others = cc }
+
+-- what is left of a run, which in numbers is this: an answer to it, from a cursor on, answers the whole
+pub record Left (s : List ℕ) (n next : ℕ) (late : Late) (dues : List (ℕ × ℕ)) (whole : After → Type 0) : Type 0 where
   pub rest : List Due
   pub sure : Sure rest
-  pub kinds_left : kinds ≡ kinds_in rest
-  pub dues_left : dues ≡ numbers_in rest
+  pub left : dues ≡ marks_due rest
   pub answered : (r : After) → LineRead s late (dues_in rest) (line (items_in rest) (from s next n)) r → whole r
 
 module _ (s : List ℕ) (n i : ℕ) (late : Late) where
   -- nothing is left
-  pub run_end : (whole : After → Type 0) (dues : List ℕ) → Left s n i late [] dues whole → (i ≡ 0 → ⊥) → (state : List ℕ) → late_in state ≡ late → whole (after state i)
+  pub run_end : (whole : After → Type 0) → Left s n i late [] whole → (state : Carried) → late_in state ≡ late → whole (after state (Ok i))
   unfolding judge_all
-  run_end whole dues l there state kept = go l.rest l.kinds_left l.answered
+  run_end whole l state kept = go l.rest l.left l.answered
     where
-      go : (run : List Due) → [] ≡ kinds_in run → ((r : After) → LineRead s late (dues_in run) (line (items_in run) (from s i n)) r → whole r) → whole (after state i)
-      go [] e f = f _ (record { went = there; rest = refl; told = kept })
+      go : (run : List Due) → [] ≡ marks_due run → ((r : After) → LineRead s late (dues_in run) (line (items_in run) (from s i n)) r → whole r) → whole (after state (Ok i))
+      go [] e f = f _ (record { rest = refl; told = kept })
       go (sign t ∷ run) e f = nothing e
       go (seat j ∷ run) e f = nothing e
       go (process j ∷ run) e f = nothing e
@@ -162,119 +141,76 @@ module _ (s : List ℕ) (n i : ℕ) (late : Late) where
         (λ ws g. g ∙ ap (λ (p : ℕ). judge_all (length s) (judged_words (dues_in run) ws) (word_by due x.mark.value p late)) (place_seen s i x v))))
 
     -- one mark of it
-    pub run_more : (whole : After → Type 0) (w : ℕ) (kinds : List ℕ) (due : ℕ) (dues : List ℕ) → Left s n i late (w ∷ kinds) (due ∷ dues) whole → x.mark.kind ≡ w
-        → Left s n x.next.at (word_by due x.mark.value x.mark.place late) kinds dues whole
-    run_more whole w kinds due dues l e = go l.rest l.sure l.kinds_left l.dues_left l.answered
+    pub run_more : (whole : After → Type 0) (w due : ℕ) (dues : List (ℕ × ℕ)) → Left s n i late ((w, due) ∷ dues) whole → x.mark.kind ≡ w
+        → Left s n x.next.at (word_by due x.mark.value x.mark.place late) dues whole
+    run_more whole w due dues l e = go l.rest l.sure l.left l.answered
       where
-        go : (run : List Due) → Sure run → w ∷ kinds ≡ kinds_in run → due ∷ dues ≡ numbers_in run
+        go : (run : List Due) → Sure run → (w, due) ∷ dues ≡ marks_due run
             → ((r : After) → LineRead s late (dues_in run) (line (items_in run) (from s i n)) r → whole r)
-            → Left s n x.next.at (word_by due x.mark.value x.mark.place late) kinds dues whole
-        go [] h a b f = nothing (sym a)
-        go (sign t ∷ run) h a b f =
-            let z : x.mark.kind ≡ kind t = e ∙ cc in
-            let d : due ≡ 0 = cc in
-            let y : word_by due x.mark.value x.mark.place late ≡ late = rw (no_value t h.0 s i x v z, d) in
-            record {
-              rest = run;
-              sure = h.1;
-              kinds_left = cc;
-              dues_left = cc;
-              answered = λ r g. f r (sign_fits t h.0 s i _ x v n _ r z (rw y at g));
-            }
-        go (seat j ∷ run) h a b f =
-            let z : x.mark.kind ≡ k_seat = e ∙ cc in
-            let d : due ≡ j = cc in
-            record { rest = run; sure = h; kinds_left = cc; dues_left = cc; answered = λ r g. f r (worded seat_of k_seat seat_shown z j run r (rw d at g)) }
-        go (process j ∷ run) h a b f =
-            let z : x.mark.kind ≡ k_process = e ∙ cc in
-            let d : due ≡ j = cc in
-            record { rest = run; sure = h; kinds_left = cc; dues_left = cc; answered = λ r g. f r (worded process_of k_process process_shown z j run r (rw d at g)) }
-
-    -- there is a place behind it
-    pub run_there : {whole : After → Type 0} (w : ℕ) (kinds dues : List ℕ) → Left s n i late (w ∷ kinds) dues whole → x.mark.kind ≡ w → x.next.at ≡ 0 → ⊥
-    run_there w kinds dues l e = go l.rest l.sure l.kinds_left
-      where
-        word : (j : ℕ) → k_end < j → w ≡ j → x.next.at ≡ 0 → ⊥
-        word j a b = behind s i x v (λ z. omega (arith, a, b, e, z))
-
-        go : (run : List Due) → Sure run → w ∷ kinds ≡ kinds_in run → x.next.at ≡ 0 → ⊥
-        go [] h a = nothing (sym a)
-        go (sign t ∷ run) h a = sign_behind t h.0 s i x v (e ∙ cc)
-        go (seat j ∷ run) h a = word k_seat (omega arith) cc
-        go (process j ∷ run) h a = word k_process (omega arith) cc
+            → Left s n x.next.at (word_by due x.mark.value x.mark.place late) dues whole
+        go [] h a f = nothing (sym a)
+        go (sign t ∷ run) h a f =
+            let b = same a in
+            let z : x.mark.kind ≡ kind t = e ∙ b.kind in
+            let y : word_by due x.mark.value x.mark.place late ≡ late = rw (no_value t h.0 s i x v z, b.number) in
+            record { rest = run; sure = h.1; left = b.others; answered = λ r g. f r (sign_fits t h.0 s i _ x v n _ r z (rw y at g)) }
+        go (seat j ∷ run) h a f =
+            let b = same a in
+            let d = b.number in
+            record { rest = run; sure = h; left = b.others; answered = λ r g. f r (worded seat_of k_seat seat_shown (e ∙ b.kind) j run r (rw d at g)) }
+        go (process j ∷ run) h a f =
+            let b = same a in
+            let d = b.number in
+            record { rest = run; sure = h; left = b.others; answered = λ r g. f r (worded process_of k_process process_shown (e ∙ b.kind) j run r (rw d at g)) }
 
     -- a mark that does not fit
-    pub run_stops : (whole : After → Type 0) (w : ℕ) (kinds : List ℕ) (dues : List ℕ) → Left s n i late (w ∷ kinds) dues whole → (x.mark.kind ≡ w → ⊥)
-        → (r : After) → Halted out_of_shape x.mark.place r → whole r
-    run_stops whole w kinds dues l e out stop-at = go l.rest l.sure l.kinds_left l.answered
+    pub run_stops : (whole : After → Type 0) (w due : ℕ) (dues : List (ℕ × ℕ)) → Left s n i late ((w, due) ∷ dues) whole → (x.mark.kind ≡ w → ⊥)
+        → (state : Carried) → whole (after state (Err (refusal out_of_shape x.mark.place)))
+    run_stops whole w due dues l e state = go l.rest l.sure l.left l.answered
       where
+        out : After
+        out = after state (Err (refusal out_of_shape x.mark.place))
+
         missed : (f : Mark → Option ℕ) (d : ℕ) → Shown f (value_by d) → w ≡ d → (due : ℕ) (run : List Due)
             → LineRead s late (due ∷ dues_in run) (bind (numbered f (from s i n)) (λ w. keep w (line (items_in run)))) out
         missed f d h z due run =
             rw (assoc (the f (from s i n)) _ (λ w. keep w (line (items_in run))))
-            (misses s _ f (value_by d) h i x v n (rw (ne_eqb x.mark.kind d (λ y. e (y ∙ sym z)))) _ out stop-at)
+            (misses s _ f (value_by d) h i x v n (rw (ne_eqb x.mark.kind d (λ y. e (y ∙ sym z)))) _ out (stopped state))
 
-        go : (run : List Due) → Sure run → w ∷ kinds ≡ kinds_in run
+        go : (run : List Due) → Sure run → (w, due) ∷ dues ≡ marks_due run
             → ((r : After) → LineRead s late (dues_in run) (line (items_in run) (from s i n)) r → whole r) → whole out
         go [] h a f = nothing (sym a)
-        go (sign t ∷ run) h a f =
-            let z : w ≡ kind t = cc in
-            f _ (sign_misses t h.0 s i _ x v n _ out (λ y. e (y ∙ sym z)) stop-at)
-        go (seat j ∷ run) h a f = f _ (missed seat_of k_seat seat_shown (cc) j run)
-        go (process j ∷ run) h a f = f _ (missed process_of k_process process_shown (cc) j run)
+        go (sign t ∷ run) h a f = f _ (sign_misses t h.0 s i _ x v n _ out (λ y. e (y ∙ sym (same a).kind)) (stopped state))
+        go (seat j ∷ run) h a f = f _ (missed seat_of k_seat seat_shown (same a).kind j run)
+        go (process j ∷ run) h a f = f _ (missed process_of k_process process_shown (same a).kind j run)
 
--- ---- the same at an index of the tables
+-- ---- the same at an index of the table
 
--- what is left from the j-th mark on; once there was a mark, there is a place behind it
-pub record Onward (s : List ℕ) (n i : ℕ) (kinds dues : List ℕ) (j next : ℕ) (late : Late) (whole : After → Type 0) : Type 0 where
-  pub left : Left s n next late (drop j kinds) (drop j dues) whole
-  pub there : 0 < j → next ≡ 0 → ⊥
+pub record Going (s : List ℕ) (i : ℕ) (dues : List (ℕ × ℕ)) (before : Late) (j next : ℕ) (state : Carried) : Type 0 where
+  pub left : (run : List Due) → Sure run → dues ≡ marks_due run → (n : ℕ)
+      → Left s n next (late_in state) (drop j dues) (LineRead s before (dues_in run) (line (items_in run) (from s i n)))
 
-pub record Going (s : List ℕ) (i : ℕ) (kinds dues : List ℕ) (before : Late) (j next : ℕ) (state : List ℕ) : Type 0 where
-  pub few : j ≤ length kinds
-  pub sized : Sized state
-  pub onward : (run : List Due) → Sure run → kinds ≡ kinds_in run → dues ≡ numbers_in run → (n : ℕ)
-      → Onward s n i kinds dues j next (late_in state) (LineRead s before (dues_in run) (line (items_in run) (from s i n)))
+pub going_start : {s : List ℕ} {i : ℕ} {dues : List (ℕ × ℕ)} (state : Carried) → Going s i dues (late_in state) 0 i state
+going_start state = record { left = λ run h e n. record { rest = run; sure = h; left = e; answered = λ r y. y } }
 
-pub going_start : {s : List ℕ} {i : ℕ} {kinds dues : List ℕ} (state : List ℕ) → Sized state → Going s i kinds dues (late_in state) 0 i state
-going_start state sized = record {
-  few = omega arith;
-  sized = sized;
-  onward = λ run h e f n. record {
-    left = record { rest = run; sure = h; kinds_left = e; dues_left = f; answered = λ r y. y };
-    there = λ h z. omega arith;
-  };
-}
+module _ {s : List ℕ} {i : ℕ} {dues : List (ℕ × ℕ)} {before : Late} {j next : ℕ} {state : Carried} (g : Going s i dues before j next state) where
+  pub going_end : length dues ≤ j → RunFrom s i dues before (after state (Ok next))
+  going_end h = record { answers = λ run y e n. run_end s n next (late_in state) _ (rw (drop_of_length-le dues h) at (g.left run y e n)) state refl }
 
-module _ {s : List ℕ} {i : ℕ} {kinds dues : List ℕ} {before : Late} {j next : ℕ} {state : List ℕ} (g : Going s i kinds dues before j next state) where
-  pub going_end : 0 < length kinds → length kinds ≤ j → RunFrom s i kinds dues before (after state next)
-  going_end any h = record {
-    answers = λ run y e f n.
-        let o = g.onward run y e f n in
-        run_end s n next (late_in state) _ (drop j dues) (rw (drop_of_length-le kinds h) at o.left) (o.there (omega arith)) state refl;
-    sized = g.sized;
-  }
+  module _ (h : j < length dues) {x : Step} (v : Next s next x) where
+    abbrev here : ℕ × ℕ
+    here = get_or dues j (0, 0)
 
-  module _ (h : j < length kinds) {x : Step} (v : Next s next x) where
-    pub going_stops : {r : After} → (x.mark.kind ≡ get_or kinds j 0 → ⊥) → Halted out_of_shape x.mark.place r → RunFrom s i kinds dues before r
-    going_stops {r} d y = record {
-      answers = λ run z e f n.
-          run_stops s n next (late_in state) x v _ (get_or kinds j 0) (drop (suc j) kinds) (drop j dues) (rw (drop-cons kinds j 0 h) at (g.onward run z e f n).left) d r y;
-      sized = y.sized;
+    pub going_stops : (out : Carried) → (x.mark.kind ≡ here.0 → ⊥) → RunFrom s i dues before (after out (Err (refusal out_of_shape x.mark.place)))
+    going_stops out d = record {
+      answers = λ run z e n. run_stops s n next (late_in state) x v _ here.0 here.1 (drop (suc j) dues) (rw (drop-cons dues j (0, 0) h) at (g.left run z e n)) d out;
     }
 
-    pub going_more : {now : List ℕ} → j < length dues → x.mark.kind ≡ get_or kinds j 0
-        → now ≡ with_late state (word_by (get_or dues j 0) x.mark.value x.mark.place (late_in state)) → Going s i kinds dues before (j + 1) x.next.at now
-    going_more {now} l d e = record {
-      few = omega arith;
-      sized = ap length e ∙ late_sized state g.sized (word_by (get_or dues j 0) x.mark.value x.mark.place (late_in state));
-      onward = λ run z a b n.
-          let o = rw (drop-cons kinds j 0 h, drop-cons dues j 0 l) at (g.onward run z a b n).left in
-          rw (add-one j, ap late_in e)
-          (record {
-            left = run_more s n next (late_in state) x v _ (get_or kinds j 0) (drop (suc j) kinds) (get_or dues j 0) (drop (suc j) dues) o d;
-            there = λ y. run_there s n next (late_in state) x v (get_or kinds j 0) (drop (suc j) kinds) (get_or dues j 0 ∷ drop (suc j) dues) o d;
-          });
+    pub going_more : {now : Carried} → x.mark.kind ≡ here.0 → now ≡ with_late state (word_by here.1 x.mark.value x.mark.place (late_in state)) → Going s i dues before (j + 1) x.next.at now
+    going_more {now} d e = record {
+      left = λ run z a n.
+          let o = rw (drop-cons dues j (0, 0) h) at (g.left run z a n) in
+          rw (add-one j, ap late_in e) (run_more s n next (late_in state) x v _ here.0 here.1 (drop (suc j) dues) o d);
     }
 
 -- ---- a run of signs alone has no words, and nothing in it is judged
@@ -308,5 +244,5 @@ signs_read s before run h st r = go (line (items_in run) st) (wordless run h st)
     kept ws e = rw e
 
     go : (x : Result (List Numbered)) → Wordless x → LineRead s before [] x r → Answers s (λ ws state. late_in state ≡ before) x r
-    go (ok ws b) e y = record { went = y.went; rest = y.rest; told = y.told ∙ kept ws e }
+    go (ok ws b) e y = record { rest = y.rest; told = y.told ∙ kept ws e }
     go (stop n p) e y = y

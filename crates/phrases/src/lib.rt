@@ -45,6 +45,7 @@ pub fn divisor(units: u32) -> u32
 {
     let mut a = Weight::UNIT;
     let mut b = units;
+    // Euclid's way: there is no index
     while b != 0 {
         let rest = a % b;
         a = b;

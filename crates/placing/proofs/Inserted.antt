@@ -17,6 +17,7 @@ use Rattle.room.proofs.Laws.{clip_fits, length_clip}
 use Rattle.tidying.specs.Tidying.{live_card, with_card, added_text}
 use Rattle.tidying.proofs.Added.{with_every, with_count, with_bodies}
 use Rattle.tidying.proofs.Gap.{rows_then, gap_contents}
+use Rattle.gathering.specs.declared.Live.{Live}
 use Rattle.gathering.specs.LiveRows.{live_rows}
 use Rattle.gathering.specs.LiveText.{rows_in, rows_stay, Offsets}
 use Rattle.placing.specs.Lower.{lower_rows, Spots}
@@ -25,7 +26,13 @@ use Rattle.placing.specs.declared.Spot.{Spot}
 use Rattle.placing.proofs.Parts.{between, between_long, moved_up, replaced}
 use Rattle.placing.proofs.Rows.{FitTo, fit_for, fit_append, fit_count, fit_sizes, fit_lines, fit_live, text_append, rows_append, bodies_append, lower, higher, split, with_split, lower_rows_law}
 
-module _ (was : List ℕ) {cards bytes number : ℕ} {card : List ℕ} (i : Insertable was cards bytes number card) where
+module _ (was : List ℕ) {known : Live} {number : ℕ} {card : List ℕ} (i : Insertable was known number card) where
+  abbrev cards : ℕ
+  cards = known.cards
+
+  abbrev bytes : ℕ
+  bytes = known.bytes
+
   abbrev new : Entry
   new = live_card number card
 

@@ -19,6 +19,7 @@ use Rattle.tidying.proofs.Added.{with_count, with_bodies}
 use Rattle.tidying.proofs.Gap.{gap_held}
 use Rattle.tidying.proofs.Live.{kept_pass}
 use Rattle.tidying.proofs.NewDecks.{length_after}
+use Rattle.gathering.specs.declared.Live.{Live}
 use Rattle.placing.specs.Inserts.{Insertable}
 use Rattle.tidy.specs.Tidies.{Measured}
 use Rattle.tidy.proofs.LiveDeck.{cards_count}
@@ -29,7 +30,13 @@ drop_zeros zero t = refl
 drop_zeros (suc n) [] = refl
 drop_zeros (suc n) (x ∷ t) = drop_zeros n t
 
-module _ (was : List ℕ) (number : ℕ) (card : List ℕ) {cards bytes : ℕ} (m : Measured was cards bytes) where
+module _ (was : List ℕ) (number : ℕ) (card : List ℕ) {known : Live} (m : Measured was known) where
+  abbrev cards : ℕ
+  cards = known.cards
+
+  abbrev bytes : ℕ
+  bytes = known.bytes
+
   abbrev es : List Entry
   es = live_cards was
 
@@ -37,7 +44,7 @@ module _ (was : List ℕ) (number : ℕ) (card : List ℕ) {cards bytes : ℕ} (
   new = added_text number card es
 
   cards_are : length es ≡ cards
-  cards_are = cards_count was m.sound ∙ sym m.count
+  cards_are = cards_count was m.sound ∙ sym m.live.cards
 
   bytes_are : length (bodies es) ≡ bytes
   bytes_are = omega (arith, length_text es, text_long was m refl, cards_are)
@@ -89,7 +96,7 @@ module _ (was : List ℕ) (number : ℕ) (card : List ℕ) {cards bytes : ℕ} (
         ∙ ap (λ (t : List ℕ). tidy_text was ++ drop (length (tidy_text was)) t) (sym e)
         ∙ ap (λ (l : List Entry). deck_text l ++ drop (length (deck_text l)) tidy) (sym held_there)
 
-    pub insertable : number < 65536 → cards < 64 → behind (cards + 1) + bytes + length card ≤ length was → Insertable tidy cards bytes number card
+    pub insertable : number < 65536 → cards < 64 → behind (cards + 1) + bytes + length card ≤ length was → Insertable tidy known number card
     insertable w h l = record {
       text = text_there;
       live = subst (Every (λ (x : Entry). x.live ≡ true)) (sym held_there) (kept_pass is_live_entry (held_by was));

@@ -1,45 +1,47 @@
 -- A live number sought from entry to entry: what is left of the contents decides. Assumes nothing.
-use Prim.Native.Nat.{ℕ, ◌+◌, ◌-◌, ◌*◌, ◌≤◌}
-use mathlib.Core.Path.{◌≡◌, refl, sym, ap, ◌∙◌}
+use Prim.Native.Nat.{ℕ, ◌+◌, ◌*◌, ◌≤◌, ◌<◌}
+use mathlib.Core.Path.{◌≡◌, sym, ap, ◌∙◌}
 use mathlib.Core.Bool.{Bool, true, false}
 use mathlib.Core.List.{List}
 use native.Mathlib.Omega.{arith}
 use lib.ListN.{drop}
 use Rattle.card.specs.Refusals.{not_added}
 use Rattle.card.specs.Text.{when◌then◌else◌}
-use Rattle.entry.specs.Said.{refused}
-use Rattle.deck.specs.Contents.{Row, row_of, rows_of, count_of, behind, contents_of}
+use Rattle.entry.specs.Said.{says, refused}
+use Rattle.deck.specs.Contents.{Row, row_of, count_of}
 use Rattle.deck.specs.Lookup.{is_live}
 use Rattle.tidying.specs.Tidying.{number_free}
-use Rattle.gathering.proofs.Entries.{first_row}
-use Rattle.placing.specs.Free.{LivePlace}
+use Rattle.gathering.proofs.Entries.{rows_from, all_rows, no_rows, next_row}
+use Rattle.placing.specs.Free.{free_said}
 
 module _ (deck : List ℕ) (number : ℕ) where
-  pub record Seeking (left at : ℕ) : Type 0 where
-    pub place : at + 8 * left ≡ behind (count_of deck)
-    pub some : 1 ≤ at
-    pub same : number_free number 1 (contents_of deck) ≡ number_free number at (rows_of left (drop at deck))
+  abbrev left : ℕ → List Row
+  left i = rows_from deck (count_of deck) i
 
-  pub seek_begins : {count : ℕ} → count ≡ count_of deck → Seeking count 1
-  seek_begins e = record { place = omega (arith, e); some = omega arith; same = ap (λ (n : ℕ). number_free number 1 (rows_of n (drop 1 deck))) (sym e) }
+  -- none of the first i entries is it
+  pub record Seeking (i : ℕ) : Type 0 where
+    pub same : free_said deck number ≡ number_free number (1 + 8 * i) (left i)
 
-  module _ {left at : ℕ} (s : Seeking left at) where
-    pub seek_none : left ≡ 0 → LivePlace deck number 0
-    seek_none h = record { free = λ _. s.same ∙ ap (λ (n : ℕ). number_free number at (rows_of n (drop at deck))) h; taken = λ n. absurd (n refl) }
+  pub seek_begins : Seeking 0
+  seek_begins = record { same = ap (number_free number 1) (sym (all_rows deck (count_of deck))) }
 
-    module _ (h : left ≡ 0 → ⊥) where
-      abbrev rest : List Row
-      rest = rows_of (left - 1) (drop (at + 8) deck)
+  module _ {i : ℕ} (s : Seeking i) where
+    pub seek_none : count_of deck ≤ i → free_said deck number ≡ says tt
+    seek_none h = s.same ∙ ap (number_free number (1 + 8 * i)) (no_rows deck (count_of deck) i h)
+
+    module _ (h : i < count_of deck) where
+      abbrev at : ℕ
+      at = 1 + 8 * i
 
       here : (b : Bool) → b ≡ is_live number (row_of (drop at deck))
-          → number_free number 1 (contents_of deck) ≡ (when b then refused not_added at else number_free number (at + 8) rest)
+          → free_said deck number ≡ (when b then refused not_added at else number_free number (at + 8) (left (i + 1)))
       here b e =
           s.same
-          ∙ ap (number_free number at) (first_row deck left at h)
-          ∙ ap (λ (x : Bool). when x then refused not_added at else number_free number (at + 8) rest) (sym e)
+          ∙ ap (number_free number at) (next_row deck (count_of deck) i h)
+          ∙ ap (λ (x : Bool). when x then refused not_added at else number_free number (at + 8) (left (i + 1))) (sym e)
 
-      pub seek_hit : true ≡ is_live number (row_of (drop at deck)) → LivePlace deck number at
-      seek_hit e = record { free = λ z. absurd (omega (arith, z, s.some)); taken = λ _. here true e }
+      pub seek_hit : true ≡ is_live number (row_of (drop at deck)) → free_said deck number ≡ refused not_added at
+      seek_hit e = here true e
 
-      pub seek_miss : false ≡ is_live number (row_of (drop at deck)) → Seeking (left - 1) (at + 8)
-      seek_miss e = record { place = omega (arith, s.place); some = omega (arith, s.some); same = here false e }
+      pub seek_miss : false ≡ is_live number (row_of (drop at deck)) → Seeking (i + 1)
+      seek_miss e = let on : at + 8 ≡ 1 + 8 * (i + 1) = omega arith in record { same = here false e ∙ ap (λ (n : ℕ). number_free number n (left (i + 1))) on }

@@ -1,13 +1,13 @@
 -- What is printed for an entry's answer: a text that the entry has stored already, or a refusal's line in the room that it left as it was.
 -- Assumes nothing.
 use Prim.Native.Nat.{ℕ, ◌≤◌, ◌<◌, ◌^◌}
-use mathlib.Core.Path.{◌≡◌, sym, ap, ◌∙◌}
+use mathlib.Core.Path.{◌≡◌, sym, ap, ap₂, ◌∙◌}
 use mathlib.Core.List.{List, [], ◌++◌}
 use native.Mathlib.Omega.{arith}
 use lib.ListN.{length, take, drop, length-append}
 use lib.Seq.{length-take-le}
-use Rattle.room.specs.declared.Answer.{Answer}
-use Rattle.room.specs.declared.Answer.TheVariants.{Done, Refused}
+use Rattle.card.proofs.Verdicts.{refused_number, refused_place, ok≢refused}
+use Rattle.room.specs.Answer.{Answer, Done, Refused}
 use Rattle.room.specs.Digits.{decimal}
 use Rattle.room.specs.Room.{Put}
 use Rattle.entry.specs.Said.{says as text, refused}
@@ -17,9 +17,6 @@ use Rattle.room.proofs.Decimal.{decimal_length}
 use Rattle.room.proofs.Entries.{entered_refusal, entered_fits, entered_kept, entered_text}
 use Rattle.phrases.specs.Phrases.{◌▸◌, num}
 use Rattle.panel_wording.specs.Lines.{printed, refusal_most, Printed}
-
-done≢refused : {A : Type 0} {long number place : ℕ} → Done long ≡ Refused number place → A
-done≢refused e = let z : ◌≡◌ {A = ℕ} 0 1 = cc in absurd (omega arith)
 
 -- a text, if that is what is said, has at most so many bytes
 abbrev pub Short : ℕ → Text → Type 0
@@ -35,12 +32,10 @@ printed_done {was} {is} {said} {long = long} e d = of (entered_text (rw d at e))
 
 -- a text that is short enough is not refused
 is_refused : {most number place : ℕ} {was is : List ℕ} (said : Text) → Short most said → most ≤ length was → Entered was is said (Refused number place) → said ≡ refused number place
-is_refused (text t) h l e = done≢refused (sym (entered_fits e (omega arith)).0)
+is_refused (text t) h l e = ok≢refused (sym (entered_fits e (omega arith)).0)
 is_refused {number = number} {place = place} (refused k p) h l e =
-    let z : Refused number place ≡ Refused k p = (entered_refusal e).0 in
-    let a : number ≡ k = cc in
-    let b : place ≡ p = cc in
-    rw (a, b)
+    let z : ◌≡◌ {A = Answer} (Refused number place) (Refused k p) = (entered_refusal e).0 in
+    sym (ap₂ (λ n q. refused n q) (refused_number z) (refused_place z))
 
 abbrev pub refusal : ℕ → ℕ → List ℕ
 refusal number place = printed (refused number place)

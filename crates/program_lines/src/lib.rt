@@ -6,7 +6,6 @@ ghost use Rattle.room.specs.Room.{Put};
 ghost use Rattle.entry.specs.Said.{refused};
 ghost use Rattle.panel_wording.specs.Lines.{seat_of as seat_of_said, printed, refusal_most};
 
-use bytes_as_numbers::wide;
 use put_numbers::put_number;
 use room::{put_byte, put_bytes};
 
@@ -29,15 +28,11 @@ pub fn put_seats(line: &[u8], seats: &mut [u8]) -> usize
     ensures value { result ≡ min (length line.now) (length seats.old) }
     ensures seats_after { seats.new ≡ map seat_of_said (take result line.now) ++ drop result seats.old }
 {
-    let mut i = 0;
-    while i < line.len() {
-        if seats.len() <= i {
-            return i;
-        }
-        seats[i] = seat_of(line[i]);
-        i += 1;
+    let count = line.len().min(seats.len());
+    for (i, byte) in line[..count].iter().enumerate() {
+        seats[i] = seat_of(*byte);
     }
-    i
+    count
 }
 
 pub fn put_refusal(room: &mut [u8], number: u8, place: usize) -> usize
@@ -45,7 +40,7 @@ pub fn put_refusal(room: &mut [u8], number: u8, place: usize) -> usize
     ensures short { result ≤ refusal_most }
 {
     let a = put_bytes(room, 0, b"refused ");
-    let b = put_number(room, a, wide(number));
+    let b = put_number(room, a, usize::from(number));
     let c = put_byte(room, b, b' ');
     let d = put_number(room, c, place);
     put_byte(room, d, b'\n')

@@ -17,8 +17,8 @@ use Rattle.deck.specs.Contents.{count_of, behind}
 use Rattle.deck.specs.Deck.{Entry, deck_of, deck_text, Bytes}
 use Rattle.deck.specs.Sound.{MalformedAt}
 use Rattle.deck.proofs.Written.{length_text}
-use Rattle.room.specs.declared.Answer.{Answer}
-use Rattle.room.specs.declared.Answer.TheVariants.{Refused}
+use Rattle.room.specs.Answer.{Answer}
+use Rattle.room.specs.Answer.{Refused}
 use Rattle.room.specs.Answer.{told, answer_number, answered, Entered}
 use Rattle.answers.specs.Numbered.{numbers}
 use Rattle.room.proofs.Entries.{told_faithful}

@@ -18,8 +18,8 @@ use Rattle.deck_written.proofs.Exactly.{Outcome, written, stopped_at, outcome, r
 use Rattle.deck_written.proofs.Entries.{count_said, bodies_said, deck_contents, deck_long, deck_sound, deck_back}
 use Rattle.deck_written.proofs.NoGaps.{no_gaps}
 use Rattle.deck_written.proofs.Offsets.{offsets_unread}
-use Rattle.room.specs.declared.Answer.{Answer}
-use Rattle.room.specs.declared.Answer.TheVariants.{Refused}
+use Rattle.room.specs.Answer.{Answer}
+use Rattle.room.specs.Answer.{Refused}
 use Rattle.room.specs.Answer.{told, answer_number, answered, Entered}
 use Rattle.room.proofs.Entries.{told_faithful}
 use Rattle.answers.specs.Numbered.{numbers}

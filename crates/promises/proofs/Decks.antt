@@ -5,6 +5,8 @@ use mathlib.Core.Logic.{◌↔◌, ◌⊎◌, inl, inr}
 use mathlib.Core.List.{List, [], ◌∷◌, map}
 use native.Mathlib.Omega.{arith}
 use lib.ListN.{length, set}
+use Rattle.std.specs.Prelude.{Result}
+use Rattle.card.specs.declared.Refusal.{Refusal}
 use Rattle.card.specs.Refusals.{malformed_deck, no_live_card}
 use Rattle.card.specs.Verdict.{verdict_number, verdict_place}
 use Rattle.entry.specs.Said.{Said, says, refused, saying}
@@ -137,7 +139,7 @@ module _ {said : Said Part} {Given : Part → Type 0} {None : Type 0} {Bad : ℕ
       go (says p) e = inl (p, (s.found p).0 e)
       go (refused r p) e = wrong r p e (s.numbers r p e)
 
-  locates : (place : Place) → place ≡ placed said → Locates Given None Bad place
+  locates : (place : Result Place Refusal) → place ≡ placed said → Locates Given None Bad place
   locates place e = record {
     found = λ p g. e ∙ ap placed ((s.found p).1 g);
     none = λ h. e ∙ ap placed ((s.none 0).1 (h, refl));
@@ -166,9 +168,11 @@ module _ {said : Said Part} {Given : Part → Type 0} {None : Type 0} {Bad : ℕ
       number_is : (x : Said Part) → said ≡ x → a ≡ verdict_numbers (verdict_of x)
       number_is x e = t.answers ∙ ap (λ (y : Said Part). verdict_numbers (verdict_of y)) e
 
-      part_is : (x : Said Part) → said ≡ x → length was ≡ 3 → is ≡ (placed x).which ∷ (placed x).offset ∷ (placed x).size ∷ []
-      part_is x e l =
-          t.leaves ∙ ap (λ (y : Said Part). three_of (placed y) was) e ∙ three_set (placed x).which (placed x).offset (placed x).size was l
+      part_is : (p : Part) → said ≡ says p → length was ≡ 3 → is ≡ p.which ∷ p.offset ∷ p.size ∷ []
+      part_is p e l = t.leaves ∙ ap (λ (y : Said Part). three_of (placed y) was) e ∙ three_set p.which p.offset p.size was l
+
+      none_is : (r q : ℕ) → said ≡ refused r q → length was ≡ 3 → is ≡ 0 ∷ 0 ∷ 0 ∷ []
+      none_is r q e l = t.leaves ∙ ap (λ (y : Said Part). three_of (placed y) was) e ∙ three_set 0 0 0 was l
 
       go : (x : Said Part) → said ≡ x → PartTells Given None Bad was is a
       go (says p) e =
@@ -176,7 +180,7 @@ module _ {said : Said Part} {Given : Part → Type 0} {None : Type 0} {Bad : ℕ
           let v : a.value ≡ 0 = ap (λ (b : OpenPanelAnswer). b.value) (number_is (says p) e) in
           record {
             found = λ value. (λ h. ((p, (s.found p).0 e), sym h.1 ∙ v), λ h. (n, v ∙ sym h.1));
-            stands = λ q g. part_is (says q) ((s.found q).1 g);
+            stands = λ q g. part_is q ((s.found q).1 g);
             none = λ q. (λ h. absurd (omega (arith, h.0, n)), λ h. says≢refused (sym e ∙ (s.none q).1 h));
             malformed = λ q. (λ h. absurd (omega (arith, h.0, n)), λ h. says≢refused (sym e ∙ (s.malformed q).1 h));
             no_other = inl n;
@@ -187,7 +191,7 @@ module _ {said : Said Part} {Given : Part → Type 0} {None : Type 0} {Bad : ℕ
           let v : a.value ≡ p = ap (λ (b : OpenPanelAnswer). b.value) (number_is (refused r p) e) in
           record {
             found = λ value. (λ h. no_zero (s.numbers r p e) (sym n ∙ h.0), λ h. says≢refused (sym ((s.found h.0.0).1 h.0.1) ∙ e));
-            stands = λ q g. part_is (says q) ((s.found q).1 g);
+            stands = λ q g. part_is q ((s.found q).1 g);
             none = λ q. (
               λ h. (s.none q).0 (e ∙ same r p no_live_card q (sym n ∙ h.0) (sym v ∙ h.1)),
               λ h. back no_live_card q (sym e ∙ (s.none q).1 h) n v,
@@ -197,7 +201,7 @@ module _ {said : Said Part} {Given : Part → Type 0} {None : Type 0} {Bad : ℕ
               λ h. back malformed_deck q (sym e ∙ (s.malformed q).1 h) n v,
             );
             no_other = inr (one_of (s.numbers r p e) n);
-            zeros = λ z. part_is (refused r p) e;
+            zeros = λ z. none_is r p e;
           }
         where
           no_zero : {C : Type 0} → (r ≡ malformed_deck) ⊎ (r ≡ no_live_card) → r ≡ 0 → C

@@ -5,7 +5,7 @@ use Rattle.reading.specs.Reading.{Outcome}
 use Rattle.grammar.proofs.Theorems.{accepted, read_valid, refusal_1, refusal_2, refusal_3, refusal_4, refusal_5, refusal_6, refusal_7, refusal_17}
 use Rattle.reading.proofs.Numbers.{read_number}
 use Rattle.outline.specs.ReadingOf.{outline_of, memory_of}
-use Rattle.outline.specs.declared.Outline.{Outline}
+use Rattle.outline.specs.ReadingOf.{Outline}
 use Rattle.rereading.proofs.RoundTrip.{read_again}
 use Rattle.converting.proofs.Stricter.{stricter}
 use Rattle.edges.proofs.Edges.{unit_edges}
@@ -42,7 +42,7 @@ by_rule decimals = record {
   read_under_holds = λ card x y m n h k. (h.outline ∙ sym k.outline, h.memory ∙ sym k.memory);
   outline = λ card x m h. h.outline;
   holds = λ card x m h. (
-    (λ c e. (ap (λ (y : Outline). y.head) h.outline ∙ ap (λ (o : Outcome). (outline_of o).head) e, h.memory ∙ ap memory_of e)),
-    (λ number place e. (ap (λ (y : Outline). y.head) h.outline ∙ ap (λ (o : Outcome). (outline_of o).head) e, h.memory ∙ ap memory_of e)),
+    (λ c e. (h.outline ∙ ap outline_of e, h.memory ∙ ap memory_of e)),
+    (λ number place e. (h.outline ∙ ap outline_of e, h.memory ∙ ap memory_of e)),
   );
 }

@@ -13,8 +13,9 @@ use Rattle.entry.specs.Contract.{Two, in_rooms, InRooms}
 use Rattle.entry.proofs.Exactly.{◌↔∙◌}
 use Rattle.entry.proofs.Entries.{enters_unique, answer_refused, in_rooms_law}
 use Rattle.deck.specs.Deck.{Bytes}
-use Rattle.room.specs.declared.Answer.{Answer}
-use Rattle.room.specs.declared.Answer.TheVariants.{Done as Wrote, Refused as Turned}
+use Rattle.room.specs.Answer.{Answer}
+use Rattle.std.specs.Prelude.{Ok, Err}
+use Rattle.room.specs.Answer.{Done as Wrote, Refused as Turned}
 use Rattle.answers.specs.Numbered.{numbers}
 use Rattle.answers.specs.declared.OpenPanelAnswer.{OpenPanelAnswer}
 use Rattle.mending.specs.Mending.{mended, mend_said, list_room}
@@ -24,10 +25,13 @@ use Rattle.mending.proofs.Unchanged.{comes_out_the_same, all_there}
 use Rattle.mending.proofs.Rules.{by_rules}
 use Rattle.mending.proofs.Again.{new_short, new_back, new_whole, again}
 use Rattle.mended_rooms.proofs.Listed.{list_short}
-use Rattle.mended_rooms.specs.declared.Mended.{Mended}
-use Rattle.mended_rooms.specs.declared.Mended.TheVariants.{Done, Refused}
+use Rattle.mended_rooms.specs.Mends.{Mended}
+use Rattle.card.specs.Verdict.{Refused}
+use Rattle.mended_rooms.specs.Mends.{Done}
 use Rattle.mended_rooms.specs.Mends.{told, Mends}
-use Rattle.mended_rooms.proofs.Faithful.{done≢refused, same_deck, same_list, same_number, same_place, told_faithful}
+use Rattle.mended_rooms.proofs.Faithful.{done≢refused, same_deck, same_list, told_faithful}
+use Rattle.card.proofs.Verdicts.{refused_number, refused_place, refusal_is, ok_is}
+use Rattle.card.specs.declared.Refusal.{Refusal}
 use Rattle.mended_told.specs.LentRooms.{mended_numbers, list_length, LentRooms, lent, RoomsTold}
 use Rattle.mended_told.proofs.Telling.{told_back}
 use Rattle.mending_edges.proofs.MendingEdges.{mending_edges}
@@ -72,8 +76,8 @@ module _ (deck : List ℕ) {was is : Two (List ℕ)} {a : Mended} (e : Mends was
   malformed p = (λ h. forth outcome h, λ h. refused_first malformed_deck p ((refused_exactly deck malformed_deck p).1 (refl, h.0, h.1)))
     where
       forth : Outcome → a ≡ Refused malformed_deck p → (p ≡ 0) × (Mendable deck → ⊥)
-      forth (turned m) h = (same_place (sym h ∙ refused_first malformed_deck 0 ((refused_exactly deck malformed_deck 0).1 (refl, refl, m))), m)
-      forth (small q t) h = absurd (omega (arith, same_number (sym h ∙ (rooms.small_room q).1 t)))
+      forth (turned m) h = (refused_place (sym h ∙ refused_first malformed_deck 0 ((refused_exactly deck malformed_deck 0).1 (refl, refl, m))), m)
+      forth (small q t) h = absurd (omega (arith, refused_number (sym h ∙ (rooms.small_room q).1 t)))
       forth (fits f) h = done≢refused (sym (is_done f) ∙ h)
 
   done : (d l : ℕ) → (a ≡ Done d l) ↔ (Fits deck was × (d ≡ length (mended deck).first) × (l ≡ length (mended deck).second))
@@ -88,8 +92,8 @@ module _ (deck : List ℕ) {was is : Two (List ℕ)} {a : Mended} (e : Mends was
   no_other r p h = go outcome
     where
       go : Outcome → (r ≡ malformed_deck) ⊎ (r ≡ room_too_small)
-      go (turned m) = inl (same_number (sym h ∙ (malformed 0).1 (refl, m)))
-      go (small q t) = inr (same_number (sym h ∙ (rooms.small_room q).1 t))
+      go (turned m) = inl (refused_number (sym h ∙ (malformed 0).1 (refl, m)))
+      go (small q t) = inr (refused_number (sym h ∙ (rooms.small_room q).1 t))
       go (fits f) = done≢refused (sym (is_done f) ∙ h)
 
   mends : MendsDeck deck was is a
@@ -106,20 +110,20 @@ module _ (deck : List ℕ) {was is : Two (List ℕ)} {a : Mended} (e : Mends was
 
 -- the deck's length alone, as another entry answers
 abbrev deck_only : Mended → Answer
-deck_only (Done d l) = Wrote d
-deck_only (Refused number place) = Turned number place
+deck_only (Ok long) = Wrote long.0
+deck_only (Err e) = Err e
 
 turned_exactly : (m : Mended) (r p : ℕ) → (deck_only m ≡ Turned r p) ↔ (m ≡ Refused r p)
-turned_exactly (Done d l) r p = (λ h. let z : ◌≡◌ {A = ℕ} 0 1 = cc in absurd (omega arith), λ h. done≢refused h)
-turned_exactly (Refused s q) r p = (λ h. let a : s ≡ r = cc in let b : q ≡ p = cc in rw (a, b), λ h. rw (same_number h, same_place h))
+turned_exactly (Ok long) r p = (λ h. let z : ◌≡◌ {A = ℕ} 0 1 = cc in absurd (omega arith), λ h. done≢refused h)
+turned_exactly (Err e) r p = (λ h. ap (λ (x : Refusal). Err x) (refusal_is h), λ h. ap (λ (x : Refusal). Err x) (refusal_is h))
 
 wrote_exactly : (m : Mended) (d : ℕ) → (deck_only m ≡ Wrote d) ↔ ((l : ℕ) × (m ≡ Done d l))
-wrote_exactly (Done e l) d = (λ h. let a : e ≡ d = cc in (l, rw a), λ h. ap Wrote (same_deck h.1))
-wrote_exactly (Refused s q) d = (λ h. let z : ◌≡◌ {A = ℕ} 0 1 = cc in absurd (omega arith), λ h. done≢refused (sym h.1))
+wrote_exactly (Ok long) d = (λ h. let a : long.0 ≡ d = ok_is h in (long.1, λ i. Ok (a i, long.1)), λ h. ap Wrote (same_deck h.1))
+wrote_exactly (Err e) d = (λ h. let z : ◌≡◌ {A = ℕ} 0 1 = cc in absurd (omega arith), λ h. done≢refused (sym h.1))
 
 as_numbers : (m : Mended) → mended_numbers m ≡ numbers (deck_only m)
-as_numbers (Done d l) = refl
-as_numbers (Refused r p) = refl
+as_numbers (Ok long) = refl
+as_numbers (Err e) = refl
 
 module _ (deck : List ℕ) {was is : Two (List ℕ)} {m : Mended} (h : MendsDeck deck was is m) where
   positive : (r : ℕ) → (r ≡ malformed_deck) ⊎ (r ≡ room_too_small) → 1 ≤ r

@@ -25,8 +25,8 @@ use Rattle.seating.specs.Judged.{seating_of, Seated, bytes_of}
 use Rattle.seating.proofs.Judging.{valid_exactly}
 use Rattle.seating.proofs.Bytes.{bytes_back, bytes_seated}
 use Rattle.room.specs.Answer.{told}
-use Rattle.room.specs.declared.Answer.{Answer}
-use Rattle.room.specs.declared.Answer.TheVariants.{Refused}
+use Rattle.room.specs.Answer.{Answer}
+use Rattle.room.specs.Answer.{Refused}
 use Rattle.room.proofs.Entries.{told_faithful}
 use Rattle.asking.specs.Meant.{Question}
 use Rattle.evenings.specs.Limits.{most_vectors, too_many_vectors, too_many_nights, wrong_row}

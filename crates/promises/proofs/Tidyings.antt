@@ -14,8 +14,8 @@ use Rattle.entry.proofs.Entries.{enters_unique}
 use Rattle.reading.specs.Reading.{refused as turned, read_of}
 use Rattle.reading.proofs.Numbers.{read_number}
 use Rattle.deck.specs.Deck.{Bytes}
-use Rattle.room.specs.declared.Answer.{Answer}
-use Rattle.room.specs.declared.Answer.TheVariants.{Done, Refused}
+use Rattle.room.specs.Answer.{Answer}
+use Rattle.room.specs.Answer.{Done, Refused}
 use Rattle.room.specs.Answer.{told}
 use Rattle.room.proofs.Entries.{told_faithful}
 use Rattle.answers.specs.Numbered.{numbers}

@@ -19,8 +19,8 @@ use Rattle.meaning.proofs.Turns.{Taker, takers}
 use Rattle.meaning.proofs.Reorder.{reordered_valid, reordered_counts}
 use Rattle.entry.specs.Contract.{Two, Enters, in_rows}
 use Rattle.rows.specs.Said.{Read}
-use Rattle.room.specs.declared.Answer.{Answer}
-use Rattle.room.specs.declared.Answer.TheVariants.{Done}
+use Rattle.room.specs.Answer.{Answer}
+use Rattle.room.specs.Answer.{Done}
 use Rattle.room.specs.Answer.{told}
 use Rattle.room.proofs.Entries.{told_faithful}
 use Rattle.seating.specs.Judged.{seating_of}

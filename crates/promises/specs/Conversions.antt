@@ -12,8 +12,8 @@ use Rattle.deck.specs.Sound.{Sound, MalformedAt}
 use Rattle.marks_on_a_card.specs.Marks.{decimal, Placed, placed, marks_of}
 use Rattle.grammar.specs.Verdicts.{In}
 use Rattle.deck_written.specs.Fine.{NoGaps}
-use Rattle.room.specs.declared.Answer.{Answer}
-use Rattle.room.specs.declared.Answer.TheVariants.{Refused}
+use Rattle.room.specs.Answer.{Answer}
+use Rattle.room.specs.Answer.{Refused}
 use Rattle.room.specs.Answer.{told, Entered}
 use Rattle.reading.specs.Reading.{taken, refused as turned, read_under, read_of}
 use Rattle.answers.specs.declared.OpenPanelAnswer.{OpenPanelAnswer}

@@ -11,8 +11,8 @@ use Rattle.deck.specs.Deck.{deck_of, deck_text, Bytes}
 use Rattle.deck.specs.Sound.{Sound}
 use Rattle.deck_written.specs.WriteDeckSaid.{lines, entries_said, write_deck_said, lines_for}
 use Rattle.deck_written.specs.Fine.{Fine, RefusedAt, SameButOffsets, NoGaps}
-use Rattle.room.specs.declared.Answer.{Answer}
-use Rattle.room.specs.declared.Answer.TheVariants.{Done, Refused}
+use Rattle.room.specs.Answer.{Answer}
+use Rattle.room.specs.Answer.{Done, Refused}
 use Rattle.room.specs.Answer.{answered, room_after, Entered}
 use Rattle.answers.specs.declared.OpenPanelAnswer.{OpenPanelAnswer}
 use Rattle.told.specs.Told.{Told}

@@ -1,11 +1,12 @@
 -- Document 02's box of cards, its reading side (2026-02): which bytes are a deck, where they are malformed, what a lookup hands back. The words on
 -- the right of an `↔` are in `deck/specs/Sound.antt` and `deck/specs/Given.antt`. Each statement on an entry begins with the promise that its code
 -- is proved to keep. Assumes nothing.
-use Rattle.std.specs.Prelude.{ℕ, ◌+◌, ◌≤◌, ◌<◌, ◌≡◌, ◌↔◌, ◌⊎◌, List, [], ◌∷◌, eqb, length}
+use Rattle.std.specs.Prelude.{ℕ, ◌+◌, ◌≤◌, ◌<◌, ◌≡◌, ◌↔◌, ◌⊎◌, List, [], ◌∷◌, eqb, length, Result}
+use Rattle.card.specs.declared.Refusal.{Refusal}
 use Rattle.card.specs.Text.{when◌then◌else◌}
 use Rattle.card.specs.Refusals.{malformed_deck, no_live_card}
-use Rattle.card.specs.declared.Verdict.{Verdict}
-use Rattle.card.specs.declared.Verdict.TheVariants.{Taken, Refused}
+use Rattle.card.specs.Verdict.{Verdict}
+use Rattle.card.specs.Verdict.{Taken, Refused}
 use Rattle.entry.specs.Said.{Said, says, refused}
 use Rattle.deck.specs.Contents.{count_of, judged, SameContents}
 use Rattle.deck.specs.Deck.{Entry, body_of, held_by, deck_of, deck_text, Writable}
@@ -84,8 +85,8 @@ GivenWith base expansion number p = BothSound base expansion × Gives base expan
 abbrev pub NoneWith : (base expansion : List ℕ) → ℕ → Type 0
 NoneWith base expansion number = BothSound base expansion × NoLive expansion number × NoLive base number
 
--- where a card stands, and all 0 beside a refusal
-pub record Locates (Given : Part → Type 0) (None : Type 0) (Bad : ℕ → Type 0) (place : Place) : Type 0 where
+-- where a card stands, or the refusal
+pub record Locates (Given : Part → Type 0) (None : Type 0) (Bad : ℕ → Type 0) (place : Result Place Refusal) : Type 0 where
   pub found : (p : Part) → Given p → place ≡ placed (says p)
   pub none : None → place ≡ placed (refused no_live_card 0)
   pub malformed : (q : ℕ) → Bad q → place ≡ placed (refused malformed_deck q)
@@ -121,9 +122,9 @@ pub record BoxJudgeTells (deck : List ℕ) (a : OpenPanelAnswer) : Type 0 where
 
 pub record BoxEntries : Type 0 where
   pub judge : (deck : List ℕ) (v : Verdict) → v ≡ verdict_of (judged deck) → Judges deck v
-  pub locate : (deck : List ℕ) (number : ℕ) (place : Place) → place ≡ placed (located deck number)
+  pub locate : (deck : List ℕ) (number : ℕ) (place : Result Place Refusal) → place ≡ placed (located deck number)
       → Locates (GivenIn deck number) (NoneIn deck number) (MalformedAt deck) place
-  pub locate_with : (base expansion : List ℕ) (number : ℕ) (place : Place) → place ≡ placed (located_with base expansion number)
+  pub locate_with : (base expansion : List ℕ) (number : ℕ) (place : Result Place Refusal) → place ≡ placed (located_with base expansion number)
       → Locates (GivenWith base expansion number) (NoneWith base expansion number) (EitherMalformed base expansion) place
   pub find : (deck : List ℕ) (number : ℕ) (part was is : List ℕ) → Found (find deck number) part was is
       → HandsBack (GivenIn deck number) (NoneIn deck number) (MalformedAt deck) (part_bytes deck []) part was is

@@ -1,18 +1,18 @@
 -- Document 02's new unit (2026-06) and the rule of a weight, which is an argument of reading: what a card may have as a weight is said by it, and
 -- all else that is said of reading holds by every rule, of the same code (2026-11 reads a box from before by the old rule, and all else by the new one).
 -- What 1/11, 1/13 and six digits are read as is among the edges. The words on the right of an `↔` are in `grammar/specs/Verdicts.antt`. Assumes nothing.
-use Rattle.std.specs.Prelude.{ℕ, ◌*◌, ◌≤◌, ◌≡◌, true, false, ◌↔◌, List, map, length}
+use Rattle.std.specs.Prelude.{ℕ, ◌*◌, ◌≤◌, ◌≡◌, true, false, ◌↔◌, List, map, length, Ok}
 use Rattle.card.specs.Limits.{card_bytes, unit}
 use Rattle.card.specs.Refusals.{too_long, outside_rules, out_of_shape, past_limit, above_top, not_due, wrong_weight, decimal_weight}
 use Rattle.card.specs.Card.{Card}
+use Rattle.card.specs.Verdict.{Refused}
 use Rattle.card.specs.Weight.{whole, decimal, ratio, Rule, card_rule, allowed}
 use Rattle.card.specs.Valid.{ValidCard}
-use Rattle.card.specs.Lent.{Lent, head_of, no_head, lent_of, none_lent}
+use Rattle.card.specs.Lent.{Lent, head_of, lent_of, none_lent}
 use Rattle.marks_on_a_card.specs.Marks.{marks_of}
 use Rattle.reading.specs.Reading.{taken, refused, read_under, Refuses}
 use Rattle.grammar.specs.Verdicts.{TooLong, OutsideRules, OutOfShape, PastLimit, Broken, Accepted}
-use Rattle.outline.specs.ReadingOf.{outline_of, ReadsUnder}
-use Rattle.outline.specs.declared.Outline.{Outline}
+use Rattle.outline.specs.ReadingOf.{Outline, outline_of, ReadsUnder}
 use Rattle.texts.specs.Writing.{write_of}
 use Rattle.edges.specs.Edges.{UnitEdges}
 use Rattle.card_promises.specs.CardMarks.{mark_of, CardMarks}
@@ -52,5 +52,5 @@ pub record ByRule (decimals : Rule) : Type 0 where
   pub read_under_holds : (card : List ℕ) (x y : Outline) (m n : Lent) → ReadsUnder decimals card x m → ReadsUnder decimals card y n → (x ≡ y) × (m ≡ n)
   pub outline : (card : List ℕ) (x : Outline) (m : Lent) → ReadsUnder decimals card x m → x ≡ outline_of (read_under decimals card)
   pub holds : (card : List ℕ) (x : Outline) (m : Lent) → ReadsUnder decimals card x m
-      → ((c : Card) → read_under decimals card ≡ taken c → (x.head ≡ head_of c) × (m ≡ lent_of c))
-      × ((number place : ℕ) → read_under decimals card ≡ refused number place → (x.head ≡ no_head) × (m ≡ none_lent))
+      → ((c : Card) → read_under decimals card ≡ taken c → (x ≡ Ok (head_of c)) × (m ≡ lent_of c))
+      × ((number place : ℕ) → read_under decimals card ≡ refused number place → (x ≡ Refused number place) × (m ≡ none_lent))

@@ -18,7 +18,7 @@ use Rattle.panel_said.specs.PanelSaid.{panel_said}
 use Rattle.moving.specs.FirstMove.{first_move, first_at}
 use Rattle.moving.specs.FirstTaken.{FirstTaken}
 use Rattle.moving.specs.Shown.{FirstChoice}
-use Rattle.able_seats.specs.declared.FirstMove.{FirstMove}
+use Rattle.able_seats.specs.Moved.{FirstMove}
 use Rattle.move_said.specs.MoveSaid.{move_said, Moves}
 use Rattle.able_seats.specs.Moved.{moved}
 use Rattle.answers.specs.declared.OpenPanelAnswer.{OpenPanelAnswer}

@@ -10,8 +10,8 @@ use Rattle.deck.specs.Deck.{deck_of, held_by, deck_text, Bytes}
 use Rattle.mending.specs.Mending.{Fate, kept, fates_in, kept_in, list_text, mended, mend_said, list_room}
 use Rattle.mending.specs.Accepted.{Good, Whole, Mendable}
 use Rattle.mending.specs.Rules.{ByRules}
-use Rattle.mended_rooms.specs.declared.Mended.{Mended}
-use Rattle.mended_rooms.specs.declared.Mended.TheVariants.{Done, Refused}
+use Rattle.mended_rooms.specs.Mends.{Mended}
+use Rattle.mended_rooms.specs.Mends.{Done, Refused}
 use Rattle.mended_rooms.specs.Mends.{Mends}
 use Rattle.mended_told.specs.LentRooms.{LentRooms, lent, RoomsTold}
 use Rattle.mending_edges.specs.MendingEdges.{MendingEdges}

@@ -15,7 +15,7 @@ use Rattle.entry.specs.Contract.{Ends, Two, Enters, in_rows}
 use Rattle.seating.specs.Judged.{seats_due, FirstWrong, seating_of, Seated, bytes_of}
 use Rattle.rows.specs.Said.{Read}
 use Rattle.room.specs.Answer.{told}
-use Rattle.room.specs.declared.Answer.{Answer}
+use Rattle.room.specs.Answer.{Answer}
 use Rattle.asking.specs.Meant.{Question}
 use Rattle.ask_said.specs.AskSaid.{question_said, Understood}
 use Rattle.evenings.specs.Limits.{most_nights, most_vectors}

@@ -9,8 +9,8 @@ use Rattle.rows.specs.Said.{Read}
 use Rattle.deck.specs.Deck.{Bytes}
 use Rattle.deck.specs.Given.{NoLive}
 use Rattle.deck.specs.Sound.{Sound, MalformedAt}
-use Rattle.room.specs.declared.Answer.{Answer}
-use Rattle.room.specs.declared.Answer.TheVariants.{Done, Refused}
+use Rattle.room.specs.Answer.{Answer}
+use Rattle.room.specs.Answer.{Done, Refused}
 use Rattle.answers.specs.declared.OpenPanelAnswer.{OpenPanelAnswer}
 use Rattle.tidying.specs.Tidying.{tidy_said, add_said}
 use Rattle.tidying.specs.Tidied.{tidy_text, text_with, lent_after, Tidiable, Placeable, Addable, Tidy, NoneLive, NoPlaceAt, TidiedDeck, AddedDeck}

@@ -8,8 +8,8 @@ use Rattle.meaning.specs.Seats.{Seating, ValidSeating, Stuck, counted, choices, 
 use Rattle.meaning.specs.Reduced.{reduce, reduced_choices, reduced_turns}
 use Rattle.entry.specs.Contract.{Two, Enters, in_rows}
 use Rattle.rows.specs.Said.{Read}
-use Rattle.room.specs.declared.Answer.{Answer}
-use Rattle.room.specs.declared.Answer.TheVariants.{Done}
+use Rattle.room.specs.Answer.{Answer}
+use Rattle.room.specs.Answer.{Done}
 use Rattle.room.specs.Answer.{told}
 use Rattle.seating.specs.Judged.{seating_of, Seated}
 use Rattle.asking.specs.Meant.{Question, holds_on, test_for, passes_on}

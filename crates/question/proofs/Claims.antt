@@ -14,13 +14,16 @@ use Rattle.card.specs.Text.{when◌then◌else◌}
 use Rattle.card.specs.Card.{everyone, group, Formula, atom, neg, and, or}
 use Rattle.card.specs.Formulas.{over}
 use Rattle.marks_on_a_card.specs.Marks.{place_of}
+use Rattle.reading.specs.Reader.{Place}
 use Rattle.reading.specs.Group.{Literal}
 use Rattle.reading.specs.Judgements.{has, has_from, alike, Verdict, fine, wrong}
 use Rattle.late.specs.Late.{Late, none_yet, up_to_most, kind_by, group_by, grouped as grouped_late}
 use Rattle.late.specs.Values.{most_of}
-use Rattle.late.specs.Settled.{Refusal, refusal, settled, verdict}
+use Rattle.std.specs.Prelude.{Ok, Err}
+use Rattle.card.proofs.Verdicts.{ok≢refused}
+use Rattle.late.specs.Settled.{refusal, Due, or_next, settled, verdict}
 use Rattle.late.proofs.Symmetric.{and_both}
-use Rattle.late.proofs.Settling.{or_next, or_assoc, Sound, sound_blamed, sound_grouped, settled_fine, settled_blamed, settled_grouped}
+use Rattle.late.proofs.Settling.{or_assoc, settled_fine, settled_blamed, settled_grouped}
 use Rattle.asking.specs.Question.{Item, a_group, exactly_one, a_test}
 use Rattle.asking.specs.Meant.{leaf_for}
 use Rattle.asking.specs.Asking.{Claim, state, everyone as everyone_of, exactly, claim_at, due, first_d, claims_of, claims, is_everyone, is_terms, term_d, is_exactly_one, fits, first_unfit, first_relation, literal_d, atom_in, question_in}
@@ -87,40 +90,30 @@ module _ (n : ℕ) (least : 1 ≤ n) (most : n ≤ most_seats) where
 -- ---- the first claim that does not fit
 
 module _ (e n : ℕ) (least : 1 ≤ n) (most : n ≤ most_seats) where
-  abbrev own : Claim → Refusal
-  own c = when fits n c then refusal 0 0 else refusal (due c) (place_of e (claim_at c))
+  abbrev own : Claim → Due
+  own c = when fits n c then Ok tt else Err (refusal (due c) (place_of e (claim_at c)))
 
-  sound_claim : (c : Claim) (x : Late) → Sound x → Sound (judge_claim e c x)
-  sound_claim (state bound v p) x s = sound_blamed (leb v bound) above_top (place_of e p) x (λ z. omega arith) s
-  sound_claim (everyone_of g) x s = sound_grouped (want_of_all g.literals) (place_of e g.place) x s
-  sound_claim (exactly p ts) x s = sound_grouped (want_of_terms ts) (place_of e p) x s
+  settled_want : (x : Late) (m p : ℕ) (b : Bool) → b ≡ eqb m n → settled n (grouped_late m p x) ≡ or_next (settled n x) (when b then Ok tt else Err (refusal not_due p))
+  settled_want x m p b h = rw h (settled_grouped n m p x least)
 
-  settled_want : (x : Late) → Sound x → (m p : ℕ) (b : Bool) → b ≡ eqb m n → settled n (grouped_late m p x) ≡ or_next (settled n x) (when b then refusal 0 0 else refusal not_due p)
-  settled_want x s m p b h = rw h (settled_grouped n x s m p least)
-
-  settled_claim : (c : Claim) (x : Late) → Sound x → settled n (judge_claim e c x) ≡ or_next (settled n x) (own c)
-  settled_claim (state bound v p) x s = settled_blamed n x s (leb v bound) above_top (place_of e p)
-  settled_claim (everyone_of g) x s = settled_want x s (want_of_all g.literals) (place_of e g.place) (is_everyone n g.literals) (everyone_want n least most g.literals)
-  settled_claim (exactly p ts) x s = settled_want x s (want_of_terms ts) (place_of e p) (is_exactly_one n ts) (terms_want n least most ts)
-
-  some_due : (c : Claim) → due c ≡ 0 → ⊥
-  some_due (state bound v p) z = omega arith
-  some_due (everyone_of g) z = omega arith
-  some_due (exactly p ts) z = omega arith
+  settled_claim : (c : Claim) (x : Late) → settled n (judge_claim e c x) ≡ or_next (settled n x) (own c)
+  settled_claim (state bound v p) x = settled_blamed n x (leb v bound) above_top (place_of e p)
+  settled_claim (everyone_of g) x = settled_want x (want_of_all g.literals) (place_of e g.place) (is_everyone n g.literals) (everyone_want n least most g.literals)
+  settled_claim (exactly p ts) x = settled_want x (want_of_terms ts) (place_of e p) (is_exactly_one n ts) (terms_want n least most ts)
 
   one_more : (c : Claim) (v : Verdict) → or_next (own c) (verdict e v) ≡ verdict e (when fits n c then v else wrong (due c) (claim_at c))
   one_more c v = go (fits n c)
     where
-      go : (b : Bool) → or_next (when b then refusal 0 0 else refusal (due c) (place_of e (claim_at c))) (verdict e v) ≡ verdict e (when b then v else wrong (due c) (claim_at c))
+      go : (b : Bool) → or_next (when b then Ok tt else Err (refusal (due c) (place_of e (claim_at c)))) (verdict e v) ≡ verdict e (when b then v else wrong (due c) (claim_at c))
       go true = refl
-      go false = rw (ne_eqb (due c) 0 (some_due c))
+      go false = refl
 
-  settled_all : (cs : List Claim) (x : Late) → Sound x → settled n (claim_all e cs x) ≡ or_next (settled n x) (verdict e (first_unfit n cs))
+  settled_all : (cs : List Claim) (x : Late) → settled n (claim_all e cs x) ≡ or_next (settled n x) (verdict e (first_unfit n cs))
   unfolding claim_all
-  settled_all [] x s = settled_fine n x s
-  settled_all (c ∷ cs) x s =
-      settled_all cs (judge_claim e c x) (sound_claim c x s)
-      ∙ ap (λ a. or_next a (verdict e (first_unfit n cs))) (settled_claim c x s)
+  settled_all [] x = settled_fine n x
+  settled_all (c ∷ cs) x =
+      settled_all cs (judge_claim e c x)
+      ∙ ap (λ a. or_next a (verdict e (first_unfit n cs))) (settled_claim c x)
       ∙ or_assoc (settled n x) (own c) (verdict e (first_unfit n cs))
       ∙ ap (or_next (settled n x)) (one_more c (first_unfit n cs))
 
@@ -144,17 +137,26 @@ module _ (e n : ℕ) (least : 1 ≤ n) (most : n ≤ most_seats) where
 
     -- what is settled in the end
     pub settled_question : (g : Formula Item) → settled n (judged_of (questions v) k e g none_yet) ≡ verdict e (first_unfit n (claims k (most_of v) g))
-    settled_question g = ap (settled n) (claims_judged g none_yet) ∙ settled_all (claims k (most_of v) g) none_yet (record { none = λ z. refl; unsplit = λ z. refl })
+    settled_question g = ap (settled n) (claims_judged g none_yet) ∙ settled_all (claims k (most_of v) g) none_yet
 
-  -- a claim that does not fit has a number
-  pub none_unfit : (cs : List Claim) → (verdict e (first_unfit n cs)).number ≡ 0 → first_unfit n cs ≡ fine
-  none_unfit [] h = refl
-  none_unfit (c ∷ cs) h = go (fits n c) h (none_unfit cs)
-    where
-      go : (b : Bool) → (verdict e (when b then first_unfit n cs else wrong (due c) (claim_at c))).number ≡ 0 → ((verdict e (first_unfit n cs)).number ≡ 0 → first_unfit n cs ≡ fine)
-          → (when b then first_unfit n cs else wrong (due c) (claim_at c)) ≡ fine
-      go true z more = more z
-      go false z more = absurd (some_due c z)
+  -- where nothing is due all claims fit
+  pub none_unfit : (v : Verdict) → Ok tt ≡ verdict e v → v ≡ fine
+  none_unfit fine h = refl
+  none_unfit (wrong r p) h = ok≢refused h
+
+-- a claim that does not fit has a number
+pub unfit_some : (n : ℕ) (cs : List Claim) {r : ℕ} {p : Place} → first_unfit n cs ≡ wrong r p → r ≡ 0 → ⊥
+unfit_some n [] h z = let y : ◌≡◌ {A = ℕ} 0 1 = cc in omega arith
+unfit_some n (c ∷ cs) {r} {p} h z = go (unfit_some n cs) (fits n c) h
+  where
+    some_due : (c : Claim) → due c ≡ 0 → ⊥
+    some_due (state bound v p) y = omega arith
+    some_due (everyone_of g) y = omega arith
+    some_due (exactly p ts) y = omega arith
+
+    go : (first_unfit n cs ≡ wrong r p → r ≡ 0 → ⊥) → (b : Bool) → (when b then first_unfit n cs else wrong (due c) (claim_at c)) ≡ wrong r p → ⊥
+    go more true k = more k z
+    go more false k = let e : due c ≡ r = cc in some_due c (e ∙ z)
 
 -- ---- where all fit
 

@@ -4,81 +4,77 @@
 
 ghost use Rattle.std.specs.Prelude.{◌≡◌, ◌≤◌};
 ghost use Rattle.card.specs.Limits.{most_seats, most_shared};
-ghost use Rattle.asking.specs.Asking.{question_of};
-ghost use Rattle.question.specs.QuestionRead.{refused_with, QuestionRead};
+ghost use Rattle.asking.specs.Asking.{question_of, in_question as in_question_said};
+ghost use Rattle.card.specs.Refusals.{not_due};
+ghost use Rattle.card.specs.Verdict.{refusal_at};
+ghost use Rattle.question.specs.QuestionRead.{QuestionRead};
 
+use card::Refusal;
 use card::limits::{CARD_BYTES, MOST_DEPTH, MOST_NODES, NODE_PLACES};
 use card::refusals::{OUT_OF_SHAPE, TOO_LONG};
 use guard::expression;
+use items::Text;
 use languages::question_language;
-use late::state::{FREE, LEFT, STATE, STOP, STOP_PLACE};
+use late::first_state;
+use late::state::Stopped;
 use marks::Cursor;
 use marks_on_a_card::kinds::END;
-use search::{Due, search};
+use search::search;
 use seats_wanted::settle;
 
-// Number 0 and the place of the root, where the question is understood; or a card's number for what is wrong, without the twenty that
-// a question's refusals have more, and its place.
-#[derive(Clone, Copy)]
-pub struct Understood {
-    pub number: usize,
-    pub place: usize,
-    pub root: usize,
-}
-
-fn refused(due: Due) -> Understood
-    ensures { result ≡ refused_with due }
-{
-    Understood {
-        number: due.number,
-        place: due.place,
-        root: 0,
-    }
-}
-
-// The nodes of a question that is understood stand from the first place on.
+// The place of the root, where the question is understood: its nodes stand from the first place on. Or a card's number for what is wrong, without the
+// twenty that a question's refusals have more, and its place.
 pub fn question_into(
     question: &[u8],
     nodes: &mut [u32; NODE_PLACES],
     seats: usize,
     top: usize,
     values: usize,
-) -> Understood
+) -> Result<usize, Refusal>
     requires le_seats { (1 ≤ seats) × (seats ≤ most_seats) }
     requires values_le_most_shared { values ≤ most_shared }
     ensures { QuestionRead (question_of seats top values question.now) nodes.old nodes.new result }
 {
     if question.len() > CARD_BYTES {
-        return refused(Due {
-            number: TOO_LONG as usize,
+        return Err(Refusal {
+            number: TOO_LONG,
             place: 0,
         });
     }
-    let mut state: [usize; STATE] = [0; STATE];
-    state[LEFT] = MOST_NODES;
+    let mut state = first_state(MOST_NODES);
     let language = question_language(values);
-    let next = expression(question, 0, nodes, &mut state, MOST_DEPTH, top, language);
-    if next == 0 {
-        return refused(search(question, state[STOP], state[STOP_PLACE]));
-    }
-    let cursor = Cursor { at: next };
-    let step = cursor.step(question);
+    let text = Text {
+        bytes: question,
+        top,
+        language,
+    };
+    let next = match expression(&text, 0, nodes, &mut state, MOST_DEPTH) {
+        Ok(next) => next,
+        Err(Stopped) => return Err(search(question, state.stop)),
+    };
+    let step = Cursor { at: next }.step(question);
     let mark = step.mark;
     if mark.kind != END {
-        return refused(search(question, OUT_OF_SHAPE as usize, mark.place));
+        let behind = Refusal {
+            number: OUT_OF_SHAPE,
+            place: mark.place,
+        };
+        return Err(search(question, behind));
     }
-    let root = state[FREE] - 1;
-    settle(&mut state, seats);
-    let due = Due {
-        number: state[STOP],
-        place: state[STOP_PLACE],
-    };
-    if due.number != 0 {
-        return refused(due);
-    }
-    Understood {
-        number: 0,
-        place: 0,
-        root,
+    settle(&state, seats)?;
+    Ok(state.free - 1)
+}
+
+// What the number of a question's refusal has more than a card's.
+const IN_QUESTION: u8 = 20;
+
+// Why a question is refused, in its own numbers.
+pub fn in_question(refusal: Refusal) -> Refusal
+    requires { refusal.number ≤ not_due }
+    ensures { result ≡ refusal_at (in_question_said refusal.number) refusal.place }
+{
+    Refusal {
+        number: IN_QUESTION + refusal.number,
+        place: refusal.place,
     }
 }

@@ -9,12 +9,12 @@ ghost use Rattle.outline.specs.ReadingOf.{ReadsUnder, Reads, ReadsInto};
 use branches::Bounds;
 use card::limits::{BRANCH_PLACES, CARD_BYTES, NODE_PLACES, ROW_PLACES};
 use card::refusals::TOO_LONG;
-use card::{Card, Head};
+use card::{Card, Head, Refusal};
 use copies::modules as further_modules;
 use frame::header::header as beginning;
-use late::state::{INITIAL, MODE, SHARED, START, STATE, STOP, STOP_PLACE, TOP, VALUE};
-use outline::{Outline, Reading, judged, refused, statements_in, stopped};
-use search::{Due, search};
+use late::first_state;
+use outline::{judged, statements_in, stopped};
+use search::search;
 use statements::statements as all_statements;
 use weights::Weight;
 
@@ -25,46 +25,44 @@ fn read_short(
     rows: &mut [usize; ROW_PLACES],
     nodes: &mut [u32; NODE_PLACES],
     branches: &mut [u32; BRANCH_PLACES],
-) -> Outline
+) -> Result<Head, Refusal>
     requires card_len_bound { length card.now ≤ card_bytes }
     requires branches_value { lent rows.old nodes.old branches.old ≡ none_lent }
     ensures { ReadsUnder decimals card.now result (lent rows.new nodes.new branches.new) }
 {
-    let mut state: [usize; STATE] = [0; STATE];
-    let begun = beginning(card, 0, &mut state);
-    if begun == 0 {
-        return refused(search(card, state[STOP], state[STOP_PLACE]));
-    }
-    let mode = state[MODE];
-    let values = state[SHARED];
-    let initial = state[INITIAL];
-    let top = state[TOP];
-    let start = state[START];
+    let mut state = first_state(0);
+    let begun = match beginning(card, 0, &mut state) {
+        Ok(next) => next,
+        Err(stop) => return Err(search(card, stop)),
+    };
+    let mode = state.mode;
+    let shared = state.shared;
+    let initial = state.initial;
+    let top = state.top;
+    let start = state.start;
     let bounds = Bounds {
         top,
-        values,
+        values: shared,
         decimals,
     };
-    let list = all_statements(card, begun, bounds, rows, nodes, branches, &mut state);
-    if list == 0 {
-        return stopped(card, state[STOP], state[STOP_PLACE], rows, nodes, branches);
+    let list = match all_statements(card, begun, bounds, rows, nodes, branches, &mut state) {
+        Ok(next) => next,
+        Err(stop) => return Err(stopped(card, stop, rows, nodes, branches)),
+    };
+    let count = state.value;
+    if let Err(stop) = further_modules(card, list, &mut state) {
+        return Err(stopped(card, stop, rows, nodes, branches));
     }
-    let count = state[VALUE];
-    let tail = further_modules(card, list, &mut state);
-    if tail == 0 {
-        return stopped(card, state[STOP], state[STOP_PLACE], rows, nodes, branches);
-    }
-    let seats = state[VALUE];
     let head = Head {
         mode,
-        shared: values,
+        shared,
         initial,
-        seats,
+        seats: state.value,
         top,
         start,
         count,
     };
-    judged(head, &mut state, rows, nodes, branches)
+    judged(head, &state, rows, nodes, branches)
 }
 
 // The card that the bytes spell by a rule of a weight, which says whether a decimal may be one, or the refusal that is due; its arrays are
@@ -75,13 +73,13 @@ pub fn read_under(
     rows: &mut [usize; ROW_PLACES],
     nodes: &mut [u32; NODE_PLACES],
     branches: &mut [u32; BRANCH_PLACES],
-) -> Outline
+) -> Result<Head, Refusal>
     requires { lent rows.old nodes.old branches.old ≡ none_lent }
     ensures { ReadsUnder decimals card.now result (lent rows.new nodes.new branches.new) }
 {
     if card.len() > CARD_BYTES {
-        return refused(Due {
-            number: TOO_LONG as usize,
+        return Err(Refusal {
+            number: TOO_LONG,
             place: 0,
         });
     }
@@ -94,7 +92,7 @@ pub fn read_into(
     rows: &mut [usize; ROW_PLACES],
     nodes: &mut [u32; NODE_PLACES],
     branches: &mut [u32; BRANCH_PLACES],
-) -> Outline
+) -> Result<Head, Refusal>
     requires { lent rows.old nodes.old branches.old ≡ none_lent }
     ensures { ReadsInto card.now result (lent rows.new nodes.new branches.new) }
 {
@@ -102,17 +100,15 @@ pub fn read_into(
 }
 
 // The same with the card as one struct.
-pub fn read(card: &[u8]) -> Reading
+pub fn read(card: &[u8]) -> Result<Card, Refusal>
     ensures { Reads card.now result }
 {
     let mut rows: [usize; ROW_PLACES] = [0; ROW_PLACES];
     let mut nodes: [u32; NODE_PLACES] = [0; NODE_PLACES];
     let mut branches: [u32; BRANCH_PLACES] = [0; BRANCH_PLACES];
-    let outline = read_into(card, &mut rows, &mut nodes, &mut branches);
-    let verdict = outline.verdict;
-    let head = outline.head;
+    let head = read_into(card, &mut rows, &mut nodes, &mut branches)?;
     let statements = statements_in(&rows);
-    let whole = Card {
+    Ok(Card {
         mode: head.mode,
         shared: head.shared,
         initial: head.initial,
@@ -123,9 +119,5 @@ pub fn read(card: &[u8]) -> Reading
         statements,
         nodes,
         branches,
-    };
-    Reading {
-        verdict,
-        card: whole,
-    }
+    })
 }

@@ -16,6 +16,7 @@ use Rattle.phrases.specs.Phrases.{Text, ◌▸◌, mode_text, counted}
 use Rattle.phrases.specs.Puts.{Puts}
 use Rattle.texts.specs.Shared.{declaration}
 use Rattle.texts.specs.ReducedText.{counter_line, counters, program_text, reduced_of}
+use Rattle.leaf_text.specs.declared.style.Form.TheVariants.{Reduced}
 use Rattle.statement_text.specs.Statements.{statements_text}
 use Rattle.statement_text.proofs.Both.{reduced_each}
 
@@ -41,6 +42,6 @@ abbrev pub start_text : Card → Text
 start_text c r =
     mode_text c.mode (declaration c.shared ("\nmodule generic_process\n" ▸ counters c.n 0 (upto (suc c.k) (λ d. gate (eqb c.l d) c.n)) r))
 
-pub program_text_law : (c : Card) {a b : List ℕ} {m : ℕ} → Puts a b 0 (λ r. start_text c (statements_text 1 c ("endmodule\n" ▸ r))) m → Put a b 0 (reduced_of c) m
+pub program_text_law : (c : Card) {a b : List ℕ} {m : ℕ} → Puts a b 0 (λ r. start_text c (statements_text Reduced c ("endmodule\n" ▸ r))) m → Put a b 0 (reduced_of c) m
 unfolding program_text reduce
 program_text_law c p = put_as (ap (start_text c) (sym (reduced_each c.mode c.n c.statements ("endmodule\n" ▸ [])))) p.put

@@ -1,7 +1,7 @@
 // The reduced program's text ("Texts, byte for byte", first part), translated and printed in one walk over the card's nodes, and stored in a room where it fits.
 #![tactic(auto)]
 
-ghost use Rattle.std.specs.Prelude.{◌≡◌, eqb, suc, ◌≤◌};
+ghost use Rattle.std.specs.Prelude.{◌≡◌, eqb, suc, ◌≤◌, ◌<◌};
 ghost use Rattle.meaning.specs.Sums.{gate, upto};
 ghost use Rattle.card.specs.Limits.{top_state};
 ghost use Rattle.card.specs.Card.{nondeterministic, probabilistic};
@@ -15,19 +15,20 @@ ghost use Rattle.texts.specs.ReducedText.{counter_line, counters, reduced_of};
 ghost use Rattle.room.specs.Answer.{Entered};
 ghost use Rattle.entry.specs.Said.{says as text};
 
-use card::Head;
 use card::limits::{BRANCH_PLACES, MOST_SEATS, MOST_STATEMENTS, NODE_PLACES, ROW_PLACES};
 use card::refusals::ROOM_TOO_SMALL;
-use leaf_text::REDUCED;
-use phrases::{put_mode, put_numbered};
-use room::{Answer, place, put_bytes, put_run};
+use card::{Head, Refusal};
+use leaf_text::style::Form;
+use phrases::put_mode;
+use room::{place, put_bytes, put_filled, put_run};
 use shared_text::put_declaration;
 use statement_copies::TAIL_PLACES;
 use statement_text::put_statements;
 
 // What the counter of state d starts at.
 fn start_of(d: usize, seats: usize, start: usize) -> usize
-    ensures { result ≡ gate (eqb start d) seats }
+    ensures number { result ≡ gate (eqb start d) seats }
+    ensures few { result ≤ seats }
 {
     if start == d {
         return seats;
@@ -36,32 +37,48 @@ fn start_of(d: usize, seats: usize, start: usize) -> usize
 }
 
 fn put_counter(room: &mut [u8], at: usize, d: usize, seats: usize, start: usize) -> usize
+    requires { (d < 10) × (seats < 20) }
     ensures { Puts room.old room.new at (counter_line seats d (gate (eqb start d) seats)) result }
 {
+    let i = b'0' + d as u8;
     let v = start_of(d, seats, start);
-    let a = put_numbered(room, at, b"no_", d);
-    let b = put_numbered(room, a, b" : [0..", seats);
-    let c = put_numbered(room, b, b"] init ", v);
-    put_bytes(room, c, b";\n")
+    if seats < 10 {
+        let mut line: [u8; 22] = *b"no_0 : [0..0] init 0;\n";
+        line[3] = i;
+        line[11] = b'0' + seats as u8;
+        line[19] = b'0' + v as u8;
+        return put_filled(room, at, line);
+    }
+    let n = b'0' + (seats - 10) as u8;
+    if v < 10 {
+        let mut line: [u8; 23] = *b"no_0 : [0..10] init 0;\n";
+        line[3] = i;
+        line[12] = n;
+        line[20] = b'0' + v as u8;
+        return put_filled(room, at, line);
+    }
+    let mut line: [u8; 24] = *b"no_0 : [0..10] init 10;\n";
+    line[3] = i;
+    line[12] = n;
+    line[21] = b'0' + (v - 10) as u8;
+    put_filled(room, at, line)
 }
 
 // The counters of states 0 to `top`.
 fn put_counters(room: &mut [u8], at: usize, seats: usize, top: usize, start: usize) -> usize
-    requires { top ≤ top_state }
+    requires { (top ≤ top_state) × (seats < 20) }
     ensures { Puts room.old room.new at (counters seats 0 (upto (suc top) (λ d. gate (eqb start d) seats))) result }
 {
     let mut to = place(at);
-    let mut d = 0;
-    while d <= top {
+    for d in 0..top + 1 {
         to = put_counter(room, to, d, seats, start);
-        d += 1;
     }
     to
 }
 
 // All before the statements.
 fn put_head(room: &mut [u8], at: usize, head: Head) -> usize
-    requires { head.top ≤ top_state }
+    requires { (head.top ≤ top_state) × (head.seats < 20) }
     ensures { Puts room.old room.new at (λ t. mode_text (either nondeterministic probabilistic head.mode) (declaration (shared_of head.shared head.initial) ("\nmodule generic_process\n" ▸ counters head.seats 0 (upto (suc head.top) (λ d. gate (eqb head.start d) head.seats)) t))) result }
 {
     let a = put_mode(room, at, head.mode);
@@ -82,7 +99,7 @@ fn put_program<'a>(
     ensures { Put room.old room.new 0 (reduced_of (card_in head (lent rows.now nodes.now branches.now))) result }
 {
     let a = put_head(room, 0, head);
-    let b = put_statements(room, a, head, rows, nodes, branches, REDUCED);
+    let b = put_statements(room, a, head, rows, nodes, branches, Form::Reduced);
     put_bytes(room, b, b"endmodule\n")
 }
 
@@ -102,20 +119,23 @@ pub fn reduce_card<'a>(
     rows: &'a [usize; ROW_PLACES],
     nodes: &'a [u32; NODE_PLACES],
     branches: &'a [u32; BRANCH_PLACES],
-) -> Answer
+) -> Result<usize, Refusal>
     requires { HoldsIn head (lent rows.now nodes.now branches.now) }
     ensures { Entered room.old room.new (text (reduced_of (card_in head (lent rows.now nodes.now branches.now)))) result }
 {
     if REDUCED_ROOM <= room.len() {
-        return Answer::Done(put_program(room, head, rows, nodes, branches));
+        return Ok(put_program(room, head, rows, nodes, branches));
     }
     let mut draft: [u8; DRAFT_PLACES] = [0; DRAFT_PLACES];
     let need = put_program(&mut draft, head, rows, nodes, branches);
     if room.len() < need {
-        return Answer::Refused(ROOM_TOO_SMALL, need);
+        return Err(Refusal {
+            number: ROOM_TOO_SMALL,
+            place: need,
+        });
     }
     if need <= DRAFT_PLACES {
-        return Answer::Done(put_run(room, 0, &draft[..need]));
+        return Ok(put_run(room, 0, &draft[..need]));
     }
-    Answer::Done(put_program(&mut room[..need], head, rows, nodes, branches))
+    Ok(put_program(&mut room[..need], head, rows, nodes, branches))
 }

@@ -50,6 +50,13 @@ pub decimal_more : (n : ℕ) → 10 ≤ n → decimal n ≡ decimal (n / 10) ++ 
 unfolding decimal
 decimal_more n h = more_digits n n h ∙ rw (enough n (suc (n / 10)) (n / 10) (omega arith) (omega arith))
 
+-- a number of two digits whose first is 1
+pub decimal_teen : (n : ℕ) → 10 ≤ n → n < 20 → decimal n ≡ 49 ∷ digit (n - 10) ∷ []
+decimal_teen n l h =
+    let tens : n / 10 ≡ 1 = omega arith in
+    let units : n % 10 ≡ n - 10 = omega arith in
+    decimal_more n l ∙ rw (tens, units, decimal_one 1 (omega arith))
+
 module _ (P : ℕ → List ℕ → Type 0) (one : (n : ℕ) → n < 10 → P n (digit n ∷ []))
     (more : (n : ℕ) (s : List ℕ) → 10 ≤ n → P (n / 10) s → P n (s ++ (digit (n % 10) ∷ []))) where
   below : (k n : ℕ) → n < k → P n (decimal n)

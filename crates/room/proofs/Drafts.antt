@@ -5,7 +5,7 @@ use mathlib.Core.Path.{◌≡◌, refl, sym, ap, ◌∙◌}
 use mathlib.Core.List.{List, [], ◌∷◌, ◌++◌}
 use native.Mathlib.Omega.{arith}
 use lib.ListN.{length, take, drop}
-use Rattle.room.specs.declared.Answer.TheVariants.{Done}
+use Rattle.room.specs.Answer.{Done}
 use Rattle.room.specs.Room.{cap, Put}
 use Rattle.entry.specs.Said.{says as text}
 use Rattle.room.specs.Answer.{Text, Entered}

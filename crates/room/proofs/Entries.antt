@@ -9,8 +9,8 @@ use borrow.Author.Tests.{le-leb, lt-leb}
 use lib.ListN.{length, take, drop, drop_of_length-le}
 use lib.Seq.{length-take-le}
 use Rattle.card.specs.Refusals.{room_too_small}
-use Rattle.room.specs.declared.Answer.{Answer}
-use Rattle.room.specs.declared.Answer.TheVariants.{Done, Refused}
+use Rattle.room.specs.Answer.{Answer}
+use Rattle.room.specs.Answer.{Done, Refused}
 use Rattle.room.specs.Room.{cap, Put}
 use Rattle.entry.specs.Contract.{Faithful}
 use Rattle.entry.specs.Said.{says as text, refused}

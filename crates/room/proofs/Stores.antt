@@ -6,9 +6,11 @@ use mathlib.Core.List.{List, [], ◌∷◌}
 use native.Mathlib.Numerals.{add-one}
 use native.Mathlib.Omega.{arith}
 use lib.ListN.{length, get_or, take, set, length-set, length-take}
-use lib.Seq.{take-nil, take-suc}
+use lib.Seq.{take-nil, take-suc, take-length}
 use Rattle.room.specs.Room.{clip, cap, Put}
-use Rattle.room.proofs.Laws.{clip_one, clip_append, clip_past}
+use Rattle.std.proofs.lemmas.Slice.{put_mid-paste}
+use borrow.Rule.Slice.PartMut.{put_mid}
+use Rattle.room.proofs.Laws.{clip_one, clip_append, clip_past, clip_fits}
 
 -- a byte within the room
 pub put_in : {room : List ℕ} {at b : ℕ} → length room < cap → at < length room → Put room (set room at b) at (b ∷ []) (at + 1)
@@ -40,3 +42,10 @@ pub clip_more : (was : List ℕ) {is : List ℕ} (at : ℕ) (s : List ℕ) (i : 
 clip_more was at s i h e =
     let there : at + length (take i s) ≡ at + i = omega (arith, length-take i s) in
     rw (e, add-one, take-suc s i 0 h, clip_append, there, clip_one)
+
+-- a text stored at once over a part of just its length
+pub clip_over : (room : List ℕ) (at : ℕ) (s : List ℕ) {part : List ℕ} → at + length s ≤ length room → part ≡ s
+    → put_mid at (at + length s - at) room part ≡ clip room at s
+clip_over room at s {part} h e =
+    put_mid-paste at (at + length s - at) room part s (length s) e (omega arith) refl
+    ∙ rw take-length (sym (clip_fits room at s h))

@@ -1,15 +1,8 @@
 // Text into a lent room, shared by all entries, and what an entry answers ("Refusal numbers").
 #![tactic(auto)]
 
-ghost use Rattle.std.specs.Prelude.{◌≡◌, [], ◌∷◌, ◌+◌, ◌-◌, ◌≤◌, min, length};
+ghost use Rattle.std.specs.Prelude.{◌≡◌, [], ◌∷◌, ◌+◌, ◌≤◌, min, length};
 ghost use Rattle.room.specs.Room.{cap, Put};
-
-// The text's length; or a refusal's number and place.
-#[derive(Clone, Copy)]
-pub enum Answer {
-    Done(usize),
-    Refused(u8, usize),
-}
 
 // Past every room: a place stops there, so that no put asks anything of its caller.
 const CAP: usize = 9223372036854775808;
@@ -18,30 +11,14 @@ const CAP: usize = 9223372036854775808;
 pub fn after(at: usize, n: usize) -> usize
     ensures { result ≡ min (at + n) cap }
 {
-    if CAP <= at {
-        return CAP;
-    }
-    if CAP - at < n {
-        return CAP;
-    }
-    at + n
+    at.saturating_add(n).min(CAP)
 }
 
 // The place after an empty text at `at`: a loop of puts starts from it.
 pub fn place(at: usize) -> usize
     ensures { result ≡ min at cap }
 {
-    if CAP < at { CAP } else { at }
-}
-
-// How many of `n` bytes from `at` on a room of `len` bytes has places for.
-fn fitting(len: usize, at: usize, n: usize) -> usize
-    ensures { result ≡ min n (len - at) }
-{
-    if len <= at {
-        return 0;
-    }
-    if len - at < n { len - at } else { n }
+    at.min(CAP)
 }
 
 // One byte. Each put answers the place after its text.
@@ -55,16 +32,15 @@ pub fn put_byte(room: &mut [u8], at: usize, b: u8) -> usize
     after(at, 1)
 }
 
-// Bytes that there is place for in the room.
+// Bytes that there is place for in the room. They are stored by a loop: the library's `copy_from_slice` would be a call
+// of memmove, which not every target has.
 fn put_whole(room: &mut [u8], at: usize, s: &[u8]) -> usize
     requires { at + length s.now ≤ length room.old }
     ensures { Put room.old room.new at s.now result }
 {
-    let mut i = 0;
-    while i < s.len() {
+    for i in 0..s.len() {
         let to = at + i;
         room[to] = s[i];
-        i += 1;
     }
     at + s.len()
 }
@@ -73,11 +49,10 @@ fn put_whole(room: &mut [u8], at: usize, s: &[u8]) -> usize
 pub fn put_run(room: &mut [u8], at: usize, s: &[u8]) -> usize
     ensures { Put room.old room.new at s.now result }
 {
-    let n = fitting(room.len(), at, s.len());
-    let mut i = 0;
-    while i < n {
+    let n = s.len().min(room.len().saturating_sub(at));
+    // by an index: there is no slice of the room behind its end
+    for i in 0..n {
         room[at + i] = s[i];
-        i += 1;
     }
     after(at, s.len())
 }
@@ -86,10 +61,20 @@ pub fn put_run(room: &mut [u8], at: usize, s: &[u8]) -> usize
 pub fn put_bytes(room: &mut [u8], at: usize, s: &[u8]) -> usize
     ensures { Put room.old room.new at s.now result }
 {
-    if at < room.len() {
-        if s.len() <= room.len() - at {
-            return put_whole(room, at, s);
-        }
+    if at < room.len() && s.len() <= room.len() - at {
+        return put_whole(room, at, s);
     }
     put_run(room, at, s)
+}
+
+// A text of fixed length, a byte string with its holes filled: where it fits, the compiler sees all of it and stores its bytes straight into
+// the room. Only what is clipped is copied, and so has to lie in memory.
+pub fn put_filled<const N: usize>(room: &mut [u8], at: usize, text: [u8; N]) -> usize
+    ensures { Put room.old room.new at text.entry result }
+{
+    if at < room.len() && N <= room.len() - at {
+        return put_whole(room, at, &text);
+    }
+    let kept = text;
+    put_run(room, at, &kept)
 }

@@ -3,8 +3,9 @@
 use Rattle.std.specs.Prelude.{ℕ}
 use Rattle.std.proofs.Math.Option.{Option, none, some}
 use Rattle.card.specs.Refusals.{outside_rules}
-use Rattle.search.specs.declared.Due.{Due}
+use Rattle.card.specs.Verdict.{refusal_at}
+use Rattle.card.specs.declared.Refusal.{Refusal}
 
-abbrev pub searched : ℕ → ℕ → Option ℕ → Due
-searched r p none = record { number = r; place = p }
-searched r p (some o) = record { number = outside_rules; place = o }
+abbrev pub searched : ℕ → ℕ → Option ℕ → Refusal
+searched r p none = refusal_at r p
+searched r p (some o) = refusal_at outside_rules o

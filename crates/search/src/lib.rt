@@ -7,43 +7,30 @@ ghost use Rattle.marks.specs.Step.{marks_at};
 ghost use Rattle.reading.specs.Reading.{first_outside};
 ghost use Rattle.search.specs.Search.{searched};
 
+use card::Refusal;
 use card::refusals::OUTSIDE_RULES;
 use marks::Cursor;
 use marks_on_a_card::kinds::{END, OUTSIDE};
 
-// A refusal that is due: its number and its place.
-#[derive(Clone, Copy)]
-pub struct Due {
-    pub number: usize,
-    pub place: usize,
-}
-
-// A stop at a place, unless a mark outside the rules stands there or further on.
-pub fn search(card: &[u8], stop: usize, place: usize) -> Due
-    ensures { result ≡ searched stop place (first_outside (marks_at 0 card.now place)) }
+// Where reading stopped, unless a mark outside the rules stands there or further on.
+pub fn search(card: &[u8], stop: Refusal) -> Refusal
+    ensures { result ≡ searched stop.number stop.place (first_outside (marks_at 0 card.now stop.place)) }
 {
-    let mut next = place;
+    let mut next = stop.place;
+    // by a cursor: how far it goes in a turn is told by the mark
     while next < card.len() {
-        let cursor = Cursor { at: next };
-        let step = cursor.step(card);
+        let step = Cursor { at: next }.step(card);
         let mark = step.mark;
         if mark.kind == END {
-            return Due {
-                number: stop,
-                place,
-            };
+            return stop;
         }
         if mark.kind == OUTSIDE {
-            return Due {
-                number: OUTSIDE_RULES as usize,
+            return Refusal {
+                number: OUTSIDE_RULES,
                 place: mark.place,
             };
         }
-        let behind = step.next;
-        next = behind.at;
+        next = step.next.at;
     }
-    Due {
-        number: stop,
-        place,
-    }
+    stop
 }

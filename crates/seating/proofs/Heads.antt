@@ -8,7 +8,7 @@ use Rattle.card.specs.Valid.{values_of}
 use Rattle.card.specs.Laid.{shared_of}
 use Rattle.card.specs.Lent.{Lent, card_in}
 use Rattle.card.specs.declared.Head.{Head}
-use Rattle.card.specs.declared.Verdict.{Verdict}
+use Rattle.card.specs.Verdict.{Verdict}
 use Rattle.meaning.specs.Position.{position}
 use Rattle.meaning.specs.Seats.{counts, counted}
 use Rattle.seating.specs.Judged.{judged_seats, shared_at, seating_of}

@@ -17,11 +17,11 @@ use Rattle.card.specs.Card.{Shared, Card}
 use Rattle.card.specs.Text.{when◌then◌else◌}
 use Rattle.card.specs.Valid.{Every, values_of}
 use Rattle.card.specs.Refusals.{wrong_seats, seat_above_top}
-use Rattle.card.specs.Verdict.{verdict_number, verdict_place}
+use Rattle.card.proofs.Verdicts.{refused_number, refused_place, ok≢refused}
 use Rattle.meaning.specs.Position.{shared_values}
 use Rattle.seating.specs.FirstRefusal.{first_refusal}
-use Rattle.card.specs.declared.Verdict.{Verdict}
-use Rattle.card.specs.declared.Verdict.TheVariants.{Taken, Refused}
+use Rattle.card.specs.Verdict.{Verdict}
+use Rattle.card.specs.Verdict.{Taken, Refused}
 use Rattle.seating.specs.Judged.{judged_by, judged_from, judged_list, FirstOver, FirstAbove, bytes_due, most_at, judged_seats, shared_at, Seated}
 
 -- ---- as a loop judges
@@ -103,10 +103,10 @@ first_only most x p q f g = go (dec_le p q) (dec_le q p)
     go (yes h) (no l) = absurd (omega (arith, g.first p (omega arith), f.above))
 
 pub fine≢refused : {A : Type 0} {r p : ℕ} → Taken ≡ Refused r p → A
-fine≢refused e = let z : ◌≡◌ {A = ℕ} 0 1 = cc in absurd (omega arith)
+fine≢refused e = ok≢refused e
 
-pub same_refusal : {r s p q : ℕ} → Refused r p ≡ Refused s q → (r ≡ s) × (p ≡ q)
-same_refusal e = (ap verdict_number e, ap verdict_place e)
+pub same_refusal : {r s p q : ℕ} → ◌≡◌ {A = Verdict} (Refused r p) (Refused s q) → (r ≡ s) × (p ≡ q)
+same_refusal e = (refused_number e, refused_place e)
 
 -- the two ways in which a list can go, judged from its start
 module _ (number : ℕ) (most : ℕ → ℕ) (x : List ℕ) where

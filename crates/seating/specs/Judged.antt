@@ -6,8 +6,8 @@ use Rattle.card.specs.Text.{when◌then◌else◌}
 use Rattle.card.specs.Refusals.{wrong_seats, seat_above_top}
 use Rattle.card.specs.Card.{Shared, Card}
 use Rattle.card.specs.Valid.{values_of}
-use Rattle.card.specs.declared.Verdict.{Verdict}
-use Rattle.card.specs.declared.Verdict.TheVariants.{Taken, Refused}
+use Rattle.card.specs.Verdict.{Verdict}
+use Rattle.card.specs.Verdict.{Taken, Refused}
 use Rattle.meaning.specs.Position.{position}
 use Rattle.meaning.specs.Seats.{Seating, ValidSeating}
 

@@ -6,7 +6,7 @@ use mathlib.Core.Bool.{Bool, true, false, not, ◌&&◌, ◌||◌}
 use mathlib.Core.List.{List, [], ◌∷◌, ◌++◌}
 use native.Mathlib.Numerals.{add-one}
 use native.Mathlib.Omega.{arith}
-use borrow.Author.Tests.{eqb-true, eqb-false, leb-true, leb-false, eq-eqb, ne_eqb, le-leb, lt-leb}
+use borrow.Author.Tests.{eqb-true, eqb-false, leb-true, leb-false, lt-leb}
 use lib.Dec.{eqb, leb}
 use lib.ListN.{length, get_or, set, replicate, length-set, length-append}
 use lib.Seq.{get_or-set_same, get_or-set_other}
@@ -21,55 +21,14 @@ use Rattle.seats_seen.specs.SeatsSeen.{noted, seen_from, one_more, want_in, kind
 
 -- ---- counting along the array
 
-pub seen_more : (seen : List ℕ) (first count i : ℕ) → i < count → seen_from seen (first + i) (count - i) ≡ (not (eqb (get_or seen (first + i) 0) 0) && seen_from seen (first + (i + 1)) (count - (i + 1)))
-seen_more seen first count i h =
-    let e : count - i ≡ suc (count - (i + 1)) = omega arith in
-    let f : suc (first + i) ≡ first + (i + 1) = omega arith in
-    rw e (ap (λ k. not (eqb (get_or seen (first + i) 0) 0) && seen_from seen k (count - (i + 1))) f)
+pub seen_more : (seen : List ℕ) (end i : ℕ) → i < end → seen_from seen i (end - i) ≡ (not (eqb (get_or seen i 0) 0) && seen_from seen (i + 1) (end - (i + 1)))
+seen_more seen end i h = let e : end - i ≡ suc (end - (i + 1)) = omega arith in rw (e, add-one i)
 
-pub seen_end : (seen : List ℕ) (first count i : ℕ) → count ≤ i → seen_from seen (first + i) (count - i) ≡ true
-seen_end seen first count i h = let e : count - i ≡ 0 = omega arith in rw e
+pub seen_end : (seen : List ℕ) (end i : ℕ) → end ≤ i → seen_from seen i (end - i) ≡ true
+seen_end seen end i h = let e : end - i ≡ 0 = omega arith in rw e
 
-pub seen_start : (seen : List ℕ) (first count : ℕ) → seen_from seen first count ≡ seen_from seen (first + 0) (count - 0)
-seen_start seen first count =
-    let e : first + 0 ≡ first = omega arith in
-    let f : count - 0 ≡ count = omega arith in
-    rw (e, f)
-
--- ---- what the code finds, test by test
-
-module _ (seen : List ℕ) (count : ℕ) where
-  pub once_many : most_seats < count → 0 ≡ up_to_most count (seen_from seen 1 count)
-  once_many h = rw (lt-leb count most_seats h)
-
-  pub once_each : (b : Bool) → count ≤ most_seats → b ≡ seen_from seen 1 count → b ≡ true → count ≡ up_to_most count (seen_from seen 1 count)
-  once_each b h e t = rw (le-leb count most_seats h, ← e, t)
-
-  pub once_none : (b : Bool) → count ≤ most_seats → b ≡ seen_from seen 1 count → b ≡ false → 0 ≡ up_to_most count (seen_from seen 1 count)
-  once_none b h e t = rw (le-leb count most_seats h, ← e, t)
-
-module _ (seen : List ℕ) (count : ℕ) (same : Bool) where
-  pub want_unlike : same ≡ false → 0 ≡ want_in seen count same
-  unfolding want_in
-  want_unlike e = rw e
-
-  module _ (alike : same ≡ true) where
-    module _ (none : get_or seen 1 0 ≡ 0) where
-      pub others_many : most_seats ≤ count → 0 ≡ want_in seen count same
-      unfolding want_in
-      others_many h = rw (alike, eq-eqb (get_or seen 1 0) 0 none, lt-leb (suc count) most_seats (omega arith))
-
-      pub others_want : (b : Bool) → count < most_seats → b ≡ seen_from seen 2 count → b ≡ true → count + 1 ≡ want_in seen count same
-      unfolding want_in
-      others_want b h e t = rw (alike, eq-eqb (get_or seen 1 0) 0 none, le-leb (suc count) most_seats (omega arith), ← e, t) (add-one count)
-
-      pub others_none : (b : Bool) → count < most_seats → b ≡ seen_from seen 2 count → b ≡ false → 0 ≡ want_in seen count same
-      unfolding want_in
-      others_none b h e t = rw (alike, eq-eqb (get_or seen 1 0) 0 none, le-leb (suc count) most_seats (omega arith), ← e, t)
-
-    pub everyone_want : (get_or seen 1 0 ≡ 0 → ⊥) → (w : ℕ) → w ≡ up_to_most count (seen_from seen 1 count) → w ≡ want_in seen count same
-    unfolding want_in
-    everyone_want one w e = rw (alike, ne_eqb (get_or seen 1 0) 0 one) e
+pub seen_start : (seen : List ℕ) (first count : ℕ) → seen_from seen first count ≡ seen_from seen first (first + count - first)
+seen_start seen first count = let e : first + count - first ≡ count = omega arith in rw e
 
 -- ---- what the array says of the literals
 

@@ -1,5 +1,5 @@
 // Which seats stand among a group's literals.
-#![tactic(auto)]
+#![tactic(auto, using(std::proofs::lemmas::Bool::Decides::nat_tests), unfolding(crate::specs::SeatsSeen::want_in))]
 
 ghost use Rattle.std.specs.Prelude.{◌≡◌, suc, ◌+◌, ◌≤◌};
 ghost use Rattle.card.specs.Limits.{most_seats};
@@ -13,31 +13,30 @@ pub const SEATS: usize = MOST_SEATS + 1;
 pub fn note(seen: &mut [u8; SEATS], seat: usize)
     ensures { seen.new ≡ noted seen.old seat }
 {
-    if MOST_SEATS < seat {
-        return;
+    if seat <= MOST_SEATS {
+        seen[seat] = 1;
     }
-    seen[seat] = 1;
 }
 
 pub fn one_more(count: usize) -> usize
     ensures { result ≡ one_more_said count }
 {
-    if MOST_SEATS < count {
-        return count;
+    if count <= MOST_SEATS {
+        count + 1
+    } else {
+        count
     }
-    count + 1
 }
 
+#[tactic(auto, using(std::proofs::lemmas::Bool::Decides::nat_tests, crate::proofs::Seats::seen_more, crate::proofs::Seats::seen_end, crate::proofs::Seats::seen_start))]
 fn all_seen(seen: &[u8; SEATS], first: usize, count: usize) -> bool
     requires { first + count ≤ suc most_seats }
     ensures { result ≡ seen_from seen.now first count }
 {
-    let mut i: usize = 0;
-    while i < count {
-        if seen[first + i] == 0 {
+    for seat in first..first + count {
+        if seen[seat] == 0 {
             return false;
         }
-        i += 1;
     }
     true
 }
@@ -46,10 +45,7 @@ fn all_seen(seen: &[u8; SEATS], first: usize, count: usize) -> bool
 pub fn each_once(seen: &[u8; SEATS], count: usize) -> usize
     ensures { result ≡ up_to_most count (seen_from seen.now 1 count) }
 {
-    if MOST_SEATS < count {
-        return 0;
-    }
-    if all_seen(seen, 1, count) {
+    if count <= MOST_SEATS && all_seen(seen, 1, count) {
         return count;
     }
     0
@@ -61,23 +57,17 @@ pub fn want(seen: &[u8; SEATS], count: usize, alike: bool) -> usize
     if !alike {
         return 0;
     }
-    if seen[1] == 0 {
-        if MOST_SEATS <= count {
-            return 0;
-        }
-        if all_seen(seen, 2, count) {
-            return count + 1;
-        }
-        return 0;
+    if seen[1] != 0 {
+        return each_once(seen, count);
     }
-    each_once(seen, count)
+    if count < MOST_SEATS && all_seen(seen, 2, count) {
+        return count + 1;
+    }
+    0
 }
 
 pub fn kind(seen: &[u8; SEATS]) -> usize
     ensures { result ≡ kind_in seen.now }
 {
-    if seen[1] == 0 {
-        return 1;
-    }
-    0
+    usize::from(seen[1] == 0)
 }

@@ -3,10 +3,10 @@ use Prim.Native.Nat.{ℕ, zero, suc, ◌+◌, ◌-◌, ◌≤◌, ◌<◌}
 use mathlib.Core.Path.{◌≡◌, refl, sym, ap, ◌∙◌}
 use mathlib.Core.List.{List, [], ◌∷◌, ◌++◌, append_assoc}
 use native.Mathlib.Omega.{arith}
-use lib.ListN.{length, take, drop, get_or, set, length-drop, length-take, length-map, drop_of_length-le, take-append-drop}
+use lib.ListN.{length, take, drop, get_or, set, replicate, length-drop, length-take, length-map, drop_of_length-le, take-append-drop}
 use lib.Seq.{drop-drop, get_or-drop, get_or-take, drop-cons, take_all}
 use Rattle.room.specs.Room.{clip}
-use Rattle.room.proofs.Laws.{clip_none, clip_fits}
+use Rattle.room.proofs.Laws.{clip_fits}
 use Rattle.room.proofs.Stores.{clip_more}
 use Rattle.tidying.specs.Tidied.{zeroed}
 use Rattle.byte_blocks.specs.Blocks.{BlocksDown, BlocksUp}
@@ -43,15 +43,10 @@ module _ (was : List ℕ) (from to size : ℕ) where
       ∙ sym (get_or-drop from was i 0) in
       ap (set is (to + i)) read ∙ clip_more was to (drop from was) i (omega (arith, length-drop from was)) e
 
-  pub down_end : {is : List ℕ} (i : ℕ) → i ≤ size → size ≤ i → is ≡ clip was to (take i (drop from was)) → is ≡ clip was to (take size (drop from was))
-  down_end i h k e = let n : i ≡ size = omega arith in e ∙ ap (λ (m : ℕ). clip was to (take m (drop from was))) n
-
   -- blocks are moved, and then the rest
   pub down_rest : {is now : List ℕ} {done : ℕ} → to ≤ from → from + size ≤ length was → BlocksDown was is from to size done
       → now ≡ clip is (to + done) (take (size - done) (drop (from + done) is)) → now ≡ clip was to (take size (drop from was))
-  down_rest {done = done} t l b e =
-      let n : done + (size - done) ≡ size = omega (arith, b.most) in
-      down_join was from to done (size - done) t (omega (arith, b.most)) b.moved e ∙ ap (λ (k : ℕ). clip was to (take k (drop from was))) n
+  down_rest {done = done} t l b e = down_join was from to done (size - done) t (omega (arith, b.most)) (omega (arith, b.most)) b.moved e
 
   abbrev moved : List ℕ
   moved = take size (drop from was)
@@ -66,15 +61,10 @@ module _ (was : List ℕ) (from to size : ℕ) where
       ∙ ap (λ (k : ℕ). clip was k moved) n
 
   -- upwards, so many are left
-  pub up_start : from + size ≤ length was → was ≡ clip was (to + size) (drop size moved)
-  up_start l =
-      let h : length moved ≤ size = omega (arith, length-take size (drop from was)) in
-      sym (ap (clip was (to + size)) (drop_of_length-le moved h) ∙ clip_none was (to + size))
-
-  pub up_more : {is : List ℕ} (left : ℕ) → from ≤ to → to + size ≤ length was → left ≤ size → (left ≡ 0 → ⊥) → is ≡ clip was (to + left) (drop left moved)
+  pub up_more : {is : List ℕ} (left : ℕ) → from ≤ to → to + size ≤ length was → left ≤ size → 0 < left → is ≡ clip was (to + left) (drop left moved)
       → set is (to + (left - 1)) (get_or is (from + (left - 1)) 0) ≡ clip was (to + (left - 1)) (drop (left - 1) moved)
   unfolding clip
-  up_more zero t l h n e = absurd (n refl)
+  up_more zero t l h n e = absurd (omega (arith, n))
   up_more {is} (suc j) t l h n e =
       let p : suc j - 1 ≡ j = omega arith in
       let q : to + suc j ≡ suc (to + j) = omega arith in
@@ -92,38 +82,23 @@ module _ (was : List ℕ) (from to size : ℕ) where
       ∙ sym (ap (clip was (to + j)) first) in
       rw p stored
 
-  pub up_end : {is : List ℕ} (left : ℕ) → left ≡ 0 → is ≡ clip was (to + left) (drop left moved) → is ≡ clip was to moved
-  up_end left z e =
-      let n : to + 0 ≡ to = omega arith in
-      e ∙ ap (λ (k : ℕ). clip was (to + k) (drop k moved)) z ∙ ap (λ (k : ℕ). clip was k moved) n
-
 -- ---- cleared
 
-zero_at : (t : List ℕ) (i : ℕ) → get_or (zeroed t) i 0 ≡ 0
-zero_at [] i = refl
-zero_at (x ∷ t) zero = refl
-zero_at (x ∷ t) (suc i) = zero_at t i
+zeros : (t : List ℕ) → replicate (length t) 0 ≡ zeroed t
+zeros [] = refl
+zeros (x ∷ t) = ap (λ (l : List ℕ). 0 ∷ l) (zeros t)
 
-module _ (was : List ℕ) (at : ℕ) where
-  abbrev cleared : List ℕ
-  cleared = zeroed (drop at was)
-
-  cleared_long : length cleared ≡ length was - at
-  cleared_long = length-map (drop at was) _ ∙ length-drop at was
-
-  pub clear_start : was ≡ clip was at (take (at - at) cleared)
-  clear_start =
-      let z : at - at ≡ 0 = omega arith in
-      sym (ap (λ (k : ℕ). clip was at (take k cleared)) z ∙ clip_none was at)
-
-  pub clear_more : {is : List ℕ} (i : ℕ) → at ≤ i → i < length was → is ≡ clip was at (take (i - at) cleared) → set is i 0 ≡ clip was at (take (i + 1 - at) cleared)
-  clear_more {is} i l h e =
-      let p : at + (i - at) ≡ i = omega arith in
-      let q : i - at + 1 ≡ i + 1 - at = omega arith in
-      ap (λ (k : ℕ). set is k 0) (sym p)
-      ∙ ap (set is (at + (i - at))) (sym (zero_at (drop at was) (i - at)))
-      ∙ clip_more was at cleared (i - at) (omega (arith, cleared_long)) e
-      ∙ ap (λ (k : ℕ). clip was at (take k cleared)) q
-
-  pub clear_end : {is : List ℕ} (i : ℕ) → length was ≤ i → is ≡ clip was at (take (i - at) cleared) → is ≡ clip was at cleared
-  clear_end i h e = e ∙ ap (clip was at) (take_all (i - at) cleared (omega (arith, cleared_long)))
+-- all bytes from a place on
+pub cleared : (was : List ℕ) (at k : ℕ) {now : List ℕ} → at ≤ length was → k ≡ length was - at → now ≡ replicate (length (take k (drop at was))) 0
+    → take at was ++ (now ++ drop k (drop at was)) ≡ clip was at (zeroed (drop at was))
+cleared was at k {now} h e f =
+    let rest = drop at was in
+    let long : length rest ≡ length was - at = length-drop at was in
+    let long_zeros : length (zeroed rest) ≡ length rest = length-map rest _ in
+    let none : drop k rest ≡ [] = drop_of_length-le rest (omega (arith, long)) in
+    let past : drop (at + length (zeroed rest)) was ≡ [] = drop_of_length-le was (omega (arith, long, long_zeros)) in
+    let same : now ≡ zeroed rest = f ∙ ap (λ (l : List ℕ). replicate (length l) 0) (take_all k rest (omega (arith, long))) ∙ zeros rest in
+    ap (λ (l : List ℕ). take at was ++ (l ++ drop k rest)) same
+    ∙ ap (λ (l : List ℕ). take at was ++ (zeroed rest ++ l)) (none ∙ sym past)
+    ∙ sym (append_assoc (take at was) (zeroed rest) (drop (at + length (zeroed rest)) was))
+    ∙ sym (clip_fits was at (zeroed rest) (omega (arith, long, long_zeros)))

@@ -13,10 +13,8 @@ fn bytes_down(room: &mut [u8], from: usize, to: usize, size: usize)
     requires size_in_bounds { from + size ≤ length room.old }
     ensures { room.new ≡ clip room.old to (take size (drop from room.old)) }
 {
-    let mut i: usize = 0;
-    while i < size {
+    for i in 0..size {
         room[to + i] = room[from + i];
-        i = i + 1;
     }
 }
 
@@ -26,9 +24,7 @@ fn bytes_up(room: &mut [u8], from: usize, to: usize, size: usize)
     requires size_in_bounds { to + size ≤ length room.old }
     ensures { room.new ≡ clip room.old to (take size (drop from room.old)) }
 {
-    let mut left = size;
-    while left != 0 {
-        left = left - 1;
+    for left in (0..size).rev() {
         room[to + left] = room[from + left];
     }
 }
@@ -61,10 +57,5 @@ pub fn clear_from(room: &mut [u8], at: usize)
     requires { at ≤ length room.old }
     ensures { room.new ≡ clip room.old at (zeroed (drop at room.old)) }
 {
-    let long = room.len();
-    let mut i = at;
-    while i < long {
-        room[i] = 0;
-        i = i + 1;
-    }
+    room[at..].fill(0);
 }

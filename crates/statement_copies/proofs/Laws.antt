@@ -14,15 +14,14 @@ use Rattle.phrases.specs.Phrases.{Text, ◌▸◌, counted}
 use Rattle.phrases.specs.Puts.{Puts}
 use Rattle.texts.specs.Shared.{formula_or, summed}
 use Rattle.texts.specs.Lengths.{tail_places}
-use Rattle.leaf_text.specs.declared.Style.{Style}
-use Rattle.leaf_text.specs.Style.{brackets_of, leaf_text}
+use Rattle.leaf_text.specs.Style.{Look, brackets_of, leaf_text}
 use Rattle.branch_text.specs.Branches.{branch_text}
 use Rattle.statement_copies.specs.Copies.{first_text, rest_text, copy_text, kept_copy}
 use Rattle.room.proofs.Drafts.{drafted_long, drafted_fits, drafted_text, drafted_count}
 
 -- ---- behind the first test: a statement's branches are a part of the card's
 
-pub rest_parts : (s : Style) (nodes bs : List ℕ) (x : StatementRow) (i : ℕ) {from to : ℕ} → from ≡ i * most_branches → to ≡ from + x.branches → (r : List ℕ)
+pub rest_parts : (s : Look) (nodes bs : List ℕ) (x : StatementRow) (i : ℕ) {from to : ℕ} → from ≡ i * most_branches → to ≡ from + x.branches → (r : List ℕ)
     → formula_or (brackets_of s) (leaf_text s) (guard_of nodes (i * most_nodes) x.nodes) (" -> "
     ▸ summed (branch_text s) (map branch_of (take (to - from) (drop from bs))) (";\n" ▸ r))
     ≡ rest_text s (statement_of nodes bs x i) r
@@ -60,7 +59,7 @@ module _ {was is : List ℕ} {f : Text} {end : ℕ} (p : Puts was is 0 f end) (h
   kept_text r = rw (drafted_text below_cap p.put has_places, p.before r)
 
 -- copies with the kept text are the statement's
-pub copies_kept : (s : Style) (x : Statement) {was is : List ℕ} {end : ℕ} → Puts was is 0 (rest_text s x) end → length (rest_text s x []) ≤ tail_places → length was ≡ tail_places
+pub copies_kept : (s : Look) (x : Statement) {was is : List ℕ} {end : ℕ} → Puts was is 0 (rest_text s x) end → length (rest_text s x []) ≤ tail_places → length was ≡ tail_places
     → (c : ℕ) (r : List ℕ) → counted (kept_copy s (take end is)) 0 c r ≡ counted (copy_text s x) 0 c r
 copies_kept s x {is = is} {end = end} p h l c r =
     counted_same (kept_copy s (take end is)) (copy_text s x) (λ m t. ap (first_text s m) (kept_text p h l t)) 0 c r

@@ -7,42 +7,47 @@ ghost use Rattle.card.specs.Laid.{statement_of};
 ghost use Rattle.card.specs.Rows.{row_of};
 ghost use Rattle.phrases.specs.Phrases.{counted};
 ghost use Rattle.phrases.specs.Puts.{Puts};
+ghost use Rattle.leaf_text.specs.Style.{look};
 ghost use Rattle.statement_copies.specs.Copies.{first_text, rest_text, copy_text, kept_copy, Fits, KeepsTail};
 
 use branch_text::put_branches;
 use card::Statement;
 use card::limits::{MOST_BRANCHES, MOST_NODES, NODE_PLACES, ROW, ROW_PLACES};
 use guard_text::put_test;
-use leaf_text::{Style, WRITTEN};
+use leaf_text::style::{Form, Style};
 use phrases::{WEIGHT_MOST, put_numbered};
-use pieces::{put_above, put_seven};
 use put_numbers::put_number;
-use room::{place, put_byte, put_bytes, put_run};
+use room::{place, put_byte, put_bytes, put_filled, put_run};
 
 // Enough for what stands behind a first test of the reduced program (texts/specs/Lengths.antt).
 pub const TAIL_PLACES: usize = 652 + MOST_BRANCHES * WEIGHT_MOST;
 
-// The first test: `s1=own`, or the counter of `own` above m.
+// The first test: `s1=own`, or the counter of `own` above m; as one line, where the state has one digit.
 fn put_first(room: &mut [u8], at: usize, m: usize, style: Style) -> usize
-    ensures { Puts room.old room.new at (first_text style m) result }
+    ensures { Puts room.old room.new at (first_text (look style) m) result }
 {
-    let own = style.own;
-    if style.text == WRITTEN {
-        if own < 10 {
-            let d = b'0' + own as u8;
-            return put_seven(room, at, b'[', b']', b' ', b's', b'1', b'=', d);
+    match style.form {
+        Form::Written => {
+            if style.own < 10 {
+                let mut line: [u8; 7] = *b"[] s1=0";
+                line[6] = b'0' + style.own as u8;
+                return put_filled(room, at, line);
+            }
+            put_numbered(room, at, b"[] s1=", style.own)
         }
-        return put_numbered(room, at, b"[] s1=", own);
+        Form::Reduced => {
+            if style.own < 10 {
+                let mut line: [u8; 9] = *b"[] (no_0>";
+                line[7] = b'0' + style.own as u8;
+                let above = put_filled(room, at, line);
+                let close = put_number(room, above, m);
+                return put_byte(room, close, b')');
+            }
+            let a = put_numbered(room, at, b"[] (no_", style.own);
+            let b = put_numbered(room, a, b">", m);
+            put_byte(room, b, b')')
+        }
     }
-    if own < 10 {
-        let d = b'0' + own as u8;
-        let a = put_above(room, at, d);
-        let b = put_number(room, a, m);
-        return put_byte(room, b, b')');
-    }
-    let a = put_numbered(room, at, b"[] (no_", own);
-    let b = put_numbered(room, a, b">", m);
-    put_byte(room, b, b')')
 }
 
 // Statement i behind its first test, by its row.
@@ -56,7 +61,7 @@ fn put_rest<'a>(
     style: Style,
 ) -> usize
     requires { Fits branches.now x i }
-    ensures { Puts room.old room.new at (rest_text style (statement_of nodes.now branches.now x i)) result }
+    ensures { Puts room.old room.new at (rest_text (look style) (statement_of nodes.now branches.now x i)) result }
 {
     let from = i * MOST_BRANCHES;
     let to = from + x.branches;
@@ -68,15 +73,12 @@ fn put_rest<'a>(
 
 // Copies that differ in the first test alone.
 fn put_copies(room: &mut [u8], at: usize, rest: &[u8], style: Style) -> usize
-    ensures { Puts room.old room.new at (counted (kept_copy style rest.now) 0 style.copies) result }
+    ensures { Puts room.old room.new at (counted (kept_copy (look style) rest.now) 0 style.copies) result }
 {
-    let copies = style.copies;
     let mut to = place(at);
-    let mut m = 0;
-    while m < copies {
+    for m in 0..style.copies {
         let a = put_first(room, to, m, style);
         to = put_run(room, a, rest);
-        m += 1;
     }
     to
 }
@@ -92,8 +94,8 @@ pub fn put_statement<'a>(
     style: Style,
 ) -> usize
     requires fits { Fits branches.now x i }
-    requires keeps_tail { KeepsTail style (statement_of nodes.now branches.now x i) }
-    ensures { Puts room.old room.new at (counted (copy_text style (statement_of nodes.now branches.now x i)) 0 style.copies) result }
+    requires keeps_tail { KeepsTail style.copies (look style) (statement_of nodes.now branches.now x i) }
+    ensures { Puts room.old room.new at (counted (copy_text (look style) (statement_of nodes.now branches.now x i)) 0 style.copies) result }
 {
     if style.copies == 1 {
         let a = put_first(room, at, 0, style);

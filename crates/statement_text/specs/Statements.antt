@@ -1,24 +1,20 @@
--- All statements in the text of a style, as the code hands them over, and how many copies there are of each. Assumes nothing.
+-- All statements in either of the two texts, as the code hands them over, and how many copies there are of each. Assumes nothing.
 use Rattle.std.specs.Prelude.{ℕ, List, [], ◌∷◌}
 use Rattle.card.specs.Card.{Mode, Statement, Card}
-use Rattle.card.specs.Laid.{either}
 use Rattle.phrases.specs.Phrases.{Text, counted}
 use Rattle.texts.specs.Copies.{reduced_copies}
-use Rattle.leaf_text.specs.declared.Style.{Style}
-use Rattle.leaf_text.specs.Style.{style_of}
+use Rattle.leaf_text.specs.declared.style.Form.{Form}
+use Rattle.leaf_text.specs.Style.{looks, by_form}
 use Rattle.statement_copies.specs.Copies.{copy_text}
 
-abbrev pub copy_number : ℕ → Mode → ℕ → ℕ
-copy_number text mode n = either 1 (reduced_copies mode n) text
-
-abbrev pub style_in : ℕ → Mode → ℕ → ℕ → Style
-style_in text mode n own = style_of text own n (copy_number text mode n)
+abbrev pub copy_number : Form → Mode → ℕ → ℕ
+copy_number form mode n = by_form 1 (reduced_copies mode n) form
 
 -- ---- all statements
 
-abbrev pub each : ℕ → Mode → ℕ → List Statement → Text
-each text mode n [] r = r
-each text mode n (x ∷ xs) r = counted (copy_text (style_in text mode n x.own) x) 0 (copy_number text mode n) (each text mode n xs r)
+abbrev pub each : Form → Mode → ℕ → List Statement → Text
+each form mode n [] r = r
+each form mode n (x ∷ xs) r = counted (copy_text (looks form x.own n) x) 0 (copy_number form mode n) (each form mode n xs r)
 
-abbrev pub statements_text : ℕ → Card → Text
-statements_text text c r = each text c.mode c.n c.statements r
+abbrev pub statements_text : Form → Card → Text
+statements_text form c r = each form c.mode c.n c.statements r

@@ -10,21 +10,18 @@ ghost use Rattle.statement_text.specs.Statements.{copy_number, statements_text};
 
 use card::limits::{NODE_PLACES, ROW_PLACES};
 use card::{Head, NONDETERMINISTIC};
-use leaf_text::{Style, WRITTEN};
+use leaf_text::style::{Form, Style};
 use room::place;
 use statement_copies::{put_statement, row_at};
 
 // How many copies each statement has: one, but on a probabilistic card's reduced program one for each seat.
-fn copies_of(text: usize, mode: usize, seats: usize) -> usize
-    ensures { result ≡ copy_number text (either nondeterministic probabilistic mode) seats }
+fn copies_of(form: Form, mode: usize, seats: usize) -> usize
+    ensures { result ≡ copy_number form (either nondeterministic probabilistic mode) seats }
 {
-    if text == WRITTEN {
-        return 1;
+    match form {
+        Form::Written => 1,
+        Form::Reduced => if mode == NONDETERMINISTIC { 1 } else { seats },
     }
-    if mode == NONDETERMINISTIC {
-        return 1;
-    }
-    seats
 }
 
 // All statements of a card, by their rows.
@@ -35,26 +32,23 @@ pub fn put_statements<'a>(
     rows: &'a [usize; ROW_PLACES],
     nodes: &'a [u32; NODE_PLACES],
     branches: &'a [u32],
-    text: usize,
+    form: Form,
 ) -> usize
     requires { HoldsIn head (lent rows.now nodes.now branches.now) }
-    ensures { Puts room.old room.new at (statements_text text (card_in head (lent rows.now nodes.now branches.now))) result }
+    ensures { Puts room.old room.new at (statements_text form (card_in head (lent rows.now nodes.now branches.now))) result }
 {
     let seats = head.seats;
-    let count = head.count;
-    let copies = copies_of(text, head.mode, seats);
+    let copies = copies_of(form, head.mode, seats);
     let mut to = place(at);
-    let mut i = 0;
-    while i < count {
+    for i in 0..head.count {
         let x = row_at(rows, i);
         let style = Style {
-            text: text,
+            form,
             own: x.own,
-            seats: seats,
-            copies: copies,
+            seats,
+            copies,
         };
         to = put_statement(room, to, i, x, nodes, branches, style);
-        i += 1;
     }
     to
 }

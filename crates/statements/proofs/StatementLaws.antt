@@ -17,7 +17,10 @@ use Rattle.reading.specs.Shape.{StatementShape, more_branches, guard}
 use Rattle.reading.specs.Checks.{judged_state, judged_words, judged_or}
 use Rattle.late.specs.Late.{Late, judge, judge_all}
 use Rattle.late.specs.Values.{shares, most_of}
-use Rattle.late.specs.State.{late_in, value_in, After, after}
+use Rattle.std.specs.Prelude.{Ok, Err}
+use Rattle.late.specs.declared.state.State.{State as Carried}
+use Rattle.late.specs.Settled.{Refusal}
+use Rattle.late.specs.State.{NextPlace, late_in, value_in, After, after}
 use Rattle.late.proofs.Settling.{judge_append}
 use Rattle.parts.specs.Parts.{from, Kept, Went, NumberFrom, Sure, LineRead}
 use Rattle.branches.specs.declared.Bounds.{Bounds}
@@ -53,41 +56,39 @@ module _ (bounds : Bounds) (s : List ℕ) (i : ℕ) (before : Late) (was is : Le
   abbrev StatementIs : After → Type 0
   StatementIs = StatementFrom bounds s i before was is index
 
-  module _ (a : List ℕ) {w : ℕ} (hw : OwnFrom s i before (after a w)) where
-    owned : (n : ℕ) → LineRead s before (1 ∷ []) (line statement_rest (from s i n)) (after a w)
-    owned n = hw.answers statement_due statement_sure refl refl n
+  owned : {a : Carried} {y : NextPlace} → OwnFrom s i before (after a y) → (n : ℕ) → LineRead s before (1 ∷ []) (line statement_rest (from s i n)) (after a y)
+  owned hw n = hw.answers statement_due statement_sure refl n
 
-    pub words_halt : w ≡ 0 → StatementIs (after a 0)
-    words_halt e = record { answers = λ st n b. rw b (halted s _ _ (line statement_rest (from s i n)) _ a w (owned n) e); sized = hw.sized }
+  pub words_halt : {a : Carried} {z : Refusal} → OwnFrom s i before (after a (Err z)) → StatementIs (after a (Err z))
+  words_halt {a} {z} hw = record { answers = λ st n b. rw b (halted s _ _ (line statement_rest (from s i n)) _ a z (owned hw n)) }
 
-    module _ (ew : w ≡ 0 → ⊥) (c : List ℕ) {j : ℕ} (hj : NumberFrom s w bounds.top (late_in a) (after c j)) where
-      pub own_halts : j ≡ 0 → StatementIs (after c 0)
-      own_halts e = record {
-        answers = λ st n b. rw b (onward s _ _ (line statement_rest (from s i n)) _ a w _ (owned n) ew λ ws m f.
-            halted s _ _ (numbered number_of (from s w m)) _ c j (hj.answers m) e);
-        sized = hj.sized;
-      }
+  module _ {a : Carried} {w : ℕ} (hw : OwnFrom s i before (after a (Ok w))) where
+    pub own_halts : {c : Carried} {z : Refusal} → NumberFrom s w bounds.top (late_in a) (after c (Err z)) → StatementIs (after c (Err z))
+    own_halts {c} {z} hj = record {
+      answers = λ st n b. rw b (onward s _ _ (line statement_rest (from s i n)) _ a w _ (owned hw n) λ ws m f.
+          halted s _ _ (numbered number_of (from s w m)) _ c z (hj.answers m));
+    }
 
-      module _ (ej : j ≡ 0 → ⊥) (d : List ℕ) {g : ℕ} (hg : GuardedFrom s j bounds.top bounds.values (late_in c) was.nodes is.nodes (index * most_nodes) (after d g)) where
-        behind_own : (r : After) (st : State) (n : ℕ) → sign "[" st ≡ ok tt (from s i n)
-            → ((ws : List Numbered) (own : Numbered) → Kept s before (judged_words (1 ∷ []) ws) a → Went s (late_in a) own.value (judged_state bounds.top own ∷ []) c
-            → StatementRead bounds s before was is index (bind (guarded (shares bounds.values) (from s j most_nodes)) (λ f s₁. bind (branches bounds (most_branches - 1) s₁) (λ x. return (stated ws own f x)))) r)
-            → StatementRead bounds s before was is index (statement_by bounds st) r
-        behind_own r st n b y = rw b (onward s _ _ (line statement_rest (from s i n)) _ a w r (owned n) ew λ ws m f.
-            onward s _ _ (numbered number_of (from s w m)) _ c j r (hj.answers m) ej λ own m₁ f₁.
-            rw (from_guard bounds ws own (from s j most_nodes)) (y ws own f f₁))
+    module _ {c : Carried} {j : ℕ} (hj : NumberFrom s w bounds.top (late_in a) (after c (Ok j))) where
+      behind_own : (r : After) (st : State) (n : ℕ) → sign "[" st ≡ ok tt (from s i n)
+          → ((ws : List Numbered) (own : Numbered) → Kept s before (judged_words (1 ∷ []) ws) a → Went s (late_in a) own.value (judged_state bounds.top own ∷ []) c
+          → StatementRead bounds s before was is index (bind (guarded (shares bounds.values) (from s j most_nodes)) (λ f s₁. bind (branches bounds (most_branches - 1) s₁) (λ x. return (stated ws own f x)))) r)
+          → StatementRead bounds s before was is index (statement_by bounds st) r
+      behind_own r st n b y = rw b (onward s _ _ (line statement_rest (from s i n)) _ a w r (owned hw n) λ ws m f.
+          onward s _ _ (numbered number_of (from s w m)) _ c j r (hj.answers m) λ own m₁ f₁.
+          rw (from_guard bounds ws own (from s j most_nodes)) (y ws own f f₁))
 
-        pub guard_halts : g ≡ 0 → StatementIs (after d 0)
-        guard_halts e = record { answers = λ st n b. behind_own _ st n b λ ws own f f₁. halted s _ _ (guarded (shares bounds.values) (from s j most_nodes)) _ d g hg.answers e; sized = hg.sized }
+      pub guard_halts : {d : Carried} {z : Refusal} → GuardedFrom s j bounds.top bounds.values (late_in c) was.nodes is.nodes (index * most_nodes) (after d (Err z)) → StatementIs (after d (Err z))
+      guard_halts {d} {z} hg = record { answers = λ st n b. behind_own _ st n b λ ws own f f₁. halted s _ _ (guarded (shares bounds.values) (from s j most_nodes)) _ d z hg.answers }
 
-        module _ (eg : g ≡ 0 → ⊥) (o : List ℕ) {l : ℕ} (hl : BranchesFrom bounds s g (late_in d) was.branches is.branches (index * most_branches) (after o l)) where
-          pub branches_halt : l ≡ 0 → StatementIs (after o 0)
-          branches_halt e = record {
-            answers = λ st n b. behind_own _ st n b λ ws own f f₁. onward s _ _ (guarded (shares bounds.values) (from s j most_nodes)) _ d g _ hg.answers eg λ h m f₂.
-                halted s _ _ (branches bounds (most_branches - 1) (from s g m)) _ o l (hl.answers m) e;
-            sized = hl.sized;
-          }
+      module _ {d : Carried} {g : ℕ} (hg : GuardedFrom s j bounds.top bounds.values (late_in c) was.nodes is.nodes (index * most_nodes) (after d (Ok g))) where
+        pub branches_halt : {o : Carried} {z : Refusal} → BranchesFrom bounds s g (late_in d) was.branches is.branches (index * most_branches) (after o (Err z)) → StatementIs (after o (Err z))
+        branches_halt {o} {z} hl = record {
+          answers = λ st n b. behind_own _ st n b λ ws own f f₁. onward s _ _ (guarded (shares bounds.values) (from s j most_nodes)) _ d g _ hg.answers λ h m f₂.
+              halted s _ _ (branches bounds (most_branches - 1) (from s g m)) _ o z (hl.answers m);
+        }
 
+        module _ {o : Carried} {l : ℕ} (hl : BranchesFrom bounds s g (late_in d) was.branches is.branches (index * most_branches) (after o (Ok l))) where
           -- its row, written number by number
           row_written : (x : StatementShape) → value_in c ≡ x.own.value → value_in d ≡ guard_size (guard_or_by x.guard) → value_in o ≡ length x.branches
               → set (set (set was.rows (index * row_numbers) (value_in c)) (index * row_numbers + 1) (value_in d)) (index * row_numbers + 2) (value_in o) ≡ stored was.rows (index * row_numbers) (rows_of (row_by x ∷ []))
@@ -96,15 +97,13 @@ module _ (bounds : Bounds) (s : List ℕ) (i : ℕ) (before : Late) (was is : Le
               let to : index * row_numbers + 2 ≡ index * row_numbers + 1 + 1 = omega arith in
               rw (to, e, f, h) refl
 
-          pub statement_read : (l ≡ 0 → ⊥)
-              → is.rows ≡ set (set (set was.rows (index * row_numbers) (value_in c)) (index * row_numbers + 1) (value_in d)) (index * row_numbers + 2) (value_in o)
-              → StatementIs (after o l)
+          pub statement_read : is.rows ≡ set (set (set was.rows (index * row_numbers) (value_in c)) (index * row_numbers + 1) (value_in d)) (index * row_numbers + 2) (value_in o)
+              → StatementIs (after o (Ok l))
           unfolding judge_all
-          statement_read e rows = record {
-            answers = λ st n b. behind_own _ st n b λ ws own f f₁. onward s _ _ (guarded (shares bounds.values) (from s j most_nodes)) _ d g _ hg.answers eg λ h m f₂.
-                onward s _ _ (branches bounds (most_branches - 1) (from s g m)) _ o l _ (hl.answers m) e λ x m₁ f₃.
+          statement_read rows = record {
+            answers = λ st n b. behind_own _ st n b λ ws own f f₁. onward s _ _ (guarded (shares bounds.values) (from s j most_nodes)) _ d g _ hg.answers λ h m f₂.
+                onward s _ _ (branches bounds (most_branches - 1) (from s g m)) _ o l _ (hl.answers m) λ x m₁ f₃.
                 record {
-                  went = e;
                   rest = refl;
                   told = record {
                     late = f₃.went.late
@@ -113,5 +112,4 @@ module _ (bounds : Bounds) (s : List ℕ) (i : ℕ) (before : Late) (was is : Le
                     memory = λ q. lent ((rows ∙ row_written (stated ws own h x) f₁.value f₂.went.value f₃.went.value) q) (f₂.array q) (f₃.array q);
                   };
                 };
-            sized = hl.sized;
           }

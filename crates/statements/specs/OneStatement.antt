@@ -12,7 +12,8 @@ use Rattle.reading.specs.Shape.{StatementShape, statement}
 use Rattle.reading.specs.Checks.{judged_statement}
 use Rattle.late.specs.Late.{Late}
 use Rattle.late.specs.Values.{shares, most_of}
-use Rattle.late.specs.State.{Sized, After}
+use Rattle.late.specs.declared.state.State.{State as Carried}
+use Rattle.late.specs.State.{After}
 use Rattle.parts.specs.Parts.{from, Answers, Kept}
 use Rattle.branches.specs.declared.Bounds.{Bounds}
 use Rattle.branches.specs.Branches.{packed_in}
@@ -37,7 +38,7 @@ statement_by bounds = statement (shares bounds.values)
 abbrev pub judged_by : Bounds → StatementShape → List Judgement
 judged_by bounds x = judged_statement bounds.decimals bounds.top (most_of bounds.values) x
 
-pub record StatementIn (bounds : Bounds) (s : List ℕ) (before : Late) (was is : Lent) (index : ℕ) (x : StatementShape) (state : List ℕ) : Type 0 where
+pub record StatementIn (bounds : Bounds) (s : List ℕ) (before : Late) (was is : Lent) (index : ℕ) (x : StatementShape) (state : Carried) : Type 0 where
   pub late : Kept s before (judged_by bounds x) state
   pub memory : is ≡ with_statement index x was
 
@@ -47,4 +48,3 @@ StatementRead bounds s before was is index = Answers s (StatementIn bounds s bef
 -- the cursor stands behind the statement's first mark
 pub record StatementFrom (bounds : Bounds) (s : List ℕ) (i : ℕ) (before : Late) (was is : Lent) (index : ℕ) (r : After) : Type 0 where
   pub answers : (st : State) (n : ℕ) → sign "[" st ≡ ok tt (from s i n) → StatementRead bounds s before was is index (statement_by bounds st) r
-  pub sized : Sized r.state

@@ -11,8 +11,9 @@ use Rattle.reading.specs.Shape.{guard}
 use Rattle.reading.specs.Checks.{judged_or}
 use Rattle.late.specs.Late.{Late, guard_by}
 use Rattle.late.specs.Values.{shares, most_of}
-use Rattle.late.specs.State.{Sized, After}
-use Rattle.parts.specs.Parts.{from, Answers, Went, Due, sign as due, seat, kinds_in, numbers_in, RunFrom}
+use Rattle.late.specs.declared.state.State.{State as Carried}
+use Rattle.late.specs.State.{After}
+use Rattle.parts.specs.Parts.{from, Answers, Went, Due, sign as due, seat, marks_due, RunFrom}
 
 -- ---- before a statement's own state
 
@@ -20,7 +21,7 @@ abbrev pub statement_due : List Due
 statement_due = due "]" ∷ seat 1 ∷ due "=" ∷ []
 
 abbrev pub OwnFrom : List ℕ → ℕ → Late → After → Type 0
-OwnFrom s i late r = RunFrom s i (kinds_in statement_due) (numbers_in statement_due) late r
+OwnFrom s i late r = RunFrom s i (marks_due statement_due) late r
 
 -- ---- the guard, with the arrow behind it; its number is that of its nodes, which stand from `used` on
 
@@ -35,7 +36,7 @@ guard_or_by none = none
 guard_or_by (some g) = some (guard_by g)
 
 -- on a card with top state k, whose shared number has so many values
-pub record GuardedIn (s : List ℕ) (k values : ℕ) (before : Late) (was is : List ℕ) (used : ℕ) (g : Option (Formula Tested)) (state : List ℕ) : Type 0 where
+pub record GuardedIn (s : List ℕ) (k values : ℕ) (before : Late) (was is : List ℕ) (used : ℕ) (g : Option (Formula Tested)) (state : Carried) : Type 0 where
   pub went : Went s before (guard_size (guard_or_by g)) (judged_or k (most_of values) g) state
   pub array : is ≡ stored was used (guard_cells (guard_or_by g) used)
 
@@ -45,4 +46,3 @@ GuardedRead s k values before was is used = Answers s (GuardedIn s k values befo
 -- in a statement that may have all its nodes yet
 pub record GuardedFrom (s : List ℕ) (i k values : ℕ) (before : Late) (was is : List ℕ) (used : ℕ) (r : After) : Type 0 where
   pub answers : GuardedRead s k values before was is used (guarded (shares values) (from s i most_nodes)) r
-  pub sized : Sized r.state

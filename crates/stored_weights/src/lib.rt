@@ -43,15 +43,12 @@ pub fn weigh_from<'a>(
     requires { Weighing head rows.now branches.now table.now × (row.old ≡ zeros weight_places) }
     ensures { row.new ≡ row_from table.now rows.now branches.now head.count old }
 {
-    let count = head.count;
-    let mut i = 0;
-    while i < count {
+    for i in 0..head.count {
         let able = able_from(table, rows, i, old);
         if able != 0 {
             let many = rows[i * ROW + 2];
             add_weights(row, able, table[SHARED], branches, i, many);
         }
-        i += 1;
     }
 }
 
@@ -65,10 +62,8 @@ fn stays_of<'a>(
     requires { Weighing head rows.now branches.now table.now }
     ensures { result ≡ stays_of table.now rows.now branches.now head.count }
 {
-    let count = head.count;
     let mut stays: [usize; MOST_SHARED] = [0; MOST_SHARED];
-    let mut i = 0;
-    while i < count {
+    for i in 0..head.count {
         let able = table[ABLES + i];
         if able != 0 {
             let from = i * ROW;
@@ -82,7 +77,6 @@ fn stays_of<'a>(
                 rows[from + 2],
             );
         }
-        i += 1;
     }
     stays
 }

@@ -1,7 +1,7 @@
 // The table of counter tests ("What a card means", second part), place by place.
 #![tactic(auto)]
 
-ghost use Rattle.std.specs.Prelude.{◌≡◌, Bool, ◌-◌, eqb};
+ghost use Rattle.std.specs.Prelude.{◌≡◌, Bool, eqb};
 ghost use Rattle.card.specs.Card.{everyone, others, all, any, is, isnt};
 ghost use Rattle.card.specs.Laid.{either, leaf_of};
 ghost use Rattle.meaning.specs.Reduced.{equal_to as equal_to_said, more_than as more_than_said, less_than as less_than_said, table, counter_of};
@@ -16,40 +16,22 @@ pub struct Bound {
     pub number: usize,
 }
 
-fn one_less(n: usize) -> usize
-    ensures { result ≡ n - 1 }
-{
-    if n == 0 {
-        return 0;
-    }
-    n - 1
-}
-
 fn equal_to(number: usize) -> Bound
     ensures { result ≡ bound_row (equal_to_said number) }
 {
-    Bound {
-        sign: b'=',
-        number: number,
-    }
+    Bound { sign: b'=', number }
 }
 
 fn more_than(number: usize) -> Bound
     ensures { result ≡ bound_row (more_than_said number) }
 {
-    Bound {
-        sign: b'>',
-        number: number,
-    }
+    Bound { sign: b'>', number }
 }
 
 fn less_than(number: usize) -> Bound
     ensures { result ≡ bound_row (less_than_said number) }
 {
-    Bound {
-        sign: b'<',
-        number: number,
-    }
+    Bound { sign: b'<', number }
 }
 
 // The table of counter tests, place by place: the column of everyone.
@@ -84,7 +66,7 @@ fn others_bound(sign: usize, relation: usize, own: usize, d: usize, n: usize) ->
         }
         return less_than(n);
     }
-    let less = one_less(n);
+    let less = n.saturating_sub(1);
     if sign == ALL {
         if relation == IS {
             return equal_to(less);

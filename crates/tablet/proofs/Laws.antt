@@ -2,12 +2,13 @@
 use Prim.Native.Nat.{ℕ}
 use mathlib.Core.Path.{◌≡◌, refl, ap, subst, ◌∙◌}
 use mathlib.Core.List.{List}
+use Rattle.std.specs.Prelude.{Result}
+use Rattle.card.specs.declared.Refusal.{Refusal}
+use Rattle.card.specs.Verdict.{verdict_in}
 use Rattle.card.specs.Lent.{Lent}
 use Rattle.reading.specs.Reading.{read_of}
-use Rattle.outline.specs.declared.Outline.{Outline}
-use Rattle.outline.specs.ReadingOf.{ReadsInto}
-use Rattle.room.specs.declared.Answer.{Answer}
-use Rattle.room.specs.Answer.{Text, Entered, told as answer_of}
+use Rattle.outline.specs.ReadingOf.{Outline, ReadsInto}
+use Rattle.room.specs.Answer.{Answer, Text, Entered, told as answer_of}
 use Rattle.answers.specs.declared.OpenPanelAnswer.{OpenPanelAnswer}
 use Rattle.entry.specs.Said.{Said, says, refused}
 use Rattle.entry.specs.Contract.{Ends, Two, Enters, in_place, in_rows}
@@ -26,19 +27,19 @@ use Rattle.tablet.specs.LentDeck.{DeckTold}
 pub told : {was is : List ℕ} {said : Text} {a : Answer} {r : OpenPanelAnswer} → Entered was is said a → r ≡ numbers a → Told was is said r
 told e n = record { answers = n ∙ ap numbers e.answers; leaves = e.leaves }
 
-pub judge_told : {card : List ℕ} {o : Outline} {x : Lent} {r : OpenPanelAnswer} → ReadsInto card o x → r ≡ verdict_numbers o.verdict → r ≡ judged (read_of card)
-judge_told h n = n ∙ ap (λ (y : Outline). verdict_numbers y.verdict) h.outline
+pub judge_told : {card : List ℕ} {o : Outline} {x : Lent} {r : OpenPanelAnswer} → ReadsInto card o x → r ≡ verdict_numbers (verdict_in o) → r ≡ judged (read_of card)
+judge_told h n = n ∙ ap (λ (y : Outline). verdict_numbers (verdict_in y)) h.outline
 
 -- ---- where a card stands
 
-verdict_placed : (said : Said Part) → (placed said).verdict ≡ verdict_of said
+verdict_placed : (said : Said Part) → verdict_in (placed said) ≡ verdict_of said
 verdict_placed (says p) = refl
 verdict_placed (refused r p) = refl
 
-pub part_told : {said : Said Part} {p : Place} {was is : List ℕ} {r : OpenPanelAnswer} → p ≡ placed said → Stands p was is r → PartTold said was is r
+pub part_told : {said : Said Part} {p : Result Place Refusal} {was is : List ℕ} {r : OpenPanelAnswer} → p ≡ placed said → Stands p was is r → PartTold said was is r
 part_told {said} {p} {was} {is} {r} e s = record {
-  answers = s.answers ∙ ap (λ (q : Place). verdict_numbers q.verdict) e ∙ ap verdict_numbers (verdict_placed said);
-  leaves = s.leaves ∙ ap (λ (q : Place). three_of q was) e;
+  answers = s.answers ∙ ap (λ (q : Result Place Refusal). verdict_numbers (verdict_in q)) e ∙ ap verdict_numbers (verdict_placed said);
+  leaves = s.leaves ∙ ap (λ (q : Result Place Refusal). three_of q was) e;
 }
 
 -- ---- a deck changed in place

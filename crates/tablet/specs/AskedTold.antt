@@ -1,7 +1,7 @@
 -- What the entry for C that asks a question promises, in document 01's numbers. Assumes nothing.
 use Rattle.std.specs.Prelude.{Bool}
 use Rattle.entry.specs.Said.{Said}
-use Rattle.entries.specs.declared.Asked.{Asked}
+use Rattle.entries.specs.Answered.{Asked}
 use Rattle.entries.specs.Answered.{asked, asked_number, asked_value}
 use Rattle.answers.specs.declared.OpenPanelAnswer.{OpenPanelAnswer}
 

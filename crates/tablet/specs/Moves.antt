@@ -2,7 +2,7 @@
 use Rattle.std.specs.Prelude.{ℕ}
 use Rattle.std.proofs.Math.Option.{Option}
 use Rattle.entry.specs.Said.{Said}
-use Rattle.able_seats.specs.declared.FirstMove.{FirstMove}
+use Rattle.able_seats.specs.Moved.{FirstMove}
 use Rattle.able_seats.specs.Moved.{moved, move_number, move_value}
 use Rattle.answers.specs.declared.OpenPanelAnswer.{OpenPanelAnswer}
 

@@ -28,14 +28,14 @@ ghost use Rattle.told.specs.Told.{judged, Told};
 ghost use Rattle.tablet.specs.AskedTold.{asked_numbers, answered_numbers};
 ghost use Rattle.tablet.specs.Parts.{PartTold};
 
-use able_seats::FirstMove;
 use add::add;
-use answers::{OpenPanelAnswer, in_numbers, is_largest, tell_part, verdict_in_numbers};
+use answers::{OpenPanelAnswer, is_largest, tell_part};
 use boxes::{judge_deck, locate, locate_with};
+use card::Refusal;
 use card::limits::{BRANCH_PLACES, NODE_PLACES, ROW_PLACES};
 use convert::convert;
 use deck_writer::write_deck;
-use entries::{Asked, ask, first_move, watch};
+use entries::{ask, first_move, watch};
 use mend::mend;
 use mended_told::tell_mended;
 use odds::odds;
@@ -44,28 +44,16 @@ use printing::{reduce, write};
 use reader::read_into;
 use tidy::tidy;
 
-fn asked_in_numbers(asked: Asked) -> OpenPanelAnswer
+// Yes is 1, and no is 0.
+fn asked_in_numbers(asked: Result<bool, Refusal>) -> OpenPanelAnswer
     ensures { result ≡ asked_numbers asked }
 {
     match asked {
-        Asked::Yes => {
-            return OpenPanelAnswer {
-                number: 0,
-                value: 1,
-            };
-        }
-        Asked::No => {
-            return OpenPanelAnswer {
-                number: 0,
-                value: 0,
-            };
-        }
-        Asked::Refused(number, place) => {
-            return OpenPanelAnswer {
-                number: number,
-                value: place,
-            };
-        }
+        Ok(holds) => OpenPanelAnswer {
+            number: 0,
+            value: usize::from(holds),
+        },
+        Err(refusal) => OpenPanelAnswer::from(refusal),
     }
 }
 
@@ -76,33 +64,34 @@ pub fn open_panel_judge(card: &[u8]) -> OpenPanelAnswer
     let mut rows: [usize; ROW_PLACES] = [0; ROW_PLACES];
     let mut nodes: [u32; NODE_PLACES] = [0; NODE_PLACES];
     let mut branches: [u32; BRANCH_PLACES] = [0; BRANCH_PLACES];
-    let outline = read_into(card, &mut rows, &mut nodes, &mut branches);
-    let verdict = outline.verdict;
-    verdict_in_numbers(verdict)
+    match read_into(card, &mut rows, &mut nodes, &mut branches) {
+        Ok(_) => OpenPanelAnswer {
+            number: 0,
+            value: 0,
+        },
+        Err(refusal) => OpenPanelAnswer::from(refusal),
+    }
 }
 
 // The written card.
 pub fn open_panel_write(card: &[u8], room: &mut [u8]) -> OpenPanelAnswer
     ensures { Told room.old room.new (write_said card.now) result }
 {
-    let answer = write(card, room);
-    in_numbers(answer)
+    OpenPanelAnswer::from(write(card, room))
 }
 
 // The reduced program's text.
 pub fn open_panel_reduce(card: &[u8], room: &mut [u8]) -> OpenPanelAnswer
     ensures { Told room.old room.new (reduce_said card.now) result }
 {
-    let answer = reduce(card, room);
-    in_numbers(answer)
+    OpenPanelAnswer::from(reduce(card, room))
 }
 
 // The panel of a card and its seats.
 pub fn open_panel_show(card: &[u8], seats: &[u8], room: &mut [u8]) -> OpenPanelAnswer
     ensures { Told room.old room.new (panel_said card.now seats.now) result }
 {
-    let answer = panel(card, seats, room);
-    in_numbers(answer)
+    OpenPanelAnswer::from(panel(card, seats, room))
 }
 
 // Does a question hold at the seats? Yes answers 0 and 1, no 0 and 0.
@@ -117,8 +106,7 @@ pub fn open_panel_ask(card: &[u8], question: &[u8], seats: &[u8]) -> OpenPanelAn
 pub fn open_panel_box_judge(deck: &[u8]) -> OpenPanelAnswer
     ensures { result ≡ verdict_numbers (verdict_of (deck_judged deck.now)) }
 {
-    let verdict = judge_deck(deck);
-    verdict_in_numbers(verdict)
+    OpenPanelAnswer::from(judge_deck(deck))
 }
 
 // Where a box has the card of a number. Where it has none the part is all 0.
@@ -146,8 +134,7 @@ pub fn open_panel_box_find_with(
 pub fn open_panel_box_write(contents: &[u8], bodies: &[u8], room: &mut [u8]) -> OpenPanelAnswer
     ensures { Told room.old room.new (write_deck_said contents.now bodies.now) result }
 {
-    let answer = write_deck(contents, bodies, room);
-    in_numbers(answer)
+    OpenPanelAnswer::from(write_deck(contents, bodies, room))
 }
 
 // A damaged box mended: the new deck, and a list with a line for each entry, whose length goes into the lent number.
@@ -167,24 +154,21 @@ pub fn open_panel_mend(
 pub fn open_panel_convert(deck: &[u8], room: &mut [u8]) -> OpenPanelAnswer
     ensures { Told room.old room.new (convert_said deck.now) result }
 {
-    let answer = convert(deck, room);
-    in_numbers(answer)
+    OpenPanelAnswer::from(convert(deck, room))
 }
 
 // A box tidied within the lent deck: withdrawn entries dropped, gaps closed, zero bytes behind the new length.
 pub fn open_panel_tidy(deck: &mut [u8]) -> OpenPanelAnswer
     ensures { DeckTold deck.old deck.new (tidy_said deck.old) result }
 {
-    let answer = tidy(deck);
-    in_numbers(answer)
+    OpenPanelAnswer::from(tidy(deck))
 }
 
 // A live card added to a box within the lent deck, which is tidied.
 pub fn open_panel_add(deck: &mut [u8], number: u16, card: &[u8]) -> OpenPanelAnswer
     ensures { DeckTold deck.old deck.new (add_said deck.old number card.now) result }
 {
-    let answer = add(deck, number, card);
-    in_numbers(answer)
+    OpenPanelAnswer::from(add(deck, number, card))
 }
 
 // The line of class counts for a spectator, by a list of the states' classes.
@@ -196,32 +180,19 @@ pub fn open_panel_watch(
 ) -> OpenPanelAnswer
     ensures { Told room.old room.new (watch_said card.now seats.now classes.now) result }
 {
-    let answer = watch(card, seats, classes, room);
-    in_numbers(answer)
+    OpenPanelAnswer::from(watch(card, seats, classes, room))
 }
 
-fn move_in_numbers(answer: FirstMove) -> OpenPanelAnswer
+// A statement is its place from 1, and nobody is 0.
+fn move_in_numbers(answer: Result<Option<usize>, Refusal>) -> OpenPanelAnswer
     ensures { result ≡ move_numbers answer }
 {
     match answer {
-        FirstMove::Statement(place) => {
-            return OpenPanelAnswer {
-                number: 0,
-                value: place,
-            };
-        }
-        FirstMove::Nobody => {
-            return OpenPanelAnswer {
-                number: 0,
-                value: 0,
-            };
-        }
-        FirstMove::Refused(number, place) => {
-            return OpenPanelAnswer {
-                number: number,
-                value: place,
-            };
-        }
+        Ok(statement) => OpenPanelAnswer {
+            number: 0,
+            value: statement.unwrap_or(0),
+        },
+        Err(refusal) => OpenPanelAnswer::from(refusal),
     }
 }
 
@@ -246,6 +217,5 @@ pub fn open_panel_odds(
     ensures { RowsTold (two first.old second.old) (two first.new second.new) (odds_said card.now question.now seats.now m (aim_by largest) (length first.old) (length second.old)) result }
 {
     let is_largest = is_largest(largest);
-    let answer = odds(card, question, seats, m, is_largest, first, second);
-    in_numbers(answer)
+    OpenPanelAnswer::from(odds(card, question, seats, m, is_largest, first, second))
 }

@@ -19,36 +19,21 @@ use Rattle.reading.specs.Group.{Literal, joint, literal, others}
 use Rattle.literals_due.specs.declared.Tail.{Tail}
 use Rattle.late.specs.Late.{up_to_most}
 use Rattle.seats_seen.specs.SeatsSeen.{noted, seen_from, one_more}
-use Rattle.group.specs.LiteralRead.{ReadLiteral, StoppedLiteral}
+use Rattle.group.specs.LiteralRead.{ReadLiteral}
 use Rattle.group.proofs.Signs.{Known}
 use Rattle.group.proofs.Ahead.{fits, unfit, sign_next, place_next, place_within, one_less}
-use Rattle.group.proofs.Literals.{Reads}
+use Rattle.group.proofs.Literals.{Reads, stops_here}
 use Rattle.seats_seen.proofs.Seats.{no_seats, Seen, seen_first, seen_more_seats, long_more, one_counted, once_seen}
 use Rattle.group.proofs.Joined.{Joining, one_stops, one_read, not_closed, closed}
-use Rattle.group.proofs.Groups.{joint_known, seat_marks, read_well, read_wrong, no_word, worded, next_fewer}
+use Rattle.group.proofs.Groups.{joint_known, seat_marks, found_as, stops_as, read_well, read_wrong, no_word, worded, next_fewer}
 use Rattle.asking.specs.Question.{relations, both, term}
 use Rattle.asking.specs.Asking.{each_due}
 use Rattle.term_literals.specs.declared.TermFound.{TermFound}
 use Rattle.literals_due.specs.Due.{due_number}
-use Rattle.term_literals.specs.TermRead.{literals_of, no_term, TermRead}
+use Rattle.std.specs.Prelude.{Result as Answer, Ok, Err}
+use Rattle.group.specs.Found.{Found}
+use Rattle.term_literals.specs.TermRead.{literals_of, TermOf, TermRead}
 use Rattle.term_literals.proofs.TermLists.{due_so, mixed_so}
-
--- ---- answers
-
-term_as : (o : ℕ) (s : List ℕ) (from n i : ℕ) {x y : Result (List Literal)} (r : TermFound) → x ≡ y → TermRead o s from n i y r → TermRead o s from n i x r
-term_as o s from n i r e h = rw e h
-
-no_term_law : (o : ℕ) (s : List ℕ) (from n i m : ℕ) (q : Place) (t : Tail) → StoppedLiteral o s m q t → TermRead o s from n i (stop m q) (no_term t.place)
-no_term_law o s from n i m q t h = record { number = h.number; answer = refl; place = h.place; within = h.within }
-
--- it stops where the mark ahead does not fit
-stops_here : (o : ℕ) (s : List ℕ) (from n i c : ℕ) → TermRead o s from n i (stop out_of_shape (marks_at o s c)) (no_term (step_at s c).mark.place)
-stops_here o s from n i c = record {
-  number = refl;
-  answer = refl;
-  place = place_next o s (step_at s c) (marks_at o s c) (meet o s c);
-  within = place_within o s (step_at s c) (marks_at o s c) (meet o s c);
-}
 
 -- ---- so far
 
@@ -82,17 +67,17 @@ alone l = go l.relation
     go is = refl
     go isnt = refl
 
-module _ (s : List ℕ) (from v i : ℕ) (first : Tail) (reads : Reads s from first) where
+module _ (s : List ℕ) (from v i : ℕ) where
   -- the first literal was not read
-  pub first_wrong : (first.stop ≡ 0 → ⊥) → (o n x : ℕ) → TermRead o s from n i (whole s from v o n x) (no_term first.place)
-  first_wrong z o n x =
-      read_wrong o s from n v first (literal (at (placed (seat v) x ∷ marks_at o s from) n)) (reads o n v x) z
-      (λ m q e h. term_as o s from n i (no_term first.place) (ap (λ y. bind y behind_first) e) (no_term_law o s from n i m q first h))
+  pub first_wrong : (r : ℕ) → Reads s from (Err r) → (o n x : ℕ) → TermRead o s from n i (whole s from v o n x) (Err r)
+  first_wrong r reads o n x =
+      read_wrong (ReadLiteral o s from n v) o s (literal (at (placed (seat v) x ∷ marks_at o s from) n)) r (reads o n v x)
+      (λ m q e h. stops_as (TermOf o s from n i) o s r (ap (λ y. bind y behind_first) e) h)
 
-  pub first_read : first.stop ≡ 0 → (seen : List ℕ) → seen ≡ noted (no_seats (suc most_seats)) v → (q : ℕ) → q ≡ due_number i v
+  pub first_read : (first : Tail) → Reads s from (Ok first) → (seen : List ℕ) → seen ≡ noted (no_seats (suc most_seats)) v → (q : ℕ) → q ≡ due_number i v
       → (due : Bool) → due ≡ (true && (eqb first.d first.d && eqb first.relation q)) → (o n x : ℕ) → SoFar s from v i first seen 1 due false first.next o n x
-  first_read z seen f q qe due de o n x =
-      read_well o s from n v first (literal (at (placed (seat v) x ∷ marks_at o s from) n)) (reads o n v x) z
+  first_read first reads seen f q qe due de o n x =
+      read_well (ReadLiteral o s from n v) o s (literal (at (placed (seat v) x ∷ marks_at o s from) n)) first (reads o n v x)
       (λ l b g h. record {
         head = l;
         more = [];
@@ -118,25 +103,25 @@ module _ (s : List ℕ) (from v i : ℕ) (first : Tail) (seen : List ℕ) (count
     abbrev word : Step
     word = step_at s next
 
-    no_seat : (word.mark.kind ≡ k_seat → ⊥) → TermRead o s from n i (whole s from v o n x) (no_term word.mark.place)
+    no_seat : (word.mark.kind ≡ k_seat → ⊥) → TermRead o s from n i (whole s from v o n x) (Err word.mark.place)
     no_seat h =
-        term_as o s from n i (no_term word.mark.place)
+        stops_as (TermOf o s from n i) o s word.mark.place
         (one_stops literal (joint all) as_term (joint_known false) (whole s from v o n x) o s n (so.head ∷ so.more) c so.joining joined out_of_shape (marks_at o s next) (no_word o s n next h))
-        (stops_here o s from n i next)
+        (stops_here o s next)
 
-    module _ (h : word.mark.kind ≡ k_seat) (more : Tail) (reads : Reads s word.next.at more) where
-      no_literal : (more.stop ≡ 0 → ⊥) → TermRead o s from n i (whole s from v o n x) (no_term more.place)
-      no_literal z =
-          read_wrong o s word.next.at n word.mark.value more (literal (at (marks_at o s next) n)) (worded o s n next h more reads) z
-          (λ m q e w. term_as o s from n i (no_term more.place)
+    module _ (h : word.mark.kind ≡ k_seat) where
+      no_literal : (r : ℕ) → Reads s word.next.at (Err r) → TermRead o s from n i (whole s from v o n x) (Err r)
+      no_literal r reads =
+          read_wrong (ReadLiteral o s word.next.at n word.mark.value) o s (literal (at (marks_at o s next) n)) r (worded o s n next h (Err r) reads)
+          (λ m q e w. stops_as (TermOf o s from n i) o s r
           (one_stops literal (joint all) as_term (joint_known false) (whole s from v o n x) o s n (so.head ∷ so.more) c so.joining joined m q e)
-          (no_term_law o s from n i m q more w))
+          w)
 
-      one_further : more.stop ≡ 0 → length seen ≡ suc most_seats → (q : ℕ) → q ≡ due_number i word.mark.value
+      one_further : (more : Tail) → Reads s word.next.at (Ok more) → length seen ≡ suc most_seats → (q : ℕ) → q ≡ due_number i word.mark.value
           → SoFar s from v i first (noted seen word.mark.value) (one_more count) (due && (eqb more.d first.d && eqb more.relation q))
           (mixed || not (eqb first.relation more.relation)) more.next o n x
-      one_further z long q qe =
-          read_well o s word.next.at n word.mark.value more (literal (at (marks_at o s next) n)) (worded o s n next h more reads) z
+      one_further more reads long q qe =
+          read_well (ReadLiteral o s word.next.at n word.mark.value) o s (literal (at (marks_at o s next) n)) more (worded o s n next h (Ok more) reads)
           (λ l b g r.
           let behind_word = one_less o s word (marks_at o s next) (meet o s next) (λ k. omega arith) in
           let behind-sign = one_less o s (step_at s c) (marks_at o s c) (meet o s c) (λ k. omega arith) in
@@ -160,19 +145,18 @@ module _ (s : List ℕ) (from v i : ℕ) (first : Tail) (seen : List ℕ) (count
   -- ---- the end: another mark than the sign
 
   module _ (other : (step_at s c).mark.kind ≡ kind (joint all) → ⊥) (o n x : ℕ) (so : SoFar s from v i first seen count due mixed c o n x) where
-    stays_open : ((step_at s c).mark.kind ≡ kind ")" → ⊥) → TermRead o s from n i (whole s from v o n x) (no_term (step_at s c).mark.place)
+    stays_open : ((step_at s c).mark.kind ≡ kind ")" → ⊥) → TermRead o s from n i (whole s from v o n x) (Err (step_at s c).mark.place)
     stays_open h =
-        term_as o s from n i (no_term (step_at s c).mark.place)
+        stops_as (TermOf o s from n i) o s (step_at s c).mark.place
         (not_closed literal (joint all) as_term (joint_known false) (whole s from v o n x) o s n (so.head ∷ so.more) c so.joining other h)
-        (stops_here o s from n i c)
+        (stops_here o s c)
 
     closes : (step_at s c).mark.kind ≡ kind ")" → (seats : ℕ) → seats ≡ up_to_most count (seen_from seen 1 count)
-        → TermRead o s from n i (whole s from v o n x) (record { stop = 0; place = 0; next = (step_at s c).next.at; seats = seats; due = due; mixed = mixed; d = first.d; first = first.first })
+        → TermRead o s from n i (whole s from v o n x) (Ok (record { next = (step_at s c).next.at; seats = seats; due = due; mixed = mixed; d = first.d; first = first.first }))
     closes h seats e =
-        term_as o s from n i _
+        found_as (TermOf o s from n i) o s _
         (closed literal (joint all) as_term (joint_known false) (whole s from v o n x) o s n (so.head ∷ so.more) c so.joining other h)
         (record {
-          went = refl;
           rest = refl;
           seats = e ∙ once_seen seen count so.head so.more so.marked so.counted;
           due = so.dues;
@@ -192,17 +176,17 @@ pub record Turning (s : List ℕ) (from v i : ℕ) (first : Tail) (seen : List �
   pub long : length seen ≡ suc most_seats
   pub so : (o n x : ℕ) → SoFar s from v i first seen count due mixed c o n x
 
-abbrev pub Answers : List ℕ → ℕ → ℕ → ℕ → TermFound → Type 0
+abbrev pub Answers : List ℕ → ℕ → ℕ → ℕ → Answer TermFound ℕ → Type 0
 Answers s from v i r = (o n x : ℕ) → TermRead o s from n i (whole s from v o n x) r
 
 module _ (s : List ℕ) (from v i : ℕ) (first : Tail) where
-  pub begins : Reads s from first → first.stop ≡ 0 → (ahead : Step) → ahead ≡ step_at s first.next → (seen : List ℕ) → seen ≡ noted (no_seats (suc most_seats)) v
+  pub begins : Reads s from (Ok first) → (ahead : Step) → ahead ≡ step_at s first.next → (seen : List ℕ) → seen ≡ noted (no_seats (suc most_seats)) v
       → (q : ℕ) → q ≡ due_number i v → (due : Bool) → due ≡ (true && (eqb first.d first.d && eqb first.relation q)) → Turning s from v i first seen 1 due false ahead
-  begins reads z ahead step seen f q qe due de = record {
+  begins reads ahead step seen f q qe due de = record {
     c = first.next;
     step = step;
     long = ap length f ∙ long_more (no_seats (suc most_seats)) v refl;
-    so = first_read s from v i first reads z seen f q qe due de;
+    so = first_read s from v i first reads seen f q qe due de;
   }
 
 module _ {s : List ℕ} {from v i : ℕ} {first : Tail} {seen : List ℕ} {count : ℕ} {due mixed : Bool} {ahead : Step} (t : Turning s from v i first seen count due mixed ahead) where
@@ -213,20 +197,20 @@ module _ {s : List ℕ} {from v i : ℕ} {first : Tail} {seen : List ℕ} {count
     word_there : word ≡ step_at s (step_at s t.c).next.at
     word_there = found ∙ ap (λ (u : Step). step_at s u.next.at) t.step
 
-    pub turn_word : (word.mark.kind ≡ k_seat → ⊥) → Answers s from v i (no_term word.mark.place)
+    pub turn_word : (word.mark.kind ≡ k_seat → ⊥) → Answers s from v i (Err word.mark.place)
     turn_word h o n x = rw word_there (no_seat s from v i first seen count due mixed t.c joined_there o n x (t.so o n x) (rw word_there at h))
 
-    module _ (h : word.mark.kind ≡ k_seat) (more : Tail) (reads : Reads s word.next.at more) where
+    module _ (h : word.mark.kind ≡ k_seat) where
       seat_there : (step_at s (step_at s t.c).next.at).mark.kind ≡ k_seat
       seat_there = ap (λ (u : Step). u.mark.kind) (sym word_there) ∙ h
 
-      reads_there : Reads s (step_at s (step_at s t.c).next.at).next.at more
-      reads_there = rw word_there at reads
+      reads_there : (r : Answer Tail ℕ) → Reads s word.next.at r → Reads s (step_at s (step_at s t.c).next.at).next.at r
+      reads_there r reads = rw word_there at reads
 
-      pub turn_literal : (more.stop ≡ 0 → ⊥) → Answers s from v i (no_term more.place)
-      turn_literal z o n x = no_literal s from v i first seen count due mixed t.c joined_there o n x (t.so o n x) seat_there more reads_there z
+      pub turn_literal : (r : ℕ) → Reads s word.next.at (Err r) → Answers s from v i (Err r)
+      turn_literal r reads o n x = no_literal s from v i first seen count due mixed t.c joined_there o n x (t.so o n x) seat_there r (reads_there (Err r) reads)
 
-      module _ (z : more.stop ≡ 0) (last : Step) (step : last ≡ step_at s more.next) where
+      module _ (more : Tail) (reads : Reads s word.next.at (Ok more)) (last : Step) (step : last ≡ step_at s more.next) where
         pub turn_on : (seen2 : List ℕ) → seen2 ≡ noted seen word.mark.value → (count2 : ℕ) → count2 ≡ one_more count → (q : ℕ) → q ≡ due_number i word.mark.value
             → (due2 : Bool) → due2 ≡ (due && (eqb more.d first.d && eqb more.relation q)) → (mixed2 : Bool) → mixed2 ≡ (mixed || not (eqb first.relation more.relation))
             → Turning s from v i first seen2 count2 due2 mixed2 last
@@ -236,13 +220,13 @@ module _ {s : List ℕ} {from v i : ℕ} {first : Tail} {seen : List ℕ} {count
           long = long_more seen word.mark.value t.long;
           so = λ o n x.
               rw (ap (λ (u : Step). u.mark.value) word_there)
-              (one_further s from v i first seen count due mixed t.c joined_there o n x (t.so o n x) seat_there more reads_there z t.long q (qe ∙ ap (λ (u : Step). due_number i u.mark.value) word_there));
+              (one_further s from v i first seen count due mixed t.c joined_there o n x (t.so o n x) seat_there more (reads_there (Ok more) reads) t.long q (qe ∙ ap (λ (u : Step). due_number i u.mark.value) word_there));
         })
 
         -- fewer marks are left
         pub turn_less : length (marks_at 0 s last.next.at) < length (marks_at 0 s ahead.next.at)
         turn_less =
-            read_well 0 s word.next.at 0 word.mark.value more (literal (at (placed (seat word.mark.value) 0 ∷ marks_at 0 s word.next.at) 0)) (reads 0 0 word.mark.value 0) z
+            read_well (ReadLiteral 0 s word.next.at 0 word.mark.value) 0 s (literal (at (placed (seat word.mark.value) 0 ∷ marks_at 0 s word.next.at) 0)) more (reads 0 0 word.mark.value 0)
             (λ l b g r. omega (arith, r.fewer, behind_word, behind_last))
           where
             behind_word : suc (length (marks_at 0 s word.next.at)) ≡ length (marks_at 0 s ahead.next.at)
@@ -255,11 +239,11 @@ module _ {s : List ℕ} {from v i : ℕ} {first : Tail} {seen : List ℕ} {count
     other_there : (step_at s t.c).mark.kind ≡ kind (joint all) → ⊥
     other_there e = other (ap (λ (u : Step). u.mark.kind) t.step ∙ e)
 
-    pub ends_open : (ahead.mark.kind ≡ kind ")" → ⊥) → Answers s from v i (no_term ahead.mark.place)
+    pub ends_open : (ahead.mark.kind ≡ kind ")" → ⊥) → Answers s from v i (Err ahead.mark.place)
     ends_open h o n x = rw t.step (stays_open s from v i first seen count due mixed t.c other_there o n x (t.so o n x) (rw t.step at h))
 
     pub ends_closed : ahead.mark.kind ≡ kind ")" → (seats : ℕ) → seats ≡ up_to_most count (seen_from seen 1 count)
-        → Answers s from v i (record { stop = 0; place = 0; next = ahead.next.at; seats = seats; due = due; mixed = mixed; d = first.d; first = first.first })
+        → Answers s from v i (Ok (record { next = ahead.next.at; seats = seats; due = due; mixed = mixed; d = first.d; first = first.first }))
     ends_closed h seats e o n x = rw t.step (closes s from v i first seen count due mixed t.c other_there o n x (t.so o n x) (rw t.step at h) seats e)
 
 -- ---- from its bracket on
@@ -267,18 +251,17 @@ module _ {s : List ℕ} {from v i : ℕ} {first : Tail} {seen : List ℕ} {count
 open_known : Known "("
 open_known = record { above = omega arith; alone = refl; same = refl }
 
-abbrev pub Terms : List ℕ → ℕ → ℕ → TermFound → Type 0
+abbrev pub Terms : List ℕ → ℕ → ℕ → Answer TermFound ℕ → Type 0
 Terms s from i r = (o n : ℕ) → TermRead o s from n i (term (at (marks_at o s from) n)) r
 
 abbrev behind_open : Unit {0} → Reader (List Literal)
 behind_open _ = literals_of
 
 -- from an earlier place on there are more marks
-from_earlier : (o : ℕ) (s : List ℕ) (from later n i : ℕ) (x : Result (List Literal)) (r : TermFound) → length (marks_at o s later) ≤ length (marks_at o s from)
+from_earlier : (o : ℕ) (s : List ℕ) (from later n i : ℕ) (x : Result (List Literal)) (r : Answer TermFound ℕ) → length (marks_at o s later) ≤ length (marks_at o s from)
     → TermRead o s later n i x r → TermRead o s from n i x r
-from_earlier o s from later n i (ok [] b) r m h = absurd h
-from_earlier o s from later n i (ok (l ∷ ls) b) r m h = record {
-  went = h.went;
+from_earlier o s from later n i (ok [] b) (Ok r) m h = absurd h
+from_earlier o s from later n i (ok (l ∷ ls) b) (Ok r) m h = record {
   rest = h.rest;
   seats = h.seats;
   due = h.due;
@@ -289,15 +272,17 @@ from_earlier o s from later n i (ok (l ∷ ls) b) r m h = record {
   first_within = h.first_within;
   fewer = omega (arith, h.fewer);
 }
-from_earlier o s from later n i (stop number q) r m h = h
+from_earlier o s from later n i (ok ls b) (Err r) m h = absurd h
+from_earlier o s from later n i (stop number q) (Ok r) m h = absurd h
+from_earlier o s from later n i (stop number q) (Err r) m h = h
 
 module _ (s : List ℕ) (from i : ℕ) (bracket : Step) (found : bracket ≡ step_at s from) where
-  pub no_open : (bracket.mark.kind ≡ kind "(" → ⊥) → Terms s from i (no_term bracket.mark.place)
+  pub no_open : (bracket.mark.kind ≡ kind "(" → ⊥) → Terms s from i (Err bracket.mark.place)
   no_open h o n =
       rw found
-      (term_as o s from n i (no_term (step_at s from).mark.place)
+      (stops_as (TermOf o s from n i) o s (step_at s from).mark.place
       (ap (λ y. bind y behind_open) (sign_next o s "(" open_known (step_at s from) (marks_at o s from) n (meet o s from) ∙ unfit tt o s (step_at s from) (marks_at o s from) n (kind "(") (rw found at h)))
-      (stops_here o s from n i from))
+      (stops_here o s from))
 
   module _ (h : bracket.mark.kind ≡ kind "(") (word : Step) (step : word ≡ step_at s bracket.next.at) where
     opened : (o n : ℕ) → term (at (marks_at o s from) n) ≡ literals_of (at (marks_at o s bracket.next.at) n)
@@ -308,16 +293,16 @@ module _ (s : List ℕ) (from i : ℕ) (bracket : Step) (found : bracket ≡ ste
     shorter : (o : ℕ) → suc (length (marks_at o s bracket.next.at)) ≡ length (marks_at o s from)
     shorter o = rw found (one_less o s (step_at s from) (marks_at o s from) (meet o s from) (λ z. omega (arith, ap (λ (u : Step). u.mark.kind) found)))
 
-    pub no_first : (word.mark.kind ≡ k_seat → ⊥) → Terms s from i (no_term word.mark.place)
+    pub no_first : (word.mark.kind ≡ k_seat → ⊥) → Terms s from i (Err word.mark.place)
     no_first f o n =
-        term_as o s from n i (no_term word.mark.place) (opened o n)
+        found_as (TermOf o s from n i) o s (Err word.mark.place) (opened o n)
         (rw step
-        (term_as o s from n i (no_term (step_at s bracket.next.at).mark.place) (ap (λ y. bind y behind_first) (no_word o s n bracket.next.at (rw step at f)))
-        (stops_here o s from n i bracket.next.at)))
+        (stops_as (TermOf o s from n i) o s (step_at s bracket.next.at).mark.place (ap (λ y. bind y behind_first) (no_word o s n bracket.next.at (rw step at f)))
+        (stops_here o s bracket.next.at)))
 
-    pub term_whole : word.mark.kind ≡ k_seat → (r : TermFound) → Answers s word.next.at word.mark.value i r → Terms s from i r
+    pub term_whole : word.mark.kind ≡ k_seat → (r : Answer TermFound ℕ) → Answers s word.next.at word.mark.value i r → Terms s from i r
     term_whole f r h₁ o n =
-        term_as o s from n i r (opened o n ∙ ap (λ ms. literals_of (at ms n)) (seated o))
+        found_as (TermOf o s from n i) o s r (opened o n ∙ ap (λ ms. literals_of (at ms n)) (seated o))
         (from_earlier o s from word.next.at n i (whole s word.next.at word.mark.value o n (o + word.mark.place)) r
         (omega (arith, shorter o, behind))
         (h₁ o n (o + word.mark.place)))

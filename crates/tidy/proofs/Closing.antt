@@ -18,6 +18,7 @@ use Rattle.gathering.specs.LiveText.{rows_in, rows_stay, bodies_stay, Offsets, A
 use Rattle.gathering.proofs.Ahead.{ahead_from, ahead_sound, same_rows}
 use Rattle.gathering.specs.Kept.{kept_rows}
 use Rattle.gathering.proofs.KeptDeck.{kept_long, kept_rows_law, live_again, ahead_kept, same_bodies}
+use Rattle.gathering.specs.declared.Live.{Live}
 use Rattle.tidy.specs.Tidies.{Measured}
 use Rattle.tidy.proofs.LiveDeck.{few_rows, bodies_long, rows_long, all_ahead, tidy_text_law}
 
@@ -47,7 +48,13 @@ then_zeros was start t {now} {n} k l e f =
     ∙ ap (λ (s : List ℕ). s ++ zeros) (ap (take (length t)) start-there ∙ take-append_seam t (drop (length t) start))
     ∙ ap (λ (s : List ℕ). t ++ s) (same_zeros (drop (length t) there) (drop (length t) was) (length-drop (length t) there ∙ ap (λ (i : ℕ). i - length t) m ∙ sym (length-drop (length t) was)))
 
-module _ (was : List ℕ) {cards bytes : ℕ} (m : Measured was cards bytes) {count : ℕ} (ec : count ≡ count_of was) where
+module _ (was : List ℕ) {known : Live} (m : Measured was known) {count : ℕ} (ec : count ≡ count_of was) where
+  abbrev cards : ℕ
+  cards = known.cards
+
+  abbrev bytes : ℕ
+  bytes = known.bytes
+
   abbrev parts : List ℕ
   parts = bodies_stay was (contents_of was)
 
@@ -55,22 +62,22 @@ module _ (was : List ℕ) {cards bytes : ℕ} (m : Measured was cards bytes) {co
   entries = rows_stay (behind cards) (contents_of was)
 
   pub few : cards ≤ count
-  few = omega (arith, m.count, ec, few_rows was m.sound)
+  few = omega (arith, m.live.cards, ec, few_rows was m.sound)
 
   pub few_cards : count ≤ 64
   few_cards = omega (arith, ec, m.sound.head.few)
 
   pub inside : behind count + bytes ≤ length was
-  inside = omega (arith, m.total, ec, all_ahead was m.sound)
+  inside = omega (arith, m.live.bytes, ec, all_ahead was m.sound)
 
   parts_long : length parts ≡ bytes
-  parts_long = bodies_long was m.sound ∙ sym m.total
+  parts_long = bodies_long was m.sound ∙ sym m.live.bytes
 
   entries_long : length entries ≡ 8 * cards
-  entries_long = omega (arith, rows_long was m.sound (behind cards), m.count)
+  entries_long = omega (arith, rows_long was m.sound (behind cards), m.live.cards)
 
   text : tidy_text was ≡ (cards ∷ []) ++ entries ++ parts
-  text = tidy_text_law was m.sound ∙ ap (λ (n : ℕ). n ∷ rows_stay (behind n) (contents_of was) ++ parts) (sym m.count)
+  text = tidy_text_law was m.sound ∙ ap (λ (n : ℕ). n ∷ rows_stay (behind n) (contents_of was) ++ parts) (sym m.live.cards)
 
   pub text_long : length (tidy_text was) ≡ behind cards + bytes
   text_long = omega (arith, ap length text, length-append entries parts, entries_long, parts_long)
@@ -88,7 +95,7 @@ module _ (was : List ℕ) {cards bytes : ℕ} (m : Measured was cards bytes) {co
   live_there = ap (λ (n : ℕ). live_rows (rows_of n (entries_from was))) ec
 
   kept_is_long : length kept ≡ 8 * cards
-  kept_is_long = omega (arith, kept_long count (drop 1 was) contents_long, ap length live_there, m.count)
+  kept_is_long = omega (arith, kept_long count (drop 1 was) contents_long, ap length live_there, m.live.cards)
 
   module _ {s1 : List ℕ} (e1 : s1 ≡ clip was 1 kept) where
     abbrev s2 : List ℕ
@@ -110,7 +117,7 @@ module _ (was : List ℕ) {cards bytes : ℕ} (m : Measured was cards bytes) {co
     rows_there : rows_in cards s2 ≡ live
     rows_there =
         ap (rows_of cards) contents_there
-        ∙ ap (λ (n : ℕ). rows_of n (kept ++ drop (1 + length kept) was)) (m.count ∙ sym (ap length live_there))
+        ∙ ap (λ (n : ℕ). rows_of n (kept ++ drop (1 + length kept) was)) (m.live.cards ∙ sym (ap length live_there))
         ∙ kept_rows_law count (drop 1 was) (drop (1 + length kept) was) contents_long
         ∙ live_there
 
@@ -153,7 +160,7 @@ module _ (was : List ℕ) {cards bytes : ℕ} (m : Measured was cards bytes) {co
 
       pub offsets : Offsets s3 cards (behind cards)
       offsets =
-          let z : sizes (live_rows (rows_in cards s3)) ≡ bytes = ap (λ (rs : List Row). sizes (live_rows rs)) rows_still ∙ ap sizes (live_again (contents_of was)) ∙ sym m.total in
+          let z : sizes (live_rows (rows_in cards s3)) ≡ bytes = ap (λ (rs : List Row). sizes (live_rows rs)) rows_still ∙ ap sizes (live_again (contents_of was)) ∙ sym m.live.bytes in
           record { whole = omega (arith, inside, few, long3); small = omega (arith, few, few_cards); short = omega (arith, z, inside, few, m.sound.head.short) }
 
       module _ {s4 : List ℕ} (e4 : s4 ≡ clip s3 1 (rows_stay (behind cards) (rows_in cards s3))) where

@@ -6,7 +6,7 @@ use native.Mathlib.Omega.{arith}
 use borrow.Author.Tests.{lt-leb}
 use lib.ListN.{length}
 use Rattle.card.specs.Refusals.{no_live_card}
-use Rattle.card.specs.declared.Verdict.TheVariants.{Taken, Refused as Judged}
+use Rattle.card.specs.Verdict.{Taken, Refused as Judged}
 use Rattle.entry.specs.Said.{Said, says, refused, ◌>>=◌}
 use Rattle.deck.specs.Contents.{judged}
 use Rattle.deck.specs.Deck.{Entry, held_by, deck_text}
@@ -15,7 +15,7 @@ use Rattle.deck.proofs.Judged.{sound_judged}
 use Rattle.deck.proofs.Kept.{held_said}
 use Rattle.deck_entries.specs.Verdicts.{verdict_of}
 use Rattle.deck_entries.proofs.Laws.{verdict_refused, verdict_fine}
-use Rattle.room.specs.declared.Answer.TheVariants.{Done, Refused}
+use Rattle.room.specs.Answer.{Done, Refused}
 use Rattle.tidying.specs.Tidying.{live_said, tidy_said, live_entries}
 use Rattle.tidying.specs.Tidied.{live_cards, lent_after, Tidiable}
 use Rattle.gathering.specs.LiveRows.{Measures}
@@ -38,8 +38,8 @@ module _ (deck : List ℕ) where
   live_malformed e = rw (verdict_refused (judged deck) e)
 
   module _ (s : Sound deck) {live : Live} (m : Measures deck live) where
-    pub measured_live : Measured deck live.cards live.bytes
-    measured_live = record { sound = s; count = m.cards; total = m.bytes }
+    pub measured_live : Measured deck live
+    measured_live = record { sound = s; live = m }
 
     count_live : length (live_cards deck) ≡ live.cards
     count_live = cards_count deck s ∙ sym m.cards

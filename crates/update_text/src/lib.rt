@@ -8,27 +8,23 @@ ghost use Rattle.phrases.specs.Puts.{Puts};
 ghost use Rattle.texts.specs.ReducedText.{update_text};
 
 use phrases::put_numbered;
-use pieces::put_seven;
 use put_numbers::put_number;
-use room::put_bytes;
+use room::{put_bytes, put_filled};
 use shared_text::{put_set, put_set_last};
 
-// A seat's way from `own` to `end`, as counters lowered and raised: in pieces, where both states have one digit.
+// A seat's way from `own` to `end`, as counters lowered and raised: as one line, where both states have one digit.
 fn put_shift(room: &mut [u8], at: usize, own: usize, end: usize, seats: usize) -> usize
     ensures { Puts room.old room.new at (update_text (shift own end seats) none) result }
 {
-    if own < 10 {
-        if end < 10 {
-            let d = b'0' + own as u8;
-            let e = b'0' + end as u8;
-            let a = put_seven(room, at, b'(', b'n', b'o', b'_', d, b'\'', b'=');
-            let b = put_seven(room, a, b'n', b'o', b'_', d, b'-', b'1', b')');
-            let c = put_seven(room, b, b' ', b'&', b' ', b'(', b'n', b'o', b'_');
-            let f = put_seven(room, c, e, b'\'', b'=', b'm', b'i', b'n', b'(');
-            let g = put_seven(room, f, b'n', b'o', b'_', e, b'+', b'1', b',');
-            let h = put_number(room, g, seats);
-            return put_bytes(room, h, b"))");
-        }
+    if own < 10 && end < 10 {
+        let mut line: [u8; 35] = *b"(no_0'=no_0-1) & (no_0'=min(no_0+1,";
+        line[4] = b'0' + own as u8;
+        line[10] = b'0' + own as u8;
+        line[21] = b'0' + end as u8;
+        line[31] = b'0' + end as u8;
+        let most = put_filled(room, at, line);
+        let close = put_number(room, most, seats);
+        return put_bytes(room, close, b"))");
     }
     let a = put_numbered(room, at, b"(no_", own);
     let b = put_numbered(room, a, b"'=no_", own);

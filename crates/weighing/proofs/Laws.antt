@@ -1,17 +1,23 @@
 -- How many can be taken, after each turn of a loop: what a statement counts for, and their sum, which fits. Assumes nothing.
-use Prim.Native.Nat.{ℕ, ◌+◌, ◌*◌, ◌≤◌, ◌<◌}
-use mathlib.Core.Path.{◌≡◌, refl, sym}
+use Prim.Native.Nat.{ℕ, ◌+◌, ◌-◌, ◌*◌, ◌≤◌, ◌<◌}
+use mathlib.Core.Path.{◌≡◌, refl, sym, ap, ◌∙◌}
 use mathlib.Core.List.{List}
+use mathlib.Core.Logic.{inl, inr}
+use native.Mathlib.Decide.{dec_lt}
 use native.Mathlib.Omega.{arith}
+use borrow.Rule.Slice.PartMut.{mid_of, put_mid, same_len_mid}
+use lib.ListN.{length, get_or, take, drop, length-take, length-drop, get_or-append}
+use lib.Seq.{get_or-take, get_or-drop, ext_get_or}
+use Rattle.std.proofs.lemmas.List.{get_or-append_right}
 use borrow.Author.Tests.{eq-eqb, ne_eqb, lt-ltb}
 use lib.Dec.{ltb}
 use Rattle.card.specs.Limits.{most_seats}
 use Rattle.card.specs.Card.{Mode, nondeterministic, probabilistic}
 use Rattle.card.specs.Laid.{either}
 use Rattle.meaning.proofs.Sums.{gate_le}
-use Rattle.panel_numbers.specs.Table.{able_in, counts_as, taken_in}
+use Rattle.panel_numbers.specs.Table.{able_in, counts_as, taken_in, over}
 use Rattle.panel_numbers.specs.Fitting.{FewAble}
-use Rattle.panel_numbers.proofs.Stored.{total_more, total_most}
+use Rattle.panel_numbers.proofs.Stored.{total_more, total_most, over_long, over_else, over_at}
 
 module _ {able : ℕ} {mode : ℕ} where
   pub counts_pair : (mode ≡ 0 → ⊥) → able ≡ counts_as (either nondeterministic probabilistic mode) able
@@ -46,3 +52,30 @@ module _ (m : Mode) (table : List ℕ) where
 
     pub taken_more : (i : ℕ) → i < count → counts_as m (able_in table i) ≤ most_seats
     taken_more i h = counts_most m (able_in table i) most_seats (omega arith) (f.seats i h)
+
+-- ---- numbers copied into a part of a table
+
+-- what stands at a place of a part
+pub in_part : (l : List ℕ) (from n j : ℕ) → j < length (take n (drop from l)) → get_or (take n (drop from l)) j 0 ≡ get_or l (from + j) 0
+in_part l from n j h = get_or-take n (drop from l) j 0 (omega (arith, length-take n (drop from l))) ∙ get_or-drop from l j 0
+
+stored_at : (from : ℕ) (xs table : List ℕ) → from + length xs ≤ length table → (p : ℕ) → Dec (p < from) → Dec (p < from + length xs)
+    → get_or (put_mid from (length xs) table xs) p 0 ≡ get_or (over from (length xs) (λ d. get_or xs d 0) table) p 0
+stored_at from xs table fit p (yes h) _ =
+    get_or-append (take from table) _ 0 p (omega (arith, length-take from table)) ∙ get_or-take from table p 0 h ∙ sym (over_else from (λ d. get_or xs d 0) table (length xs) p (inl h))
+stored_at from xs table fit p (no h) (yes k) =
+    let before : length (take from table) ≡ from = omega (arith, length-take from table) in
+    let i : ℕ = p - from in
+    let at : p ≡ from + i = omega arith in
+    get_or-append_right (take from table) _ from p 0 before (omega arith) ∙ get_or-append xs _ 0 i (omega arith)
+    ∙ sym (over_at from (λ d. get_or xs d 0) table (length xs) i (omega arith) fit) ∙ ap (λ q. get_or (over from (length xs) (λ d. get_or xs d 0) table) q 0) (sym at)
+stored_at from xs table fit p (no h) (no k) =
+    let before : length (take from table) ≡ from = omega (arith, length-take from table) in
+    let at : from + (length xs + (p - from - length xs)) ≡ p = omega arith in
+    get_or-append_right (take from table) _ from p 0 before (omega arith) ∙ get_or-append_right xs _ (length xs) (p - from) 0 refl (omega arith)
+    ∙ get_or-drop (length xs) (drop from table) _ 0 ∙ get_or-drop from table _ 0 ∙ ap (λ q. get_or table q 0) at ∙ sym (over_else from (λ d. get_or xs d 0) table (length xs) p (inr (omega arith)))
+
+pub stored_part : (from : ℕ) (xs table : List ℕ) → from + length xs ≤ length table → put_mid from (length xs) table xs ≡ over from (length xs) (λ d. get_or xs d 0) table
+stored_part from xs table fit =
+    let part : length xs ≡ length (mid_of from (length xs) table) = omega (arith, length-take (length xs) (drop from table), length-drop from table) in
+    ext_get_or 0 _ _ (same_len_mid from (length xs) table xs part ∙ sym (over_long from (λ d. get_or xs d 0) table (length xs))) (λ p l. stored_at from xs table fit p (dec_lt p from) (dec_lt p (from + length xs)))

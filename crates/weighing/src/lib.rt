@@ -33,11 +33,10 @@ pub fn store(table: &mut [usize; TABLE_PLACES], from: usize, numbers: &[usize])
     requires { from + length numbers.now ≤ table_places }
     ensures { table.new ≡ over from (length numbers.now) (λ d. get_or numbers.now d 0) table.old }
 {
-    let mut d = 0;
-    while d < numbers.len() {
+    // by a loop, for the reason that `copied_rows` names
+    for d in 0..numbers.len() {
         let at = from + d;
         table[at] = numbers[d];
-        d += 1;
     }
 }
 
@@ -53,23 +52,18 @@ pub fn store_ables<'a>(
     requires { head.count ≤ most_statements }
     ensures { table.new ≡ over ables_from head.count (able_at head.seats (position counts.now shared) nodes.now rows.now) table.old }
 {
-    let n = head.seats;
-    let count = head.count;
-    let mut i = 0;
-    while i < count {
+    for i in 0..head.count {
         let from = i * ROW;
         let able = able(
             nodes,
             i * MOST_NODES,
             rows[from + 1],
             rows[from],
-            n,
+            head.seats,
             counts,
             shared,
         );
-        let at = ABLES + i;
-        table[at] = able;
-        i += 1;
+        table[ABLES + i] = able;
     }
 }
 
@@ -92,11 +86,8 @@ pub fn taken_of(mode: usize, table: &[usize; TABLE_PLACES], count: usize) -> usi
     ensures { result ≡ taken_in (either nondeterministic probabilistic mode) table.now count }
 {
     let mut taken = 0;
-    let mut i = 0;
-    while i < count {
-        let at = ABLES + i;
-        taken = taken + counts_as(mode, table[at]);
-        i += 1;
+    for &able in &table[ABLES..ABLES + count] {
+        taken += counts_as(mode, able);
     }
     taken
 }

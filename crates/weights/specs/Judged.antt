@@ -1,18 +1,21 @@
--- What the judgement of a weight answers: the units that it is worth, or that it breaks the rule. Assumes nothing.
-use Rattle.std.specs.Prelude.{ℕ}
+-- What the judgement of a weight answers: the weight, or nothing where it breaks the rule. Assumes nothing.
+use Rattle.std.specs.Prelude.{ℕ, Option, Some, None}
 use Rattle.card.specs.Refusals.{wrong_weight}
-use Rattle.std.proofs.Math.Option.{Option, none, some}
-use Rattle.weights.specs.declared.Judged.{Judged}
+use Rattle.std.proofs.Math.Option.{Option as Worth, none, some}
+use Rattle.weights.specs.declared.Weight.{Weight}
 
-abbrev pub judged_of : Option ℕ → Judged
-judged_of none = Judged.Broken
-judged_of (some u) = Judged.Units (record { units = u })
+abbrev pub Judged : Type 0
+Judged = Option Weight
+
+abbrev pub judged_of : Worth ℕ → Judged
+judged_of none = None
+judged_of (some u) = Some (record { units = u })
 
 -- document 01's number for each case, 0 where nothing is refused; and the units
 abbrev pub weight_number : Judged → ℕ
-weight_number (Judged.Units w) = 0
-weight_number Judged.Broken = wrong_weight
+weight_number (Some w) = 0
+weight_number None = wrong_weight
 
 abbrev pub weight_units : Judged → ℕ
-weight_units (Judged.Units w) = w.units
-weight_units Judged.Broken = 0
+weight_units (Some w) = w.units
+weight_units None = 0

@@ -1,21 +1,22 @@
 -- The kind of a word, by the first keyword that it begins with: a later one with the same first letter is no longer, so a word that goes on
 -- behind a keyword is no other.
-use Prim.Native.Nat.{ℕ, suc, ◌+◌, ◌≤◌, ◌<◌}
+use Prim.Native.Nat.{ℕ, suc, ◌+◌, ◌<◌}
 use mathlib.Core.Path.{◌≡◌, refl, sym, ap, ◌∙◌}
 use mathlib.Core.Bool.{Bool, true, false, not, ◌&&◌, ◌||◌}
 use mathlib.Core.List.{List, [], ◌∷◌}
 use native.Mathlib.Omega.{arith}
-use borrow.Author.Tests.{eqb-true, eqb-false, eq-eqb, leb-true}
+use borrow.Author.Tests.{eqb-true, eq-eqb, leb-true}
 use lib.Dec.{eqb, leb}
 use lib.ListN.{length, get_or, drop}
 use lib.Seq.{drop-drop}
 use Rattle.card.specs.Text.{same}
 use Rattle.marks_on_a_card.specs.Bytes.{is_letter, in_word, run, begins, every, begun}
 use Rattle.marks_on_a_card.specs.Kinds.{Known, knowns, kind_in, k_word}
+use Rattle.std.specs.Prelude.{Option, Some, None}
 use Rattle.words_and_digits.specs.Begun.{lettered, begun_in}
 use Rattle.words_and_digits.specs.declared.Keyword.{Keyword}
-use Rattle.marks_on_a_card.proofs.Lists.{cases, not_both, and_left, and_right, or_true, or_left, or_right}
-use Rattle.marks_on_a_card.proofs.Runs.{eqb_sym, run_on, run_empty, run_begun, same_begun, begun_fits}
+use Rattle.marks_on_a_card.proofs.Lists.{cases, not_both, and_left, and_right}
+use Rattle.marks_on_a_card.proofs.Runs.{eqb_sym, run_on, run_empty, run_begun, same_begun}
 use Rattle.marks_on_a_card.proofs.StartLaws.{letter_in_word}
 
 same_length : (w t : List ℕ) → same w t ≡ true → length w ≡ length t
@@ -118,57 +119,67 @@ module _ (s : List ℕ) where
       absurd (omega (arith, leb-true (length y.spelt) (length t) v, same_length (run in_word s) y.spelt e)))
       (λ e. rw e (none_apart t ys q l (and_right (other t y.spelt) (apart t ys) p) o.others))
 
-  taken : (x : Known) (xs : List Known) → begun x.spelt s ≡ true → begun_in (x ∷ xs) s ≡ record { kind = x.kind; size = length x.spelt }
+  taken : (x : Known) (xs : List Known) → begun x.spelt s ≡ true → begun_in (x ∷ xs) s ≡ Some (record { kind = x.kind; size = length x.spelt })
   taken x xs g = rw g
 
   passed : (x : Known) (xs : List Known) → begun x.spelt s ≡ false → begun_in (x ∷ xs) s ≡ begun_in xs s
   passed x xs g = rw g
 
-  kind_ended : (xs : List Known) → fit xs ≡ true → (k : Keyword) → k ≡ begun_in xs s → (k.size ≡ 0 → ⊥) → begins in_word (drop k.size s) ≡ false
+  -- the keyword that was taken
+  same_keyword : (x : Known) (k : Keyword) → Some k ≡ Some (record { kind = x.kind; size = length x.spelt }) → (k.kind ≡ x.kind) × (k.size ≡ length x.spelt)
+  same_keyword x k e =
+      let same : k ≡ record { kind = x.kind; size = length x.spelt } = cc in
+      (ap (λ (y : Keyword). y.kind) same, ap (λ (y : Keyword). y.size) same)
+
+  no_keyword : {C : Type 0} (k : Keyword) → Some k ≡ None → C
+  no_keyword k e = absurd (cc)
+
+  kind_ended : (xs : List Known) → fit xs ≡ true → (k : Keyword) → Some k ≡ begun_in xs s → begins in_word (drop k.size s) ≡ false
       → (kind_in xs (run in_word s) ≡ k.kind) × (length (run in_word s) ≡ k.size)
-  kind_ended [] f k e n b = absurd (n (ap (λ (x : Keyword). x.size) e))
-  kind_ended (x ∷ xs) f k e n b =
+  kind_ended [] f k e b = no_keyword k e
+  kind_ended (x ∷ xs) f k e b =
       let o = fits x xs f in
       cases (begun x.spelt s)
       (λ g.
-      let z : k.size ≡ length x.spelt = ap (λ (y : Keyword). y.size) (e ∙ taken x xs g) in
-      let m : length (run in_word s) ≡ length x.spelt = ended x.spelt o.a_word g (ap (λ (n : ℕ). begins in_word (drop n s)) (sym z) ∙ b) in
-      (rw (same_begun in_word x.spelt s m, g) (sym (ap (λ (y : Keyword). y.kind) (e ∙ taken x xs g))), m ∙ sym z))
+      let z = same_keyword x k (e ∙ taken x xs g) in
+      let m : length (run in_word s) ≡ length x.spelt = ended x.spelt o.a_word g (ap (λ (n : ℕ). begins in_word (drop n s)) (sym z.1) ∙ b) in
+      (rw (same_begun in_word x.spelt s m, g) (sym z.0), m ∙ sym z.1))
       (λ g.
-      let r = kind_ended xs o.others k (e ∙ passed x xs g) n b in
+      let r = kind_ended xs o.others k (e ∙ passed x xs g) b in
       (rw (unbegun x.spelt g) r.0, r.1))
 
-  kind_other : (xs : List Known) → fit xs ≡ true → (k : Keyword) → k ≡ begun_in xs s → ((k.size ≡ 0 → ⊥) → begins in_word (drop k.size s) ≡ true)
+  kind_longer : (xs : List Known) → fit xs ≡ true → (k : Keyword) → Some k ≡ begun_in xs s → begins in_word (drop k.size s) ≡ true
       → kind_in xs (run in_word s) ≡ k_word
-  kind_other [] f k e b = refl
-  kind_other (x ∷ xs) f k e b =
+  kind_longer [] f k e b = no_keyword k e
+  kind_longer (x ∷ xs) f k e b =
       let o = fits x xs f in
       cases (begun x.spelt s)
       (λ g.
-      let z : k.size ≡ length x.spelt = ap (λ (y : Keyword). y.size) (e ∙ taken x xs g) in
-      let more : begins in_word (drop (length x.spelt) s) ≡ true = ap (λ (n : ℕ). begins in_word (drop n s)) (sym z) ∙ b (λ q. omega (arith, o.some_byte)) in
+      let z = same_keyword x k (e ∙ taken x xs g) in
+      let more : begins in_word (drop (length x.spelt) s) ≡ true = ap (λ (n : ℕ). begins in_word (drop n s)) (sym z.1) ∙ b in
       rw (longer x.spelt o.a_word g more) (none_apart x.spelt xs (first_begun x.spelt s o.some_byte g) (more_bytes x.spelt o.a_word g more) o.no_others o.others))
-      (λ g. rw (unbegun x.spelt g) (kind_other xs o.others k (e ∙ passed x xs g) b))
+      (λ g. rw (unbegun x.spelt g) (kind_longer xs o.others k (e ∙ passed x xs g) b))
+
+  kind_none : (xs : List Known) → None ≡ begun_in xs s → kind_in xs (run in_word s) ≡ k_word
+  kind_none [] e = refl
+  kind_none (x ∷ xs) e = cases (begun x.spelt s)
+      (λ g. no_keyword (record { kind = x.kind; size = length x.spelt }) (sym (e ∙ taken x xs g)))
+      (λ g. rw (unbegun x.spelt g) (kind_none xs (e ∙ passed x xs g)))
 
 module _ (s : List ℕ) (i : ℕ) (h : i < length s) where
-  size_in : (xs : List Known) (k : Keyword) → k ≡ begun_in xs (drop i s) → i + k.size ≤ length s
-  size_in [] k e = omega (arith, ap (λ (x : Keyword). x.size) e)
-  size_in (x ∷ xs) k e = cases (begun x.spelt (drop i s))
-      (λ g. omega (arith, begun_fits x.spelt s i (omega arith) g, ap (λ (y : Keyword). y.size) (e ∙ taken (drop i s) x xs g)))
-      (λ g. size_in xs k (e ∙ passed (drop i s) x xs g))
-
-  module _ (l : is_letter (get_or s i 0) ≡ true) (k : Keyword) (e : k ≡ begun_in (lettered knowns) (drop i s)) where
+  module _ (l : is_letter (get_or s i 0) ≡ true) where
     letters : begins is_letter (run in_word (drop i s)) ≡ true
     letters = rw (run_on in_word s i h (letter_in_word (get_or s i 0) l)) l
 
-    pub keyword_fits : i + k.size ≤ length s
-    keyword_fits = size_in (lettered knowns) k e
+    pub keyword_none : (o : Option Keyword) → o ≡ begun_in (lettered knowns) (drop i s) → ((k : Keyword) → o ≡ Some k → ⊥) → kind_in knowns (run in_word (drop i s)) ≡ k_word
+    keyword_none None e other = kind_lettered knowns (run in_word (drop i s)) letters ∙ kind_none (drop i s) (lettered knowns) e
+    keyword_none (Some k) e other = absurd (other k refl)
 
-    pub keyword_is : (eqb k.size 0 || begins in_word (drop (i + k.size) s)) ≡ false → (kind_in knowns (run in_word (drop i s)) ≡ k.kind) × (length (run in_word (drop i s)) ≡ k.size)
-    keyword_is b =
-        let r = kind_ended (drop i s) (lettered knowns) refl k e (eqb-false k.size 0 (or_left (eqb k.size 0) (begins in_word (drop (i + k.size) s)) b)) (ap (begins in_word) (drop-drop k.size i s) ∙ or_right (eqb k.size 0) (begins in_word (drop (i + k.size) s)) b) in
-        (kind_lettered knowns (run in_word (drop i s)) letters ∙ r.0, r.1)
+    module _ (k : Keyword) (e : Some k ≡ begun_in (lettered knowns) (drop i s)) where
+      pub keyword_is : begins in_word (drop (i + k.size) s) ≡ false → (kind_in knowns (run in_word (drop i s)) ≡ k.kind) × (length (run in_word (drop i s)) ≡ k.size)
+      keyword_is b =
+          let r = kind_ended (drop i s) (lettered knowns) refl k e (ap (begins in_word) (drop-drop k.size i s) ∙ b) in
+          (kind_lettered knowns (run in_word (drop i s)) letters ∙ r.0, r.1)
 
-    pub keyword_not : (eqb k.size 0 || begins in_word (drop (i + k.size) s)) ≡ true → kind_in knowns (run in_word (drop i s)) ≡ k_word
-    keyword_not b = kind_lettered knowns (run in_word (drop i s)) letters ∙ kind_other (drop i s) (lettered knowns) refl k e (λ n.
-        ap (begins in_word) (drop-drop k.size i s) ∙ or_true (eqb k.size 0) (begins in_word (drop (i + k.size) s)) b (λ q. absurd (n (eqb-true k.size 0 q))) (λ q. q))
+      pub keyword_longer : begins in_word (drop (i + k.size) s) ≡ true → kind_in knowns (run in_word (drop i s)) ≡ k_word
+      keyword_longer b = kind_lettered knowns (run in_word (drop i s)) letters ∙ kind_longer (drop i s) (lettered knowns) refl k e (ap (begins in_word) (drop-drop k.size i s) ∙ b)

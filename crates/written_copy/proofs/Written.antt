@@ -31,11 +31,14 @@ use Rattle.looks.proofs.Words.{run_of, whole}
 use Rattle.word_and_digit_looks.proofs.Looks.{bytes_stand, bytes_fit}
 use Rattle.reading.specs.Reader.{line}
 use Rattle.late.specs.Late.{Late}
-use Rattle.late.specs.State.{Sized, late_in, After, after}
-use Rattle.parts.specs.Parts.{from, Due, sign, seat, process, items_in, dues_in, kinds_in, numbers_in, word_by, LineRead}
+use Rattle.late.specs.declared.state.State.{State as Carried}
+use Rattle.late.specs.State.{late_in, After, after}
+use Rattle.std.specs.Prelude.{Ok}
+use Rattle.parts.specs.Parts.{from, Due, sign, seat, process, items_in, dues_in, marks_due, word_by, LineRead}
 use Rattle.parts.proofs.Steps.{next_at}
 use Rattle.parts.proofs.Lines.{Left, run_end, run_more, word_due}
 use Rattle.parts.proofs.Front.{front, sign_by}
+use Rattle.std.specs.Prelude.{Option, Some, None}
 use Rattle.frame.specs.Frame.{module_due, gap, copy_text, digits, past_word, past_text, past_copy, ModuleFrom}
 
 -- ---- a text that stands at a place, with no word going on behind it
@@ -173,20 +176,20 @@ data Found : List Piece → Type 0 where
 
 module _ (s : List ℕ) (n : ℕ) (late : Late) {whole : After → Type 0} where
   -- a mark more of the run, whose number is due
-  one_more : (p w due place next : ℕ) (kinds dues : List ℕ) → step_at s p ≡ valued_of w due place next
-      → Left s n p late (w ∷ kinds) (due ∷ dues) whole → Left s n next late kinds dues whole
-  one_more p w due place next kinds dues e l =
+  one_more : (p w due place next : ℕ) (dues : List (ℕ × ℕ)) → step_at s p ≡ valued_of w due place next
+      → Left s n p late ((w, due) ∷ dues) whole → Left s n next late dues whole
+  one_more p w due place next dues e l =
       let x = valued_of w due place next in
       let same : word_by due due place late ≡ late = sym (word_due due due place late refl) in
-      rw same at (run_more s n p late x (next_at s p x (sym e)) whole w kinds due dues l refl)
+      rw same at (run_more s n p late x (next_at s p x (sym e)) whole w due dues l refl)
 
-  first_of : (p : ℕ) (d : Due) (run : List Due) → Left s n p late (kinds_in (d ∷ run)) (numbers_in (d ∷ run)) whole → Left s n p late (kind_by d ∷ kinds_in run) (number_by d ∷ numbers_in run) whole
+  first_of : (p : ℕ) (d : Due) (run : List Due) → Left s n p late (marks_due (d ∷ run)) whole → Left s n p late ((kind_by d, number_by d) ∷ marks_due run) whole
   first_of p (sign t) run l = l
   first_of p (seat i) run l = l
   first_of p (process i) run l = l
 
   passed : (ms : List Piece) (p : ℕ) → Found ms → Stands (text_of ms) s p
-      → Left s n p late (kinds_in (dues_of ms)) (numbers_in (dues_of ms)) whole → Left s n (p + length (text_of ms)) late [] [] whole
+      → Left s n p late (marks_due (dues_of ms)) whole → Left s n (p + length (text_of ms)) late [] whole
   passed [] p none h l = rw (add-zero p) l
   passed (m ∷ ms) p (first then others) h l =
       let before = gap m.blank in
@@ -196,7 +199,7 @@ module _ (s : List ℕ) (n : ℕ) (late : Late) {whole : After → Type 0} where
       let at_rest : Stands rest s (p + length before + length word) = stands_on word rest s (p + length before) at-word in
       let step = past_gap m.blank (word ++ rest) s p h (first s (p + length before) at-word) in
       let to : p + length (before ++ (word ++ rest)) ≡ p + length before + length word + length rest = omega (arith, length-append before (word ++ rest), length-append word rest) in
-      let left = one_more p (kind_by m.mark) (number_by m.mark) (p + length before) (p + length before + length word) (kinds_in (dues_of ms)) (numbers_in (dues_of ms)) step (first_of p m.mark (dues_of ms) l) in
+      let left = one_more p (kind_by m.mark) (number_by m.mark) (p + length before) (p + length before + length word) (marks_due (dues_of ms)) step (first_of p m.mark (dues_of ms) l) in
       rw to (passed ms (p + length before + length word) others at_rest left)
 
 -- ---- the module
@@ -251,31 +254,30 @@ module _ (s : List ℕ) (at i : ℕ) where
   abbrev text : List ℕ
   text = copy_text (written_so (digits i)) (digits i)
 
+  long : (b : Bool) → 40 ≤ length (copy_text b (digits i))
+  long true = cases (ltb i 10) (λ y. rw y (omega arith)) (λ n. rw n (omega arith))
+  long false = cases (ltb i 10) (λ y. rw y (omega arith)) (λ n. rw n (omega arith))
+
   -- no text of it is shorter
-  pub too_short : length s < at + 40 → 0 ≡ past_copy s at i
+  pub too_short : length s < at + 40 → None ≡ past_copy s at i
   too_short h = cases (word_ahead text s at)
       (λ y. absurd (omega (arith, h, past_fits text s at y, long (written_so (digits i)))))
       (λ n. rw n)
-    where
-      long : (b : Bool) → 40 ≤ length (copy_text b (digits i))
-      long true = cases (ltb i 10) (λ y. rw y (omega arith)) (λ n. rw n (omega arith))
-      long false = cases (ltb i 10) (λ y. rw y (omega arith)) (λ n. rw n (omega arith))
 
-  pub copy_passed : i ≤ most_seats → (next : ℕ) → next ≡ past_copy s at i → (next ≡ 0 → ⊥) → (state : List ℕ) → Sized state → ModuleFrom s at i (late_in state) (after state next)
-  copy_passed few next is there state sized = record {
-    answers = λ run h kinds dues n.
+  pub copy_passed : i ≤ most_seats → (next : ℕ) → Some next ≡ past_copy s at i → (state : Carried) → ModuleFrom s at i (late_in state) (after state (Ok next))
+  copy_passed few next is state = record {
+    answers = λ run h dues n.
         let late = late_in state in
-        let start : Left s n at late (kinds_in (module_due i)) (numbers_in (module_due i)) (LineRead s late (dues_in run) (line (items_in run) (from s at n))) = record { rest = run; sure = h; kinds_left = kinds; dues_left = dues; answered = λ r y. y } in
+        let start : Left s n at late (marks_due (module_due i)) (LineRead s late (dues_in run) (line (items_in run) (from s at n))) = record { rest = run; sure = h; left = dues; answered = λ r y. y } in
         let end = passed s n late (pieces (written_so (digits i)) i) at (found (written_so (digits i)) i (omega arith)) stands start in
-        rw to (run_end s n (at + length text) late _ [] end (λ z. there (to ∙ z)) state refl);
-    sized = sized;
+        rw to (run_end s n (at + length text) late _ end state refl);
   }
     where
       stood : word_ahead text s at ≡ true
-      stood = cases (word_ahead text s at) (λ y. y) (λ n. absurd (there (is ∙ rw n)))
+      stood = cases (word_ahead text s at) (λ y. y) (λ n. let none : ◌≡◌ {A = Option ℕ} (Some next) None = is ∙ rw n in cc)
 
       to : next ≡ at + length text
-      to = is ∙ rw stood
+      to = let same : ◌≡◌ {A = Option ℕ} (Some next) (Some (at + length text)) = is ∙ rw stood in cc
 
       stands : Stands text s at
       stands = record {

@@ -8,30 +8,27 @@ ghost use Rattle.frame.specs.Frame.{past_word as past_word_said, past_copy as pa
 use letters::bytes::stands;
 use word_and_digit_looks::word_here;
 
-// The place behind these bytes, where they stand and no word goes on behind them; else 0.
-fn past_word(card: &[u8], at: usize, these: &[u8]) -> usize
+// The place behind these bytes, where they stand and no word goes on behind them.
+fn past_word(card: &[u8], at: usize, these: &[u8]) -> Option<usize>
     ensures { result ≡ past_word_said these.now card.now at }
 {
     if word_here(card, at, these) {
-        return at + these.len();
+        return Some(at + these.len());
     }
-    0
+    None
 }
 
 // The bytes of the shortest of the texts below.
 const SHORTEST: usize = 40;
 
-// The place behind processi = process1 [s1=si, si=s1] endmodule for seat i, where it stands as in a written card or tight; else 0.
+// The place behind processi = process1 [s1=si, si=s1] endmodule for seat i, where it stands as in a written card or tight.
 // The byte behind the first word tells which.
-pub fn past_copy(card: &[u8], at: usize, seat: usize) -> usize
+pub fn past_copy(card: &[u8], at: usize, seat: usize) -> Option<usize>
     requires { seat ≤ most_seats }
     ensures { result ≡ past_copy_said card.now at seat }
 {
-    if card.len() < SHORTEST {
-        return 0;
-    }
-    if card.len() - SHORTEST < at {
-        return 0;
+    if card.len() < SHORTEST || card.len() - SHORTEST < at {
+        return None;
     }
     if seat < 10 {
         let i = b'0' + seat as u8;

@@ -2,11 +2,8 @@
 use Rattle.able_seats.specs.FirstRow.{first_row}
 use Rattle.meaning.specs.Position.{position}
 use mathlib.Core.Path.{◌≡◌}
-use Prim.Native.Nat.{◌≤◌, ◌-◌}
+use Prim.Native.Nat.{◌-◌}
 use Rattle.able_seats.proofs.first_able.Given as goal
 
 abbrev pub invariant-loop-i : goal.invariant-loop-i
-invariant-loop-i l = (l.i ≤ l.count) × (first_row l.n (position l.counts l.shared) l.nodes l.rows 0 l.count ≡ first_row l.n (position l.counts l.shared) l.nodes l.rows l.i (l.count - l.i))
-
-abbrev pub decreases-loop-i : goal.decreases-loop-i
-decreases-loop-i l = l.count - l.i
+invariant-loop-i l = first_row l.head.seats (position l.counts l.shared) l.nodes l.rows 0 l.head.count ≡ first_row l.head.seats (position l.counts l.shared) l.nodes l.rows l.i (l.head.count - l.i)

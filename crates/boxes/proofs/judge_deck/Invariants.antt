@@ -2,8 +2,5 @@
 use Rattle.boxes.proofs.Laws.{Going}
 use Rattle.boxes.proofs.judge_deck.Given as goal
 
-abbrev pub invariant-loop-left : goal.invariant-loop-left
-invariant-loop-left l = Going l.deck l.left l.at l.least l.last
-
-abbrev pub decreases-loop-left : goal.decreases-loop-left
-decreases-loop-left l = l.left
+abbrev pub invariant-loop-i : goal.invariant-loop-i
+invariant-loop-i l = Going l.deck l.count l.i l.least l.last

@@ -1,9 +1,9 @@
--- `boxes::seek` meets its contract: from entry to entry, where what is left of the contents decides (`Seeking`). Assumes nothing.
-use Rattle.boxes.proofs.Seeking.{Seeking}
+-- `boxes::seek` meets its contract: from entry to entry, where what is left of the contents decides (`ahead`). Assumes nothing.
+use mathlib.Core.Path.{◌≡◌}
+use Rattle.deck.specs.Contents.{contents_of}
+use Rattle.deck.specs.Lookup.{live_row}
+use Rattle.boxes.proofs.Seeking.{ahead}
 use Rattle.boxes.proofs.seek.Given as goal
 
-abbrev pub invariant-loop-left : goal.invariant-loop-left
-invariant-loop-left l = Seeking l.deck l.number l.left l.at
-
-abbrev pub decreases-loop-left : goal.decreases-loop-left
-decreases-loop-left l = l.left
+abbrev pub invariant-loop-i : goal.invariant-loop-i
+invariant-loop-i l = live_row l.number (contents_of l.deck) ≡ ahead l.deck l.number l.i

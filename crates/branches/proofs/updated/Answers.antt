@@ -14,11 +14,3 @@ pub returns-then-all_here : goal.returns-then-all_here
 returns-then-all_here c =
     let a = c.args in
     update_passed a.card.now a.at (here a.card.now a.at (bytes ":(s1'=") c.all_here.ensures c.if-all_here.true) a.state.now
-    c.requires
-
-pub run-requires : goal.run-requires
-run-requires c =
-    record { sized = c.requires; kinds_nonzero = (omega arith, omega arith) }
-
-pub returns : goal.returns
-returns c = c.run.ensures

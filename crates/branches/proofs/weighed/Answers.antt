@@ -1,14 +1,10 @@
--- `branches::weighed` meets its contract: a weight's units are kept, or its place is blamed. Assumes nothing.
+-- A weight's units are kept, or its place is blamed. Assumes nothing.
+use mathlib.Core.Path.{refl}
 use Rattle.branches.proofs.BranchLaws.{units_weighed, broken_weighed}
 use Rattle.branches.proofs.weighed.Goals as goal
 
-pub blame-requires : goal.blame-requires
-blame-requires c = c.requires
+pub returns-in-Some : goal.returns-in-Some
+returns-in-Some c = units_weighed c.args.state.now c.in-Some.weight c.in-Some.is refl
 
-pub returns-in-Units : goal.returns-in-Units
-returns-in-Units c =
-    units_weighed c.args.state.now c.requires c.in-Units.weight c.in-Units.is c.wide.ensures
-
-pub returns-in-Broken : goal.returns-in-Broken
-returns-in-Broken c =
-    broken_weighed c.args.state.now c.requires c.in-Broken.is c.blame.ensures
+pub returns-in-None : goal.returns-in-None
+returns-in-None c = broken_weighed c.args.state.now c.in-None.is c.blame.ensures

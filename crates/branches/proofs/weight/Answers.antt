@@ -1,35 +1,19 @@
 -- A way out for each kind of weight (proofs/BranchLaws.antt). Assumes nothing.
 use Rattle.parts.proofs.Steps.{next_at}
-use Rattle.branches.proofs.BranchLaws.{formed_sized, decimal_read, weight_stops, whole_read, ratio_stops, ratio_read}
+use Rattle.branches.proofs.BranchLaws.{decimal_read, weight_stops, whole_read, ratio_stops, ratio_read}
 use Rattle.branches.proofs.weight.Goals as goal
-
-pub judge_form-requires : goal.judge_form-requires
-judge_form-requires c =
-    c.requires
-
-pub weighed-requires : goal.weighed-requires
-weighed-requires c =
-    formed_sized c.args.state.now c.requires c.judge_form.ensures
 
 pub returns-then-mark-eq-DECIMAL : goal.returns-then-mark-eq-DECIMAL
 returns-then-mark-eq-DECIMAL c =
     let a = c.args in
     decimal_read (next_at a.card.now a.at c.step_number-step.result c.step_number-step.ensures) _
-    c.weighed.ensures a.state.now c.requires c.judge_form.ensures c.if-mark-eq-DECIMAL.true c.decimal-judged.ensures
-
-pub stop-requires : goal.stop-requires
-stop-requires c =
-    c.requires
+    c.weighed.ensures a.state.now c.judge_form.ensures c.if-mark-eq-DECIMAL.true c.decimal-judged.ensures
 
 pub returns-then-mark-ne-NUMBER : goal.returns-then-mark-ne-NUMBER
 returns-then-mark-ne-NUMBER c =
     let a = c.args in
-    weight_stops (next_at a.card.now a.at c.step_number-step.result c.step_number-step.ensures) c.if-mark-eq-DECIMAL.false
-    c.if-mark-ne-NUMBER.true c.stop.ensures.halted
-
-pub weighed-requires-then-second-ne-SLASH : goal.weighed-requires-then-second-ne-SLASH
-weighed-requires-then-second-ne-SLASH c =
-    c.requires
+    weight_stops (next_at a.card.now a.at c.step_number-step.result c.step_number-step.ensures) _ c.if-mark-eq-DECIMAL.false
+    c.if-mark-ne-NUMBER.true
 
 pub returns-then-second-ne-SLASH : goal.returns-then-second-ne-SLASH
 returns-then-second-ne-SLASH c =
@@ -39,21 +23,13 @@ returns-then-second-ne-SLASH c =
     (next_at a.card.now c.step_number-step.result.next.at c.step_slash-slash.result c.step_slash-slash.ensures)
     c.if-second-ne-SLASH.true c.whole-judged.ensures
 
-pub stop-requires-then-third-ne-NUMBER : goal.stop-requires-then-third-ne-NUMBER
-stop-requires-then-third-ne-NUMBER c =
-    c.requires
-
 pub returns-then-third-ne-NUMBER : goal.returns-then-third-ne-NUMBER
 returns-then-third-ne-NUMBER c =
     let a = c.args in
-    ratio_stops (next_at a.card.now a.at c.step_number-step.result c.step_number-step.ensures) c.if-mark-ne-NUMBER.false
+    ratio_stops (next_at a.card.now a.at c.step_number-step.result c.step_number-step.ensures) _ c.if-mark-ne-NUMBER.false
     (next_at a.card.now c.step_number-step.result.next.at c.step_slash-slash.result c.step_slash-slash.ensures)
     c.if-second-ne-SLASH.false (next_at a.card.now c.step_slash-slash.result.next.at c.step_number-last.result
-    c.step_number-last.ensures) c.if-third-ne-NUMBER.true c.stop-then-third-ne-NUMBER.ensures.halted
-
-pub weighed-requires-2 : goal.weighed-requires-2
-weighed-requires-2 c =
-    c.requires
+    c.step_number-last.ensures) c.if-third-ne-NUMBER.true
 
 pub returns : goal.returns
 returns c =

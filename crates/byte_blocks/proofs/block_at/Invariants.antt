@@ -1,13 +1,8 @@
 -- `byte_blocks::block_at` meets its contract: one byte more is read after each turn. Assumes nothing.
-use Rattle.byte_blocks.specs.Blocks.{block_bytes}
 use Rattle.room.specs.Room.{clip}
 use lib.ListN.{take, drop}
 use mathlib.Core.Path.{◌≡◌}
-use Prim.Native.Nat.{◌≤◌, ◌-◌}
 use Rattle.byte_blocks.proofs.block_at.Given as goal
 
 abbrev pub invariant-loop-i : goal.invariant-loop-i
-invariant-loop-i l = (l.i ≤ block_bytes) × (l.block ≡ clip l.initial.block 0 (take l.i (drop l.from l.room)))
-
-abbrev pub decreases-loop-i : goal.decreases-loop-i
-decreases-loop-i l = block_bytes - l.i
+invariant-loop-i l = l.block ≡ clip l.initial.block 0 (take l.i (drop l.from l.room))

@@ -1,25 +1,14 @@
 -- `byte_blocks::blocks_down` meets its contract: one block more after each turn, read behind what has been stored. Assumes nothing.
 use Rattle.byte_blocks.specs.Blocks.{block_bytes}
 use Rattle.byte_blocks.proofs.Blocks.{down_none, down_join}
-use Rattle.byte_blocks.proofs.Clips.{clip_long}
-use borrow.Author.Rules.{rules}
-use mathlib.Core.Path.{refl, ◌∙◌}
+use native.Mathlib.Omega.{arith}
+use Prim.Native.Nat.{◌*◌}
 use Rattle.byte_blocks.proofs.blocks_down.Goals as goal
 
-pub loop-done-init : goal.loop-done-init
-loop-done-init c =
+pub loop-i-init : goal.loop-i-init
+loop-i-init c = down_none c.args.room.now c.args.from c.args.to
+
+pub loop-i-preserved : goal.loop-i-preserved
+loop-i-preserved c =
     let given = c.args in
-    (search rules, refl, down_none given.room.now given.from given.to)
-
-pub loop-done-preserved : goal.loop-done-preserved
-loop-done-preserved c =
-    let moved = c.move_block.ensures in
-    let given = c.args in
-    let turn = c.loop-done in
-    (search rules, clip_long _ _ _ moved ∙ turn.invariant.1, down_join given.room.now given.from given.to turn.done block_bytes c.requires.to_le_from (search rules) turn.invariant.2 moved)
-
-pub shape_of-room : goal.shape_of-room
-shape_of-room c = c.loop-done.invariant.1
-
-pub returns : goal.returns
-returns c = record { most = c.loop-done.invariant.0; rest = search rules; moved = c.loop-done.invariant.2 }
+    down_join given.room.now given.from given.to (block_bytes * c.loop-i.i) block_bytes c.requires.to_le_from (omega arith) (omega arith) c.loop-i.invariant c.move_block.ensures

@@ -1,12 +1,13 @@
 -- `card_text::put_card` meets its contract: the parts of the card, one after the other. Assumes nothing.
 use Rattle.card_text.proofs.Laws.{write_text}
 use Rattle.phrases.proofs.Laws.{put_first, puts_then}
+use Rattle.card.proofs.HeldIn.{holds_seats}
+use native.Mathlib.Omega.{arith}
 use Rattle.card.specs.Lent.{lent, card_in}
 use Rattle.card_text.proofs.put_card.Goals as goal
 
-pub put_statements-b-requires : goal.put_statements-b-requires
-put_statements-b-requires c =
-    c.requires
+pub put_modules-requires : goal.put_modules-requires
+put_modules-requires c = omega (arith, holds_seats c.requires)
 
 pub returns : goal.returns
 returns c =

@@ -6,7 +6,4 @@ use Prim.Native.Nat.{◌≤◌, ◌-◌}
 use Rattle.card_text.proofs.put_modules.Given as goal
 
 abbrev pub invariant-loop-i : goal.invariant-loop-i
-invariant-loop-i l = (1 ≤ l.i) × (l.i - 1 ≤ l.seats - 1) × Puts l.initial.room l.room l.at (counted next_module 1 (l.i - 1)) l.to
-
-abbrev pub decreases-loop-i : goal.decreases-loop-i
-decreases-loop-i l = l.seats - l.i
+invariant-loop-i l = (l.i - 1 ≤ l.seats - 1) × Puts l.initial.room l.room l.at (counted next_module 1 (l.i - 1)) l.to

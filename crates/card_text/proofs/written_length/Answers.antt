@@ -3,9 +3,6 @@ use Rattle.card_text.proofs.Laws.{held_cap}
 use Rattle.room.proofs.Drafts.{drafted_long}
 use Rattle.card_text.proofs.written_length.Goals as goal
 
-pub put_card-requires : goal.put_card-requires
-put_card-requires c = c.requires
-
 pub returns : goal.returns
 returns c =
     drafted_long (held_cap c.requires) c.put_card.ensures

@@ -1,35 +1,29 @@
 -- `class_counts::count_classes` meets its contract: after i turns the array has the class counts of the first i seats. Assumes nothing.
-use Rattle.classes.proofs.Counts.{classes_none, classes_all, classes_next, classes_over, room_for_one}
-use Rattle.classes.specs.Classes.{class_of, class_counts}
-use lib.ListN.{length, take}
-use borrow.Author.Rules.{rules}
+use mathlib.Core.Path.{ap, ◌∙◌}
 use native.Mathlib.Omega.{arith}
-use mathlib.Core.Path.{◌≡◌, ap, ◌∙◌}
-use Prim.Native.Nat.{◌<◌}
+use lib.ListN.{take}
+use Rattle.std.proofs.lemmas.List.{take_all, take_min}
+use Rattle.classes.specs.Classes.{class_of, class_counts}
+use Rattle.classes.proofs.Counts.{classes_none, classes_next, classes_over, room_for_one}
 use Rattle.class_counts.proofs.count_classes.Goals as goal
 
-pub loop-i-init : goal.loop-i-init
-loop-i-init c = (search rules, (search rules, classes_none _))
-
-pub returns-then-seats-i : goal.returns-then-seats-i
-returns-then-seats-i c =
-    c.loop-i.invariant.1.1 ∙ classes_all _ _ _ _ c.if-seats-i.true c.loop-i.invariant.0
+pub loop-seat-init : goal.loop-seat-init
+loop-seat-init c = classes_none _
 
 pub overflow_add-counts : goal.overflow_add-counts
 overflow_add-counts c =
-    let here : c.loop-i.i < length c.args.seats.now = omega (arith, c.if-seats-i.false) in
-    let few = room_for_one _ _ _ here c.loop-i.invariant.1.1 in
-    omega (arith, few c.class_of-class.result, few c.wide-state.result)
+    let few = room_for_one _ _ _ c.loop-seat-test.true c.loop-seat.invariant in
+    omega (arith, few c.class_of-class.result)
 
-pub loop-i-preserved : goal.loop-i-preserved
-loop-i-preserved c =
-    let here : c.loop-i.i < length c.args.seats.now = omega (arith, c.if-seats-i.false) in
-    let is = c.class_of-class.ensures ∙ ap (class_of c.args.classes.now) c.wide-state.ensures in
-    let within = classes_next _ _ _ here c.loop-i.invariant.1.1 is in
-    let over = classes_over _ _ _ here c.loop-i.invariant.1.1 is in
-    (search rules, (search rules, grind (arith, within, over)))
+pub loop-seat-preserved : goal.loop-seat-preserved
+loop-seat-preserved c =
+    let is = c.class_of-class.ensures ∙ ap (class_of c.args.classes.now) c.from-state.ensures in
+    let within = classes_next _ _ _ c.loop-seat-test.true c.loop-seat.invariant is in
+    let over = classes_over _ _ _ c.loop-seat-test.true c.loop-seat.invariant is in
+    grind (arith, within, over)
 
 pub returns : goal.returns
 returns c =
-    let all : c.loop-i.i ≡ c.args.n = omega (arith, c.loop-i.invariant.0, c.loop-i-test.false) in
-    c.loop-i.invariant.1.1 ∙ ap (λ m. class_counts c.args.classes.now (take m c.args.seats.now)) all
+    let counted = take c.min.result c.args.seats.now in
+    c.loop-seat.invariant
+    ∙ ap (class_counts c.args.classes.now) (take_all c.loop-seat.seat-index counted c.loop-seat-test.false ∙ rw c.min.ensures (take_min c.args.n c.args.seats.now))

@@ -21,12 +21,6 @@ names-card past c =
     stopped c.args.deck.now c.requires.sound c.loop-i.invariant less c.note_of-note.ensures c.new_size-end.ensures
     (past (goal.at.returns-then-end-gt-DECK_BYTES c).Then-end-gt-DECK_BYTES) c.word_at-number.ensures.0
 
-pub overflow_mul-end : goal.overflow_mul-end
-overflow_mul-end c = omega (arith, c.requires.sound.head.few, c.requires.count_value)
-
-pub overflow_add-end : goal.overflow_add-end
-overflow_add-end c = omega (arith, c.requires.sound.head.few, c.requires.count_value)
-
 pub loop-i-init : goal.loop-i-init
 loop-i-init c = begins c.args.deck.now c.requires.sound c.args.notes.now c.requires.count_value
 
@@ -34,14 +28,6 @@ pub note_of-note-requires : goal.note_of-note-requires
 note_of-note-requires c =
     let less : c.loop-i.i < count_of c.args.deck.now = omega (arith, c.loop-i-test.true, c.requires.count_value) in
     record { entry_bytes_in_bounds = in_contents c.args.deck.now c.requires.sound c.loop-i.invariant less; right_row = right_row c.args.deck.now c.requires.sound c.loop-i.invariant less }
-
-pub offset_bounds-notes-i : goal.offset_bounds-notes-i
-offset_bounds-notes-i c =
-    omega (arith, c.loop-i-test.true, c.requires.sound.head.few, c.requires.count_value)
-
-pub bounds-notes-i : goal.bounds-notes-i
-bounds-notes-i c =
-    omega (arith, c.loop-i-test.true, c.requires.sound.head.few, c.requires.count_value)
 
 pub new_size-end-requires : goal.new_size-end-requires
 new_size-end-requires c =
@@ -63,18 +49,6 @@ word_at-number-requires c =
 pub returns-then-end-gt-DECK_BYTES : goal.returns-then-end-gt-DECK_BYTES
 returns-then-end-gt-DECK_BYTES = names-card past
 
-pub overflow_add-from : goal.overflow_add-from
-overflow_add-from c =
-    omega (arith, c.loop-i.invariant.place.at, c.loop-i-test.true, c.requires.sound.head.few, c.requires.count_value)
-
-pub overflow_add-i : goal.overflow_add-i
-overflow_add-i c =
-    omega (arith, c.loop-i-test.true, c.requires.sound.head.few, c.requires.count_value)
-
-pub loop-i-smaller : goal.loop-i-smaller
-loop-i-smaller c =
-    omega (arith, c.loop-i-test.true)
-
 pub loop-i-preserved : goal.loop-i-preserved
 loop-i-preserved c =
     let less : c.loop-i.i < count_of c.args.deck.now = omega (arith, c.loop-i-test.true, c.requires.count_value) in
@@ -82,4 +56,4 @@ loop-i-preserved c =
 
 pub returns : goal.returns
 returns c =
-    ended c.args.deck.now c.requires.sound c.loop-i.invariant (omega (arith, c.loop-i-test.false, c.requires.count_value))
+    ended c.args.deck.now c.requires.sound c.loop-i.invariant (omega arith) (omega arith)

@@ -1,10 +1,6 @@
 -- `convert::notes_into` meets its contract: entry by entry, where notes found so far stand before those that follow (`Going`). Assumes nothing.
-use Prim.Native.Nat.{◌-◌}
 use Rattle.convert.proofs.Walk.{Going}
 use Rattle.convert.proofs.notes_into.Given as goal
 
 abbrev pub invariant-loop-i : goal.invariant-loop-i
-invariant-loop-i l = Going l.deck l.initial.notes l.notes l.i l.from l.end
-
-abbrev pub decreases-loop-i : goal.decreases-loop-i
-decreases-loop-i l = l.count - l.i
+invariant-loop-i l = Going l.deck l.initial.notes l.notes l.i l.end

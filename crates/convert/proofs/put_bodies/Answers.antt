@@ -1,5 +1,4 @@
 -- `convert::put_bodies` meets its contract: each turn leaves one body less to be put. Assumes nothing.
-use native.Mathlib.Omega.{arith}
 use borrow.Author.Rules.{rules}
 use Rattle.converted_rows.proofs.Left.{in_contents}
 use Rattle.convert.proofs.Bodies.{bodies_start, bodies_end, bodies_next, right_row, part_fits}
@@ -11,22 +10,11 @@ loop-i-init c =
 
 pub put_body-to-requires : goal.put_body-to-requires
 put_body-to-requires c =
-    record { entry_bytes_in_bounds = in_contents c.requires.each c.loop-i.invariant.place c.loop-i-test.true; right_row = right_row _ _ c.requires.each c.loop-i.invariant c.loop-i-test.true; deck_in_bounds = part_fits _ _ c.requires.each c.loop-i.invariant c.loop-i-test.true }
-
-pub overflow_add-from : goal.overflow_add-from
-overflow_add-from c =
-    omega (arith, c.loop-i.invariant.place.at, c.loop-i-test.true, c.requires.each.head.few, c.requires.each.long)
-
-pub overflow_add-i : goal.overflow_add-i
-overflow_add-i c =
-    omega (arith, c.loop-i-test.true, c.requires.each.head.few, c.requires.each.long)
+    record { entry_bytes_in_bounds = in_contents c.requires.each c.loop-i-test.true; right_row = right_row _ _ c.requires.each c.loop-i.invariant c.loop-i-test.true; deck_in_bounds = part_fits _ _ c.requires.each c.loop-i.invariant c.loop-i-test.true }
 
 pub loop-i-preserved : goal.loop-i-preserved
 loop-i-preserved c =
     bodies_next _ _ c.requires.each c.loop-i.invariant c.loop-i-test.true c.put_body-to.ensures
-
-pub shape_of-room : goal.shape_of-room
-shape_of-room c = c.loop-i.invariant.still.long
 
 pub returns : goal.returns
 returns c =

@@ -9,26 +9,26 @@ use native.Mathlib.Omega.{arith}
 use borrow.Author.Rules.{rules}
 use Rattle.converted_card.proofs.put_written.Goals as goal
 
-pub read_under-outline-requires : goal.read_under-outline-requires
-read_under-outline-requires c = arrays_none
-
-pub returns-in-Refused : goal.returns-in-Refused
-returns-in-Refused c =
-    put_as (nothing_written c.read_under-outline.ensures c.in-Refused.is) (put_none (search rules) c.place.ensures)
-
-pub slice_bounds-put_card-end-2 : goal.slice_bounds-put_card-end-2
-slice_bounds-put_card-end-2 c =
-    sym (holds_branches (taken_in c.read_under-outline.ensures c.in_default.is).holds)
-
-pub put_card-long-requires : goal.put_card-long-requires
-put_card-long-requires c =
-    (taken_in c.read_under-outline.ensures c.in_default.is).holds
-
-pub overflow_add-result : goal.overflow_add-result
-overflow_add-result c =
-    let small = next_small c.read_under-outline.ensures c.in_default.is c.args.room.now c.args.at (search rules) c.requires c.put_card-long.ensures in
-    omega (arith, small)
+pub read_under-requires : goal.read_under-requires
+read_under-requires c = arrays_none
 
 pub returns : goal.returns
 returns c =
-    form_put c.read_under-outline.ensures c.in_default.is c.args.room.now c.args.at (search rules) c.requires c.put_card-long.ensures
+    put_as (nothing_written c.read_under.ensures c.in_default.is) (put_none (search rules) c.place.ensures)
+
+pub slice_bounds-put_card-end-in-Ok : goal.slice_bounds-put_card-end-in-Ok
+slice_bounds-put_card-end-in-Ok c =
+    sym (holds_branches (taken_in c.read_under.ensures c.in-Ok.is).holds)
+
+pub put_card-long-requires : goal.put_card-long-requires
+put_card-long-requires c =
+    (taken_in c.read_under.ensures c.in-Ok.is).holds
+
+pub overflow_add-result : goal.overflow_add-result
+overflow_add-result c =
+    let small = next_small c.read_under.ensures c.in-Ok.is c.args.room.now c.args.at (search rules) c.requires c.put_card-long.ensures in
+    omega (arith, small)
+
+pub returns-in-Ok : goal.returns-in-Ok
+returns-in-Ok c =
+    form_put c.read_under.ensures c.in-Ok.is c.args.room.now c.args.at (search rules) c.requires c.put_card-long.ensures

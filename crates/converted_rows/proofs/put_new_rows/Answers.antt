@@ -11,31 +11,20 @@ loop-i-init c =
 
 pub new_size-size-requires : goal.new_size-size-requires
 new_size-size-requires c =
-    in_contents c.requires.each c.loop-i.invariant.place c.loop-i-test.true
+    in_contents c.requires.each c.loop-i-test.true
 
 pub put_sized_row-to-requires : goal.put_sized_row-to-requires
 put_sized_row-to-requires c =
-    record { entry_bytes_in_bounds = in_contents c.requires.each c.loop-i.invariant.place c.loop-i-test.true; offset_lt_word_numbers = fits _ _ _ c.requires.each c.loop-i.invariant c.loop-i-test.true c.new_size-size.ensures }
+    record { entry_bytes_in_bounds = in_contents c.requires.each c.loop-i-test.true; offset_lt_word_numbers = fits _ _ _ c.requires.each c.loop-i.invariant c.loop-i-test.true c.new_size-size.ensures }
 
 pub overflow_add-offset : goal.overflow_add-offset
 overflow_add-offset c =
     let short = offset_short _ _ _ c.requires.each c.loop-i.invariant c.loop-i-test.true c.new_size-size.ensures in
     omega (arith, short)
 
-pub overflow_add-from : goal.overflow_add-from
-overflow_add-from c =
-    omega (arith, c.loop-i.invariant.place.at, c.loop-i-test.true, c.requires.each.head.few, c.requires.each.long)
-
-pub overflow_add-i : goal.overflow_add-i
-overflow_add-i c =
-    omega (arith, c.loop-i-test.true, c.requires.each.head.few, c.requires.each.long)
-
 pub loop-i-preserved : goal.loop-i-preserved
 loop-i-preserved c =
     rows_next _ _ _ c.requires.each c.loop-i.invariant c.loop-i-test.true c.new_size-size.ensures c.put_sized_row-to.ensures
-
-pub shape_of-room : goal.shape_of-room
-shape_of-room c = c.loop-i.invariant.still.long
 
 pub returns : goal.returns
 returns c =

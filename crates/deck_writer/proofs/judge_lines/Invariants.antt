@@ -2,8 +2,5 @@
 use Rattle.deck_writer.proofs.Judging.{Going}
 use Rattle.deck_writer.proofs.judge_lines.Given as goal
 
-abbrev pub invariant-loop-left : goal.invariant-loop-left
-invariant-loop-left l = Going l.contents l.left l.at l.least l.long
-
-abbrev pub decreases-loop-left : goal.decreases-loop-left
-decreases-loop-left l = l.left
+abbrev pub invariant-loop-i : goal.invariant-loop-i
+invariant-loop-i l = Going l.contents l.i l.least l.long

@@ -2,8 +2,5 @@
 use Rattle.deck_writer.proofs.Putting.{LinesLeft}
 use Rattle.deck_writer.proofs.put_lines.Given as goal
 
-abbrev pub invariant-loop-left : goal.invariant-loop-left
-invariant-loop-left l = LinesLeft l.initial.room l.room l.contents l.first l.at l.left l.from l.offset l.to
-
-abbrev pub decreases-loop-left : goal.decreases-loop-left
-decreases-loop-left l = l.left
+abbrev pub invariant-loop-i : goal.invariant-loop-i
+invariant-loop-i l = LinesLeft l.initial.room l.room l.contents l.first l.at l.i l.offset l.to

@@ -30,7 +30,7 @@ no-gap c = c.put_deck.ensures
 
 pub returns-then-long-bodies : goal.returns-then-long-bodies
 returns-then-long-bodies c =
-    entered_refused (other_length c.args.contents.now c.args.bodies.now c.requires (λ e. omega (arith, e, c.if-long-bodies.true)))
+    rw c.malformed.ensures (entered_refused (other_length c.args.contents.now c.args.bodies.now c.requires (λ e. omega (arith, e, c.if-long-bodies.true))))
 
 -- there are few entries, so the sum fits whatever is put before them
 pub overflow_add-need : goal.overflow_add-need
@@ -39,7 +39,7 @@ overflow_add-need c =
 
 pub returns-then-need-gt-DECK_BYTES : goal.returns-then-need-gt-DECK_BYTES
 returns-then-need-gt-DECK_BYTES c =
-    entered_refused (too_long c.args.contents.now c.args.bodies.now c.requires (whole (goal.at.returns-then-need-gt-DECK_BYTES c).Else-long-bodies) c.if-need-gt-DECK_BYTES.true)
+    rw c.malformed-then-need-gt-DECK_BYTES.ensures (entered_refused (too_long c.args.contents.now c.args.bodies.now c.requires (whole (goal.at.returns-then-need-gt-DECK_BYTES c).Else-long-bodies) c.if-need-gt-DECK_BYTES.true))
 
 pub returns-then-room-need : goal.returns-then-room-need
 returns-then-room-need c =

@@ -1,20 +1,9 @@
 -- What the look found is what the step finds (proofs/Quick.antt of looks).
 use mathlib.Core.Path.{sym, ◌∙◌}
-use native.Mathlib.Omega.{arith}
-use Rattle.looks.proofs.Quick.{process_room, process_step, past_step}
+use Rattle.looks.proofs.Quick.{process_step, past_step}
 use Rattle.due_words.proofs.step_process.Goals as goal
 
-pub overflow_add-from : goal.overflow_add-from
-overflow_add-from c = omega (arith, process_room c.args.card.now c.past_blank-from.result c.process_here-value.result c.process_here-value.ensures c.if-value-lt-NO_DIGIT.true)
-
-pub returns-then-value-lt-NO_DIGIT : goal.returns-then-value-lt-NO_DIGIT
-returns-then-value-lt-NO_DIGIT c =
-    c.valued.ensures ∙ sym
-    (process_step c.args.card.now c.past_blank-from.result
-    c.process_here-value.result c.process_here-value.ensures c.if-value-lt-NO_DIGIT.true)
-    ∙ past_step c.args.card.now c.args.at
-    c.past_blank-from.ensures
-
-pub returns : goal.returns
-returns c =
-    c.step_from.ensures ∙ past_step c.args.card.now c.args.at c.past_blank-from.ensures
+pub returns-in-Some : goal.returns-in-Some
+returns-in-Some c =
+    c.valued.ensures ∙ sym (process_step c.args.card.now c.past_blank-from.result c.in-Some.value c.in-Some.ensures)
+    ∙ past_step c.args.card.now c.args.at c.past_blank-from.ensures

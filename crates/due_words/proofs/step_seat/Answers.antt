@@ -1,40 +1,17 @@
 -- What the look found is what the step finds (proofs/Quick.antt of looks).
-use Rattle.looks.proofs.Quick.{seat_room, seat_step, teen_room, teen_step, past_step}
-use native.Mathlib.Omega.{arith}
 use mathlib.Core.Path.{sym, ◌∙◌}
+use native.Mathlib.Omega.{arith}
+use Rattle.looks.proofs.Quick.{teen_small, teen_step, past_step}
 use Rattle.due_words.proofs.step_seat.Goals as goal
 
-pub overflow_add-at : goal.overflow_add-at
-overflow_add-at c =
-    omega (arith, seat_room c.args.card.now c.args.at c.seat_here-tight.result c.seat_here-tight.ensures c.if-tight-lt-NO_DIGIT.true)
+pub returns-in-Some-teen_here : goal.returns-in-Some-teen_here
+returns-in-Some-teen_here c = c.valued-in-Some-teen_here.ensures ∙ sym (teen_step c.args.card.now c.args.at c.in-Some-teen_here.teen c.in-Some-teen_here.ensures)
 
-pub returns-then-tight-lt-NO_DIGIT : goal.returns-then-tight-lt-NO_DIGIT
-returns-then-tight-lt-NO_DIGIT c =
-    c.valued.ensures ∙ sym (seat_step c.args.card.now c.args.at c.seat_here-tight.result c.seat_here-tight.ensures c.if-tight-lt-NO_DIGIT.true)
+pub overflow_add-units : goal.overflow_add-units
+overflow_add-units c = omega (arith, teen_small c.args.card.now c.past_blank-from.result c.in-Some-teen_here-2.units c.in-Some-teen_here-2.ensures)
 
-pub overflow_add-at-then-teen-lt-NO_DIGIT : goal.overflow_add-at-then-teen-lt-NO_DIGIT
-overflow_add-at-then-teen-lt-NO_DIGIT c =
-    omega (arith, teen_room c.args.card.now c.args.at c.teen_here-teen.result c.teen_here-teen.ensures c.if-teen-lt-NO_DIGIT.true)
-
-pub returns-then-teen-lt-NO_DIGIT : goal.returns-then-teen-lt-NO_DIGIT
-returns-then-teen-lt-NO_DIGIT c =
-    c.valued-then-teen-lt-NO_DIGIT.ensures ∙ sym (teen_step c.args.card.now c.args.at c.teen_here-teen.result c.teen_here-teen.ensures c.if-teen-lt-NO_DIGIT.true)
-
-pub overflow_add-from : goal.overflow_add-from
-overflow_add-from c = omega (arith, seat_room c.args.card.now c.past_blank-from.result c.seat_here-value.result c.seat_here-value.ensures c.if-value-lt-NO_DIGIT.true)
-
-pub returns-then-value-lt-NO_DIGIT : goal.returns-then-value-lt-NO_DIGIT
-returns-then-value-lt-NO_DIGIT c =
-    c.valued-then-value-lt-NO_DIGIT.ensures ∙ sym (seat_step c.args.card.now c.past_blank-from.result c.seat_here-value.result c.seat_here-value.ensures c.if-value-lt-NO_DIGIT.true) ∙ past_step c.args.card.now c.args.at c.past_blank-from.ensures
-
-pub overflow_add-from-then-units-lt-NO_DIGIT : goal.overflow_add-from-then-units-lt-NO_DIGIT
-overflow_add-from-then-units-lt-NO_DIGIT c =
-    omega (arith, teen_room c.args.card.now c.past_blank-from.result c.teen_here-units.result c.teen_here-units.ensures c.if-units-lt-NO_DIGIT.true)
-
-pub returns-then-units-lt-NO_DIGIT : goal.returns-then-units-lt-NO_DIGIT
-returns-then-units-lt-NO_DIGIT c =
-    c.valued-then-units-lt-NO_DIGIT.ensures ∙ sym (teen_step c.args.card.now c.past_blank-from.result c.teen_here-units.result c.teen_here-units.ensures c.if-units-lt-NO_DIGIT.true) ∙ past_step c.args.card.now c.args.at c.past_blank-from.ensures
-
-pub returns : goal.returns
-returns c =
-    c.step_from.ensures ∙ past_step c.args.card.now c.args.at c.past_blank-from.ensures
+pub returns-in-Some-teen_here-2 : goal.returns-in-Some-teen_here-2
+returns-in-Some-teen_here-2 c =
+    c.valued-in-Some-teen_here-2.ensures
+    ∙ sym (teen_step c.args.card.now c.past_blank-from.result c.in-Some-teen_here-2.units c.in-Some-teen_here-2.ensures)
+    ∙ past_step c.args.card.now c.args.at c.past_blank-from.ensures

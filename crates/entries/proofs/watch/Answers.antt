@@ -1,24 +1,33 @@
 -- `entries::watch` meets its contract: the first refusal of card, seats and list, or the line. Assumes nothing.
-use Rattle.entries.proofs.WatchStages.{watch_refused, line_fits, line_said}
+use Rattle.std.proofs.lemmas.Result.{err_from_is_err_and}
 use Rattle.room.proofs.Entries.{entered_refused}
 use Rattle.outline.proofs.ReadInto.{arrays_none}
+use Rattle.entries.proofs.WatchStages.{card_refused, seats_refused, list_refused, line_fits, line_said}
 use Rattle.entries.proofs.watch.Goals as goal
 
-pub read_into-outline-requires : goal.read_into-outline-requires
-read_into-outline-requires c = arrays_none
+pub read_into-requires : goal.read_into-requires
+read_into-requires c = arrays_none
 
-pub returns-in-Refused : goal.returns-in-Refused
-returns-in-Refused c =
-    entered_refused (watch_refused _ _ _ c.read_into-outline.ensures c.judge_seats-of_seats.ensures c.first_refusal-seated.ensures
-    c.judge_classes-of_list.ensures c.first_refusal-verdict.ensures c.in-Refused.is)
+pub returns-in_err-outline : goal.returns-in_err-outline
+returns-in_err-outline c =
+    let p = err_from_is_err_and c.from_residual.result c.from_residual.ensures.1 in
+    rw (p.1, p.2) (entered_refused (card_refused _ _ _ c.in_err-outline.ensures))
+
+pub returns-in_err-judge_seats : goal.returns-in_err-judge_seats
+returns-in_err-judge_seats c =
+    let p = err_from_is_err_and c.from_residual-in_err-judge_seats.result c.from_residual-in_err-judge_seats.ensures.1 in
+    rw (p.1, p.2) (entered_refused (seats_refused _ _ _ c.in_ok-outline.ensures c.in_err-judge_seats.ensures))
+
+pub returns-in_err-judge_classes : goal.returns-in_err-judge_classes
+returns-in_err-judge_classes c =
+    let p = err_from_is_err_and c.from_residual-in_err-judge_classes.result c.from_residual-in_err-judge_classes.ensures.1 in
+    rw (p.1, p.2) (entered_refused (list_refused _ _ _ c.in_ok-outline.ensures c.in_ok-judge_seats.ensures c.in_err-judge_classes.ensures))
 
 pub enter_classes-requires : goal.enter_classes-requires
 enter_classes-requires c =
-    line_fits _ _ _ c.read_into-outline.ensures c.judge_seats-of_seats.ensures c.first_refusal-seated.ensures c.judge_classes-of_list.ensures
-    c.first_refusal-verdict.ensures c.in_default.is c.count_classes-counts.ensures
+    line_fits _ _ _ c.in_ok-outline.ensures c.in_ok-judge_seats.ensures c.in_ok-judge_classes.ensures c.count_classes-counts.ensures
 
 pub returns : goal.returns
 returns c =
-    rw (line_said _ _ _ c.read_into-outline.ensures c.judge_seats-of_seats.ensures c.first_refusal-seated.ensures c.judge_classes-of_list.ensures
-    c.first_refusal-verdict.ensures c.in_default.is c.count_classes-counts.ensures)
+    rw (line_said _ _ _ c.in_ok-outline.ensures c.in_ok-judge_seats.ensures c.in_ok-judge_classes.ensures c.count_classes-counts.ensures)
     at c.enter_classes.ensures

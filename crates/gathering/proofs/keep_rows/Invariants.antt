@@ -2,8 +2,5 @@
 use Rattle.gathering.proofs.Keeping.{Keeping}
 use Rattle.gathering.proofs.keep_rows.Given as goal
 
-abbrev pub invariant-loop-left : goal.invariant-loop-left
-invariant-loop-left l = Keeping l.initial.deck l.count l.deck l.left l.from l.to
-
-abbrev pub decreases-loop-left : goal.decreases-loop-left
-decreases-loop-left l = l.left
+abbrev pub invariant-loop-i : goal.invariant-loop-i
+invariant-loop-i l = Keeping l.initial.deck l.count l.deck l.i l.to

@@ -1,13 +1,10 @@
 -- `gathering::live_size` meets its contract: by the flag. Assumes nothing.
-use Rattle.gathering.proofs.Entries.{size_live, size_none}
-use native.Mathlib.Omega.{arith}
+use Rattle.gathering.proofs.Entries.{live_there, none_there}
 use mathlib.Core.Path.{refl}
 use Rattle.gathering.proofs.live_size.Goals as goal
 
-pub returns-then-deck-at-eq1 : goal.returns-then-deck-at-eq1
-returns-then-deck-at-eq1 c =
-    (size_live c.args.deck.now c.args.at refl c.word_at-size.ensures.0 c.if-deck-at-eq1.true, c.word_at-size.ensures.1)
+pub returns-then-deck-at-ne1 : goal.returns-then-deck-at-ne1
+returns-then-deck-at-ne1 c = none_there c.args.deck.now c.args.at refl c.if-deck-at-ne1.true
 
 pub returns : goal.returns
-returns c =
-    (size_none c.args.deck.now c.args.at refl c.if-deck-at-eq1.false, omega arith)
+returns c = live_there c.args.deck.now c.args.at refl c.if-deck-at-ne1.false c.word_at.ensures

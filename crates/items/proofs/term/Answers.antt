@@ -4,11 +4,11 @@ use Rattle.items.proofs.term.Goals as goal
 
 pub returns-then-bracket-ne-ROUND_OPEN : goal.returns-then-bracket-ne-ROUND_OPEN
 returns-then-bracket-ne-ROUND_OPEN c =
-    rw c.no_term.ensures (no_open c.args.part.now c.args.at c.args.i c.step_sign-bracket.result c.step_sign-bracket.ensures c.if-bracket-ne-ROUND_OPEN.true)
+    no_open c.args.part.now c.args.at c.args.i c.step_sign-bracket.result c.step_sign-bracket.ensures c.if-bracket-ne-ROUND_OPEN.true
 
 pub returns-then-word-ne-SEAT : goal.returns-then-word-ne-SEAT
 returns-then-word-ne-SEAT c =
-    rw c.no_term-then-word-ne-SEAT.ensures (no_first c.args.part.now c.args.at c.args.i c.step_sign-bracket.result c.step_sign-bracket.ensures c.if-bracket-ne-ROUND_OPEN.false c.step_tight_seat-word.result c.step_tight_seat-word.ensures c.if-word-ne-SEAT.true)
+    no_first c.args.part.now c.args.at c.args.i c.step_sign-bracket.result c.step_sign-bracket.ensures c.if-bracket-ne-ROUND_OPEN.false c.step_tight_seat-word.result c.step_tight_seat-word.ensures c.if-word-ne-SEAT.true
 
 pub returns : goal.returns
 returns c =

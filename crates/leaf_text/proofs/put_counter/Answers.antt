@@ -8,13 +8,7 @@ pub returns-then-kind-ge-SHARED : goal.returns-then-kind-ge-SHARED
 returns-then-kind-ge-SHARED c =
     puts_as _ (shared_reduced c.args.node c.args.seats c.relation_of-relation.ensures.part c.state_of-d.ensures.part c.kind_of-kind.ensures c.if-kind-ge-SHARED.true c.args.own) c.put_shared.ensures
 
-pub overflow_cast-name : goal.overflow_cast-name
-overflow_cast-name c = omega (arith, c.state_of-d.ensures.small)
-
-pub overflow_add-name : goal.overflow_add-name
-overflow_add-name c = omega (arith, c.state_of-d.ensures.small)
-
 pub returns : goal.returns
 returns c =
     puts_as _ (counter_text_law _ _ _ c.kind_of-kind.ensures c.if-kind-ge-SHARED.false c.state_of-d.ensures.part (omega (arith, c.state_of-d.ensures.small)) c.bound_of-bound.ensures)
-    (puts_then (put_first c.put_six-a.ensures) (puts_then (put_first c.put_number-b.ensures) (put_first c.put_byte.ensures)))
+    (puts_then (put_first c.put_filled-a.ensures) (puts_then (put_first c.put_number-b.ensures) (put_first c.put_byte.ensures)))

@@ -8,7 +8,4 @@ use Prim.Native.Nat.{◌≤◌, ◌-◌}
 use Rattle.leaf_text.proofs.put_literals.Given as goal
 
 abbrev pub invariant-loop-i : goal.invariant-loop-i
-invariant-loop-i l = (l.first ≤ l.i) × (l.i - l.first ≤ l.seats - l.first) × Puts l.initial.room l.room l.at (counted (next_literal (either all any l.sign) (either is isnt l.relation) l.state) l.first (l.i - l.first)) l.to
-
-abbrev pub decreases-loop-i : goal.decreases-loop-i
-decreases-loop-i l = l.seats - l.i
+invariant-loop-i l = (l.i - l.first ≤ l.seats - l.first) × Puts l.initial.room l.room l.at (counted (next_literal (either all any l.sign) (either is isnt l.relation) l.state) l.first (l.i - l.first)) l.to

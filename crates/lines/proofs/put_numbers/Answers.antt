@@ -5,16 +5,16 @@ use Rattle.room.proofs.Laws.{put_length}
 use Rattle.panel_wording.proofs.Laws.{numbers_next, numbers_end}
 use Rattle.lines.proofs.put_numbers.Goals as goal
 
-pub loop-i-init : goal.loop-i-init
-loop-i-init c = (search rules, puts_none (search rules) c.place-to.ensures)
+pub loop-value-init : goal.loop-value-init
+loop-value-init c = puts_none (search rules) c.place-to.ensures
 
-pub loop-i-preserved : goal.loop-i-preserved
-loop-i-preserved c =
-    (search rules, numbers_next c.args.values.now c.loop-i.i c.loop-i-test.true c.loop-i.invariant.1 (puts_then (put_first c.put_byte-a.ensures) (put_first c.put_number-to.ensures)))
+pub loop-value-preserved : goal.loop-value-preserved
+loop-value-preserved c =
+    numbers_next c.args.values.now c.loop-value.value-index c.loop-value-test.true c.loop-value.invariant (puts_then (put_first c.put_byte-a.ensures) (put_first c.put_number-to.ensures))
 
 pub shape_of-room : goal.shape_of-room
-shape_of-room c = put_length c.loop-i.invariant.1.put
+shape_of-room c = put_length c.loop-value.invariant.put
 
 pub returns : goal.returns
 returns c =
-    numbers_end c.args.values.now _ c.loop-i-test.false c.loop-i.invariant.1
+    numbers_end c.args.values.now _ c.loop-value-test.false c.loop-value.invariant

@@ -4,12 +4,8 @@ use Rattle.panel_wording.specs.PanelText.{moves_text}
 use Rattle.phrases.specs.Puts.{Puts}
 use Rattle.meaning.specs.Sums.{upto, flat}
 use Rattle.meaning.specs.Panel.{move_line}
-use lib.ListN.{length, get_or}
-use Prim.Native.Nat.{◌≤◌, ◌-◌}
+use lib.ListN.{get_or}
 use Rattle.lines.proofs.put_pair.Given as goal
 
 abbrev pub invariant-loop-becomes : goal.invariant-loop-becomes
-invariant-loop-becomes l = (l.becomes ≤ length l.weights) × Puts l.initial.room l.room l.at (moves_text (tells l.shared) (flat (upto l.becomes (λ h. move_line l.old l.new h (get_or l.weights h 0))))) l.to
-
-abbrev pub decreases-loop-becomes : goal.decreases-loop-becomes
-decreases-loop-becomes l = length l.weights - l.becomes
+invariant-loop-becomes l = Puts l.initial.room l.room l.at (moves_text (tells l.shared) (flat (upto l.becomes (λ h. move_line l.old l.new h (get_or l.weights h 0))))) l.to

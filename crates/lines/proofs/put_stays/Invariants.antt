@@ -5,11 +5,8 @@ use Rattle.phrases.specs.Puts.{Puts}
 use Rattle.meaning.specs.Sums.{upto, flat}
 use Rattle.meaning.specs.Panel.{stay_line}
 use lib.ListN.{get_or}
-use Prim.Native.Nat.{◌≤◌, ◌-◌, ◌+◌}
+use Prim.Native.Nat.{◌+◌}
 use Rattle.lines.proofs.put_stays.Given as goal
 
 abbrev pub invariant-loop-becomes : goal.invariant-loop-becomes
-invariant-loop-becomes l = (l.becomes ≤ l.values) × Puts l.initial.room l.room l.at (stays_text (tells l.shared) (flat (upto l.becomes (λ h. stay_line h (get_or l.weights (l.from + h) 0))))) l.to
-
-abbrev pub decreases-loop-becomes : goal.decreases-loop-becomes
-decreases-loop-becomes l = l.values - l.becomes
+invariant-loop-becomes l = Puts l.initial.room l.room l.at (stays_text (tells l.shared) (flat (upto l.becomes (λ h. stay_line h (get_or l.weights (l.from + h) 0))))) l.to

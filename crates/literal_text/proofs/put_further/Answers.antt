@@ -10,22 +10,22 @@ use Rattle.literal_text.proofs.put_further.Goals as goal
 pub returns-then-relation-eq-IS : goal.returns-then-relation-eq-IS
 returns-then-relation-eq-IS c =
     let a = c.args in
-    puts_as _ (further_is a.sign a.relation a.state a.seat c.if-state-lt10.true (decimal_one a.seat c.if-seat-lt10.true) c.joint_of-joint.ensures c.if-relation-eq-IS.true) (put_first c.put_seven.ensures)
+    puts_as _ (further_is a.sign a.relation a.state a.seat c.if-state-lt10.true (decimal_one a.seat c.if-seat-lt10.true) c.joint_of-joint.ensures c.if-relation-eq-IS.true) (put_first c.put_filled.ensures)
 
 pub returns-then-seat-lt10 : goal.returns-then-seat-lt10
 returns-then-seat-lt10 c =
     let a = c.args in
-    puts_as _ (further_isnt a.sign a.relation a.state a.seat c.if-state-lt10.true (decimal_one a.seat c.if-seat-lt10.true) c.joint_of-joint.ensures c.if-relation-eq-IS.false) (put_first c.put_joined_four.ensures)
+    puts_as _ (further_isnt a.sign a.relation a.state a.seat c.if-state-lt10.true (decimal_one a.seat c.if-seat-lt10.true) c.joint_of-joint.ensures c.if-relation-eq-IS.false) (put_first c.put_filled-then-seat-lt10.ensures)
 
 pub returns-then-relation-eq-IS-2 : goal.returns-then-relation-eq-IS-2
 returns-then-relation-eq-IS-2 c =
     let a = c.args in
-    puts_as _ (further_is a.sign a.relation a.state a.seat c.if-state-lt10.true (decimal_teen a.seat c.if-seat-lt10.false c.if-seat-lt20.true) c.joint_of-joint.ensures c.if-relation-eq-IS-2.true) (put_first c.put_joined_four-then-relation-eq-IS-2.ensures)
+    puts_as _ (further_is a.sign a.relation a.state a.seat c.if-state-lt10.true (decimal_teen a.seat c.if-seat-lt10.false c.if-seat-lt20.true) c.joint_of-joint.ensures c.if-relation-eq-IS-2.true) (put_first c.put_filled-then-relation-eq-IS-2.ensures)
 
 pub returns-then-seat-lt20 : goal.returns-then-seat-lt20
 returns-then-seat-lt20 c =
     let a = c.args in
-    puts_as _ (further_isnt a.sign a.relation a.state a.seat c.if-state-lt10.true (decimal_teen a.seat c.if-seat-lt10.false c.if-seat-lt20.true) c.joint_of-joint.ensures c.if-relation-eq-IS-2.false) (put_first c.put_joined_five.ensures)
+    puts_as _ (further_isnt a.sign a.relation a.state a.seat c.if-state-lt10.true (decimal_teen a.seat c.if-seat-lt10.false c.if-seat-lt20.true) c.joint_of-joint.ensures c.if-relation-eq-IS-2.false) (put_first c.put_filled-then-seat-lt20.ensures)
 
 pub returns : goal.returns
 returns c =

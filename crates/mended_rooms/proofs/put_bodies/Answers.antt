@@ -1,7 +1,9 @@
 -- `mended_rooms::put_bodies` meets its contract: each turn leaves one body less to be put. Assumes nothing.
+use Prim.Native.Nat.{◌+◌, ◌*◌}
+use mathlib.Core.Path.{◌≡◌}
 use borrow.Author.Rules.{rules}
 use native.Mathlib.Omega.{arith}
-use Rattle.mended_rooms.proofs.Putting.{in_contents, bodies_start, bodies_end, bodies_next, body_inside}
+use Rattle.mended_rooms.proofs.Putting.{bodies_start, bodies_end, inside_entry, bodies_on_entry}
 use Rattle.mended_rooms.proofs.put_bodies.Goals as goal
 
 pub loop-i-init : goal.loop-i-init
@@ -9,24 +11,12 @@ loop-i-init c =
     bodies_start c.args.deck.now c.args.fates.now c.requires.each (search rules) c.place-to.ensures c.requires.bodies_inside
 
 pub put_kept_body-to-requires : goal.put_kept_body-to-requires
-put_kept_body-to-requires c =
-    record { entry_bytes_in_bounds = in_contents _ _ c.requires.each c.loop-i.invariant.place c.loop-i-test.true; deck_in_bounds = body_inside _ _ c.requires.each c.loop-i.invariant c.loop-i-test.true }
-
-pub overflow_add-from : goal.overflow_add-from
-overflow_add-from c =
-    omega (arith, c.loop-i.invariant.place.at, c.loop-i-test.true, c.requires.each.head.few, c.requires.each.long)
-
-pub overflow_add-i : goal.overflow_add-i
-overflow_add-i c =
-    omega (arith, c.loop-i-test.true, c.requires.each.head.few, c.requires.each.long)
+put_kept_body-to-requires c = inside_entry _ _ c.requires.each c.loop-i.invariant c.loop-i-test.true c.at-entry.ensures
 
 pub loop-i-preserved : goal.loop-i-preserved
 loop-i-preserved c =
-    bodies_next _ _ c.requires.each c.loop-i.invariant c.loop-i-test.true c.put_kept_body-to.ensures
-
-pub shape_of-room : goal.shape_of-room
-shape_of-room c = c.loop-i.invariant.still.long
+    let far : 1 + 8 * (c.loop-i.i + 1) ≡ 1 + 8 * c.loop-i.i + 8 = omega arith in
+    rw far (bodies_on_entry _ _ c.requires.each c.loop-i.invariant c.loop-i-test.true c.at-entry.ensures c.put_kept_body-to.ensures)
 
 pub returns : goal.returns
-returns c =
-    bodies_end _ _ c.requires.each c.loop-i.invariant c.loop-i-test.false
+returns c = bodies_end _ _ c.requires.each c.loop-i.invariant c.loop-i-test.false

@@ -28,7 +28,7 @@ deck-first c = c.if-room-need.true
 
 pub returns-then-cards-eq0 : goal.returns-then-cards-eq0
 returns-then-cards-eq0 c =
-    nothing_kept c.requires.fates c.if-cards-eq0.true
+    rw c.malformed.ensures (nothing_kept c.requires.fates c.if-cards-eq0.true)
 
 pub overflow_mul-need : goal.overflow_mul-need
 overflow_mul-need c =

@@ -6,20 +6,14 @@ use Rattle.mode_and_range.proofs.mode.Goals as goal
 pub returns-then-mark-eq-NONDETERMINISTIC : goal.returns-then-mark-eq-NONDETERMINISTIC
 returns-then-mark-eq-NONDETERMINISTIC c =
     let a = c.args in
-    mode_first (next_at a.card.now a.at c.step-step.result c.step-step.ensures) c.if-mark-eq-NONDETERMINISTIC.true a.state.now c.requires
+    mode_first (next_at a.card.now a.at c.step-step.result c.step-step.ensures) c.if-mark-eq-NONDETERMINISTIC.true a.state.now
 
 pub returns-then-mark-eq-PROBABILISTIC : goal.returns-then-mark-eq-PROBABILISTIC
 returns-then-mark-eq-PROBABILISTIC c =
     let a = c.args in
     mode_second (next_at a.card.now a.at c.step-step.result c.step-step.ensures) c.if-mark-eq-NONDETERMINISTIC.false c.if-mark-eq-PROBABILISTIC.true a.state.now
-    c.requires
-
-pub stop-requires : goal.stop-requires
-stop-requires c =
-    c.requires
 
 pub returns : goal.returns
 returns c =
     let a = c.args in
-    mode_neither (next_at a.card.now a.at c.step-step.result c.step-step.ensures) c.if-mark-eq-NONDETERMINISTIC.false c.if-mark-eq-PROBABILISTIC.false
-    c.stop.ensures.halted
+    mode_neither (next_at a.card.now a.at c.step-step.result c.step-step.ensures) c.if-mark-eq-NONDETERMINISTIC.false c.if-mark-eq-PROBABILISTIC.false _

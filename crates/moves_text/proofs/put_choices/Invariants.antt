@@ -3,11 +3,7 @@ use Rattle.phrases.specs.Puts.{Puts}
 use Rattle.panel_wording.specs.PanelText.{blocks_text}
 use Rattle.panel_wording.specs.PanelIn.{tells, choices_in}
 use Rattle.meaning.specs.Sums.{or_one}
-use Prim.Native.Nat.{◌≤◌, ◌-◌}
 use Rattle.moves_text.proofs.put_choices.Given as goal
 
 abbrev pub invariant-loop-i : goal.invariant-loop-i
-invariant-loop-i l = (l.i ≤ l.count) × Puts l.initial.room l.room l.at (blocks_text (tells l.head.shared) (choices_in l.head.top (or_one l.head.shared) l.table l.rows l.branches l.i)) l.to
-
-abbrev pub decreases-loop-i : goal.decreases-loop-i
-decreases-loop-i l = l.count - l.i
+invariant-loop-i l = Puts l.initial.room l.room l.at (blocks_text (tells l.head.shared) (choices_in l.head.top (or_one l.head.shared) l.table l.rows l.branches l.i)) l.to

@@ -4,11 +4,7 @@ use Rattle.panel_wording.specs.PanelText.{moves_text}
 use Rattle.panel_wording.specs.PanelIn.{tells}
 use Rattle.moves_text.proofs.Blocks.{from_state}
 use Rattle.meaning.specs.Sums.{upto, flat}
-use Prim.Native.Nat.{suc, ◌≤◌, ◌-◌}
 use Rattle.moves_text.proofs.put_table.Given as goal
 
 abbrev pub invariant-loop-old : goal.invariant-loop-old
-invariant-loop-old l = (l.old ≤ suc l.top) × Puts l.initial.room l.room l.at (moves_text (tells l.head.shared) (flat (upto l.old (from_state l.head l.table l.rows l.branches)))) l.to
-
-abbrev pub decreases-loop-old : goal.decreases-loop-old
-decreases-loop-old l = suc l.top - l.old
+invariant-loop-old l = Puts l.initial.room l.room l.at (moves_text (tells l.head.shared) (flat (upto l.old (from_state l.head l.table l.rows l.branches)))) l.to

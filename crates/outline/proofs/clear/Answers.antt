@@ -1,14 +1,19 @@
--- `outline::clear` meets its contract: after i turns the first i places are 0. Assumes nothing.
-use mathlib.Core.Path.{refl}
+-- `outline::clear` meets its contract: each array is zeros. Assumes nothing.
+use mathlib.Core.Path.{◌≡◌, sym, ap, ◌∙◌}
 use borrow.Author.Rules.{rules}
-use Rattle.outline.proofs.Cleared.{cleared_none, cleared_next, cleared_all}
+use lib.ListN.{length}
+use Rattle.card.specs.Limits.{row_places, node_places, branch_places}
+use Rattle.card.specs.Laid.{zeros}
+use Rattle.card.specs.Lent.{lent}
+use Rattle.card.proofs.Filling.{zeros_repeat}
 use Rattle.outline.proofs.clear.Goals as goal
 
-pub loop-i-init : goal.loop-i-init
-loop-i-init c = (search rules, refl, cleared_none _)
-
-pub loop-i-preserved : goal.loop-i-preserved
-loop-i-preserved c = (search rules, search rules, cleared_next _ _ (search rules) c.loop-i.invariant.2)
-
 pub returns : goal.returns
-returns c = cleared_all _ _ (search rules) c.loop-i.invariant.2
+returns c =
+    let a : length c.args.rows.now ≡ row_places = search rules in
+    let b : length c.args.nodes.now ≡ node_places = search rules in
+    let d : length c.args.branches.now ≡ branch_places = search rules in
+    let rows = c.fill.ensures.after (λ y e. e) ∙ sym (zeros_repeat (length c.args.rows.now)) ∙ ap zeros a in
+    let nodes = c.fill-2.ensures.after (λ y e. e) ∙ sym (zeros_repeat (length c.args.nodes.now)) ∙ ap zeros b in
+    let branches = c.fill-3.ensures.after (λ y e. e) ∙ sym (zeros_repeat (length c.args.branches.now)) ∙ ap zeros d in
+    λ q. lent (rows q) (nodes q) (branches q)

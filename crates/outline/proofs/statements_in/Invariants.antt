@@ -1,11 +1,6 @@
 -- Invariant: the first statements are those of the rows (Made, proofs/Structs.antt). Assumes nothing.
-use Prim.Native.Nat.{◌-◌}
-use Rattle.card.specs.Limits.{most_statements}
 use Rattle.outline.proofs.Structs.{Made}
 use Rattle.outline.proofs.statements_in.Given as goal
 
 abbrev pub invariant-loop-i : goal.invariant-loop-i
 invariant-loop-i l = Made l.rows l.statements l.i
-
-abbrev pub decreases-loop-i : goal.decreases-loop-i
-decreases-loop-i l = most_statements - l.i

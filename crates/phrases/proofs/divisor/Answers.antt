@@ -1,15 +1,10 @@
 -- `phrases::divisor` meets its contract: a round of the division keeps the greatest common divisor, and the second number falls. Assumes nothing.
 use Rattle.phrases.proofs.Lowest.{round, round_last, divisor_rounds, divisor_positive}
 use mathlib.Core.Path.{sym, ◌∙◌}
-use native.Mathlib.Omega.{arith}
-use native.Mathlib.Nat.{mod-lt}
 use Rattle.phrases.proofs.divisor.Goals as goal
 
 pub loop-b-init : goal.loop-b-init
 loop-b-init c = divisor_rounds _ c.requires
-
-pub loop-b-smaller : goal.loop-b-smaller
-loop-b-smaller c = omega (arith, mod-lt c.loop-b.a {m = c.loop-b.b} (omega arith))
 
 pub loop-b-preserved : goal.loop-b-preserved
 loop-b-preserved c = c.loop-b.invariant ∙ round _ _ c.loop-b-test.true

@@ -2,8 +2,5 @@
 use Rattle.placing.proofs.Seeking.{Seeking}
 use Rattle.placing.proofs.live_place.Given as goal
 
-abbrev pub invariant-loop-left : goal.invariant-loop-left
-invariant-loop-left l = Seeking l.deck l.number l.left l.at
-
-abbrev pub decreases-loop-left : goal.decreases-loop-left
-decreases-loop-left l = l.left
+abbrev pub invariant-loop-i : goal.invariant-loop-i
+invariant-loop-i l = Seeking l.deck l.number l.i

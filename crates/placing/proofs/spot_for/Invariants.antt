@@ -2,8 +2,5 @@
 use Rattle.placing.proofs.Spotting.{Spotting}
 use Rattle.placing.proofs.spot_for.Given as goal
 
-abbrev pub invariant-loop-left : goal.invariant-loop-left
-invariant-loop-left l = Spotting l.deck l.count l.number l.left l.row l.body
-
-abbrev pub decreases-loop-left : goal.decreases-loop-left
-decreases-loop-left l = l.left
+abbrev pub invariant-loop-i : goal.invariant-loop-i
+invariant-loop-i l = Spotting l.deck l.count l.number l.i l.body

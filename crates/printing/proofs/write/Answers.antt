@@ -2,22 +2,23 @@
 -- nothing.
 use Rattle.texts_said.specs.WriteSaid.{write_said, write_card}
 use Rattle.outline.proofs.ReadInto.{arrays_none, refused_said, taken_holds, taken_said}
+use Rattle.std.proofs.lemmas.Result.{err_from_is_err_and}
 use Rattle.room.proofs.Entries.{entered_refused}
 use Rattle.printing.proofs.write.Goals as goal
 
-pub read_into-outline-requires : goal.read_into-outline-requires
-read_into-outline-requires c = arrays_none
+pub read_into-requires : goal.read_into-requires
+read_into-requires c = arrays_none
 
-pub returns-in-Refused : goal.returns-in-Refused
+pub returns-in_err-head : goal.returns-in_err-head
 unfolding write_said
-returns-in-Refused c =
-    entered_refused (refused_said _ c.read_into-outline.ensures write_card c.in-Refused.is)
+returns-in_err-head c =
+    let (z, number, place) = err_from_is_err_and c.from_residual.result c.from_residual.ensures.1 in
+    rw (number, place) (entered_refused (refused_said _ c.read_into.ensures write_card c.in_err-head.was))
 
 pub write_card-requires : goal.write_card-requires
-write_card-requires c =
-    taken_holds _ c.read_into-outline.ensures c.in_default.is
+write_card-requires c = taken_holds _ c.read_into.ensures c.in_ok-head.was
 
 pub returns : goal.returns
 unfolding write_said
 returns c =
-    rw (taken_said _ c.read_into-outline.ensures write_card c.in_default.is) at c.write_card.ensures
+    rw (taken_said _ c.read_into.ensures write_card c.in_ok-head.was) at c.write_card.ensures

@@ -7,7 +7,7 @@ pub returns : goal.returns
 returns c =
     let line =
     puts_then (put_first c.put_bytes-a.ensures)
-    (puts_then (put_first (rw c.wide.ensures at c.put_number-b.ensures))
+    (puts_then (put_first (rw c.from.ensures at c.put_number-b.ensures))
     (puts_then (put_first c.put_byte-c.ensures)
     (puts_then (put_first c.put_number-d.ensures) (put_first c.put_byte.ensures)))) in
     record { line = line.put; short = refusal_short c.ranges.number.fits c.ranges.place.fits line.put }

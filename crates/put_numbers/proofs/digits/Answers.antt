@@ -1,6 +1,7 @@
--- `put_numbers::digits` meets its contract: a number below a power of ten has so many digits. Assumes nothing.
+-- `put_numbers::digits` meets its contract: a number between two powers of ten has so many digits. Assumes nothing.
 use mathlib.Core.Path.{sym}
 use borrow.Author.Rules.{rules}
+use native.Mathlib.Omega.{arith}
 use Rattle.room.proofs.Decimal.{length_one, decimal_size}
 use Rattle.put_numbers.proofs.digits.Goals as goal
 
@@ -21,3 +22,8 @@ returns-then-n-lt100000 c = sym (decimal_size 4 c.args.n (search rules) (search 
 
 pub returns-then-n-lt1000000 : goal.returns-then-n-lt1000000
 returns-then-n-lt1000000 c = sym (decimal_size 5 c.args.n (search rules) (search rules))
+
+pub returns-else-n-lt1000000 : goal.returns-else-n-lt1000000
+returns-else-n-lt1000000 c =
+    let p = c.ilog10.ensures in
+    omega (arith, decimal_size c.ilog10.result c.args.n p.power_le (omega (arith, p.next_power_gt)))

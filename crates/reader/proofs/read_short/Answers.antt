@@ -1,61 +1,40 @@
 -- A way out for each part of a card, in the order of the parts (proofs/CardLaws.antt). Assumes nothing.
-use mathlib.Core.Path.{refl}
-use Rattle.reader.proofs.CardLaws.{header_stops, statements_stop, modules_stop, late_small, judged_read, searched_number, reads_searched}
+use mathlib.Core.Path.{◌≡◌, refl, ap, subst}
+use Rattle.std.specs.Prelude.{Ok, Err}
+use Rattle.late.specs.Late.{Late, none_yet}
+use Rattle.late.specs.State.{late_in, after}
+use Rattle.frame.specs.Frame.{HeaderFrom}
+use Rattle.reader.proofs.CardLaws.{header_stops, statements_stop, modules_stop, judged_read, reads_searched}
 use Rattle.reader.proofs.read_short.Goals as goal
 
-pub header-begun-requires : goal.header-begun-requires
-header-begun-requires c = refl
+pub returns-in-Err : goal.returns-in-Err
+returns-in-Err c =
+    let late : late_in c.first_state-state.result ≡ none_yet = ap late_in c.first_state-state.ensures in
+    let header = subst (λ (l : Late). HeaderFrom c.args.card.now 0 l (after c.header.new.state (Err c.in-Err.stop))) late c.in-Err.ensures in
+    reads_searched (header_stops c.args.decimals c.args.card.now c.requires.card_len_bound c.header.new.state c.in-Err.stop header) c.search.ensures refl c.requires.branches_value
 
-pub refused-requires : goal.refused-requires
-refused-requires c =
-    let a = c.args in
-    searched_number (header_stops a.decimals _ c.requires.card_len_bound _ c.header-begun.ensures c.if-begun-eq0.true) c.search.ensures
+pub statements-requires : goal.statements-requires
+statements-requires c = record { values_le_most_shared = c.in-Ok.ensures.within }
 
-pub returns-then-begun-eq0 : goal.returns-then-begun-eq0
-returns-then-begun-eq0 c =
-    reads_searched (header_stops _ _ c.requires.card_len_bound _ c.header-begun.ensures c.if-begun-eq0.true) c.search.ensures
-    c.refused.ensures c.requires.branches_value
-
-pub statements-list-requires : goal.statements-list-requires
-statements-list-requires c =
-    record { sized = c.header-begun.ensures.sized; values_le_most_shared = c.header-begun.ensures.within c.if-begun-eq0.false }
-
-pub stopped-requires : goal.stopped-requires
-stopped-requires c =
-    let a = c.args in
-    searched_number
-    (statements_stop a.decimals _ c.requires.card_len_bound _ c.header-begun.ensures c.if-begun-eq0.false _ _ _ c.statements-list.ensures c.if-list-eq0.true)
-    refl
-
-pub returns-then-list-eq0 : goal.returns-then-list-eq0
-returns-then-list-eq0 c =
+pub returns-in-Err-all_statements : goal.returns-in-Err-all_statements
+returns-in-Err-all_statements c =
+    let late : late_in c.first_state-state.result ≡ none_yet = ap late_in c.first_state-state.ensures in
+    let header = subst (λ (l : Late). HeaderFrom c.args.card.now 0 l (after c.header.new.state (Ok c.in-Ok.next))) late c.in-Ok.ensures in
     reads_searched
-    (statements_stop _ _ c.requires.card_len_bound _ c.header-begun.ensures c.if-begun-eq0.false _ _ _ c.statements-list.ensures c.if-list-eq0.true)
-    refl c.stopped.ensures.outline c.stopped.ensures.memory
+    (statements_stop c.args.decimals c.args.card.now c.requires.card_len_bound c.header.new.state header _ _ c.statements.new.state c.in-Err-all_statements.stop c.in-Err-all_statements.ensures)
+    c.stopped.ensures.refusal refl c.stopped.ensures.memory
 
-pub modules-tail-requires : goal.modules-tail-requires
-modules-tail-requires c =
-    record { sized = c.statements-list.ensures.sized; fact = c.if-list-eq0.false }
-
-pub stopped-requires-then-tail-eq0 : goal.stopped-requires-then-tail-eq0
-stopped-requires-then-tail-eq0 c =
-    let a = c.args in
-    searched_number
-    (modules_stop a.decimals _ c.requires.card_len_bound _ c.header-begun.ensures c.if-begun-eq0.false _ _ _ c.statements-list.ensures c.if-list-eq0.false _ c.modules-tail.ensures c.if-tail-eq0.true)
-    refl
-
-pub returns-then-tail-eq0 : goal.returns-then-tail-eq0
-returns-then-tail-eq0 c =
+pub returns-in-Err-further_modules : goal.returns-in-Err-further_modules
+returns-in-Err-further_modules c =
+    let late : late_in c.first_state-state.result ≡ none_yet = ap late_in c.first_state-state.ensures in
+    let header = subst (λ (l : Late). HeaderFrom c.args.card.now 0 l (after c.header.new.state (Ok c.in-Ok.next))) late c.in-Ok.ensures in
     reads_searched
-    (modules_stop _ _ c.requires.card_len_bound _ c.header-begun.ensures c.if-begun-eq0.false _ _ _ c.statements-list.ensures c.if-list-eq0.false _ c.modules-tail.ensures c.if-tail-eq0.true)
-    refl c.stopped-then-tail-eq0.ensures.outline c.stopped-then-tail-eq0.ensures.memory
-
-pub judged-requires : goal.judged-requires
-judged-requires c =
-    let a = c.args in
-    record { sized = c.modules-tail.ensures.sized; state_bound = late_small a.decimals _ c.requires.card_len_bound _ c.header-begun.ensures c.if-begun-eq0.false _ _ _ c.statements-list.ensures c.if-list-eq0.false _ c.modules-tail.ensures c.if-tail-eq0.false }
+    (modules_stop c.args.decimals c.args.card.now c.requires.card_len_bound c.header.new.state header _ _ c.statements.new.state c.in-Ok-all_statements.ensures c.modules.new.state c.in-Err-further_modules.stop c.in-Err-further_modules.ensures)
+    c.stopped-in-Err-further_modules.ensures.refusal refl c.stopped-in-Err-further_modules.ensures.memory
 
 pub returns : goal.returns
 returns c =
-    judged_read _ _ c.requires.card_len_bound _ c.header-begun.ensures c.if-begun-eq0.false _ _ _ c.statements-list.ensures c.if-list-eq0.false
-    _ c.modules-tail.ensures c.if-tail-eq0.false c.requires.branches_value c.judged.ensures
+    let late : late_in c.first_state-state.result ≡ none_yet = ap late_in c.first_state-state.ensures in
+    let header = subst (λ (l : Late). HeaderFrom c.args.card.now 0 l (after c.header.new.state (Ok c.in-Ok.next))) late c.in-Ok.ensures in
+    judged_read c.args.decimals c.args.card.now c.requires.card_len_bound c.header.new.state header _ _ c.statements.new.state c.in-Ok-all_statements.ensures c.modules.new.state c.in_default.ensures
+    c.requires.branches_value c.judged.ensures

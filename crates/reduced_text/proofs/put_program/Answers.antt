@@ -1,16 +1,13 @@
 -- `reduced_text::put_program` meets its contract: the parts of the program, one after the other. Assumes nothing.
 use Rattle.reduced_text.proofs.Laws.{program_text_law}
 use Rattle.phrases.proofs.Laws.{put_first, puts_then}
-use Rattle.card.proofs.HeldIn.{holds_top}
+use Rattle.card.proofs.HeldIn.{holds_seats, holds_top}
+use native.Mathlib.Omega.{arith}
 use Rattle.card.specs.Lent.{lent, card_in}
 use Rattle.reduced_text.proofs.put_program.Goals as goal
 
 pub put_head-a-requires : goal.put_head-a-requires
-put_head-a-requires c = holds_top c.requires
-
-pub put_statements-b-requires : goal.put_statements-b-requires
-put_statements-b-requires c =
-    c.requires
+put_head-a-requires c = (holds_top c.requires, omega (arith, holds_seats c.requires))
 
 pub returns : goal.returns
 returns c =

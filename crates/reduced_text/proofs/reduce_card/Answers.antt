@@ -9,15 +9,9 @@ use lib.Seq.{length-take-le}
 use borrow.Author.Rules.{rules}
 use Rattle.reduced_text.proofs.reduce_card.Goals as goal
 
-pub put_program-requires : goal.put_program-requires
-put_program-requires c = c.requires
-
 pub returns-then-room-ge-REDUCED_ROOM : goal.returns-then-room-ge-REDUCED_ROOM
 returns-then-room-ge-REDUCED_ROOM c =
     entered_whole refl (omega (arith, held_most c.requires, c.if-room-ge-REDUCED_ROOM.true)) c.put_program.ensures
-
-pub put_program-need-requires : goal.put_program-need-requires
-put_program-need-requires c = c.requires
 
 pub returns-then-room-need : goal.returns-then-room-need
 returns-then-room-need c =
@@ -38,10 +32,6 @@ returns-then-need-le-DRAFT_PLACES c =
 pub slice_bounds-put_program-end-5 : goal.slice_bounds-put_program-end-5
 slice_bounds-put_program-end-5 c =
     sym (length-take-le _ c.args.room.now (search rules))
-
-pub put_program-requires-2 : goal.put_program-requires-2
-put_program-requires-2 c =
-    c.requires
 
 pub returns : goal.returns
 returns c =

@@ -1,25 +1,17 @@
--- `room::put_run` meets its contract: one byte more of the text after each turn, as far as the room has places. Assumes nothing.
--- Any bytes: after i turns the first i bytes are stored, and those that the room has no place for would change nothing. Assumes
--- nothing.
-use mathlib.Core.Path.{refl, sym}
+-- `room::put_run` meets its contract: after i turns the first i bytes are stored, and those that the room has no place for would change
+-- nothing. Assumes nothing.
+use mathlib.Core.Path.{sym}
 use borrow.Author.Rules.{rules}
 use Rattle.room.proofs.Laws.{clip_none}
 use Rattle.room.proofs.Stores.{clip_more, put_part}
 use Rattle.room.proofs.put_run.Goals as goal
 
 pub loop-i-init : goal.loop-i-init
-loop-i-init c = (search rules, refl, sym (clip_none _ _))
+loop-i-init c = sym (clip_none _ _)
 
 pub loop-i-preserved : goal.loop-i-preserved
 loop-i-preserved c =
-    let start = c.args in
-    let turn = c.loop-i in
-    (search rules, search rules, clip_more start.room.now start.at start.s.now turn.i (search rules) turn.invariant.2)
-
-pub shape_of-room : goal.shape_of-room
-shape_of-room c = c.loop-i.invariant.1
+    clip_more c.args.room.now c.args.at c.args.s.now c.loop-i.i (search rules) c.loop-i.invariant
 
 pub returns : goal.returns
-returns c =
-    let end = c.loop-i in
-    put_part end.i (search rules) (search rules) end.invariant.2 (search rules)
+returns c = put_part c.loop-i.i (search rules) (search rules) c.loop-i.invariant (search rules)

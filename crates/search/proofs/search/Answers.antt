@@ -11,13 +11,13 @@ loop-next-init c = refl
 pub returns-then-mark-eq-END : goal.returns-then-mark-eq-END
 returns-then-mark-eq-END c =
     let a = c.args in
-    sym (ap (searched a.stop a.place) (c.loop-next.invariant ∙ search_end a.card.now c.loop-next.next c.step-step.result
+    sym (ap (searched a.stop.number a.stop.place) (c.loop-next.invariant ∙ search_end a.card.now c.loop-next.next c.step-step.result
     (next_at a.card.now c.loop-next.next c.step-step.result c.step-step.ensures) c.if-mark-eq-END.true))
 
 pub returns-then-mark-eq-OUTSIDE : goal.returns-then-mark-eq-OUTSIDE
 returns-then-mark-eq-OUTSIDE c =
     let a = c.args in
-    sym (ap (searched a.stop a.place) (c.loop-next.invariant ∙ search_found a.card.now c.loop-next.next c.step-step.result
+    sym (ap (searched a.stop.number a.stop.place) (c.loop-next.invariant ∙ search_found a.card.now c.loop-next.next c.step-step.result
     (next_at a.card.now c.loop-next.next c.step-step.result c.step-step.ensures) c.if-mark-eq-OUTSIDE.true))
 
 pub loop-next-smaller : goal.loop-next-smaller
@@ -35,4 +35,4 @@ loop-next-preserved c =
 pub returns : goal.returns
 returns c =
     let a = c.args in
-    sym (ap (searched a.stop a.place) (c.loop-next.invariant ∙ search_over a.card.now c.loop-next.next c.loop-next-test.false))
+    sym (ap (searched a.stop.number a.stop.place) (c.loop-next.invariant ∙ search_over a.card.now c.loop-next.next c.loop-next-test.false))

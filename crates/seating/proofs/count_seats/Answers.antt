@@ -1,42 +1,33 @@
 -- `seating::count_seats` meets its contract: after i turns the array has the counts of the first i seats. Assumes nothing.
-use Prim.Native.Nat.{◌<◌}
-use mathlib.Core.Path.{◌≡◌, ap, ◌∙◌}
+use mathlib.Core.Path.{ap, ◌∙◌}
 use native.Mathlib.Omega.{arith}
-use borrow.Author.Rules.{rules}
-use lib.ListN.{length, take, length-take}
+use lib.ListN.{take, length-take}
+use Rattle.std.proofs.lemmas.List.{take_all, take_min}
 use Rattle.card.specs.Limits.{top_state}
 use Rattle.meaning.specs.Seats.{counts as counts_of}
-use Rattle.seating.proofs.Counted.{counts_none, counts_most, counts_next, counts_over, counts_all}
+use Rattle.seating.proofs.Counted.{counts_none, counts_most, counts_next, counts_over}
 use Rattle.seating.proofs.count_seats.Goals as goal
 use Rattle.seating.proofs.count_seats.Goals.{then-state-lt-MOST_STATES, else-state-lt-MOST_STATES}
 
-pub loop-i-init : goal.loop-i-init
-loop-i-init c = (search rules, (search rules, counts_none))
-
-pub returns-then-seats-i : goal.returns-then-seats-i
-returns-then-seats-i c =
-    c.loop-i.invariant.1.1 ∙ counts_all top_state _ _ _ c.if-seats-i.true c.loop-i.invariant.0
+pub loop-seat-init : goal.loop-seat-init
+loop-seat-init c = counts_none
 
 pub overflow_add-counts : goal.overflow_add-counts
 overflow_add-counts c =
-    rw c.loop-i.invariant.1.1 (omega (arith, counts_most top_state (take c.loop-i.i c.args.seats.now) c.wide-state.result, length-take c.loop-i.i c.args.seats.now))
+    let counted = take c.min.result c.args.seats.now in
+    rw c.loop-seat.invariant (omega (arith, counts_most top_state (take c.loop-seat.seat-index counted) c.from-state.result, length-take c.loop-seat.seat-index counted, length-take c.min.result c.args.seats.now))
 
-pub loop-i-preserved : goal.loop-i-preserved
-loop-i-preserved c =
-    let here : c.loop-i.i < length c.args.seats.now = omega (arith, c.if-seats-i.false) in
-    let within = counts_next top_state c.args.seats.now c.loop-i.i here in
-    let over = counts_over top_state c.args.seats.now c.loop-i.i here in (
-      search rules,
-      (
-        search rules,
-        elim c.if-state-lt-MOST_STATES.branch [
-          | then-state-lt-MOST_STATES w ↦ w.counts-is ∙ rw (c.loop-i.invariant.1.1, c.wide-state.ensures) (within (omega (arith, w.if-state-lt-MOST_STATES.true, c.wide-state.ensures)))
-          | else-state-lt-MOST_STATES w ↦ w.counts-is ∙ c.loop-i.invariant.1.1 ∙ over (omega (arith, w.if-state-lt-MOST_STATES.false, c.wide-state.ensures))
-        ],
-      ),
-    )
+pub loop-seat-preserved : goal.loop-seat-preserved
+loop-seat-preserved c =
+    let counted = take c.min.result c.args.seats.now in
+    let within = counts_next top_state counted c.loop-seat.seat-index c.loop-seat-test.true in
+    let over = counts_over top_state counted c.loop-seat.seat-index c.loop-seat-test.true in
+    elim c.if-state-lt-MOST_STATES.branch [
+      | then-state-lt-MOST_STATES w ↦ w.counts-is ∙ rw (c.loop-seat.invariant, c.from-state.ensures) (within (omega arith))
+      | else-state-lt-MOST_STATES w ↦ w.counts-is ∙ c.loop-seat.invariant ∙ over (omega arith)
+    ]
 
 pub returns : goal.returns
 returns c =
-    let all : c.loop-i.i ≡ c.args.n = omega (arith, c.loop-i.invariant.0, c.loop-i-test.false) in
-    c.loop-i.invariant.1.1 ∙ ap (λ m. counts_of top_state (take m c.args.seats.now)) all
+    let counted = take c.min.result c.args.seats.now in
+    c.loop-seat.invariant ∙ ap (counts_of top_state) (take_all c.loop-seat.seat-index counted c.loop-seat-test.false ∙ rw c.min.ensures (take_min c.args.n c.args.seats.now))

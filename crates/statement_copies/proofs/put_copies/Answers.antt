@@ -1,21 +1,17 @@
 -- `statement_copies::put_copies` meets its contract: one copy more after each turn. Assumes nothing.
 use Rattle.phrases.proofs.Counted.{counted_start, counted_next, counted_end}
 use Rattle.phrases.proofs.Laws.{put_first, puts_then}
-use Rattle.room.proofs.Laws.{put_length}
 use native.Mathlib.Nat.{sub-zero}
 use borrow.Author.Rules.{rules}
 use Rattle.statement_copies.proofs.put_copies.Goals as goal
 
 pub loop-m-init : goal.loop-m-init
-loop-m-init c = (search rules, counted_start _ 0 (search rules) c.place-to.ensures)
+loop-m-init c = counted_start _ 0 (search rules) c.place-to.ensures
 
 pub loop-m-preserved : goal.loop-m-preserved
 loop-m-preserved c =
-    (search rules, counted_next _ 0 _ (search rules) c.loop-m.invariant.1 (puts_then c.put_first-a.ensures (put_first c.put_run-to.ensures)))
-
-pub shape_of-room : goal.shape_of-room
-shape_of-room c = put_length c.loop-m.invariant.1.put
+    counted_next _ 0 _ (search rules) c.loop-m.invariant (puts_then c.put_first-a.ensures (put_first c.put_run-to.ensures))
 
 pub returns : goal.returns
 returns c =
-    counted_end _ 0 _ c.args.style.copies c.loop-m-test.false (search rules) (λ t. rw sub-zero) c.loop-m.invariant.1
+    counted_end _ 0 _ c.args.style.copies c.loop-m-test.false (search rules) (λ t. rw sub-zero) c.loop-m.invariant

@@ -2,11 +2,8 @@
 use Rattle.statement_text.proofs.Laws.{next_statement}
 use Rattle.phrases.proofs.Counted.{counted}
 use Rattle.phrases.specs.Puts.{Puts}
-use Prim.Native.Nat.{◌≤◌, ◌-◌}
+use Prim.Native.Nat.{◌-◌}
 use Rattle.statement_text.proofs.put_statements.Given as goal
 
 abbrev pub invariant-loop-i : goal.invariant-loop-i
-invariant-loop-i l = (l.i ≤ l.count) × Puts l.initial.room l.room l.at (counted (next_statement l.text l.seats l.copies l.nodes l.branches l.rows) 0 (l.i - 0)) l.to
-
-abbrev pub decreases-loop-i : goal.decreases-loop-i
-decreases-loop-i l = l.count - l.i
+invariant-loop-i l = Puts l.initial.room l.room l.at (counted (next_statement l.form l.seats l.copies l.nodes l.branches l.rows) 0 (l.i - 0)) l.to

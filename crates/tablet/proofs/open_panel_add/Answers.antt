@@ -3,4 +3,4 @@ use Rattle.tablet.proofs.Laws.{deck_told}
 use Rattle.tablet.proofs.open_panel_add.Goals as goal
 
 pub returns : goal.returns
-returns c = deck_told c.add-answer.ensures c.in_numbers.ensures
+returns c = deck_told c.add.ensures c.from.ensures

@@ -4,4 +4,4 @@ use Rattle.answers.specs.Numbered.{verdict_numbers}
 use Rattle.tablet.proofs.open_panel_box_judge.Goals as goal
 
 pub returns : goal.returns
-returns c = c.verdict_in_numbers.ensures ∙ ap verdict_numbers c.judge_deck-verdict.ensures
+returns c = c.from.ensures ∙ ap verdict_numbers c.judge_deck.ensures

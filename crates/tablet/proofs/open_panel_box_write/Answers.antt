@@ -3,4 +3,4 @@ use Rattle.tablet.proofs.Laws.{told}
 use Rattle.tablet.proofs.open_panel_box_write.Goals as goal
 
 pub returns : goal.returns
-returns c = told c.write_deck-answer.ensures c.in_numbers.ensures
+returns c = told c.write_deck.ensures c.from.ensures

@@ -9,4 +9,4 @@ pub returns : goal.returns
 returns c =
     let a = c.args in
     odds_told (λ (x : Aim). odds_said a.card.now a.question.now a.seats.now a.m x (length a.first.now) (length a.second.now))
-    c.is_largest-is_largest.ensures c.odds-answer.ensures c.in_numbers.ensures
+    c.is_largest-is_largest.ensures c.odds.ensures c.from.ensures

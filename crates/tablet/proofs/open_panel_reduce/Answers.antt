@@ -3,4 +3,4 @@ use Rattle.tablet.proofs.Laws.{told}
 use Rattle.tablet.proofs.open_panel_reduce.Goals as goal
 
 pub returns : goal.returns
-returns c = told c.reduce-answer.ensures c.in_numbers.ensures
+returns c = told c.reduce.ensures c.from.ensures

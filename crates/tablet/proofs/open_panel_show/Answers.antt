@@ -3,4 +3,4 @@ use Rattle.tablet.proofs.Laws.{told}
 use Rattle.tablet.proofs.open_panel_show.Goals as goal
 
 pub returns : goal.returns
-returns c = told c.panel-answer.ensures c.in_numbers.ensures
+returns c = told c.panel.ensures c.from.ensures

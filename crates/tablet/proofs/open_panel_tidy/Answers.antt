@@ -3,4 +3,4 @@ use Rattle.tablet.proofs.Laws.{deck_told}
 use Rattle.tablet.proofs.open_panel_tidy.Goals as goal
 
 pub returns : goal.returns
-returns c = deck_told c.tidy-answer.ensures c.in_numbers.ensures
+returns c = deck_told c.tidy.ensures c.from.ensures

@@ -1,52 +1,51 @@
 -- `tidy::tidy` meets its contract: the deck is judged, then its live cards, then it is closed up. Assumes nothing.
 use Rattle.tidy.proofs.Entering.{changed_refused, changed_done, verdict_sound, live_malformed, measured_live, live_none, live_some, tidy_refused}
 use Rattle.tidy.proofs.Closing.{few, few_cards, inside, text_long}
+use Rattle.tidy.specs.Tidies.{Measured}
 use Rattle.tidying.proofs.NewDecks.{tidy_says}
-use mathlib.Core.Path.{refl, sym, ◌∙◌}
+use Rattle.std.proofs.lemmas.Result.{err_from_is_err_and}
+use mathlib.Core.Path.{refl, sym}
 use native.Mathlib.Omega.{arith}
+use Rattle.tidy.proofs.tidy.Goals.{After-measure_live-live}
 use Rattle.tidy.proofs.tidy.Goals as goal
 
-pub returns-in-Refused : goal.returns-in-Refused
-returns-in-Refused c =
-    let deck = c.args.deck.now in
-    changed_refused (tidy_refused deck (live_malformed deck (sym c.judge_deck-judged.ensures ∙ c.in-Refused.is)))
+known : (c : After-measure_live-live) → Measured c.args.deck.now c.measure_live-live.result
+known c = measured_live c.args.deck.now (verdict_sound c.args.deck.now (sym c.in_ok-judge_deck.ensures)) c.measure_live-live.ensures
+
+pub returns-in_err-judge_deck : goal.returns-in_err-judge_deck
+returns-in_err-judge_deck c =
+    let p = err_from_is_err_and c.from_residual.result c.from_residual.ensures.1 in
+    rw (p.1, p.2) (changed_refused (tidy_refused c.args.deck.now (live_malformed c.args.deck.now (sym c.in_err-judge_deck.ensures))))
 
 pub measure_live-live-requires : goal.measure_live-live-requires
-measure_live-live-requires c =
-    (verdict_sound c.args.deck.now (sym c.judge_deck-judged.ensures ∙ c.in_default.is)).head
+measure_live-live-requires c = (verdict_sound c.args.deck.now (sym c.in_ok-judge_deck.ensures)).head
 
-pub returns-then-cards-eq0 : goal.returns-then-cards-eq0
-returns-then-cards-eq0 c =
+pub returns-then-live-eq0 : goal.returns-then-live-eq0
+returns-then-live-eq0 c =
     let deck = c.args.deck.now in
-    let s = verdict_sound deck (sym c.judge_deck-judged.ensures ∙ c.in_default.is) in
-    changed_refused (tidy_refused deck (live_none deck s c.measure_live-live.ensures c.if-cards-eq0.true))
+    let m = known (goal.at.returns-then-live-eq0 c).After-measure_live-live in
+    changed_refused (tidy_refused deck (live_none deck m.sound m.live c.if-live-eq0.true))
 
 pub close_up-requires : goal.close_up-requires
-close_up-requires c =
-    let deck = c.args.deck.now in
-    measured_live deck (verdict_sound deck (sym c.judge_deck-judged.ensures ∙ c.in_default.is)) c.measure_live-live.ensures
+close_up-requires c = known (goal.at.close_up-requires c).After-measure_live-live
 
 pub overflow_mul-result : goal.overflow_mul-result
 overflow_mul-result c =
-    let deck = c.args.deck.now in
-    let m = measured_live deck (verdict_sound deck (sym c.judge_deck-judged.ensures ∙ c.in_default.is)) c.measure_live-live.ensures in
-    omega (arith, few deck m refl, few_cards deck m refl)
+    let m = known (goal.at.overflow_mul-result c).After-measure_live-live in
+    omega (arith, few _ m refl, few_cards _ m refl)
 
 pub overflow_add-result : goal.overflow_add-result
 overflow_add-result c =
-    let deck = c.args.deck.now in
-    let m = measured_live deck (verdict_sound deck (sym c.judge_deck-judged.ensures ∙ c.in_default.is)) c.measure_live-live.ensures in
-    omega (arith, few deck m refl, few_cards deck m refl)
+    let m = known (goal.at.overflow_add-result c).After-measure_live-live in
+    omega (arith, few _ m refl, few_cards _ m refl)
 
 pub overflow_add-result-2 : goal.overflow_add-result-2
 overflow_add-result-2 c =
-    let deck = c.args.deck.now in
-    let m = measured_live deck (verdict_sound deck (sym c.judge_deck-judged.ensures ∙ c.in_default.is)) c.measure_live-live.ensures in
-    omega (arith, few deck m refl, few_cards deck m refl, inside deck m refl, m.sound.head.short)
+    let m = known (goal.at.overflow_add-result-2 c).After-measure_live-live in
+    omega (arith, few _ m refl, few_cards _ m refl, inside _ m refl, m.sound.head.short)
 
 pub returns : goal.returns
 returns c =
     let deck = c.args.deck.now in
-    let s = verdict_sound deck (sym c.judge_deck-judged.ensures ∙ c.in_default.is) in
-    let m = measured_live deck s c.measure_live-live.ensures in
-    changed_done (tidy_says deck (live_some deck s c.measure_live-live.ensures c.if-cards-eq0.false)) c.close_up.ensures (sym (text_long deck m refl))
+    let m = known (goal.at.returns c).After-measure_live-live in
+    changed_done (tidy_says deck (live_some deck m.sound m.live c.if-live-eq0.false)) c.close_up.ensures (sym (text_long deck m refl))

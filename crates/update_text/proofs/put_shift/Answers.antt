@@ -1,19 +1,12 @@
 -- `update_text::put_shift` meets its contract: by the digits, one put after the other. Assumes nothing.
 use Rattle.update_text.proofs.Laws.{shift_digits}
-use mathlib.Core.Path.{◌∙◌}
 use Rattle.phrases.proofs.Laws.{put_first, puts_then, puts_as}
 use Rattle.update_text.proofs.put_shift.Goals as goal
-
-pub shape_of-room-then-end-lt10 : goal.shape_of-room-then-end-lt10
-shape_of-room-then-end-lt10 c =
-    c.put_bytes.auto.room ∙ c.put_number-h.auto.room ∙ c.put_seven-g.auto.room ∙ c.put_seven-f.auto.room
-    ∙ c.put_seven-c.auto.room ∙ c.put_seven-b.auto.room ∙ c.put_seven-a.auto.room
 
 pub returns-then-end-lt10 : goal.returns-then-end-lt10
 returns-then-end-lt10 c =
     puts_as _ (shift_digits c.args.seats c.args.own c.args.end c.if-own-lt10.true c.if-end-lt10.true)
-    (puts_then (put_first c.put_seven-a.ensures) (puts_then (put_first c.put_seven-b.ensures) (puts_then (put_first c.put_seven-c.ensures)
-    (puts_then (put_first c.put_seven-f.ensures) (puts_then (put_first c.put_seven-g.ensures) (puts_then (put_first c.put_number-h.ensures) (put_first c.put_bytes.ensures)))))))
+    (puts_then (put_first c.put_filled-most.ensures) (puts_then (put_first c.put_number-close.ensures) (put_first c.put_bytes.ensures)))
 
 pub returns : goal.returns
 returns c =

@@ -1,18 +1,13 @@
 -- `weighing::store_ables` meets its contract: after i turns the first i statements have their number. Assumes nothing.
-use borrow.Author.Rules.{rules}
-use mathlib.Core.Path.{refl, ◌∙◌}
+use mathlib.Core.Path.{refl}
 use Rattle.meaning.specs.Position.{position}
-use Rattle.panel_numbers.proofs.Stored.{over_start, over_next, over_end}
+use Rattle.panel_numbers.proofs.Stored.{over_start, over_next}
 use Rattle.panel_numbers.specs.Table.{ables_from, able_at}
 use Rattle.weighing.proofs.store_ables.Goals as goal
 
 pub loop-i-init : goal.loop-i-init
-loop-i-init c = (search rules, over_start ables_from (able_at c.args.head.seats (position c.args.counts.now c.args.shared) c.args.nodes.now c.args.rows.now) c.args.table.now)
+loop-i-init c = over_start ables_from (able_at c.args.head.seats (position c.args.counts.now c.args.shared) c.args.nodes.now c.args.rows.now) c.args.table.now
 
 pub loop-i-preserved : goal.loop-i-preserved
 loop-i-preserved c =
-    (search rules, over_next ables_from (able_at c.args.head.seats (position c.args.counts.now c.args.shared) c.args.nodes.now c.args.rows.now) c.args.table.now c.loop-i.i c.loop-i.invariant.1 refl c.able-able.ensures)
-
-pub returns : goal.returns
-returns c =
-    c.loop-i.invariant.1 ∙ over_end ables_from (able_at c.args.head.seats (position c.args.counts.now c.args.shared) c.args.nodes.now c.args.rows.now) c.args.table.now c.loop-i.i _ c.loop-i.invariant.0 c.loop-i-test.false
+    over_next ables_from (able_at c.args.head.seats (position c.args.counts.now c.args.shared) c.args.nodes.now c.args.rows.now) c.args.table.now c.loop-i.i c.loop-i.invariant refl c.able-able.ensures

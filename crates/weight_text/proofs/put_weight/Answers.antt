@@ -1,9 +1,6 @@
 -- `weight_text::put_weight` meets its contract: nothing, the whole, or a fraction by its two numbers. Assumes nothing.
 use Rattle.phrases.proofs.Lowest.{text_none, text_whole, text_ratio}
 use Rattle.phrases.proofs.Laws.{put_first, puts_as, puts_then}
-use Rattle.card.specs.Limits.{unit}
-use native.Mathlib.Nat.{div-le_self}
-use native.Mathlib.Omega.{arith}
 use Rattle.weight_text.proofs.put_weight.Goals as goal
 
 pub returns-then-units-eq0 : goal.returns-then-units-eq0
@@ -11,13 +8,6 @@ returns-then-units-eq0 c = puts_as _ (text_none _ c.if-units-eq0.true) (put_firs
 
 pub returns-then-units-ge-UNIT : goal.returns-then-units-ge-UNIT
 returns-then-units-ge-UNIT c = puts_as _ (text_whole _ c.if-units-eq0.false c.if-units-ge-UNIT.true) (put_first c.put_byte-then-units-ge-UNIT.ensures)
-
-pub overflow_cast-units : goal.overflow_cast-units
-overflow_cast-units c = omega (arith, div-le_self c.args.units c.divisor-by.result)
-
-pub overflow_cast-by : goal.overflow_cast-by
-overflow_cast-by c =
-    omega (arith, div-le_self unit c.divisor-by.result)
 
 pub returns : goal.returns
 returns c =

@@ -3,17 +3,16 @@ use mathlib.Core.Path.{sym, ◌∙◌}
 use mathlib.Core.Bool.{true, false}
 use native.Mathlib.Omega.{arith}
 use Rattle.written_copy.proofs.Written.{one_digit_copy, two_digit_copy, too_short}
+use Rattle.written_copy.proofs.past_copy.Goals.{then-card-lt-SHORTEST-via-then-card-lt-SHORTEST, then-card-lt-SHORTEST-via-else-card-lt-SHORTEST+then-card-at}
 use Rattle.written_copy.proofs.past_copy.Goals as goal
 
 pub returns-then-card-lt-SHORTEST : goal.returns-then-card-lt-SHORTEST
 returns-then-card-lt-SHORTEST c =
     let a = c.args in
-    too_short a.card.now a.at a.seat (omega (arith, c.if-card-lt-SHORTEST.true))
-
-pub returns-then-card-at : goal.returns-then-card-at
-returns-then-card-at c =
-    let a = c.args in
-    too_short a.card.now a.at a.seat (omega (arith, c.if-card-lt-SHORTEST.false, c.if-card-at.true))
+    elim c.then-card-lt-SHORTEST.branch [
+      | then-card-lt-SHORTEST-via-then-card-lt-SHORTEST w ↦ too_short a.card.now a.at a.seat (omega arith)
+      | then-card-lt-SHORTEST-via-else-card-lt-SHORTEST+then-card-at w ↦ too_short a.card.now a.at a.seat (omega arith)
+    ]
 
 pub returns-then-stands : goal.returns-then-stands
 returns-then-stands c =

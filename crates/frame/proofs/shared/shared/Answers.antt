@@ -3,6 +3,7 @@ use native.Mathlib.Omega.{arith}
 use mathlib.Core.Path.{refl}
 use Rattle.marks.specs.Step.{step_at}
 use Rattle.parts.proofs.Steps.{next_at}
+use Rattle.parts.proofs.Answers.{returned}
 use Rattle.frame.proofs.SharedLaws.{not_declared, is_declared, none_shared, words_halt, range_halts, shared_read}
 use Rattle.frame.proofs.shared.shared.Goals as goal
 
@@ -10,34 +11,27 @@ pub returns-then-not-declared : goal.returns-then-not-declared
 returns-then-not-declared c =
     let a = c.args in
     none_shared _ _ (next_at a.card.now a.at (step_at a.card.now a.at) refl)
-    (not_declared _ _ c.declared.ensures c.if-not-declared.true) c.requires.fact a.state.now c.requires.sized
+    (not_declared _ _ c.declared.ensures c.if-not-declared.true) a.state.now
 
-pub run-words-requires : goal.run-words-requires
-run-words-requires c = record { sized = c.requires.sized; kinds_nonzero = (omega arith, omega arith) }
-
-pub returns-then-words-eq0 : goal.returns-then-words-eq0
-returns-then-words-eq0 c =
+pub returns-in_err-words : goal.returns-in_err-words
+returns-in_err-words c =
     let a = c.args in
-    words_halt _ _ (next_at a.card.now a.at (step_at a.card.now a.at) refl)
-    (is_declared _ _ c.declared.ensures c.if-not-declared.false) _ _ c.run-words.ensures c.if-words-eq0.true
+    rw (returned _ _ c.from_residual.ensures.1)
+    (words_halt _ _ (next_at a.card.now a.at (step_at a.card.now a.at) refl)
+    (is_declared _ _ c.declared.ensures c.if-not-declared.false) _ c.in_err-words.ensures)
 
-pub range-end-requires : goal.range-end-requires
-range-end-requires c = c.run-words.ensures.sized
-
-pub returns-then-end-eq0 : goal.returns-then-end-eq0
-returns-then-end-eq0 c =
+pub returns-in_err-end : goal.returns-in_err-end
+returns-in_err-end c =
     let a = c.args in
-    range_halts _ _ (next_at a.card.now a.at (step_at a.card.now a.at) refl)
-    (is_declared _ _ c.declared.ensures c.if-not-declared.false) _ _ c.run-words.ensures c.if-words-eq0.false _ c.range-end.ensures
-    c.if-end-eq0.true
+    rw (returned _ _ c.from_residual-in_err-end.ensures.1)
+    (range_halts _ _ (next_at a.card.now a.at (step_at a.card.now a.at) refl)
+    (is_declared _ _ c.declared.ensures c.if-not-declared.false) _ c.in_ok-words.ensures c.in_err-end.ensures)
 
 pub overflow_add-state : goal.overflow_add-state
-overflow_add-state c =
-    omega (arith, c.range-end.ensures.within c.if-end-eq0.false)
+overflow_add-state c = let few = c.in_ok-end.ensures.within in omega (arith, few)
 
 pub returns : goal.returns
 returns c =
     let a = c.args in
     shared_read _ _ (next_at a.card.now a.at (step_at a.card.now a.at) refl)
-    (is_declared _ _ c.declared.ensures c.if-not-declared.false) _ _ c.run-words.ensures c.if-words-eq0.false _ c.range-end.ensures
-    c.if-end-eq0.false
+    (is_declared _ _ c.declared.ensures c.if-not-declared.false) _ c.in_ok-words.ensures c.in_ok-end.ensures

@@ -14,12 +14,12 @@ overflow_add-first c =
 
 pub overflow_add-result : goal.overflow_add-result
 overflow_add-result c =
-    omega (arith, digit_place c.args.part.now (c.args.at + 1) c.digit_here-d.result c.digit_here-d.ensures c.if-d-ge-NO_DIGIT.false)
+    omega (arith, digit_place c.args.part.now (c.args.at + 1) c.in-Some.d c.in-Some.ensures)
 
 pub returns : goal.returns
 returns c =
     let place = c.args.at in
     let sign = sign_step c.args.part.now place 61 (sym c.sign_here.ensures ∙ c.if-not-sign_here.false) in
-    let digit = digit_step c.args.part.now (place + 1) c.digit_here-d.result c.digit_here-d.ensures c.if-d-ge-NO_DIGIT.false in
-    literal_whole c.args.part.now place 0 (bare_of 61 place (place + 1)) (valued_of k_number c.digit_here-d.result (place + 1) (place + 1 + 1))
-    (sym sign) (sym digit) refl (λ z. omega arith) refl
+    let digit = digit_step c.args.part.now (place + 1) c.in-Some.d c.in-Some.ensures in
+    literal_whole c.args.part.now place 0 (bare_of 61 place (place + 1)) (valued_of k_number c.in-Some.d (place + 1) (place + 1 + 1))
+    (sym sign) (sym digit) refl refl

@@ -23,16 +23,16 @@ overflow_add-first c =
 pub overflow_add-result : goal.overflow_add-result
 overflow_add-result c =
     let a = c.args in
-    omega (arith, digit_place a.part.now (a.at + 1 + 1) c.digit_here-d.result c.digit_here-d.ensures c.if-d-ge-NO_DIGIT.false)
+    omega (arith, digit_place a.part.now (a.at + 1 + 1) c.in-Some.d c.in-Some.ensures)
 
 pub returns : goal.returns
 returns c =
     let a = c.args in
     let part = a.part.now in
     let first = a.at + 1 + 1 in
-    let d = c.digit_here-d.result in
+    let d = c.in-Some.d in
     literal_whole a.part.now a.at 1 (bare_of 7 a.at first) (valued_of k_number d first (first + 1))
     (sym
     (unequal_step part a.at (sym c.stands.ensures ∙ c.if-not-stands.false)
     (sym c.stands-2.ensures ∙ c.if-not-stands-2.false)))
-    (sym (digit_step part first d c.digit_here-d.ensures c.if-d-ge-NO_DIGIT.false)) refl (λ z. omega arith) refl
+    (sym (digit_step part first d c.in-Some.ensures)) refl refl

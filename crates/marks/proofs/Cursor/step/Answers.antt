@@ -9,12 +9,6 @@ use Rattle.marks.proofs.Starts.{step_end_law, step_mark, step_gap}
 use Rattle.marks_on_a_card.proofs.StartLaws.{gap_fits}
 use Rattle.marks.proofs.Cursor.step.Goals as goal
 
-pub loop-at-init : goal.loop-at-init
-loop-at-init c = refl
-
-pub start-requires : goal.start-requires
-start-requires c = (c.loop-at-test.true, refl, sym c.gap-n.ensures ∙ c.if-n-eq0.true)
-
 pub returns-then-n-eq0 : goal.returns-then-n-eq0
 returns-then-n-eq0 c =
     let s = c.args.card.now in
@@ -26,9 +20,6 @@ overflow_add-at c =
     let s = c.args.card.now in
     let i = c.loop-at.at in
     omega (arith, c.gap-n.ensures, gap_fits (get_or s i 0) (drop (i + 1) s), length-drop (i + 1) s, c.loop-at-test.true, c.well_formed.0)
-
-pub loop-at-smaller : goal.loop-at-smaller
-loop-at-smaller c = omega (arith, c.if-n-eq0.false, c.loop-at-test.true)
 
 pub loop-at-preserved : goal.loop-at-preserved
 loop-at-preserved c =

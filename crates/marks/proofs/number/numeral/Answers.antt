@@ -1,10 +1,8 @@
 -- Each exit has its law (proofs/Starts.antt), over the digits as they were counted.
-use Rattle.marks.proofs.Starts.{numeral_outside, read_number, read_long, read_decimal}
-use Rattle.marks_on_a_card.proofs.Numbers.{pointed_place, counted_fits}
-use native.Mathlib.Omega.{arith}
+use Rattle.marks.proofs.Starts.{numeral_outside, read_long, read_decimal}
 use mathlib.Core.Path.{◌≡◌, sym, ◌∙◌}
-use lib.ListN.{length, drop}
-use Prim.Native.Nat.{◌+◌, ◌≤◌, ◌<◌}
+use lib.ListN.{drop}
+use Prim.Native.Nat.{◌≤◌}
 use Rattle.card.specs.Limits.{number_digits, further_digits}
 use Rattle.marks_on_a_card.specs.Bytes.{is_digit, run}
 use Rattle.marks_on_a_card.specs.Digits.{plain}
@@ -20,43 +18,12 @@ digits-judged c = c.is_plain.ensures
 few-further : (c : Else-more-gt-FURTHER_DIGITS) → c.digits_from-f.result.count ≤ further_digits
 few-further c = c.if-more-gt-FURTHER_DIGITS.false
 
-pub is_plain-requires : goal.is_plain-requires
-is_plain-requires c = c.digits_from-d.ensures.count_is
-
 pub returns-then-not-is_plain : goal.returns-then-not-is_plain
 returns-then-not-is_plain c =
     λ k. c.bare.ensures ∙ sym
     (numeral_outside c.args.card.now c.args.at
     c.requires.0 c.requires.1 k
     (sym (digits-judged (goal.at.returns-then-not-is_plain c).After-is_plain) ∙ c.if-not-is_plain.true))
-
-pub overflow_add-point : goal.overflow_add-point
-overflow_add-point c =
-    omega (
-      arith,
-      counted_fits c.args.card.now c.args.at
-          (omega (arith, c.requires.0)) c.digits_from-d.result c.digits_from-d.ensures,
-      c.well_formed.0,
-    )
-
-pub returns-then-not-is_pointed : goal.returns-then-not-is_pointed
-returns-then-not-is_pointed c =
-    λ k. c.valued.ensures ∙ sym
-    (read_number c.args.card.now c.args.at
-    c.requires.0 c.requires.1 k
-    c.digits_from-d.result c.digits_from-d.ensures
-    (sym (digits-judged (goal.at.returns-then-not-is_pointed c).After-is_plain) ∙ c.if-not-is_plain.false)
-    (sym c.is_pointed.ensures ∙ c.if-not-is_pointed.true))
-
-pub overflow_add-from : goal.overflow_add-from
-overflow_add-from c =
-    omega (
-      arith,
-      pointed_place c.args.card.now
-          (c.args.at + c.digits_from-d.result.count)
-          (sym c.is_pointed.ensures ∙ c.if-not-is_pointed.false),
-      c.well_formed.0,
-    )
 
 pub returns-then-more-gt-FURTHER_DIGITS : goal.returns-then-more-gt-FURTHER_DIGITS
 returns-then-more-gt-FURTHER_DIGITS c =
@@ -70,22 +37,6 @@ returns-then-more-gt-FURTHER_DIGITS c =
     (sym (digits-judged (goal.at.returns-then-more-gt-FURTHER_DIGITS c).After-is_plain) ∙ c.if-not-is_plain.false)
     (sym c.is_pointed.ensures ∙ c.if-not-is_pointed.false)
     c.if-more-gt-FURTHER_DIGITS.true)
-
-pub overflow_add-result : goal.overflow_add-result
-overflow_add-result c =
-    let point :
-    c.args.at + c.digits_from-d.result.count + 1 <
-    length c.args.card.now =
-    pointed_place c.args.card.now
-    (c.args.at + c.digits_from-d.result.count)
-    (sym c.is_pointed.ensures ∙ c.if-not-is_pointed.false) in
-    omega (
-      arith,
-      counted_fits c.args.card.now
-          (c.args.at + c.digits_from-d.result.count + 1)
-          (omega arith) c.digits_from-f.result c.digits_from-f.ensures,
-      c.well_formed.0,
-    )
 
 pub returns : goal.returns
 returns c =

@@ -1,93 +1,55 @@
 -- Each way out has its law (proofs/Words.antt).
-use mathlib.Core.Path.{refl, sym, ◌∙◌}
+use mathlib.Core.Path.{sym, ◌∙◌}
 use native.Mathlib.Omega.{arith}
 use Rattle.card.specs.Text.{bytes}
-use Rattle.words_and_digits.proofs.Keywords.{keyword_fits}
-use Rattle.marks.proofs.Words.{numbered_fits, seat_word, process_word, other_word, keyword_word}
+use Rattle.marks_on_a_card.specs.Bytes.{in_word, run}
+use lib.ListN.{drop}
+use Rattle.words_and_digits.proofs.Keywords.{keyword_none, keyword_longer}
+use Rattle.marks.proofs.Words.{numbered_fits, not_numbered, seat_word, process_word, other_word, keyword_word}
+use Rattle.marks.proofs.word.word.Goals.{in-Some-keyword_begun+else-not-word_at, in_default-keyword_begun}
 use Rattle.marks.proofs.word.word.Goals as goal
 
-pub numbered_at-s-requires : goal.numbered_at-s-requires
-numbered_at-s-requires c = (omega (arith, c.requires.0), refl)
-
 pub overflow_add-at : goal.overflow_add-at
-overflow_add-at c =
+overflow_add-at c = omega (arith, numbered_fits (bytes "s") c.args.card.now c.args.at c.requires.0 c.in-Some.seat c.in-Some.ensures, c.well_formed.0)
+
+pub returns-in-Some : goal.returns-in-Some
+returns-in-Some c =
+    seat_word c.args.card.now c.args.at c.requires.0 c.requires.1 c.in-Some.seat c.in-Some.ensures c.valued.result c.valued.ensures
+
+pub overflow_add-at-in-Some-numbered_at : goal.overflow_add-at-in-Some-numbered_at
+overflow_add-at-in-Some-numbered_at c =
     omega (
       arith,
-      numbered_fits (bytes "s") c.args.card.now c.args.at
-          (omega (arith, c.requires.0)) c.numbered_at-s.result c.numbered_at-s.ensures c.if-seat-ne0.true,
+      numbered_fits (bytes "process") c.args.card.now c.args.at c.requires.0 c.in-Some-numbered_at.process c.in-Some-numbered_at.ensures,
       c.well_formed.0,
     )
 
-pub returns-then-seat-ne0 : goal.returns-then-seat-ne0
-returns-then-seat-ne0 c =
-    seat_word c.args.card.now c.args.at
-    c.requires.0 c.requires.1 c.numbered_at-s.result
-    c.numbered_at-s.ensures c.if-seat-ne0.true c.valued.result c.valued.ensures
+pub returns-in-Some-numbered_at : goal.returns-in-Some-numbered_at
+returns-in-Some-numbered_at c =
+    let w = run in_word (drop c.args.at c.args.card.now) in
+    process_word c.args.card.now c.args.at c.requires.0 c.requires.1
+    (not_numbered (bytes "s") w c.numbered_at.result c.numbered_at.ensures c.in_default.not-Some)
+    c.in-Some-numbered_at.process c.in-Some-numbered_at.ensures c.valued-in-Some-numbered_at.result c.valued-in-Some-numbered_at.ensures
 
-pub numbered_at-p-requires : goal.numbered_at-p-requires
-numbered_at-p-requires c = (omega (arith, c.requires.0), refl)
-
-pub overflow_add-at-then-process-ne0 : goal.overflow_add-at-then-process-ne0
-overflow_add-at-then-process-ne0 c =
-    omega (
-      arith,
-      numbered_fits (bytes "process") c.args.card.now
-          c.args.at (omega (arith, c.requires.0))
-          c.numbered_at-p.result c.numbered_at-p.ensures c.if-process-ne0.true,
-      c.well_formed.0,
-    )
-
-pub returns-then-process-ne0 : goal.returns-then-process-ne0
-returns-then-process-ne0 c =
-    process_word c.args.card.now
-    c.args.at c.requires.0
-    c.requires.1 c.numbered_at-s.result
-    c.numbered_at-s.ensures c.if-seat-ne0.false c.numbered_at-p.result
-    c.numbered_at-p.ensures c.if-process-ne0.true c.valued-then-process-ne0.result c.valued-then-process-ne0.ensures
-
-pub keyword_begun-known-requires : goal.keyword_begun-known-requires
-keyword_begun-known-requires c = omega (arith, c.requires.0)
-
-pub is_other-requires : goal.is_other-requires
-is_other-requires c =
-    keyword_fits c.args.card.now
-    c.args.at c.requires.0
-    c.requires.1 c.keyword_begun-known.result c.keyword_begun-known.ensures
-
-pub returns-then-is_other : goal.returns-then-is_other
-returns-then-is_other c =
-    other_word c.args.card.now
-    c.args.at
-    c.requires.0
-    c.requires.1
-    c.numbered_at-s.result
-    c.numbered_at-s.ensures
-    c.if-seat-ne0.false c.numbered_at-p.result
-    c.numbered_at-p.ensures c.if-process-ne0.false
-    c.keyword_begun-known.result c.keyword_begun-known.ensures
-    (sym c.is_other.ensures ∙ c.if-is_other.true) c.word_end-end.result c.word_end-end.ensures c.bare.result
-    c.bare.ensures
-
-pub overflow_add-at-2 : goal.overflow_add-at-2
-overflow_add-at-2 c =
-    omega (
-      arith,
-      keyword_fits c.args.card.now
-          c.args.at
-          c.requires.0
-          c.requires.1 c.keyword_begun-known.result
-          c.keyword_begun-known.ensures,
-      c.well_formed.0,
-    )
+pub returns-then-not-word_at : goal.returns-then-not-word_at
+returns-then-not-word_at c =
+    let w = run in_word (drop c.args.at c.args.card.now) in
+    keyword_word c.args.card.now c.args.at c.requires.0 c.requires.1
+    (not_numbered (bytes "s") w c.numbered_at.result c.numbered_at.ensures c.in_default.not-Some)
+    (not_numbered (bytes "process") w c.numbered_at-2.result c.numbered_at-2.ensures c.in_default-numbered_at.not-Some)
+    c.in-Some-keyword_begun.known c.in-Some-keyword_begun.ensures (sym c.word_at.ensures ∙ c.if-not-word_at.true) c.bare.result c.bare.ensures
 
 pub returns : goal.returns
 returns c =
-    keyword_word c.args.card.now
-    c.args.at
-    c.requires.0
-    c.requires.1
-    c.numbered_at-s.result
-    c.numbered_at-s.ensures c.if-seat-ne0.false
-    c.numbered_at-p.result c.numbered_at-p.ensures
-    c.if-process-ne0.false c.keyword_begun-known.result c.keyword_begun-known.ensures
-    (sym c.is_other.ensures ∙ c.if-is_other.false) c.bare-2.result c.bare-2.ensures
+    let w = run in_word (drop c.args.at c.args.card.now) in
+    other_word c.args.card.now c.args.at c.requires.0 c.requires.1
+    (not_numbered (bytes "s") w c.numbered_at.result c.numbered_at.ensures c.in_default.not-Some)
+    (not_numbered (bytes "process") w c.numbered_at-2.result c.numbered_at-2.ensures c.in_default-numbered_at.not-Some)
+    (elim c.match-keyword_begun.branch [
+      | in-Some-keyword_begun+else-not-word_at w ↦
+          keyword_longer c.args.card.now c.args.at c.requires.0 c.requires.1 w.in-Some-keyword_begun.known w.in-Some-keyword_begun.ensures
+          (sym w.word_at.ensures ∙ w.if-not-word_at.false)
+      | in_default-keyword_begun w ↦
+          keyword_none c.args.card.now c.args.at c.requires.0 c.requires.1 c.keyword_begun.result c.keyword_begun.ensures w.in_default-keyword_begun.not-Some
+    ])
+    c.word_end.result c.word_end.ensures c.bare-2.result c.bare-2.ensures

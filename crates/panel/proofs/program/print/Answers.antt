@@ -4,10 +4,10 @@ use Rattle.program_lines.proofs.Printing.{printed_done, printed_refused}
 use native.Mathlib.Omega.{arith}
 use Rattle.panel.proofs.program.print.Goals as goal
 
-pub returns-in-Done : goal.returns-in-Done
-returns-in-Done c =
-    printed_done c.panel-answer.ensures c.in-Done.is
+pub returns-in-Ok : goal.returns-in-Ok
+returns-in-Ok c =
+    printed_done c.panel.ensures c.in-Ok.is
 
-pub returns-in-Refused : goal.returns-in-Refused
-returns-in-Refused c =
-    printed_refused (panel_short _ _) c.requires (omega arith) c.panel-answer.ensures c.in-Refused.is c.put_refusal.ensures.line c.put_refusal.ensures.short
+pub returns-in-Err : goal.returns-in-Err
+returns-in-Err c =
+    printed_refused (panel_short _ _) c.requires (omega arith) c.panel.ensures c.in-Err.is c.put_refusal.ensures.line c.put_refusal.ensures.short

@@ -1,9 +1,0 @@
--- `literal_text::joint_of` meets its contract: by the sign's number. Assumes nothing.
-use borrow.Author.Tests.{eq-eqb, ne_eqb}
-use Rattle.literal_text.proofs.joint_of.Goals as goal
-
-pub returns-then-sign-eq0 : goal.returns-then-sign-eq0
-returns-then-sign-eq0 c = rw (eq-eqb _ 0 c.if-sign-eq0.true)
-
-pub returns : goal.returns
-returns c = rw (ne_eqb _ 0 c.if-sign-eq0.false)
