@@ -12,7 +12,7 @@ use card::Refusal;
 use card::limits::{PUBLIC_CLASSES, TOP_CLASS};
 use card::refusals::{ROOM_TOO_SMALL, WRONG_CLASSES};
 use lines::put_line;
-use seating::judge_each;
+use seating::{count_by, judge_each};
 
 // Is it a list for a card of top state `top`?
 pub fn judge_classes(classes: &[u8], top: usize) -> Result<(), Refusal>
@@ -40,16 +40,7 @@ fn class_of(classes: &[u8], state: usize) -> usize
 pub fn count_classes(seats: &[u8], n: usize, classes: &[u8]) -> [usize; PUBLIC_CLASSES]
     ensures { result ≡ class_counts classes.now (take n seats.now) }
 {
-    let mut counts: [usize; PUBLIC_CLASSES] = [0; PUBLIC_CLASSES];
-    let counted = &seats[..n.min(seats.len())];
-    for seat in counted {
-        let state = usize::from(*seat);
-        let class = class_of(classes, state);
-        if class < PUBLIC_CLASSES {
-            counts[class] += 1;
-        }
-    }
-    counts
+    count_by(seats, n, |state| class_of(classes, usize::from(state)))
 }
 
 // The line of some class counts: put into a room of no bytes it tells its length, and then it is stored where it fits.

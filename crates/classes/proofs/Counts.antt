@@ -1,22 +1,19 @@
 -- Class counts: each seat is in one class, and each state's seats are in its class; so they add up to the seats, and the counts of the states
--- tell them. They are also the counts of the list of the seats' classes, as a loop counts them. Assumes nothing.
-use Prim.Native.Nat.{ℕ, zero, suc, ◌+◌, ◌≤◌, ◌<◌}
+-- tell them. They are also the counts of the list of the seats' classes. Assumes nothing.
+use Prim.Native.Nat.{ℕ, suc, ◌≤◌}
 use mathlib.Core.Path.{◌≡◌, refl, sym, ap, ◌∙◌}
 use mathlib.Core.Bool.{Bool, true, false}
-use mathlib.Core.List.{List, [], ◌∷◌, map}
-use native.Mathlib.Nat.{not-suc-le-zero, le_of_suc-le-suc}
+use mathlib.Core.List.{List, map}
 use native.Mathlib.Omega.{arith}
 use lib.Dec.{eqb}
-use lib.ListN.{length, get_or, take, set, replicate, length-map, length-take}
-use lib.Seq.{take_all}
+use lib.ListN.{length, length-map}
 use Rattle.card.specs.Limits.{top_class, public_classes}
 use Rattle.card.specs.Valid.{Every}
-use Rattle.meaning.specs.Sums.{gate, sum}
+use Rattle.meaning.specs.Sums.{gate, sum, upto}
 use Rattle.meaning.specs.Seats.{count, counts}
 use Rattle.meaning.specs.Reduced.{no_of}
 use Rattle.meaning.proofs.Sums.{gate_zero, sum_every, sum_one, sum_gate, sum_map, length_upto, upto_cong, every_upto, sum_below, sum_upto, below_cong, below_exchange, below_pick}
 use Rattle.meaning.proofs.Counting.{Within, no_count, count_le}
-use Rattle.seating.proofs.Counted.{counts_most, counts_next, counts_over}
 use Rattle.seating.proofs.Judging.{within_at}
 use Rattle.classes.specs.Classes.{class_of, ValidClasses, in_class, class_counts, in_class_at, class_counts_at}
 
@@ -71,9 +68,10 @@ module _ (list : List ℕ) (x : List ℕ) where
   class_count : (g : ℕ) → in_class list x g ≡ count g seats_classes
   class_count g = sym (sum_map (λ a. gate (eqb a g) 1) (class_of list) x)
 
-  pub as_counts : class_counts list x ≡ counts top_class seats_classes
-  unfolding class_counts counts
-  as_counts = upto_cong public_classes (in_class list x) (λ g. count g seats_classes) (λ g l. class_count g)
+  -- as the code counts them: the seats by the number that the list gives each
+  pub classes_counted : upto public_classes (λ g. count g seats_classes) ≡ class_counts list x
+  unfolding class_counts
+  classes_counted = sym (upto_cong public_classes (in_class list x) (λ g. count g seats_classes) (λ g l. class_count g))
 
   pub class_most : (g : ℕ) → in_class list x g ≤ length x
   class_most g = rw (class_count g) (omega (arith, count_le g seats_classes, length-map x (class_of list)))
@@ -85,54 +83,3 @@ module _ (list : List ℕ) (x : List ℕ) where
   pub how_many : length (class_counts list x) ≡ public_classes
   unfolding class_counts
   how_many = length_upto public_classes (in_class list x)
-
--- ---- one seat after the other, as a loop counts
-
-module _ (f : ℕ → ℕ) where
-  map_take : (i : ℕ) (x : List ℕ) → map f (take i x) ≡ take i (map f x)
-  map_take zero x = refl
-  map_take (suc i) [] = refl
-  map_take (suc i) (a ∷ x) = ap (λ (l : List ℕ). f a ∷ l) (map_take i x)
-
-  map_at : (x : List ℕ) (i : ℕ) → i < length x → get_or (map f x) i 0 ≡ f (get_or x i 0)
-  map_at [] i l = absurd (not-suc-le-zero l)
-  map_at (a ∷ x) zero l = refl
-  map_at (a ∷ x) (suc i) l = map_at x i (le_of_suc-le-suc l)
-
-pub classes_none : (list : List ℕ) → replicate public_classes 0 ≡ class_counts list []
-unfolding class_counts
-classes_none list = refl
-
-module _ (list : List ℕ) (x : List ℕ) (i : ℕ) where
-  part_counts : class_counts list (take i x) ≡ counts top_class (take i (seats_classes list x))
-  part_counts = as_counts list (take i x) ∙ ap (counts top_class) (map_take (class_of list) i x)
-
-  -- behind the last seat there is none
-  pub classes_all : (n : ℕ) → length x ≤ i → i ≤ n → class_counts list (take i x) ≡ class_counts list (take n x)
-  classes_all n h l = ap (class_counts list) (take_all i x h ∙ sym (take_all n x (omega arith)))
-
-module _ (list : List ℕ) (x : List ℕ) (i : ℕ) (l : i < length x) {v : List ℕ} (e : v ≡ class_counts list (take i x)) where
-  seat_there : i < length (seats_classes list x)
-  seat_there = omega (arith, length-map x (class_of list), l)
-
-  here : get_or (seats_classes list x) i 0 ≡ class_of list (get_or x i 0)
-  here = map_at (class_of list) x i l
-
-  was : v ≡ counts top_class (take i (seats_classes list x))
-  was = e ∙ part_counts list x i
-
-  module _ {g : ℕ} (is : g ≡ class_of list (get_or x i 0)) where
-    -- in a class up to the top
-    pub classes_next : g ≤ top_class → set v g (get_or v g 0 + 1) ≡ class_counts list (take (i + 1) x)
-    classes_next h =
-        let at : g ≡ get_or (seats_classes list x) i 0 = is ∙ sym here in
-        rw (was, at) (counts_next top_class (seats_classes list x) i seat_there (omega (arith, at)) ∙ sym (part_counts list x (i + 1)))
-
-    -- above it
-    pub classes_over : top_class < g → v ≡ class_counts list (take (i + 1) x)
-    classes_over h =
-        let at : g ≡ get_or (seats_classes list x) i 0 = is ∙ sym here in
-        was ∙ counts_over top_class (seats_classes list x) i seat_there (omega (arith, at)) ∙ sym (part_counts list x (i + 1))
-
-  pub room_for_one : (g : ℕ) → get_or v g 0 ≤ i
-  room_for_one g = rw was (omega (arith, counts_most top_class (take i (seats_classes list x)) g, length-take i (seats_classes list x)))

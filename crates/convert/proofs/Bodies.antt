@@ -45,9 +45,6 @@ module _ (deck notes : List ℕ) where
         abbrev row : Row
         row = row_of (drop (1 + 8 * i) deck)
 
-        abbrev part : List ℕ
-        part = body_noted (get_or notes i 0) (body_of deck row)
-
         inside : i < count_of deck
         inside = omega (arith, h.long)
 
@@ -57,18 +54,24 @@ module _ (deck notes : List ℕ) where
         pub right_row : RightRow deck row
         right_row = rows_split.0
 
-        split : left i ≡ part ++ left (i + 1)
-        split = λ j. bodies_noted deck (note_and_rest notes l j) (first_left deck inside j)
+        module _ {k : ℕ} (e : get_or notes i 0 ≡ k) where
+          abbrev part : List ℕ
+          part = body_noted k (body_of deck row)
 
-        long : length (left i) ≡ length part + length (left (i + 1))
-        long = ap length split ∙ length-append part (left (i + 1))
+          split : left i ≡ part ++ left (i + 1)
+          split =
+              (λ j. bodies_noted deck (note_and_rest notes l j) (first_left deck inside j))
+              ∙ ap (λ (n : ℕ). body_noted n (body_of deck row) ++ left (i + 1)) e
 
-        pub part_fits : to + length part ≤ length is
-        part_fits = omega (arith, g.fits, long, g.still.long)
+          long : length (left i) ≡ length part + length (left (i + 1))
+          long = ap length split ∙ length-append part (left (i + 1))
 
-        pub bodies_next : {b : List ℕ} {m : ℕ} → Put is b to part m → BodiesLeft was b at (i + 1) m
-        bodies_next p = record {
-          right = rows_split.1;
-          still = still_less g.still (left (i + 1)) split p;
-          fits = omega (arith, g.fits, long, p.next);
-        }
+          pub part_fits : to + length part ≤ length is
+          part_fits = omega (arith, g.fits, long, g.still.long)
+
+          pub bodies_next : {b : List ℕ} {m : ℕ} → Put is b to part m → BodiesLeft was b at (i + 1) m
+          bodies_next p = record {
+            right = rows_split.1;
+            still = still_less g.still (left (i + 1)) split p;
+            fits = omega (arith, g.fits, long, p.next);
+          }

@@ -1,5 +1,5 @@
--- An entry by the bytes where it stands: its note and its new body are those of the part of the deck that its fields name. Assumes nothing.
-use Prim.Native.Nat.{ℕ, zero, suc, ◌+◌, ◌-◌, ◌≤◌}
+-- An entry by the bytes where it stands: its note is that of the part of the deck that its fields name. Assumes nothing.
+use Prim.Native.Nat.{ℕ, ◌+◌, ◌-◌, ◌≤◌}
 use mathlib.Core.Path.{◌≡◌, refl, sym, ap, ◌∙◌}
 use mathlib.Core.Bool.{Bool, true}
 use mathlib.Core.List.{List}
@@ -10,15 +10,9 @@ use Rattle.deck.specs.Contents.{word_at, byte, Row, row_of, end_of}
 use Rattle.deck.specs.Deck.{live_of, body_of, entry_of}
 use Rattle.deck_entries.proofs.Laws.{row_with, row_there}
 use Rattle.reading.specs.Reading.{read_under}
-use Rattle.room.specs.Room.{Put}
-use Rattle.room.proofs.Laws.{put_as}
 use Rattle.converting.specs.Converting.{old_rule, new_rule}
-use Rattle.converted_rows.specs.Notes.{note_by, note_of, written_of, body_noted}
+use Rattle.converted_rows.specs.Notes.{note_by, note_of}
 use Rattle.converted_rows.proofs.Text.{RightRow}
-
-written_by : (note : ℕ) (card : List ℕ) → (note ≡ 0 → ⊥) → body_noted note card ≡ written_of (read_under old_rule card)
-written_by zero card h = absurd (h refl)
-written_by (suc n) card h = refl
 
 module _ (deck : List ℕ) (from : ℕ) (right : RightRow deck (row_of (drop from deck))) where
   abbrev row : Row
@@ -48,17 +42,3 @@ module _ (deck : List ℕ) (from : ℕ) (right : RightRow deck (row_of (drop fro
     noted live e =
         let some : row.flag ≡ 0 → ⊥ = λ q. live (sym flag_is ∙ q) in
         e ∙ sym (by_flag (eq-eqb row.flag 1 (omega (arith, right.flag, some))) ∙ ap (λ (t : List ℕ). note_by true (read_under old_rule t) (read_under new_rule t)) card_is)
-
-    module _ {note : ℕ} where
-      pub stays_put : note ≡ 0 → {was is : List ℕ} {at p : ℕ} → Put was is at (take (o + s - o) (drop o deck)) p → Put was is at (body_noted note (body_of deck row)) p
-      stays_put z p = put_as (ap (λ (k : ℕ). body_noted k (body_of deck row)) z ∙ card_is) p
-
-      module _ (some : note ≡ 0 → ⊥) where
-        form_is : body_noted note (body_of deck row) ≡ written_of (read_under old_rule (take (o + s - o) (drop o deck)))
-        form_is = written_by note (body_of deck row) some ∙ ap (λ (t : List ℕ). written_of (read_under old_rule t)) card_is
-
-        pub form_put : {was is : List ℕ} {at p : ℕ} → Put was is at (written_of (read_under old_rule (take (o + s - o) (drop o deck)))) p → Put was is at (body_noted note (body_of deck row)) p
-        form_put p = put_as form_is p
-
-        pub form_fits : (at : ℕ) {long : ℕ} → at + length (body_noted note (body_of deck row)) ≤ long → at + length (written_of (read_under old_rule (take (o + s - o) (drop o deck)))) ≤ long
-        form_fits at h = omega (arith, h, ap length form_is)

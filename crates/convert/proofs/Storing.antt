@@ -28,7 +28,9 @@ use Rattle.converting.specs.Converts.{Convertible}
 use Rattle.converting.proofs.Exactly.{Which, all, not_all, which, held_long, convertible_said, stops_in_said, not_sound_said}
 use Rattle.converting.proofs.Anew.{same_count, ends_within}
 use Rattle.converted_rows.specs.Noted.{rows_noted, Each, SizesFit}
-use Rattle.converted_rows.specs.Notes.{note_of, end_said, bodies_noted}
+use Rattle.converted_rows.specs.declared.Note.{Note}
+use Rattle.converted_rows.specs.Notes.{note_of, end_said, bodies_noted, numbers_of}
+use Rattle.converted_rows.proofs.Numbers.{same_long, first_of}
 use Rattle.converted_rows.proofs.Notes.{end_converts, end_stops}
 use Rattle.converted_rows.proofs.Text.{sound_right, rows_noted_law, bodies_noted_law, sizes_noted_law}
 use Rattle.convert.specs.NotesFound.{NotesFound}
@@ -71,20 +73,20 @@ module _ (deck : List ℕ) where
 
 -- ---- the notes handed on
 
-module _ {deck was is : List ℕ} {r : Answer} {c long : ℕ} (s : Sound deck) (e : c ≡ count_of deck) (n : NotesFound deck was is r) (d : r ≡ Done long) where
+module _ (notes : List Note) {deck was : List ℕ} {r : Answer} {c long : ℕ} (s : Sound deck) (e : c ≡ count_of deck) (n : NotesFound deck was (numbers_of notes) r) (d : r ≡ Done long) where
   as_many : length (map note_of (held_by deck)) ≡ c
   as_many = length-map (held_by deck) note_of ∙ held_long deck ∙ sym e
 
-  numbers_are : take c is ≡ map note_of (held_by deck)
-  numbers_are = ap (take c) (n.notes long d) ∙ take_at (map note_of (held_by deck)) (drop (count_of deck) was) c as_many
+  numbers_are : numbers_of (take c notes) ≡ map note_of (held_by deck)
+  numbers_are = sym (first_of c notes) ∙ ap (take c) (n.notes long d) ∙ take_at (map note_of (held_by deck)) (drop (count_of deck) was) c as_many
 
-  pub notes_count : c ≡ length (take c is)
-  notes_count = sym (ap length numbers_are ∙ as_many)
+  pub notes_count : c ≡ length (take c notes)
+  notes_count = omega (arith, ap length numbers_are, as_many, same_long (take c notes))
 
-  pub notes_fit : c ≤ length is
-  notes_fit = omega (arith, notes_count, length-take c is)
+  pub notes_fit : c ≤ length notes
+  notes_fit = omega (arith, notes_count, length-take c notes)
 
-  pub notes_ready : Ready deck (take c is) long
+  pub notes_ready : Ready deck (numbers_of (take c notes)) long
   notes_ready = record { sound = s; are = numbers_are; ends = sym (told_faithful (says long) (end_said (behind (count_of deck)) (held_by deck)) (sym d ∙ n.ends)) }
 
 -- ---- the new deck put

@@ -1,11 +1,10 @@
 -- What the reader's contract says by its verdict, under either rule, and the note that follows from both readings. Assumes nothing.
-use Prim.Native.Nat.{ℕ, suc, ◌+◌, ◌≤◌, ◌<◌}
+use Prim.Native.Nat.{ℕ, suc, ◌≤◌, ◌<◌}
 use mathlib.Core.Path.{◌≡◌, refl, sym, ap, ◌∙◌}
 use mathlib.Core.Bool.{Bool, true, false}
 use mathlib.Core.List.{List, []}
 use Rattle.std.specs.Prelude.{Ok, Err}
 use Rattle.std.specs.Result.{is_ok}
-use native.Mathlib.Omega.{arith}
 use borrow.Author.Tests.{le-leb, lt-leb}
 use lib.Dec.{leb}
 use lib.ListN.{length}
@@ -109,5 +108,5 @@ module _ (s : List ℕ) where
       pub note_long : card_bytes < long → no_note ≡ note
       note_long l = sym (by_length ∙ ap (λ (b : Bool). when b then suc long else no_note) (lt-leb long card_bytes l))
 
-      pub note_written : long ≤ card_bytes → long + 1 ≡ note
-      note_written l = let one : suc long ≡ long + 1 = omega arith in sym (by_length ∙ ap (λ (b : Bool). when b then suc long else no_note) (le-leb long card_bytes l) ∙ one)
+      pub note_written : long ≤ card_bytes → suc long ≡ note
+      note_written l = sym (by_length ∙ ap (λ (b : Bool). when b then suc long else no_note) (le-leb long card_bytes l))

@@ -6,10 +6,11 @@ ghost use Rattle.std.specs.Prelude.{◌≡◌, true, ◌+◌, ◌≤◌, length}
 ghost use Rattle.reading.specs.Reading.{read_under as read_under_said};
 ghost use Rattle.room.specs.Room.{Put};
 ghost use Rattle.converting.specs.Converting.{old_rule, new_rule};
-ghost use Rattle.converted_rows.specs.Notes.{note_by, written_of};
+ghost use Rattle.converted_rows.specs.Notes.{note_by, number_of, written_of};
 
-use card::limits::{BRANCH_PLACES, CARD_BYTES, DECK_BYTES, NODE_PLACES, ROW_PLACES};
+use card::limits::{BRANCH_PLACES, CARD_BYTES, NODE_PLACES, ROW_PLACES};
 use card_text::{put_card, written_length};
+use converted_rows::Note;
 use reader::read_under;
 use room::place;
 use weights::Weight;
@@ -17,27 +18,25 @@ use weights::Weight;
 // The rule by which boxes in the field were filled: a decimal may be a weight.
 const OLD_RULE: bool = true;
 
-// The note of a card that cannot be converted: as if its written form were longer by one byte than any deck.
-const NO_NOTE: usize = DECK_BYTES + 2;
-
-// 0 if the new rule takes the card too, else one more than the length of its written form.
-pub fn note_of_card(card: &[u8]) -> usize
-    ensures { result ≡ note_by true (read_under_said old_rule card.now) (read_under_said new_rule card.now) }
+// It stays if the new rule takes it too; else it is written, if that is not too long for a card.
+pub fn note_of_card(card: &[u8]) -> Note
+    ensures { number_of result ≡ note_by true (read_under_said old_rule card.now) (read_under_said new_rule card.now) }
 {
     let mut rows: [usize; ROW_PLACES] = [0; ROW_PLACES];
     let mut nodes: [u32; NODE_PLACES] = [0; NODE_PLACES];
     let mut branches: [u32; BRANCH_PLACES] = [0; BRANCH_PLACES];
     if read_under(card, Weight::DECIMALS, &mut rows, &mut nodes, &mut branches).is_ok() {
-        return 0;
+        return Note::Stays;
     }
     let Ok(head) = read_under(card, OLD_RULE, &mut rows, &mut nodes, &mut branches) else {
-        return NO_NOTE;
+        return Note::NotConverted;
     };
     let long = written_length(head, &rows, &nodes, &branches);
     if CARD_BYTES < long {
-        return NO_NOTE;
+        Note::NotConverted
+    } else {
+        Note::Written(long as u16)
     }
-    long + 1
 }
 
 // The card's written form at a place, where the room has bytes for it; nothing if the old rule does not take it.

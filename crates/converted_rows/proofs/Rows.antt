@@ -1,5 +1,5 @@
 -- The rows of the new contents: each entry leaves the others still to be put. Assumes nothing.
-use Prim.Native.Nat.{ℕ, zero, suc, ◌+◌, ◌-◌, ◌*◌, ◌≤◌, ◌<◌, min}
+use Prim.Native.Nat.{ℕ, ◌+◌, ◌*◌, ◌≤◌, ◌<◌, min}
 use mathlib.Core.Path.{◌≡◌, refl, sym, ap, ◌∙◌}
 use mathlib.Core.List.{List, [], ◌∷◌, ◌++◌}
 use native.Mathlib.Omega.{arith}
@@ -16,14 +16,7 @@ use Rattle.converted_rows.proofs.Left.{rows_left, all_left, first_left, note_and
 
 -- ---- one entry by its bytes
 
-pub size_written : (note size : ℕ) → (note ≡ 0 → ⊥) → note - 1 ≡ size_by note size
-size_written zero size h = absurd (h refl)
-size_written (suc n) size h = omega arith
-
 module _ (deck : List ℕ) (from : ℕ) where
-  pub size_stays : {note s : ℕ} → note ≡ 0 → s ≡ word_at deck (from + 4) → s ≡ size_by note (row_of (drop from deck)).size
-  size_stays {note} {s} z e = ap (λ (r : Row). r.size) (sym (row_there deck from 0 0 refl refl e refl refl)) ∙ ap (λ (k : ℕ). size_by k (row_of (drop from deck)).size) (sym z)
-
   pub sized_row : {was is : List ℕ} {at p n f z : ℕ} (offset size : ℕ) → n ≡ word_at deck from → f ≡ byte deck (from + 6) → z ≡ byte deck (from + 7)
       → Put was is at (row_text (row_with n offset size f z) []) p → Put was is at (row_text (row_sized offset size (row_of (drop from deck))) []) p
   sized_row offset size en ef ez p = put_as (ap (λ (r : Row). row_text (row_sized offset size r) []) (row_there deck from 0 0 en refl refl ef ez)) p

@@ -1,19 +1,30 @@
 -- The note of a card, by what both rules say of it, and what the notes say of the new deck: where its bodies end, and their bytes. Assumes nothing.
-use Rattle.std.specs.Prelude.{ℕ, zero, suc, ◌+◌, Bool, true, false, List, [], ◌∷◌, ◌++◌, leb, length}
+use Rattle.std.specs.Prelude.{ℕ, zero, suc, ◌+◌, Bool, true, false, List, [], ◌∷◌, ◌++◌, leb, length, map}
 use Rattle.card.specs.Refusals.{not_converted}
 use Rattle.card.specs.Limits.{card_bytes, deck_bytes}
 use Rattle.card.specs.Text.{when◌then◌else◌}
-use Rattle.entry.specs.Said.{Said, says, ◌>>=◌, ◌>>◌, unless}
+use Rattle.entry.specs.Said.{Said, says, ◌>>◌, unless}
 use Rattle.deck.specs.Contents.{Row}
 use Rattle.deck.specs.Deck.{Entry, body_of}
 use Rattle.reading.specs.Reading.{Outcome, taken, refused as turned, read_under}
 use Rattle.texts.specs.Writing.{write_of}
 use Rattle.converting.specs.Converting.{old_rule, new_rule}
+use Rattle.converted_rows.specs.declared.Note.{Note}
+use Rattle.converted_rows.specs.declared.Note.TheVariants.{Stays, Written, NotConverted}
 use Rattle.converted_rows.specs.Noted.{size_by}
 
 -- of a card that cannot be converted: as if its body were longer by one byte than any deck
 abbrev pub no_note : ℕ
 no_note = suc (suc deck_bytes)
+
+-- the number that a note of the code stands for, and those of several
+abbrev pub number_of : Note → ℕ
+number_of Stays = 0
+number_of (Written long) = suc long
+number_of NotConverted = no_note
+
+abbrev pub numbers_of : List Note → List ℕ
+numbers_of notes = map number_of notes
 
 abbrev pub note_by : (live : Bool) (old new : Outcome) → ℕ
 note_by false old new = 0

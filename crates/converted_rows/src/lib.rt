@@ -1,5 +1,4 @@
-// The contents of a converted deck put into a room, by a note for each entry: 0 if its body stays, else one more than
-// the length of its written form (document 02, 2026-11).
+// The contents of a converted deck put into a room, by a note for each entry (document 02, 2026-11).
 #![tactic(auto)]
 
 ghost use Rattle.std.specs.Prelude.{◌≡◌, [], ◌+◌, ◌≤◌, ◌<◌, length, drop};
@@ -8,21 +7,33 @@ ghost use Rattle.deck.specs.Contents.{row_of, contents_of};
 ghost use Rattle.deck.specs.Deck.{row_text, rows_text};
 ghost use Rattle.room.specs.Room.{Put};
 ghost use Rattle.converted_rows.specs.Noted.{size_by, row_sized, rows_noted, Each, SizesFit};
+ghost use Rattle.converted_rows.specs.Notes.{number_of, numbers_of};
 
-use card::limits::{COUNT_BYTES, ENTRY_BYTES, FLAG_AT, SIZE_AT, ZERO_BYTE_AT};
+use card::limits::{COUNT_BYTES, DECK_BYTES, ENTRY_BYTES, FLAG_AT, SIZE_AT, ZERO_BYTE_AT};
 use deck_entries::word_at;
 use deck_writer::put_row;
 use room::place;
 
-// How long the body of the entry at a place is in the new deck.
-pub fn new_size(deck: &[u8], from: usize, note: usize) -> usize
+// What is noted of an entry: its body stays as it is; it is a card that is written anew, in so many bytes; or it is a
+// card that cannot be converted. A length in two bytes makes a note four bytes long, half of a number.
+#[derive(Clone, Copy)]
+pub enum Note {
+    Stays,
+    Written(u16),
+    NotConverted,
+}
+
+// How long the body of the entry at a place is in the new deck; that of a card that cannot be converted is longer by
+// one byte than any deck.
+pub fn new_size(deck: &[u8], from: usize, note: Note) -> usize
     requires { from + entry_bytes ≤ length deck.now }
-    ensures { result ≡ size_by note (row_of (drop from deck.now)).size }
+    ensures { result ≡ size_by (number_of note) (row_of (drop from deck.now)).size }
 {
-    if note != 0 {
-        return note - 1;
+    match note {
+        Note::Stays => word_at(deck, from + SIZE_AT),
+        Note::Written(long) => usize::from(long),
+        Note::NotConverted => DECK_BYTES + 1,
     }
-    word_at(deck, from + SIZE_AT)
 }
 
 // The entry at a place, with a body of so many bytes at `offset`.
@@ -45,10 +56,10 @@ fn put_sized_row(
 }
 
 // All entries, the first body at `first` and each other one where the body before ends.
-pub fn put_new_rows(room: &mut [u8], at: usize, deck: &[u8], notes: &[usize], first: usize) -> usize
-    requires each { Each deck.now notes.now }
-    requires sizes_fit { SizesFit deck.now notes.now first }
-    ensures { Put room.old room.new at (rows_text (rows_noted notes.now first (contents_of deck.now)) []) result }
+pub fn put_new_rows(room: &mut [u8], at: usize, deck: &[u8], notes: &[Note], first: usize) -> usize
+    requires each { Each deck.now (numbers_of notes.now) }
+    requires sizes_fit { SizesFit deck.now (numbers_of notes.now) first }
+    ensures { Put room.old room.new at (rows_text (rows_noted (numbers_of notes.now) first (contents_of deck.now)) []) result }
 {
     let mut offset = first;
     let mut to = place(at);

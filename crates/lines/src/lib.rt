@@ -8,8 +8,9 @@ ghost use Rattle.phrases.specs.Puts.{Puts};
 ghost use Rattle.meaning.specs.Sums.{or_one, upto, flat};
 ghost use Rattle.meaning.specs.Panel.{stay_line, move_line, moves_from};
 ghost use Rattle.panel_numbers.specs.Table.{weight_in};
-ghost use Rattle.panel_wording.specs.PanelText.{numbers, moves_text, stays_text};
+ghost use Rattle.panel_wording.specs.PanelText.{numbers, ending, moves_text, stays_text};
 ghost use Rattle.panel_wording.specs.PanelIn.{Row, tells};
+ghost use Rattle.lines.specs.Weights.{told_behind, weight_text};
 
 use card::limits::MOST_SHARED;
 use put_numbers::put_number;
@@ -27,28 +28,56 @@ fn put_numbers(room: &mut [u8], at: usize, values: &[usize]) -> usize
     to
 }
 
+// Numbers, and the end of their line.
+fn put_rest(room: &mut [u8], at: usize, values: &[usize]) -> usize
+    ensures { Puts room.old room.new at (λ t. numbers values.now ("\n" ▸ t)) result }
+{
+    let a = put_numbers(room, at, values);
+    put_byte(room, a, b'\n')
+}
+
 // A line: a word and its numbers.
 pub fn put_line<'a>(room: &mut [u8], at: usize, word: &'a [u8], values: &'a [usize]) -> usize
     ensures { Puts room.old room.new at (λ t. word.now ++ numbers values.now ("\n" ▸ t)) result }
 {
     let a = put_bytes(room, at, word);
-    let b = put_numbers(room, a, values);
-    put_byte(room, b, b'\n')
+    put_rest(room, a, values)
 }
 
-// A weight of no change, and what the shared number becomes with it (document 02, 2026-10), where it has values at all.
+// What the shared number becomes is told where it has values at all (document 02, 2026-10).
+fn told(becomes: usize, shared: usize) -> Option<usize>
+    ensures { told_behind result ≡ ending (tells shared) becomes }
+{
+    (shared != 0).then_some(becomes)
+}
+
+// A line of a weight: a word, states, the weight, and what the shared number becomes with it.
+fn put_weight_line<'a>(
+    room: &mut [u8],
+    at: usize,
+    word: &'a [u8],
+    states: &'a [usize],
+    weight: usize,
+    becomes: Option<usize>,
+) -> usize
+    ensures { Puts room.old room.new at (weight_text word.now states.now weight (told_behind becomes)) result }
+{
+    let a = put_bytes(room, at, word);
+    let b = put_numbers(room, a, states);
+    match becomes {
+        None => put_rest(room, b, &[weight]),
+        Some(value) => put_rest(room, b, &[weight, value]),
+    }
+}
+
+// A weight of no change. (It is looked for 0 here, as in a move: most weights are 0, and need no call.)
 pub fn put_stay(room: &mut [u8], at: usize, weight: usize, becomes: usize, shared: usize) -> usize
     ensures { Puts room.old room.new at (stays_text (tells shared) (stay_line becomes weight)) result }
 {
     if weight == 0 {
         return place(at);
     }
-    if shared == 0 {
-        let values = [weight];
-        return put_line(room, at, b"stay", &values);
-    }
-    let values = [weight, becomes];
-    put_line(room, at, b"stay", &values)
+    put_weight_line(room, at, b"stay", &[], weight, told(becomes, shared))
 }
 
 // By the weight for each value, from a place on.
@@ -63,6 +92,7 @@ pub fn put_stays(room: &mut [u8], at: usize, weights: &[usize], from: usize, sha
     to
 }
 
+// A weight of a move, which none is from a state to itself.
 fn put_move(
     room: &mut [u8],
     at: usize,
@@ -80,15 +110,12 @@ fn put_move(
     if weight == 0 {
         return place(at);
     }
-    if shared == 0 {
-        let values = [old, new, weight];
-        return put_line(room, at, b"move", &values);
-    }
-    let values = [old, new, weight, becomes];
-    put_line(room, at, b"move", &values)
+    let states = [old, new];
+    put_weight_line(room, at, b"move", &states, weight, told(becomes, shared))
 }
 
-// All moves from one state to another, by the weight for each value.
+// All moves from one state to another, by the weight for each value. The loop is its own, and not that of put_stays: a
+// must-fail edit stands on it, in which a move's new state and its value change places.
 fn put_pair(
     room: &mut [u8],
     at: usize,

@@ -1,21 +1,21 @@
 -- The contents gone through: fates found so far before those still to be found, entries kept so far before those still to be kept; an entry moves one from here to there. Assumes nothing.
 use Prim.Native.Nat.{ℕ, suc, ◌+◌, ◌-◌, ◌*◌, ◌≤◌, ◌<◌}
 use mathlib.Core.Path.{◌≡◌, refl, sym, ap, ◌∙◌}
-use mathlib.Core.Bool.{true≢false}
 use mathlib.Core.List.{List, [], ◌∷◌, ◌++◌, map, append_assoc, append-nil, map-append}
 use native.Mathlib.Omega.{arith}
-use lib.ListN.{length, drop, set, length-append, length-map}
-use lib.Seq.{drop-drop, drop-cons, set_at}
+use lib.ListN.{length, take, drop, set, length-append}
+use lib.Seq.{drop-drop, drop-cons, take-append_seam, drop-append_seam, set_at}
+use Rattle.std.specs.Prelude.{Option, None}
 use Rattle.deck.specs.Contents.{Row, end_of, row_of, rows_of, count_of, behind}
 use Rattle.deck.specs.Deck.{Entry, entry_of, body_of, bodies}
 use Rattle.deck.specs.Sound.{Head}
 use Rattle.deck.proofs.Kept.{body_long}
-use Rattle.mending.specs.Mending.{Fate, kept, dropped, fate_of, least_behind, last_behind, fates_from, fates_in, kept_rows, kept_in, rule_of}
-use Rattle.mending.proofs.Fates.{zero_kept}
-use Rattle.mending.proofs.Mended.{is_kept, kept_right}
+use Rattle.mending.specs.Mending.{Fate, kept, dropped, fate_of, least_behind, last_behind, fates_from, fates_in, kept_rows, kept_in}
+use Rattle.mending.specs.FateBy.{fate_by}
+use Rattle.mending.specs.declared.Rule.{Rule}
+use Rattle.mending.proofs.Mended.{kept_right}
 use Rattle.mending_walk.specs.declared.Walk.{Walk}
 use Rattle.mending_walk.specs.Walking.{walk_before, walked_by, Roomy}
-use Rattle.mending_walk.proofs.Laws.{stays}
 use Rattle.deck_entries.specs.Rows.{row_by}
 use Rattle.deck_entries.specs.declared.Entry.{Entry as Fields}
 use Rattle.mend.specs.Fated.{Fated}
@@ -27,13 +27,13 @@ kept_from deck least last rs = map (entry_of deck) (kept_rows (fates_from deck l
 abbrev rows_left : (deck : List ℕ) (i at : ℕ) → List Row
 rows_left deck i at = rows_of (count_of deck - i) (drop at deck)
 
-pub record Going (deck was is : List ℕ) (i at : ℕ) (w : Walk) : Type 0 where
-  pub done : List Fate
+pub record Going (deck : List ℕ) (was is : List (Option Rule)) (i at : ℕ) (w : Walk) : Type 0 where
+  pub found : List (Option Rule)
   pub kept_so_far : List Entry
-  pub long : length done ≡ i
-  pub fates : fates_in deck ≡ done ++ fates_from deck w.least w.last (rows_left deck i at)
+  pub long : length found ≡ i
+  pub fates : fates_in deck ≡ map fate_by found ++ fates_from deck w.least w.last (rows_left deck i at)
   pub keeps : kept_in deck ≡ kept_so_far ++ kept_from deck w.least w.last (rows_left deck i at)
-  pub stands : is ≡ map rule_of done ++ drop i was
+  pub stands : is ≡ found ++ drop i was
   pub cards : w.cards ≡ length kept_so_far
   pub bytes : w.bytes ≡ length (bodies kept_so_far)
   pub few : w.cards ≤ i
@@ -47,12 +47,12 @@ bodies_append [] b = refl
 bodies_append (e ∷ a) b = ap (λ (l : List ℕ). e.body ++ l) (bodies_append a b) ∙ sym (append_assoc e.body (bodies a) (bodies b))
 
 module _ (deck : List ℕ) (h : Head deck) where
-  pub begins : (was : List ℕ) {c : ℕ} {w : Walk} → c ≡ count_of deck → w ≡ walk_before c → Going deck was was 0 1 w
+  pub begins : (was : List (Option Rule)) {c : ℕ} {w : Walk} → c ≡ count_of deck → w ≡ walk_before c → Going deck was was 0 1 w
   begins was {c} e is =
       let z : count_of deck - 0 ≡ count_of deck = omega arith in
       let b : 1 + 8 * c ≡ behind (count_of deck) = omega (arith, e) in
       rw is (record {
-        done = [];
+        found = [];
         kept_so_far = [];
         long = refl;
         fates = sym (rw (z, b) refl);
@@ -67,17 +67,25 @@ module _ (deck : List ℕ) (h : Head deck) where
         within = omega arith;
       })
 
-  module _ {was is : List ℕ} {i at : ℕ} {w : Walk} (g : Going deck was is i at w) where
+  module _ {was is : List (Option Rule)} {i at : ℕ} {w : Walk} (g : Going deck was is i at w) where
     pub ended : count_of deck ≤ i → Fated deck was is w
     ended l =
         let all : i ≡ count_of deck = omega (arith, g.within) in
         let none : count_of deck - i ≡ 0 = omega arith in
-        let fates : fates_in deck ≡ g.done
-        = g.fates ∙ ap (λ (n : ℕ). g.done ++ fates_from deck w.least w.last (rows_of n (drop at deck))) none ∙ append-nil g.done in
+        let long : length g.found ≡ count_of deck = g.long ∙ all in
+        let fates : fates_in deck ≡ map fate_by g.found
+        = g.fates ∙ ap (λ (n : ℕ). map fate_by g.found ++ fates_from deck w.least w.last (rows_of n (drop at deck))) none ∙ append-nil (map fate_by g.found) in
         let keeps : kept_in deck ≡ g.kept_so_far
         = g.keeps ∙ ap (λ (n : ℕ). g.kept_so_far ++ kept_from deck w.least w.last (rows_of n (drop at deck))) none ∙ append-nil g.kept_so_far in
         record {
-          fates = g.stands ∙ ap (λ (n : ℕ). map rule_of g.done ++ drop n was) all ∙ ap (λ (fs : List Fate). map rule_of fs ++ drop (count_of deck) was) (sym fates);
+          fates =
+              ap (λ (n : ℕ). map fate_by (take n is)) (sym long) ∙ ap (λ (t : List (Option Rule)). map fate_by (take (length g.found) t)) g.stands
+              ∙ ap (map fate_by) (take-append_seam g.found (drop i was))
+              ∙ sym fates;
+          others =
+              ap (λ (n : ℕ). drop n is) (sym long) ∙ ap (λ (t : List (Option Rule)). drop (length g.found) t) g.stands
+              ∙ drop-append_seam g.found (drop i was)
+              ∙ ap (λ (n : ℕ). drop n was) all;
           cards = g.cards ∙ ap length (sym keeps);
           bytes = g.bytes ∙ ap (λ (es : List Entry). length (bodies es)) (sym keeps);
           short = omega (arith, g.few, g.within, g.short, g.inside);
@@ -90,7 +98,7 @@ module _ (deck : List ℕ) (h : Head deck) where
     in_contents l = omega (arith, g.place, h.whole)
 
     -- one entry further: f is its fate, `more` what is kept of it
-    module _ (l : i < count_of deck) {k : ℕ} {v : Walk} (f : Fate) (more : List Entry) (e : k ≡ rule_of f)
+    module _ (l : i < count_of deck) (k : Option Rule) {v : Walk} (f : Fate) (more : List Entry) (e : fate_by k ≡ f)
         (ef : fate_of deck w.least w.last (row_of (drop at deck)) ≡ f)
         (least-is : v.least ≡ least_behind f (row_of (drop at deck)) w.least)
         (last-is : v.last ≡ last_behind f (row_of (drop at deck)) w.last)
@@ -123,23 +131,26 @@ module _ (deck : List ℕ) (h : Head deck) where
           ∙ ap (λ (rs : List Row). map (entry_of deck) (kept_rows (f ∷ fates_from deck v.least v.last rest) rs)) rows_are
           ∙ kept-is (fates_from deck v.least v.last rest) rest
 
-      stored_are : set is i k ≡ map rule_of (g.done ++ f ∷ []) ++ drop (i + 1) was
+      stored_are : set is i k ≡ (g.found ++ k ∷ []) ++ drop (i + 1) was
       stored_are =
           let one : i + 1 ≡ suc i = omega arith in
-          let long : length (map rule_of g.done) ≡ i = length-map g.done rule_of ∙ g.long in
-          ap (λ (t : List ℕ). set t i k) (g.stands ∙ ap (λ (t : List ℕ). map rule_of g.done ++ t) (drop-cons was i 0 room))
-          ∙ set_at (map rule_of g.done) _ (drop (suc i) was) k i long
-          ∙ sym (append_assoc (map rule_of g.done) (k ∷ []) (drop (suc i) was))
-          ∙ ap (λ (n : ℕ). map rule_of g.done ++ (n ∷ []) ++ drop (suc i) was) e
-          ∙ ap (λ (t : List ℕ). t ++ drop (suc i) was) (sym (map-append rule_of g.done (f ∷ [])))
-          ∙ ap (λ (n : ℕ). map rule_of (g.done ++ f ∷ []) ++ drop n was) (sym one)
+          ap (λ (t : List (Option Rule)). set t i k) (g.stands ∙ ap (λ (t : List (Option Rule)). g.found ++ t) (drop-cons was i None room))
+          ∙ set_at g.found _ (drop (suc i) was) k i g.long
+          ∙ sym (append_assoc g.found (k ∷ []) (drop (suc i) was))
+          ∙ ap (λ (n : ℕ). (g.found ++ k ∷ []) ++ drop n was) (sym one)
+
+      found_are : map fate_by (g.found ++ k ∷ []) ≡ map fate_by g.found ++ f ∷ []
+      found_are = map-append fate_by g.found (k ∷ []) ∙ ap (λ (x : Fate). map fate_by g.found ++ x ∷ []) e
 
       further : Going deck was (set is i k) (i + 1) (at + 8) v
       further = record {
-        done = g.done ++ f ∷ [];
+        found = g.found ++ k ∷ [];
         kept_so_far = g.kept_so_far ++ more;
-        long = length-append g.done (f ∷ []) ∙ omega (arith, g.long);
-        fates = g.fates ∙ ap (λ (fs : List Fate). g.done ++ fs) fates_are ∙ sym (append_assoc g.done (f ∷ []) (fates_from deck v.least v.last rest));
+        long = length-append g.found (k ∷ []) ∙ omega (arith, g.long);
+        fates =
+            g.fates ∙ ap (λ (fs : List Fate). map fate_by g.found ++ fs) fates_are
+            ∙ sym (append_assoc (map fate_by g.found) (f ∷ []) (fates_from deck v.least v.last rest))
+            ∙ ap (λ (fs : List Fate). fs ++ fates_from deck v.least v.last rest) (sym found_are);
         keeps = g.keeps ∙ ap (λ (es : List Entry). g.kept_so_far ++ es) kept_are ∙ sym (append_assoc g.kept_so_far more (kept_from deck v.least v.last rest));
         stands = stored_are;
         cards = omega (arith, cards-are, g.cards, length-append g.kept_so_far more);
@@ -152,29 +163,26 @@ module _ (deck : List ℕ) (h : Head deck) where
       }
 
     -- by its fate
-    module _ (l : i < count_of deck) {k : ℕ} {v : Walk} (e : k ≡ rule_of (fate_of deck w.least w.last (row_of (drop at deck))))
-        (s : v ≡ walked_by k (row_of (drop at deck)) w) (room : i < length was) where
+    module _ (l : i < count_of deck) (k : Option Rule) {v : Walk} (e : fate_by k ≡ fate_of deck w.least w.last (row_of (drop at deck)))
+        (s : v ≡ walked_by (fate_by k) (row_of (drop at deck)) w) (room : i < length was) where
       abbrev r : Row
       r = row_of (drop at deck)
 
       kept_on : fate_of deck w.least w.last r ≡ kept → Going deck was (set is i k) (i + 1) (at + 8) v
       kept_on ef =
-          let zero_is : k ≡ 0 = e ∙ ap rule_of ef in
-          let walk_is : v ≡ record { least = suc r.number; last = end_of r; cards = w.cards + 1; bytes = w.bytes + r.size }
-          = s ∙ ap (λ (n : ℕ). walked_by n r w) zero_is in
+          let walk_is : v ≡ walked_by kept r w = s ∙ ap (λ (f : Fate). walked_by f r w) (e ∙ ef) in
           let right = (kept_right deck w.least w.last r ef).0 in
           let long = body_long deck r right.ends in
           let last-is : v.last ≡ end_of r = ap (λ (x : Walk). x.last) walk_is in
           let bytes-is : v.bytes ≡ w.bytes + r.size = ap (λ (x : Walk). x.bytes) walk_is in
-          further l kept (entry_of deck r ∷ []) (e ∙ ap rule_of ef) ef (ap (λ (x : Walk). x.least) walk_is) last-is (λ fs rs. refl) (ap (λ (x : Walk). x.cards) walk_is)
+          further l k kept (entry_of deck r ∷ []) (e ∙ ef) ef (ap (λ (x : Walk). x.least) walk_is) last-is (λ fs rs. refl) (ap (λ (x : Walk). x.cards) walk_is)
           (omega (arith, bytes-is, long, length-append (body_of deck r) [])) (omega arith) (omega (arith, bytes-is, last-is, right.begins, g.short)) (omega (arith, last-is, right.ends)) room
 
       dropped_on : (rule : ℕ) → fate_of deck w.least w.last r ≡ dropped rule → Going deck was (set is i k) (i + 1) (at + 8) v
       dropped_on rule ef =
-          let some : k ≡ 0 → ⊥ = λ z. true≢false (sym (ap is_kept (sym ef ∙ zero_kept deck w.least w.last r (sym e ∙ z)))) in
-          let walk_is : v ≡ w = s ∙ sym (stays k r w some) in
+          let walk_is : v ≡ w = s ∙ ap (λ (f : Fate). walked_by f r w) (e ∙ ef) in
           let part : (f : Walk → ℕ) → f v ≡ f w = λ f. ap f walk_is in
-          further l (dropped rule) [] (e ∙ ap rule_of ef) ef (part (λ (x : Walk). x.least)) (part (λ (x : Walk). x.last)) (λ fs rs. refl)
+          further l k (dropped rule) [] (e ∙ ef) ef (part (λ (x : Walk). x.least)) (part (λ (x : Walk). x.last)) (λ fs rs. refl)
           (omega (arith, part (λ (x : Walk). x.cards))) (omega (arith, part (λ (x : Walk). x.bytes))) (omega arith)
           (omega (arith, part (λ (x : Walk). x.bytes), part (λ (x : Walk). x.last), g.short)) (omega (arith, part (λ (x : Walk). x.last), g.inside)) room
 
@@ -186,9 +194,9 @@ module _ (deck : List ℕ) (h : Head deck) where
           go (dropped rule) ef = dropped_on rule ef
 
   -- the same by the fields of the entry
-  pub on : {was is : List ℕ} {i k : ℕ} {w v : Walk} {x : Fields} → Going deck was is i (1 + 8 * i) w → i < count_of deck → row_by x ≡ row_of (drop (1 + 8 * i) deck)
-      → k ≡ rule_of (fate_of deck w.least w.last (row_by x)) → v ≡ walked_by k (row_by x) w → i < length was
+  pub on : {was is : List (Option Rule)} {i : ℕ} {w v : Walk} {x : Fields} (k : Option Rule) → Going deck was is i (1 + 8 * i) w → i < count_of deck → row_by x ≡ row_of (drop (1 + 8 * i) deck)
+      → fate_by k ≡ fate_of deck w.least w.last (row_by x) → v ≡ walked_by (fate_by k) (row_by x) w → i < length was
       → Going deck was (set is i k) (i + 1) (1 + 8 * (i + 1)) v
-  on {was} {is} {i} {k} {w} {v} g l x e s room =
+  on {was} {is} {i} {w} {v} k g l x e s room =
       let far : 1 + 8 * (i + 1) ≡ 1 + 8 * i + 8 = omega arith in
-      rw far (goes_on g l (e ∙ ap (λ (r : Row). rule_of (fate_of deck w.least w.last r)) x) (s ∙ ap (λ (r : Row). walked_by k r w) x) room)
+      rw far (goes_on g l k (e ∙ ap (λ (r : Row). fate_of deck w.least w.last r) x) (s ∙ ap (λ (r : Row). walked_by (fate_by k) r w) x) room)

@@ -8,7 +8,8 @@ ghost use Rattle.deck.specs.Contents.{count_of};
 ghost use Rattle.deck_entries.specs.Rows.{row_by};
 ghost use Rattle.deck.specs.Sound.{Head};
 ghost use Rattle.reading.specs.Reading.{read_of};
-ghost use Rattle.mending.specs.Mending.{is_taken, fate_of as fate_of_said, rule_of};
+ghost use Rattle.mending.specs.Mending.{is_taken, fate_of as fate_of_said};
+ghost use Rattle.mending.specs.FateBy.{fate_by};
 ghost use Rattle.mended_rooms.specs.Mends.{Mends};
 ghost use Rattle.mend.specs.Fated.{Fated};
 
@@ -16,6 +17,7 @@ use card::Refusal;
 use card::limits::{BRANCH_PLACES, COUNT_BYTES, ENTRY_BYTES, MOST_CARDS, NODE_PLACES, ROW_PLACES};
 use deck_entries::{Entry, malformed};
 use mended_rooms::store_mended;
+use mending::Rule;
 use mending_walk::{Walk, head_count};
 use reader::read_into;
 
@@ -29,30 +31,27 @@ fn accepted(card: &[u8]) -> bool
     read_into(card, &mut rows, &mut nodes, &mut branches).is_ok()
 }
 
-// The rule of a card that is not accepted.
-const CARD_RULE: usize = 4;
-
-// The first rule that an entry breaks, or 0 if it is kept. Its card is read only if it is live and breaks none of the others.
-fn fate_of(deck: &[u8], entry: Entry, walk: Walk) -> usize
-    ensures { result ≡ rule_of (fate_of_said deck.now walk.least walk.last (row_by entry)) }
+// The first rule that an entry breaks, or none if it is kept. Its card is read only if it is live and breaks none of the others.
+fn fate_of(deck: &[u8], entry: Entry, walk: Walk) -> Option<Rule>
+    ensures { fate_by result ≡ fate_of_said deck.now walk.least walk.last (row_by entry) }
 {
     let rule = walk.broken_rule(entry, deck.len());
-    if rule != 0 {
+    if rule.is_some() {
         return rule;
     }
     if entry.flag == 0 {
-        return 0;
+        return None;
     }
     let offset = entry.offset as usize;
     let end = entry.end();
     if accepted(&deck[offset..end]) {
-        return 0;
+        return None;
     }
-    CARD_RULE
+    Some(Rule::Card)
 }
 
-// A number for each of the `count` entries: 0 if it is kept, else the first rule that it breaks.
-fn fates_into(deck: &[u8], count: usize, fates: &mut [usize; MOST_CARDS]) -> Walk
+// The fate of each of the `count` entries: the first rule that it breaks, or none if it is kept.
+fn fates_into(deck: &[u8], count: usize, fates: &mut [Option<Rule>; MOST_CARDS]) -> Walk
     requires head { Head deck.now }
     requires count_value { count ≡ count_of deck.now }
     requires fates_len { length fates.old ≡ most_cards }
@@ -75,7 +74,7 @@ pub fn mend(deck: &[u8], room: &mut [u8], list: &mut [u8]) -> Result<(usize, usi
     let Some(count) = head_count(deck) else {
         return Err(malformed(0));
     };
-    let mut fates: [usize; MOST_CARDS] = [0; MOST_CARDS];
+    let mut fates: [Option<Rule>; MOST_CARDS] = [None; MOST_CARDS];
     let walk = fates_into(deck, count, &mut fates);
     store_mended(deck, &fates[..count], walk.cards, walk.bytes, room, list)
 }

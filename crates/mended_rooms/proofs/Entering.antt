@@ -1,10 +1,11 @@
 -- What mending says, by what is kept and by the rooms: nothing kept, a deck or a list that does not fit, or both put. Assumes nothing.
 use Prim.Native.Nat.{ℕ, ◌+◌, ◌*◌, ◌≤◌, ◌<◌}
 use mathlib.Core.Path.{◌≡◌, refl, sym, ap, ◌∙◌}
-use mathlib.Core.List.{List, []}
+use mathlib.Core.List.{List, [], map}
 use native.Mathlib.Omega.{arith}
 use lib.ListN.{length}
 use borrow.Author.Tests.{le-leb, lt-leb}
+use Rattle.std.specs.Prelude.{Option}
 use Rattle.card.specs.Refusals.{malformed_deck, room_too_small}
 use Rattle.entry.specs.Said.{says, refused}
 use Rattle.entry.specs.Contract.{onto, Two, two}
@@ -13,7 +14,9 @@ use Rattle.deck.proofs.Written.{length_text}
 use Rattle.room.specs.Room.{Put}
 use Rattle.room.proofs.Laws.{put_as, clip_start}
 use Rattle.phrases.specs.Puts.{Puts}
-use Rattle.mending.specs.Mending.{fates_in, kept_in, list_text, mended, mend_said}
+use Rattle.mending.specs.FateBy.{fate_by}
+use Rattle.mending.specs.declared.Rule.{Rule}
+use Rattle.mending.specs.Mending.{Fate, fates_in, kept_in, list_text, mended, mend_said}
 use Rattle.mending.proofs.MendStage.{none_kept, some_kept_law}
 use Rattle.mended_rooms.specs.Lines.{lines_by}
 use Rattle.mended_rooms.proofs.Listed.{listed_by, list_short}
@@ -24,7 +27,7 @@ use Rattle.mended_rooms.specs.Mends.{Mends}
 pub mends_refused : {was : Two (List ℕ)} (deck : List ℕ) {number place : ℕ} → mend_said deck ≡ refused number place → Mends was was deck (Refused number place)
 mends_refused deck e = rw e (record { answers = refl; leaves = refl })
 
-module _ {deck fates : List ℕ} {cards : ℕ} (h : Fates deck fates cards) where
+module _ {deck : List ℕ} {fates : List (Option Rule)} {cards : ℕ} (h : Fates deck fates cards) where
   pub nothing_kept : {was : Two (List ℕ)} → cards ≡ 0 → Mends was was deck (Refused malformed_deck 0)
   nothing_kept z = mends_refused deck (none_kept deck h.head (sym h.count ∙ z))
 
@@ -32,9 +35,9 @@ module _ {deck fates : List ℕ} {cards : ℕ} (h : Fates deck fates cards) wher
   says_mended some = some_kept_law deck h.head (omega (arith, h.count, some))
 
   -- the list, put into a room of no bytes or into the lent one
-  module _ {was is : List ℕ} {r : ℕ} (p : Puts was is 0 (lines_by fates) r) where
+  module _ {was is : List ℕ} {r : ℕ} (p : Puts was is 0 (lines_by (map fate_by fates)) r) where
     list_put : Put was is 0 (list_text (fates_in deck)) r
-    list_put = put_as (sym (ap (λ (ks : List ℕ). lines_by ks []) h.are ∙ listed_by deck)) p.put
+    list_put = put_as (sym (ap (λ (fs : List Fate). lines_by fs []) h.are ∙ listed_by (fates_in deck))) p.put
 
     lines_are : r ≡ length (list_text (fates_in deck))
     lines_are = omega (arith, list_put.next, list_short deck, h.head.few)
@@ -54,7 +57,7 @@ module _ {deck fates : List ℕ} {cards : ℕ} (h : Fates deck fates cards) wher
           let longer : length room < length t = omega (arith, need_is) in
           rw (says_mended some) (record { answers = rw (lt-leb (length t) (length room) longer, need_is); leaves = rw (lt-leb (length t) (length room) longer) })
 
-      module _ (roomy : 1 + 8 * cards + bytes ≤ length room) {a b : List ℕ} {lines : ℕ} (measured : Puts a b 0 (lines_by fates) lines) where
+      module _ (roomy : 1 + 8 * cards + bytes ≤ length room) {a b : List ℕ} {lines : ℕ} (measured : Puts a b 0 (lines_by (map fate_by fates)) lines) where
         deck_fits : length (deck_text (kept_in deck)) ≤ length room
         deck_fits = omega (arith, need_is)
 
@@ -68,7 +71,7 @@ module _ {deck fates : List ℕ} {cards : ℕ} (h : Fates deck fates cards) wher
               leaves = rw (le-leb (length t) (length room) deck_fits, lt-leb (length u) (length list) longer);
             })
 
-        pub both_put : {room' list' : List ℕ} {r s : ℕ} → lines ≤ length list → Put room room' 0 (deck_text (kept_in deck)) r → Puts list list' 0 (lines_by fates) s
+        pub both_put : {room' list' : List ℕ} {r s : ℕ} → lines ≤ length list → Put room room' 0 (deck_text (kept_in deck)) r → Puts list list' 0 (lines_by (map fate_by fates)) s
             → Mends (two room list) (two room' list') deck (Done r s)
         both_put {room'} {list'} {r} {s} l p q =
             let t = deck_text (kept_in deck) in

@@ -1,5 +1,4 @@
 pub mod Listed
-pub mod Laws
 pub mod Putting
 pub mod Text
 pub mod Entering

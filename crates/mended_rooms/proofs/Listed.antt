@@ -1,35 +1,32 @@
--- The list by numbers is the list by fates, since no rule has the number 0; and one line more. Assumes nothing.
-use Prim.Native.Nat.{ℕ, zero, suc, ◌+◌, ◌*◌, ◌≤◌, ◌<◌}
+-- The list by fates, and one line more. Assumes nothing.
+use Prim.Native.Nat.{ℕ, suc, ◌+◌, ◌*◌, ◌≤◌, ◌<◌}
 use mathlib.Core.Path.{◌≡◌, refl, sym, ap, ◌∙◌}
-use mathlib.Core.List.{List, [], ◌∷◌, ◌++◌, map}
+use mathlib.Core.List.{List, [], ◌∷◌, ◌++◌, map, map-append}
 use native.Mathlib.Omega.{arith}
+use denote.Enum.Declared.{tag_of}
 use lib.ListN.{length, take, get_or, length-append}
 use lib.Seq.{take-suc, take_all}
+use Rattle.std.specs.Prelude.{Option, None, Some}
 use Rattle.deck.specs.Contents.{Row, count_of, entries_from, behind, contents_of}
 use Rattle.deck_written.proofs.Entries.{length_rows}
 use Rattle.room.specs.Digits.{decimal}
 use Rattle.room.proofs.Decimal.{length_one}
-use Rattle.mending.specs.Mending.{Fate, fate_of, least_behind, last_behind, fates_from, fates_in, rule_of, line_text, list_text}
+use Rattle.mending.specs.Mending.{Fate, fate_of, least_behind, last_behind, fates_from, fates_in, line_text, list_text}
+use Rattle.mending.specs.FateBy.{number_of, fate_by}
+use Rattle.mending.specs.declared.Rule.{Rule}
+use Rattle.mending.specs.declared.Rule.TheVariants.{Flags, Number, Range, Card}
+use Rattle.mending.specs.contracts.Rule.{the_type}
 use Rattle.mending.proofs.Fates.{by_fate}
 use Rattle.phrases.specs.Phrases.{◌▸◌, num}
 use Rattle.phrases.specs.Puts.{Puts}
 use Rattle.phrases.proofs.Laws.{puts_then, puts_as}
-use Rattle.mended_rooms.specs.Lines.{line_by, lines_by}
+use Rattle.mended_rooms.specs.Lines.{lines_by}
 
 -- ---- by fates
 
-line_by_law : (deck : List ℕ) (least last : ℕ) (r : Row) (t : List ℕ) → line_by (rule_of (fate_of deck least last r)) t ≡ line_text (fate_of deck least last r) t
-line_by_law deck least last r t = by_fate deck least last r (λ (f : Fate). line_by (rule_of f) t ≡ line_text f t) refl (λ rule l. refl)
-
-lines_by_law : (deck : List ℕ) (least last : ℕ) (rs : List Row) → lines_by (map rule_of (fates_from deck least last rs)) [] ≡ list_text (fates_from deck least last rs)
-lines_by_law deck least last [] = refl
-lines_by_law deck least last (r ∷ rs) =
-    let f = fate_of deck least last r in
-    line_by_law deck least last r (lines_by (map rule_of (fates_from deck (least_behind f r least) (last_behind f r last) rs)) [])
-    ∙ ap (line_text f) (lines_by_law deck (least_behind f r least) (last_behind f r last) rs)
-
-pub listed_by : (deck : List ℕ) → lines_by (map rule_of (fates_in deck)) [] ≡ list_text (fates_in deck)
-listed_by deck = lines_by_law deck 0 (behind (count_of deck)) (contents_of deck)
+pub listed_by : (fs : List Fate) → lines_by fs [] ≡ list_text fs
+listed_by [] = refl
+listed_by (f ∷ fs) = ap (line_text f) (listed_by fs)
 
 -- a line has ten bytes at most
 line_short : (deck : List ℕ) (least last : ℕ) (r : Row) (t : List ℕ) → length (line_text (fate_of deck least last r) t) ≤ 10 + length t
@@ -50,27 +47,33 @@ list_short deck = omega (arith, lines_short deck 0 (behind (count_of deck)) (con
 
 -- ---- one line more
 
-lines_append : (ks ls : List ℕ) (t : List ℕ) → lines_by (ks ++ ls) t ≡ lines_by ks (lines_by ls t)
-lines_append [] ls t = refl
-lines_append (k ∷ ks) ls t = ap (line_by k) (lines_append ks ls t)
+lines_append : (fs gs : List Fate) (t : List ℕ) → lines_by (fs ++ gs) t ≡ lines_by fs (lines_by gs t)
+lines_append [] gs t = refl
+lines_append (f ∷ fs) gs t = ap (line_text f) (lines_append fs gs t)
 
-module _ (ks : List ℕ) (i : ℕ) where
-  pub lines_next : {a b c : List ℕ} {m r : ℕ} → i < length ks → Puts a b 0 (lines_by (take i ks)) m → Puts b c m (line_by (get_or ks i 0)) r
-      → Puts a c 0 (lines_by (take (i + 1) ks)) r
+module _ (ks : List (Option Rule)) (i : ℕ) where
+  pub lines_next : {a b c : List ℕ} {m r : ℕ} → i < length ks → Puts a b 0 (lines_by (map fate_by (take i ks))) m → Puts b c m (line_text (fate_by (get_or ks i None))) r
+      → Puts a c 0 (lines_by (map fate_by (take (i + 1) ks))) r
   lines_next l p q =
       let one : i + 1 ≡ suc i = omega arith in
-      puts_as (lines_by (take (i + 1) ks))
-      (λ t. sym (ap (λ (n : ℕ). lines_by (take n ks) t) one ∙ ap (λ (x : List ℕ). lines_by x t) (take-suc ks i 0 l) ∙ lines_append (take i ks) (get_or ks i 0 ∷ []) t))
+      let more : map fate_by (take (i + 1) ks) ≡ map fate_by (take i ks) ++ fate_by (get_or ks i None) ∷ []
+      = ap (λ (n : ℕ). map fate_by (take n ks)) one ∙ ap (map fate_by) (take-suc ks i None l) ∙ map-append fate_by (take i ks) (get_or ks i None ∷ []) in
+      puts_as (lines_by (map fate_by (take (i + 1) ks)))
+      (λ t. sym (ap (λ (fs : List Fate). lines_by fs t) more ∙ lines_append (map fate_by (take i ks)) (fate_by (get_or ks i None) ∷ []) t))
       (puts_then p q)
 
-  pub lines_end : {a b : List ℕ} {m : ℕ} → length ks ≤ i → Puts a b 0 (lines_by (take i ks)) m → Puts a b 0 (lines_by ks) m
-  lines_end l p = puts_as (lines_by ks) (λ t. ap (λ (x : List ℕ). lines_by x t) (take_all i ks l)) p
+  pub lines_end : {a b : List ℕ} {m : ℕ} → length ks ≤ i → Puts a b 0 (lines_by (map fate_by (take i ks))) m → Puts a b 0 (lines_by (map fate_by ks)) m
+  lines_end l p = puts_as (lines_by (map fate_by ks)) (λ t. ap (λ (x : List (Option Rule)). lines_by (map fate_by x) t) (take_all i ks l)) p
 
--- ---- a line, by its number
+-- ---- a line, by the rule's number
 
-pub line_kept : (k : ℕ) → k ≡ 0 → (t : List ℕ) → "kept\n" ▸ t ≡ line_by k t
-line_kept k e t = rw e
+-- a rule's number as the code reckons it
+number_is : (rule : Rule) → tag_of the_type rule + 1 ≡ number_of rule
+number_is Flags = refl
+number_is Number = refl
+number_is Range = refl
+number_is Card = refl
 
-pub line_dropped : (k : ℕ) → (k ≡ 0 → ⊥) → (t : List ℕ) → "dropped " ▸ num k ("\n" ▸ t) ≡ line_by k t
-line_dropped zero h t = absurd (h refl)
-line_dropped (suc rule) h t = refl
+pub line_dropped : {fate : Option Rule} (rule : Rule) → fate ≡ Some rule → (t : List ℕ)
+    → "dropped " ▸ num (tag_of the_type rule + 1) ("\n" ▸ t) ≡ line_text (fate_by fate) t
+line_dropped rule e t = rw (e, number_is rule)

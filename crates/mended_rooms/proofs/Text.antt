@@ -1,34 +1,28 @@
--- The text of the entries kept, by their fates as numbers: rows that are kept are right, so that only their offsets are written anew. Assumes nothing.
-use Prim.Native.Nat.{ℕ, suc, ◌+◌, ◌*◌, ◌≤◌}
+-- The text of the entries kept, by their fates: rows that are kept are right, so that only their offsets are written anew. Assumes nothing.
+use Prim.Native.Nat.{ℕ, ◌+◌, ◌*◌, ◌≤◌}
 use mathlib.Core.Path.{◌≡◌, refl, sym, ap, ◌∙◌}
 use mathlib.Core.List.{List, [], ◌∷◌, ◌++◌, map}
 use native.Mathlib.Omega.{arith}
 use lib.ListN.{length, length-append, length-map}
+use Rattle.std.specs.Prelude.{Option}
 use Rattle.card.specs.Valid.{Every}
 use Rattle.card.proofs.Held.{every_map}
-use Rattle.deck.specs.Contents.{Row, count_of, behind, end_of, contents_of}
+use Rattle.deck.specs.Contents.{Row, count_of, behind, contents_of}
 use Rattle.deck.specs.Deck.{body_of, entry_of, row_for, rows_for, rows_text, bodies, deck_text}
 use Rattle.deck.proofs.Kept.{body_long}
 use Rattle.deck_written.specs.WriteDeckSaid.{sizes, line_for, lines_for}
-use Rattle.mending.specs.Mending.{Fate, least_behind, last_behind, fates_from, fates_in, kept_rows, kept_in, rule_of}
-use Rattle.mending.proofs.Fates.{by_fate, one_each}
+use Rattle.mending.specs.Mending.{Fate, fates_in, kept_rows, kept_in}
+use Rattle.mending.specs.FateBy.{fate_by}
+use Rattle.mending.specs.declared.Rule.{Rule}
+use Rattle.mending.proofs.Fates.{one_each}
 use Rattle.mending.proofs.Mended.{KeptRow, rows_right, few}
 use Rattle.mending.proofs.Unchanged.{row_for_law}
 use Rattle.room.specs.Room.{Put}
 use Rattle.room.proofs.Laws.{then, put_as}
 use Rattle.deck_writer.proofs.Putting.{rows_before}
-use Rattle.mended_rooms.specs.KeptBy.{kept_by, rows_kept, Each, OffsetsFit, BodiesInside, Fates}
+use Rattle.mended_rooms.specs.KeptBy.{rows_kept, Each, OffsetsFit, BodiesInside, Fates}
 
 module _ (deck : List ℕ) where
-  -- by numbers as by fates
-  kept_by_law : (least last : ℕ) (rs : List Row) → kept_by (map rule_of (fates_from deck least last rs)) rs ≡ kept_rows (fates_from deck least last rs) rs
-  kept_by_law least last [] = refl
-  kept_by_law least last (r ∷ rs) =
-      by_fate deck least last r
-      (λ (f : Fate). kept_by (rule_of f ∷ map rule_of (fates_from deck (least_behind f r least) (last_behind f r last) rs)) (r ∷ rs)
-      ≡ kept_rows (f ∷ fates_from deck (least_behind f r least) (last_behind f r last) rs) (r ∷ rs))
-      (ap (λ (l : List Row). r ∷ l) (kept_by_law (suc r.number) (end_of r) rs)) (λ rule l. kept_by_law least last rs)
-
   -- rows that are right
   pub lines_for_law : (rs : List Row) → Every (KeptRow deck) rs → (at : ℕ) → rows_for at (map (entry_of deck) rs) ≡ lines_for at rs
   lines_for_law [] h at = refl
@@ -42,12 +36,12 @@ module _ (deck : List ℕ) where
   sizes_are [] h = refl
   sizes_are (r ∷ rs) h = omega (arith, length-append (body_of deck r) (bodies (map (entry_of deck) rs)), body_long deck r h.0.ends, sizes_are rs h.1)
 
-module _ {deck fates : List ℕ} {cards : ℕ} (h : Fates deck fates cards) where
+module _ {deck : List ℕ} {fates : List (Option Rule)} {cards : ℕ} (h : Fates deck fates cards) where
   abbrev rows : List Row
   rows = kept_rows (fates_in deck) (contents_of deck)
 
   rows_are : rows_kept deck fates ≡ rows
-  rows_are = ap (λ (ks : List ℕ). kept_by ks (contents_of deck)) h.are ∙ kept_by_law deck 0 (behind (count_of deck)) (contents_of deck)
+  rows_are = ap (λ (fs : List Fate). kept_rows fs (contents_of deck)) h.are
 
   right : Every (KeptRow deck) rows
   right = rows_right deck 0 (behind (count_of deck)) (contents_of deck)
@@ -55,7 +49,7 @@ module _ {deck fates : List ℕ} {cards : ℕ} (h : Fates deck fates cards) wher
   pub each : Each deck fates
   each = record {
     head = h.head;
-    long = ap length h.are ∙ length-map (fates_in deck) rule_of ∙ one_each deck;
+    long = sym (length-map fates fate_by) ∙ ap length h.are ∙ one_each deck;
   }
 
   pub few_cards : cards ≤ 64

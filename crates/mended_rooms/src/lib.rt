@@ -2,7 +2,7 @@
 #![tactic(auto)]
 
 ghost use Rattle.phrases.specs.Puts.{Puts};
-ghost use Rattle.mended_rooms.specs.Lines.{line_by, lines_by};
+ghost use Rattle.mended_rooms.specs.Lines.{lines_by};
 ghost use Rattle.std.specs.Prelude.{◌≡◌, ◌≤◌, ◌<◌, length, [], map};
 ghost use Rattle.card.specs.Limits.{word_numbers};
 ghost use Rattle.deck_entries.specs.Rows.{row_by as fields_of};
@@ -11,7 +11,8 @@ ghost use Rattle.room.specs.Room.{Put};
 ghost use Rattle.mended_rooms.specs.Parts.{row_by, body_by, behind_by};
 ghost use Rattle.deck.specs.Deck.{entry_of, rows_text, bodies, deck_text};
 ghost use Rattle.deck_written.specs.WriteDeckSaid.{lines_for};
-ghost use Rattle.mending.specs.Mending.{kept_in};
+ghost use Rattle.mending.specs.Mending.{kept, kept_in, line_text};
+ghost use Rattle.mending.specs.FateBy.{fate_by};
 ghost use Rattle.mended_rooms.specs.KeptBy.{rows_kept, Each, OffsetsFit, BodiesInside, Fates};
 ghost use Rattle.entry.specs.Contract.{two};
 ghost use Rattle.mended_rooms.specs.Mends.{Mends};
@@ -21,24 +22,25 @@ use card::limits::{COUNT_BYTES, ENTRY_BYTES};
 use card::refusals::ROOM_TOO_SMALL;
 use deck_entries::{Entry, malformed};
 use deck_writer::put_row;
+use mending::Rule;
 use put_numbers::put_number;
 use room::{place, put_byte, put_bytes, put_run};
 
-// A line of the list, by an entry's fate: 0 if it is kept, else the rule that it breaks.
-fn put_line(room: &mut [u8], at: usize, fate: usize) -> usize
-    ensures { Puts room.old room.new at (line_by fate) result }
+// A line of the list, by an entry's fate: the first rule that it breaks, or none if it is kept.
+fn put_line(room: &mut [u8], at: usize, fate: Option<Rule>) -> usize
+    ensures { Puts room.old room.new at (line_text (fate_by fate)) result }
 {
-    if fate == 0 {
+    let Some(rule) = fate else {
         return put_bytes(room, at, b"kept\n");
-    }
+    };
     let a = put_bytes(room, at, b"dropped ");
-    let b = put_number(room, a, fate);
+    let b = put_number(room, a, rule as usize);
     put_byte(room, b, b'\n')
 }
 
 // The list, a line for each entry; the answer is the place behind the last.
-fn put_list(room: &mut [u8], fates: &[usize]) -> usize
-    ensures { Puts room.old room.new 0 (lines_by fates.now) result }
+fn put_list(room: &mut [u8], fates: &[Option<Rule>]) -> usize
+    ensures { Puts room.old room.new 0 (lines_by (map fate_by fates.now)) result }
 {
     let mut to = place(0);
     for &fate in fates {
@@ -48,44 +50,54 @@ fn put_list(room: &mut [u8], fates: &[usize]) -> usize
 }
 
 // Where the next body starts, behind an entry.
-fn offset_behind(entry: Entry, fate: usize, offset: usize) -> usize
+fn offset_behind(entry: Entry, fate: Option<Rule>, offset: usize) -> usize
     requires { offset < word_numbers }
-    ensures { result ≡ behind_by fate (fields_of entry) offset }
+    ensures { result ≡ behind_by (fate_by fate) (fields_of entry) offset }
 {
-    if fate != 0 {
-        return offset;
+    match fate {
+        Some(_) => offset,
+        None => offset + entry.size as usize,
     }
-    offset + entry.size as usize
 }
 
 // An entry, with its body at `offset`; one that is dropped puts nothing.
-fn put_kept_row(room: &mut [u8], at: usize, entry: Entry, fate: usize, offset: usize) -> usize
+fn put_kept_row(
+    room: &mut [u8],
+    at: usize,
+    entry: Entry,
+    fate: Option<Rule>,
+    offset: usize,
+) -> usize
     requires { offset < word_numbers }
-    ensures { Put room.old room.new at (row_by fate (fields_of entry) offset) result }
+    ensures { Put room.old room.new at (row_by (fate_by fate) (fields_of entry) offset) result }
 {
-    if fate != 0 {
-        return place(at);
+    match fate {
+        Some(_) => place(at),
+        None => {
+            let number = entry.number as usize;
+            let size = entry.size as usize;
+            put_row(room, at, number, offset, size, entry.flag, entry.zero)
+        }
     }
-    let number = entry.number as usize;
-    let size = entry.size as usize;
-    put_row(room, at, number, offset, size, entry.flag, entry.zero)
 }
 
 // The body of an entry: of one that is kept it lies in the deck, and one that is dropped puts nothing.
-fn put_kept_body(room: &mut [u8], at: usize, deck: &[u8], entry: Entry, fate: usize) -> usize
-    requires { fate ≡ 0 → end_of (fields_of entry) ≤ length deck.now }
-    ensures { Put room.old room.new at (body_by deck.now fate (fields_of entry)) result }
+fn put_kept_body(room: &mut [u8], at: usize, deck: &[u8], entry: Entry, fate: Option<Rule>) -> usize
+    requires { fate_by fate ≡ kept → end_of (fields_of entry) ≤ length deck.now }
+    ensures { Put room.old room.new at (body_by deck.now (fate_by fate) (fields_of entry)) result }
 {
-    if fate != 0 {
-        return place(at);
+    match fate {
+        Some(_) => place(at),
+        None => {
+            let offset = entry.offset as usize;
+            let end = entry.end();
+            put_run(room, at, &deck[offset..end])
+        }
     }
-    let offset = entry.offset as usize;
-    let end = entry.end();
-    put_run(room, at, &deck[offset..end])
 }
 
 // The entries kept, the first body at `first`.
-fn put_rows(room: &mut [u8], at: usize, deck: &[u8], fates: &[usize], first: usize) -> usize
+fn put_rows(room: &mut [u8], at: usize, deck: &[u8], fates: &[Option<Rule>], first: usize) -> usize
     requires each { Each deck.now fates.now }
     requires offsets_fit { OffsetsFit deck.now fates.now first }
     ensures { Put room.old room.new at (rows_text (lines_for first (rows_kept deck.now fates.now)) []) result }
@@ -101,7 +113,7 @@ fn put_rows(room: &mut [u8], at: usize, deck: &[u8], fates: &[usize], first: usi
 }
 
 // Their bodies, one behind the other.
-fn put_bodies(room: &mut [u8], at: usize, deck: &[u8], fates: &[usize]) -> usize
+fn put_bodies(room: &mut [u8], at: usize, deck: &[u8], fates: &[Option<Rule>]) -> usize
     requires each { Each deck.now fates.now }
     requires bodies_inside { BodiesInside deck.now fates.now }
     ensures { Put room.old room.new at (bodies (map (entry_of deck.now) (rows_kept deck.now fates.now))) result }
@@ -115,7 +127,7 @@ fn put_bodies(room: &mut [u8], at: usize, deck: &[u8], fates: &[usize]) -> usize
 }
 
 // The whole deck of the `cards` entries kept.
-fn put_mended(room: &mut [u8], deck: &[u8], fates: &[usize], cards: usize) -> usize
+fn put_mended(room: &mut [u8], deck: &[u8], fates: &[Option<Rule>], cards: usize) -> usize
     requires { Fates deck.now fates.now cards }
     ensures { Put room.old room.new 0 (deck_text (kept_in deck.now)) result }
 {
@@ -128,7 +140,7 @@ fn put_mended(room: &mut [u8], deck: &[u8], fates: &[usize], cards: usize) -> us
 // The lengths of the deck and of the list, by the entries' fates: `cards` are kept, with so many bytes. The deck's room is judged before the list's, and nothing is put before both are.
 pub fn store_mended(
     deck: &[u8],
-    fates: &[usize],
+    fates: &[Option<Rule>],
     cards: usize,
     bytes: usize,
     room: &mut [u8],

@@ -8,7 +8,7 @@ use lib.ListN.{length}
 use Rattle.card.specs.Text.{when◌then◌else◌}
 use Rattle.deck.specs.Contents.{Row, count_of, entries_from, behind, contents_of}
 use Rattle.deck_written.proofs.Entries.{length_rows}
-use Rattle.mending.specs.Mending.{flags_right, number_rises, range_lies, card_right, Fate, kept, dropped, fate_of, least_behind, last_behind, fates_from, fates_in, rule_of}
+use Rattle.mending.specs.Mending.{flags_right, number_rises, range_lies, card_right, Fate, kept, dropped, fate_of, least_behind, last_behind, fates_from, fates_in}
 
 module _ (deck : List ℕ) (least last : ℕ) (r : Row) where
   -- what holds of both holds of it
@@ -21,10 +21,6 @@ module _ (deck : List ℕ) (least last : ℕ) (r : Row) where
       go true true false e = d 2 (omega arith)
       go true false c e = d 1 (omega arith)
       go false b c e = d 0 (omega arith)
-
-  -- without a rule it is kept
-  pub zero_kept : rule_of (fate_of deck least last r) ≡ 0 → fate_of deck least last r ≡ kept
-  zero_kept = by_fate (λ (f : Fate). rule_of f ≡ 0 → f ≡ kept) (λ h. refl) (λ rule l h. absurd (omega (arith, h)))
 
 -- there is one for each entry
 fates_long : (deck : List ℕ) (least last : ℕ) (rs : List Row) → length (fates_from deck least last rs) ≡ length rs

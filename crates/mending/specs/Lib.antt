@@ -1,3 +1,4 @@
 pub mod Mending
 pub mod Accepted
 pub mod Rules
+pub mod FateBy

@@ -6,10 +6,12 @@ ghost use Rattle.std.specs.Prelude.{◌≡◌, ◌≤◌};
 ghost use Rattle.card.specs.Limits.{most_cards};
 ghost use Rattle.deck_entries.specs.Rows.{row_by};
 ghost use Rattle.mending_walk.specs.Walking.{walk_before, walked_by, Roomy};
-ghost use Rattle.mending.specs.Mending.{kept, by_contents, rule_of};
+ghost use Rattle.mending.specs.Mending.{kept, by_contents};
+ghost use Rattle.mending.specs.FateBy.{fate_by};
 
 use card::limits::{COUNT_BYTES, DECK_BYTES, ENTRY_BYTES, MOST_CARDS};
 use deck_entries::Entry;
+use mending::Rule;
 
 // How many entries the contents have, if the head is right.
 pub fn head_count(deck: &[u8]) -> Option<usize>
@@ -48,45 +50,44 @@ impl Walk {
         }
     }
 
-    // Behind an entry, whose fate is 0 if it is kept.
-    pub fn behind(self, entry: Entry, fate: usize) -> Walk
+    // Behind an entry, whose fate is the first rule that it breaks, or none if it is kept.
+    pub fn behind(self, entry: Entry, fate: Option<Rule>) -> Walk
         requires { Roomy self }
-        ensures { result ≡ walked_by fate (row_by entry) self }
+        ensures { result ≡ walked_by (fate_by fate) (row_by entry) self }
     {
         let above = entry.number as usize + 1;
         let end = entry.end();
-        if fate != 0 {
-            return Walk {
+        match fate {
+            Some(_) => Walk {
                 least: self.least,
                 last: self.last,
-                cards: self.cards,
-                bytes: self.bytes,
-            };
-        }
-        Walk {
-            least: above,
-            last: end,
-            cards: self.cards + 1,
-            bytes: self.bytes + entry.size as usize,
+                ..self
+            },
+            None => Walk {
+                least: above,
+                last: end,
+                cards: self.cards + 1,
+                bytes: self.bytes + entry.size as usize,
+            },
         }
     }
 
-    // The first rule that an entry breaks in a deck of `long` bytes, or 0. Its card is not read.
-    pub fn broken_rule(self, entry: Entry, long: usize) -> usize
-        ensures { result ≡ rule_of (by_contents long self.least self.last (row_by entry) kept) }
+    // The first rule that an entry breaks in a deck of `long` bytes, if it breaks one. Its card is not read.
+    pub fn broken_rule(self, entry: Entry, long: usize) -> Option<Rule>
+        ensures { fate_by result ≡ by_contents long self.least self.last (row_by entry) kept }
     {
         if 1 < entry.flag || entry.zero != 0 {
-            return 1;
+            return Some(Rule::Flags);
         }
         if (entry.number as usize) < self.least {
-            return 2;
+            return Some(Rule::Number);
         }
         if (entry.offset as usize) < self.last {
-            return 3;
+            return Some(Rule::Range);
         }
         if entry.end() <= long {
-            return 0;
+            return None;
         }
-        3
+        Some(Rule::Range)
     }
 }

@@ -1,12 +1,12 @@
--- The panel's lines in the form in which the code puts them: a list's text is one piece more after each turn of a loop, and a line of
--- weight 0 is none. Assumes nothing.
+-- The panel's lines in the form in which the code puts them: a list's text is one piece more after each turn of a loop. Assumes
+-- nothing.
 use Prim.Native.Nat.{ℕ, zero, suc, ◌+◌, ◌≤◌, ◌<◌, min}
 use mathlib.Core.Path.{◌≡◌, refl, sym, ap, ◌∙◌}
 use mathlib.Core.Bool.{Bool, true, false}
 use mathlib.Core.List.{List, [], ◌∷◌, ◌++◌, append_assoc, append-nil}
 use native.Mathlib.Numerals.{add-one}
 use native.Mathlib.Omega.{arith}
-use borrow.Author.Tests.{lt-ltb, eq-eqb, ne_eqb}
+use borrow.Author.Tests.{eq-eqb}
 use lib.ListN.{length, get_or, take}
 use lib.Seq.{take-suc, take_all}
 use Rattle.card.specs.Limits.{most_shared}
@@ -17,9 +17,8 @@ use Rattle.phrases.specs.Puts.{Puts}
 use Rattle.phrases.proofs.Laws.{puts_then, puts_as, puts_none}
 use Rattle.phrases.proofs.Counted.{Text}
 use Rattle.meaning.specs.Sums.{or_one, upto, flat}
-use Rattle.meaning.specs.Panel.{Move, Stay, stay_line, move_line, Block, shared_shown}
+use Rattle.meaning.specs.Panel.{Move, Stay, move_line, Block, shared_shown}
 use Rattle.meaning.specs.Position.{shared_values}
-use Rattle.meaning.proofs.Panel.{no_line}
 use Rattle.panel_wording.specs.PanelText.{numbers, line, told, ending, moves_text, stays_text, block_text, blocks_text}
 use Rattle.panel_wording.specs.PanelIn.{shown_if, tells}
 
@@ -123,27 +122,7 @@ pub one_most : (values : ℕ) → values ≤ most_shared → or_one values ≤ m
 one_most zero h = omega arith
 one_most (suc most) h = h
 
--- ---- lines that may be left out
+-- ---- a move from a state to itself is no line
 
-module _ (values h w : ℕ) (r : List ℕ) where
-  pub stay_none : w ≡ 0 → r ≡ stays_text (tells values) (stay_line h w) r
-  stay_none e = rw e
-
-  pub stay_bare : (w ≡ 0 → ⊥) → values ≡ 0 → line "stay" (w ∷ []) r ≡ stays_text (tells values) (stay_line h w) r
-  stay_bare s z = let l : 0 < w = omega arith in rw (lt-ltb 0 w l, tells_not z)
-
-  pub stay_some : (w ≡ 0 → ⊥) → (values ≡ 0 → ⊥) → line "stay" (w ∷ h ∷ []) r ≡ stays_text (tells values) (stay_line h w) r
-  stay_some s z = let l : 0 < w = omega arith in rw (lt-ltb 0 w l, tells_it values z)
-
-module _ (values a b h w : ℕ) (r : List ℕ) where
-  pub move_same : a ≡ b → r ≡ moves_text (tells values) (move_line a b h w) r
-  move_same e = rw (eq-eqb a b e)
-
-  pub move_none : w ≡ 0 → r ≡ moves_text (tells values) (move_line a b h w) r
-  move_none e = rw (no_line a b h w e)
-
-  pub move_bare : (a ≡ b → ⊥) → (w ≡ 0 → ⊥) → values ≡ 0 → line "move" (a ∷ b ∷ w ∷ []) r ≡ moves_text (tells values) (move_line a b h w) r
-  move_bare n s z = let l : 0 < w = omega arith in rw (ne_eqb a b n, lt-ltb 0 w l, tells_not z)
-
-  pub move_some : (a ≡ b → ⊥) → (w ≡ 0 → ⊥) → (values ≡ 0 → ⊥) → line "move" (a ∷ b ∷ w ∷ h ∷ []) r ≡ moves_text (tells values) (move_line a b h w) r
-  move_some n s z = let l : 0 < w = omega arith in rw (ne_eqb a b n, lt-ltb 0 w l, tells_it values z)
+pub move_same : (values a b h w : ℕ) (r : List ℕ) → a ≡ b → r ≡ moves_text (tells values) (move_line a b h w) r
+move_same values a b h w r e = rw (eq-eqb a b e)

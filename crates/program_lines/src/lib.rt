@@ -1,26 +1,25 @@
 // What the panel program does with single lines: seats read from one, a refusal put as one ("Texts, byte for byte").
 #![tactic(auto)]
 
-ghost use Rattle.std.specs.Prelude.{◌≡◌, map, ◌++◌, ◌≤◌, min, length, take, drop};
+ghost use Rattle.std.specs.Prelude.{◌≡◌, map, unwrap_or, ◌++◌, ◌≤◌, min, length, take, drop};
 ghost use Rattle.room.specs.Room.{Put};
 ghost use Rattle.entry.specs.Said.{refused};
-ghost use Rattle.panel_wording.specs.Lines.{seat_of as seat_of_said, printed, refusal_most};
+ghost use Rattle.panel_wording.specs.Lines.{no_state, seat_of as seat_of_said, printed, refusal_most};
 
 use put_numbers::put_number;
 use room::{put_byte, put_bytes};
 
+// What is stored for a byte that is no state: a panel's seats are bytes, and no card has so many states.
 const NO_STATE: u8 = 255;
 
-fn seat_of(b: u8) -> u8
-    ensures { result ≡ seat_of_said b }
+// The state that a byte of a line stands for: a digit's.
+fn seat_of(b: u8) -> Option<u8>
+    ensures { unwrap_or result no_state ≡ seat_of_said b }
 {
-    if b < b'0' {
-        return NO_STATE;
+    match b {
+        b'0'..=b'9' => Some(b - b'0'),
+        _ => None,
     }
-    if b'9' < b {
-        return NO_STATE;
-    }
-    b - b'0'
 }
 
 // The first seats of a line, as many as there are places for.
@@ -30,7 +29,7 @@ pub fn put_seats(line: &[u8], seats: &mut [u8]) -> usize
 {
     let count = line.len().min(seats.len());
     for (i, byte) in line[..count].iter().enumerate() {
-        seats[i] = seat_of(*byte);
+        seats[i] = seat_of(*byte).unwrap_or(NO_STATE);
     }
     count
 }

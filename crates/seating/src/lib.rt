@@ -1,10 +1,11 @@
 // Seats judged, and counted by their states ("Refusal numbers", "What a card means").
 #![tactic(auto)]
 
-ghost use Rattle.std.specs.Prelude.{◌≡◌, ltb, take};
+ghost use Rattle.std.specs.Prelude.{◌≡◌, ℕ, map, ltb, take};
 ghost use Rattle.card.specs.Limits.{top_state};
 ghost use Rattle.card.specs.Refusals.{seat_above_top};
-ghost use Rattle.meaning.specs.Seats.{counts as counts_of};
+ghost use Rattle.meaning.specs.Sums.{upto};
+ghost use Rattle.meaning.specs.Seats.{count, counts as counts_of};
 ghost use Rattle.card.specs.Text.{when◌then◌else◌};
 ghost use Rattle.card.specs.Verdict.{Taken, Refused};
 ghost use Rattle.seating.specs.Judged.{judged_from, judged_seats, shared_at};
@@ -71,17 +72,26 @@ pub fn shared_of(seats: &[u8], n: usize, shared: usize) -> usize
     seats.get(n).copied().map_or(0, usize::from)
 }
 
+// How many of the first n seats are counted as 0, 1, up to N - 1, by what a function makes of a seat's state; any other
+// seat is passed over.
+pub fn count_by<const N: usize, F: Fn(u8) -> usize>(seats: &[u8], n: usize, of: F) -> [usize; N]
+    requires { F.IsAlwaysCallable of }
+    ensures { (f : ℕ → ℕ) → ((a r : ℕ) → F.post of a r → r ≡ f a) → result ≡ upto N (λ d. count d (map f (take n seats.now))) }
+{
+    let mut counts: [usize; N] = [0; N];
+    let counted = &seats[..n.min(seats.len())];
+    for seat in counted {
+        let kind = of(*seat);
+        if kind < N {
+            counts[kind] += 1;
+        }
+    }
+    counts
+}
+
 // How many of the first n seats are in each state that there can be; any other seat is passed over.
 pub fn count_seats(seats: &[u8], n: usize) -> [usize; MOST_STATES]
     ensures { result ≡ counts_of top_state (take n seats.now) }
 {
-    let mut counts: [usize; MOST_STATES] = [0; MOST_STATES];
-    let counted = &seats[..n.min(seats.len())];
-    for seat in counted {
-        let state = usize::from(*seat);
-        if state < MOST_STATES {
-            counts[state] += 1;
-        }
-    }
-    counts
+    count_by(seats, n, usize::from)
 }

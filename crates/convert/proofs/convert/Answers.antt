@@ -34,14 +34,14 @@ returns-in_err-need c =
 pub slice_bounds-notes-end : goal.slice_bounds-notes-end
 slice_bounds-notes-end c =
     let s = known (goal.at.slice_bounds-notes-end c).In_ok-judge_deck in
-    notes_fit s refl c.notes_into.ensures c.in_ok-need.was
+    notes_fit c.notes_into.new.notes s refl c.notes_into.ensures c.in_ok-need.was
 
 pub slice_bounds-store_new-end : goal.slice_bounds-store_new-end
 slice_bounds-store_new-end c =
     let s = known (goal.at.slice_bounds-store_new-end c).In_ok-judge_deck in
-    notes_count s refl c.notes_into.ensures c.in_ok-need.was
+    notes_count c.notes_into.new.notes s refl c.notes_into.ensures c.in_ok-need.was
 
 pub store_new-requires : goal.store_new-requires
 store_new-requires c =
     let s = known (goal.at.store_new-requires c).In_ok-judge_deck in
-    record { count_value = refl; ready = notes_ready s refl c.notes_into.ensures c.in_ok-need.was }
+    record { count_value = refl; ready = notes_ready c.notes_into.new.notes s refl c.notes_into.ensures c.in_ok-need.was }

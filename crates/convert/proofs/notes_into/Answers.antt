@@ -3,6 +3,8 @@ use native.Mathlib.Omega.{arith}
 use Prim.Native.Nat.{◌+◌, ◌<◌}
 use Rattle.card.specs.Limits.{deck_bytes}
 use Rattle.deck.specs.Contents.{count_of}
+use Rattle.converted_rows.specs.Notes.{numbers_of}
+use Rattle.converted_rows.proofs.Numbers.{within, stored}
 use Rattle.convert.proofs.Walk.{begins, ended, in_contents, right_row, end_small, stopped, goes_on}
 use Rattle.convert.proofs.notes_into.Goals.{Then-end-gt-DECK_BYTES}
 use Rattle.convert.proofs.notes_into.Goals as goal
@@ -22,7 +24,7 @@ names-card past c =
     (past (goal.at.returns-then-end-gt-DECK_BYTES c).Then-end-gt-DECK_BYTES) c.word_at-number.ensures.0
 
 pub loop-i-init : goal.loop-i-init
-loop-i-init c = begins c.args.deck.now c.requires.sound c.args.notes.now c.requires.count_value
+loop-i-init c = begins c.args.deck.now c.requires.sound (numbers_of c.args.notes.now) c.requires.count_value
 
 pub note_of-note-requires : goal.note_of-note-requires
 note_of-note-requires c =
@@ -52,7 +54,9 @@ returns-then-end-gt-DECK_BYTES = names-card past
 pub loop-i-preserved : goal.loop-i-preserved
 loop-i-preserved c =
     let less : c.loop-i.i < count_of c.args.deck.now = omega (arith, c.loop-i-test.true, c.requires.count_value) in
-    goes_on c.args.deck.now c.requires.sound c.loop-i.invariant less c.note_of-note.ensures c.new_size-end.ensures c.if-end-gt-DECK_BYTES.false (omega (arith, less, c.requires.sound.head.few, c.requires.notes_len))
+    let room = within c.args.notes.now (omega (arith, less, c.requires.sound.head.few, c.requires.notes_len)) in
+    rw (stored c.loop-i.notes c.loop-i.i c.note_of-note.result)
+    (goes_on c.args.deck.now c.requires.sound c.loop-i.invariant less c.note_of-note.ensures c.new_size-end.ensures c.if-end-gt-DECK_BYTES.false room)
 
 pub returns : goal.returns
 returns c =

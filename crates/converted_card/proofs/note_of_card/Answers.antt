@@ -5,7 +5,6 @@ use Rattle.card.specs.Limits.{card_bytes}
 use Rattle.card.proofs.HeldIn.{holds_branches}
 use Rattle.converted_card.proofs.Reading.{err_refusal, taken_in, left_none, note_stays, note_none, note_long, note_written}
 use Rattle.outline.proofs.ReadInto.{arrays_none}
-use native.Mathlib.Omega.{arith}
 use Rattle.converted_card.proofs.note_of_card.Goals.{Then-long-gt-CARD_BYTES}
 use Rattle.converted_card.proofs.note_of_card.Goals as goal
 
@@ -45,9 +44,6 @@ written_length-long-requires c =
 pub returns-then-long-gt-CARD_BYTES : goal.returns-then-long-gt-CARD_BYTES
 returns-then-long-gt-CARD_BYTES = none-past only-long
 
-pub overflow_add-result : goal.overflow_add-result
-overflow_add-result c = omega (arith, c.if-long-gt-CARD_BYTES.false)
-
-pub returns : goal.returns
-returns c =
+pub returns-else-long-gt-CARD_BYTES : goal.returns-else-long-gt-CARD_BYTES
+returns-else-long-gt-CARD_BYTES c =
     note_written _ c.read_under.ensures (sym c.is_ok.ensures.value ∙ c.if-is_ok.false) c.read_under-2.ensures c.in-Ok.is c.written_length-long.ensures c.if-long-gt-CARD_BYTES.false

@@ -8,4 +8,4 @@ loop-i-init c = begins c.args.deck.now c.requires.head c.args.fates.now c.requir
 
 pub loop-i-preserved : goal.loop-i-preserved
 loop-i-preserved c =
-    on c.args.deck.now c.requires.head c.loop-i.invariant (omega arith) c.at-entry.ensures c.fate_of-fate.ensures c.behind-walk.ensures (omega arith)
+    on c.args.deck.now c.requires.head _ c.loop-i.invariant (omega arith) c.at-entry.ensures c.fate_of-fate.ensures c.behind-walk.ensures (omega arith)

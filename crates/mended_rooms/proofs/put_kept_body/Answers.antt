@@ -1,7 +1,7 @@
 -- `mended_rooms::put_kept_body` meets its contract: one that is dropped puts nothing, else its range of the deck. Assumes nothing.
 use borrow.Author.Rules.{rules}
-use Rattle.mended_rooms.proofs.Laws.{dropped_body}
+use Rattle.room.proofs.Laws.{put_none}
 use Rattle.mended_rooms.proofs.put_kept_body.Goals as goal
 
-pub returns-then-fate-ne0 : goal.returns-then-fate-ne0
-returns-then-fate-ne0 c = dropped_body _ _ c.if-fate-ne0.true (search rules) c.place.ensures _
+pub returns-in-Some : goal.returns-in-Some
+returns-in-Some c = rw c.in-Some.is (put_none (search rules) c.place.ensures)

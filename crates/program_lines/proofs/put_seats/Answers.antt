@@ -14,7 +14,7 @@ loop-i-init c = refl
 pub loop-i-preserved : goal.loop-i-preserved
 loop-i-preserved c =
     let here : c.loop-i.i < c.min-count.result = omega (arith, length-take c.min-count.result c.args.line.now) in
-    let this = c.seat_of.ensures ∙ ap seat_of (get_or-take c.min-count.result c.args.line.now c.loop-i.i 0 here) in
+    let this = c.unwrap_or.ensures ∙ c.seat_of.ensures ∙ ap seat_of (get_or-take c.min-count.result c.args.line.now c.loop-i.i 0 here) in
     sown_next c.args.line.now c.args.seats.now c.loop-i.i (omega arith) (omega arith) this c.loop-i.invariant
 
 pub returns : goal.returns

@@ -1,11 +1,11 @@
 -- `mending_walk::Walk::behind` meets its contract: an entry that is kept moves the walk, one that is dropped does not. Assumes nothing.
 use Prim.Native.Nat.{ℕ}
-use mathlib.Core.Path.{◌≡◌, ap}
+use mathlib.Core.Path.{◌≡◌, refl, ap}
 use Rattle.deck_entries.specs.Rows.{row_by}
+use Rattle.mending.specs.FateBy.{fate_by}
 use Rattle.mending_walk.specs.declared.Walk.{Walk}
 use Rattle.mending_walk.specs.Walking.{walked_by}
-use Rattle.mending_walk.proofs.Laws.{stays}
-use Rattle.mending_walk.proofs.Walk.behind.Goals.{Then-fate-ne0}
+use Rattle.mending_walk.proofs.Walk.behind.Goals.{In-Some}
 use Rattle.mending_walk.proofs.Walk.behind.Goals as goal
 
 -- an equation between walks that is needed, in one part of them
@@ -13,14 +13,14 @@ abbrev InPart : {C : Type 0} {v w : C → Walk} → (Walk → ℕ) → (((c : C)
 InPart {C} {v} {w} part whole = (c : C) → part (v c) ≡ part (w c)
 
 -- an entry that is dropped
-same : (c : Then-fate-ne0) → c.args.self ≡ walked_by c.args.fate (row_by c.args.entry) c.args.self
-same c = stays c.args.fate _ c.args.self c.if-fate-ne0.true
+same : (c : In-Some) → c.args.self ≡ walked_by (fate_by c.args.fate) (row_by c.args.entry) c.args.self
+same c = rw c.in-Some.is refl
 
-least-stays : InPart (λ (w : Walk). w.least) (λ (whole : goal.returns-then-fate-ne0). Unit)
+least-stays : InPart (λ (w : Walk). w.least) (λ (whole : goal.returns-in-Some). Unit)
 least-stays c = ap (λ (w : Walk). w.least) (same c)
 
-last-stays : InPart (λ (w : Walk). w.last) (λ (whole : goal.returns-then-fate-ne0). Unit)
+last-stays : InPart (λ (w : Walk). w.last) (λ (whole : goal.returns-in-Some). Unit)
 last-stays c = ap (λ (w : Walk). w.last) (same c)
 
-pub returns-then-fate-ne0 : goal.returns-then-fate-ne0
-returns-then-fate-ne0 c = λ i. record { least = least-stays c i; last = last-stays c i; cards = (same c i).cards; bytes = (same c i).bytes }
+pub returns-in-Some : goal.returns-in-Some
+returns-in-Some c = λ i. record { least = least-stays c i; last = last-stays c i; cards = (same c i).cards; bytes = (same c i).bytes }
