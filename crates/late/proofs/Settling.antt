@@ -12,7 +12,7 @@ use native.Mathlib.Omega.{arith}
 use borrow.Author.Tests.{eqb-true, eqb-false, eq-eqb, ne_eqb}
 use lib.Dec.{eqb, leb}
 use Rattle.card.specs.Limits.{most_seats, unit}
-use Rattle.card.specs.Refusals.{above_top, not_due, wrong_weight}
+use Rattle.card.specs.Refusals.{above_top, not_due, wrong_weight, decimal_weight}
 use Rattle.card.specs.Text.{when◌then◌else◌}
 use Rattle.card.specs.Card.{Sign, group, Formula, atom, neg, and, or}
 use Rattle.card.specs.Weight.{units_of, allowed, weight_refusal}
@@ -54,15 +54,15 @@ second_more None p = refl
 second_more (Some q) p = refl
 
 module _ (n : ℕ) (x : Late) where
-  settled_blame : (r p : ℕ) → settled n (blame r p x) ≡ or_next (settled n x) (Err (refusal r p))
-  settled_blame r p = rw kept_more (sym (or_assoc (group_due n x.groups) (kept_due x.refusal) (Err (refusal r p))))
+  settled_blame : (r p : ℕ) → eqb r 0 ≡ false → settled n (blame r p x) ≡ or_next (settled n x) (Err (refusal r p))
+  settled_blame r p h = rw (h, kept_more) (sym (or_assoc (group_due n x.groups) (kept_due x.refusal) (Err (refusal r p))))
 
   pub settled_fine : settled n x ≡ or_next (settled n x) (Ok tt)
   settled_fine = or_fine (settled n x)
 
-  pub settled_blamed : (b : Bool) (r p : ℕ) → settled n (blamed (unless b r) p x) ≡ or_next (settled n x) (when b then Ok tt else Err (refusal r p))
-  settled_blamed true r p = settled_fine
-  settled_blamed false r p = settled_blame r p
+  pub settled_blamed : (b : Bool) (r p : ℕ) → eqb r 0 ≡ false → settled n (blamed (unless b r) p x) ≡ or_next (settled n x) (when b then Ok tt else Err (refusal r p))
+  settled_blamed true r p h = settled_fine
+  settled_blamed false r p h = settled_blame r p h
 
 module _ (n m p : ℕ) where
   abbrev own : Due
@@ -97,8 +97,12 @@ module _ (n m p : ℕ) where
   settled_grouped x least = go (eqb m 0) refl
     where
       go : (t : Bool) → eqb m 0 ≡ t → settled n (when t then blame not_due p x else wants m p x) ≡ or_next (settled n x) own
-      go true e = rw (ne_eqb m n (λ z. omega (arith, eqb-true m 0 e))) (settled_blame n x not_due p)
+      go true e = rw (ne_eqb m n (λ z. omega (arith, eqb-true m 0 e))) (settled_blame n x not_due p refl)
       go false e = settled_wants x
+
+some_refusal : (b : Bool) → eqb (when b then wrong_weight else decimal_weight) 0 ≡ false
+some_refusal true = refl
+some_refusal false = refl
 
 module _ (e n : ℕ) (least : 1 ≤ n) (most : n ≤ most_seats) where
   abbrev one : Judgement → Due
@@ -109,16 +113,16 @@ module _ (e n : ℕ) (least : 1 ≤ n) (most : n ≤ most_seats) where
   one_test false r j h = rw h
 
   settled_judge : (j : Judgement) (x : Late) → settled n (judge e j x) ≡ or_next (settled n x) (one j)
-  settled_judge (state bound v p) x = settled_blamed n x (leb v bound) above_top (place_of e p) ∙ ap (or_next (settled n x)) (one_test (leb v bound) above_top (state bound v p) refl)
-  settled_judge (word due was p) x = settled_blamed n x (eqb was due) not_due (place_of e p) ∙ ap (or_next (settled n x)) (one_test (eqb was due) not_due (word due was p) refl)
+  settled_judge (state bound v p) x = settled_blamed n x (leb v bound) above_top (place_of e p) refl ∙ ap (or_next (settled n x)) (one_test (leb v bound) above_top (state bound v p) refl)
+  settled_judge (word due was p) x = settled_blamed n x (eqb was due) not_due (place_of e p) refl ∙ ap (or_next (settled n x)) (one_test (eqb was due) not_due (word due was p) refl)
   settled_judge (one_group g) x =
       settled_grouped n (want_of g.literals) (place_of e g.place) x least
       ∙ ap (or_next (settled n x)) (one_test (eqb (want_of g.literals) n) not_due (one_group g) (ap (λ b. unless b not_due) (symmetric_want n g.literals least most)))
   settled_judge (weight decimals w p) x =
       let fits = allowed decimals w && is_some_of (units_of w) in
-      settled_blamed n x fits (weight_refusal decimals w) (place_of e p) ∙ ap (or_next (settled n x)) (one_test fits (weight_refusal decimals w) (weight decimals w p) refl)
+      settled_blamed n x fits (weight_refusal decimals w) (place_of e p) (some_refusal (allowed decimals w)) ∙ ap (or_next (settled n x)) (one_test fits (weight_refusal decimals w) (weight decimals w p) refl)
   settled_judge (sum ws p) x =
-      settled_blamed n x (eqb (total_units ws) unit) wrong_weight (place_of e p) ∙ ap (or_next (settled n x)) (one_test (eqb (total_units ws) unit) wrong_weight (sum ws p) refl)
+      settled_blamed n x (eqb (total_units ws) unit) wrong_weight (place_of e p) refl ∙ ap (or_next (settled n x)) (one_test (eqb (total_units ws) unit) wrong_weight (sum ws p) refl)
 
   one_more : (j : Judgement) (v : Verdict) → or_next (one j) (verdict e v) ≡ verdict e (or_else (broken n j) (place_in j) v)
   one_more j v = go (broken n j)

@@ -53,9 +53,9 @@ Late = LateRow
 abbrev pub none_yet : Late
 none_yet = record { refusal = None; groups = None }
 
--- a refusal that does not hang on the number of seats
+-- a refusal that does not hang on the number of seats; the number 0 is none
 abbrev pub blame : ℕ → ℕ → Late → Late
-blame r p x = record x { refusal = option_or x.refusal (Some (record { number = r; place = p })) }
+blame r p x = when eqb r 0 then x else record x { refusal = option_or x.refusal (Some (record { number = r; place = p })) }
 
 -- the first group says how many seats are wanted; the first that wants another number is wrong if that is right
 abbrev pub with_group : ℕ → ℕ → Option Groups → Groups

@@ -47,11 +47,13 @@ pub fn stop(state: &mut State, number: u8, place: usize) -> Stopped
     Stopped
 }
 
-// A refusal that does not hang on the number of seats, unless one stands before it.
+// A refusal that does not hang on the number of seats, unless one stands before it. The number 0 is no refusal.
 pub fn blame(state: &mut State, number: u8, place: usize)
     ensures { state.new ≡ with_late state.old (blame_at number place (late_in state.old)) }
 {
-    state.late.refusal = state.late.refusal.or(Some(Refusal { number, place }));
+    if number != 0 && state.late.refusal.is_none() {
+        state.late.refusal = Some(Refusal { number, place });
+    }
 }
 
 // A state that stands on the card, against the top state.

@@ -9,13 +9,13 @@ ghost use Rattle.marks.specs.Step.{marks_at};
 ghost use Rattle.reading.specs.Reading.{first_outside};
 ghost use Rattle.late.specs.Settled.{settled};
 ghost use Rattle.late.specs.State.{late_in};
-ghost use Rattle.search.specs.Search.{searched};
+ghost use Rattle.search.specs.Search.{searched as searched_said};
 ghost use Rattle.outline.specs.Refusing.{Judged};
 
 use card::limits::{BRANCH_PLACES, MOST_STATEMENTS, NODE_PLACES, ROW, ROW_PLACES};
 use card::{Head, Refusal, Statement, no_statement};
 use late::state::State;
-use search::search;
+use search::searched;
 use seats_wanted::settle;
 
 // The numbers of statements that were read go.
@@ -39,11 +39,11 @@ pub fn stopped(
     nodes: &mut [u32; NODE_PLACES],
     branches: &mut [u32; BRANCH_PLACES],
 ) -> Refusal
-    ensures refusal { result ≡ searched stop.number stop.place (first_outside (marks_at 0 card.now stop.place)) }
+    ensures refusal { result ≡ searched_said stop.number stop.place (first_outside (marks_at 0 card.now stop.place)) }
     ensures memory { lent rows.new nodes.new branches.new ≡ none_lent }
 {
     clear(rows, nodes, branches);
-    search(card, stop)
+    searched(card, stop)
 }
 
 // A card that was read to its end: what is judged late decides, on its number of seats.

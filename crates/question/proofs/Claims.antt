@@ -97,7 +97,7 @@ module _ (e n : ℕ) (least : 1 ≤ n) (most : n ≤ most_seats) where
   settled_want x m p b h = rw h (settled_grouped n m p x least)
 
   settled_claim : (c : Claim) (x : Late) → settled n (judge_claim e c x) ≡ or_next (settled n x) (own c)
-  settled_claim (state bound v p) x = settled_blamed n x (leb v bound) above_top (place_of e p)
+  settled_claim (state bound v p) x = settled_blamed n x (leb v bound) above_top (place_of e p) refl
   settled_claim (everyone_of g) x = settled_want x (want_of_all g.literals) (place_of e g.place) (is_everyone n g.literals) (everyone_want n least most g.literals)
   settled_claim (exactly p ts) x = settled_want x (want_of_terms ts) (place_of e p) (is_exactly_one n ts) (terms_want n least most ts)
 

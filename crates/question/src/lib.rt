@@ -19,7 +19,7 @@ use late::first_state;
 use late::state::Stopped;
 use marks::Cursor;
 use marks_on_a_card::kinds::END;
-use search::search;
+use search::searched;
 use seats_wanted::settle;
 
 // The place of the root, where the question is understood: its nodes stand from the first place on. Or a card's number for what is wrong, without the
@@ -50,7 +50,7 @@ pub fn question_into(
     };
     let next = match expression(&text, 0, nodes, &mut state, MOST_DEPTH) {
         Ok(next) => next,
-        Err(Stopped) => return Err(search(question, state.stop)),
+        Err(Stopped) => return Err(searched(question, state.stop)),
     };
     let step = Cursor { at: next }.step(question);
     let mark = step.mark;
@@ -59,7 +59,7 @@ pub fn question_into(
             number: OUT_OF_SHAPE,
             place: mark.place,
         };
-        return Err(search(question, behind));
+        return Err(searched(question, behind));
     }
     settle(&state, seats)?;
     Ok(state.free - 1)

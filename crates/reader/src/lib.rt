@@ -14,7 +14,7 @@ use copies::modules as further_modules;
 use frame::header::header as beginning;
 use late::first_state;
 use outline::{judged, statements_in, stopped};
-use search::search;
+use search::searched;
 use statements::statements as all_statements;
 use weights::Weight;
 
@@ -33,7 +33,7 @@ fn read_short(
     let mut state = first_state(0);
     let begun = match beginning(card, 0, &mut state) {
         Ok(next) => next,
-        Err(stop) => return Err(search(card, stop)),
+        Err(stop) => return Err(searched(card, stop)),
     };
     let mode = state.mode;
     let shared = state.shared;

@@ -2,4 +2,4 @@
 use Rattle.outline.proofs.stopped.Goals as goal
 
 pub returns : goal.returns
-returns c = record { refusal = c.search.ensures; memory = c.clear.ensures }
+returns c = record { refusal = c.searched.ensures; memory = c.clear.ensures }

@@ -22,13 +22,13 @@ returns-then-question-gt-CARD_BYTES c =
 
 pub returns-in-Err : goal.returns-in-Err
 returns-in-Err c =
-    rw c.search.ensures
+    rw c.searched.ensures
     (formula_stops c.args.question.now c.args.seats c.args.top c.args.values c.args.nodes.now c.expression.new.nodes (omega (arith, c.if-question-gt-CARD_BYTES.false))
     c.expression.new.state c.question_language-language.result (c.question_language-language.ensures.asks, c.question_language-language.ensures.values) _ (from_first c.args.question.now c.args.seats c.args.top c.args.values c.args.nodes.now c.expression.new.nodes (omega (arith, c.if-question-gt-CARD_BYTES.false)) c.expression.new.state c.question_language-language.result (c.question_language-language.ensures.asks, c.question_language-language.ensures.values) c.first_state-state.result _ c.first_state-state.ensures c.in-Err.ensures))
 
 pub returns-then-mark-ne-END : goal.returns-then-mark-ne-END
 returns-then-mark-ne-END c =
-    rw c.search-then-mark-ne-END.ensures
+    rw c.searched-then-mark-ne-END.ensures
     (unended c.args.question.now c.args.seats c.args.top c.args.values c.args.nodes.now c.expression.new.nodes (omega (arith, c.if-question-gt-CARD_BYTES.false))
     c.expression.new.state c.question_language-language.result (c.question_language-language.ensures.asks, c.question_language-language.ensures.values) _ (from_first c.args.question.now c.args.seats c.args.top c.args.values c.args.nodes.now c.expression.new.nodes (omega (arith, c.if-question-gt-CARD_BYTES.false)) c.expression.new.state c.question_language-language.result (c.question_language-language.ensures.asks, c.question_language-language.ensures.values) c.first_state-state.result _ c.first_state-state.ensures c.in-Ok.ensures) c.step-step.result c.step-step.ensures c.if-mark-ne-END.true)
 

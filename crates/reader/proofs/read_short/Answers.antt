@@ -11,7 +11,7 @@ pub returns-in-Err : goal.returns-in-Err
 returns-in-Err c =
     let late : late_in c.first_state-state.result ≡ none_yet = ap late_in c.first_state-state.ensures in
     let header = subst (λ (l : Late). HeaderFrom c.args.card.now 0 l (after c.header.new.state (Err c.in-Err.stop))) late c.in-Err.ensures in
-    reads_searched (header_stops c.args.decimals c.args.card.now c.requires.card_len_bound c.header.new.state c.in-Err.stop header) c.search.ensures refl c.requires.branches_value
+    reads_searched (header_stops c.args.decimals c.args.card.now c.requires.card_len_bound c.header.new.state c.in-Err.stop header) c.searched.ensures refl c.requires.branches_value
 
 pub statements-requires : goal.statements-requires
 statements-requires c = record { values_le_most_shared = c.in-Ok.ensures.within }

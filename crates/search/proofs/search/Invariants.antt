@@ -6,7 +6,7 @@ use mathlib.Core.Path.{◌≡◌}
 use Rattle.search.proofs.search.Given as goal
 
 abbrev pub invariant-loop-next : goal.invariant-loop-next
-invariant-loop-next l = first_outside (marks_at 0 l.card l.stop.place) ≡ first_outside (marks_at 0 l.card l.next)
+invariant-loop-next l = first_outside (marks_at 0 l.card l.place) ≡ first_outside (marks_at 0 l.card l.next)
 
 abbrev pub decreases-loop-next : goal.decreases-loop-next
 decreases-loop-next l = length (marks_at 0 l.card l.next)
