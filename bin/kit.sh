@@ -62,5 +62,8 @@ without_kit() { perl -0777 -pe 's/rattle logic=[0-9a-f]{64}/rattle logic=/g; s/(
 # same_code FILE FILE: byte for byte, whichever kit made each
 same_code() { cmp -s <(without_kit "$1") <(without_kit "$2"); }
 
-# keeps_pointers FILE: the lines of an LLVM module in letters that load a pointer or store one; none is no success
-keeps_pointers() { grep -nE '\b(load|store)( volatile)? ([^,]*[ {<(])?ptr[] ,})>]' "$1"; }
+# laid_by_width FILE: the lines of an LLVM module in letters where values lie in memory with a pointer among them, which code
+# for 32 bits lays out otherwise than the module means; none is no success
+laid_by_width() {
+    grep -nE '(= load|^ *store|= alloca|= getelementptr)[^@]*([{][^}]*\bptr\b[^}]*[}]|<[^>]*\bptr\b[^>]*>|[[][^]]*\bptr\b[^]]*[]])' "$1"
+}

@@ -29,11 +29,11 @@ same 'functions of the archive' "$(nm -g --defined-only "$native.a" | awk 'NF ==
 same 'what the archive needs' "$(nm -u "$native.a" | awk 'NF == 2 { print $2 }' | sort -u | xargs)" 'memcpy memset'
 same 'functions of the shared library' "$(nm -D --defined-only "$native.so" | awk '{ print $3 }' | sort | xargs)" "$functions"
 same 'what the shared library needs' "$(nm -D -u "$native.so" | awk '{ print $2 }' | sort | xargs)" 'memcpy memset'
-# bin/library refuses a module for WebAssembly that keeps a pointer in memory, as the module does before it is optimised
+# bin/library refuses a module for WebAssembly that lays out pointers among other values, as the module does till it is optimised
 "$tools/bin/clang" -O0 -S -emit-llvm -x ir target/library/x86_64-linux/module.bc -o target/unoptimised.ll
-keeps_pointers target/unoptimised.ll >/dev/null || { echo "library: no pointer is found in memory where there are some" && exit 1; }
-if keeps_pointers target/library/wasm32/optimised.ll; then
-    echo "library: the module for WebAssembly was made of one that keeps pointers in memory" && exit 1
+laid_by_width target/unoptimised.ll >/dev/null || { echo "library: no pointer is found among values where there are some" && exit 1; }
+if laid_by_width target/library/wasm32/optimised.ll; then
+    echo "library: the module for WebAssembly was made of one with pointers among values in memory" && exit 1
 fi
 if command -v node >/dev/null; then
     module='const module = new WebAssembly.Module(require("fs").readFileSync("target/library/wasm32/open_panel.wasm"));'
