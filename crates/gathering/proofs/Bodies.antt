@@ -12,7 +12,7 @@ use Rattle.deck_entries.proofs.Laws.{row_there}
 use Rattle.room.specs.Room.{clip}
 use Rattle.room.proofs.Laws.{clip_none, clip_append, length_clip}
 use Rattle.byte_blocks.proofs.Clips.{take_before, drop_behind}
-use Rattle.gathering.specs.LiveRows.{live_rows, IsLive}
+use Rattle.gathering.specs.LiveRows.{live_rows, Flagged}
 use Rattle.gathering.proofs.Entries.{rows_from, all_rows, no_rows, next_row, live_first, live_others}
 use Rattle.gathering.specs.LiveText.{rows_in, bodies_stay, Ahead, Gatherable}
 use Rattle.gathering.proofs.Ahead.{ahead_from, same_row}
@@ -79,7 +79,7 @@ module _ (was : List ℕ) (count : ℕ) where
                 ∙ s.completes;
           }
 
-      module _ {offset size : ℕ} (eo : offset ≡ word_at is (1 + 8 * i + 2)) (l : IsLive (row_of (drop (1 + 8 * i) is)) size) where
+      module _ {offset size : ℕ} (eo : offset ≡ word_at is (1 + 8 * i + 2)) (l : Flagged 1 (row_of (drop (1 + 8 * i) is)) size) where
         offset_read : offset ≡ row.offset
         offset_read = sym (ap (λ (r : Row). r.offset) (row_there is (1 + 8 * i) 0 0 refl eo refl refl refl)) ∙ ap (λ (r : Row). r.offset) row_read
 
@@ -87,7 +87,7 @@ module _ (was : List ℕ) (count : ℕ) where
         size_read = l.same ∙ ap (λ (r : Row). r.size) row_read
 
         live_read : live_of row ≡ true
-        live_read = sym (ap live_of row_read) ∙ l.live
+        live_read = sym (ap live_of row_read) ∙ l.flagged
 
         pub lower : to ≤ offset
         lower = omega (arith, offset_read, next.0)

@@ -8,7 +8,7 @@ use lib.ListN.{length, drop}
 use Rattle.deck.specs.Contents.{Row, row_of, count_of, contents_of}
 use Rattle.deck.specs.Deck.{live_of}
 use Rattle.deck_written.specs.WriteDeckSaid.{sizes}
-use Rattle.gathering.specs.LiveRows.{live_rows, IsLive, Measures}
+use Rattle.gathering.specs.LiveRows.{live_rows, Flagged, Measures}
 use Rattle.gathering.specs.declared.Live.{Live}
 use Rattle.gathering.proofs.Entries.{rows_from, all_rows, no_rows, next_row, live_first, live_others}
 
@@ -38,9 +38,9 @@ module _ (deck : List ℕ) where
       abbrev row : Row
       row = row_of (drop (1 + 8 * i) deck)
 
-      pub counted_live : {size : ℕ} → IsLive row size → Counted (i + 1) (record { cards = live.cards + 1; bytes = live.bytes + size })
+      pub counted_live : {size : ℕ} → Flagged 1 row size → Counted (i + 1) (record { cards = live.cards + 1; bytes = live.bytes + size })
       counted_live l =
-          let e : left i ≡ row ∷ left (i + 1) = ap live_rows (next_row deck (count_of deck) i h) ∙ live_first row (rows_from deck (count_of deck) (i + 1)) l.live in
+          let e : left i ≡ row ∷ left (i + 1) = ap live_rows (next_row deck (count_of deck) i h) ∙ live_first row (rows_from deck (count_of deck) (i + 1)) l.flagged in
           record {
             all_of_cards = omega (arith, s.all_of_cards, ap length e);
             all_of_bytes = omega (arith, s.all_of_bytes, ap sizes e, l.same);

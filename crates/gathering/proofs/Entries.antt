@@ -5,6 +5,7 @@ use mathlib.Core.Bool.{Bool, true, false}
 use mathlib.Core.List.{List, [], ◌∷◌, map}
 use native.Mathlib.Omega.{arith}
 use borrow.Author.Tests.{eq-eqb, ne_eqb}
+use lib.Dec.{eqb}
 use lib.ListN.{drop}
 use lib.Seq.{drop-drop}
 use Rattle.card.specs.Text.{when◌then◌else◌}
@@ -13,7 +14,7 @@ use Rattle.deck.specs.Deck.{Entry, live_of, entry_of}
 use Rattle.deck_entries.proofs.Laws.{row_there}
 use Rattle.deck_written.specs.WriteDeckSaid.{sizes}
 use Rattle.tidying.specs.Tidying.{live_entries}
-use Rattle.gathering.specs.LiveRows.{live_rows, live_size, IsLive}
+use Rattle.gathering.specs.LiveRows.{live_rows, live_size, Flagged}
 
 -- of so many entries those from the i-th on
 abbrev pub rows_from : (deck : List ℕ) (count i : ℕ) → List Row
@@ -68,12 +69,12 @@ module _ (deck : List ℕ) (at : ℕ) {f : ℕ} (ef : f ≡ byte deck (at + 6)) 
   flag_there : row.flag ≡ f
   flag_there = ap (λ (r : Row). r.flag) (row_there deck at 0 0 refl refl refl ef refl)
 
-  pub live_there : f ≡ 1 → {size : ℕ} → (size ≡ word_at deck (at + 4)) × (size < 65536) → IsLive row size
-  live_there h e = record {
-    live = eq-eqb row.flag 1 (flag_there ∙ h);
+  pub flag_here : {flag : ℕ} → f ≡ flag → {size : ℕ} → (size ≡ word_at deck (at + 4)) × (size < 65536) → Flagged flag row size
+  flag_here {flag} h e = record {
+    flagged = eq-eqb row.flag flag (flag_there ∙ h);
     same = sym (ap (λ (r : Row). r.size) (row_there deck at 0 0 refl refl e.0 refl refl));
     short = e.1;
   }
 
-  pub none_there : (f ≡ 1 → ⊥) → live_of row ≡ false
-  none_there h = ne_eqb row.flag 1 (λ e. h (sym flag_there ∙ e))
+  pub other_here : {flag : ℕ} → (f ≡ flag → ⊥) → eqb row.flag flag ≡ false
+  other_here {flag} h = ne_eqb row.flag flag (λ e. h (sym flag_there ∙ e))

@@ -14,17 +14,17 @@ use Rattle.deck_written.specs.WriteDeckSaid.{line_for, lines_for, sizes}
 use Rattle.room.specs.Room.{clip, cap, Put}
 use Rattle.room.proofs.Laws.{put_as}
 use Rattle.byte_blocks.proofs.Clips.{drop_behind}
-use Rattle.gathering.specs.LiveRows.{live_rows, IsLive}
+use Rattle.gathering.specs.LiveRows.{live_rows, Flagged}
 use Rattle.gathering.proofs.Entries.{rows_from, all_rows, no_rows, next_row, live_first, live_others}
 use Rattle.gathering.specs.LiveText.{rows_in, rows_stay, Offsets}
 use Rattle.gathering.proofs.Bodies.{same_later}
 
 -- a live entry with its new offset
-one_row : (deck : List ℕ) (from : ℕ) {n s z : ℕ} (offset : ℕ) → IsLive (row_of (drop from deck)) s → n ≡ word_at deck from → z ≡ byte deck (from + 7)
+one_row : (deck : List ℕ) (from : ℕ) {n s z : ℕ} (offset : ℕ) → Flagged 1 (row_of (drop from deck)) s → n ≡ word_at deck from → z ≡ byte deck (from + 7)
     → row_text (line_for offset (row_of (drop from deck))) [] ≡ row_text (row_with n offset s 1 z) []
 one_row deck from {n} {s} {z} offset l en ez =
     let there = row_there deck from 0 0 en refl refl refl ez in
-    let flag : 1 ≡ byte deck (from + 6) = sym (eqb-true (row_of (drop from deck)).flag 1 l.live) ∙ ap (λ (r : Row). r.flag) there in
+    let flag : 1 ≡ byte deck (from + 6) = sym (eqb-true (row_of (drop from deck)).flag 1 l.flagged) ∙ ap (λ (r : Row). r.flag) there in
     let size : s ≡ word_at deck (from + 4) = l.same ∙ ap (λ (r : Row). r.size) there in
     ap (λ (r : Row). row_text (line_for offset r) []) (row_there deck from 0 0 en refl size flag ez)
 
@@ -85,9 +85,9 @@ module _ (was : List ℕ) (count first : ℕ) where
               still = subst (λ (rs : List Row). Still was is 1 all (rows_text (lines_for offset rs) []) to) e s.still;
             }
 
-        module _ {size : ℕ} (l : IsLive (row_of (drop (1 + 8 * i) is)) size) where
+        module _ {size : ℕ} (l : Flagged 1 (row_of (drop (1 + 8 * i) is)) size) where
           first_live : live_rows (rest i) ≡ row ∷ live_rows others
-          first_live = ap live_rows (next_row was count i h) ∙ live_first row others (sym (ap live_of row_read) ∙ l.live)
+          first_live = ap live_rows (next_row was count i h) ∙ live_first row others (sym (ap live_of row_read) ∙ l.flagged)
 
           same_size : size ≡ row.size
           same_size = l.same ∙ ap (λ (r : Row). r.size) row_read

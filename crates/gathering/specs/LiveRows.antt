@@ -1,5 +1,5 @@
 -- The live entries of a deck's contents, and what each keeps: a withdrawn one nothing. Assumes nothing.
-use Rattle.std.specs.Prelude.{ℕ, ◌<◌, ◌≡◌, true, false, Option, MatchOption, List, [], ◌∷◌, length}
+use Rattle.std.specs.Prelude.{ℕ, eqb, ◌<◌, ◌≡◌, true, false, Option, MatchOption, List, [], ◌∷◌, length}
 use Rattle.card.specs.Limits.{word_numbers}
 use Rattle.card.specs.Text.{when◌then◌else◌}
 use Rattle.deck.specs.Contents.{Row, contents_of}
@@ -15,14 +15,14 @@ live_rows (r ∷ rs) = when live_of r then r ∷ live_rows rs else live_rows rs
 abbrev pub live_size : Row → ℕ
 live_size r = when live_of r then r.size else 0
 
--- what is read of an entry: the length of its body, if it is live
-pub record IsLive (r : Row) (size : ℕ) : Type 0 where
-  pub live : live_of r ≡ true
+-- what is read of an entry: the length of its body, if it has this flag; 1 is that of a live entry
+pub record Flagged (flag : ℕ) (r : Row) (size : ℕ) : Type 0 where
+  pub flagged : eqb r.flag flag ≡ true
   pub same : size ≡ r.size
   pub short : size < word_numbers
 
-abbrev pub LiveSize : Row → Option ℕ → Type 0
-LiveSize r size = MatchOption size (live_of r ≡ false) (IsLive r)
+abbrev pub FlaggedSize : (flag : ℕ) → Row → Option ℕ → Type 0
+FlaggedSize flag r size = MatchOption size (eqb r.flag flag ≡ false) (Flagged flag r)
 
 pub record Measures (deck : List ℕ) (r : Live) : Type 0 where
   pub cards : r.cards ≡ length (live_rows (contents_of deck))

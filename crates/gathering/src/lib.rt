@@ -6,7 +6,7 @@ ghost use Rattle.std.specs.Prelude.{◌≡◌, ◌+◌, ◌≤◌, ◌<◌, leng
 ghost use Rattle.card.specs.Limits.{entry_bytes, count_bytes, most_cards};
 ghost use Rattle.deck.specs.Contents.{row_of, behind};
 ghost use Rattle.deck.specs.Sound.{Head};
-ghost use Rattle.gathering.specs.LiveRows.{LiveSize, Measures};
+ghost use Rattle.gathering.specs.LiveRows.{FlaggedSize, Measures};
 ghost use Rattle.room.specs.Room.{clip};
 ghost use Rattle.gathering.specs.LiveText.{rows_in, rows_stay, bodies_stay, Offsets, Gatherable};
 ghost use Rattle.gathering.specs.Kept.{kept_row, kept_rows};
@@ -16,12 +16,12 @@ use deck_entries::word_at;
 use deck_writer::put_row;
 use shifting::move_down;
 
-// The length of a live entry's body; a withdrawn entry keeps none.
-fn live_size(deck: &[u8], at: usize) -> Option<usize>
+// The length of an entry's body, if the entry has this flag: 1 is that of a live entry.
+fn flagged_size(deck: &[u8], at: usize, flag: u8) -> Option<usize>
     requires { at + entry_bytes ≤ length deck.now }
-    ensures { LiveSize (row_of (drop at deck.now)) result }
+    ensures { FlaggedSize flag (row_of (drop at deck.now)) result }
 {
-    if deck[at + FLAG_AT] != 1 {
+    if deck[at + FLAG_AT] != flag {
         return None;
     }
     Some(word_at(deck, at + SIZE_AT))
@@ -40,7 +40,7 @@ pub fn measure_live(deck: &[u8]) -> Live
 {
     let mut live = Live { cards: 0, bytes: 0 };
     for i in 0..usize::from(deck[0]) {
-        if let Some(size) = live_size(deck, COUNT_BYTES + ENTRY_BYTES * i) {
+        if let Some(size) = flagged_size(deck, COUNT_BYTES + ENTRY_BYTES * i, 1) {
             live.cards += 1;
             live.bytes += size;
         }
@@ -57,7 +57,7 @@ pub fn gather_bodies(deck: &mut [u8], count: usize)
     let mut to = COUNT_BYTES + ENTRY_BYTES * count;
     for i in 0..count {
         let at = COUNT_BYTES + ENTRY_BYTES * i;
-        if let Some(size) = live_size(deck, at) {
+        if let Some(size) = flagged_size(deck, at, 1) {
             let offset = word_at(deck, at + OFFSET_AT);
             move_down(deck, offset, to, size);
             to += size;
@@ -75,7 +75,7 @@ pub fn gather_rows(deck: &mut [u8], count: usize, first: usize)
     let mut offset = first;
     for i in 0..count {
         let from = COUNT_BYTES + ENTRY_BYTES * i;
-        if let Some(size) = live_size(deck, from) {
+        if let Some(size) = flagged_size(deck, from, 1) {
             let number = word_at(deck, from);
             let zero = deck[from + ZERO_BYTE_AT];
             to = put_row(deck, to, number, offset, size, 1, zero);

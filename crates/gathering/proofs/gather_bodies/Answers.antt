@@ -17,7 +17,7 @@ move_down-requires c =
 pub loop-i-preserved : goal.loop-i-preserved
 loop-i-preserved c =
     let turn = c.loop-i.invariant in
-    elim c.match-live_size.branch [
+    elim c.match-flagged_size.branch [
       | in-Some w ↦ rw (w.deck-is, w.to-is) (gather_more _ _ turn c.loop-i-test.true w.word_at-offset.ensures.0 w.in-Some.ensures w.move_down.ensures)
       | in_default w ↦ rw (w.deck-is, w.to-is) (gather_withdrawn _ _ turn c.loop-i-test.true w.in_default.ensures)
     ]

@@ -11,7 +11,7 @@ loop-i-init c = rows_none _ _ _ c.requires (search rules)
 pub loop-i-preserved : goal.loop-i-preserved
 loop-i-preserved c =
     let turn = c.loop-i.invariant in
-    elim c.match-live_size.branch [
+    elim c.match-flagged_size.branch [
       | in-Some w ↦ rw (w.deck-is, w.to-is, w.offset-is) (rows_more _ _ _ c.requires turn c.loop-i-test.true w.in-Some.ensures w.word_at-number.ensures.0 refl w.put_row-to.ensures)
       | in_default w ↦ rw (w.deck-is, w.to-is, w.offset-is) (rows_withdrawn _ _ _ c.requires turn c.loop-i-test.true w.in_default.ensures)
     ]

@@ -12,7 +12,7 @@ loop-i-init c = counted_none c.args.deck.now
 
 pub loop-i-preserved : goal.loop-i-preserved
 loop-i-preserved c =
-    elim c.match-live_size.branch [
+    elim c.match-flagged_size.branch [
       | in-Some w ↦ rw w.live-is (counted_live c.args.deck.now c.loop-i.invariant (omega arith) w.in-Some.ensures)
       | in_default w ↦ rw w.live-is (counted_withdrawn c.args.deck.now c.loop-i.invariant (omega arith) w.in_default.ensures)
     ]
