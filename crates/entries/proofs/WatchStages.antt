@@ -7,13 +7,11 @@ use lib.ListN.{length, take}
 use Rattle.card.specs.Limits.{most_seats}
 use Rattle.card.specs.Valid.{values_of}
 use Rattle.card.specs.Lent.{Lent, card_in}
-use Rattle.std.specs.Result.{result_and}
 use Rattle.std.specs.Prelude.{Ok, Err}
 use Rattle.card.specs.Verdict.{Verdict, Taken}
 use Rattle.card.specs.declared.Head.{Head}
 use Rattle.card.specs.declared.Refusal.{Refusal}
 use Rattle.card.proofs.HeldIn.{holds_seats}
-use Rattle.card.proofs.Verdicts.{ok≢refused}
 use Rattle.entry.specs.Said.{says as text, refused}
 use Rattle.meaning.specs.Seats.{Seating, ValidSeating}
 use Rattle.seating.specs.Judged.{judged_seats, seating_of}
@@ -78,20 +76,14 @@ module _ (card seats list : List ℕ) where
             let a : text (watch_of list the_seats) ≡ watch_card seats list (card_in head x) = rw (← judged fine, ← of-list) in
             ap (λ (t : List ℕ). text t) (sym the_line) ∙ a ∙ taken_said card h (watch_card seats list) refl
 
-    -- of the seats and the list the first refusal is told
-    module _ {of_seats of_list : Verdict} (e : of_seats ≡ judged_seats head.seats head.top head.shared seats) (f : of_list ≡ judged_classes head.top list) where
-      pub first_refused : {d : Refusal} → Err d ≡ result_and of_seats of_list → watch_said card seats list ≡ refused d.number d.place
-      first_refused {d} g = go of_seats refl
-        where
-          go : (s : Verdict) → of_seats ≡ s → watch_said card seats list ≡ refused d.number d.place
-          go (Ok u) k = list_refused (sym k ∙ e) (g ∙ ap (λ (s : Verdict). result_and s of_list) k ∙ f)
-          go (Err b) k = seats_refused (g ∙ ap (λ (s : Verdict). result_and s of_list) k ∙ sym k ∙ e)
+    -- the same, in the form in which the code has it
+    module _ {u : Unit {0}} (fine : Ok u ≡ judged_seats head.seats head.top head.shared seats) where
+      pub list_told : {d : Refusal} → Err d ≡ judged_classes head.top list → watch_said card seats list ≡ refused d.number d.place
+      list_told e = list_refused fine e
 
-      -- and where none is, both are taken
-      pub both_taken : {u : Unit {0}} → Ok u ≡ result_and of_seats of_list
-          → (Taken ≡ judged_seats head.seats head.top head.shared seats) × (Taken ≡ judged_classes head.top list)
-      both_taken {u} g = go of_seats refl
-        where
-          go : (s : Verdict) → of_seats ≡ s → (Taken ≡ judged_seats head.seats head.top head.shared seats) × (Taken ≡ judged_classes head.top list)
-          go (Ok v) k = (sym k ∙ e, g ∙ ap (λ (s : Verdict). result_and s of_list) k ∙ f)
-          go (Err b) k = ok≢refused (g ∙ ap (λ (s : Verdict). result_and s of_list) k)
+      module _ {w : Unit {0}} (of-list : Ok w ≡ judged_classes head.top list) {v : List ℕ} (counts-are : v ≡ class_counts list (take head.seats seats)) where
+        pub told_fits : length (classes_text v) ≤ classes_room
+        told_fits = line_fits fine of-list counts-are
+
+        pub told : watch_said card seats list ≡ text (classes_text v)
+        told = sym (line_said fine of-list counts-are)
