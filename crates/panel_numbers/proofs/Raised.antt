@@ -1,6 +1,6 @@
 -- Weights raised by branches, one after the other: a branch more raises the one place that it goes to, and all other places stay. A row's
 -- place is told by its state and its value of the shared number, and tells both. Assumes nothing.
-use Prim.Native.Nat.{ℕ, ◌+◌, ◌-◌, ◌*◌, ◌/◌, ◌%◌, ◌≤◌, ◌<◌}
+use Prim.Native.Nat.{ℕ, ◌+◌, ◌*◌, ◌/◌, ◌%◌, ◌≤◌, ◌<◌}
 use mathlib.Core.Path.{◌≡◌, refl, sym, ap, ◌∙◌}
 use mathlib.Core.Bool.{◌&&◌}
 use mathlib.Core.List.{List, [], ◌∷◌, ◌++◌, map}
@@ -12,14 +12,14 @@ use borrow.Author.Tests.{eq-eqb, ne_eqb}
 use lib.Dec.{eqb}
 use lib.ListN.{length, get_or, set, take, length-set}
 use lib.Seq.{get_or-set_same, get_or-set_other, set_out, take-suc, ext_get_or}
-use Rattle.card.specs.Limits.{most_shared}
+use Rattle.card.specs.Limits.{most_states, most_shared}
 use Rattle.card.specs.Card.{Branch}
 use Rattle.card.specs.Laid.{set_of, units_part, set_part, end_part, branch_of}
 use Rattle.meaning.specs.Sums.{gate}
 use Rattle.meaning.specs.Position.{set_to}
 use Rattle.meaning.specs.ByCounts.{units_into}
 use Rattle.meaning.proofs.Sums.{length_upto, get_d_upto, upto_cong, sum_append, map_append}
-use Rattle.panel_numbers.specs.Table.{place_of, by_place, raised, added_from, added_stays}
+use Rattle.panel_numbers.specs.Table.{weight_places, place_of, by_place, raised, added, added_stays}
 
 -- ---- any weights
 
@@ -73,14 +73,6 @@ same_place e c p l = go (ℕ_discrete e (p / most_shared)) (ℕ_discrete c (p % 
     go (yes x) (no y) = rw (eq-eqb e (p / most_shared) x, ne_eqb c (p % most_shared) y, ne_eqb (place_of e c) p (λ z. y (omega arith)))
     go (no x) _ = rw (ne_eqb e (p / most_shared) x, ne_eqb (place_of e c) p (λ z. x (omega arith)))
 
--- the state that is so many behind the first
-same_from : (first end b : ℕ) → first ≤ end → eqb end (first + b) ≡ eqb (end - first) b
-same_from first end b h = go (ℕ_discrete (end - first) b)
-  where
-    go : Dec (end - first ≡ b) → eqb end (first + b) ≡ eqb (end - first) b
-    go (yes x) = rw (eq-eqb end (first + b) (omega arith), eq-eqb (end - first) b x)
-    go (no x) = rw (ne_eqb end (first + b) (λ z. x (omega arith)), ne_eqb (end - first) b x)
-
 -- ---- branches
 
 into_more : (g b h : ℕ) (l : List Branch) (x : Branch) → units_into g b h (l ++ x ∷ []) ≡ units_into g b h l + gate (eqb x.end b && eqb (set_to g x.sets) h) x.units
@@ -90,12 +82,16 @@ into_more g b h l x = sum_append (λ (x : Branch). gate (eqb x.end b && eqb (set
 branches_next : (s : List ℕ) (j : ℕ) → j < length s → map branch_of (take (j + 1) s) ≡ map branch_of (take j s) ++ branch_of (get_or s j 0) ∷ []
 branches_next s j h = rw (add-one j, take-suc s j 0 h) (map_append branch_of (take j s) (get_or s j 0 ∷ []))
 
--- ---- as the code adds them: to the n weights of the states from `first` on
+-- ---- as the code adds them
 
-module _ (n first g able : ℕ) where
-  pub from_none : (w : List ℕ) → length w ≡ n → w ≡ added_from n first g able [] w
+module _ (g able : ℕ) where
+  pub added_none : (row : List ℕ) → length row ≡ weight_places → row ≡ added g able [] row
   unfolding units_into
-  from_none w e = raised_none n (by_place (λ b h. units_into g (first + b) h [])) able w e (λ p h. refl)
+  added_none row e = raised_none weight_places (by_place (λ b h. units_into g b h [])) able row e (λ p h. refl)
+
+  pub stays_none : (own : ℕ) (stays : List ℕ) → length stays ≡ most_shared → stays ≡ added_stays g own able [] stays
+  unfolding units_into
+  stays_none own stays e = raised_none most_shared (λ h. units_into g own h []) able stays e (λ p h. refl)
 
   -- the next of some packed branches is x: where it ends, what it makes of the shared number, and its units
   module _ (s : List ℕ) (j x : ℕ) (is : x ≡ get_or s j 0) (l : j < length s) {end : ℕ} (e : end ≡ end_part x) where
@@ -105,44 +101,32 @@ module _ (n first g able : ℕ) where
     abbrev with_next : List Branch
     with_next = map branch_of (take (j + 1) s)
 
-    abbrev weighs : List Branch → ℕ → ℕ
-    weighs b = by_place (λ d h. units_into g (first + d) h b)
-
     into_next : (b h : ℕ) → units_into g b h with_next ≡ units_into g b h so_far + gate (eqb end b && eqb (set_to g (set_of (set_part x))) h) (units_part x)
     unfolding branch_of
     into_next b h = rw (branches_next s j l, e, is) (into_more g b h so_far (branch_of (get_or s j 0)))
 
-    -- it leads to a state before them
-    pub from_before : (w : List ℕ) {v : List ℕ} → v ≡ added_from n first g able so_far w → end < first
-        → v ≡ added_from n first g able with_next w
-    from_before w p o = p
-        ∙ raised_same n (weighs so_far) (weighs with_next) able w
-        (λ q k. sym (into_next (first + q / most_shared) (q % most_shared) ∙ rw (ne_eqb end (first + q / most_shared) (λ z. omega arith)) (omega arith)))
+    -- it leads elsewhere
+    pub stays_else : (own : ℕ) (stays : List ℕ) {v : List ℕ} → v ≡ added_stays g own able so_far stays → (end ≡ own → ⊥)
+        → v ≡ added_stays g own able with_next stays
+    stays_else own stays p o = p
+        ∙ raised_same most_shared (λ h. units_into g own h so_far) (λ h. units_into g own h with_next) able stays
+        (λ h k. sym (into_next own h ∙ rw (ne_eqb end own o) (omega arith)))
 
-    module _ {becomes units : ℕ} (c : becomes ≡ set_to g (set_of (set_part x))) (u : units ≡ units_part x) (small : becomes < most_shared) (o : first ≤ end) where
-      into_more_by : (q : ℕ) → weighs with_next q ≡ weighs so_far q + gate (eqb (place_of (end - first) becomes) q) units
-      into_more_by q =
-          rw (← same_place (end - first) becomes q small, ← same_from first end (q / most_shared) o, c, u)
-          (into_next (first + q / most_shared) (q % most_shared))
+    module _ {becomes units : ℕ} (c : becomes ≡ set_to g (set_of (set_part x))) (u : units ≡ units_part x) (small : becomes < most_shared) where
+      into_more_by : (b h : ℕ) → units_into g b h with_next ≡ units_into g b h so_far + gate (eqb end b && eqb becomes h) units
+      into_more_by b h = rw (c, u) (into_next b h)
 
-      -- behind them
-      pub from_behind : (w : List ℕ) {v : List ℕ} → v ≡ added_from n first g able so_far w → n ≤ place_of (end - first) becomes
-          → v ≡ added_from n first g able with_next w
-      from_behind w p k = p
-          ∙ raised_same n (weighs so_far) (weighs with_next) able w
-          (λ q m. sym (into_more_by q ∙ rw (ne_eqb (place_of (end - first) becomes) q (λ z. omega arith)) (omega arith)))
+      pub added_next : end < most_states → (row : List ℕ) {v : List ℕ} → v ≡ added g able so_far row
+          → set v (place_of end becomes) (get_or v (place_of end becomes) 0 + able * units) ≡ added g able with_next row
+      added_next m row p = rw p
+          (raised_more weight_places (by_place (λ b h. units_into g b h so_far)) (by_place (λ b h. units_into g b h with_next)) able row
+          (place_of end becomes) units (omega arith) (λ q k. into_more_by (q / most_shared) (q % most_shared) ∙ rw (same_place end becomes q small)))
 
-      -- to one of them
-      pub from_next : (w : List ℕ) {v : List ℕ} → v ≡ added_from n first g able so_far w → place_of (end - first) becomes < n
-          → set v (place_of (end - first) becomes) (get_or v (place_of (end - first) becomes) 0 + able * units) ≡ added_from n first g able with_next w
-      from_next w p k = rw p (raised_more n (weighs so_far) (weighs with_next) able w (place_of (end - first) becomes) units k (λ q m. into_more_by q))
-
--- a row has all states from the first on; and there is room for one state where there are as many weights as values
-module _ (g able : ℕ) (l : List Branch) where
-  pub from_own : (own : ℕ) (stays : List ℕ) → added_from most_shared own g able l stays ≡ added_stays g own able l stays
-  from_own own stays =
-      raised_same most_shared (by_place (λ b h. units_into g (own + b) h l)) (λ h. units_into g own h l) able stays
-      (λ h k. let here : own + h / most_shared ≡ own = omega arith in let low : h % most_shared ≡ h = omega arith in rw (here, low))
+      pub stays_next : (own : ℕ) (stays : List ℕ) {v : List ℕ} → v ≡ added_stays g own able so_far stays → end ≡ own
+          → set v becomes (get_or v becomes 0 + able * units) ≡ added_stays g own able with_next stays
+      stays_next own stays p o = rw p
+          (raised_more most_shared (λ h. units_into g own h so_far) (λ h. units_into g own h with_next) able stays becomes units small
+          (λ h k. into_more_by own h ∙ rw (eq-eqb end own o)))
 
 -- ---- sums that fit
 

@@ -100,10 +100,6 @@ by_place w p = w (p / most_shared) (p % most_shared)
 unfoldable pub raised : ℕ → (ℕ → ℕ) → ℕ → List ℕ → List ℕ
 raised n u able v = upto n (λ p. get_or v p 0 + able * u p)
 
--- branches added to n weights, of the states from `first` on, where the shared number is g
-abbrev pub added_from : ℕ → ℕ → ℕ → ℕ → List Branch → List ℕ → List ℕ
-added_from n first g able l v = raised n (by_place (λ b h. units_into g (first + b) h l)) able v
-
 -- branches added to a row, where the shared number is g; and those that stay in a state to weights of no change
 abbrev pub added : ℕ → ℕ → List Branch → List ℕ → List ℕ
 added g able l row = raised weight_places (by_place (λ b h. units_into g b h l)) able row
