@@ -22,7 +22,7 @@ use Rattle.reading.specs.Guard.{is_some as is_some_of}
 use Rattle.reading.specs.Group.{Literal, Tested, of_seats, of_shared}
 use Rattle.reading.specs.Judgements.{Judgement, state, word, one_group, weight, sum, place_in, symmetric, unless, broken, Verdict, fine, or_else, first_broken, total_units, first_state, judged_test, judged_guard, group_in, leaf_in, guard_in}
 use Rattle.late.specs.declared.state.Groups.{Groups}
-use Rattle.late.specs.Late.{Late, want_of, none_yet, blame, with_group, wants, grouped, blamed, judge, judge_all, group_by, leaf_by, guard_by}
+use Rattle.late.specs.Late.{Late, want_of, none_yet, blame, blame_any, with_group, wants, grouped, blamed, blamed_any, judge, judge_all, group_by, leaf_by, guard_by}
 use Rattle.late.specs.Settled.{Refusal, refusal, Due, or_next, second_due, group_due, kept_due, settled, verdict}
 use Rattle.late.proofs.Symmetric.{symmetric_want, symmetric_kind}
 
@@ -54,8 +54,11 @@ second_more None p = refl
 second_more (Some q) p = refl
 
 module _ (n : ℕ) (x : Late) where
+  settled_blame_any : (r p : ℕ) → settled n (blame_any r p x) ≡ or_next (settled n x) (Err (refusal r p))
+  settled_blame_any r p = rw kept_more (sym (or_assoc (group_due n x.groups) (kept_due x.refusal) (Err (refusal r p))))
+
   settled_blame : (r p : ℕ) → eqb r 0 ≡ false → settled n (blame r p x) ≡ or_next (settled n x) (Err (refusal r p))
-  settled_blame r p h = rw (h, kept_more) (sym (or_assoc (group_due n x.groups) (kept_due x.refusal) (Err (refusal r p))))
+  settled_blame r p h = rw h (settled_blame_any r p)
 
   pub settled_fine : settled n x ≡ or_next (settled n x) (Ok tt)
   settled_fine = or_fine (settled n x)
@@ -63,6 +66,15 @@ module _ (n : ℕ) (x : Late) where
   pub settled_blamed : (b : Bool) (r p : ℕ) → eqb r 0 ≡ false → settled n (blamed (unless b r) p x) ≡ or_next (settled n x) (when b then Ok tt else Err (refusal r p))
   settled_blamed true r p h = settled_fine
   settled_blamed false r p h = settled_blame r p h
+
+  -- the number 0 is no refusal
+  pub settled_blamed_zero : (b : Bool) (p : ℕ) → settled n (blamed (unless b 0) p x) ≡ settled n x
+  settled_blamed_zero true p = refl
+  settled_blamed_zero false p = refl
+
+  pub settled_blamed_any : (b : Bool) (r p : ℕ) → settled n (blamed_any (unless b r) p x) ≡ or_next (settled n x) (when b then Ok tt else Err (refusal r p))
+  settled_blamed_any true r p = settled_fine
+  settled_blamed_any false r p = settled_blame_any r p
 
 module _ (n m p : ℕ) where
   abbrev own : Due

@@ -53,9 +53,13 @@ Late = LateRow
 abbrev pub none_yet : Late
 none_yet = record { refusal = None; groups = None }
 
--- a refusal that does not hang on the number of seats; the number 0 is none
+-- a refusal that does not hang on the number of seats, whatever its number is
+abbrev pub blame_any : ℕ → ℕ → Late → Late
+blame_any r p x = record x { refusal = option_or x.refusal (Some (record { number = r; place = p })) }
+
+-- the same, but that the number 0 is none
 abbrev pub blame : ℕ → ℕ → Late → Late
-blame r p x = when eqb r 0 then x else record x { refusal = option_or x.refusal (Some (record { number = r; place = p })) }
+blame r p x = when eqb r 0 then x else blame_any r p x
 
 -- the first group says how many seats are wanted; the first that wants another number is wrong if that is right
 abbrev pub with_group : ℕ → ℕ → Option Groups → Groups
@@ -71,6 +75,10 @@ grouped m p x = when eqb m 0 then blame not_due p x else wants m p x
 abbrev pub blamed : Maybe ℕ → ℕ → Late → Late
 blamed none p x = x
 blamed (some r) p x = blame r p x
+
+abbrev pub blamed_any : Maybe ℕ → ℕ → Late → Late
+blamed_any none p x = x
+blamed_any (some r) p x = blame_any r p x
 
 -- one judgement more, on a card that ends at place e; all but those of groups are the same for every number of seats
 abbrev pub judge : ℕ → Judgement → Late → Late

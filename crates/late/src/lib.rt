@@ -2,11 +2,13 @@
 #![tactic(auto)]
 
 pub mod state;
+#[cfg(test)]
+mod tests;
 
 ghost use Rattle.std.specs.Prelude.{◌≡◌, leb};
 ghost use Rattle.card.specs.Refusals.{above_top};
 ghost use Rattle.reading.specs.Judgements.{unless};
-ghost use Rattle.late.specs.Late.{none_yet, blame as blame_at, blamed};
+ghost use Rattle.late.specs.Late.{none_yet, blame as blame_at, blame_any as blame_any_at, blamed};
 ghost use Rattle.late.specs.Settled.{refusal};
 ghost use Rattle.late.specs.State.{at_first, late_in, with_late, with_stop};
 
@@ -54,6 +56,13 @@ pub fn blame(state: &mut State, number: u8, place: usize)
     if number != 0 && state.late.refusal.is_none() {
         state.late.refusal = Some(Refusal { number, place });
     }
+}
+
+// The same, but that any number is a refusal, 0 too.
+pub fn blame_any(state: &mut State, number: u8, place: usize)
+    ensures { state.new ≡ with_late state.old (blame_any_at number place (late_in state.old)) }
+{
+    state.late.refusal = state.late.refusal.or(Some(Refusal { number, place }));
 }
 
 // A state that stands on the card, against the top state.
