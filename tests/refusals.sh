@@ -90,4 +90,4 @@ if [ "$elsewhere" -gt 0 ] && [ "$made_by" != "$(rt version)" ]; then
     echo "refusals: the facts were named with kit $made_by, and this is $(rt version)"
     elsewhere=0
 fi
-[ "$wrong" -eq 0 ] && [ "$elsewhere" -eq 0 ] && [ "$versions" -ge 380 ]
+[ "$wrong" -eq 0 ] && [ "$elsewhere" -eq 0 ] && [ "$versions" -ge 382 ]
