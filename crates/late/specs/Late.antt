@@ -53,7 +53,8 @@ Late = LateRow
 abbrev pub none_yet : Late
 none_yet = record { refusal = None; groups = None }
 
--- a refusal that does not hang on the number of seats, whatever its number is
+-- a refusal that does not hang on the number of seats, whatever its number is; the readers keep theirs by `blame`, since
+-- no refusal has the number 0 (document 01, "Refusal numbers")
 abbrev pub blame_any : ℕ → ℕ → Late → Late
 blame_any r p x = record x { refusal = option_or x.refusal (Some (record { number = r; place = p })) }
 

@@ -58,7 +58,7 @@ pub fn blame(state: &mut State, number: u8, place: usize)
     }
 }
 
-// The same, but that any number is a refusal, 0 too.
+// The same, but that any number is a refusal, 0 too. The readers of cards and questions call `blame`.
 pub fn blame_any(state: &mut State, number: u8, place: usize)
     ensures { state.new ≡ with_late state.old (blame_any_at number place (late_in state.old)) }
 {

@@ -1,4 +1,5 @@
-// What is kept of refusals, as document 01 tells numbers apart: 5, 6 and 7 are judged late, and no refusal has the number 0.
+// What is kept of two refusals, one behind the other: the first. No refusal has the number 0 (document 01, "Refusal
+// numbers"), so of 0 `blame` keeps nothing, and `blame_any` the number like any other.
 use crate::state::State;
 use crate::{blame, blame_any, first_state};
 
@@ -10,24 +11,15 @@ fn kept(state: &State) -> Option<(u8, usize)> {
 
 #[test]
 fn first_is_kept(rt: HostRuntime) {
-    let mut state = first_state(0);
-    blame_any(&mut state, 6, 12);
-    blame_any(&mut state, 5, 3);
-    assert_eq!(rt; kept(&state), Some((6, 12)));
-    let mut known = first_state(0);
-    blame(&mut known, 6, 12);
-    blame(&mut known, 5, 3);
-    assert_eq!(rt; kept(&known), Some((6, 12)));
-}
-
-#[test]
-fn zero_is_kept_of_any_alone(rt: HostRuntime) {
-    let mut state = first_state(0);
-    blame_any(&mut state, 0, 12);
-    blame_any(&mut state, 7, 3);
-    assert_eq!(rt; kept(&state), Some((0, 12)));
-    let mut known = first_state(0);
-    blame(&mut known, 0, 12);
-    blame(&mut known, 7, 3);
-    assert_eq!(rt; kept(&known), Some((7, 3)));
+    // the first number, at 12; what is kept of any number, and of one that is a refusal, where a 5 at 3 comes behind it
+    for (first, any, known) in [(6, (6, 12), (6, 12)), (0, (0, 12), (5, 3))] {
+        let mut state = first_state(0);
+        blame_any(&mut state, first, 12);
+        blame_any(&mut state, 5, 3);
+        assert_eq!(rt; kept(&state), Some(any), "any number, {first} first");
+        let mut state = first_state(0);
+        blame(&mut state, first, 12);
+        blame(&mut state, 5, 3);
+        assert_eq!(rt; kept(&state), Some(known), "{first} first");
+    }
 }
